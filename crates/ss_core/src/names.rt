@@ -1,0 +1,58 @@
+// Places, numbers and kinds.
+
+/// A place in a source: a line, from 1, and in it a byte, from 1.
+#[derive(Clone, Copy, Debug, PartialEq, Eq)]
+pub struct Place {
+    pub line: u32,
+    pub column: u32,
+}
+
+/// The number of a class: 0 is `object`, 1 to 3 are the arrays `int[]`, `bool[]` and `object[]`, and of the
+/// declared class `k`, from 0, the number is `4 + 2 k`, and that of its array `5 + 2 k`.
+#[derive(Clone, Copy, Debug, PartialEq, Eq)]
+pub struct ClassId(pub u16);
+
+/// The number of a body, from 0.
+#[derive(Clone, Copy, Debug, PartialEq, Eq)]
+pub struct BodyId(pub u32);
+
+/// The type of a local or of an expression.
+#[derive(Clone, Copy, Debug, PartialEq, Eq)]
+pub enum Ty {
+    Int,
+    Bool,
+}
+
+/// What a check is about.
+#[derive(Clone, Copy, Debug, PartialEq, Eq)]
+pub enum Kind {
+    Null,
+    Index,
+    Cast,
+    Overflow,
+    ZeroDivisor,
+    NegativeLength,
+    Assert,
+    Precondition,
+    Postcondition,
+    Frame,
+    LoopInvariant,
+    LoopFrame,
+    LoopLevel,
+    UnpackLevel,
+    UnpackCommitted,
+    PackLevel,
+    Invariant,
+    PackOwned,
+    WriteLevel,
+    WriteCommitted,
+    RepOwner,
+    PeerOwner,
+}
+
+/// Why a source is refused: a rule's number and the place where it is broken; or there was no memory.
+#[derive(Clone, Copy, Debug, PartialEq, Eq)]
+pub enum FrontStop {
+    Refused { rule: u16, place: Place },
+    Memory,
+}
