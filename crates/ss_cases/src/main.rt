@@ -1,0 +1,73 @@
+// The conformance suite: runs each case of the files that the words name, and prints what differs.
+#![tactic(auto)]
+
+mod case;
+
+use case::{Case, Expected, read_cases};
+use ss_io::{MemFiles, MemSink};
+use ss_report::{Status, status_line};
+use ss_top::specsharp;
+use std::alloc::{AllocError, Global};
+use std::rt::{Env, Files};
+use std::{env, fs, io};
+
+/// The number of a status, and its status line where it has one.
+fn told(alloc: Global, status: &Status) -> Result<String, AllocError> {
+    let mut text = status.number().to_string(alloc)?;
+    let line = status_line(alloc, status)?;
+    if !line.is_empty() {
+        text.push_str(" ")?;
+        text.push_str(&line)?;
+    }
+    Ok(text)
+}
+
+fn is_expected(expected: &Expected, status: &Status, told: &str) -> bool {
+    match expected {
+        Expected::Status(text) => text.as_str() == told,
+        Expected::Read => !matches!(status, Status::SourceRefused { rule: 0..=12, .. }),
+    }
+}
+
+/// What a case was answered, where that isn't what is expected.
+fn difference(alloc: Global, case: &Case) -> Result<Option<String>, AllocError> {
+    let file = (String::from_str(alloc, "FILE")?, case.source.as_slice().to_vec(alloc)?);
+    let mut files = MemFiles::new(alloc, vec![in alloc; file]?, Vec::new(alloc));
+    let mut out = MemSink::new(alloc, Vec::new(alloc));
+    let status = specsharp(alloc, &case.words, &mut files, &mut out);
+    let told = told(alloc, &status)?;
+    if is_expected(&case.expected, &status, &told) && out.bytes() == case.output.as_slice() {
+        return Ok(None);
+    }
+    Ok(Some(told))
+}
+
+/// Runs the cases of a file.
+fn run_file<R: Print + Files + AllocGlobal>(rt: &R, name: &str) -> io::Result<()> {
+    let alloc = rt.alloc();
+    let text = fs::read_to_string(rt, name)?;
+    let cases = read_cases(alloc, &text)?;
+    let mut held = 0usize;
+    for case in &cases {
+        match difference(alloc, case)? {
+            None => held = held.saturating_add(1),
+            Some(told) => {
+                let case_name = &case.name;
+                println!(rt; "{name}: {case_name}: {told}")?;
+            }
+        }
+    }
+    let all = cases.len();
+    println!(rt; "{name}: {held} of {all} hold")
+}
+
+fn run_all<R: Print + Files + Env + AllocGlobal>(rt: &R) -> io::Result<()> {
+    for name in env::args(rt)?.skip(1) {
+        run_file(rt, &name)?;
+    }
+    Ok(())
+}
+
+fn main(rt: HostRuntime) -> io::Result<()> {
+    run_all(&rt)
+}

@@ -1,0 +1,12 @@
+pub mod Tokens
+pub mod Expressions
+pub mod Files
+pub mod Numbers
+pub mod Fronts
+pub mod Symbols
+pub mod Spelling
+pub mod Locals
+pub mod Chains
+pub mod Views
+pub mod Elaborations
+pub mod Sources

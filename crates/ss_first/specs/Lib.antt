@@ -1,0 +1,12 @@
+pub mod Text
+pub mod Tokens
+pub mod Syntax
+pub mod Grammar
+pub mod Parser
+pub mod Accepted
+pub mod Scan
+pub mod Rules
+pub mod Elaborated
+pub mod Named
+pub mod Misfits
+pub mod Sizes

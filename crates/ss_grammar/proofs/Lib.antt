@@ -1,0 +1,10 @@
+pub mod Facts
+pub mod Good
+pub mod Finding
+pub mod Knot
+pub mod Parts
+pub mod Cases
+pub mod Nearest
+pub mod KnotOpen
+pub mod Turns
+pub mod Answers

@@ -1,0 +1,5 @@
+pub mod Chained
+pub mod Waiting
+pub mod Taken
+pub mod Leaving
+pub mod Runs

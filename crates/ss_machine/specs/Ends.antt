@@ -1,0 +1,46 @@
+-- How a run ends, and what its sink took.
+use Rattle.std.specs.Prelude.{◌≡◌, ℕ, ◌<◌, ◌≤◌}
+use Rattle.ss_core.specs.declared.names.Kind.{Kind}
+use Rattle.ss_core.specs.declared.names.Place.{Place}
+use Rattle.ss_core.specs.Tree.{CoreTree}
+use Rattle.ss_run.specs.Steps.{State, Running, Done, Failed, run, printed}
+use Rattle.ss_machine.specs.declared.machine.CheckedEnd.{CheckedEnd}
+use Rattle.ss_machine.specs.declared.machine.CheckedEnd.TheVariants as end
+
+abbrev pub IsRunning : State → Type 0
+IsRunning (Running fs before) = Unit {0}
+IsRunning (Done before) = ⊥
+IsRunning (Failed k at before) = ⊥
+
+-- the run is done after k steps and no fewer, and so after n
+pub record IsDoneAt (c : CoreTree) (k n : ℕ) : Type 0 where
+  pub within : k ≤ n
+  pub least : (m : ℕ) → m < k → IsRunning (run c m)
+  pub done : run c k ≡ Done (printed c n)
+  pub stays : run c n ≡ Done (printed c n)
+
+-- after n steps the run has failed with this kind at this place
+abbrev pub HasFailed : CoreTree → Kind → Place → ℕ → Type 0
+HasFailed c kind at n = run c n ≡ Failed kind at (printed c n)
+
+abbrev pub IfDone : CheckedEnd → (ℕ → Type 0) → Type 0
+IfDone (end.Done steps) P = P steps
+IfDone (end.Failed kind at) P = Unit {0}
+IfDone end.Running P = Unit {0}
+IfDone end.WriteFault P = Unit {0}
+IfDone end.Memory P = Unit {0}
+
+abbrev pub IfFailed : CheckedEnd → (Kind → Place → Type 0) → Type 0
+IfFailed (end.Done steps) P = Unit {0}
+IfFailed (end.Failed kind at) P = P kind at
+IfFailed end.Running P = Unit {0}
+IfFailed end.WriteFault P = Unit {0}
+IfFailed end.Memory P = Unit {0}
+
+-- unless a write or memory failed
+abbrev pub OnWhole : CheckedEnd → Type 0 → Type 0
+OnWhole (end.Done steps) P = P
+OnWhole (end.Failed kind at) P = P
+OnWhole end.Running P = P
+OnWhole end.WriteFault P = Unit {0}
+OnWhole end.Memory P = Unit {0}

@@ -1,0 +1,18 @@
+-- The frames that the code's stack stands for.
+use Rattle.std.specs.Prelude.{List, [], ◌∷◌, ◌++◌}
+use Rattle.ss_core.specs.View.{block}
+use Rattle.ss_run.specs.Steps.{Frame}
+use Rattle.ss_machine.specs.declared.frame.CodeFrame.{CodeFrame}
+use Rattle.ss_machine.specs.declared.frame.Machine.{Machine}
+
+abbrev pub frame_of : CodeFrame → Frame
+frame_of f = record { body = f.body.0; locals = f.locals.items; left = block f.code.now }
+
+-- frames, the last one first
+abbrev pub frames_of : List CodeFrame → List Frame
+frames_of [] = []
+frames_of (f ∷ fs) = frames_of fs ++ frame_of f ∷ []
+
+-- the running frame first
+abbrev pub all_frames : Machine → List Frame
+all_frames m = frame_of m.top ∷ frames_of m.below.items

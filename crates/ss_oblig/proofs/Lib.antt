@@ -1,0 +1,5 @@
+pub mod Typed
+pub mod Means
+pub mod Fresh
+pub mod Good
+pub mod Safe

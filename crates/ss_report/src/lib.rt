@@ -1,0 +1,10 @@
+//! What the program says: its status, the text of a verdict, and the line of a status.
+#![tactic(auto)]
+
+mod status;
+mod texts;
+mod verdict;
+
+pub use status::{Status, status_line};
+pub use texts::not_proved;
+pub use verdict::verdict_text;

@@ -1,0 +1,71 @@
+// How a run of the program ends.
+
+ghost use Rattle.std.specs.Prelude.{◌≡◌, IfOk, string_bytes};
+ghost use Rattle.ss_report.specs.Status.{status_text};
+
+use crate::texts::place_text;
+use ss_core::Place;
+use ss_search::Countered;
+use std::alloc::{AllocError, Global};
+
+/// How a run of the program ends.
+#[derive(Debug, Drop)]
+pub enum Status {
+    /// The program was verified, and its run is done.
+    Ended,
+    /// These obligations aren't proved, each with a model that refutes its ground form.
+    Unproved { countered: Vec<Countered> },
+    /// The words aren't those of a command.
+    BadWords,
+    /// The file couldn't be read.
+    ReadFault,
+    /// The source breaks a rule at a place.
+    SourceRefused { rule: u16, place: Place },
+    /// The output failed.
+    WriteFault,
+    Memory,
+    /// The program was verified, and its run isn't done within the steps that it has.
+    StepsSpent,
+}
+
+impl Status {
+    ghost use Rattle.ss_report.specs.Status.{status_number};
+
+    /// The number that the process ends with.
+    pub fn number(&self) -> u8
+        ensures { result ≡ status_number self.now }
+    {
+        match self {
+            Status::Ended => 0,
+            Status::Unproved { .. } => 1,
+            Status::BadWords => 2,
+            Status::ReadFault => 3,
+            Status::SourceRefused { .. } => 4,
+            Status::WriteFault => 5,
+            Status::Memory => 6,
+            Status::StepsSpent => 9,
+        }
+    }
+}
+
+/// What is said of a status on standard error, without the line end; nothing of Ended.
+pub fn status_line(alloc: Global, status: &Status) -> Result<String, AllocError>
+    ensures { IfOk result (λ line. string_bytes line ≡ status_text status.now) }
+{
+    match status {
+        Status::Ended => Ok(String::new(alloc)),
+        Status::Unproved { .. } => String::from_str(alloc, "unproved"),
+        Status::BadWords => String::from_str(alloc, "bad words"),
+        Status::ReadFault => String::from_str(alloc, "read fault"),
+        Status::SourceRefused { rule, place } => {
+            let mut line = String::from_str(alloc, "refused ")?;
+            line.push_str(&rule.to_string(alloc)?)?;
+            line.push_str(" at ")?;
+            line.push_str(&place_text(alloc, *place)?)?;
+            Ok(line)
+        }
+        Status::WriteFault => String::from_str(alloc, "write fault"),
+        Status::Memory => String::from_str(alloc, "out of memory"),
+        Status::StepsSpent => String::from_str(alloc, "steps spent"),
+    }
+}

@@ -1,0 +1,2 @@
+pub mod Countermodel
+pub mod Found

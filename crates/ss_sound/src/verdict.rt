@@ -1,0 +1,96 @@
+// A whole program.
+
+ghost use Rattle.std.specs.Prelude.{◌≡◌, ◌≤◌, length, IfOk};
+ghost use Rattle.ss_core.specs.View.{core};
+ghost use Rattle.ss_run.specs.Formed.{IsFormed};
+ghost use Rattle.ss_run.specs.Safe.{IsSafe};
+ghost use Rattle.ss_oblig.specs.Obligations as oblig;
+ghost use Rattle.ss_terms.specs.Forms.{HasFormula, HasFormulas, IsGrown};
+ghost use Rattle.ss_search.specs.Countermodel.{model_of};
+ghost use Rattle.ss_vcgen.specs.Built.{trees, obligation_in, obligations_in, IsWithin, AreWithin};
+ghost use Rattle.ss_sound.specs.Decided.{IfValid, IfRefuted};
+ghost use Rattle.ss_sound.specs.Verdicts.{IsProved, IsRefutedBy, AreDecided, IsUnproved, IfVerified, IfUnproved};
+
+use crate::decision::{Decision, decide};
+use ss_core::Core;
+use ss_search::Countered;
+use ss_terms::{Bank, FormulaId};
+use ss_vcgen::{Obligation, Obligations};
+use std::alloc::{AllocError, Global};
+
+/// The answer of verification.
+#[derive(Debug, Drop)]
+pub enum Verdict {
+    /// Each obligation has a derivation that the checker accepted.
+    Verified,
+    /// These have none, and every other one has.
+    Unproved { countered: Vec<Countered> },
+    Memory,
+}
+
+/// Decides each obligation of a program, in order.
+pub fn verify(alloc: Global, program: &Core, obligations: &mut Obligations) -> Verdict
+    requires formed { IsFormed (core program.now) }
+    requires obligations { trees obligations.old ≡ oblig.obligations (core program.now) }
+    requires within { IsWithin obligations.old }
+    ensures verified { IfVerified result (IsSafe (core program.now)) }
+    ensures unproved { IfUnproved result (λ listed. IsUnproved (oblig.obligations (core program.now)) listed.items) }
+    ensures obligations { trees obligations.new ≡ trees obligations.old }
+{
+    let _program = program;
+    let Obligations { bank, trail, list } = obligations;
+    match decide_all(alloc, bank, trail, list) {
+        Ok(countered) => {
+            if countered.is_empty() {
+                Verdict::Verified
+            } else {
+                Verdict::Unproved { countered }
+            }
+        }
+        Err(_) => Verdict::Memory,
+    }
+}
+
+// The obligations that have no derivation, each with its model.
+fn decide_all(
+    alloc: Global,
+    bank: &mut Bank,
+    trail: &[FormulaId],
+    list: &[Obligation],
+) -> Result<Vec<Countered>, AllocError>
+    requires trail { HasFormulas bank.old trail.now }
+    requires list { AreWithin bank.old (length trail.now) list.now }
+    ensures decided { IfOk result (λ listed. AreDecided (obligations_in bank.old trail.now list.now) (length list.now) listed.items) }
+    ensures grown { IsGrown bank.old bank.new }
+{
+    let mut listed = Vec::new(alloc);
+    for (number, obligation) in list.iter().enumerate() {
+        match decide_one(alloc, bank, trail, obligation) {
+            Decision::Valid => {}
+            Decision::Refuted(model) => listed.push(Countered {
+                obligation: number,
+                model,
+            })?,
+            Decision::Memory => return Err(AllocError),
+        }
+    }
+    Ok(listed)
+}
+
+// Decides an obligation whose premises are a front of the trail.
+fn decide_one(
+    alloc: Global,
+    bank: &mut Bank,
+    trail: &[FormulaId],
+    obligation: &Obligation,
+) -> Decision
+    requires trail { HasFormulas bank.old trail.now }
+    requires goal { HasFormula bank.old obligation.now.goal }
+    requires premises { obligation.now.premises ≤ length trail.now }
+    ensures valid { IfValid result (IsProved (obligation_in bank.old trail.now obligation.now)) }
+    ensures refuted { IfRefuted result (λ m. IsRefutedBy (model_of m) (obligation_in bank.old trail.now obligation.now)) }
+    ensures grown { IsGrown bank.old bank.new }
+{
+    let premises = &trail[..obligation.premises];
+    decide(alloc, bank, premises, obligation.goal)
+}

@@ -1,0 +1,5 @@
+pub mod Places
+pub mod Same
+pub mod Trees
+pub mod Signs
+pub mod Banks

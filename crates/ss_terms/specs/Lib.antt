@@ -1,0 +1,4 @@
+pub mod Interned
+pub mod Forms
+pub mod Bank
+pub mod Lines

@@ -1,0 +1,134 @@
+-- What the answers of the command say.
+use Rattle.std.specs.Prelude.{ℕ, ◌≡◌, ◌+◌, ◌<◌, ◌≤◌, ◌⊎◌, List, [], Option, Some, None, Vec, length}
+use Rattle.ss_io.specs.Outside.{Told, Grew, GrewByFront}
+use Rattle.ss_core.specs.declared.names.Place.{Place}
+use Rattle.ss_core.specs.declared.names.FrontStop.{FrontStop}
+use Rattle.ss_core.specs.declared.names.FrontStop.TheVariants as front
+use Rattle.ss_core.specs.Tree.{CoreTree}
+use Rattle.ss_run.specs.Steps.{State, Running, Done, Failed, run, printed}
+use Rattle.ss_run.specs.Safe.{IsSafe}
+use Rattle.ss_machine.specs.Ends.{IsRunning}
+use Rattle.ss_oblig.specs.Obligations.{obligations}
+use Rattle.ss_search.specs.declared.model.Countered.{Countered}
+use Rattle.ss_sound.specs.Verdicts.{IsUnproved}
+use Rattle.ss_report.specs.declared.status.Status.{Status}
+use Rattle.ss_report.specs.declared.status.Status.TheVariants as status
+use Rattle.ss_report.specs.Verdict.{verdict_text}
+use Rattle.ss_first.specs.Syntax.{ProgramSyntax}
+use Rattle.ss_first.specs.Accepted.{Accepted, too_long, not_of_form}
+use Rattle.ss_first.specs.Elaborated.{core_of}
+
+-- the bytes of the file, where they are told, have this property; where they aren't told, some bytes have it
+abbrev pub OfSource : Told → (List ℕ → Type 0) → Type 0
+OfSource None P = (source : List ℕ) × P source
+OfSource (Some None) P = ⊥
+OfSource (Some (Some source)) P = P source
+
+-- the same of the file of a name, where there is one
+abbrev pub OfFile : Option (List ℕ) → (List ℕ → Told) → (List ℕ → Type 0) → Type 0
+OfFile None told P = ⊥
+OfFile (Some name) told P = OfSource (told name) P
+
+-- the source is accepted, and this is its core program
+abbrev pub Means : List ℕ → CoreTree → Type 0
+Means source c = (p : ProgramSyntax) × Accepted source p × (core_of p ≡ c)
+
+-- the first fault of a source: it is too long, or else it isn't of the form
+abbrev pub IsStop : List ℕ → FrontStop → Type 0
+IsStop source stop = ((1048576 < length source) × (stop ≡ too_long)) ⊎ ((length source ≤ 1048576) × ((p : ProgramSyntax) → Accepted source p → ⊥) × (stop ≡ not_of_form))
+
+abbrev pub IsDone : State → Type 0
+IsDone (Running fs before) = ⊥
+IsDone (Done before) = Unit {0}
+IsDone (Failed kind at before) = ⊥
+
+-- the headline: the source is accepted, and its program is safe, that is, after every number of steps no check of its run has failed
+-- and its state is good
+pub record IsHeadline (source : List ℕ) : Type 0 where
+  pub program : CoreTree
+  pub means : Means source program
+  pub safe : IsSafe program
+
+-- the program is safe, its run is done within these steps, and the sink took exactly what the run printed
+pub record HasRun (steps : ℕ) (old new : Option (List ℕ)) (source : List ℕ) : Type 0 where
+  pub program : CoreTree
+  pub means : Means source program
+  pub safe : IsSafe program
+  pub done : IsDone (run program steps)
+  pub took : Grew old new (printed program steps)
+
+-- the same, but after these steps the run isn't at its end
+pub record RunsOn (steps : ℕ) (old new : Option (List ℕ)) (source : List ℕ) : Type 0 where
+  pub program : CoreTree
+  pub means : Means source program
+  pub safe : IsSafe program
+  pub running : IsRunning (run program steps)
+  pub took : Grew old new (printed program steps)
+
+-- the listed obligations are refuted by their models and all others valid, and the sink took exactly the text of the verdict
+pub record IsToldUnproved (listed : List Countered) (old new : Option (List ℕ)) (source : List ℕ) : Type 0 where
+  pub program : CoreTree
+  pub means : Means source program
+  pub unproved : IsUnproved (obligations program) listed
+  pub took : Grew old new (verdict_text program (obligations program) listed)
+
+-- the program is safe, and the sink took a front of what its run prints
+pub record HasRunInPart (steps : ℕ) (old new : Option (List ℕ)) (source : List ℕ) : Type 0 where
+  pub program : CoreTree
+  pub means : Means source program
+  pub safe : IsSafe program
+  pub front : GrewByFront old new (printed program steps)
+
+-- the sink took a front of the text of a verdict that could be given
+pub record IsToldInPart (old new : Option (List ℕ)) (source : List ℕ) : Type 0 where
+  pub program : CoreTree
+  pub means : Means source program
+  pub listed : List Countered
+  pub unproved : IsUnproved (obligations program) listed
+  pub front : GrewByFront old new (verdict_text program (obligations program) listed)
+
+-- ---- by the answer
+
+abbrev pub IfRefused : Status → (FrontStop → Type 0) → Type 0
+IfRefused (status.SourceRefused rule at) P = P (front.Refused rule at)
+IfRefused _ P = Unit {0}
+
+abbrev pub IfUnproved : Status → (List Countered → Type 0) → Type 0
+IfUnproved (status.Unproved listed) P = P listed.items
+IfUnproved _ P = Unit {0}
+
+-- the answers that say that the program was verified
+abbrev pub IsVerified : Status → Type 0
+IsVerified status.Ended = Unit {0}
+IsVerified status.StepsSpent = Unit {0}
+IsVerified _ = ⊥
+
+-- the answers that come before anything is written
+abbrev pub IsSilent : Status → Type 0
+IsSilent status.BadWords = Unit {0}
+IsSilent status.ReadFault = Unit {0}
+IsSilent (status.SourceRefused rule at) = Unit {0}
+IsSilent _ = ⊥
+
+-- the answers that come where the output or the memory stopped the work
+abbrev pub IsStopped : Status → Type 0
+IsStopped status.WriteFault = Unit {0}
+IsStopped status.Memory = Unit {0}
+IsStopped _ = ⊥
+
+-- the answer to a source that is refused
+abbrev pub answer_to : FrontStop → Status
+answer_to (front.Refused rule at) = status.SourceRefused rule at
+answer_to front.Memory = status.Memory
+
+-- ---- what an answer says of a source that was read
+
+abbrev pub Says : ℕ → Option (List ℕ) → Option (List ℕ) → Status → List ℕ → Type 0
+Says steps old new status.Ended source = HasRun steps old new source
+Says steps old new status.StepsSpent source = RunsOn steps old new source
+Says steps old new (status.Unproved listed) source = IsToldUnproved listed.items old new source
+Says steps old new (status.SourceRefused rule at) source = IsStop source (front.Refused rule at) × Grew old new []
+Says steps old new status.WriteFault source = HasRunInPart steps old new source ⊎ IsToldInPart old new source
+Says steps old new status.Memory source = Grew old new [] ⊎ (HasRunInPart steps old new source ⊎ IsToldInPart old new source)
+Says steps old new status.BadWords source = ⊥
+Says steps old new status.ReadFault source = ⊥

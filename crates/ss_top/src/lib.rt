@@ -1,0 +1,8 @@
+//! The program, over any files and any output.
+#![tactic(auto)]
+
+mod source;
+mod top;
+mod words;
+
+pub use top::specsharp;

@@ -1,0 +1,121 @@
+// A source that was read.
+
+ghost use Rattle.std.specs.Prelude.{◌≡◌, ◌≤◌};
+ghost use Rattle.ss_io.specs.Outside.{Rose};
+ghost use Rattle.ss_core.specs.View.{core};
+ghost use Rattle.ss_run.specs.Formed.{IsFormed};
+ghost use Rattle.ss_run.specs.Safe.{IsSafe};
+ghost use Rattle.ss_oblig.specs.Obligations as oblig;
+ghost use Rattle.ss_vcgen.specs.Built.{trees};
+ghost use Rattle.ss_sound.specs.Verdicts.{IsUnproved};
+ghost use Rattle.ss_top.specs.Answers.{Means, Says, answer_to};
+
+use ss_core::{Core, FrontStop};
+use ss_first::read_first;
+use ss_io::{Sink, WriteStop};
+use ss_machine::{CheckedEnd, run_checked};
+use ss_report::{Status, verdict_text};
+use ss_search::Countered;
+use ss_sound::{Verdict, verify};
+use ss_vcgen::{Obligations, obligations};
+use std::alloc::Global;
+
+/// Verifies the program of a source, and runs it for so many steps where it is verified.
+pub fn run_source<S: Sink>(alloc: Global, source: &[u8], steps: u64, out: &mut S) -> Status
+    ensures says { Says steps (S.taken out.old) (S.taken out.new) result source.now }
+    ensures faults { S.faults out.old ≤ S.faults out.new }
+    ensures cause { result ≡ Status.WriteFault → Rose (S.faults out.old) (S.faults out.new) }
+{
+    match read_first(alloc, source) {
+        Ok(program) => run_program(alloc, source, &program, steps, out),
+        Err(stop) => refuse(stop),
+    }
+}
+
+// The answer to a source that is refused.
+fn refuse(stop: FrontStop) -> Status
+    ensures { result ≡ answer_to stop }
+{
+    match stop {
+        FrontStop::Refused { rule, place } => Status::SourceRefused { rule, place },
+        FrontStop::Memory => Status::Memory,
+    }
+}
+
+// Verifies and runs the program that a source means.
+fn run_program<S: Sink>(
+    alloc: Global,
+    source: &[u8],
+    program: &Core,
+    steps: u64,
+    out: &mut S,
+) -> Status
+    requires means { Means source.now (core program.now) }
+    requires formed { IsFormed (core program.now) }
+    ensures says { Says steps (S.taken out.old) (S.taken out.new) result source.now }
+    ensures faults { S.faults out.old ≤ S.faults out.new }
+    ensures cause { result ≡ Status.WriteFault → Rose (S.faults out.old) (S.faults out.new) }
+{
+    let Ok(mut obligations) = obligations(alloc, program) else {
+        return Status::Memory;
+    };
+    match verify(alloc, program, &mut obligations) {
+        Verdict::Verified => run_safe(alloc, source, program, steps, out),
+        Verdict::Unproved { countered } => {
+            tell(alloc, source, program, &obligations, countered, steps, out)
+        }
+        Verdict::Memory => Status::Memory,
+    }
+}
+
+// Runs a safe program.
+fn run_safe<S: Sink>(
+    alloc: Global,
+    source: &[u8],
+    program: &Core,
+    steps: u64,
+    out: &mut S,
+) -> Status
+    requires means { Means source.now (core program.now) }
+    requires safe { IsSafe (core program.now) }
+    ensures says { Says steps (S.taken out.old) (S.taken out.new) result source.now }
+    ensures faults { S.faults out.old ≤ S.faults out.new }
+    ensures cause { result ≡ Status.WriteFault → Rose (S.faults out.old) (S.faults out.new) }
+{
+    let _source = source;
+    match run_checked(alloc, program, steps, out) {
+        CheckedEnd::Done { .. } => Status::Ended,
+        CheckedEnd::Running => Status::StepsSpent,
+        CheckedEnd::WriteFault => Status::WriteFault,
+        CheckedEnd::Memory => Status::Memory,
+        CheckedEnd::Failed { .. } => unreachable!(),
+    }
+}
+
+// Writes the text of a verdict.
+fn tell<S: Sink>(
+    alloc: Global,
+    source: &[u8],
+    program: &Core,
+    obligations: &Obligations,
+    countered: Vec<Countered>,
+    steps: u64,
+    out: &mut S,
+) -> Status
+    requires means { Means source.now (core program.now) }
+    requires obligations { trees obligations.now ≡ oblig.obligations (core program.now) }
+    requires unproved { IsUnproved (oblig.obligations (core program.now)) countered.items }
+    ensures says { Says steps (S.taken out.old) (S.taken out.new) result source.now }
+    ensures faults { S.faults out.old ≤ S.faults out.new }
+    ensures cause { result ≡ Status.WriteFault → Rose (S.faults out.old) (S.faults out.new) }
+{
+    let (_source, _steps) = (source, steps);
+    let Ok(text) = verdict_text(alloc, program, obligations, &countered) else {
+        return Status::Memory;
+    };
+    match out.write(text.as_bytes()) {
+        Ok(()) => Status::Unproved { countered },
+        Err(WriteStop::Failed) => Status::WriteFault,
+        Err(WriteStop::Memory) => Status::Memory,
+    }
+}

@@ -1,0 +1,14 @@
+use Rattle.std.proofs.Common.{sym}
+use Rattle.ss_core.specs.View.{expr}
+use Rattle.ss_terms.specs.Forms.{terms_at}
+use Rattle.ss_vcgen.proofs.Chains.{term_of-chain, expr-And}
+use Rattle.ss_vcgen.proofs.express.+term_of.Goals as goal
+
+pub returns-else-is_empty-clause-at : goal.returns-else-is_empty-clause-at
+returns-else-is_empty-clause-at t c = let k = c.if-is_empty.ensures in
+    rw (
+      c.in-And.is,
+      expr-And c.in-And.field-0 c.in-And.first c.in-And.others,
+      term_of-chain (terms_at c.args.bank.now c.args.env.now) c.in-And.field-0 (expr c.in-And.first.value) c.in-And.others.items (sym (rw c.in-And.others.ok.0 at k)),
+    )
+    c.zero-in-And.ensures.at

@@ -1,0 +1,4 @@
+pub mod Numbers
+pub mod Chain
+pub mod Built
+pub mod Builder
