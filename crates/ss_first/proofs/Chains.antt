@@ -1,11 +1,10 @@
 -- Chains, operand by operand.
-use Rattle.std.proofs.Common.{ℕ, ◌+◌, ◌<◌, ◌≤◌, ◌≡◌, List, [], ◌∷◌, ◌++◌, length, map, Option, Some, None, Result, Ok, Err, refl, ap, sym, subst, ◌∙◌, arith}
+use Rattle.std.proofs.Common.{◌≡◌, List, [], ◌∷◌, length, map, Option, Some, None, Result, Ok, Err, refl, ap, sym, ◌∙◌}
 use Rattle.ss_core.specs.declared.names.Place.{Place}
 use Rattle.ss_core.specs.declared.names.Ty.{Ty}
 use Rattle.ss_core.specs.declared.names.Ty.TheVariants as ty
 use Rattle.ss_core.specs.declared.program.Expr.{Expr}
-use Rattle.ss_core.specs.Tree.{ExprTree, AndExpr}
-use Rattle.ss_core.specs.View.{expr}
+use Rattle.ss_core.specs.Tree.{ExprTree}
 use Rattle.ss_core.specs.View.{chained as core_chained}
 use Rattle.ss_first.specs.declared.misfit.Misfit.{Misfit}
 use Rattle.ss_first.specs.declared.misfit.Misfit.TheVariants as misfit

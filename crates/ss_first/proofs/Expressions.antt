@@ -1,23 +1,21 @@
 -- Reading expressions finds what the grammar says: a term for each production.
-use Rattle.std.proofs.Common.{◌≡◌, ℕ, zero, suc, List, [], ◌∷◌, ◌++◌, length, Option, Some, None, Result, Ok, Err, Bool, true, false, refl, sym, ap, subst, ◌∙◌, eqb, pos, arith}
+use Rattle.std.proofs.Common.{◌≡◌, ℕ, zero, suc, List, [], ◌∷◌, length, Option, Some, None, Ok, Bool, true, false, refl, sym, ◌∙◌, eqb, pos, arith}
 use Rattle.std.specs.Prelude.{◌||◌}
 use Rattle.std.proofs.lemmas.Bool.{eqb-true}
 use Rattle.ss_core.specs.declared.names.Place.{Place}
-use Rattle.ss_grammar.specs.declared.fault.Fault.{Fault}
-use Rattle.ss_grammar.specs.declared.fault.Fault.TheVariants.{Expected, TooDeep}
 use Rattle.ss_first.specs.declared.token.Symbol.{Symbol}
 use Rattle.ss_first.specs.declared.token.Symbol.TheVariants as symbol
 use Rattle.ss_first.specs.Text.{Kind, AWord, ASymbol, AName, ANumber}
 use Rattle.ss_first.specs.Tokens.{Tok}
 use Rattle.ss_first.specs.Syntax.{ExprSyntax, EqualOf, NotOf, ParenOf, NumberOf}
-use Rattle.ss_grammar.specs.Language.{Done, Take, Maybe, Bind, Many, Tower, Starts, Finds}
+use Rattle.ss_grammar.specs.Language.{Done, Take, Maybe, Bind, Many}
 use Rattle.ss_grammar.specs.Reading.{◌>>=◌, take, maybe, times}
 use Rattle.ss_first.specs.Grammar.{if_so, symbol_number, symbol_is, the, Head, NotHead, OpenHead, Leaf, unary_kind, unary_head, join_and, Equality, Conjunction, Behind, Nothing, UnaryOver, Unary, Expression}
-use Rattle.ss_first.specs.Parser.{Reader, equality, conjunction, enclosed, shallow, within, from_head, unary, expression}
+use Rattle.ss_first.specs.Parser.{Reader, equality, conjunction, enclosed, shallow, within, unary, expression}
 use Rattle.ss_grammar.proofs.Facts.{known, no_token}
 use Rattle.ss_grammar.proofs.Good.{Good, any_token, take_in}
 use Rattle.ss_grammar.proofs.Knot.{Over, ReadsTo, tower_reads}
-use Rattle.ss_grammar.proofs.Parts.{to_any, to_done, to_take, to_then, to_as, to_opt, to_maybe, to_many, to_wide, to_same, to_heads, Pick, heads, heads_as}
+use Rattle.ss_grammar.proofs.Parts.{to_done, to_take, to_then, to_as, to_opt, to_maybe, to_many, to_wide, to_same, to_heads, Pick, heads, heads_as}
 
 -- ---- sets of tokens
 

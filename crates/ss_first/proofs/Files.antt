@@ -1,5 +1,5 @@
 -- Reading statements and files finds what the grammar says: a term for each production.
-use Rattle.std.proofs.Common.{◌≡◌, ℕ, List, [], ◌∷◌, ◌++◌, length, Option, Some, None, Result, Ok, Err, Bool, true, false, refl, sym, ap, subst, ◌∙◌, codes, arith}
+use Rattle.std.proofs.Common.{◌≡◌, ℕ, List, [], ◌∷◌, length, Some, Result, Ok, Err, Bool, true, false, refl, sym, ap, subst, ◌∙◌, codes, arith}
 use Rattle.std.specs.Prelude.{◌||◌}
 use Rattle.ss_core.specs.declared.names.Place.{Place}
 use Rattle.ss_core.specs.declared.names.Ty.{Ty}
@@ -9,14 +9,14 @@ use Rattle.ss_first.specs.declared.token.Symbol.{Symbol}
 use Rattle.ss_first.specs.declared.token.Symbol.TheVariants as symbol
 use Rattle.ss_first.specs.Text.{Kind, AWord, ASymbol, AName, ANumber}
 use Rattle.ss_first.specs.Tokens.{Tok}
-use Rattle.ss_first.specs.Syntax.{ExprSyntax, StmtSyntax, DeclareOf, AssignOf, AssertOf, PrintOf, ProgramSyntax}
+use Rattle.ss_first.specs.Syntax.{DeclareOf, AssignOf, AssertOf, PrintOf, ProgramSyntax}
 use Rattle.ss_grammar.specs.declared.fault.Fault.{Fault}
 use Rattle.ss_grammar.specs.declared.fault.Stop.{Stop}
 use Rattle.ss_grammar.specs.declared.fault.Stop.TheVariants as stop
-use Rattle.ss_grammar.specs.Language.{Done, Take, Bind, Many, Finds}
+use Rattle.ss_grammar.specs.Language.{Done, Take, Bind, Finds}
 use Rattle.ss_grammar.specs.Stops.{Fails}
 use Rattle.ss_first.specs.Accepted.{ReadsFile}
-use Rattle.ss_grammar.specs.Reading.{◌>>=◌, take, times}
+use Rattle.ss_grammar.specs.Reading.{◌>>=◌, take}
 use Rattle.ss_first.specs.Grammar.{the, the_word, the_name, a_name, symbol_is, Expression, StmtHead, DeclareHead, AssignHead, AssertHead, PrintHead, stmt_kind, stmt_head, join_stmt, Ending, Initial, AnyName, Declared, CallEnd, Argument, WriteLine, Printed, StmtBehind, Statements, MainName, MainHeading, Heading, Closing, File}
 use Rattle.ss_first.specs.Parser.{Gets, give, expression, ending, initial, name_at, declared, call_end, argument, write_line, printed, stmt_behind, statements, main_name, main_heading, heading, closing, file}
 use Rattle.ss_grammar.proofs.Facts.{known, no_token}

@@ -1,6 +1,6 @@
 -- The longest token at the front of a source: there is one at most, and what it is by its first byte.
-use Rattle.std.proofs.Common.{◌≡◌, ◌≢◌, ◌<◌, ◌≤◌, ℕ, List, [], ◌∷◌, ◌++◌, length, Option, Some, None, Bool, true, false, not, refl, sym, ap, subst, ◌∙◌, option_map, nat_le, eqb, append_assoc, arith}
-use Rattle.std.specs.Prelude.{◌||◌, ◌&&◌, ◌==◌}
+use Rattle.std.proofs.Common.{◌≡◌, ℕ, List, [], ◌∷◌, ◌++◌, Option, Some, None, Bool, true, false, not, refl, sym, ap, subst, ◌∙◌, option_map, arith}
+use Rattle.std.specs.Prelude.{◌||◌, ◌&&◌}
 use Rattle.std.specs.List.{list_any, list_all}
 use Rattle.std.specs.Str.{bytes_eq}
 use Rattle.std.proofs.lemmas.Slice.Eq.{bytes_eq-Decides}
@@ -8,7 +8,7 @@ use Rattle.std.proofs.lemmas.Bool.Decides.{nat_tests}
 use Rattle.std.proofs.lemmas.Grind.{common_steps}
 use Rattle.ss_grammar.proofs.Facts.{Cut, same, longer, shorter, cut}
 use Rattle.ss_first.specs.Text.{Kind, is_blank, is_digit, is_letter, is_word_byte, is_word, is_number, symbols, is_symbol, is_token, IsLongest, meaning, word_meaning, number_meaning, decimal}
-use Rattle.ss_first.specs.Tokens.{IsFront, IsNext}
+use Rattle.ss_first.specs.Tokens.{IsNext}
 use Rattle.ss_first.specs.Scan.{Stops, Begins}
 
 pub longest_one : (t r u s : List ℕ) → IsLongest t r → IsLongest u s → t ++ r ≡ u ++ s → (t ≡ u) × (r ≡ s)

@@ -1,5 +1,5 @@
 -- Locals by name, as a map finds them and as a list shows them.
-use Rattle.std.proofs.Common.{ℕ, zero, suc, ◌≡◌, ◌≤◌, Bool, true, false, List, [], ◌∷◌, ◌++◌, length, map, take, drop, position, Option, Some, None, option_map, is_some, slice_get, String, Global, string_bytes, refl, ap, sym, subst, ◌∙◌, ◌+◌, append_assoc, add-one, arith}
+use Rattle.std.proofs.Common.{ℕ, zero, suc, ◌≡◌, ◌≤◌, false, List, [], ◌∷◌, ◌++◌, length, map, drop, position, Option, Some, None, option_map, is_some, slice_get, String, Global, string_bytes, refl, ap, sym, ◌∙◌, ◌+◌, append_assoc, add-one, arith}
 use Rattle.std.specs.Str.{bytes_eq}
 use Rattle.std.specs.List.{position_or_len}
 use Rattle.std.specs.Map.{keys_of}

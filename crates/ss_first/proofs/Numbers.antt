@@ -1,5 +1,5 @@
 -- The numbers that digits write.
-use Rattle.std.proofs.Common.{◌≡◌, ◌<◌, ◌≤◌, ◌+◌, ◌-◌, ◌*◌, ℕ, List, [], ◌∷◌, length, Option, Some, None, Bool, true, false, slice_index, nat_le, pos, ℤ, refl, sym, ap, subst, ◌∙◌, arith}
+use Rattle.std.proofs.Common.{◌≡◌, ◌<◌, ◌≤◌, ◌+◌, ◌-◌, ◌*◌, ℕ, List, [], ◌∷◌, length, None, slice_index, arith}
 use Rattle.std.proofs.lemmas.Grind.{common_steps}
 use Rattle.ss_first.specs.Text.{decimal_from}
 use Rattle.ss_first.specs.Scan.{small}

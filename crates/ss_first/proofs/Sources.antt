@@ -1,5 +1,5 @@
 -- Why a source is refused, and that it is one program at most.
-use Rattle.std.proofs.Common.{◌≡◌, ℕ, [], Bool, true, false, List, refl, ap, sym, subst, ◌∙◌}
+use Rattle.std.proofs.Common.{◌≡◌, ℕ, [], true, false, List, ap, sym, subst, ◌∙◌}
 use Rattle.ss_first.specs.Text.{start}
 use Rattle.ss_first.specs.Tokens.{Tok, Spells}
 use Rattle.ss_first.specs.Syntax.{ProgramSyntax}

@@ -1,13 +1,11 @@
 -- Spelling token by token, and that a source spells one list of tokens at most.
-use Rattle.std.proofs.Common.{◌≡◌, ◌<◌, ◌≤◌, ◌+◌, ℕ, List, [], ◌∷◌, ◌++◌, length, Option, Some, None, Bool, true, false, cond, refl, sym, ap, subst, ◌∙◌, append_assoc, length-append, eqb, arith}
+use Rattle.std.proofs.Common.{◌≡◌, ◌<◌, ◌≤◌, ◌+◌, ℕ, List, [], ◌∷◌, ◌++◌, length, Some, None, Bool, true, false, cond, refl, sym, ap, subst, ◌∙◌, append_assoc, length-append, eqb, arith}
 use Rattle.std.specs.Prelude.{◌&&◌}
 use Rattle.std.specs.List.{list_all}
 use Rattle.std.proofs.lemmas.List.{append-nil}
-use Rattle.std.proofs.lemmas.Bool.Decides.{nat_tests}
-use Rattle.std.proofs.lemmas.Grind.{common_steps}
 use Rattle.ss_core.specs.declared.names.Place.{Place}
 use Rattle.ss_grammar.proofs.Facts.{Cut, same, longer, shorter, cut}
-use Rattle.ss_first.specs.Text.{Kind, is_blank, is_token, IsLongest, meaning, next_place, place_after}
+use Rattle.ss_first.specs.Text.{Kind, is_blank, is_token, meaning, next_place, place_after}
 use Rattle.ss_first.specs.Tokens.{Tok, FirstToken, Spells, IsFront, IsNext}
 use Rattle.ss_first.proofs.Fronts.{longest_one, token_plain, both_left, both_right, all_append}
 

@@ -1,13 +1,12 @@
 -- The symbol at the front of a source.
-use Rattle.std.proofs.Common.{◌≡◌, ◌≢◌, ◌<◌, ◌≤◌, ℕ, List, [], ◌∷◌, ◌++◌, length, take, drop, Option, Some, None, Bool, true, false, not, cond, refl, sym, ap, subst, ◌∙◌, option_map, eqb, if◌then◌else◌, codes, arith}
-use Rattle.std.specs.Prelude.{◌||◌, ◌&&◌}
+use Rattle.std.proofs.Common.{◌≡◌, ℕ, List, [], ◌∷◌, ◌++◌, take, drop, Option, Some, None, Bool, true, false, not, refl, sym, ap, subst, ◌∙◌, option_map, eqb, if◌then◌else◌}
+use Rattle.std.specs.Prelude.{◌||◌}
 use Rattle.std.proofs.lemmas.Bool.{eqb-true}
-use Rattle.std.specs.List.{list_any, list_all}
 use Rattle.std.specs.Str.{bytes_eq}
 use Rattle.std.proofs.lemmas.Slice.Eq.{bytes_eq-Decides}
 use Rattle.ss_first.specs.declared.token.Symbol.{Symbol}
 use Rattle.ss_first.specs.declared.token.Symbol.TheVariants as symbol
-use Rattle.ss_first.specs.Text.{Kind, ASymbol, is_blank, is_digit, is_letter, is_word_byte, is_word, is_number, is_symbol, is_token, look_up, form_symbols, symbol_meaning, IsLongest, meaning}
+use Rattle.ss_first.specs.Text.{Kind, ASymbol, is_digit, is_letter, is_token, look_up, form_symbols, IsLongest, meaning}
 use Rattle.ss_first.specs.Tokens.{IsFront, IsNext}
 use Rattle.ss_first.specs.Scan.{Begins, single, begins_with, double_here, equals_here, bang_here, and_here, symbol_here}
 

@@ -1,7 +1,7 @@
 -- How many tokens, and chains.
-use Rattle.std.proofs.Common.{◌≡◌, ◌<◌, ◌≤◌, ℕ, List, [], ◌∷◌, ◌++◌, length, map, refl, sym, ap, ◌∙◌, suc, arith}
+use Rattle.std.proofs.Common.{◌≡◌, ◌<◌, ◌≤◌, List, [], ◌∷◌, ◌++◌, length, refl, ap, suc, arith}
 use Rattle.ss_first.specs.declared.token.Token.{Token}
-use Rattle.ss_first.specs.Tokens.{Tok, tok, toks}
+use Rattle.ss_first.specs.Tokens.{toks}
 use Rattle.ss_first.specs.Syntax.{ExprSyntax, AndOf, chained}
 
 pub toks_length : (ts : List Token) → length (toks ts) ≡ length ts

@@ -1,5 +1,5 @@
 -- The tree of a chain, from its parts.
-use Rattle.std.proofs.Common.{◌≡◌, ℕ, suc, ◌+◌, List, [], ◌∷◌, length, map, Box, Vec, Global, refl, ap, sym, ◌∙◌, rules}
+use Rattle.std.proofs.Common.{◌≡◌, ℕ, suc, ◌+◌, List, [], ◌∷◌, length, map, Box, Vec, Global, refl, ap, sym, ◌∙◌}
 use Rattle.ss_first.specs.declared.tree.Expr.{Expr}
 use Rattle.ss_first.specs.declared.tree.Expr.TheViews as view
 use Rattle.ss_first.specs.declared.tree.Expr.TheVariants.{rolls-And}

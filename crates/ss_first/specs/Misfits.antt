@@ -1,12 +1,12 @@
 -- What the functions of the elaboration answer.
-use Rattle.std.specs.Prelude.{ℕ, ◌≡◌, Bool, true, false, List, [], ◌∷◌, map, Option, Some, None, Result, Ok, Err, Vec}
+use Rattle.std.specs.Prelude.{◌≡◌, true, false, List, [], ◌∷◌, map, Option, Some, None, Result, Ok, Err, Vec}
 use Rattle.std.specs.declared.alloc.Global.{Global}
 use Rattle.ss_core.specs.declared.names.Place.{Place}
 use Rattle.ss_core.specs.declared.names.Ty.{Ty}
 use Rattle.ss_core.specs.declared.program.Expr.{Expr}
 use Rattle.ss_core.specs.declared.program.Stmt.{Stmt}
 use Rattle.ss_core.specs.declared.program.Core.{Core}
-use Rattle.ss_core.specs.Tree.{ExprTree, StmtTree, CoreTree}
+use Rattle.ss_core.specs.Tree.{ExprTree}
 use Rattle.ss_core.specs.View.{expr, stmt_of, core, chained}
 use Rattle.ss_first.specs.declared.misfit.Misfit.{Misfit}
 use Rattle.ss_first.specs.declared.misfit.Misfit.TheVariants as misfit

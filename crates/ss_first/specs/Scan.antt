@@ -1,5 +1,5 @@
 -- What stands at the front of a source, as it is looked for byte by byte.
-use Rattle.std.specs.Prelude.{ℕ, ℤ, pos, ◌==◌, ◌||◌, nat_le, Bool, true, false, if◌then◌else◌, ◌≡◌, List, [], ◌∷◌, Option, Some, None, option_map}
+use Rattle.std.specs.Prelude.{ℕ, ℤ, pos, ◌==◌, nat_le, Bool, true, false, if◌then◌else◌, ◌≡◌, List, [], ◌∷◌, Option, Some, None, option_map}
 use Rattle.ss_first.specs.declared.token.Symbol.{Symbol}
 use Rattle.ss_first.specs.declared.token.Symbol.TheVariants as symbol
 

@@ -1,5 +1,5 @@
 -- Tokens with their places, and which tokens a source spells.
-use Rattle.std.specs.Prelude.{ℕ, ◌≡◌, Bool, true, List, [], ◌∷◌, ◌++◌, Option, Some, None, map, string_bytes}
+use Rattle.std.specs.Prelude.{ℕ, ◌≡◌, true, List, [], ◌∷◌, ◌++◌, Option, Some, None, map, string_bytes}
 use Rattle.std.specs.List.{list_all}
 use Rattle.ss_core.specs.declared.names.Place.{Place}
 use Rattle.ss_first.specs.declared.token.TokenKind.{TokenKind}

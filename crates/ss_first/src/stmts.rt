@@ -16,6 +16,9 @@ use ss_core::{Place, Ty};
 use ss_grammar::fault::{Fault, Stop};
 use std::alloc::Global;
 
+// How deep `!` and `(` nest.
+const LEVELS: u32 = 64;
+
 // The place of this word, and the tokens behind it.
 fn expect_word(tokens: &[Token], word: Word) -> Result<(Place, &[Token]), Stop>
     ensures gives { Gives (λ x. (x.0, toks x.1.now)) result (take (the_word word) give (toks tokens.now)) }
@@ -72,7 +75,7 @@ fn parse_ending(alloc: Global, tokens: &[Token]) -> Result<(Expr, &[Token]), Sto
     ensures gives { Gives (λ x. (expr_syntax x.0, toks x.1.now)) result (ending 64 (toks tokens.now)) }
     ensures fewer { IfOk result (λ x. length x.1.now < length tokens.now) }
 {
-    let (expr, rest) = parse_conjunction(alloc, 64, tokens)?;
+    let (expr, rest) = parse_conjunction(alloc, LEVELS, tokens)?;
     let (_, rest) = expect(rest, Symbol::Semicolon)?;
     Ok((expr, rest))
 }
@@ -115,7 +118,7 @@ fn parse_argument(alloc: Global, tokens: &[Token]) -> Result<(Expr, &[Token]), S
     ensures gives { Gives (λ x. (expr_syntax x.0, toks x.1.now)) result (argument 64 (toks tokens.now)) }
     ensures fewer { IfOk result (λ x. length x.1.now < length tokens.now) }
 {
-    let (expr, rest) = parse_conjunction(alloc, 64, tokens)?;
+    let (expr, rest) = parse_conjunction(alloc, LEVELS, tokens)?;
     let (_, rest) = parse_call_end(rest)?;
     Ok((expr, rest))
 }

@@ -1,13 +1,12 @@
 -- What a reader answers, from what it gives; and what its answer says of the whole list.
-use Rattle.std.proofs.Common.{◌≡◌, ℕ, List, [], ◌∷◌, ◌++◌, length, Result, Ok, Err, Bool, refl, sym, ap, subst, ◌∙◌}
+use Rattle.std.proofs.Common.{◌≡◌, ℕ, List, [], ◌∷◌, ◌++◌, Result, Ok, Err, Bool, refl, sym, ap, subst, ◌∙◌}
 use Rattle.std.proofs.lemmas.List.{append-nil}
 use Rattle.ss_grammar.specs.declared.fault.Fault.{Fault}
 use Rattle.ss_grammar.specs.declared.fault.Stop.{Stop}
 use Rattle.ss_grammar.specs.declared.fault.Stop.TheVariants as stop
 use Rattle.ss_grammar.specs.declared.fault.Fault.TheVariants.{Expected, TooDeep}
-use Rattle.ss_grammar.specs.Language.{Ends, Accepts, Finds}
+use Rattle.ss_grammar.specs.Language.{Ends, Finds}
 use Rattle.ss_grammar.specs.Stops.{Fails, Gives, Stands, Answers}
-use Rattle.ss_grammar.proofs.Facts.{Any}
 use Rattle.ss_grammar.proofs.Good.{Good}
 
 module _ {T A : Type 0} (L : ℕ → List T → A → Type 0) (d : ℕ) (ts : List T) where

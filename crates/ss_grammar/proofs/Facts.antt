@@ -1,8 +1,7 @@
 -- What is known of each language, whoever reads it.
-use Rattle.std.proofs.Common.{◌≡◌, ℕ, zero, suc, List, [], ◌∷◌, ◌++◌, Option, Some, None, Bool, true, false, refl, sym, ap, subst, ◌∙◌, append_assoc}
+use Rattle.std.proofs.Common.{◌≡◌, ℕ, List, [], ◌∷◌, ◌++◌, Option, Some, None, Bool, true, false, refl, sym, ap, subst, ◌∙◌, append_assoc}
 use Rattle.std.specs.Prelude.{◌||◌, ◌&&◌}
-use Rattle.std.proofs.lemmas.List.{append-nil}
-use Rattle.ss_grammar.specs.Language.{Done, After, Take, Maybe, Bind, Times, Many, Inside, Ends, Starts}
+use Rattle.ss_grammar.specs.Language.{Done, After, Take, Maybe, Bind}
 
 -- two ways to cut one list
 pub data Cut {T : Type 0} (w1 u1 w2 u2 : List T) : Type 0 where
@@ -32,6 +31,7 @@ pub record Facts {T A : Type 0} (L : List T → A → Type 0) (first goes : T �
   pub goings : (u : List T) (t : T) (m : List T) (v w : A) → L u v → L (u ++ t ∷ m) w → goes t ≡ true
   pub empties : (v : A) → L [] v → empty ≡ true
 
+-- the empty set of tokens
 abbrev pub no_token : {T : Type 0} → T → Bool
 no_token t = false
 
@@ -47,6 +47,7 @@ done_facts {T} {A} a = record {
   empties = λ v p. refl;
 }
 
+-- whether a token is known
 abbrev pub known : {B : Type 0} → Option B → Bool
 known None = false
 known (Some b) = true

@@ -1,13 +1,13 @@
 -- Each way of reading finds what its language says.
-use Rattle.std.proofs.Common.{◌≡◌, ℕ, zero, suc, ◌+◌, ◌≤◌, List, [], ◌∷◌, ◌++◌, length, Option, Some, None, Result, Ok, Err, Bool, true, false, refl, sym, ap, subst, ◌∙◌, append_assoc, arith, length-append}
+use Rattle.std.proofs.Common.{◌≡◌, ℕ, zero, suc, ◌≤◌, List, [], ◌∷◌, ◌++◌, length, Option, Some, None, Result, Ok, Err, Bool, true, false, refl, sym, ap, subst, ◌∙◌, append_assoc, arith, length-append}
 use Rattle.std.specs.Prelude.{◌||◌}
 use Rattle.std.proofs.lemmas.List.{append-nil}
 use Rattle.ss_grammar.specs.declared.fault.Fault.{Fault}
 use Rattle.ss_grammar.specs.declared.fault.Fault.TheVariants.{Expected, TooDeep}
-use Rattle.ss_grammar.specs.Language.{Done, After, Take, Maybe, Bind, Times, Many, Inside, Ends, Starts, Accepts, Refuses, IsDeep, Finds}
+use Rattle.ss_grammar.specs.Language.{Done, After, Take, Maybe, Bind, Many, Inside, Ends, Starts, Accepts, Finds}
 use Rattle.ss_grammar.specs.Reading.{◌>>=◌, after, take, maybe, times}
-use Rattle.ss_grammar.proofs.Facts.{Facts, Any, Apart, apart_by, known, Cut, same, longer, shorter, cut}
-use Rattle.ss_grammar.proofs.Good.{Good, Grows, some_at, grown, many_from, many_to, bind_good}
+use Rattle.ss_grammar.proofs.Facts.{Any, Apart, apart_by, known, Cut, same, longer, shorter, cut}
+use Rattle.ss_grammar.proofs.Good.{Good, some_at, many_from, many_to}
 
 -- ---- the first token of what follows is all that Ends speaks of
 

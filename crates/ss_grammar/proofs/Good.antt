@@ -1,14 +1,14 @@
 -- Families of languages by level: each part of a grammar has these properties, which follow from those of its parts.
-use Rattle.std.proofs.Common.{◌≡◌, ℕ, zero, suc, ◌+◌, ◌≤◌, List, [], ◌∷◌, ◌++◌, Option, Some, None, Bool, true, false, refl, sym, ap, subst, ◌∙◌, append_assoc, arith}
+use Rattle.std.proofs.Common.{◌≡◌, ℕ, zero, suc, ◌+◌, List, [], ◌∷◌, ◌++◌, Option, Some, None, Bool, true, false, refl, sym, subst, arith}
 use Rattle.std.specs.Prelude.{◌||◌, ◌&&◌}
-use Rattle.std.proofs.lemmas.List.{append-nil}
-use Rattle.ss_grammar.specs.Language.{Done, After, Take, Maybe, Bind, Times, Many, Inside, Ends, Starts}
-use Rattle.ss_grammar.proofs.Facts.{Facts, Any, known, no_token, or_left, or_right, narrow, widen, done_facts, take_facts, maybe_facts, bind_facts, bind_facts_by, Apart, apart_by}
+use Rattle.ss_grammar.specs.Language.{Done, After, Take, Maybe, Bind, Times, Many, Inside, Starts}
+use Rattle.ss_grammar.proofs.Facts.{Facts, Any, known, no_token, narrow, widen, done_facts, take_facts, maybe_facts, bind_facts, bind_facts_by, Apart, apart_by}
 
 -- a higher level has all that a lower one has
 abbrev pub Grows : {T A : Type 0} → (ℕ → List T → A → Type 0) → Type 0
 Grows {T} {A} L = (d : ℕ) (ts : List T) (v : A) → L d ts v → L (suc d) ts v
 
+-- a family whose lists have the facts at every level, whose levels grow, and which has a list at the lowest level
 pub record Good {T A : Type 0} (L : ℕ → List T → A → Type 0) (first goes : T → Bool) (empty : Bool) : Type 0 where
   pub facts : Facts (Any L) first goes empty
   pub grows : Grows L

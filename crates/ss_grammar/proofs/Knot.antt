@@ -1,10 +1,10 @@
 -- A nonterminal that stands in itself, one level deeper.
-use Rattle.std.proofs.Common.{◌≡◌, ℕ, zero, suc, ◌<◌, ◌≤◌, List, [], ◌∷◌, ◌++◌, Option, Some, None, Result, Ok, Err, Bool, true, false, cond, refl, sym, ap, subst, ◌∙◌, arith}
+use Rattle.std.proofs.Common.{◌≡◌, ℕ, zero, suc, ◌<◌, List, [], Result, Err, Bool, subst, arith}
 use Rattle.ss_grammar.specs.declared.fault.Fault.{Fault}
-use Rattle.ss_grammar.specs.declared.fault.Fault.TheVariants.{Expected, TooDeep}
-use Rattle.ss_grammar.specs.Language.{Take, Inside, Tower, Starts, Finds}
-use Rattle.ss_grammar.proofs.Facts.{Facts, Any, known, narrow}
-use Rattle.ss_grammar.proofs.Good.{Good, Grows, good_from, some_at}
+use Rattle.ss_grammar.specs.declared.fault.Fault.TheVariants.{Expected}
+use Rattle.ss_grammar.specs.Language.{Tower, Starts, Finds}
+use Rattle.ss_grammar.proofs.Facts.{Facts, Any, narrow}
+use Rattle.ss_grammar.proofs.Good.{Good, Grows, good_from}
 use Rattle.ss_grammar.proofs.Finding.{find_same}
 
 -- the same, one level deeper than U

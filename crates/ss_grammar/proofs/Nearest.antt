@@ -1,11 +1,11 @@
 -- A tail that belongs to the nearest part that can have it, as `else` does.
-use Rattle.std.proofs.Common.{◌≡◌, ℕ, zero, suc, ◌<◌, List, [], ◌∷◌, ◌++◌, Option, Some, None, Result, Ok, Err, Bool, true, false, refl, sym, ap, subst, ◌∙◌, append_assoc, arith}
+use Rattle.std.proofs.Common.{◌≡◌, ℕ, ◌<◌, List, [], ◌∷◌, ◌++◌, Option, Some, None, Result, Ok, Bool, true, false, refl, sym, ap, subst, append_assoc}
 use Rattle.std.specs.Prelude.{◌||◌, ◌&&◌}
 use Rattle.ss_grammar.specs.declared.fault.Fault.{Fault}
 use Rattle.ss_grammar.specs.Language.{Done, Maybe, Bind, Starts, Ends, Finds}
 use Rattle.ss_grammar.specs.Reading.{◌>>=◌, maybe, after}
-use Rattle.ss_grammar.proofs.Facts.{Facts, Any, Apart, known, no_token}
-use Rattle.ss_grammar.proofs.Good.{Good, Grows, any_token, bind_good_by}
+use Rattle.ss_grammar.proofs.Facts.{Any, Apart, known}
+use Rattle.ss_grammar.proofs.Good.{Good, bind_good_by}
 use Rattle.ss_grammar.proofs.Finding.{find_done, find_bind_by, find_maybes}
 use Rattle.ss_grammar.proofs.Knot.{ReadsTo}
 

@@ -1,12 +1,12 @@
 -- The same where the readers are right below a level.
-use Rattle.std.proofs.Common.{◌≡◌, ℕ, zero, suc, ◌<◌, ◌≤◌, List, [], ◌∷◌, ◌++◌, length, Option, Some, None, Result, Ok, Err, Bool, true, false, refl, sym, ap, subst, ◌∙◌, arith}
+use Rattle.std.proofs.Common.{◌≡◌, ℕ, zero, suc, ◌<◌, List, [], ◌∷◌, length, Option, Some, None, Result, Ok, Err, Bool, true, false, refl, sym, subst, arith}
 use Rattle.std.specs.Prelude.{◌||◌, ◌&&◌}
 use Rattle.ss_grammar.specs.declared.fault.Fault.{Fault}
 use Rattle.ss_grammar.specs.declared.fault.Fault.TheVariants.{Expected, TooDeep}
 use Rattle.ss_grammar.specs.Language.{Done, Take, Maybe, Bind, Many, Inside, Starts, Finds}
 use Rattle.ss_grammar.specs.Reading.{◌>>=◌, take, maybe, times}
 use Rattle.ss_grammar.proofs.Knot.{ReadsTo}
-use Rattle.ss_grammar.proofs.Facts.{Facts, Any, known, no_token, widen, narrow}
+use Rattle.ss_grammar.proofs.Facts.{Facts, Any, known, no_token, narrow}
 use Rattle.ss_grammar.proofs.Good.{Good, Grows, inside_facts, inside_grows, done_good, take_good, maybe_good, bind_good, many_good, any_token, some_at}
 use Rattle.ss_grammar.proofs.Finding.{find_same, find_take, find_none, find_nil, find_deep, find_inside, find_done, find_takes, find_maybes, find_bind, find_many}
 
@@ -90,19 +90,23 @@ to_same n L M first goes empty p to back r = record {
 
 -- ---- heads, some of which open a level
 
+-- one level deeper, where a level is opened
 abbrev pub Pick : {T A : Type 0} → Bool → (ℕ → List T → A → Type 0) → ℕ → List T → A → Type 0
 Pick true M d = Inside M d
 Pick false M d = M d
 
+-- reading it: with no level left the token that would open one is a fault
 abbrev pub pick : {T A : Type 0} → Bool → ℕ → (ℕ → List T → Result (A × List T) (Fault × List T)) → T → List T → Result (A × List T) (Fault × List T)
 pick false d m t ts = m d ts
 pick true zero m t ts = Err (TooDeep, t ∷ ts)
 pick true (suc d) m t ts = m d ts
 
+-- reading by what the first token was known as
 abbrev pub heads_as : {T A B : Type 0} → Option B → (B → Bool) → (B → ℕ → List T → Result (A × List T) (Fault × List T)) → ℕ → T → List T → Result (A × List T) (Fault × List T)
 heads_as None opens m d t ts = Err (Expected, t ∷ ts)
 heads_as (Some b) opens m d t ts = pick (opens b) d (m b) t ts
 
+-- reading by the first token, some of which open a level
 abbrev pub heads : {T A B : Type 0} → (T → Option B) → (B → Bool) → (B → ℕ → List T → Result (A × List T) (Fault × List T)) → ℕ → List T → Result (A × List T) (Fault × List T)
 heads f opens m d [] = Err (Expected, [])
 heads f opens m d (t ∷ ts) = heads_as (f t) opens m d t ts

@@ -1,7 +1,7 @@
 -- A loop that reads one more in each turn.
-use Rattle.std.proofs.Common.{◌≡◌, ℕ, zero, suc, ◌+◌, ◌<◌, ◌≤◌, List, [], ◌∷◌, length, Option, Some, None, Result, Ok, Err, refl, sym, ap, subst, ◌∙◌, arith}
+use Rattle.std.proofs.Common.{◌≡◌, ℕ, zero, suc, ◌<◌, ◌≤◌, List, [], ◌∷◌, length, Option, Some, None, Result, Ok, Err, refl, sym, ap, subst, ◌∙◌, arith}
 use Rattle.ss_grammar.specs.declared.fault.Fault.{Fault}
-use Rattle.ss_grammar.specs.Reading.{◌>>=◌, after, maybe, times, seen, seen_as, one_more, one_more_as}
+use Rattle.ss_grammar.specs.Reading.{◌>>=◌, after, times, seen, seen_as, one_more, one_more_as}
 
 -- with the value a and the rest ts, enough turns are left, and they give the total
 pub record Turns {T A B R : Type 0} (f : T → Option B) (k : B → List T → Result (R × List T) (Fault × List T)) (join : A → B → R → A) (a : A) (ts : List T) (total : Result (A × List T) (Fault × List T)) : Type 0 where

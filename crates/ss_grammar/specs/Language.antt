@@ -8,6 +8,7 @@ use Rattle.ss_grammar.specs.declared.fault.Fault.TheVariants.{Expected, TooDeep}
 abbrev pub Done : {T A : Type 0} → A → List T → A → Type 0
 Done a ts v = (ts ≡ []) × (v ≡ a)
 
+-- what is read behind a token, where it was known
 abbrev pub After : {T A B : Type 0} → Option B → (B → List T → A → Type 0) → List T → A → Type 0
 After None K ts v = ⊥
 After (Some b) K ts v = K b ts v

@@ -1,16 +1,19 @@
 -- Reading from left to right with one token of sight: a value and the rest, or the first fault and the rest where it stands.
 use Rattle.std.specs.Prelude.{ℕ, zero, suc, List, [], ◌∷◌, Option, Some, None, Result, Ok, Err}
 use Rattle.ss_grammar.specs.declared.fault.Fault.{Fault}
-use Rattle.ss_grammar.specs.declared.fault.Fault.TheVariants.{Expected, TooDeep}
+use Rattle.ss_grammar.specs.declared.fault.Fault.TheVariants.{Expected}
 
+-- what reading gives: a value and the rest, or a fault and the rest
 abbrev pub Found : Type 0 → Type 0 → Type 0
 Found T A = Result (A × List T) (Fault × List T)
 
+-- first one reader, and then another with its value and rest
 infixl 10 ◌>>=◌
 abbrev pub ◌>>=◌ : {T A B : Type 0} → Result (A × List T) (Fault × List T) → (A × List T → Result (B × List T) (Fault × List T)) → Result (B × List T) (Fault × List T)
 (Ok x) >>= f = f x
 (Err e) >>= f = Err e
 
+-- k behind a token that was known, else the other answer
 abbrev pub after : {T A B : Type 0} → Option B → (B → List T → Result (A × List T) (Fault × List T)) → Result (A × List T) (Fault × List T) → List T → Result (A × List T) (Fault × List T)
 after None k other ts = other
 after (Some b) k other ts = k b ts
@@ -30,6 +33,7 @@ abbrev pub times : {T A B R : Type 0} → (T → Option B) → (B → List T →
 times f k join zero a ts = Ok (a, ts)
 times f k join (suc n) a ts = maybe f (λ b rest. k b rest >>= λ x. times f k join n (join a b x.0) x.1) a ts
 
+-- the known token with what is behind it
 abbrev pub seen_as : {T B : Type 0} → Option B → List T → Option (B × List T)
 seen_as None ts = None
 seen_as (Some b) ts = Some (b, ts)
@@ -39,6 +43,7 @@ abbrev pub seen : {T B : Type 0} → (T → Option B) → List T → Option (B �
 seen f [] = None
 seen f (t ∷ ts) = seen_as (f t) ts
 
+-- what k reads behind a known token
 abbrev pub one_more_as : {T A B : Type 0} → Option B → (B → List T → Result (A × List T) (Fault × List T)) → List T → Option (Result (A × List T) (Fault × List T))
 one_more_as None k ts = None
 one_more_as (Some b) k ts = Some (k b ts)

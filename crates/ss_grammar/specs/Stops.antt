@@ -1,7 +1,6 @@
 -- What a function returned is what reading gives, unless memory ran out. A fault tells how many tokens are left.
 use Rattle.std.specs.Prelude.{◌≡◌, ℕ, List, length, Result, Ok, Err, Option, Some, None}
 use Rattle.ss_grammar.specs.declared.fault.Fault.{Fault}
-use Rattle.ss_grammar.specs.declared.fault.Fault.TheVariants.{Expected, TooDeep}
 use Rattle.ss_grammar.specs.declared.fault.Stop.{Stop}
 use Rattle.ss_grammar.specs.declared.fault.Stop.TheVariants as stop
 use Rattle.ss_grammar.specs.Language.{Accepts, Finds}
@@ -31,6 +30,7 @@ abbrev pub SeesRest : {T X : Type 0} → (X → List T) → Option X → Option 
 SeesRest rest (Some x) found = found ≡ Some (tt, rest x)
 SeesRest rest None found = found ≡ None
 
+-- one more begins, and reading it stopped at this fault
 abbrev pub FailsIn : {T A : Type 0} → Stop → Option (Result (A × List T) (Fault × List T)) → Type 0
 FailsIn e None = ⊥
 FailsIn e (Some found) = Fails e found
@@ -46,6 +46,7 @@ abbrev pub Stands : {T A : Type 0} → (ℕ → List T → A → Type 0) → ℕ
 Stands L d ts stop.Memory = Unit {0}
 Stands {T} L d ts (stop.Fault f n) = (rest : List T) × (length rest ≡ n) × Finds L d ts (Err (f, rest))
 
+-- the same of its result, which `view` shows as a value with the rest
 abbrev pub Answers : {T X A : Type 0} → (ℕ → List T → A → Type 0) → ℕ → List T → (X → A × List T) → Result X Stop → Type 0
 Answers L d ts view (Ok x) = Accepts L d ts (view x).0 (view x).1
 Answers L d ts view (Err e) = Stands L d ts e

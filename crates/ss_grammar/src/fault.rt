@@ -1,4 +1,4 @@
-//! Why tokens could not be read.
+// Why tokens could not be read.
 
 ghost use Rattle.std.specs.Prelude.{◌≡◌};
 ghost use Rattle.ss_grammar.specs.declared.fault.Stop.TheVariants.{Memory};
@@ -17,6 +17,7 @@ pub enum Fault {
 /// Why nothing is given.
 #[derive(Debug, Drop)]
 pub enum Stop {
+    /// There was no memory.
     Memory,
     /// The fault, and how many tokens are left where it stands.
     Fault(Fault, usize),

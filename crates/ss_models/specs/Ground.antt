@@ -1,8 +1,8 @@
 -- The ground form of an obligation: its premises and its denied goal, closed under the rule that a truth value is true or
 -- false.
-use Rattle.std.specs.Prelude.{ℕ, List, [], ◌∷◌, ◌++◌, map, Bool, true, false, ◌&&◌, ◌||◌, if◌then◌else◌}
+use Rattle.std.specs.Prelude.{List, [], ◌∷◌, ◌++◌, map, Bool, true, false, ◌||◌, if◌then◌else◌}
 use Rattle.ss_logic.specs.declared.Sort.TheVariants.{Whole, Truth}
-use Rattle.ss_logic.specs.Logic.{Term, Num, Fixed, Const, Formula, Formulas, Same, And, Or, no_more, more, neg, sort_of, same_sort}
+use Rattle.ss_logic.specs.Logic.{Term, Num, Fixed, Const, Formula, Formulas, Same, And, Or, no_more, more, neg}
 use Rattle.ss_logic.specs.Equal.{same_term, same_formula}
 use Rattle.ss_logic.specs.Steps.{two_valued}
 
@@ -25,11 +25,17 @@ abbrev pub has_formula : List Formula → Formula → Bool
 has_formula [] f = false
 has_formula (g ∷ gs) f = same_formula g f || has_formula gs f
 
--- the truth-valued terms that `seen` doesn't have, each once, in order of first occurrence
-abbrev pub new_truth_terms : List Term → List Term → List Term
-new_truth_terms seen [] = []
-new_truth_terms seen (x ∷ xs) =
-    if has_term seen x then new_truth_terms seen xs else (if same_sort (sort_of x) Truth then x ∷ new_truth_terms (x ∷ seen) xs else new_truth_terms seen xs)
+abbrev pub is_truth_constant : Term → Bool
+is_truth_constant (Const Truth k) = true
+is_truth_constant (Const Whole k) = false
+is_truth_constant (Num n) = false
+is_truth_constant (Fixed b) = false
+
+-- the truth-valued constants, without those of `seen`, each once, in order of first occurrence
+abbrev pub truth_constants : List Term → List Term → List Term
+truth_constants seen [] = []
+truth_constants seen (x ∷ xs) =
+    if has_term seen x then truth_constants seen xs else (if is_truth_constant x then x ∷ truth_constants (x ∷ seen) xs else truth_constants seen xs)
 
 abbrev pub terms_of : List Formula → List Term
 terms_of [] = []
@@ -40,10 +46,7 @@ abbrev pub with_new : List Formula → List Formula → List Formula
 with_new fs [] = fs
 with_new fs (g ∷ gs) = if has_formula fs g then with_new fs gs else with_new (fs ++ g ∷ []) gs
 
--- each truth-valued term of the list is true or false
-abbrev pub closed_once : List Formula → List Formula
-closed_once fs = with_new fs (map two_valued (new_truth_terms [] (terms_of fs)))
-
--- the ground form; the first turn brings the literals true and false, whose own instances come with the second
+-- the ground form: with it stands, for each truth-valued constant, that it is true or false
 abbrev pub ground : List Formula → Formula → List Formula
-ground premises goal = closed_once (closed_once (premises ++ neg goal ∷ []))
+ground premises goal =
+    let denied = premises ++ neg goal ∷ [] in with_new denied (map two_valued (truth_constants [] (terms_of denied)))

@@ -1,5 +1,5 @@
 -- Models: a value for each constant, and what comes true at these values.
-use Rattle.std.specs.Prelude.{◌≡◌, ℕ, ℤ, pos, List, [], ◌∷◌, Bool, true, false, ◌&&◌, ◌||◌}
+use Rattle.std.specs.Prelude.{◌≡◌, ℤ, pos, List, [], ◌∷◌, Bool, true, false, ◌&&◌, ◌||◌}
 use Rattle.std.specs.List.{slice_index_or}
 use Rattle.std.specs.Bool.{beq}
 use Rattle.ss_logic.specs.declared.Sort.TheVariants.{Whole, Truth}

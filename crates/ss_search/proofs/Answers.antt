@@ -15,6 +15,7 @@ pub grounded : {E : Type 0} (r : Result Found E) (premises : List Formula) (deni
     → IfOk r (λ f. IfCountered f (λ m. Refutes (model_of m) (ground premises goal)))
 grounded (Err e) premises denied goal is h = tt
 grounded (Ok (found.Proved d)) premises denied goal is h = tt
+grounded (Ok found.Lost) premises denied goal is h = tt
 grounded (Ok found.Memory) premises denied goal is h = tt
 grounded (Ok (found.Countered m)) premises denied goal is h = Refutes-ground (model_of m) premises goal h.0 (ap (comes_out (model_of m)) (sym is) ∙ h.1)
 

@@ -9,4 +9,5 @@ use Rattle.ss_search.specs.declared.obligation.Found.TheVariants as found
 abbrev pub IfCountered : Found → (Countermodel → Type 0) → Type 0
 IfCountered (found.Proved d) P = Unit {0}
 IfCountered (found.Countered m) P = P m
+IfCountered found.Lost P = Unit {0}
 IfCountered found.Memory P = Unit {0}

@@ -19,6 +19,8 @@ pub enum Found {
     Proved(Derivation),
     /// A model that refutes the obligation's ground form.
     Countered(Countermodel),
+    /// Neither was found. That it doesn't come is not proved; no obligation was seen to bring it about.
+    Lost,
     Memory,
 }
 
@@ -102,8 +104,7 @@ fn find_model(tableau: &mut Tableau) -> Result<bool, AllocError> {
     Ok(false)
 }
 
-// The model, which is tried on the premises and the denied goal. No model of a finished case was seen to fail there; one
-// that did would be answered as want of memory.
+// The model, which is tried on the premises and the denied goal.
 fn try_model(
     alloc: Global,
     bank: &Bank,
@@ -118,6 +119,6 @@ fn try_model(
     if refutes(alloc, bank, &model, premises)? && refutes(alloc, bank, &model, &[denied])? {
         Ok(Found::Countered(model))
     } else {
-        Ok(Found::Memory)
+        Ok(Found::Lost)
     }
 }

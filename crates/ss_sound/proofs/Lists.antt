@@ -1,6 +1,7 @@
 -- Lists of obligations that are decided from the front.
 use Rattle.std.proofs.Common.{◌≡◌, ◌≢◌, ℕ, zero, suc, ◌+◌, ◌*◌, ◌<◌, ◌≤◌, List, [], ◌∷◌, ◌++◌, take, length, Some, refl, ap, ◌∙◌, subst, arith}
 use Rattle.std.specs.List.{slice_get, slice_index_or}
+use Rattle.ss_logic.proofs.Sound.{IsValid-Derives}
 use borrow.Author.Count.{below_more}
 use Rattle.std.proofs.lemmas.Option.{slice_get_within}
 use Rattle.ss_terms.specs.declared.forms.FormulaId.{FormulaId}
@@ -11,7 +12,7 @@ use Rattle.ss_vcgen.specs.declared.list.Obligation.{Obligation}
 use Rattle.ss_vcgen.specs.Built.{obligation_in, obligations_in, AreWithin}
 use Rattle.ss_search.specs.Countermodel.{model_of}
 use Rattle.ss_search.specs.declared.model.Countered.{Countered}
-use Rattle.ss_sound.specs.Verdicts.{IsProved, IsRefutedBy, IsRefuted, AreRefuted, AreRisingFrom, IsNoneOf, AreDecided, IsUnproved, numbers_of}
+use Rattle.ss_sound.specs.Verdicts.{IsProved, AreProved, IsRefutedBy, IsRefuted, AreRefuted, AreRisingFrom, IsNoneOf, AreDecided, IsUnproved, numbers_of}
 
 pub AreBelow-take : (n k : ℕ) (fs : List FormulaId) → AreBelow n fs → AreBelow n (take k fs)
 AreBelow-take n zero fs h = tt
@@ -141,15 +142,20 @@ step_refuted a b trail os k d listed c grown has within small h number refuted =
     decided_refuted (obligations_in a trail os) k listed c (obligation_in a trail o) h number (obligation_at a trail os k o at)
     (subst (λ x. IsRefutedBy (model_of c.model) x) (obligation_in-grown a b trail o grown has goal) refuted)
 
--- a list that is decided to its end with nothing listed is valid
-all_valid : (os : List oblig.Obligation) → ((k : ℕ) (o : oblig.Obligation) → slice_get os k ≡ Some o → IsProved o) → oblig.AreValid os
-all_valid [] h = tt
-all_valid (o ∷ os) h = (h 0 o refl, all_valid os (λ k x e. h (suc k) x e))
+-- a list that is decided to its end with nothing listed has derivations
+all_proved : (os : List oblig.Obligation) → ((k : ℕ) (o : oblig.Obligation) → slice_get os k ≡ Some o → IsProved o) → AreProved os
+all_proved [] h = tt
+all_proved (o ∷ os) h = (h 0 o refl, all_proved os (λ k x e. h (suc k) x e))
 
-pub decided_all_valid : (os : List oblig.Obligation) (n : ℕ) (listed : List Countered) → length os ≡ n → listed ≡ [] → AreDecided os n listed → oblig.AreValid os
-decided_all_valid os n listed counted none h =
+pub decided_all_proved : (os : List oblig.Obligation) (n : ℕ) (listed : List Countered) → length os ≡ n → listed ≡ [] → AreDecided os n listed → AreProved os
+decided_all_proved os n listed counted none h =
     let h' : AreDecided os n [] = subst (λ l. AreDecided os n l) none h in
-    all_valid os (λ k o e. h'.others k o (let small : k < length os = slice_get_within os k o e in omega arith) e tt)
+    all_proved os (λ k o e. h'.others k o (let small : k < length os = slice_get_within os k o e in omega arith) e tt)
+
+-- what has derivations is valid
+pub AreValid-proved : (os : List oblig.Obligation) → AreProved os → oblig.AreValid os
+AreValid-proved [] h = tt
+AreValid-proved (o ∷ os) h = (IsValid-Derives o.premises o.goal h.0.0 h.0.1, AreValid-proved os h.1)
 
 pub decided_unproved : (os : List oblig.Obligation) (n : ℕ) (listed : List Countered) → length os ≡ n → listed ≢ [] → AreDecided os n listed → IsUnproved os listed
 decided_unproved os n listed counted some h = record {

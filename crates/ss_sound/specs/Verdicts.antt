@@ -1,12 +1,12 @@
 -- The answers of verification.
 use Rattle.std.specs.Prelude.{◌≡◌, ◌≢◌, ℕ, ◌+◌, ◌<◌, ◌≤◌, List, [], ◌∷◌, map, Option, Some, None, Vec, slice_get}
 use Rattle.std.specs.declared.alloc.Global.{Global}
-use Rattle.ss_logic.specs.Logic.{IsValid}
 use Rattle.ss_models.specs.Models.{Model, Refutes}
 use Rattle.ss_models.specs.Ground.{ground}
 use Rattle.ss_oblig.specs.Obligations.{Obligation}
 use Rattle.ss_search.specs.Countermodel.{model_of}
 use Rattle.ss_search.specs.declared.model.Countered.{Countered}
+use Rattle.ss_sound.specs.Decided.{HasDerivation}
 use Rattle.ss_sound.specs.declared.verdict.Verdict.{Verdict}
 use Rattle.ss_sound.specs.declared.verdict.Verdict.TheVariants as verdict
 
@@ -14,9 +14,13 @@ use Rattle.ss_sound.specs.declared.verdict.Verdict.TheVariants as verdict
 abbrev pub numbers_of : List Countered → List ℕ
 numbers_of listed = map (λ c. c.obligation) listed
 
--- the goal is true in every structure in which the premises are
+-- the goal has a derivation from the premises, so that it is true in every structure in which they are
 abbrev pub IsProved : Obligation → Type 0
-IsProved o = IsValid o.premises o.goal
+IsProved o = HasDerivation o.premises o.goal
+
+abbrev pub AreProved : List Obligation → Type 0
+AreProved [] = Unit {0}
+AreProved (o ∷ os) = IsProved o × AreProved os
 
 -- the model makes each formula of the ground form true
 abbrev pub IsRefutedBy : Model → Obligation → Type 0
@@ -41,13 +45,13 @@ abbrev pub IsNoneOf : List ℕ → ℕ → Type 0
 IsNoneOf [] k = Unit {0}
 IsNoneOf (n ∷ ns) k = (n ≢ k) × IsNoneOf ns k
 
--- of the first `count` obligations the listed ones are refuted, each other one is valid, and the list is rising
+-- of the first `count` obligations the listed ones are refuted, each other one has a derivation, and the list is rising
 pub record AreDecided (os : List Obligation) (count : ℕ) (listed : List Countered) : Type 0 where
   pub refuted : AreRefuted os listed
   pub rising : AreRisingFrom 0 (numbers_of listed)
   pub others : (k : ℕ) (o : Obligation) → k < count → slice_get os k ≡ Some o → IsNoneOf (numbers_of listed) k → IsProved o
 
--- some obligations are listed, each with a model that refutes its ground form, in rising order; each other one is valid
+-- some obligations are listed, each with a model that refutes its ground form, in rising order; each other one has a derivation
 pub record IsUnproved (os : List Obligation) (listed : List Countered) : Type 0 where
   pub some : listed ≢ []
   pub refuted : AreRefuted os listed
@@ -57,9 +61,11 @@ pub record IsUnproved (os : List Obligation) (listed : List Countered) : Type 0 
 abbrev pub IfVerified : Verdict → Type 0 → Type 0
 IfVerified verdict.Verified P = P
 IfVerified (verdict.Unproved listed) P = Unit {0}
+IfVerified verdict.Lost P = Unit {0}
 IfVerified verdict.Memory P = Unit {0}
 
 abbrev pub IfUnproved : Verdict → (Vec Countered Global → Type 0) → Type 0
 IfUnproved verdict.Verified P = Unit {0}
 IfUnproved (verdict.Unproved listed) P = P listed
+IfUnproved verdict.Lost P = Unit {0}
 IfUnproved verdict.Memory P = Unit {0}

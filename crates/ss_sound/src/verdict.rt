@@ -8,15 +8,15 @@ ghost use Rattle.ss_oblig.specs.Obligations as oblig;
 ghost use Rattle.ss_terms.specs.Forms.{HasFormula, HasFormulas, IsGrown};
 ghost use Rattle.ss_search.specs.Countermodel.{model_of};
 ghost use Rattle.ss_vcgen.specs.Built.{trees, obligation_in, obligations_in, IsWithin, AreWithin};
-ghost use Rattle.ss_sound.specs.Decided.{IfValid, IfRefuted};
-ghost use Rattle.ss_sound.specs.Verdicts.{IsProved, IsRefutedBy, AreDecided, IsUnproved, IfVerified, IfUnproved};
+ghost use Rattle.ss_sound.specs.Decided.{IfDerived, IfRefuted};
+ghost use Rattle.ss_sound.specs.Verdicts.{IsProved, AreProved, IsRefutedBy, AreDecided, IsUnproved, IfVerified, IfUnproved};
 
 use crate::decision::{Decision, decide};
 use ss_core::Core;
 use ss_search::Countered;
 use ss_terms::{Bank, FormulaId};
 use ss_vcgen::{Obligation, Obligations};
-use std::alloc::{AllocError, Global};
+use std::alloc::{AllocFailed, Global};
 
 /// The answer of verification.
 #[derive(Debug, Drop)]
@@ -25,7 +25,23 @@ pub enum Verdict {
     Verified,
     /// These have none, and every other one has.
     Unproved { countered: Vec<Countered> },
+    /// Of an obligation neither a derivation nor a model was found. That this doesn't come is not proved; no obligation was
+    /// seen to bring it about.
+    Lost,
     Memory,
+}
+
+/// Why not every obligation was decided.
+#[derive(Clone, Copy, Debug, PartialEq, Eq)]
+enum Stop {
+    Lost,
+    Memory,
+}
+
+impl<T: Drop> From<AllocFailed<T>> for Stop {
+    fn from(_failed: AllocFailed<T>) -> Stop {
+        Stop::Memory
+    }
 }
 
 /// Decides each obligation of a program, in order.
@@ -33,7 +49,8 @@ pub fn verify(alloc: Global, program: &Core, obligations: &mut Obligations) -> V
     requires formed { IsFormed (core program.now) }
     requires obligations { trees obligations.old ≡ oblig.obligations (core program.now) }
     requires within { IsWithin obligations.old }
-    ensures verified { IfVerified result (IsSafe (core program.now)) }
+    ensures proved { IfVerified result (AreProved (oblig.obligations (core program.now))) }
+    ensures safe { IfVerified result (IsSafe (core program.now)) }
     ensures unproved { IfUnproved result (λ listed. IsUnproved (oblig.obligations (core program.now)) listed.items) }
     ensures obligations { trees obligations.new ≡ trees obligations.old }
 {
@@ -47,7 +64,8 @@ pub fn verify(alloc: Global, program: &Core, obligations: &mut Obligations) -> V
                 Verdict::Unproved { countered }
             }
         }
-        Err(_) => Verdict::Memory,
+        Err(Stop::Lost) => Verdict::Lost,
+        Err(Stop::Memory) => Verdict::Memory,
     }
 }
 
@@ -57,7 +75,7 @@ fn decide_all(
     bank: &mut Bank,
     trail: &[FormulaId],
     list: &[Obligation],
-) -> Result<Vec<Countered>, AllocError>
+) -> Result<Vec<Countered>, Stop>
     requires trail { HasFormulas bank.old trail.now }
     requires list { AreWithin bank.old (length trail.now) list.now }
     ensures decided { IfOk result (λ listed. AreDecided (obligations_in bank.old trail.now list.now) (length list.now) listed.items) }
@@ -66,12 +84,13 @@ fn decide_all(
     let mut listed = Vec::new(alloc);
     for (number, obligation) in list.iter().enumerate() {
         match decide_one(alloc, bank, trail, obligation) {
-            Decision::Valid => {}
+            Decision::Derived => {}
             Decision::Refuted(model) => listed.push(Countered {
                 obligation: number,
                 model,
             })?,
-            Decision::Memory => return Err(AllocError),
+            Decision::Lost => return Err(Stop::Lost),
+            Decision::Memory => return Err(Stop::Memory),
         }
     }
     Ok(listed)
@@ -87,7 +106,7 @@ fn decide_one(
     requires trail { HasFormulas bank.old trail.now }
     requires goal { HasFormula bank.old obligation.now.goal }
     requires premises { obligation.now.premises ≤ length trail.now }
-    ensures valid { IfValid result (IsProved (obligation_in bank.old trail.now obligation.now)) }
+    ensures derived { IfDerived result (IsProved (obligation_in bank.old trail.now obligation.now)) }
     ensures refuted { IfRefuted result (λ m. IsRefutedBy (model_of m) (obligation_in bank.old trail.now obligation.now)) }
     ensures grown { IsGrown bank.old bank.new }
 {

@@ -1,12 +1,14 @@
 -- What each answer says, from what the calls below promise.
-use Rattle.std.proofs.Common.{◌≡◌, ◌⊎◌, inl, inr, ⊎_elim, ℕ, ◌<◌, ◌≤◌, List, [], ◌++◌, length, Option, Some, None, refl, sym, ap, ◌∙◌, subst, arith}
+use Rattle.std.proofs.Common.{◌≡◌, ◌≢◌, ◌⊎◌, inl, inr, ⊎_elim, ℕ, ◌<◌, ◌≤◌, List, [], ◌++◌, length, Option, Some, None, refl, sym, ap, ◌∙◌, subst, arith}
 use Rattle.std.proofs.lemmas.List.{append-nil}
 use Rattle.std.proofs.lemmas.Bool.{cases_lt}
 use Rattle.ss_core.specs.declared.names.FrontStop.{FrontStop}
 use Rattle.ss_core.specs.declared.names.FrontStop.TheVariants as front
 use Rattle.ss_first.specs.Syntax.{ProgramSyntax}
 use Rattle.ss_first.specs.Accepted.{Accepted, too_long, not_of_form}
-use Rattle.ss_io.specs.Outside.{Told, Grew, GrewByFront}
+use Rattle.std.specs.Prelude.{Result}
+use Rattle.ss_io.specs.declared.outside.ReadStop.{ReadStop}
+use Rattle.ss_io.specs.Outside.{Told, Grew, GrewByFront, ReadCounts}
 use Rattle.ss_report.specs.declared.status.Status.{Status}
 use Rattle.ss_report.specs.declared.status.Status.TheVariants as status
 use Rattle.ss_top.proofs.Whole.{OfSource-map}
@@ -20,7 +22,7 @@ use Rattle.ss_oblig.specs.Obligations.{Obligation, obligations}
 use Rattle.ss_search.specs.declared.model.Countered.{Countered}
 use Rattle.ss_sound.specs.Verdicts.{IsUnproved}
 use Rattle.ss_report.specs.Verdict.{verdict_text}
-use Rattle.ss_top.specs.Answers.{OfSource, OfFile, Means, IsStop, IsDone, IsHeadline, HasRun, RunsOn, IsToldUnproved, HasRunInPart, IsToldInPart, IfRefused, IfUnproved, IsVerified, IsSilent, IsStopped, Says, answer_to}
+use Rattle.ss_top.specs.Answers.{OfSource, OfFile, Means, IsStop, IsDone, IsHeadline, HasRun, RunsOn, IsToldUnproved, HasRunInPart, IsToldInPart, IfRefused, IfUnproved, IsWrittenInPart, ReadsOnly, IsVerified, IsSilent, Says, answer_to}
 
 pub has_run : (c : CoreTree) (k steps : ℕ) (old new : Option (List ℕ)) (source : List ℕ) → Means source c → IsSafe c → IsDoneAt c k steps → Grew old new (printed c steps) → HasRun steps old new source
 has_run c k steps old new source means safe done took = record { program = c; means = means; safe = safe; done = subst IsDone (sym done.stays) tt; took = took }
@@ -135,16 +137,28 @@ either None A P h = ⊎_elim (λ a. inl a) (λ p. inr (h.0, p)) h.1
 either (Some None) A P h = absurd h
 either (Some (Some source)) A P h = h
 
-pub Says-in_part : (steps : ℕ) (old new : Option (List ℕ)) (st : Status) (name : List ℕ) (told : List ℕ → Told) → OfSource (told name) (Says steps old new st) → IsStopped st
-    → Grew old new [] ⊎ OfFile (Some name) told (λ source. HasRunInPart steps old new source ⊎ IsToldInPart old new source)
-Says-in_part steps old new status.WriteFault name told h v = inr h
-Says-in_part steps old new status.Memory name told h v = either (told name) (Grew old new []) (λ source. HasRunInPart steps old new source ⊎ IsToldInPart old new source) h
-Says-in_part steps old new (status.SourceRefused rule at) name told h v = absurd v
-Says-in_part steps old new (status.Unproved listed) name told h v = absurd v
-Says-in_part steps old new status.Ended name told h v = absurd v
-Says-in_part steps old new status.StepsSpent name told h v = absurd v
-Says-in_part steps old new status.BadWords name told h v = absurd v
-Says-in_part steps old new status.ReadFault name told h v = absurd v
+pub Says-written : (steps : ℕ) (old new : Option (List ℕ)) (st : Status) (name : List ℕ) (told : List ℕ → Told) → OfSource (told name) (Says steps old new st) → st ≡ status.WriteFault
+    → OfFile (Some name) told (IsWrittenInPart steps old new)
+Says-written steps old new st name told h e = subst (λ x. OfSource (told name) (Says steps old new x)) e h
+
+pub Says-memory : (steps : ℕ) (old new : Option (List ℕ)) (st : Status) (name : List ℕ) (told : List ℕ → Told) → OfSource (told name) (Says steps old new st) → st ≡ status.Memory
+    → Grew old new [] ⊎ OfFile (Some name) told (IsWrittenInPart steps old new)
+Says-memory steps old new st name told h e = either (told name) (Grew old new []) (IsWrittenInPart steps old new) (subst (λ x. OfSource (told name) (Says steps old new x)) e h)
+
+-- a read leaves the counts of all names but its own
+pub reads_only : {T : Type 0} (before now : List ℕ → ℕ) (file : Option (List ℕ)) (name : List ℕ) (r : Result T ReadStop) → file ≡ Some name → ReadCounts before now name r → ReadsOnly file before now
+reads_only before now file name r named h = record {
+  others = λ other differs. h.others other (λ e. differs (named ∙ ap Some (sym e)));
+  later = λ other. ⊎_elim (λ less. absurd (falls other less)) (λ le. le) (cases_lt (now other) (before other));
+}
+  where
+    differs_from : (other : List ℕ) → now other < before other → other ≢ name
+    differs_from other less e = let l : before other ≤ now other = subst (λ n. before n ≤ now n) (sym e) h.later in omega arith
+    falls : (other : List ℕ) → now other < before other → ⊥
+    falls other less = let same : now other ≡ before other = h.others other (differs_from other less) in omega arith
+
+pub reads_nothing : (before : List ℕ → ℕ) (file : Option (List ℕ)) → ReadsOnly file before before
+reads_nothing before file = record { others = λ name differs. refl; later = λ name. omega arith }
 
 pub Says-not : (steps : ℕ) (old new : Option (List ℕ)) (st : Status) (told : Told) → OfSource told (Says steps old new st) → (st ≡ status.BadWords → ⊥) × (st ≡ status.ReadFault → ⊥)
 Says-not steps old new st told h = (λ e. nothing_in told (Says steps old new status.BadWords) ⊥ (λ source x. x) (subst (λ x. OfSource told (Says steps old new x)) e h),

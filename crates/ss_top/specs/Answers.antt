@@ -1,5 +1,5 @@
 -- What the answers of the command say.
-use Rattle.std.specs.Prelude.{ℕ, ◌≡◌, ◌+◌, ◌<◌, ◌≤◌, ◌⊎◌, List, [], Option, Some, None, Vec, length}
+use Rattle.std.specs.Prelude.{ℕ, ◌≡◌, ◌≢◌, ◌+◌, ◌<◌, ◌≤◌, ◌⊎◌, List, [], Option, Some, None, Vec, length}
 use Rattle.ss_io.specs.Outside.{Told, Grew, GrewByFront}
 use Rattle.ss_core.specs.declared.names.Place.{Place}
 use Rattle.ss_core.specs.declared.names.FrontStop.{FrontStop}
@@ -87,6 +87,15 @@ pub record IsToldInPart (old new : Option (List ℕ)) (source : List ℕ) : Type
   pub unproved : IsUnproved (obligations program) listed
   pub front : GrewByFront old new (verdict_text program (obligations program) listed)
 
+-- the sink took a front of what the answers above let be written
+abbrev pub IsWrittenInPart : ℕ → Option (List ℕ) → Option (List ℕ) → List ℕ → Type 0
+IsWrittenInPart steps old new source = HasRunInPart steps old new source ⊎ IsToldInPart old new source
+
+-- no count of faults falls, and only that of the file may rise
+pub record ReadsOnly (file : Option (List ℕ)) (before now : List ℕ → ℕ) : Type 0 where
+  pub others : (name : List ℕ) → file ≢ Some name → now name ≡ before name
+  pub later : (name : List ℕ) → before name ≤ now name
+
 -- ---- by the answer
 
 abbrev pub IfRefused : Status → (FrontStop → Type 0) → Type 0
@@ -110,12 +119,6 @@ IsSilent status.ReadFault = Unit {0}
 IsSilent (status.SourceRefused rule at) = Unit {0}
 IsSilent _ = ⊥
 
--- the answers that come where the output or the memory stopped the work
-abbrev pub IsStopped : Status → Type 0
-IsStopped status.WriteFault = Unit {0}
-IsStopped status.Memory = Unit {0}
-IsStopped _ = ⊥
-
 -- the answer to a source that is refused
 abbrev pub answer_to : FrontStop → Status
 answer_to (front.Refused rule at) = status.SourceRefused rule at
@@ -128,7 +131,7 @@ Says steps old new status.Ended source = HasRun steps old new source
 Says steps old new status.StepsSpent source = RunsOn steps old new source
 Says steps old new (status.Unproved listed) source = IsToldUnproved listed.items old new source
 Says steps old new (status.SourceRefused rule at) source = IsStop source (front.Refused rule at) × Grew old new []
-Says steps old new status.WriteFault source = HasRunInPart steps old new source ⊎ IsToldInPart old new source
-Says steps old new status.Memory source = Grew old new [] ⊎ (HasRunInPart steps old new source ⊎ IsToldInPart old new source)
+Says steps old new status.WriteFault source = IsWrittenInPart steps old new source
+Says steps old new status.Memory source = Grew old new [] ⊎ IsWrittenInPart steps old new source
 Says steps old new status.BadWords source = ⊥
 Says steps old new status.ReadFault source = ⊥

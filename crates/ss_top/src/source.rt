@@ -64,7 +64,8 @@ fn run_program<S: Sink>(
         Verdict::Unproved { countered } => {
             tell(alloc, source, program, &obligations, countered, steps, out)
         }
-        Verdict::Memory => Status::Memory,
+        // Lost was never seen, and there is no answer for it but the one that may always come.
+        Verdict::Lost | Verdict::Memory => Status::Memory,
     }
 }
 

@@ -1,9 +1,9 @@
 // The top call.
 
-ghost use Rattle.std.specs.Prelude.{◌≡◌, ◌<◌, ◌↔◌, ◌⊎◌, [], None, IsSomeAnd};
+ghost use Rattle.std.specs.Prelude.{◌≡◌, ◌<◌, ◌≤◌, ◌↔◌, ◌⊎◌, [], None, IsSomeAnd};
 ghost use Rattle.ss_io.specs.Outside.{Rose, Grew};
 ghost use Rattle.ss_top.specs.Words.{file_of};
-ghost use Rattle.ss_top.specs.Answers.{OfFile, IsHeadline, HasRun, RunsOn, HasRunInPart, IsToldUnproved, IsToldInPart, IsStop, IfRefused, IfUnproved, IsVerified, IsSilent, IsStopped};
+ghost use Rattle.ss_top.specs.Answers.{OfFile, IsHeadline, HasRun, RunsOn, IsToldUnproved, IsWrittenInPart, IsStop, IfRefused, IfUnproved, IsVerified, IsSilent, ReadsOnly};
 
 use crate::source::run_source;
 use crate::words::file_name;
@@ -34,9 +34,14 @@ pub fn specsharp<F: Files, S: Sink>(
     ensures unproved { IfUnproved result (λ listed. OfFile (file_of words.now) (F.told files.old) (IsToldUnproved listed (S.taken out.old) (S.taken out.new))) }
 
     ensures write_fault { result ≡ Status.WriteFault → Rose (S.faults out.old) (S.faults out.new) }
+    ensures written { result ≡ Status.WriteFault → OfFile (file_of words.now) (F.told files.old) (IsWrittenInPart STEPS (S.taken out.old) (S.taken out.new)) }
+    ensures memory { result ≡ Status.Memory → Grew (S.taken out.old) (S.taken out.new) []
+        ⊎ OfFile (file_of words.now) (F.told files.old) (IsWrittenInPart STEPS (S.taken out.old) (S.taken out.new)) }
     ensures silent { IsSilent result → Grew (S.taken out.old) (S.taken out.new) [] }
-    ensures in_part { IsStopped result → Grew (S.taken out.old) (S.taken out.new) []
-        ⊎ OfFile (file_of words.now) (F.told files.old) (λ source. HasRunInPart STEPS (S.taken out.old) (S.taken out.new) source ⊎ IsToldInPart (S.taken out.old) (S.taken out.new) source) }
+
+    ensures stays { F.told files.new ≡ F.told files.old }
+    ensures reads { ReadsOnly (file_of words.now) (F.faults files.old) (F.faults files.new) }
+    ensures writes { S.faults out.old ≤ S.faults out.new }
 {
     let Some(name) = file_name(words) else {
         return Status::BadWords;

@@ -1,11 +1,11 @@
-use Rattle.std.proofs.Common.{◌≡◌, ◌≢◌, ◌<◌, ◌≤◌, ◌+◌, List, [], ◌∷◌, ◌++◌, length, map, Option, Some, None, Result, Ok, Err, refl, sym, ap, subst, ◌∙◌, append_assoc, arith, rules}
-use Rattle.std.proofs.lemmas.List.{append-nil, map_push}
+use Rattle.std.proofs.Common.{◌≡◌, ◌≢◌, ◌++◌, length, map, Some, Err, sym, ap, subst, ◌∙◌, arith}
+use Rattle.std.proofs.lemmas.List.{append-nil}
 use Rattle.std.proofs.lemmas.Result.{err_from_is_err_and}
 use Rattle.std.proofs.lemmas.Grind.{common_steps}
 use Rattle.ss_core.specs.declared.names.Ty.TheVariants as ty
 use Rattle.ss_core.specs.View.{expr}
 use Rattle.ss_core.specs.View.{chained as core_chained}
-use Rattle.ss_first.specs.Syntax.{expr_syntax, chained}
+use Rattle.ss_first.specs.Syntax.{expr_syntax}
 use Rattle.ss_first.specs.Rules.{type_of}
 use Rattle.ss_first.specs.Elaborated.{first_place, core_expr}
 use Rattle.ss_first.specs.Misfits.{conjoined, Elaborates, ElaboratesChain}

@@ -1,4 +1,4 @@
-use Rattle.std.proofs.Common.{◌≡◌, ap, sym, ◌∙◌, map}
+use Rattle.std.proofs.Common.{ap, sym, ◌∙◌, map}
 use Rattle.ss_first.specs.Syntax.{expr_syntax}
 use Rattle.ss_first.specs.Elaborated.{first_place}
 use Rattle.ss_first.proofs.Chains.{chained_place}

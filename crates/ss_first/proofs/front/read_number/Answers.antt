@@ -1,4 +1,4 @@
-use Rattle.std.proofs.Common.{Option, Some, None}
+use Rattle.std.proofs.Common.{Some, None}
 use Rattle.ss_first.specs.Tokens.{kind_of}
 use Rattle.ss_first.proofs.Fronts.{number_next}
 use Rattle.ss_first.proofs.front.read_number.Goals as goal

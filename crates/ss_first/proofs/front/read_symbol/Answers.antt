@@ -1,4 +1,4 @@
-use Rattle.std.proofs.Common.{◌≡◌, Option, Some, None, option_map, take, drop, sym, subst}
+use Rattle.std.proofs.Common.{option_map, take, drop, sym, subst}
 use Rattle.ss_first.specs.Text.{ASymbol}
 use Rattle.ss_first.specs.Tokens.{IsNext}
 use Rattle.ss_first.proofs.Symbols.{symbol_next}

@@ -1,4 +1,4 @@
-use Rattle.std.proofs.Common.{◌≡◌, Option, Some, None, option_map, sym, ap, ◌∙◌}
+use Rattle.std.proofs.Common.{Some, None, option_map, sym, ap, ◌∙◌}
 use Rattle.ss_first.specs.Tokens.{kind_of}
 use Rattle.ss_first.proofs.Fronts.{word_next}
 use Rattle.ss_first.proofs.front.read_word.Goals as goal

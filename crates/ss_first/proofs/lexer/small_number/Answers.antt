@@ -1,4 +1,3 @@
-use Rattle.std.proofs.Common.{◌≡◌}
 use Rattle.ss_first.specs.Text.{decimal}
 use Rattle.ss_first.proofs.Numbers.{too_large}
 use Rattle.ss_first.proofs.lexer.small_number.Goals as goal

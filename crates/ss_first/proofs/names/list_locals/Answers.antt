@@ -1,8 +1,5 @@
-use Rattle.std.proofs.Common.{◌≡◌, ℕ, List, [], ◌∷◌, ◌++◌, length, map, drop, suc, ◌+◌, option_map, Some, sym, ap, subst, ◌∙◌, append_assoc, add-one, string_bytes, arith}
-use Rattle.std.proofs.lemmas.List.{map_push}
-use Rattle.ss_core.specs.Tree.{LocalTree}
-use Rattle.ss_core.specs.View.{local_of}
-use Rattle.ss_first.specs.Named.{named, local_entry}
+use Rattle.std.proofs.Common.{ℕ, List, sym, ap}
+use Rattle.ss_first.specs.Named.{named}
 use Rattle.ss_first.proofs.Locals.{listed}
 use Rattle.ss_first.proofs.names.list_locals.Goals as goal
 

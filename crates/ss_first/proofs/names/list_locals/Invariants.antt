@@ -1,4 +1,4 @@
-use Rattle.std.proofs.Common.{◌≡◌, ◌≤◌, ◌-◌, ◌++◌, length, map, drop}
+use Rattle.std.proofs.Common.{◌≡◌, ◌-◌, ◌++◌, length, map, drop}
 use Rattle.ss_core.specs.View.{local_of}
 use Rattle.ss_first.specs.Named.{named}
 use Rattle.ss_first.proofs.names.list_locals.Given as goal

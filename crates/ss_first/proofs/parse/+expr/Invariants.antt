@@ -1,4 +1,4 @@
-use Rattle.std.proofs.Common.{◌≡◌, length, ◌+◌, ◌*◌, ◌≤◌, map}
+use Rattle.std.proofs.Common.{length, ◌+◌, ◌*◌, ◌≤◌, map}
 use Rattle.ss_first.specs.declared.token.Symbol.TheVariants as symbol
 use Rattle.ss_first.specs.Tokens.{toks}
 use Rattle.ss_first.specs.Syntax.{expr_syntax, chained}

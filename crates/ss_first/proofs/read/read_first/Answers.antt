@@ -1,8 +1,7 @@
-use Rattle.std.proofs.Common.{◌≡◌, Err, option_map, ap, sym, subst}
-use Rattle.ss_core.specs.View.{core}
+use Rattle.std.proofs.Common.{Err, option_map, ap, sym, subst}
 use Rattle.ss_run.specs.Formed.{IsFormed}
 use Rattle.ss_first.specs.Text.{start}
-use Rattle.ss_first.specs.Tokens.{Tok, toks, Spells}
+use Rattle.ss_first.specs.Tokens.{toks, Spells}
 use Rattle.ss_first.specs.Syntax.{program_syntax}
 use Rattle.ss_first.specs.Misfits.{ElaboratesProgram}
 use Rattle.ss_first.specs.Accepted.{Lexes, ReadsFile}

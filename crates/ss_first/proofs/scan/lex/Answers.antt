@@ -1,7 +1,7 @@
-use Rattle.std.proofs.Common.{◌≡◌, ◌+◌, ◌≤◌, List, [], ◌∷◌, ◌++◌, length, map, Option, Some, None, option_map, false, sym, ap, subst, ◌∙◌, arith}
+use Rattle.std.proofs.Common.{◌≡◌, List, [], ◌∷◌, ◌++◌, length, option_map, sym, ap, subst, ◌∙◌, arith}
 use Rattle.std.proofs.lemmas.List.{map_push}
 use Rattle.ss_core.specs.declared.names.Place.{Place}
-use Rattle.ss_first.specs.Text.{start, is_blank, next_place, place_after}
+use Rattle.ss_first.specs.Text.{start, next_place, place_after}
 use Rattle.ss_first.specs.Tokens.{Tok, tok, toks, kind_of, IsNext, IsFront}
 use Rattle.ss_first.proofs.Spelling.{IsSpelled, blank_step, token_step, not_step, all_step, longer_text, place_bound, next_bound}
 use Rattle.ss_first.proofs.scan.lex.Goals as goal

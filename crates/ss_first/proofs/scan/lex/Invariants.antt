@@ -1,4 +1,4 @@
-use Rattle.std.proofs.Common.{◌≡◌, ◌≤◌, ◌+◌, length}
+use Rattle.std.proofs.Common.{◌≤◌, ◌+◌, length}
 use Rattle.ss_first.specs.Text.{start}
 use Rattle.ss_first.specs.Tokens.{toks}
 use Rattle.ss_first.proofs.Spelling.{IsSpelled}

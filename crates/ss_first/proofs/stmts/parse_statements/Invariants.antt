@@ -1,4 +1,4 @@
-use Rattle.std.proofs.Common.{◌≡◌, length, map, [], ◌≤◌}
+use Rattle.std.proofs.Common.{length, map, ◌≤◌}
 use Rattle.ss_first.specs.Tokens.{toks}
 use Rattle.ss_first.specs.Syntax.{stmt_syntax}
 use Rattle.ss_first.specs.Grammar.{stmt_head, join_stmt}

@@ -4,18 +4,23 @@ use Rattle.ss_core.specs.View.{core}
 use Rattle.ss_oblig.specs.Obligations as oblig
 use Rattle.ss_oblig.proofs.Safe.{IsSafe-valid}
 use Rattle.ss_vcgen.specs.Built.{trees}
-use Rattle.ss_sound.specs.Verdicts.{IsUnproved}
-use Rattle.ss_sound.proofs.Lists.{decided_all_valid, decided_unproved, length-obligations_in, no_items, some_items, obligations_in-grown}
+use Rattle.ss_sound.specs.Verdicts.{AreProved, IsUnproved}
+use Rattle.ss_sound.proofs.Lists.{decided_all_proved, AreValid-proved, decided_unproved, length-obligations_in, no_items, some_items, obligations_in-grown}
 use Rattle.ss_sound.proofs.verdict.verify.Goals as goal
 
-pub returns-then-is_empty-clause-verified : goal.returns-then-is_empty-clause-verified
-returns-then-is_empty-clause-verified c =
+proved : (c : goal.After-drop-countered) → AreProved (oblig.obligations (core c.args.program.now))
+proved c =
     let o = c.args.obligations.now in
     let none : length c.in-Ok.countered.items ≡ 0 = grind (arith, common_steps, c.in-Ok.countered.ok.0) in
-    IsSafe-valid (core c.args.program.now) c.requires.formed
-    (subst (λ os. oblig.AreValid os) c.requires.obligations
-    (decided_all_valid (trees o) (length o.list.items) c.in-Ok.countered.items (length-obligations_in o.bank o.trail.items o.list.items) (no_items c.in-Ok.countered.items none)
-    (rw (c.deref.ensures.value, c.deref-2.ensures.value) at c.in-Ok.ensures.decided)))
+    subst (λ os. AreProved os) c.requires.obligations
+        (decided_all_proved (trees o) (length o.list.items) c.in-Ok.countered.items (length-obligations_in o.bank o.trail.items o.list.items) (no_items c.in-Ok.countered.items none)
+            (rw (c.deref.ensures.value, c.deref-2.ensures.value) at c.in-Ok.ensures.decided))
+
+pub returns-then-is_empty-clause-proved : goal.returns-then-is_empty-clause-proved
+returns-then-is_empty-clause-proved c = proved c
+
+pub returns-then-is_empty-clause-safe : goal.returns-then-is_empty-clause-safe
+returns-then-is_empty-clause-safe c = IsSafe-valid (core c.args.program.now) c.requires.formed (AreValid-proved (oblig.obligations (core c.args.program.now)) (proved c))
 
 pub returns-then-is_empty-clause-obligations : goal.returns-then-is_empty-clause-obligations
 returns-then-is_empty-clause-obligations c = let o = c.args.obligations.now in obligations_in-grown o.bank c.decide_all.new.bank o.trail.items (length o.trail.items) o.list.items c.decide_all.ensures.grown c.requires.within.trail c.requires.within.list
@@ -31,5 +36,8 @@ returns-else-is_empty-clause-unproved c =
 pub returns-else-is_empty-clause-obligations : goal.returns-else-is_empty-clause-obligations
 returns-else-is_empty-clause-obligations c = let o = c.args.obligations.now in obligations_in-grown o.bank c.decide_all.new.bank o.trail.items (length o.trail.items) o.list.items c.decide_all.ensures.grown c.requires.within.trail c.requires.within.list
 
-pub returns-in-Err-clause-obligations : goal.returns-in-Err-clause-obligations
-returns-in-Err-clause-obligations c = let o = c.args.obligations.now in obligations_in-grown o.bank c.decide_all.new.bank o.trail.items (length o.trail.items) o.list.items c.decide_all.ensures.grown c.requires.within.trail c.requires.within.list
+pub returns-in-Err-Lost-clause-obligations : goal.returns-in-Err-Lost-clause-obligations
+returns-in-Err-Lost-clause-obligations c = let o = c.args.obligations.now in obligations_in-grown o.bank c.decide_all.new.bank o.trail.items (length o.trail.items) o.list.items c.decide_all.ensures.grown c.requires.within.trail c.requires.within.list
+
+pub returns-in-Err-Memory-clause-obligations : goal.returns-in-Err-Memory-clause-obligations
+returns-in-Err-Memory-clause-obligations c = let o = c.args.obligations.now in obligations_in-grown o.bank c.decide_all.new.bank o.trail.items (length o.trail.items) o.list.items c.decide_all.ensures.grown c.requires.within.trail c.requires.within.list

@@ -1,9 +1,9 @@
 use Rattle.std.proofs.Common.{◌≡◌, ◌<◌, ◌⊎◌, ℕ, List, [], Option, Some, None, IsSomeAnd, option_map, sym, ap, ◌∙◌, subst, rules}
 use Rattle.ss_io.specs.Outside.{Grew}
 use Rattle.ss_top.specs.Words.{file_of}
-use Rattle.ss_top.specs.Answers.{OfSource, OfFile, IsStop, IsHeadline, HasRun, RunsOn, IsToldUnproved, HasRunInPart, IsToldInPart, IfRefused, IfUnproved, Says}
+use Rattle.ss_top.specs.Answers.{OfSource, OfFile, IsStop, IsHeadline, HasRun, RunsOn, IsToldUnproved, IfRefused, IfUnproved, Says}
 use Rattle.ss_top.proofs.Whole.{Says-source}
-use Rattle.ss_top.proofs.Says.{Says-refused, Says-headline, Says-ended, Says-steps_spent, Says-unproved, Says-silent, Says-in_part, Says-not}
+use Rattle.ss_top.proofs.Says.{Says-refused, Says-headline, Says-ended, Says-steps_spent, Says-unproved, reads_only, Says-silent, Says-written, Says-memory, Says-not}
 use Rattle.ss_top.proofs.top.specsharp.Given.{Over}
 use Rattle.ss_top.proofs.top.specsharp.Goals as goal
 
@@ -41,5 +41,11 @@ returns-in-Ok-clause-steps_spent g c = rw (named g c) (Says-steps_spent 1000000 
 pub returns-in-Ok-clause-unproved : goal.returns-in-Ok-clause-unproved
 returns-in-Ok-clause-unproved g c = rw (named g c) (Says-unproved 1000000 (g.S.Sink.taken c.args.out.now) (g.S.Sink.taken c.run_source.new.out) c.run_source.result c.in-Some.name.now (g.F.Files.told c.args.files.now) (said g c))
 
-pub returns-in-Ok-clause-in_part : goal.returns-in-Ok-clause-in_part
-returns-in-Ok-clause-in_part g c = rw (named g c) (Says-in_part 1000000 (g.S.Sink.taken c.args.out.now) (g.S.Sink.taken c.run_source.new.out) c.run_source.result c.in-Some.name.now (g.F.Files.told c.args.files.now) (said g c))
+pub returns-in-Ok-clause-written : goal.returns-in-Ok-clause-written
+returns-in-Ok-clause-written g c = rw (named g c) (Says-written 1000000 (g.S.Sink.taken c.args.out.now) (g.S.Sink.taken c.run_source.new.out) c.run_source.result c.in-Some.name.now (g.F.Files.told c.args.files.now) (said g c))
+
+pub returns-in-Ok-clause-memory : goal.returns-in-Ok-clause-memory
+returns-in-Ok-clause-memory g c = rw (named g c) (Says-memory 1000000 (g.S.Sink.taken c.args.out.now) (g.S.Sink.taken c.run_source.new.out) c.run_source.result c.in-Some.name.now (g.F.Files.told c.args.files.now) (said g c))
+
+pub returns-in-Ok-clause-reads : goal.returns-in-Ok-clause-reads
+returns-in-Ok-clause-reads g c = reads_only (g.F.Files.faults c.args.files.now) (g.F.Files.faults c.read.new.self) (file_of c.args.words.now) c.in-Some.name.now c.read.result (named g c) c.read.ensures.counts
