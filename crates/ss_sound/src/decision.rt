@@ -35,7 +35,7 @@ pub fn decide(alloc: Global, bank: &mut Bank, premises: &[FormulaId], goal: Form
     match prove(alloc, bank, premises, goal) {
         Found::Memory => Decision::Memory,
         Found::Countered(model) => Decision::Refuted(model),
-        Found::Proved(derivation) => match check(bank, alloc, premises, goal, &derivation) {
+        Found::Proved(derivation) => match check(alloc, bank, premises, goal, &derivation) {
             Ok(()) => Decision::Valid,
             Err(_) => Decision::Memory,
         },
