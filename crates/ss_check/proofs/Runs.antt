@@ -4,7 +4,7 @@ use Rattle.std.proofs.lemmas.List.{drop_more, drop-map, reverse-append, reverse-
 use Rattle.std.proofs.lemmas.Bool.{and_parts, ltb-true}
 use Rattle.std.specs.Prelude.{option_and_then, if◌then◌else◌}
 use Rattle.ss_logic.specs.Logic.{Formula}
-use Rattle.ss_logic.specs.Steps.{State, Open, Between, add_fact, fact_of, step_open, step, run, first_bad, at_end, either_way, Nowhere, Line as TreeLine, Case as TreeCase, Cut as TreeCut, Swap as TreeSwap, Rule as TreeRule}
+use Rattle.ss_logic.specs.Steps.{State, Open, Between, add_fact, fact_of, step_open, step, bad_from, at_end, either_way, Nowhere, Line as TreeLine, Case as TreeCase, Cut as TreeCut, Swap as TreeSwap, Rule as TreeRule}
 use Rattle.ss_terms.specs.declared.forms.TermId.{TermId}
 use Rattle.ss_terms.specs.declared.forms.FormulaId.{FormulaId}
 use Rattle.ss_terms.specs.declared.derivation.Line.{Line}
@@ -115,30 +115,19 @@ module _ (a b : Forms) (grown : IsGrown a b) (premises : List FormulaId) (below 
         ∙ ap (λ g. step (formulas_at a premises) g state (line_in b line)) (grown.same_formulas goal in_bank)
         ∙ ap (λ l. step (formulas_at a premises) (formula_at a goal) state l) (line_in-grown a b grown line (LineWithin-tested a line within) ∙ sym (ap (λ t. if t then line_in a line else Nowhere) within))
 
-    pub bad_more : (next : State) → step (formulas_at b premises) (formula_at b goal) state (line_in b line) ≡ Some next →
-        first_bad (formulas_at a premises) (formula_at a goal) state (drop i (map (line_of a) lines)) i ≡ first_bad (formulas_at a premises) (formula_at a goal) next (drop (i + 1) (map (line_of a) lines)) (i + 1)
-    bad_more next e = rw (front, sym same_step ∙ e) refl
+    pub bad_more : (n : ℕ) (next : State) → step (formulas_at b premises) (formula_at b goal) state (line_in b line) ≡ Some next →
+        bad_from (formulas_at a premises) (formula_at a goal) state (drop i (map (line_of a) lines)) n ≡ bad_from (formulas_at a premises) (formula_at a goal) next (drop (i + 1) (map (line_of a) lines)) (n + 1)
+    bad_more n next e = rw (front, sym same_step ∙ e) refl
 
-    pub bad_here : step (formulas_at b premises) (formula_at b goal) state (line_in b line) ≡ None →
-        first_bad (formulas_at a premises) (formula_at a goal) state (drop i (map (line_of a) lines)) i ≡ Some i
-    bad_here e = rw (front, sym same_step ∙ e) refl
+    pub bad_here : (n : ℕ) → step (formulas_at b premises) (formula_at b goal) state (line_in b line) ≡ None →
+        bad_from (formulas_at a premises) (formula_at a goal) state (drop i (map (line_of a) lines)) n ≡ Some n
+    bad_here n e = rw (front, sym same_step ∙ e) refl
 
-  pub bad_line : is_within (length a.terms) (length a.formulas * 2) line ≡ false → first_bad (formulas_at a premises) (formula_at a goal) state (drop i (map (line_of a) lines)) i ≡ Some i
-  bad_line h =
+  pub bad_line : (n : ℕ) → is_within (length a.terms) (length a.formulas * 2) line ≡ false → bad_from (formulas_at a premises) (formula_at a goal) state (drop i (map (line_of a) lines)) n ≡ Some n
+  bad_line n h =
       let e : step (formulas_at a premises) (formula_at a goal) state (line_of a line) ≡ None =
       ap (λ t. step (formulas_at a premises) (formula_at a goal) state (if t then line_in a line else Nowhere)) h ∙ nowhere (formulas_at a premises) (formula_at a goal) state in
       rw (front, e) refl
-
-pub Derives-from_none : (premises : List Formula) (goal : Formula) (state : State) (lines : List TreeLine) (n : ℕ) → first_bad premises goal state lines n ≡ None → run premises goal state lines ≡ Some (Between [])
-Derives-from_none ps g (Between []) [] n e = refl
-Derives-from_none ps g (Between (c ∷ cs)) [] n e = cc
-Derives-from_none ps g (Open k w) [] n e = cc
-Derives-from_none ps g state (line ∷ lines) n e = by_step (step ps g state line) (λ next h. Derives-from_none ps g next lines (n + 1) h) e
-  where
-    by_step : (o : Option State) → ((next : State) → first_bad ps g next lines (n + 1) ≡ None → run ps g next lines ≡ Some (Between [])) →
-        either_way (Some n) (λ next. first_bad ps g next lines (n + 1)) o ≡ None → option_and_then (λ next. run ps g next lines) o ≡ Some (Between [])
-    by_step None ih h = cc
-    by_step (Some next) ih h = ih next h
 
 -- the end of the lines
 pub done_end : (b : Forms) (o : Bool) (known : List FormulaId) (w : List (ℕ × FormulaId)) (n : ℕ) → o ≡ false → w ≡ [] → at_end (state_of b o known w) n ≡ None
@@ -154,15 +143,3 @@ not_done_end b false known w n h = by_stack (reverse w) refl
 
 pub counted : (terms formulas n m : ℕ) (line : Line) (held : Bool) → terms ≡ n → formulas ≡ m → held ≡ is_within terms formulas line → is_within n m line ≡ held
 counted terms formulas n m line held e f h = sym (ap (λ k. is_within n k line) f) ∙ sym (ap (λ k. is_within k formulas line) e) ∙ sym h
-
--- lines of which one is no step derive nothing
-pub bad_refutes : (premises : List Formula) (goal : Formula) (state : State) (lines : List TreeLine) (k n : ℕ) → first_bad premises goal state lines k ≡ Some n → run premises goal state lines ≡ Some (Between []) → ⊥
-bad_refutes ps g (Between []) [] k n e d = cc
-bad_refutes ps g (Between (c ∷ cs)) [] k n e d = cc
-bad_refutes ps g (Open known waiting) [] k n e d = cc
-bad_refutes ps g state (line ∷ lines) k n e d = by_step (step ps g state line) (λ next h r. bad_refutes ps g next lines (k + 1) n h r) e d
-  where
-    by_step : (o : Option State) → ((next : State) → first_bad ps g next lines (k + 1) ≡ Some n → run ps g next lines ≡ Some (Between []) → ⊥) →
-        either_way (Some k) (λ next. first_bad ps g next lines (k + 1)) o ≡ Some n → option_and_then (λ next. run ps g next lines) o ≡ Some (Between []) → ⊥
-    by_step None ih h r = cc
-    by_step (Some next) ih h r = ih next h r

@@ -15,8 +15,8 @@ use std::alloc::{AllocError, Global};
 
 /// The formula that a line makes known.
 pub(crate) fn fact(
-    bank: &mut Bank,
     alloc: Global,
+    bank: &mut Bank,
     premises: &[FormulaId],
     goal: FormulaId,
     known: &[FormulaId],
@@ -38,7 +38,7 @@ pub(crate) fn fact(
         },
         Line::Chain(x, y, path) => chain(bank, known, *x, *y, path),
         Line::Swap(i, f, js) => Ok(swap(bank, known, *i, *f, js)),
-        Line::Rule(name, ts) => instance(bank, alloc, *name, ts),
+        Line::Rule(name, ts) => instance(alloc, bank, *name, ts),
         _ => Ok(None),
     }
 }
@@ -89,8 +89,8 @@ fn swap(bank: &Bank, known: &[FormulaId], i: usize, f: FormulaId, js: &[usize]) 
 
 /// What a rule says of these terms.
 fn instance(
-    bank: &mut Bank,
     alloc: Global,
+    bank: &mut Bank,
     name: RuleName,
     ts: &[TermId],
 ) -> Result<Option<FormulaId>, AllocError>
@@ -100,14 +100,14 @@ fn instance(
 {
     match name {
         RuleName::Bool => match ts {
-            [x] => true_or_false(bank, alloc, *x),
+            [x] => true_or_false(alloc, bank, *x),
             _ => Ok(None),
         },
     }
 }
 
 /// A term of truth values is true or false.
-fn true_or_false(bank: &mut Bank, alloc: Global, x: TermId) -> Result<Option<FormulaId>, AllocError>
+fn true_or_false(alloc: Global, bank: &mut Bank, x: TermId) -> Result<Option<FormulaId>, AllocError>
     requires { HasTerm bank.old x }
     ensures fact { IfOk result (λ o. IsNumberOf bank.new o (when (same_sort (sort_of (term_at bank.old x)) Sort.Truth) (two_valued (term_at bank.old x)))) }
     ensures grown { IsGrown bank.old bank.new }

@@ -17,7 +17,8 @@ use std::alloc::{AllocError, Global};
 /// Why a derivation is refused.
 #[derive(Clone, Copy, Debug, PartialEq, Eq)]
 pub enum CheckStop {
-    /// The line with this number is no step. The number of lines stands for an end before which a case is left.
+    /// The line with this number, counted from 1, is no step. One more than the number of lines stands for an end before
+    /// which a case is left.
     BadStep { at: usize },
     /// Memory ran out.
     Memory,
@@ -25,8 +26,8 @@ pub enum CheckStop {
 
 /// The cases of an `or` with this many parts.
 fn cases_at(
-    bank: &Bank,
     alloc: Global,
+    bank: &Bank,
     f: FormulaId,
     count: usize,
 ) -> Result<Option<Vec<FormulaId>>, AllocError>
@@ -59,8 +60,8 @@ fn open_at(bank: &Bank, cases: &mut Cases, fs: &[FormulaId]) -> Result<(), Alloc
 
 /// Opens the cases of an `or`.
 fn split(
-    bank: &Bank,
     alloc: Global,
+    bank: &Bank,
     cases: &mut Cases,
     i: usize,
     k: usize,
@@ -72,7 +73,7 @@ fn split(
     let Some(f) = known_at(bank, &cases.known, i) else {
         return Ok(false);
     };
-    let Some(fs) = cases_at(bank, alloc, f, k)? else {
+    let Some(fs) = cases_at(alloc, bank, f, k)? else {
         return Ok(false);
     };
     open_at(bank, cases, &fs)?;
@@ -125,8 +126,8 @@ fn learn(bank: &Bank, cases: &mut Cases, f: FormulaId) -> Result<(), AllocError>
 
 /// Makes known what a line gives.
 fn add(
-    bank: &mut Bank,
     alloc: Global,
+    bank: &mut Bank,
     premises: &[FormulaId],
     goal: FormulaId,
     cases: &mut Cases,
@@ -141,7 +142,7 @@ fn add(
     ensures fine { IfOk result (λ _. AreCases bank.new cases.new.known.items cases.new.waiting.items) }
     ensures step { IfOk result (λ yes. IsStepped yes (add_fact (formulas_at bank.old cases.old.known.items) (waiting_of bank.old cases.old.known.items cases.old.waiting.items) (fact_of (formulas_at bank.old premises.now) (formula_at bank.old goal) (formulas_at bank.old cases.old.known.items) (line_in bank.old line.now))) (state_of bank.new cases.new.is_open cases.new.known.items cases.new.waiting.items)) }
 {
-    let Some(f) = fact(bank, alloc, premises, goal, &cases.known, line)? else {
+    let Some(f) = fact(alloc, bank, premises, goal, &cases.known, line)? else {
         return Ok(false);
     };
     if !bank.is_well_sorted(f) {
@@ -153,8 +154,8 @@ fn add(
 
 /// A line in an open case.
 fn step_in_case(
-    bank: &mut Bank,
     alloc: Global,
+    bank: &mut Bank,
     premises: &[FormulaId],
     goal: FormulaId,
     cases: &mut Cases,
@@ -170,16 +171,16 @@ fn step_in_case(
     ensures step { IfOk result (λ yes. IsStepped yes (step_open (formulas_at bank.old premises.now) (formula_at bank.old goal) (formulas_at bank.old cases.old.known.items) (waiting_of bank.old cases.old.known.items cases.old.waiting.items) (line_in bank.old line.now)) (state_of bank.new cases.new.is_open cases.new.known.items cases.new.waiting.items)) }
 {
     match line {
-        Line::Split(i, k) => split(bank, alloc, cases, *i, *k),
+        Line::Split(i, k) => split(alloc, bank, cases, *i, *k),
         Line::Cut(f) => cut(bank, cases, *f),
         Line::Clash(i, j) => Ok(close(bank, cases, *i, *j)),
-        _ => add(bank, alloc, premises, goal, cases, line),
+        _ => add(alloc, bank, premises, goal, cases, line),
     }
 }
 
 fn step_line(
-    bank: &mut Bank,
     alloc: Global,
+    bank: &mut Bank,
     premises: &[FormulaId],
     goal: FormulaId,
     cases: &mut Cases,
@@ -194,7 +195,7 @@ fn step_line(
     ensures step { IfOk result (λ yes. IsStepped yes (step (formulas_at bank.old premises.now) (formula_at bank.old goal) (state_of bank.old cases.old.is_open cases.old.known.items cases.old.waiting.items) (line_in bank.old line.now)) (state_of bank.new cases.new.is_open cases.new.known.items cases.new.waiting.items)) }
 {
     if cases.is_open {
-        return step_in_case(bank, alloc, premises, goal, cases, line);
+        return step_in_case(alloc, bank, premises, goal, cases, line);
     }
     match line {
         Line::Case => {
@@ -236,8 +237,8 @@ fn is_line_within(line: &Line, terms: usize, formulas: usize) -> bool
 /// premises are. The first line that is no step is refused, also one that names a term or a formula that the bank doesn't
 /// have.
 pub fn check(
-    bank: &mut Bank,
     alloc: Global,
+    bank: &mut Bank,
     premises: &[FormulaId],
     goal: FormulaId,
     derivation: &Derivation,
@@ -247,15 +248,15 @@ pub fn check(
     ensures derives { OnOk result (Derives (formulas_at bank.old premises.now) (formula_at bank.old goal) (map (line_of bank.old) derivation.now.lines.items)) }
     ensures valid { OnOk result (IsValid (formulas_at bank.old premises.now) (formula_at bank.old goal)) }
     ensures refused { (n : ℕ) → result ≡ Err (CheckStop.BadStep n) → Derives (formulas_at bank.old premises.now) (formula_at bank.old goal) (map (line_of bank.old) derivation.now.lines.items) → ⊥ }
-    ensures first { (n : ℕ) → result ≡ Err (CheckStop.BadStep n) → first_bad (formulas_at bank.old premises.now) (formula_at bank.old goal) (Open [] []) (map (line_of bank.old) derivation.now.lines.items) 0 ≡ Some n }
+    ensures first { (n : ℕ) → result ≡ Err (CheckStop.BadStep n) → first_bad (formulas_at bank.old premises.now) (formula_at bank.old goal) (map (line_of bank.old) derivation.now.lines.items) ≡ Some n }
     ensures grown { IsGrown bank.old bank.new }
 {
-    check_lines(bank, alloc, premises, goal, &derivation.lines)
+    check_lines(alloc, bank, premises, goal, &derivation.lines)
 }
 
 fn check_lines(
-    bank: &mut Bank,
     alloc: Global,
+    bank: &mut Bank,
     premises: &[FormulaId],
     goal: FormulaId,
     lines: &[Line],
@@ -264,7 +265,7 @@ fn check_lines(
     requires goal { HasFormula bank.old goal }
     ensures derives { OnOk result (Derives (formulas_at bank.old premises.now) (formula_at bank.old goal) (map (line_of bank.old) lines.now)) }
     ensures valid { OnOk result (IsValid (formulas_at bank.old premises.now) (formula_at bank.old goal)) }
-    ensures first { (n : ℕ) → result ≡ Err (CheckStop.BadStep n) → first_bad (formulas_at bank.old premises.now) (formula_at bank.old goal) (Open [] []) (map (line_of bank.old) lines.now) 0 ≡ Some n }
+    ensures first { (n : ℕ) → result ≡ Err (CheckStop.BadStep n) → first_bad (formulas_at bank.old premises.now) (formula_at bank.old goal) (map (line_of bank.old) lines.now) ≡ Some n }
     ensures grown { IsGrown bank.old bank.new }
 {
     let terms = bank.term_count();
@@ -272,16 +273,18 @@ fn check_lines(
     let mut cases = Cases::new(alloc);
     for (i, line) in lines.iter().enumerate() {
         if !is_line_within(line, terms, formulas) {
-            return Err(CheckStop::BadStep { at: i });
+            return Err(CheckStop::BadStep { at: i + 1 });
         }
-        match step_line(bank, alloc, premises, goal, &mut cases, line) {
+        match step_line(alloc, bank, premises, goal, &mut cases, line) {
             Ok(true) => {}
-            Ok(false) => return Err(CheckStop::BadStep { at: i }),
+            Ok(false) => return Err(CheckStop::BadStep { at: i + 1 }),
             Err(_) => return Err(CheckStop::Memory),
         }
     }
     if !is_done(&cases) {
-        return Err(CheckStop::BadStep { at: lines.len() });
+        return Err(CheckStop::BadStep {
+            at: lines.len() + 1,
+        });
     }
     Ok(())
 }

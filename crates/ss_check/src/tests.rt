@@ -33,8 +33,8 @@ fn whole(bank: &mut Bank, number: usize) -> Result<TermId, AllocError> {
 
 /// One of two formulas.
 fn join(
-    bank: &mut Bank,
     alloc: Global,
+    bank: &mut Bank,
     first: FormulaId,
     second: FormulaId,
 ) -> Result<FormulaId, AllocError> {
@@ -46,10 +46,10 @@ fn join(
 }
 
 /// One of two truth constants or their negations.
-fn either(bank: &mut Bank, alloc: Global, a: bool, b: bool) -> Result<FormulaId, AllocError> {
+fn either(alloc: Global, bank: &mut Bank, a: bool, b: bool) -> Result<FormulaId, AllocError> {
     let first = truth(bank, 0, a)?;
     let second = truth(bank, 1, b)?;
-    join(bank, alloc, first, second)
+    join(alloc, bank, first, second)
 }
 
 fn negation(bank: &Bank, f: FormulaId) -> Result<FormulaId, AllocError> {
@@ -62,8 +62,8 @@ fn negation(bank: &Bank, f: FormulaId) -> Result<FormulaId, AllocError> {
 
 /// What the check says of these lines.
 fn answer(
-    bank: &mut Bank,
     alloc: Global,
+    bank: &mut Bank,
     premises: &[FormulaId; 3],
     goal: FormulaId,
     lines: Vec<Line>,
@@ -78,7 +78,7 @@ fn answer(
         return Err(CheckStop::Memory);
     }
     let derivation = Derivation { lines };
-    check(bank, alloc, &[first, second, third], goal, &derivation)
+    check(alloc, bank, &[first, second, third], goal, &derivation)
 }
 
 /// The lines of the example: from `a or b`, `a or not b` and `not a or b` the goal `a and b`.
@@ -114,13 +114,13 @@ fn example_front(alloc: Global, count: usize) -> Result<Vec<Line>, AllocError> {
 /// What the check says of so many lines of the example.
 fn example_answer(alloc: Global, count: usize) -> Result<Result<(), CheckStop>, AllocError> {
     let mut bank = Bank::new(alloc);
-    let first = either(&mut bank, alloc, true, true)?;
-    let second = either(&mut bank, alloc, true, false)?;
-    let third = either(&mut bank, alloc, false, true)?;
-    let denied = either(&mut bank, alloc, false, false)?;
+    let first = either(alloc, &mut bank, true, true)?;
+    let second = either(alloc, &mut bank, true, false)?;
+    let third = either(alloc, &mut bank, false, true)?;
+    let denied = either(alloc, &mut bank, false, false)?;
     let goal = negation(&bank, denied)?;
     let lines = example_front(alloc, count)?;
-    Ok(answer(&mut bank, alloc, &[first, second, third], goal, lines))
+    Ok(answer(alloc, &mut bank, &[first, second, third], goal, lines))
 }
 
 #[test]
@@ -134,7 +134,7 @@ fn refuses_each_front_of_the_example(rt: HostRuntime) -> Result<(), Fail> {
     for count in 0..25 {
         assert_eq!(rt;
             example_answer(rt.alloc(), count)?,
-            Err(CheckStop::BadStep { at: count })
+            Err(CheckStop::BadStep { at: count + 1 })
         );
     }
     Ok(())
@@ -184,7 +184,7 @@ fn follows_a_chain(rt: HostRuntime) -> Result<(), Fail> {
     let goal = negation(&bank, premises[2])?;
     let lines = equality_lines(rt.alloc(), None)?;
     assert_eq!(rt;
-        answer(&mut bank, rt.alloc(), &premises, goal, lines),
+        answer(rt.alloc(), &mut bank, &premises, goal, lines),
         Ok(())
     );
     Ok(())
@@ -197,7 +197,7 @@ fn swaps_a_side(rt: HostRuntime) -> Result<(), Fail> {
     let goal = equality(&mut bank, false, TermId(1), TermId(2))?;
     let lines = equality_lines(rt.alloc(), Some(goal))?;
     assert_eq!(rt;
-        answer(&mut bank, rt.alloc(), &premises, goal, lines),
+        answer(rt.alloc(), &mut bank, &premises, goal, lines),
         Ok(())
     );
     Ok(())
@@ -226,7 +226,7 @@ fn clash_answer(alloc: Global, premise: usize) -> Result<Result<(), CheckStop>, 
     let mut bank = Bank::new(alloc);
     let premises = numbers(&mut bank)?;
     let lines = clash_of(alloc, premise)?;
-    Ok(answer(&mut bank, alloc, &premises, premises[0], lines))
+    Ok(answer(alloc, &mut bank, &premises, premises[0], lines))
 }
 
 #[test]
@@ -234,11 +234,11 @@ fn closes_on_different_numbers(rt: HostRuntime) -> Result<(), Fail> {
     assert_eq!(rt; clash_answer(rt.alloc(), 0)?, Ok(()));
     assert_eq!(rt;
         clash_answer(rt.alloc(), 1)?,
-        Err(CheckStop::BadStep { at: 1 })
+        Err(CheckStop::BadStep { at: 2 })
     );
     assert_eq!(rt;
         clash_answer(rt.alloc(), 2)?,
-        Err(CheckStop::BadStep { at: 0 })
+        Err(CheckStop::BadStep { at: 1 })
     );
     Ok(())
 }
@@ -267,18 +267,18 @@ fn rule_lines(alloc: Global, count: usize) -> Result<Vec<Line>, AllocError> {
 }
 
 /// The goal that the truth constant is true or false.
-fn two_valued(bank: &mut Bank, alloc: Global) -> Result<FormulaId, AllocError> {
+fn two_valued(alloc: Global, bank: &mut Bank) -> Result<FormulaId, AllocError> {
     let first = truth(bank, 0, true)?;
     let no = bank.term(Term::Truth(false))?;
     let second = equality(bank, true, TermId(0), no)?;
-    join(bank, alloc, first, second)
+    join(alloc, bank, first, second)
 }
 
 fn rule_answer(alloc: Global, count: usize) -> Result<Result<(), CheckStop>, AllocError> {
     let mut bank = Bank::new(alloc);
-    let goal = two_valued(&mut bank, alloc)?;
+    let goal = two_valued(alloc, &mut bank)?;
     let lines = rule_lines(alloc, count)?;
-    Ok(answer(&mut bank, alloc, &[goal, goal, goal], goal, lines))
+    Ok(answer(alloc, &mut bank, &[goal, goal, goal], goal, lines))
 }
 
 #[test]
@@ -286,7 +286,7 @@ fn knows_that_a_truth_value_is_true_or_false(rt: HostRuntime) -> Result<(), Fail
     assert_eq!(rt; rule_answer(rt.alloc(), 9)?, Ok(()));
     assert_eq!(rt;
         rule_answer(rt.alloc(), 10)?,
-        Err(CheckStop::BadStep { at: 9 })
+        Err(CheckStop::BadStep { at: 10 })
     );
     Ok(())
 }

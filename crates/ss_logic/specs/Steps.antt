@@ -196,7 +196,11 @@ abbrev pub either_way : {A B : Type 0} → B → (A → B) → Option A → B
 either_way none some None = none
 either_way none some (Some x) = some x
 
--- the first line that is no step, counted from n
-abbrev pub first_bad : List Formula → Formula → State → List Line → ℕ → Option ℕ
-first_bad premises goal state [] n = at_end state n
-first_bad premises goal state (line ∷ lines) n = either_way (Some n) (λ next. first_bad premises goal next lines (n + 1)) (step premises goal state line)
+-- the first line that is no step, where the lines are counted from n
+abbrev pub bad_from : List Formula → Formula → State → List Line → ℕ → Option ℕ
+bad_from premises goal state [] n = at_end state n
+bad_from premises goal state (line ∷ lines) n = either_way (Some n) (λ next. bad_from premises goal next lines (n + 1)) (step premises goal state line)
+
+-- The first line that is no step, counted from 1; where each is one and a case is left, one more than the number of lines.
+abbrev pub first_bad : List Formula → Formula → List Line → Option ℕ
+first_bad premises goal lines = bad_from premises goal (Open [] []) lines 1

@@ -37,7 +37,7 @@ pub fn decide(alloc: Global, bank: &mut Bank, premises: &[FormulaId], goal: Form
         Found::Memory => Decision::Memory,
         Found::Lost => Decision::Lost,
         Found::Countered(model) => Decision::Refuted(model),
-        Found::Proved(derivation) => match check(bank, alloc, premises, goal, &derivation) {
+        Found::Proved(derivation) => match check(alloc, bank, premises, goal, &derivation) {
             Ok(()) => Decision::Derived,
             Err(CheckStop::BadStep { .. }) => Decision::Lost,
             Err(CheckStop::Memory) => Decision::Memory,
