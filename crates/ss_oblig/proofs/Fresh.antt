@@ -8,7 +8,7 @@ use Rattle.ss_logic.specs.declared.Sort.{Sort}
 use Rattle.ss_logic.specs.declared.Sort.TheVariants.{Whole, Truth}
 use Rattle.ss_logic.specs.Logic as logic
 use Rattle.ss_logic.specs.Logic.{same_sort, is_of, Structure, Term, Num, Fixed, Const, Formula, Formulas, Same, And, Or, no_more, more, formulas_from, list_of, value_of, True, AllTrue, NoneTrue, neg, neg_all, Hold}
-use Rattle.ss_oblig.specs.Express.{local_term, is_whole, term_of, parts_of, same_truth, formula_of}
+use Rattle.ss_oblig.specs.Express.{local_term, has_a_term, term_of, iff_formula, has_truth_of, formula_of, operands}
 use Rattle.ss_oblig.proofs.Means.{Mean}
 
 -- only constants below the next one of their sort
@@ -46,17 +46,15 @@ module _ (next : Sort → ℕ) where
     neg_all_below no_more h = tt
     neg_all_below (more f fs) h = (neg_below f h.0, neg_all_below fs h.1)
 
-  pub same_truth_below : (f g : Formula) → Below next f → Below next g → Below next (same_truth f g)
-  same_truth_below f g hf hg = ((hf, (hg, tt)), ((neg_below f hf, (neg_below g hg, tt)), tt))
+  iff_below : (f g : Formula) → Below next f → Below next g → Below next (iff_formula f g)
+  iff_below f g hf hg = ((neg_below f hf, (hg, tt)), ((hf, (neg_below g hg, tt)), tt))
 
-  list_below : (fs : Formulas) → PartsBelow next fs → AllBelow next (list_of fs)
-  list_below no_more h = tt
-  list_below (more f fs) h = (h.0, list_below fs h.1)
+  pub truth_below : (t : Term) (f : Formula) → TermBelow next t → Below next f → Below next (has_truth_of t f)
+  truth_below t f ht hf = (((ht, tt), (hf, tt)), (((ht, tt), (neg_below f hf, tt)), tt))
 
-  parts_below : (f : Formula) → Below next f → AllBelow next (parts_of f)
-  parts_below (Same sign x y) h = (h, tt)
-  parts_below (And fs) h = list_below fs h
-  parts_below (Or fs) h = (h, tt)
+  list_below : (fs : List Formula) → PartsBelow next (formulas_from fs) → AllBelow next fs
+  list_below [] h = tt
+  list_below (f ∷ fs) h = (h.0, list_below fs h.1)
 
   joined_below : (fs : List Formula) (g : Formula) → AllBelow next fs → Below next g → PartsBelow next (formulas_from (fs ++ g ∷ []))
   joined_below [] g h t = (t, tt)
@@ -88,16 +86,24 @@ module _ (next : Sort → ℕ) where
     term_below (EqualExpr at a b) = tt
     term_below (AndExpr at a b) = tt
 
+    operands_below : (e : ExprTree) → Below next (formula_of env e) → AllBelow next (operands env e (formula_of env e))
+    operands_below (AndExpr at a b) h = list_below (operands env a (formula_of env a) ++ formula_of env b ∷ []) h
+    operands_below (IntExpr at n) h = (h, tt)
+    operands_below (BoolExpr at b) h = (h, tt)
+    operands_below (LocalExpr at x) h = (h, tt)
+    operands_below (NotExpr at e) h = (h, tt)
+    operands_below (EqualExpr at a b) h = (h, tt)
+
     pub formula_below : (e : ExprTree) → Below next (formula_of env e)
     formula_below (IntExpr at n) = tt
     formula_below (BoolExpr at true) = tt
     formula_below (BoolExpr at false) = tt
     formula_below (LocalExpr at x) = (local_below x, tt)
     formula_below (NotExpr at e) = neg_below (formula_of env e) (formula_below e)
-    formula_below (AndExpr at a b) = joined_below (parts_of (formula_of env a)) (formula_of env b) (parts_below (formula_of env a) (formula_below a)) (formula_below b)
+    formula_below (AndExpr at a b) = joined_below (operands env a (formula_of env a)) (formula_of env b) (operands_below a (formula_below a)) (formula_below b)
     formula_below (EqualExpr at a b) =
-        one_of (is_whole env a) (Same true (term_of env a) (term_of env b)) (same_truth (formula_of env a) (formula_of env b))
-        (term_below a, term_below b) (same_truth_below (formula_of env a) (formula_of env b) (formula_below a) (formula_below b))
+        one_of (has_a_term a && has_a_term b) (Same true (term_of env a) (term_of env b)) (iff_formula (formula_of env a) (formula_of env b))
+        (term_below a, term_below b) (iff_below (formula_of env a) (formula_of env b) (formula_below a) (formula_below b))
       where
         one_of : (b : Bool) (f g : Formula) → Below next f → Below next g → Below next (if b then f else g)
         one_of true f g hf hg = hf

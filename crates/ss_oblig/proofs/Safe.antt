@@ -1,8 +1,7 @@
 -- A formed program whose obligations are valid is safe.
-use Rattle.std.proofs.Common.{◌≡◌, ◌<◌, ◌+◌, ℕ, ◌≤◌, zero, suc, pos, negsuc, List, [], ◌∷◌, ◌++◌, Bool, true, false, map, ⊎_elim, refl, subst, sym, ◌∙◌, arith}
+use Rattle.std.proofs.Common.{◌≡◌, ◌<◌, ◌+◌, ℕ, ◌≤◌, zero, suc, pos, negsuc, List, [], ◌∷◌, ◌++◌, true, false, map, ⊎_elim, refl, ap, subst, sym, ◌∙◌, arith}
 use Rattle.std.specs.Prelude.{Option, Some, None, slice_get, slice_set}
 use Rattle.std.proofs.lemmas.Bool.{and_parts, eq-eqb}
-use Rattle.std.specs.Bool.{beq}
 use Rattle.ss_core.specs.declared.names.Ty.{Ty}
 use Rattle.ss_core.specs.declared.names.Ty.TheVariants as ty
 use Rattle.ss_core.specs.declared.program.Value.{Value}
@@ -15,11 +14,11 @@ use Rattle.ss_logic.specs.declared.Sort.{Sort}
 use Rattle.ss_logic.specs.declared.Sort.TheVariants.{Whole, Truth}
 use Rattle.ss_logic.specs.Logic as logic
 use Rattle.ss_logic.specs.Logic.{whole, truth, Structure, Term, Const, Formula, Same, True, Hold}
-use Rattle.ss_oblig.specs.Express.{term_of, formula_of, same_truth, is_true}
+use Rattle.ss_oblig.specs.Express.{term_of, formula_of, has_truth_of}
 use Rattle.ss_oblig.specs.Obligations.{Known, default_term, at_entry, assume, assign_whole, assign_truth, assign, obligations_from, obligations_of_body, obligations, AreValid}
 use Rattle.ss_oblig.proofs.Typed.{value_typed, int_value, bool_value, assigned_has_type}
-use Rattle.ss_oblig.proofs.Means.{meaning, Mean, Tells, set_means, tells_same, tells_is_true, whole_is, truth_is, term_means, formula_tells}
-use Rattle.ss_oblig.proofs.Fresh.{Below, TermBelow, TermsBelow, AllBelow, same_truth_below, all_below_more, set_below, term_below, formula_below, term_still_below, terms_still_below, still_below, all_still_below, with_constant, new_value, value_kept, True-kept, hold_kept, mean_kept}
+use Rattle.ss_oblig.proofs.Means.{meaning, Mean, Tells, set_means, truth_agrees, whole_is, truth_is, number_means, formula_tells}
+use Rattle.ss_oblig.proofs.Fresh.{Below, TermBelow, TermsBelow, AllBelow, truth_below, all_below_more, set_below, term_below, formula_below, term_still_below, terms_still_below, still_below, all_still_below, with_constant, new_value, value_kept, True-kept, hold_kept, mean_kept}
 use Rattle.ss_oblig.proofs.Good.{Fits, StateFits, fits_run, IsGoodState-run}
 
 abbrev next_of : Known → Sort → ℕ
@@ -58,10 +57,6 @@ same_value_self (whole (pos n)) = eq-eqb n n refl
 same_value_self (whole (negsuc n)) = eq-eqb n n refl
 same_value_self (truth true) = refl
 same_value_self (truth false) = refl
-
-beq_self : (b : Bool) → beq b b ≡ true
-beq_self true = refl
-beq_self false = refl
 
 -- what is known where a local stands for the new constant of a sort, with one premise more
 abbrev assigned_new : Known → Sort → ℕ → ℕ → ℕ → Formula → Known
@@ -111,7 +106,7 @@ module _ (k : Known) (tys : List Ty) (vs : List Value) (typed : are_of tys vs �
       let t = term_of k.env e in
       let t_below = term_below (next_of k) k.env a.env_below e in
       let c_is = new_value a.m (next_of k) Whole (meaning v) sorted in
-      let t_is : logic.value_of m' t ≡ meaning v = value_kept a.m (next_of k) Whole (meaning v) sorted t t_below ∙ term_means a.m tys k.env vs typed a.means e h in
+      let t_is : logic.value_of m' t ≡ meaning v = value_kept a.m (next_of k) Whole (meaning v) sorted t t_below ∙ number_means a.m tys k.env vs typed a.means e h in
       agrees_new Whole x v sorted (k.next_whole + 1) k.next_truth (Same true (Const Whole k.next_whole) t) rises (omega arith)
       (omega arith, term_still_below (next_of k) (next_of (assign_whole k x t)) rises t t_below) (rw (c_is, t_is) (same_value_self (meaning v)))
     where
@@ -128,12 +123,11 @@ module _ (k : Known) (tys : List Ty) (vs : List Value) (typed : are_of tys vs �
       let f = formula_of k.env e in
       let f_below = formula_below (next_of k) k.env a.env_below e in
       let kept = True-kept a.m (next_of k) Truth (meaning v) sorted f f_below in
-      let c_tells = tells_is_true m' (Const Truth k.next_truth) v (new_value a.m (next_of k) Truth (meaning v) sorted) in
       let f_tells : Tells m' f (as_bool v) = (λ y. subst (λ (X : Type 0). X) (sym kept) ((tells e h).0 y), λ y. (tells e h).1 (subst (λ (X : Type 0). X) kept y)) in
-      let both = tells_same m' (is_true (Const Truth k.next_truth)) f (as_bool v) (as_bool v) c_tells f_tells in
+      let c_is : logic.value_of m' (Const Truth k.next_truth) ≡ truth (as_bool v) = new_value a.m (next_of k) Truth (meaning v) sorted ∙ ap meaning b in
       let next' = next_of (assign_truth k x f) in
-      agrees_new Truth x v sorted k.next_whole (k.next_truth + 1) (same_truth (is_true (Const Truth k.next_truth)) f) rises (omega arith)
-      (same_truth_below next' (is_true (Const Truth k.next_truth)) f (omega arith, tt) (still_below (next_of k) next' rises f f_below)) (both.0 (beq_self (as_bool v)))
+      agrees_new Truth x v sorted k.next_whole (k.next_truth + 1) (has_truth_of (Const Truth k.next_truth) f) rises (omega arith)
+      (truth_below next' (Const Truth k.next_truth) f (omega arith) (still_below (next_of k) next' rises f f_below)) (truth_agrees m' (Const Truth k.next_truth) f (as_bool v) c_is f_tells)
     where
       rises : (s : Sort) → next_of k s ≤ next_of (assign_truth k x (formula_of k.env e)) s
       rises Whole = omega arith

@@ -8,7 +8,7 @@ use Rattle.ss_core.specs.declared.names.Kind.TheVariants.{Assert}
 use Rattle.ss_core.specs.Tree.{ExprTree, StmtTree, AssignStmt, AssertStmt, PrintStmt, ReturnStmt, BodyTree, CoreTree}
 use Rattle.ss_logic.specs.declared.Sort.TheVariants.{Whole, Truth}
 use Rattle.ss_logic.specs.Logic.{Term, Num, Fixed, Const, Formula, Same, IsValid}
-use Rattle.ss_oblig.specs.Express.{is_whole, term_of, formula_of, same_truth, is_true}
+use Rattle.ss_oblig.specs.Express.{is_whole, term_of, formula_of, has_truth_of}
 
 -- what has to be shown for one check: its goal wherever the premises are true
 pub record Obligation : Type 0 where
@@ -52,7 +52,7 @@ assign_truth k x f = record {
   env = slice_set k.env x (Const Truth k.next_truth);
   next_whole = k.next_whole;
   next_truth = k.next_truth + 1;
-  premises = k.premises ++ same_truth (is_true (Const Truth k.next_truth)) f ∷ [];
+  premises = k.premises ++ has_truth_of (Const Truth k.next_truth) f ∷ [];
 }
 
 abbrev pub assign : Known → ℕ → ExprTree → Known

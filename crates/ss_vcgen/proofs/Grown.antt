@@ -6,7 +6,8 @@ use Rattle.ss_terms.specs.declared.forms.FormulaId.{FormulaId}
 use Rattle.ss_terms.specs.declared.forms.TermId.{TermId}
 use Rattle.ss_terms.specs.Forms.{Forms, term_at, terms_at, formula_at, formulas_at, HasTerms, HasFormula, HasFormulas, IsGrown, IsFormulaForm}
 use Rattle.ss_terms.proofs.Banks.{AreBelow-more, HasTerm-grown, HasFormula-grown}
-use Rattle.ss_oblig.specs.Express.{local_term, parts_of}
+use Rattle.ss_oblig.specs.Express.{local_term}
+use Rattle.ss_vcgen.specs.Chain.{parts_of}
 use Rattle.ss_vcgen.proofs.Chains.{list_back}
 use Rattle.ss_terms.specs.declared.forms.Formula.{Formula}
 use Rattle.ss_terms.specs.declared.forms.Formula.TheVariants.{And}

@@ -13,7 +13,7 @@ ghost use Rattle.ss_vcgen.specs.Numbers.{IsTerm, IsFormula, term_in, formula_in}
 ghost use Rattle.ss_vcgen.specs.Built.{trees, IsWithin};
 ghost use Rattle.ss_vcgen.specs.Builder.{known_of, term_here, formula_here, listed, IsFine};
 
-use crate::express::{equal, formula_of, is_true, is_whole, same_truth, term_of};
+use crate::express::{equal, formula_of, has_truth_of, is_whole, term_of};
 use crate::list::{Obligation, Obligations};
 use ss_core::{Body, BodyId, Core, Expr, Kind, Local, Place, Stmt, Ty};
 use ss_logic::Sort;
@@ -92,13 +92,12 @@ fn new_truth(
     requires { HasTerms bank.old env.now }
     ensures constant { IfOk result (λ p. IsTerm bank.new (Const sort.Truth number) p.0) }
     ensures same { IfOk result (λ p. IsFormula bank.new
-        (spec.same_truth (spec.is_true (Const sort.Truth number)) (formula_in bank.old env.now e.now)) p.1) }
+        (spec.has_truth_of (Const sort.Truth number) (formula_in bank.old env.now e.now)) p.1) }
     ensures grown { IsGrown bank.old bank.new }
 {
     let f = formula_of(bank, alloc, env, e)?;
     let constant = bank.term(Term::Constant(Sort::Truth, number))?;
-    let holds = is_true(bank, constant)?;
-    let same = same_truth(bank, alloc, holds, f)?;
+    let same = has_truth_of(bank, alloc, constant, f)?;
     Ok((constant, same))
 }
 

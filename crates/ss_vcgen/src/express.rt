@@ -1,13 +1,13 @@
 // The terms and formulas of expressions, where each local stands for a term.
 
-ghost use Rattle.std.specs.Prelude.{◌≡◌, pos, true, map, slice_get, IfOk, if◌then◌else◌, [], ◌∷◌};
+ghost use Rattle.std.specs.Prelude.{◌≡◌, ◌&&◌, pos, true, map, slice_get, IfOk, if◌then◌else◌, [], ◌∷◌};
 ghost use Rattle.ss_core.specs.View.{expr};
 ghost use Rattle.ss_logic.specs.declared.Sort.TheVariants.{Whole};
 ghost use Rattle.ss_logic.specs.Logic.{Num, same_sort, sort_of, Same, And, Or, no_more, more, formulas_from, neg};
 ghost use Rattle.ss_terms.specs.Forms.{term_at, terms_at, formula_at, formulas_at, HasTerm, HasTerms, HasFormula, HasFormulas, IsGrown};
 ghost use Rattle.ss_oblig.specs.Express as spec;
 ghost use Rattle.ss_vcgen.specs.Numbers.{IsTerm, IsFormula, term_in, formula_in};
-ghost use Rattle.ss_vcgen.specs.Chain.{joined};
+ghost use Rattle.ss_vcgen.specs.Chain.{is_chain, parts_of, operands_in, joined};
 
 use ss_core::Expr;
 use ss_logic::Sort;
@@ -77,7 +77,47 @@ pub fn is_whole(bank: &Bank, env: &[TermId], e: &Expr) -> bool
     }
 }
 
-/// The term of a number; an expression of truth values has none, and 0 stands for it.
+// Whether an expression is a literal or a local, which has a term.
+fn has_a_term(e: &Expr) -> bool
+    ensures { result ≡ spec.has_a_term (expr e.now) }
+{
+    match e {
+        Expr::Int(_, _) => true,
+        Expr::Bool(_, _) => true,
+        Expr::Local(_, _) => true,
+        Expr::Not(_, _) => false,
+        Expr::Equal(_, _, _) => false,
+        Expr::And(_, first, others) => others.is_empty() && has_a_term(first),
+    }
+}
+
+// Whether both have terms.
+fn have_terms(a: &Expr, b: &Expr) -> bool
+    ensures { result ≡ (spec.has_a_term (expr a.now) && spec.has_a_term (expr b.now)) }
+{
+    has_a_term(a) && has_a_term(b)
+}
+
+// Whether an expression is a chain `a && b`.
+fn is_chain(e: &Expr) -> bool
+    ensures { result ≡ is_chain (expr e.now) }
+{
+    match e {
+        Expr::Int(_, _) => false,
+        Expr::Bool(_, _) => false,
+        Expr::Local(_, _) => false,
+        Expr::Not(_, _) => false,
+        Expr::Equal(_, _, _) => false,
+        Expr::And(_, first, others) => {
+            if others.is_empty() {
+                return is_chain(first);
+            }
+            true
+        }
+    }
+}
+
+/// The term of a literal or a local; any other expression has none, and 0 stands for it.
 pub fn term_of(bank: &mut Bank, env: &[TermId], e: &Expr) -> Result<TermId, AllocError>
     requires { HasTerms bank.old env.now }
     ensures at { IfOk result (IsTerm bank.new (term_in bank.old env.now e.now)) }
@@ -85,7 +125,7 @@ pub fn term_of(bank: &mut Bank, env: &[TermId], e: &Expr) -> Result<TermId, Allo
 {
     match e {
         Expr::Int(_, n) => bank.term(Term::Number(*n as i128)),
-        Expr::Bool(_, _) => zero(bank),
+        Expr::Bool(_, b) => bank.term(Term::Truth(*b)),
         Expr::Local(_, x) => local_term(bank, env, *x),
         Expr::Not(_, _) => zero(bank),
         Expr::Equal(_, _, _) => zero(bank),
@@ -112,14 +152,24 @@ pub fn equal(bank: &mut Bank, left: TermId, right: TermId) -> Result<FormulaId, 
     })
 }
 
-/// The formula that says that a term is `true`.
-pub fn is_true(bank: &mut Bank, t: TermId) -> Result<FormulaId, AllocError>
+// The formula that says that a term is `true`.
+fn is_true(bank: &mut Bank, t: TermId) -> Result<FormulaId, AllocError>
     requires { HasTerm bank.old t }
     ensures at { IfOk result (IsFormula bank.new (spec.is_true (term_at bank.old t))) }
     ensures grown { IsGrown bank.old bank.new }
 {
     let yes = bank.term(Term::Truth(true))?;
     equal(bank, t, yes)
+}
+
+// The formula that says that a term is `false`.
+fn is_false(bank: &mut Bank, t: TermId) -> Result<FormulaId, AllocError>
+    requires { HasTerm bank.old t }
+    ensures at { IfOk result (IsFormula bank.new (spec.is_false (term_at bank.old t))) }
+    ensures grown { IsGrown bank.old bank.new }
+{
+    let no = bank.term(Term::Truth(false))?;
+    equal(bank, t, no)
 }
 
 // The formula that joins these.
@@ -156,7 +206,7 @@ fn always(bank: &mut Bank, alloc: Global, b: bool) -> Result<FormulaId, AllocErr
 fn both(bank: &mut Bank, alloc: Global, f: FormulaId, g: FormulaId) -> Result<FormulaId, AllocError>
     requires first { HasFormula bank.old f }
     requires second { HasFormula bank.old g }
-    ensures at { IfOk result (IsFormula bank.new (And (more (formula_at bank.old f) (more (formula_at bank.old g) no_more)))) }
+    ensures at { IfOk result (IsFormula bank.new (spec.both (formula_at bank.old f) (formula_at bank.old g))) }
     ensures grown { IsGrown bank.old bank.new }
 {
     let parts = vec![in alloc; f, g]?;
@@ -164,7 +214,7 @@ fn both(bank: &mut Bank, alloc: Global, f: FormulaId, g: FormulaId) -> Result<Fo
 }
 
 // The formula that says that one of two holds.
-fn one_of(
+fn either(
     bank: &mut Bank,
     alloc: Global,
     f: FormulaId,
@@ -172,42 +222,75 @@ fn one_of(
 ) -> Result<FormulaId, AllocError>
     requires first { HasFormula bank.old f }
     requires second { HasFormula bank.old g }
-    ensures at { IfOk result (IsFormula bank.new (Or (more (formula_at bank.old f) (more (formula_at bank.old g) no_more)))) }
+    ensures at { IfOk result (IsFormula bank.new (spec.either (formula_at bank.old f) (formula_at bank.old g))) }
     ensures grown { IsGrown bank.old bank.new }
 {
     let parts = vec![in alloc; f, g]?;
     any(bank, parts)
 }
 
-/// The formula that says that both hold, or neither.
-pub fn same_truth(
-    bank: &mut Bank,
-    alloc: Global,
-    f: FormulaId,
-    g: FormulaId,
-) -> Result<FormulaId, AllocError>
+// The formula that says that each of two implies the other.
+fn iff(bank: &mut Bank, alloc: Global, f: FormulaId, g: FormulaId) -> Result<FormulaId, AllocError>
     requires first { HasFormula bank.old f }
     requires second { HasFormula bank.old g }
-    ensures at { IfOk result (IsFormula bank.new (spec.same_truth (formula_at bank.old f) (formula_at bank.old g))) }
+    ensures at { IfOk result (IsFormula bank.new (spec.iff_formula (formula_at bank.old f) (formula_at bank.old g))) }
     ensures grown { IsGrown bank.old bank.new }
 {
-    let holding = both(bank, alloc, f, g)?;
     let not_f = bank.negation(f);
     let not_g = bank.negation(g);
-    let failing = both(bank, alloc, not_f, not_g)?;
-    one_of(bank, alloc, holding, failing)
+    let right = either(bank, alloc, not_f, g)?;
+    let left = either(bank, alloc, f, not_g)?;
+    both(bank, alloc, right, left)
+}
+
+/// The formula that says that a term is `true` where a formula is true, and `false` where it is not.
+pub fn has_truth_of(
+    bank: &mut Bank,
+    alloc: Global,
+    t: TermId,
+    f: FormulaId,
+) -> Result<FormulaId, AllocError>
+    requires term { HasTerm bank.old t }
+    requires formula { HasFormula bank.old f }
+    ensures at { IfOk result (IsFormula bank.new (spec.has_truth_of (term_at bank.old t) (formula_at bank.old f))) }
+    ensures grown { IsGrown bank.old bank.new }
+{
+    let not_f = bank.negation(f);
+    let yes = is_true(bank, t)?;
+    let no = is_false(bank, t)?;
+    let holding = both(bank, alloc, yes, f)?;
+    let failing = both(bank, alloc, no, not_f)?;
+    either(bank, alloc, holding, failing)
 }
 
 // What a conjunction joins; any other formula is its own part.
 fn parts_of(bank: &Bank, alloc: Global, f: FormulaId) -> Result<Vec<FormulaId>, AllocError>
     requires { HasFormula bank.now f }
     ensures in_bank { IfOk result (λ v. HasFormulas bank.now v.items) }
-    ensures at { IfOk result (λ v. formulas_at bank.now v.items ≡ spec.parts_of (formula_at bank.now f)) }
+    ensures at { IfOk result (λ v. formulas_at bank.now v.items ≡ parts_of (formula_at bank.now f)) }
 {
     match bank.formula_node(f) {
         Formula::And(parts) => Vec::from_slice(alloc, parts),
         Formula::Equal { .. } => Ok(vec![in alloc; f]?),
         Formula::Or(_) => Ok(vec![in alloc; f]?),
+    }
+}
+
+// The operands of an expression with this formula, which is a chain or none.
+fn operands(
+    bank: &Bank,
+    alloc: Global,
+    nested: bool,
+    f: FormulaId,
+) -> Result<Vec<FormulaId>, AllocError>
+    requires { HasFormula bank.now f }
+    ensures in_bank { IfOk result (λ v. HasFormulas bank.now v.items) }
+    ensures at { IfOk result (λ v. formulas_at bank.now v.items ≡ operands_in nested (formula_at bank.now f)) }
+{
+    if nested {
+        parts_of(bank, alloc, f)
+    } else {
+        Ok(vec![in alloc; f]?)
     }
 }
 
@@ -221,13 +304,8 @@ fn local_truth(bank: &mut Bank, env: &[TermId], x: usize) -> Result<FormulaId, A
     is_true(bank, t)
 }
 
-// The formula that says that two numbers are equal.
-fn equal_numbers(
-    bank: &mut Bank,
-    env: &[TermId],
-    a: &Expr,
-    b: &Expr,
-) -> Result<FormulaId, AllocError>
+// The formula that says that the terms of two are equal.
+fn equal_terms(bank: &mut Bank, env: &[TermId], a: &Expr, b: &Expr) -> Result<FormulaId, AllocError>
     requires { HasTerms bank.old env.now }
     ensures at { IfOk result (IsFormula bank.new (Same true (term_in bank.old env.now a.now) (term_in bank.old env.now b.now))) }
     ensures grown { IsGrown bank.old bank.new }
@@ -258,39 +336,40 @@ pub fn formula_of(
             Ok(bank.negation(f))
         }
         Expr::Equal(_, a, b) => {
-            if is_whole(bank, env, a) {
-                return equal_numbers(bank, env, a, b);
+            if have_terms(a, b) {
+                return equal_terms(bank, env, a, b);
             }
             let f = formula_of(bank, alloc, env, a)?;
             let g = formula_of(bank, alloc, env, b)?;
-            same_truth(bank, alloc, f, g)
+            iff(bank, alloc, f, g)
         }
         Expr::And(_, first, others) => {
             let f = formula_of(bank, alloc, env, first)?;
-            chain(bank, alloc, env, f, others)
+            chain(bank, alloc, env, is_chain(first), f, others)
         }
     }
 }
 
-// The formula of a chain, from that of its first operand.
+// The formula of a chain, from that of its first operand, which is a chain or none.
 #[cycle(formulas)]
 fn chain(
     bank: &mut Bank,
     alloc: Global,
     env: &[TermId],
+    nested: bool,
     f: FormulaId,
     others: &[Expr],
 ) -> Result<FormulaId, AllocError>
     requires terms { HasTerms bank.old env.now }
     requires first { HasFormula bank.old f }
     ensures at { IfOk result (IsFormula bank.new
-        (joined (formula_at bank.old f) (map (spec.formula_of (terms_at bank.old env.now)) (map expr others.now)))) }
+        (joined nested (formula_at bank.old f) (map (spec.formula_of (terms_at bank.old env.now)) (map expr others.now)))) }
     ensures grown { IsGrown bank.old bank.new }
 {
     if others.is_empty() {
         return Ok(f);
     }
-    let mut parts = parts_of(bank, alloc, f)?;
+    let mut parts = operands(bank, alloc, nested, f)?;
     for other in others {
         let g = formula_of(bank, alloc, env, other)?;
         parts.push(g)?;

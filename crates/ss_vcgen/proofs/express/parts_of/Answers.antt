@@ -1,7 +1,7 @@
 use Rattle.std.proofs.Common.{◌≡◌}
 use Rattle.std.proofs.lemmas.Result.{IfOk-weaker}
 use Rattle.ss_terms.specs.Forms.{HasFormulas, formula_at, formulas_at}
-use Rattle.ss_oblig.specs.Express.{parts_of}
+use Rattle.ss_vcgen.specs.Chain.{parts_of}
 use Rattle.ss_vcgen.proofs.Grown.{parts_within, parts_are}
 use Rattle.ss_vcgen.proofs.express.parts_of.Goals as goal
 

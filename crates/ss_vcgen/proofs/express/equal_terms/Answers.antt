@@ -1,6 +1,6 @@
 use Rattle.std.proofs.Common.{◌∙◌}
 use Rattle.ss_vcgen.proofs.Grown.{HasTerms-grown, terms_at-grown}
-use Rattle.ss_vcgen.proofs.express.equal_numbers.Goals as goal
+use Rattle.ss_vcgen.proofs.express.equal_terms.Goals as goal
 
 pub term_of-requires-2 : goal.term_of-requires-2
 term_of-requires-2 c = HasTerms-grown c.term_of.ensures.grown c.args.env.now c.requires
