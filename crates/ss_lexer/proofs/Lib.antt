@@ -7,3 +7,4 @@ pub mod Tables
 pub mod Forms
 pub mod Longest
 pub mod Progress
+pub mod Unique

@@ -7,7 +7,8 @@ use Rattle.std.proofs.lemmas.Bool.{eq-eqb, eqb-true}
 use Rattle.ss_ast.specs.declared.token.Symbol.{Symbol}
 use Rattle.ss_lexer.specs.declared.pieces.Form.{Form}
 use Rattle.ss_lexer.specs.declared.pieces.Form.TheVariants as form
-use Rattle.ss_lexer.specs.Lexemes.{is_letter, is_digit, is_blank, is_word_byte, stays_on_line, on_one_line, string_end, comment_end, look_up, symbols, first_beginning}
+use Rattle.ss_lexer.specs.Lexemes.{is_letter, is_digit, is_blank, is_word_byte, stays_on_line, on_one_line, string_end, comment_end, look_up, symbols}
+use Rattle.ss_lexer.specs.Fronts.{first_beginning}
 use Rattle.ss_lexer.specs.Pieces.{when, is_empty, string_form, comment_form, symbol_form, slash_form, form_of, IsFirst}
 use Rattle.ss_lexer.specs.Fronts.{StandsFirst, string_front, comment_front, symbol_front, slash_front, front_of}
 use Rattle.ss_lexer.proofs.Choice.{by_if, when_some, when_true, option_cases}

@@ -6,7 +6,8 @@ use Rattle.std.specs.Str.{bytes_eq}
 use Rattle.std.proofs.lemmas.List.{take-append-drop}
 use Rattle.std.proofs.lemmas.Bool.{and_parts, both_ways, leb-true, cases_Bool}
 use Rattle.std.proofs.lemmas.Slice.Eq.{bytes_eq-Decides}
-use Rattle.ss_lexer.specs.Lexemes.{look_up, first_beginning}
+use Rattle.ss_lexer.specs.Lexemes.{look_up}
+use Rattle.ss_lexer.specs.Fronts.{first_beginning}
 use Rattle.ss_lexer.proofs.Choice.{if_cases}
 
 -- no text is longer than one before it, and none is empty

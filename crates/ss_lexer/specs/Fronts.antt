@@ -1,11 +1,17 @@
 -- Where the first piece of a source ends, by its first byte.
 use Rattle.std.specs.Prelude.{ℕ, ◌+◌, ◌==◌, false, if◌then◌else◌, List, [], ◌∷◌, length, take, drop, Option, Some, None}
 use Rattle.std.specs.List.{prefix_len}
+use Rattle.std.specs.Str.{bytes_eq}
 use Rattle.ss_ast.specs.declared.token.Symbol.{Symbol}
 use Rattle.ss_lexer.specs.declared.pieces.Form.{Form}
 use Rattle.ss_lexer.specs.declared.pieces.Form.TheVariants as form
-use Rattle.ss_lexer.specs.Lexemes.{is_blank, is_digit, is_letter, is_word_byte, stays_on_line, comment_end, string_end, symbols, first_beginning}
+use Rattle.ss_lexer.specs.Lexemes.{is_blank, is_digit, is_letter, is_word_byte, stays_on_line, comment_end, string_end, symbols}
 use Rattle.ss_lexer.specs.Pieces.{IsFirst}
+
+-- the first of these texts that a source begins with, and its length
+abbrev pub first_beginning : {A : Type 0} → List (List ℕ × A) → List ℕ → Option (A × ℕ)
+first_beginning [] source = None
+first_beginning (e ∷ es) source = if bytes_eq e.0 (take (length e.0) source) then Some (e.1, length e.0) else first_beginning es source
 
 -- the piece at the front has n bytes
 abbrev pub StandsFirst : List ℕ → Form × ℕ → Type 0

@@ -101,7 +101,7 @@ abbrev pub look_up : {A : Type 0} → List (List ℕ × A) → List ℕ → Opti
 look_up [] text = None
 look_up (e ∷ es) text = if bytes_eq text e.0 then Some e.1 else look_up es text
 
--- the symbols, longer ones first
+-- the symbols
 unfoldable pub symbols : List (List ℕ × Symbol)
 symbols =
     (codes "<==>", symbol.Iff) ∷
@@ -181,8 +181,3 @@ words =
     (codes "exists", word.Exists) ∷
     (codes "in", word.In) ∷
     []
-
--- the first of these texts that a source begins with, and its length
-abbrev pub first_beginning : {A : Type 0} → List (List ℕ × A) → List ℕ → Option (A × ℕ)
-first_beginning [] source = None
-first_beginning (e ∷ es) source = if bytes_eq e.0 (take (length e.0) source) then Some (e.1, length e.0) else first_beginning es source

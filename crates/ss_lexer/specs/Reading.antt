@@ -68,3 +68,9 @@ abbrev pub Answers : List ℕ → Result (Vec Token Global) FrontStop → Type 0
 Answers bytes (Ok ts) = HasTokens bytes (toks ts.items)
 Answers bytes (Err (stop.Refused rule p)) = FaultAt rule p bytes
 Answers bytes (Err stop.Memory) = Unit {0}
+
+-- nothing else is answered where this is what the bytes are read as
+abbrev pub IsAnswer : Answer → Result (Vec Token Global) FrontStop → Type 0
+IsAnswer a (Ok ts) = a ≡ Ok (toks ts.items)
+IsAnswer a (Err (stop.Refused rule p)) = a ≡ Err (rule, p)
+IsAnswer a (Err stop.Memory) = Unit {0}

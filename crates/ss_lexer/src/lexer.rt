@@ -1,9 +1,9 @@
 // The tokens of a source.
 
-ghost use Rattle.std.specs.Prelude.{◌≡◌, ◌+◌, ◌<◌, ◌^◌, length, OnOk};
+ghost use Rattle.std.specs.Prelude.{ℕ, List, ◌≡◌, ◌+◌, ◌<◌, ◌^◌, length, OnOk};
 ghost use Rattle.ss_ast.specs.Tokens.{kind_of};
 ghost use Rattle.ss_lexer.specs.Pieces.{meaning, form_of};
-ghost use Rattle.ss_lexer.specs.Reading.{next_place, place_after, without_mark, Answers};
+ghost use Rattle.ss_lexer.specs.Reading.{next_place, place_after, without_mark, Answer, IsReadAs, IsAnswer, Answers};
 ghost use Rattle.ss_lexer.specs.Steps.{state, pushed, Took};
 
 use crate::meaning::{Meaning, TOO_LONG, ends_operand, is_minus, meaning_of};
@@ -116,10 +116,7 @@ impl Lexer {
     }
 }
 
-/// The tokens of a source. Refused comes with the first fault: rule 5 at 1:1 where there are more than `MAX_BYTES` bytes,
-/// and else rule 1 at a byte or a backslash that can't stand there, 2 and 3 where a comment or a string begins that isn't
-/// closed, and 4 at a number that is too large.
-pub fn tokens(alloc: Global, bytes: &[u8]) -> Result<Vec<Token>, FrontStop>
+fn read_tokens(alloc: Global, bytes: &[u8]) -> Result<Vec<Token>, FrontStop>
     ensures { Answers bytes.now result }
 {
     let start = Place { line: 1, column: 1 };
@@ -147,3 +144,18 @@ pub fn tokens(alloc: Global, bytes: &[u8]) -> Result<Vec<Token>, FrontStop>
         Err(_) => Err(FrontStop::Memory),
     }
 }
+
+/// The tokens of a source. Refused comes with the first fault: rule 5 at 1:1 where there are more than `MAX_BYTES` bytes,
+/// and else rule 1 at a byte or a backslash that can't stand there, 2 and 3 where a comment or a string begins that isn't
+/// closed, and 4 at a number that is too large.
+pub fn tokens(alloc: Global, bytes: &[u8]) -> Result<Vec<Token>, FrontStop>
+    ensures reads { Answers bytes.now result }
+    ensures only { (a : Answer) → IsReadAs bytes.now a → IsAnswer a result }
+{
+    read_tokens(alloc, bytes)
+}
+
+/// A law and no step of a program: bytes are read as one answer at most.
+pub fn one_answer()
+    ensures { (bytes : List ℕ) (a b : Answer) → IsReadAs bytes a → IsReadAs bytes b → a ≡ b }
+{}

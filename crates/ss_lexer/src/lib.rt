@@ -8,5 +8,7 @@ mod meaning;
 mod pieces;
 mod scans;
 mod spelling;
+#[cfg(test)]
+mod tests;
 
-pub use lexer::{MAX_BYTES, tokens};
+pub use lexer::{MAX_BYTES, one_answer, tokens};

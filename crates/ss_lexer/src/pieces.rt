@@ -1,7 +1,8 @@
 // The pieces of which a source is made.
 
 ghost use Rattle.std.specs.Prelude.{◌≡◌, ◌≤◌, ◌<◌, ◌∷◌, length, false};
-ghost use Rattle.ss_lexer.specs.Lexemes.{string_end, comment_end, first_beginning, symbols};
+ghost use Rattle.ss_lexer.specs.Lexemes.{string_end, comment_end, symbols};
+ghost use Rattle.ss_lexer.specs.Fronts.{first_beginning};
 ghost use Rattle.ss_lexer.specs.Fronts.{StandsFirst, front_of, string_front, comment_front, slash_front, symbol_front};
 
 use crate::scans::{

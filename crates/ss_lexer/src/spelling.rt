@@ -1,7 +1,8 @@
 // The spellings of symbols and reserved words.
 
 ghost use Rattle.std.specs.Prelude.{◌≡◌};
-ghost use Rattle.ss_lexer.specs.Lexemes.{first_beginning, look_up, symbols, words};
+ghost use Rattle.ss_lexer.specs.Lexemes.{look_up, symbols, words};
+ghost use Rattle.ss_lexer.specs.Fronts.{first_beginning};
 ghost use Rattle.ss_lexer.specs.Steps.{rows};
 
 use ss_ast::{Symbol, Word};

@@ -1,5 +1,5 @@
 use Rattle.std.proofs.Common.{◌≡◌, length}
-use Rattle.ss_lexer.specs.Lexemes.{first_beginning}
+use Rattle.ss_lexer.specs.Fronts.{first_beginning}
 use Rattle.ss_lexer.specs.Steps.{rows}
 use Rattle.ss_lexer.proofs.spelling.symbol_in.Given as goal
 
