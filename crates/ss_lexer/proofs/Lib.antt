@@ -1,0 +1,10 @@
+pub mod Choice
+pub mod Ends
+pub mod Texts
+pub mod Runs
+pub mod Closing
+pub mod Tables
+pub mod Forms
+pub mod Longest
+pub mod Progress
+pub mod Unique

@@ -1,0 +1,5 @@
+pub mod Lexemes
+pub mod Pieces
+pub mod Fronts
+pub mod Reading
+pub mod Steps
