@@ -40,14 +40,19 @@ never_fails c kind at steps safe failed = subst IsUnfailed failed (safe.unfailed
 pub told : (c : CoreTree) (os : List Obligation) (listed : List Countered) (old new : Option (List ℕ)) (source text : List ℕ) → Means source c → os ≡ obligations c → IsUnproved (obligations c) listed
     → text ≡ verdict_text c os listed → Grew old new text → IsToldUnproved listed old new source
 told c os listed old new source text means same unproved is took = record {
-  program = c; means = means; unproved = unproved;
+  program = c;
+  means = means;
+  unproved = unproved;
   took = subst (λ t. Grew old new t) (is ∙ ap (λ o. verdict_text c o listed) same) took;
 }
 
 pub told_in_part : (c : CoreTree) (os : List Obligation) (listed : List Countered) (old new : Option (List ℕ)) (source text : List ℕ) → Means source c → os ≡ obligations c → IsUnproved (obligations c) listed
     → text ≡ verdict_text c os listed → GrewByFront old new text → IsToldInPart old new source
 told_in_part c os listed old new source text means same unproved is front = record {
-  program = c; means = means; listed = listed; unproved = unproved;
+  program = c;
+  means = means;
+  listed = listed;
+  unproved = unproved;
   front = subst (λ t. GrewByFront old new t) (is ∙ ap (λ o. verdict_text c o listed) same) front;
 }
 
@@ -154,6 +159,7 @@ reads_only before now file name r named h = record {
   where
     differs_from : (other : List ℕ) → now other < before other → other ≢ name
     differs_from other less e = let l : before other ≤ now other = subst (λ n. before n ≤ now n) (sym e) h.later in omega arith
+
     falls : (other : List ℕ) → now other < before other → ⊥
     falls other less = let same : now other ≡ before other = h.others other (differs_from other less) in omega arith
 
@@ -161,5 +167,7 @@ pub reads_nothing : (before : List ℕ → ℕ) (file : Option (List ℕ)) → R
 reads_nothing before file = record { others = λ name differs. refl; later = λ name. omega arith }
 
 pub Says-not : (steps : ℕ) (old new : Option (List ℕ)) (st : Status) (told : Told) → OfSource told (Says steps old new st) → (st ≡ status.BadWords → ⊥) × (st ≡ status.ReadFault → ⊥)
-Says-not steps old new st told h = (λ e. nothing_in told (Says steps old new status.BadWords) ⊥ (λ source x. x) (subst (λ x. OfSource told (Says steps old new x)) e h),
-    λ e. nothing_in told (Says steps old new status.ReadFault) ⊥ (λ source x. x) (subst (λ x. OfSource told (Says steps old new x)) e h))
+Says-not steps old new st told h = (
+  λ e. nothing_in told (Says steps old new status.BadWords) ⊥ (λ source x. x) (subst (λ x. OfSource told (Says steps old new x)) e h),
+  λ e. nothing_in told (Says steps old new status.ReadFault) ⊥ (λ source x. x) (subst (λ x. OfSource told (Says steps old new x)) e h),
+)

@@ -6,3 +6,6 @@ mod top;
 mod words;
 
 pub use top::specsharp;
+
+#[cfg(test)]
+mod tests;

@@ -20,8 +20,10 @@ pub returns-in-Ok-clause-refused : goal.returns-in-Ok-clause-refused
 returns-in-Ok-clause-refused g c = rw (named g c) (Says-refused 1000000 (g.S.Sink.taken c.args.out.now) (g.S.Sink.taken c.run_source.new.out) c.run_source.result c.in-Some.name.now (g.F.Files.told c.args.files.now) (said g c))
 
 pub returns-in-Ok-clause-bad_words : goal.returns-in-Ok-clause-bad_words
-returns-in-Ok-clause-bad_words g c = (λ e. absurd ((Says-not 1000000 (g.S.Sink.taken c.args.out.now) (g.S.Sink.taken c.run_source.new.out) c.run_source.result (g.F.Files.told c.args.files.now c.in-Some.name.now) (said g c)).0 e),
-    λ e. let n = named g c in absurd (cc))
+returns-in-Ok-clause-bad_words g c = (
+  λ e. absurd ((Says-not 1000000 (g.S.Sink.taken c.args.out.now) (g.S.Sink.taken c.run_source.new.out) c.run_source.result (g.F.Files.told c.args.files.now c.in-Some.name.now) (said g c)).0 e),
+  λ e. let n = named g c in absurd (cc),
+)
 
 pub returns-in-Ok-clause-read_fault : goal.returns-in-Ok-clause-read_fault
 returns-in-Ok-clause-read_fault g c = λ e. absurd ((Says-not 1000000 (g.S.Sink.taken c.args.out.now) (g.S.Sink.taken c.run_source.new.out) c.run_source.result (g.F.Files.told c.args.files.now c.in-Some.name.now) (said g c)).1 e)

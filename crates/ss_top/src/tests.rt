@@ -1,0 +1,127 @@
+// The whole call over files and a sink in memory.
+
+use crate::specsharp;
+use ss_io::{MemFiles, MemSink};
+use ss_report::Status;
+use std::alloc::Global;
+use std::process::Abort;
+use std::test::Fail;
+
+const FIRST: &str =
+    "class P {\n  static void Main() {\n    int x = 3;\n    bool b = x == 3;\n    assert b && !(x == 4);\n    Console.WriteLine(x);\n    Console.WriteLine(b);\n  }\n}\n";
+
+const UNPROVED: &str =
+    "class P {\n  static void Main() {\n    int x = 3;\n    bool b = x == 3;\n    assert x == 4;\n    Console.WriteLine(x);\n    Console.WriteLine(b);\n  }\n}\n";
+
+/// The words of a command line, split at blanks.
+fn words_of(alloc: Global, line: &str) -> Result<Vec<String>, Fail> {
+    let mut words = Vec::new(alloc);
+    for word in line.split_whitespace() {
+        words.push(String::from_str(alloc, word)?)?;
+    }
+    Ok(words)
+}
+
+/// The number of the answer to a command line, where the file `a` holds these bytes, and what the sink then has taken.
+fn answer(alloc: Global, line: &str, bytes: &[u8], fail: Vec<u64>) -> Result<(u8, Vec<u8>), Fail> {
+    let file = (String::from_str(alloc, "a")?, bytes.to_vec(alloc)?);
+    let mut files = MemFiles::new(alloc, vec![in alloc; file]?, Vec::new(alloc));
+    let mut out = MemSink::new(alloc, fail);
+    let words = words_of(alloc, line)?;
+    let status = specsharp(alloc, &words, &mut files, &mut out);
+    Ok((status.number(), out.bytes().to_vec(alloc)?))
+}
+
+fn expect_answer(
+    rt: &impl Abort,
+    alloc: Global,
+    line: &str,
+    source: &str,
+    number: u8,
+    written: &str,
+) -> Result<(), Fail> {
+    let (status, bytes) = answer(alloc, line, source.as_bytes(), Vec::new(alloc))?;
+    assert_eq!(rt; status, number);
+    assert_eq!(rt; bytes.as_slice(), written.as_bytes());
+    Ok(())
+}
+
+#[test]
+fn programs_are_verified_and_run(rt: HostRuntime) -> Result<(), Fail> {
+    let alloc = rt.alloc();
+    expect_answer(&rt, alloc, "run a", FIRST, 0, "3\nTrue\n")?;
+    expect_answer(
+        &rt,
+        alloc,
+        "run a",
+        UNPROVED,
+        1,
+        "not proved: Assert at 5:5 in P.Main\n",
+    )?;
+    expect_answer(&rt, alloc, "run a", "class P { }", 4, "")
+}
+
+#[test]
+fn words_are_tested(rt: HostRuntime) -> Result<(), Fail> {
+    let alloc = rt.alloc();
+    expect_answer(&rt, alloc, "run b", FIRST, 3, "")?;
+    expect_answer(&rt, alloc, "run", FIRST, 2, "")?;
+    expect_answer(&rt, alloc, "run a b", FIRST, 2, "")?;
+    expect_answer(&rt, alloc, "run -x", FIRST, 2, "")?;
+    expect_answer(&rt, alloc, "verify a", FIRST, 2, "")?;
+    expect_answer(&rt, alloc, "", FIRST, 2, "")
+}
+
+#[test]
+fn a_failing_sink_has_taken_what_came_before(rt: HostRuntime) -> Result<(), Fail> {
+    let alloc = rt.alloc();
+    let source = b"class P { static void Main() { Console.WriteLine(1); Console.WriteLine(2); } }";
+    let (status, bytes) = answer(alloc, "run a", source, vec![in alloc; 1]?)?;
+    assert_eq!(rt; status, 5);
+    assert_eq!(rt; bytes.as_slice(), b"1\n".as_slice());
+    Ok(())
+}
+
+/// The rule and the place by which the file `a` is refused.
+fn refusal(alloc: Global, bytes: Vec<u8>) -> Result<Option<(u16, u32, u32)>, Fail> {
+    let file = (String::from_str(alloc, "a")?, bytes);
+    let mut files = MemFiles::new(alloc, vec![in alloc; file]?, Vec::new(alloc));
+    let mut out = MemSink::new(alloc, Vec::new(alloc));
+    let words = words_of(alloc, "run a")?;
+    match specsharp(alloc, &words, &mut files, &mut out) {
+        Status::SourceRefused { rule, place } => Ok(Some((rule, place.line, place.column))),
+        _ => Ok(None),
+    }
+}
+
+#[test]
+fn a_long_source_is_refused_as_such(rt: HostRuntime) -> Result<(), Fail> {
+    let alloc = rt.alloc();
+    assert_eq!(rt;
+        refusal(alloc, vec![in alloc; b' '; 1_048_577]?)?,
+        Some((5, 1, 1))
+    );
+    assert_eq!(rt;
+        refusal(alloc, vec![in alloc; b' '; 1_048_576]?)?,
+        Some((90, 1, 1))
+    );
+    assert_eq!(rt;
+        refusal(alloc, b"class P { }".to_vec(alloc)?)?,
+        Some((90, 1, 1))
+    );
+    Ok(())
+}
+
+#[test]
+fn a_megabyte_of_one_chain_is_run(rt: HostRuntime) -> Result<(), Fail> {
+    let alloc = rt.alloc();
+    let mut source = b"class P { static void Main() { bool b = true".to_vec(alloc)?;
+    for _ in 0..130_000 {
+        source.extend_from_slice(b" && true")?;
+    }
+    source.extend_from_slice(b"; Console.WriteLine(b); } }")?;
+    let (status, bytes) = answer(alloc, "run a", &source, Vec::new(alloc))?;
+    assert_eq!(rt; status, 0);
+    assert_eq!(rt; bytes.as_slice(), b"True\n".as_slice());
+    Ok(())
+}
