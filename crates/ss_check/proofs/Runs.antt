@@ -1,10 +1,10 @@
 -- Whole runs.
-use Rattle.std.proofs.Common.{◌≡◌, ℕ, ◌+◌, ◌*◌, ◌<◌, List, [], ◌∷◌, ◌++◌, length, map, take, drop, reverse, Bool, true, false, Option, Some, None, refl, sym, ◌∙◌, ap, arith, get_or, nat_lt}
+use Rattle.std.proofs.Common.{◌≡◌, ℕ, ◌+◌, ◌*◌, ◌<◌, List, [], ◌∷◌, ◌++◌, length, map, take, drop, reverse, Bool, true, false, Some, None, refl, sym, ◌∙◌, ap, arith, get_or, nat_lt}
 use Rattle.std.proofs.lemmas.List.{drop_more, drop-map, reverse-append, reverse-reverse, map_push, length_push, length-take-le}
 use Rattle.std.proofs.lemmas.Bool.{and_parts, ltb-true}
-use Rattle.std.specs.Prelude.{option_and_then, if◌then◌else◌}
+use Rattle.std.specs.Prelude.{if◌then◌else◌}
 use Rattle.ss_logic.specs.Logic.{Formula}
-use Rattle.ss_logic.specs.Steps.{State, Open, Between, add_fact, fact_of, step_open, step, bad_from, at_end, either_way, Nowhere, Line as TreeLine, Case as TreeCase, Cut as TreeCut, Swap as TreeSwap, Rule as TreeRule}
+use Rattle.ss_logic.specs.Steps.{State, Open, Between, add_fact, fact_of, step_open, step, bad_from, at_end, Nowhere, Case as TreeCase, Cut as TreeCut, Swap as TreeSwap, Rule as TreeRule}
 use Rattle.ss_terms.specs.declared.forms.TermId.{TermId}
 use Rattle.ss_terms.specs.declared.forms.FormulaId.{FormulaId}
 use Rattle.ss_terms.specs.declared.derivation.Line.{Line}
