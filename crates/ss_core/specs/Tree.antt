@@ -1,5 +1,5 @@
 -- Core programs as plain trees, which every definition speaks of.
-use Rattle.std.specs.Prelude.{ℕ, ℤ, Bool, List, Option, slice_get, ◌-◌, ◌/◌}
+use Rattle.std.specs.Prelude.{ℕ, ℤ, Bool, List, Option, None, slice_get, nat_le, ◌-◌, ◌/◌, ◌%◌, ◌==◌, ◌&&◌, if◌then◌else◌}
 use Rattle.ss_core.specs.declared.names.Place.{Place}
 use Rattle.ss_core.specs.declared.names.Ty.{Ty}
 
@@ -36,6 +36,10 @@ pub record CoreTree : Type 0 where
   pub bodies : List BodyTree
   pub main : ℕ
 
+-- the number of a declared class is 4 and twice its place, from 0
+abbrev pub is_class_number : ℕ → Bool
+is_class_number k = nat_le 4 k && (k - 4) % 2 == 0
+
 -- the name of a declared class, by its number
 abbrev pub class_name : CoreTree → ℕ → Option (List ℕ)
-class_name c k = slice_get c.classes ((k - 4) / 2)
+class_name c k = if is_class_number k then slice_get c.classes ((k - 4) / 2) else None

@@ -8,5 +8,6 @@ pub mod Spelling
 pub mod Locals
 pub mod Chains
 pub mod Views
+pub mod Ranges
 pub mod Elaborations
 pub mod Sources

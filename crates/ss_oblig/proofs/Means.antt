@@ -11,7 +11,7 @@ use Rattle.ss_core.specs.declared.program.Value.TheVariants as value
 use Rattle.ss_core.specs.Tree.{ExprTree, IntExpr, BoolExpr, LocalExpr, NotExpr, EqualExpr, AndExpr}
 use Rattle.ss_run.specs.Values as run
 use Rattle.ss_run.specs.Values.{as_bool}
-use Rattle.ss_run.specs.Formed.{has_type}
+use Rattle.ss_run.specs.Formed.{is_int, has_type}
 use Rattle.ss_run.specs.Safe.{is_of, are_of}
 use Rattle.ss_logic.specs.declared.Sort.{Sort}
 use Rattle.ss_logic.specs.declared.Sort.TheVariants.{Whole, Truth}
@@ -166,7 +166,7 @@ module _ (m : Structure) where
     whole_is (AndExpr at a b) h = absurd (false≢true (and_parts (has_type tys a ty.Bool && has_type tys b ty.Bool) false h).1)
 
     pub truth_is : (e : ExprTree) → has_type tys e ty.Bool ≡ true → is_whole env e ≡ false
-    truth_is (IntExpr at n) h = absurd (false≢true h)
+    truth_is (IntExpr at n) h = absurd (false≢true (and_parts (is_int n) false h).1)
     truth_is (BoolExpr at b) h = refl
     truth_is (LocalExpr at x) h =
         let b = bool_value (slice_index_or vs x (value.Int (pos 0))) (local_typed tys vs x ty.Bool typed h) in
@@ -210,7 +210,7 @@ module _ (m : Structure) where
 
     -- the formula of a truth value is true exactly where the value is
     pub formula_tells : (e : ExprTree) → has_type tys e ty.Bool ≡ true → Tells m (formula_of env e) (as_bool (run.value_of e vs))
-    formula_tells (IntExpr at n) h = absurd (false≢true h)
+    formula_tells (IntExpr at n) h = absurd (false≢true (and_parts (is_int n) false h).1)
     formula_tells (BoolExpr at true) h = (λ e. tt, λ t. refl)
     formula_tells (BoolExpr at false) h = (λ e. absurd (false≢true e), λ t. absurd (t tt))
     formula_tells (LocalExpr at x) h = tells_is_true (local_term env x) (slice_index_or vs x (value.Int (pos 0))) (local_means env vs x means)

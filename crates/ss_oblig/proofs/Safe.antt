@@ -7,7 +7,7 @@ use Rattle.ss_core.specs.declared.names.Ty.TheVariants as ty
 use Rattle.ss_core.specs.declared.program.Value.{Value}
 use Rattle.ss_core.specs.Tree.{ExprTree, StmtTree, AssignStmt, AssertStmt, PrintStmt, ReturnStmt, LocalTree, BodyTree, CoreTree}
 use Rattle.ss_run.specs.Values.{default_of, as_bool, value_of}
-use Rattle.ss_run.specs.Formed.{has_type, assigns, are_formed, types_of, IsFormed}
+use Rattle.ss_run.specs.Formed.{has_type, assigns, are_typed, types_of, IsFormed}
 use Rattle.ss_run.specs.Steps.{Frame, leave, act_first, State, Running, Done, Failed, then_is, step, entered, run}
 use Rattle.ss_run.specs.Safe.{are_of, IsUnfailed, IsSafe}
 use Rattle.ss_logic.specs.declared.Sort.{Sort}
@@ -149,10 +149,10 @@ module _ (c : CoreTree) where
   stand_act : (left : List StmtTree) (f : Frame) (fs : List Frame) (before : List ℕ) → Fits c left f → Stands left f → AllStand fs → Stand (then_is before (act_first left f fs))
   stand_act [] f fs before h s r = stand_left fs before r
   stand_act (AssignStmt at x e ∷ left) f fs before h s r =
-      let p = and_parts (assigns (types_of h.b) x e) (are_formed (types_of h.b) left) h.formed in
+      let p = and_parts (assigns (types_of h.b) x e) (are_typed (types_of h.b) left) h.formed in
       (record { k = assign s.k x e; agrees = agrees_assigned s.k (types_of h.b) f.locals h.typed s.agrees x e p.0; valid = s.valid }, r)
   stand_act (AssertStmt at e ∷ left) f fs before h s r =
-      let p = and_parts (has_type (types_of h.b) e ty.Bool) (are_formed (types_of h.b) left) h.formed in
+      let p = and_parts (has_type (types_of h.b) e ty.Bool) (are_typed (types_of h.b) left) h.formed in
       let t = s.valid.0 s.agrees.m s.agrees.premises_true in
       let passes = (tells s.k (types_of h.b) f.locals h.typed s.agrees e p.0).1 t in
       rw passes (record { k = assume s.k (formula_of s.k.env e); agrees = agrees_assumed s.k (types_of h.b) f.locals h.typed s.agrees e t; valid = s.valid.1 }, r)

@@ -9,7 +9,7 @@ use Rattle.ss_core.specs.declared.program.Value.{Value}
 use Rattle.ss_core.specs.declared.program.Value.TheVariants as value
 use Rattle.ss_core.specs.Tree.{ExprTree, IntExpr, BoolExpr, LocalExpr, NotExpr, EqualExpr, AndExpr}
 use Rattle.ss_run.specs.Values.{as_bool, value_of}
-use Rattle.ss_run.specs.Formed.{same_ty, is_local, has_type, assigns}
+use Rattle.ss_run.specs.Formed.{is_int, same_ty, is_local, has_type, assigns}
 use Rattle.ss_run.specs.Safe.{is_of, are_of}
 
 is_of_same : (s t : Ty) (v : Value) → same_ty s t ≡ true → is_of s v ≡ true → is_of t v ≡ true
@@ -27,7 +27,7 @@ local_typed (s ∷ tys) (v ∷ vs) (suc x) t a h = local_typed tys vs x t (and_p
 
 -- an expression of a type has a value of it
 pub value_typed : (tys : List Ty) (vs : List Value) (e : ExprTree) (t : Ty) → are_of tys vs ≡ true → has_type tys e t ≡ true → is_of t (value_of e vs) ≡ true
-value_typed tys vs (IntExpr at n) t a h = is_of_same ty.Int t (value.Int n) h refl
+value_typed tys vs (IntExpr at n) t a h = let p = and_parts (is_int n) (same_ty ty.Int t) h in is_of_same ty.Int t (value.Int n) p.1 p.0
 value_typed tys vs (BoolExpr at b) t a h = is_of_same ty.Bool t (value.Bool b) h refl
 value_typed tys vs (LocalExpr at x) t a h = local_typed tys vs x t a h
 value_typed tys vs (NotExpr at e) t a h = is_of_same ty.Bool t (value_of (NotExpr at e) vs) (and_parts (has_type tys e ty.Bool) (same_ty ty.Bool t) h).1 refl

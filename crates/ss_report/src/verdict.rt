@@ -1,10 +1,10 @@
 // The text of a verdict.
 
-ghost use Rattle.std.specs.Prelude.{◌≡◌, ◌++◌, ◌-◌, ◌/◌, List, IfOk, map, slice_get, string_bytes};
+ghost use Rattle.std.specs.Prelude.{◌≡◌, ◌++◌, ◌-◌, ◌/◌, List, None, if◌then◌else◌, IfOk, map, slice_get, string_bytes};
 ghost use Rattle.ss_terms.specs.declared.forms.FormulaId.{FormulaId};
 ghost use Rattle.ss_terms.specs.Forms.{Forms};
 ghost use Rattle.ss_core.specs.View.{core, body};
-ghost use Rattle.ss_core.specs.Tree.{CoreTree};
+ghost use Rattle.ss_core.specs.Tree.{CoreTree, is_class_number};
 ghost use Rattle.ss_vcgen.specs.Built.{trees, obligation_in};
 ghost use Rattle.ss_report.specs.Verdict.{verdict_text as verdict_of, line_of, line_at, or_nothing, class_of_body, name_of_body};
 
@@ -14,10 +14,21 @@ use ss_search::Countered;
 use ss_vcgen::{Obligation, Obligations};
 use std::alloc::{AllocError, Global};
 
-fn declared_name(names: &[String], class: u16) -> &str
-    ensures { result.now ≡ or_nothing (slice_get (map string_bytes names.now) ((class - 4) / 2)) }
+// Whether a number is that of a declared class.
+fn is_class_number(class: u16) -> bool
+    ensures { result ≡ is_class_number class }
 {
-    match names.get((class as usize).saturating_sub(4) / 2) {
+    class >= 4 && (class - 4) % 2 == 0
+}
+
+// The name of the declared class of this number, or nothing where there is none.
+fn declared_name(names: &[String], class: u16) -> &str
+    ensures { result.now ≡ or_nothing (if is_class_number class then slice_get (map string_bytes names.now) ((class - 4) / 2) else None) }
+{
+    if !is_class_number(class) {
+        return "";
+    }
+    match names.get((class as usize - 4) / 2) {
         Some(name) => name.as_str(),
         None => "",
     }

@@ -5,11 +5,12 @@ use Rattle.ss_core.specs.declared.names.Ty.TheVariants as ty
 use Rattle.ss_core.specs.declared.program.Value.{Value}
 use Rattle.ss_core.specs.declared.program.Value.TheVariants as value
 use Rattle.ss_core.specs.Tree.{BodyTree, CoreTree}
-use Rattle.ss_run.specs.Formed.{types_of}
+use Rattle.ss_run.specs.Formed.{is_int, types_of}
 use Rattle.ss_run.specs.Steps.{Frame, State, Running, Done, Failed, run}
 
+-- a value of the type, in its range
 abbrev pub is_of : Ty → Value → Bool
-is_of ty.Int (value.Int n) = true
+is_of ty.Int (value.Int n) = is_int n
 is_of ty.Bool (value.Bool b) = true
 is_of ty.Int (value.Bool b) = false
 is_of ty.Bool (value.Int n) = false

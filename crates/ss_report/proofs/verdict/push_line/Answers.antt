@@ -10,7 +10,7 @@ returns c =
     let o = c.args.obligations.now in
     let found : slice_get o.list.items c.args.number ≡ Some c.in-Some.obligation = ap (λ os. slice_get os c.args.number) (sym c.deref.ensures.value) ∙ sym c.obligation_at.ensures ∙ c.in-Some.is in
     rw (line_at-Some (core c.args.program.now) o.bank o.trail.items o.list.items c.args.number c.in-Some.obligation found)
-        (c.in_ok-push_str.ensures.bytes ∙ ap (λ t. string_bytes c.args.text.now ++ t) (c.deref-2.ensures ∙ c.in_ok-line.ensures o.bank o.trail.items))
+    (c.in_ok-push_str.ensures.bytes ∙ ap (λ t. string_bytes c.args.text.now ++ t) (c.deref-2.ensures ∙ c.in_ok-line.ensures o.bank o.trail.items))
 
 pub returns-in_default : goal.returns-in_default
 returns-in_default c =
