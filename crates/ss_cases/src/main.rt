@@ -31,7 +31,10 @@ fn is_expected(expected: &Expected, status: &Status, told: &str) -> bool {
 
 /// What a case was answered, where that isn't what is expected.
 fn difference(alloc: Global, case: &Case) -> Result<Option<String>, AllocError> {
-    let file = (String::from_str(alloc, "FILE")?, case.source.as_slice().to_vec(alloc)?);
+    let file = (
+        String::from_str(alloc, "FILE")?,
+        case.source.as_slice().to_vec(alloc)?,
+    );
     let mut files = MemFiles::new(alloc, vec![in alloc; file]?, Vec::new(alloc));
     let mut out = MemSink::new(alloc, Vec::new(alloc));
     let status = specsharp(alloc, &case.words, &mut files, &mut out);

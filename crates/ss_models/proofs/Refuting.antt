@@ -40,9 +40,9 @@ instances_true m seen [] = tt
 instances_true m seen (x ∷ xs) = ⊎_elim
     (λ yes. rw yes (instances_true m seen xs))
     (λ no. rw no (⊎_elim
-        (λ yes. rw yes (two_valued_true m x yes, instances_true m (x ∷ seen) xs))
-        (λ other. rw other (instances_true m seen xs))
-        (cases_Bool (is_truth_constant x))))
+    (λ yes. rw yes (two_valued_true m x yes, instances_true m (x ∷ seen) xs))
+    (λ other. rw other (instances_true m seen xs))
+    (cases_Bool (is_truth_constant x))))
     (cases_Bool (has_term seen x))
 
 -- a model of the premises and the denied goal is one of the ground form

@@ -13,8 +13,8 @@ proved c =
     let o = c.args.obligations.now in
     let none : length c.in-Ok.countered.items ≡ 0 = grind (arith, common_steps, c.in-Ok.countered.ok.0) in
     subst (λ os. AreProved os) c.requires.obligations
-        (decided_all_proved (trees o) (length o.list.items) c.in-Ok.countered.items (length-obligations_in o.bank o.trail.items o.list.items) (no_items c.in-Ok.countered.items none)
-            (rw (c.deref.ensures.value, c.deref-2.ensures.value) at c.in-Ok.ensures.decided))
+    (decided_all_proved (trees o) (length o.list.items) c.in-Ok.countered.items (length-obligations_in o.bank o.trail.items o.list.items) (no_items c.in-Ok.countered.items none)
+    (rw (c.deref.ensures.value, c.deref-2.ensures.value) at c.in-Ok.ensures.decided))
 
 pub returns-then-is_empty-clause-proved : goal.returns-then-is_empty-clause-proved
 returns-then-is_empty-clause-proved c = proved c
