@@ -113,7 +113,7 @@ module _ {T A B R : Type 0} (f : T → Option B) (join : A → B → R → A) wh
   pub times_up : (K : B → List T → R → Type 0) (k n : ℕ) (a : A) (ts : List T) (v : A) → Times f K join n a ts v → Times f K join (k + n) a ts v
   times_up K k n a ts v p = grown (λ n. Times f K join n a) (λ n ts v p. times_more K n a ts v p) k n ts v p
 
-module _ {T A B R : Type 0} (f : T → Option B) (join : A → B → R → A) (K : B → List T → R → Type 0) (first goes : T → Bool) (facts : (b : B) → Facts (K b) first goes false) (apart : (t : T) → goes t ≡ true → known (f t) ≡ true → ⊥) where
+module _ {T A B R : Type 0} (f : T → Option B) (join : A → B → R → A) (K : B → List T → R → Type 0) (first goes : T → Bool) (empty : Bool) (facts : (b : B) → Facts (K b) first goes empty) (apart : (t : T) → goes t ≡ true → known (f t) ≡ true → ⊥) where
   abbrev on : T → Bool
   on t = known (f t) || goes t
 
@@ -125,8 +125,8 @@ module _ {T A B R : Type 0} (f : T → Option B) (join : A → B → R → A) (K
   times_facts : (n : ℕ) (a : A) → Facts (Times f K join n a) (λ t. known (f t)) on true
   times_facts zero a = widen (Done a) no_token no_token (λ t. known (f t)) on true (λ t e. absurd cc) (λ t e. absurd cc) (done_facts a)
   times_facts (suc n) a =
-      let inner : (b : B) → Facts (Bind (K b) (λ r. Times f K join n (join a b r))) (λ t. first t || (false && known (f t))) (λ t. on t || (true && goes t)) (false && true) = λ b. bind_facts (K b) (λ r. Times f K join n (join a b r)) first goes (λ t. known (f t)) on false true (facts b) (λ r. times_facts n (join a b r)) apart in
-      widen (Times f K join (suc n) a) (λ t. known (f t)) (λ t. known (f t) || (on t || (true && goes t))) (λ t. known (f t)) on true (λ t e. e) (λ t e. wider_goes (known (f t)) (goes t) e) (maybe_facts f (λ b. Bind (K b) (λ r. Times f K join n (join a b r))) (λ t. first t || (false && known (f t))) (λ t. on t || (true && goes t)) (false && true) inner a)
+      let inner : (b : B) → Facts (Bind (K b) (λ r. Times f K join n (join a b r))) (λ t. first t || (empty && known (f t))) (λ t. on t || (true && goes t)) (empty && true) = λ b. bind_facts (K b) (λ r. Times f K join n (join a b r)) first goes (λ t. known (f t)) on empty true (facts b) (λ r. times_facts n (join a b r)) apart in
+      widen (Times f K join (suc n) a) (λ t. known (f t)) (λ t. known (f t) || (on t || (true && goes t))) (λ t. known (f t)) on true (λ t e. e) (λ t e. wider_goes (known (f t)) (goes t) e) (maybe_facts f (λ b. Bind (K b) (λ r. Times f K join n (join a b r))) (λ t. first t || (empty && known (f t))) (λ t. on t || (true && goes t)) (empty && true) inner a)
 
   both_at : (n m : ℕ) (a : A) (ts : List T) (v : A) → Times f K join m a ts v → Times f K join (n + m) a ts v
   both_at n m a ts v p = times_up f join K n m a ts v p
@@ -143,12 +143,16 @@ module _ {T A B R : Type 0} (f : T → Option B) (join : A → B → R → A) (K
     empties = λ v p. refl;
   }
 
-pub many_good : {T A B R : Type 0} (f : T → Option B) (join : A → B → R → A) (K : B → ℕ → List T → R → Type 0) (first goes : T → Bool) (facts : (b : B) → Facts (Any (K b)) first goes false) (grows : (b : B) → Grows (K b)) (apart : (t : T) → goes t ≡ true → known (f t) ≡ true → ⊥) (a : A) → Good (λ d. Many f (λ b. K b d) join a) (λ t. known (f t)) (λ t. known (f t) || goes t) true
-many_good f join K first goes facts grows apart a = record {
-  facts = narrow (Many f (λ b. Any (K b)) join a) (Any (λ d. Many f (λ b. K b d) join a)) (λ t. known (f t)) (λ t. known (f t) || goes t) true (λ ts v p. (p.1.0, times_in f join (λ b. K b p.0) (λ b. Any (K b)) (λ b ts v q. (p.0, q)) p.1.0 a ts v p.1.1)) (many_facts f join (λ b. Any (K b)) first goes facts apart a);
+pub many_good_of : {T A B R : Type 0} (f : T → Option B) (join : A → B → R → A) (K : B → ℕ → List T → R → Type 0) (first goes : T → Bool) (empty : Bool) (facts : (b : B) → Facts (Any (K b)) first goes empty) (grows : (b : B) → Grows (K b)) (apart : (t : T) → goes t ≡ true → known (f t) ≡ true → ⊥) (a : A) → Good (λ d. Many f (λ b. K b d) join a) (λ t. known (f t)) (λ t. known (f t) || goes t) true
+many_good_of f join K first goes empty facts grows apart a = record {
+  facts = narrow (Many f (λ b. Any (K b)) join a) (Any (λ d. Many f (λ b. K b d) join a)) (λ t. known (f t)) (λ t. known (f t) || goes t) true (λ ts v p. (p.1.0, times_in f join (λ b. K b p.0) (λ b. Any (K b)) (λ b ts v q. (p.0, q)) p.1.0 a ts v p.1.1)) (many_facts f join (λ b. Any (K b)) first goes empty facts apart a);
   grows = λ d ts v p. (p.0, times_in f join (λ b. K b d) (λ b. K b (suc d)) (λ b. grows b d) p.0 a ts v p.1);
   some = record { more = []; value = a; reads = (0, (refl, refl)) };
 }
+
+-- where each takes a token at least behind the one that is known
+pub many_good : {T A B R : Type 0} (f : T → Option B) (join : A → B → R → A) (K : B → ℕ → List T → R → Type 0) (first goes : T → Bool) (facts : (b : B) → Facts (Any (K b)) first goes false) (grows : (b : B) → Grows (K b)) (apart : (t : T) → goes t ≡ true → known (f t) ≡ true → ⊥) (a : A) → Good (λ d. Many f (λ b. K b d) join a) (λ t. known (f t)) (λ t. known (f t) || goes t) true
+many_good f join K first goes facts grows apart a = many_good_of f join K first goes false facts grows apart a
 
 -- one more turn is one of many
 pub many_from : {T A B R : Type 0} (f : T → Option B) (join : A → B → R → A) (K : B → List T → R → Type 0) (a : A) (ts : List T) (v : A) → Maybe f (λ b. Bind (K b) (λ r. Many f K join (join a b r))) a ts v → Many f K join a ts v

@@ -1,0 +1,14 @@
+pub mod Pieces
+pub mod Parts
+pub mod Openings
+pub mod Declarations
+pub mod Paths
+pub mod Starts
+pub mod Open
+pub mod Governed
+pub mod Statements
+pub mod Tied
+pub mod Written
+pub mod Told
+pub mod Productions
+pub mod Elses

@@ -1,0 +1,4 @@
+pub mod Heads
+pub mod Grammar
+pub mod Parser
+pub mod Written

@@ -1,0 +1,4 @@
+pub mod Collect
+pub mod Readers
+pub mod Terms
+pub mod Files

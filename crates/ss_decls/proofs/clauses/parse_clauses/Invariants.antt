@@ -1,0 +1,18 @@
+use Rattle.std.proofs.Common.{length, map, ◌≤◌, []}
+use Rattle.ss_syntax.specs.Heads.{pieces}
+use Rattle.ss_programs.specs.Heads.{clause_head}
+use Rattle.ss_programs.specs.Parser.{clause_behind}
+use Rattle.ss_ast.specs.Programs.{clause_tree}
+use Rattle.ss_grammar.specs.Reading.{times}
+use Rattle.ss_grammar.proofs.Turns.{Turns}
+use Rattle.ss_programs.specs.Grammar.{push_behind}
+use Rattle.ss_decls.proofs.clauses.parse_clauses.Given as goal
+
+abbrev pub invariant-loop-list : goal.invariant-loop-list
+invariant-loop-list l = record {
+  turns : Turns clause_head (clause_behind l.depth) push_behind (map clause_tree l.list.items) (pieces l.rest) (times clause_head (clause_behind l.depth) push_behind (length (pieces l.fn.tokens)) [] (pieces l.fn.tokens));
+  fewer : length l.rest ≤ length l.fn.tokens;
+}
+
+abbrev pub decreases-loop-list : goal.decreases-loop-list
+decreases-loop-list l = length l.rest

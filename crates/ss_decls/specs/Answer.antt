@@ -1,0 +1,46 @@
+-- What reading a program answers.
+use Rattle.std.specs.Prelude.{◌≡◌, ℕ, true, List, ◌++◌, ◌⊎◌, Result, Ok, Err}
+use Rattle.ss_core.specs.declared.names.FrontStop.{FrontStop}
+use Rattle.ss_core.specs.declared.names.FrontStop.TheVariants as front
+use Rattle.ss_ast.specs.declared.token.Symbol.TheVariants as symbol
+use Rattle.ss_ast.specs.declared.token.Token.{Token}
+use Rattle.ss_ast.specs.declared.class.Program.{Program}
+use Rattle.ss_ast.specs.Programs.{ClassTree, ProgramTree, program_tree}
+use Rattle.ss_grammar.specs.Language.{Starts, Ends, IsDeep}
+use Rattle.ss_syntax.specs.Heads.{Piece, is, the, pieces}
+use Rattle.ss_parser.specs.Answer.{first_place}
+use Rattle.ss_programs.specs.Again.{ahead}
+use Rattle.ss_programs.specs.Grammar as grammar
+
+-- a whole program that nests at most d deep
+abbrev pub IsProgram : ℕ → List Piece → ProgramTree → Type 0
+IsProgram d ts p = grammar.Program d ts p
+
+-- The tokens before `rest` are the start of a program. With the first of `rest` they are none, however deep it may be nested,
+-- and ts isn't a program.
+pub record Stopped (ts rest : List Piece) : Type 0 where
+  pub front : List Piece
+  pub parts : ts ≡ front ++ rest
+  pub starts : Starts (IsProgram 64) front
+  pub ends : (d : ℕ) → Ends (IsProgram d) front rest
+  pub none : (d : ℕ) (p : ProgramTree) → IsProgram d ts p → ⊥
+
+-- Before `rest` stand whole `using` lines and classes alone, so that a class could begin, and `rest` begins with a `}`.
+pub record AfterEnd (ts rest : List Piece) : Type 0 where
+  pub front : List Piece
+  pub parts : ts ≡ front ++ rest
+  pub level : ℕ
+  pub classes : List ClassTree
+  pub reads : grammar.Declarations level front classes
+  pub brace : ahead (is (the symbol.CloseBrace)) rest ≡ true
+
+-- Rule 12: a `}` where a class could begin. Rule 10: any other token with which no program goes on. Rule 11: with the first of
+-- `rest` only programs go on that nest deeper than 64.
+abbrev pub Refusal : ℕ → List Piece → List Piece → Type 0
+Refusal rule ts rest = ((rule ≡ 10) × Stopped ts rest × (AfterEnd ts rest → ⊥)) ⊎ (((rule ≡ 11) × IsDeep IsProgram 64 ts rest) ⊎ ((rule ≡ 12) × Stopped ts rest × AfterEnd ts rest))
+
+-- the program that all the tokens are, nested at most 64 deep; or the place of the first token that is refused
+abbrev pub ProgramAnswer : List Token → Result Program FrontStop → Type 0
+ProgramAnswer tokens (Ok p) = IsProgram 64 (pieces tokens) (program_tree p)
+ProgramAnswer tokens (Err (front.Refused rule place)) = (rest : List Piece) × (first_place rest ≡ place) × Refusal rule (pieces tokens) rest
+ProgramAnswer tokens (Err front.Memory) = Unit {0}

@@ -1,0 +1,4 @@
+pub mod Again
+pub mod Heads
+pub mod Grammar
+pub mod Parser

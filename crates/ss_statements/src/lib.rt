@@ -1,0 +1,19 @@
+//! Statements and blocks from tokens: the block, its tree, and the first token that cannot go on. The modules have the readers
+//! of their parts, for what stands above statements.
+#![tactic(auto)]
+
+mod blocks;
+pub mod build;
+pub mod declarations;
+mod exposes;
+mod governed;
+pub mod headings;
+pub mod heads;
+mod loops;
+pub mod posts;
+pub mod simples;
+pub mod statements;
+#[cfg(test)]
+mod tests;
+
+pub use blocks::parse_block;

@@ -1,0 +1,11 @@
+pub mod First
+pub mod Opening
+pub mod Knots
+pub mod Sets
+pub mod Levels
+pub mod Pieces
+pub mod Expressions
+pub mod Unaries
+pub mod Chains
+pub mod Whole
+pub mod Tied

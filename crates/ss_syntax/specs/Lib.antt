@@ -1,0 +1,4 @@
+pub mod First
+pub mod Heads
+pub mod Grammar
+pub mod Parser
