@@ -18,8 +18,16 @@ pub enum Expr {
     Local(Place, usize),
     Not(Place, Box<Expr>),
     Equal(Place, Box<Expr>, Box<Expr>),
+    /// `a != b`
+    Unequal(Place, Box<Expr>, Box<Expr>),
     /// A chain `a && b && ..`, grouped to the left: its first operand and the others.
     And(Place, Box<Expr>, Vec<Expr>),
+    /// A chain `a || b || ..`, grouped to the left: its first operand and the others.
+    Or(Place, Box<Expr>, Vec<Expr>),
+    /// `a ==> b`
+    Implies(Place, Box<Expr>, Box<Expr>),
+    /// `a <==> b`
+    Iff(Place, Box<Expr>, Box<Expr>),
 }
 
 /// A statement.
@@ -27,9 +35,15 @@ pub enum Expr {
 pub enum Stmt {
     Assign(Place, usize, Expr),
     Assert(Place, Expr),
+    Assume(Place, Expr),
     /// Prints the value and a line end.
     Print(Place, Expr),
-    Return(Place),
+    /// The test, what is done where it holds, and what is done otherwise.
+    If(Place, Expr, Vec<Stmt>, Vec<Stmt>),
+    /// A call of a static method: the local that gets the result, where it is kept, the method's body, and the arguments.
+    Call(Place, Option<usize>, BodyId, Vec<Expr>),
+    /// The return from a body, with the result where the body has one.
+    Return(Place, Option<Expr>),
 }
 
 /// A local of a body.
@@ -39,12 +53,18 @@ pub struct Local {
     pub ty: Ty,
 }
 
-/// A method's code.
+/// A method. Its locals are numbered from 0: first the parameters, then the others, and last the result, where there is one.
 #[derive(Debug, Drop)]
 pub struct Body {
     pub class: ClassId,
     pub name: String,
+    pub params: Vec<Local>,
     pub locals: Vec<Local>,
+    pub result: Option<Ty>,
+    /// The conditions at entry, which speak of the parameters.
+    pub entry: Vec<Expr>,
+    /// The conditions at exit, which speak of the parameters and the result.
+    pub exit: Vec<Expr>,
     pub code: Vec<Stmt>,
     pub place: Place,
 }

@@ -1,19 +1,31 @@
 // Frames of bodies that run, and the stack of them.
-ghost use Rattle.std.specs.Prelude.{◌≡◌, [], ◌∷◌, IfOk, MatchOption, map, slice_get, slice_set};
+ghost use Rattle.std.specs.Prelude.{◌≡◌, [], ◌∷◌, ◌++◌, IfOk, MatchOption, map, slice_get, slice_set};
+ghost use Rattle.ss_core.specs.Tree as tree;
+ghost use Rattle.ss_core.specs.Tree.{NoCode, Then, followed_by};
 ghost use Rattle.ss_core.specs.View as view;
 ghost use Rattle.ss_run.specs.Values as values;
-ghost use Rattle.ss_run.specs.Steps.{Running, entered, run};
+ghost use Rattle.ss_run.specs.Steps as steps;
+ghost use Rattle.ss_run.specs.Steps.{Running, run};
 ghost use Rattle.ss_machine.specs.Frames.{frame_of, all_frames};
 
 use crate::values;
-use ss_core::{BodyId, Core, Local, Stmt, Value};
+use ss_core::{Body, BodyId, Core, Local, Stmt, Ty, Value};
 use std::alloc::{AllocError, Global};
 
-// A body that runs: its number, its locals, and the statements that are left.
+// A body that runs: its number, its locals, the statements that are left of the innermost block, those behind that block and the
+// blocks around it, the innermost last, and the local of the caller that gets the result, where it is kept.
 #[derive(Drop)]
 pub struct CodeFrame<'a> {
     pub body: BodyId,
     pub locals: Vec<Value>,
+    pub code: &'a [Stmt],
+    pub later: Vec<Behind<'a>>,
+    pub into: Option<usize>,
+}
+
+// Statements behind a block.
+#[derive(Clone, Copy)]
+pub struct Behind<'a> {
     pub code: &'a [Stmt],
 }
 
@@ -24,42 +36,73 @@ pub struct Machine<'a> {
     pub below: Vec<CodeFrame<'a>>,
 }
 
-// The values of the locals of a body at its entry.
-fn first_values(alloc: Global, locals: &[Local]) -> Result<Vec<Value>, AllocError>
+// Adds what the locals hold before they are assigned.
+fn add_defaults(first: &mut Vec<Value>, locals: &[Local]) -> Result<(), AllocError>
     ensures { IfOk result
-        (λ v. v.items ≡ map (λ l. values.default_of l.ty) (map view.local_of locals.now)) }
+        (λ _. first.new.items ≡ first.old.items ++ map values.default_of (map (λ l. l.ty) (map view.local_of locals.now))) }
 {
-    let mut first = Vec::new(alloc);
     for local in locals {
         first.push(values::default_of(local.ty))?;
     }
-    Ok(first)
+    Ok(())
 }
 
-// A body at its entry; no statement is left where there is no such body.
-fn enter(alloc: Global, core: &Core, number: BodyId) -> Result<CodeFrame<'_>, AllocError>
+// Adds what the result holds before it is given, where there is a result.
+fn add_result(first: &mut Vec<Value>, result_type: Option<Ty>) -> Result<(), AllocError>
     ensures { IfOk result
-        (λ f. frame_of f ≡ entered number.0 (slice_get (view.core core.now).bodies number.0)) }
+        (λ _. first.new.items ≡ first.old.items ++ map values.default_of (tree.result_type result_type)) }
 {
-    let Some(body) = core.bodies.get(number.0 as usize) else {
-        return Ok(CodeFrame {
-            body: number,
-            locals: Vec::new(alloc),
-            code: &[],
-        });
-    };
+    if let Some(ty) = result_type {
+        first.push(values::default_of(ty))?;
+    }
+    Ok(())
+}
+
+// A body at its entry, where the parameters have these values.
+pub fn at_entry<'a>(
+    number: BodyId,
+    body: &'a Body,
+    args: Vec<Value>,
+    into: Option<usize>,
+) -> Result<CodeFrame<'a>, AllocError>
+    ensures { IfOk result
+        (λ f. frame_of f ≡ steps.frame_at_entry number.0 (view.body body.now) args.items into) }
+{
+    let alloc = *args.allocator();
+    let mut locals = args;
+    add_defaults(&mut locals, &body.locals)?;
+    add_result(&mut locals, body.result)?;
     Ok(CodeFrame {
         body: number,
-        locals: first_values(alloc, &body.locals)?,
+        locals,
         code: body.code.as_slice(),
+        later: Vec::new(alloc),
+        into,
     })
+}
+
+// Main at its entry; no statement is left where there is no such body.
+fn first_frame(alloc: Global, core: &Core) -> Result<CodeFrame<'_>, AllocError>
+    ensures { IfOk result
+        (λ f. frame_of f ≡ steps.first_frame core.now.main.0 (slice_get (view.core core.now).bodies core.now.main.0)) }
+{
+    match core.bodies.get(core.main.0 as usize) {
+        Some(body) => at_entry(core.main, body, Vec::new(alloc), None),
+        None => Ok(CodeFrame {
+            body: core.main,
+            locals: Vec::new(alloc),
+            code: &[],
+            later: Vec::new(alloc),
+            into: None,
+        }),
+    }
 }
 
 // The machine before the first step.
 pub fn start(alloc: Global, core: &Core) -> Result<Machine<'_>, AllocError>
     ensures { IfOk result (λ m. run (view.core core.now) 0 ≡ Running (all_frames m) []) }
 {
-    let top = enter(alloc, core, core.main)?;
+    let top = first_frame(alloc, core)?;
     Ok(Machine {
         top,
         below: Vec::new(alloc),
@@ -67,17 +110,38 @@ pub fn start(alloc: Global, core: &Core) -> Result<Machine<'_>, AllocError>
 }
 
 // Takes the first of the statements that are left.
+#[tactic(auto, using(crate::proofs::Blocks::left_push))]
 pub fn fetch<'a>(frame: &mut CodeFrame<'a>) -> Option<&'a Stmt>
-    ensures left { MatchOption result ((frame_of frame.old).left ≡ [])
-        (λ s. (frame_of frame.old).left ≡ view.stmt_of s.now ∷ (frame_of frame.new).left) }
+    ensures left { MatchOption result ((frame_of frame.old).left ≡ NoCode)
+        (λ s. (frame_of frame.old).left ≡ Then (view.stmt_of s.now) (frame_of frame.new).left) }
     ensures locals { frame.new.locals ≡ frame.old.locals }
     ensures body { frame.new.body ≡ frame.old.body }
+    ensures into { frame.new.into ≡ frame.old.into }
 {
-    let [first, others @ ..] = frame.code else {
-        return None;
-    };
-    frame.code = others;
-    Some(first)
+    loop {
+        if let [first, others @ ..] = frame.code {
+            frame.code = others;
+            return Some(first);
+        }
+        frame.code = frame.later.pop()?.code;
+    }
+}
+
+// Goes into a block.
+#[tactic(auto, using(crate::proofs::Blocks::left_push))]
+pub fn go_into<'a>(frame: &mut CodeFrame<'a>, block: &'a [Stmt]) -> Result<(), AllocError>
+    ensures left { IfOk result (λ _. (frame_of frame.new).left ≡ followed_by (view.block block.now) (frame_of frame.old).left) }
+    ensures locals { frame.new.locals ≡ frame.old.locals }
+    ensures body { frame.new.body ≡ frame.old.body }
+    ensures into { frame.new.into ≡ frame.old.into }
+{
+    if frame.code.is_empty() {
+        frame.code = block;
+        return Ok(());
+    }
+    frame.later.push(Behind { code: frame.code })?;
+    frame.code = block;
+    Ok(())
 }
 
 // Sets a local, where there is such a local.
@@ -87,4 +151,28 @@ pub fn set_local(locals: &mut Vec<Value>, x: usize, value: Value)
     if x < locals.len() {
         locals[x] = value;
     }
+}
+
+// Sets the local that gets a value, where one does.
+pub fn put(into: Option<usize>, value: Value, locals: &mut Vec<Value>)
+    ensures { locals.new.items ≡ steps.put into value locals.old.items }
+{
+    if let Some(x) = into {
+        set_local(locals, x, value);
+    }
+}
+
+// The number of the result among the locals of a body, where it has one.
+fn result_local(body: &Body) -> Option<usize>
+    ensures { result ≡ steps.result_local (view.body body.now) body.now.result }
+{
+    body.result?;
+    body.params.len().checked_add(body.locals.len())
+}
+
+// Sets the result of a body, where it has one.
+pub fn set_result(body: &Body, value: Value, locals: &mut Vec<Value>)
+    ensures { locals.new.items ≡ steps.last_locals (view.body body.now) value locals.old.items }
+{
+    put(result_local(body), value, locals);
 }

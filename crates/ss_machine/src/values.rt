@@ -2,7 +2,7 @@
 ghost use Rattle.std.specs.Prelude.{◌≡◌, IfOk, map, string_bytes};
 ghost use Rattle.ss_core.specs.View as view;
 ghost use Rattle.ss_run.specs.Values as values;
-ghost use Rattle.ss_machine.specs.Chains.{chain_value};
+ghost use Rattle.ss_machine.specs.Chains.{conjunction_value, disjunction_value};
 
 use ss_core::{Expr, Ty, Value};
 use std::alloc::{AllocError, Global};
@@ -59,14 +59,29 @@ pub fn eval(e: &Expr, locals: &[Value]) -> Value
             let right = eval(b, locals);
             Value::Bool(is_same(left, right))
         }
-        Expr::And(_, first, others) => eval_others(eval(first, locals), others, locals),
+        Expr::Unequal(_, a, b) => {
+            let left = eval(a, locals);
+            let right = eval(b, locals);
+            Value::Bool(!is_same(left, right))
+        }
+        Expr::And(_, first, others) => eval_conjuncts(eval(first, locals), others, locals),
+        Expr::Or(_, first, others) => eval_disjuncts(eval(first, locals), others, locals),
+        Expr::Implies(_, a, b) => {
+            let left = as_bool(eval(a, locals));
+            Value::Bool(!left || as_bool(eval(b, locals)))
+        }
+        Expr::Iff(_, a, b) => {
+            let left = as_bool(eval(a, locals));
+            let right = as_bool(eval(b, locals));
+            Value::Bool(left == right)
+        }
     }
 }
 
-// The value of a chain, from that of its first operand. Behind a false operand none is evaluated.
+// The value of a chain of `&&`, from that of its first operand. Behind a false operand none is evaluated.
 #[cycle(eval)]
-fn eval_others(first: Value, others: &[Expr], locals: &[Value]) -> Value
-    ensures { result ≡ chain_value first (map view.expr others.now) locals.now }
+fn eval_conjuncts(first: Value, others: &[Expr], locals: &[Value]) -> Value
+    ensures { result ≡ conjunction_value first (map view.expr others.now) locals.now }
 {
     let mut value = first;
     for e in others {
@@ -76,6 +91,44 @@ fn eval_others(first: Value, others: &[Expr], locals: &[Value]) -> Value
         value = Value::Bool(as_bool(eval(e, locals)));
     }
     value
+}
+
+// The value of a chain of `||`, from that of its first operand. Behind a true operand none is evaluated.
+#[cycle(eval)]
+fn eval_disjuncts(first: Value, others: &[Expr], locals: &[Value]) -> Value
+    ensures { result ≡ disjunction_value first (map view.expr others.now) locals.now }
+{
+    let mut value = first;
+    for e in others {
+        if as_bool(value) {
+            return Value::Bool(true);
+        }
+        value = Value::Bool(as_bool(eval(e, locals)));
+    }
+    value
+}
+
+// The values of expressions, from the left.
+pub fn eval_all(alloc: Global, es: &[Expr], locals: &[Value]) -> Result<Vec<Value>, AllocError>
+    ensures { IfOk result (λ v. v.items ≡ values.values_of (map view.expr es.now) locals.now) }
+{
+    let mut all = Vec::with_capacity(alloc, es.len())?;
+    for e in es {
+        all.push(eval(e, locals))?;
+    }
+    Ok(all)
+}
+
+// Whether each of the conditions is true.
+pub fn all_hold(conditions: &[Expr], locals: &[Value]) -> bool
+    ensures { result ≡ values.all_hold (map view.expr conditions.now) locals.now }
+{
+    for e in conditions {
+        if !as_bool(eval(e, locals)) {
+            return false;
+        }
+    }
+    true
 }
 
 // What a value is printed as, with the line end.

@@ -4,9 +4,9 @@ use Rattle.ss_core.specs.declared.names.Ty.{Ty}
 use Rattle.ss_core.specs.declared.names.Ty.TheVariants as ty
 use Rattle.ss_core.specs.declared.program.Value.{Value}
 use Rattle.ss_core.specs.declared.program.Value.TheVariants as value
-use Rattle.ss_core.specs.Tree.{BodyTree, CoreTree}
-use Rattle.ss_run.specs.Formed.{is_int, types_of}
-use Rattle.ss_run.specs.Steps.{Frame, State, Running, Done, Failed, run}
+use Rattle.ss_core.specs.Tree.{BodyTree, types_of, CoreTree}
+use Rattle.ss_run.specs.Formed.{is_int}
+use Rattle.ss_run.specs.Steps.{Frame, State, Running, Done, Failed, Stopped, run}
 
 -- a value of the type, in its range
 abbrev pub is_of : Ty → Value → Bool
@@ -36,12 +36,14 @@ abbrev pub IsGoodState : CoreTree → State → Type 0
 IsGoodState c (Running fs before) = AreGoodFrames c fs
 IsGoodState c (Done before) = Unit {0}
 IsGoodState c (Failed k at before) = Unit {0}
+IsGoodState c (Stopped at before) = Unit {0}
 
 -- no check has failed
 abbrev pub IsUnfailed : State → Type 0
 IsUnfailed (Running fs before) = Unit {0}
 IsUnfailed (Done before) = Unit {0}
 IsUnfailed (Failed k at before) = ⊥
+IsUnfailed (Stopped at before) = Unit {0}
 
 -- after every number of steps no check has failed and the state is good
 pub record IsSafe (c : CoreTree) : Type 0 where

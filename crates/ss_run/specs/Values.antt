@@ -1,5 +1,5 @@
 -- Values of expressions, and the texts that are printed of them.
-use Rattle.std.specs.Prelude.{ℕ, ℤ, pos, negsuc, Bool, true, false, not, ◌&&◌, ◌==◌, List, [], ◌∷◌, ◌++◌, codes}
+use Rattle.std.specs.Prelude.{ℕ, ℤ, pos, negsuc, Bool, true, false, not, ◌&&◌, ◌||◌, ◌==◌, List, [], ◌∷◌, ◌++◌, map, codes}
 use Rattle.std.specs.List.{slice_index_or}
 use Rattle.std.specs.Bool.{beq}
 use Rattle.std.specs.Fmt.{signed_decimal}
@@ -7,7 +7,7 @@ use Rattle.ss_core.specs.declared.names.Ty.{Ty}
 use Rattle.ss_core.specs.declared.names.Ty.TheVariants as ty
 use Rattle.ss_core.specs.declared.program.Value.{Value}
 use Rattle.ss_core.specs.declared.program.Value.TheVariants as value
-use Rattle.ss_core.specs.Tree.{ExprTree, IntExpr, BoolExpr, LocalExpr, NotExpr, EqualExpr, AndExpr}
+use Rattle.ss_core.specs.Tree.{ExprTree, IntExpr, BoolExpr, LocalExpr, NotExpr, EqualExpr, UnequalExpr, AndExpr, OrExpr, ImpliesExpr, IffExpr}
 
 -- what a local holds before it is assigned
 abbrev pub default_of : Ty → Value
@@ -38,7 +38,19 @@ value_of (BoolExpr at b) locals = value.Bool b
 value_of (LocalExpr at x) locals = slice_index_or locals x (value.Int (pos 0))
 value_of (NotExpr at e) locals = value.Bool (not (as_bool (value_of e locals)))
 value_of (EqualExpr at a b) locals = value.Bool (same_value (value_of a locals) (value_of b locals))
+value_of (UnequalExpr at a b) locals = value.Bool (not (same_value (value_of a locals) (value_of b locals)))
 value_of (AndExpr at a b) locals = value.Bool (as_bool (value_of a locals) && as_bool (value_of b locals))
+value_of (OrExpr at a b) locals = value.Bool (as_bool (value_of a locals) || as_bool (value_of b locals))
+value_of (ImpliesExpr at a b) locals = value.Bool (not (as_bool (value_of a locals)) || as_bool (value_of b locals))
+value_of (IffExpr at a b) locals = value.Bool (beq (as_bool (value_of a locals)) (as_bool (value_of b locals)))
+
+abbrev pub values_of : List ExprTree → List Value → List Value
+values_of es locals = map (λ e. value_of e locals) es
+
+-- each of these conditions is true
+abbrev pub all_hold : List ExprTree → List Value → Bool
+all_hold [] locals = true
+all_hold (e ∷ es) locals = as_bool (value_of e locals) && all_hold es locals
 
 -- a number in decimal, or `True` or `False`
 abbrev pub text_of : Value → List ℕ

@@ -2,7 +2,7 @@ use Rattle.std.proofs.Common.{◌≡◌, ◌+◌, suc, subst, arith}
 use Rattle.ss_core.specs.View as view
 use Rattle.ss_run.specs.Steps.{printed}
 use Rattle.ss_machine.specs.Frames.{all_frames}
-use Rattle.ss_machine.proofs.Runs.{Stands, stands_first, stands_more, done_at, done_took, failed_at, failed_took, halted_took, running_at, running_took}
+use Rattle.ss_machine.proofs.Runs.{Stands, stands_first, stands_more, done_at, done_took, failed_at, failed_took, stopped_at, stopped_took, halted_took, running_at, running_took}
 use Rattle.ss_machine.proofs.Taken.{front_whole}
 use Rattle.ss_machine.proofs.machine.run_checked.Goals as goal
 
@@ -64,6 +64,27 @@ returns-in-Fails-clause-front g c =
     let l = c.loop-count in
     let told = g.S.Sink.taken in
     front_whole (told c.args.out.now) (told c.step.new.out) (printed program c.args.steps) (failed_took program l.count (all_frames l.machine) (all_frames c.step.new.machine) (told c.args.out.now) (told l.out) (told c.step.new.out) l.invariant.stands c.args.steps c.in-Fails.kind c.in-Fails.place c.loop-count-test.true c.in-Fails.ensures.step)
+
+pub returns-in-Stops-clause-stopped : goal.returns-in-Stops-clause-stopped
+returns-in-Stops-clause-stopped g c =
+    let program = view.core c.args.core.now in
+    let l = c.loop-count in
+    let told = g.S.Sink.taken in
+    stopped_at program l.count (all_frames l.machine) (all_frames c.step.new.machine) (told c.args.out.now) (told l.out) (told c.step.new.out) l.invariant.stands c.args.steps c.in-Stops.place c.loop-count-test.true c.in-Stops.ensures.step
+
+pub returns-in-Stops-clause-printed : goal.returns-in-Stops-clause-printed
+returns-in-Stops-clause-printed g c =
+    let program = view.core c.args.core.now in
+    let l = c.loop-count in
+    let told = g.S.Sink.taken in
+    stopped_took program l.count (all_frames l.machine) (all_frames c.step.new.machine) (told c.args.out.now) (told l.out) (told c.step.new.out) l.invariant.stands c.args.steps c.in-Stops.place c.loop-count-test.true c.in-Stops.ensures.step
+
+pub returns-in-Stops-clause-front : goal.returns-in-Stops-clause-front
+returns-in-Stops-clause-front g c =
+    let program = view.core c.args.core.now in
+    let l = c.loop-count in
+    let told = g.S.Sink.taken in
+    front_whole (told c.args.out.now) (told c.step.new.out) (printed program c.args.steps) (stopped_took program l.count (all_frames l.machine) (all_frames c.step.new.machine) (told c.args.out.now) (told l.out) (told c.step.new.out) l.invariant.stands c.args.steps c.in-Stops.place c.loop-count-test.true c.in-Stops.ensures.step)
 
 pub returns-in-WriteFault-clause-front : goal.returns-in-WriteFault-clause-front
 returns-in-WriteFault-clause-front g c =
