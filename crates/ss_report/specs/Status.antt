@@ -1,5 +1,6 @@
 -- The lines of statuses.
 use Rattle.std.specs.Prelude.{ℕ, List, [], ◌++◌, codes, decimal}
+use Rattle.ss_core.specs.declared.names.Place.{Place}
 use Rattle.ss_report.specs.declared.status.Status.{Status}
 use Rattle.ss_report.specs.declared.status.Status.TheVariants as status
 use Rattle.ss_report.specs.Texts.{place_text}
@@ -14,6 +15,13 @@ status_number (status.SourceRefused rule at) = 4
 status_number status.WriteFault = 5
 status_number status.Memory = 6
 status_number status.StepsSpent = 9
+status_number (status.Stopped at) = 11
+
+abbrev pub refused_text : ℕ → Place → List ℕ
+refused_text rule at = codes "refused " ++ decimal rule ++ codes " at " ++ place_text at
+
+abbrev pub stopped_text : Place → List ℕ
+stopped_text at = codes "stopped at " ++ place_text at
 
 -- what is said of a status
 abbrev pub status_text : Status → List ℕ
@@ -21,7 +29,8 @@ status_text status.Ended = []
 status_text (status.Unproved listed) = codes "unproved"
 status_text status.BadWords = codes "bad words"
 status_text status.ReadFault = codes "read fault"
-status_text (status.SourceRefused rule at) = codes "refused " ++ decimal rule ++ codes " at " ++ place_text at
+status_text (status.SourceRefused rule at) = refused_text rule at
 status_text status.WriteFault = codes "write fault"
 status_text status.Memory = codes "out of memory"
 status_text status.StepsSpent = codes "steps spent"
+status_text (status.Stopped at) = stopped_text at

@@ -1,5 +1,5 @@
 -- The text of a verdict.
-use Rattle.std.specs.Prelude.{ℕ, List, [], ◌∷◌, ◌++◌, Option, Some, None, slice_get, codes}
+use Rattle.std.specs.Prelude.{ℕ, List, [], ◌∷◌, ◌++◌, Option, Some, None, slice_get}
 use Rattle.ss_core.specs.Tree.{BodyTree, CoreTree, class_name}
 use Rattle.ss_oblig.specs.Obligations.{Obligation}
 use Rattle.ss_search.specs.declared.model.Countered.{Countered}

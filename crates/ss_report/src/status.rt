@@ -1,7 +1,7 @@
 // How a run of the program ends.
 
 ghost use Rattle.std.specs.Prelude.{◌≡◌, IfOk, string_bytes};
-ghost use Rattle.ss_report.specs.Status.{status_text};
+ghost use Rattle.ss_report.specs.Status.{refused_text, stopped_text, status_text};
 
 use crate::texts::place_text;
 use ss_core::Place;
@@ -11,7 +11,7 @@ use std::alloc::{AllocError, Global};
 /// How a run of the program ends.
 #[derive(Debug, Drop)]
 pub enum Status {
-    /// The program was verified, and its run is done.
+    /// The command did its work: the program was verified, and where it was run, its run is done.
     Ended,
     /// These obligations aren't proved, each with a model that refutes its ground form.
     Unproved { countered: Vec<Countered> },
@@ -26,6 +26,8 @@ pub enum Status {
     Memory,
     /// The program was verified, and its run isn't done within the steps that it has.
     StepsSpent,
+    /// The program was verified, and its run stopped at an assumption that is false.
+    Stopped { place: Place },
 }
 
 impl Status {
@@ -44,8 +46,27 @@ impl Status {
             Status::WriteFault => 5,
             Status::Memory => 6,
             Status::StepsSpent => 9,
+            Status::Stopped { .. } => 11,
         }
     }
+}
+
+fn refused_line(alloc: Global, rule: u16, place: Place) -> Result<String, AllocError>
+    ensures { IfOk result (λ line. string_bytes line ≡ refused_text rule place) }
+{
+    let mut line = String::from_str(alloc, "refused ")?;
+    line.push_str(&rule.to_string(alloc)?)?;
+    line.push_str(" at ")?;
+    line.push_str(&place_text(alloc, place)?)?;
+    Ok(line)
+}
+
+fn stopped_line(alloc: Global, place: Place) -> Result<String, AllocError>
+    ensures { IfOk result (λ line. string_bytes line ≡ stopped_text place) }
+{
+    let mut line = String::from_str(alloc, "stopped at ")?;
+    line.push_str(&place_text(alloc, place)?)?;
+    Ok(line)
 }
 
 /// What is said of a status on standard error, without the line end; nothing of Ended.
@@ -57,15 +78,10 @@ pub fn status_line(alloc: Global, status: &Status) -> Result<String, AllocError>
         Status::Unproved { .. } => String::from_str(alloc, "unproved"),
         Status::BadWords => String::from_str(alloc, "bad words"),
         Status::ReadFault => String::from_str(alloc, "read fault"),
-        Status::SourceRefused { rule, place } => {
-            let mut line = String::from_str(alloc, "refused ")?;
-            line.push_str(&rule.to_string(alloc)?)?;
-            line.push_str(" at ")?;
-            line.push_str(&place_text(alloc, *place)?)?;
-            Ok(line)
-        }
+        Status::SourceRefused { rule, place } => refused_line(alloc, *rule, *place),
         Status::WriteFault => String::from_str(alloc, "write fault"),
         Status::Memory => String::from_str(alloc, "out of memory"),
         Status::StepsSpent => String::from_str(alloc, "steps spent"),
+        Status::Stopped { place } => stopped_line(alloc, *place),
     }
 }

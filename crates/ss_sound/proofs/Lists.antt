@@ -1,15 +1,16 @@
 -- Lists of obligations that are decided from the front.
-use Rattle.std.proofs.Common.{◌≡◌, ◌≢◌, ℕ, zero, suc, ◌+◌, ◌*◌, ◌<◌, ◌≤◌, List, [], ◌∷◌, ◌++◌, take, length, Some, refl, ap, ◌∙◌, subst, arith}
+use Rattle.std.proofs.Common.{◌≡◌, ◌≢◌, ℕ, zero, suc, ◌+◌, ◌-◌, ◌*◌, ◌<◌, ◌≤◌, List, [], ◌∷◌, ◌++◌, take, drop, length, Some, refl, sym, ap, ◌∙◌, subst, arith}
 use Rattle.std.specs.List.{slice_get, slice_index_or}
 use Rattle.ss_logic.proofs.Sound.{IsValid-Derives}
 use borrow.Author.Count.{below_more}
+use Rattle.std.proofs.lemmas.List.{drop-take}
 use Rattle.std.proofs.lemmas.Option.{slice_get_within}
 use Rattle.ss_terms.specs.declared.forms.FormulaId.{FormulaId}
 use Rattle.ss_terms.specs.Forms.{Forms, AreBelow, HasFormula, HasFormulas, IsGrown}
 use Rattle.ss_terms.proofs.Banks.{HasFormula-grown, formulas_at-grown}
 use Rattle.ss_oblig.specs.Obligations as oblig
 use Rattle.ss_vcgen.specs.declared.list.Obligation.{Obligation}
-use Rattle.ss_vcgen.specs.Built.{obligation_in, obligations_in, AreWithin}
+use Rattle.ss_vcgen.specs.Built.{obligation_in, obligations_in, IsPlaced, AreWithin}
 use Rattle.ss_search.specs.Countermodel.{model_of}
 use Rattle.ss_search.specs.declared.model.Countered.{Countered}
 use Rattle.ss_sound.specs.Verdicts.{IsProved, AreProved, IsRefutedBy, IsRefuted, AreRefuted, AreRisingFrom, IsNoneOf, AreDecided, IsUnproved, numbers_of}
@@ -19,10 +20,21 @@ AreBelow-take n zero fs h = tt
 AreBelow-take n (suc k) [] h = tt
 AreBelow-take n (suc k) (f ∷ fs) h = (h.0, AreBelow-take n k fs h.1)
 
+pub AreBelow-drop : (n k : ℕ) (fs : List FormulaId) → AreBelow n fs → AreBelow n (drop k fs)
+AreBelow-drop n zero fs h = h
+AreBelow-drop n (suc k) [] h = tt
+AreBelow-drop n (suc k) (f ∷ fs) h = AreBelow-drop n k fs h.1
+
+-- a part of a list, as code takes it
+pub part_is : (first end : ℕ) (fs : List FormulaId) → first ≤ end → take (end - first) (drop first fs) ≡ drop first (take end fs)
+part_is first end fs h =
+    let whole : first + (end - first) ≡ end = omega arith in
+    sym (subst (λ n. drop first (take n fs) ≡ take (end - first) (drop first fs)) whole (drop-take first (end - first) fs))
+
 -- the k-th obligation of a list within a bank
-pub within_at : (b : Forms) (n : ℕ) (os : List Obligation) (k : ℕ) (o : Obligation) → AreWithin b n os → slice_get os k ≡ Some o → HasFormula b o.goal × (o.premises ≤ n)
+pub within_at : (b : Forms) (n : ℕ) (os : List Obligation) (k : ℕ) (o : Obligation) → AreWithin b n os → slice_get os k ≡ Some o → IsPlaced b n o
 within_at b n [] k o h e = absurd (cc)
-within_at b n (x ∷ xs) zero o h e = let same : x ≡ o = cc in subst (λ y. HasFormula b y.goal × (y.premises ≤ n)) same h.0
+within_at b n (x ∷ xs) zero o h e = let same : x ≡ o = cc in subst (λ y. IsPlaced b n y) same h.0
 within_at b n (x ∷ xs) (suc k) o h e = within_at b n xs k o h.1 e
 
 pub obligation_at : (b : Forms) (trail : List FormulaId) (os : List Obligation) (k : ℕ) (o : Obligation) → slice_get os k ≡ Some o
@@ -109,20 +121,21 @@ slice_get-at (x ∷ xs) zero d h = refl
 slice_get-at (x ∷ xs) (suc k) d h = slice_get-at xs k d (omega arith)
 
 pub goal_at : (a b : Forms) (n : ℕ) (os : List Obligation) (k : ℕ) (d : Obligation) → IsGrown a b → AreWithin a n os → k < length os → HasFormula b (slice_index_or os k d).goal
-goal_at a b n os k d grown h small = HasFormula-grown a b grown (slice_index_or os k d).goal (within_at a n os k (slice_index_or os k d) h (slice_get-at os k d small)).0
+goal_at a b n os k d grown h small = HasFormula-grown a b grown (slice_index_or os k d).goal (within_at a n os k (slice_index_or os k d) h (slice_get-at os k d small)).goal
 
-pub premises_at : (a : Forms) (n : ℕ) (os : List Obligation) (k : ℕ) (d : Obligation) → AreWithin a n os → k < length os → (slice_index_or os k d).premises ≤ n
-premises_at a n os k d h small = (within_at a n os k (slice_index_or os k d) h (slice_get-at os k d small)).1
+pub placed_at : (a : Forms) (n : ℕ) (os : List Obligation) (k : ℕ) (d : Obligation) → AreWithin a n os → k < length os → IsPlaced a n (slice_index_or os k d)
+placed_at a n os k d h small = within_at a n os k (slice_index_or os k d) h (slice_get-at os k d small)
 
 -- an obligation says the same in a bank that has grown
 pub obligation_in-grown : (a b : Forms) (trail : List FormulaId) (o : Obligation) → IsGrown a b → HasFormulas a trail → HasFormula a o.goal → obligation_in b trail o ≡ obligation_in a trail o
 obligation_in-grown a b trail o grown has goal =
-    rw (formulas_at-grown a b grown (take o.premises trail) (AreBelow-take (length a.formulas * 2) o.premises trail has), grown.same_formulas o.goal goal) refl
+    let premises : HasFormulas a (drop o.first (take o.end trail)) = AreBelow-drop (length a.formulas * 2) o.first (take o.end trail) (AreBelow-take (length a.formulas * 2) o.end trail has) in
+    rw (formulas_at-grown a b grown (drop o.first (take o.end trail)) premises, grown.same_formulas o.goal goal) refl
 
 pub obligations_in-grown : (a b : Forms) (trail : List FormulaId) (n : ℕ) (os : List Obligation) → IsGrown a b → HasFormulas a trail → AreWithin a n os → obligations_in b trail os ≡ obligations_in a trail os
 obligations_in-grown a b trail n [] grown has within = refl
 obligations_in-grown a b trail n (x ∷ xs) grown has within =
-    let first = obligation_in-grown a b trail x grown has within.0.0 in let others = obligations_in-grown a b trail n xs grown has within.1 in cc
+    let first = obligation_in-grown a b trail x grown has within.0.goal in let others = obligations_in-grown a b trail n xs grown has within.1 in cc
 
 -- the next obligation of the list was decided, in a bank that has grown
 pub step_valid : (a b : Forms) (trail : List FormulaId) (os : List Obligation) (k : ℕ) (d : Obligation) (listed : List Countered) → IsGrown a b → HasFormulas a trail → AreWithin a (length trail) os → k < length os
@@ -130,7 +143,7 @@ pub step_valid : (a b : Forms) (trail : List FormulaId) (os : List Obligation) (
 step_valid a b trail os k d listed grown has within small h proved =
     let o : Obligation = slice_index_or os k d in
     let at : slice_get os k ≡ Some o = slice_get-at os k d small in
-    let goal : HasFormula a o.goal = (within_at a (length trail) os k o within at).0 in
+    let goal : HasFormula a o.goal = (within_at a (length trail) os k o within at).goal in
     decided_valid (obligations_in a trail os) k listed (obligation_in a trail o) h (obligation_at a trail os k o at) (subst IsProved (obligation_in-grown a b trail o grown has goal) proved)
 
 pub step_refuted : (a b : Forms) (trail : List FormulaId) (os : List Obligation) (k : ℕ) (d : Obligation) (listed : List Countered) (c : Countered) → IsGrown a b → HasFormulas a trail → AreWithin a (length trail) os → k < length os
@@ -138,7 +151,7 @@ pub step_refuted : (a b : Forms) (trail : List FormulaId) (os : List Obligation)
 step_refuted a b trail os k d listed c grown has within small h number refuted =
     let o : Obligation = slice_index_or os k d in
     let at : slice_get os k ≡ Some o = slice_get-at os k d small in
-    let goal : HasFormula a o.goal = (within_at a (length trail) os k o within at).0 in
+    let goal : HasFormula a o.goal = (within_at a (length trail) os k o within at).goal in
     decided_refuted (obligations_in a trail os) k listed c (obligation_in a trail o) h number (obligation_at a trail os k o at)
     (subst (λ x. IsRefutedBy (model_of c.model) x) (obligation_in-grown a b trail o grown has goal) refuted)
 

@@ -96,7 +96,7 @@ fn decide_all(
     Ok(listed)
 }
 
-// Decides an obligation whose premises are a front of the trail.
+// Decides an obligation whose premises are a part of the trail.
 fn decide_one(
     alloc: Global,
     bank: &mut Bank,
@@ -105,11 +105,12 @@ fn decide_one(
 ) -> Decision
     requires trail { HasFormulas bank.old trail.now }
     requires goal { HasFormula bank.old obligation.now.goal }
-    requires premises { obligation.now.premises ≤ length trail.now }
+    requires first { obligation.now.first ≤ obligation.now.end }
+    requires end { obligation.now.end ≤ length trail.now }
     ensures derived { IfDerived result (IsProved (obligation_in bank.old trail.now obligation.now)) }
     ensures refuted { IfRefuted result (λ m. IsRefutedBy (model_of m) (obligation_in bank.old trail.now obligation.now)) }
     ensures grown { IsGrown bank.old bank.new }
 {
-    let premises = &trail[..obligation.premises];
+    let premises = &trail[obligation.first..obligation.end];
     decide(alloc, bank, premises, obligation.goal)
 }

@@ -1,4 +1,10 @@
 pub mod Numbers
+pub mod Shapes
 pub mod Chain
+pub mod Guards
 pub mod Built
 pub mod Builder
+pub mod Conditions
+pub mod Calls
+pub mod Branches
+pub mod Bodies

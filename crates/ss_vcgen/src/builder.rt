@@ -1,245 +1,172 @@
-// The list of a body's obligations, built from the front.
+// A list under construction.
 
-ghost use Rattle.std.specs.Prelude.{◌≡◌, ℕ, pos, true, [], ◌∷◌, ◌++◌, ◌+◌, length, map, slice_set, IfOk, OnOk};
-ghost use Rattle.ss_core.specs.View as view;
-ghost use Rattle.ss_core.specs.View.{expr, block};
-ghost use Rattle.ss_core.specs.declared.names.Kind.TheVariants.{Assert};
-ghost use Rattle.ss_logic.specs.declared.Sort.TheVariants as sort;
-ghost use Rattle.ss_logic.specs.Logic.{Const, Same};
-ghost use Rattle.ss_terms.specs.Forms.{term_at, terms_at, formula_at, formulas_at, HasTerm, HasTerms, HasFormula, HasFormulas, IsGrown};
+ghost use Rattle.std.specs.Prelude.{◌≡◌, ◌+◌, [], ◌∷◌, IfOk, OnOk};
+ghost use Rattle.ss_logic.specs.Logic.{Same};
+ghost use Rattle.ss_terms.specs.Forms.{term_at, formula_at, HasTerm, HasFormula, IsGrown};
+ghost use Rattle.ss_core.specs.View.{expr};
 ghost use Rattle.ss_oblig.specs.Express as spec;
 ghost use Rattle.ss_oblig.specs.Obligations as tree;
-ghost use Rattle.ss_vcgen.specs.Numbers.{IsTerm, IsFormula, term_in, formula_in};
-ghost use Rattle.ss_vcgen.specs.Built.{trees, IsWithin};
-ghost use Rattle.ss_vcgen.specs.Builder.{known_of, term_here, formula_here, listed, IsFine};
+ghost use Rattle.ss_vcgen.specs.Guards.{guard_of};
+ghost use Rattle.ss_vcgen.specs.Numbers.{IsTerm, IsFormula, IsMeant, HasMeant, HasMeants, meant_in, meants_in, formula_in};
+ghost use Rattle.ss_vcgen.specs.Builder.{known_of, term_here, formula_here, goal_of, IsFine, Becomes, Asks};
 
-use crate::express::{equal, formula_of, has_truth_of, is_whole, term_of};
-use crate::list::{Obligation, Obligations};
-use ss_core::{Body, BodyId, Core, Expr, Kind, Local, Place, Stmt, Ty};
+use crate::express::{formula_of, is_whole, meant_of, term_of};
+use crate::formulas::{equal, has_truth_of};
+use crate::guard::{Guard, under};
+use crate::list::Obligation;
+use crate::meant::{Meant, stand_for};
+use ss_core::{BodyId, Expr, Kind, Place, Ty};
 use ss_logic::Sort;
 use ss_terms::{Bank, FormulaId, Term, TermId};
 use std::alloc::{AllocError, Global};
 
-/// A list under construction: the terms of the locals, the numbers of the next new constants, the premises so far and the
-/// obligations so far.
+/// A list under construction: what each local stands for, the guard of the position, the numbers of the next new constants, where
+/// the premises of the body begin in the trail, the premises so far and the obligations so far.
 #[derive(Drop)]
 pub(crate) struct Builder {
     pub(crate) alloc: Global,
     pub(crate) bank: Bank,
-    pub(crate) env: Vec<TermId>,
+    pub(crate) env: Vec<Meant>,
+    pub(crate) guard: Guard,
     pub(crate) next_whole: usize,
     pub(crate) next_truth: usize,
+    pub(crate) first: usize,
     pub(crate) trail: Vec<FormulaId>,
     pub(crate) list: Vec<Obligation>,
 }
 
-// The term of a local before it is assigned.
-fn default_term(bank: &mut Bank, ty: Ty) -> Result<TermId, AllocError>
-    ensures at { IfOk result (IsTerm bank.new (tree.default_term ty)) }
-    ensures grown { IsGrown bank.old bank.new }
+// The next number; past the largest one there is no memory for so many.
+pub(crate) fn after(number: usize) -> Result<usize, AllocError>
+    ensures { IfOk result (λ n. n ≡ number + 1) }
 {
-    match ty {
-        Ty::Int => bank.term(Term::Number(0)),
-        Ty::Bool => bank.term(Term::Truth(false)),
-    }
-}
-
-// The terms of the locals at entry.
-fn default_terms(
-    bank: &mut Bank,
-    alloc: Global,
-    locals: &[Local],
-) -> Result<Vec<TermId>, AllocError>
-    ensures in_bank { IfOk result (λ v. HasTerms bank.new v.items) }
-    ensures at { IfOk result (λ v. terms_at bank.new v.items
-        ≡ map (λ l. tree.default_term l.ty) (map view.local_of locals.now)) }
-{
-    let mut env = Vec::new(alloc);
-    for local in locals {
-        let t = default_term(bank, local.ty)?;
-        env.push(t)?;
-    }
-    Ok(env)
-}
-
-// The new whole number with this number, and the formula that says that it equals the expression.
-fn new_whole(
-    bank: &mut Bank,
-    env: &[TermId],
-    number: usize,
-    e: &Expr,
-) -> Result<(TermId, FormulaId), AllocError>
-    requires { HasTerms bank.old env.now }
-    ensures constant { IfOk result (λ p. IsTerm bank.new (Const sort.Whole number) p.0) }
-    ensures equal { IfOk result (λ p. IsFormula bank.new
-        (Same true (Const sort.Whole number) (term_in bank.old env.now e.now)) p.1) }
-    ensures grown { IsGrown bank.old bank.new }
-{
-    let t = term_of(bank, env, e)?;
-    let constant = bank.term(Term::Constant(Sort::Whole, number))?;
-    let equal = equal(bank, constant, t)?;
-    Ok((constant, equal))
-}
-
-// The new truth value with this number, and the formula that says that it is true exactly where the expression is.
-fn new_truth(
-    bank: &mut Bank,
-    alloc: Global,
-    env: &[TermId],
-    number: usize,
-    e: &Expr,
-) -> Result<(TermId, FormulaId), AllocError>
-    requires { HasTerms bank.old env.now }
-    ensures constant { IfOk result (λ p. IsTerm bank.new (Const sort.Truth number) p.0) }
-    ensures same { IfOk result (λ p. IsFormula bank.new
-        (spec.has_truth_of (Const sort.Truth number) (formula_in bank.old env.now e.now)) p.1) }
-    ensures grown { IsGrown bank.old bank.new }
-{
-    let f = formula_of(bank, alloc, env, e)?;
-    let constant = bank.term(Term::Constant(Sort::Truth, number))?;
-    let same = has_truth_of(bank, alloc, constant, f)?;
-    Ok((constant, same))
-}
-
-// The local stands for this term.
-fn stand_for(env: &mut Vec<TermId>, x: usize, t: TermId)
-    ensures { env.new.items ≡ slice_set env.old.items x t }
-{
-    if x < env.len() {
-        env[x] = t;
-    }
+    number.checked_add(1).ok_or(AllocError)
 }
 
 impl Builder {
-    // Before the first statement of a body.
-    fn enter(alloc: Global, body: &Body) -> Result<Builder, AllocError>
-        ensures fine { IfOk result IsFine }
-        ensures known { IfOk result (λ s. known_of s ≡ tree.at_entry (view.body body.now)) }
-        ensures listed { IfOk result (λ s. listed s ≡ []) }
+    // The formula of a condition, where the locals stand for these.
+    pub(crate) fn formula(&mut self, env: &[Meant], e: &Expr) -> Result<FormulaId, AllocError>
+        requires fine { IsFine self.old }
+        requires env { HasMeants self.old.bank env.now }
+        ensures at { IfOk result (IsFormula self.new.bank (formula_in self.old.bank env.now e.now)) }
+        ensures stays { IfOk result (λ _. Becomes self.old self.new (known_of self.old)) }
     {
-        let mut bank = Bank::new(alloc);
-        let env = default_terms(&mut bank, alloc, &body.locals)?;
-        Ok(Builder {
-            alloc,
-            bank,
-            env,
-            next_whole: 0,
-            next_truth: 0,
-            trail: Vec::new(alloc),
-            list: Vec::new(alloc),
-        })
+        formula_of(&mut self.bank, self.alloc, env, e)
     }
 
-    // A local gets a number.
-    fn assign_whole(&mut self, x: usize, e: &Expr) -> Result<(), AllocError>
+    // The formula of an expression of the body.
+    pub(crate) fn formula_here(&mut self, e: &Expr) -> Result<FormulaId, AllocError>
         requires { IsFine self.old }
-        ensures fine { OnOk result (IsFine self.new) }
-        ensures known { OnOk result (known_of self.new ≡ tree.assign_whole (known_of self.old) x (term_here self.old e.now)) }
-        ensures listed { OnOk result (listed self.new ≡ listed self.old) }
+        ensures at { IfOk result (IsFormula self.new.bank (formula_here self.old e.now)) }
+        ensures stays { IfOk result (λ _. Becomes self.old self.new (known_of self.old)) }
     {
-        let (constant, equal) = new_whole(&mut self.bank, &self.env, self.next_whole, e)?;
-        self.trail.push(equal)?;
-        self.next_whole += 1;
-        stand_for(&mut self.env, x, constant);
-        Ok(())
+        formula_of(&mut self.bank, self.alloc, &self.env, e)
     }
 
-    // A local gets a truth value.
-    fn assign_truth(&mut self, x: usize, e: &Expr) -> Result<(), AllocError>
+    // The next new constant of a type.
+    pub(crate) fn new_constant(&mut self, ty: Ty) -> Result<TermId, AllocError>
         requires { IsFine self.old }
-        ensures fine { OnOk result (IsFine self.new) }
-        ensures known { OnOk result (known_of self.new ≡ tree.assign_truth (known_of self.old) x (formula_here self.old e.now)) }
-        ensures listed { OnOk result (listed self.new ≡ listed self.old) }
+        ensures at { IfOk result (IsTerm self.new.bank (tree.new_term ty (known_of self.old))) }
+        ensures counts { IfOk result (λ _. Becomes self.old self.new (tree.with_new ty (known_of self.old))) }
     {
-        let (constant, same) = new_truth(
-            &mut self.bank,
-            self.alloc,
-            &self.env,
-            self.next_truth,
-            e,
-        )?;
-        self.trail.push(same)?;
-        self.next_truth += 1;
-        stand_for(&mut self.env, x, constant);
-        Ok(())
-    }
-
-    // A local gets a value.
-    fn assign(&mut self, x: usize, e: &Expr) -> Result<(), AllocError>
-        requires { IsFine self.old }
-        ensures fine { OnOk result (IsFine self.new) }
-        ensures known { OnOk result (known_of self.new ≡ tree.assign (known_of self.old) x (expr e.now)) }
-        ensures listed { OnOk result (listed self.new ≡ listed self.old) }
-    {
-        if is_whole(&self.bank, &self.env, e) {
-            self.assign_whole(x, e)
-        } else {
-            self.assign_truth(x, e)
+        match ty {
+            Ty::Int => {
+                let next = after(self.next_whole)?;
+                let t = self
+                    .bank
+                    .term(Term::Constant(Sort::Whole, self.next_whole))?;
+                self.next_whole = next;
+                Ok(t)
+            }
+            Ty::Bool => {
+                let next = after(self.next_truth)?;
+                let t = self
+                    .bank
+                    .term(Term::Constant(Sort::Truth, self.next_truth))?;
+                self.next_truth = next;
+                Ok(t)
+            }
         }
     }
 
-    // The obligation of an assert, which is a premise from then on.
-    fn add_assert(&mut self, body: BodyId, place: Place, e: &Expr) -> Result<(), AllocError>
-        requires { IsFine self.old }
-        ensures fine { OnOk result (IsFine self.new) }
-        ensures known { OnOk result (known_of self.new ≡ tree.assume (known_of self.old) (formula_here self.old e.now)) }
-        ensures listed { OnOk result (listed self.new
-            ≡ listed self.old ++ tree.assertion body.0 (known_of self.old) place (expr e.now) ∷ []) }
+    // One premise more, as it is.
+    pub(crate) fn add_premise(&mut self, f: FormulaId) -> Result<(), AllocError>
+        requires fine { IsFine self.old }
+        requires formula { HasFormula self.old.bank f }
+        ensures { OnOk result (Becomes self.old self.new (tree.with_premise (known_of self.old) (formula_at self.old.bank f))) }
     {
-        let goal = formula_of(&mut self.bank, self.alloc, &self.env, e)?;
-        let premises = self.trail.len();
+        self.trail.push(f)?;
+        Ok(())
+    }
+
+    // The formula, where the position is reached.
+    fn under(&mut self, f: FormulaId) -> Result<FormulaId, AllocError>
+        requires fine { IsFine self.old }
+        requires formula { HasFormula self.old.bank f }
+        ensures at { IfOk result (IsFormula self.new.bank (tree.under (guard_of self.old.guard) (formula_at self.old.bank f))) }
+        ensures stays { IfOk result (λ _. Becomes self.old self.new (known_of self.old)) }
+    {
+        under(&mut self.bank, self.alloc, self.guard, f)
+    }
+
+    // One premise more, where the position is reached.
+    pub(crate) fn assume(&mut self, f: FormulaId) -> Result<(), AllocError>
+        requires fine { IsFine self.old }
+        requires formula { HasFormula self.old.bank f }
+        ensures { OnOk result (Becomes self.old self.new (tree.assume (known_of self.old) (formula_at self.old.bank f))) }
+    {
+        let f = self.under(f)?;
+        self.add_premise(f)?;
+        Ok(())
+    }
+
+    // An obligation with this goal and the premises so far.
+    fn list_goal(
+        &mut self,
+        body: BodyId,
+        kind: Kind,
+        place: Place,
+        goal: FormulaId,
+    ) -> Result<(), AllocError>
+        requires fine { IsFine self.old }
+        requires formula { HasFormula self.old.bank goal }
+        ensures { OnOk result (Asks self.old self.new (known_of self.old)
+            (goal_of body.0 kind place (known_of self.old) (formula_at self.old.bank goal) ∷ [])) }
+    {
         self.list.push(Obligation {
-            premises,
+            first: self.first,
+            end: self.trail.len(),
             goal,
-            kind: Kind::Assert,
+            kind,
             place,
             body,
         })?;
-        self.trail.push(goal)?;
         Ok(())
     }
 
-    // The obligations of these statements.
-    fn add_all(&mut self, body: BodyId, code: &[Stmt]) -> Result<(), AllocError>
-        requires { IsFine self.old }
-        ensures fine { OnOk result (IsFine self.new) }
-        ensures listed { OnOk result (listed self.new
-            ≡ listed self.old ++ tree.obligations_from body.0 (known_of self.old) (block code.now)) }
+    // A check of the formula, with the premises so far.
+    pub(crate) fn ask(
+        &mut self,
+        body: BodyId,
+        kind: Kind,
+        place: Place,
+        f: FormulaId,
+    ) -> Result<(), AllocError>
+        requires fine { IsFine self.old }
+        requires formula { HasFormula self.old.bank f }
+        ensures { OnOk result (Asks self.old self.new (known_of self.old)
+            (tree.asks body.0 kind place (known_of self.old) (formula_at self.old.bank f) ∷ [])) }
     {
-        for statement in code {
-            match statement {
-                Stmt::Assign(_, x, e) => self.assign(*x, e)?,
-                Stmt::Assert(place, e) => self.add_assert(body, *place, e)?,
-                Stmt::Print(_, _) => {}
-                Stmt::Return(_) => return Ok(()),
-            }
-        }
+        let goal = self.under(f)?;
+        self.list_goal(body, kind, place, goal)?;
         Ok(())
     }
-}
 
-/// The obligations of a program's Main, in their order; there are none where the program has no Main. An error is want
-/// of memory.
-pub fn obligations(alloc: Global, core: &Core) -> Result<Obligations, AllocError>
-    ensures exact { IfOk result (λ o. trees o ≡ tree.obligations (view.core core.now)) }
-    ensures in_bank { IfOk result IsWithin }
-{
-    match core.bodies.get(core.main.0 as usize) {
-        Some(body) => {
-            let mut builder = Builder::enter(alloc, body)?;
-            builder.add_all(core.main, &body.code)?;
-            let Builder {
-                bank,
-                trail,
-                list,
-                ..
-            } = builder;
-            Ok(Obligations { bank, trail, list })
-        }
-        None => Ok(Obligations {
-            bank: Bank::new(alloc),
-            trail: Vec::new(alloc),
-            list: Vec::new(alloc),
-        }),
+    // A local stands for this.
+    pub(crate) fn set_local(&mut self, x: usize, meant: Meant)
+        requires fine { IsFine self.old }
+        requires meant { HasMeant self.old.bank meant }
+        ensures { Becomes self.old self.new (tree.set_local (known_of self.old) x (meant_in self.old.bank meant)) }
+    {
+        stand_for(&mut self.env, x, meant);
     }
 }

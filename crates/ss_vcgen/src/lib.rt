@@ -1,11 +1,21 @@
 //! The obligations of a core program, over a bank of terms and formulas.
 #![tactic(auto)]
 
+mod assigns;
+mod bodies;
+mod branches;
 mod builder;
+mod calls;
+mod conditions;
 mod express;
+mod formulas;
+mod guard;
 mod list;
+mod meant;
+mod shape;
+mod statements;
 #[cfg(test)]
 mod tests;
 
-pub use builder::obligations;
+pub use bodies::obligations;
 pub use list::{Obligation, Obligations};

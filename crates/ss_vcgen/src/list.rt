@@ -3,11 +3,12 @@
 use ss_core::{BodyId, Kind, Place};
 use ss_terms::{Bank, FormulaId};
 
-/// What has to be shown for one check: the goal, where the first so many formulas of the trail are true.
+/// What has to be shown for one check: the goal, where the premises are true. They are the formulas of the trail from the number
+/// `first` to before the number `end`.
 #[derive(Clone, Copy, Debug, PartialEq, Eq)]
 pub struct Obligation {
-    /// How many formulas of the trail are its premises.
-    pub premises: usize,
+    pub first: usize,
+    pub end: usize,
     /// What has to be true.
     pub goal: FormulaId,
     /// What the check is about.
@@ -18,12 +19,12 @@ pub struct Obligation {
     pub body: BodyId,
 }
 
-/// The obligations of a program, in their order. Each has for its premises a front of the one trail.
+/// The obligations of a program, in their order, body by body. Each has for its premises a part of the one trail.
 #[derive(Drop)]
 pub struct Obligations {
     /// The terms and formulas.
     pub bank: Bank,
-    /// What is known, in the order of the body.
+    /// What is known, in the order of the bodies.
     pub trail: Vec<FormulaId>,
     /// The obligations.
     pub list: Vec<Obligation>,

@@ -1,6 +1,6 @@
 use Rattle.std.proofs.Common.{length, refl}
 use Rattle.ss_terms.proofs.Banks.{HasFormulas-grown, IsGrown-then}
-use Rattle.ss_sound.proofs.Lists.{goal_at, premises_at, step_valid, step_refuted}
+use Rattle.ss_sound.proofs.Lists.{goal_at, placed_at, step_valid, step_refuted}
 use Rattle.ss_sound.proofs.verdict.decide_all.Goals as goal
 use Rattle.ss_sound.proofs.verdict.decide_all.Goals.{in-Derived, in-Refuted+in_ok-push-in-Refuted}
 
@@ -10,8 +10,11 @@ decide_one-requires-clause-trail c = HasFormulas-grown c.args.bank.now c.loop-nu
 pub decide_one-requires-clause-goal : goal.decide_one-requires-clause-goal
 decide_one-requires-clause-goal c = goal_at c.args.bank.now c.loop-number.bank (length c.args.trail.now) c.args.list.now c.loop-number.number _ c.loop-number.invariant.grown c.requires.list c.loop-number-test.true
 
-pub decide_one-requires-clause-premises : goal.decide_one-requires-clause-premises
-decide_one-requires-clause-premises c = premises_at c.args.bank.now (length c.args.trail.now) c.args.list.now c.loop-number.number _ c.requires.list c.loop-number-test.true
+pub decide_one-requires-clause-first : goal.decide_one-requires-clause-first
+decide_one-requires-clause-first c = (placed_at c.args.bank.now (length c.args.trail.now) c.args.list.now c.loop-number.number _ c.requires.list c.loop-number-test.true).first
+
+pub decide_one-requires-clause-end : goal.decide_one-requires-clause-end
+decide_one-requires-clause-end c = (placed_at c.args.bank.now (length c.args.trail.now) c.args.list.now c.loop-number.number _ c.requires.list c.loop-number-test.true).end
 
 pub loop-number-preserved : goal.loop-number-preserved
 loop-number-preserved c = record {

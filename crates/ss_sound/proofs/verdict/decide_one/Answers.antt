@@ -1,6 +1,15 @@
-use Rattle.std.proofs.Common.{◌*◌, length}
-use Rattle.ss_sound.proofs.Lists.{AreBelow-take}
+use Rattle.std.proofs.Common.{◌*◌, length, take}
+use Rattle.ss_sound.proofs.Lists.{AreBelow-take, AreBelow-drop, part_is}
 use Rattle.ss_sound.proofs.verdict.decide_one.Goals as goal
 
 pub decide-requires-clause-premises : goal.decide-requires-clause-premises
-decide-requires-clause-premises c = AreBelow-take (length c.args.bank.now.formulas * 2) c.args.obligation.now.premises c.args.trail.now c.requires.trail
+decide-requires-clause-premises c =
+    let bound = length c.args.bank.now.formulas * 2 in
+    rw (part_is c.args.obligation.now.first c.args.obligation.now.end c.args.trail.now c.requires.first)
+    (AreBelow-drop bound c.args.obligation.now.first (take c.args.obligation.now.end c.args.trail.now) (AreBelow-take bound c.args.obligation.now.end c.args.trail.now c.requires.trail))
+
+pub returns-clause-derived : goal.returns-clause-derived
+returns-clause-derived c = rw (part_is c.args.obligation.now.first c.args.obligation.now.end c.args.trail.now c.requires.first) at c.decide.ensures.derived
+
+pub returns-clause-refuted : goal.returns-clause-refuted
+returns-clause-refuted c = rw (part_is c.args.obligation.now.first c.args.obligation.now.end c.args.trail.now c.requires.first) at c.decide.ensures.refuted
