@@ -1,0 +1,18 @@
+-- Lists under names, and values of a list where there is one for each.
+use Rattle.std.specs.Prelude.{ℕ, List, [], ◌∷◌, Option, Some, None, if◌then◌else◌}
+use Rattle.std.specs.Str.{bytes_eq}
+
+abbrev pub and_first : {A : Type 0} → Option A → Option (List A) → Option (List A)
+and_first None others = None
+and_first (Some x) None = None
+and_first (Some x) (Some others) = Some (x ∷ others)
+
+-- what the function gives for each
+abbrev pub all_of : {X A : Type 0} → (X → Option A) → List X → Option (List A)
+all_of f [] = Some []
+all_of f (x ∷ xs) = and_first (f x) (all_of f xs)
+
+-- what stands under this name
+abbrev pub under : {A : Type 0} → List (List ℕ × A) → List ℕ → Option A
+under [] name = None
+under (entry ∷ entries) name = if bytes_eq name entry.0 then Some entry.1 else under entries name

@@ -1,0 +1,12 @@
+pub mod Collected
+pub mod Scopes
+pub mod Expressions
+pub mod Calls
+pub mod Statements
+pub mod Methods
+pub mod Elaborated
+pub mod Plain
+pub mod Answers
+pub mod Tables
+pub mod Views
+pub mod Surroundings
