@@ -26,6 +26,14 @@ fn tell<R: Eprint + AllocGlobal>(rt: &R, status: &Status) {
     }
 }
 
+// The answer where the words can't be had. One that isn't UTF-8 is no word of a command.
+fn without_words(error: &io::Error) -> Status {
+    match error.kind() {
+        io::ErrorKind::InvalidData => Status::BadWords,
+        _ => Status::Memory,
+    }
+}
+
 fn main(rt: HostRuntime) -> ExitCode {
     let status = match words(&rt) {
         Ok(words) => {
@@ -33,7 +41,7 @@ fn main(rt: HostRuntime) -> ExitCode {
             let mut out = RealOut::new(&rt);
             specsharp(rt.alloc(), &words, &mut files, &mut out)
         }
-        Err(_) => Status::Memory,
+        Err(error) => without_words(&error),
     };
     tell(&rt, &status);
     ExitCode::from(status.number())

@@ -1,2 +1,5 @@
+pub mod Sources
+pub mod Faults
+pub mod Meanings
 pub mod Whole
 pub mod Says

@@ -1,28 +1,32 @@
 -- What each answer says, from what the calls below promise.
-use Rattle.std.proofs.Common.{◌≡◌, ◌≢◌, ◌⊎◌, inl, inr, ⊎_elim, ℕ, ◌<◌, ◌≤◌, List, [], ◌++◌, length, Option, Some, None, refl, sym, ap, ◌∙◌, subst, arith}
+use Rattle.std.proofs.Common.{◌≡◌, ◌≢◌, ◌⊎◌, inl, inr, ⊎_elim, ℕ, ◌<◌, ◌≤◌, List, [], ◌++◌, Option, Some, None, Err, refl, sym, ap, ◌∙◌, subst, arith}
 use Rattle.std.proofs.lemmas.List.{append-nil}
 use Rattle.std.proofs.lemmas.Bool.{cases_lt}
-use Rattle.ss_core.specs.declared.names.FrontStop.{FrontStop}
-use Rattle.ss_core.specs.declared.names.FrontStop.TheVariants as front
-use Rattle.ss_first.specs.Syntax.{ProgramSyntax}
-use Rattle.ss_first.specs.Accepted.{Accepted, too_long, not_of_form}
 use Rattle.std.specs.Prelude.{Result}
 use Rattle.ss_io.specs.declared.outside.ReadStop.{ReadStop}
 use Rattle.ss_io.specs.Outside.{Told, Grew, GrewByFront, ReadCounts}
-use Rattle.ss_report.specs.declared.status.Status.{Status}
-use Rattle.ss_report.specs.declared.status.Status.TheVariants as status
-use Rattle.ss_top.proofs.Whole.{OfSource-map}
+use Rattle.ss_core.specs.declared.names.FrontStop.{FrontStop}
+use Rattle.ss_core.specs.declared.names.FrontStop.TheVariants as front
 use Rattle.ss_core.specs.declared.names.Kind.{Kind}
 use Rattle.ss_core.specs.declared.names.Place.{Place}
 use Rattle.ss_core.specs.Tree.{CoreTree}
-use Rattle.ss_run.specs.Steps.{State, Running, Done, Failed, run, printed}
+use Rattle.ss_run.specs.Steps.{run, printed}
 use Rattle.ss_run.specs.Safe.{IsSafe, IsUnfailed}
-use Rattle.ss_machine.specs.Ends.{IsRunning, IsDoneAt, HasFailed}
+use Rattle.ss_machine.specs.Ends.{IsRunning, IsDoneAt, HasFailed, HasStopped}
 use Rattle.ss_oblig.specs.Obligations.{Obligation, obligations}
 use Rattle.ss_search.specs.declared.model.Countered.{Countered}
 use Rattle.ss_sound.specs.Verdicts.{IsUnproved}
+use Rattle.ss_report.specs.declared.status.Status.{Status}
+use Rattle.ss_report.specs.declared.status.Status.TheVariants as status
 use Rattle.ss_report.specs.Verdict.{verdict_text}
-use Rattle.ss_top.specs.Answers.{OfSource, OfFile, Means, IsStop, IsDone, IsHeadline, HasRun, RunsOn, IsToldUnproved, HasRunInPart, IsToldInPart, IfRefused, IfUnproved, IsWrittenInPart, ReadsOnly, IsVerified, IsSilent, Says, answer_to}
+use Rattle.ss_top.specs.declared.words.Command.{Command}
+use Rattle.ss_top.specs.declared.words.Command.TheVariants as command
+use Rattle.ss_top.specs.Sources.{Means, IsStop, Gives}
+use Rattle.ss_top.specs.Answers.{OfSource, OfFile, IsDone, output, verified_line, IsHeadline, IsToldVerified, HasRun, RunsOn, StopsAt, IsToldUnproved, IsVerifiedInPart, IsToldInPart, IsWrittenInPart, IsVerify, IsRun, IfRefused, IfUnproved, IfStopped, ReadsOnly, IsVerified, IsSilent, HasEnded, Says, answer_to}
+use Rattle.ss_top.proofs.Whole.{OfSource-map}
+
+pub told_verified : (c : CoreTree) (old new : Option (List ℕ)) (source : List ℕ) → Means source c → IsSafe c → Grew old new verified_line → IsToldVerified old new source
+told_verified c old new source means safe took = record { program = c; means = means; safe = safe; took = took }
 
 pub has_run : (c : CoreTree) (k steps : ℕ) (old new : Option (List ℕ)) (source : List ℕ) → Means source c → IsSafe c → IsDoneAt c k steps → Grew old new (printed c steps) → HasRun steps old new source
 has_run c k steps old new source means safe done took = record { program = c; means = means; safe = safe; done = subst IsDone (sym done.stays) tt; took = took }
@@ -30,8 +34,11 @@ has_run c k steps old new source means safe done took = record { program = c; me
 pub runs_on : (c : CoreTree) (steps : ℕ) (old new : Option (List ℕ)) (source : List ℕ) → Means source c → IsSafe c → IsRunning (run c steps) → Grew old new (printed c steps) → RunsOn steps old new source
 runs_on c steps old new source means safe running took = record { program = c; means = means; safe = safe; running = running; took = took }
 
-pub has_run_in_part : (c : CoreTree) (steps : ℕ) (old new : Option (List ℕ)) (source : List ℕ) → Means source c → IsSafe c → GrewByFront old new (printed c steps) → HasRunInPart steps old new source
-has_run_in_part c steps old new source means safe front = record { program = c; means = means; safe = safe; front = front }
+pub stops_at : (c : CoreTree) (at : Place) (steps : ℕ) (old new : Option (List ℕ)) (source : List ℕ) → Means source c → IsSafe c → HasStopped c at steps → Grew old new (printed c steps) → StopsAt at steps old new source
+stops_at c at steps old new source means safe stopped took = record { program = c; means = means; safe = safe; stopped = stopped; took = took }
+
+pub verified_in_part : (c : CoreTree) (asked : Command) (steps : ℕ) (old new : Option (List ℕ)) (source : List ℕ) → Means source c → IsSafe c → GrewByFront old new (output asked steps c) → IsVerifiedInPart asked steps old new source
+verified_in_part c asked steps old new source means safe front = record { program = c; means = means; safe = safe; front = front }
 
 -- a safe program's run hasn't failed
 pub never_fails : (c : CoreTree) (kind : Kind) (at : Place) (steps : ℕ) → IsSafe c → HasFailed c kind at steps → ⊥
@@ -61,80 +68,98 @@ pub grew_nothing : (taken : Option (List ℕ)) → Grew taken taken []
 grew_nothing None = refl
 grew_nothing (Some bytes) = ap Some (sym (append-nil bytes))
 
-abbrev rule_of : FrontStop → ℕ
-rule_of (front.Refused rule at) = rule
-rule_of front.Memory = 0
-
-five_is_not_ninety : (m n : ℕ) → m ≡ 5 → n ≡ 90 → m ≡ n → ⊥
-five_is_not_ninety m n five ninety e = omega arith
-
-apart : (stop : FrontStop) → stop ≡ too_long → stop ≡ not_of_form → ⊥
-apart stop a b = five_is_not_ninety (rule_of too_long) (rule_of not_of_form) refl refl (ap rule_of (sym a ∙ b))
-
--- where the reader refuses a source, it names the first fault
-pub refused_says : (steps : ℕ) (taken : Option (List ℕ)) (source : List ℕ) (stop : FrontStop) → (1048576 < length source → stop ≡ too_long) → (stop ≡ too_long → 1048576 < length source)
-    → (stop ≡ not_of_form → (p : ProgramSyntax) → Accepted source p → ⊥) → (stop ≡ too_long) ⊎ (stop ≡ not_of_form) ⊎ (stop ≡ front.Memory) → Says steps taken taken (answer_to stop) source
-refused_says steps taken source front.Memory long short none only = inl (grew_nothing taken)
-refused_says steps taken source (front.Refused rule at) long short none only =
-    (⊎_elim (λ a. inl (short a, a)) (λ others. ⊎_elim (λ b. inr (not_long b, none b, b)) (λ memory. absurd (cc)) others) only, grew_nothing taken)
-  where
-    not_long : front.Refused rule at ≡ not_of_form → length source ≤ 1048576
-    not_long b = ⊎_elim (λ above. absurd (apart (front.Refused rule at) (long above) b)) (λ below. below) (cases_lt 1048576 (length source))
+-- the answer to what reading a source answered
+pub refused_says : (steps : ℕ) (taken : Option (List ℕ)) (c : Command) (source : List ℕ) (stop : FrontStop) → Gives source (Err stop) → Says steps taken taken (answer_to stop) c source
+refused_says steps taken c source front.Memory h = inl (grew_nothing taken)
+refused_says steps taken c source (front.Refused rule at) h = (h, grew_nothing taken)
 
 -- ---- from what an answer says to the single facts
 
-pub Says-refused : (steps : ℕ) (old new : Option (List ℕ)) (st : Status) (name : List ℕ) (told : List ℕ → Told) → OfSource (told name) (Says steps old new st)
-    → IfRefused st (λ stop. OfFile (Some name) told (λ source. IsStop source stop))
-Says-refused steps old new (status.SourceRefused rule at) name told h = OfSource-map (told name) (Says steps old new (status.SourceRefused rule at)) (λ source. IsStop source (front.Refused rule at)) (λ source x. x.0) h
-Says-refused steps old new status.Ended name told h = tt
-Says-refused steps old new status.StepsSpent name told h = tt
-Says-refused steps old new (status.Unproved listed) name told h = tt
-Says-refused steps old new status.WriteFault name told h = tt
-Says-refused steps old new status.Memory name told h = tt
-Says-refused steps old new status.BadWords name told h = tt
-Says-refused steps old new status.ReadFault name told h = tt
+pub Says-refused : (steps : ℕ) (old new : Option (List ℕ)) (st : Status) (c : Command) (name : List ℕ) (told : List ℕ → Told) → OfSource (told name) (Says steps old new st c)
+    → IfRefused st (λ rule at. OfFile (Some (c, name)) told (λ _ source. IsStop source rule at))
+Says-refused steps old new status.Ended c name told h = tt
+Says-refused steps old new status.StepsSpent c name told h = tt
+Says-refused steps old new (status.Stopped at) c name told h = tt
+Says-refused steps old new (status.Unproved listed) c name told h = tt
+Says-refused steps old new (status.SourceRefused rule at) c name told h = OfSource-map (told name) (Says steps old new (status.SourceRefused rule at) c) (λ source. IsStop source rule at) (λ source x. x.0) h
+Says-refused steps old new status.WriteFault c name told h = tt
+Says-refused steps old new status.Memory c name told h = tt
+Says-refused steps old new status.BadWords c name told h = tt
+Says-refused steps old new status.ReadFault c name told h = tt
 
-pub Says-headline : (steps : ℕ) (old new : Option (List ℕ)) (st : Status) (name : List ℕ) (told : List ℕ → Told) → OfSource (told name) (Says steps old new st) → IsVerified st → OfFile (Some name) told IsHeadline
-Says-headline steps old new status.Ended name told h v = OfSource-map (told name) (HasRun steps old new) IsHeadline (λ source x. record { program = x.program; means = x.means; safe = x.safe }) h
-Says-headline steps old new status.StepsSpent name told h v = OfSource-map (told name) (RunsOn steps old new) IsHeadline (λ source x. record { program = x.program; means = x.means; safe = x.safe }) h
-Says-headline steps old new (status.SourceRefused rule at) name told h v = absurd v
-Says-headline steps old new (status.Unproved listed) name told h v = absurd v
-Says-headline steps old new status.WriteFault name told h v = absurd v
-Says-headline steps old new status.Memory name told h v = absurd v
-Says-headline steps old new status.BadWords name told h v = absurd v
-Says-headline steps old new status.ReadFault name told h v = absurd v
+ended_headline : (c : Command) (steps : ℕ) (old new : Option (List ℕ)) (source : List ℕ) → HasEnded c steps old new source → IsHeadline source
+ended_headline command.Verify steps old new source x = record { program = x.program; means = x.means; safe = x.safe }
+ended_headline command.Run steps old new source x = record { program = x.program; means = x.means; safe = x.safe }
 
-pub Says-ended : (steps : ℕ) (old new : Option (List ℕ)) (st : Status) (name : List ℕ) (told : List ℕ → Told) → OfSource (told name) (Says steps old new st) → st ≡ status.Ended → OfFile (Some name) told (HasRun steps old new)
-Says-ended steps old new st name told h e = subst (λ x. OfSource (told name) (Says steps old new x)) e h
+pub Says-headline : (steps : ℕ) (old new : Option (List ℕ)) (st : Status) (c : Command) (name : List ℕ) (told : List ℕ → Told) → OfSource (told name) (Says steps old new st c) → IsVerified st → OfFile (Some (c, name)) told (λ _. IsHeadline)
+Says-headline steps old new status.Ended c name told h v = OfSource-map (told name) (Says steps old new status.Ended c) IsHeadline (λ source x. ended_headline c steps old new source x) h
+Says-headline steps old new status.StepsSpent c name told h v = OfSource-map (told name) (Says steps old new status.StepsSpent c) IsHeadline (λ source x. record { program = (x.1).program; means = (x.1).means; safe = (x.1).safe }) h
+Says-headline steps old new (status.Stopped at) c name told h v = OfSource-map (told name) (Says steps old new (status.Stopped at) c) IsHeadline (λ source x. record { program = (x.1).program; means = (x.1).means; safe = (x.1).safe }) h
+Says-headline steps old new (status.Unproved listed) c name told h v = absurd v
+Says-headline steps old new (status.SourceRefused rule at) c name told h v = absurd v
+Says-headline steps old new status.WriteFault c name told h v = absurd v
+Says-headline steps old new status.Memory c name told h v = absurd v
+Says-headline steps old new status.BadWords c name told h v = absurd v
+Says-headline steps old new status.ReadFault c name told h v = absurd v
 
-pub Says-steps_spent : (steps : ℕ) (old new : Option (List ℕ)) (st : Status) (name : List ℕ) (told : List ℕ → Told) → OfSource (told name) (Says steps old new st) → st ≡ status.StepsSpent → OfFile (Some name) told (RunsOn steps old new)
-Says-steps_spent steps old new st name told h e = subst (λ x. OfSource (told name) (Says steps old new x)) e h
+ended_verify : (c : Command) (steps : ℕ) (old new : Option (List ℕ)) (source : List ℕ) → HasEnded c steps old new source → IsVerify c → IsToldVerified old new source
+ended_verify command.Verify steps old new source x v = x
+ended_verify command.Run steps old new source x v = absurd v
 
-pub Says-unproved : (steps : ℕ) (old new : Option (List ℕ)) (st : Status) (name : List ℕ) (told : List ℕ → Told) → OfSource (told name) (Says steps old new st)
-    → IfUnproved st (λ listed. OfFile (Some name) told (IsToldUnproved listed old new))
-Says-unproved steps old new (status.Unproved listed) name told h = h
-Says-unproved steps old new (status.SourceRefused rule at) name told h = tt
-Says-unproved steps old new status.Ended name told h = tt
-Says-unproved steps old new status.StepsSpent name told h = tt
-Says-unproved steps old new status.WriteFault name told h = tt
-Says-unproved steps old new status.Memory name told h = tt
-Says-unproved steps old new status.BadWords name told h = tt
-Says-unproved steps old new status.ReadFault name told h = tt
+ended_run : (c : Command) (steps : ℕ) (old new : Option (List ℕ)) (source : List ℕ) → HasEnded c steps old new source → IsRun c → HasRun steps old new source
+ended_run command.Verify steps old new source x v = absurd v
+ended_run command.Run steps old new source x v = x
+
+pub Says-verified : (steps : ℕ) (old new : Option (List ℕ)) (st : Status) (c : Command) (name : List ℕ) (told : List ℕ → Told) → OfSource (told name) (Says steps old new st c) → st ≡ status.Ended → OfFile (Some (c, name)) told (λ asked source. IsVerify asked → IsToldVerified old new source)
+Says-verified steps old new st c name told h e =
+    OfSource-map (told name) (HasEnded c steps old new) (λ source. IsVerify c → IsToldVerified old new source) (λ source x. ended_verify c steps old new source x) (subst (λ x. OfSource (told name) (Says steps old new x c)) e h)
+
+pub Says-ended : (steps : ℕ) (old new : Option (List ℕ)) (st : Status) (c : Command) (name : List ℕ) (told : List ℕ → Told) → OfSource (told name) (Says steps old new st c) → st ≡ status.Ended → OfFile (Some (c, name)) told (λ asked source. IsRun asked → HasRun steps old new source)
+Says-ended steps old new st c name told h e =
+    OfSource-map (told name) (HasEnded c steps old new) (λ source. IsRun c → HasRun steps old new source) (λ source x. ended_run c steps old new source x) (subst (λ x. OfSource (told name) (Says steps old new x c)) e h)
+
+pub Says-steps_spent : (steps : ℕ) (old new : Option (List ℕ)) (st : Status) (c : Command) (name : List ℕ) (told : List ℕ → Told) → OfSource (told name) (Says steps old new st c) → st ≡ status.StepsSpent → OfFile (Some (c, name)) told (λ asked source. IsRun asked × RunsOn steps old new source)
+Says-steps_spent steps old new st c name told h e = subst (λ x. OfSource (told name) (Says steps old new x c)) e h
+
+pub Says-stopped : (steps : ℕ) (old new : Option (List ℕ)) (st : Status) (c : Command) (name : List ℕ) (told : List ℕ → Told) → OfSource (told name) (Says steps old new st c)
+    → IfStopped st (λ at. OfFile (Some (c, name)) told (λ asked source. IsRun asked × StopsAt at steps old new source))
+Says-stopped steps old new status.Ended c name told h = tt
+Says-stopped steps old new status.StepsSpent c name told h = tt
+Says-stopped steps old new (status.Stopped at) c name told h = h
+Says-stopped steps old new (status.Unproved listed) c name told h = tt
+Says-stopped steps old new (status.SourceRefused rule at) c name told h = tt
+Says-stopped steps old new status.WriteFault c name told h = tt
+Says-stopped steps old new status.Memory c name told h = tt
+Says-stopped steps old new status.BadWords c name told h = tt
+Says-stopped steps old new status.ReadFault c name told h = tt
+
+pub Says-unproved : (steps : ℕ) (old new : Option (List ℕ)) (st : Status) (c : Command) (name : List ℕ) (told : List ℕ → Told) → OfSource (told name) (Says steps old new st c)
+    → IfUnproved st (λ listed. OfFile (Some (c, name)) told (λ _. IsToldUnproved listed old new))
+Says-unproved steps old new status.Ended c name told h = tt
+Says-unproved steps old new status.StepsSpent c name told h = tt
+Says-unproved steps old new (status.Stopped at) c name told h = tt
+Says-unproved steps old new (status.Unproved listed) c name told h = h
+Says-unproved steps old new (status.SourceRefused rule at) c name told h = tt
+Says-unproved steps old new status.WriteFault c name told h = tt
+Says-unproved steps old new status.Memory c name told h = tt
+Says-unproved steps old new status.BadWords c name told h = tt
+Says-unproved steps old new status.ReadFault c name told h = tt
 
 nothing_in : (told : Told) (P : List ℕ → Type 0) (Q : Type 0) → ((source : List ℕ) → P source → Q) → OfSource told P → Q
 nothing_in None P Q f h = f h.0 h.1
 nothing_in (Some None) P Q f h = absurd h
 nothing_in (Some (Some source)) P Q f h = f source h
 
-pub Says-silent : (steps : ℕ) (old new : Option (List ℕ)) (st : Status) (told : Told) → OfSource told (Says steps old new st) → IsSilent st → Grew old new []
-Says-silent steps old new (status.SourceRefused rule at) told h v = nothing_in told (Says steps old new (status.SourceRefused rule at)) (Grew old new []) (λ source x. x.1) h
-Says-silent steps old new status.BadWords told h v = nothing_in told (Says steps old new status.BadWords) (Grew old new []) (λ source x. absurd x) h
-Says-silent steps old new status.ReadFault told h v = nothing_in told (Says steps old new status.ReadFault) (Grew old new []) (λ source x. absurd x) h
-Says-silent steps old new status.Ended told h v = absurd v
-Says-silent steps old new status.StepsSpent told h v = absurd v
-Says-silent steps old new (status.Unproved listed) told h v = absurd v
-Says-silent steps old new status.WriteFault told h v = absurd v
-Says-silent steps old new status.Memory told h v = absurd v
+pub Says-silent : (steps : ℕ) (old new : Option (List ℕ)) (st : Status) (c : Command) (told : Told) → OfSource told (Says steps old new st c) → IsSilent st → Grew old new []
+Says-silent steps old new status.Ended c told h v = absurd v
+Says-silent steps old new status.StepsSpent c told h v = absurd v
+Says-silent steps old new (status.Stopped at) c told h v = absurd v
+Says-silent steps old new (status.Unproved listed) c told h v = absurd v
+Says-silent steps old new (status.SourceRefused rule at) c told h v = nothing_in told (Says steps old new (status.SourceRefused rule at) c) (Grew old new []) (λ source x. x.1) h
+Says-silent steps old new status.WriteFault c told h v = absurd v
+Says-silent steps old new status.Memory c told h v = absurd v
+Says-silent steps old new status.BadWords c told h v = nothing_in told (Says steps old new status.BadWords c) (Grew old new []) (λ source x. absurd x) h
+Says-silent steps old new status.ReadFault c told h v = nothing_in told (Says steps old new status.ReadFault c) (Grew old new []) (λ source x. absurd x) h
 
 -- of nothing or something of the source, where something can't be told without a source
 either : (told : Told) (A : Type 0) (P : List ℕ → Type 0) → OfSource told (λ source. A ⊎ P source) → A ⊎ OfSource told P
@@ -142,13 +167,11 @@ either None A P h = ⊎_elim (λ a. inl a) (λ p. inr (h.0, p)) h.1
 either (Some None) A P h = absurd h
 either (Some (Some source)) A P h = h
 
-pub Says-written : (steps : ℕ) (old new : Option (List ℕ)) (st : Status) (name : List ℕ) (told : List ℕ → Told) → OfSource (told name) (Says steps old new st) → st ≡ status.WriteFault
-    → OfFile (Some name) told (IsWrittenInPart steps old new)
-Says-written steps old new st name told h e = subst (λ x. OfSource (told name) (Says steps old new x)) e h
+pub Says-written : (steps : ℕ) (old new : Option (List ℕ)) (st : Status) (c : Command) (name : List ℕ) (told : List ℕ → Told) → OfSource (told name) (Says steps old new st c) → st ≡ status.WriteFault → OfFile (Some (c, name)) told (IsWrittenInPart steps old new)
+Says-written steps old new st c name told h e = subst (λ x. OfSource (told name) (Says steps old new x c)) e h
 
-pub Says-memory : (steps : ℕ) (old new : Option (List ℕ)) (st : Status) (name : List ℕ) (told : List ℕ → Told) → OfSource (told name) (Says steps old new st) → st ≡ status.Memory
-    → Grew old new [] ⊎ OfFile (Some name) told (IsWrittenInPart steps old new)
-Says-memory steps old new st name told h e = either (told name) (Grew old new []) (IsWrittenInPart steps old new) (subst (λ x. OfSource (told name) (Says steps old new x)) e h)
+pub Says-memory : (steps : ℕ) (old new : Option (List ℕ)) (st : Status) (c : Command) (name : List ℕ) (told : List ℕ → Told) → OfSource (told name) (Says steps old new st c) → st ≡ status.Memory → Grew old new [] ⊎ OfFile (Some (c, name)) told (IsWrittenInPart steps old new)
+Says-memory steps old new st c name told h e = either (told name) (Grew old new []) (IsWrittenInPart steps old new c) (subst (λ x. OfSource (told name) (Says steps old new x c)) e h)
 
 -- a read leaves the counts of all names but its own
 pub reads_only : {T : Type 0} (before now : List ℕ → ℕ) (file : Option (List ℕ)) (name : List ℕ) (r : Result T ReadStop) → file ≡ Some name → ReadCounts before now name r → ReadsOnly file before now
@@ -166,8 +189,8 @@ reads_only before now file name r named h = record {
 pub reads_nothing : (before : List ℕ → ℕ) (file : Option (List ℕ)) → ReadsOnly file before before
 reads_nothing before file = record { others = λ name differs. refl; later = λ name. omega arith }
 
-pub Says-not : (steps : ℕ) (old new : Option (List ℕ)) (st : Status) (told : Told) → OfSource told (Says steps old new st) → (st ≡ status.BadWords → ⊥) × (st ≡ status.ReadFault → ⊥)
-Says-not steps old new st told h = (
-  λ e. nothing_in told (Says steps old new status.BadWords) ⊥ (λ source x. x) (subst (λ x. OfSource told (Says steps old new x)) e h),
-  λ e. nothing_in told (Says steps old new status.ReadFault) ⊥ (λ source x. x) (subst (λ x. OfSource told (Says steps old new x)) e h),
+pub Says-not : (steps : ℕ) (old new : Option (List ℕ)) (st : Status) (c : Command) (told : Told) → OfSource told (Says steps old new st c) → (st ≡ status.BadWords → ⊥) × (st ≡ status.ReadFault → ⊥)
+Says-not steps old new st c told h = (
+  λ e. nothing_in told (Says steps old new status.BadWords c) ⊥ (λ source x. x) (subst (λ x. OfSource told (Says steps old new x c)) e h),
+  λ e. nothing_in told (Says steps old new status.ReadFault c) ⊥ (λ source x. x) (subst (λ x. OfSource told (Says steps old new x c)) e h),
 )

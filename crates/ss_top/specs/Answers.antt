@@ -1,22 +1,22 @@
 -- What the answers of the command say.
-use Rattle.std.specs.Prelude.{ℕ, ◌≡◌, ◌≢◌, ◌+◌, ◌<◌, ◌≤◌, ◌⊎◌, List, [], Option, Some, None, Vec, length}
+use Rattle.std.specs.Prelude.{ℕ, ◌≡◌, ◌≢◌, ◌≤◌, ◌⊎◌, List, [], ◌∷◌, ◌++◌, Option, Some, None, codes}
 use Rattle.ss_io.specs.Outside.{Told, Grew, GrewByFront}
 use Rattle.ss_core.specs.declared.names.Place.{Place}
 use Rattle.ss_core.specs.declared.names.FrontStop.{FrontStop}
 use Rattle.ss_core.specs.declared.names.FrontStop.TheVariants as front
 use Rattle.ss_core.specs.Tree.{CoreTree}
-use Rattle.ss_run.specs.Steps.{State, Running, Done, Failed, run, printed}
+use Rattle.ss_run.specs.Steps.{State, Running, Done, Failed, Stopped, run, printed}
 use Rattle.ss_run.specs.Safe.{IsSafe}
-use Rattle.ss_machine.specs.Ends.{IsRunning}
+use Rattle.ss_machine.specs.Ends.{IsRunning, HasStopped}
 use Rattle.ss_oblig.specs.Obligations.{obligations}
 use Rattle.ss_search.specs.declared.model.Countered.{Countered}
 use Rattle.ss_sound.specs.Verdicts.{IsUnproved}
 use Rattle.ss_report.specs.declared.status.Status.{Status}
 use Rattle.ss_report.specs.declared.status.Status.TheVariants as status
 use Rattle.ss_report.specs.Verdict.{verdict_text}
-use Rattle.ss_first.specs.Syntax.{ProgramSyntax}
-use Rattle.ss_first.specs.Accepted.{Accepted, too_long, not_of_form}
-use Rattle.ss_first.specs.Elaborated.{core_of}
+use Rattle.ss_top.specs.declared.words.Command.{Command}
+use Rattle.ss_top.specs.declared.words.Command.TheVariants as command
+use Rattle.ss_top.specs.Sources.{Means, IsStop}
 
 -- the bytes of the file, where they are told, have this property; where they aren't told, some bytes have it
 abbrev pub OfSource : Told → (List ℕ → Type 0) → Type 0
@@ -24,23 +24,24 @@ OfSource None P = (source : List ℕ) × P source
 OfSource (Some None) P = ⊥
 OfSource (Some (Some source)) P = P source
 
--- the same of the file of a name, where there is one
-abbrev pub OfFile : Option (List ℕ) → (List ℕ → Told) → (List ℕ → Type 0) → Type 0
+-- the same of the command of the words and the file that they name
+abbrev pub OfFile : Option (Command × List ℕ) → (List ℕ → Told) → (Command → List ℕ → Type 0) → Type 0
 OfFile None told P = ⊥
-OfFile (Some name) told P = OfSource (told name) P
-
--- the source is accepted, and this is its core program
-abbrev pub Means : List ℕ → CoreTree → Type 0
-Means source c = (p : ProgramSyntax) × Accepted source p × (core_of p ≡ c)
-
--- the first fault of a source: it is too long, or else it isn't of the form
-abbrev pub IsStop : List ℕ → FrontStop → Type 0
-IsStop source stop = ((1048576 < length source) × (stop ≡ too_long)) ⊎ ((length source ≤ 1048576) × ((p : ProgramSyntax) → Accepted source p → ⊥) × (stop ≡ not_of_form))
+OfFile (Some asked) told P = OfSource (told asked.1) (P asked.0)
 
 abbrev pub IsDone : State → Type 0
 IsDone (Running fs before) = ⊥
 IsDone (Done before) = Unit {0}
 IsDone (Failed kind at before) = ⊥
+IsDone (Stopped at before) = ⊥
+
+abbrev pub verified_line : List ℕ
+verified_line = codes "verified" ++ 10 ∷ []
+
+-- what a command writes of a program that is verified
+abbrev pub output : Command → ℕ → CoreTree → List ℕ
+output command.Verify steps c = verified_line
+output command.Run steps c = printed c steps
 
 -- the headline: the source is accepted, and its program is safe, that is, after every number of steps no check of its run has failed
 -- and its state is good
@@ -48,6 +49,13 @@ pub record IsHeadline (source : List ℕ) : Type 0 where
   pub program : CoreTree
   pub means : Means source program
   pub safe : IsSafe program
+
+-- the program is safe, and the sink took exactly the line `verified`
+pub record IsToldVerified (old new : Option (List ℕ)) (source : List ℕ) : Type 0 where
+  pub program : CoreTree
+  pub means : Means source program
+  pub safe : IsSafe program
+  pub took : Grew old new verified_line
 
 -- the program is safe, its run is done within these steps, and the sink took exactly what the run printed
 pub record HasRun (steps : ℕ) (old new : Option (List ℕ)) (source : List ℕ) : Type 0 where
@@ -65,6 +73,14 @@ pub record RunsOn (steps : ℕ) (old new : Option (List ℕ)) (source : List ℕ
   pub running : IsRunning (run program steps)
   pub took : Grew old new (printed program steps)
 
+-- the same, but within these steps the run stopped at an assumption that is false, which is at this place
+pub record StopsAt (at : Place) (steps : ℕ) (old new : Option (List ℕ)) (source : List ℕ) : Type 0 where
+  pub program : CoreTree
+  pub means : Means source program
+  pub safe : IsSafe program
+  pub stopped : HasStopped program at steps
+  pub took : Grew old new (printed program steps)
+
 -- the listed obligations are refuted by their models and all others valid, and the sink took exactly the text of the verdict
 pub record IsToldUnproved (listed : List Countered) (old new : Option (List ℕ)) (source : List ℕ) : Type 0 where
   pub program : CoreTree
@@ -72,12 +88,12 @@ pub record IsToldUnproved (listed : List Countered) (old new : Option (List ℕ)
   pub unproved : IsUnproved (obligations program) listed
   pub took : Grew old new (verdict_text program (obligations program) listed)
 
--- the program is safe, and the sink took a front of what its run prints
-pub record HasRunInPart (steps : ℕ) (old new : Option (List ℕ)) (source : List ℕ) : Type 0 where
+-- the program is safe, and the sink took a front of what the command writes of it
+pub record IsVerifiedInPart (c : Command) (steps : ℕ) (old new : Option (List ℕ)) (source : List ℕ) : Type 0 where
   pub program : CoreTree
   pub means : Means source program
   pub safe : IsSafe program
-  pub front : GrewByFront old new (printed program steps)
+  pub front : GrewByFront old new (output c steps program)
 
 -- the sink took a front of the text of a verdict that could be given
 pub record IsToldInPart (old new : Option (List ℕ)) (source : List ℕ) : Type 0 where
@@ -88,28 +104,43 @@ pub record IsToldInPart (old new : Option (List ℕ)) (source : List ℕ) : Type
   pub front : GrewByFront old new (verdict_text program (obligations program) listed)
 
 -- the sink took a front of what the answers above let be written
-abbrev pub IsWrittenInPart : ℕ → Option (List ℕ) → Option (List ℕ) → List ℕ → Type 0
-IsWrittenInPart steps old new source = HasRunInPart steps old new source ⊎ IsToldInPart old new source
+abbrev pub IsWrittenInPart : ℕ → Option (List ℕ) → Option (List ℕ) → Command → List ℕ → Type 0
+IsWrittenInPart steps old new c source = IsVerifiedInPart c steps old new source ⊎ IsToldInPart old new source
 
 -- no count of faults falls, and only that of the file may rise
 pub record ReadsOnly (file : Option (List ℕ)) (before now : List ℕ → ℕ) : Type 0 where
   pub others : (name : List ℕ) → file ≢ Some name → now name ≡ before name
   pub later : (name : List ℕ) → before name ≤ now name
 
+-- ---- by the command
+
+abbrev pub IsRun : Command → Type 0
+IsRun command.Verify = ⊥
+IsRun command.Run = Unit {0}
+
+abbrev pub IsVerify : Command → Type 0
+IsVerify command.Verify = Unit {0}
+IsVerify command.Run = ⊥
+
 -- ---- by the answer
 
-abbrev pub IfRefused : Status → (FrontStop → Type 0) → Type 0
-IfRefused (status.SourceRefused rule at) P = P (front.Refused rule at)
+abbrev pub IfRefused : Status → (ℕ → Place → Type 0) → Type 0
+IfRefused (status.SourceRefused rule at) P = P rule at
 IfRefused _ P = Unit {0}
 
 abbrev pub IfUnproved : Status → (List Countered → Type 0) → Type 0
 IfUnproved (status.Unproved listed) P = P listed.items
 IfUnproved _ P = Unit {0}
 
+abbrev pub IfStopped : Status → (Place → Type 0) → Type 0
+IfStopped (status.Stopped at) P = P at
+IfStopped _ P = Unit {0}
+
 -- the answers that say that the program was verified
 abbrev pub IsVerified : Status → Type 0
 IsVerified status.Ended = Unit {0}
 IsVerified status.StepsSpent = Unit {0}
+IsVerified (status.Stopped at) = Unit {0}
 IsVerified _ = ⊥
 
 -- the answers that come before anything is written
@@ -126,12 +157,17 @@ answer_to front.Memory = status.Memory
 
 -- ---- what an answer says of a source that was read
 
-abbrev pub Says : ℕ → Option (List ℕ) → Option (List ℕ) → Status → List ℕ → Type 0
-Says steps old new status.Ended source = HasRun steps old new source
-Says steps old new status.StepsSpent source = RunsOn steps old new source
-Says steps old new (status.Unproved listed) source = IsToldUnproved listed.items old new source
-Says steps old new (status.SourceRefused rule at) source = IsStop source (front.Refused rule at) × Grew old new []
-Says steps old new status.WriteFault source = IsWrittenInPart steps old new source
-Says steps old new status.Memory source = Grew old new [] ⊎ IsWrittenInPart steps old new source
-Says steps old new status.BadWords source = ⊥
-Says steps old new status.ReadFault source = ⊥
+abbrev pub HasEnded : Command → ℕ → Option (List ℕ) → Option (List ℕ) → List ℕ → Type 0
+HasEnded command.Verify steps old new source = IsToldVerified old new source
+HasEnded command.Run steps old new source = HasRun steps old new source
+
+abbrev pub Says : ℕ → Option (List ℕ) → Option (List ℕ) → Status → Command → List ℕ → Type 0
+Says steps old new status.Ended c source = HasEnded c steps old new source
+Says steps old new status.StepsSpent c source = IsRun c × RunsOn steps old new source
+Says steps old new (status.Stopped at) c source = IsRun c × StopsAt at steps old new source
+Says steps old new (status.Unproved listed) c source = IsToldUnproved listed.items old new source
+Says steps old new (status.SourceRefused rule at) c source = IsStop source rule at × Grew old new []
+Says steps old new status.WriteFault c source = IsWrittenInPart steps old new c source
+Says steps old new status.Memory c source = Grew old new [] ⊎ IsWrittenInPart steps old new c source
+Says steps old new status.BadWords c source = ⊥
+Says steps old new status.ReadFault c source = ⊥

@@ -1,10 +1,13 @@
 //! The program, over any files and any output.
 #![tactic(auto)]
 
+mod front;
+mod laws;
 mod source;
 mod top;
 mod words;
 
+pub use laws::{no_fault, one_fault, one_meaning};
 pub use top::specsharp;
 
 #[cfg(test)]

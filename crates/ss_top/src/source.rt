@@ -1,6 +1,6 @@
 // A source that was read.
 
-ghost use Rattle.std.specs.Prelude.{◌≡◌, ◌≤◌};
+ghost use Rattle.std.specs.Prelude.{◌≡◌, ℕ, ◌≤◌};
 ghost use Rattle.ss_io.specs.Outside.{Rose};
 ghost use Rattle.ss_core.specs.View.{core};
 ghost use Rattle.ss_run.specs.Formed.{IsFormed};
@@ -8,10 +8,14 @@ ghost use Rattle.ss_run.specs.Safe.{IsSafe};
 ghost use Rattle.ss_oblig.specs.Obligations as oblig;
 ghost use Rattle.ss_vcgen.specs.Built.{trees};
 ghost use Rattle.ss_sound.specs.Verdicts.{IsUnproved};
-ghost use Rattle.ss_top.specs.Answers.{Means, Says, answer_to};
+ghost use Rattle.ss_top.specs.Sources.{Means};
+ghost use Rattle.ss_top.specs.Answers.{Says, answer_to};
+ghost use Rattle.ss_top.specs.declared.words.Command.{Command as AnyCommand};
+ghost use Rattle.ss_top.specs.declared.words.Command.TheVariants as asked;
 
+use crate::front::read_source;
+use crate::words::Command;
 use ss_core::{Core, FrontStop};
-use ss_first::read_first;
 use ss_io::{Sink, WriteStop};
 use ss_machine::{CheckedEnd, run_checked};
 use ss_report::{Status, verdict_text};
@@ -20,14 +24,20 @@ use ss_sound::{Verdict, verify};
 use ss_vcgen::{Obligations, obligations};
 use std::alloc::Global;
 
-/// Verifies the program of a source, and runs it for so many steps where it is verified.
-pub fn run_source<S: Sink>(alloc: Global, source: &[u8], steps: u64, out: &mut S) -> Status
-    ensures says { Says steps (S.taken out.old) (S.taken out.new) result source.now }
+/// Verifies the program of a source; where it is verified `Verify` says so, and `Run` runs it for so many steps.
+pub fn answer_source<S: Sink>(
+    alloc: Global,
+    command: Command,
+    source: &[u8],
+    steps: u64,
+    out: &mut S,
+) -> Status
+    ensures says { Says steps (S.taken out.old) (S.taken out.new) result command source.now }
     ensures faults { S.faults out.old ≤ S.faults out.new }
     ensures cause { result ≡ Status.WriteFault → Rose (S.faults out.old) (S.faults out.new) }
 {
-    match read_first(alloc, source) {
-        Ok(program) => run_program(alloc, source, &program, steps, out),
+    match read_source(alloc, source) {
+        Ok(program) => answer_program(alloc, command, source, &program, steps, out),
         Err(stop) => refuse(stop),
     }
 }
@@ -42,9 +52,10 @@ fn refuse(stop: FrontStop) -> Status
     }
 }
 
-// Verifies and runs the program that a source means.
-fn run_program<S: Sink>(
+// The same of the program that a source means.
+fn answer_program<S: Sink>(
     alloc: Global,
+    command: Command,
     source: &[u8],
     program: &Core,
     steps: u64,
@@ -52,7 +63,7 @@ fn run_program<S: Sink>(
 ) -> Status
     requires means { Means source.now (core program.now) }
     requires formed { IsFormed (core program.now) }
-    ensures says { Says steps (S.taken out.old) (S.taken out.new) result source.now }
+    ensures says { Says steps (S.taken out.old) (S.taken out.new) result command source.now }
     ensures faults { S.faults out.old ≤ S.faults out.new }
     ensures cause { result ≡ Status.WriteFault → Rose (S.faults out.old) (S.faults out.new) }
 {
@@ -60,12 +71,49 @@ fn run_program<S: Sink>(
         return Status::Memory;
     };
     match verify(alloc, program, &mut obligations) {
-        Verdict::Verified => run_safe(alloc, source, program, steps, out),
+        Verdict::Verified => answer_safe(alloc, command, source, program, steps, out),
         Verdict::Unproved { countered } => {
-            tell(alloc, source, program, &obligations, countered, steps, out)
+            tell(alloc, source, program, &obligations, countered, out)
         }
         // Lost was never seen, and there is no answer for it but the one that may always come.
         Verdict::Lost | Verdict::Memory => Status::Memory,
+    }
+}
+
+// What the command does with a safe program.
+fn answer_safe<S: Sink>(
+    alloc: Global,
+    command: Command,
+    source: &[u8],
+    program: &Core,
+    steps: u64,
+    out: &mut S,
+) -> Status
+    requires means { Means source.now (core program.now) }
+    requires safe { IsSafe (core program.now) }
+    ensures says { Says steps (S.taken out.old) (S.taken out.new) result command source.now }
+    ensures faults { S.faults out.old ≤ S.faults out.new }
+    ensures cause { result ≡ Status.WriteFault → Rose (S.faults out.old) (S.faults out.new) }
+{
+    match command {
+        Command::Verify => tell_verified(source, program, out),
+        Command::Run => run_safe(alloc, source, program, steps, out),
+    }
+}
+
+// Says that a safe program is verified.
+fn tell_verified<S: Sink>(source: &[u8], program: &Core, out: &mut S) -> Status
+    requires means { Means source.now (core program.now) }
+    requires safe { IsSafe (core program.now) }
+    ensures says { (steps : ℕ) → Says steps (S.taken out.old) (S.taken out.new) result asked.Verify source.now }
+    ensures faults { S.faults out.old ≤ S.faults out.new }
+    ensures cause { result ≡ Status.WriteFault → Rose (S.faults out.old) (S.faults out.new) }
+{
+    let (_source, _program) = (source, program);
+    match out.write(b"verified\n") {
+        Ok(()) => Status::Ended,
+        Err(WriteStop::Failed) => Status::WriteFault,
+        Err(WriteStop::Memory) => Status::Memory,
     }
 }
 
@@ -79,13 +127,14 @@ fn run_safe<S: Sink>(
 ) -> Status
     requires means { Means source.now (core program.now) }
     requires safe { IsSafe (core program.now) }
-    ensures says { Says steps (S.taken out.old) (S.taken out.new) result source.now }
+    ensures says { Says steps (S.taken out.old) (S.taken out.new) result asked.Run source.now }
     ensures faults { S.faults out.old ≤ S.faults out.new }
     ensures cause { result ≡ Status.WriteFault → Rose (S.faults out.old) (S.faults out.new) }
 {
     let _source = source;
     match run_checked(alloc, program, steps, out) {
         CheckedEnd::Done { .. } => Status::Ended,
+        CheckedEnd::Stopped { place } => Status::Stopped { place },
         CheckedEnd::Running => Status::StepsSpent,
         CheckedEnd::WriteFault => Status::WriteFault,
         CheckedEnd::Memory => Status::Memory,
@@ -100,17 +149,16 @@ fn tell<S: Sink>(
     program: &Core,
     obligations: &Obligations,
     countered: Vec<Countered>,
-    steps: u64,
     out: &mut S,
 ) -> Status
     requires means { Means source.now (core program.now) }
     requires obligations { trees obligations.now ≡ oblig.obligations (core program.now) }
     requires unproved { IsUnproved (oblig.obligations (core program.now)) countered.items }
-    ensures says { Says steps (S.taken out.old) (S.taken out.new) result source.now }
+    ensures says { (steps : ℕ) (command : AnyCommand) → Says steps (S.taken out.old) (S.taken out.new) result command source.now }
     ensures faults { S.faults out.old ≤ S.faults out.new }
     ensures cause { result ≡ Status.WriteFault → Rose (S.faults out.old) (S.faults out.new) }
 {
-    let (_source, _steps) = (source, steps);
+    let _source = source;
     let Ok(text) = verdict_text(alloc, program, obligations, &countered) else {
         return Status::Memory;
     };

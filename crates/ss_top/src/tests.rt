@@ -13,6 +13,17 @@ const FIRST: &str =
 const UNPROVED: &str =
     "class P {\n  static void Main() {\n    int x = 3;\n    bool b = x == 3;\n    assert x == 4;\n    Console.WriteLine(x);\n    Console.WriteLine(b);\n  }\n}\n";
 
+const FLIP: &str =
+    "class P {\n  static bool Flip(bool b) ensures result == !b; { if (b) { return false; } return true; }\n  static void Main() { bool x = Flip(true); assert !x; Console.WriteLine(x); }\n}\n";
+
+const LOOP: &str =
+    "class P {\n  static void Loop() { Loop(); }\n  static void Main() { Loop(); }\n}\n";
+
+const ASSUMED: &str = "class P {\n  static void Main() { assume false; assert false; }\n}\n";
+
+const CASES: &str =
+    "class P {\n  static void M(bool a, bool b)\n    requires a || b; requires a || !b; requires !a || b;\n  { assert a && b; }\n  static void Main() { }\n}\n";
+
 /// The words of a command line, split at blanks.
 fn words_of(alloc: Global, line: &str) -> Result<Vec<String>, Fail> {
     let mut words = Vec::new(alloc);
@@ -62,13 +73,56 @@ fn programs_are_verified_and_run(rt: HostRuntime) -> Result<(), Fail> {
 }
 
 #[test]
+fn programs_are_verified(rt: HostRuntime) -> Result<(), Fail> {
+    let alloc = rt.alloc();
+    expect_answer(&rt, alloc, "verify a", FIRST, 0, "verified\n")?;
+    expect_answer(
+        &rt,
+        alloc,
+        "verify a",
+        UNPROVED,
+        1,
+        "not proved: Assert at 5:5 in P.Main\n",
+    )?;
+    expect_answer(&rt, alloc, "verify a", CASES, 0, "verified\n")
+}
+
+#[test]
+fn calls_are_verified_and_run(rt: HostRuntime) -> Result<(), Fail> {
+    let alloc = rt.alloc();
+    expect_answer(&rt, alloc, "verify a", FLIP, 0, "verified\n")?;
+    expect_answer(&rt, alloc, "run a", FLIP, 0, "False\n")
+}
+
+#[test]
+fn a_run_without_end_spends_its_steps(rt: HostRuntime) -> Result<(), Fail> {
+    expect_answer(&rt, rt.alloc(), "run a", LOOP, 9, "")
+}
+
+#[test]
+fn a_run_stops_at_a_false_assumption(rt: HostRuntime) -> Result<(), Fail> {
+    let alloc = rt.alloc();
+    expect_answer(&rt, alloc, "verify a", ASSUMED, 0, "verified\n")?;
+    expect_answer(&rt, alloc, "run a", ASSUMED, 11, "")?;
+    let status = status_of(alloc, "run a", ASSUMED.as_bytes().to_vec(alloc)?)?;
+    let place = match status {
+        Status::Stopped { place } => Some((place.line, place.column)),
+        _ => None,
+    };
+    assert_eq!(rt; place, Some((2, 24)));
+    Ok(())
+}
+
+#[test]
 fn words_are_tested(rt: HostRuntime) -> Result<(), Fail> {
     let alloc = rt.alloc();
     expect_answer(&rt, alloc, "run b", FIRST, 3, "")?;
     expect_answer(&rt, alloc, "run", FIRST, 2, "")?;
     expect_answer(&rt, alloc, "run a b", FIRST, 2, "")?;
     expect_answer(&rt, alloc, "run -x", FIRST, 2, "")?;
-    expect_answer(&rt, alloc, "verify a", FIRST, 2, "")?;
+    expect_answer(&rt, alloc, "check a", FIRST, 2, "")?;
+    expect_answer(&rt, alloc, "verify -x", FIRST, 2, "")?;
+    expect_answer(&rt, alloc, "verify b", FIRST, 3, "")?;
     expect_answer(&rt, alloc, "", FIRST, 2, "")
 }
 
@@ -82,16 +136,45 @@ fn a_failing_sink_has_taken_what_came_before(rt: HostRuntime) -> Result<(), Fail
     Ok(())
 }
 
-/// The rule and the place by which the file `a` is refused.
-fn refusal(alloc: Global, bytes: Vec<u8>) -> Result<Option<(u16, u32, u32)>, Fail> {
+/// What a command line is answered, where the file `a` holds these bytes.
+fn status_of(alloc: Global, line: &str, bytes: Vec<u8>) -> Result<Status, Fail> {
     let file = (String::from_str(alloc, "a")?, bytes);
     let mut files = MemFiles::new(alloc, vec![in alloc; file]?, Vec::new(alloc));
     let mut out = MemSink::new(alloc, Vec::new(alloc));
-    let words = words_of(alloc, "run a")?;
-    match specsharp(alloc, &words, &mut files, &mut out) {
+    let words = words_of(alloc, line)?;
+    Ok(specsharp(alloc, &words, &mut files, &mut out))
+}
+
+/// The rule and the place by which a source is refused.
+fn refusal(alloc: Global, bytes: Vec<u8>) -> Result<Option<(u16, u32, u32)>, Fail> {
+    match status_of(alloc, "verify a", bytes)? {
         Status::SourceRefused { rule, place } => Ok(Some((rule, place.line, place.column))),
         _ => Ok(None),
     }
+}
+
+fn expect_refusal(
+    rt: &impl Abort,
+    alloc: Global,
+    source: &str,
+    rule: u16,
+    line: u32,
+    column: u32,
+) -> Result<(), Fail> {
+    let found = refusal(alloc, source.as_bytes().to_vec(alloc)?)?;
+    assert_eq!(rt; found, Some((rule, line, column)));
+    Ok(())
+}
+
+#[test]
+fn the_first_fault_is_told(rt: HostRuntime) -> Result<(), Fail> {
+    let alloc = rt.alloc();
+    expect_refusal(&rt, alloc, "class P { # }", 1, 1, 11)?;
+    expect_refusal(&rt, alloc, "class P { int 3; }", 10, 1, 15)?;
+    expect_refusal(&rt, alloc, "class P { } }", 12, 1, 13)?;
+    expect_refusal(&rt, alloc, "class P {", 10, 1, 10)?;
+    expect_refusal(&rt, alloc, "class P { /* x", 2, 1, 11)?;
+    expect_refusal(&rt, alloc, "class P { }", 90, 1, 1)
 }
 
 #[test]
@@ -103,10 +186,6 @@ fn a_long_source_is_refused_as_such(rt: HostRuntime) -> Result<(), Fail> {
     );
     assert_eq!(rt;
         refusal(alloc, vec![in alloc; b' '; 1_048_576]?)?,
-        Some((90, 1, 1))
-    );
-    assert_eq!(rt;
-        refusal(alloc, b"class P { }".to_vec(alloc)?)?,
         Some((90, 1, 1))
     );
     Ok(())

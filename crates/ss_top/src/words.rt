@@ -1,17 +1,40 @@
 // The words of a command line.
 
 ghost use Rattle.std.specs.Prelude.{◌≡◌, option_map, string_bytes};
-ghost use Rattle.ss_top.specs.Words.{file_of};
+ghost use Rattle.ss_top.specs.Words.{command_named, command_of};
 
-/// The FILE of the words `run FILE`, which doesn't begin with `-`; None for all other words.
-pub fn file_name(words: &[String]) -> Option<&str>
-    ensures { option_map (λ name. name.now) result ≡ file_of words.now }
+/// What the program is asked to do with a file.
+#[derive(Clone, Copy, Debug, PartialEq, Eq)]
+pub enum Command {
+    /// Verify the program, and write the verdict.
+    Verify,
+    /// Verify the program, and run it.
+    Run,
+}
+
+fn command_named(word: &str) -> Option<Command>
+    ensures { result ≡ command_named word.now }
 {
-    let [command, name] = words else {
+    if word == "verify" {
+        return Some(Command::Verify);
+    }
+    if word == "run" {
+        return Some(Command::Run);
+    }
+    None
+}
+
+/// The command and the FILE of the words `verify FILE` and `run FILE`, where FILE doesn't begin with `-`; None for all
+/// other words.
+pub fn read_words(words: &[String]) -> Option<(Command, &str)>
+    ensures { option_map (λ asked. (asked.0, asked.1.now)) result ≡ command_of words.now }
+{
+    let [word, file] = words else {
         return None;
     };
-    if command.as_str() != "run" || name.as_str().starts_with('-') {
+    let command = command_named(word.as_str())?;
+    if file.as_str().starts_with('-') {
         return None;
     }
-    Some(name.as_str())
+    Some((command, file.as_str()))
 }
