@@ -1,5 +1,5 @@
 -- What formulas come out as, from the smaller numbers to the larger.
-use Rattle.std.proofs.Common.{◌≡◌, ℕ, ◌+◌, ◌*◌, ◌<◌, ◌≤◌, List, [], ◌∷◌, ◌++◌, map, length, Bool, true, false, ◌&&◌, ◌||◌, refl, sym, ap, ◌∙◌, subst, ⊎_elim, arith, length-append}
+use Rattle.std.proofs.Common.{◌≡◌, ℕ, ◌+◌, ◌*◌, ◌<◌, List, [], ◌∷◌, ◌++◌, map, length, Bool, true, false, refl, sym, ap, ◌∙◌, subst, arith, length-append}
 use Rattle.std.specs.List.{slice_index_or, list_all, list_any}
 use Rattle.std.proofs.lemmas.Grind.{common_steps}
 use borrow.Author.Count.{below_more}

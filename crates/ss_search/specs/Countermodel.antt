@@ -1,5 +1,5 @@
 -- The model that a countermodel stands for, and what comes out at it.
-use Rattle.std.specs.Prelude.{◌≡◌, ℕ, ◌<◌, ◌≤◌, List, length, Bool, false}
+use Rattle.std.specs.Prelude.{◌≡◌, ℕ, ◌<◌, List, length, Bool, false}
 use Rattle.std.specs.List.{slice_index_or}
 use Rattle.ss_logic.specs.Logic.{Value, whole, truth}
 use Rattle.ss_models.specs.Models.{Model, comes_out}

@@ -1,6 +1,4 @@
 -- What a search found.
-use Rattle.std.specs.Prelude.{ℕ}
-use Rattle.ss_models.specs.Models.{Model}
 use Rattle.ss_search.specs.declared.model.Countermodel.{Countermodel}
 use Rattle.ss_search.specs.declared.obligation.Found.{Found}
 use Rattle.ss_search.specs.declared.obligation.Found.TheVariants as found

@@ -2,10 +2,20 @@
 //! checked elsewhere. A model is answered only where it was found to refute the ground form.
 #![tactic(auto)]
 
+mod choices;
 mod congruence;
+mod evaluation;
+mod facts;
+mod known;
+mod lines;
 mod model;
+mod nearness;
+mod numbers;
 mod obligation;
+mod question;
 mod tableau;
+#[cfg(test)]
+mod tests;
 
 pub use model::{Countered, Countermodel};
 pub use obligation::{Found, prove};

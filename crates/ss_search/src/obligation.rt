@@ -8,8 +8,9 @@ ghost use Rattle.ss_search.specs.Found.{IfCountered};
 ghost use Rattle.ss_search.specs.Countermodel.{model_of};
 
 use crate::model::{Countermodel, read_model, refutes};
-use crate::tableau::{Fact, Step, Tableau};
-use ss_terms::{Bank, Derivation, FormulaId, Line, Term, TermId};
+use crate::question::Question;
+use crate::tableau::{Step, Tableau};
+use ss_terms::{Bank, Derivation, FormulaId, Term, TermId};
 use std::alloc::{AllocError, Global};
 
 /// What a search found.
@@ -66,26 +67,19 @@ fn prove_in(
     ensures countered { IfOk result (λ found. IfCountered found (λ m. Refutes (model_of m) (ground (formulas_at bank.now premises.now) (formula_at bank.now goal)))) }
 {
     let denied = bank.negation(goal);
-    let mut tableau = Tableau::new(alloc, bank, truths)?;
-    learn_all(&mut tableau, premises, denied)?;
+    let question = Question {
+        bank,
+        truths,
+        premises,
+        denied,
+    };
+    let mut tableau = Tableau::new(alloc, question)?;
     if !find_model(&mut tableau)? {
-        let lines = tableau.into_lines();
+        let lines = tableau.into_lines()?;
         return Ok(Found::Proved(Derivation { lines }));
     }
     let model = read_model(alloc, bank, tableau.congruence())?;
     try_model(alloc, bank, model, premises, denied)
-}
-
-// Makes the premises and the denied goal known.
-fn learn_all(
-    tableau: &mut Tableau,
-    premises: &[FormulaId],
-    denied: FormulaId,
-) -> Result<(), AllocError> {
-    for (number, premise) in premises.iter().enumerate() {
-        tableau.learn(Line::Premise(number), Fact::Formula(*premise))?;
-    }
-    tableau.learn(Line::Denied, Fact::Formula(denied))
 }
 
 // Goes through the cases, until each is closed, or one has a model.

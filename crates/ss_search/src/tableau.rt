@@ -1,443 +1,154 @@
-// The cases of a search: what is known in the open case, what waits, and the lines that were written.
+// The cases of a search.
 
-use crate::congruence::{Congruence, Relation};
-use ss_logic::{RuleName, Sort};
-use ss_terms::{Bank, Formula, FormulaId, Line, TermId};
+use crate::choices::{Choices, ChoicesMark, Next};
+use crate::congruence::Congruence;
+use crate::evaluation::Evaluation;
+use crate::facts::{Conflict, Facts, FactsMark};
+use crate::known::{Fact, Known};
+use crate::lines::Lines;
+use crate::nearness::Nearness;
+use crate::question::{Question, formula_at, negation_at};
+use ss_logic::RuleName;
+use ss_terms::{Formula, FormulaId, Line, TermId};
 use std::alloc::{AllocError, Global};
 
-/// A known formula: one of the bank, or that a truth-valued term is true or false, or one side of that.
-#[derive(Clone, Copy, Debug)]
-pub enum Fact {
-    Formula(FormulaId),
-    IsTwoValued(TermId),
-    Is(TermId, TermId),
+/// A split of which a case is open: the known formula that it splits, where it isn't a cut; where its own line and that of
+/// the open case stand; the formulas of the cases that wait, the next one last; the known formulas that closed cases need;
+/// and what was known before.
+#[derive(Drop)]
+struct Split {
+    origin: Option<usize>,
+    line: usize,
+    case: usize,
+    waiting: Vec<Fact>,
+    used: Vec<usize>,
+    start: Start,
 }
 
-/// What is known of a formula in the open case.
-#[derive(Clone, Copy, Debug, PartialEq, Eq)]
-pub enum Answer {
-    True,
-    False,
-    Open,
-}
-
-/// A known inequality of two terms whose classes don't both have a literal.
+/// How much was known when a split was opened.
 #[derive(Clone, Copy, Debug)]
-struct Apart {
-    left: TermId,
-    right: TermId,
-    fact: usize,
-}
-
-/// A case that waits: how much of what is known now belongs to it, and its own formula.
-#[derive(Clone, Copy, Debug)]
-struct Waiting {
+struct Start {
     known: usize,
-    merges: usize,
-    apart: usize,
-    choices: usize,
-    next: usize,
-    fact: Fact,
+    facts: FactsMark,
+    choices: ChoicesMark,
 }
 
 /// Where a search stands.
 #[derive(Drop)]
 pub struct Tableau<'b> {
-    bank: &'b Bank,
-    truths: (TermId, TermId),
-    congruence: Congruence,
-    known: Vec<Fact>,
-    // The known formulas that are an `or`, and the first of them that this pass hasn't looked at.
-    choices: Vec<usize>,
-    next: usize,
+    alloc: Global,
+    question: Question<'b>,
+    facts: Facts<'b>,
+    evaluation: Evaluation,
+    // How far formulas are from the goal, once that was asked for.
+    nearness: Option<Nearness>,
+    known: Known,
     // The known formulas that have been taken apart.
     done: usize,
-    apart: Vec<Apart>,
-    waiting: Vec<Waiting>,
-    lines: Vec<Line>,
-    alloc: Global,
+    choices: Choices,
+    splits: Vec<Split>,
+    lines: Lines,
 }
 
 /// What a step of the search came to.
 #[derive(Clone, Copy, Debug, PartialEq, Eq)]
 pub enum Step {
+    /// The open case is closed.
     Closed,
     Goes,
     /// Nothing is left to split: the classes are a model.
     Model,
 }
 
-/// How deep a formula is looked into before it counts as open.
-const DEPTH: usize = 400;
-
-/// The formula of a number, where the bank has it.
-fn formula_at(bank: &Bank, f: FormulaId) -> Option<&Formula> {
-    if f.0 < bank.formula_count() {
-        Some(bank.formula_node(f))
-    } else {
-        None
-    }
-}
-
 impl<'b> Tableau<'b> {
-    /// The first case, in which nothing is known yet. `truths` are the terms `true` and `false`.
-    pub fn new(
-        alloc: Global,
-        bank: &'b Bank,
-        truths: (TermId, TermId),
-    ) -> Result<Tableau<'b>, AllocError> {
-        Ok(Tableau {
-            bank,
-            truths,
-            congruence: Congruence::new(alloc, bank)?,
-            known: Vec::new(alloc),
-            choices: Vec::new(alloc),
-            next: 0,
-            done: 0,
-            apart: Vec::new(alloc),
-            waiting: Vec::new(alloc),
-            lines: Vec::new(alloc),
+    /// The first case, in which the premises and the denied goal are known.
+    pub fn new(alloc: Global, question: Question<'b>) -> Result<Tableau<'b>, AllocError> {
+        let mut tableau = Tableau {
             alloc,
-        })
+            question,
+            facts: Facts::new(alloc, question.bank)?,
+            evaluation: Evaluation::new(alloc),
+            nearness: None,
+            known: Known::new(alloc),
+            done: 0,
+            choices: Choices::new(alloc),
+            splits: Vec::new(alloc),
+            lines: Lines::new(alloc),
+        };
+        for (number, premise) in question.premises.iter().enumerate() {
+            tableau.learn(Line::Premise(number), Fact::Formula(*premise))?;
+        }
+        tableau.learn(Line::Denied, Fact::Formula(question.denied))?;
+        Ok(tableau)
     }
 
     /// What is known so far, by classes.
     pub fn congruence(&self) -> &Congruence {
-        &self.congruence
+        self.facts.congruence()
     }
 
-    /// The lines that were written.
-    pub fn into_lines(self) -> Vec<Line> {
-        let Tableau {
-            bank: _,
-            truths: _,
-            congruence: _,
-            known: _,
-            choices: _,
-            next: _,
-            done: _,
-            apart: _,
-            waiting: _,
-            lines,
-            alloc: _,
-        } = self;
-        lines
+    /// The lines that were written, without those that no closing of a case needs.
+    pub fn into_lines(self) -> Result<Vec<Line>, AllocError> {
+        let Tableau { lines, .. } = self;
+        lines.shorten()
     }
 
-    /// Writes a line that makes a formula known.
-    pub fn learn(&mut self, line: Line, fact: Fact) -> Result<(), AllocError> {
-        self.lines.push(line)?;
-        self.known.push(fact)?;
-        Ok(())
+    // Writes a line that makes a formula known, and gives the number of that formula.
+    fn learn(&mut self, line: Line, fact: Fact) -> Result<usize, AllocError> {
+        let at = self.lines.write(line)?;
+        self.known.learn(fact, at)
     }
 
-    /// Takes apart what is known and wasn't yet. Closed where that closes the case.
-    pub fn settle(&mut self) -> Result<Step, AllocError> {
+    // Takes apart what is known and wasn't yet. Closed where that closes the case.
+    fn settle(&mut self) -> Result<Step, AllocError> {
         for _ in 0..u64::MAX {
-            let Some(fact) = self.known.get(self.done).copied() else {
+            let Some(fact) = self.known.fact(self.done) else {
                 break;
             };
             let number = self.done;
             self.done = number.saturating_add(1);
-            if self.take_apart(number, fact)? == Step::Closed {
+            if let Some(conflict) = self.take_apart(number, fact)? {
+                self.close(conflict)?;
                 return Ok(Step::Closed);
             }
         }
         Ok(Step::Goes)
     }
 
-    fn take_apart(&mut self, number: usize, fact: Fact) -> Result<Step, AllocError> {
+    fn take_apart(&mut self, number: usize, fact: Fact) -> Result<Option<Conflict>, AllocError> {
         let formula = match fact {
-            Fact::Is(x, y) => return self.equate(number, x, y),
-            Fact::IsTwoValued(_) => {
-                self.choices.push(number)?;
-                return Ok(Step::Goes);
-            }
+            Fact::Is(x, y) => return self.facts.equate(x, y, number),
+            Fact::IsTwoValued => return Ok(None),
             Fact::Formula(f) => f,
         };
-        match formula_at(self.bank, formula) {
-            None => Ok(Step::Goes),
-            Some(
-                Formula::Equal {
-                    holds: true,
-                    left,
-                    right,
-                },
-            ) => self.equate(number, *left, *right),
-            Some(
-                Formula::Equal {
-                    holds: false,
-                    left,
-                    right,
-                },
-            ) => self.separate(number, *left, *right),
-            Some(Formula::Or(_)) => {
-                self.choices.push(number)?;
-                Ok(Step::Goes)
-            }
-            Some(Formula::And(parts)) => {
-                for (j, part) in parts.iter().enumerate() {
-                    self.lines.push(Line::Part(number, j))?;
-                    self.known.push(Fact::Formula(*part))?;
-                }
-                Ok(Step::Goes)
-            }
-        }
-    }
-
-    // Two terms are equal.
-    fn equate(&mut self, number: usize, x: TermId, y: TermId) -> Result<Step, AllocError> {
-        match self.congruence.relation(x, y) {
-            Relation::Equal => return Ok(Step::Goes),
-            Relation::Open => self.congruence.merge(x, y, number)?,
-            Relation::Different => {
-                let (Some(a), Some(b)) = (self.congruence.literal(x), self.congruence.literal(y))
-                else {
-                    return Ok(Step::Goes);
-                };
-                self.congruence.merge(x, y, number)?;
-                let at = self.chain(a, b)?;
-                self.lines.push(Line::Clash(at, at))?;
-                return Ok(Step::Closed);
-            }
-        }
-        self.close_apart()
-    }
-
-    // Closes the case where two terms that aren't equal have come into one class.
-    fn close_apart(&mut self) -> Result<Step, AllocError> {
-        let mut met = None;
-        for pair in &self.apart {
-            if self.congruence.relation(pair.left, pair.right) == Relation::Equal {
-                met = Some(*pair);
-                break;
-            }
-        }
-        match met {
-            None => Ok(Step::Goes),
-            Some(pair) => self.close_pair(pair),
-        }
-    }
-
-    fn close_pair(&mut self, pair: Apart) -> Result<Step, AllocError> {
-        let at = self.chain(pair.left, pair.right)?;
-        self.lines.push(Line::Clash(at, pair.fact))?;
-        Ok(Step::Closed)
-    }
-
-    // Two terms are not equal.
-    fn separate(&mut self, number: usize, x: TermId, y: TermId) -> Result<Step, AllocError> {
-        let pair = Apart {
-            left: x,
-            right: y,
-            fact: number,
-        };
-        match self.congruence.relation(x, y) {
-            Relation::Different => Ok(Step::Goes),
-            Relation::Equal => self.close_pair(pair),
-            Relation::Open => {
-                self.apart.push(pair)?;
-                Ok(Step::Goes)
-            }
-        }
-    }
-
-    // Writes that two terms of a class are equal, and gives the number of that fact.
-    fn chain(&mut self, x: TermId, y: TermId) -> Result<usize, AllocError> {
-        let path = self.congruence.path(x, y)?;
-        let number = self.known.len();
-        self.learn(Line::Chain(x, y, path), Fact::Is(x, y))?;
-        Ok(number)
-    }
-
-    /// The answer to whether two terms are equal.
-    fn equality(&self, x: TermId, y: TermId) -> Answer {
-        match self.congruence.relation(x, y) {
-            Relation::Equal => Answer::True,
-            Relation::Different => Answer::False,
-            Relation::Open => {
-                let (a, b) = (self.congruence.class(x), self.congruence.class(y));
-                let is_apart = self.apart.iter().any(|pair| {
-                    let left = self.congruence.class(pair.left);
-                    let right = self.congruence.class(pair.right);
-                    left == a && right == b || left == b && right == a
-                });
-                if is_apart {
-                    Answer::False
-                } else {
-                    Answer::Open
-                }
-            }
-        }
-    }
-
-    #[cycle(answering)]
-    fn answer(&self, formula: FormulaId, depth: usize) -> Answer {
-        if depth == 0 {
-            return Answer::Open;
-        }
-        match formula_at(self.bank, formula) {
-            None => Answer::Open,
+        match formula_at(self.question.bank, formula) {
+            None => {}
             Some(Formula::Equal { holds, left, right }) => {
-                let answer = self.equality(*left, *right);
-                if *holds { answer } else { opposite(answer) }
-            }
-            Some(Formula::And(parts)) => self.answer_of(parts, depth - 1, Answer::False),
-            Some(Formula::Or(parts)) => self.answer_of(parts, depth - 1, Answer::True),
-        }
-    }
-
-    // The answer of an `and`, which one false part decides, or of an `or`, which one true part decides. Literals are asked
-    // first, since they answer at once.
-    #[cycle(answering)]
-    fn answer_of(&self, parts: &[FormulaId], depth: usize, deciding: Answer) -> Answer {
-        let mut all = opposite(deciding);
-        for is_first in [true, false] {
-            for part in parts {
-                if self.is_literal(*part) != is_first {
-                    continue;
-                }
-                let answer = self.answer(*part, depth);
-                if answer == deciding {
-                    return deciding;
-                }
-                if answer == Answer::Open {
-                    all = Answer::Open;
-                }
-            }
-        }
-        all
-    }
-
-    fn is_literal(&self, formula: FormulaId) -> bool {
-        matches!(formula_at(self.bank, formula), Some(Formula::Equal { .. }))
-    }
-
-    // What is known of the parts of a choice: None where one is true, else how many are open.
-    fn open_parts(&self, number: usize) -> Option<usize> {
-        match self.known.get(number) {
-            Some(Fact::Formula(f)) => match formula_at(self.bank, *f) {
-                Some(Formula::Or(parts)) => self.open_formulas(parts),
-                _ => None,
-            },
-            Some(Fact::IsTwoValued(x)) => self.open_values(*x),
-            _ => None,
-        }
-    }
-
-    fn open_formulas(&self, parts: &[FormulaId]) -> Option<usize> {
-        let mut open = 0usize;
-        for part in parts {
-            match self.answer(*part, DEPTH) {
-                Answer::True => return None,
-                Answer::False => {}
-                Answer::Open => open = open.saturating_add(1),
-            }
-        }
-        Some(open)
-    }
-
-    fn open_values(&self, x: TermId) -> Option<usize> {
-        let answers = (
-            self.equality(x, self.truths.0),
-            self.equality(x, self.truths.1),
-        );
-        match answers {
-            (Answer::True, _) | (_, Answer::True) => None,
-            (Answer::False, Answer::False) => Some(0),
-            (Answer::Open, Answer::Open) => Some(2),
-            _ => Some(1),
-        }
-    }
-
-    // The next choice with at most one open part, or else the first one with more. A pass that didn't begin at the first
-    // choice is followed by one that does.
-    fn find_choice(&mut self) -> Option<usize> {
-        for _pass in 0..2 {
-            let start = self.next;
-            let mut first = None;
-            for _ in start..self.choices.len() {
-                let Some(number) = self.choices.get(self.next).copied() else {
-                    break;
+                return if *holds {
+                    self.facts.equate(*left, *right, number)
+                } else {
+                    self.facts.separate(*left, *right, number)
                 };
-                self.next = self.next.saturating_add(1);
-                match self.open_parts(number) {
-                    Some(0 | 1) => return Some(number),
-                    Some(_) if first.is_none() => first = Some(number),
-                    _ => {}
-                }
             }
-            self.next = 0;
-            if start == 0 {
-                return first;
-            }
-        }
-        None
-    }
-
-    // The parts of a choice, the last one first.
-    fn parts_of(&self, number: usize) -> Result<Vec<Fact>, AllocError> {
-        let mut facts = Vec::new(self.alloc);
-        match self.known.get(number) {
-            Some(Fact::Formula(f)) => {
-                if let Some(Formula::Or(parts)) = formula_at(self.bank, *f) {
-                    for part in parts.iter().rev() {
-                        facts.push(Fact::Formula(*part))?;
-                    }
-                }
-            }
-            Some(Fact::IsTwoValued(x)) => {
-                facts.push(Fact::Is(*x, self.truths.1))?;
-                facts.push(Fact::Is(*x, self.truths.0))?;
-            }
-            _ => {}
-        }
-        Ok(facts)
-    }
-
-    // Opens the cases of a choice; each waits.
-    fn split(&mut self, number: usize) -> Result<(), AllocError> {
-        let facts = self.parts_of(number)?;
-        self.lines.push(Line::Split(number, facts.len()))?;
-        for fact in &facts {
-            self.waiting.push(Waiting {
-                known: self.known.len(),
-                merges: self.congruence.mark(),
-                apart: self.apart.len(),
-                choices: self.choices.len(),
-                next: self.next,
-                fact: *fact,
-            })?;
-        }
-        Ok(())
-    }
-
-    /// Goes on with the last case that waits, where there is one.
-    pub fn reopen(&mut self) -> Result<bool, AllocError> {
-        let Some(case) = self.waiting.pop() else {
-            return Ok(false);
-        };
-        self.lines.push(Line::Case)?;
-        self.known.truncate(case.known);
-        self.congruence.undo(case.merges);
-        self.apart.truncate(case.apart);
-        self.choices.truncate(case.choices);
-        self.done = self.known.len();
-        self.next = case.next;
-        self.known.push(case.fact)?;
-        Ok(true)
-    }
-
-    // A truth-valued term that is known to differ from another and isn't known to be true or false.
-    fn undecided(&self) -> Option<TermId> {
-        for pair in &self.apart {
-            for term in [pair.left, pair.right] {
-                if is_truth(self.bank, term) && self.congruence.literal(term).is_none() {
-                    return Some(term);
+            Some(Formula::Or(_)) => self.choices.add(number, formula)?,
+            Some(Formula::And(parts)) => {
+                for (place, part) in parts.iter().enumerate() {
+                    self.learn(Line::Part(number, place), Fact::Formula(*part))?;
                 }
             }
         }
-        None
+        Ok(None)
+    }
+
+    // Writes that the two terms of a conflict are equal, and closes the case by it.
+    fn close(&mut self, conflict: Conflict) -> Result<(), AllocError> {
+        let Conflict { left, right, apart } = conflict;
+        let path = self.facts.congruence().path(left, right)?;
+        let number = self.learn(Line::Chain(left, right, path), Fact::Is(left, right))?;
+        let other = apart.unwrap_or(number);
+        self.lines.write(Line::Clash(number, other))?;
+        self.known.need(number)?;
+        self.known.need(other)
     }
 
     /// Goes on in the open case: takes apart what is known, and splits where nothing else is left to do.
@@ -445,28 +156,153 @@ impl<'b> Tableau<'b> {
         if self.settle()? == Step::Closed {
             return Ok(Step::Closed);
         }
-        if let Some(number) = self.find_choice() {
-            self.split(number)?;
-            return Ok(Step::Closed);
+        if let Some(x) = self.facts.forced_truth() {
+            return self.decide(x);
         }
-        let Some(x) = self.undecided() else {
-            return Ok(Step::Model);
-        };
-        let mut terms = Vec::new(self.alloc);
-        terms.push(x)?;
-        self.learn(Line::Rule(RuleName::Bool, terms), Fact::IsTwoValued(x))?;
-        Ok(Step::Goes)
+        match self.choices.next(&self.facts, &mut self.evaluation)? {
+            Next::Forced(place) => return self.split(place),
+            Next::Open => {
+                if let Some(place) = self.find_nearest()? {
+                    return self.cut(place);
+                }
+            }
+            Next::Nothing => {}
+        }
+        match self.facts.undecided_truth() {
+            Some(x) => self.decide(x),
+            None => Ok(Step::Model),
+        }
     }
-}
 
-fn is_truth(bank: &Bank, term: TermId) -> bool {
-    term.0 < bank.term_count() && bank.sort(term) == Sort::Truth
-}
+    // The place of the open choice nearest to the goal. Distances are found when they are asked for the first time.
+    fn find_nearest(&mut self) -> Result<Option<usize>, AllocError> {
+        if self.nearness.is_none() {
+            self.nearness = Some(Nearness::new(self.alloc, self.question)?);
+        }
+        let Some(nearness) = &self.nearness else {
+            return Ok(None);
+        };
+        self.choices
+            .find_nearest(&self.facts, &mut self.evaluation, nearness)
+    }
 
-fn opposite(answer: Answer) -> Answer {
-    match answer {
-        Answer::True => Answer::False,
-        Answer::False => Answer::True,
-        Answer::Open => Answer::Open,
+    // Opens the cases that a truth-valued term is true, and that it is false.
+    fn decide(&mut self, x: TermId) -> Result<Step, AllocError> {
+        let terms = vec![in self.alloc; x]?;
+        let number = self.learn(Line::Rule(RuleName::Bool, terms), Fact::IsTwoValued)?;
+        let (yes, no) = self.question.truths;
+        let cases = vec![in self.alloc; Fact::Is(x, no), Fact::Is(x, yes)]?;
+        self.open_split(Some(number), Line::Split(number, 2), cases)
+    }
+
+    // Opens the parts of a choice as cases, in which the choice is taken.
+    fn split(&mut self, place: usize) -> Result<Step, AllocError> {
+        let Some(choice) = self.choices.free(place) else {
+            return Ok(Step::Goes);
+        };
+        let mut cases = Vec::new(self.alloc);
+        if let Some(Formula::Or(parts)) = formula_at(self.question.bank, choice.formula) {
+            for part in parts.iter().rev() {
+                cases.push(Fact::Formula(*part))?;
+            }
+        }
+        self.choices.take(place)?;
+        let line = Line::Split(choice.number, cases.len());
+        self.open_split(Some(choice.number), line, cases)
+    }
+
+    // Opens the cases that the first open atom inside the first open part of a choice holds, and that it doesn't. The choice
+    // isn't taken: it is looked at again in both.
+    fn cut(&mut self, place: usize) -> Result<Step, AllocError> {
+        let Some(choice) = self.choices.free(place) else {
+            return Ok(Step::Goes);
+        };
+        let found = self.evaluation.open_atom(&self.facts, choice.formula)?;
+        let Some(atom) = found else {
+            return self.split(place);
+        };
+        let Some(negation) = negation_at(self.question.bank, atom) else {
+            return self.split(place);
+        };
+        let cases = vec![in self.alloc; Fact::Formula(negation), Fact::Formula(atom)]?;
+        self.open_split(None, Line::Cut(atom), cases)
+    }
+
+    // Writes the line of a split, and opens its first case. A split without a case closes the one in which it stands.
+    fn open_split(
+        &mut self,
+        origin: Option<usize>,
+        line: Line,
+        cases: Vec<Fact>,
+    ) -> Result<Step, AllocError> {
+        let line = self.lines.write(line)?;
+        let mut split = Split {
+            origin,
+            line,
+            case: line,
+            waiting: cases,
+            used: Vec::new(self.alloc),
+            start: Start {
+                known: self.known.len(),
+                facts: self.facts.mark(),
+                choices: self.choices.mark(),
+            },
+        };
+        match split.waiting.pop() {
+            Some(fact) => {
+                self.open_case(split, fact)?;
+                Ok(Step::Goes)
+            }
+            None => {
+                self.need_split(&split)?;
+                Ok(Step::Closed)
+            }
+        }
+    }
+
+    fn open_case(&mut self, mut split: Split, fact: Fact) -> Result<(), AllocError> {
+        self.facts.undo(split.start.facts);
+        self.choices.undo(split.start.choices);
+        self.done = split.start.known;
+        split.case = self.lines.write(Line::Case)?;
+        self.known.learn(fact, split.case)?;
+        self.splits.push(split)?;
+        Ok(())
+    }
+
+    // What the cases of a split need, and what it splits, is needed where it stands.
+    fn need_split(&mut self, split: &Split) -> Result<(), AllocError> {
+        self.known.need_all(&split.used)?;
+        match split.origin {
+            Some(number) => self.known.need(number),
+            None => Ok(()),
+        }
+    }
+
+    /// Goes on with the next case that waits, where there is one, when the open case is closed. A split whose open case was
+    /// closed without its own formula isn't needed: the case closes what the split stands in, and its other cases are
+    /// dropped.
+    pub fn reopen(&mut self) -> Result<bool, AllocError> {
+        for _ in 0..self.splits.len() {
+            let Some(mut split) = self.splits.pop() else {
+                break;
+            };
+            let inside = split.start.known.saturating_add(1);
+            self.known.forget(inside, &mut self.lines)?;
+            if !self.known.forget_case() {
+                self.lines.leave_out_split(split.line, split.case);
+                continue;
+            }
+            match split.waiting.pop() {
+                Some(fact) => {
+                    self.known.hand_over(&mut split.used)?;
+                    self.open_case(split, fact)?;
+                    return Ok(true);
+                }
+                None => self.need_split(&split)?,
+            }
+        }
+        self.known.forget(0, &mut self.lines)?;
+        Ok(false)
     }
 }

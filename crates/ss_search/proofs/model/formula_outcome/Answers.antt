@@ -1,4 +1,3 @@
-use Rattle.std.proofs.Common.{◌∙◌, rules}
 use Rattle.ss_search.specs.Countermodel.{model_of}
 use Rattle.ss_search.proofs.Outcomes.{comes_out-And, comes_out-Or}
 use Rattle.ss_search.proofs.model.formula_outcome.Goals as goal

@@ -1,4 +1,4 @@
-use Rattle.ss_terms.specs.Forms.{HasFormula, IsGrown, formula_at, formulas_at}
+use Rattle.ss_terms.specs.Forms.{IsGrown, formula_at, formulas_at}
 use Rattle.ss_terms.proofs.Banks.{IsGrown-then, HasFormulas-grown, formulas_at-grown}
 use Rattle.ss_search.proofs.Answers.{moved}
 use Rattle.ss_search.proofs.obligation.prove_or_stop.Goals as goal
