@@ -9,8 +9,6 @@ pub enum Expected {
     Status(String),
     /// Any answer but a refusal by a rule below 13.
     Read,
-    /// Any refusal by a rule below 13, or because the text isn't of the form.
-    Refused,
 }
 
 /// A case. Among the words `FILE` stands for the name of the file that holds the source.

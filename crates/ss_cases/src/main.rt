@@ -26,34 +26,6 @@ fn is_expected(expected: &Expected, status: &Status, told: &str) -> bool {
     match expected {
         Expected::Status(text) => text.as_str() == told,
         Expected::Read => !matches!(status, Status::SourceRefused { rule: 0..=12, .. }),
-        Expected::Refused => {
-            matches!(
-                status,
-                Status::SourceRefused {
-                    rule: 1..=12 | 90,
-                    ..
-                }
-            )
-        }
-    }
-}
-
-/// What the cases of a file expect. A file `not-*-form.txt` has texts that aren't of a form, and expects of them the
-/// refusal `90 at 1:1` of a program that reads that form alone. The whole grammar refuses some of them by a rule of its
-/// own, so every refusal holds there. Texts that aren't of the first form may be of the second one, and are accepted then:
-/// `not-first-form.txt` is no part of the suite any more.
-fn adapt(name: &str, cases: &mut [Case]) {
-    if !name.starts_with("not-") {
-        return;
-    }
-    for case in cases {
-        let is_form = match &case.expected {
-            Expected::Status(text) => text.as_str() == "4 refused 90 at 1:1",
-            _ => false,
-        };
-        if is_form {
-            case.expected = Expected::Refused;
-        }
     }
 }
 
@@ -77,8 +49,7 @@ fn difference(alloc: Global, case: &Case) -> Result<Option<String>, AllocError> 
 fn run_file<R: Print + Files + AllocGlobal>(rt: &R, name: &str) -> io::Result<()> {
     let alloc = rt.alloc();
     let text = fs::read_to_string(rt, name)?;
-    let mut cases = read_cases(alloc, &text)?;
-    adapt(name, &mut cases);
+    let cases = read_cases(alloc, &text)?;
     let mut held = 0usize;
     for case in &cases {
         match difference(alloc, case)? {
