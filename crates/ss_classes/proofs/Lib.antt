@@ -1,0 +1,4 @@
+pub mod Levels
+pub mod Declared
+pub mod Chains
+pub mod Fields

@@ -1,0 +1,18 @@
+//! Core programs of the whole language: classes with their fields, invariants and tables of methods, and bodies in which names
+//! are numbers and every implied step is written out.
+#![tactic(auto)]
+
+mod body;
+mod chain;
+mod class;
+mod expr;
+mod names;
+mod stmt;
+#[cfg(test)]
+mod tests;
+
+pub use body::{Body, BodyFlags, Core, Local, Modifies};
+pub use class::{Class, Classes, Entry, Field};
+pub use expr::{DefaultCondition, Expr, Link, Operator, OwnerTest, Quantifier, StateWord, Step};
+pub use names::{FieldId, Mark, Ty};
+pub use stmt::{Callee, Exposed, Loop, Stmt};
