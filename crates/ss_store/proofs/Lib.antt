@@ -1,0 +1,10 @@
+pub mod Loops
+mod Lookups
+pub mod NewSlots
+pub mod Numbers
+pub mod Packs
+pub mod Rooms
+pub mod Steps
+mod Keeping
+mod Groups
+mod Members

@@ -1,0 +1,59 @@
+// Copies of a store.
+ghost use Rattle.std.specs.Prelude.{◌≡◌, IfOk};
+
+use crate::object::{Object, Slot};
+use crate::store::Store;
+use std::alloc::{AllocError, Global};
+
+fn copy_slots(alloc: Global, slots: &[Slot]) -> Result<Vec<Slot>, AllocError>
+    ensures { IfOk result (λ v. v.items ≡ slots.now) }
+{
+    let mut copies = Vec::with_capacity(alloc, slots.len())?;
+    for slot in slots {
+        copies.push(Slot {
+            field: slot.field,
+            value: slot.value,
+        })?;
+    }
+    Ok(copies)
+}
+
+fn copy_object(alloc: Global, x: &Object) -> Result<Object, AllocError>
+    ensures { IfOk result (λ y. y ≡ x.now) }
+{
+    let fields = copy_slots(alloc, &x.fields)?;
+    let elements = Vec::from_slice(alloc, &x.elements)?;
+    Ok(Object {
+        class: x.class,
+        fields,
+        elements,
+        level: x.level,
+        committed: x.committed,
+        owner: x.owner,
+        ready: x.ready,
+    })
+}
+
+fn copy_objects(alloc: Global, objects: &[Object]) -> Result<Vec<Object>, AllocError>
+    ensures { IfOk result (λ v. v.items ≡ objects.now) }
+{
+    let mut copies = Vec::with_capacity(alloc, objects.len())?;
+    for x in objects {
+        copies.push(copy_object(alloc, x)?)?;
+    }
+    Ok(copies)
+}
+
+impl Store {
+    /// A store with equal contents, and no room for more.
+    pub fn copy(&self) -> Result<Store, AllocError>
+        ensures { IfOk result (λ s. s ≡ record { objects = self.now.objects; spare = 0 }) }
+    {
+        let alloc = *self.objects.allocator();
+        let objects = copy_objects(alloc, &self.objects)?;
+        Ok(Store {
+            objects,
+            spare: Vec::new(alloc),
+        })
+    }
+}

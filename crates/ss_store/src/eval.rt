@@ -1,0 +1,267 @@
+// Values of expressions.
+ghost use Rattle.std.specs.Prelude.{◌≡◌, ◌≤◌, [], ◌∷◌, map, length};
+ghost use Rattle.std.specs.Int.{int_gap};
+ghost use Rattle.ss_classes.specs.View as view;
+ghost use Rattle.ss_classes.specs.Chain.{most_classes};
+ghost use Rattle.ss_objects.specs.Values as values;
+ghost use Rattle.ss_objects.specs.Reads as reads;
+ghost use Rattle.ss_store.specs.Scenes.{setting_of};
+ghost use Rattle.ss_store.specs.Grouped.{link_behind, step_behind, IsBehind};
+
+use crate::arithmetic::{apply, as_bool, as_int, decides, negate};
+use crate::before::Before;
+use crate::names::Names;
+use crate::scene::Scene;
+use crate::store::Store;
+use ss_classes::{Core, Expr, Link, Quantifier, Step};
+use ss_core::Place;
+use ss_objects::{Undefined, Value};
+
+impl<'a, B: Before> Scene<'a, B> {
+    // The same inside `old`.
+    fn at_entry(&self) -> Scene<'a, B>
+        ensures { setting_of B.told result ≡ values.at_entry (setting_of B.told self.now) }
+    {
+        Scene {
+            classes: self.classes,
+            store: self.store,
+            entry: self.entry,
+            names: self.names,
+            inside_old: true,
+        }
+    }
+}
+
+// The value of an expression, or the first cause why it has none.
+#[cycle(eval)]
+pub(crate) fn eval<B: Before>(scene: &Scene<'_, B>, e: &Expr) -> Result<Value, Undefined>
+    requires { length (view.classes scene.now.classes.now) ≤ most_classes }
+    ensures { result ≡ values.value_of (view.expr e.now) (setting_of B.told scene.now) }
+{
+    match e {
+        Expr::Int(_, n) => Ok(Value::Int(*n)),
+        Expr::Bool(_, b) => Ok(Value::Bool(*b)),
+        Expr::Null(_) => Ok(Value::Null),
+        Expr::Local(_, x) => Ok(scene.local(*x)),
+        Expr::Iff(_, a, b) => {
+            let left = eval(scene, a)?;
+            let right = eval(scene, b)?;
+            Ok(Value::Bool(as_bool(left) == as_bool(right)))
+        }
+        Expr::Implies(_, a, b) => {
+            let left = eval(scene, a)?;
+            if !as_bool(left) {
+                return Ok(Value::Bool(true));
+            }
+            let right = eval(scene, b)?;
+            Ok(Value::Bool(as_bool(right)))
+        }
+        Expr::Chain(place, first, links) => {
+            let value = eval(scene, first)?;
+            eval_links(scene, *place, value, links)
+        }
+        Expr::Negate(place, a) => {
+            let value = eval(scene, a)?;
+            negate(*place, value)
+        }
+        Expr::Not(_, a) => {
+            let value = eval(scene, a)?;
+            Ok(Value::Bool(!as_bool(value)))
+        }
+        Expr::Cast(place, t, non_null, a) => {
+            let value = eval(scene, a)?;
+            scene.cast(*place, *t, *non_null, value)
+        }
+        Expr::Path(place, first, steps) => {
+            let value = eval(scene, first)?;
+            eval_steps(scene, *place, value, steps)
+        }
+        Expr::Old(_, a) => eval(&scene.at_entry(), a),
+        Expr::Quantified(_, quantifier, _, low, high, member) => {
+            let low = eval(scene, low)?;
+            let high = eval(scene, high)?;
+            eval_members(scene, *quantifier, as_int(low), as_int(high), member)
+        }
+        Expr::State(place, word, a) => {
+            let value = eval(scene, a)?;
+            scene.word_value(*place, *word, value)
+        }
+        Expr::Owners(place, test, a, b) => {
+            let left = eval(scene, a)?;
+            let right = eval(scene, b)?;
+            scene.owners_value(*place, *test, left, right)
+        }
+        Expr::Default(_, condition) => Ok(Value::Bool(scene.default_holds(*condition))),
+    }
+}
+
+// The value of a chain that begins with an expression of this value.
+#[cycle(eval)]
+fn eval_links<B: Before>(
+    scene: &Scene<'_, B>,
+    place: Place,
+    first: Value,
+    links: &[Link],
+) -> Result<Value, Undefined>
+    requires { length (view.classes scene.now.classes.now) ≤ most_classes }
+    ensures { IsBehind (setting_of B.told scene.now) place first (map link_behind links.now) result }
+{
+    let mut value = first;
+    for link in links {
+        value = eval_link(scene, place, value, link)?;
+    }
+    Ok(value)
+}
+
+// The value of an operand of this value with one link behind it.
+#[cycle(eval)]
+fn eval_link<B: Before>(
+    scene: &Scene<'_, B>,
+    place: Place,
+    left: Value,
+    link: &Link,
+) -> Result<Value, Undefined>
+    requires { length (view.classes scene.now.classes.now) ≤ most_classes }
+    ensures { IsBehind (setting_of B.told scene.now) place left (link_behind link.now ∷ []) result }
+{
+    match link {
+        Link::Operation(operator, e) => {
+            if decides(*operator, left) {
+                return Ok(Value::Bool(as_bool(left)));
+            }
+            let right = eval(scene, e)?;
+            apply(*operator, place, left, right)
+        }
+        Link::Is(t) => Ok(Value::Bool(scene.is_of(*t, left))),
+        Link::As(t) => {
+            if scene.is_of(*t, left) {
+                Ok(left)
+            } else {
+                Ok(Value::Null)
+            }
+        }
+    }
+}
+
+// The value of a path that begins with an expression of this value.
+#[cycle(eval)]
+fn eval_steps<B: Before>(
+    scene: &Scene<'_, B>,
+    place: Place,
+    first: Value,
+    steps: &[Step],
+) -> Result<Value, Undefined>
+    requires { length (view.classes scene.now.classes.now) ≤ most_classes }
+    ensures { IsBehind (setting_of B.told scene.now) place first (map step_behind steps.now) result }
+{
+    let mut value = first;
+    for step in steps {
+        value = eval_step(scene, place, value, step)?;
+    }
+    Ok(value)
+}
+
+// The value of one step from this value.
+#[cycle(eval)]
+fn eval_step<B: Before>(
+    scene: &Scene<'_, B>,
+    place: Place,
+    from: Value,
+    step: &Step,
+) -> Result<Value, Undefined>
+    requires { length (view.classes scene.now.classes.now) ≤ most_classes }
+    ensures { IsBehind (setting_of B.told scene.now) place from (step_behind step.now ∷ []) result }
+{
+    match step {
+        Step::Field(f) => scene.read_field(place, from, *f),
+        Step::Element(e) => {
+            let index = eval(scene, e)?;
+            scene.read_element(place, from, index)
+        }
+        Step::Length => scene.read_length(place, from),
+    }
+}
+
+// What a quantifier over nothing is.
+fn of_none(quantifier: Quantifier) -> bool
+    ensures { result ≡ values.of_none quantifier }
+{
+    match quantifier {
+        Quantifier::Forall => true,
+        Quantifier::Exists => false,
+    }
+}
+
+fn joined(quantifier: Quantifier, left: bool, right: bool) -> bool
+    ensures { result ≡ values.joined quantifier left right }
+{
+    match quantifier {
+        Quantifier::Forall => left && right,
+        Quantifier::Exists => left || right,
+    }
+}
+
+// The value of a quantifier from its bounds.
+#[cycle(eval)]
+fn eval_members<B: Before>(
+    scene: &Scene<'_, B>,
+    quantifier: Quantifier,
+    low: i32,
+    high: i32,
+    member: &Expr,
+) -> Result<Value, Undefined>
+    requires { length (view.classes scene.now.classes.now) ≤ most_classes }
+    ensures { result ≡ values.quantified quantifier (λ i. values.value_of (view.expr member.now) (values.with_bound (setting_of B.told scene.now) i)) (int_gap low high) low }
+{
+    let mut holds = of_none(quantifier);
+    for i in low..high {
+        let value = eval_member(scene, i, member)?;
+        holds = joined(quantifier, holds, as_bool(value));
+    }
+    Ok(Value::Bool(holds))
+}
+
+// The value of a member, with this number bound.
+#[cycle(eval)]
+fn eval_member<B: Before>(scene: &Scene<'_, B>, i: i32, member: &Expr) -> Result<Value, Undefined>
+    requires { length (view.classes scene.now.classes.now) ≤ most_classes }
+    ensures { result ≡ values.value_of (view.expr member.now) (values.with_bound (setting_of B.told scene.now) i) }
+{
+    let names = Names::Bound(scene.names, Value::Int(i));
+    let inner = Scene {
+        classes: scene.classes,
+        store: scene.store,
+        entry: scene.entry,
+        names: &names,
+        inside_old: scene.inside_old,
+    };
+    eval(&inner, member)
+}
+
+impl Store {
+    ghost use Rattle.ss_classes.specs.View.{classes};
+    ghost use Rattle.ss_objects.specs.Values.{value_of, setting};
+
+    /// The value of an expression of the program over this store, with these values of the locals, or the first cause why it
+    /// has none; `before` tells what `old` and `IsNew` speak of.
+    pub fn eval<B: Before>(
+        &self,
+        c: &Core,
+        before: &B,
+        e: &Expr,
+        locals: &[Value],
+    ) -> Result<Value, Undefined>
+        requires { length (classes c.now.classes) ≤ most_classes }
+        ensures { result ≡ value_of (view.expr e.now) (setting (classes c.now.classes) self.now.objects (B.told before.now) locals.now) }
+    {
+        let names = Names::Locals(locals);
+        let scene = Scene {
+            classes: &c.classes,
+            store: self,
+            entry: before,
+            names: &names,
+            inside_old: false,
+        };
+        eval(&scene, e)
+    }
+}

@@ -1,0 +1,82 @@
+// The fields of new objects.
+ghost use Rattle.std.specs.Prelude.{◌≡◌, ◌+◌, ◌^◌, ◌<◌, ◌≤◌, ◌++◌, length, map, vec_capacity, OnOk, OnErr};
+ghost use Rattle.ss_classes.specs.View.{classes, field_of};
+ghost use Rattle.ss_classes.specs.Chain.{all_fields, IsWithinLimits};
+ghost use Rattle.ss_objects.specs.Store.{default_value};
+ghost use Rattle.ss_objects.specs.Changes.{slots_from, new_fields};
+ghost use Rattle.ss_store.specs.Slots.{slot_for, slots_of};
+
+use crate::object::Slot;
+use crate::walks::MOST_LEVELS;
+use ss_classes::{Classes, Field, FieldId, Ty};
+use ss_core::ClassId;
+use ss_objects::Value;
+use std::alloc::AllocError;
+
+fn default_of(ty: Ty) -> Value
+    ensures { result ≡ default_value ty }
+{
+    match ty {
+        Ty::Int => Value::Int(0),
+        Ty::Bool => Value::Bool(false),
+        Ty::Null | Ty::Ref { .. } => Value::Null,
+    }
+}
+
+fn slot_for(number: u32, field: &Field) -> Slot
+    ensures { result ≡ slot_for number (field_of field.now) }
+{
+    Slot {
+        field: FieldId(number),
+        value: default_of(field.ty),
+    }
+}
+
+/// Appends slots for the fields, which have the numbers from `first` on.
+fn push_slots(slots: &mut Vec<Slot>, fields: &[Field], first: u32) -> Result<(), AllocError>
+    requires { first + length fields.now < 2 ^ 32 }
+    ensures pushed { OnOk result (slots.new.items ≡ slots.old.items ++ slots_of first (map field_of fields.now)) }
+    ensures capacity { vec_capacity slots.old ≤ vec_capacity slots.new }
+    ensures full { OnErr result (vec_capacity slots.old < length slots.old.items + length fields.now) }
+{
+    for (i, field) in fields.iter().enumerate() {
+        slots.push(slot_for(first + i as u32, field))?;
+    }
+    Ok(())
+}
+
+/// Appends slots for the fields that the class declares.
+fn push_declared(slots: &mut Vec<Slot>, k: &Classes, t: ClassId) -> Result<(), AllocError>
+    requires { IsWithinLimits (classes k.now) }
+    ensures pushed { OnOk result (slots.new.items ≡ slots.old.items ++ slots_from t.0 0 (all_fields (classes k.now))) }
+    ensures capacity { vec_capacity slots.old ≤ vec_capacity slots.new }
+    ensures full { OnErr result (vec_capacity slots.old < length slots.old.items + length (slots_from t.0 0 (all_fields (classes k.now)))) }
+{
+    let mut number = 4u16;
+    let mut first = 0u32;
+    for class in &k.list {
+        if number == t.0 {
+            return push_slots(slots, &class.fields, first);
+        }
+        number += 2;
+        first += class.fields.len() as u32;
+    }
+    Ok(())
+}
+
+/// Appends slots for the fields of an object of the class.
+pub(crate) fn push_fields(slots: &mut Vec<Slot>, k: &Classes, c: ClassId) -> Result<(), AllocError>
+    requires { IsWithinLimits (classes k.now) }
+    ensures pushed { OnOk result (slots.new.items ≡ slots.old.items ++ new_fields (classes k.now) c.0) }
+    ensures full { OnErr result (vec_capacity slots.old < length slots.old.items + length (new_fields (classes k.now) c.0)) }
+{
+    let mut level = c;
+    for _i in 0..MOST_LEVELS {
+        push_declared(slots, k, level)?;
+        match k.level_above(level) {
+            Some(above) => level = above,
+            None => return Ok(()),
+        }
+    }
+    Ok(())
+}

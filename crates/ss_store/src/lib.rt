@@ -1,0 +1,32 @@
+//! The object store, its changes, and the values of expressions over it.
+#![tactic(auto)]
+
+mod arithmetic;
+mod before;
+mod calls;
+#[cfg(test)]
+mod change_tests;
+mod copies;
+mod defaults;
+mod eval;
+mod fields;
+mod invariants;
+mod levels;
+mod making;
+mod names;
+mod object;
+mod owners;
+mod reads;
+mod ready;
+mod refused;
+mod scene;
+mod store;
+#[cfg(test)]
+mod tests;
+mod walks;
+mod words;
+mod writes;
+
+pub use before::Before;
+pub use making::NewStop;
+pub use store::Store;

@@ -1,0 +1,126 @@
+// Owners: a whole group gets one.
+ghost use Rattle.std.specs.Prelude.{◌≡◌, ◌≢◌};
+ghost use Rattle.ss_objects.specs.Reads.{is_pair, is_in_group, same_owner};
+ghost use Rattle.ss_objects.specs.Changes.{IsChange, changed, regrouped, capture_of, join_of};
+ghost use Rattle.ss_store.specs.Shapes.{no_class, HasClass};
+
+use crate::object::Object;
+use crate::refused::refuse;
+use crate::store::Store;
+use ss_core::{ClassId, Kind};
+use ss_objects::{Owner, Refused};
+
+/// Whether the owner is the pair of the object at `o` and the class.
+pub(crate) fn is_pair(owner: Owner, o: u32, t: ClassId) -> bool
+    ensures { result ≡ is_pair o t.0 owner }
+{
+    match owner {
+        Owner::Owned(p, u) => p == o && u == t,
+        Owner::Group(_) => false,
+    }
+}
+
+fn is_in_group(owner: Owner, g: u32) -> bool
+    ensures { result ≡ is_in_group g owner }
+{
+    match owner {
+        Owner::Group(h) => h == g,
+        Owner::Owned(_, _) => false,
+    }
+}
+
+fn is_same(v: Owner, w: Owner) -> bool
+    ensures { result ≡ same_owner v w }
+{
+    match (v, w) {
+        (Owner::Group(g), Owner::Group(h)) => g == h,
+        (Owner::Owned(o, t), Owner::Owned(p, u)) => o == p && t == u,
+        _ => false,
+    }
+}
+
+impl Object {
+    /// A member of the group gets the owner.
+    fn regroup(&mut self, g: u32, owner: Owner)
+        requires { HasClass owner }
+        ensures { self.new ≡ regrouped g owner 0 self.old }
+    {
+        if is_in_group(self.owner, g) {
+            self.owner = owner;
+        }
+    }
+}
+
+fn regroup_all(objects: &mut [Object], g: u32, owner: Owner)
+    requires { HasClass owner }
+    ensures { objects.new ≡ changed (regrouped g owner) objects.old }
+{
+    for (i, x) in objects.iter_mut().enumerate() {
+        let _ = i;
+        x.regroup(g, owner);
+    }
+}
+
+pub(crate) fn capture(objects: &mut [Object], o: u32, t: ClassId, e: u32) -> Result<(), Refused>
+    requires { t.0 ≢ no_class }
+    ensures { IsChange objects.old objects.new result (capture_of objects.old o t.0 e) }
+{
+    let Some(y) = objects.get(e as usize) else {
+        return refuse(Kind::Null);
+    };
+    let owner = y.owner;
+    if let Owner::Group(g) = owner {
+        regroup_all(objects, g, Owner::Owned(o, t));
+        return Ok(());
+    }
+    if is_pair(owner, o, t) {
+        Ok(())
+    } else {
+        refuse(Kind::RepOwner)
+    }
+}
+
+pub(crate) fn join_peer(objects: &mut [Object], o: u32, e: u32) -> Result<(), Refused>
+    ensures { IsChange objects.old objects.new result (join_of objects.old o e) }
+{
+    let Some(x) = objects.get(o as usize) else {
+        return refuse(Kind::Null);
+    };
+    let Some(y) = objects.get(e as usize) else {
+        return refuse(Kind::Null);
+    };
+    let (owner, other, committed) = (x.owner, y.owner, y.committed);
+    if is_same(owner, other) {
+        return Ok(());
+    }
+    if let Owner::Group(g) = other {
+        regroup_all(objects, g, owner);
+        return Ok(());
+    }
+    match owner {
+        Owner::Group(g) if !committed => {
+            regroup_all(objects, g, other);
+            Ok(())
+        }
+        _ => refuse(Kind::PeerOwner),
+    }
+}
+
+impl Store {
+    /// The group of the object at `e` gets the pair of the object at `o` and the class.
+    pub(crate) fn capture_exactly(&mut self, o: u32, t: ClassId, e: u32) -> Result<(), Refused>
+        requires { t.0 ≢ no_class }
+        ensures change { IsChange self.old.objects self.new.objects result (capture_of self.old.objects o t.0 e) }
+        ensures spare { self.new.spare ≡ self.old.spare }
+    {
+        capture(&mut self.objects, o, t, e)
+    }
+
+    /// The objects at `o` and `e` get one owner.
+    pub(crate) fn join_peer_exactly(&mut self, o: u32, e: u32) -> Result<(), Refused>
+        ensures change { IsChange self.old.objects self.new.objects result (join_of self.old.objects o e) }
+        ensures spare { self.new.spare ≡ self.old.spare }
+    {
+        join_peer(&mut self.objects, o, e)
+    }
+}

@@ -1,0 +1,168 @@
+// Writes of fields and of elements.
+ghost use Rattle.std.specs.Prelude.{◌≡◌, ◌≢◌, ◌<◌, ◌≤◌, length};
+ghost use Rattle.ss_classes.specs.View.{classes};
+ghost use Rattle.ss_classes.specs.Chain.{most_classes};
+ghost use Rattle.ss_objects.specs.Changes.{IsChange, changed, field_class, field_mark, with_content, with_field, written, with_owners, write_of, element_written, write_element_of};
+ghost use Rattle.ss_store.specs.Shapes.{no_class};
+
+use crate::object::{Object, Slot};
+use crate::owners::{capture, join_peer};
+use crate::refused::refuse;
+use crate::store::Store;
+use crate::walks::is_level;
+use ss_classes::{Classes, Core, FieldId, Mark};
+use ss_core::{ClassId, Kind};
+use ss_objects::{Refused, Value};
+
+impl Slot {
+    fn write(&mut self, f: FieldId, v: Value)
+        ensures { self.new ≡ with_content f.0 v self.old }
+    {
+        if self.field == f {
+            self.value = v;
+        }
+    }
+}
+
+fn write_slots(fields: &mut [Slot], f: FieldId, v: Value)
+    ensures { fields.new ≡ with_field fields.old f.0 v }
+{
+    for slot in fields.iter_mut() {
+        slot.write(f, v);
+    }
+}
+
+impl Object {
+    ghost use Rattle.std.specs.Prelude.{slice_set};
+    ghost use Rattle.ss_objects.specs.Changes.{with_field};
+
+    fn write(&mut self, f: FieldId, v: Value)
+        ensures { self.new ≡ record self.old { fields = with_field self.old.fields f.0 v } }
+    {
+        write_slots(&mut self.fields, f, v);
+    }
+
+    fn write_element(&mut self, i: usize, v: Value)
+        ensures { self.new ≡ record self.old { elements = slice_set self.old.elements i v } }
+    {
+        if i < self.elements.len() {
+            self.elements[i] = v;
+        }
+    }
+}
+
+fn write_element_at(objects: &mut [Object], a: u32, i: usize, v: Value)
+    requires { a < length objects.old }
+    ensures { objects.new ≡ changed (element_written a i v) objects.old }
+{
+    let x = &mut objects[a as usize];
+    x.write_element(i, v);
+}
+
+fn write_element(objects: &mut [Object], a: Value, i: i32, v: Value) -> Result<(), Refused>
+    ensures { IsChange objects.old objects.new result (write_element_of objects.old a i v) }
+{
+    let Value::Obj(a) = a else {
+        return refuse(Kind::Null);
+    };
+    let Some(x) = objects.get(a as usize) else {
+        return refuse(Kind::Null);
+    };
+    if i < 0 {
+        return refuse(Kind::Index);
+    }
+    let i = i as usize;
+    if x.elements.len() <= i {
+        return refuse(Kind::Index);
+    }
+    if x.committed {
+        return refuse(Kind::WriteCommitted);
+    }
+    write_element_at(objects, a, i, v);
+    Ok(())
+}
+
+/// The class that declares the field, and the field's mark.
+fn declaration(k: &Classes, f: FieldId) -> (ClassId, Mark)
+    requires { length (classes k.now) ≤ most_classes }
+    ensures class { result.0.0 ≡ field_class (classes k.now) f.0 }
+    ensures mark { result.1 ≡ field_mark (classes k.now) f.0 }
+    ensures told { result.0.0 ≢ no_class }
+{
+    match k.field(f) {
+        Some((t, field)) => (t, field.mark),
+        None => (ClassId(0), Mark::Plain),
+    }
+}
+
+/// What the mark asks of the owners, where the object at `o` comes to refer to the value.
+fn own(objects: &mut [Object], mark: Mark, o: u32, t: ClassId, v: Value) -> Result<(), Refused>
+    requires { t.0 ≢ no_class }
+    ensures { IsChange objects.old objects.new result (with_owners mark objects.old o t.0 v) }
+{
+    let Value::Obj(e) = v else {
+        return Ok(());
+    };
+    match mark {
+        Mark::Plain => Ok(()),
+        Mark::Rep => capture(objects, o, t, e),
+        Mark::Peer => join_peer(objects, o, e),
+    }
+}
+
+fn write_field_at(objects: &mut [Object], o: u32, f: FieldId, v: Value)
+    requires { o < length objects.old }
+    ensures { objects.new ≡ changed (written o f.0 v) objects.old }
+{
+    let x = &mut objects[o as usize];
+    x.write(f, v);
+}
+
+fn write(objects: &mut [Object], k: &Classes, o: Value, f: FieldId, v: Value) -> Result<(), Refused>
+    requires { length (classes k.now) ≤ most_classes }
+    ensures { IsChange objects.old objects.new result (write_of (classes k.now) objects.old o f.0 v) }
+{
+    let Value::Obj(o) = o else {
+        return refuse(Kind::Null);
+    };
+    let Some(x) = objects.get(o as usize) else {
+        return refuse(Kind::Null);
+    };
+    let (t, mark) = declaration(k, f);
+    if is_level(k, x.level, t) {
+        return refuse(Kind::WriteLevel);
+    }
+    own(objects, mark, o, t, v)?;
+    write_field_at(objects, o, f, v);
+    Ok(())
+}
+
+impl Store {
+    /// The field gets the value, after the owners that its mark asks for.
+    pub(crate) fn write_exactly(
+        &mut self,
+        c: &Core,
+        o: Value,
+        f: FieldId,
+        v: Value,
+    ) -> Result<(), Refused>
+        requires { length (classes c.now.classes) ≤ most_classes }
+        ensures change { IsChange self.old.objects self.new.objects result (write_of (classes c.now.classes) self.old.objects o f.0 v) }
+        ensures spare { self.new.spare ≡ self.old.spare }
+    {
+        write(&mut self.objects, &c.classes, o, f, v)
+    }
+
+    /// The element gets the value.
+    pub(crate) fn write_element_exactly(
+        &mut self,
+        a: Value,
+        i: i32,
+        v: Value,
+    ) -> Result<(), Refused>
+        ensures change { IsChange self.old.objects self.new.objects result (write_element_of self.old.objects a i v) }
+        ensures spare { self.new.spare ≡ self.old.spare }
+    {
+        write_element(&mut self.objects, a, i, v)
+    }
+}
