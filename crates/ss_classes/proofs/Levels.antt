@@ -4,7 +4,7 @@ use Rattle.std.specs.Prelude.{if◌then◌else◌}
 use Rattle.std.specs.List.{list_any}
 use Rattle.std.proofs.lemmas.Bool.{cases_eq, eq-eqb, ne_eqb}
 use Rattle.ss_classes.specs.Tree.{ClassTree}
-use Rattle.ss_classes.specs.Chain.{above, level_above, levels_from, most_levels, levels, counts_as, sub}
+use Rattle.ss_classes.specs.Chain.{above, level_above, levels_from, most_levels, levels, counts_as, sub, below}
 
 any_if : (b : Bool) (p : ℕ → Bool) (xs : List ℕ) → list_any p (if b then [] else xs) ≡ (if b then false else list_any p xs)
 any_if true p xs = refl
@@ -33,12 +33,16 @@ pub sub-passes : (cs : List ClassTree) (c t : ℕ) → passes cs (counts_as cs t
 unfolding sub levels most_levels
 sub-passes cs c t = refl
 
--- ---- a walk that has made i of 64 steps
+pub below-passes : (cs : List ClassTree) (c t : ℕ) → passes cs (λ level. eqb level t) 64 c ≡ below cs c t
+unfolding below levels most_levels
+below-passes cs c t = refl
 
-pub found : (cs : List ClassTree) (i c level t : ℕ) → i < 64 → counts_as cs t level ≡ true → passes cs (counts_as cs t) (64 - i) level ≡ sub cs c t → true ≡ sub cs c t
-found cs i c level t l e h =
+-- ---- a walk that has made i of 64 steps, where `whole` says whether any level passes
+
+pub found : (cs : List ClassTree) (p : ℕ → Bool) (i level : ℕ) (whole : Bool) → i < 64 → p level ≡ true → passes cs p (64 - i) level ≡ whole → true ≡ whole
+found cs p i level whole l e h =
     let n : 64 - i ≡ suc (63 - i) = omega arith in
-    let yes : passes cs (counts_as cs t) (64 - i) level ≡ true = rw n (passes_here cs (counts_as cs t) (63 - i) level e) in
+    let yes : passes cs p (64 - i) level ≡ true = rw n (passes_here cs p (63 - i) level e) in
     sym yes ∙ h
 
 level_above-None : (cs : List ClassTree) (t : ℕ) → None ≡ level_above cs t → t ≡ 0
@@ -48,12 +52,12 @@ level_above-None cs t h =
     (λ nz. let h' : None ≡ Some (above cs t) = rw (ne_eqb t 0 nz) at h in cc)
     (cases_eq t 0)
 
-pub ended : (cs : List ClassTree) (i c level t : ℕ) → i < 64 → counts_as cs t level ≡ false → None ≡ level_above cs level → passes cs (counts_as cs t) (64 - i) level ≡ sub cs c t → false ≡ sub cs c t
-ended cs i c level t l e last h =
+pub ended : (cs : List ClassTree) (p : ℕ → Bool) (i level : ℕ) (whole : Bool) → i < 64 → p level ≡ false → None ≡ level_above cs level → passes cs p (64 - i) level ≡ whole → false ≡ whole
+ended cs p i level whole l e last h =
     let n : 64 - i ≡ suc (63 - i) = omega arith in
     let z : level ≡ 0 = level_above-None cs level last in
-    let e' : counts_as cs t 0 ≡ false = rw z at e in
-    let no : passes cs (counts_as cs t) (64 - i) level ≡ false = rw (n, z) (passes_last cs (counts_as cs t) (63 - i) e') in
+    let e' : p 0 ≡ false = rw z at e in
+    let no : passes cs p (64 - i) level ≡ false = rw (n, z) (passes_last cs p (63 - i) e') in
     sym no ∙ h
 
 level_above-Some : (cs : List ClassTree) (t u : ℕ) → Some u ≡ level_above cs t → (t ≢ 0) × (u ≡ above cs t)
@@ -63,15 +67,15 @@ level_above-Some cs t u h =
     (λ nz. let h' : Some u ≡ Some (above cs t) = rw (ne_eqb t 0 nz) at h in (nz, cc))
     (cases_eq t 0)
 
-pub went_up : (cs : List ClassTree) (i c level next t : ℕ) → i < 64 → counts_as cs t level ≡ false → Some next ≡ level_above cs level → passes cs (counts_as cs t) (64 - i) level ≡ sub cs c t → passes cs (counts_as cs t) (64 - (i + 1)) next ≡ sub cs c t
-went_up cs i c level next t l e up h =
+pub went_up : (cs : List ClassTree) (p : ℕ → Bool) (i level next : ℕ) (whole : Bool) → i < 64 → p level ≡ false → Some next ≡ level_above cs level → passes cs p (64 - i) level ≡ whole → passes cs p (64 - (i + 1)) next ≡ whole
+went_up cs p i level next whole l e up h =
     let n : 64 - i ≡ suc (64 - (i + 1)) = omega arith in
     let u = level_above-Some cs level next up in
-    let same : passes cs (counts_as cs t) (64 - i) level ≡ passes cs (counts_as cs t) (64 - (i + 1)) (above cs level) = rw n (passes_above cs (counts_as cs t) (64 - (i + 1)) level u.0 e) in
+    let same : passes cs p (64 - i) level ≡ passes cs p (64 - (i + 1)) (above cs level) = rw n (passes_above cs p (64 - (i + 1)) level u.0 e) in
     rw u.1 (sym same ∙ h)
 
-pub unfound : (cs : List ClassTree) (i c level t : ℕ) → 64 ≤ i → passes cs (counts_as cs t) (64 - i) level ≡ sub cs c t → false ≡ sub cs c t
-unfound cs i c level t l h =
+pub unfound : (cs : List ClassTree) (p : ℕ → Bool) (i level : ℕ) (whole : Bool) → 64 ≤ i → passes cs p (64 - i) level ≡ whole → false ≡ whole
+unfound cs p i level whole l h =
     let n : 64 - i ≡ 0 = omega arith in
-    let no : passes cs (counts_as cs t) (64 - i) level ≡ false = rw n refl in
+    let no : passes cs p (64 - i) level ≡ false = rw n refl in
     sym no ∙ h

@@ -2,3 +2,4 @@ pub mod Levels
 pub mod Declared
 pub mod Chains
 pub mod Fields
+pub mod Single

@@ -8,7 +8,7 @@ use crate::names::FieldId;
 use ss_core::ClassId;
 
 /// How many levels a class has at most: itself and 63 above it.
-const MOST_LEVELS: u8 = 64;
+pub const MOST_LEVELS: u8 = 64;
 
 impl Class {
     ghost use Rattle.std.specs.Prelude.{◌==◌};
@@ -26,7 +26,7 @@ impl Class {
 }
 
 impl Classes {
-    ghost use Rattle.ss_classes.specs.Chain.{declared, above, level_above, counts_as, sub, in_class, all_fields, most_classes};
+    ghost use Rattle.ss_classes.specs.Chain.{declared, above, level_above, counts_as, sub, below, in_class, all_fields, most_classes};
 
     /// The declared class of this number.
     pub fn declared(&self, t: ClassId) -> Option<&Class>
@@ -79,6 +79,23 @@ impl Classes {
             }
             match self.level_above(level) {
                 Some(above) => level = above,
+                None => return false,
+            }
+        }
+        false
+    }
+
+    /// Whether `t` is one of the levels of `c`: the class itself, the one above it, and so on to `object`.
+    pub fn is_level(&self, c: ClassId, t: ClassId) -> bool
+        ensures { result ≡ below (classes self.now) c.0 t.0 }
+    {
+        let mut reached = c;
+        for _i in 0..MOST_LEVELS {
+            if reached == t {
+                return true;
+            }
+            match self.level_above(reached) {
+                Some(above) => reached = above,
                 None => return false,
             }
         }

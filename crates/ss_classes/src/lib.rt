@@ -12,6 +12,7 @@ mod stmt;
 mod tests;
 
 pub use body::{Body, BodyFlags, Core, Local, Modifies};
+pub use chain::MOST_LEVELS;
 pub use class::{Class, Classes, Entry, Field};
 pub use expr::{DefaultCondition, Expr, Link, Operator, OwnerTest, Quantifier, StateWord, Step};
 pub use names::{FieldId, Mark, Ty};

@@ -7,11 +7,11 @@ use Rattle.ss_classes.specs.declared.names.Mark.TheVariants as mark
 use Rattle.ss_classes.specs.declared.names.Ty.{Ty}
 use Rattle.ss_classes.specs.declared.names.Ty.TheVariants as ty
 use Rattle.ss_classes.specs.declared.expr.Operator.TheVariants as op
-use Rattle.ss_classes.specs.Tree.{ClassTree, FieldTree, LocalTree, ExposedTree, Committed, ExprTree, IntExpr, BoolExpr, NullExpr, LocalExpr, FieldExpr, LengthExpr, BinaryExpr, OldExpr, StateExpr, DefaultExpr, AtLevel, BaseConstructor, StmtTree, AssignStmt, WriteStmt, NewStmt, CallStmt, ReadyStmt, IfStmt, LoopStmt, UnpackStmt, PackStmt, AssertStmt, PrintStmt, ReturnStmt, CodeTree, NoCode, Then, UptoOf, BodyTree, CoreTree}
+use Rattle.ss_classes.specs.Tree.{ClassTree, FieldTree, LocalTree, ExposedTree, Committed, ExprTree, IntExpr, BoolExpr, NullExpr, LocalExpr, FieldExpr, LengthExpr, BinaryExpr, OldExpr, StateExpr, DefaultExpr, AtLevel, BaseConstructor, StmtTree, AssignStmt, WriteStmt, NewStmt, CallStmt, ReadyStmt, IfStmt, LoopStmt, UnpackStmt, PackStmt, AssertStmt, PrintStmt, ReturnStmt, CodeTree, NoCode, Then, AllOf, UptoOf, BodyTree, CoreTree}
 use Rattle.ss_classes.specs.Chain.{sub, below, levels, most_levels}
 use Rattle.ss_objects.specs.Locals.{is_variable, each, targets_only}
 use Rattle.ss_objects.specs.Types.{type_of, class_type}
-use Rattle.ss_objects.specs.Typed.{is_typed}
+use Rattle.ss_objects.specs.Typed.{is_typed, has_exposable, is_named}
 use Rattle.ss_objects.specs.Paths.{reaches_end}
 use Rattle.ss_objects.specs.Assigned.{reads_what_is_assigned, names_its_exposes}
 use Rattle.ss_objects.specs.NonNull.{keeps_nulls_out}
@@ -152,6 +152,10 @@ a_state_word_in_code = refl
 a_state_word_in_an_assert : has_types (Then (AssertStmt at (OldExpr at (StateExpr at Committed (local 0)))) return) ≡ true
 a_state_word_in_an_assert = refl
 
+-- `null.*` names nothing
+what_changes_of_null : is_named classes (method return) (AllOf (NullExpr at)) ≡ true
+what_changes_of_null = refl
+
 -- ---- assigned locals
 
 abbrev reads_well : CodeTree → Bool
@@ -230,6 +234,10 @@ an_expose_around_a_loop = refl
 
 an_expose_that_ends_in_the_loop : names_its_exposes (method (Then (UnpackStmt at 0 4) (a_loop_that_names NoCode))) ≡ false
 an_expose_that_ends_in_the_loop = refl
+
+-- behind a return no path leads, and the loop names a local that isn't there
+a_loop_that_names_nothing : each (has_exposable classes (method return)) (Then (ReturnStmt at None) (Then (LoopStmt at [] NoCode (BoolExpr at false) NoCode (record { local = 9; class = 4 } ∷ [])) NoCode)) ≡ false
+a_loop_that_names_nothing = refl
 
 no_expose_around_a_loop : names_its_exposes (method (a_loop_that_names return)) ≡ false
 no_expose_around_a_loop = refl

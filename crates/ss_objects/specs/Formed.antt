@@ -32,7 +32,7 @@ pub record IsFormedBody (c : CoreTree) (b : BodyTree) : Type 0 where
   pub named : list_all (is_named c.classes b) b.named ≡ true
   -- its statements have their types
   pub typed : each (is_typed c b) b.code ≡ true
-  -- what is unpacked from a declared class, or packed as one, is of that class or below
+  -- what is unpacked from a declared class, packed as one, or named by a loop as exposed at one, is of that class or below
   pub exposed : each (has_exposable c.classes b) b.code ≡ true
   -- neither an argument nor the result is assigned
   pub targets : each (targets_only (is_variable b)) b.code ≡ true

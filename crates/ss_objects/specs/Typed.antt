@@ -5,12 +5,12 @@ use Rattle.ss_classes.specs.declared.names.Mark.{Mark}
 use Rattle.ss_classes.specs.declared.names.Mark.TheVariants as mark
 use Rattle.ss_classes.specs.declared.names.Ty.{Ty}
 use Rattle.ss_classes.specs.declared.names.Ty.TheVariants as ty
-use Rattle.ss_classes.specs.Tree.{ClassTree, FieldTree, EntryTree, LocalTree, DefaultTree, AtLevel, Unpacked, ThisUnowned, Defaults, OwnedFull, Full, ConsistentArgument, FullArgument, Captured, ExprTree, DefaultExpr, CalleeTree, Dispatched, Static, Base, BaseConstructor, StmtTree, AssignStmt, WriteStmt, WriteElementStmt, NewStmt, NewArrayStmt, CallStmt, ReadyStmt, IfStmt, LoopStmt, UnpackStmt, PackStmt, AssertStmt, AssumeStmt, PrintStmt, PrintTextStmt, ReturnStmt, NamedTree, FieldOf, AllOf, ElementsOf, UptoOf, BodyTree, CoreTree}
+use Rattle.ss_classes.specs.Tree.{ClassTree, FieldTree, EntryTree, LocalTree, DefaultTree, AtLevel, Unpacked, ThisUnowned, Defaults, OwnedFull, Full, ConsistentArgument, FullArgument, Captured, ExprTree, DefaultExpr, CalleeTree, Dispatched, Static, Base, BaseConstructor, ExposedTree, StmtTree, AssignStmt, WriteStmt, WriteElementStmt, NewStmt, NewArrayStmt, CallStmt, ReadyStmt, IfStmt, LoopStmt, UnpackStmt, PackStmt, AssertStmt, AssumeStmt, PrintStmt, PrintTextStmt, ReturnStmt, NamedTree, FieldOf, AllOf, ElementsOf, UptoOf, BodyTree, CoreTree}
 use Rattle.ss_classes.specs.Chain.{is_declared, declared, above, is_class, DeclaredField, all_fields}
 use Rattle.ss_objects.specs.Changes.{below, is_array}
 use Rattle.ss_objects.specs.Admissible.{is_this}
 use Rattle.ss_objects.specs.Locals.{types_of, local_types, is_argument, is_result, is_bound, reads_only}
-use Rattle.ss_objects.specs.Types.{class_type, has_fitting, is_int, is_bool, has_class, field_read_type, element_of, type_of, Words, in_code, in_requires, in_assert, in_ensures, code_type, is_condition}
+use Rattle.ss_objects.specs.Types.{class_type, has_fitting, is_int, is_bool, has_class, is_reference, field_read_type, element_of, type_of, Words, in_code, in_requires, in_assert, in_ensures, code_type, is_condition}
 
 -- ---- declarations
 
@@ -168,10 +168,11 @@ is_typed c b (ReturnStmt p e) = is_returned c.classes b b.result e
 abbrev pub is_exposable : List ClassTree → BodyTree → ℕ → ℕ → Bool
 is_exposable cs b x t = is_declared cs t && has_class (λ c. below cs c t) (slice_get (local_types b) x)
 
--- what is unpacked or packed
+-- what is unpacked or packed, and what a loop names as exposed
 abbrev pub has_exposable : List ClassTree → BodyTree → StmtTree → Bool
 has_exposable cs b (UnpackStmt p x t) = is_exposable cs b x t
 has_exposable cs b (PackStmt p x t) = is_exposable cs b x t
+has_exposable cs b (LoopStmt p invariants prelude e body exposes) = list_all (λ (x : ExposedTree). is_exposable cs b x.local x.class) exposes
 has_exposable cs b s = true
 
 -- ---- contracts
@@ -209,10 +210,11 @@ is_exit cs b e = is_contract cs b in_ensures (λ x. is_argument b x || is_result
 abbrev pub is_named_by : List ClassTree → BodyTree → (Option Ty → Bool) → ExprTree → Bool
 is_named_by cs b test e = test (code_type cs b e) && reads_only (λ x. is_argument b x || is_bound b x) e
 
--- what the body may change: a field, all of an object, the elements of an array, or `this` as the class of the body knows it
+-- What the body may change: a field, all of an object, the elements of an array, or `this` as the class of the body knows it. All of the
+-- literal `null` is nothing.
 abbrev pub is_named : List ClassTree → BodyTree → NamedTree → Bool
 is_named cs b (FieldOf e f) = is_named_by cs b (λ a. is_some (field_read_type cs a (slice_get (all_fields cs) f))) e
-is_named cs b (AllOf e) = is_named_by cs b (has_class (λ c. true)) e
+is_named cs b (AllOf e) = is_named_by cs b is_reference e
 is_named cs b (ElementsOf e) = is_named_by cs b (has_class (is_array cs)) e
 is_named cs b (UptoOf e t) = is_this e && not b.flags.is_static && t == b.class
 

@@ -8,3 +8,4 @@ pub mod Steps
 mod Keeping
 mod Groups
 mod Members
+pub mod FirstLocals

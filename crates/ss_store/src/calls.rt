@@ -4,7 +4,6 @@ ghost use Rattle.ss_classes.specs.Tree.{ClassTree};
 ghost use Rattle.ss_classes.specs.View.{classes};
 ghost use Rattle.ss_classes.specs.Chain.{is_declared, most_classes, IsWithinLimits};
 ghost use Rattle.ss_objects.specs.Store.{Object};
-ghost use Rattle.ss_objects.specs.Numbers.{fits};
 ghost use Rattle.ss_objects.specs.Changes.{is_array, field_class, IsChange, unpack_of, pack_of, capture_of, join_of, write_of, write_element_of, new_object_of, new_array_of, ready_of};
 ghost use Rattle.ss_objects.specs.Good.{IsReady};
 ghost use Rattle.ss_objects.specs.Admissible.{invariants_hold};
@@ -112,7 +111,7 @@ impl Store {
         ensures negative { (result ≡ Err NewStop.NegativeLength) ↔ (n <ℤ pos 0) }
         ensures kept { OnErr result (self.new.objects ≡ self.old.objects) }
         ensures spare { self.new.spare ≡ self.old.spare }
-        ensures good { (cs : List ClassTree) → is_array cs c.0 ≡ true → fits n ≡ true → Keeps cs self.old.objects self.new.objects }
+        ensures good { (cs : List ClassTree) → is_array cs c.0 ≡ true → Keeps cs self.old.objects self.new.objects }
     {
         self.new_array_exactly(c, n)
     }

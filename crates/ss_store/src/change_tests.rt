@@ -1,10 +1,11 @@
-// Changes of a store. Its objects are of a class without fields, whose level lies above `object`.
+// Changes of a store of a program with one class, which has a field.
 
+ghost use Rattle.std.specs.Prelude.{◌≡◌, IfOk};
 ghost use Rattle.ss_classes.specs.View.{classes};
 ghost use Rattle.ss_classes.specs.Chain.{IsWithinLimits};
 
 use crate::{Before, NewStop, Store};
-use ss_classes::{Classes, Core, FieldId};
+use ss_classes::{Class, Classes, Core, Field, FieldId, Mark, Ty};
 use ss_core::{BodyId, ClassId, Kind};
 use ss_objects::{Refused, Value};
 use std::alloc::{AllocError, Global};
@@ -16,17 +17,30 @@ const INT_ARRAY: ClassId = ClassId(1);
 
 const V: FieldId = FieldId(0);
 
-// A program without classes, whose limits are met at once.
-fn program(alloc: Global) -> Core
-    ensures { IsWithinLimits (classes result.classes) }
+// `class Part { int v; }`
+fn program(alloc: Global) -> Result<Core, AllocError>
+    ensures { IfOk result (λ c. IsWithinLimits (classes c.classes)) }
 {
-    Core {
+    let v = Field {
+        name: String::from_str(alloc, "v")?,
+        ty: Ty::Int,
+        mark: Mark::Plain,
+    };
+    let part = Class {
+        name: String::from_str(alloc, "Part")?,
+        above: ClassId(0),
+        also: Vec::new(alloc),
+        fields: vec![in alloc; v]?,
+        invariants: Vec::new(alloc),
+        table: Vec::new(alloc),
+    };
+    Ok(Core {
         classes: Classes {
-            list: Vec::new(alloc),
+            list: vec![in alloc; part]?,
         },
         bodies: Vec::new(alloc),
         main: BodyId(0),
-    }
+    })
 }
 
 fn refused(kind: Kind) -> Result<(), Refused> {
@@ -38,6 +52,7 @@ fn refused(kind: Kind) -> Result<(), Refused> {
 enum Step {
     Pack(Value),
     Unpack(Value),
+    Write(Value, i32),
     WriteElement(Value, i32),
     Capture(u32, u32),
     Join(u32, u32),
@@ -49,6 +64,7 @@ fn take(s: &mut Store, c: &Core, step: Step) -> Result<(), Refused>
     match step {
         Step::Pack(o) => s.pack(c, o, PART),
         Step::Unpack(o) => s.unpack(c, o, PART),
+        Step::Write(o, n) => s.write(c, o, V, Value::Int(n)),
         Step::WriteElement(a, i) => s.write_element(a, i, Value::Int(7)),
         Step::Capture(o, e) => s.capture(o, PART, e),
         Step::Join(o, e) => s.join_peer(o, e),
@@ -69,28 +85,48 @@ fn three(alloc: Global, c: &Core, n: usize) -> Result<Store, AllocError>
 
 #[test]
 fn levels_follow_packs_and_unpacks(rt: HostRuntime) -> Result<(), Fail> {
-    let c = program(rt.alloc());
-    let mut s = three(rt.alloc(), &c, 3)?;
+    let c = program(rt.alloc())?;
+    let mut s = Store::new(rt.alloc());
+    assert_eq!(rt; s.new_object(&c.classes, PART)?, 0);
     let part = Value::Obj(0);
     for (step, want) in [
         (Step::Pack(part), Ok(())),
         (Step::Pack(part), refused(Kind::PackLevel)),
+        (Step::Write(part, 3), refused(Kind::WriteLevel)),
         (Step::Unpack(part), Ok(())),
         (Step::Unpack(part), refused(Kind::UnpackLevel)),
         (Step::Unpack(Value::Null), refused(Kind::Null)),
     ] {
         assert_eq!(rt; take(&mut s, &c, step), want, "{step:?}");
     }
-    assert_eq!(rt;
-        s.write(&c, part, V, Value::Int(3)),
-        refused(Kind::WriteLevel)
-    );
+    Ok(())
+}
+
+#[test]
+fn a_field_is_0_until_it_is_written(rt: HostRuntime) -> Result<(), Fail> {
+    let c = program(rt.alloc())?;
+    let mut s = three(rt.alloc(), &c, 0)?;
+    assert_eq!(rt; take(&mut s, &c, Step::Write(Value::Obj(1), 5)), Ok(()));
+    for (o, n) in [(0, 0), (1, 5), (2, 0)] {
+        assert_eq!(rt; s.field(o, V), Value::Int(n), "{o}");
+    }
+    Ok(())
+}
+
+#[test]
+fn there_is_room_for_what_is_reserved(rt: HostRuntime) -> Result<(), Fail> {
+    let c = program(rt.alloc())?;
+    let mut s = Store::new(rt.alloc());
+    s.reserve(3)?;
+    assert_eq!(rt; s.new_object(&c.classes, PART)?, 0);
+    assert_eq!(rt; s.new_object(&c.classes, PART)?, 1);
+    assert_eq!(rt; s.new_object(&c.classes, PART)?, 2);
     Ok(())
 }
 
 #[test]
 fn groups_get_owners(rt: HostRuntime) -> Result<(), Fail> {
-    let c = program(rt.alloc());
+    let c = program(rt.alloc())?;
     let mut s = three(rt.alloc(), &c, 0)?;
     for (step, want) in [
         (Step::Join(1, 2), Ok(())),
@@ -110,7 +146,7 @@ fn groups_get_owners(rt: HostRuntime) -> Result<(), Fail> {
 
 #[test]
 fn arrays_have_their_defaults(rt: HostRuntime) -> Result<(), Fail> {
-    let c = program(rt.alloc());
+    let c = program(rt.alloc())?;
     let mut s = Store::new(rt.alloc());
     assert_eq!(rt; s.new_array(INT_ARRAY, -1), Err(NewStop::NegativeLength));
     assert_eq!(rt; s.new_array(INT_ARRAY, 2), Ok(0));
@@ -129,7 +165,7 @@ fn arrays_have_their_defaults(rt: HostRuntime) -> Result<(), Fail> {
 
 #[test]
 fn a_copy_has_the_same_objects(rt: HostRuntime) -> Result<(), Fail> {
-    let c = program(rt.alloc());
+    let c = program(rt.alloc())?;
     let mut s = three(rt.alloc(), &c, 2)?;
     s.set_ready(&c, 1);
     let copy = s.copy()?;

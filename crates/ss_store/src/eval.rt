@@ -44,52 +44,36 @@ pub(crate) fn eval<B: Before>(scene: &Scene<'_, B>, e: &Expr) -> Result<Value, U
         Expr::Null(_) => Ok(Value::Null),
         Expr::Local(_, x) => Ok(scene.local(*x)),
         Expr::Iff(_, a, b) => {
-            let left = eval(scene, a)?;
-            let right = eval(scene, b)?;
-            Ok(Value::Bool(as_bool(left) == as_bool(right)))
+            let left = as_bool(eval(scene, a)?);
+            Ok(Value::Bool(left == as_bool(eval(scene, b)?)))
         }
         Expr::Implies(_, a, b) => {
-            let left = eval(scene, a)?;
-            if !as_bool(left) {
+            if !as_bool(eval(scene, a)?) {
                 return Ok(Value::Bool(true));
             }
-            let right = eval(scene, b)?;
-            Ok(Value::Bool(as_bool(right)))
+            Ok(Value::Bool(as_bool(eval(scene, b)?)))
         }
         Expr::Chain(place, first, links) => {
             let value = eval(scene, first)?;
             eval_links(scene, *place, value, links)
         }
-        Expr::Negate(place, a) => {
-            let value = eval(scene, a)?;
-            negate(*place, value)
-        }
-        Expr::Not(_, a) => {
-            let value = eval(scene, a)?;
-            Ok(Value::Bool(!as_bool(value)))
-        }
-        Expr::Cast(place, t, non_null, a) => {
-            let value = eval(scene, a)?;
-            scene.cast(*place, *t, *non_null, value)
-        }
+        Expr::Negate(place, a) => negate(*place, eval(scene, a)?),
+        Expr::Not(_, a) => Ok(Value::Bool(!as_bool(eval(scene, a)?))),
+        Expr::Cast(place, t, non_null, a) => scene.cast(*place, *t, *non_null, eval(scene, a)?),
         Expr::Path(place, first, steps) => {
             let value = eval(scene, first)?;
             eval_steps(scene, *place, value, steps)
         }
         Expr::Old(_, a) => eval(&scene.at_entry(), a),
         Expr::Quantified(_, quantifier, _, low, high, member) => {
-            let low = eval(scene, low)?;
-            let high = eval(scene, high)?;
-            eval_members(scene, *quantifier, as_int(low), as_int(high), member)
+            let low = as_int(eval(scene, low)?);
+            let high = as_int(eval(scene, high)?);
+            eval_members(scene, *quantifier, low, high, member)
         }
-        Expr::State(place, word, a) => {
-            let value = eval(scene, a)?;
-            scene.word_value(*place, *word, value)
-        }
+        Expr::State(place, word, a) => scene.word_value(*place, *word, eval(scene, a)?),
         Expr::Owners(place, test, a, b) => {
             let left = eval(scene, a)?;
-            let right = eval(scene, b)?;
-            scene.owners_value(*place, *test, left, right)
+            scene.owners_value(*place, *test, left, eval(scene, b)?)
         }
         Expr::Default(_, condition) => Ok(Value::Bool(scene.default_holds(*condition))),
     }

@@ -2,33 +2,21 @@
 ghost use Rattle.std.specs.Prelude.{◌≡◌, ◌+◌, ◌^◌, ◌<◌, ◌≤◌, ◌++◌, length, map, vec_capacity, OnOk, OnErr};
 ghost use Rattle.ss_classes.specs.View.{classes, field_of};
 ghost use Rattle.ss_classes.specs.Chain.{all_fields, IsWithinLimits};
-ghost use Rattle.ss_objects.specs.Store.{default_value};
 ghost use Rattle.ss_objects.specs.Changes.{slots_from, new_fields};
 ghost use Rattle.ss_store.specs.Slots.{slot_for, slots_of};
 
+use crate::defaults::default_value;
 use crate::object::Slot;
-use crate::walks::MOST_LEVELS;
-use ss_classes::{Classes, Field, FieldId, Ty};
+use ss_classes::{Classes, Field, FieldId, MOST_LEVELS};
 use ss_core::ClassId;
-use ss_objects::Value;
 use std::alloc::AllocError;
-
-fn default_of(ty: Ty) -> Value
-    ensures { result ≡ default_value ty }
-{
-    match ty {
-        Ty::Int => Value::Int(0),
-        Ty::Bool => Value::Bool(false),
-        Ty::Null | Ty::Ref { .. } => Value::Null,
-    }
-}
 
 fn slot_for(number: u32, field: &Field) -> Slot
     ensures { result ≡ slot_for number (field_of field.now) }
 {
     Slot {
         field: FieldId(number),
-        value: default_of(field.ty),
+        value: default_value(field.ty),
     }
 }
 

@@ -1,5 +1,5 @@
-// The invariants of an object.
-ghost use Rattle.std.specs.Prelude.{◌≡◌, ◌≤◌, [], ◌∷◌, length};
+// Conditions that hold, and the invariants of an object.
+ghost use Rattle.std.specs.Prelude.{◌≡◌, ◌≤◌, length};
 ghost use Rattle.std.specs.List.{list_all};
 ghost use Rattle.ss_classes.specs.View.{classes, expr};
 ghost use Rattle.ss_classes.specs.Chain.{most_classes};
@@ -14,23 +14,23 @@ use ss_core::ClassId;
 use ss_objects::Value;
 
 impl Store {
-    /// Whether the expression is true of the object.
-    fn holds(&self, c: &Core, e: &Expr, o: u32) -> bool
+    /// Whether the expression is true with these values of the locals.
+    fn holds(&self, c: &Core, e: &Expr, locals: &[Value]) -> bool
         requires { length (classes c.now.classes) ≤ most_classes }
-        ensures { result ≡ holds (expr e.now) (setting (classes c.now.classes) self.now.objects self.now.objects (Value.Obj o ∷ [])) }
+        ensures { result ≡ holds (expr e.now) (setting (classes c.now.classes) self.now.objects self.now.objects locals.now) }
     {
-        match self.eval(c, self, e, &[Value::Obj(o)]) {
+        match self.eval(c, self, e, locals) {
             Ok(value) => as_bool(value),
             Err(_) => false,
         }
     }
 
-    /// Whether each expression is true of the object.
-    fn all_hold(&self, c: &Core, es: &[Expr], o: u32) -> bool
+    /// Whether each expression is true with these values of the locals.
+    pub(crate) fn all_hold(&self, c: &Core, es: &[Expr], locals: &[Value]) -> bool
         requires { length (classes c.now.classes) ≤ most_classes }
-        ensures { result ≡ list_all (λ e. holds (expr e) (setting (classes c.now.classes) self.now.objects self.now.objects (Value.Obj o ∷ []))) es.now }
+        ensures { result ≡ list_all (λ e. holds (expr e) (setting (classes c.now.classes) self.now.objects self.now.objects locals.now)) es.now }
     {
-        es.iter().all(|e| self.holds(c, e, o))
+        es.iter().all(|e| self.holds(c, e, locals))
     }
 
     /// Whether each invariant of the class holds of the object.
@@ -42,7 +42,7 @@ impl Store {
             return true;
         };
         match c.classes.declared(t) {
-            Some(class) => self.all_hold(c, &class.invariants, o),
+            Some(class) => self.all_hold(c, &class.invariants, &[Value::Obj(o)]),
             None => true,
         }
     }

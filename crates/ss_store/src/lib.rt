@@ -10,6 +10,9 @@ mod copies;
 mod defaults;
 mod eval;
 mod fields;
+#[cfg(test)]
+mod input_tests;
+mod inputs;
 mod invariants;
 mod levels;
 mod making;
@@ -23,10 +26,10 @@ mod scene;
 mod store;
 #[cfg(test)]
 mod tests;
-mod walks;
 mod words;
 mod writes;
 
 pub use before::Before;
+pub use inputs::admitted;
 pub use making::NewStop;
 pub use store::Store;

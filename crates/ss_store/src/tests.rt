@@ -5,7 +5,9 @@ ghost use Rattle.ss_classes.specs.Chain.{most_classes};
 
 use crate::Store;
 use crate::object::{Object, Slot};
-use ss_classes::{Classes, Core, Expr, FieldId, Link, Operator, Quantifier, StateWord, Step};
+use ss_classes::{
+    Classes, Core, Expr, FieldId, Link, Operator, OwnerTest, Quantifier, StateWord, Step,
+};
 use ss_core::{BodyId, ClassId, Kind, Place};
 use ss_objects::{Owner, Undefined, Value};
 use std::alloc::{AllocError, Global};
@@ -137,6 +139,8 @@ fn reads(rt: HostRuntime) -> Result<(), Fail> {
     assert_eq!(rt; value(alloc, &past)?, undefined(Kind::Index, 14));
     let before = path(alloc, 15, local(1), Step::Element(number(-1)))?;
     assert_eq!(rt; value(alloc, &before)?, undefined(Kind::Index, 15));
+    let none = path(alloc, 17, local(3), Step::Element(number(0)))?;
+    assert_eq!(rt; value(alloc, &none)?, undefined(Kind::Null, 17));
     let length = path(alloc, 16, local(3), Step::Length)?;
     assert_eq!(rt; value(alloc, &length)?, undefined(Kind::Null, 16));
     Ok(())
@@ -208,6 +212,30 @@ fn casts_and_words(rt: HostRuntime) -> Result<(), Fail> {
         value(alloc, &old(alloc, level)?)?,
         undefined(Kind::Null, 16)
     );
+    Ok(())
+}
+
+#[test]
+fn owners(rt: HostRuntime) -> Result<(), Fail> {
+    let alloc = rt.alloc();
+    for (column, test, left, right, result) in [
+        (10, OwnerTest::Same, 0, 1, Ok(Value::Bool(false))),
+        (11, OwnerTest::Same, 0, 2, Ok(Value::Bool(true))),
+        (12, OwnerTest::Same, 3, 0, undefined(Kind::Null, 12)),
+        (13, OwnerTest::Same, 0, 3, undefined(Kind::Null, 13)),
+        (
+            14,
+            OwnerTest::Is(ClassId(4)),
+            0,
+            3,
+            undefined(Kind::Null, 14),
+        ),
+    ] {
+        let first = Box::new(alloc, local(left))?;
+        let second = Box::new(alloc, local(right))?;
+        let e = Expr::Owners(at(column), test, first, second);
+        assert_eq!(rt; value(alloc, &e)?, result);
+    }
     Ok(())
 }
 

@@ -9,7 +9,6 @@ use crate::object::{Object, Slot};
 use crate::owners::{capture, join_peer};
 use crate::refused::refuse;
 use crate::store::Store;
-use crate::walks::is_level;
 use ss_classes::{Classes, Core, FieldId, Mark};
 use ss_core::{ClassId, Kind};
 use ss_objects::{Refused, Value};
@@ -129,7 +128,7 @@ fn write(objects: &mut [Object], k: &Classes, o: Value, f: FieldId, v: Value) ->
         return refuse(Kind::Null);
     };
     let (t, mark) = declaration(k, f);
-    if is_level(k, x.level, t) {
+    if k.is_level(x.level, t) {
         return refuse(Kind::WriteLevel);
     }
     own(objects, mark, o, t, v)?;

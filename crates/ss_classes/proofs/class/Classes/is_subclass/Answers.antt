@@ -1,5 +1,6 @@
 use Rattle.std.proofs.Common.{sym, ◌∙◌}
 use Rattle.ss_classes.specs.View.{classes}
+use Rattle.ss_classes.specs.Chain.{counts_as, sub}
 use Rattle.ss_classes.proofs.Levels.{sub-passes, found, ended, went_up, unfound}
 use Rattle.ss_classes.proofs.class.Classes.is_subclass.Goals as goal
 
@@ -7,13 +8,13 @@ pub loop-i-init : goal.loop-i-init
 loop-i-init c = sub-passes (classes c.args.self.now) c.args.c.0 c.args.t.0
 
 pub returns-then-counts_as : goal.returns-then-counts_as
-returns-then-counts_as c = found (classes c.args.self.now) c.loop-i._i c.args.c.0 c.loop-i.level.0 c.args.t.0 c.loop-i-test.true (sym c.counts_as.ensures ∙ c.if-counts_as.true) c.loop-i.invariant
+returns-then-counts_as c = found (classes c.args.self.now) (counts_as (classes c.args.self.now) c.args.t.0) c.loop-i._i c.loop-i.level.0 (sub (classes c.args.self.now) c.args.c.0 c.args.t.0) c.loop-i-test.true (sym c.counts_as.ensures ∙ c.if-counts_as.true) c.loop-i.invariant
 
 pub returns-in-None : goal.returns-in-None
-returns-in-None c = ended (classes c.args.self.now) c.loop-i._i c.args.c.0 c.loop-i.level.0 c.args.t.0 c.loop-i-test.true (sym c.counts_as.ensures ∙ c.if-counts_as.false) c.in-None.ensures c.loop-i.invariant
+returns-in-None c = ended (classes c.args.self.now) (counts_as (classes c.args.self.now) c.args.t.0) c.loop-i._i c.loop-i.level.0 (sub (classes c.args.self.now) c.args.c.0 c.args.t.0) c.loop-i-test.true (sym c.counts_as.ensures ∙ c.if-counts_as.false) c.in-None.ensures c.loop-i.invariant
 
 pub loop-i-preserved : goal.loop-i-preserved
-loop-i-preserved c = went_up (classes c.args.self.now) c.loop-i._i c.args.c.0 c.loop-i.level.0 c.in-Some.above.0 c.args.t.0 c.loop-i-test.true (sym c.counts_as.ensures ∙ c.if-counts_as.false) c.in-Some.ensures c.loop-i.invariant
+loop-i-preserved c = went_up (classes c.args.self.now) (counts_as (classes c.args.self.now) c.args.t.0) c.loop-i._i c.loop-i.level.0 c.in-Some.above.0 (sub (classes c.args.self.now) c.args.c.0 c.args.t.0) c.loop-i-test.true (sym c.counts_as.ensures ∙ c.if-counts_as.false) c.in-Some.ensures c.loop-i.invariant
 
 pub returns : goal.returns
-returns c = unfound (classes c.args.self.now) c.loop-i._i c.args.c.0 c.loop-i.level.0 c.args.t.0 c.loop-i-test.false c.loop-i.invariant
+returns c = unfound (classes c.args.self.now) (counts_as (classes c.args.self.now) c.args.t.0) c.loop-i._i c.loop-i.level.0 (sub (classes c.args.self.now) c.args.c.0 c.args.t.0) c.loop-i-test.false c.loop-i.invariant
