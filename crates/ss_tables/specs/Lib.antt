@@ -1,0 +1,6 @@
+pub mod Words
+pub mod Members
+pub mod Classes
+pub mod Types
+pub mod Scopes
+pub mod Statics
