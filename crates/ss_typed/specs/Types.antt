@@ -1,0 +1,66 @@
+-- The static type of an expression, as it is declared: what is known of null at a place isn't in it.
+use Rattle.std.specs.Prelude.{ℕ, Bool, true, false, Option, Some, None, ◌==◌, ◌-◌, if◌then◌else◌}
+use Rattle.ss_classes.specs.declared.names.Ty.{Ty}
+use Rattle.ss_classes.specs.declared.names.Ty.TheVariants as ty
+use Rattle.ss_classes.specs.declared.expr.Operator.{Operator}
+use Rattle.ss_classes.specs.declared.expr.Operator.TheVariants as op
+use Rattle.ss_typed.specs.Tree.{ExprTree, IntOf, BoolOf, NullOf, ThisOf, LocalOf, ResultOf, BoundOf, IffOf, ImpliesOf, BinaryOf, IsOf, AsOf, NegateOf, NotOf, CastOf, FieldOf, ElementOf, LengthOf, OldOf, QuantifiedOf, StateOf, OwnersOf, NewOf, NewArrayOf, CallOf, StaticOf, BaseOf}
+
+-- the type of a class, with or without null
+abbrev pub class_type : ℕ → Bool → Ty
+class_type t non_null = ty.Ref (record { 0 = t }) non_null
+
+-- The elements of an array by its class: `int[]` is 1, `bool[]` 2, `object[]` 3, and the array of a declared class comes behind it.
+-- References among them may be null.
+abbrev pub element_type : ℕ → Ty
+element_type t = if t == 1 then ty.Int else if t == 2 then ty.Bool else if t == 3 then class_type 0 false else class_type (t - 1) false
+
+abbrev pub element_of : Option Ty → Option Ty
+element_of (Some (ty.Ref t non_null)) = Some (element_type t.0)
+element_of a = None
+
+-- what an operation gives
+abbrev pub operation_type : Operator → Ty
+operation_type op.Or = ty.Bool
+operation_type op.And = ty.Bool
+operation_type op.Equal = ty.Bool
+operation_type op.NotEqual = ty.Bool
+operation_type op.Less = ty.Bool
+operation_type op.LessEqual = ty.Bool
+operation_type op.Greater = ty.Bool
+operation_type op.GreaterEqual = ty.Bool
+operation_type op.Add = ty.Int
+operation_type op.Subtract = ty.Int
+operation_type op.Multiply = ty.Int
+operation_type op.Divide = ty.Int
+operation_type op.Remainder = ty.Int
+
+-- A call of a method without a result has no type.
+abbrev pub type_of : ExprTree → Option Ty
+type_of (IntOf p n) = Some ty.Int
+type_of (BoolOf p b) = Some ty.Bool
+type_of (NullOf p) = Some ty.Null
+type_of (ThisOf p t) = Some (class_type t true)
+type_of (LocalOf p x t) = Some t
+type_of (ResultOf p t) = t
+type_of (BoundOf p n) = Some ty.Int
+type_of (IffOf p a b) = Some ty.Bool
+type_of (ImpliesOf p a b) = Some ty.Bool
+type_of (BinaryOf p o a b) = Some (operation_type o)
+type_of (IsOf p e t) = Some ty.Bool
+type_of (AsOf p e t) = Some (class_type t false)
+type_of (NegateOf p e) = Some ty.Int
+type_of (NotOf p e) = Some ty.Bool
+type_of (CastOf p t non_null e) = Some (class_type t non_null)
+type_of (FieldOf p e f t) = Some t
+type_of (ElementOf p a i) = element_of (type_of a)
+type_of (LengthOf p e) = Some ty.Int
+type_of (OldOf p e) = type_of e
+type_of (QuantifiedOf p q name low high e) = Some ty.Bool
+type_of (StateOf p w e) = Some ty.Bool
+type_of (OwnersOf p w a b) = Some ty.Bool
+type_of (NewOf p t es) = Some (class_type t true)
+type_of (NewArrayOf p t e) = Some (class_type t true)
+type_of (CallOf p e m t es) = t
+type_of (StaticOf p n t es) = t
+type_of (BaseOf p m t es) = t

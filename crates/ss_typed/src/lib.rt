@@ -1,0 +1,13 @@
+//! Resolved programs: the trees of a source in which names are numbers and the type of every part is known, before implied
+//! steps are written out.
+#![tactic(auto)]
+
+mod body;
+mod expr;
+mod program;
+mod stmt;
+
+pub use body::{TypedBase, TypedBody, TypedFlags, TypedModifies, TypedParam};
+pub use expr::{TypedExpr, TypedLink, TypedStep};
+pub use program::{Typed, TypedClass, TypedField, TypedInvariant};
+pub use stmt::{TypedBlock, TypedDeclarator, TypedInit, TypedSimple, TypedStmt};
