@@ -1,0 +1,50 @@
+-- The fields of a class, by number.
+use Rattle.std.specs.Prelude.{ℕ, ◌+◌, ◌-◌, ◌/◌, List, [], length, sum_by, take, Bool, true, false, ◌&&◌, nat_le, nat_lt, Option, Some, None, slice_get}
+use Rattle.ss_classes.specs.declared.names.Ty.{Ty}
+use Rattle.ss_classes.specs.declared.names.Ty.TheVariants as ty
+use Rattle.ss_classes.specs.Tree as core
+use Rattle.ss_typed.specs.Tree.{FieldTree, MembersTree, TypedTree}
+
+-- a value of the type is never null (OOPSLA 2003)
+abbrev pub is_non_null : Ty → Bool
+is_non_null ty.Int = false
+is_non_null ty.Bool = false
+is_non_null ty.Null = false
+is_non_null (ty.Ref t non_null) = non_null
+
+-- the place of a declared class in the list of classes
+abbrev pub class_place : ℕ → ℕ
+class_place t = (t - 4) / 2
+
+abbrev pub fields_in : Option core.ClassTree → List core.FieldTree
+fields_in None = []
+fields_in (Some c) = c.fields
+
+-- the fields that the class declares
+abbrev pub own_fields : TypedTree → ℕ → List core.FieldTree
+own_fields p t = fields_in (slice_get p.classes (class_place t))
+
+abbrev pub fields_of_members : Option MembersTree → List FieldTree
+fields_of_members None = []
+fields_of_members (Some m) = m.fields
+
+-- the same fields, each with what it begins with
+abbrev pub written_fields : TypedTree → ℕ → List FieldTree
+written_fields p t = fields_of_members (slice_get p.members (class_place t))
+
+-- ---- numbers
+
+abbrev pub field_count : core.ClassTree → ℕ
+field_count c = length c.fields
+
+-- the numbers of the fields that a class declares: the first one, and how many there are
+pub record Numbers : Type 0 where
+  pub first : ℕ
+  pub count : ℕ
+
+-- fields are numbered over the whole program in order of declaration
+abbrev pub field_numbers : TypedTree → ℕ → Numbers
+field_numbers p t = record { first = sum_by field_count (take (class_place t) p.classes); count = length (own_fields p t) }
+
+abbrev pub is_among : Numbers → ℕ → Bool
+is_among n f = nat_le n.first f && nat_lt (f - n.first) n.count

@@ -1,0 +1,4 @@
+pub mod Sets
+pub mod Paths
+pub mod Fields
+pub mod Assigned
