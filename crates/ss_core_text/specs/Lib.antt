@@ -1,0 +1,4 @@
+pub mod Names
+pub mod Exprs
+pub mod Stmts
+pub mod Text

@@ -1,0 +1,12 @@
+pub mod Program
+pub mod Numbers
+pub mod Calls
+pub mod Lifting
+pub mod Ends
+pub mod Code
+pub mod Simple
+pub mod Statements
+pub mod Constructors
+pub mod Contracts
+pub mod Bodies
+pub mod Elaborated
