@@ -2,3 +2,7 @@ pub mod Names
 pub mod Exprs
 pub mod Stmts
 pub mod Text
+pub mod Tables
+pub mod Scenes
+pub mod Behinds
+pub mod Groups

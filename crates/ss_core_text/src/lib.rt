@@ -1,2 +1,18 @@
-//! Definitions of the text of a core program. They stand in `specs/`.
+//! The text of a core program of the whole language.
 #![tactic(auto)]
+
+mod exprs;
+mod fields;
+mod groups;
+mod locals;
+mod names;
+mod scene;
+mod scopes;
+mod stmts;
+mod tables;
+#[cfg(test)]
+mod tests;
+mod whole;
+mod words;
+
+pub use whole::core_text;
