@@ -2,7 +2,7 @@
 use Rattle.std.proofs.Common.{◌≡◌, ℕ, zero, suc, ◌+◌, List, [], ◌∷◌, ◌++◌, map, refl, ap, sym, ◌∙◌}
 use Rattle.std.specs.List.{slice_get}
 use Rattle.ss_classes.specs.Tree.{FieldTree, ClassTree}
-use Rattle.ss_classes.specs.Chain.{DeclaredField, in_class, fields_of_class, fields_from, all_fields}
+use Rattle.ss_classes.specs.Chain.{DeclaredField, fields_of_class, fields_from, all_fields}
 use Rattle.ss_core_text.specs.Names.{or_nothing, name_of_field, field_name}
 use Rattle.ss_core_text.specs.Tables.{field_names}
 

@@ -1,8 +1,7 @@
 -- The texts of locals, name by name.
-use Rattle.std.proofs.Common.{◌≡◌, ℕ, zero, suc, ◌+◌, ◌-◌, ◌<◌, ◌≤◌, List, [], ◌∷◌, ◌++◌, map, length, take, refl, ap, sym, ◌∙◌, append_assoc, arith, bytes_eq, Bool, true, false, cond, codes, decimal, if◌then◌else◌}
+use Rattle.std.proofs.Common.{◌≡◌, ℕ, suc, List, [], ◌∷◌, ◌++◌, length, refl, ap, sym, ◌∙◌, append_assoc, bytes_eq, Bool, true, false, cond, codes, decimal, if◌then◌else◌}
 use Rattle.std.proofs.lemmas.List.{append-nil}
 use Rattle.std.proofs.lemmas.Cmp.{nat_list_eq_equiv}
-use Rattle.std.specs.List.{slice_get, list_any}
 use Rattle.std.specs.Prelude.{◌||◌}
 use Rattle.ss_core_text.specs.Names.{is_among, marked, texts_from}
 

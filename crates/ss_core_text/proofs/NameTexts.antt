@@ -1,5 +1,5 @@
 -- The texts of a body's own locals, and of bound names behind them.
-use Rattle.std.proofs.Common.{◌≡◌, ℕ, zero, suc, ◌+◌, ◌<◌, ◌≤◌, List, [], ◌∷◌, ◌++◌, map, length, take, refl, ap, sym, ◌∙◌, append_assoc, arith, Some, None, subst, Bor, String, Global, string_bytes, bytes_eq, codes, decimal, Bool, true, false, if◌then◌else◌, Result, OnOk, option_map}
+use Rattle.std.proofs.Common.{◌≡◌, ℕ, zero, suc, ◌+◌, ◌<◌, ◌≤◌, List, [], ◌∷◌, ◌++◌, map, length, take, refl, ap, sym, ◌∙◌, append_assoc, arith, None, subst, Bor, String, Global, string_bytes, bytes_eq, codes, decimal, Bool, true, false, if◌then◌else◌, Result, OnOk, option_map}
 use Rattle.std.proofs.lemmas.List.{append-nil, length-map, length-append}
 use Rattle.std.specs.List.{slice_get, list_any}
 use Rattle.std.specs.Prelude.{◌||◌}

@@ -1,5 +1,5 @@
 -- What several calls wrote one after the other.
-use Rattle.std.proofs.Common.{◌≡◌, ℕ, List, [], ◌∷◌, ◌++◌, map, drop, length, suc, ◌+◌, ◌<◌, refl, ap, sym, subst, ◌∙◌, append_assoc, Result, OnOk, Some, get_or, arith}
+use Rattle.std.proofs.Common.{◌≡◌, ℕ, List, [], ◌∷◌, ◌++◌, map, drop, length, suc, ◌+◌, ◌<◌, ap, sym, subst, ◌∙◌, append_assoc, Result, OnOk, get_or, arith}
 use Rattle.std.proofs.Math.Seq.{drop-cons}
 use Rattle.std.proofs.lemmas.List.{append-nil}
 use Rattle.std.specs.Prelude.{replicate}

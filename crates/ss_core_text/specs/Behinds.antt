@@ -1,6 +1,6 @@
 -- Parts of expressions and of statements: what a link of a chain and a step of a path write behind what stands before them, what a question writes
 -- around what it asks of, and a loop.
-use Rattle.std.specs.Prelude.{ℕ, List, [], ◌∷◌, ◌++◌, codes, map, drop}
+use Rattle.std.specs.Prelude.{ℕ, List, [], ◌++◌, codes, drop}
 use Rattle.std.specs.List.{flat_map}
 use Rattle.ss_core.specs.declared.names.Place.{Place}
 use Rattle.ss_classes.specs.declared.expr.Link.{Link}

@@ -1,8 +1,8 @@
 -- The names in the text of a core program. A number of nothing has no name there, and nothing is written for it.
-use Rattle.std.specs.Prelude.{ℕ, List, [], ◌∷◌, ◌++◌, map, length, codes, decimal, bytes_eq, Bool, ◌==◌, ◌||◌, ◌+◌, ◌-◌, ◌%◌, if◌then◌else◌, Option, Some, None, slice_get}
+use Rattle.std.specs.Prelude.{ℕ, List, [], ◌∷◌, ◌++◌, map, length, codes, decimal, bytes_eq, Bool, ◌==◌, ◌||◌, ◌-◌, ◌%◌, if◌then◌else◌, Option, Some, None, slice_get}
 use Rattle.std.specs.List.{list_any}
 use Rattle.ss_classes.specs.declared.names.Ty.{Ty}
-use Rattle.ss_classes.specs.Tree.{ClassTree, EntryTree, LocalTree, BodyTree, CoreTree}
+use Rattle.ss_classes.specs.Tree.{ClassTree, EntryTree, LocalTree, BodyTree}
 use Rattle.ss_classes.specs.Chain.{declared, DeclaredField, all_fields}
 
 -- ---- classes

@@ -1,5 +1,5 @@
 -- What the names of a text are looked up in.
-use Rattle.std.specs.Prelude.{List, ◌++◌, map, ℕ}
+use Rattle.std.specs.Prelude.{List, ◌++◌, ℕ}
 use Rattle.ss_classes.specs.View as view
 use Rattle.ss_classes.specs.Tree.{ClassTree, CoreTree}
 use Rattle.ss_core_text.specs.Names.{local_names}

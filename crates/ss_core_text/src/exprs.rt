@@ -3,6 +3,7 @@
 ghost use Rattle.std.specs.Prelude.{◌≡◌, ℕ, List, [], ◌∷◌, ◌++◌, IfOk, OnOk, codes, map, length, replicate, string_bytes};
 ghost use Rattle.ss_classes.specs.View as view;
 ghost use Rattle.ss_core_text.specs.Exprs as texts;
+ghost use Rattle.ss_core_text.specs.Names.{class_name};
 ghost use Rattle.ss_core_text.specs.Tables as tables;
 ghost use Rattle.ss_core_text.specs.Scenes.{classes_of, names_in};
 ghost use Rattle.ss_core_text.specs.Behinds.{link_behind, step_behind, link_text, step_text, links_text, steps_text};
@@ -14,6 +15,7 @@ use crate::scene::Scene;
 use crate::scopes::{push_bound, push_bytes, push_local};
 use crate::words::{bool_text, null_mark, operator_text, push_int, quantifier_text};
 use ss_classes::{Classes, Expr, Link, OwnerTest, Quantifier, StateWord, Step};
+use ss_core::ClassId;
 use std::alloc::{AllocError, Global};
 
 /// The text of an expression.
@@ -51,33 +53,14 @@ pub(crate) fn push_expr(
             push_expr(alloc, out, scene, first)?;
             push_links(alloc, out, scene, links)
         }
-        Expr::Negate(_, a) => {
-            out.extend_from_slice(b"(- ")?;
-            push_expr(alloc, out, scene, a)?;
-            out.extend_from_slice(b")")
-        }
-        Expr::Not(_, a) => {
-            out.extend_from_slice(b"(! ")?;
-            push_expr(alloc, out, scene, a)?;
-            out.extend_from_slice(b")")
-        }
-        Expr::Cast(_, t, non_null, a) => {
-            out.extend_from_slice(b"((")?;
-            push_class(out, classes, *t)?;
-            out.extend_from_slice(null_mark(*non_null))?;
-            out.extend_from_slice(b") ")?;
-            push_expr(alloc, out, scene, a)?;
-            out.extend_from_slice(b")")
-        }
+        Expr::Negate(_, a) => push_between(alloc, out, scene, b"(- ", a, b")"),
+        Expr::Not(_, a) => push_between(alloc, out, scene, b"(! ", a, b")"),
+        Expr::Cast(_, t, non_null, a) => push_cast(alloc, out, scene, *t, *non_null, a),
         Expr::Path(_, first, steps) => {
             push_expr(alloc, out, scene, first)?;
             push_steps(alloc, out, scene, steps)
         }
-        Expr::Old(_, a) => {
-            out.extend_from_slice(b"old(")?;
-            push_expr(alloc, out, scene, a)?;
-            out.extend_from_slice(b")")
-        }
+        Expr::Old(_, a) => push_between(alloc, out, scene, b"old(", a, b")"),
         Expr::Quantified(_, quantifier, name, low, high, member) => {
             push_head(alloc, out, scene, *quantifier, name)?;
             push_expr(alloc, out, scene, low)?;
@@ -99,6 +82,40 @@ pub(crate) fn push_expr(
         }
         Expr::Default(_, _) => Ok(()),
     }
+}
+
+// An expression between two texts.
+#[cycle(expr)]
+fn push_between(
+    alloc: Global,
+    out: &mut Vec<u8>,
+    scene: &Scene<'_>,
+    before: &[u8],
+    e: &Expr,
+    behind: &[u8],
+) -> Result<(), AllocError>
+    ensures { OnOk result (out.new.items ≡ out.old.items ++ (before.now ++ texts.expr_text (classes_of scene.now.program.now) (names_in scene.now) (view.expr e.now) ++ behind.now)) }
+{
+    out.extend_from_slice(before)?;
+    push_expr(alloc, out, scene, e)?;
+    out.extend_from_slice(behind)
+}
+
+#[cycle(expr)]
+fn push_cast(
+    alloc: Global,
+    out: &mut Vec<u8>,
+    scene: &Scene<'_>,
+    t: ClassId,
+    non_null: bool,
+    e: &Expr,
+) -> Result<(), AllocError>
+    ensures { OnOk result (out.new.items ≡ out.old.items ++ (codes "((" ++ class_name (classes_of scene.now.program.now) t.0 ++ texts.null_mark non_null ++ codes ") " ++ texts.expr_text (classes_of scene.now.program.now) (names_in scene.now) (view.expr e.now) ++ codes ")")) }
+{
+    out.extend_from_slice(b"((")?;
+    push_class(out, &scene.program.whole.classes, t)?;
+    out.extend_from_slice(null_mark(non_null))?;
+    push_between(alloc, out, scene, b") ", e, b")")
 }
 
 // This many open parentheses.

@@ -1,9 +1,8 @@
-use Rattle.std.proofs.Common.{◌≡◌, ◌+◌, ◌++◌, ◌<◌, ◌≤◌, length, take, ap, sym, ◌∙◌, arith}
+use Rattle.std.proofs.Common.{◌++◌, ◌<◌, ◌≤◌, length, take, ap, sym, ◌∙◌, arith}
 use Rattle.std.proofs.lemmas.List.{append-nil}
 use Rattle.ss_classes.specs.View as view
-use Rattle.ss_core_text.specs.Names.{is_among, marked, local_names}
+use Rattle.ss_core_text.specs.Names.{marked, local_names}
 use Rattle.ss_core_text.specs.Tables.{texts}
-use Rattle.ss_core_text.specs.Scenes.{names_in}
 use Rattle.ss_core_text.proofs.NameTexts.{marked_is, written_as, bound_text, past_text, length-texts, length_front}
 use Rattle.ss_core_text.proofs.scopes.push_bound_at.Goals as goal
 

@@ -1,4 +1,4 @@
-use Rattle.std.proofs.Common.{◌<◌, length, arith, sym, ap, ◌∙◌, subst}
+use Rattle.std.proofs.Common.{◌<◌, length, arith, sym, ◌∙◌}
 use Rattle.ss_classes.specs.View as view
 use Rattle.ss_core_text.specs.Names.{local_names}
 use Rattle.ss_core_text.specs.Tables.{texts}

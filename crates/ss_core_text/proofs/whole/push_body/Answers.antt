@@ -1,4 +1,4 @@
-use Rattle.std.proofs.Common.{◌≡◌, ℕ, List, [], ◌++◌, append_assoc, ap, ◌∙◌, codes}
+use Rattle.std.proofs.Common.{ℕ, List, [], ◌++◌, append_assoc, ap, ◌∙◌, codes}
 use Rattle.std.proofs.lemmas.List.{append-nil}
 use Rattle.ss_classes.specs.declared.stmt.Stmt.{Stmt}
 use Rattle.ss_classes.specs.View as view

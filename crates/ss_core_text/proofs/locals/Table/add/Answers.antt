@@ -1,4 +1,4 @@
-use Rattle.std.proofs.Common.{ap, sym, ◌∙◌, map, string_bytes, length, arith}
+use Rattle.std.proofs.Common.{ap, ◌∙◌, map, string_bytes, arith}
 use Rattle.std.proofs.lemmas.List.{map-append, length-map}
 use Rattle.ss_core_text.proofs.LocalTexts.{one_more, one_more_known}
 use Rattle.ss_core_text.proofs.locals.Table.add.Goals as goal
