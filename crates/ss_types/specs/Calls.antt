@@ -4,11 +4,11 @@ use Rattle.std.specs.Str.{bytes_eq}
 use Rattle.ss_core.specs.declared.names.Place.{Place}
 use Rattle.ss_classes.specs.declared.names.Ty.{Ty}
 use Rattle.ss_classes.specs.declared.names.Ty.TheVariants as ty
-use Rattle.ss_ast.specs.Expressions.{NameTree, ExprTree, MemberOf, BaseOf, NameOf}
+use Rattle.ss_ast.specs.Expressions.{ExprTree, MemberOf, NameOf}
 use Rattle.ss_ast.specs.Programs.{ParamTree, ClassTree}
 use Rattle.ss_tables.specs.Words.{is_state_read, is_state_call, is_state_word, is_length}
 use Rattle.ss_tables.specs.Members.{FieldTree, MethodTree, ConstructorTree, constructors_in, is_static}
-use Rattle.ss_tables.specs.Classes.{Declared, above, class_named, members_at, field_of, method_of, inherited_field, inherited_method, is_array_number, declared_place}
+use Rattle.ss_tables.specs.Classes.{Declared, above, members_at, field_of, method_of, inherited_field, inherited_method, is_array_number, declared_place}
 use Rattle.ss_tables.specs.Types.{written_type, class_of}
 use Rattle.ss_tables.specs.Scopes.{Scope, local_named}
 use Rattle.ss_tables.specs.Statics.{Receiver, TheConsole, TheOwner, TheBase, AClass, AValue, receiver, static}

@@ -1,15 +1,15 @@
 -- Which faults of types stand in an expression, form by form.
-use Rattle.std.specs.Prelude.{ℕ, zero, suc, ◌+◌, ◌&&◌, ◌||◌, not, Bool, true, false, List, [], ◌∷◌, ◌++◌, Option, Some, None, is_some, is_none, option_and_then, option_map, if◌then◌else◌}
+use Rattle.std.specs.Prelude.{ℕ, ◌+◌, ◌&&◌, ◌||◌, not, Bool, true, false, List, [], ◌∷◌, ◌++◌, Option, Some, None, is_some, is_none, option_and_then, if◌then◌else◌}
 use Rattle.ss_core.specs.declared.names.Place.{Place}
 use Rattle.ss_classes.specs.declared.names.Ty.{Ty}
 use Rattle.ss_ast.specs.declared.expr.Operator.{Operator}
 use Rattle.ss_ast.specs.declared.expr.Operator.TheVariants as op
 use Rattle.ss_ast.specs.Expressions.{NameTree, TypeNameTree, IntType, BoolType, ObjectType, ClassType, TypeTree, ExprTree, Arguments, NoMore, Argument, IffOf, ImpliesOf, BinaryOf, IsOf, AsOf, NegateOf, NotOf, CastOf, MemberOf, ElementOf, CallOf, NumberOf, TextOf, TruthOf, NullOf, ThisOf, BaseOf, ResultOf, NameOf, ParenOf, OldOf, NewOf, NewArrayOf, QuantifiedOf}
 use Rattle.ss_ast.specs.Programs.{ClassTree}
-use Rattle.ss_tables.specs.Words.{is_state_read, is_state_call, is_state_word, is_length}
-use Rattle.ss_tables.specs.Classes.{class_named, field_of, method_of, is_array_number, declared_place}
+use Rattle.ss_tables.specs.Words.{is_state_read, is_state_call, is_state_word}
+use Rattle.ss_tables.specs.Classes.{class_named, field_of, method_of, declared_place}
 use Rattle.ss_tables.specs.Types.{class_of}
-use Rattle.ss_tables.specs.Scopes.{Scope, local_named, within_quantifier}
+use Rattle.ss_tables.specs.Scopes.{local_named, within_quantifier}
 use Rattle.ss_tables.specs.Statics.{Receiver, TheConsole, TheOwner, TheBase, AClass, AValue, receiver, callee, static, Callee, AMethod, APrint, AWord, ABase, NoCallee}
 use Rattle.ss_faults.specs.declared.Fault.{Fault}
 use Rattle.ss_types.specs.Faults.{bad_type, call_in_condition, fault_where}

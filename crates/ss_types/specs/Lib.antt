@@ -1,3 +1,4 @@
+pub mod Views
 pub mod Faults
 pub mod Wants
 pub mod Calls
@@ -6,3 +7,5 @@ pub mod Ends
 pub mod Statements
 pub mod Members
 pub mod Programs
+pub mod Heads
+pub mod Codes

@@ -1,5 +1,5 @@
 -- Which faults of types stand in a member of a class.
-use Rattle.std.specs.Prelude.{ℕ, ◌&&◌, ◌||◌, not, Bool, true, false, List, [], ◌∷◌, ◌++◌, length, map, drop, Option, Some, None, is_some, is_none, option_and_then, if◌then◌else◌}
+use Rattle.std.specs.Prelude.{ℕ, ◌&&◌, ◌||◌, not, Bool, true, false, List, [], ◌∷◌, ◌++◌, map, drop, Option, Some, None, is_some, is_none}
 use Rattle.std.specs.Str.{bytes_eq}
 use Rattle.ss_core.specs.declared.names.Place.{Place}
 use Rattle.ss_classes.specs.declared.names.Ty.{Ty}
@@ -14,8 +14,8 @@ use Rattle.ss_tables.specs.Types.{written_type}
 use Rattle.ss_tables.specs.Scopes.{Scope, local_named, class_scope, param_scope, enter, behind}
 use Rattle.ss_faults.specs.declared.Fault.{Fault}
 use Rattle.ss_types.specs.Faults.{bad_type, no_return, fault_where}
-use Rattle.ss_types.specs.Wants.{Want, ABool, AReference, AnArray, place_of}
-use Rattle.ss_types.specs.Calls.{Around, Called, Taking, base_wants, takes_nothing, argument_wants, whole_call}
+use Rattle.ss_types.specs.Wants.{ABool, AReference, AnArray, place_of}
+use Rattle.ss_types.specs.Calls.{Around, Taking, base_wants, takes_nothing, argument_wants, whole_call}
 use Rattle.ss_types.specs.Expressions.{AsValue, faults, faults_as, argument_faults, count, mark_faults}
 use Rattle.ss_types.specs.Ends.{block_reaches_end}
 use Rattle.ss_types.specs.Statements.{Outcome, Nothing, Gives, Body, in_code, is_target, initial_faults, stmt_faults, block_faults}

@@ -1,5 +1,5 @@
 -- Which faults of types stand in a statement, form by form.
-use Rattle.std.specs.Prelude.{ℕ, ◌&&◌, ◌||◌, not, Bool, true, false, List, [], ◌∷◌, ◌++◌, Option, Some, None, is_some, option_and_then, if◌then◌else◌}
+use Rattle.std.specs.Prelude.{ℕ, ◌&&◌, not, Bool, true, false, List, [], ◌∷◌, ◌++◌, Option, Some, None, option_and_then}
 use Rattle.ss_core.specs.declared.names.Place.{Place}
 use Rattle.ss_classes.specs.declared.names.Ty.{Ty}
 use Rattle.ss_ast.specs.declared.stmt.AssignOperator.{AssignOperator}

@@ -1,5 +1,5 @@
 -- What is wanted where an expression stands, and which expressions don't suit.
-use Rattle.std.specs.Prelude.{ℕ, ◌==◌, ◌&&◌, ◌||◌, not, Bool, true, false, List, [], ◌∷◌, Option, Some, None, is_some, is_none, option_and_then, if◌then◌else◌}
+use Rattle.std.specs.Prelude.{ℕ, ◌==◌, ◌&&◌, ◌||◌, not, Bool, true, false, List, [], ◌∷◌, Option, Some, None, is_some, is_none, option_and_then}
 use Rattle.ss_core.specs.declared.names.Place.{Place}
 use Rattle.ss_classes.specs.declared.names.Ty.{Ty}
 use Rattle.ss_classes.specs.declared.names.Ty.TheVariants as ty

@@ -1,0 +1,11 @@
+-- What the parts of a chain and of a path make of what stands before them.
+use Rattle.ss_ast.specs.declared.expr.Link.{Link}
+use Rattle.ss_ast.specs.declared.expr.Postfix.{Postfix}
+use Rattle.ss_ast.specs.declared.expr.Expr.TheFolds.{fold-Link, fold-Postfix}
+use Rattle.ss_ast.specs.Expressions.{ExprTree, Behind, expr_step, link_step, postfix_step}
+
+abbrev pub link_behind : Link → Behind
+link_behind = fold-Link ExprTree Behind Behind expr_step link_step postfix_step
+
+abbrev pub postfix_behind : Postfix → Behind
+postfix_behind = fold-Postfix ExprTree Behind Behind expr_step link_step postfix_step
