@@ -4,3 +4,12 @@ pub mod Statements
 pub mod Temporaries
 pub mod Members
 pub mod Programs
+pub mod Prefixes
+pub mod Views
+pub mod Bare
+pub mod Sums
+pub mod Lifted
+pub mod Walked
+pub mod WalkedViews
+pub mod Initials
+pub mod Headings

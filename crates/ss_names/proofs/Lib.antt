@@ -1,0 +1,16 @@
+pub mod Loops
+pub mod Walks
+pub mod Parts
+pub mod Grouping
+pub mod Bareness
+pub mod Above
+pub mod Leaving
+pub mod Summing
+pub mod Listed
+pub mod Appending
+pub mod Counting
+pub mod Lifts
+pub mod Asked
+pub mod Kept
+pub mod Targets
+pub mod Passing
