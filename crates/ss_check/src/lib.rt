@@ -5,7 +5,5 @@ mod cases;
 mod facts;
 mod reads;
 mod steps;
-#[cfg(test)]
-mod tests;
 
 pub use steps::{CheckStop, check};

@@ -8,8 +8,6 @@ mod class;
 mod expr;
 mod names;
 mod stmt;
-#[cfg(test)]
-mod tests;
 
 pub use body::{Body, BodyFlags, Core, Local, Modifies};
 pub use chain::MOST_LEVELS;

@@ -10,8 +10,6 @@ mod scene;
 mod scopes;
 mod stmts;
 mod tables;
-#[cfg(test)]
-mod tests;
 mod whole;
 mod words;
 

@@ -8,8 +8,6 @@ mod members;
 mod modified;
 mod params;
 mod program;
-#[cfg(test)]
-mod tests;
 mod usings;
 
 pub use program::parse_program;

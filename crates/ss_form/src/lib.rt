@@ -20,6 +20,3 @@ mod variable;
 pub use plain::is_plain;
 pub use second::second_form;
 pub use stop::FormStop;
-
-#[cfg(test)]
-mod tests;

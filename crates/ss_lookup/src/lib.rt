@@ -5,8 +5,6 @@ mod members;
 mod places;
 mod shelves;
 mod tables;
-#[cfg(test)]
-mod tests;
 mod types;
 
 pub use members::{ConstructorRef, FieldRef, MethodRef};

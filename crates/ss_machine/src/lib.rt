@@ -4,8 +4,6 @@
 mod frame;
 mod machine;
 mod step;
-#[cfg(test)]
-mod tests;
 mod values;
 
 pub use machine::{CheckedEnd, run_checked};

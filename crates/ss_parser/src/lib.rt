@@ -13,8 +13,6 @@ pub mod heads;
 pub mod paths;
 pub mod quantifiers;
 pub mod refusal;
-#[cfg(test)]
-mod tests;
 pub mod types;
 mod unaries;
 

@@ -14,8 +14,6 @@ mod numbers;
 mod obligation;
 mod question;
 mod tableau;
-#[cfg(test)]
-mod tests;
 
 pub use model::{Countered, Countermodel};
 pub use obligation::{Found, prove};

@@ -13,7 +13,5 @@ mod loops;
 pub mod posts;
 pub mod simples;
 pub mod statements;
-#[cfg(test)]
-mod tests;
 
 pub use blocks::parse_block;

@@ -4,14 +4,10 @@
 mod arithmetic;
 mod before;
 mod calls;
-#[cfg(test)]
-mod change_tests;
 mod copies;
 mod defaults;
 mod eval;
 mod fields;
-#[cfg(test)]
-mod input_tests;
 mod inputs;
 mod invariants;
 mod levels;
@@ -24,8 +20,6 @@ mod ready;
 mod refused;
 mod scene;
 mod store;
-#[cfg(test)]
-mod tests;
 mod words;
 mod writes;
 

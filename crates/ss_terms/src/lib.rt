@@ -5,8 +5,6 @@ mod bank;
 mod derivation;
 mod forms;
 mod index;
-#[cfg(test)]
-mod tests;
 
 pub use bank::Bank;
 pub use derivation::{Derivation, Line};

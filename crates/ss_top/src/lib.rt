@@ -9,6 +9,3 @@ mod words;
 
 pub use laws::{no_fault, one_fault, one_meaning};
 pub use top::specsharp;
-
-#[cfg(test)]
-mod tests;

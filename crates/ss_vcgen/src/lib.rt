@@ -14,8 +14,6 @@ mod list;
 mod meant;
 mod shape;
 mod statements;
-#[cfg(test)]
-mod tests;
 
 pub use bodies::obligations;
 pub use list::{Obligation, Obligations};

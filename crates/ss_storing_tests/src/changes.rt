@@ -1,47 +1,15 @@
 // Changes of a store of a program with one class, which has a field.
 
-ghost use Rattle.std.specs.Prelude.{◌≡◌, IfOk};
 ghost use Rattle.ss_classes.specs.View.{classes};
 ghost use Rattle.ss_classes.specs.Chain.{IsWithinLimits};
 
-use crate::{Before, NewStop, Store};
-use ss_classes::{Class, Classes, Core, Field, FieldId, Mark, Ty};
-use ss_core::{BodyId, ClassId, Kind};
+use crate::part::{INT_ARRAY, PART, V, program};
+use ss_classes::Core;
+use ss_core::Kind;
 use ss_objects::{Refused, Value};
+use ss_store::{Before, NewStop, Store};
 use std::alloc::{AllocError, Global};
 use std::test::Fail;
-
-const PART: ClassId = ClassId(4);
-
-const INT_ARRAY: ClassId = ClassId(1);
-
-const V: FieldId = FieldId(0);
-
-// `class Part { int v; }`
-fn program(alloc: Global) -> Result<Core, AllocError>
-    ensures { IfOk result (λ c. IsWithinLimits (classes c.classes)) }
-{
-    let v = Field {
-        name: String::from_str(alloc, "v")?,
-        ty: Ty::Int,
-        mark: Mark::Plain,
-    };
-    let part = Class {
-        name: String::from_str(alloc, "Part")?,
-        above: ClassId(0),
-        also: Vec::new(alloc),
-        fields: vec![in alloc; v]?,
-        invariants: Vec::new(alloc),
-        table: Vec::new(alloc),
-    };
-    Ok(Core {
-        classes: Classes {
-            list: vec![in alloc; part]?,
-        },
-        bodies: Vec::new(alloc),
-        main: BodyId(0),
-    })
-}
 
 fn refused(kind: Kind) -> Result<(), Refused> {
     Err(Refused { kind })

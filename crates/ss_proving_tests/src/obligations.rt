@@ -1,7 +1,7 @@
 // The obligations of small programs, built by hand.
 
-use crate::obligations;
 use ss_core::{Body, BodyId, ClassId, Classes, Core, Expr, Kind, Local, Place, Stmt, Ty};
+use ss_vcgen::obligations;
 use std::alloc::{AllocError, Global};
 use std::test::Fail;
 

@@ -1,7 +1,7 @@
 // Equal forms have equal numbers.
 
-use crate::{Bank, Formula, FormulaId, Term};
 use ss_logic::Sort;
+use ss_terms::{Bank, Formula, FormulaId, Term};
 use std::alloc::{AllocError, Global};
 use std::test::Fail;
 

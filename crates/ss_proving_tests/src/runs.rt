@@ -1,8 +1,8 @@
 // Runs of small programs, built by hand.
 
-use crate::{CheckedEnd, run_checked};
 use ss_core::{Body, BodyId, ClassId, Classes, Core, Expr, Kind, Local, Place, Stmt, Ty, Value};
 use ss_io::MemSink;
+use ss_machine::{CheckedEnd, run_checked};
 use std::alloc::{AllocError, Global};
 use std::test::Fail;
 

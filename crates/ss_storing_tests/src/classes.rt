@@ -2,7 +2,7 @@
 
 ghost use Rattle.std.specs.Prelude.{◌≡◌, ◌≤◌, ◌+◌, length, IfOk};
 
-use crate::{Class, Classes, Field, FieldId, Mark, Ty};
+use ss_classes::{Class, Classes, Field, FieldId, Mark, Ty};
 use ss_core::ClassId;
 use std::alloc::{AllocError, Global};
 use std::test::Fail;

@@ -4,9 +4,9 @@ ghost use Rattle.std.specs.Prelude.{◌≤◌, IfOk, length};
 ghost use Rattle.ss_classes.specs.View.{classes};
 ghost use Rattle.ss_classes.specs.Chain.{most_classes};
 
-use crate::admitted;
 use ss_classes::{Body, BodyFlags, Classes, Core, Expr, Link, Local, Operator, Step, Ty};
 use ss_core::{BodyId, ClassId, Place};
+use ss_store::admitted;
 use std::alloc::{AllocError, Global};
 use std::test::Fail;
 

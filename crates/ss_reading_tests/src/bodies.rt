@@ -1,8 +1,8 @@
 // Bodies of methods and where reading them ends, worked out from the grammar apart from this code.
 
-use crate::parse_block;
 use ss_core::FrontStop;
 use ss_lexer::tokens;
+use ss_statements::parse_block;
 use std::alloc::{AllocError, Global};
 use std::test::Fail;
 

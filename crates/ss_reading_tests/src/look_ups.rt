@@ -1,10 +1,10 @@
 // Two classes, built by hand.
 
-use crate::{StaticType, Tables};
 use ss_ast::{
     Block, ClassDecl, Declaration, Declarator, Member, MemberKind, Method, Name, TypeName, TypeRef,
 };
 use ss_core::Place;
+use ss_lookup::{StaticType, Tables};
 use std::alloc::{AllocError, Global};
 use std::test::Fail;
 

@@ -1,8 +1,8 @@
 // The whole call over files and a sink in memory.
 
-use crate::specsharp;
 use ss_io::{MemFiles, MemSink};
 use ss_report::Status;
+use ss_top::specsharp;
 use std::alloc::Global;
 use std::process::Abort;
 use std::test::Fail;

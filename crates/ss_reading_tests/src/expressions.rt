@@ -1,9 +1,9 @@
 // Sources and what their first expression is, worked out by hand.
 
-use crate::parse_expr;
 use ss_ast::Expr;
 use ss_core::FrontStop;
 use ss_lexer::tokens;
+use ss_parser::parse_expr;
 use std::alloc::{AllocError, Global};
 use std::test::Fail;
 

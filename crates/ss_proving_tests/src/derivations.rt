@@ -1,6 +1,6 @@
 // Derivations that are taken, and ones that are refused.
 
-use crate::{CheckStop, check};
+use ss_check::{CheckStop, check};
 use ss_logic::{RuleName, Sort};
 use ss_terms::{Bank, Derivation, Formula, FormulaId, Line, Term, TermId};
 use std::alloc::{AllocError, Global};

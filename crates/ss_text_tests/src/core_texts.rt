@@ -1,11 +1,11 @@
 // Texts of programs that are built by hand.
 
-use crate::core_text;
 use ss_classes::{
     Body, BodyFlags, Callee, Class, Classes, Core, Entry, Expr, Field, FieldId, Link, Local, Loop,
     Mark, Operator, OwnerTest, Quantifier, StateWord, Step, Stmt, Ty,
 };
 use ss_core::{BodyId, ClassId, Place};
+use ss_core_text::core_text;
 use std::alloc::{AllocError, Global};
 use std::test::Fail;
 

@@ -1,7 +1,7 @@
 // What a search finds of small obligations.
 
-use crate::{Found, prove};
 use ss_logic::Sort;
+use ss_search::{Found, prove};
 use ss_terms::{Bank, Formula, FormulaId, Line, Term};
 use std::alloc::{AllocError, Global};
 use std::test::Fail;

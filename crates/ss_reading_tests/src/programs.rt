@@ -1,8 +1,8 @@
 // Sources and what they are read as, worked out by hand.
 
-use crate::parse_program;
 use ss_ast::{MemberKind, Program};
 use ss_core::FrontStop;
+use ss_decls::parse_program;
 use ss_lexer::tokens;
 use std::alloc::{AllocError, Global};
 use std::test::Fail;

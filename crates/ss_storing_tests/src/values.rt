@@ -1,15 +1,13 @@
 // Each kind of check of an expression, with its place.
-ghost use Rattle.std.specs.Prelude.{◌≤◌, IfOk, length};
-ghost use Rattle.ss_classes.specs.View.{classes};
-ghost use Rattle.ss_classes.specs.Chain.{most_classes};
 
-use crate::Store;
-use crate::object::{Object, Slot};
-use ss_classes::{
-    Classes, Core, Expr, FieldId, Link, Operator, OwnerTest, Quantifier, StateWord, Step,
-};
-use ss_core::{BodyId, ClassId, Kind, Place};
-use ss_objects::{Owner, Undefined, Value};
+ghost use Rattle.ss_classes.specs.View.{classes};
+ghost use Rattle.ss_classes.specs.Chain.{IsWithinLimits};
+
+use crate::part::{INT_ARRAY, PART, V, program};
+use ss_classes::{Core, Expr, FieldId, Link, Operator, OwnerTest, Quantifier, StateWord, Step};
+use ss_core::{ClassId, Kind, Place};
+use ss_objects::{Undefined, Value};
+use ss_store::Store;
 use std::alloc::{AllocError, Global};
 use std::test::Fail;
 
@@ -17,73 +15,43 @@ fn at(column: u32) -> Place {
     Place { line: 1, column }
 }
 
-// A program without classes.
-fn program(alloc: Global) -> Core
-    ensures { length (classes result.classes) ≤ most_classes }
+// At entry an object whose field is 5; now its field is 6, and there are another object of its group and the array of 7 and 8.
+fn stores(alloc: Global, c: &Core) -> Result<(Store, Store), AllocError>
+    requires { IsWithinLimits (classes c.now.classes) }
 {
-    Core {
-        classes: Classes {
-            list: Vec::new(alloc),
-        },
-        bodies: Vec::new(alloc),
-        main: BodyId(0),
+    let mut entry = Store::new(alloc);
+    entry.new_object(&c.classes, PART)?;
+    let mut now = Store::new(alloc);
+    now.new_object(&c.classes, PART)?;
+    now.new_object(&c.classes, PART)?;
+    let is_made = now.new_array(INT_ARRAY, 2).is_ok();
+    let part = Value::Obj(0);
+    let array = Value::Obj(2);
+    let is_changed = entry.write(c, part, V, Value::Int(5)).is_ok()
+        && now.write(c, part, V, Value::Int(6)).is_ok()
+        && now.write_element(array, 0, Value::Int(7)).is_ok()
+        && now.write_element(array, 1, Value::Int(8)).is_ok()
+        && now.join_peer(1, 0).is_ok()
+        && now.pack(c, part, PART).is_ok();
+    if is_made && is_changed {
+        Ok((entry, now))
+    } else {
+        Err(AllocError)
     }
-}
-
-// An object whose field 0 holds this number.
-fn object(alloc: Global, number: i32) -> Result<Object, AllocError> {
-    let slot = Slot {
-        field: FieldId(0),
-        value: Value::Int(number),
-    };
-    Ok(Object {
-        class: ClassId(4),
-        fields: vec![in alloc; slot]?,
-        elements: Vec::new(alloc),
-        level: ClassId(4),
-        committed: false,
-        owner: Owner::Group(0),
-        ready: true,
-    })
-}
-
-// An array with the elements 7 and 8.
-fn array(alloc: Global) -> Result<Object, AllocError> {
-    Ok(Object {
-        class: ClassId(1),
-        fields: Vec::new(alloc),
-        elements: vec![in alloc; Value::Int(7), Value::Int(8)]?,
-        level: ClassId(1),
-        committed: false,
-        owner: Owner::Group(1),
-        ready: true,
-    })
-}
-
-// At entry an object and an array; now another object too.
-fn stores(alloc: Global) -> Result<(Store, Store), AllocError> {
-    let entry = Store {
-        objects: vec![in alloc; object(alloc, 5)?, array(alloc)?]?,
-        spare: Vec::new(alloc),
-    };
-    let now = Store {
-        objects: vec![in alloc; object(alloc, 6)?, array(alloc)?, object(alloc, 0)?]?,
-        spare: Vec::new(alloc),
-    };
-    Ok((entry, now))
 }
 
 // The value where the locals are the object, the array, the new object, null, and the least number.
 fn value(alloc: Global, e: &Expr) -> Result<Result<Value, Undefined>, AllocError> {
-    let (entry, now) = stores(alloc)?;
+    let c = program(alloc)?;
+    let (entry, now) = stores(alloc, &c)?;
     let locals = [
         Value::Obj(0),
-        Value::Obj(1),
         Value::Obj(2),
+        Value::Obj(1),
         Value::Null,
         Value::Int(i32::MIN),
     ];
-    Ok(now.eval(&program(alloc), &entry, e, &locals))
+    Ok(now.eval(&c, &entry, e, &locals))
 }
 
 fn local(x: usize) -> Expr {

@@ -1,8 +1,8 @@
 // Programs whose trees are made by hand.
 
-use super::*;
 use ss_ast::{Block, ClassDecl, Member, MemberKind, Method, Modifier, ModifierWord, Name, Program};
 use ss_core::Place;
+use ss_form::{is_plain, second_form};
 use std::alloc::{AllocError, Global};
 use std::test::Fail;
 

@@ -1,0 +1,15 @@
+//! Tests of the readers of expressions, bodies and programs, and of the second form, over their public calls.
+//! They stand in a crate of their own, so that no reader is proved a second time for them.
+
+#![tactic(auto)]
+
+#[cfg(test)]
+mod bodies;
+#[cfg(test)]
+mod expressions;
+#[cfg(test)]
+mod forms;
+#[cfg(test)]
+mod look_ups;
+#[cfg(test)]
+mod programs;
