@@ -53,8 +53,8 @@ impl Places {
         Ok(())
     }
 
-    // Notes the place of a name that has none yet.
-    fn note(&mut self, alloc: Global, name: &str, place: usize) -> Result<(), AllocError>
+    /// Notes the place of a name that has none yet.
+    pub fn note(&mut self, alloc: Global, name: &str, place: usize) -> Result<(), AllocError>
         ensures { OnOk result (self.new ≡ with_place self.old name.now place) }
     {
         if self.find(name).is_none() {
