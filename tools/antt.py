@@ -116,6 +116,7 @@ WORDS = {
     'nat_eq': (2, lambda a, b: a == b),
     'nat_le': (2, lambda a, b: a <= b),
     'nat_lt': (2, lambda a, b: a < b),
+    'int_lt': (2, lambda a, b: a < b),
     'cond': (3, lambda b, x, y: x if b else y),
     'min': (2, min),
     'max': (2, max),

@@ -5,11 +5,7 @@ pub mod Temporaries
 pub mod Members
 pub mod Programs
 pub mod Prefixes
-pub mod Views
 pub mod Bare
 pub mod Sums
-pub mod Lifted
-pub mod Walked
-pub mod WalkedViews
 pub mod Initials
 pub mod Headings

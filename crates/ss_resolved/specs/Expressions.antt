@@ -1,6 +1,6 @@
 -- The resolved tree of an expression. Parentheses leave no trace. `result` where it has no type stays, with what is asked of it, for a later phase; what else a
 -- source without faults doesn't have becomes `null`.
-use Rattle.std.specs.Prelude.{ℕ, Bool, true, false, List, [], ◌∷◌, Option, Some, None, option_and_then, codes, if◌then◌else◌}
+use Rattle.std.specs.Prelude.{ℕ, ℤ, pos, negsuc, int_lt, Bool, true, false, List, [], ◌∷◌, Option, Some, None, option_and_then, codes, if◌then◌else◌}
 use Rattle.std.specs.Str.{bytes_eq}
 use Rattle.ss_core.specs.declared.names.Place.{Place}
 use Rattle.ss_ast.specs.declared.expr.Operator.{Operator as WrittenOperator}
@@ -39,6 +39,14 @@ operator written.Subtract = op.Subtract
 operator written.Multiply = op.Multiply
 operator written.Divide = op.Divide
 operator written.Remainder = op.Remainder
+
+-- A number that is no `int` counts as the largest one. A source has none: its literals end at 2147483647, and the one behind a
+-- minus at 2147483648.
+abbrev pub as_int : ℤ → ℤ
+as_int n =
+    if int_lt (pos 2147483647) n then pos 2147483647
+    else if int_lt n (negsuc 2147483647) then pos 2147483647
+    else n
 
 abbrev pub quantified_by : WrittenQuantifier → Quantifier
 quantified_by quantifier.Forall = bound_by.Forall
@@ -115,15 +123,16 @@ owner_question e p n es (typed.Argument a (typed.Argument b more)) =
     if bytes_eq n (codes "Same") then OwnersOf p SameOwner a b else OwnersOf p (OwnedAt (third_class e es)) a b
 owner_question e p n es typed.NoMore = NullOf p
 
+-- the class with this place, else that of the body
+abbrev pub place_or_own : Env → Option ℕ → ℕ
+place_or_own e None = e.scope.class
+place_or_own e (Some k) = k
+
 -- a method that is called, by what stands before the dot
 abbrev pub call_of : Env → Place → Receiver → ExprTree → typed.Arguments → Declared MethodTree → ExprTree
 call_of e p TheBase o args m = base_call e p args m (above e.scope.classes e.scope.class)
 call_of e p (AClass k) o args m = method_call e p k o args m
 call_of e p (AValue t) o args m = method_call e p (place_or_own e (option_and_then declared_place (option_and_then class_of t))) o args m
-  where
-    place_or_own : Env → Option ℕ → ℕ
-    place_or_own e None = e.scope.class
-    place_or_own e (Some k) = k
 call_of e p TheConsole o args m = NullOf p
 call_of e p TheOwner o args m = NullOf p
 
@@ -155,7 +164,7 @@ called_bare e p q args NoCallee = NullOf p
 
 abbrev mutual
   pub expr : Env → text.ExprTree → ExprTree
-  expr e (text.NumberOf p n) = IntOf p n
+  expr e (text.NumberOf p n) = IntOf p (as_int n)
   expr e (text.TruthOf p b) = BoolOf p b
   expr e (text.NullOf p) = NullOf p
   expr e (text.TextOf p x) = NullOf p

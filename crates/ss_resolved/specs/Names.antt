@@ -1,5 +1,5 @@
 -- What a bare name stands for at a place, with its number.
-use Rattle.std.specs.Prelude.{ℕ, suc, ◌+◌, Bool, true, false, List, [], ◌∷◌, Option, Some, None, if◌then◌else◌}
+use Rattle.std.specs.Prelude.{ℕ, suc, ◌+◌, Bool, true, false, List, [], ◌∷◌, Option, Some, None, is_some, ◌++◌, if◌then◌else◌}
 use Rattle.std.specs.Str.{bytes_eq}
 use Rattle.ss_classes.specs.declared.names.Ty.{Ty}
 use Rattle.ss_ast.specs.Expressions.{NameTree, TypeTree}
@@ -41,6 +41,10 @@ known_among (ls ∷ outer) n = or_else (known_in ls n) (known_among outer n)
 abbrev pub known : Env → List ℕ → Option Known
 known e n = or_else (known_in e.inner n) (known_among e.outer n)
 
+-- one more name; a second one of a name in one scope isn't meant by it
+abbrev pub with_known : Known_names → List ℕ → Known → Known_names
+with_known ls n k = if is_some (known_in ls n) then ls else ls ++ (n, k) ∷ []
+
 -- within a class, where `this` is the local 0 and no other local stands
 abbrev pub class_env : List ClassTree → ℕ → Env
 class_env cs k = record { scope = class_scope cs k; inner = []; outer = []; next = 1; bound = 0 }
@@ -51,7 +55,7 @@ enter e = record e { scope = scopes.enter e.scope; inner = []; outer = e.inner �
 
 -- one more local
 abbrev pub declare : Env → TypeTree → NameTree → Env
-declare e t n = record e { scope = declare_local e.scope t n; inner = (n.text, Variable e.next (type_id e.scope.classes t)) ∷ e.inner; next = e.next + 1 }
+declare e t n = record e { scope = declare_local e.scope t n; inner = with_known e.inner n.text (Variable e.next (type_id e.scope.classes t)); next = e.next + 1 }
 
 abbrev pub declare_all : Env → TypeTree → List DeclaratorTree → Env
 declare_all e t [] = e
@@ -61,7 +65,7 @@ abbrev pub behind_declaration : Env → DeclarationTree → Env
 behind_declaration e d = declare_all e d.ty d.declarators
 
 abbrev pub declare_param : Env → ParamTree → Env
-declare_param e p = record e { scope = scopes.declare_params e.scope (p ∷ []); inner = (p.name.text, Variable e.next (type_id e.scope.classes p.ty)) ∷ e.inner; next = e.next + 1 }
+declare_param e p = record e { scope = scopes.declare_params e.scope (p ∷ []); inner = with_known e.inner p.name.text (Variable e.next (type_id e.scope.classes p.ty)); next = e.next + 1 }
 
 -- the parameters of a body
 abbrev pub declare_params : Env → List ParamTree → Env

@@ -1,0 +1,5 @@
+pub mod Loops
+pub mod Chains
+pub mod Sets
+pub mod Locals
+pub mod Decided

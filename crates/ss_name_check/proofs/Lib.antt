@@ -1,0 +1,3 @@
+pub mod Above
+pub mod Counting
+pub mod Kept

@@ -1,0 +1,11 @@
+//! The phase of names: which names are unknown or declared twice, which classes run into a cycle, which methods override badly,
+//! whether there is one `Main`, and what is past a limit.
+#![tactic(auto)]
+
+mod chains;
+mod classes;
+mod counts;
+mod overrides;
+mod program;
+
+pub use program::check_names;

@@ -1,0 +1,4 @@
+pub mod Appending
+pub mod Asked
+pub mod Passing
+pub mod Walks

@@ -1,7 +1,0 @@
-use Rattle.std.proofs.Common.{ap, ◌∙◌}
-use Rattle.ss_names.specs.Views.{names_of}
-use Rattle.ss_names.proofs.Listed.{inserted}
-use Rattle.ss_names.proofs.names.insert_name.Goals as goal
-
-pub returns : goal.returns
-returns c = ap names_of c.in_ok-insert.ensures.keys ∙ inserted c.args.names.now.keys c.args.name
