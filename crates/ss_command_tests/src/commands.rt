@@ -21,6 +21,9 @@ const LOOP: &str =
 
 const ASSUMED: &str = "class P {\n  static void Main() { assume false; assert false; }\n}\n";
 
+const COUNTER: &str =
+    "class Counter {\n  int n;\n  void Add() { expose (this) { n += 1; } }\n  static void Main() { Counter c = new Counter(); c.Add(); }\n}\n";
+
 const CASES: &str =
     "class P {\n  static void M(bool a, bool b)\n    requires a || b; requires a || !b; requires !a || b;\n  { assert a && b; }\n  static void Main() { }\n}\n";
 
@@ -174,7 +177,46 @@ fn the_first_fault_is_told(rt: HostRuntime) -> Result<(), Fail> {
     expect_refusal(&rt, alloc, "class P { } }", 12, 1, 13)?;
     expect_refusal(&rt, alloc, "class P {", 10, 1, 10)?;
     expect_refusal(&rt, alloc, "class P { /* x", 2, 1, 11)?;
-    expect_refusal(&rt, alloc, "class P { }", 90, 1, 1)
+    expect_refusal(&rt, alloc, "", 25, 1, 1)?;
+    expect_refusal(
+        &rt,
+        alloc,
+        "class P { static void Main() { y = 1; } }",
+        20,
+        1,
+        32,
+    )?;
+    expect_refusal(&rt, alloc, "class A : B { } class B : A { }", 22, 1, 11)?;
+    expect_refusal(&rt, alloc, COUNTER, 90, 1, 1)
+}
+
+#[test]
+fn a_fault_is_told_to_every_command(rt: HostRuntime) -> Result<(), Fail> {
+    let alloc = rt.alloc();
+    let unknown = "class P { static void Main() { y = 1; } }";
+    expect_answer(&rt, alloc, "expand a", unknown, 4, "")?;
+    expect_answer(&rt, alloc, "run a", unknown, 4, "")?;
+    expect_answer(&rt, alloc, "expand a", "class P { # }", 4, "")
+}
+
+#[test]
+fn the_core_program_is_written(rt: HostRuntime) -> Result<(), Fail> {
+    let alloc = rt.alloc();
+    let text =
+        "class P : object\nbody P.P\n  pack this as P\n  return\nend\nbody P.Main\n  assume false\n  assert false\n  return\nend\n";
+    expect_answer(&rt, alloc, "expand a", ASSUMED, 0, text)?;
+    let (status, bytes) = answer(alloc, "expand a", ASSUMED.as_bytes(), vec![in alloc; 0]?)?;
+    assert_eq!(rt; status, 5);
+    assert_eq!(rt; bytes.as_slice(), b"".as_slice());
+    expect_answer(&rt, alloc, "expand -x", ASSUMED, 2, "")?;
+    expect_answer(&rt, alloc, "expand b", ASSUMED, 3, "")
+}
+
+#[test]
+fn comments_and_access_words_leave_no_trace(rt: HostRuntime) -> Result<(), Fail> {
+    let source =
+        "using System;\npublic class P { // one\n  public static void Main() { /* two */ Console.WriteLine(1); }\n}\n";
+    expect_answer(&rt, rt.alloc(), "run a", source, 0, "1\n")
 }
 
 #[test]
@@ -186,7 +228,7 @@ fn a_long_source_is_refused_as_such(rt: HostRuntime) -> Result<(), Fail> {
     );
     assert_eq!(rt;
         refusal(alloc, vec![in alloc; b' '; 1_048_576]?)?,
-        Some((90, 1, 1))
+        Some((25, 1, 1_048_577))
     );
     Ok(())
 }

@@ -1,4 +1,4 @@
-//! Tests of the readers of expressions, bodies and programs, and of the second form, over their public calls.
+//! Tests of the readers of expressions, bodies and programs, over their public calls.
 //! They stand in a crate of their own, so that no reader is proved a second time for them.
 
 #![tactic(auto)]
@@ -7,8 +7,6 @@
 mod bodies;
 #[cfg(test)]
 mod expressions;
-#[cfg(test)]
-mod forms;
 #[cfg(test)]
 mod look_ups;
 #[cfg(test)]

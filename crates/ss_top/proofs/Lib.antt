@@ -1,5 +1,3 @@
-pub mod Sources
-pub mod Faults
 pub mod Meanings
-pub mod Whole
 pub mod Says
+pub mod Whole

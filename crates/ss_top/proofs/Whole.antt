@@ -13,8 +13,10 @@ use Rattle.ss_report.specs.declared.status.Status.{Status}
 use Rattle.ss_report.specs.declared.status.Status.TheVariants as status
 use Rattle.ss_top.specs.declared.words.Command.{Command}
 use Rattle.ss_top.specs.declared.words.Command.TheVariants as command
-use Rattle.ss_top.specs.Sources.{Means, IsNoProgram, IsNotOfForm, IsStop}
-use Rattle.ss_top.specs.Answers.{OfSource, IsToldVerified, HasRun, RunsOn, StopsAt, IsToldUnproved, IsVerifiedInPart, IsToldInPart, IsWrittenInPart, HasEnded, Says}
+use Rattle.ss_classes.specs.Tree as core
+use Rattle.ss_sources.specs.Sources.{IsNoProgram, IsFaulty, IsRefused}
+use Rattle.ss_top.specs.Sources.{Means, Expands, IsNotOfForm, IsUnbuilt, IsStop}
+use Rattle.ss_top.specs.Answers.{OfSource, IsToldVerified, HasRun, IsExpanded, RunsOn, StopsAt, IsToldUnproved, verified_text, run_text, IsVerifiedInPart, IsToldInPart, IsExpandedInPart, IsWrittenInPart, HasEnded, Says}
 
 -- a front that is shorter than it may be is the whole
 front_is_whole : (n : ℕ) (file : List ℕ) → length (take (n + 1) file) ≤ n → take (n + 1) file ≡ file
@@ -51,20 +53,35 @@ HasTokens-whole bytes file tokens e h = ⊎_elim
 -- ---- what is said of a source
 
 Means-whole : (bytes file : List ℕ) (c : CoreTree) → bytes ≡ take 1048577 file → Means bytes c → Means file c
-Means-whole bytes file c e h = subst (λ b. Means b c) (HasTokens-whole bytes file h.tokens e h.reads) h
+Means-whole bytes file c e h = subst (λ b. Means b c) (HasTokens-whole bytes file h.tokens e (h.accepted).reads) h
 
-IsStop-whole : (bytes file : List ℕ) (rule : ℕ) (at : Place) → bytes ≡ take 1048577 file → IsStop bytes rule at → IsStop file rule at
-IsStop-whole bytes file rule at e h = ⊎_elim
+Expands-whole : (bytes file : List ℕ) (c : core.CoreTree) → bytes ≡ take 1048577 file → Expands bytes c → Expands file c
+Expands-whole bytes file c e h = subst (λ b. Expands b c) (HasTokens-whole bytes file h.tokens e (h.accepted).reads) h
+
+IsRefused-whole : (bytes file : List ℕ) (rule : ℕ) (at : Place) → bytes ≡ take 1048577 file → IsRefused bytes rule at → IsRefused file rule at
+IsRefused-whole bytes file rule at e h = ⊎_elim
     (λ fault. inl (IsReadAs-whole bytes file (Err (rule, at)) e fault))
     (λ others. inr (⊎_elim
     (λ none. inl (subst (λ b. IsNoProgram b rule at) (HasTokens-whole bytes file none.tokens e none.reads) none))
-    (λ other. inr (other.0, other.1, subst IsNotOfForm (HasTokens-whole bytes file (other.2).tokens e (other.2).reads) other.2))
+    (λ faulty. inr (subst (λ b. IsFaulty b rule at) (HasTokens-whole bytes file faulty.tokens e faulty.reads) faulty))
     others))
     h
+
+IsUnbuilt-whole : (bytes file : List ℕ) (rule : ℕ) (at : Place) → bytes ≡ take 1048577 file → IsUnbuilt bytes rule at → IsUnbuilt file rule at
+IsUnbuilt-whole bytes file rule at e h = (h.0, h.1, subst IsNotOfForm (HasTokens-whole bytes file (h.2).tokens e ((h.2).accepted).reads) h.2)
+
+stop-whole : (bytes file : List ℕ) (rule : ℕ) (at : Place) → bytes ≡ take 1048577 file → IsRefused bytes rule at ⊎ IsUnbuilt bytes rule at → IsRefused file rule at ⊎ IsUnbuilt file rule at
+stop-whole bytes file rule at e h = ⊎_elim (λ x. inl (IsRefused-whole bytes file rule at e x)) (λ x. inr (IsUnbuilt-whole bytes file rule at e x)) h
+
+IsStop-whole : (c : Command) (bytes file : List ℕ) (rule : ℕ) (at : Place) → bytes ≡ take 1048577 file → IsStop c bytes rule at → IsStop c file rule at
+IsStop-whole command.Verify bytes file rule at e h = stop-whole bytes file rule at e h
+IsStop-whole command.Run bytes file rule at e h = stop-whole bytes file rule at e h
+IsStop-whole command.Expand bytes file rule at e h = IsRefused-whole bytes file rule at e h
 
 HasEnded-whole : (c : Command) (steps : ℕ) (old new : Option (List ℕ)) (bytes file : List ℕ) → bytes ≡ take 1048577 file → HasEnded c steps old new bytes → HasEnded c steps old new file
 HasEnded-whole command.Verify steps old new bytes file e h = record { program = h.program; means = Means-whole bytes file h.program e h.means; safe = h.safe; took = h.took }
 HasEnded-whole command.Run steps old new bytes file e h = record { program = h.program; means = Means-whole bytes file h.program e h.means; safe = h.safe; done = h.done; took = h.took }
+HasEnded-whole command.Expand steps old new bytes file e h = record { program = h.program; expands = Expands-whole bytes file h.program e h.expands; took = h.took }
 
 RunsOn-whole : (steps : ℕ) (old new : Option (List ℕ)) (bytes file : List ℕ) → bytes ≡ take 1048577 file → RunsOn steps old new bytes → RunsOn steps old new file
 RunsOn-whole steps old new bytes file e h = record { program = h.program; means = Means-whole bytes file h.program e h.means; safe = h.safe; running = h.running; took = h.took }
@@ -72,21 +89,26 @@ RunsOn-whole steps old new bytes file e h = record { program = h.program; means 
 StopsAt-whole : (at : Place) (steps : ℕ) (old new : Option (List ℕ)) (bytes file : List ℕ) → bytes ≡ take 1048577 file → StopsAt at steps old new bytes → StopsAt at steps old new file
 StopsAt-whole at steps old new bytes file e h = record { program = h.program; means = Means-whole bytes file h.program e h.means; safe = h.safe; stopped = h.stopped; took = h.took }
 
-IsVerifiedInPart-whole : (c : Command) (steps : ℕ) (old new : Option (List ℕ)) (bytes file : List ℕ) → bytes ≡ take 1048577 file → IsVerifiedInPart c steps old new bytes → IsVerifiedInPart c steps old new file
-IsVerifiedInPart-whole c steps old new bytes file e h = record { program = h.program; means = Means-whole bytes file h.program e h.means; safe = h.safe; front = h.front }
+IsVerifiedInPart-whole : (text : CoreTree → List ℕ) (old new : Option (List ℕ)) (bytes file : List ℕ) → bytes ≡ take 1048577 file → IsVerifiedInPart text old new bytes → IsVerifiedInPart text old new file
+IsVerifiedInPart-whole text old new bytes file e h = record { program = h.program; means = Means-whole bytes file h.program e h.means; safe = h.safe; front = h.front }
+
+IsExpandedInPart-whole : (old new : Option (List ℕ)) (bytes file : List ℕ) → bytes ≡ take 1048577 file → IsExpandedInPart old new bytes → IsExpandedInPart old new file
+IsExpandedInPart-whole old new bytes file e h = record { program = h.program; expands = Expands-whole bytes file h.program e h.expands; front = h.front }
 
 IsToldInPart-whole : (old new : Option (List ℕ)) (bytes file : List ℕ) → bytes ≡ take 1048577 file → IsToldInPart old new bytes → IsToldInPart old new file
 IsToldInPart-whole old new bytes file e h = record { program = h.program; means = Means-whole bytes file h.program e h.means; listed = h.listed; unproved = h.unproved; front = h.front }
 
 in_part-whole : (c : Command) (steps : ℕ) (old new : Option (List ℕ)) (bytes file : List ℕ) → bytes ≡ take 1048577 file → IsWrittenInPart steps old new c bytes → IsWrittenInPart steps old new c file
-in_part-whole c steps old new bytes file e h = ⊎_elim (λ run. inl (IsVerifiedInPart-whole c steps old new bytes file e run)) (λ told. inr (IsToldInPart-whole old new bytes file e told)) h
+in_part-whole command.Verify steps old new bytes file e h = ⊎_elim (λ x. inl (IsVerifiedInPart-whole verified_text old new bytes file e x)) (λ told. inr (IsToldInPart-whole old new bytes file e told)) h
+in_part-whole command.Run steps old new bytes file e h = ⊎_elim (λ x. inl (IsVerifiedInPart-whole (run_text steps) old new bytes file e x)) (λ told. inr (IsToldInPart-whole old new bytes file e told)) h
+in_part-whole command.Expand steps old new bytes file e h = IsExpandedInPart-whole old new bytes file e h
 
 Says-whole : (steps : ℕ) (old new : Option (List ℕ)) (st : Status) (c : Command) (bytes file : List ℕ) → bytes ≡ take 1048577 file → Says steps old new st c bytes → Says steps old new st c file
 Says-whole steps old new status.Ended c bytes file e h = HasEnded-whole c steps old new bytes file e h
 Says-whole steps old new status.StepsSpent c bytes file e h = (h.0, RunsOn-whole steps old new bytes file e h.1)
 Says-whole steps old new (status.Stopped at) c bytes file e h = (h.0, StopsAt-whole at steps old new bytes file e h.1)
-Says-whole steps old new (status.Unproved listed) c bytes file e h = record { program = h.program; means = Means-whole bytes file h.program e h.means; unproved = h.unproved; took = h.took }
-Says-whole steps old new (status.SourceRefused rule at) c bytes file e h = (IsStop-whole bytes file rule at e h.0, h.1)
+Says-whole steps old new (status.Unproved listed) c bytes file e h = (h.0, record { program = (h.1).program; means = Means-whole bytes file (h.1).program e (h.1).means; unproved = (h.1).unproved; took = (h.1).took })
+Says-whole steps old new (status.SourceRefused rule at) c bytes file e h = (IsStop-whole c bytes file rule at e h.0, h.1)
 Says-whole steps old new status.WriteFault c bytes file e h = in_part-whole c steps old new bytes file e h
 Says-whole steps old new status.Memory c bytes file e h = ⊎_elim (λ nothing. inl nothing) (λ some. inr (in_part-whole c steps old new bytes file e some)) h
 Says-whole steps old new status.BadWords c bytes file e h = absurd h

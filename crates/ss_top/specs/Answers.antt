@@ -14,9 +14,13 @@ use Rattle.ss_sound.specs.Verdicts.{IsUnproved}
 use Rattle.ss_report.specs.declared.status.Status.{Status}
 use Rattle.ss_report.specs.declared.status.Status.TheVariants as status
 use Rattle.ss_report.specs.Verdict.{verdict_text}
+use Rattle.ss_top.specs.declared.source.Goal.{Goal}
+use Rattle.ss_top.specs.declared.source.Goal.TheVariants as goal
 use Rattle.ss_top.specs.declared.words.Command.{Command}
 use Rattle.ss_top.specs.declared.words.Command.TheVariants as command
-use Rattle.ss_top.specs.Sources.{Means, IsStop}
+use Rattle.ss_classes.specs.Tree as whole
+use Rattle.ss_core_text.specs.Text.{core_text}
+use Rattle.ss_top.specs.Sources.{Means, Expands, IsStop}
 
 -- the bytes of the file, where they are told, have this property; where they aren't told, some bytes have it
 abbrev pub OfSource : Told → (List ℕ → Type 0) → Type 0
@@ -38,10 +42,12 @@ IsDone (Stopped at before) = ⊥
 abbrev pub verified_line : List ℕ
 verified_line = codes "verified" ++ 10 ∷ []
 
--- what a command writes of a program that is verified
-abbrev pub output : Command → ℕ → CoreTree → List ℕ
-output command.Verify steps c = verified_line
-output command.Run steps c = printed c steps
+abbrev pub verified_text : CoreTree → List ℕ
+verified_text c = verified_line
+
+-- what a run of so many steps prints
+abbrev pub run_text : ℕ → CoreTree → List ℕ
+run_text steps c = printed c steps
 
 -- the headline: the source is accepted, and its program is safe, that is, after every number of steps no check of its run has failed
 -- and its state is good
@@ -88,12 +94,18 @@ pub record IsToldUnproved (listed : List Countered) (old new : Option (List ℕ)
   pub unproved : IsUnproved (obligations program) listed
   pub took : Grew old new (verdict_text program (obligations program) listed)
 
--- the program is safe, and the sink took a front of what the command writes of it
-pub record IsVerifiedInPart (c : Command) (steps : ℕ) (old new : Option (List ℕ)) (source : List ℕ) : Type 0 where
+-- the sink took exactly the text of the core program
+pub record IsExpanded (old new : Option (List ℕ)) (source : List ℕ) : Type 0 where
+  pub program : whole.CoreTree
+  pub expands : Expands source program
+  pub took : Grew old new (core_text program)
+
+-- the program is safe, and the sink took a front of this text of it
+pub record IsVerifiedInPart (text : CoreTree → List ℕ) (old new : Option (List ℕ)) (source : List ℕ) : Type 0 where
   pub program : CoreTree
   pub means : Means source program
   pub safe : IsSafe program
-  pub front : GrewByFront old new (output c steps program)
+  pub front : GrewByFront old new (text program)
 
 -- the sink took a front of the text of a verdict that could be given
 pub record IsToldInPart (old new : Option (List ℕ)) (source : List ℕ) : Type 0 where
@@ -103,9 +115,17 @@ pub record IsToldInPart (old new : Option (List ℕ)) (source : List ℕ) : Type
   pub unproved : IsUnproved (obligations program) listed
   pub front : GrewByFront old new (verdict_text program (obligations program) listed)
 
+-- the sink took a front of the text of the core program
+pub record IsExpandedInPart (old new : Option (List ℕ)) (source : List ℕ) : Type 0 where
+  pub program : whole.CoreTree
+  pub expands : Expands source program
+  pub front : GrewByFront old new (core_text program)
+
 -- the sink took a front of what the answers above let be written
 abbrev pub IsWrittenInPart : ℕ → Option (List ℕ) → Option (List ℕ) → Command → List ℕ → Type 0
-IsWrittenInPart steps old new c source = IsVerifiedInPart c steps old new source ⊎ IsToldInPart old new source
+IsWrittenInPart steps old new command.Verify source = IsVerifiedInPart verified_text old new source ⊎ IsToldInPart old new source
+IsWrittenInPart steps old new command.Run source = IsVerifiedInPart (run_text steps) old new source ⊎ IsToldInPart old new source
+IsWrittenInPart steps old new command.Expand source = IsExpandedInPart old new source
 
 -- no count of faults falls, and only that of the file may rise
 pub record ReadsOnly (file : Option (List ℕ)) (before now : List ℕ → ℕ) : Type 0 where
@@ -117,10 +137,23 @@ pub record ReadsOnly (file : Option (List ℕ)) (before now : List ℕ → ℕ) 
 abbrev pub IsRun : Command → Type 0
 IsRun command.Verify = ⊥
 IsRun command.Run = Unit {0}
+IsRun command.Expand = ⊥
 
 abbrev pub IsVerify : Command → Type 0
 IsVerify command.Verify = Unit {0}
 IsVerify command.Run = ⊥
+IsVerify command.Expand = ⊥
+
+abbrev pub IsExpand : Command → Type 0
+IsExpand command.Verify = ⊥
+IsExpand command.Run = ⊥
+IsExpand command.Expand = Unit {0}
+
+-- the commands that verify
+abbrev pub Verifies : Command → Type 0
+Verifies command.Verify = Unit {0}
+Verifies command.Run = Unit {0}
+Verifies command.Expand = ⊥
 
 -- ---- by the answer
 
@@ -136,7 +169,7 @@ abbrev pub IfStopped : Status → (Place → Type 0) → Type 0
 IfStopped (status.Stopped at) P = P at
 IfStopped _ P = Unit {0}
 
--- the answers that say that the program was verified
+-- the answers of the commands that verify that say that the program was verified
 abbrev pub IsVerified : Status → Type 0
 IsVerified status.Ended = Unit {0}
 IsVerified status.StepsSpent = Unit {0}
@@ -155,18 +188,24 @@ abbrev pub answer_to : FrontStop → Status
 answer_to (front.Refused rule at) = status.SourceRefused rule at
 answer_to front.Memory = status.Memory
 
+-- the command that asks for this
+abbrev pub command_of_goal : Goal → Command
+command_of_goal goal.Verdict = command.Verify
+command_of_goal goal.Run = command.Run
+
 -- ---- what an answer says of a source that was read
 
 abbrev pub HasEnded : Command → ℕ → Option (List ℕ) → Option (List ℕ) → List ℕ → Type 0
 HasEnded command.Verify steps old new source = IsToldVerified old new source
 HasEnded command.Run steps old new source = HasRun steps old new source
+HasEnded command.Expand steps old new source = IsExpanded old new source
 
 abbrev pub Says : ℕ → Option (List ℕ) → Option (List ℕ) → Status → Command → List ℕ → Type 0
 Says steps old new status.Ended c source = HasEnded c steps old new source
 Says steps old new status.StepsSpent c source = IsRun c × RunsOn steps old new source
 Says steps old new (status.Stopped at) c source = IsRun c × StopsAt at steps old new source
-Says steps old new (status.Unproved listed) c source = IsToldUnproved listed.items old new source
-Says steps old new (status.SourceRefused rule at) c source = IsStop source rule at × Grew old new []
+Says steps old new (status.Unproved listed) c source = Verifies c × IsToldUnproved listed.items old new source
+Says steps old new (status.SourceRefused rule at) c source = IsStop c source rule at × Grew old new []
 Says steps old new status.WriteFault c source = IsWrittenInPart steps old new c source
 Says steps old new status.Memory c source = Grew old new [] ⊎ IsWrittenInPart steps old new c source
 Says steps old new status.BadWords c source = ⊥

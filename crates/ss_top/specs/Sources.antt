@@ -1,57 +1,54 @@
--- What a source means, and where it is refused.
-use Rattle.std.specs.Prelude.{ℕ, ◌≡◌, ◌⊎◌, Bool, true, false, List, map, Option, Some, None, Result, Ok, Err}
+-- What a source means to a command, and where it is refused.
+use Rattle.std.specs.Prelude.{ℕ, ◌≡◌, ◌⊎◌, true, false, List, Option, Some, None, Result, Ok, Err}
 use Rattle.ss_core.specs.declared.names.Place.{Place}
 use Rattle.ss_core.specs.declared.names.FrontStop.{FrontStop}
 use Rattle.ss_core.specs.declared.names.FrontStop.TheVariants as front
 use Rattle.ss_core.specs.declared.program.Core.{Core}
 use Rattle.ss_core.specs.Tree.{CoreTree}
 use Rattle.ss_core.specs.View.{core}
+use Rattle.ss_classes.specs.Tree as whole
 use Rattle.ss_ast.specs.Tokens.{Tok}
-use Rattle.ss_ast.specs.Programs.{ProgramTree}
-use Rattle.ss_lexer.specs.Reading.{HasTokens, FaultAt, start}
-use Rattle.ss_syntax.specs.Heads.{Piece, AToken}
-use Rattle.ss_parser.specs.Answer.{first_place}
-use Rattle.ss_decls.specs.Answer.{IsProgram, Refusal}
-use Rattle.ss_form.specs.Plain.{plain_text}
-use Rattle.ss_form.specs.Elaborated.{elaborated}
+use Rattle.ss_lexer.specs.Reading.{start}
+use Rattle.ss_typed.specs.Tree.{TypedTree}
+use Rattle.ss_elab.specs.Elaborated.{elaborated}
+use Rattle.ss_second.specs.Second.{second_form}
+use Rattle.ss_sources.specs.Sources.{IsAccepted, IsRefused}
+use Rattle.ss_top.specs.declared.words.Command.{Command}
+use Rattle.ss_top.specs.declared.words.Command.TheVariants as command
 
--- the tokens are those of a program of this tree, nested at most 64 deep
-abbrev pub AreProgram : List Tok → ProgramTree → Type 0
-AreProgram tokens tree = IsProgram 64 (map AToken tokens) tree
+-- the source is accepted, and this is its core program
+pub record Expands (source : List ℕ) (c : whole.CoreTree) : Type 0 where
+  pub tokens : List Tok
+  pub program : TypedTree
+  pub accepted : IsAccepted source tokens program
+  pub core : elaborated program ≡ c
 
--- they are those of no such program, by this rule of the grammar, and this is the place of the first that is refused
-abbrev pub AreRefused : List Tok → ℕ → Place → Type 0
-AreRefused tokens rule at = (rest : List Piece) × (first_place rest ≡ at) × Refusal rule (map AToken tokens) rest
-
--- the source is accepted, and this is its core program: its tokens are a program's, its text is plain, and the program is of the form
+-- the source is accepted, and this is its program of the second form
 pub record Means (source : List ℕ) (c : CoreTree) : Type 0 where
   pub tokens : List Tok
-  pub tree : ProgramTree
-  pub reads : HasTokens source tokens
-  pub parses : AreProgram tokens tree
-  pub plain : plain_text source tokens ≡ true
-  pub core : elaborated tree ≡ Some c
+  pub program : TypedTree
+  pub accepted : IsAccepted source tokens program
+  pub core : second_form program ≡ Some c
 
--- its tokens are no program's
-pub record IsNoProgram (source : List ℕ) (rule : ℕ) (at : Place) : Type 0 where
-  pub tokens : List Tok
-  pub reads : HasTokens source tokens
-  pub refused : AreRefused tokens rule at
-
--- its tokens are a program's, but its text isn't plain or the program isn't of the form
+-- the source is accepted, but its program isn't of the second form
 pub record IsNotOfForm (source : List ℕ) : Type 0 where
   pub tokens : List Tok
-  pub tree : ProgramTree
-  pub reads : HasTokens source tokens
-  pub parses : AreProgram tokens tree
-  pub differs : (plain_text source tokens ≡ false) ⊎ (elaborated tree ≡ None)
+  pub program : TypedTree
+  pub accepted : IsAccepted source tokens program
+  pub differs : second_form program ≡ None
 
--- the first fault of a source: of its bytes (rules 1 to 5), of its tokens (10 to 12), or that it isn't of the form (90 at 1:1)
-abbrev pub IsStop : List ℕ → ℕ → Place → Type 0
-IsStop source rule at = FaultAt rule at source ⊎ (IsNoProgram source rule at ⊎ ((rule ≡ 90) × (at ≡ start) × IsNotOfForm source))
+-- what is verified and run so far are programs of the second form: each other one is refused by rule 90 at 1:1
+abbrev pub IsUnbuilt : List ℕ → ℕ → Place → Type 0
+IsUnbuilt source rule at = (rule ≡ 90) × (at ≡ start) × IsNotOfForm source
 
--- what reading a source answers: a core program that it means, or its first fault
+-- the first fault of a source, which is the same for every command; and, where there is none, that it isn't of the form
+abbrev pub IsStop : Command → List ℕ → ℕ → Place → Type 0
+IsStop command.Verify source rule at = IsRefused source rule at ⊎ IsUnbuilt source rule at
+IsStop command.Run source rule at = IsRefused source rule at ⊎ IsUnbuilt source rule at
+IsStop command.Expand source rule at = IsRefused source rule at
+
+-- what is answered to a source that is to be verified: a program of the second form that it means, or its first fault
 abbrev pub Gives : List ℕ → Result Core FrontStop → Type 0
 Gives source (Ok c) = Means source (core c)
-Gives source (Err (front.Refused rule at)) = IsStop source rule at
+Gives source (Err (front.Refused rule at)) = IsRefused source rule at ⊎ IsUnbuilt source rule at
 Gives source (Err front.Memory) = Unit {0}

@@ -3,19 +3,26 @@
 ghost use Rattle.std.specs.Prelude.{◌≡◌, ℕ, List};
 ghost use Rattle.ss_core.specs.declared.names.Place.{Place};
 ghost use Rattle.ss_core.specs.Tree.{CoreTree};
-ghost use Rattle.ss_top.specs.Sources.{Means, IsStop};
+ghost use Rattle.ss_classes.specs.Tree as whole;
+ghost use Rattle.ss_top.specs.declared.words.Command.{Command as AnyCommand};
+ghost use Rattle.ss_top.specs.Sources.{Expands, Means, IsStop};
 
-/// A source means one core program at most.
+/// A source means one program of the second form at most.
 pub fn one_meaning()
     ensures { (source : List ℕ) (c d : CoreTree) → Means source c → Means source d → c ≡ d }
 {}
 
-/// A source that means a program has no fault.
-pub fn no_fault()
-    ensures { (source : List ℕ) (c : CoreTree) (rule : ℕ) (place : Place) → Means source c → IsStop source rule place → ⊥ }
+/// A source has one core program at most.
+pub fn one_core()
+    ensures { (source : List ℕ) (c d : whole.CoreTree) → Expands source c → Expands source d → c ≡ d }
 {}
 
-/// A source has one first fault at most.
+/// A source that means a program of the second form has no fault.
+pub fn no_fault()
+    ensures { (source : List ℕ) (c : CoreTree) (command : AnyCommand) (rule : ℕ) (place : Place) → Means source c → IsStop command source rule place → ⊥ }
+{}
+
+/// To a command a source has one first fault at most.
 pub fn one_fault()
-    ensures { (source : List ℕ) (r s : ℕ) (a b : Place) → IsStop source r a → IsStop source s b → (r ≡ s) × (a ≡ b) }
+    ensures { (source : List ℕ) (command : AnyCommand) (r s : ℕ) (a b : Place) → IsStop command source r a → IsStop command source s b → (r ≡ s) × (a ≡ b) }
 {}

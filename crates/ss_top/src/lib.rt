@@ -7,5 +7,5 @@ mod source;
 mod top;
 mod words;
 
-pub use laws::{no_fault, one_fault, one_meaning};
+pub use laws::{no_fault, one_core, one_fault, one_meaning};
 pub use top::specsharp;

@@ -9,22 +9,36 @@ ghost use Rattle.ss_oblig.specs.Obligations as oblig;
 ghost use Rattle.ss_vcgen.specs.Built.{trees};
 ghost use Rattle.ss_sound.specs.Verdicts.{IsUnproved};
 ghost use Rattle.ss_top.specs.Sources.{Means};
-ghost use Rattle.ss_top.specs.Answers.{Says, answer_to};
-ghost use Rattle.ss_top.specs.declared.words.Command.{Command as AnyCommand};
+ghost use Rattle.ss_ast.specs.Tokens.{toks};
+ghost use Rattle.ss_typed.specs.View.{typed};
+ghost use Rattle.ss_sources.specs.Sources.{IsAccepted};
+ghost use Rattle.ss_top.specs.Answers.{Says, answer_to, command_of_goal};
+ghost use Rattle.ss_top.specs.declared.source.Goal.{Goal as AnyGoal};
 ghost use Rattle.ss_top.specs.declared.words.Command.TheVariants as asked;
 
-use crate::front::read_source;
+use crate::front::read_form;
 use crate::words::Command;
 use ss_core::{Core, FrontStop};
+use ss_core_text::core_text;
 use ss_io::{Sink, WriteStop};
 use ss_machine::{CheckedEnd, run_checked};
 use ss_report::{Status, verdict_text};
 use ss_search::Countered;
 use ss_sound::{Verdict, verify};
+use ss_sources::{Accepted, elaborate, read_source};
 use ss_vcgen::{Obligations, obligations};
 use std::alloc::Global;
 
-/// Verifies the program of a source; where it is verified `Verify` says so, and `Run` runs it for so many steps.
+/// What is done with a program that is verified.
+#[derive(Clone, Copy, Debug, PartialEq, Eq)]
+pub enum Goal {
+    /// The verdict is written.
+    Verdict,
+    /// It is run.
+    Run,
+}
+
+/// Does what the command asks of a source; a run has so many steps.
 pub fn answer_source<S: Sink>(
     alloc: Global,
     command: Command,
@@ -36,9 +50,10 @@ pub fn answer_source<S: Sink>(
     ensures faults { S.faults out.old ≤ S.faults out.new }
     ensures cause { result ≡ Status.WriteFault → Rose (S.faults out.old) (S.faults out.new) }
 {
-    match read_source(alloc, source) {
-        Ok(program) => answer_program(alloc, command, source, &program, steps, out),
-        Err(stop) => refuse(stop),
+    match command {
+        Command::Verify => verify_source(alloc, Goal::Verdict, source, steps, out),
+        Command::Run => verify_source(alloc, Goal::Run, source, steps, out),
+        Command::Expand => expand_source(alloc, source, out),
     }
 }
 
@@ -52,10 +67,66 @@ fn refuse(stop: FrontStop) -> Status
     }
 }
 
+// Writes the core program of a source.
+fn expand_source<S: Sink>(alloc: Global, source: &[u8], out: &mut S) -> Status
+    ensures says { (steps : ℕ) → Says steps (S.taken out.old) (S.taken out.new) result asked.Expand source.now }
+    ensures faults { S.faults out.old ≤ S.faults out.new }
+    ensures cause { result ≡ Status.WriteFault → Rose (S.faults out.old) (S.faults out.new) }
+{
+    match read_source(alloc, source) {
+        Ok(accepted) => expand_accepted(alloc, source, &accepted, out),
+        Err(stop) => refuse(stop),
+    }
+}
+
+// Writes the core program of an accepted source.
+fn expand_accepted<S: Sink>(
+    alloc: Global,
+    source: &[u8],
+    accepted: &Accepted,
+    out: &mut S,
+) -> Status
+    requires accepted { IsAccepted source.now (toks accepted.now.tokens.items) (typed accepted.now.program) }
+    ensures says { (steps : ℕ) → Says steps (S.taken out.old) (S.taken out.new) result asked.Expand source.now }
+    ensures faults { S.faults out.old ≤ S.faults out.new }
+    ensures cause { result ≡ Status.WriteFault → Rose (S.faults out.old) (S.faults out.new) }
+{
+    let _source = source;
+    let Ok(program) = elaborate(alloc, accepted) else {
+        return Status::Memory;
+    };
+    let Ok(text) = core_text(alloc, &program) else {
+        return Status::Memory;
+    };
+    match out.write(&text) {
+        Ok(()) => Status::Ended,
+        Err(WriteStop::Failed) => Status::WriteFault,
+        Err(WriteStop::Memory) => Status::Memory,
+    }
+}
+
+// Verifies the program of a source, and does with a safe one what is asked.
+fn verify_source<S: Sink>(
+    alloc: Global,
+    goal: Goal,
+    source: &[u8],
+    steps: u64,
+    out: &mut S,
+) -> Status
+    ensures says { Says steps (S.taken out.old) (S.taken out.new) result (command_of_goal goal) source.now }
+    ensures faults { S.faults out.old ≤ S.faults out.new }
+    ensures cause { result ≡ Status.WriteFault → Rose (S.faults out.old) (S.faults out.new) }
+{
+    match read_form(alloc, source) {
+        Ok(program) => answer_program(alloc, goal, source, &program, steps, out),
+        Err(stop) => refuse(stop),
+    }
+}
+
 // The same of the program that a source means.
 fn answer_program<S: Sink>(
     alloc: Global,
-    command: Command,
+    goal: Goal,
     source: &[u8],
     program: &Core,
     steps: u64,
@@ -63,7 +134,7 @@ fn answer_program<S: Sink>(
 ) -> Status
     requires means { Means source.now (core program.now) }
     requires formed { IsFormed (core program.now) }
-    ensures says { Says steps (S.taken out.old) (S.taken out.new) result command source.now }
+    ensures says { Says steps (S.taken out.old) (S.taken out.new) result (command_of_goal goal) source.now }
     ensures faults { S.faults out.old ≤ S.faults out.new }
     ensures cause { result ≡ Status.WriteFault → Rose (S.faults out.old) (S.faults out.new) }
 {
@@ -71,7 +142,7 @@ fn answer_program<S: Sink>(
         return Status::Memory;
     };
     match verify(alloc, program, &mut obligations) {
-        Verdict::Verified => answer_safe(alloc, command, source, program, steps, out),
+        Verdict::Verified => answer_safe(alloc, goal, source, program, steps, out),
         Verdict::Unproved { countered } => {
             tell(alloc, source, program, &obligations, countered, out)
         }
@@ -83,7 +154,7 @@ fn answer_program<S: Sink>(
 // What the command does with a safe program.
 fn answer_safe<S: Sink>(
     alloc: Global,
-    command: Command,
+    goal: Goal,
     source: &[u8],
     program: &Core,
     steps: u64,
@@ -91,13 +162,13 @@ fn answer_safe<S: Sink>(
 ) -> Status
     requires means { Means source.now (core program.now) }
     requires safe { IsSafe (core program.now) }
-    ensures says { Says steps (S.taken out.old) (S.taken out.new) result command source.now }
+    ensures says { Says steps (S.taken out.old) (S.taken out.new) result (command_of_goal goal) source.now }
     ensures faults { S.faults out.old ≤ S.faults out.new }
     ensures cause { result ≡ Status.WriteFault → Rose (S.faults out.old) (S.faults out.new) }
 {
-    match command {
-        Command::Verify => tell_verified(source, program, out),
-        Command::Run => run_safe(alloc, source, program, steps, out),
+    match goal {
+        Goal::Verdict => tell_verified(source, program, out),
+        Goal::Run => run_safe(alloc, source, program, steps, out),
     }
 }
 
@@ -154,7 +225,7 @@ fn tell<S: Sink>(
     requires means { Means source.now (core program.now) }
     requires obligations { trees obligations.now ≡ oblig.obligations (core program.now) }
     requires unproved { IsUnproved (oblig.obligations (core program.now)) countered.items }
-    ensures says { (steps : ℕ) (command : AnyCommand) → Says steps (S.taken out.old) (S.taken out.new) result command source.now }
+    ensures says { (steps : ℕ) (goal : AnyGoal) → Says steps (S.taken out.old) (S.taken out.new) result (command_of_goal goal) source.now }
     ensures faults { S.faults out.old ≤ S.faults out.new }
     ensures cause { result ≡ Status.WriteFault → Rose (S.faults out.old) (S.faults out.new) }
 {

@@ -4,7 +4,7 @@ ghost use Rattle.std.specs.Prelude.{◌≡◌, ◌<◌, ◌≤◌, ◌↔◌, �
 ghost use Rattle.ss_io.specs.Outside.{Rose, Grew};
 ghost use Rattle.ss_top.specs.Words.{command_of, file_of};
 ghost use Rattle.ss_top.specs.Sources.{IsStop};
-ghost use Rattle.ss_top.specs.Answers.{OfFile, IsHeadline, IsToldVerified, HasRun, RunsOn, StopsAt, IsToldUnproved, IsWrittenInPart, IsVerify, IsRun, IfRefused, IfUnproved, IfStopped, IsVerified, IsSilent, ReadsOnly};
+ghost use Rattle.ss_top.specs.Answers.{OfFile, IsHeadline, IsToldVerified, HasRun, IsExpanded, RunsOn, StopsAt, IsToldUnproved, IsWrittenInPart, IsVerify, IsRun, IsExpand, Verifies, IfRefused, IfUnproved, IfStopped, IsVerified, IsSilent, ReadsOnly};
 
 use crate::source::answer_source;
 use crate::words::read_words;
@@ -18,8 +18,8 @@ pub const STEPS: u64 = 1_000_000;
 /// The largest source, in bytes.
 pub const SOURCE_BYTES: usize = 1_048_576;
 
-/// Does what the words say: `verify FILE` verifies the program of the file and writes the verdict, and `run FILE` verifies
-/// it and runs it where it is verified.
+/// Does what the words say: `verify FILE` verifies the program of the file and writes the verdict, `run FILE` verifies
+/// it and runs it where it is verified, and `expand FILE` writes its core program.
 pub fn specsharp<F: Files, S: Sink>(
     alloc: Global,
     words: &[String],
@@ -28,14 +28,15 @@ pub fn specsharp<F: Files, S: Sink>(
 ) -> Status
     ensures bad_words { (result ≡ Status.BadWords) ↔ (command_of words.now ≡ None) }
     ensures read_fault { result ≡ Status.ReadFault → IsSomeAnd (file_of words.now) (λ name. F.faults files.old name < F.faults files.new name) }
-    ensures refused { IfRefused result (λ rule at. OfFile (command_of words.now) (F.told files.old) (λ _ source. IsStop source rule at)) }
+    ensures refused { IfRefused result (λ rule at. OfFile (command_of words.now) (F.told files.old) (λ command source. IsStop command source rule at)) }
 
-    ensures headline { IsVerified result → OfFile (command_of words.now) (F.told files.old) (λ _. IsHeadline) }
+    ensures headline { IsVerified result → OfFile (command_of words.now) (F.told files.old) (λ command source. Verifies command → IsHeadline source) }
     ensures verified { result ≡ Status.Ended → OfFile (command_of words.now) (F.told files.old) (λ command source. IsVerify command → IsToldVerified (S.taken out.old) (S.taken out.new) source) }
     ensures ended { result ≡ Status.Ended → OfFile (command_of words.now) (F.told files.old) (λ command source. IsRun command → HasRun STEPS (S.taken out.old) (S.taken out.new) source) }
+    ensures expanded { result ≡ Status.Ended → OfFile (command_of words.now) (F.told files.old) (λ command source. IsExpand command → IsExpanded (S.taken out.old) (S.taken out.new) source) }
     ensures steps_spent { result ≡ Status.StepsSpent → OfFile (command_of words.now) (F.told files.old) (λ command source. IsRun command × RunsOn STEPS (S.taken out.old) (S.taken out.new) source) }
     ensures stopped { IfStopped result (λ place. OfFile (command_of words.now) (F.told files.old) (λ command source. IsRun command × StopsAt place STEPS (S.taken out.old) (S.taken out.new) source)) }
-    ensures unproved { IfUnproved result (λ listed. OfFile (command_of words.now) (F.told files.old) (λ _. IsToldUnproved listed (S.taken out.old) (S.taken out.new))) }
+    ensures unproved { IfUnproved result (λ listed. OfFile (command_of words.now) (F.told files.old) (λ command source. Verifies command × IsToldUnproved listed (S.taken out.old) (S.taken out.new) source)) }
 
     ensures write_fault { result ≡ Status.WriteFault → Rose (S.faults out.old) (S.faults out.new) }
     ensures written { result ≡ Status.WriteFault → OfFile (command_of words.now) (F.told files.old) (IsWrittenInPart STEPS (S.taken out.old) (S.taken out.new)) }

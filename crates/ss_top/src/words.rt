@@ -10,6 +10,8 @@ pub enum Command {
     Verify,
     /// Verify the program, and run it.
     Run,
+    /// Write the program's core program.
+    Expand,
 }
 
 fn command_named(word: &str) -> Option<Command>
@@ -21,11 +23,14 @@ fn command_named(word: &str) -> Option<Command>
     if word == "run" {
         return Some(Command::Run);
     }
+    if word == "expand" {
+        return Some(Command::Expand);
+    }
     None
 }
 
-/// The command and the FILE of the words `verify FILE` and `run FILE`, where FILE doesn't begin with `-`; None for all
-/// other words.
+/// The command and the FILE of the words `verify FILE`, `run FILE` and `expand FILE`, where FILE doesn't begin with `-`; None
+/// for all other words.
 pub fn read_words(words: &[String]) -> Option<(Command, &str)>
     ensures { option_map (λ asked. (asked.0, asked.1.now)) result ≡ command_of words.now }
 {

@@ -3,7 +3,7 @@ use Rattle.ss_io.specs.Outside.{Grew}
 use Rattle.ss_top.specs.Words.{command_of, file_of, file_named}
 use Rattle.ss_top.specs.Answers.{OfSource, Says}
 use Rattle.ss_top.proofs.Whole.{Says-source}
-use Rattle.ss_top.proofs.Says.{Says-refused, Says-headline, Says-verified, Says-ended, Says-steps_spent, Says-stopped, Says-unproved, reads_only, Says-silent, Says-written, Says-memory, Says-not}
+use Rattle.ss_top.proofs.Says.{Says-refused, Says-headline, Says-verified, Says-ended, Says-expanded, Says-steps_spent, Says-stopped, Says-unproved, reads_only, Says-silent, Says-written, Says-memory, Says-not}
 use Rattle.ss_top.proofs.top.specsharp.Given.{Over}
 use Rattle.ss_top.proofs.top.specsharp.Goals as goal
 
@@ -42,6 +42,9 @@ returns-in-Ok-clause-verified g c = rw (named g c) (Says-verified 1000000 (g.S.S
 
 pub returns-in-Ok-clause-ended : goal.returns-in-Ok-clause-ended
 returns-in-Ok-clause-ended g c = rw (named g c) (Says-ended 1000000 (g.S.Sink.taken c.args.out.now) (g.S.Sink.taken c.answer_source.new.out) c.answer_source.result c.in-Some.command c.in-Some.name.now (g.F.Files.told c.args.files.now) (said g c))
+
+pub returns-in-Ok-clause-expanded : goal.returns-in-Ok-clause-expanded
+returns-in-Ok-clause-expanded g c = rw (named g c) (Says-expanded 1000000 (g.S.Sink.taken c.args.out.now) (g.S.Sink.taken c.answer_source.new.out) c.answer_source.result c.in-Some.command c.in-Some.name.now (g.F.Files.told c.args.files.now) (said g c))
 
 pub returns-in-Ok-clause-steps_spent : goal.returns-in-Ok-clause-steps_spent
 returns-in-Ok-clause-steps_spent g c = rw (named g c) (Says-steps_spent 1000000 (g.S.Sink.taken c.args.out.now) (g.S.Sink.taken c.answer_source.new.out) c.answer_source.result c.in-Some.command c.in-Some.name.now (g.F.Files.told c.args.files.now) (said g c))

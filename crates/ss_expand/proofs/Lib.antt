@@ -1,0 +1,5 @@
+pub mod Codes
+pub mod Lists
+pub mod Chain
+pub mod Fields
+pub mod Wholes

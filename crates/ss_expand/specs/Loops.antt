@@ -1,0 +1,19 @@
+-- The test of a loop.
+use Rattle.std.specs.Prelude.{List, [], true, if◌then◌else◌, Option, Some, None}
+use Rattle.ss_core.specs.declared.names.Place.{Place}
+use Rattle.ss_classes.specs.declared.names.Ty.{Ty}
+use Rattle.ss_classes.specs.Tree.{BoolExpr}
+use Rattle.ss_typed.specs.Tree.{ExprTree, SimpleTree, StmtTree}
+use Rattle.ss_elab.specs.Code.{Coded, nothing, then_code}
+use Rattle.ss_elab.specs.Ends.{can_end}
+use Rattle.ss_elab.specs.Lifting.{Setting, Valued, value}
+use Rattle.ss_elab.specs.Statements.{stmt, advance}
+
+-- without one it is `true`
+abbrev pub tested : Setting → Place → Option ExprTree → List Ty → Valued
+tested s p None made = record { code = []; value = BoolExpr p true; made = made }
+tested s p (Some e) made = value s e made
+
+-- a turn of a `for`, with its step where its end can be reached
+abbrev pub turn_of : Setting → StmtTree → Option SimpleTree → List Ty → Coded
+turn_of s a x made = then_code (stmt s a made) (if can_end a then advance s x else nothing)

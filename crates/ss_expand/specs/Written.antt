@@ -1,0 +1,21 @@
+-- The statements of a body, and its last return.
+use Rattle.std.specs.Prelude.{Bool, List, [], ◌∷◌, ◌++◌, if◌then◌else◌, Option, Some, None}
+use Rattle.ss_classes.specs.declared.names.Ty.{Ty}
+use Rattle.ss_classes.specs.Tree as core
+use Rattle.ss_classes.specs.Tree.{ReturnStmt}
+use Rattle.ss_typed.specs.Tree.{StmtTrees, BodyTree, TypedTree}
+use Rattle.ss_elab.specs.Lifting.{Setting}
+use Rattle.ss_elab.specs.Constructors.{in_block, closing_brace, constructor_stmts}
+use Rattle.ss_elab.specs.Statements.{packs}
+
+-- without the last return
+abbrev pub own_stmts : TypedTree → BodyTree → StmtTrees
+own_stmts p b = if b.flags.ctor then constructor_stmts p b else in_block b.block
+
+abbrev pub last_return_of : Option Ty → Setting → Bool → List core.StmtTree
+last_return_of (Some t) s reached = []
+last_return_of None s reached = if reached then packs s (closing_brace s.body.block) ++ ReturnStmt (closing_brace s.body.block) None ∷ [] else []
+
+-- a body without a result returns at its closing brace, where that can be reached
+abbrev pub last_return : Setting → Bool → List core.StmtTree
+last_return s reached = last_return_of s.body.result s reached

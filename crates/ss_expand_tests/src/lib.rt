@@ -1,0 +1,6 @@
+//! Tests of the elaboration.
+
+#![tactic(auto)]
+
+#[cfg(test)]
+mod expanded;

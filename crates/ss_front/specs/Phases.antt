@@ -1,0 +1,33 @@
+-- The outcome of the phases of names and types.
+use Rattle.std.specs.Prelude.{Option, Some, None}
+use Rattle.ss_ast.specs.Programs.{ProgramTree}
+use Rattle.ss_faults.specs.declared.Fault.{Fault}
+use Rattle.ss_names.specs.Programs.{first_name_fault}
+use Rattle.ss_types.specs.Programs.{first_type_fault}
+use Rattle.ss_typed.specs.Tree.{TypedTree}
+use Rattle.ss_typed.specs.View.{typed}
+use Rattle.ss_resolved.specs.Programs.{resolved}
+use Rattle.ss_front.specs.declared.Resolved.{Resolved}
+use Rattle.ss_front.specs.declared.Resolved.TheVariants as code
+
+pub data Outcome : Type 0 where
+  -- refused with this fault
+  IsRefused : Fault → Outcome
+  -- this resolved program
+  IsProgram : TypedTree → Outcome
+
+abbrev pub behind_types : ProgramTree → Option Fault → Outcome
+behind_types p (Some f) = IsRefused f
+behind_types p None = IsProgram (resolved p)
+
+abbrev pub behind_names : ProgramTree → Option Fault → Outcome
+behind_names p (Some f) = IsRefused f
+behind_names p None = behind_types p (first_type_fault p)
+
+-- the first fault of names, else the first fault of types, else the resolved program
+abbrev pub phases : ProgramTree → Outcome
+phases p = behind_names p (first_name_fault p)
+
+abbrev pub resolved_of : Resolved → Outcome
+resolved_of (code.Refused f) = IsRefused f
+resolved_of (code.Program t) = IsProgram (typed t)

@@ -1,0 +1,7 @@
+pub mod Joins
+pub mod Links
+pub mod Forms
+pub mod Arms
+pub mod Sizes
+pub mod Codes
+pub mod Statements

@@ -1,0 +1,23 @@
+use Rattle.std.proofs.Common.{◌≡◌, ap, ◌∙◌}
+use Rattle.std.specs.Prelude.{position, unwrap_or}
+use Rattle.ss_typed.specs.Tree.{arguments}
+use Rattle.ss_typed.specs.View.{exprs}
+use Rattle.ss_elab.specs.Lifting.{arguments_of}
+use Rattle.ss_elab.specs.Program as program
+use Rattle.ss_plain.specs.Sources.{stmts_of, listed_behind}
+use Rattle.ss_lifting.specs.Settings.{setting_of}
+use Rattle.ss_lifting.proofs.Statements.{base_behind}
+use Rattle.ss_lifting.proofs.simple.base_with.Goals as goal
+
+pub returns : goal.returns
+returns c =
+    let s = setting_of c.args.setting.now in
+    let t = c.args.above.0 in
+    let before = stmts_of c.args.code.now.statements in
+    let es = arguments (exprs c.args.es.now) in
+    let kinds = c.args.made.now.items in
+    let listed = c.args.setting.now.listed in
+    base_behind s c.args.place t _ before _ _ _ _ _ (arguments_of s (program.param_types_in (program.constructor_of s.program t)) es kinds)
+    (c.in_ok-values.ensures ∙ ap (λ ts. listed_behind before (arguments_of s ts es kinds)) (c.params_in-params.ensures ∙ ap program.param_types_in c.constructor_of.ensures))
+    (c.in_ok-number.ensures ∙ ap (λ os. unwrap_or (position (program.same_origin (program.Constructor t)) os) 0) listed)
+    c.in_ok-add_base_call.ensures c.in_ok-add_ready.ensures

@@ -1,0 +1,5 @@
+pub mod Settings
+pub mod Made
+pub mod Fronts
+pub mod Operations
+pub mod Lefts

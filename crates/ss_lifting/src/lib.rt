@@ -1,0 +1,18 @@
+//! Lifting of calls out of expressions, and statements without a body: everything happens in the order of the source.
+#![tactic(auto)]
+
+mod assignments;
+mod code;
+mod fronts;
+mod lefts;
+mod lifting;
+mod operations;
+mod settings;
+mod settled;
+mod simple;
+
+pub use assignments::assign_field;
+pub use code::Code;
+pub use lifting::{arguments, right_side, value};
+pub use settings::Setting;
+pub use simple::{base_call, declare, simple_statement};

@@ -1,0 +1,4 @@
+pub mod Known
+pub mod Around
+pub mod Scenes
+pub mod Behinds

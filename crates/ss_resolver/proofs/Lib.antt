@@ -1,0 +1,10 @@
+pub mod Alones
+pub mod Grouping
+pub mod Clauses
+pub mod Left
+pub mod Beginnings
+pub mod Limited
+pub mod Governed
+pub mod Steps
+pub mod Bodied
+pub mod Blocks

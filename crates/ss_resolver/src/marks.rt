@@ -1,0 +1,50 @@
+// Attributes.
+
+ghost use Rattle.std.specs.Prelude.{◌≡◌, ◌++◌, ◌∷◌, [], IfOk, OnOk, map};
+ghost use Rattle.ss_ast.specs.Expressions.{name_tree};
+ghost use Rattle.ss_tables.specs.Members.{has_attribute};
+
+use ss_ast::Name;
+use std::alloc::{AllocError, Global};
+
+/// Whether an attribute of this name is written.
+pub(crate) fn has_attribute(name: &str, attributes: &[Name]) -> bool
+    ensures { result ≡ has_attribute name.now (map name_tree attributes.now) }
+{
+    for attribute in attributes {
+        if name == attribute.text.as_str() {
+            return true;
+        }
+    }
+    false
+}
+
+fn copy_name(alloc: Global, name: &Name) -> Result<Name, AllocError>
+    ensures { IfOk result (λ n. name_tree n ≡ name_tree name.now) }
+{
+    let text = String::from_str(alloc, name.text.as_str())?;
+    Ok(Name {
+        text,
+        place: name.place,
+    })
+}
+
+// One more name.
+fn add_copy(alloc: Global, list: &mut Vec<Name>, name: &Name) -> Result<(), AllocError>
+    ensures { OnOk result (map name_tree list.new.items ≡ map name_tree list.old.items ++ name_tree name.now ∷ []) }
+{
+    let copy = copy_name(alloc, name)?;
+    list.push(copy)?;
+    Ok(())
+}
+
+/// The same names.
+pub(crate) fn copy_names(alloc: Global, names: &[Name]) -> Result<Vec<Name>, AllocError>
+    ensures { IfOk result (λ v. map name_tree v.items ≡ map name_tree names.now) }
+{
+    let mut list = Vec::new(alloc);
+    for name in names {
+        add_copy(alloc, &mut list, name)?;
+    }
+    Ok(list)
+}

@@ -1,0 +1,4 @@
+pub mod Loops
+pub mod Longer
+pub mod Shapes
+pub mod Collecting

@@ -1,0 +1,94 @@
+// Programs.
+
+ghost use Rattle.std.specs.Prelude.{◌≡◌, IfOk, map, string_bytes};
+ghost use Rattle.ss_core.specs.View as core;
+ghost use Rattle.ss_run.specs.Formed.{IsFormed};
+ghost use Rattle.ss_classes.specs.Tree.{ClassTree};
+ghost use Rattle.ss_classes.specs.View as whole;
+ghost use Rattle.ss_typed.specs.View as typed;
+ghost use Rattle.ss_elab.specs.Elaborated.{elaborated};
+ghost use Rattle.ss_second.specs.Second.{has_methods_alone, is_one_class, methods, narrowed, formed_alone, second_form};
+ghost use Rattle.ss_second.specs.Answers.{Answers};
+
+use crate::bodies::narrow_bodies;
+use crate::stop::FormStop;
+use ss_classes::{Body, Class};
+use ss_core::BodyId;
+use ss_formed::is_formed;
+use ss_typed::{Typed, TypedClass};
+use std::alloc::{AllocError, Global};
+
+// Whether no constructor, no field and no invariant is written in the class.
+fn has_methods_alone(class: &TypedClass) -> bool
+    ensures { result ≡ has_methods_alone (typed.members class.now) }
+{
+    class.constructor.is_none() && class.fields.is_empty() && class.invariants.is_empty()
+}
+
+// Whether it is one such class.
+fn is_one_class(classes: &[TypedClass]) -> bool
+    ensures { result ≡ is_one_class (map typed.members classes.now) }
+{
+    match classes {
+        [class] => has_methods_alone(class),
+        _ => false,
+    }
+}
+
+// The methods, which stand behind the constructor.
+fn narrow_methods(alloc: Global, bodies: &[Body]) -> Result<Vec<ss_core::Body>, FormStop>
+    ensures { Answers (λ v. map core.body v.items) (methods (map whole.body bodies.now)) result }
+{
+    match bodies {
+        [_, methods @ ..] => narrow_bodies(alloc, methods),
+        [] => Err(FormStop::NotOfForm),
+    }
+}
+
+fn list_names(alloc: Global, classes: &[Class]) -> Result<Vec<String>, AllocError>
+    ensures { IfOk result (λ v. map string_bytes v.items ≡ map (λ (k : ClassTree). k.name) (map whole.class_of classes.now)) }
+{
+    let mut names = Vec::new(alloc);
+    for class in classes {
+        names.push(class.name.clone()?)?;
+    }
+    Ok(names)
+}
+
+fn narrow(alloc: Global, program: &ss_classes::Core) -> Result<ss_core::Core, FormStop>
+    ensures { Answers core.core (narrowed (whole.core program.now)) result }
+{
+    let bodies = narrow_methods(alloc, &program.bodies)?;
+    let main = program.main.0;
+    if main == 0 {
+        return Err(FormStop::NotOfForm);
+    }
+    let names = list_names(alloc, &program.classes.list)?;
+    Ok(ss_core::Core {
+        classes: ss_core::Classes { names },
+        bodies,
+        main: BodyId(main - 1),
+    })
+}
+
+/// The program of the second form that a resolved program is, with its elaboration. `NotOfForm` comes exactly where
+/// it isn't of the form.
+pub fn second_form(
+    alloc: Global,
+    program: &Typed,
+    elaboration: &ss_classes::Core,
+) -> Result<ss_core::Core, FormStop>
+    requires elaborated { whole.core elaboration.now ≡ elaborated (typed.typed program.now) }
+    ensures exact { Answers core.core (second_form (typed.typed program.now)) result }
+    ensures formed { IfOk result (λ c. IsFormed (core.core c)) }
+{
+    if !is_one_class(&program.members) {
+        return Err(FormStop::NotOfForm);
+    }
+    let narrowed = narrow(alloc, elaboration)?;
+    if is_formed(alloc, &narrowed)? {
+        Ok(narrowed)
+    } else {
+        Err(FormStop::NotOfForm)
+    }
+}
