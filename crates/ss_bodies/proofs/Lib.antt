@@ -1,2 +1,3 @@
+pub mod ByClass
 pub mod Meant
 pub mod Members

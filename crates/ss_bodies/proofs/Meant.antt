@@ -1,5 +1,5 @@
 -- What parameters are meant by, one more of them.
-use Rattle.std.proofs.Common.{ℕ, suc, ◌≡◌, ◌+◌, ◌++◌, List, [], ◌∷◌, length, cond, Bool, true, false, append_assoc, arith}
+use Rattle.std.proofs.Common.{ℕ, ◌≡◌, ◌+◌, ◌++◌, List, [], ◌∷◌, length, cond, Bool, true, false, append_assoc, arith}
 
 -- the list goes on behind one that is copied, or that isn't
 pub meant_next : (assigned : Bool) (before : List ℕ) (copy x : ℕ) (rest : ℕ → List ℕ)

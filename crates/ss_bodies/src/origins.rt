@@ -1,12 +1,13 @@
 // The bodies of the core program, and their numbers.
 
-ghost use Rattle.std.specs.Prelude.{◌≡◌, ◌==◌, ◌≤◌, ◌++◌, ◌∷◌, [], cond, length, map, option_map, unwrap_or, position, IfOk, OnOk};
+ghost use Rattle.std.specs.Prelude.{◌≡◌, ◌==◌, ◌<◌, ◌≤◌, ◌++◌, ◌∷◌, [], cond, length, map, option_map, unwrap_or, position, nat_lt, IfOk, OnOk};
+ghost use Rattle.std.specs.List.Sorted.{IsPartitionPoint};
 ghost use Rattle.ss_classes.specs.Tree.{EntryTree};
 ghost use Rattle.ss_classes.specs.View as core;
 ghost use Rattle.ss_classes.specs.Chain.{most_classes};
 ghost use Rattle.ss_typed.specs.View as typed;
 ghost use Rattle.ss_elab.specs.Program as elab;
-ghost use Rattle.ss_bodies.specs.Origins.{origin_of, origins_of};
+ghost use Rattle.ss_bodies.specs.Origins.{origin_of, origins_of, class_in, IsByClass};
 
 use crate::lookups::{body_at, is_own, table};
 use ss_classes::Entry;
@@ -83,6 +84,29 @@ fn is_same(a: Origin, b: Origin) -> bool
     }
 }
 
+// The class that the body belongs to.
+fn class_of(origin: Origin) -> ClassId
+    ensures { result.0 ≡ class_in (origin_of origin) }
+{
+    match origin {
+        Origin::Constructor(class) => class,
+        Origin::Method(class, _) => class,
+    }
+}
+
+// How many of these bodies belong to classes before this one.
+fn count_before(origins: &[Origin], class: ClassId) -> usize
+    requires by_class { IsByClass (map origin_of origins.now) }
+    ensures bound { result ≤ length origins.now }
+    ensures parted { IsPartitionPoint (λ (o : Origin). class_in (origin_of o) < class.0) (λ (o : Origin). class.0 ≤ class_in (origin_of o)) origins.now result }
+{
+    origins.partition_point(
+        |origin: &Origin| -> bool
+            ensures { result ≡ nat_lt (class_in (origin_of origin.now)) class.0 }
+        { class_of(*origin).0 < class.0 },
+    )
+}
+
 // The place of a body among these.
 fn find_origin(origins: &[Origin], origin: Origin) -> Option<usize>
     ensures { result ≡ position (elab.same_origin (origin_of origin)) (map origin_of origins.now) }
@@ -95,11 +119,26 @@ fn find_origin(origins: &[Origin], origin: Origin) -> Option<usize>
     None
 }
 
-/// The number of a body among these, 0 where it isn't one of them. There is no room for so many that it doesn't fit.
+// The same among bodies that stand class by class: it is looked for from where its class begins.
+fn find_in_class(origins: &[Origin], origin: Origin) -> Option<usize>
+    requires by_class { IsByClass (map origin_of origins.now) }
+    ensures { result ≡ position (elab.same_origin (origin_of origin)) (map origin_of origins.now) }
+{
+    let first = count_before(origins, class_of(origin));
+    let (_, rest) = origins.split_at(first);
+    match find_origin(rest, origin) {
+        Some(place) => Some(first + place),
+        None => None,
+    }
+}
+
+/// The number of a body among these, which stand class by class; 0 where it isn't one of them. There is no room for so many that
+/// it doesn't fit.
 pub fn number_among(origins: &[Origin], origin: Origin) -> Result<BodyId, AllocError>
+    requires by_class { IsByClass (map origin_of origins.now) }
     ensures { IfOk result (λ n. n.0 ≡ unwrap_or (position (elab.same_origin (origin_of origin)) (map origin_of origins.now)) 0) }
 {
-    match find_origin(origins, origin) {
+    match find_in_class(origins, origin) {
         Some(place) => match u32::try_from(place) {
             Ok(number) => Ok(BodyId(number)),
             Err(_) => Err(AllocError),

@@ -1,4 +1,4 @@
-use Rattle.std.proofs.Common.{◌≡◌, ◌++◌, map, drop}
+use Rattle.std.proofs.Common.{◌≡◌, ◌++◌, drop}
 use Rattle.ss_classes.specs.View as core
 use Rattle.ss_typed.specs.View as typed
 use Rattle.ss_elab.specs.Numbers as elab

@@ -1,4 +1,4 @@
-use Rattle.std.proofs.Common.{◌≡◌, ◌++◌, map, ap, ◌∙◌}
+use Rattle.std.proofs.Common.{◌++◌, map, ap, ◌∙◌}
 use Rattle.std.specs.Prelude.{[], if◌then◌else◌}
 use Rattle.ss_classes.specs.View.{default_tree}
 use Rattle.ss_typed.specs.View as typed

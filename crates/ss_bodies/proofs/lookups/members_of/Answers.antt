@@ -1,4 +1,4 @@
-use Rattle.std.proofs.Common.{◌≡◌, map, sym, ◌∙◌}
+use Rattle.std.proofs.Common.{map, sym, ◌∙◌}
 use Rattle.ss_typed.specs.View as typed
 use Rattle.ss_bodies.proofs.Members.{members_low, members_odd, members_even}
 use Rattle.ss_bodies.proofs.lookups.members_of.Goals as goal

@@ -1,4 +1,4 @@
-use Rattle.std.proofs.Common.{◌≡◌, ◌+◌, ◌++◌, length, map, sym, subst, ap, ◌∙◌, IfOk}
+use Rattle.std.proofs.Common.{◌≡◌, ◌+◌, ◌++◌, length, map, subst, ap, ◌∙◌, IfOk}
 use Rattle.ss_typed.specs.View as typed
 use Rattle.ss_elab.specs.Bodies.{first_copy, meant, meant_from, this_meant, assigned_from, assigned_params, numbers_from}
 use Rattle.ss_elab.specs.Contracts.{first_param}

@@ -1,5 +1,5 @@
-use Rattle.std.proofs.Common.{◌≡◌, ◌++◌, [], ◌∷◌, map, ap, ◌∙◌}
-use Rattle.ss_classes.specs.Tree.{StmtTree, LocalExpr, Base, AssignStmt, UnpackStmt, CallStmt, PackStmt, ReturnStmt}
+use Rattle.std.proofs.Common.{◌++◌, [], ◌∷◌, map, ap, ◌∙◌}
+use Rattle.ss_classes.specs.Tree.{LocalExpr, Base, AssignStmt, UnpackStmt, CallStmt, PackStmt, ReturnStmt}
 use Rattle.ss_classes.specs.View.{exprs, stmt_of}
 use Rattle.ss_elab.specs.Bodies as bodies
 use Rattle.ss_bodies.proofs.wrappers.wrapper_code.Goals as goal

@@ -1,13 +1,18 @@
 use Rattle.std.proofs.Common.{◌≡◌, ap, ◌∙◌}
-use Rattle.std.specs.Prelude.{position, unwrap_or}
+use Rattle.std.specs.Prelude.{map, position, unwrap_or}
 use Rattle.ss_typed.specs.Tree.{arguments}
-use Rattle.ss_typed.specs.View.{exprs}
+use Rattle.ss_typed.specs.View.{exprs, typed}
 use Rattle.ss_elab.specs.Lifting.{arguments_of}
 use Rattle.ss_elab.specs.Program as program
 use Rattle.ss_plain.specs.Sources.{stmts_of, listed_behind}
+use Rattle.ss_bodies.specs.Origins.{origin_of}
+use Rattle.ss_bodies.proofs.ByClass.{listed_by_class}
 use Rattle.ss_lifting.specs.Settings.{setting_of}
 use Rattle.ss_lifting.proofs.Statements.{base_behind}
 use Rattle.ss_lifting.proofs.simple.base_with.Goals as goal
+
+pub number_among-requires : goal.number_among-requires
+number_among-requires c = record { by_class = listed_by_class (typed c.args.setting.now.program.now) (map origin_of c.args.setting.now.origins.now) c.args.setting.now.listed }
 
 pub returns : goal.returns
 returns c =
