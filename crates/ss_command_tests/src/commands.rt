@@ -21,6 +21,9 @@ const LOOP: &str =
 
 const ASSUMED: &str = "class P {\n  static void Main() { assume false; assert false; }\n}\n";
 
+const UNASSIGNED: &str =
+    "class T { }\nclass D {\n  T! t;\n  D(bool b) {\n    if (b) { t = new T(); }\n  }\n  static void Main() { }\n}\n";
+
 const COUNTER: &str =
     "class Counter {\n  int n;\n  void Add() { expose (this) { n += 1; } }\n  static void Main() { Counter c = new Counter(); c.Add(); }\n}\n";
 
@@ -188,6 +191,14 @@ fn the_first_fault_is_told(rt: HostRuntime) -> Result<(), Fail> {
     )?;
     expect_refusal(&rt, alloc, "class A : B { } class B : A { }", 22, 1, 11)?;
     expect_refusal(&rt, alloc, COUNTER, 90, 1, 1)
+}
+
+#[test]
+fn null_and_construction_are_the_last_phases(rt: HostRuntime) -> Result<(), Fail> {
+    let alloc = rt.alloc();
+    let null = "class T { } class P { static void Main() { T! x = null; } }";
+    expect_refusal(&rt, alloc, null, 30, 1, 51)?;
+    expect_refusal(&rt, alloc, UNASSIGNED, 40, 6, 3)
 }
 
 #[test]

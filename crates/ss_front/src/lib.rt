@@ -1,13 +1,16 @@
-//! What a source is to the front end: refused at its first fault of names or types, or a resolved program.
+//! What a source is to the front end: refused at its first fault of names, types, null or construction, or a resolved program.
 #![tactic(auto)]
 
 ghost use Rattle.std.specs.Prelude.{◌≡◌, IfOk};
 ghost use Rattle.ss_ast.specs.Programs.{program_tree};
-ghost use Rattle.ss_front.specs.Phases.{phases, resolved_of};
+ghost use Rattle.ss_typed.specs.View.{typed};
+ghost use Rattle.ss_front.specs.Phases.{phases, phases_of_resolved, resolved_of};
 
 use ss_ast::Program;
+use ss_construction_check::check_construction;
 use ss_faults::Fault;
 use ss_name_check::check_names;
+use ss_null_check::check_nulls;
 use ss_resolver::resolve_program;
 use ss_type_check::first_type_fault;
 use ss_typed::Typed;
@@ -16,13 +19,26 @@ use std::alloc::{AllocError, Global};
 /// A program that is refused, or what it means.
 #[derive(Debug, Drop)]
 pub enum Resolved {
-    /// The first fault of the phase of names, or where that has none, of the phase of types.
+    /// The first fault of the first phase that has one: names, types, null, construction.
     Refused(Fault),
     Program(Typed),
 }
 
-/// The first fault of names; where there is none the first fault of types; where there is none of those either, the resolved program. The
-/// error is want of memory.
+// The first fault of null; where there is none the first fault of construction; where there is none of those either, the program.
+fn check_resolved(alloc: Global, program: Typed) -> Result<Resolved, AllocError>
+    ensures { IfOk result (λ r. resolved_of r ≡ phases_of_resolved (typed program)) }
+{
+    if let Some(fault) = check_nulls(alloc, &program)? {
+        return Ok(Resolved::Refused(fault));
+    }
+    if let Some(fault) = check_construction(alloc, &program)? {
+        return Ok(Resolved::Refused(fault));
+    }
+    Ok(Resolved::Program(program))
+}
+
+/// The first fault of names; where there is none the first fault of types; then that of null in the resolved program, and then that of
+/// construction; where there is none at all, the resolved program. The error is want of memory.
 pub fn resolve(alloc: Global, program: &Program) -> Result<Resolved, AllocError>
     ensures { IfOk result (λ r. resolved_of r ≡ phases (program_tree program.now)) }
 {
@@ -33,5 +49,5 @@ pub fn resolve(alloc: Global, program: &Program) -> Result<Resolved, AllocError>
         return Ok(Resolved::Refused(fault));
     }
     let resolved = resolve_program(alloc, program)?;
-    Ok(Resolved::Program(resolved))
+    check_resolved(alloc, resolved)
 }

@@ -17,7 +17,9 @@ use Rattle.ss_typed.specs.Tree.{TypedTree}
 use Rattle.ss_resolved.specs.Programs.{resolved, each, class}
 use Rattle.ss_expand.specs.Limits.{HasFewClasses}
 use Rattle.ss_front.specs.Phases as front
-use Rattle.ss_front.specs.Phases.{phases, behind_names, behind_types, IsProgram}
+use Rattle.ss_nonnull.specs.Program.{null_faults}
+use Rattle.ss_delayed.specs.Program.{construction_faults}
+use Rattle.ss_front.specs.Phases.{phases, phases_of_resolved, behind_names, behind_types, behind_nulls, behind_construction, IsProgram}
 use Rattle.ss_sources.specs.Sources.{IsAccepted}
 
 no_faults : (fs : List Fault) → faults.first_fault fs ≡ None → fs ≡ []
@@ -56,11 +58,23 @@ faultless_names t p h = pick (first_name_fault t) h
     pick None h = refl
     pick (Some f) h = absurd (let e : front.IsRefused f ≡ IsProgram p = h in cc)
 
+-- what the phases of a resolved program have no fault of is that program
+same_program : (t p : TypedTree) → phases_of_resolved t ≡ IsProgram p → t ≡ p
+same_program t p h = pick (faults.first_fault (null_faults t)) h
+  where
+    in_construction : (o : Option Fault) → behind_construction t o ≡ IsProgram p → t ≡ p
+    in_construction None h = let e : IsProgram t ≡ IsProgram p = h in cc
+    in_construction (Some f) h = absurd (let e : front.IsRefused f ≡ IsProgram p = h in cc)
+
+    pick : (o : Option Fault) → behind_nulls t o ≡ IsProgram p → t ≡ p
+    pick None h = in_construction (faults.first_fault (construction_faults t)) h
+    pick (Some f) h = absurd (let e : front.IsRefused f ≡ IsProgram p = h in cc)
+
 resolves_to : (t : ProgramTree) (p : TypedTree) → phases t ≡ IsProgram p → resolved t ≡ p
 resolves_to t p h = pick (first_name_fault t) h
   where
     in_types : (o : Option Fault) → behind_types t o ≡ IsProgram p → resolved t ≡ p
-    in_types None h = let e : IsProgram (resolved t) ≡ IsProgram p = h in cc
+    in_types None h = same_program (resolved t) p h
     in_types (Some f) h = absurd (let e : front.IsRefused f ≡ IsProgram p = h in cc)
 
     pick : (o : Option Fault) → behind_names t o ≡ IsProgram p → resolved t ≡ p

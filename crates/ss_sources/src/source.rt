@@ -59,7 +59,8 @@ fn read_program(alloc: Global, source: &[u8], tokens: Vec<Token>) -> Result<Acce
 }
 
 /// The tokens and the resolved program of a source. Refused comes with its first fault: rule 5 where it is too long, 1 to 4 at its
-/// bytes, 10 to 12 at its tokens, 20 to 23, 25 and 27 at its names, and 24, 26 and 28 at its types.
+/// bytes, 10 to 12 at its tokens, 20 to 23, 25 and 27 at its names, 24, 26 and 28 at its types, 30 and 31 at what may be null, and 40 to
+/// 42 at its constructors.
 pub fn read_source(alloc: Global, source: &[u8]) -> Result<Accepted, FrontStop>
     ensures { Gives source.now result }
 {

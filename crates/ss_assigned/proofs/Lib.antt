@@ -1,0 +1,4 @@
+pub mod Loops
+pub mod Grouping
+pub mod Forms
+pub mod Places

@@ -1,0 +1,5 @@
+pub mod Views
+pub mod Shapes
+pub mod Numbered
+pub mod Codes
+pub mod Started

@@ -1,0 +1,4 @@
+pub mod Parts
+pub mod Walked
+pub mod Openings
+pub mod Implied

@@ -1,0 +1,10 @@
+pub mod Seeing
+pub mod Falls
+pub mod Walking
+pub mod Arguments
+pub mod Points
+pub mod Shapes
+pub mod Statements
+pub mod Initials
+pub mod Naming
+pub mod Wholes
