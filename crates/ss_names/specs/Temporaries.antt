@@ -49,7 +49,7 @@ operation ls = if any_call ls then record { has_call = true; is_call = false; is
 abbrev pub call : List Lifting → Lifting
 call ls = record { has_call = true; is_call = true; is_choice = false; whole = operands ls }
 
--- the right operand is lifted into the side of an `if`
+-- the right operand is lifted into the side of an `if`; `a ==> b` is `!a || b`
 abbrev pub choice : Lifting → Lifting → Lifting
 choice a b =
     if a.has_call || b.has_call
@@ -102,7 +102,7 @@ call_of NoCallee before ls = call (before ++ ls)
 abbrev mutual
   pub lifting : Scope → ExprTree → Lifting
   lifting s (IffOf p a b) = operation (lifting s a ∷ lifting s b ∷ [])
-  lifting s (ImpliesOf p a b) = choice (lifting s a) (lifting s b)
+  lifting s (ImpliesOf p a b) = choice (operation (lifting s a ∷ [])) (lifting s b)
   lifting s (BinaryOf p o a b) = binary o (lifting s a) (lifting s b)
   lifting s (IsOf p e t) = operation (lifting s e ∷ [])
   lifting s (AsOf p e t) = operation (lifting s e ∷ [])

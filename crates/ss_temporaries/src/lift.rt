@@ -18,7 +18,7 @@ ghost use Rattle.ss_temporaries.specs.Walked.{lifted};
 ghost use Rattle.ss_temporaries.specs.WalkedViews.{lifted_of};
 
 use crate::lifting::{
-    Lifting, Operands, binary, call, call_of, call_start, call_with, choice, implied_operand,
+    Lifting, Operands, binary, call, call_of, call_start, call_with, implication, implied_operand,
     no_operands, nothing_lifted, operation_on, operation_on_both, receiver_operand, with_operand,
 };
 use ss_ast::{Expr, Link, Name, Postfix, TypeName};
@@ -162,7 +162,7 @@ pub fn lift<'a>(
         Expr::Implies(_, a, b) => {
             let left = lifting(within, locals, a)?;
             let right = lifting(within, locals, b)?;
-            Ok(other(Some(StaticType::Bool), choice(left, right)?))
+            Ok(other(Some(StaticType::Bool), implication(left, right)?))
         }
         Expr::Chain(place, first, links) => {
             let before = lift(within, locals, first)?;

@@ -183,7 +183,7 @@ pub fn operation_on_both(left: Lifting, right: Lifting) -> Result<Lifting, Alloc
     Ok(operation(operands))
 }
 
-/// `&&`, `||` or `==>`: the right operand is lifted into the side of an `if`.
+/// `&&` or `||`: the right operand is lifted into the side of an `if`.
 pub fn choice(left: Lifting, right: Lifting) -> Result<Lifting, AllocError>
     ensures { IfOk result (λ r. lifting_of r ≡ choice (lifting_of left) (lifting_of right)) }
 {
@@ -197,6 +197,14 @@ pub fn choice(left: Lifting, right: Lifting) -> Result<Lifting, AllocError>
         });
     }
     Ok(nothing_lifted())
+}
+
+/// `a ==> b`, which is `!a || b`.
+pub fn implication(left: Lifting, right: Lifting) -> Result<Lifting, AllocError>
+    ensures { IfOk result (λ r. lifting_of r ≡ choice (operation (lifting_of left ∷ [])) (lifting_of right)) }
+{
+    let negated = operation_on(left)?;
+    choice(negated, right)
 }
 
 /// An operation of an operator.
