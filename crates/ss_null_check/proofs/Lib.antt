@@ -8,3 +8,4 @@ pub mod Statements
 pub mod Initials
 pub mod Naming
 pub mod Wholes
+pub mod Listing

@@ -2,7 +2,7 @@
 
 ghost use Rattle.std.specs.Prelude.{◌≡◌, ◌++◌, if◌then◌else◌, Some, IfOk, OnOk, List, option_map};
 ghost use Rattle.ss_facts.specs.Locals.{among, listed};
-ghost use Rattle.ss_paths.specs.Sets.{none, either};
+ghost use Rattle.ss_paths.specs.Sets.{none, only, either};
 ghost use Rattle.ss_null_check.specs.Paths.{told};
 ghost use Rattle.ss_null_check.specs.Codes.{path_of, site_of, seen_of};
 ghost use Rattle.ss_null_check.specs.Seen.{plain, literal, null_literal, this_object, local_read, negated, aged, the_one, telling, class_tested, compared_by, operated, is_set, field_read, element_read, called, fault_where, lacks, lacking, learnt_at, side_of};
@@ -199,13 +199,37 @@ fn compared(alloc: Global, left: &Seen, right: &Seen) -> Result<Vec<usize>, Allo
     }
 }
 
-// The locals of both lists.
-#[tactic(auto, using(ss_facts::proofs::Assigning::among_append))]
+// Whether the local stands in the list.
+fn is_listed(list: &[usize], local: usize) -> bool
+    ensures { result ≡ among list.now local }
+{
+    for other in list {
+        if *other == local {
+            return true;
+        }
+    }
+    false
+}
+
+// One more local, which stands in the list once.
+#[tactic(auto, using(crate::proofs::Listing::known_already, crate::proofs::Listing::one_more))]
+fn list_once(list: &mut Vec<usize>, local: usize) -> Result<(), AllocError>
+    ensures { OnOk result (among list.new.items ≡ either (among list.old.items) (only local)) }
+{
+    if !is_listed(list, local) {
+        list.push(local)?;
+    }
+    Ok(())
+}
+
+// The locals of both lists. A local is told once, so that a long chain of tests of one local stays short.
 fn joined(one: Vec<usize>, other: &[usize]) -> Result<Vec<usize>, AllocError>
     ensures { IfOk result (λ v. among v.items ≡ either (among one.items) (among other.now)) }
 {
     let mut all = one;
-    all.extend_from_slice(other)?;
+    for local in other {
+        list_once(&mut all, *local)?;
+    }
     Ok(all)
 }
 
