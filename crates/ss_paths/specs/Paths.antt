@@ -100,7 +100,6 @@ step_faults c None k = []
 step_faults c (Some s) k = c.done s k
 
 -- where the test has come out so
--- where the test has come out so
 abbrev pub side : {S : Type 0} → Flow S → ExprTree → Bool → Option S → Option S
 side f e v k = option_map (f.tested e v) k
 
