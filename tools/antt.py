@@ -1,6 +1,6 @@
 """An interpreter of the plain part of the definitions in specs/: clauses, records and data, without proofs and types.
 
-`World(root).get('Rattle.ss_names.specs.Programs', 'program_faults')` is the value of a definition, a `Fun` where it takes
+`World(root).get('Rattle.ss_resolver_names_rules.specs.Programs', 'program_faults')` is the value of a definition, a `Fun` where it takes
 arguments; `call(f, x)` applies it. Numbers and truth values are Python's, a list is a tuple, a record a `Rec`, and what a
 `data` declares a `Con`. It serves to compute definitions on cases and is no part of the gate.
 """

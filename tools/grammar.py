@@ -11,7 +11,7 @@ Records (namedtuples, fields as in the specs; names of tuples without `Tree`):
     Declarator(name, initial)                         initial: an expression or None
     Declaration(ty, declarators)
     Param(attributes, ty, name)                       attributes: [Name]  (the place is that of the name, not of `[`)
-                                                      + brackets: [place of each `[`] (not in the specs' tree)
+                                                      + brackets: [place of each `[`], which the specs' tree has instead
     BaseCall(place, arguments)
     Member(attributes, modifiers, kind, brackets)     modifiers: [(place, 'static' | 'virtual' | 'override')]
     Class(name, above, members)                       above: Name or None

@@ -60,7 +60,8 @@ def stmt_(s):
     if k == 'ExposeOf': return Con(k, (p, expr_(s[2]), optn(name_, s[3]), block_(s[4])))
     if k == 'EmptyOf': return Con(k, (p,))
     raise Exception(s)
-def param_(q): return Rec(attributes=lst(name_, q.attributes), ty=type_(q.ty), name=name_(q.name))
+def attributes_(m): return tuple(Rec(text=text(n.text), place=place(p)) for n, p in zip(m.attributes, m.brackets))
+def param_(q): return Rec(attributes=attributes_(q), ty=type_(q.ty), name=name_(q.name))
 def clause_(c):
     if c[0] == 'ModifiesOf': return Con('ModifiesOf', (lst(lambda m: Con(m[0], (expr_(m[1]),)), c[1]),))
     return Con(c[0], (expr_(c[1]),))
@@ -71,6 +72,6 @@ def kind_(k):
     if k[0] == 'InvariantOf': return Con('InvariantOf', (expr_(k[1]),))
     if k[0] == 'MethodOf': return Con('MethodOf', (optn(type_, k[1]), name_(k[2]), lst(param_, k[3]), lst(clause_, k[4]), block_(k[5])))
     return Con('ConstructorOf', (name_(k[1]), lst(param_, k[2]), optn(basecall_, k[3]), lst(clause_, k[4]), block_(k[5])))
-def member_(m): return Rec(attributes=lst(name_, m.attributes), modifiers=lst(lambda w: Rec(place=place(w[0]), word=Con(WORDS[w[1]])), m.modifiers), kind=kind_(m.kind))
+def member_(m): return Rec(attributes=attributes_(m), modifiers=lst(lambda w: Rec(place=place(w[0]), word=Con(WORDS[w[1]])), m.modifiers), kind=kind_(m.kind))
 def class_(c): return Rec(name=name_(c.name), above=optn(name_, c.above), members=lst(member_, c.members))
 def program_(p): return Rec(classes=lst(class_, p.classes), last=place(p.last))

@@ -12,14 +12,14 @@ pub enum ModifierWord {
 }
 
 /// One of the words `static`, `virtual` and `override`.
-#[derive(Clone, Copy, Debug)]
+#[derive(Clone, Copy)]
 pub struct Modifier {
     pub place: Place,
     pub word: ModifierWord,
 }
 
 /// A parameter with its attributes.
-#[derive(Debug, Drop)]
+#[derive(Drop)]
 pub struct Param {
     pub attributes: Vec<Name>,
     pub ty: TypeRef,
@@ -27,7 +27,7 @@ pub struct Param {
 }
 
 /// A term of a `modifies` clause.
-#[derive(Debug, Drop)]
+#[derive(Drop)]
 pub enum Modified {
     /// `o.*`
     All(Expr),
@@ -38,7 +38,7 @@ pub enum Modified {
 }
 
 /// A clause of a contract.
-#[derive(Debug, Drop)]
+#[derive(Drop)]
 pub enum Clause {
     Requires(Expr),
     Ensures(Expr),
@@ -46,7 +46,7 @@ pub enum Clause {
 }
 
 /// A method. Without a result it is `void`.
-#[derive(Debug, Drop)]
+#[derive(Drop)]
 pub struct Method {
     pub returns: Option<TypeRef>,
     pub name: Name,
@@ -56,14 +56,14 @@ pub struct Method {
 }
 
 /// `: base(a, b)` behind the parameters of a constructor, with the place of `base`.
-#[derive(Debug, Drop)]
+#[derive(Drop)]
 pub struct BaseCall {
     pub place: Place,
     pub arguments: Vec<Expr>,
 }
 
 /// A constructor.
-#[derive(Debug, Drop)]
+#[derive(Drop)]
 pub struct Constructor {
     pub name: Name,
     pub params: Vec<Param>,
@@ -72,7 +72,7 @@ pub struct Constructor {
     pub body: Block,
 }
 
-#[derive(Debug, Drop)]
+#[derive(Drop)]
 pub enum MemberKind {
     Fields(Declaration),
     Invariant(Expr),
@@ -81,7 +81,7 @@ pub enum MemberKind {
 }
 
 /// A member of a class, with its attributes and with its words `static`, `virtual` and `override` in order.
-#[derive(Debug, Drop)]
+#[derive(Drop)]
 pub struct Member {
     pub attributes: Vec<Name>,
     pub modifiers: Vec<Modifier>,
@@ -89,7 +89,7 @@ pub struct Member {
 }
 
 /// A class, with the name of the class above it where one is written.
-#[derive(Debug, Drop)]
+#[derive(Drop)]
 pub struct ClassDecl {
     pub name: Name,
     pub above: Option<Name>,
@@ -97,7 +97,7 @@ pub struct ClassDecl {
 }
 
 /// A program, with the place of the end of its text.
-#[derive(Debug, Drop)]
+#[derive(Drop)]
 pub struct Program {
     pub classes: Vec<ClassDecl>,
     pub last: Place,

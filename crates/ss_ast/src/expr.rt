@@ -3,14 +3,14 @@
 use ss_core::Place;
 
 /// A name where it is written.
-#[derive(Debug, Drop)]
+#[derive(Drop)]
 pub struct Name {
     pub text: String,
     pub place: Place,
 }
 
 /// What a type names, without `[]` and `!`.
-#[derive(Debug, Drop)]
+#[derive(Drop)]
 pub enum TypeName {
     Int,
     Bool,
@@ -19,7 +19,7 @@ pub enum TypeName {
 }
 
 /// A type as it is written.
-#[derive(Debug, Drop)]
+#[derive(Drop)]
 pub struct TypeRef {
     pub place: Place,
     pub name: TypeName,
@@ -55,7 +55,7 @@ pub enum Quantifier {
 
 /// An expression.
 #[cycle(expr)]
-#[derive(Debug, Drop)]
+#[derive(Drop)]
 pub enum Expr {
     /// `a <==> b`
     Iff(Place, Box<Expr>, Box<Expr>),
@@ -94,7 +94,7 @@ pub enum Expr {
 
 /// What stands behind an operand in a chain.
 #[cycle(expr)]
-#[derive(Debug, Drop)]
+#[derive(Drop)]
 pub enum Link {
     Operation(Operator, Expr),
     Is(TypeRef),
@@ -103,7 +103,7 @@ pub enum Link {
 
 /// What stands behind the beginning of a path.
 #[cycle(expr)]
-#[derive(Debug, Drop)]
+#[derive(Drop)]
 pub enum Postfix {
     Member(Name),
     Element(Expr),

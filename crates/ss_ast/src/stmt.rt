@@ -4,14 +4,14 @@ use crate::expr::{Expr, Name, TypeRef};
 use ss_core::Place;
 
 /// A declared name and what it begins with: `x = e`, or `x` alone.
-#[derive(Debug, Drop)]
+#[derive(Drop)]
 pub struct Declarator {
     pub name: Name,
     pub initial: Option<Expr>,
 }
 
 /// `T x = e, y`, which has at least one declarator.
-#[derive(Debug, Drop)]
+#[derive(Drop)]
 pub struct Declaration {
     pub ty: TypeRef,
     pub declarators: Vec<Declarator>,
@@ -38,7 +38,7 @@ pub enum StepOperator {
 }
 
 /// A statement that may also stand in the heading of a `for`.
-#[derive(Debug, Drop)]
+#[derive(Drop)]
 pub enum Simple {
     Assign(Expr, AssignOperator, Expr),
     Step(Expr, StepOperator),
@@ -47,7 +47,7 @@ pub enum Simple {
 }
 
 /// What a `for` begins with.
-#[derive(Debug, Drop)]
+#[derive(Drop)]
 pub enum ForInit {
     Declare(Declaration),
     Simple(Simple),
@@ -55,7 +55,7 @@ pub enum ForInit {
 
 /// Statements between two braces, with the places of both.
 #[cycle(stmt)]
-#[derive(Debug, Drop)]
+#[derive(Drop)]
 pub struct Block {
     pub place: Place,
     pub statements: Vec<Stmt>,
@@ -64,7 +64,7 @@ pub struct Block {
 
 /// A statement.
 #[cycle(stmt)]
-#[derive(Debug, Drop)]
+#[derive(Drop)]
 pub enum Stmt {
     Block(Block),
     Declare(Declaration),

@@ -6,7 +6,7 @@ ghost use Rattle.ss_ast.specs.Tokens.{word_number};
 use ss_core::Place;
 
 /// A reserved word.
-#[derive(Clone, Copy, Debug)]
+#[derive(Clone, Copy)]
 pub enum Word {
     Using,
     Class,
@@ -89,7 +89,7 @@ pub enum Symbol {
 }
 
 /// What a token is.
-#[derive(Debug, Drop)]
+#[derive(Drop)]
 pub enum TokenKind {
     Word(Word),
     Symbol(Symbol),
@@ -103,7 +103,7 @@ pub enum TokenKind {
 }
 
 /// A token and the place of its first byte.
-#[derive(Debug, Drop)]
+#[derive(Drop)]
 pub struct Token {
     pub kind: TokenKind,
     pub place: Place,

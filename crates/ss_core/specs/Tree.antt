@@ -1,48 +1,117 @@
 -- Core programs as plain trees, which every definition speaks of.
-use Rattle.std.specs.Prelude.{ℕ, ℤ, Bool, List, [], ◌∷◌, ◌++◌, length, map, Option, Some, None, slice_get, nat_le, ◌+◌, ◌-◌, ◌/◌, ◌%◌, ◌==◌, ◌&&◌, if◌then◌else◌}
+use Rattle.std.specs.Prelude.{ℕ, ℤ, Bool, List, Option}
 use Rattle.ss_core.specs.declared.names.Place.{Place}
+use Rattle.ss_core.specs.declared.names.Mark.{Mark}
 use Rattle.ss_core.specs.declared.names.Ty.{Ty}
+use Rattle.ss_core.specs.declared.expr.Operator.{Operator}
+use Rattle.ss_core.specs.declared.expr.Quantifier.{Quantifier}
+use Rattle.ss_core.specs.declared.body.BodyFlags.{BodyFlags}
 
--- an expression; a chain `a && b && c` is `(a && b) && c`, and so is one of `||`
+-- a question about the state of one object
+pub data WordTree : Type 0 where
+  Consistent : WordTree
+  Committed : WordTree
+  New : WordTree
+  Level : ℕ → WordTree
+  Packed : ℕ → WordTree
+  Unowned : WordTree
+
+-- a question about the owners of two objects
+pub data OwnersTree : Type 0 where
+  SameOwner : OwnersTree
+  OwnedAt : ℕ → OwnersTree
+
+-- a condition of a default contract, or of a captured parameter
+pub data DefaultTree : Type 0 where
+  AtLevel : ℕ → DefaultTree
+  Unpacked : DefaultTree
+  ThisUnowned : DefaultTree
+  Defaults : ℕ → DefaultTree
+  OwnedFull : ℕ → DefaultTree
+  Full : DefaultTree
+  ConsistentArgument : ℕ → DefaultTree
+  FullArgument : ℕ → DefaultTree
+  -- the argument, and whether `this` isn't to be of its group
+  Captured : ℕ → Bool → DefaultTree
+
+-- an expression: a chain is grouped to the left, and so is a path
 pub data ExprTree : Type 0 where
   IntExpr : Place → ℤ → ExprTree
   BoolExpr : Place → Bool → ExprTree
+  NullExpr : Place → ExprTree
   LocalExpr : Place → ℕ → ExprTree
+  FieldExpr : Place → ExprTree → ℕ → ExprTree
+  ElementExpr : Place → ExprTree → ExprTree → ExprTree
+  LengthExpr : Place → ExprTree → ExprTree
+  NegateExpr : Place → ExprTree → ExprTree
   NotExpr : Place → ExprTree → ExprTree
-  EqualExpr : Place → ExprTree → ExprTree → ExprTree
-  UnequalExpr : Place → ExprTree → ExprTree → ExprTree
-  AndExpr : Place → ExprTree → ExprTree → ExprTree
-  OrExpr : Place → ExprTree → ExprTree → ExprTree
+  BinaryExpr : Place → Operator → ExprTree → ExprTree → ExprTree
   ImpliesExpr : Place → ExprTree → ExprTree → ExprTree
   IffExpr : Place → ExprTree → ExprTree → ExprTree
+  IsExpr : Place → ExprTree → ℕ → ExprTree
+  AsExpr : Place → ExprTree → ℕ → ExprTree
+  -- the class, and whether null doesn't pass
+  CastExpr : Place → ℕ → Bool → ExprTree → ExprTree
+  OldExpr : Place → ExprTree → ExprTree
+  -- the bound name, the bounds, and the member
+  QuantifiedExpr : Place → Quantifier → List ℕ → ExprTree → ExprTree → ExprTree → ExprTree
+  StateExpr : Place → WordTree → ExprTree → ExprTree
+  OwnersExpr : Place → OwnersTree → ExprTree → ExprTree → ExprTree
+  DefaultExpr : Place → DefaultTree → ExprTree
+
+-- what a call enters
+pub data CalleeTree : Type 0 where
+  -- the receiver, its static class, and the method's place in the table
+  Dispatched : ExprTree → ℕ → ℕ → CalleeTree
+  Static : ℕ → CalleeTree
+  Base : ℕ → CalleeTree
+  BaseConstructor : ℕ → CalleeTree
+
+-- an `expose` around a loop: the local with the object, and the class
+pub record ExposedTree : Type 0 where
+  pub local : ℕ
+  pub class : ℕ
 
 -- a statement, and statements one after the other
 mutual
   pub data StmtTree : Type 0 where
     AssignStmt : Place → ℕ → ExprTree → StmtTree
+    -- the object, the field, its mark, the class that declares it, and the value
+    WriteStmt : Place → ExprTree → ℕ → Mark → ℕ → ExprTree → StmtTree
+    WriteElementStmt : Place → ExprTree → ExprTree → ExprTree → StmtTree
+    NewStmt : Place → Option ℕ → ℕ → List ExprTree → StmtTree
+    NewArrayStmt : Place → Option ℕ → ℕ → ExprTree → StmtTree
+    CallStmt : Place → Option ℕ → CalleeTree → List ExprTree → StmtTree
+    ReadyStmt : Place → StmtTree
+    IfStmt : Place → ExprTree → CodeTree → CodeTree → StmtTree
+    -- the invariants, the prelude, the test, the body, and the exposes around it
+    LoopStmt : Place → List ExprTree → CodeTree → ExprTree → CodeTree → List ExposedTree → StmtTree
+    UnpackStmt : Place → ℕ → ℕ → StmtTree
+    PackStmt : Place → ℕ → ℕ → StmtTree
     AssertStmt : Place → ExprTree → StmtTree
     AssumeStmt : Place → ExprTree → StmtTree
-    PrintStmt : Place → ExprTree → StmtTree
-    IfStmt : Place → ExprTree → CodeTree → CodeTree → StmtTree
-    -- the local that gets the result, the number of the body, and the arguments
-    CallStmt : Place → Option ℕ → ℕ → List ExprTree → StmtTree
+    PrintStmt : Place → Option ExprTree → Bool → StmtTree
+    PrintTextStmt : Place → List ℕ → Bool → StmtTree
     ReturnStmt : Place → Option ExprTree → StmtTree
 
   pub data CodeTree : Type 0 where
     NoCode : CodeTree
     Then : StmtTree → CodeTree → CodeTree
 
--- first these statements, and then those
-abbrev pub followed_by : CodeTree → CodeTree → CodeTree
-followed_by NoCode rest = rest
-followed_by (Then s code) rest = Then s (followed_by code rest)
-
--- a local: the bytes of its name, and its type
+-- a local: the bytes of its name, its type, and whether it is a captured parameter
 pub record LocalTree : Type 0 where
   pub name : List ℕ
   pub ty : Ty
+  pub captured : Bool
 
--- a method; its locals are numbered from 0, first the parameters, then the others, and last the result, where there is one
+-- what a body may change
+pub data NamedTree : Type 0 where
+  FieldOf : ExprTree → ℕ → NamedTree
+  AllOf : ExprTree → NamedTree
+  ElementsOf : ExprTree → NamedTree
+  UptoOf : ExprTree → ℕ → NamedTree
+
+-- a method or a constructor
 pub record BodyTree : Type 0 where
   pub class : ℕ
   pub name : List ℕ
@@ -52,32 +121,32 @@ pub record BodyTree : Type 0 where
   -- the conditions at entry and at exit
   pub entry : List ExprTree
   pub exit : List ExprTree
+  pub named : List NamedTree
+  pub flags : BodyFlags
   pub code : CodeTree
   pub place : Place
 
--- the type of the result as a list of one, or of none
-abbrev pub result_type : Option Ty → List Ty
-result_type None = []
-result_type (Some t) = t ∷ []
+pub record FieldTree : Type 0 where
+  pub name : List ℕ
+  pub ty : Ty
+  pub mark : Mark
 
--- the types of all locals of a body, in the order of their numbers
-abbrev pub types_of : BodyTree → List Ty
-types_of b = map (λ l. l.ty) b.params ++ map (λ l. l.ty) b.locals ++ result_type b.result
+-- a method in a class's table: its name and its body
+pub record EntryTree : Type 0 where
+  pub name : List ℕ
+  pub body : ℕ
 
--- the number of the result
-abbrev pub result_number : BodyTree → ℕ
-result_number b = length b.params + length b.locals
+-- a declared class
+pub record ClassTree : Type 0 where
+  pub name : List ℕ
+  pub above : ℕ
+  pub also : List ℕ
+  pub fields : List FieldTree
+  pub invariants : List ExprTree
+  pub table : List EntryTree
 
--- a core program: the names of its declared classes, its bodies, and the number of Main's body
+-- a core program; the number of the declared class at place `k` of its list is `4 + 2 k`
 pub record CoreTree : Type 0 where
-  pub classes : List (List ℕ)
+  pub classes : List ClassTree
   pub bodies : List BodyTree
   pub main : ℕ
-
--- the number of a declared class is 4 and twice its place, from 0
-abbrev pub is_class_number : ℕ → Bool
-is_class_number k = nat_le 4 k && (k - 4) % 2 == 0
-
--- the name of a declared class, by its number
-abbrev pub class_name : CoreTree → ℕ → Option (List ℕ)
-class_name c k = if is_class_number k then slice_get c.classes ((k - 4) / 2) else None

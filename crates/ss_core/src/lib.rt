@@ -1,8 +1,17 @@
-//! Core programs: what a source means once names are numbers and every implied step is written out.
+//! Core programs of the whole language: classes with their fields, invariants and tables of methods, and bodies in which names
+//! are numbers and every implied step is written out.
 #![tactic(auto)]
 
+mod body;
+mod chain;
+mod class;
+mod expr;
 mod names;
-mod program;
+mod stmt;
 
-pub use names::{BodyId, ClassId, FrontStop, Kind, Place, Ty};
-pub use program::{Body, Classes, Core, Expr, Local, Stmt, Value};
+pub use body::{Body, BodyFlags, Core, Local, Modifies};
+pub use chain::MOST_LEVELS;
+pub use class::{Class, Classes, Entry, Field};
+pub use expr::{DefaultCondition, Expr, Link, Operator, OwnerTest, Quantifier, StateWord, Step};
+pub use names::{BodyId, ClassId, FieldId, FrontStop, Kind, Mark, Place, Ty};
+pub use stmt::{Callee, Exposed, Loop, Stmt};

@@ -1,4 +1,4 @@
-// Places, numbers and kinds.
+// Places, numbers, marks, types and kinds, and why a source is refused.
 
 /// A place in a source: a line, from 1, and in it a byte, from 1.
 #[derive(Clone, Copy, Debug, PartialEq, Eq)]
@@ -16,11 +16,29 @@ pub struct ClassId(pub u16);
 #[derive(Clone, Copy, Debug, PartialEq, Eq)]
 pub struct BodyId(pub u32);
 
-/// The type of a local or of an expression.
+/// The number of a field, from 0, in order of declaration over the whole program.
+#[derive(Clone, Copy, Debug, PartialEq, Eq)]
+pub struct FieldId(pub u32);
+
+/// What a field says of the owner of the object that it points to (ECOOP 2004).
+#[derive(Clone, Copy, Debug, PartialEq, Eq)]
+pub enum Mark {
+    /// Nothing.
+    Plain,
+    /// `[Rep]`: it is owned by the object with the field, at the class that declares the field.
+    Rep,
+    /// `[Peer]`: it has the owner that the object with the field has.
+    Peer,
+}
+
+/// A type. `Null` is that of the literal `null`; no declaration has it.
 #[derive(Clone, Copy, Debug, PartialEq, Eq)]
 pub enum Ty {
     Int,
     Bool,
+    Null,
+    /// A class, `object` or an array class, with or without `null` (OOPSLA 2003).
+    Ref { class: ClassId, non_null: bool },
 }
 
 /// What a check is about.

@@ -8,12 +8,12 @@ use Rattle.ss_grammar.specs.declared.fault.Stop.TheVariants as stop
 use Rattle.ss_grammar.specs.Reading.{one_more}
 use Rattle.ss_grammar.specs.Stops.{Fails, FailsIn}
 use Rattle.ss_grammar.proofs.Turns.{Turns, more_on}
-use Rattle.ss_syntax.specs.Heads.{Piece, pieces}
-use Rattle.ss_syntax.specs.Parser.{Gets}
-use Rattle.ss_parser.proofs.Loops.{pieces_less}
-use Rattle.ss_programs.specs.Again.{another}
-use Rattle.ss_programs.specs.Grammar.{push, push_behind}
-use Rattle.ss_programs.proofs.Rounds.{Rounds, rounds_on, rounds_err}
+use Rattle.ss_grammar_expressions.specs.Heads.{Piece, pieces}
+use Rattle.ss_grammar_expressions.specs.Parser.{Gets}
+use Rattle.ss_parser_expressions.proofs.Loops.{pieces_less}
+use Rattle.ss_grammar_programs.specs.Again.{another}
+use Rattle.ss_grammar_programs.specs.Grammar.{push, push_behind}
+use Rattle.ss_grammar_programs.proofs.Rounds.{Rounds, rounds_on, rounds_err}
 
 -- one more behind a token that f knows
 pub pushed : {X A B : Type 0} (f : Piece → Option B) (k : B → Gets A) (v : X → A) (xs ys : List X) (x : X) (rest after : List Token) (total : Result (List A × List Piece) (Fault × List Piece)) → one_more f k (pieces rest) ≡ Some (Ok (v x, pieces after)) → length after < length rest → ys ≡ xs ++ x ∷ [] → Turns f k push_behind (map v xs) (pieces rest) total → Turns f k push_behind (map v ys) (pieces after) total

@@ -15,18 +15,18 @@ use Rattle.ss_grammar.proofs.Answers.{found_whole}
 use Rattle.ss_ast.specs.Tokens.{tok}
 use Rattle.ss_grammar.specs.declared.fault.Stop.TheVariants as stop
 use Rattle.ss_grammar.specs.Stops.{Fails}
-use Rattle.ss_syntax.specs.Heads.{Piece, AToken, pieces, is, found, the}
-use Rattle.ss_parser.specs.Answer.{first_place, rule_of}
-use Rattle.ss_parser.proofs.Suffix.{behind_is}
-use Rattle.ss_syntax.specs.Parser.{give}
-use Rattle.ss_syntax.proofs.Sets.{code, disjoint_in}
-use Rattle.ss_programs.specs.Again.{ahead}
-use Rattle.ss_programs.specs.Heads.{the_end}
-use Rattle.ss_programs.specs.Grammar.{Declarations}
-use Rattle.ss_programs.specs.Parser.{declarations, program}
-use Rattle.ss_programs.proofs.Pieces.{classes_set, end_in}
-use Rattle.ss_programs.proofs.Rounds.{none_seen}
-use Rattle.ss_programs.proofs.Programs.{declarations_to, declarations_find, program_finds}
+use Rattle.ss_grammar_expressions.specs.Heads.{Piece, AToken, pieces, is, found, the}
+use Rattle.ss_parser_expressions.specs.Answer.{first_place, rule_of}
+use Rattle.ss_parser_expressions.proofs.Suffix.{behind_is}
+use Rattle.ss_grammar_expressions.specs.Parser.{give}
+use Rattle.ss_grammar_expressions.proofs.Sets.{code, disjoint_in}
+use Rattle.ss_grammar_programs.specs.Again.{ahead}
+use Rattle.ss_grammar_programs.specs.Heads.{the_end}
+use Rattle.ss_grammar_programs.specs.Grammar.{Declarations}
+use Rattle.ss_grammar_programs.specs.Parser.{declarations, program}
+use Rattle.ss_grammar_programs.proofs.Pieces.{classes_set, end_in}
+use Rattle.ss_grammar_programs.proofs.Rounds.{none_seen}
+use Rattle.ss_grammar_programs.proofs.Programs.{declarations_to, declarations_find, program_finds}
 use Rattle.ss_decls.specs.Answer.{IsProgram, Stopped, AfterEnd, Refusal, ProgramAnswer}
 
 -- a front of a list is all that stands before the rest

@@ -6,13 +6,13 @@ use Rattle.ss_ast.specs.declared.token.Symbol.TheVariants as symbol
 use Rattle.ss_ast.specs.Expressions.{ExprTree}
 use Rattle.ss_grammar.specs.Reading.{◌>>=◌, take, times}
 use Rattle.std.specs.Prelude.{Ok}
-use Rattle.ss_syntax.specs.First.{tokened}
-use Rattle.ss_syntax.specs.Heads.{Piece, is, the, the_word}
-use Rattle.ss_syntax.specs.Parser.{give}
-use Rattle.ss_programs.specs.Again.{again}
-use Rattle.ss_programs.specs.Heads.{an_access, member_word, begins_class, begins_member, clause_head}
-use Rattle.ss_programs.specs.Grammar.{push, push_behind, dropped, modified, join_word}
-use Rattle.ss_programs.specs.Parser.{attribute, attributes, steps, modified_from, clause_behind, clauses, words, member, members, accesses, class_decl, classes, skipped_name, dotted, using_end, usings}
+use Rattle.ss_grammar_expressions.specs.First.{tokened}
+use Rattle.ss_grammar_expressions.specs.Heads.{Piece, is, the, the_word}
+use Rattle.ss_grammar_expressions.specs.Parser.{give}
+use Rattle.ss_grammar_programs.specs.Again.{again}
+use Rattle.ss_grammar_programs.specs.Heads.{an_access, member_word, begins_class, begins_member, clause_head}
+use Rattle.ss_grammar_programs.specs.Grammar.{push, push_behind, dropped, modified, join_word}
+use Rattle.ss_grammar_programs.specs.Parser.{attribute, attributes, steps, modified_from, clause_behind, clauses, words, member, members, accesses, class_decl, classes, skipped_name, dotted, using_end, usings}
 
 pub attributes_is : (d : ℕ) (ts : List Piece) → attributes d ts ≡ times (tokened (the symbol.OpenBracket)) (attribute d) push_behind (length ts) [] ts
 unfolding attributes

@@ -7,20 +7,20 @@ use Rattle.ss_ast.specs.declared.expr.Postfix.{Postfix}
 use Rattle.ss_ast.specs.Expressions.{ExprTree, grouped}
 use Rattle.ss_ast.specs.Programs.{ModifiedTree, OneOf}
 use Rattle.ss_grammar.specs.Reading.{◌>>=◌}
-use Rattle.ss_syntax.specs.Heads.{Piece, is, pieces, postfix_head}
-use Rattle.ss_parser.specs.View.{postfix_tree}
-use Rattle.ss_parser.proofs.Loops.{pieces_less, grouped_push}
-use Rattle.ss_programs.specs.Again.{ahead, another}
-use Rattle.ss_programs.specs.Grammar.{Path, Whole, path_goes, stepped, modified}
-use Rattle.ss_programs.specs.Parser.{step, steps, modified_from}
-use Rattle.ss_programs.proofs.Rounds.{Rounds, rounds_on, rounds_end, rounds_last}
+use Rattle.ss_grammar_expressions.specs.Heads.{Piece, is, pieces, postfix_head}
+use Rattle.ss_parser_expressions.specs.View.{postfix_tree}
+use Rattle.ss_parser_expressions.proofs.Loops.{pieces_less, grouped_push}
+use Rattle.ss_grammar_programs.specs.Again.{ahead, another}
+use Rattle.ss_grammar_programs.specs.Grammar.{Path, Whole, path_goes, stepped, modified}
+use Rattle.ss_grammar_programs.specs.Parser.{step, steps, modified_from}
+use Rattle.ss_grammar_programs.proofs.Rounds.{Rounds, rounds_on, rounds_end, rounds_last}
 use Rattle.ss_decls.specs.declared.modified.TermStep.{TermStep}
 use Rattle.ss_decls.specs.declared.modified.TermStep.TheVariants as term
 use Rattle.ss_decls.specs.View.{step_of}
 use Rattle.ss_decls.proofs.Readers.{modified_from_is}
 
 module _ (p : Place) (d : ℕ) (a : ExprTree) (tokens : List Token) where
-  abbrev pub Stands : Rattle.ss_programs.specs.Grammar.Reached → List Token → Type 0
+  abbrev pub Stands : Rattle.ss_grammar_programs.specs.Grammar.Reached → List Token → Type 0
   Stands r rest = Rounds path_goes (step d) (stepped p) r (pieces rest) (steps p d a (pieces tokens))
 
   pub stepped_on : (b : ExprTree) (rest after : List Token) (s : TermStep) → another (is postfix_head) (step d) (pieces rest) ≡ Some (Ok (step_of s, pieces after)) → length after < length rest → Stands (Path b) rest → Stands (step_of s p b) after

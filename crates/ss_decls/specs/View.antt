@@ -1,7 +1,7 @@
 -- What the values of the code stand for.
 use Rattle.ss_ast.specs.Programs.{AllOf, ElementsOf}
-use Rattle.ss_parser.specs.View.{postfix_tree}
-use Rattle.ss_programs.specs.Grammar.{Path, Whole, Step}
+use Rattle.ss_parser_expressions.specs.View.{postfix_tree}
+use Rattle.ss_grammar_programs.specs.Grammar.{Path, Whole, Step}
 use Rattle.ss_decls.specs.declared.modified.TermStep.{TermStep}
 use Rattle.ss_decls.specs.declared.modified.TermStep.TheVariants as term
 

@@ -4,21 +4,21 @@ ghost use Rattle.std.specs.Prelude.{◌<◌, ◌≤◌, ◌-◌, length, map, op
 ghost use Rattle.ss_ast.specs.Expressions.{name_tree};
 ghost use Rattle.ss_ast.specs.Programs.{class_tree};
 ghost use Rattle.ss_grammar.specs.Stops.{Gives, GivesMore};
-ghost use Rattle.ss_syntax.specs.Heads.{pieces};
-ghost use Rattle.ss_programs.specs.Again.{another};
-ghost use Rattle.ss_programs.specs.Heads.{begins_class};
-ghost use Rattle.ss_programs.specs.Parser.{class_end, class_body, class_above, class_named, class_decl, classes, declarations};
+ghost use Rattle.ss_grammar_expressions.specs.Heads.{pieces};
+ghost use Rattle.ss_grammar_programs.specs.Again.{another};
+ghost use Rattle.ss_grammar_programs.specs.Heads.{begins_class};
+ghost use Rattle.ss_grammar_programs.specs.Parser.{class_end, class_body, class_above, class_named, class_decl, classes, declarations};
 
 use crate::heads::is_class;
 use crate::members::parse_members;
 use crate::usings::{skip_accesses, skip_usings};
 use ss_ast::{ClassDecl, Name, Symbol, Token, TokenKind, Word};
 use ss_grammar::fault::{Fault, Stop};
-use ss_parser::heads::{expect, expect_name, expect_word};
+use ss_parser_expressions::heads::{expect, expect_name, expect_word};
 use std::alloc::Global;
 
 // Members and `}`.
-#[tactic(auto, unfolding(ss_programs::specs::Parser::class_end))]
+#[tactic(auto, unfolding(ss_grammar_programs::specs::Parser::class_end))]
 fn parse_class_end(
     alloc: Global,
     depth: u32,
@@ -42,7 +42,7 @@ fn parse_class_end(
 }
 
 // Members between `{` and `}`.
-#[tactic(auto, unfolding(ss_programs::specs::Parser::class_body))]
+#[tactic(auto, unfolding(ss_grammar_programs::specs::Parser::class_body))]
 fn parse_class_body(
     alloc: Global,
     depth: u32,
@@ -71,7 +71,7 @@ fn parse_class_body(
 }
 
 // The name of the class above, where one is written.
-#[tactic(auto, unfolding(ss_programs::specs::Parser::class_above))]
+#[tactic(auto, unfolding(ss_grammar_programs::specs::Parser::class_above))]
 fn parse_above(tokens: &[Token]) -> Result<(Option<Name>, &[Token]), Stop>
     ensures gives { Gives (λ x. (option_map name_tree x.0, pieces x.1.now)) result (class_above (pieces tokens.now)) }
     ensures fewer { IfOk result (λ x. length x.1.now ≤ length tokens.now) }
@@ -92,7 +92,7 @@ fn parse_above(tokens: &[Token]) -> Result<(Option<Name>, &[Token]), Stop>
 }
 
 // What is behind `class`.
-#[tactic(auto, unfolding(ss_programs::specs::Parser::class_named))]
+#[tactic(auto, unfolding(ss_grammar_programs::specs::Parser::class_named))]
 fn parse_class_named(
     alloc: Global,
     depth: u32,
@@ -106,7 +106,7 @@ fn parse_class_named(
     parse_class_body(alloc, depth, name, above, rest)
 }
 
-#[tactic(auto, unfolding(ss_programs::specs::Parser::class_decl))]
+#[tactic(auto, unfolding(ss_grammar_programs::specs::Parser::class_decl))]
 fn parse_class(alloc: Global, depth: u32, tokens: &[Token]) -> Result<(ClassDecl, &[Token]), Stop>
     ensures gives { Gives (λ x. (class_tree x.0, pieces x.1.now)) result (class_decl depth (pieces tokens.now)) }
     ensures fewer { IfOk result (λ x. length x.1.now < length tokens.now) }
@@ -132,7 +132,7 @@ fn next_class(
     }
 }
 
-#[tactic(auto, unfolding(ss_programs::specs::Parser::classes))]
+#[tactic(auto, unfolding(ss_grammar_programs::specs::Parser::classes))]
 fn parse_classes(
     alloc: Global,
     depth: u32,
@@ -151,7 +151,7 @@ fn parse_classes(
 }
 
 /// The `using` lines and the classes that stand here, and the tokens behind them.
-#[tactic(auto, unfolding(ss_programs::specs::Parser::declarations))]
+#[tactic(auto, unfolding(ss_grammar_programs::specs::Parser::declarations))]
 pub fn parse_declarations(
     alloc: Global,
     depth: u32,

@@ -5,20 +5,20 @@ ghost use Rattle.ss_ast.specs.Statements.{block_tree};
 ghost use Rattle.ss_ast.specs.Programs.{modified_tree, clause_tree};
 ghost use Rattle.ss_grammar.specs.Reading.{one_more};
 ghost use Rattle.ss_grammar.specs.Stops.{Gives, GivesMore};
-ghost use Rattle.ss_syntax.specs.Heads.{pieces};
-ghost use Rattle.ss_blocks.specs.Parser.{ended};
-ghost use Rattle.ss_programs.specs.Heads.{clause_head};
-ghost use Rattle.ss_programs.specs.Parser.{modifies, clause_behind, clauses, specified};
+ghost use Rattle.ss_grammar_expressions.specs.Heads.{pieces};
+ghost use Rattle.ss_grammar_statements.specs.Parser.{ended};
+ghost use Rattle.ss_grammar_programs.specs.Heads.{clause_head};
+ghost use Rattle.ss_grammar_programs.specs.Parser.{modifies, clause_behind, clauses, specified};
 
 use crate::modified::parse_modifies;
 use ss_ast::{Block, Clause, Modified, Symbol, Token, TokenKind, Word};
 use ss_grammar::fault::Stop;
-use ss_parser::heads::expect;
-use ss_statements::headings::parse_ended;
-use ss_statements::statements::parse_whole_block;
+use ss_parser_expressions::heads::expect;
+use ss_parser::headings::parse_ended;
+use ss_parser::statements::parse_whole_block;
 use std::alloc::Global;
 
-#[tactic(auto, unfolding(ss_blocks::specs::Parser::ended))]
+#[tactic(auto, unfolding(ss_grammar_statements::specs::Parser::ended))]
 fn parse_modifies_end(
     alloc: Global,
     depth: u32,
@@ -33,7 +33,7 @@ fn parse_modifies_end(
 }
 
 // A clause, where one begins.
-#[tactic(auto, unfolding(ss_programs::specs::Parser::clause_behind))]
+#[tactic(auto, unfolding(ss_grammar_programs::specs::Parser::clause_behind))]
 fn next_clause(
     alloc: Global,
     depth: u32,
@@ -68,7 +68,7 @@ fn next_clause(
     }
 }
 
-#[tactic(auto, unfolding(ss_programs::specs::Parser::clauses))]
+#[tactic(auto, unfolding(ss_grammar_programs::specs::Parser::clauses))]
 fn parse_clauses(
     alloc: Global,
     depth: u32,
@@ -87,7 +87,7 @@ fn parse_clauses(
 }
 
 /// Clauses, and the block behind them.
-#[tactic(auto, unfolding(ss_programs::specs::Parser::specified))]
+#[tactic(auto, unfolding(ss_grammar_programs::specs::Parser::specified))]
 pub fn parse_specified(
     alloc: Global,
     depth: u32,

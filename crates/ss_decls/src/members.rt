@@ -4,12 +4,12 @@ ghost use Rattle.std.specs.Prelude.{◌≡◌, ◌<◌, ◌≤◌, length, map, 
 ghost use Rattle.ss_ast.specs.Expressions.{name_tree, type_tree, type_name_tree};
 ghost use Rattle.ss_ast.specs.Programs.{base_call_tree, member_kind_tree, member_tree};
 ghost use Rattle.ss_grammar.specs.Stops.{Gives, GivesMore};
-ghost use Rattle.ss_syntax.specs.Heads.{pieces};
-ghost use Rattle.ss_parser.specs.View.{start_of};
-ghost use Rattle.ss_programs.specs.Again.{another};
-ghost use Rattle.ss_programs.specs.Heads.{begins_member};
-ghost use Rattle.ss_programs.specs.Grammar.{join_word};
-ghost use Rattle.ss_programs.specs.Parser.{fields, method, base_end, base_behind, base, constructor, fields_or_method, typed, void_method, name_first, member_kind, words, member, members};
+ghost use Rattle.ss_grammar_expressions.specs.Heads.{pieces};
+ghost use Rattle.ss_parser_expressions.specs.View.{start_of};
+ghost use Rattle.ss_grammar_programs.specs.Again.{another};
+ghost use Rattle.ss_grammar_programs.specs.Heads.{begins_member};
+ghost use Rattle.ss_grammar_programs.specs.Grammar.{join_word};
+ghost use Rattle.ss_grammar_programs.specs.Parser.{fields, method, base_end, base_behind, base, constructor, fields_or_method, typed, void_method, name_first, member_kind, words, member, members};
 
 use crate::clauses::parse_specified;
 use crate::heads::{is_field_ahead, is_member, is_type_ahead, next_modifier};
@@ -20,15 +20,15 @@ use ss_ast::{
 };
 use ss_core::Place;
 use ss_grammar::fault::{Fault, Stop};
-use ss_parser::arguments::parse_args_end;
-use ss_parser::heads::{Start, expect, expect_name, expect_word};
-use ss_parser::types::parse_type_end;
-use ss_statements::declarations::parse_decls_from;
-use ss_statements::headings::parse_ended;
+use ss_parser_expressions::arguments::parse_args_end;
+use ss_parser_expressions::heads::{Start, expect, expect_name, expect_word};
+use ss_parser_expressions::types::parse_type_end;
+use ss_parser::declarations::parse_decls_from;
+use ss_parser::headings::parse_ended;
 use std::alloc::{AllocError, Global};
 
 // Fields, behind the type and the first name.
-#[tactic(auto, unfolding(ss_programs::specs::Parser::fields, ss_blocks::specs::Parser::ended))]
+#[tactic(auto, unfolding(ss_grammar_programs::specs::Parser::fields, ss_grammar_statements::specs::Parser::ended))]
 fn parse_fields(
     alloc: Global,
     depth: u32,
@@ -45,7 +45,7 @@ fn parse_fields(
 }
 
 // A method, behind its name.
-#[tactic(auto, unfolding(ss_programs::specs::Parser::method))]
+#[tactic(auto, unfolding(ss_grammar_programs::specs::Parser::method))]
 fn parse_method(
     alloc: Global,
     depth: u32,
@@ -71,7 +71,7 @@ fn parse_method(
 }
 
 // The arguments of a call of `base`, which is at this place, behind their `(`.
-#[tactic(auto, unfolding(ss_programs::specs::Parser::base_end))]
+#[tactic(auto, unfolding(ss_grammar_programs::specs::Parser::base_end))]
 fn parse_base_end(
     alloc: Global,
     depth: u32,
@@ -87,7 +87,7 @@ fn parse_base_end(
 }
 
 // The same with the `(`.
-#[tactic(auto, unfolding(ss_programs::specs::Parser::base_behind))]
+#[tactic(auto, unfolding(ss_grammar_programs::specs::Parser::base_behind))]
 fn parse_base_behind(
     alloc: Global,
     depth: u32,
@@ -115,7 +115,7 @@ fn parse_base_behind(
 }
 
 // A `: base(..)`, where one stands.
-#[tactic(auto, unfolding(ss_programs::specs::Parser::base))]
+#[tactic(auto, unfolding(ss_grammar_programs::specs::Parser::base))]
 fn parse_base(
     alloc: Global,
     depth: u32,
@@ -140,7 +140,7 @@ fn parse_base(
 }
 
 // A constructor, behind its name.
-#[tactic(auto, unfolding(ss_programs::specs::Parser::constructor))]
+#[tactic(auto, unfolding(ss_grammar_programs::specs::Parser::constructor))]
 fn parse_constructor(
     alloc: Global,
     depth: u32,
@@ -166,7 +166,7 @@ fn parse_constructor(
 }
 
 // Fields or a method, behind a type and a name.
-#[tactic(auto, unfolding(ss_programs::specs::Parser::fields_or_method))]
+#[tactic(auto, unfolding(ss_grammar_programs::specs::Parser::fields_or_method))]
 fn parse_fields_or_method(
     alloc: Global,
     depth: u32,
@@ -185,7 +185,7 @@ fn parse_fields_or_method(
 }
 
 // A member with a type, behind the type's first token.
-#[tactic(auto, unfolding(ss_programs::specs::Parser::typed))]
+#[tactic(auto, unfolding(ss_grammar_programs::specs::Parser::typed))]
 fn parse_typed(
     alloc: Global,
     depth: u32,
@@ -201,7 +201,7 @@ fn parse_typed(
 }
 
 // A method without a result, behind `void`.
-#[tactic(auto, unfolding(ss_programs::specs::Parser::void_method))]
+#[tactic(auto, unfolding(ss_grammar_programs::specs::Parser::void_method))]
 fn parse_void_method(
     alloc: Global,
     depth: u32,
@@ -215,7 +215,7 @@ fn parse_void_method(
 }
 
 // A member that begins with this name.
-#[tactic(auto, unfolding(ss_programs::specs::Parser::name_first))]
+#[tactic(auto, unfolding(ss_grammar_programs::specs::Parser::name_first))]
 fn parse_name_first(
     alloc: Global,
     depth: u32,
@@ -237,7 +237,7 @@ fn parse_name_first(
 }
 
 // What a member is, behind its attributes and words.
-#[tactic(auto, unfolding(ss_programs::specs::Parser::member_kind, ss_programs::specs::Parser::kind_behind))]
+#[tactic(auto, unfolding(ss_grammar_programs::specs::Parser::member_kind, ss_grammar_programs::specs::Parser::kind_behind))]
 fn parse_kind(alloc: Global, depth: u32, tokens: &[Token]) -> Result<(MemberKind, &[Token]), Stop>
     ensures gives { Gives (λ x. (member_kind_tree x.0, pieces x.1.now)) result (member_kind depth (pieces tokens.now)) }
     ensures fewer { IfOk result (λ x. length x.1.now < length tokens.now) }
@@ -290,7 +290,7 @@ fn add_modifier(modifiers: &mut Vec<Modifier>, said: Option<Modifier>) -> Result
 }
 
 // The words before a member, of which access words leave no trace.
-#[tactic(auto, unfolding(ss_programs::specs::Parser::words))]
+#[tactic(auto, unfolding(ss_grammar_programs::specs::Parser::words))]
 fn parse_modifiers(alloc: Global, tokens: &[Token]) -> Result<(Vec<Modifier>, &[Token]), Stop>
     ensures gives { Gives (λ x. (x.0.items, pieces x.1.now)) result (words (pieces tokens.now)) }
     ensures fewer { IfOk result (λ x. length x.1.now ≤ length tokens.now) }
@@ -304,7 +304,7 @@ fn parse_modifiers(alloc: Global, tokens: &[Token]) -> Result<(Vec<Modifier>, &[
     Ok((modifiers, rest))
 }
 
-#[tactic(auto, unfolding(ss_programs::specs::Parser::member))]
+#[tactic(auto, unfolding(ss_grammar_programs::specs::Parser::member))]
 fn parse_member(alloc: Global, depth: u32, tokens: &[Token]) -> Result<(Member, &[Token]), Stop>
     ensures gives { Gives (λ x. (member_tree x.0, pieces x.1.now)) result (member depth (pieces tokens.now)) }
     ensures fewer { IfOk result (λ x. length x.1.now < length tokens.now) }
@@ -339,7 +339,7 @@ fn next_member(
 }
 
 /// The members that stand here.
-#[tactic(auto, unfolding(ss_programs::specs::Parser::members))]
+#[tactic(auto, unfolding(ss_grammar_programs::specs::Parser::members))]
 pub fn parse_members(
     alloc: Global,
     depth: u32,

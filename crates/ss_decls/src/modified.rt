@@ -5,23 +5,23 @@ ghost use Rattle.ss_ast.specs.Expressions.{expr_tree};
 ghost use Rattle.ss_ast.specs.Programs.{modified_tree};
 ghost use Rattle.ss_grammar.specs.Reading.{times, one_more};
 ghost use Rattle.ss_grammar.specs.Stops.{Gives, GivesMore};
-ghost use Rattle.ss_syntax.specs.Heads.{is, the, pieces, postfix_head};
-ghost use Rattle.ss_programs.specs.Again.{another};
-ghost use Rattle.ss_programs.specs.Grammar.{push_behind};
-ghost use Rattle.ss_programs.specs.Parser.{dot_step, index_step, call_step, step, modified_from, modified_term, modifies};
+ghost use Rattle.ss_grammar_expressions.specs.Heads.{is, the, pieces, postfix_head};
+ghost use Rattle.ss_grammar_programs.specs.Again.{another};
+ghost use Rattle.ss_grammar_programs.specs.Grammar.{push_behind};
+ghost use Rattle.ss_grammar_programs.specs.Parser.{dot_step, index_step, call_step, step, modified_from, modified_term, modifies};
 ghost use Rattle.ss_decls.specs.View.{step_of};
 
 use ss_ast::{Expr, Modified, Postfix, Symbol, Token, TokenKind};
 use ss_core::Place;
 use ss_grammar::fault::{Fault, Stop};
-use ss_parser::arguments::{parse_args_end, parse_index_end};
-use ss_parser::build;
-use ss_parser::heads::{expect, expect_name};
-use ss_statements::posts::parse_prim;
+use ss_parser_expressions::arguments::{parse_args_end, parse_index_end};
+use ss_parser_expressions::build;
+use ss_parser_expressions::heads::{expect, expect_name};
+use ss_parser::posts::parse_prim;
 use std::alloc::Global;
 
 /// What stands behind a path in a term.
-#[derive(Debug, Drop)]
+#[derive(Drop)]
 pub enum TermStep {
     Postfix(Postfix),
     /// `.*`
@@ -31,7 +31,7 @@ pub enum TermStep {
 }
 
 // What is behind a `.`.
-#[tactic(auto, unfolding(ss_programs::specs::Parser::dot_step, ss_programs::specs::Parser::all_step, ss_programs::specs::Parser::member_step))]
+#[tactic(auto, unfolding(ss_grammar_programs::specs::Parser::dot_step, ss_grammar_programs::specs::Parser::all_step, ss_grammar_programs::specs::Parser::member_step))]
 fn parse_dot_step(tokens: &[Token]) -> Result<(TermStep, &[Token]), Stop>
     ensures gives { Gives (λ x. (step_of x.0, pieces x.1.now)) result (dot_step (pieces tokens.now)) }
     ensures fewer { IfOk result (λ x. length x.1.now ≤ length tokens.now) }
@@ -52,7 +52,7 @@ fn parse_dot_step(tokens: &[Token]) -> Result<(TermStep, &[Token]), Stop>
 }
 
 // What is behind a `[`.
-#[tactic(auto, unfolding(ss_programs::specs::Parser::index_step, ss_programs::specs::Parser::elements_step, ss_programs::specs::Parser::element_step))]
+#[tactic(auto, unfolding(ss_grammar_programs::specs::Parser::index_step, ss_grammar_programs::specs::Parser::elements_step, ss_grammar_programs::specs::Parser::element_step))]
 fn parse_index_step(
     alloc: Global,
     depth: u32,
@@ -81,7 +81,7 @@ fn parse_index_step(
 }
 
 // What is behind a `(`.
-#[tactic(auto, unfolding(ss_programs::specs::Parser::call_step))]
+#[tactic(auto, unfolding(ss_grammar_programs::specs::Parser::call_step))]
 fn parse_call_step(
     alloc: Global,
     depth: u32,
@@ -96,7 +96,7 @@ fn parse_call_step(
 }
 
 // What stands behind a path, where something does.
-#[tactic(auto, unfolding(ss_programs::specs::Parser::step, ss_programs::specs::Parser::step_behind))]
+#[tactic(auto, unfolding(ss_grammar_programs::specs::Parser::step, ss_grammar_programs::specs::Parser::step_behind))]
 fn next_step(
     alloc: Global,
     depth: u32,
@@ -127,7 +127,7 @@ fn next_step(
 }
 
 // The term that begins with `first` at this place.
-#[tactic(auto, unfolding(ss_programs::specs::Parser::modified_from, ss_programs::specs::Parser::steps))]
+#[tactic(auto, unfolding(ss_grammar_programs::specs::Parser::modified_from, ss_grammar_programs::specs::Parser::steps))]
 fn parse_modified_from(
     alloc: Global,
     depth: u32,
@@ -158,7 +158,7 @@ fn parse_modified_from(
     Ok((Modified::One(path), rest))
 }
 
-#[tactic(auto, unfolding(ss_programs::specs::Parser::modified_term))]
+#[tactic(auto, unfolding(ss_grammar_programs::specs::Parser::modified_term))]
 fn parse_modified(alloc: Global, depth: u32, tokens: &[Token]) -> Result<(Modified, &[Token]), Stop>
     ensures gives { Gives (λ x. (modified_tree x.0, pieces x.1.now)) result (modified_term depth (pieces tokens.now)) }
     ensures fewer { IfOk result (λ x. length x.1.now ≤ length tokens.now) }
@@ -212,7 +212,7 @@ fn parse_more_modified(
 }
 
 /// The terms of a clause.
-#[tactic(auto, unfolding(ss_programs::specs::Parser::modifies))]
+#[tactic(auto, unfolding(ss_grammar_programs::specs::Parser::modifies))]
 pub fn parse_modifies(
     alloc: Global,
     depth: u32,

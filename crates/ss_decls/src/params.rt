@@ -5,26 +5,31 @@ ghost use Rattle.ss_ast.specs.Expressions.{name_tree};
 ghost use Rattle.ss_ast.specs.Programs.{param_tree};
 ghost use Rattle.ss_grammar.specs.Reading.{times, one_more};
 ghost use Rattle.ss_grammar.specs.Stops.{Gives, GivesMore};
-ghost use Rattle.ss_syntax.specs.First.{tokened};
-ghost use Rattle.ss_syntax.specs.Heads.{the, pieces};
-ghost use Rattle.ss_programs.specs.Grammar.{push_behind};
-ghost use Rattle.ss_programs.specs.Parser.{attribute_end, attribute, attributes, parameter, params, some_params, params_end, parameters};
+ghost use Rattle.ss_grammar_expressions.specs.First.{tokened};
+ghost use Rattle.ss_grammar_expressions.specs.Heads.{the, pieces};
+ghost use Rattle.ss_grammar_programs.specs.Grammar.{push_behind};
+ghost use Rattle.ss_grammar_programs.specs.Parser.{attribute_end, attribute, attributes, parameter, params, some_params, params_end, parameters};
 
 use ss_ast::{Name, Param, Symbol, Token, TokenKind};
+use ss_core::Place;
 use ss_grammar::fault::{Fault, Stop};
-use ss_parser::heads::{expect, expect_name};
-use ss_parser::types::parse_type;
+use ss_parser_expressions::heads::{expect, expect_name};
+use ss_parser_expressions::types::parse_type;
 use std::alloc::Global;
 
-// What is behind the `[` of an attribute.
-#[tactic(auto, unfolding(ss_programs::specs::Parser::attribute_end))]
-fn parse_attribute_end(tokens: &[Token]) -> Result<(Name, &[Token]), Stop>
-    ensures gives { Gives (λ x. (name_tree x.0, pieces x.1.now)) result (attribute_end (pieces tokens.now)) }
+// What is behind the `[` of an attribute, which stands at `place`.
+#[tactic(auto, unfolding(ss_grammar_programs::specs::Parser::attribute_end))]
+fn parse_attribute_end(place: Place, tokens: &[Token]) -> Result<(Name, &[Token]), Stop>
+    ensures gives { Gives (λ x. (name_tree x.0, pieces x.1.now)) result (attribute_end place (pieces tokens.now)) }
     ensures fewer { IfOk result (λ x. length x.1.now < length tokens.now) }
 {
     let (name, rest) = expect_name(tokens)?;
     let (_, rest) = expect(rest, Symbol::CloseBracket)?;
-    Ok((name, rest))
+    let attribute = Name {
+        text: name.text,
+        place,
+    };
+    Ok((attribute, rest))
 }
 
 // An attribute, where one begins.
@@ -36,21 +41,21 @@ fn next_attribute(depth: u32, tokens: &[Token]) -> Result<Option<(Name, &[Token]
         [
             Token {
                 kind: TokenKind::Symbol(Symbol::OpenBracket),
-                ..
+                place,
             },
             rest @ ..,
         ] => {
             if depth == 0 {
                 return Err(Stop::Fault(Fault::TooDeep, tokens.len()));
             }
-            Ok(Some(parse_attribute_end(rest)?))
+            Ok(Some(parse_attribute_end(*place, rest)?))
         }
         _ => Ok(None),
     }
 }
 
-/// The attributes that stand here.
-#[tactic(auto, unfolding(ss_programs::specs::Parser::attributes))]
+/// The attributes that stand here, each a name at the place of its `[`.
+#[tactic(auto, unfolding(ss_grammar_programs::specs::Parser::attributes))]
 pub fn parse_attributes(
     alloc: Global,
     depth: u32,
@@ -68,7 +73,7 @@ pub fn parse_attributes(
     Ok((names, rest))
 }
 
-#[tactic(auto, unfolding(ss_programs::specs::Parser::parameter, ss_programs::specs::Parser::full_type))]
+#[tactic(auto, unfolding(ss_grammar_programs::specs::Parser::parameter, ss_grammar_programs::specs::Parser::full_type))]
 fn parse_param(alloc: Global, depth: u32, tokens: &[Token]) -> Result<(Param, &[Token]), Stop>
     ensures gives { Gives (λ x. (param_tree x.0, pieces x.1.now)) result (parameter depth (pieces tokens.now)) }
     ensures fewer { IfOk result (λ x. length x.1.now < length tokens.now) }
@@ -125,7 +130,7 @@ fn parse_more_params(
     Ok((params, rest))
 }
 
-#[tactic(auto, unfolding(ss_programs::specs::Parser::params))]
+#[tactic(auto, unfolding(ss_grammar_programs::specs::Parser::params))]
 fn parse_params(alloc: Global, depth: u32, tokens: &[Token]) -> Result<(Vec<Param>, &[Token]), Stop>
     ensures gives { Gives (λ x. (map param_tree x.0.items, pieces x.1.now)) result (params depth (pieces tokens.now)) }
     ensures fewer { IfOk result (λ x. length x.1.now ≤ length tokens.now) }
@@ -136,7 +141,7 @@ fn parse_params(alloc: Global, depth: u32, tokens: &[Token]) -> Result<(Vec<Para
     parse_more_params(alloc, depth, params, rest)
 }
 
-#[tactic(auto, unfolding(ss_programs::specs::Parser::some_params))]
+#[tactic(auto, unfolding(ss_grammar_programs::specs::Parser::some_params))]
 fn parse_some_params(
     alloc: Global,
     depth: u32,
@@ -151,7 +156,7 @@ fn parse_some_params(
 }
 
 // Parameters, or none, and `)`.
-#[tactic(auto, unfolding(ss_programs::specs::Parser::params_end))]
+#[tactic(auto, unfolding(ss_grammar_programs::specs::Parser::params_end))]
 fn parse_params_end(
     alloc: Global,
     depth: u32,
@@ -173,7 +178,7 @@ fn parse_params_end(
 }
 
 /// Parameters, or none, between `(` and `)`.
-#[tactic(auto, unfolding(ss_programs::specs::Parser::parameters))]
+#[tactic(auto, unfolding(ss_grammar_programs::specs::Parser::parameters))]
 pub fn parse_parameters(
     alloc: Global,
     depth: u32,

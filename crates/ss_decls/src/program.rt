@@ -2,17 +2,17 @@
 
 ghost use Rattle.std.specs.Prelude.{◌≡◌, ◌<◌, length, option_map, IfSome};
 ghost use Rattle.ss_grammar.specs.Reading.{seen};
-ghost use Rattle.ss_syntax.specs.Heads.{pieces};
-ghost use Rattle.ss_parser.specs.Answer.{first_place};
-ghost use Rattle.ss_programs.specs.Heads.{the_end};
+ghost use Rattle.ss_grammar_expressions.specs.Heads.{pieces};
+ghost use Rattle.ss_parser_expressions.specs.Answer.{first_place};
+ghost use Rattle.ss_grammar_programs.specs.Heads.{the_end};
 ghost use Rattle.ss_decls.specs.Answer.{ProgramAnswer};
 
 use crate::classes::parse_declarations;
 use ss_ast::{Program, Symbol, Token, TokenKind};
 use ss_core::{FrontStop, Place};
 use ss_grammar::fault::Stop;
-use ss_parser::heads::next_symbol;
-use ss_parser::refusal::refused;
+use ss_parser_expressions::heads::next_symbol;
+use ss_parser_expressions::refusal::refused;
 use std::alloc::Global;
 
 // How deep brackets, statements and operands nest.

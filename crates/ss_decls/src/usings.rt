@@ -4,16 +4,16 @@ ghost use Rattle.std.specs.Prelude.{◌≡◌, ◌<◌, ◌≤◌, length, IfOk,
 ghost use Rattle.ss_ast.specs.declared.token.Word.TheVariants as word;
 ghost use Rattle.ss_grammar.specs.Reading.{one_more};
 ghost use Rattle.ss_grammar.specs.Stops.{GivesRest, GivesMore};
-ghost use Rattle.ss_syntax.specs.Heads.{the, the_word, pieces};
-ghost use Rattle.ss_programs.specs.Parser.{accesses, skipped_name, dotted, using_end, usings};
+ghost use Rattle.ss_grammar_expressions.specs.Heads.{the, the_word, pieces};
+ghost use Rattle.ss_grammar_programs.specs.Parser.{accesses, skipped_name, dotted, using_end, usings};
 
 use crate::heads::next_access;
 use ss_ast::{Symbol, Token, TokenKind, Word};
 use ss_grammar::fault::{Fault, Stop};
-use ss_parser::heads::expect;
+use ss_parser_expressions::heads::expect;
 
 /// What is behind the access words that stand here.
-#[tactic(auto, unfolding(ss_programs::specs::Parser::accesses))]
+#[tactic(auto, unfolding(ss_grammar_programs::specs::Parser::accesses))]
 pub fn skip_accesses(tokens: &[Token]) -> &[Token]
     ensures reads { accesses (pieces tokens.now) ≡ Ok (tt, pieces result.now) }
     ensures fewer { length result.now ≤ length tokens.now }
@@ -26,7 +26,7 @@ pub fn skip_accesses(tokens: &[Token]) -> &[Token]
 }
 
 // What is behind a name.
-#[tactic(auto, unfolding(ss_programs::specs::Parser::skipped_name))]
+#[tactic(auto, unfolding(ss_grammar_programs::specs::Parser::skipped_name))]
 fn skip_name(tokens: &[Token]) -> Result<&[Token], Stop>
     ensures gives { GivesRest (λ x. pieces x.now) result (skipped_name (pieces tokens.now)) }
     ensures fewer { IfOk result (λ x. length x.now < length tokens.now) }
@@ -60,7 +60,7 @@ fn skip_dot(tokens: &[Token]) -> Result<Option<&[Token]>, Stop>
     }
 }
 
-#[tactic(auto, unfolding(ss_programs::specs::Parser::dotted))]
+#[tactic(auto, unfolding(ss_grammar_programs::specs::Parser::dotted))]
 fn skip_dotted(tokens: &[Token]) -> Result<&[Token], Stop>
     ensures gives { GivesRest (λ x. pieces x.now) result (dotted (pieces tokens.now)) }
     ensures fewer { IfOk result (λ x. length x.now ≤ length tokens.now) }
@@ -73,7 +73,7 @@ fn skip_dotted(tokens: &[Token]) -> Result<&[Token], Stop>
 }
 
 // What is behind `using`.
-#[tactic(auto, unfolding(ss_programs::specs::Parser::using_end))]
+#[tactic(auto, unfolding(ss_grammar_programs::specs::Parser::using_end))]
 fn skip_using_end(tokens: &[Token]) -> Result<&[Token], Stop>
     ensures gives { GivesRest (λ x. pieces x.now) result (using_end (pieces tokens.now)) }
     ensures fewer { IfOk result (λ x. length x.now < length tokens.now) }
@@ -102,7 +102,7 @@ fn skip_using(tokens: &[Token]) -> Result<Option<&[Token]>, Stop>
 }
 
 /// What is behind the `using` lines that stand here.
-#[tactic(auto, unfolding(ss_programs::specs::Parser::usings))]
+#[tactic(auto, unfolding(ss_grammar_programs::specs::Parser::usings))]
 pub fn skip_usings(tokens: &[Token]) -> Result<&[Token], Stop>
     ensures gives { GivesRest (λ x. pieces x.now) result (usings (pieces tokens.now)) }
     ensures fewer { IfOk result (λ x. length x.now ≤ length tokens.now) }

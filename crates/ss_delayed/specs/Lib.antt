@@ -1,4 +1,4 @@
-pub mod Escapes
-pub mod Opening
-pub mod Constructors
-pub mod Program
+pub mod Parts
+pub mod Walked
+pub mod Openings
+pub mod Implied

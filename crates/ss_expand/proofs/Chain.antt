@@ -4,8 +4,8 @@ use Rattle.std.specs.Prelude.{filter_map, if◌then◌else◌, option_and_then}
 use Rattle.std.specs.Option.{option_to_list}
 use Rattle.std.proofs.lemmas.List.{append-nil, map-append, reverse-append}
 use Rattle.std.proofs.lemmas.List.Elements.{filter_map-append}
-use Rattle.ss_classes.specs.Tree.{ClassTree}
-use Rattle.ss_classes.specs.Chain.{above, level_above, levels_from, most_levels, levels}
+use Rattle.ss_core.specs.Tree.{ClassTree}
+use Rattle.ss_core.specs.Chain.{above, level_above, levels_from, most_levels, levels}
 use Rattle.ss_expand.specs.Declaring.{levels_at}
 
 above_or_none : (b : Bool) (cs : List ClassTree) (n t : ℕ) → (if b then [] else levels_from cs n t) ≡ levels_at cs n (if b then None else Some t)

@@ -3,20 +3,20 @@ use Rattle.std.proofs.Common.{◌≡◌, ℕ, List, [], ◌∷◌, ◌++◌, map
 use Rattle.std.proofs.lemmas.List.{append-nil}
 use Rattle.std.specs.Prelude.{if◌then◌else◌, ◌&&◌}
 use Rattle.ss_core.specs.declared.names.Place.{Place}
-use Rattle.ss_classes.specs.declared.names.Ty.{Ty}
-use Rattle.ss_classes.specs.Tree as core
-use Rattle.ss_classes.specs.Tree.{LocalExpr, IfStmt, LoopStmt, UnpackStmt}
-use Rattle.ss_classes.specs.View.{code_of}
+use Rattle.ss_core.specs.declared.names.Ty.{Ty}
+use Rattle.ss_core.specs.Tree as core
+use Rattle.ss_core.specs.Tree.{LocalExpr, IfStmt, LoopStmt, UnpackStmt}
+use Rattle.ss_core.specs.View.{code_of}
 use Rattle.ss_typed.specs.Tree.{ExprTree, SimpleTree, StmtTree, ExposeOf, BlockTree, StmtTrees, Before}
-use Rattle.ss_elab.specs.Numbers.{all_plain}
-use Rattle.ss_elab.specs.Calls.{place_of}
-use Rattle.ss_elab.specs.Code.{Coded, nothing, after, then_code}
-use Rattle.ss_elab.specs.Lifting.{Opened, Setting, Valued, next, right_side}
-use Rattle.ss_elab.specs.Ends.{can_end, block_can_end, all_can_end}
-use Rattle.ss_elab.specs.Statements as statements
-use Rattle.ss_elab.specs.Statements.{branch, exposed, exposed_class, loop_from, loop_while, pack_of, leave_with, leave_value, packs, within, stmt, stmts, block}
-use Rattle.ss_plain.specs.Operands.{valued_as}
-use Rattle.ss_plain.specs.Sources.{valued_behind}
+use Rattle.ss_expand_rules.specs.Numbers.{all_plain}
+use Rattle.ss_expand_rules.specs.Calls.{place_of}
+use Rattle.ss_expand_rules.specs.Code.{Coded, nothing, after, then_code}
+use Rattle.ss_expand_rules.specs.Lifting.{Opened, Setting, Valued, next, right_side}
+use Rattle.ss_expand_rules.specs.Ends.{can_end, block_can_end, all_can_end}
+use Rattle.ss_expand_rules.specs.Statements as statements
+use Rattle.ss_expand_rules.specs.Statements.{branch, exposed, exposed_class, loop_from, loop_while, pack_of, leave_with, leave_value, packs, within, stmt, stmts, block}
+use Rattle.ss_expand_expressions.specs.Operands.{valued_as}
+use Rattle.ss_expand_expressions.specs.Sources.{valued_behind}
 use Rattle.ss_expand.specs.Returns.{returned_in}
 use Rattle.ss_expand.specs.Loops.{tested, turn_of}
 use Rattle.ss_expand.specs.Opening.{opened_by, object_of, opening}

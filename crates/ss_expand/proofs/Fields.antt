@@ -1,9 +1,9 @@
 -- The fields before those of a class.
 use Rattle.std.proofs.Common.{◌≡◌, ℕ, ◌+◌, List, [], ◌∷◌, ◌++◌, map, length, Bool, true, false, ap, sym, arith, eqb, true≢false}
 use Rattle.std.specs.Prelude.{if◌then◌else◌}
-use Rattle.ss_classes.specs.Chain.{DeclaredField, in_class}
-use Rattle.ss_classes.specs.Tree as core
-use Rattle.ss_elab.specs.Constructors.{fields_before}
+use Rattle.ss_core.specs.Chain.{DeclaredField, in_class}
+use Rattle.ss_core.specs.Tree as core
+use Rattle.ss_expand_rules.specs.Constructors.{fields_before}
 use Rattle.ss_expand.specs.Constructing.{declares_some}
 
 pub none_before : (n t : ℕ) (fs : List core.FieldTree) (rest : List DeclaredField) → declares_some n t fs ≡ true → fields_before t (map (in_class n) fs ++ rest) ≡ 0

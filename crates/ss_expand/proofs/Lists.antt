@@ -4,20 +4,20 @@ use Rattle.std.specs.Prelude.{if◌then◌else◌, not, ◌&&◌}
 use Rattle.std.specs.List.{prefix_len}
 use Rattle.std.proofs.lemmas.List.{append-nil, take_all, length-drop}
 use Rattle.ss_ast.specs.declared.stmt.AssignOperator.TheVariants as operator
-use Rattle.ss_classes.specs.declared.names.Ty.{Ty}
-use Rattle.ss_classes.specs.Chain.{DeclaredField, all_fields}
-use Rattle.ss_classes.specs.Tree.{ReturnStmt}
+use Rattle.ss_core.specs.declared.names.Ty.{Ty}
+use Rattle.ss_core.specs.Chain.{DeclaredField, all_fields}
+use Rattle.ss_core.specs.Tree.{ReturnStmt}
 use Rattle.ss_typed.specs.Tree as typed
 use Rattle.ss_typed.specs.Tree.{ExprTree, FieldOf, AssignOf, SimpleOf, ReturnOf, StmtTree, StmtTrees, NoMore, Before, stmt_trees, FieldTree, MembersTree, TypedTree}
-use Rattle.ss_elab.specs.Calls.{is_this, mentions_this}
-use Rattle.ss_elab.specs.Program.{field_at, members_of}
-use Rattle.ss_elab.specs.Code.{Coded, nothing, after, then_code}
-use Rattle.ss_elab.specs.Lifting.{Setting}
-use Rattle.ss_elab.specs.Simple.{base_call}
-use Rattle.ss_elab.specs.Ends.{can_end, all_can_end}
-use Rattle.ss_elab.specs.Constructors.{before_all, closing_brace, initialize, initializers_from, initializers_in, initializers, fields_before, is_declared_in, is_initial, behind_initial, base_alone}
-use Rattle.ss_elab.specs.Bodies.{with_return}
-use Rattle.ss_elab.specs.Statements.{packs, stmt, stmts}
+use Rattle.ss_expand_rules.specs.Calls.{is_this, mentions_this}
+use Rattle.ss_expand_rules.specs.Program.{field_at, members_of}
+use Rattle.ss_expand_rules.specs.Code.{Coded, nothing, after, then_code}
+use Rattle.ss_expand_rules.specs.Lifting.{Setting}
+use Rattle.ss_expand_rules.specs.Simple.{base_call}
+use Rattle.ss_expand_rules.specs.Ends.{can_end, all_can_end}
+use Rattle.ss_expand_rules.specs.Constructors.{before_all, closing_brace, initialize, initializers_from, initializers_in, initializers, fields_before, is_declared_in, is_initial, behind_initial, base_alone}
+use Rattle.ss_expand_rules.specs.Bodies.{with_return}
+use Rattle.ss_expand_rules.specs.Statements.{packs, stmt, stmts}
 use Rattle.ss_expand.specs.Constructing.{own_field, is_own_field}
 use Rattle.ss_expand.specs.Written.{last_return_of}
 use Rattle.ss_expand.proofs.Codes.{Code, coded, one_then}

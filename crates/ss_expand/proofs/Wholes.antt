@@ -1,9 +1,9 @@
 -- Bodies of equal parts.
 use Rattle.std.proofs.Common.{◌≡◌, ℕ, List, Option, ap, ◌∙◌}
 use Rattle.ss_core.specs.declared.names.Place.{Place}
-use Rattle.ss_classes.specs.declared.names.Ty.{Ty}
-use Rattle.ss_classes.specs.declared.body.BodyFlags.{BodyFlags}
-use Rattle.ss_classes.specs.Tree as core
+use Rattle.ss_core.specs.declared.names.Ty.{Ty}
+use Rattle.ss_core.specs.declared.body.BodyFlags.{BodyFlags}
+use Rattle.ss_core.specs.Tree as core
 
 abbrev pub body_with : ℕ → List ℕ → List core.LocalTree → List core.LocalTree → Option Ty → List core.ExprTree → List core.ExprTree → List core.NamedTree → BodyFlags → core.CodeTree → Place → core.BodyTree
 body_with class name params locals result entry exit named flags code place = record {

@@ -1,10 +1,10 @@
 -- The statements of a constructor.
 use Rattle.std.specs.Prelude.{ℕ, ◌==◌, List, [], ◌∷◌, Bool, false, if◌then◌else◌, Option, Some, None}
-use Rattle.ss_classes.specs.Tree as core
+use Rattle.ss_core.specs.Tree as core
 use Rattle.ss_typed.specs.Tree.{ExprTree, FieldOf, StmtTree, StmtTrees, Before, BodyTree, TypedTree}
-use Rattle.ss_elab.specs.Calls.{is_this}
-use Rattle.ss_elab.specs.Program.{field_at}
-use Rattle.ss_elab.specs.Constructors.{is_declared_in, before_all, behind_initial, initializers, with_base}
+use Rattle.ss_expand_rules.specs.Calls.{is_this}
+use Rattle.ss_expand_rules.specs.Program.{field_at}
+use Rattle.ss_expand_rules.specs.Constructors.{is_declared_in, before_all, behind_initial, initializers, with_base}
 
 -- the field of `this` that is assigned so
 abbrev pub own_field : ExprTree → Option ℕ

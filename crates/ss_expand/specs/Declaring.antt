@@ -1,7 +1,7 @@
 -- The levels of a class, where there is one.
 use Rattle.std.specs.Prelude.{ℕ, List, [], Option, Some, None}
-use Rattle.ss_classes.specs.Tree.{ClassTree}
-use Rattle.ss_classes.specs.Chain.{levels_from}
+use Rattle.ss_core.specs.Tree.{ClassTree}
+use Rattle.ss_core.specs.Chain.{levels_from}
 
 -- this level and those above it, at most n of them
 abbrev pub levels_at : List ClassTree → ℕ → Option ℕ → List ℕ

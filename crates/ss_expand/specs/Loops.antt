@@ -1,13 +1,13 @@
 -- The test of a loop.
 use Rattle.std.specs.Prelude.{List, [], true, if◌then◌else◌, Option, Some, None}
 use Rattle.ss_core.specs.declared.names.Place.{Place}
-use Rattle.ss_classes.specs.declared.names.Ty.{Ty}
-use Rattle.ss_classes.specs.Tree.{BoolExpr}
+use Rattle.ss_core.specs.declared.names.Ty.{Ty}
+use Rattle.ss_core.specs.Tree.{BoolExpr}
 use Rattle.ss_typed.specs.Tree.{ExprTree, SimpleTree, StmtTree}
-use Rattle.ss_elab.specs.Code.{Coded, nothing, then_code}
-use Rattle.ss_elab.specs.Ends.{can_end}
-use Rattle.ss_elab.specs.Lifting.{Setting, Valued, value}
-use Rattle.ss_elab.specs.Statements.{stmt, advance}
+use Rattle.ss_expand_rules.specs.Code.{Coded, nothing, then_code}
+use Rattle.ss_expand_rules.specs.Ends.{can_end}
+use Rattle.ss_expand_rules.specs.Lifting.{Setting, Valued, value}
+use Rattle.ss_expand_rules.specs.Statements.{stmt, advance}
 
 -- without one it is `true`
 abbrev pub tested : Setting → Place → Option ExprTree → List Ty → Valued

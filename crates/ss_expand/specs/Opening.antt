@@ -1,14 +1,14 @@
 -- The beginning of an `expose`.
 use Rattle.std.specs.Prelude.{ℕ, List, [], ◌∷◌, ◌++◌, Option}
 use Rattle.ss_core.specs.declared.names.Place.{Place}
-use Rattle.ss_classes.specs.declared.names.Ty.{Ty}
-use Rattle.ss_classes.specs.Tree.{UnpackStmt}
+use Rattle.ss_core.specs.declared.names.Ty.{Ty}
+use Rattle.ss_core.specs.Tree.{UnpackStmt}
 use Rattle.ss_typed.specs.Tree.{ExprTree}
 use Rattle.ss_typed.specs.Types.{type_of}
-use Rattle.ss_elab.specs.Calls.{place_of}
-use Rattle.ss_elab.specs.Code.{Coded}
-use Rattle.ss_elab.specs.Lifting.{Opened, Setting, Lifted, Valued, next, temporary_type, any_object, in_temporary, right_side}
-use Rattle.ss_elab.specs.Statements.{exposed_class, opened}
+use Rattle.ss_expand_rules.specs.Calls.{place_of}
+use Rattle.ss_expand_rules.specs.Code.{Coded}
+use Rattle.ss_expand_rules.specs.Lifting.{Opened, Setting, Lifted, Valued, next, temporary_type, any_object, in_temporary, right_side}
+use Rattle.ss_expand_rules.specs.Statements.{exposed_class, opened}
 
 -- the `expose` of the object that is lifted so
 abbrev pub opened_with : Setting → Place → ℕ → Lifted → Opened

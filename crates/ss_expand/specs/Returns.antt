@@ -1,9 +1,9 @@
 -- The value of a return.
 use Rattle.std.specs.Prelude.{List, [], ◌∷◌}
-use Rattle.ss_classes.specs.declared.names.Ty.{Ty}
+use Rattle.ss_core.specs.declared.names.Ty.{Ty}
 use Rattle.ss_typed.specs.Tree.{ExprTree}
-use Rattle.ss_elab.specs.Lifting.{Opened, Setting, Valued, right_side, value}
-use Rattle.ss_elab.specs.Statements.{kept_result}
+use Rattle.ss_expand_rules.specs.Lifting.{Opened, Setting, Valued, right_side, value}
+use Rattle.ss_expand_rules.specs.Statements.{kept_result}
 
 -- where these exposes stand around it, it is in a temporary
 abbrev pub returned_in : List Opened → Setting → ExprTree → List Ty → Valued

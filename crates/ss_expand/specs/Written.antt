@@ -1,12 +1,12 @@
 -- The statements of a body, and its last return.
 use Rattle.std.specs.Prelude.{Bool, List, [], ◌∷◌, ◌++◌, if◌then◌else◌, Option, Some, None}
-use Rattle.ss_classes.specs.declared.names.Ty.{Ty}
-use Rattle.ss_classes.specs.Tree as core
-use Rattle.ss_classes.specs.Tree.{ReturnStmt}
+use Rattle.ss_core.specs.declared.names.Ty.{Ty}
+use Rattle.ss_core.specs.Tree as core
+use Rattle.ss_core.specs.Tree.{ReturnStmt}
 use Rattle.ss_typed.specs.Tree.{StmtTrees, BodyTree, TypedTree}
-use Rattle.ss_elab.specs.Lifting.{Setting}
-use Rattle.ss_elab.specs.Constructors.{in_block, closing_brace, constructor_stmts}
-use Rattle.ss_elab.specs.Statements.{packs}
+use Rattle.ss_expand_rules.specs.Lifting.{Setting}
+use Rattle.ss_expand_rules.specs.Constructors.{in_block, closing_brace, constructor_stmts}
+use Rattle.ss_expand_rules.specs.Statements.{packs}
 
 -- without the last return
 abbrev pub own_stmts : TypedTree → BodyTree → StmtTrees

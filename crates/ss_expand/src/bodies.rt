@@ -1,36 +1,35 @@
 // Bodies that are written.
 
 ghost use Rattle.std.specs.Prelude.{◌≡◌, ◌≤◌, ◌+◌, ◌++◌, ◌∷◌, [], IfOk, OnOk, cond, length, map};
-ghost use Rattle.ss_classes.specs.Chain.{most_classes};
-ghost use Rattle.ss_classes.specs.Tree.{AssignStmt, LocalExpr};
-ghost use Rattle.ss_classes.specs.View as core;
+ghost use Rattle.ss_core.specs.Chain.{most_classes};
+ghost use Rattle.ss_core.specs.Tree.{AssignStmt, LocalExpr};
+ghost use Rattle.ss_core.specs.View as core;
 ghost use Rattle.ss_typed.specs.Tree.{stmt_trees};
 ghost use Rattle.ss_typed.specs.View as typed;
-ghost use Rattle.ss_elab.specs.Bodies as bodies;
-ghost use Rattle.ss_elab.specs.Code.{after};
-ghost use Rattle.ss_elab.specs.Constructors as constructors;
-ghost use Rattle.ss_elab.specs.Ends as ends;
-ghost use Rattle.ss_elab.specs.Numbers as elab;
-ghost use Rattle.ss_elab.specs.Program as elab_program;
-ghost use Rattle.ss_elab.specs.Statements as statements;
-ghost use Rattle.ss_plain.specs.Sources.{stmts_of};
-ghost use Rattle.ss_plain.specs.Views.{numbers_of};
-ghost use Rattle.ss_bodies.specs.Origins.{origin_of};
-ghost use Rattle.ss_lifting.specs.Made.{coded_by};
-ghost use Rattle.ss_lifting.specs.Settings.{setting_of};
+ghost use Rattle.ss_expand_rules.specs.Bodies as bodies;
+ghost use Rattle.ss_expand_rules.specs.Code.{after};
+ghost use Rattle.ss_expand_rules.specs.Constructors as constructors;
+ghost use Rattle.ss_expand_rules.specs.Ends as ends;
+ghost use Rattle.ss_expand_rules.specs.Numbers as elab;
+ghost use Rattle.ss_expand_rules.specs.Program as elab_program;
+ghost use Rattle.ss_expand_rules.specs.Statements as statements;
+ghost use Rattle.ss_expand_expressions.specs.Sources.{stmts_of};
+ghost use Rattle.ss_expand_expressions.specs.Views.{numbers_of};
+ghost use Rattle.ss_expand_bodies.specs.Origins.{origin_of};
+ghost use Rattle.ss_expand_lifting.specs.Made.{coded_by};
+ghost use Rattle.ss_expand_lifting.specs.Settings.{setting_of};
 ghost use Rattle.ss_expand.specs.Written.{own_stmts, last_return};
 
 use crate::constructors::add_constructor;
 use crate::heads::{contract_of, params_of};
 use crate::leaving::leave_empty;
 use crate::statements::add_stmts;
-use ss_bodies::{
+use ss_expand_bodies::{
     Origin, add_copies, add_locals, add_temporaries, core_flags, first_copy, first_param, numbers,
 };
-use ss_classes::{Body, Expr, Local, Stmt, Ty};
-use ss_core::Place;
-use ss_lifting::{Code, Setting};
-use ss_plain::{Numbers, block_assigns};
+use ss_core::{Body, Expr, Local, Place, Stmt, Ty};
+use ss_expand_lifting::{Code, Setting};
+use ss_expand_expressions::{Numbers, assigned_locals};
 use ss_typed::{Typed, TypedBlock, TypedBody, TypedParam, TypedStmt};
 use std::alloc::{AllocError, Global};
 
@@ -168,6 +167,7 @@ fn add_copied(
 
 // Adds the copies of those of these parameters that the block assigns, of which the first has this number.
 fn add_copying(
+    alloc: Global,
     code: &mut Code,
     block: &TypedBlock,
     first_copy: usize,
@@ -176,10 +176,11 @@ fn add_copying(
 ) -> Result<(), AllocError>
     ensures { OnOk result (stmts_of code.new.statements ≡ stmts_of code.old.statements ++ bodies.copying_from (typed.block block.now) first_copy first (map typed.param params.now)) }
 {
+    let assigned = assigned_locals(alloc, block)?;
     let mut copy = first_copy;
     let mut x = first;
     for param in params {
-        copy = add_copied(code, block_assigns(x, block), param.place, copy, x)?;
+        copy = add_copied(code, assigned.has(x), param.place, copy, x)?;
         x = x.checked_add(1).ok_or(AllocError)?;
     }
     Ok(())
@@ -200,6 +201,7 @@ fn write_code(
     let mut code = Code::new(alloc);
     let copy = first_copy(body)?;
     add_copying(
+        alloc,
         &mut code,
         &body.block,
         copy,
@@ -233,7 +235,13 @@ fn locals_of(alloc: Global, body: &TypedBody, types: &[Ty]) -> Result<Vec<Local>
 {
     let mut locals = Vec::new(alloc);
     add_locals(&mut locals, &body.locals)?;
-    add_copies(&mut locals, &body.block, first_param(body), &body.params)?;
+    add_copies(
+        alloc,
+        &mut locals,
+        &body.block,
+        first_param(body),
+        &body.params,
+    )?;
     add_temporaries(alloc, &mut locals, 0, types)?;
     Ok(locals)
 }

@@ -3,20 +3,20 @@
 ghost use Rattle.std.specs.Prelude.{◌≡◌, IfOk, OnOk, true, map, option_map};
 ghost use Rattle.ss_typed.specs.Tree.{Before, stmt_trees};
 ghost use Rattle.ss_typed.specs.View as typed;
-ghost use Rattle.ss_elab.specs.Code.{after};
-ghost use Rattle.ss_elab.specs.Constructors as constructors;
-ghost use Rattle.ss_elab.specs.Ends as ends;
-ghost use Rattle.ss_elab.specs.Statements as statements;
-ghost use Rattle.ss_plain.specs.Sources.{stmts_of};
-ghost use Rattle.ss_lifting.specs.Made.{coded_by};
-ghost use Rattle.ss_lifting.specs.Settings.{setting_of};
+ghost use Rattle.ss_expand_rules.specs.Code.{after};
+ghost use Rattle.ss_expand_rules.specs.Constructors as constructors;
+ghost use Rattle.ss_expand_rules.specs.Ends as ends;
+ghost use Rattle.ss_expand_rules.specs.Statements as statements;
+ghost use Rattle.ss_expand_expressions.specs.Sources.{stmts_of};
+ghost use Rattle.ss_expand_lifting.specs.Made.{coded_by};
+ghost use Rattle.ss_expand_lifting.specs.Settings.{setting_of};
 ghost use Rattle.ss_expand.specs.Constructing.{constructed, with_implied};
 
 use crate::initial::{front_length, has_base_call};
 use crate::initializers::add_initializers;
 use crate::statements::add_stmts;
-use ss_classes::Ty;
-use ss_lifting::{Code, Setting, base_call};
+use ss_core::Ty;
+use ss_expand_lifting::{Code, Setting, base_call};
 use ss_typed::{TypedBase, TypedStmt};
 use std::alloc::{AllocError, Global};
 

@@ -2,14 +2,13 @@
 
 ghost use Rattle.std.specs.Prelude.{◌≡◌, ◌++◌, IfOk, OnOk, map, filter_map, option_and_then, option_map};
 ghost use Rattle.std.specs.Option.{option_to_list};
-ghost use Rattle.ss_classes.specs.Chain.{level_above, levels};
-ghost use Rattle.ss_classes.specs.View as core;
+ghost use Rattle.ss_core.specs.Chain.{level_above, levels};
+ghost use Rattle.ss_core.specs.View as core;
 ghost use Rattle.ss_typed.specs.View as typed;
-ghost use Rattle.ss_elab.specs.Contracts as contracts;
+ghost use Rattle.ss_expand_rules.specs.Contracts as contracts;
 
-use ss_bodies::declared_at;
-use ss_classes::MOST_LEVELS;
-use ss_core::ClassId;
+use ss_expand_bodies::declared_at;
+use ss_core::{ClassId, MOST_LEVELS};
 use ss_typed::{Typed, TypedBody};
 use std::alloc::{AllocError, Global};
 

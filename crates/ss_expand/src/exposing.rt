@@ -1,25 +1,24 @@
 // The beginning and the end of an `expose`.
 
 ghost use Rattle.std.specs.Prelude.{◌≡◌, ◌++◌, ◌∷◌, [], IfOk, OnOk, map, option_map, if◌then◌else◌};
-ghost use Rattle.ss_classes.specs.Tree.{LocalExpr, UnpackStmt};
+ghost use Rattle.ss_core.specs.Tree.{LocalExpr, UnpackStmt};
 ghost use Rattle.ss_typed.specs.View as typed;
-ghost use Rattle.ss_elab.specs.Calls as calls;
-ghost use Rattle.ss_elab.specs.Code.{after};
-ghost use Rattle.ss_elab.specs.Lifting as lifting;
-ghost use Rattle.ss_elab.specs.Statements as statements;
-ghost use Rattle.ss_plain.specs.Operands.{valued_as};
-ghost use Rattle.ss_plain.specs.Sources.{stmts_of, valued_behind};
-ghost use Rattle.ss_bodies.specs.Exposes.{opened_of};
-ghost use Rattle.ss_lifting.specs.Made.{coded_by};
-ghost use Rattle.ss_lifting.specs.Settings.{setting_of};
+ghost use Rattle.ss_expand_rules.specs.Calls as calls;
+ghost use Rattle.ss_expand_rules.specs.Code.{after};
+ghost use Rattle.ss_expand_rules.specs.Lifting as lifting;
+ghost use Rattle.ss_expand_rules.specs.Statements as statements;
+ghost use Rattle.ss_expand_expressions.specs.Operands.{valued_as};
+ghost use Rattle.ss_expand_expressions.specs.Sources.{stmts_of, valued_behind};
+ghost use Rattle.ss_expand_bodies.specs.Exposes.{opened_of};
+ghost use Rattle.ss_expand_lifting.specs.Made.{coded_by};
+ghost use Rattle.ss_expand_lifting.specs.Settings.{setting_of};
 ghost use Rattle.ss_expand.specs.Opening.{opened_by, object_of, opening};
 
 use crate::looping::add_one;
-use ss_bodies::{Opened, pack_of};
-use ss_classes::{Stmt, Ty};
-use ss_core::{ClassId, Place};
-use ss_lifting::{Code, Setting, right_side};
-use ss_plain::{any_object, class_of_type, in_local, next, place_of, temporary_type, type_of};
+use ss_expand_bodies::{Opened, pack_of};
+use ss_core::{ClassId, Place, Stmt, Ty};
+use ss_expand_lifting::{Code, Setting, right_side};
+use ss_expand_expressions::{any_object, class_of_type, in_local, next, place_of, temporary_type, type_of};
 use ss_typed::TypedExpr;
 use std::alloc::{AllocError, Global};
 

@@ -1,21 +1,20 @@
 // The contract and the parameters of a body.
 
 ghost use Rattle.std.specs.Prelude.{◌≡◌, IfOk, map};
-ghost use Rattle.ss_classes.specs.View as core;
+ghost use Rattle.ss_core.specs.View as core;
 ghost use Rattle.ss_typed.specs.View as typed;
-ghost use Rattle.ss_elab.specs.Bodies as bodies;
-ghost use Rattle.ss_elab.specs.Contracts as contracts;
-ghost use Rattle.ss_plain.specs.Views.{numbers_of};
+ghost use Rattle.ss_expand_rules.specs.Bodies as bodies;
+ghost use Rattle.ss_expand_rules.specs.Contracts as contracts;
+ghost use Rattle.ss_expand_expressions.specs.Views.{numbers_of};
 
-use ss_bodies::{add_params, entry_conditions, exit_conditions, named_terms};
-use ss_classes::{Expr, Local, Modifies};
-use ss_core::{ClassId, Place};
-use ss_plain::Numbers;
+use ss_expand_bodies::{add_params, entry_conditions, exit_conditions, named_terms};
+use ss_core::{ClassId, Expr, Local, Modifies, Place};
+use ss_expand_expressions::Numbers;
 use ss_typed::{TypedBody, TypedParam};
 use std::alloc::{AllocError, Global};
 
 /// What a body asks and promises, and what it may change.
-#[derive(Debug, Drop)]
+#[derive(Drop)]
 pub struct Contract {
     pub entry: Vec<Expr>,
     pub exit: Vec<Expr>,

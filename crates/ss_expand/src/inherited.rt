@@ -1,23 +1,22 @@
 // Bodies that a class has of its own for methods that it inherits.
 
 ghost use Rattle.std.specs.Prelude.{◌≡◌, ℕ, IfOk, length, map};
-ghost use Rattle.ss_classes.specs.View as core;
+ghost use Rattle.ss_core.specs.View as core;
 ghost use Rattle.ss_typed.specs.View as typed;
-ghost use Rattle.ss_elab.specs.Bodies as bodies;
-ghost use Rattle.ss_elab.specs.Program as elab_program;
-ghost use Rattle.ss_plain.specs.Sources.{stmts_of};
-ghost use Rattle.ss_plain.specs.Views.{numbers_of};
-ghost use Rattle.ss_bodies.specs.Origins.{origin_of};
+ghost use Rattle.ss_expand_rules.specs.Bodies as bodies;
+ghost use Rattle.ss_expand_rules.specs.Program as elab_program;
+ghost use Rattle.ss_expand_expressions.specs.Sources.{stmts_of};
+ghost use Rattle.ss_expand_expressions.specs.Views.{numbers_of};
+ghost use Rattle.ss_expand_bodies.specs.Origins.{origin_of};
 ghost use Rattle.ss_expand.specs.Inherited.{inherited_code};
 
 use crate::heads::{contract_of, params_of};
-use ss_bodies::{
+use ss_expand_bodies::{
     Origin, above_of, add_temporaries, number_in_table, numbers_from, own_params, wrapper_code,
     wrapper_flags, wrapper_types,
 };
-use ss_classes::{Body, Local, Stmt, Ty};
-use ss_core::{ClassId, Place};
-use ss_plain::Numbers;
+use ss_core::{Body, ClassId, Local, Place, Stmt, Ty};
+use ss_expand_expressions::Numbers;
 use ss_typed::{Typed, TypedBody};
 use std::alloc::{AllocError, Global};
 

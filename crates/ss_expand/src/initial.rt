@@ -2,21 +2,20 @@
 
 ghost use Rattle.std.specs.Prelude.{◌≡◌, ◌≤◌, ◌&&◌, length, take, drop, map, not, true, option_map};
 ghost use Rattle.std.specs.List.{prefix_len};
-ghost use Rattle.ss_classes.specs.Chain.{in_class, most_classes};
-ghost use Rattle.ss_classes.specs.View as core;
+ghost use Rattle.ss_core.specs.Chain.{in_class, most_classes};
+ghost use Rattle.ss_core.specs.View as core;
 ghost use Rattle.ss_typed.specs.Tree.{StmtTree, SimpleOf, Before, stmt_trees};
 ghost use Rattle.ss_typed.specs.View as typed;
-ghost use Rattle.ss_elab.specs.Calls as calls;
-ghost use Rattle.ss_elab.specs.Constructors as constructors;
-ghost use Rattle.ss_elab.specs.Ends as ends;
+ghost use Rattle.ss_expand_rules.specs.Calls as calls;
+ghost use Rattle.ss_expand_rules.specs.Constructors as constructors;
+ghost use Rattle.ss_expand_rules.specs.Ends as ends;
 ghost use Rattle.ss_expand.specs.Constructing as constructing;
 
 use crate::targets::own_field;
 use ss_ast::AssignOperator;
-use ss_bodies::field_at;
-use ss_classes::{Field, FieldId};
-use ss_core::ClassId;
-use ss_plain::mentions_this;
+use ss_expand_bodies::field_at;
+use ss_core::{ClassId, Field, FieldId};
+use ss_expand_expressions::mentions_this;
 use ss_typed::{Typed, TypedBody, TypedExpr, TypedSimple, TypedStmt};
 
 // Whether the statement calls `base(..)`.

@@ -1,22 +1,21 @@
 // The beginnings of fields, at the front of a constructor.
 
 ghost use Rattle.std.specs.Prelude.{◌≡◌, ◌≤◌, ◌+◌, IfOk, OnOk, length, map, option_map};
-ghost use Rattle.ss_classes.specs.Chain.{all_fields, in_class, most_classes};
-ghost use Rattle.ss_classes.specs.View as core;
+ghost use Rattle.ss_core.specs.Chain.{all_fields, in_class, most_classes};
+ghost use Rattle.ss_core.specs.View as core;
 ghost use Rattle.ss_typed.specs.Tree.{StmtTrees, Before};
 ghost use Rattle.ss_typed.specs.View as typed;
-ghost use Rattle.ss_elab.specs.Code.{after};
-ghost use Rattle.ss_elab.specs.Constructors as constructors;
-ghost use Rattle.ss_elab.specs.Program as elab;
-ghost use Rattle.ss_elab.specs.Statements as statements;
-ghost use Rattle.ss_plain.specs.Sources.{stmts_of};
-ghost use Rattle.ss_lifting.specs.Settings.{setting_of};
+ghost use Rattle.ss_expand_rules.specs.Code.{after};
+ghost use Rattle.ss_expand_rules.specs.Constructors as constructors;
+ghost use Rattle.ss_expand_rules.specs.Program as elab;
+ghost use Rattle.ss_expand_rules.specs.Statements as statements;
+ghost use Rattle.ss_expand_expressions.specs.Sources.{stmts_of};
+ghost use Rattle.ss_expand_lifting.specs.Settings.{setting_of};
 ghost use Rattle.ss_expand.specs.Constructing.{declares_some};
 
-use ss_bodies::{field_at, members_of};
-use ss_classes::{Class, Field, FieldId, Ty};
-use ss_core::{ClassId, Place};
-use ss_lifting::{Code, Setting, assign_field};
+use ss_expand_bodies::{field_at, members_of};
+use ss_core::{Class, ClassId, Field, FieldId, Place, Ty};
+use ss_expand_lifting::{Code, Setting, assign_field};
 use ss_typed::{Typed, TypedClass, TypedExpr, TypedField};
 use std::alloc::{AllocError, Global};
 

@@ -1,23 +1,22 @@
 // Returns.
 
 ghost use Rattle.std.specs.Prelude.{◌≡◌, ◌++◌, ◌∷◌, [], None, IfOk, OnOk, option_map};
-ghost use Rattle.ss_classes.specs.Tree.{ReturnStmt};
-ghost use Rattle.ss_classes.specs.View as core;
+ghost use Rattle.ss_core.specs.Tree.{ReturnStmt};
+ghost use Rattle.ss_core.specs.View as core;
 ghost use Rattle.ss_typed.specs.View as typed;
-ghost use Rattle.ss_elab.specs.Code.{after};
-ghost use Rattle.ss_elab.specs.Lifting as lifting;
-ghost use Rattle.ss_elab.specs.Statements as statements;
-ghost use Rattle.ss_plain.specs.Sources.{stmts_of, valued_by, valued_behind};
-ghost use Rattle.ss_lifting.specs.Made.{coded_by};
-ghost use Rattle.ss_lifting.specs.Settings.{setting_of};
+ghost use Rattle.ss_expand_rules.specs.Code.{after};
+ghost use Rattle.ss_expand_rules.specs.Lifting as lifting;
+ghost use Rattle.ss_expand_rules.specs.Statements as statements;
+ghost use Rattle.ss_expand_expressions.specs.Sources.{stmts_of, valued_by, valued_behind};
+ghost use Rattle.ss_expand_lifting.specs.Made.{coded_by};
+ghost use Rattle.ss_expand_lifting.specs.Settings.{setting_of};
 ghost use Rattle.ss_expand.specs.Returns.{returned_value};
 
 use crate::looping::add_one;
-use ss_bodies::{add_pack_this, add_packs};
-use ss_classes::{Expr, Stmt, Ty};
-use ss_core::Place;
-use ss_lifting::{Code, Setting, right_side, value};
-use ss_plain::{any_object, in_local, next, place_of};
+use ss_expand_bodies::{add_pack_this, add_packs};
+use ss_core::{Expr, Place, Stmt, Ty};
+use ss_expand_lifting::{Code, Setting, right_side, value};
+use ss_expand_expressions::{any_object, in_local, next, place_of};
 use ss_typed::TypedExpr;
 use std::alloc::{AllocError, Global};
 

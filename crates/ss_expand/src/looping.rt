@@ -1,24 +1,23 @@
 // Branches and loops, once their parts are written.
 
 ghost use Rattle.std.specs.Prelude.{◌≡◌, ◌++◌, ◌∷◌, [], IfOk, OnOk, map, option_map, if◌then◌else◌};
-ghost use Rattle.ss_classes.specs.Tree.{AssertStmt, AssumeStmt, IfStmt, LoopStmt};
-ghost use Rattle.ss_classes.specs.View as core;
+ghost use Rattle.ss_core.specs.Tree.{AssertStmt, AssumeStmt, IfStmt, LoopStmt};
+ghost use Rattle.ss_core.specs.View as core;
 ghost use Rattle.ss_typed.specs.View as typed;
-ghost use Rattle.ss_elab.specs.Numbers as elab;
-ghost use Rattle.ss_elab.specs.Code.{after, nothing};
-ghost use Rattle.ss_elab.specs.Statements as statements;
-ghost use Rattle.ss_plain.specs.Views.{numbers_of};
-ghost use Rattle.ss_plain.specs.Sources.{stmts_of, valued_by, valued_behind};
-ghost use Rattle.ss_bodies.specs.Exposes.{opened_of};
-ghost use Rattle.ss_lifting.specs.Made.{coded_by};
-ghost use Rattle.ss_lifting.specs.Settings.{setting_of};
+ghost use Rattle.ss_expand_rules.specs.Numbers as elab;
+ghost use Rattle.ss_expand_rules.specs.Code.{after, nothing};
+ghost use Rattle.ss_expand_rules.specs.Statements as statements;
+ghost use Rattle.ss_expand_expressions.specs.Views.{numbers_of};
+ghost use Rattle.ss_expand_expressions.specs.Sources.{stmts_of, valued_by, valued_behind};
+ghost use Rattle.ss_expand_bodies.specs.Exposes.{opened_of};
+ghost use Rattle.ss_expand_lifting.specs.Made.{coded_by};
+ghost use Rattle.ss_expand_lifting.specs.Settings.{setting_of};
 ghost use Rattle.ss_expand.specs.Loops.{tested};
 
-use ss_bodies::{add_plain, list_exposed};
-use ss_classes::{Exposed, Expr, Loop, Stmt, Ty};
-use ss_core::Place;
-use ss_lifting::{Code, Setting, declare, simple_statement, value};
-use ss_plain::plain;
+use ss_expand_bodies::{add_plain, list_exposed};
+use ss_core::{Exposed, Expr, Loop, Place, Stmt, Ty};
+use ss_expand_lifting::{Code, Setting, declare, simple_statement, value};
+use ss_expand_expressions::plain;
 use ss_typed::{TypedExpr, TypedInit, TypedSimple};
 use std::alloc::{AllocError, Global};
 

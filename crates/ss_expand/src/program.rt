@@ -2,27 +2,26 @@
 
 ghost use Rattle.std.specs.Prelude.{◌≡◌, ◌≤◌, ◌++◌, Some, IfOk, OnOk, length, map, option_map, filter_map};
 ghost use Rattle.std.specs.Option.{option_to_list};
-ghost use Rattle.ss_classes.specs.Chain.{most_classes};
-ghost use Rattle.ss_classes.specs.View as core;
+ghost use Rattle.ss_core.specs.Chain.{most_classes};
+ghost use Rattle.ss_core.specs.View as core;
 ghost use Rattle.ss_typed.specs.Tree.{BlockOf, NoMore};
 ghost use Rattle.ss_typed.specs.View as typed;
-ghost use Rattle.ss_elab.specs.Bodies as bodies;
-ghost use Rattle.ss_elab.specs.Constructors as constructors;
-ghost use Rattle.ss_elab.specs.Contracts as contracts;
-ghost use Rattle.ss_elab.specs.Elaborated as elaborated;
-ghost use Rattle.ss_elab.specs.Program as elab_program;
-ghost use Rattle.ss_bodies.specs.Origins.{origin_of};
+ghost use Rattle.ss_expand_rules.specs.Bodies as bodies;
+ghost use Rattle.ss_expand_rules.specs.Constructors as constructors;
+ghost use Rattle.ss_expand_rules.specs.Contracts as contracts;
+ghost use Rattle.ss_expand_rules.specs.Elaborated as elaborated;
+ghost use Rattle.ss_expand_rules.specs.Program as elab_program;
+ghost use Rattle.ss_expand_bodies.specs.Origins.{origin_of};
 ghost use Rattle.ss_expand.specs.Limits.{HasFewClasses};
 
 use crate::bodies::written_body;
 use crate::declarations::declarations;
 use crate::inherited::wrapper_body;
-use ss_bodies::{
+use ss_expand_bodies::{
     Origin, constructor_of, elaborate_classes, is_declared_by, list_bodies, members_of, method_at,
     number_of_written,
 };
-use ss_classes::{Body, Class, Core};
-use ss_core::{ClassId, Place};
+use ss_core::{Body, Class, ClassId, Core, Place};
 use ss_typed::{Typed, TypedBlock, TypedBody, TypedClass, TypedFlags};
 use std::alloc::{AllocError, Global};
 

@@ -3,22 +3,21 @@
 ghost use Rattle.std.specs.Prelude.{◌≡◌, ◌&&◌, ◌||◌, IfOk, OnOk, map, option_map, if◌then◌else◌};
 ghost use Rattle.ss_typed.specs.Tree.{ExposeOf, ForOf, stmt_trees};
 ghost use Rattle.ss_typed.specs.View as typed;
-ghost use Rattle.ss_elab.specs.Code.{after, nothing};
-ghost use Rattle.ss_elab.specs.Ends as ends;
-ghost use Rattle.ss_elab.specs.Lifting as lifting;
-ghost use Rattle.ss_elab.specs.Statements as statements;
-ghost use Rattle.ss_plain.specs.Sources.{stmts_of};
-ghost use Rattle.ss_lifting.specs.Made.{coded_by};
-ghost use Rattle.ss_lifting.specs.Settings.{setting_of};
+ghost use Rattle.ss_expand_rules.specs.Code.{after, nothing};
+ghost use Rattle.ss_expand_rules.specs.Ends as ends;
+ghost use Rattle.ss_expand_rules.specs.Lifting as lifting;
+ghost use Rattle.ss_expand_rules.specs.Statements as statements;
+ghost use Rattle.ss_expand_expressions.specs.Sources.{stmts_of};
+ghost use Rattle.ss_expand_lifting.specs.Made.{coded_by};
+ghost use Rattle.ss_expand_lifting.specs.Settings.{setting_of};
 ghost use Rattle.ss_expand.specs.Loops.{turn_of};
 
 use crate::exposing::{close, open, within};
 use crate::leaving::leave;
 use crate::looping::{add_assert, add_assume, add_branch, add_loop, advance_where, begin, test_of};
-use ss_classes::Ty;
-use ss_core::{ClassId, Place};
-use ss_lifting::{Code, Setting, declare, simple_statement, value};
-use ss_plain::can_end;
+use ss_core::{ClassId, Place, Ty};
+use ss_expand_lifting::{Code, Setting, declare, simple_statement, value};
+use ss_expand_expressions::can_end;
 use ss_typed::{TypedBlock, TypedExpr, TypedInit, TypedSimple, TypedStmt};
 use std::alloc::{AllocError, Global};
 

@@ -4,11 +4,11 @@ ghost use Rattle.std.specs.Prelude.{◌≡◌, false, option_map, if◌then◌el
 ghost use Rattle.ss_core.specs.declared.names.Place.{Place};
 ghost use Rattle.ss_typed.specs.Tree.{ExprTree};
 ghost use Rattle.ss_typed.specs.View.{expr};
-ghost use Rattle.ss_elab.specs.Calls as calls;
-ghost use Rattle.ss_plain.specs.Views.{link_behind, step_behind, linked, stepped};
+ghost use Rattle.ss_expand_rules.specs.Calls as calls;
+ghost use Rattle.ss_expand_expressions.specs.Views.{link_behind, step_behind, linked, stepped};
 ghost use Rattle.ss_expand.specs.Constructing as constructing;
 
-use ss_classes::FieldId;
+use ss_core::FieldId;
 use ss_typed::{TypedExpr, TypedLink, TypedStep};
 
 // What an expression is: `this`, or a field of `this`.

@@ -10,9 +10,8 @@
 //     }
 
 use ss_ast::AssignOperator;
-use ss_classes::{Class, Classes, Entry, Field, FieldId, Local, Mark, Operator, Ty};
-use ss_core::{BodyId, ClassId, Place};
-use ss_core_text::core_text;
+use ss_core::{BodyId, Class, ClassId, Classes, Entry, Field, FieldId, Local, Mark, Operator, Place, Ty};
+use ss_report_core::core_text;
 use ss_expand::expand;
 use ss_typed::{
     Typed, TypedBlock, TypedBody, TypedClass, TypedDeclarator, TypedExpr, TypedField, TypedFlags,

@@ -15,7 +15,7 @@ pub enum Fault {
 }
 
 /// Why nothing is given.
-#[derive(Debug, Drop)]
+#[derive(Drop)]
 pub enum Stop {
     /// There was no memory.
     Memory,

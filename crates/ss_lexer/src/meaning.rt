@@ -14,7 +14,7 @@ use ss_ast::{Symbol, TokenKind, Word};
 use std::alloc::{AllocError, Global};
 
 /// What a piece is in a source.
-#[derive(Debug, Drop)]
+#[derive(Drop)]
 pub enum Meaning {
     /// It only separates tokens.
     Nothing,

@@ -12,7 +12,7 @@ use crate::spelling::symbol_at;
 use ss_ast::Symbol;
 
 /// What a piece of a source is.
-#[derive(Clone, Copy, Debug)]
+#[derive(Clone, Copy)]
 pub enum Form {
     /// One blank byte.
     Space,

@@ -1,8 +1,8 @@
 -- The statements behind blocks, of which the last comes first.
 use Rattle.std.proofs.Common.{◌≡◌, ◌<◌, List, [], ◌∷◌, ◌++◌, length, refl, ap, sym, ◌∙◌, arith}
-use Rattle.ss_core.specs.declared.program.Stmt.{Stmt}
-use Rattle.ss_core.specs.Tree.{CodeTree, NoCode, Then, followed_by}
-use Rattle.ss_core.specs.View.{block}
+use Rattle.ss_second_core.specs.declared.program.Stmt.{Stmt}
+use Rattle.ss_second_core.specs.Tree.{CodeTree, NoCode, Then, followed_by}
+use Rattle.ss_second_core.specs.View.{block}
 use Rattle.ss_machine.specs.declared.frame.Behind.{Behind}
 use Rattle.ss_machine.specs.Frames.{left_of}
 

@@ -2,15 +2,15 @@
 use Rattle.std.proofs.Common.{◌≡◌, ℕ, zero, suc, ◌<◌, length, drop, map, arith, List, [], ◌∷◌, Bool, false, ◌&&◌, ◌||◌, true, refl, sym, ap, ◌∙◌}
 use Rattle.ss_core.specs.declared.names.Place.{Place}
 use Rattle.std.specs.Global.{Vec, Box}
-use Rattle.ss_core.specs.declared.program.Expr.{Expr}
-use Rattle.ss_core.specs.declared.program.Expr.TheFolds.{fold-roll-Expr}
-use Rattle.ss_core.specs.declared.program.Expr.TheOpen as shape
-use Rattle.ss_core.specs.declared.program.Expr.TheVariants.{And, rolls-And, Or, rolls-Or}
-use Rattle.ss_core.specs.declared.program.Value.{Value}
-use Rattle.ss_core.specs.declared.program.Value.TheVariants as value
-use Rattle.ss_core.specs.Tree.{ExprTree, AndExpr, OrExpr}
-use Rattle.ss_core.specs.View.{chained, expr, expr_step}
-use Rattle.ss_run.specs.Values.{as_bool, value_of}
+use Rattle.ss_second_core.specs.declared.program.Expr.{Expr}
+use Rattle.ss_second_core.specs.declared.program.Expr.TheFolds.{fold-roll-Expr}
+use Rattle.ss_second_core.specs.declared.program.Expr.TheOpen as shape
+use Rattle.ss_second_core.specs.declared.program.Expr.TheVariants.{And, rolls-And, Or, rolls-Or}
+use Rattle.ss_second_core.specs.declared.program.Value.{Value}
+use Rattle.ss_second_core.specs.declared.program.Value.TheVariants as value
+use Rattle.ss_second_core.specs.Tree.{ExprTree, AndExpr, OrExpr}
+use Rattle.ss_second_core.specs.View.{chained, expr, expr_step}
+use Rattle.ss_second_run.specs.Values.{as_bool, value_of}
 use Rattle.ss_machine.specs.Chains.{conjunction_value, disjunction_value}
 
 -- the tree of a chain

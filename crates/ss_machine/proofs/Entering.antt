@@ -1,13 +1,13 @@
 -- A body at its entry.
 use Rattle.std.proofs.Common.{◌≡◌, ℕ, List, ◌++◌, Option, map, sym, ap, ◌∙◌, append_assoc}
 use Rattle.std.proofs.lemmas.List.{map-append}
-use Rattle.ss_core.specs.declared.program.Body.{Body}
-use Rattle.ss_core.specs.declared.program.Stmt.{Stmt}
-use Rattle.ss_core.specs.declared.program.Value.{Value}
-use Rattle.ss_core.specs.Tree.{NoCode, followed_by, CodeTree, result_type}
-use Rattle.ss_core.specs.View.{block, local_of, body}
-use Rattle.ss_run.specs.Values.{default_of}
-use Rattle.ss_run.specs.Steps.{Frame, first_locals, frame_at_entry}
+use Rattle.ss_second_core.specs.declared.program.Body.{Body}
+use Rattle.ss_second_core.specs.declared.program.Stmt.{Stmt}
+use Rattle.ss_second_core.specs.declared.program.Value.{Value}
+use Rattle.ss_second_core.specs.Tree.{NoCode, followed_by, CodeTree, result_type}
+use Rattle.ss_second_core.specs.View.{block, local_of, body}
+use Rattle.ss_second_run.specs.Values.{default_of}
+use Rattle.ss_second_run.specs.Steps.{Frame, first_locals, frame_at_entry}
 use Rattle.ss_machine.proofs.Blocks.{followed_by_nothing}
 
 abbrev pub frame : ℕ → List Value → CodeTree → Option ℕ → Frame

@@ -1,7 +1,7 @@
 -- A step that prints nothing.
 use Rattle.std.proofs.Common.{◌≡◌, ℕ, List, [], Option, refl, sym, subst}
 use Rattle.ss_io.specs.Outside.{Grew, GrewByFront}
-use Rattle.ss_run.specs.Steps.{Frame, Next, Goes}
+use Rattle.ss_second_run.specs.Steps.{Frame, Next, Goes}
 use Rattle.ss_machine.specs.Moves.{piece_of, StepIs, QuietIs}
 use Rattle.ss_machine.specs.declared.step.Move.{Move}
 use Rattle.ss_machine.specs.declared.step.Move.TheVariants as move

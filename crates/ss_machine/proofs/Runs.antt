@@ -1,11 +1,11 @@
 -- Whole runs.
 use Rattle.std.proofs.Common.{◌≡◌, ℕ, zero, suc, ◌+◌, ◌-◌, ◌<◌, ◌≤◌, List, [], ◌++◌, Option, refl, sym, ap, subst, ◌∙◌, arith, append_assoc}
 use Rattle.std.proofs.lemmas.List.{append-nil}
-use Rattle.ss_core.specs.Tree.{CoreTree}
+use Rattle.ss_second_core.specs.Tree.{CoreTree}
 use Rattle.ss_core.specs.declared.names.Kind.{Kind}
 use Rattle.ss_core.specs.declared.names.Place.{Place}
 use Rattle.ss_io.specs.Outside.{Grew, GrewByFront}
-use Rattle.ss_run.specs.Steps.{Frame, Next, Goes, Over, Fails, Stops, next, State, Running, Done, Failed, Stopped, then_is, step, run, printed_in, printed}
+use Rattle.ss_second_run.specs.Steps.{Frame, Next, Goes, Over, Fails, Stops, next, State, Running, Done, Failed, Stopped, then_is, step, run, printed_in, printed}
 use Rattle.ss_machine.specs.Ends.{IsRunning, IsDoneAt, HasFailed, HasStopped}
 use Rattle.ss_machine.specs.Moves.{piece_of, StepIs}
 use Rattle.ss_machine.specs.declared.step.Move.TheVariants as move

@@ -1,6 +1,6 @@
 -- Frames, of which the last one comes first.
 use Rattle.std.proofs.Common.{◌≡◌, List, [], ◌∷◌, ◌++◌, refl, ap}
-use Rattle.ss_run.specs.Steps.{Frame}
+use Rattle.ss_second_run.specs.Steps.{Frame}
 use Rattle.ss_machine.specs.declared.frame.CodeFrame.{CodeFrame}
 use Rattle.ss_machine.specs.Frames.{frame_of, frames_of}
 

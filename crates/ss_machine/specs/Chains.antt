@@ -1,9 +1,9 @@
 -- The value of a chain, operand by operand.
 use Rattle.std.specs.Prelude.{List, [], ◌∷◌, ◌&&◌, ◌||◌}
-use Rattle.ss_core.specs.declared.program.Value.{Value}
-use Rattle.ss_core.specs.declared.program.Value.TheVariants as value
-use Rattle.ss_core.specs.Tree.{ExprTree}
-use Rattle.ss_run.specs.Values.{as_bool, value_of}
+use Rattle.ss_second_core.specs.declared.program.Value.{Value}
+use Rattle.ss_second_core.specs.declared.program.Value.TheVariants as value
+use Rattle.ss_second_core.specs.Tree.{ExprTree}
+use Rattle.ss_second_run.specs.Values.{as_bool, value_of}
 
 -- of a chain of `&&` whose operands so far have this value
 abbrev pub conjunction_value : Value → List ExprTree → List Value → Value

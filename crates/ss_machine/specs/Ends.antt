@@ -2,8 +2,8 @@
 use Rattle.std.specs.Prelude.{◌≡◌, ℕ, ◌<◌, ◌≤◌}
 use Rattle.ss_core.specs.declared.names.Kind.{Kind}
 use Rattle.ss_core.specs.declared.names.Place.{Place}
-use Rattle.ss_core.specs.Tree.{CoreTree}
-use Rattle.ss_run.specs.Steps.{State, Running, Done, Failed, Stopped, run, printed}
+use Rattle.ss_second_core.specs.Tree.{CoreTree}
+use Rattle.ss_second_run.specs.Steps.{State, Running, Done, Failed, Stopped, run, printed}
 use Rattle.ss_machine.specs.declared.machine.CheckedEnd.{CheckedEnd}
 use Rattle.ss_machine.specs.declared.machine.CheckedEnd.TheVariants as end
 

@@ -1,8 +1,8 @@
 -- The frames that the code's stack stands for.
 use Rattle.std.specs.Prelude.{List, [], ◌∷◌, ◌++◌}
-use Rattle.ss_core.specs.Tree.{CodeTree, NoCode, followed_by}
-use Rattle.ss_core.specs.View.{block}
-use Rattle.ss_run.specs.Steps.{Frame}
+use Rattle.ss_second_core.specs.Tree.{CodeTree, NoCode, followed_by}
+use Rattle.ss_second_core.specs.View.{block}
+use Rattle.ss_second_run.specs.Steps.{Frame}
 use Rattle.ss_machine.specs.declared.frame.Behind.{Behind}
 use Rattle.ss_machine.specs.declared.frame.CodeFrame.{CodeFrame}
 use Rattle.ss_machine.specs.declared.frame.Machine.{Machine}

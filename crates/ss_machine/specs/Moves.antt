@@ -1,7 +1,7 @@
 -- What a step of the code did.
 use Rattle.std.specs.Prelude.{◌≡◌, ℕ, ◌≤◌, List, [], Option}
 use Rattle.ss_io.specs.Outside.{Grew, GrewByFront, Rose}
-use Rattle.ss_run.specs.Steps.{Frame, Next, Goes, Over, Fails, Stops}
+use Rattle.ss_second_run.specs.Steps.{Frame, Next, Goes, Over, Fails, Stops}
 use Rattle.ss_machine.specs.declared.step.Move.{Move}
 use Rattle.ss_machine.specs.declared.step.Move.TheVariants as move
 

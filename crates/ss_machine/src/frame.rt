@@ -1,15 +1,16 @@
 // Frames of bodies that run, and the stack of them.
 ghost use Rattle.std.specs.Prelude.{◌≡◌, [], ◌∷◌, ◌++◌, IfOk, MatchOption, map, slice_get, slice_set};
-ghost use Rattle.ss_core.specs.Tree as tree;
-ghost use Rattle.ss_core.specs.Tree.{NoCode, Then, followed_by};
-ghost use Rattle.ss_core.specs.View as view;
-ghost use Rattle.ss_run.specs.Values as values;
-ghost use Rattle.ss_run.specs.Steps as steps;
-ghost use Rattle.ss_run.specs.Steps.{Running, run};
+ghost use Rattle.ss_second_core.specs.Tree as tree;
+ghost use Rattle.ss_second_core.specs.Tree.{NoCode, Then, followed_by};
+ghost use Rattle.ss_second_core.specs.View as view;
+ghost use Rattle.ss_second_run.specs.Values as values;
+ghost use Rattle.ss_second_run.specs.Steps as steps;
+ghost use Rattle.ss_second_run.specs.Steps.{Running, run};
 ghost use Rattle.ss_machine.specs.Frames.{frame_of, all_frames};
 
 use crate::values;
-use ss_core::{Body, BodyId, Core, Local, Stmt, Ty, Value};
+use ss_core::BodyId;
+use ss_second_core::{Body, Core, Local, Stmt, Ty, Value};
 use std::alloc::{AllocError, Global};
 
 // A body that runs: its number, its locals, the statements that are left of the innermost block, those behind that block and the

@@ -1,13 +1,14 @@
 // Whole runs.
 ghost use Rattle.std.specs.Prelude.{◌≡◌, ◌≤◌};
-ghost use Rattle.ss_core.specs.View as view;
+ghost use Rattle.ss_second_core.specs.View as view;
 ghost use Rattle.ss_io.specs.Outside.{Grew, GrewByFront, Rose};
-ghost use Rattle.ss_run.specs.Steps.{run, printed};
+ghost use Rattle.ss_second_run.specs.Steps.{run, printed};
 ghost use Rattle.ss_machine.specs.Ends.{IfDone, IfFailed, IfStopped, OnWhole, IsDoneAt, HasFailed, HasStopped, IsRunning};
 
 use crate::frame;
 use crate::step::{self, Move};
-use ss_core::{Core, Kind, Place};
+use ss_core::{Kind, Place};
+use ss_second_core::Core;
 use ss_io::Sink;
 use std::alloc::Global;
 

@@ -1,16 +1,17 @@
 // One step of the machine.
 ghost use Rattle.std.specs.Prelude.{◌≡◌, ◌∷◌, IfOk, option_map, slice_get};
-ghost use Rattle.ss_core.specs.Tree as tree;
-ghost use Rattle.ss_core.specs.View as view;
-ghost use Rattle.ss_run.specs.Values.{line_of};
-ghost use Rattle.ss_run.specs.Steps as steps;
-ghost use Rattle.ss_run.specs.Steps.{act, next};
+ghost use Rattle.ss_second_core.specs.Tree as tree;
+ghost use Rattle.ss_second_core.specs.View as view;
+ghost use Rattle.ss_second_run.specs.Values.{line_of};
+ghost use Rattle.ss_second_run.specs.Steps as steps;
+ghost use Rattle.ss_second_run.specs.Steps.{act, next};
 ghost use Rattle.ss_machine.specs.Frames.{frame_of, frames_of, all_frames};
 ghost use Rattle.ss_machine.specs.Moves.{StepIs, QuietIs, PrintIs, HasCause};
 
 use crate::frame::{self, CodeFrame, Machine};
 use crate::values;
-use ss_core::{BodyId, Core, Expr, Kind, Place, Stmt, Value};
+use ss_core::{BodyId, Kind, Place};
+use ss_second_core::{Core, Expr, Stmt, Value};
 use ss_io::{Sink, WriteStop};
 use std::alloc::{AllocError, Global};
 

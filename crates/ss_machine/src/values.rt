@@ -1,10 +1,10 @@
 // Values of expressions, and the lines that are printed of them.
 ghost use Rattle.std.specs.Prelude.{◌≡◌, IfOk, map, string_bytes};
-ghost use Rattle.ss_core.specs.View as view;
-ghost use Rattle.ss_run.specs.Values as values;
+ghost use Rattle.ss_second_core.specs.View as view;
+ghost use Rattle.ss_second_run.specs.Values as values;
 ghost use Rattle.ss_machine.specs.Chains.{conjunction_value, disjunction_value};
 
-use ss_core::{Expr, Ty, Value};
+use ss_second_core::{Expr, Ty, Value};
 use std::alloc::{AllocError, Global};
 
 // What a local holds before it is assigned.

@@ -6,7 +6,7 @@ use ss_ast::{
 };
 use ss_core::Place;
 use ss_faults::Fault;
-use ss_name_check::check_names;
+use ss_resolver_names::check_names;
 use std::alloc::{AllocError, Global};
 use std::test::Fail;
 

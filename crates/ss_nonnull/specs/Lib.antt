@@ -1,5 +1,6 @@
-pub mod Facts
-pub mod NonNull
-pub mod Faults
-pub mod Overrides
-pub mod Program
+pub mod Seen
+pub mod Codes
+pub mod Paths
+pub mod Walks
+pub mod Initial
+pub mod Names

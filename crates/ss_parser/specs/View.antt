@@ -1,57 +1,57 @@
 -- What the values of the code stand for.
-use Rattle.std.specs.Prelude.{List, [], ◌∷◌, Bool, false}
+use Rattle.std.specs.Prelude.{map, option_map}
 use Rattle.ss_core.specs.declared.names.Place.{Place}
-use Rattle.ss_ast.specs.declared.expr.Link.{Link}
-use Rattle.ss_ast.specs.declared.expr.Postfix.{Postfix}
-use Rattle.ss_ast.specs.declared.expr.Expr.TheFolds.{fold-Link, fold-Postfix}
-use Rattle.ss_ast.specs.Expressions.{ExprTree, Behind, expr_step, link_step, postfix_step, expr_tree, type_tree, type_name_tree}
-use Rattle.ss_syntax.specs.Heads.{LinkHead, Operation, IsHead, AsHead, TypeHead, Ranked, Head, NegateHead, NotHead, OpenHead, Leaf, OldHead, NewHead, QuantifierHead}
-use Rattle.ss_syntax.specs.Grammar.{Enclosed, AType, AnExpr}
-use Rattle.ss_parser.specs.declared.heads.Start.{Start}
-use Rattle.ss_parser.specs.declared.heads.Joint.{Joint}
-use Rattle.ss_parser.specs.declared.heads.Joint.TheVariants as joint
-use Rattle.ss_parser.specs.declared.heads.RankedJoint.{RankedJoint}
-use Rattle.ss_parser.specs.declared.heads.Opening.{Opening}
-use Rattle.ss_parser.specs.declared.heads.Opening.TheVariants as opening
-use Rattle.ss_parser.specs.declared.heads.UnaryStart.{UnaryStart}
-use Rattle.ss_parser.specs.declared.heads.UnaryStart.TheVariants as unary
-use Rattle.ss_parser.specs.declared.build.Inside.{Inside}
-use Rattle.ss_parser.specs.declared.build.Inside.TheVariants as inside
+use Rattle.ss_ast.specs.Expressions.{name_tree, expr_tree}
+use Rattle.ss_ast.specs.Statements.{stmt_trees, stmt_tree, for_init_tree, simple_tree}
+use Rattle.ss_parser_expressions.specs.View.{start_of}
+use Rattle.ss_grammar_statements.specs.Heads.{PrimHead, ParenPrim, LeafPrim, OldPrim, NewPrim, QuantifierPrim, SimpleHead, AssignHead, StepHead, StartHead, TypeFirst, NameFirst, PrimFirst, StmtHead, BlockFirst, StartFirst, IfFirst, WhileFirst, ForFirst, ReturnFirst, AssertFirst, AssumeFirst, ExposeFirst, EmptyFirst}
+use Rattle.ss_grammar_statements.specs.Grammar.{Listed, HeadingTree}
+use Rattle.ss_parser.specs.declared.heads.PrimStart.{PrimStart}
+use Rattle.ss_parser.specs.declared.heads.PrimStart.TheVariants as prim
+use Rattle.ss_parser.specs.declared.heads.SimpleStart.{SimpleStart}
+use Rattle.ss_parser.specs.declared.heads.SimpleStart.TheVariants as simple
+use Rattle.ss_parser.specs.declared.heads.InitStart.{InitStart}
+use Rattle.ss_parser.specs.declared.heads.InitStart.TheVariants as init
+use Rattle.ss_parser.specs.declared.heads.StmtWord.{StmtWord}
+use Rattle.ss_parser.specs.declared.heads.StmtWord.TheVariants as word
+use Rattle.ss_parser.specs.declared.heads.StmtStart.{StmtStart}
+use Rattle.ss_parser.specs.declared.heads.StmtStart.TheVariants as stmt
+use Rattle.ss_parser.specs.declared.build.StmtList.{StmtList}
+use Rattle.ss_parser.specs.declared.build.Heading.{Heading}
 
-abbrev pub link_tree : Link → Behind
-link_tree = fold-Link ExprTree Behind Behind expr_step link_step postfix_step
+abbrev pub prim_start_of : PrimStart → PrimHead
+prim_start_of (prim.Paren p) = ParenPrim p
+prim_start_of (prim.Leaf p e) = LeafPrim p (expr_tree e)
+prim_start_of (prim.Old p) = OldPrim p
+prim_start_of (prim.New p) = NewPrim p
+prim_start_of (prim.Quantifier p q) = QuantifierPrim p q
 
-abbrev pub postfix_tree : Postfix → Behind
-postfix_tree = fold-Postfix ExprTree Behind Behind expr_step link_step postfix_step
+abbrev pub simple_start_of : SimpleStart → SimpleHead
+simple_start_of (simple.Assign op) = AssignHead op
+simple_start_of (simple.Step op) = StepHead op
 
-abbrev pub start_of : Start → TypeHead
-start_of s = record { place = s.place; name = type_name_tree s.name }
+abbrev pub init_start_of : InitStart → StartHead
+init_start_of (init.Type t) = TypeFirst (start_of t)
+init_start_of (init.Name n) = NameFirst (name_tree n)
+init_start_of (init.Prim h) = PrimFirst (prim_start_of h)
 
-abbrev pub joint_of : Joint → LinkHead
-joint_of (joint.Operation op) = Operation op
-joint_of joint.Is = IsHead
-joint_of joint.As = AsHead
+abbrev pub word_first : Place → StmtWord → StmtHead
+word_first p word.If = IfFirst p
+word_first p word.While = WhileFirst p
+word_first p word.For = ForFirst p
+word_first p word.Return = ReturnFirst p
+word_first p word.Assert = AssertFirst p
+word_first p word.Assume = AssumeFirst p
+word_first p word.Expose = ExposeFirst p
 
-abbrev pub ranked_of : RankedJoint → Ranked
-ranked_of r = record { rank = r.rank; head = joint_of r.joint }
+abbrev pub stmt_start_of : StmtStart → StmtHead
+stmt_start_of (stmt.Block p) = BlockFirst p
+stmt_start_of (stmt.Init h) = StartFirst (init_start_of h)
+stmt_start_of (stmt.Word p w) = word_first p w
+stmt_start_of (stmt.Empty p) = EmptyFirst p
 
-abbrev pub opening_of : Place → Opening → Head
-opening_of p opening.Negate = NegateHead p
-opening_of p opening.Not = NotHead p
-opening_of p opening.Paren = OpenHead p
+abbrev pub listed_of : StmtList → Listed
+listed_of l = record { statements = stmt_trees (map stmt_tree l.statements.items); end = l.end }
 
-abbrev pub unary_start_of : UnaryStart → Head
-unary_start_of (unary.Opening p o) = opening_of p o
-unary_start_of (unary.Leaf p e) = Leaf p (expr_tree e)
-unary_start_of (unary.Old p) = OldHead p
-unary_start_of (unary.New p) = NewHead p
-unary_start_of (unary.Quantifier p q) = QuantifierHead p q
-
-abbrev pub inside_of : Inside → Enclosed
-inside_of (inside.Type t) = AType (type_tree t)
-inside_of (inside.Expr e) = AnExpr (expr_tree e)
-
--- whether f holds of the first
-abbrev pub first_is : {T : Type 0} → (T → Bool) → List T → Bool
-first_is f [] = false
-first_is f (t ∷ ts) = f t
+abbrev pub heading_of : Heading → HeadingTree
+heading_of h = record { first = option_map for_init_tree h.first; test = option_map expr_tree h.test; step = option_map simple_tree h.step }

@@ -1,271 +1,210 @@
 // Trees from their parts.
 
-ghost use Rattle.std.specs.Prelude.{◌≡◌, IfOk, map, string_bytes, Option, Some, None, option_map};
-ghost use Rattle.ss_ast.specs.Expressions.{ExprTree, expr_tree, type_tree, name_tree, type_name_tree, arguments, grouped, BinaryOf, IsOf, AsOf, MemberOf, ElementOf, CallOf, NegateOf, NotOf, CastOf, ParenOf, OldOf, NewOf, NewArrayOf, QuantifiedOf, ImpliesOf, IffOf, NumberOf, TextOf, NameOf, TruthOf, NullOf, ThisOf, BaseOf, ResultOf};
-ghost use Rattle.ss_syntax.specs.Grammar.{AType, type_of, head_of};
-ghost use Rattle.ss_parser.specs.View.{link_tree, postfix_tree, inside_of};
+ghost use Rattle.std.specs.Prelude.{◌≡◌, true, false, map, IfOk, option_map};
+ghost use Rattle.ss_ast.specs.Expressions.{expr_tree, type_tree, name_tree};
+ghost use Rattle.ss_ast.specs.Statements.{declarator_tree, for_init_tree, stmt_tree, block_tree, BlockOf, InBlock, IfOf, IfElseOf, WhileOf, ForOf, ExposeOf, ReturnOf, AssertOf, AssumeOf, EmptyOf};
+ghost use Rattle.ss_grammar_expressions.specs.Grammar.{type_of, head_of};
+ghost use Rattle.ss_grammar_statements.specs.Grammar.{declared, declares, statement_of};
+ghost use Rattle.ss_grammar_statements.specs.Parser.{initial, invariants, other, heading, block};
+ghost use Rattle.ss_parser.specs.View.{listed_of, heading_of};
 
-use ss_ast::{Expr, Link, Name, Operator, Postfix, Quantifier, TypeName, TypeRef};
+use ss_ast::{
+    Block, Declaration, Declarator, Expr, ForInit, Name, Simple, Stmt, TypeName, TypeRef,
+};
 use ss_core::Place;
 use std::alloc::{AllocError, Global};
 
-/// What stands between two parentheses.
-#[derive(Debug, Drop)]
-pub enum Inside {
-    Type(TypeRef),
-    Expr(Expr),
+/// The statements of a block, and the place of its `}`.
+#[derive(Drop)]
+pub struct StmtList {
+    pub statements: Vec<Stmt>,
+    pub end: Place,
 }
 
-/// `op operand`
-pub fn operation(operator: Operator, operand: Expr) -> Link
-    ensures { link_tree result ≡ (λ p a. BinaryOf p operator a (expr_tree operand)) }
-{
-    Link::Operation(operator, operand)
+/// What stands in the heading of a `for`.
+#[derive(Drop)]
+pub struct Heading {
+    pub first: Option<ForInit>,
+    pub test: Option<Expr>,
+    pub step: Option<Simple>,
 }
 
-/// `is T`
-pub fn is_link(ty: TypeRef) -> Link
-    ensures { link_tree result ≡ (λ p a. IsOf p a (type_tree ty)) }
+/// `x = e`, or `x` alone.
+pub fn declarator(name: Name, initial: Option<Expr>) -> Declarator
+    ensures { declarator_tree result ≡ declared (name_tree name) (option_map expr_tree initial) }
 {
-    Link::Is(ty)
+    Declarator { name, initial }
 }
 
-/// `as T`
-pub fn as_link(ty: TypeRef) -> Link
-    ensures { link_tree result ≡ (λ p a. AsOf p a (type_tree ty)) }
+/// `T x = e, y`
+pub fn declaration(ty: TypeRef, declarators: Vec<Declarator>) -> ForInit
+    ensures { for_init_tree result ≡ declares (type_tree ty) (map declarator_tree declarators.items) }
 {
-    Link::As(ty)
+    ForInit::Declare(Declaration { ty, declarators })
 }
 
-/// `.f`
-pub fn member(name: Name) -> Postfix
-    ensures { postfix_tree result ≡ (λ p a. MemberOf p a (name_tree name)) }
+/// The type of this name, which no `[]` follows.
+pub fn plain_class(name: Name, non_null: bool) -> TypeRef
+    ensures { type_tree result ≡ type_of (head_of (name_tree name)) false non_null }
 {
-    Postfix::Member(name)
-}
-
-/// `[e]`
-pub fn element(index: Expr) -> Postfix
-    ensures { postfix_tree result ≡ (λ p a. ElementOf p a (expr_tree index)) }
-{
-    Postfix::Element(index)
-}
-
-/// `(a, b)`
-pub fn call(given: Vec<Expr>) -> Postfix
-    ensures { postfix_tree result ≡ (λ p a. CallOf p a (arguments (map expr_tree given.items))) }
-{
-    Postfix::Call(given)
-}
-
-/// `-e`
-pub fn negated(alloc: Global, place: Place, operand: Expr) -> Result<Expr, AllocError>
-    ensures { IfOk result (λ e. expr_tree e ≡ NegateOf place (expr_tree operand)) }
-{
-    Ok(Expr::Negate(place, Box::new(alloc, operand)?))
-}
-
-/// `!e`
-pub fn denied(alloc: Global, place: Place, operand: Expr) -> Result<Expr, AllocError>
-    ensures { IfOk result (λ e. expr_tree e ≡ NotOf place (expr_tree operand)) }
-{
-    Ok(Expr::Not(place, Box::new(alloc, operand)?))
-}
-
-/// `(T)e`
-pub fn cast(alloc: Global, place: Place, ty: TypeRef, operand: Expr) -> Result<Expr, AllocError>
-    ensures { IfOk result (λ e. expr_tree e ≡ CastOf place (type_tree ty) (expr_tree operand)) }
-{
-    Ok(Expr::Cast(place, ty, Box::new(alloc, operand)?))
-}
-
-/// `(e)`
-pub fn in_parentheses(alloc: Global, place: Place, inner: Expr) -> Result<Expr, AllocError>
-    ensures { IfOk result (λ e. expr_tree e ≡ ParenOf place (expr_tree inner)) }
-{
-    Ok(Expr::Paren(place, Box::new(alloc, inner)?))
-}
-
-/// `old(e)`
-pub fn old(alloc: Global, place: Place, inner: Expr) -> Result<Expr, AllocError>
-    ensures { IfOk result (λ e. expr_tree e ≡ OldOf place (expr_tree inner)) }
-{
-    Ok(Expr::Old(place, Box::new(alloc, inner)?))
-}
-
-/// `new C(a, b)`
-pub fn new_object(place: Place, name: Name, given: Vec<Expr>) -> Expr
-    ensures { expr_tree result ≡ NewOf place (name_tree name) (arguments (map expr_tree given.items)) }
-{
-    Expr::New(place, name, given)
-}
-
-/// `new E[n]`
-pub fn new_array(
-    alloc: Global,
-    place: Place,
-    at: Place,
-    name: TypeName,
-    length: Expr,
-) -> Result<Expr, AllocError>
-    ensures { IfOk result (λ e. expr_tree e ≡ NewArrayOf place at (type_name_tree name) (expr_tree length)) }
-{
-    Ok(Expr::NewArray(place, at, name, Box::new(alloc, length)?))
-}
-
-/// `forall{int i in (low: high); body}`
-pub fn quantified(
-    alloc: Global,
-    place: Place,
-    quantifier: Quantifier,
-    name: Name,
-    bounds: (Expr, Expr),
-    body: Expr,
-) -> Result<Expr, AllocError>
-    ensures { IfOk result (λ e. expr_tree e ≡ QuantifiedOf place quantifier (name_tree name) (expr_tree bounds.0) (expr_tree bounds.1) (expr_tree body)) }
-{
-    let (low, high) = bounds;
-    Ok(Expr::Quantified(
-        place,
-        quantifier,
-        name,
-        Box::new(alloc, low)?,
-        Box::new(alloc, high)?,
-        Box::new(alloc, body)?,
-    ))
-}
-
-/// `a ==> b`
-pub fn implies(alloc: Global, place: Place, left: Expr, right: Expr) -> Result<Expr, AllocError>
-    ensures { IfOk result (λ e. expr_tree e ≡ ImpliesOf place (expr_tree left) (expr_tree right)) }
-{
-    Ok(Expr::Implies(place, Box::new(alloc, left)?, Box::new(alloc, right)?))
-}
-
-/// `a <==> b`
-pub fn iff(alloc: Global, place: Place, left: Expr, right: Expr) -> Result<Expr, AllocError>
-    ensures { IfOk result (λ e. expr_tree e ≡ IffOf place (expr_tree left) (expr_tree right)) }
-{
-    Ok(Expr::Iff(place, Box::new(alloc, left)?, Box::new(alloc, right)?))
-}
-
-/// A chain of operations, which is its first operand where there are no others.
-pub fn chain(alloc: Global, place: Place, first: Expr, links: Vec<Link>) -> Result<Expr, AllocError>
-    ensures { IfOk result (λ e. expr_tree e ≡ grouped place (expr_tree first) (map link_tree links.items)) }
-{
-    if links.is_empty() {
-        return Ok(first);
-    }
-    Ok(Expr::Chain(place, Box::new(alloc, first)?, links))
-}
-
-/// A path, which is its beginning where nothing stands behind it.
-pub fn path(
-    alloc: Global,
-    place: Place,
-    first: Expr,
-    postfixes: Vec<Postfix>,
-) -> Result<Expr, AllocError>
-    ensures { IfOk result (λ e. expr_tree e ≡ grouped place (expr_tree first) (map postfix_tree postfixes.items)) }
-{
-    if postfixes.is_empty() {
-        return Ok(first);
-    }
-    Ok(Expr::Path(place, Box::new(alloc, first)?, postfixes))
-}
-
-/// A number.
-pub fn number(place: Place, value: i64) -> Expr
-    ensures { expr_tree result ≡ NumberOf place value }
-{
-    Expr::Number(place, value)
-}
-
-/// A string.
-pub fn text(alloc: Global, place: Place, value: &Vec<u8>) -> Result<Expr, AllocError>
-    ensures { IfOk result (λ e. expr_tree e ≡ TextOf place value.now.items) }
-{
-    Ok(Expr::Text(place, copied(alloc, value.as_slice())?))
-}
-
-// The same bytes.
-fn copied(alloc: Global, bytes: &[u8]) -> Result<Vec<u8>, AllocError>
-    ensures { IfOk result (λ v. v.items ≡ bytes.now) }
-{
-    let mut copy = Vec::new(alloc);
-    for byte in bytes {
-        copy.push(*byte)?;
-    }
-    Ok(copy)
-}
-
-/// A name, copied.
-pub fn named(place: Place, name: &String) -> Result<Expr, AllocError>
-    ensures { IfOk result (λ e. expr_tree e ≡ NameOf place (string_bytes name.now)) }
-{
-    Ok(Expr::Name(place, name.clone()?))
-}
-
-/// A name.
-pub fn name_expr(name: Name) -> Expr
-    ensures { expr_tree result ≡ NameOf name.place (string_bytes name.text) }
-{
-    Expr::Name(name.place, name.text)
-}
-
-/// `true` or `false`.
-pub fn truth(place: Place, value: bool) -> Expr
-    ensures { expr_tree result ≡ TruthOf place value }
-{
-    Expr::Truth(place, value)
-}
-
-/// `null`
-pub fn null(place: Place) -> Expr
-    ensures { expr_tree result ≡ NullOf place }
-{
-    Expr::Null(place)
-}
-
-/// `this`
-pub fn this(place: Place) -> Expr
-    ensures { expr_tree result ≡ ThisOf place }
-{
-    Expr::This(place)
-}
-
-/// `base`
-pub fn base(place: Place) -> Expr
-    ensures { expr_tree result ≡ BaseOf place }
-{
-    Expr::Base(place)
-}
-
-/// `result`
-pub fn result(place: Place) -> Expr
-    ensures { expr_tree result ≡ ResultOf place }
-{
-    Expr::Result(place)
-}
-
-/// The type of this name.
-pub fn class_type(name: Name, is_array: bool, non_null: bool) -> Inside
-    ensures { inside_of result ≡ AType (type_of (head_of (name_tree name)) is_array non_null) }
-{
-    Inside::Type(TypeRef {
+    TypeRef {
         place: name.place,
         name: TypeName::Class(name.text),
-        is_array,
+        is_array: false,
         non_null,
-    })
+    }
 }
 
-/// `a[i]`
-pub fn element_of(alloc: Global, name: Name, index: Expr) -> Result<Expr, AllocError>
-    ensures { IfOk result (λ e. expr_tree e ≡ ElementOf name.place (NameOf name.place (string_bytes name.text)) (expr_tree index)) }
+/// The type of an array of this name.
+pub fn array_class(name: Name, non_null: bool) -> TypeRef
+    ensures { type_tree result ≡ type_of (head_of (name_tree name)) true non_null }
 {
-    let place = name.place;
-    let mut postfixes = Vec::new(alloc);
-    postfixes.push(element(index))?;
-    path(alloc, place, name_expr(name), postfixes)
+    TypeRef {
+        place: name.place,
+        name: TypeName::Class(name.text),
+        is_array: true,
+        non_null,
+    }
+}
+
+/// A declaration or a simple statement as a statement.
+pub fn statement(first: ForInit) -> Stmt
+    ensures { stmt_tree result ≡ statement_of (for_init_tree first) }
+{
+    match first {
+        ForInit::Declare(declaration) => Stmt::Declare(declaration),
+        ForInit::Simple(simple) => Stmt::Simple(simple),
+    }
+}
+
+/// `{ .. }`
+pub fn block(place: Place, list: StmtList) -> Block
+    ensures { block_tree result ≡ (let l = listed_of list in BlockOf place l.statements l.end) }
+{
+    Block {
+        place,
+        statements: list.statements,
+        end: list.end,
+    }
+}
+
+/// A block as a statement.
+pub fn in_block(block: Block) -> Stmt
+    ensures { stmt_tree result ≡ InBlock (block_tree block) }
+{
+    Stmt::Block(block)
+}
+
+// `if (e) a`.
+fn if_boxed(place: Place, test: Expr, side: Box<Stmt>) -> Stmt
+    ensures { stmt_tree result ≡ IfOf place (expr_tree test) (stmt_tree side.value) }
+{
+    Stmt::If(place, test, side, None)
+}
+
+/// `if (e) a`
+pub fn if_alone(alloc: Global, place: Place, test: Expr, side: Stmt) -> Result<Stmt, AllocError>
+    ensures { IfOk result (λ s. stmt_tree s ≡ IfOf place (expr_tree test) (stmt_tree side)) }
+{
+    Ok(if_boxed(place, test, Box::new(alloc, side)?))
+}
+
+// `if (e) a else b`.
+fn if_else_boxed(place: Place, test: Expr, side: Box<Stmt>, other: Box<Stmt>) -> Stmt
+    ensures { stmt_tree result ≡ IfElseOf place (expr_tree test) (stmt_tree side.value) (stmt_tree other.value) }
+{
+    Stmt::If(place, test, side, Some(other))
+}
+
+/// `if (e) a else b`
+pub fn if_else(
+    alloc: Global,
+    place: Place,
+    test: Expr,
+    side: Stmt,
+    other: Stmt,
+) -> Result<Stmt, AllocError>
+    ensures { IfOk result (λ s. stmt_tree s ≡ IfElseOf place (expr_tree test) (stmt_tree side) (stmt_tree other)) }
+{
+    let side = Box::new(alloc, side)?;
+    let other = Box::new(alloc, other)?;
+    Ok(if_else_boxed(place, test, side, other))
+}
+
+// `while (e) invariant .. a`.
+fn while_boxed(place: Place, test: Expr, invariants: Vec<Expr>, body: Box<Stmt>) -> Stmt
+    ensures { stmt_tree result ≡ WhileOf place (expr_tree test) (map expr_tree invariants.items) (stmt_tree body.value) }
+{
+    Stmt::While(place, test, invariants, body)
+}
+
+/// `while (e) invariant .. a`
+pub fn while_loop(
+    alloc: Global,
+    place: Place,
+    test: Expr,
+    invariants: Vec<Expr>,
+    body: Stmt,
+) -> Result<Stmt, AllocError>
+    ensures { IfOk result (λ s. stmt_tree s ≡ WhileOf place (expr_tree test) (map expr_tree invariants.items) (stmt_tree body)) }
+{
+    let body = Box::new(alloc, body)?;
+    Ok(while_boxed(place, test, invariants, body))
+}
+
+// `for (a; e; b) invariant .. c`.
+fn for_boxed(place: Place, heading: Heading, invariants: Vec<Expr>, body: Box<Stmt>) -> Stmt
+    ensures { stmt_tree result ≡ (let h = heading_of heading in ForOf place h.first h.test h.step (map expr_tree invariants.items) (stmt_tree body.value)) }
+{
+    let Heading { first, test, step } = heading;
+    Stmt::For(place, first, test, step, invariants, body)
+}
+
+/// `for (a; e; b) invariant .. c`
+pub fn for_loop(
+    alloc: Global,
+    place: Place,
+    heading: Heading,
+    invariants: Vec<Expr>,
+    body: Stmt,
+) -> Result<Stmt, AllocError>
+    ensures { IfOk result (λ s. stmt_tree s ≡ (let h = heading_of heading in ForOf place h.first h.test h.step (map expr_tree invariants.items) (stmt_tree body))) }
+{
+    let body = Box::new(alloc, body)?;
+    Ok(for_boxed(place, heading, invariants, body))
+}
+
+/// `expose (e at T) { .. }`
+pub fn expose(place: Place, object: Expr, level: Option<Name>, body: Block) -> Stmt
+    ensures { stmt_tree result ≡ ExposeOf place (expr_tree object) (option_map name_tree level) (block_tree body) }
+{
+    Stmt::Expose(place, object, level, body)
+}
+
+/// `return e;`
+pub fn returns(place: Place, value: Option<Expr>) -> Stmt
+    ensures { stmt_tree result ≡ ReturnOf place (option_map expr_tree value) }
+{
+    Stmt::Return(place, value)
+}
+
+/// `assert e;`
+pub fn asserts(place: Place, condition: Expr) -> Stmt
+    ensures { stmt_tree result ≡ AssertOf place (expr_tree condition) }
+{
+    Stmt::Assert(place, condition)
+}
+
+/// `assume e;`
+pub fn assumes(place: Place, condition: Expr) -> Stmt
+    ensures { stmt_tree result ≡ AssumeOf place (expr_tree condition) }
+{
+    Stmt::Assume(place, condition)
+}
+
+/// `;`
+pub fn empty(place: Place) -> Stmt
+    ensures { stmt_tree result ≡ EmptyOf place }
+{
+    Stmt::Empty(place)
 }

@@ -1,19 +1,17 @@
-//! Expressions from tokens: the longest one, its tree, and the first token that cannot go on. The modules have the readers of
-//! their parts, for what stands above expressions.
+//! Statements and blocks from tokens: the block, its tree, and the first token that cannot go on. The modules have the readers
+//! of their parts, for what stands above statements.
 #![tactic(auto)]
 
-pub mod arguments;
+mod blocks;
 pub mod build;
-mod casts;
-mod chains;
-mod enclosed;
-mod expr;
-pub mod expressions;
+pub mod declarations;
+mod exposes;
+mod governed;
+pub mod headings;
 pub mod heads;
-pub mod paths;
-pub mod quantifiers;
-pub mod refusal;
-pub mod types;
-mod unaries;
+mod loops;
+pub mod posts;
+pub mod simples;
+pub mod statements;
 
-pub use expr::parse_expr;
+pub use blocks::parse_block;

@@ -1,8 +1,8 @@
 -- The fields of a class, by number.
 use Rattle.std.specs.Prelude.{ℕ, ◌+◌, ◌-◌, ◌/◌, List, [], length, sum_by, take, Bool, true, false, ◌&&◌, nat_le, nat_lt, Option, Some, None, slice_get}
-use Rattle.ss_classes.specs.declared.names.Ty.{Ty}
-use Rattle.ss_classes.specs.declared.names.Ty.TheVariants as ty
-use Rattle.ss_classes.specs.Tree as core
+use Rattle.ss_core.specs.declared.names.Ty.{Ty}
+use Rattle.ss_core.specs.declared.names.Ty.TheVariants as ty
+use Rattle.ss_core.specs.Tree as core
 use Rattle.ss_typed.specs.Tree.{FieldTree, MembersTree, TypedTree}
 
 -- a value of the type is never null (OOPSLA 2003)

@@ -1,7 +1,7 @@
 -- The line of the obligation of a number.
 use Rattle.std.proofs.Common.{◌≡◌, ℕ, zero, suc, List, [], ◌∷◌, Some, None, refl, ap}
 use Rattle.std.specs.List.{slice_get}
-use Rattle.ss_core.specs.Tree.{CoreTree}
+use Rattle.ss_second_core.specs.Tree.{CoreTree}
 use Rattle.ss_terms.specs.declared.forms.FormulaId.{FormulaId}
 use Rattle.ss_terms.specs.Forms.{Forms}
 use Rattle.ss_vcgen.specs.declared.list.Obligation.{Obligation}

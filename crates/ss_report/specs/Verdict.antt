@@ -1,7 +1,7 @@
 -- The text of a verdict.
 use Rattle.std.specs.Prelude.{ℕ, List, [], ◌∷◌, ◌++◌, Option, Some, None, slice_get}
-use Rattle.ss_core.specs.Tree.{BodyTree, CoreTree, class_name}
-use Rattle.ss_oblig.specs.Obligations.{Obligation}
+use Rattle.ss_second_core.specs.Tree.{BodyTree, CoreTree, class_name}
+use Rattle.ss_vcgen_rules.specs.Obligations.{Obligation}
 use Rattle.ss_search.specs.declared.model.Countered.{Countered}
 use Rattle.ss_report.specs.Texts.{not_proved_line}
 

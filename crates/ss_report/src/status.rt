@@ -9,7 +9,7 @@ use ss_search::Countered;
 use std::alloc::{AllocError, Global};
 
 /// How a run of the program ends.
-#[derive(Debug, Drop)]
+#[derive(Drop)]
 pub enum Status {
     /// The command did its work: the program was verified, and where it was run, its run is done.
     Ended,

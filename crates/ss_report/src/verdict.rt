@@ -3,13 +3,14 @@
 ghost use Rattle.std.specs.Prelude.{◌≡◌, ◌++◌, ◌-◌, ◌/◌, List, None, if◌then◌else◌, IfOk, map, slice_get, string_bytes};
 ghost use Rattle.ss_terms.specs.declared.forms.FormulaId.{FormulaId};
 ghost use Rattle.ss_terms.specs.Forms.{Forms};
-ghost use Rattle.ss_core.specs.View.{core, body};
-ghost use Rattle.ss_core.specs.Tree.{CoreTree, is_class_number};
+ghost use Rattle.ss_second_core.specs.View.{core, body};
+ghost use Rattle.ss_second_core.specs.Tree.{CoreTree, is_class_number};
 ghost use Rattle.ss_vcgen.specs.Built.{trees, obligation_in};
 ghost use Rattle.ss_report.specs.Verdict.{verdict_text as verdict_of, line_of, line_at, or_nothing, class_of_body, name_of_body};
 
 use crate::texts::not_proved;
-use ss_core::{Body, BodyId, Core};
+use ss_core::BodyId;
+use ss_second_core::{Body, Core};
 use ss_search::Countered;
 use ss_vcgen::{Obligation, Obligations};
 use std::alloc::{AllocError, Global};

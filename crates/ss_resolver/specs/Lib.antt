@@ -1,6 +1,1 @@
-pub mod Locals
-pub mod Forms
-pub mod Alone
-pub mod Terms
-pub mod Behind
-pub mod Parts
+pub mod Phases

@@ -2,7 +2,7 @@
 
 use crate::shown::shown;
 use ss_decls::parse_program;
-use ss_front::{Resolved, resolve};
+use ss_resolver::{Resolved, resolve};
 use ss_lexer::tokens;
 use std::alloc::{AllocError, Global};
 use std::test::Fail;

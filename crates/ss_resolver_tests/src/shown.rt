@@ -1,6 +1,6 @@
 // Resolved programs as short texts: `#x` is a local, `.f` a field and `@m` a call by their numbers.
 
-use ss_classes::{Class, Operator};
+use ss_core::{Class, Operator};
 use ss_typed::{
     Typed, TypedBlock, TypedBody, TypedDeclarator, TypedExpr, TypedInit, TypedLink, TypedModifies,
     TypedSimple, TypedStep, TypedStmt,

@@ -1,9 +1,9 @@
 -- From what is tried on a model to what is answered.
 use Rattle.std.proofs.Common.{◌≡◌, true, IfOk, Result, Ok, Err, List, sym, ap, ◌∙◌, subst}
 use Rattle.ss_logic.specs.Logic.{Formula, neg}
-use Rattle.ss_models.specs.Models.{Refutes, comes_out}
-use Rattle.ss_models.specs.Ground.{ground}
-use Rattle.ss_models.proofs.Refuting.{Refutes-ground}
+use Rattle.ss_logic_models.specs.Models.{Refutes, comes_out}
+use Rattle.ss_logic_models.specs.Ground.{ground}
+use Rattle.ss_logic_models.proofs.Refuting.{Refutes-ground}
 use Rattle.ss_search.specs.declared.obligation.Found.{Found}
 use Rattle.ss_search.specs.declared.obligation.Found.TheVariants as found
 use Rattle.ss_search.specs.Found.{IfCountered}

@@ -9,7 +9,7 @@ use Rattle.std.proofs.lemmas.Bool.{and_parts}
 use Rattle.ss_logic.specs.Logic.{formulas_from}
 use Rattle.ss_terms.specs.declared.forms.Formula.{Formula}
 use Rattle.ss_terms.specs.declared.forms.Formula.TheVariants.{And, Or}
-use Rattle.ss_models.specs.Models.{Model, comes_out, all_come_true, some_comes_true, Refutes}
+use Rattle.ss_logic_models.specs.Models.{Model, comes_out, all_come_true, some_comes_true, Refutes}
 use Rattle.ss_terms.specs.declared.forms.FormulaId.{FormulaId}
 use Rattle.ss_terms.specs.Forms.{Forms, formula_at, formulas_at, AreBelow, IsFormulaForm}
 use Rattle.ss_search.specs.Countermodel.{AreOutcomes}

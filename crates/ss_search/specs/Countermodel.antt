@@ -2,7 +2,7 @@
 use Rattle.std.specs.Prelude.{◌≡◌, ℕ, ◌<◌, List, length, Bool, false}
 use Rattle.std.specs.List.{slice_index_or}
 use Rattle.ss_logic.specs.Logic.{Value, whole, truth}
-use Rattle.ss_models.specs.Models.{Model, comes_out}
+use Rattle.ss_logic_models.specs.Models.{Model, comes_out}
 use Rattle.ss_terms.specs.declared.forms.FormulaId.{FormulaId}
 use Rattle.ss_terms.specs.Forms.{Forms, formula_at}
 use Rattle.ss_search.specs.declared.model.Countermodel.{Countermodel}

@@ -7,7 +7,7 @@ use ss_terms::FormulaId;
 use std::alloc::{AllocError, Global};
 
 /// A known formula that is an `or`: its number, and whether its parts are the cases of a split that stands.
-#[derive(Clone, Copy, Debug)]
+#[derive(Clone, Copy)]
 pub struct Choice {
     pub number: usize,
     pub formula: FormulaId,
@@ -15,7 +15,7 @@ pub struct Choice {
 }
 
 /// How many choices there are, how many of them are taken, and where the next one is looked for.
-#[derive(Clone, Copy, Debug)]
+#[derive(Clone, Copy)]
 pub struct ChoicesMark {
     choices: usize,
     taken: usize,
@@ -23,7 +23,7 @@ pub struct ChoicesMark {
 }
 
 /// What can be split next, of the choices that aren't taken and have no true part.
-#[derive(Clone, Copy, Debug)]
+#[derive(Clone, Copy)]
 pub enum Next {
     /// The one at this place, which has at most one open part.
     Forced(usize),

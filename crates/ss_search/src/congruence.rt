@@ -5,7 +5,7 @@ use std::alloc::{AllocError, Global};
 use std::mem;
 
 /// A step from one term to another, by the known equality of this number.
-#[derive(Clone, Copy, Debug)]
+#[derive(Clone, Copy)]
 struct Link {
     to: usize,
     fact: usize,
@@ -13,7 +13,7 @@ struct Link {
 
 /// What is kept of a term: the term above it in its class, the size of the class below it, the class's literal where it
 /// is at its top, and one step of the equalities that joined its class.
-#[derive(Clone, Copy, Debug)]
+#[derive(Clone, Copy)]
 struct Node {
     above: usize,
     size: usize,
@@ -23,7 +23,7 @@ struct Node {
 
 /// A merge that stands: the top that was put below another, the other's literal before, and the two terms that were linked,
 /// by which fact.
-#[derive(Clone, Copy, Debug)]
+#[derive(Clone, Copy)]
 struct Merge {
     lower: usize,
     upper: usize,

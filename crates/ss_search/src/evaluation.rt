@@ -6,14 +6,14 @@ use ss_terms::{Formula, FormulaId};
 use std::alloc::{AllocError, Global};
 
 /// An answer, and the time at which it was found.
-#[derive(Clone, Copy, Debug)]
+#[derive(Clone, Copy)]
 struct Remembered {
     answer: Answer,
     time: u64,
 }
 
 /// A formula that waits for the answers of its parts: the part that is next, and whether one before it is open.
-#[derive(Clone, Copy, Debug)]
+#[derive(Clone, Copy)]
 struct Visit {
     formula: FormulaId,
     part: usize,

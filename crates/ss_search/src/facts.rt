@@ -26,7 +26,7 @@ impl Answer {
 
 /// Two terms that differ, by the known formula with this number. When it became known, their classes didn't both have a
 /// literal.
-#[derive(Clone, Copy, Debug)]
+#[derive(Clone, Copy)]
 struct Apart {
     left: TermId,
     right: TermId,
@@ -35,7 +35,7 @@ struct Apart {
 
 /// Two terms of one class that can't be equal: they differ by the known formula with this number, or are two literals where
 /// there is none.
-#[derive(Clone, Copy, Debug)]
+#[derive(Clone, Copy)]
 pub struct Conflict {
     pub left: TermId,
     pub right: TermId,
@@ -43,7 +43,7 @@ pub struct Conflict {
 }
 
 /// How many of the merges and of the inequalities stand.
-#[derive(Clone, Copy, Debug)]
+#[derive(Clone, Copy)]
 pub struct FactsMark {
     merges: usize,
     apart: usize,

@@ -5,7 +5,7 @@ use ss_terms::{FormulaId, Line, TermId};
 use std::alloc::{AllocError, Global};
 
 /// A known formula: one of the bank, that two terms are equal, or that a truth-valued term is true or false.
-#[derive(Clone, Copy, Debug)]
+#[derive(Clone, Copy)]
 pub enum Fact {
     Formula(FormulaId),
     Is(TermId, TermId),
@@ -13,7 +13,7 @@ pub enum Fact {
 }
 
 /// A fact, the line that made it known, and whether the closing of the case needs it.
-#[derive(Clone, Copy, Debug)]
+#[derive(Clone, Copy)]
 struct Entry {
     fact: Fact,
     line: usize,

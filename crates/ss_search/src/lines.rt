@@ -5,7 +5,7 @@ use ss_terms::Line;
 use std::alloc::{AllocError, Global};
 
 /// What became of a line that was written.
-#[derive(Debug, Drop)]
+#[derive(Drop)]
 enum Written {
     Line(Line),
     /// Nothing needs the known formula of the line. Its number is counted by the lines behind.

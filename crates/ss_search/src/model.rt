@@ -3,7 +3,7 @@
 ghost use Rattle.std.specs.Prelude.{◌≡◌, ◌*◌, pos, true, false, length, IfOk};
 ghost use Rattle.std.specs.List.{slice_index_or, list_all, list_any};
 ghost use Rattle.ss_logic.specs.Logic.{same_value};
-ghost use Rattle.ss_models.specs.Models.{Refutes, class_of, comes_out};
+ghost use Rattle.ss_logic_models.specs.Models.{Refutes, class_of, comes_out};
 ghost use Rattle.ss_terms.specs.Forms.{HasTerm, HasFormula, HasFormulas, term_at, formula_at, formulas_at};
 ghost use Rattle.ss_search.specs.Countermodel.{model_of, value_of, AreOutcomes};
 
@@ -14,14 +14,14 @@ use std::alloc::{AllocError, Global};
 
 /// A value for each constant: of the whole-number constants, and of the truth-valued ones, from number 0 on. A constant
 /// past the end of its list is 0 or false.
-#[derive(Debug, Drop)]
+#[derive(Drop)]
 pub struct Countermodel {
     pub numbers: Vec<i128>,
     pub truths: Vec<bool>,
 }
 
 /// An obligation that isn't proved, by its number in the list of obligations, with a model that refutes its ground form.
-#[derive(Debug, Drop)]
+#[derive(Drop)]
 pub struct Countered {
     pub obligation: usize,
     pub model: Countermodel,

@@ -4,7 +4,7 @@ use ss_terms::Line;
 use std::alloc::{AllocError, Global};
 
 /// Where a case that waits begins: how many formulas are known there, and how many of them are left.
-#[derive(Clone, Copy, Debug)]
+#[derive(Clone, Copy)]
 struct Start {
     known: usize,
     left: usize,

@@ -2,8 +2,8 @@
 
 ghost use Rattle.std.specs.Prelude.{◌≡◌, true, IfOk};
 ghost use Rattle.ss_terms.specs.Forms.{HasFormula, HasFormulas, IsGrown, formula_at, formulas_at};
-ghost use Rattle.ss_models.specs.Models.{Refutes, comes_out};
-ghost use Rattle.ss_models.specs.Ground.{ground};
+ghost use Rattle.ss_logic_models.specs.Models.{Refutes, comes_out};
+ghost use Rattle.ss_logic_models.specs.Ground.{ground};
 ghost use Rattle.ss_search.specs.Found.{IfCountered};
 ghost use Rattle.ss_search.specs.Countermodel.{model_of};
 
@@ -14,7 +14,7 @@ use ss_terms::{Bank, Derivation, FormulaId, Term, TermId};
 use std::alloc::{AllocError, Global};
 
 /// What a search found.
-#[derive(Debug, Drop)]
+#[derive(Drop)]
 pub enum Found {
     /// A derivation, which the checker has to accept before it counts.
     Proved(Derivation),

@@ -26,7 +26,7 @@ struct Split {
 }
 
 /// How much was known when a split was opened.
-#[derive(Clone, Copy, Debug)]
+#[derive(Clone, Copy)]
 struct Start {
     known: usize,
     facts: FactsMark,

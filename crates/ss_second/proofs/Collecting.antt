@@ -1,8 +1,8 @@
 -- Lists that are collected one value after the other.
 use Rattle.std.proofs.Common.{◌≡◌, List, [], ◌∷◌, ◌++◌, Option, Some, None, refl, sym, ap, append_assoc}
-use Rattle.ss_core.specs.declared.program.Stmt.{Stmt}
-use Rattle.ss_core.specs.Tree.{CodeTree, NoCode, Then, followed_by}
-use Rattle.ss_core.specs.View.{stmt_of, block}
+use Rattle.ss_second_core.specs.declared.program.Stmt.{Stmt}
+use Rattle.ss_second_core.specs.Tree.{CodeTree, NoCode, Then, followed_by}
+use Rattle.ss_second_core.specs.View.{stmt_of, block}
 use Rattle.ss_second.specs.Collected.{and_first}
 use Rattle.ss_second.specs.Narrow.{then_code}
 

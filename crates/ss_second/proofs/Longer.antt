@@ -3,12 +3,12 @@ use Rattle.std.proofs.Common.{◌≡◌, ◌++◌, ℕ, suc, length, Bool, true,
 use Rattle.std.specs.Prelude.{◌==◌}
 use Rattle.std.proofs.lemmas.Bool.Decides.{eqb_tells}
 use Rattle.ss_core.specs.declared.names.Place.{Place}
-use Rattle.ss_core.specs.declared.program.Expr.{Expr}
-use Rattle.ss_core.specs.declared.program.Expr.TheFolds.{fold-roll-Expr}
-use Rattle.ss_core.specs.declared.program.Expr.TheOpen as shape
-use Rattle.ss_core.specs.declared.program.Expr.TheVariants.{And, rolls-And, Or, rolls-Or}
-use Rattle.ss_core.specs.Tree.{ExprTree, AndExpr, OrExpr}
-use Rattle.ss_core.specs.View.{chained, expr, expr_step}
+use Rattle.ss_second_core.specs.declared.program.Expr.{Expr}
+use Rattle.ss_second_core.specs.declared.program.Expr.TheFolds.{fold-roll-Expr}
+use Rattle.ss_second_core.specs.declared.program.Expr.TheOpen as shape
+use Rattle.ss_second_core.specs.declared.program.Expr.TheVariants.{And, rolls-And, Or, rolls-Or}
+use Rattle.ss_second_core.specs.Tree.{ExprTree, AndExpr, OrExpr}
+use Rattle.ss_second_core.specs.View.{chained, expr, expr_step}
 use Rattle.ss_second.specs.Narrow.{compares_at}
 
 pub conjunction_is : (at : Place) (first : Box Expr Global) (others : Vec Expr Global) → expr (And at first others) ≡ chained AndExpr at (expr first.value) (map expr others.items)

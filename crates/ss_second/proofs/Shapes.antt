@@ -3,18 +3,18 @@ use Rattle.std.proofs.Common.{◌≡◌, ◌++◌, ℕ, length, List, [], ◌∷
 use Rattle.std.specs.Prelude.{◌==◌}
 use Rattle.std.proofs.lemmas.Bool.Decides.{eqb_tells}
 use Rattle.ss_core.specs.declared.names.Place.{Place}
-use Rattle.ss_classes.specs.declared.expr.Expr.{Expr}
-use Rattle.ss_classes.specs.declared.expr.Link.{Link}
-use Rattle.ss_classes.specs.declared.expr.Step.{Step}
-use Rattle.ss_classes.specs.declared.expr.Expr.TheFolds.{fold-roll-Expr, fold_out-Link, fold_out-Step}
-use Rattle.ss_classes.specs.declared.expr.Expr.TheViews as view
-use Rattle.ss_classes.specs.declared.expr.Expr.TheVariants.{rolls-Chain, rolls-Path}
-use Rattle.ss_classes.specs.declared.expr.Expr.TheOpen as shape
-use Rattle.ss_classes.specs.declared.expr.Expr.TheOpen.{Link-F, Step-F}
-use Rattle.ss_classes.specs.declared.expr.Operator.{Operator}
-use Rattle.ss_classes.specs.Tree.{ExprTree}
-use Rattle.ss_classes.specs.View.{Behind, grouped, expr_step, link_step, step_step, expr}
-use Rattle.ss_core.specs.Tree as run
+use Rattle.ss_core.specs.declared.expr.Expr.{Expr}
+use Rattle.ss_core.specs.declared.expr.Link.{Link}
+use Rattle.ss_core.specs.declared.expr.Step.{Step}
+use Rattle.ss_core.specs.declared.expr.Expr.TheFolds.{fold-roll-Expr, fold_out-Link, fold_out-Step}
+use Rattle.ss_core.specs.declared.expr.Expr.TheViews as view
+use Rattle.ss_core.specs.declared.expr.Expr.TheVariants.{rolls-Chain, rolls-Path}
+use Rattle.ss_core.specs.declared.expr.Expr.TheOpen as shape
+use Rattle.ss_core.specs.declared.expr.Expr.TheOpen.{Link-F, Step-F}
+use Rattle.ss_core.specs.declared.expr.Operator.{Operator}
+use Rattle.ss_core.specs.Tree.{ExprTree}
+use Rattle.ss_core.specs.View.{Behind, grouped, expr_step, link_step, step_step, expr}
+use Rattle.ss_second_core.specs.Tree as run
 use Rattle.ss_second.specs.Narrow as narrow
 use Rattle.ss_second.specs.Views.{link_behind, step_behind, linked, stepped}
 use Rattle.ss_second.proofs.Loops.{map_append}

@@ -2,14 +2,14 @@
 -- language, with fewer kinds.
 use Rattle.std.specs.Prelude.{ℕ, ◌-◌, ◌==◌, Bool, true, false, ◌&&◌, not, List, [], ◌∷◌, Option, Some, None, option_map, if◌then◌else◌}
 use Rattle.ss_core.specs.declared.names.Place.{Place}
-use Rattle.ss_core.specs.declared.names.Ty.{Ty}
-use Rattle.ss_core.specs.declared.names.Ty.TheVariants as ty
-use Rattle.ss_core.specs.Tree.{ExprTree, IntExpr, BoolExpr, LocalExpr, NotExpr, EqualExpr, UnequalExpr, AndExpr, OrExpr, ImpliesExpr, IffExpr, StmtTree, AssignStmt, AssertStmt, AssumeStmt, PrintStmt, IfStmt, CallStmt, ReturnStmt, CodeTree, NoCode, Then, LocalTree, BodyTree}
-use Rattle.ss_classes.specs.declared.names.Ty.{Ty as WholeTy}
-use Rattle.ss_classes.specs.declared.names.Ty.TheVariants as whole_ty
-use Rattle.ss_classes.specs.declared.expr.Operator.{Operator}
-use Rattle.ss_classes.specs.declared.expr.Operator.TheVariants as op
-use Rattle.ss_classes.specs.Tree as whole
+use Rattle.ss_second_core.specs.declared.names.Ty.{Ty}
+use Rattle.ss_second_core.specs.declared.names.Ty.TheVariants as ty
+use Rattle.ss_second_core.specs.Tree.{ExprTree, IntExpr, BoolExpr, LocalExpr, NotExpr, EqualExpr, UnequalExpr, AndExpr, OrExpr, ImpliesExpr, IffExpr, StmtTree, AssignStmt, AssertStmt, AssumeStmt, PrintStmt, IfStmt, CallStmt, ReturnStmt, CodeTree, NoCode, Then, LocalTree, BodyTree}
+use Rattle.ss_core.specs.declared.names.Ty.{Ty as WholeTy}
+use Rattle.ss_core.specs.declared.names.Ty.TheVariants as whole_ty
+use Rattle.ss_core.specs.declared.expr.Operator.{Operator}
+use Rattle.ss_core.specs.declared.expr.Operator.TheVariants as op
+use Rattle.ss_core.specs.Tree as whole
 use Rattle.ss_second.specs.Collected.{and_first, all_of}
 
 -- ---- types

@@ -1,11 +1,11 @@
 -- The second form: one class of static methods over `int` and `bool`, without loops. It is said of the resolved program and of the core
 -- program that it means.
 use Rattle.std.specs.Prelude.{ℕ, ◌-◌, ◌==◌, Bool, true, false, ◌&&◌, List, [], ◌∷◌, map, Option, Some, None, is_none, if◌then◌else◌}
-use Rattle.ss_core.specs.Tree.{BodyTree, CoreTree}
-use Rattle.ss_formed.specs.Formed.{is_formed}
-use Rattle.ss_classes.specs.Tree as whole
+use Rattle.ss_second_core.specs.Tree.{BodyTree, CoreTree}
+use Rattle.ss_second_formed.specs.Formed.{is_formed}
+use Rattle.ss_core.specs.Tree as whole
 use Rattle.ss_typed.specs.Tree.{MembersTree, TypedTree}
-use Rattle.ss_elab.specs.Elaborated.{elaborated}
+use Rattle.ss_expand_rules.specs.Elaborated.{elaborated}
 use Rattle.ss_second.specs.Collected.{all_of}
 use Rattle.ss_second.specs.Narrow.{is_empty, body}
 

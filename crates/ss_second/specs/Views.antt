@@ -1,14 +1,14 @@
 -- What the links of a chain stand for.
 use Rattle.std.specs.Prelude.{List, map}
 use Rattle.ss_core.specs.declared.names.Place.{Place}
-use Rattle.ss_classes.specs.declared.expr.Link.{Link}
-use Rattle.ss_classes.specs.declared.expr.Step.{Step}
-use Rattle.ss_classes.specs.declared.expr.Expr.TheFolds.{fold-Link, fold-Step}
-use Rattle.ss_classes.specs.Tree.{ExprTree}
-use Rattle.ss_core.specs.View.{local_of}
+use Rattle.ss_core.specs.declared.expr.Link.{Link}
+use Rattle.ss_core.specs.declared.expr.Step.{Step}
+use Rattle.ss_core.specs.declared.expr.Expr.TheFolds.{fold-Link, fold-Step}
+use Rattle.ss_core.specs.Tree.{ExprTree}
+use Rattle.ss_second_core.specs.View.{local_of}
 use Rattle.ss_second.specs.declared.bodies.Heading.{Heading as HeadingCode}
 use Rattle.ss_second.specs.Narrow.{Heading}
-use Rattle.ss_classes.specs.View.{Behind, grouped, expr_step, link_step, step_step}
+use Rattle.ss_core.specs.View.{Behind, grouped, expr_step, link_step, step_step}
 
 abbrev pub link_behind : Link → Behind
 link_behind = fold-Link ExprTree Behind Behind expr_step link_step step_step

@@ -1,8 +1,8 @@
 // Bodies.
 
 ghost use Rattle.std.specs.Prelude.{◌≡◌, map};
-ghost use Rattle.ss_core.specs.View as core;
-ghost use Rattle.ss_classes.specs.View as whole;
+ghost use Rattle.ss_second_core.specs.View as core;
+ghost use Rattle.ss_core.specs.View as whole;
 ghost use Rattle.ss_second.specs.Collected.{all_of};
 ghost use Rattle.ss_second.specs.Narrow as narrow;
 ghost use Rattle.ss_second.specs.Views.{heading_of};
@@ -11,20 +11,20 @@ ghost use Rattle.ss_second.specs.Answers.{Answers};
 use crate::exprs::narrow_exprs;
 use crate::stmts::narrow_code;
 use crate::stop::FormStop;
-use ss_classes::{Body, Local, Ty};
+use ss_core::{Body, Local, Ty};
 use std::alloc::Global;
 
-fn narrow_type(ty: Ty) -> Result<ss_core::Ty, FormStop>
+fn narrow_type(ty: Ty) -> Result<ss_second_core::Ty, FormStop>
     ensures { Answers (λ t. t) (narrow.type_of ty) result }
 {
     match ty {
-        Ty::Int => Ok(ss_core::Ty::Int),
-        Ty::Bool => Ok(ss_core::Ty::Bool),
+        Ty::Int => Ok(ss_second_core::Ty::Int),
+        Ty::Bool => Ok(ss_second_core::Ty::Bool),
         Ty::Null | Ty::Ref { .. } => Err(FormStop::NotOfForm),
     }
 }
 
-fn narrow_result(ty: Option<Ty>) -> Result<Option<ss_core::Ty>, FormStop>
+fn narrow_result(ty: Option<Ty>) -> Result<Option<ss_second_core::Ty>, FormStop>
     ensures { Answers (λ t. t) (narrow.result ty) result }
 {
     match ty {
@@ -33,15 +33,15 @@ fn narrow_result(ty: Option<Ty>) -> Result<Option<ss_core::Ty>, FormStop>
     }
 }
 
-fn narrow_local(local: &Local) -> Result<ss_core::Local, FormStop>
+fn narrow_local(local: &Local) -> Result<ss_second_core::Local, FormStop>
     ensures { Answers core.local_of (narrow.local (whole.local_of local.now)) result }
 {
     let ty = narrow_type(local.ty)?;
     let name = local.name.clone()?;
-    Ok(ss_core::Local { name, ty })
+    Ok(ss_second_core::Local { name, ty })
 }
 
-fn narrow_locals(alloc: Global, locals: &[Local]) -> Result<Vec<ss_core::Local>, FormStop>
+fn narrow_locals(alloc: Global, locals: &[Local]) -> Result<Vec<ss_second_core::Local>, FormStop>
     ensures { Answers (λ v. map core.local_of v.items) (all_of narrow.local (map whole.local_of locals.now)) result }
 {
     let mut list = Vec::new(alloc);
@@ -52,11 +52,11 @@ fn narrow_locals(alloc: Global, locals: &[Local]) -> Result<Vec<ss_core::Local>,
 }
 
 /// What a body is but for its conditions and its code.
-#[derive(Debug, Drop)]
+#[derive(Drop)]
 struct Heading {
-    params: Vec<ss_core::Local>,
-    locals: Vec<ss_core::Local>,
-    result: Option<ss_core::Ty>,
+    params: Vec<ss_second_core::Local>,
+    locals: Vec<ss_second_core::Local>,
+    result: Option<ss_second_core::Ty>,
 }
 
 fn narrow_heading(alloc: Global, body: &Body) -> Result<Heading, FormStop>
@@ -80,7 +80,7 @@ fn is_static_method(body: &Body) -> bool
 }
 
 /// The body in the trees of the second form.
-pub(crate) fn narrow_body(alloc: Global, body: &Body) -> Result<ss_core::Body, FormStop>
+pub(crate) fn narrow_body(alloc: Global, body: &Body) -> Result<ss_second_core::Body, FormStop>
     ensures { Answers core.body (narrow.body (whole.body body.now)) result }
 {
     if !is_static_method(body) {
@@ -90,7 +90,7 @@ pub(crate) fn narrow_body(alloc: Global, body: &Body) -> Result<ss_core::Body, F
     let entry = narrow_exprs(alloc, &body.entry)?;
     let exit = narrow_exprs(alloc, &body.exit)?;
     let code = narrow_code(alloc, &body.code)?;
-    Ok(ss_core::Body {
+    Ok(ss_second_core::Body {
         class: body.class,
         name: body.name.clone()?,
         params: heading.params,
@@ -104,7 +104,7 @@ pub(crate) fn narrow_body(alloc: Global, body: &Body) -> Result<ss_core::Body, F
 }
 
 /// The bodies in the trees of the second form.
-pub(crate) fn narrow_bodies(alloc: Global, bodies: &[Body]) -> Result<Vec<ss_core::Body>, FormStop>
+pub(crate) fn narrow_bodies(alloc: Global, bodies: &[Body]) -> Result<Vec<ss_second_core::Body>, FormStop>
     ensures { Answers (λ v. map core.body v.items) (all_of narrow.body (map whole.body bodies.now)) result }
 {
     let mut list = Vec::new(alloc);

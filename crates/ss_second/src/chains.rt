@@ -1,15 +1,15 @@
 // Chains, and other operations.
 
 ghost use Rattle.std.specs.Prelude.{◌≡◌, IfOk, map, ◌&&◌, ◌==◌};
-ghost use Rattle.ss_core.specs.Tree.{AndExpr, OrExpr, EqualExpr, UnequalExpr};
-ghost use Rattle.ss_core.specs.View as core;
-ghost use Rattle.ss_core.specs.View.{chained};
+ghost use Rattle.ss_second_core.specs.Tree.{AndExpr, OrExpr, EqualExpr, UnequalExpr};
+ghost use Rattle.ss_second_core.specs.View as core;
+ghost use Rattle.ss_second_core.specs.View.{chained};
 ghost use Rattle.ss_second.specs.Narrow.{same_place, compares_at, comparison, operation, implication, equivalence};
 ghost use Rattle.ss_second.specs.Answers.{Answers};
 
 use crate::stop::FormStop;
-use ss_classes::Operator;
-use ss_core::{Expr, Place};
+use ss_core::{Operator, Place};
+use ss_second_core::Expr;
 use std::alloc::{AllocError, Global};
 
 fn same_place(p: Place, q: Place) -> bool

@@ -1,9 +1,9 @@
 // Expressions.
 
 ghost use Rattle.std.specs.Prelude.{◌≡◌, Some, map};
-ghost use Rattle.ss_core.specs.View as core;
-ghost use Rattle.ss_classes.specs.Tree.{ExprTree};
-ghost use Rattle.ss_classes.specs.View as whole;
+ghost use Rattle.ss_second_core.specs.View as core;
+ghost use Rattle.ss_core.specs.Tree.{ExprTree};
+ghost use Rattle.ss_core.specs.View as whole;
 ghost use Rattle.ss_second.specs.Collected.{all_of};
 ghost use Rattle.ss_second.specs.Narrow as narrow;
 ghost use Rattle.ss_second.specs.Views.{linked, link_behind};
@@ -11,22 +11,21 @@ ghost use Rattle.ss_second.specs.Answers.{Answers};
 
 use crate::chains::{equate, imply, operate};
 use crate::stop::FormStop;
-use ss_classes::{Expr, Link};
-use ss_core::Place;
+use ss_core::{Expr, Link, Place};
 use std::alloc::Global;
 
 /// The expression in the trees of the second form.
 #[cycle(exprs)]
-pub(crate) fn narrow_expr(alloc: Global, e: &Expr) -> Result<ss_core::Expr, FormStop>
+pub(crate) fn narrow_expr(alloc: Global, e: &Expr) -> Result<ss_second_core::Expr, FormStop>
     ensures { Answers core.expr (narrow.expr (whole.expr e.now)) result }
 {
     match e {
-        Expr::Int(place, value) => Ok(ss_core::Expr::Int(*place, *value)),
-        Expr::Bool(place, value) => Ok(ss_core::Expr::Bool(*place, *value)),
-        Expr::Local(place, number) => Ok(ss_core::Expr::Local(*place, *number)),
+        Expr::Int(place, value) => Ok(ss_second_core::Expr::Int(*place, *value)),
+        Expr::Bool(place, value) => Ok(ss_second_core::Expr::Bool(*place, *value)),
+        Expr::Local(place, number) => Ok(ss_second_core::Expr::Local(*place, *number)),
         Expr::Not(place, e) => {
             let e = narrow_expr(alloc, e)?;
-            Ok(ss_core::Expr::Not(*place, Box::new(alloc, e)?))
+            Ok(ss_second_core::Expr::Not(*place, Box::new(alloc, e)?))
         }
         Expr::Implies(place, a, b) => {
             let left = narrow_expr(alloc, a)?;
@@ -66,8 +65,8 @@ fn narrow_links(
     alloc: Global,
     links: &[Link],
     place: Place,
-    head: ss_core::Expr,
-) -> Result<ss_core::Expr, FormStop>
+    head: ss_second_core::Expr,
+) -> Result<ss_second_core::Expr, FormStop>
     ensures { (first : ExprTree) → narrow.expr first ≡ Some (core.expr head) → Answers core.expr (narrow.expr (linked place first links.now)) result }
 {
     let mut left = head;
@@ -83,8 +82,8 @@ fn narrow_link(
     alloc: Global,
     link: &Link,
     place: Place,
-    left: ss_core::Expr,
-) -> Result<ss_core::Expr, FormStop>
+    left: ss_second_core::Expr,
+) -> Result<ss_second_core::Expr, FormStop>
     ensures { (first : ExprTree) → narrow.expr first ≡ Some (core.expr left) → Answers core.expr (narrow.expr (link_behind link.now place first)) result }
 {
     match link {
@@ -97,7 +96,7 @@ fn narrow_link(
 }
 
 /// The expressions in the trees of the second form.
-pub(crate) fn narrow_exprs(alloc: Global, es: &[Expr]) -> Result<Vec<ss_core::Expr>, FormStop>
+pub(crate) fn narrow_exprs(alloc: Global, es: &[Expr]) -> Result<Vec<ss_second_core::Expr>, FormStop>
     ensures { Answers (λ v. core.exprs v.items) (all_of narrow.expr (whole.exprs es.now)) result }
 {
     let mut list = Vec::new(alloc);

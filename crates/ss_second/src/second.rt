@@ -1,20 +1,19 @@
 // Programs.
 
 ghost use Rattle.std.specs.Prelude.{◌≡◌, IfOk, map, string_bytes};
-ghost use Rattle.ss_core.specs.View as core;
-ghost use Rattle.ss_run.specs.Formed.{IsFormed};
-ghost use Rattle.ss_classes.specs.Tree.{ClassTree};
-ghost use Rattle.ss_classes.specs.View as whole;
+ghost use Rattle.ss_second_core.specs.View as core;
+ghost use Rattle.ss_second_run.specs.Formed.{IsFormed};
+ghost use Rattle.ss_core.specs.Tree.{ClassTree};
+ghost use Rattle.ss_core.specs.View as whole;
 ghost use Rattle.ss_typed.specs.View as typed;
-ghost use Rattle.ss_elab.specs.Elaborated.{elaborated};
+ghost use Rattle.ss_expand_rules.specs.Elaborated.{elaborated};
 ghost use Rattle.ss_second.specs.Second.{has_methods_alone, is_one_class, methods, narrowed, formed_alone, second_form};
 ghost use Rattle.ss_second.specs.Answers.{Answers};
 
 use crate::bodies::narrow_bodies;
 use crate::stop::FormStop;
-use ss_classes::{Body, Class};
-use ss_core::BodyId;
-use ss_formed::is_formed;
+use ss_core::{Body, BodyId, Class};
+use ss_second_formed::is_formed;
 use ss_typed::{Typed, TypedClass};
 use std::alloc::{AllocError, Global};
 
@@ -36,7 +35,7 @@ fn is_one_class(classes: &[TypedClass]) -> bool
 }
 
 // The methods, which stand behind the constructor.
-fn narrow_methods(alloc: Global, bodies: &[Body]) -> Result<Vec<ss_core::Body>, FormStop>
+fn narrow_methods(alloc: Global, bodies: &[Body]) -> Result<Vec<ss_second_core::Body>, FormStop>
     ensures { Answers (λ v. map core.body v.items) (methods (map whole.body bodies.now)) result }
 {
     match bodies {
@@ -55,7 +54,7 @@ fn list_names(alloc: Global, classes: &[Class]) -> Result<Vec<String>, AllocErro
     Ok(names)
 }
 
-fn narrow(alloc: Global, program: &ss_classes::Core) -> Result<ss_core::Core, FormStop>
+fn narrow(alloc: Global, program: &ss_core::Core) -> Result<ss_second_core::Core, FormStop>
     ensures { Answers core.core (narrowed (whole.core program.now)) result }
 {
     let bodies = narrow_methods(alloc, &program.bodies)?;
@@ -64,8 +63,8 @@ fn narrow(alloc: Global, program: &ss_classes::Core) -> Result<ss_core::Core, Fo
         return Err(FormStop::NotOfForm);
     }
     let names = list_names(alloc, &program.classes.list)?;
-    Ok(ss_core::Core {
-        classes: ss_core::Classes { names },
+    Ok(ss_second_core::Core {
+        classes: ss_second_core::Classes { names },
         bodies,
         main: BodyId(main - 1),
     })
@@ -76,8 +75,8 @@ fn narrow(alloc: Global, program: &ss_classes::Core) -> Result<ss_core::Core, Fo
 pub fn second_form(
     alloc: Global,
     program: &Typed,
-    elaboration: &ss_classes::Core,
-) -> Result<ss_core::Core, FormStop>
+    elaboration: &ss_core::Core,
+) -> Result<ss_second_core::Core, FormStop>
     requires elaborated { whole.core elaboration.now ≡ elaborated (typed.typed program.now) }
     ensures exact { Answers core.core (second_form (typed.typed program.now)) result }
     ensures formed { IfOk result (λ c. IsFormed (core.core c)) }

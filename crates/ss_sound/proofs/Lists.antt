@@ -8,7 +8,7 @@ use Rattle.std.proofs.lemmas.Option.{slice_get_within}
 use Rattle.ss_terms.specs.declared.forms.FormulaId.{FormulaId}
 use Rattle.ss_terms.specs.Forms.{Forms, AreBelow, HasFormula, HasFormulas, IsGrown}
 use Rattle.ss_terms.proofs.Banks.{HasFormula-grown, formulas_at-grown}
-use Rattle.ss_oblig.specs.Obligations as oblig
+use Rattle.ss_vcgen_rules.specs.Obligations as oblig
 use Rattle.ss_vcgen.specs.declared.list.Obligation.{Obligation}
 use Rattle.ss_vcgen.specs.Built.{obligation_in, obligations_in, IsPlaced, AreWithin}
 use Rattle.ss_search.specs.Countermodel.{model_of}

@@ -1,9 +1,9 @@
 -- The answers of verification.
 use Rattle.std.specs.Prelude.{◌≡◌, ◌≢◌, ℕ, ◌+◌, ◌<◌, ◌≤◌, List, [], ◌∷◌, map, Option, Some, None, Vec, slice_get}
 use Rattle.std.specs.declared.alloc.Global.{Global}
-use Rattle.ss_models.specs.Models.{Model, Refutes}
-use Rattle.ss_models.specs.Ground.{ground}
-use Rattle.ss_oblig.specs.Obligations.{Obligation}
+use Rattle.ss_logic_models.specs.Models.{Model, Refutes}
+use Rattle.ss_logic_models.specs.Ground.{ground}
+use Rattle.ss_vcgen_rules.specs.Obligations.{Obligation}
 use Rattle.ss_search.specs.Countermodel.{model_of}
 use Rattle.ss_search.specs.declared.model.Countered.{Countered}
 use Rattle.ss_sound.specs.Decided.{HasDerivation}

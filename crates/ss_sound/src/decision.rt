@@ -1,8 +1,8 @@
 // One obligation.
 
 ghost use Rattle.std.specs.Prelude.{◌≡◌, ℕ, ◌<◌, length, take};
-ghost use Rattle.ss_models.specs.Models.{Refutes};
-ghost use Rattle.ss_models.specs.Ground.{ground};
+ghost use Rattle.ss_logic_models.specs.Models.{Refutes};
+ghost use Rattle.ss_logic_models.specs.Ground.{ground};
 ghost use Rattle.ss_search.specs.Countermodel.{model_of};
 ghost use Rattle.ss_terms.specs.Forms.{HasFormula, HasFormulas, IsGrown, formula_at, formulas_at};
 ghost use Rattle.ss_sound.specs.Decided.{HasDerivation, IfDerived, IfRefuted};
@@ -13,7 +13,7 @@ use ss_terms::{Bank, FormulaId};
 use std::alloc::Global;
 
 /// What was found of one obligation.
-#[derive(Debug, Drop)]
+#[derive(Drop)]
 pub enum Decision {
     /// It has a derivation, which the checker accepted.
     Derived,

@@ -1,10 +1,10 @@
 // A whole program.
 
 ghost use Rattle.std.specs.Prelude.{◌≡◌, ◌≤◌, length, IfOk};
-ghost use Rattle.ss_core.specs.View.{core};
-ghost use Rattle.ss_run.specs.Formed.{IsFormed};
-ghost use Rattle.ss_run.specs.Safe.{IsSafe};
-ghost use Rattle.ss_oblig.specs.Obligations as oblig;
+ghost use Rattle.ss_second_core.specs.View.{core};
+ghost use Rattle.ss_second_run.specs.Formed.{IsFormed};
+ghost use Rattle.ss_second_run.specs.Safe.{IsSafe};
+ghost use Rattle.ss_vcgen_rules.specs.Obligations as oblig;
 ghost use Rattle.ss_terms.specs.Forms.{HasFormula, HasFormulas, IsGrown};
 ghost use Rattle.ss_search.specs.Countermodel.{model_of};
 ghost use Rattle.ss_vcgen.specs.Built.{trees, obligation_in, obligations_in, IsWithin, AreWithin};
@@ -12,14 +12,14 @@ ghost use Rattle.ss_sound.specs.Decided.{IfDerived, IfRefuted};
 ghost use Rattle.ss_sound.specs.Verdicts.{IsProved, AreProved, IsRefutedBy, AreDecided, IsUnproved, IfVerified, IfUnproved};
 
 use crate::decision::{Decision, decide};
-use ss_core::Core;
+use ss_second_core::Core;
 use ss_search::Countered;
 use ss_terms::{Bank, FormulaId};
 use ss_vcgen::{Obligation, Obligations};
 use std::alloc::{AllocFailed, Global};
 
 /// The answer of verification.
-#[derive(Debug, Drop)]
+#[derive(Drop)]
 pub enum Verdict {
     /// Each obligation has a derivation that the checker accepted.
     Verified,

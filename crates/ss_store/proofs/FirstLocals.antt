@@ -2,19 +2,19 @@
 use Rattle.std.proofs.Common.{◌≡◌, ℕ, ℤ, Bool, true, ◌&&◌, ◌≤◌, List, [], ◌∷◌, ◌++◌, map, take, length, refl, sym, ◌∙◌, ap, Option}
 use Rattle.std.specs.Prelude.{option_to_list}
 use Rattle.std.proofs.lemmas.List.{map-append, append_assoc, take_all}
-use Rattle.ss_classes.specs.declared.names.Ty.{Ty}
-use Rattle.ss_classes.specs.declared.body.Local.{Local}
+use Rattle.ss_core.specs.declared.names.Ty.{Ty}
+use Rattle.ss_core.specs.declared.body.Local.{Local}
 use Rattle.std.specs.List.{list_all}
 use Rattle.std.proofs.lemmas.List.Folds.{list_all-map}
-use Rattle.ss_classes.specs.declared.expr.Expr.{Expr}
-use Rattle.ss_classes.specs.declared.body.Body.{Body}
-use Rattle.ss_classes.specs.Tree.{ClassTree}
-use Rattle.ss_classes.specs.View.{local_of, body, expr, exprs}
-use Rattle.ss_objects.specs.declared.Value.{Value}
-use Rattle.ss_objects.specs.Store.{Object, default_value}
-use Rattle.ss_objects.specs.Values.{holds, setting}
-use Rattle.ss_objects.specs.Admitted.{first_store, first_locals, takes_input}
-use Rattle.ss_objects.specs.Locals.{types_of}
+use Rattle.ss_core.specs.declared.expr.Expr.{Expr}
+use Rattle.ss_core.specs.declared.body.Body.{Body}
+use Rattle.ss_core.specs.Tree.{ClassTree}
+use Rattle.ss_core.specs.View.{local_of, body, expr, exprs}
+use Rattle.ss_store_rules.specs.declared.Value.{Value}
+use Rattle.ss_store_rules.specs.Store.{Object, default_value}
+use Rattle.ss_store_rules.specs.Values.{holds, setting}
+use Rattle.ss_store_rules.specs.Admitted.{first_store, first_locals, takes_input}
+use Rattle.ss_store_rules.specs.Locals.{types_of}
 
 defaults_of : (ls : List Local) → map (λ x. default_value x.ty) ls ≡ map default_value (types_of (map local_of ls))
 defaults_of [] = refl

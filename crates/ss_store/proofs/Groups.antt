@@ -5,21 +5,21 @@ use Rattle.std.specs.Global.{Vec, Box}
 use Rattle.std.proofs.Math.Seq.{drop-cons}
 use Rattle.std.proofs.Math.ListN.{drop_of_length-le}
 use Rattle.ss_core.specs.declared.names.Place.{Place}
-use Rattle.ss_classes.specs.declared.expr.Link.{Link}
-use Rattle.ss_classes.specs.declared.expr.Step.{Step}
-use Rattle.ss_classes.specs.declared.expr.Expr.{Expr}
-use Rattle.ss_classes.specs.declared.expr.Expr.TheFolds.{fold-roll-Expr, fold_out-Link, fold_out-Step}
-use Rattle.ss_classes.specs.declared.expr.Expr.TheVariants.{Chain, rolls-Chain, Path, rolls-Path}
-use Rattle.ss_classes.specs.declared.expr.Expr.TheOpen as shape
-use Rattle.ss_classes.specs.declared.expr.Expr.TheOpen.{Link-F, Step-F}
-use Rattle.ss_classes.specs.Tree.{ExprTree}
-use Rattle.ss_classes.specs.View.{Behind, grouped, expr, expr_step, link_step, step_step}
-use Rattle.ss_objects.specs.declared.Value.{Value}
-use Rattle.ss_objects.specs.declared.Undefined.{Undefined}
-use Rattle.ss_objects.specs.Reads.{as_int}
-use Rattle.ss_objects.specs.Numbers.{Outcome}
-use Rattle.ss_objects.specs.Values.{Setting, truth, and_then, operation, field_value, element_value, length_value, is_of, value_of}
-use Rattle.ss_objects.specs.declared.Value.TheVariants as value
+use Rattle.ss_core.specs.declared.expr.Link.{Link}
+use Rattle.ss_core.specs.declared.expr.Step.{Step}
+use Rattle.ss_core.specs.declared.expr.Expr.{Expr}
+use Rattle.ss_core.specs.declared.expr.Expr.TheFolds.{fold-roll-Expr, fold_out-Link, fold_out-Step}
+use Rattle.ss_core.specs.declared.expr.Expr.TheVariants.{Chain, rolls-Chain, Path, rolls-Path}
+use Rattle.ss_core.specs.declared.expr.Expr.TheOpen as shape
+use Rattle.ss_core.specs.declared.expr.Expr.TheOpen.{Link-F, Step-F}
+use Rattle.ss_core.specs.Tree.{ExprTree}
+use Rattle.ss_core.specs.View.{Behind, grouped, expr, expr_step, link_step, step_step}
+use Rattle.ss_store_rules.specs.declared.Value.{Value}
+use Rattle.ss_store_rules.specs.declared.Undefined.{Undefined}
+use Rattle.ss_store_rules.specs.Reads.{as_int}
+use Rattle.ss_store_rules.specs.Numbers.{Outcome}
+use Rattle.ss_store_rules.specs.Values.{Setting, truth, and_then, operation, field_value, element_value, length_value, is_of, value_of}
+use Rattle.ss_store_rules.specs.declared.Value.TheVariants as value
 use Rattle.std.specs.Prelude.{if◌then◌else◌}
 use Rattle.ss_store.specs.Grouped.{link_behind, step_behind, IsBehind}
 

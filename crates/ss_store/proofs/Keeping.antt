@@ -4,13 +4,13 @@ use Rattle.std.proofs.lemmas.Bool.{lt-ltb}
 use mir.Syntax.{w32}
 use mir.Val.{SFits}
 use Rattle.std.specs.Prelude.{Result, OnOk, OnErr}
-use Rattle.ss_classes.specs.Tree.{ClassTree}
-use Rattle.ss_classes.specs.Chain.{is_declared}
-use Rattle.ss_objects.specs.Store.{Object}
-use Rattle.ss_objects.specs.Numbers.{fits}
-use Rattle.ss_objects.specs.Changes.{is_array, new_object_of, new_array_of}
-use Rattle.ss_objects.specs.Keeps.{Keeps}
-use Rattle.ss_objects.proofs.Keeps.{Keeps-same, Keeps-new_object, Keeps-new_array}
+use Rattle.ss_core.specs.Tree.{ClassTree}
+use Rattle.ss_core.specs.Chain.{is_declared}
+use Rattle.ss_store_rules.specs.Store.{Object}
+use Rattle.ss_store_rules.specs.Numbers.{fits}
+use Rattle.ss_store_rules.specs.Changes.{is_array, new_object_of, new_array_of}
+use Rattle.ss_store_rules.specs.Keeps.{Keeps}
+use Rattle.ss_store_rules.proofs.Keeps.{Keeps-same, Keeps-new_object, Keeps-new_array}
 use Rattle.ss_store.specs.Shapes.{Contents}
 
 pub keeps_made : {A E : Type 0} (r : Result A E) (cs : List ClassTree) (s s' : Contents) (c : ℕ) → OnOk r (s'.objects ≡ new_object_of cs s.objects c) → OnErr r (s' ≡ s) → is_declared cs c ≡ true → Keeps cs s.objects s'.objects

@@ -2,8 +2,8 @@
 use Rattle.std.proofs.Common.{◌≡◌, ℕ, zero, suc, ◌-◌, ◌<◌, ◌≤◌, length, arith, List, [], ◌∷◌, ◌++◌, refl, sym, ap, ◌∙◌, slice_index_or, Bor}
 use Rattle.std.specs.Prelude.{Ok, Err}
 use Rattle.std.specs.Result.{result_unwrap_or}
-use Rattle.ss_objects.specs.declared.Value.{Value}
-use Rattle.ss_objects.specs.declared.Value.TheVariants as value
+use Rattle.ss_store_rules.specs.declared.Value.{Value}
+use Rattle.ss_store_rules.specs.declared.Value.TheVariants as value
 use Rattle.ss_store.specs.declared.names.Names.{Names}
 use Rattle.ss_store.specs.declared.names.Names.TheFolds.{fold-roll-Names}
 use Rattle.ss_store.specs.declared.names.Names.TheOpen as shape

@@ -2,9 +2,9 @@
 use Rattle.std.proofs.Common.{◌≡◌, ◌≢◌, ℕ, zero, suc, ◌+◌, ◌<◌, ◌≤◌, List, [], ◌∷◌, ◌++◌, length, map, take, drop, set, get_or, Bool, true, false, ◌||◌, refl, sym, ◌∙◌, ap, subst, arith}
 use Rattle.std.proofs.lemmas.List.{get_or_at, set_at, take_more, drop_more, length-take-le, length-map, map-append, append_assoc, append-nil}
 use Rattle.std.proofs.lemmas.Bool.{eq-eqb, ne_eqb}
-use Rattle.ss_objects.specs.declared.Value.{Value}
-use Rattle.ss_objects.specs.Store.{Object}
-use Rattle.ss_objects.specs.Changes.{changed_from, changed, with_field, written, element_written, made_ready}
+use Rattle.ss_store_rules.specs.declared.Value.{Value}
+use Rattle.ss_store_rules.specs.Store.{Object}
+use Rattle.ss_store_rules.specs.Changes.{changed_from, changed, with_field, written, element_written, made_ready}
 
 pub length-changed_from : (n : ℕ) (f : ℕ → Object → Object) (s : List Object) → length (changed_from n f s) ≡ length s
 length-changed_from n f [] = refl

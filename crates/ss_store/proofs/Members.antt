@@ -9,14 +9,14 @@ use Rattle.std.proofs.Math.Facts.{to_z-of_z}
 use Rattle.std.proofs.iter.Distance.{went_up}
 use borrow.Author.Tests.{ltb-true, ltb-false}
 use Rattle.std.specs.Int.{int_gap}
-use Rattle.ss_classes.specs.declared.expr.Quantifier.{Quantifier}
-use Rattle.ss_classes.specs.declared.expr.Quantifier.TheVariants as quantifier
-use Rattle.ss_classes.specs.Tree.{ExprTree}
-use Rattle.ss_objects.specs.declared.Value.{Value}
-use Rattle.ss_objects.specs.declared.Undefined.{Undefined}
-use Rattle.ss_objects.specs.Reads.{as_bool}
-use Rattle.ss_objects.specs.Numbers.{Outcome}
-use Rattle.ss_objects.specs.Values.{Setting, with_bound, truth, and_then, of_none, joined, quantified, value_of}
+use Rattle.ss_core.specs.declared.expr.Quantifier.{Quantifier}
+use Rattle.ss_core.specs.declared.expr.Quantifier.TheVariants as quantifier
+use Rattle.ss_core.specs.Tree.{ExprTree}
+use Rattle.ss_store_rules.specs.declared.Value.{Value}
+use Rattle.ss_store_rules.specs.declared.Undefined.{Undefined}
+use Rattle.ss_store_rules.specs.Reads.{as_bool}
+use Rattle.ss_store_rules.specs.Numbers.{Outcome}
+use Rattle.ss_store_rules.specs.Values.{Setting, with_bound, truth, and_then, of_none, joined, quantified, value_of}
 
 -- the value of a member by its number
 abbrev pub member_of : Setting → ExprTree → ℤ → Outcome

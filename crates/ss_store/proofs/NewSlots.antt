@@ -6,14 +6,14 @@ use Rattle.std.proofs.Math.ListN.{drop_of_length-le}
 use Rattle.std.proofs.lemmas.List.Concat.{length-flat_map}
 use Rattle.std.proofs.lemmas.Bool.{cases_eq, eq-eqb, ne_eqb}
 use Rattle.std.proofs.lemmas.Option.{slice_get-map, slice_get_read}
-use Rattle.ss_classes.specs.Tree.{ClassTree, FieldTree}
-use Rattle.ss_classes.specs.Chain.{declared, DeclaredField, in_class, fields_of_class, fields_from, all_fields, fields_of, field_count, level_above, levels, most_levels, most_classes, most_fields, IsWithinLimits}
-use Rattle.ss_classes.specs.View.{class_of, field_of}
-use Rattle.ss_classes.specs.declared.class.Class.{Class}
-use Rattle.ss_classes.specs.declared.class.Field.{Field}
-use Rattle.ss_classes.proofs.Declared.{declared_at}
-use Rattle.ss_objects.specs.Store.{Slot}
-use Rattle.ss_objects.specs.Changes.{slots_from, new_fields}
+use Rattle.ss_core.specs.Tree.{ClassTree, FieldTree}
+use Rattle.ss_core.specs.Chain.{declared, DeclaredField, in_class, fields_of_class, fields_from, all_fields, fields_of, field_count, level_above, levels, most_levels, most_classes, most_fields, IsWithinLimits}
+use Rattle.ss_core.specs.View.{class_of, field_of}
+use Rattle.ss_core.specs.declared.class.Class.{Class}
+use Rattle.ss_core.specs.declared.class.Field.{Field}
+use Rattle.ss_core.proofs.Declared.{declared_at}
+use Rattle.ss_store_rules.specs.Store.{Slot}
+use Rattle.ss_store_rules.specs.Changes.{slots_from, new_fields}
 use Rattle.ss_store.specs.Slots.{slot_for, slots_of}
 use Rattle.ss_store.proofs.Steps.{left, levels-left, left_more}
 

@@ -2,10 +2,10 @@
 use Rattle.std.proofs.Common.{◌≡◌, ◌≢◌, ℕ, ◌+◌, ◌*◌, ◌<◌, ◌≤◌, List, length, sym, ◌∙◌, arith, Option, Some}
 use Rattle.std.specs.Prelude.{slice_get}
 use Rattle.std.proofs.lemmas.Option.{slice_get_within}
-use Rattle.ss_classes.specs.Tree.{ClassTree}
-use Rattle.ss_classes.specs.Chain.{DeclaredField, all_fields, most_classes}
-use Rattle.ss_classes.proofs.Declared.{declared_place}
-use Rattle.ss_classes.proofs.Fields.{field_declared}
+use Rattle.ss_core.specs.Tree.{ClassTree}
+use Rattle.ss_core.specs.Chain.{DeclaredField, all_fields, most_classes}
+use Rattle.ss_core.proofs.Declared.{declared_place}
+use Rattle.ss_core.proofs.Fields.{field_declared}
 use Rattle.ss_store.specs.Shapes.{no_class}
 
 pub not_no_class : (cs : List ClassTree) (f : ℕ) (d : DeclaredField) → length cs ≤ most_classes → Some d ≡ slice_get (all_fields cs) f → d.class ≢ no_class

@@ -3,16 +3,16 @@ use Rattle.std.proofs.Common.{◌≡◌, ℕ, List, Bool, map, refl, sym, ◌∙
 use Rattle.std.specs.Prelude.{slice_get}
 use Rattle.std.specs.List.{list_all}
 use Rattle.std.proofs.lemmas.List.Folds.{list_all-map}
-use Rattle.ss_classes.specs.Tree.{ClassTree, ExprTree}
-use Rattle.ss_classes.specs.Chain.{declared}
-use Rattle.ss_classes.specs.View.{class_of, expr}
-use Rattle.ss_classes.specs.declared.class.Class.{Class}
-use Rattle.ss_objects.specs.declared.Value.{Value}
-use Rattle.ss_objects.specs.declared.Value.TheVariants as value
-use Rattle.ss_objects.specs.Store.{Object}
-use Rattle.ss_objects.specs.Reads.{is_null_or}
-use Rattle.ss_objects.specs.Changes.{with_object, packing, pack_of}
-use Rattle.ss_objects.specs.Admissible.{invariants, invariants_of}
+use Rattle.ss_core.specs.Tree.{ClassTree, ExprTree}
+use Rattle.ss_core.specs.Chain.{declared}
+use Rattle.ss_core.specs.View.{class_of, expr}
+use Rattle.ss_core.specs.declared.class.Class.{Class}
+use Rattle.ss_store_rules.specs.declared.Value.{Value}
+use Rattle.ss_store_rules.specs.declared.Value.TheVariants as value
+use Rattle.ss_store_rules.specs.Store.{Object}
+use Rattle.ss_store_rules.specs.Reads.{is_null_or}
+use Rattle.ss_store_rules.specs.Changes.{with_object, packing, pack_of}
+use Rattle.ss_store_rules.specs.Admissible.{invariants, invariants_of}
 
 -- it asks for those of this object alone
 pub pack_of-holds : (cs : List ClassTree) (holds : List Object → ℕ → ℕ → Bool) (s : List Object) (v : Value) (t : ℕ) → pack_of cs (λ _ _ _. is_null_or v (λ o. holds s o t)) s v t ≡ pack_of cs holds s v t

@@ -1,8 +1,8 @@
 -- The levels of a class, of which a walk has passed i.
 use Rattle.std.proofs.Common.{◌≡◌, ◌≢◌, ℕ, zero, suc, ◌+◌, ◌-◌, ◌<◌, ◌≤◌, List, [], ◌∷◌, length, Bool, true, false, eqb, refl, sym, ◌∙◌, ap, arith, Option, Some, None, ⊎_elim}
 use Rattle.std.proofs.lemmas.Bool.{cases_eq, eq-eqb, ne_eqb}
-use Rattle.ss_classes.specs.Tree.{ClassTree}
-use Rattle.ss_classes.specs.Chain.{above, level_above, levels_from, most_levels, levels}
+use Rattle.ss_core.specs.Tree.{ClassTree}
+use Rattle.ss_core.specs.Chain.{above, level_above, levels_from, most_levels, levels}
 
 -- the levels that are left
 abbrev pub left : List ClassTree → ℕ → ℕ → List ℕ

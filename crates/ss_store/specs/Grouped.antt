@@ -1,14 +1,14 @@
 -- Values of chains and paths, link by link and step by step.
 use Rattle.std.specs.Prelude.{◌≡◌, List, Ok}
 use Rattle.ss_core.specs.declared.names.Place.{Place}
-use Rattle.ss_classes.specs.declared.expr.Link.{Link}
-use Rattle.ss_classes.specs.declared.expr.Step.{Step}
-use Rattle.ss_classes.specs.declared.expr.Expr.TheFolds.{fold-Link, fold-Step}
-use Rattle.ss_classes.specs.Tree.{ExprTree}
-use Rattle.ss_classes.specs.View.{Behind, grouped, expr_step, link_step, step_step}
-use Rattle.ss_objects.specs.declared.Value.{Value}
-use Rattle.ss_objects.specs.Numbers.{Outcome}
-use Rattle.ss_objects.specs.Values.{Setting, value_of}
+use Rattle.ss_core.specs.declared.expr.Link.{Link}
+use Rattle.ss_core.specs.declared.expr.Step.{Step}
+use Rattle.ss_core.specs.declared.expr.Expr.TheFolds.{fold-Link, fold-Step}
+use Rattle.ss_core.specs.Tree.{ExprTree}
+use Rattle.ss_core.specs.View.{Behind, grouped, expr_step, link_step, step_step}
+use Rattle.ss_store_rules.specs.declared.Value.{Value}
+use Rattle.ss_store_rules.specs.Numbers.{Outcome}
+use Rattle.ss_store_rules.specs.Values.{Setting, value_of}
 
 abbrev pub link_behind : Link → Behind
 link_behind = fold-Link ExprTree Behind Behind expr_step link_step step_step

@@ -1,7 +1,7 @@
 -- The values of locals and of bound names.
 use Rattle.std.specs.Prelude.{ℕ, zero, suc, List, [], ◌∷◌, ◌++◌, slice_get, unwrap_or, Result, Ok, Err}
-use Rattle.ss_objects.specs.declared.Value.{Value}
-use Rattle.ss_objects.specs.declared.Value.TheVariants as value
+use Rattle.ss_store_rules.specs.declared.Value.{Value}
+use Rattle.ss_store_rules.specs.declared.Value.TheVariants as value
 use Rattle.ss_store.specs.declared.names.Names.{Names}
 use Rattle.ss_store.specs.declared.names.Names.TheFolds.{fold-Names}
 use Rattle.ss_store.specs.declared.names.Names.TheOpen as shape

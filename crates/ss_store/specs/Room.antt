@@ -2,7 +2,7 @@
 use Rattle.std.specs.Prelude.{◌≡◌, ℕ, ◌+◌, ◌≤◌, List, [], ◌∷◌, length, vec_capacity}
 use Rattle.std.specs.List.{All}
 use Rattle.std.specs.declared.vec.Vec.{Vec}
-use Rattle.ss_classes.specs.Chain.{most_fields}
+use Rattle.ss_core.specs.Chain.{most_fields}
 
 -- an empty list with room for the fields of each object
 pub record IsRoomy {Y Z : Type 0} (fields : Vec Y Z) : Type 0 where

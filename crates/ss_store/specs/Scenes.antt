@@ -1,8 +1,8 @@
 -- What an expression is read in, as the definitions see it.
 use Rattle.std.specs.Prelude.{List}
-use Rattle.ss_classes.specs.View.{classes}
-use Rattle.ss_objects.specs.Store.{Object}
-use Rattle.ss_objects.specs.Values.{Setting}
+use Rattle.ss_core.specs.View.{classes}
+use Rattle.ss_store_rules.specs.Store.{Object}
+use Rattle.ss_store_rules.specs.Values.{Setting}
 use Rattle.ss_store.specs.Names.{values}
 use Rattle.ss_store.specs.declared.scene.Scene.{Scene}
 

@@ -1,9 +1,9 @@
 -- What contracts see of a store, and what each object keeps.
 use Rattle.std.specs.Prelude.{ℕ, List, length, ◌<◌, ◌^◌, ◌≢◌, ◌==◌, if◌then◌else◌}
-use Rattle.ss_objects.specs.declared.Value.{Value}
-use Rattle.ss_objects.specs.declared.Owner.{Owner}
-use Rattle.ss_objects.specs.declared.Owner.TheVariants as owner
-use Rattle.ss_objects.specs.Store.{Object}
+use Rattle.ss_store_rules.specs.declared.Value.{Value}
+use Rattle.ss_store_rules.specs.declared.Owner.{Owner}
+use Rattle.ss_store_rules.specs.declared.Owner.TheVariants as owner
+use Rattle.ss_store_rules.specs.Store.{Object}
 
 -- the objects, and for how many more there is room
 pub record Contents : Type 0 where

@@ -1,7 +1,7 @@
 -- Fields of new objects.
 use Rattle.std.specs.Prelude.{ℕ, ◌+◌, List, [], ◌∷◌}
-use Rattle.ss_classes.specs.Tree.{FieldTree}
-use Rattle.ss_objects.specs.Store.{Slot, default_value}
+use Rattle.ss_core.specs.Tree.{FieldTree}
+use Rattle.ss_store_rules.specs.Store.{Slot, default_value}
 
 -- a slot for the field of this number, with its default
 abbrev pub slot_for : ℕ → FieldTree → Slot

@@ -1,13 +1,12 @@
 // Operations on values. Numbers have 32 bits, and what doesn't fit is undefined.
 ghost use Rattle.std.specs.Prelude.{◌≡◌, neg_ℤ};
-ghost use Rattle.ss_objects.specs.Numbers as numbers;
-ghost use Rattle.ss_objects.specs.Reads as reads;
-ghost use Rattle.ss_objects.specs.Values as values;
+ghost use Rattle.ss_store_rules.specs.Numbers as numbers;
+ghost use Rattle.ss_store_rules.specs.Reads as reads;
+ghost use Rattle.ss_store_rules.specs.Values as values;
 ghost use Rattle.ss_store.specs.Whole.{whole_of};
 
-use ss_classes::Operator;
-use ss_core::{Kind, Place};
-use ss_objects::{Undefined, Value};
+use ss_core::{Kind, Operator, Place};
+use ss_store_rules::{Undefined, Value};
 
 // A value that is no number counts as 0.
 pub(crate) fn as_int(value: Value) -> i32

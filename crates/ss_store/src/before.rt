@@ -1,12 +1,11 @@
 // The store as it was before.
 ghost use Rattle.std.specs.Prelude.{◌≡◌, List};
-ghost use Rattle.ss_objects.specs.Store.{Object};
-ghost use Rattle.ss_objects.specs.Reads.{object_at, is_allocated, field_read, element_read};
+ghost use Rattle.ss_store_rules.specs.Store.{Object};
+ghost use Rattle.ss_store_rules.specs.Reads.{object_at, is_allocated, field_read, element_read};
 ghost use Rattle.ss_store.specs.Shapes.{owner_of_pair};
 
-use ss_classes::FieldId;
-use ss_core::ClassId;
-use ss_objects::Value;
+use ss_core::{ClassId, FieldId};
+use ss_store_rules::Value;
 
 /// Tells single places of the store as it was at the entry of a body. What isn't there reads as nothing.
 pub trait Before {

@@ -1,20 +1,19 @@
 // The changes of a store: each exactly as defined, and each keeps a good store good.
 ghost use Rattle.std.specs.Prelude.{◌≡◌, ◌≢◌, ◌≤◌, ◌+◌, ◌-◌, ◌^◌, ◌<◌, ◌<ℤ◌, ◌↔◌, List, Some, Ok, Err, true, false, pos, length, slice_get, IfOk, OnOk, OnErr};
-ghost use Rattle.ss_classes.specs.Tree.{ClassTree};
-ghost use Rattle.ss_classes.specs.View.{classes};
-ghost use Rattle.ss_classes.specs.Chain.{is_declared, most_classes, IsWithinLimits};
-ghost use Rattle.ss_objects.specs.Store.{Object};
-ghost use Rattle.ss_objects.specs.Changes.{is_array, field_class, IsChange, unpack_of, pack_of, capture_of, join_of, write_of, write_element_of, new_object_of, new_array_of, ready_of};
-ghost use Rattle.ss_objects.specs.Good.{IsReady};
-ghost use Rattle.ss_objects.specs.Admissible.{invariants_hold};
-ghost use Rattle.ss_objects.specs.Keeps.{Keeps, IsOf, MayStandIn, IsElement, IsUnpacked, HasItsFields};
+ghost use Rattle.ss_core.specs.Tree.{ClassTree};
+ghost use Rattle.ss_core.specs.View.{classes};
+ghost use Rattle.ss_core.specs.Chain.{is_declared, most_classes, IsWithinLimits};
+ghost use Rattle.ss_store_rules.specs.Store.{Object};
+ghost use Rattle.ss_store_rules.specs.Changes.{is_array, field_class, IsChange, unpack_of, pack_of, capture_of, join_of, write_of, write_element_of, new_object_of, new_array_of, ready_of};
+ghost use Rattle.ss_store_rules.specs.Good.{IsReady};
+ghost use Rattle.ss_store_rules.specs.Admissible.{invariants_hold};
+ghost use Rattle.ss_store_rules.specs.Keeps.{Keeps, IsOf, MayStandIn, IsElement, IsUnpacked, HasItsFields};
 ghost use Rattle.ss_store.specs.Shapes.{no_class};
 
 use crate::making::NewStop;
 use crate::store::Store;
-use ss_classes::{Classes, Core, FieldId};
-use ss_core::ClassId;
-use ss_objects::{Refused, Value};
+use ss_core::{ClassId, Classes, Core, FieldId};
+use ss_store_rules::{Refused, Value};
 use std::alloc::AllocError;
 
 impl Store {

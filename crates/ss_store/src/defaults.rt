@@ -1,11 +1,11 @@
 // Conditions of default contracts.
 ghost use Rattle.std.specs.Prelude.{◌≡◌, ◌≤◌, length, slice_get};
 ghost use Rattle.std.specs.List.{list_all};
-ghost use Rattle.ss_classes.specs.View.{classes, default_tree};
-ghost use Rattle.ss_classes.specs.Chain.{all_fields, most_classes};
-ghost use Rattle.ss_objects.specs.Store as model;
-ghost use Rattle.ss_objects.specs.Values as values;
-ghost use Rattle.ss_objects.specs.Reads as reads;
+ghost use Rattle.ss_core.specs.View.{classes, default_tree};
+ghost use Rattle.ss_core.specs.Chain.{all_fields, most_classes};
+ghost use Rattle.ss_store_rules.specs.Store as model;
+ghost use Rattle.ss_store_rules.specs.Values as values;
+ghost use Rattle.ss_store_rules.specs.Reads as reads;
 ghost use Rattle.ss_store.specs.Scenes.{setting_of};
 
 use crate::arithmetic::same_value;
@@ -14,9 +14,8 @@ use crate::object::{Object, Slot};
 use crate::scene::Scene;
 use crate::store::Store;
 use crate::words::is_group;
-use ss_classes::{Classes, DefaultCondition, Ty};
-use ss_core::ClassId;
-use ss_objects::{Owner, Value};
+use ss_core::{ClassId, Classes, DefaultCondition, Ty};
+use ss_store_rules::{Owner, Value};
 
 // What a new field of the type has.
 pub(crate) fn default_value(ty: Ty) -> Value

@@ -1,10 +1,10 @@
 // Values of expressions.
 ghost use Rattle.std.specs.Prelude.{◌≡◌, ◌≤◌, [], ◌∷◌, map, length};
 ghost use Rattle.std.specs.Int.{int_gap};
-ghost use Rattle.ss_classes.specs.View as view;
-ghost use Rattle.ss_classes.specs.Chain.{most_classes};
-ghost use Rattle.ss_objects.specs.Values as values;
-ghost use Rattle.ss_objects.specs.Reads as reads;
+ghost use Rattle.ss_core.specs.View as view;
+ghost use Rattle.ss_core.specs.Chain.{most_classes};
+ghost use Rattle.ss_store_rules.specs.Values as values;
+ghost use Rattle.ss_store_rules.specs.Reads as reads;
 ghost use Rattle.ss_store.specs.Scenes.{setting_of};
 ghost use Rattle.ss_store.specs.Grouped.{link_behind, step_behind, IsBehind};
 
@@ -13,9 +13,8 @@ use crate::before::Before;
 use crate::names::Names;
 use crate::scene::Scene;
 use crate::store::Store;
-use ss_classes::{Core, Expr, Link, Quantifier, Step};
-use ss_core::Place;
-use ss_objects::{Undefined, Value};
+use ss_core::{Core, Expr, Link, Place, Quantifier, Step};
+use ss_store_rules::{Undefined, Value};
 
 impl<'a, B: Before> Scene<'a, B> {
     // The same inside `old`.
@@ -223,8 +222,8 @@ fn eval_member<B: Before>(scene: &Scene<'_, B>, i: i32, member: &Expr) -> Result
 }
 
 impl Store {
-    ghost use Rattle.ss_classes.specs.View.{classes};
-    ghost use Rattle.ss_objects.specs.Values.{value_of, setting};
+    ghost use Rattle.ss_core.specs.View.{classes};
+    ghost use Rattle.ss_store_rules.specs.Values.{value_of, setting};
 
     /// The value of an expression of the program over this store, with these values of the locals, or the first cause why it
     /// has none; `before` tells what `old` and `IsNew` speak of.

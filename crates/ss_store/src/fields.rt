@@ -1,14 +1,13 @@
 // The fields of new objects.
 ghost use Rattle.std.specs.Prelude.{◌≡◌, ◌+◌, ◌^◌, ◌<◌, ◌≤◌, ◌++◌, length, map, vec_capacity, OnOk, OnErr};
-ghost use Rattle.ss_classes.specs.View.{classes, field_of};
-ghost use Rattle.ss_classes.specs.Chain.{all_fields, IsWithinLimits};
-ghost use Rattle.ss_objects.specs.Changes.{slots_from, new_fields};
+ghost use Rattle.ss_core.specs.View.{classes, field_of};
+ghost use Rattle.ss_core.specs.Chain.{all_fields, IsWithinLimits};
+ghost use Rattle.ss_store_rules.specs.Changes.{slots_from, new_fields};
 ghost use Rattle.ss_store.specs.Slots.{slot_for, slots_of};
 
 use crate::defaults::default_value;
 use crate::object::Slot;
-use ss_classes::{Classes, Field, FieldId, MOST_LEVELS};
-use ss_core::ClassId;
+use ss_core::{ClassId, Classes, Field, FieldId, MOST_LEVELS};
 use std::alloc::AllocError;
 
 fn slot_for(number: u32, field: &Field) -> Slot

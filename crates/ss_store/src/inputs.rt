@@ -1,16 +1,15 @@
 // The first state of a run, and the inputs that a program admits.
 ghost use Rattle.std.specs.Prelude.{◌≡◌, ◌<◌, ◌≤◌, ◌^◌, ◌++◌, Some, length, map, option_to_list, IfOk};
-ghost use Rattle.ss_objects.specs.Store.{default_value};
-ghost use Rattle.ss_classes.specs.View.{classes, core, body, local_of};
-ghost use Rattle.ss_classes.specs.Chain.{most_classes};
-ghost use Rattle.ss_objects.specs.Admitted.{first_store, main_arguments, first_locals, takes_input, admits, admitted};
+ghost use Rattle.ss_store_rules.specs.Store.{default_value};
+ghost use Rattle.ss_core.specs.View.{classes, core, body, local_of};
+ghost use Rattle.ss_core.specs.Chain.{most_classes};
+ghost use Rattle.ss_store_rules.specs.Admitted.{first_store, main_arguments, first_locals, takes_input, admits, admitted};
 
 use crate::defaults::default_value;
 use crate::object::Object;
 use crate::store::Store;
-use ss_classes::{Body, Core, Local, Ty};
-use ss_core::ClassId;
-use ss_objects::{Owner, Value};
+use ss_core::{Body, ClassId, Core, Local, Ty};
+use ss_store_rules::{Owner, Value};
 use std::alloc::{AllocError, Global};
 
 /// The class `int[]`.

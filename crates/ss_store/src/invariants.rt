@@ -1,17 +1,16 @@
 // Conditions that hold, and the invariants of an object.
 ghost use Rattle.std.specs.Prelude.{◌≡◌, ◌≤◌, length};
 ghost use Rattle.std.specs.List.{list_all};
-ghost use Rattle.ss_classes.specs.View.{classes, expr};
-ghost use Rattle.ss_classes.specs.Chain.{most_classes};
-ghost use Rattle.ss_objects.specs.Reads.{is_null_or};
-ghost use Rattle.ss_objects.specs.Values.{setting, holds};
-ghost use Rattle.ss_objects.specs.Admissible.{invariants_hold};
+ghost use Rattle.ss_core.specs.View.{classes, expr};
+ghost use Rattle.ss_core.specs.Chain.{most_classes};
+ghost use Rattle.ss_store_rules.specs.Reads.{is_null_or};
+ghost use Rattle.ss_store_rules.specs.Values.{setting, holds};
+ghost use Rattle.ss_store_rules.specs.Admissible.{invariants_hold};
 
 use crate::arithmetic::as_bool;
 use crate::store::Store;
-use ss_classes::{Core, Expr};
-use ss_core::ClassId;
-use ss_objects::Value;
+use ss_core::{ClassId, Core, Expr};
+use ss_store_rules::Value;
 
 impl Store {
     /// Whether the expression is true with these values of the locals.

@@ -1,18 +1,17 @@
 // Levels: unpack and pack (JOT 2004).
 ghost use Rattle.std.specs.Prelude.{◌≡◌, ◌≤◌, length};
-ghost use Rattle.ss_classes.specs.View.{classes};
-ghost use Rattle.ss_classes.specs.Chain.{most_classes};
-ghost use Rattle.ss_objects.specs.Admissible.{invariants_hold};
+ghost use Rattle.ss_core.specs.View.{classes};
+ghost use Rattle.ss_core.specs.Chain.{most_classes};
+ghost use Rattle.ss_store_rules.specs.Admissible.{invariants_hold};
 ghost use Rattle.std.specs.List.{list_all};
-ghost use Rattle.ss_objects.specs.Changes.{IsChange, changed, unpacked, unpack_of, repacked, may_be_committed, pack_of};
+ghost use Rattle.ss_store_rules.specs.Changes.{IsChange, changed, unpacked, unpack_of, repacked, may_be_committed, pack_of};
 
 use crate::object::Object;
 use crate::owners::is_pair;
 use crate::refused::refuse;
 use crate::store::Store;
-use ss_classes::{Classes, Core};
-use ss_core::{ClassId, Kind};
-use ss_objects::{Refused, Value};
+use ss_core::{ClassId, Classes, Core, Kind};
+use ss_store_rules::{Refused, Value};
 
 impl Object {
     /// The object at `q`, where the one at `o` is unpacked from `t`.

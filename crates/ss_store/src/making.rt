@@ -1,18 +1,17 @@
 // New objects, and room for them.
 ghost use Rattle.std.specs.Prelude.{◌≡◌, ◌+◌, ◌^◌, ◌<◌, ◌<ℤ◌, ◌↔◌, ℕ, pos, length, replicate, IfOk, OnOk, OnErr};
 ghost use Rattle.std.specs.List.{All};
-ghost use Rattle.ss_classes.specs.View.{classes};
-ghost use Rattle.ss_classes.specs.Chain.{IsWithinLimits, most_fields};
-ghost use Rattle.ss_objects.specs.Store.{default_value};
-ghost use Rattle.ss_objects.specs.Changes.{element_type, new_array, new_array_of, new_object_of};
+ghost use Rattle.ss_core.specs.View.{classes};
+ghost use Rattle.ss_core.specs.Chain.{IsWithinLimits, most_fields};
+ghost use Rattle.ss_store_rules.specs.Store.{default_value};
+ghost use Rattle.ss_store_rules.specs.Changes.{element_type, new_array, new_array_of, new_object_of};
 ghost use Rattle.ss_store.specs.Room.{IsRoomy};
 
 use crate::fields::push_fields;
 use crate::object::{Object, Slot};
 use crate::store::Store;
-use ss_classes::Classes;
-use ss_core::ClassId;
-use ss_objects::{Owner, Value};
+use ss_core::{ClassId, Classes};
+use ss_store_rules::{Owner, Value};
 use std::alloc::{AllocError, Global};
 
 /// Why no array is made.

@@ -2,7 +2,7 @@
 ghost use Rattle.std.specs.Prelude.{◌≡◌};
 ghost use Rattle.ss_store.specs.Names.{values, look_up, or_next, local_read};
 
-use ss_objects::Value;
+use ss_store_rules::Value;
 
 /// The values of the locals, and behind them those of the bound names, from the outermost inwards.
 #[derive(Drop)]

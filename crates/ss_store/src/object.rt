@@ -1,9 +1,8 @@
 // Objects.
 ghost use Rattle.std.specs.Prelude.{◌≡◌, ◌<◌, ◌^◌, length};
 
-use ss_classes::FieldId;
-use ss_core::ClassId;
-use ss_objects::{Owner, Value};
+use ss_core::{ClassId, FieldId};
+use ss_store_rules::{Owner, Value};
 use std::marker::Model;
 
 /// Stands in place of a class where the owner is a group.
@@ -17,7 +16,7 @@ pub(crate) struct Slot {
 }
 
 impl Model for Slot {
-    ghost use Rattle.ss_objects.specs.Store as model;
+    ghost use Rattle.ss_store_rules.specs.Store as model;
 
     ghost Value = { model.Slot };
 
@@ -37,7 +36,7 @@ pub(crate) struct Object {
 }
 
 impl Model for Object {
-    ghost use Rattle.ss_objects.specs.Store as model;
+    ghost use Rattle.ss_store_rules.specs.Store as model;
     ghost use Rattle.ss_store.specs.Shapes.{IsObject};
 
     ghost Value = { model.Object };

@@ -1,14 +1,14 @@
 // Owners: a whole group gets one.
 ghost use Rattle.std.specs.Prelude.{◌≡◌, ◌≢◌};
-ghost use Rattle.ss_objects.specs.Reads.{is_pair, is_in_group, same_owner};
-ghost use Rattle.ss_objects.specs.Changes.{IsChange, changed, regrouped, capture_of, join_of};
+ghost use Rattle.ss_store_rules.specs.Reads.{is_pair, is_in_group, same_owner};
+ghost use Rattle.ss_store_rules.specs.Changes.{IsChange, changed, regrouped, capture_of, join_of};
 ghost use Rattle.ss_store.specs.Shapes.{no_class, HasClass};
 
 use crate::object::Object;
 use crate::refused::refuse;
 use crate::store::Store;
 use ss_core::{ClassId, Kind};
-use ss_objects::{Owner, Refused};
+use ss_store_rules::{Owner, Refused};
 
 /// Whether the owner is the pair of the object at `o` and the class.
 pub(crate) fn is_pair(owner: Owner, o: u32, t: ClassId) -> bool

@@ -1,15 +1,14 @@
 // Reads of objects, and tests of their classes.
 ghost use Rattle.std.specs.Prelude.{◌≡◌};
-ghost use Rattle.ss_objects.specs.Values as values;
-ghost use Rattle.ss_objects.specs.Reads.{as_int};
+ghost use Rattle.ss_store_rules.specs.Values as values;
+ghost use Rattle.ss_store_rules.specs.Reads.{as_int};
 ghost use Rattle.ss_store.specs.Scenes.{setting_of};
 
 use crate::arithmetic::{as_int, undefined};
 use crate::before::Before;
 use crate::scene::Scene;
-use ss_classes::FieldId;
-use ss_core::{ClassId, Kind, Place};
-use ss_objects::{Undefined, Value};
+use ss_core::{ClassId, FieldId, Kind, Place};
+use ss_store_rules::{Undefined, Value};
 
 // The object that the value refers to.
 pub(crate) fn object_of(place: Place, value: Value) -> Result<u32, Undefined>

@@ -1,10 +1,10 @@
 // Objects become ready (OOPSLA 2003).
 ghost use Rattle.std.specs.Prelude.{◌≡◌, true};
-ghost use Rattle.ss_objects.specs.Changes.{ready_of};
+ghost use Rattle.ss_store_rules.specs.Changes.{ready_of};
 
 use crate::object::Object;
 use crate::store::Store;
-use ss_classes::Core;
+use ss_core::Core;
 
 impl Object {
     fn become_ready(&mut self)

@@ -2,7 +2,7 @@
 ghost use Rattle.std.specs.Prelude.{◌≡◌};
 
 use ss_core::Kind;
-use ss_objects::Refused;
+use ss_store_rules::Refused;
 
 /// The check of this kind fails.
 pub(crate) fn refuse(kind: Kind) -> Result<(), Refused>

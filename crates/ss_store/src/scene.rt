@@ -1,7 +1,7 @@
 // What an expression is read in.
 ghost use Rattle.std.specs.Prelude.{◌≡◌, ◌<◌, ◌^◌, length};
-ghost use Rattle.ss_objects.specs.Values.{class_at, length_at, state_at, local_value, is_readable};
-ghost use Rattle.ss_objects.specs.Reads.{field_read, element_read};
+ghost use Rattle.ss_store_rules.specs.Values.{class_at, length_at, state_at, local_value, is_readable};
+ghost use Rattle.ss_store_rules.specs.Reads.{field_read, element_read};
 ghost use Rattle.ss_store.specs.Shapes as shapes;
 ghost use Rattle.ss_store.specs.Scenes.{setting_of};
 
@@ -9,9 +9,8 @@ use crate::before::Before;
 use crate::names::Names;
 use crate::object::NO_CLASS;
 use crate::store::Store;
-use ss_classes::{Classes, FieldId};
-use ss_core::ClassId;
-use ss_objects::{Owner, Value};
+use ss_core::{ClassId, Classes, FieldId};
+use ss_store_rules::{Owner, Value};
 
 /// The classes, the store now and at entry, the values of the names, and whether it is inside `old`.
 #[derive(Drop)]

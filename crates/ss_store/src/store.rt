@@ -1,13 +1,12 @@
 // Stores.
 ghost use Rattle.std.specs.Prelude.{◌≡◌, ◌<◌, ◌^◌, [], length, option_copied, slice_get};
-ghost use Rattle.ss_objects.specs.Store.{slot_value};
-ghost use Rattle.ss_objects.specs.Reads.{object_at};
+ghost use Rattle.ss_store_rules.specs.Store.{slot_value};
+ghost use Rattle.ss_store_rules.specs.Reads.{object_at};
 
 use crate::before::Before;
 use crate::object::{NO_CLASS, Object, Slot};
-use ss_classes::FieldId;
-use ss_core::ClassId;
-use ss_objects::Value;
+use ss_core::{ClassId, FieldId};
+use ss_store_rules::Value;
 use std::alloc::Global;
 use std::marker::Model;
 

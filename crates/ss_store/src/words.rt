@@ -1,16 +1,15 @@
 // State words.
 ghost use Rattle.std.specs.Prelude.{◌≡◌};
-ghost use Rattle.ss_classes.specs.View.{word_tree, owners_tree};
-ghost use Rattle.ss_objects.specs.Values as values;
-ghost use Rattle.ss_objects.specs.Reads as reads;
+ghost use Rattle.ss_core.specs.View.{word_tree, owners_tree};
+ghost use Rattle.ss_store_rules.specs.Values as values;
+ghost use Rattle.ss_store_rules.specs.Reads as reads;
 ghost use Rattle.ss_store.specs.Scenes.{setting_of};
 
 use crate::before::Before;
 use crate::reads::object_of;
 use crate::scene::Scene;
-use ss_classes::{OwnerTest, StateWord};
-use ss_core::{ClassId, Place};
-use ss_objects::{Owner, Undefined, Value};
+use ss_core::{ClassId, OwnerTest, Place, StateWord};
+use ss_store_rules::{Owner, Undefined, Value};
 
 pub(crate) fn is_group(owner: Owner) -> bool
     ensures { result ≡ reads.is_group owner }

@@ -1,17 +1,16 @@
 // Writes of fields and of elements.
 ghost use Rattle.std.specs.Prelude.{◌≡◌, ◌≢◌, ◌<◌, ◌≤◌, length};
-ghost use Rattle.ss_classes.specs.View.{classes};
-ghost use Rattle.ss_classes.specs.Chain.{most_classes};
-ghost use Rattle.ss_objects.specs.Changes.{IsChange, changed, field_class, field_mark, with_content, with_field, written, with_owners, write_of, element_written, write_element_of};
+ghost use Rattle.ss_core.specs.View.{classes};
+ghost use Rattle.ss_core.specs.Chain.{most_classes};
+ghost use Rattle.ss_store_rules.specs.Changes.{IsChange, changed, field_class, field_mark, with_content, with_field, written, with_owners, write_of, element_written, write_element_of};
 ghost use Rattle.ss_store.specs.Shapes.{no_class};
 
 use crate::object::{Object, Slot};
 use crate::owners::{capture, join_peer};
 use crate::refused::refuse;
 use crate::store::Store;
-use ss_classes::{Classes, Core, FieldId, Mark};
-use ss_core::{ClassId, Kind};
-use ss_objects::{Refused, Value};
+use ss_core::{ClassId, Classes, Core, FieldId, Kind, Mark};
+use ss_store_rules::{Refused, Value};
 
 impl Slot {
     fn write(&mut self, f: FieldId, v: Value)
@@ -33,7 +32,7 @@ fn write_slots(fields: &mut [Slot], f: FieldId, v: Value)
 
 impl Object {
     ghost use Rattle.std.specs.Prelude.{slice_set};
-    ghost use Rattle.ss_objects.specs.Changes.{with_field};
+    ghost use Rattle.ss_store_rules.specs.Changes.{with_field};
 
     fn write(&mut self, f: FieldId, v: Value)
         ensures { self.new ≡ record self.old { fields = with_field self.old.fields f.0 v } }

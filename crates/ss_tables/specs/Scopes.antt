@@ -2,8 +2,8 @@
 -- statement and each quantifier; an inner scope may have a name again.
 use Rattle.std.specs.Prelude.{ℕ, Bool, true, false, List, [], ◌∷◌, ◌++◌, Option, Some, None, is_some, if◌then◌else◌}
 use Rattle.std.specs.Str.{bytes_eq}
-use Rattle.ss_classes.specs.declared.names.Ty.{Ty}
-use Rattle.ss_classes.specs.declared.names.Ty.TheVariants as ty
+use Rattle.ss_core.specs.declared.names.Ty.{Ty}
+use Rattle.ss_core.specs.declared.names.Ty.TheVariants as ty
 use Rattle.ss_ast.specs.Expressions.{NameTree, TypeTree}
 use Rattle.ss_ast.specs.Statements.{DeclaratorTree, DeclarationTree, ForInitTree, DeclareFirst, SimpleFirst, StmtTree, InBlock, DeclareOf, SimpleOf, IfOf, IfElseOf, WhileOf, ForOf, ReturnOf, AssertOf, AssumeOf, ExposeOf, EmptyOf}
 use Rattle.ss_ast.specs.Programs.{ParamTree, ClassTree}

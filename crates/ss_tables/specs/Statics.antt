@@ -1,8 +1,8 @@
 -- The static type that the form of an expression gives it, whatever its parts are: `a + b` is an `int`. None where a value has
 -- none, where a name is unknown, or where a part has not the form that is wanted.
 use Rattle.std.specs.Prelude.{ℕ, Bool, true, List, Option, Some, None, option_and_then, option_map, is_some, ◌||◌, if◌then◌else◌}
-use Rattle.ss_classes.specs.declared.names.Ty.{Ty}
-use Rattle.ss_classes.specs.declared.names.Ty.TheVariants as ty
+use Rattle.ss_core.specs.declared.names.Ty.{Ty}
+use Rattle.ss_core.specs.declared.names.Ty.TheVariants as ty
 use Rattle.ss_ast.specs.declared.expr.Operator.{Operator}
 use Rattle.ss_ast.specs.declared.expr.Operator.TheVariants as op
 use Rattle.ss_ast.specs.Expressions.{TypeTree, ExprTree, IffOf, ImpliesOf, BinaryOf, IsOf, AsOf, NegateOf, NotOf, CastOf, MemberOf, ElementOf, CallOf, NumberOf, TextOf, TruthOf, NullOf, ThisOf, BaseOf, ResultOf, NameOf, ParenOf, OldOf, NewOf, NewArrayOf, QuantifiedOf}

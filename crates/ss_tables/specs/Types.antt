@@ -1,7 +1,7 @@
 -- The types that written types mean. A type without a class of its name means none.
 use Rattle.std.specs.Prelude.{ℕ, ◌-◌, ◌==◌, Bool, false, List, Option, Some, None, option_map, if◌then◌else◌}
-use Rattle.ss_classes.specs.declared.names.Ty.{Ty}
-use Rattle.ss_classes.specs.declared.names.Ty.TheVariants as ty
+use Rattle.ss_core.specs.declared.names.Ty.{Ty}
+use Rattle.ss_core.specs.declared.names.Ty.TheVariants as ty
 use Rattle.ss_ast.specs.Expressions.{TypeNameTree, IntType, BoolType, ObjectType, ClassType, TypeTree}
 use Rattle.ss_ast.specs.Programs.{ClassTree}
 use Rattle.ss_tables.specs.Classes.{class_named, class_number, array_number, is_array_number}

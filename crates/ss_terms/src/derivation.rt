@@ -4,7 +4,7 @@ use crate::forms::{FormulaId, TermId};
 use ss_logic::RuleName;
 
 /// A line of a derivation. The formulas that are known in a case are numbered from 0 along the path to it.
-#[derive(Debug, Drop)]
+#[derive(Drop)]
 pub enum Line {
     /// The premise with this number.
     Premise(usize),
@@ -29,7 +29,7 @@ pub enum Line {
 }
 
 /// The lines of a derivation.
-#[derive(Debug, Drop)]
+#[derive(Drop)]
 pub struct Derivation {
     /// The lines, in their order.
     pub lines: Vec<Line>,

@@ -1,13 +1,13 @@
 -- A source means one program, or it has one fault.
 use Rattle.std.proofs.Common.{◌≡◌, ⊎_elim, List, ℕ, Option, Some, None, sym, ap, ◌∙◌}
 use Rattle.ss_core.specs.declared.names.Place.{Place}
-use Rattle.ss_core.specs.Tree.{CoreTree}
-use Rattle.ss_classes.specs.Tree as whole
+use Rattle.ss_second_core.specs.Tree.{CoreTree}
+use Rattle.ss_core.specs.Tree as whole
 use Rattle.ss_typed.specs.Tree.{TypedTree}
-use Rattle.ss_elab.specs.Elaborated.{elaborated}
+use Rattle.ss_expand_rules.specs.Elaborated.{elaborated}
 use Rattle.ss_second.specs.Second.{second_form}
-use Rattle.ss_sources.specs.Sources.{IsRefused}
-use Rattle.ss_sources.proofs.Meanings as front
+use Rattle.ss_top_sources.specs.Sources.{IsRefused}
+use Rattle.ss_top_sources.proofs.Meanings as front
 use Rattle.ss_top.specs.declared.words.Command.{Command}
 use Rattle.ss_top.specs.declared.words.Command.TheVariants as command
 use Rattle.ss_top.specs.Sources.{Expands, Means, IsNotOfForm, IsUnbuilt, IsStop}

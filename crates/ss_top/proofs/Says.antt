@@ -9,11 +9,11 @@ use Rattle.ss_core.specs.declared.names.FrontStop.{FrontStop}
 use Rattle.ss_core.specs.declared.names.FrontStop.TheVariants as front
 use Rattle.ss_core.specs.declared.names.Kind.{Kind}
 use Rattle.ss_core.specs.declared.names.Place.{Place}
-use Rattle.ss_core.specs.Tree.{CoreTree}
-use Rattle.ss_run.specs.Steps.{run, printed}
-use Rattle.ss_run.specs.Safe.{IsSafe, IsUnfailed}
+use Rattle.ss_second_core.specs.Tree.{CoreTree}
+use Rattle.ss_second_run.specs.Steps.{run, printed}
+use Rattle.ss_second_run.specs.Safe.{IsSafe, IsUnfailed}
 use Rattle.ss_machine.specs.Ends.{IsRunning, IsDoneAt, HasFailed, HasStopped}
-use Rattle.ss_oblig.specs.Obligations.{Obligation, obligations}
+use Rattle.ss_vcgen_rules.specs.Obligations.{Obligation, obligations}
 use Rattle.ss_search.specs.declared.model.Countered.{Countered}
 use Rattle.ss_sound.specs.Verdicts.{IsUnproved}
 use Rattle.ss_report.specs.declared.status.Status.{Status}
@@ -21,13 +21,13 @@ use Rattle.ss_report.specs.declared.status.Status.TheVariants as status
 use Rattle.ss_report.specs.Verdict.{verdict_text}
 use Rattle.ss_top.specs.declared.words.Command.{Command}
 use Rattle.ss_top.specs.declared.words.Command.TheVariants as command
-use Rattle.ss_classes.specs.Tree as whole
+use Rattle.ss_core.specs.Tree as whole
 use Rattle.ss_typed.specs.Tree.{TypedTree}
 use Rattle.ss_ast.specs.Tokens.{Tok}
-use Rattle.ss_elab.specs.Elaborated.{elaborated}
-use Rattle.ss_core_text.specs.Text.{core_text}
-use Rattle.ss_sources.specs.Sources as reading
-use Rattle.ss_sources.specs.Sources.{IsAccepted, IsRefused}
+use Rattle.ss_expand_rules.specs.Elaborated.{elaborated}
+use Rattle.ss_report_core.specs.Text.{core_text}
+use Rattle.ss_top_sources.specs.Sources as reading
+use Rattle.ss_top_sources.specs.Sources.{IsAccepted, IsRefused}
 use Rattle.ss_top.specs.declared.source.Goal.{Goal}
 use Rattle.ss_top.specs.declared.source.Goal.TheVariants as asked_for
 use Rattle.ss_top.specs.Sources.{Means, Expands, IsStop, Gives}

@@ -5,7 +5,7 @@ use Rattle.std.proofs.lemmas.Bool.{cases_lt, lt-ltb}
 use Rattle.std.proofs.lemmas.Grind.{common_steps}
 use Rattle.ss_io.specs.Outside.{Told, IsFront, Grew}
 use Rattle.ss_core.specs.declared.names.Place.{Place}
-use Rattle.ss_core.specs.Tree.{CoreTree}
+use Rattle.ss_second_core.specs.Tree.{CoreTree}
 use Rattle.ss_ast.specs.Tokens.{Tok}
 use Rattle.ss_lexer.specs.Pieces.{too_long}
 use Rattle.ss_lexer.specs.Reading.{Answer, Reads, start, without_mark, IsReadAs, HasTokens, FaultAt}
@@ -13,8 +13,8 @@ use Rattle.ss_report.specs.declared.status.Status.{Status}
 use Rattle.ss_report.specs.declared.status.Status.TheVariants as status
 use Rattle.ss_top.specs.declared.words.Command.{Command}
 use Rattle.ss_top.specs.declared.words.Command.TheVariants as command
-use Rattle.ss_classes.specs.Tree as core
-use Rattle.ss_sources.specs.Sources.{IsNoProgram, IsFaulty, IsRefused}
+use Rattle.ss_core.specs.Tree as core
+use Rattle.ss_top_sources.specs.Sources.{IsNoProgram, IsFaulty, IsRefused}
 use Rattle.ss_top.specs.Sources.{Means, Expands, IsNotOfForm, IsUnbuilt, IsStop}
 use Rattle.ss_top.specs.Answers.{OfSource, IsToldVerified, HasRun, IsExpanded, RunsOn, StopsAt, IsToldUnproved, verified_text, run_text, IsVerifiedInPart, IsToldInPart, IsExpandedInPart, IsWrittenInPart, HasEnded, Says}
 

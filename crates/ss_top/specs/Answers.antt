@@ -4,11 +4,11 @@ use Rattle.ss_io.specs.Outside.{Told, Grew, GrewByFront}
 use Rattle.ss_core.specs.declared.names.Place.{Place}
 use Rattle.ss_core.specs.declared.names.FrontStop.{FrontStop}
 use Rattle.ss_core.specs.declared.names.FrontStop.TheVariants as front
-use Rattle.ss_core.specs.Tree.{CoreTree}
-use Rattle.ss_run.specs.Steps.{State, Running, Done, Failed, Stopped, run, printed}
-use Rattle.ss_run.specs.Safe.{IsSafe}
+use Rattle.ss_second_core.specs.Tree.{CoreTree}
+use Rattle.ss_second_run.specs.Steps.{State, Running, Done, Failed, Stopped, run, printed}
+use Rattle.ss_second_run.specs.Safe.{IsSafe}
 use Rattle.ss_machine.specs.Ends.{IsRunning, HasStopped}
-use Rattle.ss_oblig.specs.Obligations.{obligations}
+use Rattle.ss_vcgen_rules.specs.Obligations.{obligations}
 use Rattle.ss_search.specs.declared.model.Countered.{Countered}
 use Rattle.ss_sound.specs.Verdicts.{IsUnproved}
 use Rattle.ss_report.specs.declared.status.Status.{Status}
@@ -18,8 +18,8 @@ use Rattle.ss_top.specs.declared.source.Goal.{Goal}
 use Rattle.ss_top.specs.declared.source.Goal.TheVariants as goal
 use Rattle.ss_top.specs.declared.words.Command.{Command}
 use Rattle.ss_top.specs.declared.words.Command.TheVariants as command
-use Rattle.ss_classes.specs.Tree as whole
-use Rattle.ss_core_text.specs.Text.{core_text}
+use Rattle.ss_core.specs.Tree as whole
+use Rattle.ss_report_core.specs.Text.{core_text}
 use Rattle.ss_top.specs.Sources.{Means, Expands, IsStop}
 
 -- the bytes of the file, where they are told, have this property; where they aren't told, some bytes have it

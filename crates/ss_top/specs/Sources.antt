@@ -3,16 +3,16 @@ use Rattle.std.specs.Prelude.{ℕ, ◌≡◌, ◌⊎◌, true, false, List, Opti
 use Rattle.ss_core.specs.declared.names.Place.{Place}
 use Rattle.ss_core.specs.declared.names.FrontStop.{FrontStop}
 use Rattle.ss_core.specs.declared.names.FrontStop.TheVariants as front
-use Rattle.ss_core.specs.declared.program.Core.{Core}
-use Rattle.ss_core.specs.Tree.{CoreTree}
-use Rattle.ss_core.specs.View.{core}
-use Rattle.ss_classes.specs.Tree as whole
+use Rattle.ss_second_core.specs.declared.program.Core.{Core}
+use Rattle.ss_second_core.specs.Tree.{CoreTree}
+use Rattle.ss_second_core.specs.View.{core}
+use Rattle.ss_core.specs.Tree as whole
 use Rattle.ss_ast.specs.Tokens.{Tok}
 use Rattle.ss_lexer.specs.Reading.{start}
 use Rattle.ss_typed.specs.Tree.{TypedTree}
-use Rattle.ss_elab.specs.Elaborated.{elaborated}
+use Rattle.ss_expand_rules.specs.Elaborated.{elaborated}
 use Rattle.ss_second.specs.Second.{second_form}
-use Rattle.ss_sources.specs.Sources.{IsAccepted, IsRefused}
+use Rattle.ss_top_sources.specs.Sources.{IsAccepted, IsRefused}
 use Rattle.ss_top.specs.declared.words.Command.{Command}
 use Rattle.ss_top.specs.declared.words.Command.TheVariants as command
 

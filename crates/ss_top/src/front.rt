@@ -1,16 +1,18 @@
 // From the bytes of a source to its program of the second form.
 
 ghost use Rattle.std.specs.Prelude.{IfOk};
-ghost use Rattle.ss_core.specs.View.{core};
-ghost use Rattle.ss_run.specs.Formed.{IsFormed};
+ghost use Rattle.ss_second_core.specs.View.{core};
+ghost use Rattle.ss_second_run.specs.Formed.{IsFormed};
 ghost use Rattle.ss_ast.specs.Tokens.{toks};
 ghost use Rattle.ss_typed.specs.View.{typed};
-ghost use Rattle.ss_sources.specs.Sources.{IsAccepted};
+ghost use Rattle.ss_top_sources.specs.Sources.{IsAccepted};
 ghost use Rattle.ss_top.specs.Sources.{Gives};
 
-use ss_core::{Core, FrontStop, Place};
+use ss_core::{FrontStop, Place};
+
+use ss_second_core::Core;
 use ss_second::{FormStop, second_form};
-use ss_sources::{Accepted, elaborate, read_source};
+use ss_top_sources::{Accepted, elaborate, read_source};
 use std::alloc::Global;
 
 // The refusal of a source that is accepted but isn't of the second form.

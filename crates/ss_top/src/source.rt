@@ -2,30 +2,31 @@
 
 ghost use Rattle.std.specs.Prelude.{◌≡◌, ℕ, ◌≤◌};
 ghost use Rattle.ss_io.specs.Outside.{Rose};
-ghost use Rattle.ss_core.specs.View.{core};
-ghost use Rattle.ss_run.specs.Formed.{IsFormed};
-ghost use Rattle.ss_run.specs.Safe.{IsSafe};
-ghost use Rattle.ss_oblig.specs.Obligations as oblig;
+ghost use Rattle.ss_second_core.specs.View.{core};
+ghost use Rattle.ss_second_run.specs.Formed.{IsFormed};
+ghost use Rattle.ss_second_run.specs.Safe.{IsSafe};
+ghost use Rattle.ss_vcgen_rules.specs.Obligations as oblig;
 ghost use Rattle.ss_vcgen.specs.Built.{trees};
 ghost use Rattle.ss_sound.specs.Verdicts.{IsUnproved};
 ghost use Rattle.ss_top.specs.Sources.{Means};
 ghost use Rattle.ss_ast.specs.Tokens.{toks};
 ghost use Rattle.ss_typed.specs.View.{typed};
-ghost use Rattle.ss_sources.specs.Sources.{IsAccepted};
+ghost use Rattle.ss_top_sources.specs.Sources.{IsAccepted};
 ghost use Rattle.ss_top.specs.Answers.{Says, answer_to, command_of_goal};
 ghost use Rattle.ss_top.specs.declared.source.Goal.{Goal as AnyGoal};
 ghost use Rattle.ss_top.specs.declared.words.Command.TheVariants as asked;
 
 use crate::front::read_form;
 use crate::words::Command;
-use ss_core::{Core, FrontStop};
-use ss_core_text::core_text;
+use ss_core::FrontStop;
+use ss_second_core::Core;
+use ss_report_core::core_text;
 use ss_io::{Sink, WriteStop};
 use ss_machine::{CheckedEnd, run_checked};
 use ss_report::{Status, verdict_text};
 use ss_search::Countered;
 use ss_sound::{Verdict, verify};
-use ss_sources::{Accepted, elaborate, read_source};
+use ss_top_sources::{Accepted, elaborate, read_source};
 use ss_vcgen::{Obligations, obligations};
 use std::alloc::Global;
 

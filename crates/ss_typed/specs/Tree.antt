@@ -4,10 +4,10 @@ use Rattle.ss_core.specs.declared.names.Place.{Place}
 use Rattle.ss_ast.specs.declared.stmt.AssignOperator.{AssignOperator}
 use Rattle.ss_ast.specs.declared.stmt.StepOperator.{StepOperator}
 use Rattle.ss_ast.specs.Expressions.{NameTree}
-use Rattle.ss_classes.specs.declared.names.Ty.{Ty}
-use Rattle.ss_classes.specs.declared.expr.Operator.{Operator}
-use Rattle.ss_classes.specs.declared.expr.Quantifier.{Quantifier}
-use Rattle.ss_classes.specs.Tree.{WordTree, OwnersTree, LocalTree, ClassTree}
+use Rattle.ss_core.specs.declared.names.Ty.{Ty}
+use Rattle.ss_core.specs.declared.expr.Operator.{Operator}
+use Rattle.ss_core.specs.declared.expr.Quantifier.{Quantifier}
+use Rattle.ss_core.specs.Tree.{WordTree, OwnersTree, LocalTree, ClassTree}
 use Rattle.ss_typed.specs.declared.body.TypedFlags.{TypedFlags}
 
 -- an expression in which names are numbers, and a list of arguments

@@ -1,9 +1,9 @@
 -- The static type of an expression, as it is declared: what is known of null at a place isn't in it.
 use Rattle.std.specs.Prelude.{ℕ, Bool, true, false, Option, Some, None, ◌==◌, ◌-◌, if◌then◌else◌}
-use Rattle.ss_classes.specs.declared.names.Ty.{Ty}
-use Rattle.ss_classes.specs.declared.names.Ty.TheVariants as ty
-use Rattle.ss_classes.specs.declared.expr.Operator.{Operator}
-use Rattle.ss_classes.specs.declared.expr.Operator.TheVariants as op
+use Rattle.ss_core.specs.declared.names.Ty.{Ty}
+use Rattle.ss_core.specs.declared.names.Ty.TheVariants as ty
+use Rattle.ss_core.specs.declared.expr.Operator.{Operator}
+use Rattle.ss_core.specs.declared.expr.Operator.TheVariants as op
 use Rattle.ss_typed.specs.Tree.{ExprTree, IntOf, BoolOf, NullOf, ThisOf, LocalOf, ResultOf, BoundOf, IffOf, ImpliesOf, BinaryOf, IsOf, AsOf, NegateOf, NotOf, CastOf, FieldOf, ElementOf, LengthOf, OldOf, QuantifiedOf, StateOf, OwnersOf, NewOf, NewArrayOf, CallOf, StaticOf, BaseOf}
 
 -- the type of a class, with or without null

@@ -2,7 +2,7 @@
 use Rattle.std.specs.Prelude.{List, [], ◌∷◌, Option, Some, None, map, option_map, string_bytes}
 use Rattle.ss_core.specs.declared.names.Place.{Place}
 use Rattle.ss_ast.specs.Expressions.{name_tree}
-use Rattle.ss_classes.specs.View.{word_tree, owners_tree, local_of, classes}
+use Rattle.ss_core.specs.View.{word_tree, owners_tree, local_of, classes}
 use Rattle.ss_typed.specs.declared.expr.TypedExpr.{TypedExpr}
 use Rattle.ss_typed.specs.declared.expr.TypedExpr.TheFolds.{fold-TypedExpr}
 use Rattle.ss_typed.specs.declared.expr.TypedExpr.TheOpen as shape

@@ -3,11 +3,10 @@
 use crate::expr::TypedExpr;
 use crate::stmt::TypedBlock;
 use ss_ast::Name;
-use ss_classes::{FieldId, Local, Ty};
-use ss_core::{ClassId, Place};
+use ss_core::{ClassId, FieldId, Local, Place, Ty};
 
 /// A parameter, with the place of its name and its attributes.
-#[derive(Debug, Drop)]
+#[derive(Drop)]
 pub struct TypedParam {
     pub name: String,
     pub place: Place,
@@ -17,7 +16,7 @@ pub struct TypedParam {
 }
 
 /// A term of a `modifies` clause.
-#[derive(Debug, Drop)]
+#[derive(Drop)]
 pub enum TypedModifies {
     /// `o.f`
     Field(TypedExpr, FieldId),
@@ -41,14 +40,14 @@ pub struct TypedFlags {
 }
 
 /// `: base(a, b)` behind the parameters of a constructor, with the place of `base`.
-#[derive(Debug, Drop)]
+#[derive(Drop)]
 pub struct TypedBase {
     pub place: Place,
     pub arguments: Vec<TypedExpr>,
 }
 
 /// A method or a constructor. Its locals are those that it declares, in order; the place is that of its name.
-#[derive(Debug, Drop)]
+#[derive(Drop)]
 pub struct TypedBody {
     pub class: ClassId,
     pub name: String,

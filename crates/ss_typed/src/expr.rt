@@ -1,12 +1,11 @@
 // Expressions. The place of a part is that of its first byte. Parentheses leave no trace.
 
-use ss_classes::{FieldId, Operator, OwnerTest, Quantifier, StateWord, Ty};
-use ss_core::{BodyId, ClassId, Place};
+use ss_core::{BodyId, ClassId, FieldId, Operator, OwnerTest, Place, Quantifier, StateWord, Ty};
 
 /// An expression in which names are numbers. What a name stands for has its type beside it, so the static type of each part
 /// is known; a call of a method without a result has none.
 #[cycle(expr)]
-#[derive(Debug, Drop)]
+#[derive(Drop)]
 pub enum TypedExpr {
     Int(Place, i32),
     Bool(Place, bool),
@@ -50,7 +49,7 @@ pub enum TypedExpr {
 
 /// What stands behind an operand in a chain.
 #[cycle(expr)]
-#[derive(Debug, Drop)]
+#[derive(Drop)]
 pub enum TypedLink {
     Operation(Operator, TypedExpr),
     Is(ClassId),
@@ -59,7 +58,7 @@ pub enum TypedLink {
 
 /// What stands behind the beginning of a path.
 #[cycle(expr)]
-#[derive(Debug, Drop)]
+#[derive(Drop)]
 pub enum TypedStep {
     /// The field and its type.
     Field(FieldId, Ty),

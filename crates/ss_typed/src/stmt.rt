@@ -2,11 +2,10 @@
 
 use crate::expr::TypedExpr;
 use ss_ast::{AssignOperator, StepOperator};
-use ss_classes::Ty;
-use ss_core::{ClassId, Place};
+use ss_core::{ClassId, Place, Ty};
 
 /// A declared local: the place of its name, its number, its type, and what it begins with.
-#[derive(Debug, Drop)]
+#[derive(Drop)]
 pub struct TypedDeclarator {
     pub place: Place,
     pub local: usize,
@@ -15,7 +14,7 @@ pub struct TypedDeclarator {
 }
 
 /// A statement that may also stand in the heading of a `for`.
-#[derive(Debug, Drop)]
+#[derive(Drop)]
 pub enum TypedSimple {
     /// What is assigned is a local, a field or an element.
     Assign(TypedExpr, AssignOperator, TypedExpr),
@@ -31,7 +30,7 @@ pub enum TypedSimple {
 }
 
 /// What a `for` begins with.
-#[derive(Debug, Drop)]
+#[derive(Drop)]
 pub enum TypedInit {
     Declare(Vec<TypedDeclarator>),
     Simple(TypedSimple),
@@ -39,7 +38,7 @@ pub enum TypedInit {
 
 /// Statements between two braces, with the places of both.
 #[cycle(stmt)]
-#[derive(Debug, Drop)]
+#[derive(Drop)]
 pub struct TypedBlock {
     pub place: Place,
     pub statements: Vec<TypedStmt>,
@@ -48,7 +47,7 @@ pub struct TypedBlock {
 
 /// A statement.
 #[cycle(stmt)]
-#[derive(Debug, Drop)]
+#[derive(Drop)]
 pub enum TypedStmt {
     Block(TypedBlock),
     Declare(Vec<TypedDeclarator>),

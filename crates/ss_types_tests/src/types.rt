@@ -6,7 +6,7 @@ use ss_ast::{
 };
 use ss_core::Place;
 use ss_faults::Fault;
-use ss_type_check::first_type_fault;
+use ss_resolver_types::first_type_fault;
 use std::alloc::{AllocError, Global};
 use std::test::Fail;
 

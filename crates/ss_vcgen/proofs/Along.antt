@@ -3,14 +3,14 @@ use Rattle.std.proofs.Common.{◌≡◌, ℕ, ◌+◌, ◌<◌, length, drop, ge
 use Rattle.std.proofs.lemmas.List.{append-nil, drop_more}
 use Rattle.ss_core.specs.declared.names.Place.{Place}
 use Rattle.ss_core.specs.declared.names.Kind.{Kind}
-use Rattle.ss_core.specs.declared.program.Expr.{Expr}
-use Rattle.ss_core.specs.View.{expr}
-use Rattle.ss_core.specs.Tree.{ExprTree}
+use Rattle.ss_second_core.specs.declared.program.Expr.{Expr}
+use Rattle.ss_second_core.specs.View.{expr}
+use Rattle.ss_second_core.specs.Tree.{ExprTree}
 use Rattle.ss_terms.specs.Forms.{IsGrown}
 use Rattle.ss_terms.proofs.Banks.{IsGrown-refl, IsGrown-then}
-use Rattle.ss_oblig.specs.Express.{Meant}
-use Rattle.ss_oblig.specs.Obligations as tree
-use Rattle.ss_oblig.specs.Obligations.{Known}
+use Rattle.ss_vcgen_rules.specs.Express.{Meant}
+use Rattle.ss_vcgen_rules.specs.Obligations as tree
+use Rattle.ss_vcgen_rules.specs.Obligations.{Known}
 use Rattle.ss_vcgen.specs.declared.builder.Builder.{Builder}
 use Rattle.ss_vcgen.specs.Builder.{known_of, listed, IsFine, Becomes, Asks}
 

@@ -5,7 +5,7 @@ use Rattle.std.proofs.lemmas.List.{append-nil, map-append, map-set, length_push,
 use Rattle.ss_terms.specs.declared.forms.FormulaId.{FormulaId}
 use Rattle.ss_terms.specs.Forms.{Forms, formula_at, formulas_at, HasFormula, HasFormulas, AreBelow, IsGrown}
 use Rattle.ss_terms.proofs.Banks.{IsGrown-refl, IsGrown-then, HasFormula-grown, HasFormulas-grown, formulas_at-grown}
-use Rattle.ss_oblig.specs.Obligations as tree
+use Rattle.ss_vcgen_rules.specs.Obligations as tree
 use Rattle.ss_vcgen.specs.declared.builder.Builder.{Builder}
 use Rattle.ss_vcgen.specs.declared.guard.Guard.{Guard}
 use Rattle.ss_vcgen.specs.Guards.{guard_of}

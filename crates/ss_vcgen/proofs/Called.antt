@@ -2,14 +2,14 @@
 use Rattle.std.proofs.Common.{◌≡◌, ℕ, zero, suc, ◌+◌, ◌<◌, length, get_or, take, List, [], ◌∷◌, ◌++◌, map, refl, sym, ap, ◌∙◌}
 use Rattle.std.specs.Prelude.{Option, Some, slice_get, option_map}
 use Rattle.std.proofs.lemmas.List.{map-append, take_more}
-use Rattle.ss_core.specs.declared.program.Body.{Body}
-use Rattle.ss_core.specs.declared.program.Expr.{Expr}
-use Rattle.ss_core.specs.Tree.{BodyTree, ExprTree}
-use Rattle.ss_core.specs.View as view
-use Rattle.ss_core.specs.View.{expr}
-use Rattle.ss_oblig.specs.Express as spec
-use Rattle.ss_oblig.specs.Obligations as tree
-use Rattle.ss_oblig.specs.Obligations.{Known, Obligation}
+use Rattle.ss_second_core.specs.declared.program.Body.{Body}
+use Rattle.ss_second_core.specs.declared.program.Expr.{Expr}
+use Rattle.ss_second_core.specs.Tree.{BodyTree, ExprTree}
+use Rattle.ss_second_core.specs.View as view
+use Rattle.ss_second_core.specs.View.{expr}
+use Rattle.ss_vcgen_rules.specs.Express as spec
+use Rattle.ss_vcgen_rules.specs.Obligations as tree
+use Rattle.ss_vcgen_rules.specs.Obligations.{Known, Obligation}
 use Rattle.ss_vcgen.specs.declared.builder.Builder.{Builder}
 use Rattle.ss_vcgen.specs.declared.meant.Meant.{Meant}
 use Rattle.ss_vcgen.specs.Numbers.{IsMeant, HasMeants, meant_in, meants_in}

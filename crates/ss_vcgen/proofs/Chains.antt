@@ -2,11 +2,11 @@
 use Rattle.std.proofs.Common.{◌≡◌, ℕ, ◌+◌, ◌<◌, length, get_or, take, List, [], ◌∷◌, ◌++◌, map, false, ◌&&◌, refl, sym, ap, ◌∙◌, append_assoc}
 use Rattle.std.proofs.lemmas.List.{take_more, map-append}
 use Rattle.ss_core.specs.declared.names.Place.{Place}
-use Rattle.ss_core.specs.Tree.{ExprTree, IntExpr, BoolExpr, LocalExpr, NotExpr, EqualExpr, UnequalExpr, AndExpr, OrExpr, ImpliesExpr, IffExpr}
-use Rattle.ss_core.specs.View.{chained, expr}
-use Rattle.ss_core.specs.declared.program.Expr.{Expr}
+use Rattle.ss_second_core.specs.Tree.{ExprTree, IntExpr, BoolExpr, LocalExpr, NotExpr, EqualExpr, UnequalExpr, AndExpr, OrExpr, ImpliesExpr, IffExpr}
+use Rattle.ss_second_core.specs.View.{chained, expr}
+use Rattle.ss_second_core.specs.declared.program.Expr.{Expr}
 use Rattle.ss_logic.specs.Logic.{Formula, neg}
-use Rattle.ss_oblig.specs.Express.{Meant, has_a_term, iff_formula, formula_of, conjuncts, disjuncts}
+use Rattle.ss_vcgen_rules.specs.Express.{Meant, has_a_term, iff_formula, formula_of, conjuncts, disjuncts}
 use Rattle.ss_vcgen.specs.declared.shape.Joint.TheVariants as joint
 use Rattle.ss_vcgen.specs.Shapes.{shape_of, is_chain_of}
 use Rattle.ss_vcgen.specs.Chain.{operands_in, joined}

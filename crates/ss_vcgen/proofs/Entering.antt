@@ -1,15 +1,15 @@
 -- The entry of a body, and bodies one after the other.
 use Rattle.std.proofs.Common.{◌≡◌, ℕ, suc, ◌+◌, List, [], ◌∷◌, ◌++◌, map, refl, sym, ap, ◌∙◌, append_assoc, arith, Vec, Global}
 use Rattle.std.proofs.lemmas.List.{append-nil, map-append}
-use Rattle.ss_core.specs.declared.names.Ty.{Ty}
-use Rattle.ss_core.specs.declared.names.Ty.TheVariants as ty
-use Rattle.ss_core.specs.Tree.{LocalTree, BodyTree, CoreTree}
+use Rattle.ss_second_core.specs.declared.names.Ty.{Ty}
+use Rattle.ss_second_core.specs.declared.names.Ty.TheVariants as ty
+use Rattle.ss_second_core.specs.Tree.{LocalTree, BodyTree, CoreTree}
 use Rattle.ss_terms.specs.declared.forms.TermId.{TermId}
 use Rattle.ss_terms.specs.Forms.{term_at, IsGrown}
 use Rattle.ss_terms.proofs.Banks.{IsGrown-refl, IsGrown-then}
-use Rattle.ss_oblig.specs.Express as spec
-use Rattle.ss_oblig.specs.Obligations as tree
-use Rattle.ss_oblig.specs.Obligations.{Known, enter_params, obligations_from, at_entry, at_end, ask_code}
+use Rattle.ss_vcgen_rules.specs.Express as spec
+use Rattle.ss_vcgen_rules.specs.Obligations as tree
+use Rattle.ss_vcgen_rules.specs.Obligations.{Known, enter_params, obligations_from, at_entry, at_end, ask_code}
 use Rattle.ss_vcgen.specs.declared.builder.Builder.{Builder}
 use Rattle.ss_vcgen.specs.declared.meant.Meant.{Meant}
 use Rattle.ss_vcgen.specs.declared.meant.Meant.TheVariants as meant

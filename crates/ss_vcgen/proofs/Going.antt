@@ -1,11 +1,11 @@
 -- Statements, one after the other.
 use Rattle.std.proofs.Common.{◌≡◌, ℕ, List, [], ◌++◌, refl, sym, ap, ◌∙◌, append_assoc}
 use Rattle.std.proofs.lemmas.List.{append-nil}
-use Rattle.ss_core.specs.Tree.{StmtTree, CodeTree, NoCode, Then, BodyTree, CoreTree}
+use Rattle.ss_second_core.specs.Tree.{StmtTree, CodeTree, NoCode, Then, BodyTree, CoreTree}
 use Rattle.ss_terms.specs.Forms.{IsGrown}
 use Rattle.ss_terms.proofs.Banks.{IsGrown-refl, IsGrown-then}
-use Rattle.ss_oblig.specs.Obligations as tree
-use Rattle.ss_oblig.specs.Obligations.{Known, Guard, Always, When, Never, Obligation, behind, behind_all, ask, ask_code, if_reached}
+use Rattle.ss_vcgen_rules.specs.Obligations as tree
+use Rattle.ss_vcgen_rules.specs.Obligations.{Known, Guard, Always, When, Never, Obligation, behind, behind_all, ask, ask_code, if_reached}
 use Rattle.ss_vcgen.specs.declared.builder.Builder.{Builder}
 use Rattle.ss_vcgen.specs.Builder.{known_of, listed, IsFine, Asks}
 

@@ -8,7 +8,7 @@ use Rattle.ss_terms.specs.declared.forms.Formula.{Formula}
 use Rattle.ss_terms.specs.declared.forms.Formula.TheVariants.{And, Or}
 use Rattle.ss_terms.specs.Forms.{Forms, term_at, formula_at, formulas_at, HasTerm, HasFormula, HasFormulas, IsGrown, IsFormulaForm}
 use Rattle.ss_terms.proofs.Banks.{AreBelow-more, HasTerm-grown, HasFormula-grown}
-use Rattle.ss_oblig.specs.Express as spec
+use Rattle.ss_vcgen_rules.specs.Express as spec
 use Rattle.ss_vcgen.specs.declared.meant.Meant.{Meant}
 use Rattle.ss_vcgen.specs.declared.meant.Meant.TheVariants as meant
 use Rattle.ss_vcgen.specs.declared.shape.Joint.TheVariants as joint

@@ -6,9 +6,9 @@ use Rattle.std.proofs.lemmas.Bool.{cases_lt}
 use Rattle.std.proofs.lemmas.List.{append-nil, map-append, drop_all}
 use Rattle.ss_terms.specs.Forms.{IsGrown}
 use Rattle.ss_terms.proofs.Banks.{IsGrown-refl, IsGrown-then}
-use Rattle.ss_oblig.specs.Express as spec
-use Rattle.ss_oblig.specs.Obligations as tree
-use Rattle.ss_oblig.specs.Obligations.{Known}
+use Rattle.ss_vcgen_rules.specs.Express as spec
+use Rattle.ss_vcgen_rules.specs.Obligations as tree
+use Rattle.ss_vcgen_rules.specs.Obligations.{Known}
 use Rattle.ss_vcgen.specs.declared.builder.Builder.{Builder}
 use Rattle.ss_vcgen.specs.declared.meant.Meant.{Meant}
 use Rattle.ss_vcgen.specs.declared.guard.Guard.{Guard}

@@ -4,14 +4,14 @@ use Rattle.std.specs.Prelude.{Option, Some, None, slice_set}
 use Rattle.std.proofs.lemmas.List.{map-append, map-set, length-map}
 use Rattle.std.specs.List.{slice_index_or}
 use Rattle.ss_terms.specs.Forms.{Forms}
-use Rattle.ss_core.specs.declared.names.Ty.{Ty}
-use Rattle.ss_core.specs.declared.program.Body.{Body}
-use Rattle.ss_core.specs.declared.program.Local.{Local}
-use Rattle.ss_core.specs.View as view
-use Rattle.ss_core.specs.Tree.{ExprTree}
-use Rattle.ss_oblig.specs.Express as spec
-use Rattle.ss_oblig.specs.Express.{meant_at}
-use Rattle.ss_oblig.specs.Obligations as tree
+use Rattle.ss_second_core.specs.declared.names.Ty.{Ty}
+use Rattle.ss_second_core.specs.declared.program.Body.{Body}
+use Rattle.ss_second_core.specs.declared.program.Local.{Local}
+use Rattle.ss_second_core.specs.View as view
+use Rattle.ss_second_core.specs.Tree.{ExprTree}
+use Rattle.ss_vcgen_rules.specs.Express as spec
+use Rattle.ss_vcgen_rules.specs.Express.{meant_at}
+use Rattle.ss_vcgen_rules.specs.Obligations as tree
 use Rattle.ss_vcgen.specs.Conditions.{result_meant, condition_env}
 use Rattle.ss_vcgen.specs.Calls.{last_env}
 use Rattle.ss_vcgen.specs.declared.meant.Meant.{Meant}

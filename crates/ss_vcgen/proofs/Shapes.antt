@@ -3,11 +3,11 @@ use Rattle.std.proofs.Common.{◌≡◌, List, [], ◌∷◌, map, length, false
 use Rattle.std.specs.Prelude.{◌==◌}
 use Rattle.std.proofs.lemmas.Bool.{true≢false}
 use Rattle.ss_core.specs.declared.names.Place.{Place}
-use Rattle.ss_core.specs.Tree.{ExprTree, IntExpr, BoolExpr, LocalExpr, NotExpr, EqualExpr, UnequalExpr, AndExpr, OrExpr, ImpliesExpr, IffExpr}
-use Rattle.ss_core.specs.View.{chained, expr}
-use Rattle.ss_core.specs.declared.program.Expr.{Expr, the_lemmas}
-use Rattle.ss_core.specs.declared.program.Expr.TheVariants as expr
-use Rattle.ss_oblig.specs.Express.{Meant, is_whole, has_a_term, term_of}
+use Rattle.ss_second_core.specs.Tree.{ExprTree, IntExpr, BoolExpr, LocalExpr, NotExpr, EqualExpr, UnequalExpr, AndExpr, OrExpr, ImpliesExpr, IffExpr}
+use Rattle.ss_second_core.specs.View.{chained, expr}
+use Rattle.ss_second_core.specs.declared.program.Expr.{Expr, the_lemmas}
+use Rattle.ss_second_core.specs.declared.program.Expr.TheVariants as expr
+use Rattle.ss_vcgen_rules.specs.Express.{Meant, is_whole, has_a_term, term_of}
 use Rattle.ss_vcgen.specs.declared.shape.Joint.TheVariants as joint
 use Rattle.ss_vcgen.specs.declared.shape.Shape.TheVariants as shape
 use Rattle.ss_vcgen.specs.Shapes.{shape_of, shape_is_whole, shape_has_a_term, shape_term}

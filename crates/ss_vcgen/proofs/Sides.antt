@@ -1,17 +1,17 @@
 -- An `if`, from side to side.
 use Rattle.std.proofs.Common.{◌≡◌, ℕ, ◌+◌, List, ◌++◌, map, refl, sym, ap, ◌∙◌, rules, Vec, Global}
 use Rattle.ss_core.specs.declared.names.Place.{Place}
-use Rattle.ss_core.specs.declared.program.Expr.{Expr}
-use Rattle.ss_core.specs.declared.program.Stmt.{Stmt, the_lemmas}
-use Rattle.ss_core.specs.declared.program.Stmt.TheVariants as stmt
-use Rattle.ss_core.specs.Tree.{ExprTree, CodeTree, BodyTree, CoreTree, IfStmt}
-use Rattle.ss_core.specs.View.{expr, block, stmt_of}
+use Rattle.ss_second_core.specs.declared.program.Expr.{Expr}
+use Rattle.ss_second_core.specs.declared.program.Stmt.{Stmt, the_lemmas}
+use Rattle.ss_second_core.specs.declared.program.Stmt.TheVariants as stmt
+use Rattle.ss_second_core.specs.Tree.{ExprTree, CodeTree, BodyTree, CoreTree, IfStmt}
+use Rattle.ss_second_core.specs.View.{expr, block, stmt_of}
 use Rattle.ss_terms.specs.Forms.{IsGrown}
 use Rattle.ss_terms.proofs.Banks.{IsGrown-then}
-use Rattle.ss_oblig.specs.Express as spec
-use Rattle.ss_oblig.specs.Express.{formula_of}
-use Rattle.ss_oblig.specs.Obligations as tree
-use Rattle.ss_oblig.specs.Obligations.{Known, Obligation}
+use Rattle.ss_vcgen_rules.specs.Express as spec
+use Rattle.ss_vcgen_rules.specs.Express.{formula_of}
+use Rattle.ss_vcgen_rules.specs.Obligations as tree
+use Rattle.ss_vcgen_rules.specs.Obligations.{Known, Obligation}
 use Rattle.ss_vcgen.specs.declared.builder.Builder.{Builder}
 use Rattle.ss_vcgen.specs.declared.branches.Position.{Position}
 use Rattle.ss_vcgen.specs.declared.meant.Meant.{Meant}

@@ -1,9 +1,9 @@
 -- The entry of a body, step by step.
 use Rattle.std.specs.Prelude.{ℕ, [], ◌∷◌, ◌++◌}
-use Rattle.ss_core.specs.declared.names.Ty.{Ty}
-use Rattle.ss_core.specs.Tree.{BodyTree}
-use Rattle.ss_oblig.specs.Express.{Nothing, TermFor}
-use Rattle.ss_oblig.specs.Obligations.{Known, Always, with_new, new_term, condition_env}
+use Rattle.ss_second_core.specs.declared.names.Ty.{Ty}
+use Rattle.ss_second_core.specs.Tree.{BodyTree}
+use Rattle.ss_vcgen_rules.specs.Express.{Nothing, TermFor}
+use Rattle.ss_vcgen_rules.specs.Obligations.{Known, Always, with_new, new_term, condition_env}
 
 -- nothing is known, where so many constants have been made
 abbrev pub fresh : ℕ → ℕ → Known

@@ -1,8 +1,8 @@
 -- The sides of an `if`, step by step.
 use Rattle.std.specs.Prelude.{ℕ, List, true}
 use Rattle.ss_logic.specs.Logic.{Term, Formula, Same, Or, no_more, more, neg, sort_of}
-use Rattle.ss_oblig.specs.Express.{Meant, is_true}
-use Rattle.ss_oblig.specs.Obligations.{Known, Guard, with_premise, with_new, new_term, type_of, under, side, guard_term, guard_formula}
+use Rattle.ss_vcgen_rules.specs.Express.{Meant, is_true}
+use Rattle.ss_vcgen_rules.specs.Obligations.{Known, Guard, with_premise, with_new, new_term, type_of, under, side, guard_term, guard_formula}
 
 -- with this guard, where so many truth values have been made
 abbrev pub guarded : Guard → ℕ → Known → Known

@@ -2,10 +2,10 @@
 use Rattle.std.specs.Prelude.{◌≡◌, ◌≤◌, ℕ, ◌++◌, List, drop, length}
 use Rattle.ss_core.specs.declared.names.Place.{Place}
 use Rattle.ss_core.specs.declared.names.Kind.{Kind}
-use Rattle.ss_core.specs.declared.program.Expr.{Expr}
+use Rattle.ss_second_core.specs.declared.program.Expr.{Expr}
 use Rattle.ss_logic.specs.Logic as logic
 use Rattle.ss_terms.specs.Forms.{formulas_at, HasFormulas, IsGrown}
-use Rattle.ss_oblig.specs.Obligations as tree
+use Rattle.ss_vcgen_rules.specs.Obligations as tree
 use Rattle.ss_vcgen.specs.declared.builder.Builder.{Builder}
 use Rattle.ss_vcgen.specs.declared.guard.Guard.{Guard}
 use Rattle.ss_vcgen.specs.declared.guard.Guard.TheVariants as guard

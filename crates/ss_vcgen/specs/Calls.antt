@@ -1,10 +1,10 @@
 -- What a call gives.
 use Rattle.std.specs.Prelude.{ℕ, ◌+◌, List, Option, Some, None, length, slice_set}
-use Rattle.ss_core.specs.declared.names.Ty.{Ty}
-use Rattle.ss_core.specs.declared.program.Body.{Body}
-use Rattle.ss_core.specs.Tree.{BodyTree}
-use Rattle.ss_oblig.specs.Express.{Meant}
-use Rattle.ss_oblig.specs.Obligations.{Known, condition_env, result_term, with_result, assume_all, keep}
+use Rattle.ss_second_core.specs.declared.names.Ty.{Ty}
+use Rattle.ss_second_core.specs.declared.program.Body.{Body}
+use Rattle.ss_second_core.specs.Tree.{BodyTree}
+use Rattle.ss_vcgen_rules.specs.Express.{Meant}
+use Rattle.ss_vcgen_rules.specs.Obligations.{Known, condition_env, result_term, with_result, assume_all, keep}
 use Rattle.ss_vcgen.specs.declared.meant.Meant as code
 
 -- a result of which the exit conditions hold

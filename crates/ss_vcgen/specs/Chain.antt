@@ -1,7 +1,7 @@
 -- A chain of `&&` or `||`, joined at once.
 use Rattle.std.specs.Prelude.{List, [], ◌∷◌, ◌++◌, Bool, true, false}
 use Rattle.ss_core.specs.declared.names.Place.{Place}
-use Rattle.ss_core.specs.Tree.{ExprTree, AndExpr, OrExpr}
+use Rattle.ss_second_core.specs.Tree.{ExprTree, AndExpr, OrExpr}
 use Rattle.ss_logic.specs.Logic.{Formula, Formulas, Same, And, Or, formulas_from, list_of}
 use Rattle.ss_vcgen.specs.declared.shape.Joint.{Joint}
 use Rattle.ss_vcgen.specs.declared.shape.Joint.TheVariants as joint

@@ -1,7 +1,7 @@
 -- What the locals of a body stand for in its conditions.
 use Rattle.std.specs.Prelude.{List, [], ◌∷◌, ◌++◌, map, Option, Some, None}
-use Rattle.ss_core.specs.declared.names.Ty.{Ty}
-use Rattle.ss_core.specs.declared.program.Body.{Body}
+use Rattle.ss_second_core.specs.declared.names.Ty.{Ty}
+use Rattle.ss_second_core.specs.declared.program.Body.{Body}
 use Rattle.ss_vcgen.specs.declared.meant.Meant.{Meant}
 use Rattle.ss_vcgen.specs.declared.meant.Meant.TheVariants.{Nothing}
 

@@ -1,5 +1,5 @@
 -- Guards of positions.
-use Rattle.ss_oblig.specs.Obligations as tree
+use Rattle.ss_vcgen_rules.specs.Obligations as tree
 use Rattle.ss_vcgen.specs.declared.guard.Guard.{Guard}
 use Rattle.ss_vcgen.specs.declared.guard.Guard.TheVariants as guard
 

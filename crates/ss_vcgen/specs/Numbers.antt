@@ -1,13 +1,13 @@
 -- Numbers of a bank, and the terms and formulas of expressions over them.
 use Rattle.std.specs.Prelude.{◌≡◌, List, [], ◌∷◌, map}
-use Rattle.ss_core.specs.declared.program.Expr.{Expr}
-use Rattle.ss_core.specs.View.{expr}
+use Rattle.ss_second_core.specs.declared.program.Expr.{Expr}
+use Rattle.ss_second_core.specs.View.{expr}
 use Rattle.ss_logic.specs.Logic as tree
 use Rattle.ss_terms.specs.declared.forms.FormulaId.{FormulaId}
 use Rattle.ss_terms.specs.declared.forms.TermId.{TermId}
 use Rattle.ss_terms.specs.Forms.{Forms, term_at, formula_at, HasTerm, HasFormula}
-use Rattle.ss_oblig.specs.Express as spec
-use Rattle.ss_oblig.specs.Express.{term_of, formula_of}
+use Rattle.ss_vcgen_rules.specs.Express as spec
+use Rattle.ss_vcgen_rules.specs.Express.{term_of, formula_of}
 use Rattle.ss_vcgen.specs.declared.meant.Meant.{Meant}
 use Rattle.ss_vcgen.specs.declared.meant.Meant.TheVariants as meant
 

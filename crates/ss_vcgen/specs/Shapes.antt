@@ -1,8 +1,8 @@
 -- What an expression is at its outermost.
 use Rattle.std.specs.Prelude.{pos, List, Bool, true, false}
-use Rattle.ss_core.specs.Tree.{ExprTree, IntExpr, BoolExpr, LocalExpr, NotExpr, EqualExpr, UnequalExpr, AndExpr, OrExpr, ImpliesExpr, IffExpr}
+use Rattle.ss_second_core.specs.Tree.{ExprTree, IntExpr, BoolExpr, LocalExpr, NotExpr, EqualExpr, UnequalExpr, AndExpr, OrExpr, ImpliesExpr, IffExpr}
 use Rattle.ss_logic.specs.Logic.{Term, Num, Fixed}
-use Rattle.ss_oblig.specs.Express.{Meant, meant_at, means_a_whole, means_a_term, meant_term}
+use Rattle.ss_vcgen_rules.specs.Express.{Meant, meant_at, means_a_whole, means_a_term, meant_term}
 use Rattle.ss_vcgen.specs.declared.shape.Joint.{Joint}
 use Rattle.ss_vcgen.specs.declared.shape.Joint.TheVariants as joint
 use Rattle.ss_vcgen.specs.declared.shape.Shape.{Shape}

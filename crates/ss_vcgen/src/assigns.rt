@@ -1,12 +1,12 @@
 // Assignments: a local stands for a new constant.
 
 ghost use Rattle.std.specs.Prelude.{◌≡◌, true, IfOk, OnOk};
-ghost use Rattle.ss_core.specs.View.{expr};
-ghost use Rattle.ss_core.specs.declared.names.Ty.TheVariants as ty;
+ghost use Rattle.ss_second_core.specs.View.{expr};
+ghost use Rattle.ss_second_core.specs.declared.names.Ty.TheVariants as ty;
 ghost use Rattle.ss_logic.specs.Logic.{Same};
 ghost use Rattle.ss_terms.specs.Forms.{term_at, formula_at, HasTerm, HasFormula};
-ghost use Rattle.ss_oblig.specs.Express as spec;
-ghost use Rattle.ss_oblig.specs.Obligations as tree;
+ghost use Rattle.ss_vcgen_rules.specs.Express as spec;
+ghost use Rattle.ss_vcgen_rules.specs.Obligations as tree;
 ghost use Rattle.ss_vcgen.specs.Numbers.{IsTerm, IsFormula};
 ghost use Rattle.ss_vcgen.specs.Builder.{known_of, term_here, formula_here, IsFine, Becomes};
 
@@ -14,7 +14,7 @@ use crate::builder::Builder;
 use crate::express::{is_whole, term_of};
 use crate::formulas::{equal, has_truth_of};
 use crate::meant::Meant;
-use ss_core::{Expr, Ty};
+use ss_second_core::{Expr, Ty};
 use ss_terms::{FormulaId, TermId};
 use std::alloc::AllocError;
 

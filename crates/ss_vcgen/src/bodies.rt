@@ -1,9 +1,9 @@
 // Bodies, and whole programs.
 
 ghost use Rattle.std.specs.Prelude.{◌≡◌, [], ◌++◌, map, IfOk, OnOk};
-ghost use Rattle.ss_core.specs.View as view;
-ghost use Rattle.ss_core.specs.View.{block};
-ghost use Rattle.ss_oblig.specs.Obligations as tree;
+ghost use Rattle.ss_second_core.specs.View as view;
+ghost use Rattle.ss_second_core.specs.View.{block};
+ghost use Rattle.ss_vcgen_rules.specs.Obligations as tree;
 ghost use Rattle.ss_vcgen.specs.Built.{trees, IsWithin};
 ghost use Rattle.ss_vcgen.specs.Numbers.{HasMeants, meants_in};
 ghost use Rattle.ss_vcgen.specs.Bodies.{fresh, with_param, with_locals};
@@ -15,7 +15,8 @@ use crate::guard::Guard;
 use crate::list::Obligations;
 use crate::meant::Meant;
 use crate::statements::Within;
-use ss_core::{Body, BodyId, Core, Local};
+use ss_core::BodyId;
+use ss_second_core::{Body, Core, Local};
 use ss_terms::Bank;
 use std::alloc::{AllocError, Global};
 

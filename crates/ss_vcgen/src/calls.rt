@@ -1,11 +1,11 @@
 // Calls and returns.
 
 ghost use Rattle.std.specs.Prelude.{◌≡◌, Some, map, option_map, slice_get, IfOk, OnOk};
-ghost use Rattle.ss_core.specs.View as view;
-ghost use Rattle.ss_core.specs.View.{expr};
+ghost use Rattle.ss_second_core.specs.View as view;
+ghost use Rattle.ss_second_core.specs.View.{expr};
 ghost use Rattle.ss_core.specs.declared.names.Kind.TheVariants.{Precondition, Postcondition};
-ghost use Rattle.ss_oblig.specs.Express as spec;
-ghost use Rattle.ss_oblig.specs.Obligations as tree;
+ghost use Rattle.ss_vcgen_rules.specs.Express as spec;
+ghost use Rattle.ss_vcgen_rules.specs.Obligations as tree;
 ghost use Rattle.ss_vcgen.specs.Numbers.{IsMeant, HasMeant, HasMeants, meant_in, meants_in};
 ghost use Rattle.ss_vcgen.specs.Calls.{outcome, last_env};
 ghost use Rattle.ss_vcgen.specs.Builder.{known_of, IsFine, Becomes, Asks};
@@ -15,7 +15,8 @@ use crate::conditions::condition_env;
 use crate::express::meant_of;
 use crate::guard::Guard;
 use crate::meant::{Meant, stand_for};
-use ss_core::{Body, BodyId, Core, Expr, Kind, Place, Ty};
+use ss_core::{BodyId, Kind, Place};
+use ss_second_core::{Body, Core, Expr, Ty};
 use std::alloc::AllocError;
 
 impl Builder {

@@ -1,17 +1,18 @@
 // Conditions that are asserted or assumed, one after the other.
 
 ghost use Rattle.std.specs.Prelude.{◌≡◌, [], ◌∷◌, ◌++◌, map, IfOk, OnOk};
-ghost use Rattle.ss_core.specs.View as view;
-ghost use Rattle.ss_core.specs.View.{expr};
+ghost use Rattle.ss_second_core.specs.View as view;
+ghost use Rattle.ss_second_core.specs.View.{expr};
 ghost use Rattle.ss_terms.specs.Forms.{IsGrown};
-ghost use Rattle.ss_oblig.specs.Obligations as tree;
+ghost use Rattle.ss_vcgen_rules.specs.Obligations as tree;
 ghost use Rattle.ss_vcgen.specs.Numbers.{HasMeants, meants_in};
 ghost use Rattle.ss_vcgen.specs.Conditions.{condition_env};
 ghost use Rattle.ss_vcgen.specs.Builder.{known_of, IsFine, Becomes, Asks};
 
 use crate::builder::Builder;
 use crate::meant::Meant;
-use ss_core::{Body, BodyId, Expr, Kind, Local, Place};
+use ss_core::{BodyId, Kind, Place};
+use ss_second_core::{Body, Expr, Local};
 use std::alloc::{AllocError, Global};
 
 // Adds nothing for each of these locals.

@@ -1,10 +1,10 @@
 // The terms and formulas of expressions, where each local stands for a term or a formula.
 
 ghost use Rattle.std.specs.Prelude.{◌≡◌, ◌&&◌, true, false, map, IfOk};
-ghost use Rattle.ss_core.specs.View.{expr};
+ghost use Rattle.ss_second_core.specs.View.{expr};
 ghost use Rattle.ss_logic.specs.Logic.{Same, neg, formulas_from};
 ghost use Rattle.ss_terms.specs.Forms.{term_at, formula_at, formulas_at, HasTerm, HasFormula, HasFormulas, IsGrown};
-ghost use Rattle.ss_oblig.specs.Express as spec;
+ghost use Rattle.ss_vcgen_rules.specs.Express as spec;
 ghost use Rattle.ss_vcgen.specs.Numbers.{IsTerm, IsFormula, IsMeant, HasMeants, HasMeant, meants_in, term_in, formula_in};
 ghost use Rattle.ss_vcgen.specs.Chain.{parts_of, operands_in, join, joined};
 ghost use Rattle.ss_vcgen.specs.Shapes.{shape_of, is_chain_of, shape_is_whole, shape_has_a_term, shape_term};
@@ -12,7 +12,7 @@ ghost use Rattle.ss_vcgen.specs.Shapes.{shape_of, is_chain_of, shape_is_whole, s
 use crate::formulas::{all, always, any, equal, iff, implies, zero};
 use crate::meant::{self, Meant, local};
 use crate::shape::{Joint, Shape, is_chain_of, outermost};
-use ss_core::Expr;
+use ss_second_core::Expr;
 use ss_terms::{Bank, Formula, FormulaId, Term, TermId};
 use std::alloc::{AllocError, Global};
 

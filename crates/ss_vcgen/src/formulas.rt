@@ -3,7 +3,7 @@
 ghost use Rattle.std.specs.Prelude.{◌≡◌, true, pos, IfOk};
 ghost use Rattle.ss_logic.specs.Logic.{Num, Same, And, Or, neg, formulas_from};
 ghost use Rattle.ss_terms.specs.Forms.{term_at, formula_at, formulas_at, HasTerm, HasFormula, HasFormulas, IsGrown};
-ghost use Rattle.ss_oblig.specs.Express as spec;
+ghost use Rattle.ss_vcgen_rules.specs.Express as spec;
 ghost use Rattle.ss_vcgen.specs.Numbers.{IsTerm, IsFormula};
 
 use ss_terms::{Bank, Formula, FormulaId, Term, TermId};

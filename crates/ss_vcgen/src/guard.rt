@@ -3,8 +3,8 @@
 ghost use Rattle.std.specs.Prelude.{◌≡◌, IfOk};
 ghost use Rattle.ss_logic.specs.Logic.{neg};
 ghost use Rattle.ss_terms.specs.Forms.{HasFormula, IsGrown, formula_at};
-ghost use Rattle.ss_oblig.specs.Express as spec;
-ghost use Rattle.ss_oblig.specs.Obligations as tree;
+ghost use Rattle.ss_vcgen_rules.specs.Express as spec;
+ghost use Rattle.ss_vcgen_rules.specs.Obligations as tree;
 ghost use Rattle.ss_vcgen.specs.Guards.{guard_of};
 ghost use Rattle.ss_vcgen.specs.Numbers.{IsFormula};
 

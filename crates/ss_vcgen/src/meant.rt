@@ -5,7 +5,7 @@ ghost use Rattle.std.specs.List.{slice_index_or};
 ghost use Rattle.ss_logic.specs.declared.Sort.TheVariants.{Whole};
 ghost use Rattle.ss_logic.specs.Logic.{same_sort, sort_of};
 ghost use Rattle.ss_terms.specs.Forms.{IsGrown};
-ghost use Rattle.ss_oblig.specs.Express as spec;
+ghost use Rattle.ss_vcgen_rules.specs.Express as spec;
 ghost use Rattle.ss_vcgen.specs.Numbers.{IsTerm, IsFormula, HasMeant, meant_in};
 
 use crate::formulas::{always, is_true, zero};

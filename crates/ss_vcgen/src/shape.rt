@@ -1,10 +1,10 @@
 // What an expression is at its outermost.
 
 ghost use Rattle.std.specs.Prelude.{◌≡◌};
-ghost use Rattle.ss_core.specs.View.{expr};
+ghost use Rattle.ss_second_core.specs.View.{expr};
 ghost use Rattle.ss_vcgen.specs.Shapes.{shape_of, is_chain_of};
 
-use ss_core::Expr;
+use ss_second_core::Expr;
 
 /// The operator of a chain.
 #[derive(Clone, Copy, Debug, PartialEq, Eq)]

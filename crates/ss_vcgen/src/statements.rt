@@ -1,17 +1,18 @@
 // Statements, one after the other.
 
 ghost use Rattle.std.specs.Prelude.{◌≡◌, ◌+◌, [], ◌∷◌, IfOk, OnOk};
-ghost use Rattle.ss_core.specs.View as view;
-ghost use Rattle.ss_core.specs.View.{block};
+ghost use Rattle.ss_second_core.specs.View as view;
+ghost use Rattle.ss_second_core.specs.View.{block};
 ghost use Rattle.ss_core.specs.declared.names.Kind.TheVariants.{Assert};
-ghost use Rattle.ss_oblig.specs.Obligations as tree;
+ghost use Rattle.ss_vcgen_rules.specs.Obligations as tree;
 ghost use Rattle.ss_vcgen.specs.Builder.{known_of, formula_here, IsFine, Becomes, Asks};
 ghost use Rattle.ss_vcgen.specs.Guards.{guard_of};
 
 use crate::branches::Position;
 use crate::builder::Builder;
 use crate::guard::Guard;
-use ss_core::{Body, BodyId, Core, Expr, Kind, Place, Stmt};
+use ss_core::{BodyId, Kind, Place};
+use ss_second_core::{Body, Core, Expr, Stmt};
 use std::alloc::AllocError;
 
 /// A body of a program, with its number.

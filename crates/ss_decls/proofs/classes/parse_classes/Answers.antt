@@ -1,17 +1,17 @@
 use Rattle.std.proofs.Common.{◌<◌, ◌∙◌, List, length, map, Ok, sym, subst, arith}
 use Rattle.std.specs.Prelude.{IfSome}
-use Rattle.ss_syntax.specs.Heads.{pieces}
-use Rattle.ss_programs.specs.Heads.{begins_class}
-use Rattle.ss_programs.specs.Parser.{class_decl}
+use Rattle.ss_grammar_expressions.specs.Heads.{pieces}
+use Rattle.ss_grammar_programs.specs.Heads.{begins_class}
+use Rattle.ss_grammar_programs.specs.Parser.{class_decl}
 use Rattle.ss_ast.specs.Programs.{class_tree}
 use Rattle.ss_grammar.specs.Stops.{Fails, GivesMore}
 use Rattle.ss_ast.specs.Programs.{ClassTree}
-use Rattle.ss_programs.specs.Again.{another}
-use Rattle.ss_programs.proofs.Rounds.{rounds_last}
-use Rattle.ss_programs.specs.Grammar.{push}
+use Rattle.ss_grammar_programs.specs.Again.{another}
+use Rattle.ss_grammar_programs.proofs.Rounds.{rounds_last}
+use Rattle.ss_grammar_programs.specs.Grammar.{push}
 use Rattle.ss_decls.proofs.Collect.{pushed_again, fails_again}
 use Rattle.ss_decls.proofs.Readers.{classes_is}
-use Rattle.ss_parser.proofs.Loops.{err_gives}
+use Rattle.ss_parser_expressions.proofs.Loops.{err_gives}
 use Rattle.ss_decls.proofs.classes.parse_classes.Goals as goal
 
 pub loop-list-preserved : goal.loop-list-preserved

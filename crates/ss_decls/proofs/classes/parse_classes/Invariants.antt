@@ -1,12 +1,12 @@
 use Rattle.std.proofs.Common.{length, map, ◌≤◌, [], List}
-use Rattle.ss_syntax.specs.Heads.{pieces}
-use Rattle.ss_programs.specs.Heads.{begins_class}
-use Rattle.ss_programs.specs.Parser.{class_decl}
+use Rattle.ss_grammar_expressions.specs.Heads.{pieces}
+use Rattle.ss_grammar_programs.specs.Heads.{begins_class}
+use Rattle.ss_grammar_programs.specs.Parser.{class_decl}
 use Rattle.ss_ast.specs.Programs.{class_tree}
 use Rattle.ss_ast.specs.Programs.{ClassTree}
-use Rattle.ss_programs.specs.Again.{again}
-use Rattle.ss_programs.proofs.Rounds.{Rounds}
-use Rattle.ss_programs.specs.Grammar.{push}
+use Rattle.ss_grammar_programs.specs.Again.{again}
+use Rattle.ss_grammar_programs.proofs.Rounds.{Rounds}
+use Rattle.ss_grammar_programs.specs.Grammar.{push}
 use Rattle.ss_decls.proofs.classes.parse_classes.Given as goal
 
 abbrev pub invariant-loop-list : goal.invariant-loop-list

@@ -1,13 +1,13 @@
 use Rattle.std.proofs.Common.{◌<◌, ◌∙◌, length, map, Ok, subst, arith}
 use Rattle.std.specs.Prelude.{IfSome}
-use Rattle.ss_syntax.specs.Heads.{pieces}
-use Rattle.ss_programs.specs.Heads.{clause_head}
-use Rattle.ss_programs.specs.Parser.{clause_behind}
+use Rattle.ss_grammar_expressions.specs.Heads.{pieces}
+use Rattle.ss_grammar_programs.specs.Heads.{clause_head}
+use Rattle.ss_grammar_programs.specs.Parser.{clause_behind}
 use Rattle.ss_ast.specs.Programs.{clause_tree}
 use Rattle.ss_grammar.specs.Stops.{GivesMore}
 use Rattle.ss_grammar.specs.Reading.{one_more}
 use Rattle.ss_grammar.proofs.Turns.{more_last}
-use Rattle.ss_programs.specs.Grammar.{push_behind}
+use Rattle.ss_grammar_programs.specs.Grammar.{push_behind}
 use Rattle.ss_decls.proofs.Collect.{pushed}
 use Rattle.ss_decls.proofs.Readers.{clauses_is}
 use Rattle.ss_decls.proofs.clauses.parse_clauses.Goals as goal

@@ -1,11 +1,11 @@
 use Rattle.std.proofs.Common.{length, map, ◌≤◌, []}
-use Rattle.ss_syntax.specs.Heads.{pieces}
-use Rattle.ss_programs.specs.Heads.{clause_head}
-use Rattle.ss_programs.specs.Parser.{clause_behind}
+use Rattle.ss_grammar_expressions.specs.Heads.{pieces}
+use Rattle.ss_grammar_programs.specs.Heads.{clause_head}
+use Rattle.ss_grammar_programs.specs.Parser.{clause_behind}
 use Rattle.ss_ast.specs.Programs.{clause_tree}
 use Rattle.ss_grammar.specs.Reading.{times}
 use Rattle.ss_grammar.proofs.Turns.{Turns}
-use Rattle.ss_programs.specs.Grammar.{push_behind}
+use Rattle.ss_grammar_programs.specs.Grammar.{push_behind}
 use Rattle.ss_decls.proofs.clauses.parse_clauses.Given as goal
 
 abbrev pub invariant-loop-list : goal.invariant-loop-list

@@ -1,13 +1,13 @@
 use Rattle.std.proofs.Common.{◌∙◌, List, [], length, sym, subst, arith}
 use Rattle.ss_ast.specs.declared.class.Modifier.{Modifier}
 use Rattle.ss_grammar.specs.Reading.{take}
-use Rattle.ss_syntax.specs.Heads.{is, pieces}
-use Rattle.ss_syntax.specs.Parser.{give}
-use Rattle.ss_parser.proofs.Loops.{pieces_less}
-use Rattle.ss_programs.specs.Again.{again}
-use Rattle.ss_programs.specs.Heads.{member_word}
-use Rattle.ss_programs.specs.Grammar.{join_word}
-use Rattle.ss_programs.proofs.Rounds.{Rounds, rounds_on, rounds_end, another_seen, none_seen}
+use Rattle.ss_grammar_expressions.specs.Heads.{is, pieces}
+use Rattle.ss_grammar_expressions.specs.Parser.{give}
+use Rattle.ss_parser_expressions.proofs.Loops.{pieces_less}
+use Rattle.ss_grammar_programs.specs.Again.{again}
+use Rattle.ss_grammar_programs.specs.Heads.{member_word}
+use Rattle.ss_grammar_programs.specs.Grammar.{join_word}
+use Rattle.ss_grammar_programs.proofs.Rounds.{Rounds, rounds_on, rounds_end, another_seen, none_seen}
 use Rattle.ss_decls.proofs.Readers.{words_is}
 use Rattle.ss_decls.proofs.members.parse_modifiers.Goals as goal
 

@@ -1,12 +1,12 @@
 use Rattle.std.proofs.Common.{length, ◌≤◌, List, []}
 use Rattle.ss_ast.specs.declared.class.Modifier.{Modifier}
 use Rattle.ss_grammar.specs.Reading.{take}
-use Rattle.ss_syntax.specs.Heads.{is, pieces}
-use Rattle.ss_syntax.specs.Parser.{give}
-use Rattle.ss_programs.specs.Again.{again}
-use Rattle.ss_programs.specs.Heads.{member_word}
-use Rattle.ss_programs.specs.Grammar.{join_word}
-use Rattle.ss_programs.proofs.Rounds.{Rounds}
+use Rattle.ss_grammar_expressions.specs.Heads.{is, pieces}
+use Rattle.ss_grammar_expressions.specs.Parser.{give}
+use Rattle.ss_grammar_programs.specs.Again.{again}
+use Rattle.ss_grammar_programs.specs.Heads.{member_word}
+use Rattle.ss_grammar_programs.specs.Grammar.{join_word}
+use Rattle.ss_grammar_programs.proofs.Rounds.{Rounds}
 use Rattle.ss_decls.proofs.members.parse_modifiers.Given as goal
 
 abbrev pub invariant-loop-said : goal.invariant-loop-said

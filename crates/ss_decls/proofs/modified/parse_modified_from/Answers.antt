@@ -3,10 +3,10 @@ use Rattle.std.specs.Prelude.{IfSome}
 use Rattle.ss_ast.specs.Expressions.{expr_tree, grouped}
 use Rattle.ss_ast.specs.Programs.{AllOf, ElementsOf, OneOf}
 use Rattle.ss_grammar.specs.Stops.{GivesMore}
-use Rattle.ss_syntax.specs.Heads.{is, pieces, postfix_head}
-use Rattle.ss_parser.specs.View.{postfix_tree}
-use Rattle.ss_programs.specs.Again.{another}
-use Rattle.ss_programs.specs.Parser.{step}
+use Rattle.ss_grammar_expressions.specs.Heads.{is, pieces, postfix_head}
+use Rattle.ss_parser_expressions.specs.View.{postfix_tree}
+use Rattle.ss_grammar_programs.specs.Again.{another}
+use Rattle.ss_grammar_programs.specs.Parser.{step}
 use Rattle.ss_decls.specs.declared.modified.TermStep.{TermStep}
 use Rattle.ss_decls.specs.View.{step_of}
 use Rattle.ss_decls.proofs.Terms.{Stands, stepped_on, one_postfix, ends_whole, ends_path}

@@ -1,10 +1,10 @@
 use Rattle.std.proofs.Common.{length, map, ◌≤◌}
 use Rattle.ss_ast.specs.Expressions.{expr_tree, grouped}
-use Rattle.ss_parser.specs.View.{postfix_tree}
-use Rattle.ss_syntax.specs.Heads.{pieces}
-use Rattle.ss_programs.specs.Grammar.{Path, path_goes, stepped}
-use Rattle.ss_programs.specs.Parser.{step, steps}
-use Rattle.ss_programs.proofs.Rounds.{Rounds}
+use Rattle.ss_parser_expressions.specs.View.{postfix_tree}
+use Rattle.ss_grammar_expressions.specs.Heads.{pieces}
+use Rattle.ss_grammar_programs.specs.Grammar.{Path, path_goes, stepped}
+use Rattle.ss_grammar_programs.specs.Parser.{step, steps}
+use Rattle.ss_grammar_programs.proofs.Rounds.{Rounds}
 use Rattle.ss_decls.proofs.modified.parse_modified_from.Given as goal
 
 abbrev pub invariant-loop-postfixes : goal.invariant-loop-postfixes

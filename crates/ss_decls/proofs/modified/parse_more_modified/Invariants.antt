@@ -1,12 +1,12 @@
 use Rattle.std.proofs.Common.{length, map, ◌≤◌}
 use Rattle.ss_ast.specs.declared.token.Symbol.TheVariants as symbol
-use Rattle.ss_syntax.specs.Heads.{the, pieces}
+use Rattle.ss_grammar_expressions.specs.Heads.{the, pieces}
 use Rattle.ss_core.specs.declared.names.Place.{Place}
-use Rattle.ss_programs.specs.Parser.{modified_term}
+use Rattle.ss_grammar_programs.specs.Parser.{modified_term}
 use Rattle.ss_ast.specs.Programs.{modified_tree}
 use Rattle.ss_grammar.specs.Reading.{times}
 use Rattle.ss_grammar.proofs.Turns.{Turns}
-use Rattle.ss_programs.specs.Grammar.{push_behind}
+use Rattle.ss_grammar_programs.specs.Grammar.{push_behind}
 use Rattle.ss_decls.proofs.modified.parse_more_modified.Given as goal
 
 abbrev pub invariant-loop-terms : goal.invariant-loop-terms

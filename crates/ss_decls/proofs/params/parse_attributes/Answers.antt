@@ -4,11 +4,11 @@ use Rattle.ss_ast.specs.declared.token.Symbol.TheVariants as symbol
 use Rattle.ss_ast.specs.Expressions.{name_tree}
 use Rattle.ss_grammar.specs.Reading.{one_more}
 use Rattle.ss_grammar.specs.Stops.{GivesMore}
-use Rattle.ss_syntax.specs.First.{tokened}
-use Rattle.ss_syntax.specs.Heads.{the, pieces}
+use Rattle.ss_grammar_expressions.specs.First.{tokened}
+use Rattle.ss_grammar_expressions.specs.Heads.{the, pieces}
 use Rattle.ss_grammar.proofs.Turns.{more_last}
-use Rattle.ss_programs.specs.Grammar.{push_behind}
-use Rattle.ss_programs.specs.Parser.{attribute}
+use Rattle.ss_grammar_programs.specs.Grammar.{push_behind}
+use Rattle.ss_grammar_programs.specs.Parser.{attribute}
 use Rattle.ss_decls.proofs.Readers.{attributes_is}
 use Rattle.ss_decls.proofs.Collect.{pushed}
 use Rattle.ss_decls.proofs.params.parse_attributes.Goals as goal

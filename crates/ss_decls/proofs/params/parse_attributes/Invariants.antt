@@ -3,10 +3,10 @@ use Rattle.ss_ast.specs.declared.token.Symbol.TheVariants as symbol
 use Rattle.ss_ast.specs.Expressions.{name_tree}
 use Rattle.ss_grammar.specs.Reading.{times}
 use Rattle.ss_grammar.proofs.Turns.{Turns}
-use Rattle.ss_syntax.specs.First.{tokened}
-use Rattle.ss_syntax.specs.Heads.{the, pieces}
-use Rattle.ss_programs.specs.Grammar.{push_behind}
-use Rattle.ss_programs.specs.Parser.{attribute}
+use Rattle.ss_grammar_expressions.specs.First.{tokened}
+use Rattle.ss_grammar_expressions.specs.Heads.{the, pieces}
+use Rattle.ss_grammar_programs.specs.Grammar.{push_behind}
+use Rattle.ss_grammar_programs.specs.Parser.{attribute}
 use Rattle.ss_decls.proofs.params.parse_attributes.Given as goal
 
 abbrev pub invariant-loop-names : goal.invariant-loop-names

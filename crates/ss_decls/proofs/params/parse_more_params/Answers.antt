@@ -1,14 +1,14 @@
 use Rattle.std.proofs.Common.{◌<◌, length, map, Ok, subst, arith}
 use Rattle.std.specs.Prelude.{IfSome}
 use Rattle.ss_ast.specs.declared.token.Symbol.TheVariants as symbol
-use Rattle.ss_syntax.specs.Heads.{the, pieces}
+use Rattle.ss_grammar_expressions.specs.Heads.{the, pieces}
 use Rattle.ss_core.specs.declared.names.Place.{Place}
-use Rattle.ss_programs.specs.Parser.{parameter}
+use Rattle.ss_grammar_programs.specs.Parser.{parameter}
 use Rattle.ss_ast.specs.Programs.{param_tree}
 use Rattle.ss_grammar.specs.Stops.{GivesMore}
 use Rattle.ss_grammar.specs.Reading.{one_more}
 use Rattle.ss_grammar.proofs.Turns.{more_last}
-use Rattle.ss_programs.specs.Grammar.{push_behind}
+use Rattle.ss_grammar_programs.specs.Grammar.{push_behind}
 use Rattle.ss_decls.proofs.Collect.{pushed}
 use Rattle.ss_decls.proofs.params.parse_more_params.Goals as goal
 

@@ -3,8 +3,8 @@ use Rattle.std.proofs.lemmas.Grind.{common_steps}
 use Rattle.ss_ast.specs.Programs.{class_tree}
 use Rattle.ss_grammar.specs.declared.fault.Stop.{Stop}
 use Rattle.ss_grammar.specs.Stops.{Fails}
-use Rattle.ss_syntax.specs.Heads.{pieces}
-use Rattle.ss_programs.specs.Parser.{declarations}
+use Rattle.ss_grammar_expressions.specs.Heads.{pieces}
+use Rattle.ss_grammar_programs.specs.Parser.{declarations}
 use Rattle.ss_decls.specs.Answer.{ProgramAnswer}
 use Rattle.ss_decls.proofs.Files.{whole_is, more_is, brace_is, other_is, faulty}
 use Rattle.ss_decls.proofs.program.parse_program.Goals as goal

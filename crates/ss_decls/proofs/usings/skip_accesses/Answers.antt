@@ -1,11 +1,11 @@
 use Rattle.std.proofs.Common.{◌∙◌, arith}
 use Rattle.ss_core.specs.declared.names.Place.{Place}
 use Rattle.ss_grammar.specs.Reading.{take}
-use Rattle.ss_syntax.specs.Heads.{is, pieces}
-use Rattle.ss_syntax.specs.Parser.{give}
-use Rattle.ss_parser.proofs.Loops.{pieces_less}
-use Rattle.ss_programs.specs.Heads.{an_access}
-use Rattle.ss_programs.proofs.Rounds.{rounds_on, rounds_end, another_seen, none_seen}
+use Rattle.ss_grammar_expressions.specs.Heads.{is, pieces}
+use Rattle.ss_grammar_expressions.specs.Parser.{give}
+use Rattle.ss_parser_expressions.proofs.Loops.{pieces_less}
+use Rattle.ss_grammar_programs.specs.Heads.{an_access}
+use Rattle.ss_grammar_programs.proofs.Rounds.{rounds_on, rounds_end, another_seen, none_seen}
 use Rattle.ss_decls.proofs.Readers.{accesses_is}
 use Rattle.ss_decls.proofs.usings.skip_accesses.Goals as goal
 

@@ -1,11 +1,11 @@
 use Rattle.std.proofs.Common.{length, ◌≤◌}
-use Rattle.ss_syntax.specs.Heads.{is, pieces}
+use Rattle.ss_grammar_expressions.specs.Heads.{is, pieces}
 use Rattle.ss_grammar.specs.Reading.{take}
-use Rattle.ss_syntax.specs.Parser.{give}
+use Rattle.ss_grammar_expressions.specs.Parser.{give}
 use Rattle.ss_core.specs.declared.names.Place.{Place}
-use Rattle.ss_programs.specs.Again.{again}
-use Rattle.ss_programs.specs.Heads.{an_access}
-use Rattle.ss_programs.proofs.Rounds.{Rounds}
+use Rattle.ss_grammar_programs.specs.Again.{again}
+use Rattle.ss_grammar_programs.specs.Heads.{an_access}
+use Rattle.ss_grammar_programs.proofs.Rounds.{Rounds}
 use Rattle.ss_decls.proofs.usings.skip_accesses.Given as goal
 
 abbrev pub invariant-loop-after : goal.invariant-loop-after

@@ -4,9 +4,9 @@ use Rattle.ss_ast.specs.declared.token.Symbol.TheVariants as symbol
 use Rattle.ss_grammar.specs.Reading.{one_more}
 use Rattle.ss_grammar.specs.Stops.{GivesMore}
 use Rattle.ss_grammar.proofs.Turns.{more_last}
-use Rattle.ss_syntax.specs.Heads.{the, pieces}
-use Rattle.ss_programs.specs.Grammar.{dropped}
-use Rattle.ss_programs.specs.Parser.{skipped_name}
+use Rattle.ss_grammar_expressions.specs.Heads.{the, pieces}
+use Rattle.ss_grammar_programs.specs.Grammar.{dropped}
+use Rattle.ss_grammar_programs.specs.Parser.{skipped_name}
 use Rattle.ss_decls.proofs.Readers.{dotted_is}
 use Rattle.ss_decls.proofs.usings.skip_dotted.Goals as goal
 

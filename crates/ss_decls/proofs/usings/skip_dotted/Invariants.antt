@@ -3,9 +3,9 @@ use Rattle.ss_core.specs.declared.names.Place.{Place}
 use Rattle.ss_ast.specs.declared.token.Symbol.TheVariants as symbol
 use Rattle.ss_grammar.specs.Reading.{times}
 use Rattle.ss_grammar.proofs.Turns.{Turns}
-use Rattle.ss_syntax.specs.Heads.{the, pieces}
-use Rattle.ss_programs.specs.Grammar.{dropped}
-use Rattle.ss_programs.specs.Parser.{skipped_name}
+use Rattle.ss_grammar_expressions.specs.Heads.{the, pieces}
+use Rattle.ss_grammar_programs.specs.Grammar.{dropped}
+use Rattle.ss_grammar_programs.specs.Parser.{skipped_name}
 use Rattle.ss_decls.proofs.usings.skip_dotted.Given as goal
 
 abbrev pub invariant-loop-after : goal.invariant-loop-after

@@ -3,9 +3,9 @@ use Rattle.ss_core.specs.declared.names.Place.{Place}
 use Rattle.ss_ast.specs.declared.token.Word.TheVariants as word
 use Rattle.ss_grammar.specs.Reading.{times}
 use Rattle.ss_grammar.proofs.Turns.{Turns}
-use Rattle.ss_syntax.specs.Heads.{the_word, pieces}
-use Rattle.ss_programs.specs.Grammar.{dropped}
-use Rattle.ss_programs.specs.Parser.{using_end}
+use Rattle.ss_grammar_expressions.specs.Heads.{the_word, pieces}
+use Rattle.ss_grammar_programs.specs.Grammar.{dropped}
+use Rattle.ss_grammar_programs.specs.Parser.{using_end}
 use Rattle.ss_decls.proofs.usings.skip_usings.Given as goal
 
 abbrev pub invariant-loop-after : goal.invariant-loop-after

@@ -1,5 +1,5 @@
-use Rattle.ss_plain.specs.Sources.{stmts_of}
-use Rattle.ss_lifting.specs.Settings.{setting_of}
+use Rattle.ss_expand_expressions.specs.Sources.{stmts_of}
+use Rattle.ss_expand_lifting.specs.Settings.{setting_of}
 use Rattle.ss_expand.specs.Written.{own_stmts}
 use Rattle.ss_expand.proofs.Lists.{all_written}
 use Rattle.ss_expand.proofs.bodies.add_all.Goals as goal

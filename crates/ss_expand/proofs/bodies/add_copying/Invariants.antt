@@ -1,7 +1,7 @@
 use Rattle.std.proofs.Common.{◌≡◌, ◌++◌, map, drop}
 use Rattle.ss_typed.specs.View as typed
-use Rattle.ss_elab.specs.Bodies as bodies
-use Rattle.ss_plain.specs.Sources.{stmts_of}
+use Rattle.ss_expand_rules.specs.Bodies as bodies
+use Rattle.ss_expand_expressions.specs.Sources.{stmts_of}
 use Rattle.ss_expand.proofs.bodies.add_copying.Given as goal
 
 abbrev pub invariant-loop-param : goal.invariant-loop-param

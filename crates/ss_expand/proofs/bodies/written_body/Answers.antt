@@ -1,14 +1,14 @@
 use Rattle.std.proofs.Common.{◌≡◌, ◌++◌, map, length, ap, ◌∙◌, arith, Bor}
 use Rattle.std.specs.Prelude.{string_bytes}
-use Rattle.ss_classes.specs.View.{exprs, local_of, named_of, code_of}
+use Rattle.ss_core.specs.View.{exprs, local_of, named_of, code_of}
 use Rattle.ss_typed.specs.declared.body.TypedBody.{TypedBody}
 use Rattle.ss_typed.specs.View as typed
-use Rattle.ss_elab.specs.Numbers.{uncopied}
-use Rattle.ss_elab.specs.Contracts.{entry_conditions, exit_conditions, named_terms}
-use Rattle.ss_elab.specs.Bodies as bodies
-use Rattle.ss_elab.specs.Bodies.{numbers, param_of, copies, temporaries_from, temporary_types, contract_numbers, copying, code_with, core_flags}
-use Rattle.ss_plain.specs.Sources.{stmts_of}
-use Rattle.ss_plain.specs.Views.{numbers_of}
+use Rattle.ss_expand_rules.specs.Numbers.{uncopied}
+use Rattle.ss_expand_rules.specs.Contracts.{entry_conditions, exit_conditions, named_terms}
+use Rattle.ss_expand_rules.specs.Bodies as bodies
+use Rattle.ss_expand_rules.specs.Bodies.{numbers, param_of, copies, temporaries_from, temporary_types, contract_numbers, copying, code_with, core_flags}
+use Rattle.ss_expand_expressions.specs.Sources.{stmts_of}
+use Rattle.ss_expand_expressions.specs.Views.{numbers_of}
 use Rattle.ss_expand.proofs.Wholes.{same_body}
 use Rattle.ss_expand.proofs.bodies.written_body.Goals as goal
 

@@ -1,11 +1,11 @@
 use Rattle.std.proofs.Common.{map, ap, ◌∙◌}
 use Rattle.ss_typed.specs.Tree.{arguments, stmt_trees}
 use Rattle.ss_typed.specs.View as typed
-use Rattle.ss_elab.specs.Code.{after}
-use Rattle.ss_elab.specs.Simple.{base_call}
-use Rattle.ss_elab.specs.Statements.{stmts}
-use Rattle.ss_plain.specs.Sources.{stmts_of}
-use Rattle.ss_lifting.specs.Settings.{setting_of}
+use Rattle.ss_expand_rules.specs.Code.{after}
+use Rattle.ss_expand_rules.specs.Simple.{base_call}
+use Rattle.ss_expand_rules.specs.Statements.{stmts}
+use Rattle.ss_expand_expressions.specs.Sources.{stmts_of}
+use Rattle.ss_expand_lifting.specs.Settings.{setting_of}
 use Rattle.ss_expand.proofs.Codes.{one_then}
 use Rattle.ss_expand.proofs.constructors.add_behind_base.Goals as goal
 

@@ -1,8 +1,8 @@
 use Rattle.std.proofs.Common.{◌∙◌, map}
 use Rattle.ss_typed.specs.Tree.{stmt_trees}
 use Rattle.ss_typed.specs.View as typed
-use Rattle.ss_elab.specs.Constructors.{with_base}
-use Rattle.ss_lifting.specs.Settings.{setting_of}
+use Rattle.ss_expand_rules.specs.Constructors.{with_base}
+use Rattle.ss_expand_lifting.specs.Settings.{setting_of}
 use Rattle.ss_expand.proofs.Lists.{behind_initializers}
 use Rattle.ss_expand.proofs.constructors.add_constructor.Goals as goal
 

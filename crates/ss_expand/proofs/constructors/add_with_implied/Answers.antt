@@ -2,12 +2,12 @@ use Rattle.std.proofs.Common.{map, take, drop, sym, ap, ◌∙◌}
 use Rattle.std.specs.Prelude.{◌&&◌}
 use Rattle.ss_typed.specs.Tree.{StmtTrees, Before, stmt_trees}
 use Rattle.ss_typed.specs.View as typed
-use Rattle.ss_elab.specs.Code.{after}
-use Rattle.ss_elab.specs.Constructors.{before_all, base_alone}
-use Rattle.ss_elab.specs.Ends.{all_can_end}
-use Rattle.ss_elab.specs.Statements.{stmts}
-use Rattle.ss_plain.specs.Sources.{stmts_of}
-use Rattle.ss_lifting.specs.Settings.{setting_of}
+use Rattle.ss_expand_rules.specs.Code.{after}
+use Rattle.ss_expand_rules.specs.Constructors.{before_all, base_alone}
+use Rattle.ss_expand_rules.specs.Ends.{all_can_end}
+use Rattle.ss_expand_rules.specs.Statements.{stmts}
+use Rattle.ss_expand_expressions.specs.Sources.{stmts_of}
+use Rattle.ss_expand_lifting.specs.Settings.{setting_of}
 use Rattle.ss_expand.proofs.Lists.{ends_all, rest_of}
 use Rattle.ss_expand.proofs.constructors.add_with_implied.Goals as goal
 

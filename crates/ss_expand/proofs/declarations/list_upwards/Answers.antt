@@ -1,9 +1,9 @@
 use Rattle.std.proofs.Common.{◌++◌, ◌-◌, ◌<◌, ◌≤◌, map, ap, ◌∙◌, sym, subst, add-one}
 use Rattle.std.specs.Prelude.{filter_map, option_map}
-use Rattle.ss_classes.specs.View as core
-use Rattle.ss_classes.specs.Chain.{levels, most_levels}
+use Rattle.ss_core.specs.View as core
+use Rattle.ss_core.specs.Chain.{levels, most_levels}
 use Rattle.ss_typed.specs.View as typed
-use Rattle.ss_elab.specs.Contracts.{declared_at}
+use Rattle.ss_expand_rules.specs.Contracts.{declared_at}
 use Rattle.ss_expand.specs.Declaring.{levels_at}
 use Rattle.ss_expand.proofs.Chain.{most_is, first_level, one_level, last_level}
 use Rattle.ss_expand.proofs.declarations.list_upwards.Goals as goal

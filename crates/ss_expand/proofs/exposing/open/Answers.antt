@@ -1,9 +1,9 @@
 use Rattle.std.proofs.Common.{ap, ◌∙◌}
 use Rattle.std.specs.Prelude.{ℕ, option_map}
 use Rattle.ss_typed.specs.View.{expr}
-use Rattle.ss_elab.specs.Lifting.{Opened}
-use Rattle.ss_plain.specs.Sources.{stmts_of}
-use Rattle.ss_lifting.specs.Settings.{setting_of}
+use Rattle.ss_expand_rules.specs.Lifting.{Opened}
+use Rattle.ss_expand_expressions.specs.Sources.{stmts_of}
+use Rattle.ss_expand_lifting.specs.Settings.{setting_of}
 use Rattle.ss_expand.specs.Opening.{opened_by}
 use Rattle.ss_expand.proofs.Codes.{opened_code}
 use Rattle.ss_expand.proofs.exposing.open.Goals as goal

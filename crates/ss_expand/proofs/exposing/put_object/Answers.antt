@@ -1,15 +1,15 @@
 use Rattle.std.proofs.Common.{◌≡◌, List, sym, ap, ◌∙◌}
-use Rattle.ss_classes.specs.Tree.{ExprTree, LocalExpr}
-use Rattle.ss_classes.specs.View as core
-use Rattle.ss_classes.specs.declared.names.Ty.{Ty}
+use Rattle.ss_core.specs.Tree.{ExprTree, LocalExpr}
+use Rattle.ss_core.specs.View as core
+use Rattle.ss_core.specs.declared.names.Ty.{Ty}
 use Rattle.ss_typed.specs.View.{expr}
 use Rattle.ss_typed.specs.Types.{type_of}
-use Rattle.ss_elab.specs.Calls.{place_of}
-use Rattle.ss_elab.specs.Lifting.{Lifted, Valued, right_side, in_local, next, temporary_type, any_object}
-use Rattle.ss_plain.specs.Operands.{valued_as}
-use Rattle.ss_plain.specs.Sources.{stmts_of, lifted_by, valued_by, valued_behind}
-use Rattle.ss_plain.proofs.Behind.{in_local_behind}
-use Rattle.ss_lifting.specs.Settings.{setting_of}
+use Rattle.ss_expand_rules.specs.Calls.{place_of}
+use Rattle.ss_expand_rules.specs.Lifting.{Lifted, Valued, right_side, in_local, next, temporary_type, any_object}
+use Rattle.ss_expand_expressions.specs.Operands.{valued_as}
+use Rattle.ss_expand_expressions.specs.Sources.{stmts_of, lifted_by, valued_by, valued_behind}
+use Rattle.ss_expand_expressions.proofs.Behind.{in_local_behind}
+use Rattle.ss_expand_lifting.specs.Settings.{setting_of}
 use Rattle.ss_expand.proofs.exposing.put_object.Goals as goal
 
 pub returns-clause-kept : goal.returns-clause-kept

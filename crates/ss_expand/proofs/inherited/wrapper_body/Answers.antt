@@ -1,12 +1,12 @@
 use Rattle.std.proofs.Common.{◌≡◌, map, length, sym, ap, ◌∙◌, arith, Bor}
 use Rattle.std.specs.Prelude.{string_bytes}
-use Rattle.ss_classes.specs.View.{exprs, local_of, named_of, code_of}
+use Rattle.ss_core.specs.View.{exprs, local_of, named_of, code_of}
 use Rattle.ss_typed.specs.declared.body.TypedBody.{TypedBody}
 use Rattle.ss_typed.specs.View as typed
-use Rattle.ss_elab.specs.Contracts.{entry_conditions, exit_conditions, named_terms}
-use Rattle.ss_elab.specs.Bodies.{param_of, temporaries_from, wrapper_types, wrapper_numbers, wrapper_flags}
-use Rattle.ss_plain.specs.Sources.{stmts_of}
-use Rattle.ss_plain.specs.Views.{numbers_of}
+use Rattle.ss_expand_rules.specs.Contracts.{entry_conditions, exit_conditions, named_terms}
+use Rattle.ss_expand_rules.specs.Bodies.{param_of, temporaries_from, wrapper_types, wrapper_numbers, wrapper_flags}
+use Rattle.ss_expand_expressions.specs.Sources.{stmts_of}
+use Rattle.ss_expand_expressions.specs.Views.{numbers_of}
 use Rattle.ss_expand.specs.Inherited.{inherited_code}
 use Rattle.ss_expand.proofs.Wholes.{same_body}
 use Rattle.ss_expand.proofs.inherited.wrapper_body.Goals as goal

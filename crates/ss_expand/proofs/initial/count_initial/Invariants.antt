@@ -1,7 +1,7 @@
 use Rattle.std.proofs.Common.{◌≡◌, ◌+◌, map, drop}
 use Rattle.std.specs.List.{prefix_len}
 use Rattle.ss_typed.specs.View as typed
-use Rattle.ss_elab.specs.Constructors.{is_initial}
+use Rattle.ss_expand_rules.specs.Constructors.{is_initial}
 use Rattle.ss_expand.proofs.initial.count_initial.Given as goal
 
 abbrev pub invariant-loop-place : goal.invariant-loop-place

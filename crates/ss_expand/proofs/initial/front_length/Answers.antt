@@ -5,8 +5,8 @@ use Rattle.std.proofs.lemmas.List.{take-map, drop-map, length-map}
 use Rattle.std.proofs.lemmas.List.Sums.{prefix_len-le-length}
 use Rattle.ss_typed.specs.Tree.{Before, stmt_trees}
 use Rattle.ss_typed.specs.View as typed
-use Rattle.ss_elab.specs.Constructors.{is_initial, behind_initial, before_all}
-use Rattle.ss_elab.specs.Ends.{all_can_end}
+use Rattle.ss_expand_rules.specs.Constructors.{is_initial, behind_initial, before_all}
+use Rattle.ss_expand_rules.specs.Ends.{all_can_end}
 use Rattle.ss_expand.proofs.Lists.{split_initial, front_ends}
 use Rattle.ss_expand.proofs.initial.front_length.Goals as goal
 

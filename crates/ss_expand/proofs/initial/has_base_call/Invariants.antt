@@ -1,7 +1,7 @@
 use Rattle.std.proofs.Common.{◌≡◌, map, drop}
 use Rattle.ss_typed.specs.Tree.{stmt_trees}
 use Rattle.ss_typed.specs.View.{stmt_of}
-use Rattle.ss_elab.specs.Constructors.{has_base_call}
+use Rattle.ss_expand_rules.specs.Constructors.{has_base_call}
 use Rattle.ss_expand.proofs.initial.has_base_call.Given as goal
 
 abbrev pub invariant-loop-stmt : goal.invariant-loop-stmt

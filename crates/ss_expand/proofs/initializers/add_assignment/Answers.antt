@@ -1,9 +1,9 @@
-use Rattle.ss_classes.specs.View as core
+use Rattle.ss_core.specs.View as core
 use Rattle.ss_typed.specs.View as typed
-use Rattle.ss_elab.specs.Constructors.{initial_assignment}
-use Rattle.ss_elab.specs.Statements.{stmt, stmts}
-use Rattle.ss_plain.specs.Sources.{stmts_of}
-use Rattle.ss_lifting.specs.Settings.{setting_of}
+use Rattle.ss_expand_rules.specs.Constructors.{initial_assignment}
+use Rattle.ss_expand_rules.specs.Statements.{stmt, stmts}
+use Rattle.ss_expand_expressions.specs.Sources.{stmts_of}
+use Rattle.ss_expand_lifting.specs.Settings.{setting_of}
 use Rattle.ss_expand.proofs.Codes.{then_more}
 use Rattle.ss_expand.proofs.initializers.add_assignment.Goals as goal
 

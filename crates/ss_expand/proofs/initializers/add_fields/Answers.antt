@@ -2,13 +2,13 @@ use Rattle.std.proofs.Common.{suc, ◌+◌, map, drop, sym, ap, ◌∙◌, add-o
 use Rattle.std.specs.Prelude.{List}
 use Rattle.ss_typed.specs.Tree.{StmtTrees, FieldTree}
 use Rattle.ss_typed.specs.View as typed
-use Rattle.ss_elab.specs.Program.{field_at}
-use Rattle.ss_elab.specs.Code.{after}
-use Rattle.ss_elab.specs.Constructors.{before_all, initializers_from}
-use Rattle.ss_elab.specs.Statements.{stmts}
-use Rattle.ss_plain.specs.Sources.{stmts_of}
-use Rattle.ss_plain.proofs.Loops.{drop_item}
-use Rattle.ss_lifting.specs.Settings.{setting_of}
+use Rattle.ss_expand_rules.specs.Program.{field_at}
+use Rattle.ss_expand_rules.specs.Code.{after}
+use Rattle.ss_expand_rules.specs.Constructors.{before_all, initializers_from}
+use Rattle.ss_expand_rules.specs.Statements.{stmts}
+use Rattle.ss_expand_expressions.specs.Sources.{stmts_of}
+use Rattle.ss_expand_expressions.proofs.Loops.{drop_item}
+use Rattle.ss_expand_lifting.specs.Settings.{setting_of}
 use Rattle.ss_expand.proofs.Lists.{initialize_all}
 use Rattle.ss_expand.proofs.initializers.add_fields.Goals as goal
 

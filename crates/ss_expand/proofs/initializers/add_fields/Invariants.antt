@@ -1,11 +1,11 @@
 use Rattle.std.proofs.Common.{◌≡◌, map, drop}
 use Rattle.ss_typed.specs.Tree.{StmtTrees}
 use Rattle.ss_typed.specs.View as typed
-use Rattle.ss_elab.specs.Code.{after}
-use Rattle.ss_elab.specs.Constructors.{before_all, initializers_from}
-use Rattle.ss_elab.specs.Statements.{stmts}
-use Rattle.ss_plain.specs.Sources.{stmts_of}
-use Rattle.ss_lifting.specs.Settings.{setting_of}
+use Rattle.ss_expand_rules.specs.Code.{after}
+use Rattle.ss_expand_rules.specs.Constructors.{before_all, initializers_from}
+use Rattle.ss_expand_rules.specs.Statements.{stmts}
+use Rattle.ss_expand_expressions.specs.Sources.{stmts_of}
+use Rattle.ss_expand_lifting.specs.Settings.{setting_of}
 use Rattle.ss_expand.proofs.initializers.add_fields.Given as goal
 
 abbrev pub invariant-loop-field : goal.invariant-loop-field

@@ -1,8 +1,8 @@
 use Rattle.std.proofs.Common.{◌≡◌, ◌+◌, ◌∷◌, suc, map, drop, length, sym, ap, ◌∙◌, add-one, arith}
-use Rattle.ss_classes.specs.Chain.{fields_from}
-use Rattle.ss_classes.specs.View as core
-use Rattle.ss_elab.specs.Constructors.{fields_before}
-use Rattle.ss_plain.proofs.Loops.{drop_item}
+use Rattle.ss_core.specs.Chain.{fields_from}
+use Rattle.ss_core.specs.View as core
+use Rattle.ss_expand_rules.specs.Constructors.{fields_before}
+use Rattle.ss_expand_expressions.proofs.Loops.{drop_item}
 use Rattle.ss_expand.proofs.Fields.{none_before, all_before}
 use Rattle.ss_expand.proofs.initializers.count_before.Goals as goal
 

@@ -1,7 +1,7 @@
 use Rattle.std.proofs.Common.{◌≡◌, ◌+◌, ◌*◌, map, drop}
-use Rattle.ss_classes.specs.Chain.{all_fields, fields_from}
-use Rattle.ss_classes.specs.View as core
-use Rattle.ss_elab.specs.Constructors.{fields_before}
+use Rattle.ss_core.specs.Chain.{all_fields, fields_from}
+use Rattle.ss_core.specs.View as core
+use Rattle.ss_expand_rules.specs.Constructors.{fields_before}
 use Rattle.ss_expand.proofs.initializers.count_before.Given as goal
 
 abbrev pub invariant-loop-declared : goal.invariant-loop-declared

@@ -1,10 +1,10 @@
 use Rattle.std.proofs.Common.{◌++◌, List, map, refl, ap, ◌∙◌, append_assoc}
 use Rattle.std.specs.Prelude.{reverse}
-use Rattle.ss_classes.specs.Tree as core
-use Rattle.ss_elab.specs.Statements.{pack_of, pack_this}
-use Rattle.ss_plain.specs.Sources.{stmts_of}
-use Rattle.ss_bodies.specs.Exposes.{opened_of}
-use Rattle.ss_lifting.specs.Settings.{setting_of}
+use Rattle.ss_core.specs.Tree as core
+use Rattle.ss_expand_rules.specs.Statements.{pack_of, pack_this}
+use Rattle.ss_expand_expressions.specs.Sources.{stmts_of}
+use Rattle.ss_expand_bodies.specs.Exposes.{opened_of}
+use Rattle.ss_expand_lifting.specs.Settings.{setting_of}
 use Rattle.ss_expand.proofs.leaving.add_all_packs.Goals as goal
 
 pub returns : goal.returns

@@ -1,12 +1,12 @@
 use Rattle.std.proofs.Common.{◌≡◌, List, ap, ◌∙◌}
-use Rattle.ss_classes.specs.declared.names.Ty.{Ty}
+use Rattle.ss_core.specs.declared.names.Ty.{Ty}
 use Rattle.ss_typed.specs.View.{expr}
-use Rattle.ss_elab.specs.Calls.{place_of}
-use Rattle.ss_elab.specs.Lifting.{Lifted, right_side, in_local, next}
-use Rattle.ss_elab.specs.Statements.{result_type}
-use Rattle.ss_plain.specs.Sources.{stmts_of, lifted_by}
-use Rattle.ss_plain.proofs.Behind.{in_local_behind}
-use Rattle.ss_lifting.specs.Settings.{setting_of}
+use Rattle.ss_expand_rules.specs.Calls.{place_of}
+use Rattle.ss_expand_rules.specs.Lifting.{Lifted, right_side, in_local, next}
+use Rattle.ss_expand_rules.specs.Statements.{result_type}
+use Rattle.ss_expand_expressions.specs.Sources.{stmts_of, lifted_by}
+use Rattle.ss_expand_expressions.proofs.Behind.{in_local_behind}
+use Rattle.ss_expand_lifting.specs.Settings.{setting_of}
 use Rattle.ss_expand.proofs.leaving.kept_result.Goals as goal
 
 pub returns : goal.returns

@@ -1,9 +1,9 @@
 use Rattle.std.proofs.Common.{ap, ◌∙◌}
-use Rattle.ss_classes.specs.View as core
+use Rattle.ss_core.specs.View as core
 use Rattle.ss_typed.specs.View.{expr}
-use Rattle.ss_elab.specs.Code.{Coded, after}
-use Rattle.ss_plain.specs.Sources.{stmts_of}
-use Rattle.ss_lifting.specs.Settings.{setting_of}
+use Rattle.ss_expand_rules.specs.Code.{Coded, after}
+use Rattle.ss_expand_expressions.specs.Sources.{stmts_of}
+use Rattle.ss_expand_lifting.specs.Settings.{setting_of}
 use Rattle.ss_expand.specs.Returns.{returned_value}
 use Rattle.ss_expand.proofs.Codes.{returned, left_with}
 use Rattle.ss_expand.proofs.leaving.leave_with.Goals as goal

@@ -1,13 +1,13 @@
 use Rattle.std.proofs.Common.{◌∷◌, [], ◌++◌, List, map, ap, ◌∙◌}
-use Rattle.ss_classes.specs.Tree as core
-use Rattle.ss_classes.specs.Tree.{LoopStmt}
-use Rattle.ss_classes.specs.View.{expr, code_of, exposed_tree}
+use Rattle.ss_core.specs.Tree as core
+use Rattle.ss_core.specs.Tree.{LoopStmt}
+use Rattle.ss_core.specs.View.{expr, code_of, exposed_tree}
 use Rattle.ss_typed.specs.View.{exprs}
-use Rattle.ss_elab.specs.Numbers.{all_plain}
-use Rattle.ss_elab.specs.Statements.{exposed}
-use Rattle.ss_plain.specs.Views.{numbers_of}
-use Rattle.ss_plain.specs.Sources.{stmts_of}
-use Rattle.ss_bodies.specs.Exposes.{opened_of}
+use Rattle.ss_expand_rules.specs.Numbers.{all_plain}
+use Rattle.ss_expand_rules.specs.Statements.{exposed}
+use Rattle.ss_expand_expressions.specs.Views.{numbers_of}
+use Rattle.ss_expand_expressions.specs.Sources.{stmts_of}
+use Rattle.ss_expand_bodies.specs.Exposes.{opened_of}
 use Rattle.ss_expand.proofs.looping.add_loop.Goals as goal
 
 pub returns : goal.returns

@@ -1,9 +1,9 @@
 use Rattle.std.proofs.Common.{◌≡◌, ◌++◌, map, drop}
 use Rattle.std.specs.Prelude.{filter_map}
-use Rattle.ss_classes.specs.View as core
+use Rattle.ss_core.specs.View as core
 use Rattle.ss_typed.specs.View as typed
-use Rattle.ss_elab.specs.Elaborated as elaborated
-use Rattle.ss_bodies.specs.Origins.{origin_of}
+use Rattle.ss_expand_rules.specs.Elaborated as elaborated
+use Rattle.ss_expand_bodies.specs.Origins.{origin_of}
 use Rattle.ss_expand.proofs.program.expand_bodies.Given as goal
 
 abbrev pub invariant-loop-origin : goal.invariant-loop-origin

@@ -1,16 +1,16 @@
 use Rattle.std.proofs.Common.{◌≡◌, suc, map, drop, option_map, sym, ap, ◌∙◌, add-one}
 use Rattle.std.specs.Prelude.{◌&&◌}
-use Rattle.ss_classes.specs.View as core
+use Rattle.ss_core.specs.View as core
 use Rattle.ss_typed.specs.Tree.{Before, stmt_trees}
 use Rattle.ss_typed.specs.View as typed
-use Rattle.ss_elab.specs.Code.{Coded, nothing, after}
-use Rattle.ss_elab.specs.Ends.{all_can_end}
-use Rattle.ss_elab.specs.Lifting.{value}
-use Rattle.ss_elab.specs.Statements.{begin, loop_while, stmt}
-use Rattle.ss_plain.specs.Sources.{stmts_of}
-use Rattle.ss_plain.proofs.Loops.{drop_item}
-use Rattle.ss_bodies.specs.Exposes.{opened_of}
-use Rattle.ss_lifting.specs.Settings.{setting_of}
+use Rattle.ss_expand_rules.specs.Code.{Coded, nothing, after}
+use Rattle.ss_expand_rules.specs.Ends.{all_can_end}
+use Rattle.ss_expand_rules.specs.Lifting.{value}
+use Rattle.ss_expand_rules.specs.Statements.{begin, loop_while, stmt}
+use Rattle.ss_expand_expressions.specs.Sources.{stmts_of}
+use Rattle.ss_expand_expressions.proofs.Loops.{drop_item}
+use Rattle.ss_expand_bodies.specs.Exposes.{opened_of}
+use Rattle.ss_expand_lifting.specs.Settings.{setting_of}
 use Rattle.ss_expand.specs.Loops.{tested, turn_of}
 use Rattle.ss_expand.proofs.Codes.{coded, one_then, behind_new, value_behind_new, branched, looped, loop_tested, turned, exposed_by, stmts_where, next_stmt, ends_next}
 use Rattle.ss_expand.proofs.statements.+statements.Goals as goal

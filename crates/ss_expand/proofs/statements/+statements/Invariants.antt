@@ -2,11 +2,11 @@ use Rattle.std.proofs.Common.{◌≡◌, map, drop}
 use Rattle.std.specs.Prelude.{◌&&◌}
 use Rattle.ss_typed.specs.Tree.{stmt_trees}
 use Rattle.ss_typed.specs.View.{stmt_of}
-use Rattle.ss_elab.specs.Code.{after}
-use Rattle.ss_elab.specs.Ends.{all_can_end}
-use Rattle.ss_elab.specs.Statements.{stmts}
-use Rattle.ss_plain.specs.Sources.{stmts_of}
-use Rattle.ss_lifting.specs.Settings.{setting_of}
+use Rattle.ss_expand_rules.specs.Code.{after}
+use Rattle.ss_expand_rules.specs.Ends.{all_can_end}
+use Rattle.ss_expand_rules.specs.Statements.{stmts}
+use Rattle.ss_expand_expressions.specs.Sources.{stmts_of}
+use Rattle.ss_expand_lifting.specs.Settings.{setting_of}
 use Rattle.ss_expand.proofs.Codes.{stmts_where}
 use Rattle.ss_expand.proofs.statements.+statements.Given as goal
 

@@ -1,7 +1,7 @@
 use Rattle.std.proofs.Common.{ap, ◌∙◌, take, add-one}
-use Rattle.ss_elab.specs.Calls.{is_this}
-use Rattle.ss_plain.specs.Views.{linked}
-use Rattle.ss_plain.proofs.Shapes.{linked_next}
+use Rattle.ss_expand_rules.specs.Calls.{is_this}
+use Rattle.ss_expand_expressions.specs.Views.{linked}
+use Rattle.ss_expand_expressions.proofs.Shapes.{linked_next}
 use Rattle.ss_expand.specs.Constructing.{own_field}
 use Rattle.ss_expand.proofs.targets.links_target.Goals as goal
 

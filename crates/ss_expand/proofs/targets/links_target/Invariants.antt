@@ -2,8 +2,8 @@ use Rattle.std.proofs.Common.{◌≡◌, take}
 use Rattle.std.specs.Prelude.{option_map}
 use Rattle.ss_core.specs.declared.names.Place.{Place}
 use Rattle.ss_typed.specs.Tree.{ExprTree}
-use Rattle.ss_elab.specs.Calls.{is_this}
-use Rattle.ss_plain.specs.Views.{linked}
+use Rattle.ss_expand_rules.specs.Calls.{is_this}
+use Rattle.ss_expand_expressions.specs.Views.{linked}
 use Rattle.ss_expand.specs.Constructing.{own_field}
 use Rattle.ss_expand.proofs.targets.links_target.Given as goal
 

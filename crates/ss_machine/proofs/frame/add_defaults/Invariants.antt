@@ -1,6 +1,6 @@
 use Rattle.std.proofs.Common.{◌≡◌, ◌++◌, map, drop}
-use Rattle.ss_core.specs.View.{local_of}
-use Rattle.ss_run.specs.Values.{default_of}
+use Rattle.ss_second_core.specs.View.{local_of}
+use Rattle.ss_second_run.specs.Values.{default_of}
 use Rattle.ss_machine.proofs.frame.add_defaults.Given as goal
 
 abbrev pub invariant-loop-local : goal.invariant-loop-local

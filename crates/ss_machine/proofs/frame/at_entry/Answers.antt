@@ -1,7 +1,7 @@
 use Rattle.std.proofs.Common.{List, ◌++◌, map, ap, ◌∙◌}
-use Rattle.ss_core.specs.Tree.{followed_by, result_type}
-use Rattle.ss_core.specs.View.{block, local_of}
-use Rattle.ss_run.specs.Values.{default_of}
+use Rattle.ss_second_core.specs.Tree.{followed_by, result_type}
+use Rattle.ss_second_core.specs.View.{block, local_of}
+use Rattle.ss_second_run.specs.Values.{default_of}
 use Rattle.ss_machine.specs.declared.frame.Behind.{Behind}
 use Rattle.ss_machine.specs.Frames.{left_of}
 use Rattle.ss_machine.proofs.Entering.{frame, entered}

@@ -1,6 +1,6 @@
 use Rattle.std.proofs.Common.{◌≡◌, ◌+◌, suc, subst, arith}
-use Rattle.ss_core.specs.View as view
-use Rattle.ss_run.specs.Steps.{printed}
+use Rattle.ss_second_core.specs.View as view
+use Rattle.ss_second_run.specs.Steps.{printed}
 use Rattle.ss_machine.specs.Frames.{all_frames}
 use Rattle.ss_machine.proofs.Runs.{Stands, stands_first, stands_more, done_at, done_took, failed_at, failed_took, stopped_at, stopped_took, halted_took, running_at, running_took}
 use Rattle.ss_machine.proofs.Taken.{front_whole}

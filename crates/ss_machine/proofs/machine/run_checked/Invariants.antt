@@ -1,5 +1,5 @@
 use Rattle.std.proofs.Common.{◌≤◌}
-use Rattle.ss_core.specs.View as view
+use Rattle.ss_second_core.specs.View as view
 use Rattle.ss_machine.specs.Frames.{all_frames}
 use Rattle.ss_machine.proofs.Runs.{Stands}
 use Rattle.ss_machine.proofs.machine.run_checked.Given as goal

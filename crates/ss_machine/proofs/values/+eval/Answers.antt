@@ -1,6 +1,6 @@
 use Rattle.std.proofs.Common.{map, sym, ap, ◌∙◌}
-use Rattle.ss_core.specs.View.{expr}
-use Rattle.ss_run.specs.Values.{value_of}
+use Rattle.ss_second_core.specs.View.{expr}
+use Rattle.ss_second_run.specs.Values.{value_of}
 use Rattle.ss_machine.specs.Chains.{conjunction_value, disjunction_value}
 use Rattle.ss_machine.proofs.Chained.{expr_of_and, expr_of_or, value_of_conjunction, value_of_disjunction, false_behind, true_behind}
 use Rattle.ss_machine.proofs.values.+eval.Goals as goal

@@ -1,5 +1,5 @@
 use Rattle.std.proofs.Common.{◌≡◌, map, drop}
-use Rattle.ss_core.specs.View.{expr}
+use Rattle.ss_second_core.specs.View.{expr}
 use Rattle.ss_machine.specs.Chains.{conjunction_value, disjunction_value}
 use Rattle.ss_machine.proofs.values.+eval.Given as goal
 

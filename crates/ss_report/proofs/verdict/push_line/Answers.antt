@@ -1,7 +1,7 @@
 use Rattle.std.proofs.Common.{◌≡◌, ◌∙◌, ◌++◌, Some, None, ap, sym, string_bytes}
 use Rattle.std.proofs.lemmas.List.{append-nil}
 use Rattle.std.specs.List.{slice_get}
-use Rattle.ss_core.specs.View.{core}
+use Rattle.ss_second_core.specs.View.{core}
 use Rattle.ss_report.proofs.Lines.{line_at-Some, line_at-None}
 use Rattle.ss_report.proofs.verdict.push_line.Goals as goal
 

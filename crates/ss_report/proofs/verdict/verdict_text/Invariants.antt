@@ -1,5 +1,5 @@
 use Rattle.std.proofs.Common.{◌≡◌, ◌++◌, length, string_bytes}
-use Rattle.ss_core.specs.View.{core}
+use Rattle.ss_second_core.specs.View.{core}
 use Rattle.ss_vcgen.specs.Built.{trees}
 use Rattle.ss_report.specs.Verdict.{verdict_text}
 use Rattle.ss_report.proofs.verdict.verdict_text.Given as goal

@@ -1,6 +1,6 @@
 use Rattle.std.proofs.Common.{◌≡◌, drop, map}
-use Rattle.ss_core.specs.View as core
-use Rattle.ss_classes.specs.View as whole
+use Rattle.ss_second_core.specs.View as core
+use Rattle.ss_core.specs.View as whole
 use Rattle.ss_second.specs.Collected.{all_of}
 use Rattle.ss_second.specs.Narrow as narrow
 use Rattle.ss_second.proofs.Collecting.{behind}

@@ -1,6 +1,6 @@
 use Rattle.std.proofs.Common.{◌≡◌, sym, ap, ◌∙◌}
-use Rattle.ss_core.specs.Tree.{AndExpr, OrExpr}
-use Rattle.ss_core.specs.View.{expr}
+use Rattle.ss_second_core.specs.Tree.{AndExpr, OrExpr}
+use Rattle.ss_second_core.specs.View.{expr}
 use Rattle.ss_second.specs.Narrow.{compares_at}
 use Rattle.ss_second.proofs.Longer.{conjunction_is, disjunction_is, conjunction_compares, disjunction_compares, chain_alone}
 use Rattle.ss_second.proofs.chains.+compares.Goals as goal

@@ -1,6 +1,6 @@
 use Rattle.std.proofs.Common.{◌≡◌, sym, ap, ◌∙◌, map, rules}
-use Rattle.ss_core.specs.Tree.{AndExpr}
-use Rattle.ss_core.specs.View.{expr, chained}
+use Rattle.ss_second_core.specs.Tree.{AndExpr}
+use Rattle.ss_second_core.specs.View.{expr, chained}
 use Rattle.ss_second.proofs.Longer.{conjunction_is, longer}
 use Rattle.ss_second.proofs.chains.longer_conjunction.Goals as goal
 

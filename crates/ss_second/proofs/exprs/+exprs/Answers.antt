@@ -1,9 +1,9 @@
 use Rattle.std.proofs.Common.{◌≡◌, suc, ◌++◌, ◌∷◌, take, drop, Option, Some, None, sym, ap, subst, ◌∙◌, add-one}
 use Rattle.std.proofs.lemmas.Result.{err_from_is_err_and}
-use Rattle.ss_core.specs.declared.program.Expr.{Expr}
-use Rattle.ss_core.specs.Tree.{ExprTree}
-use Rattle.ss_core.specs.View as core
-use Rattle.ss_classes.specs.View as whole
+use Rattle.ss_second_core.specs.declared.program.Expr.{Expr}
+use Rattle.ss_second_core.specs.Tree.{ExprTree}
+use Rattle.ss_second_core.specs.View as core
+use Rattle.ss_core.specs.View as whole
 use Rattle.ss_second.specs.Narrow as narrow
 use Rattle.ss_second.specs.Views.{link_behind, linked}
 use Rattle.ss_second.specs.Answers.{Answers}

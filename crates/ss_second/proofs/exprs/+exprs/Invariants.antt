@@ -1,6 +1,6 @@
 use Rattle.std.proofs.Common.{◌≡◌, take, Some}
-use Rattle.ss_core.specs.View as core
-use Rattle.ss_classes.specs.Tree.{ExprTree}
+use Rattle.ss_second_core.specs.View as core
+use Rattle.ss_core.specs.Tree.{ExprTree}
 use Rattle.ss_second.specs.Narrow as narrow
 use Rattle.ss_second.specs.Views.{linked}
 use Rattle.ss_second.proofs.exprs.+exprs.Given as goal

@@ -1,7 +1,7 @@
 use Rattle.std.proofs.Common.{◌≡◌, ◌++◌, drop, map}
 use Rattle.std.specs.Prelude.{string_bytes}
-use Rattle.ss_classes.specs.Tree.{ClassTree}
-use Rattle.ss_classes.specs.View as whole
+use Rattle.ss_core.specs.Tree.{ClassTree}
+use Rattle.ss_core.specs.View as whole
 use Rattle.ss_second.proofs.second.list_names.Given as goal
 
 abbrev pub invariant-loop-class : goal.invariant-loop-class

@@ -1,6 +1,6 @@
 use Rattle.std.proofs.Common.{◌≡◌, ◌+◌, ◌++◌, suc, drop, Some, [], ◌∷◌, sym, ap, ◌∙◌, add-one}
-use Rattle.ss_core.specs.View as core
-use Rattle.ss_classes.specs.View as whole
+use Rattle.ss_second_core.specs.View as core
+use Rattle.ss_core.specs.View as whole
 use Rattle.ss_second.specs.Narrow as narrow
 use Rattle.ss_second.proofs.Loops.{drop_item, drop_past}
 use Rattle.ss_second.proofs.Collecting.{code_behind, code_behind_next, code_behind_end}

@@ -1,6 +1,6 @@
 use Rattle.std.proofs.Common.{◌≡◌, drop}
-use Rattle.ss_core.specs.View as core
-use Rattle.ss_classes.specs.View as whole
+use Rattle.ss_second_core.specs.View as core
+use Rattle.ss_core.specs.View as whole
 use Rattle.ss_second.specs.Narrow as narrow
 use Rattle.ss_second.proofs.Collecting.{code_behind}
 use Rattle.ss_second.proofs.stmts.+stmts.Given as goal

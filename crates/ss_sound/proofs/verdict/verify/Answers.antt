@@ -1,8 +1,8 @@
 use Rattle.std.proofs.Common.{◌≡◌, ◌≢◌, subst, length, arith}
 use Rattle.std.proofs.lemmas.Grind.{common_steps}
-use Rattle.ss_core.specs.View.{core}
-use Rattle.ss_oblig.specs.Obligations as oblig
-use Rattle.ss_oblig.proofs.Safe.{IsSafe-valid}
+use Rattle.ss_second_core.specs.View.{core}
+use Rattle.ss_vcgen_rules.specs.Obligations as oblig
+use Rattle.ss_vcgen_rules.proofs.Safe.{IsSafe-valid}
 use Rattle.ss_vcgen.specs.Built.{trees}
 use Rattle.ss_sound.specs.Verdicts.{AreProved, IsUnproved}
 use Rattle.ss_sound.proofs.Lists.{decided_all_proved, AreValid-proved, decided_unproved, length-obligations_in, no_items, some_items, obligations_in-grown}

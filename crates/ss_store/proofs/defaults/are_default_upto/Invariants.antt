@@ -1,6 +1,6 @@
 use Rattle.std.proofs.Common.{◌≡◌, drop}
-use Rattle.ss_classes.specs.View.{classes}
-use Rattle.ss_objects.specs.Reads.{are_default_upto}
+use Rattle.ss_core.specs.View.{classes}
+use Rattle.ss_store_rules.specs.Reads.{are_default_upto}
 use Rattle.ss_store.proofs.defaults.are_default_upto.Given as goal
 
 abbrev pub invariant-loop-slot : goal.invariant-loop-slot

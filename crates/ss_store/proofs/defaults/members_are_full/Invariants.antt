@@ -1,5 +1,5 @@
 use Rattle.std.proofs.Common.{◌≡◌, drop}
-use Rattle.ss_objects.specs.Reads.{members_are_full}
+use Rattle.ss_store_rules.specs.Reads.{members_are_full}
 use Rattle.ss_store.proofs.defaults.members_are_full.Given as goal
 
 abbrev pub invariant-loop-x : goal.invariant-loop-x

@@ -1,6 +1,6 @@
 use Rattle.std.proofs.Common.{◌≡◌, drop}
-use Rattle.ss_classes.specs.View.{classes}
-use Rattle.ss_objects.specs.Reads.{owned_are_full}
+use Rattle.ss_core.specs.View.{classes}
+use Rattle.ss_store_rules.specs.Reads.{owned_are_full}
 use Rattle.ss_store.proofs.defaults.owned_are_full.Given as goal
 
 abbrev pub invariant-loop-x : goal.invariant-loop-x

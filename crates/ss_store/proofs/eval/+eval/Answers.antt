@@ -1,7 +1,7 @@
 use Rattle.std.proofs.Common.{pos, ◌+ℤ◌, ◌+◌, map, drop, sym, ap, ◌∙◌}
 use Rattle.std.proofs.lemmas.Result.{err_from_is_err_and}
-use Rattle.ss_classes.specs.View.{expr}
-use Rattle.ss_objects.specs.Values.{value_of, joined}
+use Rattle.ss_core.specs.View.{expr}
+use Rattle.ss_store_rules.specs.Values.{value_of, joined}
 use Rattle.ss_store.specs.Scenes.{setting_of}
 use Rattle.ss_store.specs.Grouped.{link_behind, step_behind}
 use Rattle.ss_store.proofs.Groups.{chain_strict, path_strict, map_drop, leads_on, link_ends, step_ends, leads_home}

@@ -1,7 +1,7 @@
 use Rattle.std.proofs.Common.{◌≡◌, drop, map}
 use Rattle.std.specs.Int.{int_gap}
-use Rattle.ss_classes.specs.View as view
-use Rattle.ss_objects.specs.Values.{quantified}
+use Rattle.ss_core.specs.View as view
+use Rattle.ss_store_rules.specs.Values.{quantified}
 use Rattle.ss_store.specs.Scenes.{setting_of}
 use Rattle.ss_store.specs.Grouped.{link_behind, step_behind}
 use Rattle.ss_store.proofs.Groups.{Leads}

@@ -2,9 +2,9 @@ use Rattle.std.proofs.Common.{◌≡◌, ◌+◌, ◌++◌, ◌∙◌, map, leng
 use Rattle.std.specs.Prelude.{OnOk, OnErr}
 use Rattle.std.proofs.lemmas.List.{append-nil, length-map}
 use Rattle.std.proofs.lemmas.Result.{on_err_weaker}
-use Rattle.ss_classes.specs.View.{classes, field_of}
-use Rattle.ss_classes.specs.Chain.{all_fields}
-use Rattle.ss_objects.specs.Changes.{slots_from}
+use Rattle.ss_core.specs.View.{classes, field_of}
+use Rattle.ss_core.specs.Chain.{all_fields}
+use Rattle.ss_store_rules.specs.Changes.{slots_from}
 use Rattle.ss_store.specs.Slots.{slots_of}
 use Rattle.ss_store.proofs.NewSlots.{length-slots_of, met, passed, ended, class_few, first_fits}
 use Rattle.ss_store.proofs.fields.push_declared.Goals as goal

@@ -1,7 +1,7 @@
 use Rattle.std.proofs.Common.{◌≡◌, map, drop, vec_capacity}
-use Rattle.ss_classes.specs.View.{classes, class_of}
-use Rattle.ss_classes.specs.Chain.{all_fields}
-use Rattle.ss_objects.specs.Changes.{slots_from}
+use Rattle.ss_core.specs.View.{classes, class_of}
+use Rattle.ss_core.specs.Chain.{all_fields}
+use Rattle.ss_store_rules.specs.Changes.{slots_from}
 use Rattle.ss_store.proofs.NewSlots.{IsBefore}
 use Rattle.ss_store.proofs.fields.push_declared.Given as goal
 

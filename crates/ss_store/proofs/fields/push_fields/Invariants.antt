@@ -1,8 +1,8 @@
 use Rattle.std.proofs.Common.{◌≡◌, ◌≤◌, ◌++◌, vec_capacity}
 use Rattle.std.specs.Prelude.{flat_map}
-use Rattle.ss_classes.specs.View.{classes}
-use Rattle.ss_classes.specs.Chain.{all_fields}
-use Rattle.ss_objects.specs.Changes.{slots_from, new_fields}
+use Rattle.ss_core.specs.View.{classes}
+use Rattle.ss_core.specs.Chain.{all_fields}
+use Rattle.ss_store_rules.specs.Changes.{slots_from, new_fields}
 use Rattle.ss_store.proofs.Steps.{left}
 use Rattle.ss_store.proofs.fields.push_fields.Given as goal
 

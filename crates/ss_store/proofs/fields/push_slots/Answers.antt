@@ -1,5 +1,5 @@
 use Rattle.std.proofs.Common.{◌≡◌, ◌+◌, ◌∙◌, ap, get_or, length, arith}
-use Rattle.ss_classes.specs.View.{field_of}
+use Rattle.ss_core.specs.View.{field_of}
 use Rattle.ss_store.specs.Slots.{slot_for}
 use Rattle.ss_store.proofs.NewSlots.{pushed_more, pushed_length, on_err_any}
 use Rattle.ss_store.proofs.fields.push_slots.Goals as goal

@@ -1,5 +1,5 @@
 use Rattle.std.proofs.Common.{map, take, vec_capacity}
-use Rattle.ss_classes.specs.View.{field_of}
+use Rattle.ss_core.specs.View.{field_of}
 use Rattle.ss_store.specs.Slots.{slots_of}
 use Rattle.ss_store.proofs.NewSlots.{IsPushed}
 use Rattle.ss_store.proofs.fields.push_slots.Given as goal

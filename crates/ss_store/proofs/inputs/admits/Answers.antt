@@ -1,6 +1,6 @@
 use Rattle.std.proofs.Common.{◌∙◌, map, ap}
-use Rattle.ss_classes.specs.View.{local_of, classes}
-use Rattle.ss_objects.specs.Admitted.{takes_input}
+use Rattle.ss_core.specs.View.{local_of, classes}
+use Rattle.ss_store_rules.specs.Admitted.{takes_input}
 use Rattle.ss_store.proofs.FirstLocals.{met_at_entry}
 use Rattle.ss_store.proofs.inputs.admits.Goals as goal
 

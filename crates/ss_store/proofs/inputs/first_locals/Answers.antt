@@ -1,7 +1,7 @@
 use Rattle.std.proofs.Common.{◌≡◌, ◌∙◌, map, ap, subst, sym}
 use Rattle.std.specs.Prelude.{IfOk}
-use Rattle.ss_classes.specs.View.{local_of}
-use Rattle.ss_objects.specs.Admitted.{main_arguments}
+use Rattle.ss_core.specs.View.{local_of}
+use Rattle.ss_store_rules.specs.Admitted.{main_arguments}
 use Rattle.ss_store.proofs.FirstLocals.{all_locals}
 use Rattle.ss_store.proofs.inputs.first_locals.Goals as goal
 

@@ -1,7 +1,7 @@
 use Rattle.std.proofs.Common.{◌≡◌, ◌++◌, map, take}
-use Rattle.ss_classes.specs.View.{local_of}
-use Rattle.ss_objects.specs.Store.{default_value}
-use Rattle.ss_objects.specs.Admitted.{main_arguments}
+use Rattle.ss_core.specs.View.{local_of}
+use Rattle.ss_store_rules.specs.Store.{default_value}
+use Rattle.ss_store_rules.specs.Admitted.{main_arguments}
 use Rattle.ss_store.proofs.inputs.first_locals.Given as goal
 
 abbrev pub invariant-loop-local : goal.invariant-loop-local

@@ -1,5 +1,5 @@
 use Rattle.std.proofs.Common.{◌≡◌, map, take}
-use Rattle.ss_objects.specs.declared.Value.TheVariants as value
+use Rattle.ss_store_rules.specs.declared.Value.TheVariants as value
 use Rattle.ss_store.proofs.inputs.input_elements.Given as goal
 
 abbrev pub invariant-loop-n : goal.invariant-loop-n

@@ -1,4 +1,4 @@
-use Rattle.ss_objects.specs.Changes.{repacked}
+use Rattle.ss_store_rules.specs.Changes.{repacked}
 use Rattle.ss_store.proofs.Loops.{upto_more}
 use Rattle.ss_store.proofs.levels.pack_all.Goals as goal
 

@@ -1,5 +1,5 @@
 use Rattle.std.proofs.Common.{◌≡◌}
-use Rattle.ss_objects.specs.Changes.{repacked}
+use Rattle.ss_store_rules.specs.Changes.{repacked}
 use Rattle.ss_store.proofs.Loops.{upto}
 use Rattle.ss_store.proofs.levels.pack_all.Given as goal
 

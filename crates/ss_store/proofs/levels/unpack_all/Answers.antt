@@ -1,5 +1,5 @@
-use Rattle.ss_classes.specs.View.{classes}
-use Rattle.ss_objects.specs.Changes.{unpacked}
+use Rattle.ss_core.specs.View.{classes}
+use Rattle.ss_store_rules.specs.Changes.{unpacked}
 use Rattle.ss_store.proofs.Loops.{upto_more}
 use Rattle.ss_store.proofs.levels.unpack_all.Goals as goal
 

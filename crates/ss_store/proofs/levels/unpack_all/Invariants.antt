@@ -1,6 +1,6 @@
 use Rattle.std.proofs.Common.{◌≡◌}
-use Rattle.ss_classes.specs.View.{classes}
-use Rattle.ss_objects.specs.Changes.{unpacked}
+use Rattle.ss_core.specs.View.{classes}
+use Rattle.ss_store_rules.specs.Changes.{unpacked}
 use Rattle.ss_store.proofs.Loops.{upto}
 use Rattle.ss_store.proofs.levels.unpack_all.Given as goal
 

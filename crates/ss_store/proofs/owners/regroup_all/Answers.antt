@@ -1,4 +1,4 @@
-use Rattle.ss_objects.specs.Changes.{regrouped}
+use Rattle.ss_store_rules.specs.Changes.{regrouped}
 use Rattle.ss_store.proofs.Loops.{upto_more}
 use Rattle.ss_store.proofs.owners.regroup_all.Goals as goal
 

@@ -1,5 +1,5 @@
 use Rattle.std.proofs.Common.{◌≡◌}
-use Rattle.ss_objects.specs.Changes.{regrouped}
+use Rattle.ss_store_rules.specs.Changes.{regrouped}
 use Rattle.ss_store.proofs.Loops.{upto}
 use Rattle.ss_store.proofs.owners.regroup_all.Given as goal
 

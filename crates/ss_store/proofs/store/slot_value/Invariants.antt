@@ -1,5 +1,5 @@
 use Rattle.std.proofs.Common.{◌≡◌, drop}
-use Rattle.ss_objects.specs.Store.{slot_value}
+use Rattle.ss_store_rules.specs.Store.{slot_value}
 use Rattle.ss_store.proofs.store.slot_value.Given as goal
 
 abbrev pub invariant-loop-slot : goal.invariant-loop-slot

@@ -1,5 +1,5 @@
-use Rattle.ss_classes.specs.View.{classes, field_of}
-use Rattle.ss_classes.specs.Chain.{in_class}
+use Rattle.ss_core.specs.View.{classes, field_of}
+use Rattle.ss_core.specs.Chain.{in_class}
 use Rattle.ss_store.proofs.Numbers.{not_no_class}
 use Rattle.ss_store.proofs.writes.declaration.Goals as goal
 

@@ -1,4 +1,4 @@
-use Rattle.ss_objects.specs.Changes.{with_content}
+use Rattle.ss_store_rules.specs.Changes.{with_content}
 use Rattle.ss_store.proofs.Loops.{mapped_more}
 use Rattle.ss_store.proofs.writes.write_slots.Goals as goal
 

@@ -1,5 +1,5 @@
 use Rattle.std.proofs.Common.{◌≡◌, ◌++◌, map, take, drop}
-use Rattle.ss_objects.specs.Changes.{with_content}
+use Rattle.ss_store_rules.specs.Changes.{with_content}
 use Rattle.ss_store.proofs.writes.write_slots.Given as goal
 
 abbrev pub invariant-loop-slot : goal.invariant-loop-slot

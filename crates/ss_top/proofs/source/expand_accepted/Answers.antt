@@ -1,7 +1,7 @@
 use Rattle.std.proofs.Common.{◌≡◌, Err, subst}
 use Rattle.ss_io.specs.declared.outside.WriteStop.{WriteStop}
 use Rattle.ss_io.specs.Outside.{GrewByFront, Takes}
-use Rattle.ss_classes.specs.View as core
+use Rattle.ss_core.specs.View as core
 use Rattle.ss_ast.specs.Tokens.{toks}
 use Rattle.ss_typed.specs.View.{typed}
 use Rattle.ss_top.proofs.Says.{expanded_in_part}

@@ -1,7 +1,7 @@
 use Rattle.std.proofs.Common.{rules, map, sym, ◌∙◌}
 use Rattle.std.proofs.lemmas.List.{map-append}
-use Rattle.ss_core.specs.declared.program.Expr.{the_lemmas}
-use Rattle.ss_core.specs.View.{expr}
+use Rattle.ss_second_core.specs.declared.program.Expr.{the_lemmas}
+use Rattle.ss_second_core.specs.View.{expr}
 use Rattle.ss_terms.specs.Forms.{formula_at}
 use Rattle.ss_terms.proofs.Banks.{HasFormulas-grown, formulas_at-grown, IsGrown-then}
 use Rattle.ss_vcgen.specs.Numbers.{meants_in}

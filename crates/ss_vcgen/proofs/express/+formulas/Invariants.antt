@@ -1,7 +1,7 @@
 use Rattle.std.proofs.Common.{◌≡◌, ◌++◌, take, map}
-use Rattle.ss_core.specs.View.{expr}
+use Rattle.ss_second_core.specs.View.{expr}
 use Rattle.ss_terms.specs.Forms.{formula_at, formulas_at, HasFormulas, IsGrown}
-use Rattle.ss_oblig.specs.Express.{formula_of}
+use Rattle.ss_vcgen_rules.specs.Express.{formula_of}
 use Rattle.ss_vcgen.specs.Numbers.{meants_in}
 use Rattle.ss_vcgen.specs.Chain.{operands_in}
 use Rattle.ss_vcgen.proofs.express.+formulas.Given as goal

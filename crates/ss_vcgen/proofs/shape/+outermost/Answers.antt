@@ -1,5 +1,5 @@
 use Rattle.std.proofs.Common.{sym}
-use Rattle.ss_core.specs.View.{expr}
+use Rattle.ss_second_core.specs.View.{expr}
 use Rattle.ss_vcgen.proofs.Shapes.{and_chain, or_chain, expr-And, expr-Or}
 use Rattle.ss_vcgen.proofs.shape.+outermost.Goals as goal
 

@@ -1,4 +1,4 @@
-use Rattle.ss_objects.proofs.Keeps.{Keeps-capture}
+use Rattle.ss_store_rules.proofs.Keeps.{Keeps-capture}
 use Rattle.ss_store.proofs.store.Store.capture.Goals as goal
 
 pub returns-clause-good : goal.returns-clause-good

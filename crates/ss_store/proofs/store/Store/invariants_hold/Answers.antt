@@ -1,11 +1,11 @@
 use Rattle.std.proofs.Common.{Bool, [], ◌∷◌, sym, ◌∙◌, ap, option_map}
 use Rattle.std.specs.List.{list_all}
-use Rattle.ss_classes.specs.View.{classes, class_of, expr}
-use Rattle.ss_classes.specs.Tree.{ExprTree}
-use Rattle.ss_objects.specs.declared.Value.TheVariants as value
-use Rattle.ss_objects.specs.Reads.{is_null_or}
-use Rattle.ss_objects.specs.Values.{setting, holds}
-use Rattle.ss_objects.specs.Admissible.{invariants_hold}
+use Rattle.ss_core.specs.View.{classes, class_of, expr}
+use Rattle.ss_core.specs.Tree.{ExprTree}
+use Rattle.ss_store_rules.specs.declared.Value.TheVariants as value
+use Rattle.ss_store_rules.specs.Reads.{is_null_or}
+use Rattle.ss_store_rules.specs.Values.{setting, holds}
+use Rattle.ss_store_rules.specs.Admissible.{invariants_hold}
 use Rattle.ss_store.proofs.Packs.{all_of_class}
 use Rattle.ss_store.proofs.store.Store.invariants_hold.Goals as goal
 

@@ -1,4 +1,4 @@
-use Rattle.ss_objects.proofs.Keeps.{Keeps-join}
+use Rattle.ss_store_rules.proofs.Keeps.{Keeps-join}
 use Rattle.ss_store.proofs.store.Store.join_peer.Goals as goal
 
 pub returns-clause-good : goal.returns-clause-good

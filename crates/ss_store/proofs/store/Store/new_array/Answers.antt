@@ -1,7 +1,7 @@
 use Rattle.std.proofs.Common.{◌≡◌, subst, Ok}
 use Rattle.std.specs.Prelude.{OnOk}
 use Rattle.std.proofs.Math.Facts.{to_z-of_z}
-use Rattle.ss_objects.specs.Changes.{new_array_of}
+use Rattle.ss_store_rules.specs.Changes.{new_array_of}
 use Rattle.ss_store.proofs.Keeping.{keeps_array, fits_bits}
 use Rattle.ss_store.proofs.store.Store.new_array.Goals as goal
 

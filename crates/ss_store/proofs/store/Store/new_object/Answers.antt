@@ -1,4 +1,4 @@
-use Rattle.ss_classes.specs.View.{classes}
+use Rattle.ss_core.specs.View.{classes}
 use Rattle.ss_store.proofs.Keeping.{keeps_made}
 use Rattle.ss_store.proofs.store.Store.new_object.Goals as goal
 

@@ -1,7 +1,7 @@
 use Rattle.std.proofs.Common.{◌≡◌, ◌+◌, ◌∙◌, length, ap, sym, subst, vec_len}
 use Rattle.std.specs.Prelude.{MatchOption}
-use Rattle.ss_classes.specs.View.{classes}
-use Rattle.ss_objects.specs.Changes.{new_fields}
+use Rattle.ss_core.specs.View.{classes}
+use Rattle.ss_store_rules.specs.Changes.{new_fields}
 use Rattle.ss_store.proofs.NewSlots.{new_few, on_err_any}
 use Rattle.ss_store.proofs.Rooms.{not_spare, rest_is_all}
 use Rattle.ss_store.proofs.store.Store.new_object_exactly.Goals as goal

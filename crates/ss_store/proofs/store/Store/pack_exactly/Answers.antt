@@ -1,7 +1,7 @@
 use Rattle.std.proofs.Common.{◌∙◌, ap, subst}
-use Rattle.ss_classes.specs.View.{classes}
-use Rattle.ss_objects.specs.Changes.{IsChange, pack_of}
-use Rattle.ss_objects.specs.Admissible.{invariants_hold}
+use Rattle.ss_core.specs.View.{classes}
+use Rattle.ss_store_rules.specs.Changes.{IsChange, pack_of}
+use Rattle.ss_store_rules.specs.Admissible.{invariants_hold}
 use Rattle.ss_store.proofs.Packs.{pack_of-holds}
 use Rattle.ss_store.proofs.store.Store.pack_exactly.Goals as goal
 

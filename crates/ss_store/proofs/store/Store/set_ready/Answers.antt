@@ -1,5 +1,5 @@
-use Rattle.ss_classes.specs.View.{classes}
-use Rattle.ss_objects.proofs.Keeps.{Keeps-ready}
+use Rattle.ss_core.specs.View.{classes}
+use Rattle.ss_store_rules.proofs.Keeps.{Keeps-ready}
 use Rattle.ss_store.proofs.store.Store.set_ready.Goals as goal
 
 pub returns-clause-good : goal.returns-clause-good

@@ -1,7 +1,7 @@
 use Rattle.std.proofs.Common.{subst}
 use Rattle.std.proofs.Math.Facts.{to_z-of_z}
-use Rattle.ss_objects.specs.Changes.{IsChange, write_element_of}
-use Rattle.ss_objects.proofs.Keeps.{Keeps-write_element}
+use Rattle.ss_store_rules.specs.Changes.{IsChange, write_element_of}
+use Rattle.ss_store_rules.proofs.Keeps.{Keeps-write_element}
 use Rattle.ss_store.proofs.store.Store.write_element.Goals as goal
 
 pub returns-clause-good : goal.returns-clause-good

@@ -1,7 +1,7 @@
 use Rattle.std.proofs.Common.{◌≡◌, ◌∙◌, ap, sym, map, Vec, Global}
-use Rattle.ss_core.specs.View as view
-use Rattle.ss_core.specs.View.{expr, block}
-use Rattle.ss_oblig.specs.Obligations.{Known}
+use Rattle.ss_second_core.specs.View as view
+use Rattle.ss_second_core.specs.View.{expr, block}
+use Rattle.ss_vcgen_rules.specs.Obligations.{Known}
 use Rattle.ss_terms.proofs.Banks.{IsGrown-then}
 use Rattle.ss_vcgen.specs.declared.meant.Meant.{Meant}
 use Rattle.ss_vcgen.specs.Guards.{guard_of}

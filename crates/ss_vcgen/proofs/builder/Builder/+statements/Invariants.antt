@@ -1,7 +1,7 @@
 use Rattle.std.proofs.Common.{◌≡◌, ◌++◌, drop}
-use Rattle.ss_core.specs.View as view
-use Rattle.ss_core.specs.View.{block}
-use Rattle.ss_oblig.specs.Obligations as tree
+use Rattle.ss_second_core.specs.View as view
+use Rattle.ss_second_core.specs.View.{block}
+use Rattle.ss_vcgen_rules.specs.Obligations as tree
 use Rattle.ss_terms.specs.Forms.{IsGrown}
 use Rattle.ss_vcgen.specs.Builder.{known_of, listed, IsFine}
 use Rattle.ss_vcgen.proofs.Going.{Along}

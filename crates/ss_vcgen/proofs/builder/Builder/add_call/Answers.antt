@@ -1,7 +1,7 @@
 use Rattle.std.proofs.Common.{◌≡◌, [], map, refl}
 use Rattle.std.specs.Prelude.{None, slice_get}
 use Rattle.std.proofs.lemmas.Option.{slice_get_past}
-use Rattle.ss_core.specs.View as view
+use Rattle.ss_second_core.specs.View as view
 use Rattle.ss_vcgen.specs.Builder.{known_of}
 use Rattle.ss_vcgen.proofs.Builds.{asks_nothing, asks_is}
 use Rattle.ss_vcgen.proofs.Called.{slice_get-map}

@@ -1,5 +1,5 @@
 use Rattle.std.proofs.Common.{map, drop}
-use Rattle.ss_core.specs.View as view
+use Rattle.ss_second_core.specs.View as view
 use Rattle.ss_vcgen.proofs.Entering.{Entered}
 use Rattle.ss_vcgen.proofs.builder.Builder.add_params.Given as goal
 

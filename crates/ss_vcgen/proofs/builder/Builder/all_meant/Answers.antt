@@ -1,6 +1,6 @@
 use Rattle.std.proofs.Common.{refl, ap}
 use Rattle.std.proofs.lemmas.List.{map-append}
-use Rattle.ss_oblig.specs.Obligations.{Known}
+use Rattle.ss_vcgen_rules.specs.Obligations.{Known}
 use Rattle.ss_vcgen.specs.Numbers.{meants_in}
 use Rattle.ss_vcgen.proofs.Builds.{becomes_self, becomes_then, becomes_is, HasMeants-push}
 use Rattle.ss_vcgen.proofs.Grown.{HasMeants-grown, meants_in-grown}

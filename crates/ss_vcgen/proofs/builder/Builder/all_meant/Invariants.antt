@@ -1,6 +1,6 @@
 use Rattle.std.proofs.Common.{◌≡◌, map, take}
-use Rattle.ss_core.specs.View.{expr}
-use Rattle.ss_oblig.specs.Express.{all_meant}
+use Rattle.ss_second_core.specs.View.{expr}
+use Rattle.ss_vcgen_rules.specs.Express.{all_meant}
 use Rattle.ss_vcgen.specs.Numbers.{HasMeants, meants_in}
 use Rattle.ss_vcgen.specs.Builder.{known_of, Becomes}
 use Rattle.ss_vcgen.proofs.builder.Builder.all_meant.Given as goal

@@ -1,7 +1,7 @@
 use Rattle.std.proofs.Common.{[], ◌∷◌, ap, ◌∙◌}
 use Rattle.ss_logic.specs.Logic.{Formula}
 use Rattle.ss_terms.specs.Forms.{formula_at}
-use Rattle.ss_oblig.specs.Obligations.{Known}
+use Rattle.ss_vcgen_rules.specs.Obligations.{Known}
 use Rattle.ss_vcgen.specs.Builder.{known_of, goal_of}
 use Rattle.ss_vcgen.proofs.Builds.{asks_after, asks_is}
 use Rattle.ss_vcgen.proofs.builder.Builder.ask.Goals as goal

@@ -1,8 +1,8 @@
 use Rattle.std.proofs.Common.{List, map, drop, subst, ◌+◌}
 use Rattle.std.proofs.lemmas.List.{drop_all}
-use Rattle.ss_core.specs.declared.program.Expr.{Expr}
-use Rattle.ss_core.specs.View.{expr}
-use Rattle.ss_core.specs.Tree.{ExprTree}
+use Rattle.ss_second_core.specs.declared.program.Expr.{Expr}
+use Rattle.ss_second_core.specs.View.{expr}
+use Rattle.ss_second_core.specs.Tree.{ExprTree}
 use Rattle.ss_vcgen.specs.Numbers.{meants_in}
 use Rattle.ss_vcgen.proofs.Grown.{HasMeants-grown, meants_in-grown}
 use Rattle.ss_vcgen.proofs.Along.{drop_next, Asked, asked_on, none_asked, all_asked}

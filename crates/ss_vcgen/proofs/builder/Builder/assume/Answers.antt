@@ -1,6 +1,6 @@
 use Rattle.std.proofs.Common.{ap, ◌∙◌}
 use Rattle.ss_terms.specs.Forms.{formula_at}
-use Rattle.ss_oblig.specs.Obligations.{Known, with_premise}
+use Rattle.ss_vcgen_rules.specs.Obligations.{Known, with_premise}
 use Rattle.ss_vcgen.specs.Builder.{known_of}
 use Rattle.ss_vcgen.proofs.Builds.{becomes_then, becomes_is}
 use Rattle.ss_vcgen.proofs.builder.Builder.assume.Goals as goal

@@ -1,5 +1,5 @@
 use Rattle.std.proofs.Common.{map, drop}
-use Rattle.ss_core.specs.View.{expr}
+use Rattle.ss_second_core.specs.View.{expr}
 use Rattle.ss_vcgen.specs.Numbers.{meants_in}
 use Rattle.ss_vcgen.proofs.Along.{Assumed}
 use Rattle.ss_vcgen.proofs.builder.Builder.assume_all.Given as goal

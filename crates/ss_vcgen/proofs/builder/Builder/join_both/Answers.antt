@@ -1,6 +1,6 @@
 use Rattle.std.proofs.Common.{◌≡◌, List, ◌∙◌, sym, ap, subst}
-use Rattle.ss_oblig.specs.Express as spec
-use Rattle.ss_oblig.specs.Obligations as tree
+use Rattle.ss_vcgen_rules.specs.Express as spec
+use Rattle.ss_vcgen_rules.specs.Obligations as tree
 use Rattle.ss_vcgen.specs.Guards.{guard_of}
 use Rattle.ss_vcgen.specs.Numbers.{HasMeants, meants_in}
 use Rattle.ss_vcgen.specs.Builder.{known_of}

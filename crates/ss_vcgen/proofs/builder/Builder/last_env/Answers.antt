@@ -1,7 +1,7 @@
 use Rattle.std.proofs.Common.{ap, map, sym, ◌∙◌}
 use Rattle.std.specs.Prelude.{option_map}
-use Rattle.ss_core.specs.View.{expr}
-use Rattle.ss_oblig.specs.Obligations.{Known}
+use Rattle.ss_second_core.specs.View.{expr}
+use Rattle.ss_vcgen_rules.specs.Obligations.{Known}
 use Rattle.ss_vcgen.specs.Numbers.{meants_in}
 use Rattle.ss_vcgen.proofs.Meanings.{last_within, last_stands}
 use Rattle.ss_vcgen.proofs.builder.Builder.last_env.Goals as goal

@@ -1,8 +1,0 @@
-use Rattle.std.proofs.Common.{map, drop, slice_get}
-use Rattle.ss_classes.specs.View.{classes, class_of}
-use Rattle.ss_classes.specs.Chain.{all_fields}
-use Rattle.ss_classes.proofs.class.Classes.field.Given as goal
-use Rattle.ss_classes.proofs.Fields.{IsBefore}
-
-abbrev pub invariant-loop-class : goal.invariant-loop-class
-invariant-loop-class l = IsBefore (map class_of (drop l.class-index l.class-items)) l.class-index l.number l.left (slice_get (all_fields (classes l.self)) l.fn.f.0)

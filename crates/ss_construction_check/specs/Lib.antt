@@ -1,4 +1,0 @@
-pub mod Parts
-pub mod Walked
-pub mod Openings
-pub mod Implied

@@ -1,6 +1,0 @@
-use Rattle.std.proofs.Common.{[]}
-use Rattle.ss_core_text.specs.Groups.{AreGroups}
-use Rattle.ss_core_text.proofs.groups.no_bodies.Given as goal
-
-abbrev pub invariant-loop-i : goal.invariant-loop-i
-invariant-loop-i l = AreGroups l._i [] l.groups.items

@@ -1,9 +1,0 @@
-use Rattle.std.proofs.Common.{◌≡◌, ◌++◌, drop, map}
-use Rattle.std.specs.List.{flat_map}
-use Rattle.ss_classes.specs.View as view
-use Rattle.ss_core_text.specs.Scenes.{core_of, names_in}
-use Rattle.ss_core_text.specs.Stmts.{behind_comma}
-use Rattle.ss_core_text.proofs.stmts.push_more_args.Given as goal
-
-abbrev pub invariant-loop-arg : goal.invariant-loop-arg
-invariant-loop-arg l = l.out.items ++ flat_map (behind_comma (core_of l.scene.program.now) (names_in l.scene)) (map view.expr (drop l.arg-index l.args)) ≡ l.fn.out.items ++ flat_map (behind_comma (core_of l.scene.program.now) (names_in l.scene)) (map view.expr l.args)

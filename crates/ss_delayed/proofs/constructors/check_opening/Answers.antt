@@ -1,0 +1,11 @@
+use Rattle.ss_typed.specs.View.{typed}
+use Rattle.ss_paths_assigned.specs.Codes.{numbers_of, assigned_of}
+use Rattle.ss_delayed.specs.Walked.{known_of}
+use Rattle.ss_delayed.proofs.Constructing.{opening_found}
+use Rattle.ss_delayed.proofs.constructors.check_opening.Goals as goal
+
+pub returns : goal.returns
+returns c =
+    opening_found (typed c.args.fields.now.program.now) c.args.constructor.now (numbers_of c.numbers.result) (assigned_of c.in_ok-first.first) c.args.place c.args.count c.deref.result.now
+    (known_of c.in_ok-behind.behind) c.args.found.now.items c.note_unassigned.new.found.items
+    c.numbers.ensures c.in_ok-first.ensures c.deref.ensures.value c.in_ok-behind.ensures.behind c.in_ok-note_unassigned.ensures

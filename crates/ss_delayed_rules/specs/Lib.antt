@@ -1,0 +1,4 @@
+pub mod Escapes
+pub mod Opening
+pub mod Constructors
+pub mod Program

@@ -1,0 +1,5 @@
+pub mod Loops
+pub mod Shapes
+pub mod Behind
+pub mod Forms
+pub mod Noting

@@ -1,0 +1,207 @@
+// What an expression is outermost.
+
+ghost use Rattle.std.specs.Prelude.{◌≡◌};
+ghost use Rattle.ss_core.specs.declared.names.Place.{Place};
+ghost use Rattle.ss_typed.specs.Tree.{ExprTree};
+ghost use Rattle.ss_typed.specs.View.{expr};
+ghost use Rattle.ss_expand_rules.specs.Calls as calls;
+ghost use Rattle.ss_expand_rules.specs.Ends as ends;
+ghost use Rattle.ss_expand_expressions.specs.Views.{link_behind};
+
+use ss_core::{Operator, Place};
+use ss_typed::{TypedExpr, TypedLink};
+
+/// The place at which it stands.
+pub fn place_of(e: &TypedExpr) -> Place
+    ensures { result ≡ calls.place_of (expr e.now) }
+{
+    match e {
+        TypedExpr::Chain(place, first, links) => {
+            if links.is_empty() {
+                place_of(first)
+            } else {
+                *place
+            }
+        }
+        TypedExpr::Path(place, first, steps) => {
+            if steps.is_empty() {
+                place_of(first)
+            } else {
+                *place
+            }
+        }
+        TypedExpr::Int(place, ..)
+        | TypedExpr::Bool(place, ..)
+        | TypedExpr::Null(place)
+        | TypedExpr::This(place, ..)
+        | TypedExpr::Local(place, ..)
+        | TypedExpr::Result(place, ..)
+        | TypedExpr::Bound(place, ..)
+        | TypedExpr::Iff(place, ..)
+        | TypedExpr::Implies(place, ..)
+        | TypedExpr::Negate(place, ..)
+        | TypedExpr::Not(place, ..)
+        | TypedExpr::Cast(place, ..)
+        | TypedExpr::Old(place, ..)
+        | TypedExpr::Quantified(place, ..)
+        | TypedExpr::State(place, ..)
+        | TypedExpr::Owners(place, ..)
+        | TypedExpr::New(place, ..)
+        | TypedExpr::NewArray(place, ..)
+        | TypedExpr::Static(place, ..)
+        | TypedExpr::Base(place, ..) => *place,
+    }
+}
+
+/// Whether it is `this`.
+pub fn is_this(e: &TypedExpr) -> bool
+    ensures { result ≡ calls.is_this (expr e.now) }
+{
+    match e {
+        TypedExpr::This(..) => true,
+        TypedExpr::Chain(_, first, links) => {
+            if links.is_empty() {
+                is_this(first)
+            } else {
+                false
+            }
+        }
+        TypedExpr::Path(_, first, steps) => {
+            if steps.is_empty() {
+                is_this(first)
+            } else {
+                false
+            }
+        }
+        TypedExpr::Int(..)
+        | TypedExpr::Bool(..)
+        | TypedExpr::Null(..)
+        | TypedExpr::Local(..)
+        | TypedExpr::Result(..)
+        | TypedExpr::Bound(..)
+        | TypedExpr::Iff(..)
+        | TypedExpr::Implies(..)
+        | TypedExpr::Negate(..)
+        | TypedExpr::Not(..)
+        | TypedExpr::Cast(..)
+        | TypedExpr::Old(..)
+        | TypedExpr::Quantified(..)
+        | TypedExpr::State(..)
+        | TypedExpr::Owners(..)
+        | TypedExpr::New(..)
+        | TypedExpr::NewArray(..)
+        | TypedExpr::Static(..)
+        | TypedExpr::Base(..) => false,
+    }
+}
+
+/// Whether it is the literal `true`.
+pub fn is_true(e: &TypedExpr) -> bool
+    ensures { result ≡ ends.is_true (expr e.now) }
+{
+    match e {
+        TypedExpr::Bool(_, value) => *value,
+        TypedExpr::Chain(_, first, links) => {
+            if links.is_empty() {
+                is_true(first)
+            } else {
+                false
+            }
+        }
+        TypedExpr::Path(_, first, steps) => {
+            if steps.is_empty() {
+                is_true(first)
+            } else {
+                false
+            }
+        }
+        TypedExpr::Int(..)
+        | TypedExpr::Null(..)
+        | TypedExpr::This(..)
+        | TypedExpr::Local(..)
+        | TypedExpr::Result(..)
+        | TypedExpr::Bound(..)
+        | TypedExpr::Iff(..)
+        | TypedExpr::Implies(..)
+        | TypedExpr::Negate(..)
+        | TypedExpr::Not(..)
+        | TypedExpr::Cast(..)
+        | TypedExpr::Old(..)
+        | TypedExpr::Quantified(..)
+        | TypedExpr::State(..)
+        | TypedExpr::Owners(..)
+        | TypedExpr::New(..)
+        | TypedExpr::NewArray(..)
+        | TypedExpr::Static(..)
+        | TypedExpr::Base(..) => false,
+    }
+}
+
+/// Whether it is an operation whose right side is evaluated only where its left side asks for it.
+pub fn is_lazy(e: &TypedExpr) -> bool
+    ensures { result ≡ calls.is_lazy (expr e.now) }
+{
+    match e {
+        TypedExpr::Implies(..) => true,
+        TypedExpr::Chain(_, first, links) => match links.last() {
+            Some(link) => is_lazy_link(link),
+            None => is_lazy(first),
+        },
+        TypedExpr::Path(_, first, steps) => {
+            if steps.is_empty() {
+                is_lazy(first)
+            } else {
+                false
+            }
+        }
+        TypedExpr::Int(..)
+        | TypedExpr::Bool(..)
+        | TypedExpr::Null(..)
+        | TypedExpr::This(..)
+        | TypedExpr::Local(..)
+        | TypedExpr::Result(..)
+        | TypedExpr::Bound(..)
+        | TypedExpr::Iff(..)
+        | TypedExpr::Negate(..)
+        | TypedExpr::Not(..)
+        | TypedExpr::Cast(..)
+        | TypedExpr::Old(..)
+        | TypedExpr::Quantified(..)
+        | TypedExpr::State(..)
+        | TypedExpr::Owners(..)
+        | TypedExpr::New(..)
+        | TypedExpr::NewArray(..)
+        | TypedExpr::Static(..)
+        | TypedExpr::Base(..) => false,
+    }
+}
+
+/// Whether an operand with this link behind it is such an operation.
+pub fn is_lazy_link(link: &TypedLink) -> bool
+    ensures { (p : Place) → (before : ExprTree) → calls.is_lazy (link_behind link.now p before) ≡ result }
+{
+    match link {
+        TypedLink::Operation(operator, _) => is_lazy_operator(*operator),
+        TypedLink::Is(_) | TypedLink::As(_) => false,
+    }
+}
+
+/// Whether the operator is `&&` or `||`.
+pub fn is_lazy_operator(operator: Operator) -> bool
+    ensures { result ≡ calls.is_lazy_operator operator }
+{
+    match operator {
+        Operator::And | Operator::Or => true,
+        Operator::Equal
+        | Operator::NotEqual
+        | Operator::Less
+        | Operator::LessEqual
+        | Operator::Greater
+        | Operator::GreaterEqual
+        | Operator::Add
+        | Operator::Subtract
+        | Operator::Multiply
+        | Operator::Divide
+        | Operator::Remainder => false,
+    }
+}

@@ -1,0 +1,172 @@
+// The static types of expressions, and the types of temporaries.
+
+ghost use Rattle.std.specs.Prelude.{◌≡◌, Some};
+ghost use Rattle.ss_core.specs.declared.names.Place.{Place};
+ghost use Rattle.ss_typed.specs.Tree.{ExprTree};
+ghost use Rattle.ss_typed.specs.View.{expr};
+ghost use Rattle.ss_typed.specs.Types as types;
+ghost use Rattle.ss_expand_rules.specs.Lifting as lifting;
+ghost use Rattle.ss_expand_expressions.specs.Views.{link_behind, step_behind, stepped};
+
+use ss_core::{ClassId, Operator, Ty};
+use ss_typed::{TypedExpr, TypedLink, TypedStep};
+
+/// The type of a class, with or without null.
+pub fn class_type(class: ClassId, non_null: bool) -> Ty
+    ensures { result ≡ types.class_type class.0 non_null }
+{
+    Ty::Ref { class, non_null }
+}
+
+/// The type that is wanted of a reference wherever none is declared.
+pub fn any_object() -> Ty
+    ensures { result ≡ lifting.any_object }
+{
+    class_type(ClassId(0), false)
+}
+
+// The type of the elements of the array class.
+fn element_type(array: ClassId) -> Ty
+    ensures { result ≡ types.element_type array.0 }
+{
+    if array.0 == 1 {
+        return Ty::Int;
+    }
+    if array.0 == 2 {
+        return Ty::Bool;
+    }
+    if array.0 == 3 {
+        return any_object();
+    }
+    class_type(ClassId(array.0.saturating_sub(1)), false)
+}
+
+// The type of the elements of an array of this type.
+fn element_of(array: Option<Ty>) -> Option<Ty>
+    ensures { result ≡ types.element_of array }
+{
+    match array {
+        Some(Ty::Ref { class, .. }) => Some(element_type(class)),
+        Some(Ty::Int) | Some(Ty::Bool) | Some(Ty::Null) | None => None,
+    }
+}
+
+// What an operation gives.
+fn operation_type(operator: Operator) -> Ty
+    ensures { result ≡ types.operation_type operator }
+{
+    match operator {
+        Operator::Or
+        | Operator::And
+        | Operator::Equal
+        | Operator::NotEqual
+        | Operator::Less
+        | Operator::LessEqual
+        | Operator::Greater
+        | Operator::GreaterEqual => Ty::Bool,
+        Operator::Add
+        | Operator::Subtract
+        | Operator::Multiply
+        | Operator::Divide
+        | Operator::Remainder => Ty::Int,
+    }
+}
+
+/// The type of an operand with this link behind it.
+pub fn link_type(link: &TypedLink) -> Ty
+    ensures { (p : Place) → (before : ExprTree) → types.type_of (link_behind link.now p before) ≡ Some result }
+{
+    match link {
+        TypedLink::Operation(operator, _) => operation_type(*operator),
+        TypedLink::Is(_) => Ty::Bool,
+        TypedLink::As(class) => class_type(*class, false),
+    }
+}
+
+/// The type of what is of this type with this step behind it.
+pub fn step_type(before: Option<Ty>, step: &TypedStep) -> Option<Ty>
+    ensures { (p : Place) → (e : ExprTree) → types.type_of e ≡ before → types.type_of (step_behind step.now p e) ≡ result }
+{
+    match step {
+        TypedStep::Field(_, ty) => Some(*ty),
+        TypedStep::Element(_) => element_of(before),
+        TypedStep::Length => Some(Ty::Int),
+        TypedStep::Call(_, ty, _) => *ty,
+    }
+}
+
+// The type of a path that begins with what is of this type.
+fn path_type(first: Option<Ty>, steps: &[TypedStep]) -> Option<Ty>
+    ensures { (p : Place) → (e : ExprTree) → types.type_of e ≡ first → types.type_of (stepped p e steps.now) ≡ result }
+{
+    let mut ty = first;
+    for step in steps {
+        ty = step_type(ty, step);
+    }
+    ty
+}
+
+/// The static type, which a call of a method without a result has not.
+pub fn type_of(e: &TypedExpr) -> Option<Ty>
+    ensures { result ≡ types.type_of (expr e.now) }
+{
+    match e {
+        TypedExpr::Int(..) | TypedExpr::Bound(..) | TypedExpr::Negate(..) => Some(Ty::Int),
+        TypedExpr::Bool(..)
+        | TypedExpr::Iff(..)
+        | TypedExpr::Implies(..)
+        | TypedExpr::Not(..)
+        | TypedExpr::Quantified(..)
+        | TypedExpr::State(..)
+        | TypedExpr::Owners(..) => Some(Ty::Bool),
+        TypedExpr::Null(_) => Some(Ty::Null),
+        TypedExpr::This(_, class) => Some(class_type(*class, true)),
+        TypedExpr::Local(_, _, ty) => Some(*ty),
+        TypedExpr::Result(_, ty) => *ty,
+        TypedExpr::Chain(_, first, links) => match links.last() {
+            Some(link) => Some(link_type(link)),
+            None => type_of(first),
+        },
+        TypedExpr::Cast(_, class, non_null, _) => Some(class_type(*class, *non_null)),
+        TypedExpr::Path(_, first, steps) => path_type(type_of(first), steps),
+        TypedExpr::Old(_, e) => type_of(e),
+        TypedExpr::New(_, class, _) => Some(class_type(*class, true)),
+        TypedExpr::NewArray(_, class, _) => Some(class_type(*class, true)),
+        TypedExpr::Static(_, _, ty, _) => *ty,
+        TypedExpr::Base(_, _, ty, _) => *ty,
+    }
+}
+
+/// The class of a reference of this type, and `object` otherwise.
+pub fn class_of_type(ty: Option<Ty>) -> ClassId
+    ensures { result.0 ≡ lifting.class_of_type ty }
+{
+    match ty {
+        Some(Ty::Ref { class, .. }) => class,
+        Some(Ty::Int) | Some(Ty::Bool) | Some(Ty::Null) | None => ClassId(0),
+    }
+}
+
+// The same type where null passes.
+fn nullable(ty: Ty) -> Ty
+    ensures { result ≡ lifting.nullable ty }
+{
+    match ty {
+        Ty::Ref { class, .. } => class_type(class, false),
+        Ty::Int => Ty::Int,
+        Ty::Bool => Ty::Bool,
+        Ty::Null => Ty::Null,
+    }
+}
+
+/// The type of a temporary for a value of this type: that of the value, and what is wanted of the literal `null`.
+pub fn temporary_type(wanted: Ty, ty: Option<Ty>) -> Ty
+    ensures { result ≡ lifting.temporary_type wanted ty }
+{
+    match ty {
+        Some(Ty::Null) | None => nullable(wanted),
+        Some(Ty::Int) => Ty::Int,
+        Some(Ty::Bool) => Ty::Bool,
+        Some(Ty::Ref { class, .. }) => class_type(class, false),
+    }
+}

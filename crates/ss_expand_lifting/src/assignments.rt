@@ -1,0 +1,421 @@
+// Assignments.
+
+ghost use Rattle.std.specs.Prelude.{◌≡◌, ◌++◌, ◌∷◌, [], IfOk, OnOk, List};
+ghost use Rattle.ss_ast.specs.declared.stmt.AssignOperator.TheVariants as operator;
+ghost use Rattle.ss_core.specs.declared.names.Ty.{Ty};
+ghost use Rattle.ss_core.specs.Tree as core;
+ghost use Rattle.ss_core.specs.View as view;
+ghost use Rattle.ss_typed.specs.Tree as tree;
+ghost use Rattle.ss_typed.specs.Tree.{ExprTree};
+ghost use Rattle.ss_typed.specs.Types as types;
+ghost use Rattle.ss_typed.specs.View as typed;
+ghost use Rattle.ss_expand_rules.specs.Calls as calls;
+ghost use Rattle.ss_expand_rules.specs.Code.{after};
+ghost use Rattle.ss_expand_rules.specs.Lifting as lifting;
+ghost use Rattle.ss_expand_rules.specs.Program as program;
+ghost use Rattle.ss_expand_rules.specs.Simple as elab;
+ghost use Rattle.ss_expand_expressions.specs.Sources.{stmts_of, source_of, lifted_by, lifted_behind};
+ghost use Rattle.ss_expand_expressions.specs.Operands.{IsOperand};
+ghost use Rattle.ss_expand_lifting.specs.Settings.{setting_of};
+ghost use Rattle.ss_expand_lifting.specs.Lefts.{IsLeft};
+ghost use Rattle.ss_expand_lifting.specs.Made.{coded_by};
+
+use crate::code::Code;
+use crate::lefts::{Left, left_of, plain_part};
+use crate::lifting::{lift_operand, lift_operation};
+use crate::operations::are_kept;
+use crate::settings::Setting;
+use crate::settled::{field_path, settle};
+use ss_ast::{AssignOperator, StepOperator};
+use ss_expand_bodies::field_at;
+use ss_core::{Expr, FieldId, Operator, Place, Stmt, Ty};
+use ss_expand_expressions::{
+    Operand, Source, binary, has_call, is_lazy_operator, place_of, plain, put, step_operator,
+    valued,
+};
+use ss_typed::TypedExpr;
+use std::alloc::{AllocError, Global};
+
+// Adds the write of a field, with its mark and the class that declares it.
+fn add_field_write(
+    setting: &Setting<'_>,
+    place: Place,
+    object: Expr,
+    field: FieldId,
+    value: Expr,
+    code: &mut Code,
+) -> Result<(), AllocError>
+    ensures { OnOk result (stmts_of code.new.statements ≡ stmts_of code.old.statements
+        ++ elab.write_of place (view.expr object) field.0 (program.field_at (typed.typed setting.now.program.now) field.0) (view.expr value)) }
+{
+    match field_at(setting.program, field) {
+        Some((class, declared)) => {
+            code.statements.push(Stmt::Write {
+                place,
+                object,
+                field,
+                mark: declared.mark,
+                class,
+                value,
+            })?;
+            Ok(())
+        }
+        None => Ok(()),
+    }
+}
+
+// Adds the write of an element.
+fn add_element_write(
+    place: Place,
+    array: Expr,
+    index: Expr,
+    value: Expr,
+    code: &mut Code,
+) -> Result<(), AllocError>
+    ensures { OnOk result (stmts_of code.new.statements ≡ stmts_of code.old.statements
+        ++ core.WriteElementStmt place (view.expr array) (view.expr index) (view.expr value) ∷ []) }
+{
+    let write = Stmt::WriteElement(place, array, index, value);
+    code.statements.push(write)?;
+    Ok(())
+}
+
+// Adds the write of a field or an element whose object and index parts stay as they are.
+fn add_write(
+    alloc: Global,
+    setting: &Setting<'_>,
+    left: Left<'_>,
+    value: Expr,
+    code: &mut Code,
+) -> Result<(), AllocError>
+    ensures { (target : ExprTree) → IsLeft target left.entry
+        → OnOk result (stmts_of code.new.statements ≡ stmts_of code.old.statements ++ elab.write (setting_of setting.now) target (view.expr value)) }
+{
+    let numbers = setting.numbers;
+    match left {
+        Left::Field(place, object, field, _) => {
+            let object = plain_part(alloc, numbers, object)?;
+            add_field_write(setting, place, object, field, value, code)?;
+            Ok(())
+        }
+        Left::Element(place, array, index) => {
+            let array = plain_part(alloc, numbers, array)?;
+            let index = plain(alloc, numbers, index)?;
+            add_element_write(place, array, index, value, code)?;
+            Ok(())
+        }
+        Left::Local(..) => Ok(()),
+        Left::Other => Ok(()),
+    }
+}
+
+/// Adds the statement that puts what has been lifted into a local.
+pub(crate) fn add_put(
+    place: Place,
+    x: usize,
+    source: Source,
+    code: &mut Code,
+) -> Result<(), AllocError>
+    ensures { OnOk result (stmts_of code.new.statements ≡ stmts_of code.old.statements ++ lifting.put place x (source_of source) ∷ []) }
+{
+    code.statements.push(put(place, x, source))?;
+    Ok(())
+}
+
+// Adds the write of what has been lifted to a left side that is no local.
+fn assign_value(
+    alloc: Global,
+    setting: &Setting<'_>,
+    left: Left<'_>,
+    right: Operand,
+    code: &mut Code,
+    made: &mut Vec<Ty>,
+) -> Result<(), AllocError>
+    ensures { (target : ExprTree) → (e : ExprTree) → (before : List core.StmtTree) → (kinds : List Ty)
+        → IsLeft target left.entry → IsOperand (setting_of setting.now) e before kinds code.old.statements made.old right
+        → OnOk result (coded_by code.new made.new ≡ after before (elab.write_value (setting_of setting.now) target (lifting.value (setting_of setting.now) e kinds))) }
+{
+    let before = &mut code.statements;
+    let value = valued(
+        setting.numbers,
+        before,
+        made,
+        right.place,
+        right.ty,
+        right.source,
+    )?;
+    add_write(alloc, setting, left, value, code)?;
+    Ok(())
+}
+
+// Adds what assigns the right side, which has been lifted, to a left side whose parts are settled.
+fn assign_operand(
+    alloc: Global,
+    setting: &Setting<'_>,
+    target: &TypedExpr,
+    right: Operand,
+    code: &mut Code,
+    made: &mut Vec<Ty>,
+) -> Result<(), AllocError>
+    ensures { (e : ExprTree) → (before : List core.StmtTree) → (kinds : List Ty)
+        → IsOperand (setting_of setting.now) e before kinds code.old.statements made.old right
+        → OnOk result (coded_by code.new made.new ≡ after before (elab.assign_settled (setting_of setting.now) (typed.expr target.now) e kinds)) }
+{
+    let left = left_of(target);
+    match left {
+        Left::Local(place, x, _) => {
+            let number = setting.numbers.number(x);
+            add_put(place, number, right.source, code)?;
+            Ok(())
+        }
+        _ => {
+            assign_value(alloc, setting, left, right, code, made)?;
+            Ok(())
+        }
+    }
+}
+
+// Adds what assigns the right side to a left side whose parts are settled.
+fn assign_settled(
+    alloc: Global,
+    setting: &Setting<'_>,
+    target: &TypedExpr,
+    e: &TypedExpr,
+    code: &mut Code,
+    made: &mut Vec<Ty>,
+) -> Result<(), AllocError>
+    ensures { OnOk result (coded_by code.new made.new
+        ≡ after (stmts_of code.old.statements) (elab.assign_settled (setting_of setting.now) (typed.expr target.now) (typed.expr e.now) made.old.items)) }
+{
+    let right = lift_operand(alloc, setting, e, code, made)?;
+    assign_operand(alloc, setting, target, right, code, made)?;
+    Ok(())
+}
+
+// Adds what assigns the right side, where the parts of the left side are evaluated before it.
+fn assign_behind(
+    alloc: Global,
+    setting: &Setting<'_>,
+    target: &TypedExpr,
+    e: &TypedExpr,
+    code: &mut Code,
+    made: &mut Vec<Ty>,
+) -> Result<(), AllocError>
+    ensures { OnOk result (coded_by code.new made.new
+        ≡ after (stmts_of code.old.statements) (elab.assign_behind (setting_of setting.now) (typed.expr e.now) (elab.settle (setting_of setting.now) (typed.expr target.now) made.old.items))) }
+{
+    let kept = settle(alloc, setting, target, code, made)?;
+    match kept {
+        Some(settled) => {
+            assign_settled(alloc, setting, &settled, e, code, made)?;
+            Ok(())
+        }
+        None => {
+            assign_settled(alloc, setting, target, e, code, made)?;
+            Ok(())
+        }
+    }
+}
+
+// Adds `target = e`.
+fn assign(
+    alloc: Global,
+    setting: &Setting<'_>,
+    target: &TypedExpr,
+    e: &TypedExpr,
+    code: &mut Code,
+    made: &mut Vec<Ty>,
+) -> Result<(), AllocError>
+    ensures { OnOk result (coded_by code.new made.new
+        ≡ after (stmts_of code.old.statements) (elab.assign (setting_of setting.now) (typed.expr target.now) (typed.expr e.now) made.old.items)) }
+{
+    if are_kept(has_call(target), has_call(e)) {
+        assign_behind(alloc, setting, target, e, code, made)?;
+        Ok(())
+    } else {
+        assign_settled(alloc, setting, target, e, code, made)?;
+        Ok(())
+    }
+}
+
+// What an operation gives.
+fn operation_type(operator: Operator) -> Ty
+    ensures { result ≡ types.operation_type operator }
+{
+    match operator {
+        Operator::Or
+        | Operator::And
+        | Operator::Equal
+        | Operator::NotEqual
+        | Operator::Less
+        | Operator::LessEqual
+        | Operator::Greater
+        | Operator::GreaterEqual => Ty::Bool,
+        Operator::Add
+        | Operator::Subtract
+        | Operator::Multiply
+        | Operator::Divide
+        | Operator::Remainder => Ty::Int,
+    }
+}
+
+// An operation on an operand that stands before it, as the right side of an assignment.
+fn operation_on(
+    alloc: Global,
+    setting: &Setting<'_>,
+    operator: Operator,
+    operand: Operand,
+    e: &TypedExpr,
+    code: &mut Code,
+    made: &mut Vec<Ty>,
+) -> Result<Source, AllocError>
+    ensures { (t : ExprTree) → (before : List core.StmtTree) → (kinds : List Ty)
+        → IsOperand (setting_of setting.now) t before kinds code.old.statements made.old operand
+        → IfOk result (λ r. lifted_by code.new.statements made.new r
+        ≡ lifted_behind before (lifting.right_side (setting_of setting.now) (tree.BinaryOf operand.place operator t (typed.expr e.now)) kinds)) }
+{
+    let place = operand.place;
+    if are_kept(operand.has_call, has_call(e)) {
+        let source = lift_operation(alloc, setting, place, operator, e, operand, code, made)?;
+        Ok(source)
+    } else {
+        let before = &mut code.statements;
+        let left = valued(
+            setting.numbers,
+            before,
+            made,
+            place,
+            operand.ty,
+            operand.source,
+        )?;
+        let right = plain(alloc, setting.numbers, e)?;
+        let value = binary(alloc, place, operator, left, right)?;
+        Ok(Source::Pure(value))
+    }
+}
+
+// Adds `target = target op e` to a left side whose parts are settled.
+fn update_settled(
+    alloc: Global,
+    setting: &Setting<'_>,
+    operator: Operator,
+    target: &TypedExpr,
+    e: &TypedExpr,
+    code: &mut Code,
+    made: &mut Vec<Ty>,
+) -> Result<(), AllocError>
+    ensures { OnOk result (coded_by code.new made.new
+        ≡ after (stmts_of code.old.statements) (elab.assign_settled (setting_of setting.now) (typed.expr target.now)
+        (tree.BinaryOf (calls.place_of (typed.expr target.now)) operator (typed.expr target.now) (typed.expr e.now)) made.old.items)) }
+{
+    let read = lift_operand(alloc, setting, target, code, made)?;
+    let place = read.place;
+    let calls = are_kept(read.has_call, has_call(e));
+    let source = operation_on(alloc, setting, operator, read, e, code, made)?;
+    let right = Operand {
+        source,
+        place,
+        ty: Some(operation_type(operator)),
+        has_call: calls,
+        is_lazy: is_lazy_operator(operator),
+    };
+    assign_operand(alloc, setting, target, right, code, made)?;
+    Ok(())
+}
+
+// Adds `target op= e`, with the parts of the left side evaluated once.
+fn update(
+    alloc: Global,
+    setting: &Setting<'_>,
+    operator: Operator,
+    target: &TypedExpr,
+    e: &TypedExpr,
+    code: &mut Code,
+    made: &mut Vec<Ty>,
+) -> Result<(), AllocError>
+    ensures { OnOk result (coded_by code.new made.new
+        ≡ after (stmts_of code.old.statements) (elab.update (setting_of setting.now) operator (typed.expr target.now) (typed.expr e.now) made.old.items)) }
+{
+    let kept = settle(alloc, setting, target, code, made)?;
+    match kept {
+        Some(settled) => {
+            update_settled(alloc, setting, operator, &settled, e, code, made)?;
+            Ok(())
+        }
+        None => {
+            update_settled(alloc, setting, operator, target, e, code, made)?;
+            Ok(())
+        }
+    }
+}
+
+/// Adds a plain or a compound assignment.
+pub(crate) fn assignment(
+    alloc: Global,
+    setting: &Setting<'_>,
+    target: &TypedExpr,
+    operator: AssignOperator,
+    e: &TypedExpr,
+    code: &mut Code,
+    made: &mut Vec<Ty>,
+) -> Result<(), AllocError>
+    ensures { OnOk result (coded_by code.new made.new
+        ≡ after (stmts_of code.old.statements) (elab.assignment (setting_of setting.now) (typed.expr target.now) operator (typed.expr e.now) made.old.items)) }
+{
+    match operator {
+        AssignOperator::Set => assign(alloc, setting, target, e, code, made),
+        AssignOperator::Add => update(alloc, setting, Operator::Add, target, e, code, made),
+        AssignOperator::Subtract => {
+            update(alloc, setting, Operator::Subtract, target, e, code, made)
+        }
+        AssignOperator::Multiply => {
+            update(alloc, setting, Operator::Multiply, target, e, code, made)
+        }
+    }
+}
+
+/// Adds `p++` or `p--`.
+pub(crate) fn one_more(
+    alloc: Global,
+    setting: &Setting<'_>,
+    target: &TypedExpr,
+    operator: StepOperator,
+    code: &mut Code,
+    made: &mut Vec<Ty>,
+) -> Result<(), AllocError>
+    ensures { OnOk result (coded_by code.new made.new
+        ≡ after (stmts_of code.old.statements) (elab.one_more (setting_of setting.now) (typed.expr target.now) operator made.old.items)) }
+{
+    let one = TypedExpr::Int(place_of(target), 1);
+    update(
+        alloc,
+        setting,
+        step_operator(operator),
+        target,
+        &one,
+        code,
+        made,
+    )?;
+    Ok(())
+}
+
+/// Adds `this.f = e` at this place.
+pub fn assign_field(
+    alloc: Global,
+    setting: &Setting<'_>,
+    place: Place,
+    field: FieldId,
+    ty: Ty,
+    e: &TypedExpr,
+    code: &mut Code,
+    made: &mut Vec<Ty>,
+) -> Result<(), AllocError>
+    ensures { OnOk result (coded_by code.new made.new
+        ≡ after (stmts_of code.old.statements) (elab.simple (setting_of setting.now)
+        (tree.AssignOf (tree.FieldOf place (tree.ThisOf place setting.now.body.now.class.0) field.0 ty) operator.Set (typed.expr e.now)) made.old.items)) }
+{
+    let this = TypedExpr::This(place, setting.body.class);
+    let target = field_path(alloc, place, this, field, ty)?;
+    assign(alloc, setting, &target, e, code, made)?;
+    Ok(())
+}

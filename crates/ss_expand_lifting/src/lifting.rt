@@ -1,0 +1,625 @@
+// Lifting of calls: each call is a statement of its own before the expression in which it stands, and what is evaluated before it
+// is put into temporaries, so that everything happens in the order of the source.
+
+ghost use Rattle.std.specs.Prelude.{◌≡◌, ◌||◌, IfOk, List, Option, true};
+ghost use Rattle.ss_core.specs.declared.names.Ty.{Ty};
+ghost use Rattle.ss_core.specs.Tree as core;
+ghost use Rattle.ss_typed.specs.Tree as tree;
+ghost use Rattle.ss_typed.specs.Tree.{ExprTree};
+ghost use Rattle.ss_typed.specs.View as typed;
+ghost use Rattle.ss_expand_rules.specs.Calls as calls;
+ghost use Rattle.ss_expand_rules.specs.Lifting as elab;
+ghost use Rattle.ss_expand_expressions.specs.Parameters.{param_types};
+ghost use Rattle.ss_expand_expressions.specs.Views.{link_behind, step_behind, linked, stepped, numbers_of};
+ghost use Rattle.ss_expand_expressions.specs.Sources.{stmts_of, lifted_by, valued_by, listed_by, lifted_behind, valued_behind, listed_behind};
+ghost use Rattle.ss_expand_expressions.specs.Operands.{IsOperand, valued_as};
+ghost use Rattle.ss_expand_lifting.specs.Settings.{setting_of};
+ghost use Rattle.ss_expand_lifting.specs.Fronts.{LinksGoOn, StepsGoOn};
+ghost use Rattle.ss_expand_lifting.specs.Operations.{test_of, size_of, values_of};
+
+use crate::code::Code;
+use crate::fronts::{front_of_chain, front_of_path, links_behind, steps_behind};
+use crate::operations::{
+    are_kept, cast_of, dispatched, is_and, keep_receiver, lazy_test, negate_of, not_of, operand_as,
+    operand_field, operand_is, operand_length, plain_all,
+};
+use crate::settings::Setting;
+use ss_expand_bodies::{
+    above_of, body_at, constructor_of, method_at, number_in_table, number_of_written, params_in,
+};
+use ss_core::{Callee, ClassId, Expr, Operator, Place, Ty};
+use ss_expand_expressions::{
+    Operand, Source, any_object, begin_lazy, binary, class_of_type, element_of, end_lazy,
+    first_type, has_call, have_call, iff_of, is_lazy, is_lazy_link, is_lazy_operator, keep,
+    link_type, other_params, place_of, plain, step_type, type_of, valued,
+};
+use ss_typed::{TypedExpr, TypedLink, TypedParam, TypedStep};
+use std::alloc::{AllocError, Global};
+
+/// What the expression is lifted to, behind the code so far. Without a call it stays as it is.
+#[cycle(lifting)]
+pub fn right_side(
+    alloc: Global,
+    setting: &Setting<'_>,
+    e: &TypedExpr,
+    code: &mut Code,
+    made: &mut Vec<Ty>,
+) -> Result<Source, AllocError>
+    ensures { IfOk result (λ r. lifted_by code.new.statements made.new r
+        ≡ lifted_behind (stmts_of code.old.statements) (elab.right_side (setting_of setting.now) (typed.expr e.now) made.old.items)) }
+{
+    if has_call(e) {
+        let source = lift(alloc, setting, e, code, made)?;
+        Ok(source)
+    } else {
+        let value = plain(alloc, setting.numbers, e)?;
+        Ok(Source::Pure(value))
+    }
+}
+
+// An expression with a call inside.
+#[cycle(lifting)]
+fn lift(
+    alloc: Global,
+    setting: &Setting<'_>,
+    e: &TypedExpr,
+    code: &mut Code,
+    made: &mut Vec<Ty>,
+) -> Result<Source, AllocError>
+    ensures { calls.has_call (typed.expr e.now) ≡ true → IfOk result (λ r. lifted_by code.new.statements made.new r
+        ≡ lifted_behind (stmts_of code.old.statements) (elab.lifted (setting_of setting.now) (typed.expr e.now) made.old.items)) }
+{
+    match e {
+        TypedExpr::Iff(place, a, b) => {
+            let left = lift_kept(alloc, setting, any_object(), a, code, made)?;
+            let right = lift_kept(alloc, setting, any_object(), b, code, made)?;
+            let value = iff_of(alloc, *place, left, right)?;
+            Ok(Source::Pure(value))
+        }
+        TypedExpr::Implies(place, a, b) => {
+            let negated = lift_negated(alloc, setting, a, code, made)?;
+            let x = begin_lazy(
+                setting.numbers,
+                &mut code.statements,
+                made,
+                place_of(a),
+                negated,
+            )?;
+            let source = lift_lazily(alloc, setting, *place, false, x, b, code, made)?;
+            Ok(source)
+        }
+        TypedExpr::Chain(place, first, links) => {
+            let operand = lift_operand(alloc, setting, first, code, made)?;
+            let list = links.as_slice();
+            let front = front_of_chain(alloc, setting.numbers, *place, operand, list)?;
+            let rest = links_behind(list, front.length);
+            let whole = lift_links(alloc, setting, *place, rest, front.operand, code, made)?;
+            Ok(whole.source)
+        }
+        TypedExpr::Negate(place, e) => {
+            let value = lift_kept(alloc, setting, any_object(), e, code, made)?;
+            let negated = negate_of(alloc, *place, value)?;
+            Ok(Source::Pure(negated))
+        }
+        TypedExpr::Not(place, e) => {
+            let value = lift_kept(alloc, setting, any_object(), e, code, made)?;
+            let negated = not_of(alloc, *place, value)?;
+            Ok(Source::Pure(negated))
+        }
+        TypedExpr::Cast(place, class, non_null, e) => {
+            let value = lift_kept(alloc, setting, any_object(), e, code, made)?;
+            let cast = cast_of(alloc, *place, *class, *non_null, value)?;
+            Ok(Source::Pure(cast))
+        }
+        TypedExpr::Path(place, first, steps) => {
+            let operand = lift_operand(alloc, setting, first, code, made)?;
+            let list = steps.as_slice();
+            let front = front_of_path(alloc, setting.numbers, *place, operand, list)?;
+            let rest = steps_behind(list, front.length);
+            let whole = lift_steps(alloc, setting, *place, rest, front.operand, code, made)?;
+            Ok(whole.source)
+        }
+        TypedExpr::New(place, class, es) => {
+            let params = params_in(constructor_of(setting.program, *class));
+            let values = arguments(alloc, setting, params, es, code, made)?;
+            Ok(Source::Created(*place, *class, values))
+        }
+        TypedExpr::NewArray(place, class, e) => {
+            let size = lift_size(alloc, setting, e, code, made)?;
+            Ok(Source::CreatedArray(*place, *class, size))
+        }
+        TypedExpr::Static(place, number, _, es) => {
+            let params = params_in(body_at(setting.program, *number));
+            let values = arguments(alloc, setting, params, es, code, made)?;
+            let callee = number_of_written(setting.program, setting.origins, *number)?;
+            Ok(Source::Called(*place, Callee::Static(callee), values))
+        }
+        TypedExpr::Base(place, method, _, es) => {
+            let above = above_of(setting.program, setting.body.class);
+            let params = params_in(method_at(setting.program, above, *method));
+            let values = arguments(alloc, setting, params, es, code, made)?;
+            let callee = number_in_table(setting.program, setting.origins, above, *method)?;
+            Ok(Source::Called(*place, Callee::Base(callee), values))
+        }
+        TypedExpr::Int(..)
+        | TypedExpr::Bool(..)
+        | TypedExpr::Null(..)
+        | TypedExpr::This(..)
+        | TypedExpr::Local(..)
+        | TypedExpr::Result(..)
+        | TypedExpr::Bound(..)
+        | TypedExpr::Old(..)
+        | TypedExpr::Quantified(..)
+        | TypedExpr::State(..)
+        | TypedExpr::Owners(..) => {
+            let value = plain(alloc, setting.numbers, e)?;
+            Ok(Source::Pure(value))
+        }
+    }
+}
+
+// The expression, with what is known of it.
+#[cycle(lifting)]
+pub(crate) fn lift_operand(
+    alloc: Global,
+    setting: &Setting<'_>,
+    e: &TypedExpr,
+    code: &mut Code,
+    made: &mut Vec<Ty>,
+) -> Result<Operand, AllocError>
+    ensures { IfOk result (λ o. IsOperand (setting_of setting.now) (typed.expr e.now) (stmts_of code.old.statements) made.old.items code.new.statements made.new o) }
+{
+    let source = right_side(alloc, setting, e, code, made)?;
+    Ok(Operand {
+        source,
+        place: place_of(e),
+        ty: type_of(e),
+        has_call: has_call(e),
+        is_lazy: is_lazy(e),
+    })
+}
+
+// An operand of an operation with a call inside.
+#[cycle(lifting)]
+fn lift_kept(
+    alloc: Global,
+    setting: &Setting<'_>,
+    wanted: Ty,
+    e: &TypedExpr,
+    code: &mut Code,
+    made: &mut Vec<Ty>,
+) -> Result<Expr, AllocError>
+    ensures { IfOk result (λ v. valued_by code.new.statements made.new v
+        ≡ valued_behind (stmts_of code.old.statements) (elab.operand (numbers_of setting.now.numbers.now) wanted (typed.expr e.now) (elab.lifted (setting_of setting.now) (typed.expr e.now)) made.old.items)) }
+{
+    let operand = lift_operand(alloc, setting, e, code, made)?;
+    let value = keep(setting.numbers, &mut code.statements, made, wanted, operand)?;
+    Ok(value)
+}
+
+// `!a`, which with a call inside has a in a temporary.
+#[cycle(lifting)]
+fn lift_negated(
+    alloc: Global,
+    setting: &Setting<'_>,
+    a: &TypedExpr,
+    code: &mut Code,
+    made: &mut Vec<Ty>,
+) -> Result<Source, AllocError>
+    ensures { IfOk result (λ r. lifted_by code.new.statements made.new r
+        ≡ lifted_behind (stmts_of code.old.statements) (elab.negated (numbers_of setting.now.numbers.now) (typed.expr a.now) (elab.lifted (setting_of setting.now) (typed.expr a.now)) made.old.items)) }
+{
+    if has_call(a) {
+        let value = lift_kept(alloc, setting, Ty::Bool, a, code, made)?;
+        let negated = not_of(alloc, place_of(a), value)?;
+        Ok(Source::Pure(negated))
+    } else {
+        let value = plain(alloc, setting.numbers, a)?;
+        let negated = not_of(alloc, place_of(a), value)?;
+        Ok(Source::Pure(negated))
+    }
+}
+
+// The size of a new array, which with a call inside is in a temporary.
+#[cycle(lifting)]
+fn lift_size(
+    alloc: Global,
+    setting: &Setting<'_>,
+    e: &TypedExpr,
+    code: &mut Code,
+    made: &mut Vec<Ty>,
+) -> Result<Expr, AllocError>
+    ensures { IfOk result (λ v. valued_by code.new.statements made.new v
+        ≡ valued_behind (stmts_of code.old.statements) (size_of (setting_of setting.now) (typed.expr e.now) made.old.items)) }
+{
+    if has_call(e) {
+        let value = lift_kept(alloc, setting, any_object(), e, code, made)?;
+        Ok(value)
+    } else {
+        let value = plain(alloc, setting.numbers, e)?;
+        Ok(value)
+    }
+}
+
+// The right side of a lazy operation, whose left side is in the local x: `if (test of x) { x = b; }`.
+#[cycle(lifting)]
+fn lift_lazily(
+    alloc: Global,
+    setting: &Setting<'_>,
+    place: Place,
+    holds: bool,
+    x: usize,
+    b: &TypedExpr,
+    code: &mut Code,
+    made: &mut Vec<Ty>,
+) -> Result<Source, AllocError>
+    ensures { IfOk result (λ r. lifted_by code.new.statements made.new r
+        ≡ elab.lazily_in place (typed.expr b.now) (test_of place holds) x (valued_as (stmts_of code.old.statements) (core.LocalExpr place x) made.old.items) (elab.right_side (setting_of setting.now) (typed.expr b.now))) }
+{
+    let mut inner = Code::new(alloc);
+    let source = right_side(alloc, setting, b, &mut inner, made)?;
+    let test = lazy_test(alloc, place, holds, x)?;
+    let before = &mut code.statements;
+    let value = end_lazy(
+        alloc,
+        before,
+        place,
+        test,
+        x,
+        place_of(b),
+        inner.statements,
+        source,
+    )?;
+    Ok(value)
+}
+
+// The links of a chain, each of which is an operation with a call in it or before it.
+#[cycle(lifting)]
+fn lift_links(
+    alloc: Global,
+    setting: &Setting<'_>,
+    place: Place,
+    links: &[TypedLink],
+    first: Operand,
+    code: &mut Code,
+    made: &mut Vec<Ty>,
+) -> Result<Operand, AllocError>
+    ensures { (e : ExprTree) → (before : List core.StmtTree) → (types : List Ty)
+        → IsOperand (setting_of setting.now) e before types code.old.statements made.old first → LinksGoOn place e links.now
+        → IfOk result (λ o. IsOperand (setting_of setting.now) (linked place e links.now) before types code.new.statements made.new o) }
+{
+    let mut operand = first;
+    for link in links {
+        operand = lift_link(alloc, setting, place, link, operand, code, made)?;
+    }
+    Ok(operand)
+}
+
+// A link behind an operand.
+#[cycle(lifting)]
+fn lift_link(
+    alloc: Global,
+    setting: &Setting<'_>,
+    place: Place,
+    link: &TypedLink,
+    operand: Operand,
+    code: &mut Code,
+    made: &mut Vec<Ty>,
+) -> Result<Operand, AllocError>
+    ensures { (e : ExprTree) → (before : List core.StmtTree) → (types : List Ty)
+        → IsOperand (setting_of setting.now) e before types code.old.statements made.old operand
+        → calls.has_call (link_behind link.now place e) ≡ true
+        → IfOk result (λ o. IsOperand (setting_of setting.now) (link_behind link.now place e) before types code.new.statements made.new o) }
+{
+    let source = lift_behind(alloc, setting, place, link, operand, code, made)?;
+    Ok(Operand {
+        source,
+        place,
+        ty: Some(link_type(link)),
+        has_call: true,
+        is_lazy: is_lazy_link(link),
+    })
+}
+
+// The operation of a link with a call in it or before it.
+#[cycle(lifting)]
+fn lift_behind(
+    alloc: Global,
+    setting: &Setting<'_>,
+    place: Place,
+    link: &TypedLink,
+    operand: Operand,
+    code: &mut Code,
+    made: &mut Vec<Ty>,
+) -> Result<Source, AllocError>
+    ensures { (e : ExprTree) → (before : List core.StmtTree) → (types : List Ty)
+        → IsOperand (setting_of setting.now) e before types code.old.statements made.old operand
+        → IfOk result (λ r. lifted_by code.new.statements made.new r ≡ lifted_behind before (elab.lifted (setting_of setting.now) (link_behind link.now place e) types)) }
+{
+    match link {
+        TypedLink::Operation(operator, b) => {
+            let source = lift_operation(alloc, setting, place, *operator, b, operand, code, made)?;
+            Ok(source)
+        }
+        TypedLink::Is(class) => {
+            let before = &mut code.statements;
+            let source = operand_is(alloc, setting.numbers, place, *class, operand, before, made)?;
+            Ok(source)
+        }
+        TypedLink::As(class) => {
+            let before = &mut code.statements;
+            let source = operand_as(alloc, setting.numbers, place, *class, operand, before, made)?;
+            Ok(source)
+        }
+    }
+}
+
+// An operation on an operand that stands before it.
+#[cycle(lifting)]
+pub(crate) fn lift_operation(
+    alloc: Global,
+    setting: &Setting<'_>,
+    place: Place,
+    operator: Operator,
+    b: &TypedExpr,
+    operand: Operand,
+    code: &mut Code,
+    made: &mut Vec<Ty>,
+) -> Result<Source, AllocError>
+    ensures { (e : ExprTree) → (before : List core.StmtTree) → (types : List Ty)
+        → IsOperand (setting_of setting.now) e before types code.old.statements made.old operand
+        → IfOk result (λ r. lifted_by code.new.statements made.new r ≡ lifted_behind before (elab.lifted (setting_of setting.now) (tree.BinaryOf place operator e (typed.expr b.now)) types)) }
+{
+    let numbers = setting.numbers;
+    if is_lazy_operator(operator) {
+        let x = begin_lazy(
+            numbers,
+            &mut code.statements,
+            made,
+            operand.place,
+            operand.source,
+        )?;
+        let holds = is_and(operator);
+        let source = lift_lazily(alloc, setting, place, holds, x, b, code, made)?;
+        Ok(source)
+    } else {
+        let left = keep(numbers, &mut code.statements, made, any_object(), operand)?;
+        let right = lift_kept(alloc, setting, any_object(), b, code, made)?;
+        let value = binary(alloc, place, operator, left, right)?;
+        Ok(Source::Pure(value))
+    }
+}
+
+// The steps of a path, each of which has a call in it or before it, or is one.
+#[cycle(lifting)]
+pub(crate) fn lift_steps(
+    alloc: Global,
+    setting: &Setting<'_>,
+    place: Place,
+    steps: &[TypedStep],
+    first: Operand,
+    code: &mut Code,
+    made: &mut Vec<Ty>,
+) -> Result<Operand, AllocError>
+    ensures { (e : ExprTree) → (before : List core.StmtTree) → (types : List Ty)
+        → IsOperand (setting_of setting.now) e before types code.old.statements made.old first → StepsGoOn place e steps.now
+        → IfOk result (λ o. IsOperand (setting_of setting.now) (stepped place e steps.now) before types code.new.statements made.new o) }
+{
+    let mut operand = first;
+    for step in steps {
+        operand = lift_step(alloc, setting, place, step, operand, code, made)?;
+    }
+    Ok(operand)
+}
+
+// A step behind an operand.
+#[cycle(lifting)]
+fn lift_step(
+    alloc: Global,
+    setting: &Setting<'_>,
+    place: Place,
+    step: &TypedStep,
+    operand: Operand,
+    code: &mut Code,
+    made: &mut Vec<Ty>,
+) -> Result<Operand, AllocError>
+    ensures { (e : ExprTree) → (before : List core.StmtTree) → (types : List Ty)
+        → IsOperand (setting_of setting.now) e before types code.old.statements made.old operand
+        → calls.has_call (step_behind step.now place e) ≡ true
+        → IfOk result (λ o. IsOperand (setting_of setting.now) (step_behind step.now place e) before types code.new.statements made.new o) }
+{
+    let ty = step_type(operand.ty, step);
+    let source = lift_onward(alloc, setting, place, step, operand, code, made)?;
+    Ok(Operand {
+        source,
+        place,
+        ty,
+        has_call: true,
+        is_lazy: false,
+    })
+}
+
+// The value of a step with a call in it or before it, or which is one.
+#[cycle(lifting)]
+fn lift_onward(
+    alloc: Global,
+    setting: &Setting<'_>,
+    place: Place,
+    step: &TypedStep,
+    operand: Operand,
+    code: &mut Code,
+    made: &mut Vec<Ty>,
+) -> Result<Source, AllocError>
+    ensures { (e : ExprTree) → (before : List core.StmtTree) → (types : List Ty)
+        → IsOperand (setting_of setting.now) e before types code.old.statements made.old operand
+        → IfOk result (λ r. lifted_by code.new.statements made.new r ≡ lifted_behind before (elab.lifted (setting_of setting.now) (step_behind step.now place e) types)) }
+{
+    match step {
+        TypedStep::Field(field, _) => {
+            let before = &mut code.statements;
+            let source = operand_field(
+                alloc,
+                setting.numbers,
+                place,
+                *field,
+                operand,
+                before,
+                made,
+            )?;
+            Ok(source)
+        }
+        TypedStep::Element(index) => {
+            let source = lift_element(alloc, setting, place, index, operand, code, made)?;
+            Ok(source)
+        }
+        TypedStep::Length => {
+            let before = &mut code.statements;
+            let source = operand_length(alloc, setting.numbers, place, operand, before, made)?;
+            Ok(source)
+        }
+        TypedStep::Call(method, _, es) => {
+            let source = lift_call(alloc, setting, place, *method, es, operand, code, made)?;
+            Ok(source)
+        }
+    }
+}
+
+// An element of an operand that stands before it.
+#[cycle(lifting)]
+fn lift_element(
+    alloc: Global,
+    setting: &Setting<'_>,
+    place: Place,
+    index: &TypedExpr,
+    operand: Operand,
+    code: &mut Code,
+    made: &mut Vec<Ty>,
+) -> Result<Source, AllocError>
+    ensures { (e : ExprTree) → (before : List core.StmtTree) → (types : List Ty)
+        → IsOperand (setting_of setting.now) e before types code.old.statements made.old operand
+        → IfOk result (λ r. lifted_by code.new.statements made.new r ≡ lifted_behind before (elab.lifted (setting_of setting.now) (tree.ElementOf place e (typed.expr index.now)) types)) }
+{
+    let array = keep(
+        setting.numbers,
+        &mut code.statements,
+        made,
+        any_object(),
+        operand,
+    )?;
+    let index = lift_kept(alloc, setting, any_object(), index, code, made)?;
+    let value = element_of(alloc, place, array, index)?;
+    Ok(Source::Pure(value))
+}
+
+// A call of a method on an operand that stands before it: the receiver, and then the arguments.
+#[cycle(lifting)]
+fn lift_call(
+    alloc: Global,
+    setting: &Setting<'_>,
+    place: Place,
+    method: usize,
+    es: &[TypedExpr],
+    operand: Operand,
+    code: &mut Code,
+    made: &mut Vec<Ty>,
+) -> Result<Source, AllocError>
+    ensures { (e : ExprTree) → (t : Option Ty) → (before : List core.StmtTree) → (types : List Ty)
+        → IsOperand (setting_of setting.now) e before types code.old.statements made.old operand
+        → IfOk result (λ r. lifted_by code.new.statements made.new r ≡ lifted_behind before (elab.lifted (setting_of setting.now) (tree.CallOf place e method t (tree.arguments (typed.exprs es.now))) types)) }
+{
+    let class = class_of_type(operand.ty);
+    let params = params_in(method_at(setting.program, class, method));
+    let in_arguments = have_call(es);
+    let kept = are_kept(operand.has_call, in_arguments);
+    let before = &mut code.statements;
+    let receiver = keep_receiver(setting.numbers, in_arguments, operand, before, made)?;
+    let values = lift_values(alloc, setting, params, kept, es, code, made)?;
+    Ok(dispatched(place, class, method, receiver, values))
+}
+
+// Arguments for these parameters, all of them in temporaries.
+#[cycle(lifting)]
+fn lift_all(
+    alloc: Global,
+    setting: &Setting<'_>,
+    params: &[TypedParam],
+    es: &[TypedExpr],
+    code: &mut Code,
+    made: &mut Vec<Ty>,
+) -> Result<Vec<Expr>, AllocError>
+    ensures { IfOk result (λ vs. listed_by code.new.statements made.new vs
+        ≡ listed_behind (stmts_of code.old.statements) (elab.in_temporaries (setting_of setting.now) (param_types params.now) (tree.arguments (typed.exprs es.now)) made.old.items)) }
+{
+    let mut values = Vec::new(alloc);
+    let mut rest = params;
+    for e in es {
+        let value = lift_kept(alloc, setting, first_type(rest), e, code, made)?;
+        values.push(value)?;
+        rest = other_params(rest);
+    }
+    Ok(values)
+}
+
+// Arguments for these parameters: all of them in temporaries, or as they are.
+#[cycle(lifting)]
+fn lift_values(
+    alloc: Global,
+    setting: &Setting<'_>,
+    params: &[TypedParam],
+    kept: bool,
+    es: &[TypedExpr],
+    code: &mut Code,
+    made: &mut Vec<Ty>,
+) -> Result<Vec<Expr>, AllocError>
+    ensures { IfOk result (λ vs. listed_by code.new.statements made.new vs
+        ≡ listed_behind (stmts_of code.old.statements) (values_of (setting_of setting.now) (param_types params.now) kept (tree.arguments (typed.exprs es.now)) made.old.items)) }
+{
+    if kept {
+        let values = lift_all(alloc, setting, params, es, code, made)?;
+        Ok(values)
+    } else {
+        let values = plain_all(alloc, setting.numbers, es)?;
+        Ok(values)
+    }
+}
+
+/// Arguments for these parameters: without calls they stay as they are, and otherwise all of them are in temporaries.
+#[cycle(lifting)]
+pub fn arguments(
+    alloc: Global,
+    setting: &Setting<'_>,
+    params: &[TypedParam],
+    es: &[TypedExpr],
+    code: &mut Code,
+    made: &mut Vec<Ty>,
+) -> Result<Vec<Expr>, AllocError>
+    ensures { IfOk result (λ vs. listed_by code.new.statements made.new vs
+        ≡ listed_behind (stmts_of code.old.statements) (elab.arguments_of (setting_of setting.now) (param_types params.now) (tree.arguments (typed.exprs es.now)) made.old.items)) }
+{
+    let values = lift_values(alloc, setting, params, have_call(es), es, code, made)?;
+    Ok(values)
+}
+
+/// Its value as an expression: that of a call is in a temporary.
+pub fn value(
+    alloc: Global,
+    setting: &Setting<'_>,
+    e: &TypedExpr,
+    code: &mut Code,
+    made: &mut Vec<Ty>,
+) -> Result<Expr, AllocError>
+    ensures { IfOk result (λ v. valued_by code.new.statements made.new v
+        ≡ valued_behind (stmts_of code.old.statements) (elab.value (setting_of setting.now) (typed.expr e.now) made.old.items)) }
+{
+    let source = right_side(alloc, setting, e, code, made)?;
+    let before = &mut code.statements;
+    let value = valued(
+        setting.numbers,
+        before,
+        made,
+        place_of(e),
+        type_of(e),
+        source,
+    )?;
+    Ok(value)
+}

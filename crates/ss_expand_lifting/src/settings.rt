@@ -1,0 +1,26 @@
+// What the code of a body is elaborated in.
+
+ghost use Rattle.std.specs.Prelude.{◌≡◌, ◌≤◌, length, map};
+ghost use Rattle.ss_core.specs.View as core;
+ghost use Rattle.ss_core.specs.Chain.{most_classes};
+ghost use Rattle.ss_typed.specs.View as typed;
+ghost use Rattle.ss_expand_rules.specs.Program as elab;
+ghost use Rattle.ss_expand_bodies.specs.Origins.{origin_of};
+
+use ss_expand_bodies::{Opened, Origin};
+use ss_expand_expressions::Numbers;
+use ss_typed::{Typed, TypedBody};
+
+/// What the code of a body is elaborated in.
+#[derive(Drop)]
+pub struct Setting<'a> {
+    pub program: &'a Typed,
+    /// The bodies of the core program in their order.
+    pub origins: &'a [Origin],
+    pub body: &'a TypedBody,
+    pub numbers: &'a Numbers,
+    /// From the outermost inwards.
+    pub exposes: Vec<Opened>,
+    pub ghost listed: { map origin_of origins.now ≡ elab.bodies (typed.typed program.now) },
+    pub ghost few_classes: { length (core.classes program.now.classes) ≤ most_classes },
+}

@@ -1,0 +1,182 @@
+// Left sides whose parts are evaluated once, in temporaries.
+
+ghost use Rattle.std.specs.Prelude.{◌≡◌, IfOk, List, true};
+ghost use Rattle.ss_core.specs.declared.names.Ty.{Ty};
+ghost use Rattle.ss_core.specs.Tree as core;
+ghost use Rattle.ss_typed.specs.Tree as tree;
+ghost use Rattle.ss_typed.specs.Tree.{ExprTree};
+ghost use Rattle.ss_typed.specs.View as typed;
+ghost use Rattle.ss_expand_rules.specs.Calls as calls;
+ghost use Rattle.ss_expand_rules.specs.Lifting as lifting;
+ghost use Rattle.ss_expand_rules.specs.Simple as elab;
+ghost use Rattle.ss_expand_expressions.specs.Views.{stepped, step_behind};
+ghost use Rattle.ss_expand_expressions.specs.Sources.{stmts_of};
+ghost use Rattle.ss_expand_expressions.specs.Operands.{IsOperand};
+ghost use Rattle.ss_expand_lifting.specs.Settings.{setting_of};
+ghost use Rattle.ss_expand_lifting.specs.Lefts.{part_tree};
+ghost use Rattle.ss_expand_lifting.specs.Made.{settled_by, settled_behind, settled_target};
+
+use crate::code::Code;
+use crate::lefts::{Left, Part, left_of, part_operand};
+use crate::lifting::lift_operand;
+use crate::settings::Setting;
+use ss_core::{ClassId, FieldId, Place, Ty};
+use ss_expand_expressions::{
+    Operand, any_object, class_of_type, in_local, is_this, next, place_of, temporary_type, type_of,
+};
+use ss_typed::{TypedExpr, TypedStep};
+use std::alloc::{AllocError, Global};
+
+// `this`
+fn this_of(place: Place, class: ClassId) -> TypedExpr
+    ensures { typed.expr result ≡ tree.ThisOf place class.0 }
+{
+    TypedExpr::This(place, class)
+}
+
+// A local.
+fn local_of(place: Place, x: usize, ty: Ty) -> TypedExpr
+    ensures { typed.expr result ≡ tree.LocalOf place x ty }
+{
+    TypedExpr::Local(place, x, ty)
+}
+
+// `this`, made anew.
+fn this_again(e: &TypedExpr) -> TypedExpr
+    ensures { calls.is_this (typed.expr e.now) ≡ true → typed.expr result ≡ typed.expr e.now }
+{
+    this_of(place_of(e), class_of_type(type_of(e)))
+}
+
+// A path with these steps.
+fn path_with(place: Place, first: Box<TypedExpr>, steps: Vec<TypedStep>) -> TypedExpr
+    ensures { typed.expr result ≡ stepped place (typed.expr first.value) steps.items }
+{
+    TypedExpr::Path(place, first, steps)
+}
+
+// An expression with one step behind it.
+fn with_step(
+    alloc: Global,
+    place: Place,
+    e: TypedExpr,
+    step: TypedStep,
+) -> Result<TypedExpr, AllocError>
+    ensures { IfOk result (λ r. typed.expr r ≡ step_behind step place (typed.expr e)) }
+{
+    let mut steps = Vec::new(alloc);
+    steps.push(step)?;
+    Ok(path_with(place, Box::new(alloc, e)?, steps))
+}
+
+/// `o.f`
+pub(crate) fn field_path(
+    alloc: Global,
+    place: Place,
+    object: TypedExpr,
+    field: FieldId,
+    ty: Ty,
+) -> Result<TypedExpr, AllocError>
+    ensures { IfOk result (λ r. typed.expr r ≡ tree.FieldOf place (typed.expr object) field.0 ty) }
+{
+    with_step(alloc, place, object, TypedStep::Field(field, ty))
+}
+
+// `a[i]`
+fn element_path(
+    alloc: Global,
+    place: Place,
+    array: TypedExpr,
+    index: TypedExpr,
+) -> Result<TypedExpr, AllocError>
+    ensures { IfOk result (λ r. typed.expr r ≡ tree.ElementOf place (typed.expr array) (typed.expr index)) }
+{
+    with_step(alloc, place, array, TypedStep::Element(index))
+}
+
+// Puts what has been lifted into a temporary, which stands for it from then on.
+fn settle_operand(
+    setting: &Setting<'_>,
+    operand: Operand,
+    code: &mut Code,
+    made: &mut Vec<Ty>,
+) -> Result<TypedExpr, AllocError>
+    ensures { (e : ExprTree) → (before : List core.StmtTree) → (kinds : List Ty)
+        → IsOperand (setting_of setting.now) e before kinds code.old.statements made.old operand
+        → IfOk result (λ t. settled_by code.new made.new (typed.expr t) ≡ settled_behind before (elab.settle_lifted (setting_of setting.now) e (lifting.right_side (setting_of setting.now) e kinds))) }
+{
+    let x = next(setting.numbers, made)?;
+    let ty = temporary_type(any_object(), operand.ty);
+    let place = operand.place;
+    in_local(&mut code.statements, made, place, x, ty, operand.source)?;
+    let settled = local_of(place, x, ty);
+    Ok(settled)
+}
+
+// An index, or an object without steps, in a temporary; `this` stays.
+fn settle_whole(
+    alloc: Global,
+    setting: &Setting<'_>,
+    e: &TypedExpr,
+    code: &mut Code,
+    made: &mut Vec<Ty>,
+) -> Result<TypedExpr, AllocError>
+    ensures { IfOk result (λ t. settled_by code.new made.new (typed.expr t)
+        ≡ settled_behind (stmts_of code.old.statements) (elab.settle_part (setting_of setting.now) (typed.expr e.now) made.old.items)) }
+{
+    if is_this(e) {
+        let this = this_again(e);
+        return Ok(this);
+    }
+    let operand = lift_operand(alloc, setting, e, code, made)?;
+    let settled = settle_operand(setting, operand, code, made)?;
+    Ok(settled)
+}
+
+// An object part in a temporary; `this` stays.
+fn settle_part(
+    alloc: Global,
+    setting: &Setting<'_>,
+    part: Part<'_>,
+    code: &mut Code,
+    made: &mut Vec<Ty>,
+) -> Result<TypedExpr, AllocError>
+    ensures { IfOk result (λ t. settled_by code.new made.new (typed.expr t)
+        ≡ settled_behind (stmts_of code.old.statements) (elab.settle_part (setting_of setting.now) (part_tree part.entry) made.old.items)) }
+{
+    if part.steps.is_empty() {
+        let settled = settle_whole(alloc, setting, part.first, code, made)?;
+        return Ok(settled);
+    }
+    let operand = part_operand(alloc, setting, part, code, made)?;
+    let settled = settle_operand(setting, operand, code, made)?;
+    Ok(settled)
+}
+
+/// The object and index parts of a left side in temporaries, from the left, and the left side of these; none where it stays as it
+/// is.
+pub(crate) fn settle(
+    alloc: Global,
+    setting: &Setting<'_>,
+    target: &TypedExpr,
+    code: &mut Code,
+    made: &mut Vec<Ty>,
+) -> Result<Option<TypedExpr>, AllocError>
+    ensures { IfOk result (λ t. settled_by code.new made.new (settled_target (typed.expr target.now) t)
+        ≡ settled_behind (stmts_of code.old.statements) (elab.settle (setting_of setting.now) (typed.expr target.now) made.old.items)) }
+{
+    match left_of(target) {
+        Left::Field(place, object, field, ty) => {
+            let object = settle_part(alloc, setting, object, code, made)?;
+            let settled = field_path(alloc, place, object, field, ty)?;
+            Ok(Some(settled))
+        }
+        Left::Element(place, array, index) => {
+            let array = settle_part(alloc, setting, array, code, made)?;
+            let index = settle_whole(alloc, setting, index, code, made)?;
+            let settled = element_path(alloc, place, array, index)?;
+            Ok(Some(settled))
+        }
+        Left::Local(..) | Left::Other => Ok(None),
+    }
+}

@@ -1,8 +1,0 @@
-use Rattle.std.proofs.Common.{◌∙◌, ap, sym, option_map}
-use Rattle.ss_lookup.specs.Classes.{trees}
-use Rattle.ss_lookup.specs.Shelved.{shelf_of}
-use Rattle.ss_lookup.proofs.Shelving.{field_shelved}
-use Rattle.ss_lookup.proofs.tables.Tables.own_field.Goals as goal
-
-pub returns-in-Some : goal.returns-in-Some
-returns-in-Some c = c.field_on.ensures ∙ field_shelved (trees c.args.self.now) c.args.class c.args.name.now (shelf_of c.in-Some.shelf.now) (sym (ap (option_map (λ s. shelf_of s.now)) c.in-Some.is) ∙ c.shelf.ensures)

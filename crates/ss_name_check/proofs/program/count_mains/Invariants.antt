@@ -1,8 +1,0 @@
-use Rattle.std.proofs.Common.{◌≡◌, drop}
-use Rattle.ss_lookup.specs.Classes.{trees}
-use Rattle.ss_names.specs.Programs.{mains_in}
-use Rattle.ss_name_check.proofs.Counting.{mains_from}
-use Rattle.ss_name_check.proofs.program.count_mains.Given as goal
-
-abbrev pub invariant-loop-class : goal.invariant-loop-class
-invariant-loop-class l = mains_from l.count (drop l.class (trees l.tables)) ≡ mains_in (trees l.tables)

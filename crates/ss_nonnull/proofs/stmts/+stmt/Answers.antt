@@ -1,0 +1,147 @@
+use Rattle.std.proofs.Common.{◌≡◌, ◌++◌, ℕ, map, ap, sym, ◌∙◌, List, None}
+use Rattle.std.specs.Prelude.{option_map}
+use Rattle.ss_typed.specs.declared.stmt.TypedStmt.{TypedStmt}
+use Rattle.ss_typed.specs.Tree.{StmtTree, BlockTree, IfOf, IfElseOf, WhileOf, ForOf, stmt_trees}
+use Rattle.ss_typed.specs.View.{expr, exprs, simple_of, init_of, block, stmt_of, stmt_step, block_step}
+use Rattle.ss_typed.specs.declared.stmt.TypedBlock.{out-TypedBlock}
+use Rattle.ss_typed.specs.declared.stmt.TypedStmt.TheFolds.{fold_out-TypedBlock}
+use Rattle.ss_nonnull_rules.specs.Faults.{inside}
+use Rattle.ss_nonnull.proofs.Seeing.{joined}
+use Rattle.ss_nonnull_facts.specs.Locals.{among}
+use Rattle.ss_nonnull.specs.Codes.{path_of, site_of, seen_of}
+use Rattle.ss_nonnull.specs.Paths.{told, left_by}
+use Rattle.ss_nonnull.specs.Walks.{known_behind, known_behind_block, known_at_head, known_at_end, stmt_faults, block_faults}
+use Rattle.ss_nonnull.proofs.Shapes.{if_shape, else_shape, while_shape, for_shape, expose_shape}
+use Rattle.ss_nonnull.proofs.Statements.{block_is, if_noted, else_noted, while_known, while_noted, for_known, for_noted, one_known, one_noted, all_known, all_noted}
+use Rattle.ss_nonnull.proofs.stmts.+stmt.Goals as goal
+
+pub check_stmt-returns-in-While : goal.check_stmt-returns-in-While
+check_stmt-returns-in-While t c =
+    let a = c.in-While in
+    let s = site_of c.args.site.now in
+    let k = path_of c.args.known in
+    let f = c.args.found.now.items in
+    let e = expr a.test in
+    let es = exprs a.field-2.items in
+    let st = stmt_of a.body.value in
+    let head = path_of c.in_ok-head-in-While.head in
+    let v = seen_of c.in_ok-seen-in-While.seen in
+    let whole : stmt_of c.args.stmt.now ≡ WhileOf a.field-0 e es st = ap stmt_of a.is ∙ while_shape a.field-0 a.test a.field-2 a.body in
+    let at_head : head ≡ known_at_head st None k = c.in_ok-head-in-While.ensures ∙ ap (λ (b : TypedStmt). known_at_head (stmt_of b) None k) c.deref-in-While.ensures in
+    record {
+      known =
+          while_known s a.field-0 e es st v k head _ at_head c.in_ok-seen-in-While.ensures.seen
+          (c.in_ok-behind-in-While.ensures ∙ ap (λ (xs : List ℕ). left_by v.is_true (among xs) head) c.deref-in-While-4.ensures.value)
+          ∙ ap (λ (x : StmtTree). known_behind s x k) (sym whole);
+      noted =
+          while_noted s a.field-0 e es st v k head _ f _ _ at_head c.in_ok-seen-in-While.ensures.seen
+          (c.in_ok-repeated-in-While.ensures ∙ ap (λ (xs : List ℕ). option_map (told (among xs)) head) c.deref-in-While-2.ensures.value)
+          c.in_ok-seen-in-While.ensures.noted
+          (c.in_ok-check_stmt-in-While.ensures.noted ∙ ap (λ (b : TypedStmt). c.check-in-While.new.found.items ++ stmt_faults s (stmt_of b) (path_of c.in_ok-repeated-in-While.repeated)) c.deref-in-While-3.ensures)
+          ∙ ap (λ (x : StmtTree). f ++ stmt_faults s x k) (sym whole);
+    }
+
+pub check_stmt-returns-in-For : goal.check_stmt-returns-in-For
+check_stmt-returns-in-For t c =
+    let a = c.in-For in
+    let s = site_of c.args.site.now in
+    let k = path_of c.args.known in
+    let f = c.args.found.now.items in
+    let first = option_map init_of a.first in
+    let e = option_map expr a.test in
+    let step = option_map simple_of a.step in
+    let es = exprs a.field-4.items in
+    let st = stmt_of a.body.value in
+    let begun = path_of c.in_ok-begun-in-For.begun in
+    let head = path_of c.in_ok-head-in-For.head in
+    let repeated = path_of c.in_ok-repeated-in-For.repeated in
+    let v = seen_of c.in_ok-seen-in-For.seen in
+    let whole : stmt_of c.args.stmt.now ≡ ForOf a.place first e step es st = ap stmt_of a.is ∙ for_shape a.place a.first a.test a.step a.field-4 a.body in
+    let at_head : head ≡ known_at_head st step begun = c.in_ok-head-in-For.ensures ∙ ap (λ (b : TypedStmt). known_at_head (stmt_of b) step begun) c.deref-in-For.ensures in
+    record {
+      known =
+          for_known s a.place first e step es st v k begun head _ c.in_ok-begun-in-For.ensures.known at_head c.in_ok-seen-in-For.ensures.seen
+          (c.in_ok-behind-in-For.ensures ∙ ap (λ (xs : List ℕ). left_by v.is_true (among xs) head) c.deref-in-For-4.ensures.value)
+          ∙ ap (λ (x : StmtTree). known_behind s x k) (sym whole);
+      noted =
+          for_noted s a.place first e step es st v k begun head repeated _ f _ _ _ _ c.in_ok-begun-in-For.ensures.known at_head c.in_ok-seen-in-For.ensures.seen
+          (c.in_ok-repeated-in-For.ensures ∙ ap (λ (xs : List ℕ). option_map (told (among xs)) head) c.deref-in-For-2.ensures.value)
+          (c.in_ok-end-in-For.ensures.known ∙ ap (λ (b : TypedStmt). known_behind s (stmt_of b) repeated) c.deref-in-For-3.ensures)
+          c.in_ok-begun-in-For.ensures.noted c.in_ok-seen-in-For.ensures.noted
+          (c.in_ok-end-in-For.ensures.noted ∙ ap (λ (b : TypedStmt). c.check_test.new.found.items ++ stmt_faults s (stmt_of b) repeated) c.deref-in-For-3.ensures)
+          c.in_ok-check_step-in-For.ensures
+          ∙ ap (λ (x : StmtTree). f ++ stmt_faults s x k) (sym whole);
+    }
+
+pub check_stmt-returns-in-If-clause-noted : goal.check_stmt-returns-in-If-clause-noted
+check_stmt-returns-in-If-clause-noted t c =
+    let a = c.in-If in
+    let s = site_of c.args.site.now in
+    let k = path_of c.args.known in
+    let f = c.args.found.now.items in
+    let e = expr a.test in
+    let st = stmt_of a.first.value in
+    let holding = path_of c.in_ok-holding-in-If.holding in
+    let whole : stmt_of c.args.stmt.now ≡ IfOf a.field-0 e st = ap stmt_of a.is ∙ if_shape a.field-0 a.test a.first a.second c.in-None.is in
+    let holds = c.in_ok-holding-in-If.ensures ∙ ap (λ (xs : List ℕ). option_map (told (among xs)) k) c.deref-in-If.ensures.value in
+    if_noted s a.field-0 e st (seen_of c.in_ok-seen-in-If.seen) k holding f _ _ c.in_ok-seen-in-If.ensures.seen holds c.in_ok-seen-in-If.ensures.noted
+    (c.in_ok-one-in-If.ensures.noted ∙ ap (λ (b : TypedStmt). c.check.new.found.items ++ stmt_faults s (stmt_of b) holding) c.deref-in-If-3.ensures)
+    ∙ ap (λ (x : StmtTree). f ++ stmt_faults s x k) (sym whole)
+
+pub check_stmt-returns-in-Some-clause-noted : goal.check_stmt-returns-in-Some-clause-noted
+check_stmt-returns-in-Some-clause-noted t c =
+    let a = c.in-If in
+    let s = site_of c.args.site.now in
+    let k = path_of c.args.known in
+    let f = c.args.found.now.items in
+    let e = expr a.test in
+    let x = stmt_of a.first.value in
+    let y = stmt_of c.in-Some.second.value in
+    let holding = path_of c.in_ok-holding-in-If.holding in
+    let failing = path_of c.in_ok-failing-in-If.failing in
+    let whole : stmt_of c.args.stmt.now ≡ IfElseOf a.field-0 e x y = ap stmt_of a.is ∙ else_shape a.field-0 a.test a.first c.in-Some.second a.second c.in-Some.is in
+    let holds = c.in_ok-holding-in-If.ensures ∙ ap (λ (xs : List ℕ). option_map (told (among xs)) k) c.deref-in-If.ensures.value in
+    let fails = c.in_ok-failing-in-If.ensures ∙ ap (λ (xs : List ℕ). option_map (told (among xs)) k) c.deref-in-If-2.ensures.value in
+    else_noted s a.field-0 e x y (seen_of c.in_ok-seen-in-If.seen) k holding failing f _ _ _ c.in_ok-seen-in-If.ensures.seen holds fails c.in_ok-seen-in-If.ensures.noted
+    (c.in_ok-one-in-If.ensures.noted ∙ ap (λ (b : TypedStmt). c.check.new.found.items ++ stmt_faults s (stmt_of b) holding) c.deref-in-If-3.ensures)
+    (c.in_ok-other-in-Some.ensures.noted ∙ ap (λ (b : TypedStmt). c.check_stmt.new.found.items ++ stmt_faults s (stmt_of b) failing) c.deref-in-Some.ensures)
+    ∙ ap (λ (z : StmtTree). f ++ stmt_faults s z k) (sym whole)
+
+pub check_stmt-returns-in-Expose-clause-noted : goal.check_stmt-returns-in-Expose-clause-noted
+check_stmt-returns-in-Expose-clause-noted t c =
+    let a = c.in-Expose in
+    let s = site_of c.args.site.now in
+    let k = path_of c.args.known in
+    let f = c.args.found.now.items in
+    joined f _ _ (inside s k (expr a.e)) (block_faults s (block a.inner) k) c.in_ok-check-in-Expose.ensures.noted c.in_ok-behind-in-Expose.ensures.noted
+    ∙ ap (λ (x : StmtTree). f ++ stmt_faults s x k) (sym (ap stmt_of a.is ∙ expose_shape a.field-0 a.e a.field-2 a.inner))
+
+pub check_block-returns-clause-known : goal.check_block-returns-clause-known
+check_block-returns-clause-known t c =
+    let s = site_of c.args.site.now in
+    let k = path_of c.args.known in
+    let b = c.args.inner.now in
+    c.in_ok-behind.ensures.known
+    ∙ ap (λ (xs : List TypedStmt). known_at_end s (stmt_trees (map stmt_of xs)) k) c.deref.ensures.value
+    ∙ block_is s (out-TypedBlock b).place (out-TypedBlock b).end (stmt_trees (map stmt_of (out-TypedBlock b).statements.items)) k
+    ∙ ap (λ (x : BlockTree). known_behind_block s x k) (sym (fold_out-TypedBlock StmtTree BlockTree stmt_step block_step b))
+
+pub check_all-loop-stmt-preserved : goal.check_all-loop-stmt-preserved
+check_all-loop-stmt-preserved t c =
+    let s = site_of c.args.site.now in
+    let l = c.loop-stmt in
+    record {
+      known = one_known s c.args.stmts.now l.stmt-index c.stmt-item.result (path_of l.reached) _ _ c.loop-stmt-test.true c.stmt-item.is c.in_ok-reached.ensures.known l.invariant.known;
+      noted =
+          one_noted s c.args.stmts.now l.stmt-index c.stmt-item.result (path_of l.reached) _ l.found.items _ _ c.loop-stmt-test.true c.stmt-item.is
+          c.in_ok-reached.ensures.known c.in_ok-reached.ensures.noted l.invariant.noted;
+    }
+
+pub check_all-returns : goal.check_all-returns
+check_all-returns t c =
+    let s = site_of c.args.site.now in
+    let l = c.loop-stmt in
+    record {
+      known = all_known s c.args.stmts.now l.stmt-index (path_of l.reached) _ c.loop-stmt-test.false l.invariant.known;
+      noted = all_noted s c.args.stmts.now l.stmt-index (path_of l.reached) l.found.items _ c.loop-stmt-test.false l.invariant.noted;
+    }

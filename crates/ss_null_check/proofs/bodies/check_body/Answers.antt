@@ -1,8 +1,0 @@
-use Rattle.ss_typed.specs.View.{typed, body}
-use Rattle.ss_null_check.proofs.Wholes.{body_noted}
-use Rattle.ss_null_check.proofs.bodies.check_body.Goals as goal
-
-pub returns : goal.returns
-returns c =
-    body_noted (typed c.args.fields.now.program.now) (body c.args.checked.now) _ c.args.found.now.items _ _
-    c.site_of_body-site.ensures c.in_ok-check_base_call.ensures c.in_ok-check_code.ensures

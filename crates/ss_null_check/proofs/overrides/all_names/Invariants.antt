@@ -1,7 +1,0 @@
-use Rattle.std.proofs.Common.{◌≡◌, ◌++◌, map, drop}
-use Rattle.ss_classes.specs.View.{class_of}
-use Rattle.ss_null_check.specs.Names.{table_names}
-use Rattle.ss_null_check.proofs.overrides.all_names.Given as goal
-
-abbrev pub invariant-loop-class : goal.invariant-loop-class
-invariant-loop-class l = l.tables.items ++ map table_names (map class_of (drop l.class-index l.list)) ≡ map table_names (map class_of l.list)

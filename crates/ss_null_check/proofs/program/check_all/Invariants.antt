@@ -1,7 +1,0 @@
-use Rattle.std.proofs.Common.{◌≡◌, ◌++◌, map, drop}
-use Rattle.ss_typed.specs.View.{typed, body}
-use Rattle.ss_nonnull.specs.Program.{bodies_faults}
-use Rattle.ss_null_check.proofs.program.check_all.Given as goal
-
-abbrev pub invariant-loop-checked : goal.invariant-loop-checked
-invariant-loop-checked l = l.found.items ++ bodies_faults (typed l.fields.program.now) (map body (drop l.checked-index l.list)) ≡ l.fn.found.items ++ bodies_faults (typed l.fields.program.now) (map body l.list)

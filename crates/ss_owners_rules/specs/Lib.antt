@@ -1,0 +1,4 @@
+pub mod Words
+pub mod Admissible
+pub mod Attributes
+pub mod Program

@@ -1,0 +1,185 @@
+// Statements and blocks.
+
+ghost use Rattle.std.specs.Prelude.{◌≤◌, length, map, IfOk, []};
+ghost use Rattle.ss_ast.specs.Tokens.{tok};
+ghost use Rattle.ss_ast.specs.Statements.{stmt_tree, block_tree};
+ghost use Rattle.ss_grammar.specs.Reading.{times};
+ghost use Rattle.ss_grammar.specs.Stops.{Gives};
+ghost use Rattle.ss_grammar_expressions.specs.First.{tokened};
+ghost use Rattle.ss_grammar_expressions.specs.Heads.{pieces, AToken};
+ghost use Rattle.ss_grammar_expressions.specs.Parser.{below};
+ghost use Rattle.ss_grammar_statements.specs.Heads.{stmt_head, StartFirst};
+ghost use Rattle.ss_grammar_statements.specs.Parser.{one_stmt, other, joins_stmt, statements, nested_below, block};
+ghost use Rattle.ss_parser.specs.View.{init_start_of, word_first, stmt_start_of, listed_of};
+
+use crate::build;
+use crate::build::StmtList;
+use crate::exposes::parse_expose;
+use crate::governed::{parse_block_behind, parse_if};
+use crate::headings::{parse_ended, parse_optional_value};
+use crate::heads::{InitStart, StmtStart, StmtWord, next_start, stmt_start};
+use crate::loops::{parse_for, parse_while};
+use crate::simples::parse_start;
+use ss_ast::{Block, Stmt, Symbol, Token, TokenKind};
+use ss_core::Place;
+use ss_grammar::fault::{Fault, Stop};
+use ss_parser_expressions::heads::expect;
+use std::alloc::Global;
+
+// A statement, behind the word that it begins with, which is `first`.
+#[cycle(stmt)]
+#[tactic(auto, unfolding(ss_grammar_statements::specs::Parser::stmt_behind))]
+fn parse_word<'a>(
+    alloc: Global,
+    depth: u32,
+    place: Place,
+    word: StmtWord,
+    first: &Token,
+    tokens: &'a [Token],
+) -> Result<(Stmt, &'a [Token]), Stop>
+    ensures gives { Gives (λ x. (stmt_tree x.0, pieces x.1.now)) result (one_stmt depth (below depth) (nested_below depth) (word_first place word, AToken (tok first.now)) (pieces tokens.now)) }
+    ensures fewer { IfOk result (λ x. length x.1.now ≤ length tokens.now) }
+{
+    match word {
+        StmtWord::If => parse_if(alloc, depth, place, tokens),
+        StmtWord::While => parse_while(alloc, depth, place, tokens),
+        StmtWord::For => parse_for(alloc, depth, place, tokens),
+        StmtWord::Expose => parse_expose(alloc, depth, place, tokens),
+        StmtWord::Return => {
+            let (value, rest) = parse_optional_value(alloc, depth, tokens)?;
+            Ok((build::returns(place, value), rest))
+        }
+        StmtWord::Assert => {
+            let (condition, rest) = parse_ended(alloc, depth, tokens)?;
+            Ok((build::asserts(place, condition), rest))
+        }
+        StmtWord::Assume => {
+            let (condition, rest) = parse_ended(alloc, depth, tokens)?;
+            Ok((build::assumes(place, condition), rest))
+        }
+    }
+}
+
+// A declaration or a simple statement, with its `;`; `first` is its first token.
+#[tactic(auto, using(crate::proofs::Opened::start_first))]
+fn parse_start_end<'a>(
+    alloc: Global,
+    depth: u32,
+    start: InitStart,
+    first: &Token,
+    tokens: &'a [Token],
+) -> Result<(Stmt, &'a [Token]), Stop>
+    ensures gives { Gives (λ x. (stmt_tree x.0, pieces x.1.now)) result (one_stmt depth (below depth) (nested_below depth) (StartFirst (init_start_of start), AToken (tok first.now)) (pieces tokens.now)) }
+    ensures fewer { IfOk result (λ x. length x.1.now ≤ length tokens.now) }
+{
+    let (init, rest) = parse_start(alloc, depth, start, first, tokens)?;
+    let (_, rest) = expect(rest, Symbol::Semicolon)?;
+    Ok((build::statement(init), rest))
+}
+
+/// A statement that is no block.
+#[cycle(stmt)]
+#[tactic(auto, unfolding(ss_grammar_statements::specs::Parser::other, ss_grammar_statements::specs::Parser::stmt_behind), using(crate::proofs::Opened::word_alone))]
+pub fn parse_other(alloc: Global, depth: u32, tokens: &[Token]) -> Result<(Stmt, &[Token]), Stop>
+    ensures gives { Gives (λ x. (stmt_tree x.0, pieces x.1.now)) result (other depth (below depth) (nested_below depth) (pieces tokens.now)) }
+    ensures fewer { IfOk result (λ x. length x.1.now ≤ length tokens.now) }
+{
+    match tokens {
+        [token, rest @ ..] => match stmt_start(alloc, token)? {
+            Some(StmtStart::Init(start)) => parse_start_end(alloc, depth, start, token, rest),
+            Some(StmtStart::Word(place, word)) => parse_word(
+                alloc, depth, place, word, token, rest,
+            ),
+            Some(StmtStart::Empty(place)) => Ok((build::empty(place), rest)),
+            Some(StmtStart::Block(_)) => Err(Stop::Fault(Fault::Expected, tokens.len())),
+            None => Err(Stop::Fault(Fault::Expected, tokens.len())),
+        },
+        _ => Err(Stop::Fault(Fault::Expected, tokens.len())),
+    }
+}
+
+// A statement, from what it begins with on; `first` is its first token.
+#[cycle(stmt)]
+#[tactic(auto, unfolding(ss_grammar_statements::specs::Parser::stmt_behind))]
+fn parse_stmt<'a>(
+    alloc: Global,
+    depth: u32,
+    start: StmtStart,
+    first: &Token,
+    tokens: &'a [Token],
+) -> Result<(Stmt, &'a [Token]), Stop>
+    ensures gives { Gives (λ x. (stmt_tree x.0, pieces x.1.now)) result (one_stmt depth (below depth) (nested_below depth) (stmt_start_of start, AToken (tok first.now)) (pieces tokens.now)) }
+    ensures fewer { IfOk result (λ x. length x.1.now ≤ length tokens.now) }
+{
+    match start {
+        StmtStart::Block(place) => {
+            if depth == 0 {
+                return Err(Stop::Fault(Fault::TooDeep, tokens.len() + 1));
+            }
+            let (block, rest) = parse_block_behind(alloc, depth, place, tokens)?;
+            Ok((build::in_block(block), rest))
+        }
+        StmtStart::Init(init) => parse_start_end(alloc, depth, init, first, tokens),
+        StmtStart::Word(place, word) => parse_word(alloc, depth, place, word, first, tokens),
+        StmtStart::Empty(place) => Ok((build::empty(place), tokens)),
+    }
+}
+
+// Statements, as many as there are.
+#[cycle(stmt)]
+fn parse_stmts(alloc: Global, depth: u32, tokens: &[Token]) -> Result<(Vec<Stmt>, &[Token]), Stop>
+    ensures gives { Gives (λ x. (map stmt_tree x.0.items, pieces x.1.now)) result (times (tokened stmt_head) (one_stmt depth (below depth) (nested_below depth)) (joins_stmt depth (below depth) (nested_below depth)) (length (pieces tokens.now)) [] (pieces tokens.now)) }
+    ensures fewer { IfOk result (λ x. length x.1.now ≤ length tokens.now) }
+{
+    let mut stmts = Vec::new(alloc);
+    let mut rest = tokens;
+    while let Some((start, first, after)) = next_start(alloc, rest)? {
+        let (stmt, after) = parse_stmt(alloc, depth, start, first, after)?;
+        stmts.push(stmt)?;
+        rest = after;
+    }
+    Ok((stmts, rest))
+}
+
+/// The statements of a block, and its `}`.
+#[cycle(stmt)]
+#[tactic(auto, unfolding(ss_grammar_statements::specs::Parser::statements, ss_grammar_statements::specs::Parser::stmts))]
+pub fn parse_statements(
+    alloc: Global,
+    depth: u32,
+    tokens: &[Token],
+) -> Result<(StmtList, &[Token]), Stop>
+    ensures gives { Gives (λ x. (listed_of x.0, pieces x.1.now)) result (statements depth (below depth) (nested_below depth) (pieces tokens.now)) }
+    ensures fewer { IfOk result (λ x. length x.1.now ≤ length tokens.now) }
+{
+    let (statements, rest) = parse_stmts(alloc, depth, tokens)?;
+    let (end, rest) = expect(rest, Symbol::CloseBrace)?;
+    Ok((StmtList { statements, end }, rest))
+}
+
+/// A block, nested at most so deep, and the tokens behind it.
+#[tactic(auto, unfolding(ss_grammar_statements::specs::Parser::block))]
+pub fn parse_whole_block(
+    alloc: Global,
+    depth: u32,
+    tokens: &[Token],
+) -> Result<(Block, &[Token]), Stop>
+    ensures gives { Gives (λ x. (block_tree x.0, pieces x.1.now)) result (block depth (pieces tokens.now)) }
+    ensures fewer { IfOk result (λ x. length x.1.now ≤ length tokens.now) }
+{
+    match tokens {
+        [
+            Token {
+                kind: TokenKind::Symbol(Symbol::OpenBrace),
+                place,
+            },
+            rest @ ..,
+        ] => {
+            if depth == 0 {
+                return Err(Stop::Fault(Fault::TooDeep, tokens.len()));
+            }
+            parse_block_behind(alloc, depth, *place, rest)
+        }
+        _ => Err(Stop::Fault(Fault::Expected, tokens.len())),
+    }
+}

@@ -1,3 +1,0 @@
-pub mod Loops
-pub mod Shapes
-pub mod Behind

@@ -1,5 +1,0 @@
-use Rattle.ss_programs.proofs.Programs.{program_one}
-use Rattle.ss_programs.proofs.laws.one_program.Goals as goal
-
-pub returns : goal.returns
-returns c = program_one

@@ -1,5 +1,0 @@
-use Rattle.ss_programs.proofs.Programs.{program_finds}
-use Rattle.ss_programs.proofs.laws.reading_is_the_grammar.Goals as goal
-
-pub returns : goal.returns
-returns c = program_finds

@@ -1,0 +1,64 @@
+-- Parts of expressions and of statements: what a link of a chain and a step of a path write behind what stands before them, what a question writes
+-- around what it asks of, and a loop.
+use Rattle.std.specs.Prelude.{ℕ, List, [], ◌++◌, codes, drop}
+use Rattle.std.specs.List.{flat_map}
+use Rattle.ss_core.specs.declared.names.Place.{Place}
+use Rattle.ss_core.specs.declared.expr.Link.{Link}
+use Rattle.ss_core.specs.declared.expr.Step.{Step}
+use Rattle.ss_core.specs.declared.expr.Expr.TheFolds.{fold-Link, fold-Step}
+use Rattle.ss_core.specs.declared.stmt.Loop.{Loop}
+use Rattle.ss_core.specs.declared.stmt.Stmt.TheFolds.{fold-Loop}
+use Rattle.ss_core.specs.Tree.{ClassTree, StmtTree, ExprTree, DefaultExpr, Full, WordTree, Unowned, OwnersTree, SameOwner, OwnedAt}
+use Rattle.ss_core.specs.View.{Behind, expr_step, link_step, step_step, stmt_step, loop_step}
+use Rattle.ss_report_core.specs.Names.{class_name}
+use Rattle.ss_report_core.specs.Exprs.{expr_text, word_text}
+
+abbrev pub link_behind : Link → Behind
+link_behind = fold-Link ExprTree Behind Behind expr_step link_step step_step
+
+abbrev pub step_behind : Step → Behind
+step_behind = fold-Step ExprTree Behind Behind expr_step link_step step_step
+
+abbrev pub no_place : Place
+no_place = record { line = 0; column = 0 }
+
+-- an expression without a text
+abbrev pub nothing : ExprTree
+nothing = DefaultExpr no_place Full
+
+-- behind the open parenthesis and the operand
+abbrev pub link_text : List ClassTree → List (List ℕ) → Behind → List ℕ
+link_text cs names b = drop 1 (expr_text cs names (b no_place nothing))
+
+abbrev pub step_text : List ClassTree → List (List ℕ) → Behind → List ℕ
+step_text cs names b = expr_text cs names (b no_place nothing)
+
+abbrev pub links_text : List ClassTree → List (List ℕ) → List Behind → List ℕ
+links_text cs names bs = flat_map (link_text cs names) bs
+
+abbrev pub steps_text : List ClassTree → List (List ℕ) → List Behind → List ℕ
+steps_text cs names bs = flat_map (step_text cs names) bs
+
+-- what a question about the state of an object writes before the text of the object
+abbrev pub word_before : WordTree → List ℕ
+word_before Unowned = codes "Owner.None("
+word_before word = []
+
+-- and behind it
+abbrev pub word_behind : List ClassTree → WordTree → List ℕ
+word_behind cs Unowned = codes ")"
+word_behind cs word = word_text cs word
+
+-- what a question about the owners of two objects writes before the text of the first
+abbrev pub owners_before : OwnersTree → List ℕ
+owners_before SameOwner = codes "Owner.Same("
+owners_before (OwnedAt t) = codes "Owner.Is("
+
+-- and behind the text of the second
+abbrev pub owners_behind : List ClassTree → OwnersTree → List ℕ
+owners_behind cs SameOwner = codes ")"
+owners_behind cs (OwnedAt t) = codes ", " ++ class_name cs t ++ codes ")"
+
+-- the statement that a loop is
+abbrev pub loop_of : Loop → StmtTree
+loop_of = fold-Loop StmtTree StmtTree stmt_step loop_step

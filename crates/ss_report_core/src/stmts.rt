@@ -1,0 +1,452 @@
+// The texts of statements.
+
+ghost use Rattle.std.specs.Prelude.{◌≡◌, [], ◌∷◌, ◌++◌, IfOk, OnOk, codes, map, option_map};
+ghost use Rattle.std.specs.List.{flat_map};
+ghost use Rattle.ss_core.specs.View as view;
+ghost use Rattle.ss_report_core.specs.Exprs.{expr_text};
+ghost use Rattle.ss_report_core.specs.Names as names;
+ghost use Rattle.ss_report_core.specs.Stmts as texts;
+ghost use Rattle.ss_report_core.specs.Scenes.{core_of, classes_of, names_in};
+ghost use Rattle.ss_report_core.specs.Behinds.{loop_of};
+
+use crate::exprs::push_expr;
+use crate::fields::field_name;
+use crate::names::{body_name, method_name, push_class, push_element, push_title_of};
+use crate::scene::Scene;
+use crate::scopes::{push_bytes, push_local};
+use crate::words::{print_word, push_literal};
+use ss_core::{Callee, ClassId, Expr, FieldId, Loop, Stmt};
+use std::alloc::{AllocError, Global};
+
+// A line of a fixed text.
+fn push_fixed(out: &mut Vec<u8>, indent: &[u8], text: &[u8]) -> Result<(), AllocError>
+    ensures { OnOk result (out.new.items ≡ out.old.items ++ texts.line indent.now text.now) }
+{
+    out.extend_from_slice(indent)?;
+    out.extend_from_slice(text)?;
+    out.extend_from_slice(b"\n")
+}
+
+// A line of a word and an expression.
+fn push_worded(
+    alloc: Global,
+    out: &mut Vec<u8>,
+    scene: &Scene<'_>,
+    indent: &[u8],
+    word: &[u8],
+    e: &Expr,
+) -> Result<(), AllocError>
+    ensures { OnOk result (out.new.items ≡ out.old.items ++ texts.line indent.now (word.now ++ expr_text (classes_of scene.now.program.now) (names_in scene.now) (view.expr e.now))) }
+{
+    out.extend_from_slice(indent)?;
+    out.extend_from_slice(word)?;
+    push_expr(alloc, out, scene, e)?;
+    out.extend_from_slice(b"\n")
+}
+
+// An expression behind a blank, where there is one.
+fn push_behind_blank(
+    alloc: Global,
+    out: &mut Vec<u8>,
+    scene: &Scene<'_>,
+    e: &Option<Expr>,
+) -> Result<(), AllocError>
+    ensures { OnOk result (out.new.items ≡ out.old.items ++ texts.behind_blank (core_of scene.now.program.now) (names_in scene.now) (option_map view.expr e.now)) }
+{
+    match e {
+        None => Ok(()),
+        Some(e) => {
+            out.extend_from_slice(b" ")?;
+            push_expr(alloc, out, scene, e)
+        }
+    }
+}
+
+// Expressions, each behind a comma.
+fn push_more_args(
+    alloc: Global,
+    out: &mut Vec<u8>,
+    scene: &Scene<'_>,
+    args: &[Expr],
+) -> Result<(), AllocError>
+    ensures { OnOk result (out.new.items ≡ out.old.items ++ flat_map (texts.behind_comma (core_of scene.now.program.now) (names_in scene.now)) (map view.expr args.now)) }
+{
+    for arg in args {
+        out.extend_from_slice(b", ")?;
+        push_expr(alloc, out, scene, arg)?;
+    }
+    Ok(())
+}
+
+fn push_args(
+    alloc: Global,
+    out: &mut Vec<u8>,
+    scene: &Scene<'_>,
+    args: &[Expr],
+) -> Result<(), AllocError>
+    ensures { OnOk result (out.new.items ≡ out.old.items ++ texts.args_text (core_of scene.now.program.now) (names_in scene.now) (map view.expr args.now)) }
+{
+    match args {
+        [] => Ok(()),
+        [first, others @ ..] => {
+            push_expr(alloc, out, scene, first)?;
+            push_more_args(alloc, out, scene, others)
+        }
+    }
+}
+
+// The local that keeps a result.
+fn push_kept(
+    alloc: Global,
+    out: &mut Vec<u8>,
+    scene: &Scene<'_>,
+    kept: Option<usize>,
+) -> Result<(), AllocError>
+    ensures { OnOk result (out.new.items ≡ out.old.items ++ texts.kept_text (names_in scene.now) kept) }
+{
+    match kept {
+        None => Ok(()),
+        Some(x) => {
+            push_local(alloc, out, scene, x)?;
+            out.extend_from_slice(b" = ")
+        }
+    }
+}
+
+// What a call enters.
+fn push_callee(
+    alloc: Global,
+    out: &mut Vec<u8>,
+    scene: &Scene<'_>,
+    callee: &Callee,
+) -> Result<(), AllocError>
+    ensures { OnOk result (out.new.items ≡ out.old.items ++ texts.callee_text (core_of scene.now.program.now) (names_in scene.now) (view.callee_tree callee.now)) }
+{
+    let whole = scene.program.whole;
+    match callee {
+        Callee::Dispatched(e, t, m) => {
+            push_expr(alloc, out, scene, e)?;
+            out.extend_from_slice(b".")?;
+            out.extend_from_slice(method_name(&whole.classes, *t, *m))
+        }
+        Callee::Static(n) => push_title_of(out, &whole.classes, &whole.bodies, *n),
+        Callee::Base(n) => {
+            out.extend_from_slice(b"base.")?;
+            out.extend_from_slice(body_name(&whole.bodies, *n))
+        }
+        Callee::Constructor(_) => out.extend_from_slice(b"base"),
+    }
+}
+
+// One level deeper.
+fn deeper(alloc: Global, indent: &[u8]) -> Result<Vec<u8>, AllocError>
+    ensures { IfOk result (λ blanks. blanks.items ≡ texts.deeper indent.now) }
+{
+    let mut blanks = Vec::from_slice(alloc, indent)?;
+    blanks.extend_from_slice(b"  ")?;
+    Ok(blanks)
+}
+
+fn push_assign(
+    alloc: Global,
+    out: &mut Vec<u8>,
+    scene: &Scene<'_>,
+    indent: &[u8],
+    x: usize,
+    e: &Expr,
+) -> Result<(), AllocError>
+    ensures { OnOk result (out.new.items ≡ out.old.items ++ texts.line indent.now (names.local_text (names_in scene.now) x ++ codes " = " ++ expr_text (classes_of scene.now.program.now) (names_in scene.now) (view.expr e.now))) }
+{
+    out.extend_from_slice(indent)?;
+    push_local(alloc, out, scene, x)?;
+    push_worded(alloc, out, scene, b"", b" = ", e)
+}
+
+fn push_write(
+    alloc: Global,
+    out: &mut Vec<u8>,
+    scene: &Scene<'_>,
+    indent: &[u8],
+    object: &Expr,
+    field: FieldId,
+    value: &Expr,
+) -> Result<(), AllocError>
+    ensures { OnOk result (out.new.items ≡ out.old.items ++ texts.line indent.now (expr_text (classes_of scene.now.program.now) (names_in scene.now) (view.expr object.now) ++ codes "." ++ names.field_name (classes_of scene.now.program.now) field.0 ++ codes " = " ++ expr_text (classes_of scene.now.program.now) (names_in scene.now) (view.expr value.now))) }
+{
+    out.extend_from_slice(indent)?;
+    push_expr(alloc, out, scene, object)?;
+    out.extend_from_slice(b".")?;
+    out.extend_from_slice(field_name(scene.program, field))?;
+    push_worded(alloc, out, scene, b"", b" = ", value)
+}
+
+fn push_write_element(
+    alloc: Global,
+    out: &mut Vec<u8>,
+    scene: &Scene<'_>,
+    indent: &[u8],
+    array: &Expr,
+    index: &Expr,
+    value: &Expr,
+) -> Result<(), AllocError>
+    ensures { OnOk result (out.new.items ≡ out.old.items ++ texts.line indent.now (expr_text (classes_of scene.now.program.now) (names_in scene.now) (view.expr array.now) ++ codes "[" ++ expr_text (classes_of scene.now.program.now) (names_in scene.now) (view.expr index.now) ++ codes "] = " ++ expr_text (classes_of scene.now.program.now) (names_in scene.now) (view.expr value.now))) }
+{
+    out.extend_from_slice(indent)?;
+    push_expr(alloc, out, scene, array)?;
+    out.extend_from_slice(b"[")?;
+    push_expr(alloc, out, scene, index)?;
+    push_worded(alloc, out, scene, b"", b"] = ", value)
+}
+
+fn push_new(
+    alloc: Global,
+    out: &mut Vec<u8>,
+    scene: &Scene<'_>,
+    indent: &[u8],
+    kept: Option<usize>,
+    t: ClassId,
+    args: &[Expr],
+) -> Result<(), AllocError>
+    ensures { OnOk result (out.new.items ≡ out.old.items ++ texts.line indent.now (texts.kept_text (names_in scene.now) kept ++ codes "new " ++ names.class_name (classes_of scene.now.program.now) t.0 ++ codes "(" ++ texts.args_text (core_of scene.now.program.now) (names_in scene.now) (map view.expr args.now) ++ codes ")")) }
+{
+    out.extend_from_slice(indent)?;
+    push_kept(alloc, out, scene, kept)?;
+    out.extend_from_slice(b"new ")?;
+    push_class(out, &scene.program.whole.classes, t)?;
+    out.extend_from_slice(b"(")?;
+    push_args(alloc, out, scene, args)?;
+    push_bytes(out, b")\n")
+}
+
+fn push_new_array(
+    alloc: Global,
+    out: &mut Vec<u8>,
+    scene: &Scene<'_>,
+    indent: &[u8],
+    kept: Option<usize>,
+    t: ClassId,
+    count: &Expr,
+) -> Result<(), AllocError>
+    ensures { OnOk result (out.new.items ≡ out.old.items ++ texts.line indent.now (texts.kept_text (names_in scene.now) kept ++ codes "new " ++ names.element_name (classes_of scene.now.program.now) t.0 ++ codes "[" ++ expr_text (classes_of scene.now.program.now) (names_in scene.now) (view.expr count.now) ++ codes "]")) }
+{
+    out.extend_from_slice(indent)?;
+    push_kept(alloc, out, scene, kept)?;
+    out.extend_from_slice(b"new ")?;
+    push_element(out, &scene.program.whole.classes, t)?;
+    out.extend_from_slice(b"[")?;
+    push_expr(alloc, out, scene, count)?;
+    push_bytes(out, b"]\n")
+}
+
+fn push_call(
+    alloc: Global,
+    out: &mut Vec<u8>,
+    scene: &Scene<'_>,
+    indent: &[u8],
+    kept: Option<usize>,
+    callee: &Callee,
+    args: &[Expr],
+) -> Result<(), AllocError>
+    ensures { OnOk result (out.new.items ≡ out.old.items ++ texts.line indent.now (texts.kept_text (names_in scene.now) kept ++ texts.callee_text (core_of scene.now.program.now) (names_in scene.now) (view.callee_tree callee.now) ++ codes "(" ++ texts.args_text (core_of scene.now.program.now) (names_in scene.now) (map view.expr args.now) ++ codes ")")) }
+{
+    out.extend_from_slice(indent)?;
+    push_kept(alloc, out, scene, kept)?;
+    push_callee(alloc, out, scene, callee)?;
+    out.extend_from_slice(b"(")?;
+    push_args(alloc, out, scene, args)?;
+    out.extend_from_slice(b")\n")
+}
+
+// A line of a word, a local, another word and a class.
+fn push_change(
+    alloc: Global,
+    out: &mut Vec<u8>,
+    scene: &Scene<'_>,
+    indent: &[u8],
+    before: &[u8],
+    x: usize,
+    between: &[u8],
+    t: ClassId,
+) -> Result<(), AllocError>
+    ensures { OnOk result (out.new.items ≡ out.old.items ++ texts.line indent.now (before.now ++ names.local_text (names_in scene.now) x ++ between.now ++ names.class_name (classes_of scene.now.program.now) t.0)) }
+{
+    out.extend_from_slice(indent)?;
+    out.extend_from_slice(before)?;
+    push_local(alloc, out, scene, x)?;
+    out.extend_from_slice(between)?;
+    push_class(out, &scene.program.whole.classes, t)?;
+    out.extend_from_slice(b"\n")
+}
+
+// A line of a word and, where there is one, an expression.
+fn push_optional(
+    alloc: Global,
+    out: &mut Vec<u8>,
+    scene: &Scene<'_>,
+    indent: &[u8],
+    word: &[u8],
+    e: &Option<Expr>,
+) -> Result<(), AllocError>
+    ensures { OnOk result (out.new.items ≡ out.old.items ++ texts.line indent.now (word.now ++ texts.behind_blank (core_of scene.now.program.now) (names_in scene.now) (option_map view.expr e.now))) }
+{
+    out.extend_from_slice(indent)?;
+    out.extend_from_slice(word)?;
+    push_behind_blank(alloc, out, scene, e)?;
+    out.extend_from_slice(b"\n")
+}
+
+fn push_print_text(
+    out: &mut Vec<u8>,
+    indent: &[u8],
+    text: &[u8],
+    newline: bool,
+) -> Result<(), AllocError>
+    ensures { OnOk result (out.new.items ≡ out.old.items ++ texts.line indent.now (texts.print_word newline ++ codes " " ++ texts.literal text.now)) }
+{
+    out.extend_from_slice(indent)?;
+    out.extend_from_slice(print_word(newline))?;
+    out.extend_from_slice(b" ")?;
+    push_literal(out, text)?;
+    out.extend_from_slice(b"\n")
+}
+
+fn push_invariants(
+    alloc: Global,
+    out: &mut Vec<u8>,
+    scene: &Scene<'_>,
+    indent: &[u8],
+    invariants: &[Expr],
+) -> Result<(), AllocError>
+    ensures { OnOk result (out.new.items ≡ out.old.items ++ flat_map (texts.invariant_text (core_of scene.now.program.now) (names_in scene.now) indent.now) (map view.expr invariants.now)) }
+{
+    for e in invariants {
+        push_worded(alloc, out, scene, indent, b"invariant ", e)?;
+    }
+    Ok(())
+}
+
+/// The text of a statement with this indentation.
+#[cycle(stmt)]
+fn push_stmt(
+    alloc: Global,
+    out: &mut Vec<u8>,
+    scene: &Scene<'_>,
+    indent: &[u8],
+    stmt: &Stmt,
+) -> Result<(), AllocError>
+    ensures { OnOk result (out.new.items ≡ out.old.items ++ texts.stmt_text (core_of scene.now.program.now) (names_in scene.now) indent.now (view.stmt_of stmt.now)) }
+{
+    match stmt {
+        Stmt::Assign(_, x, e) => push_assign(alloc, out, scene, indent, *x, e),
+        Stmt::Write {
+            object,
+            field,
+            value,
+            ..
+        } => push_write(alloc, out, scene, indent, object, *field, value),
+        Stmt::WriteElement(_, a, i, e) => push_write_element(alloc, out, scene, indent, a, i, e),
+        Stmt::New(_, kept, t, args) => push_new(alloc, out, scene, indent, *kept, *t, args),
+        Stmt::NewArray(_, kept, t, e) => push_new_array(alloc, out, scene, indent, *kept, *t, e),
+        Stmt::Call(_, kept, callee, args) => {
+            push_call(alloc, out, scene, indent, *kept, callee, args)
+        }
+        Stmt::Ready(_) => push_fixed(out, indent, b"ready this"),
+        Stmt::If(_, e, a, b) => {
+            push_worded(alloc, out, scene, indent, b"if ", e)?;
+            push_branch(alloc, out, scene, indent, b"then", a)?;
+            push_branch(alloc, out, scene, indent, b"else", b)?;
+            push_fixed(out, indent, b"done")
+        }
+        Stmt::Loop(l) => push_loop(alloc, out, scene, indent, l),
+        Stmt::Unpack(_, x, t) => {
+            push_change(alloc, out, scene, indent, b"unpack ", *x, b" from ", *t)
+        }
+        Stmt::Pack(_, x, t) => push_change(alloc, out, scene, indent, b"pack ", *x, b" as ", *t),
+        Stmt::Assert(_, e) => push_worded(alloc, out, scene, indent, b"assert ", e),
+        Stmt::Assume(_, e) => push_worded(alloc, out, scene, indent, b"assume ", e),
+        Stmt::Print(_, e, newline) => {
+            push_optional(alloc, out, scene, indent, print_word(*newline), e)
+        }
+        Stmt::PrintText(_, text, newline) => push_print_text(out, indent, text, *newline),
+        Stmt::Return(_, e) => push_optional(alloc, out, scene, indent, b"return", e),
+    }
+}
+
+// Statements one level deeper.
+#[cycle(stmt)]
+fn push_deeper(
+    alloc: Global,
+    out: &mut Vec<u8>,
+    scene: &Scene<'_>,
+    indent: &[u8],
+    code: &[Stmt],
+) -> Result<(), AllocError>
+    ensures { OnOk result (out.new.items ≡ out.old.items ++ texts.code_text (core_of scene.now.program.now) (names_in scene.now) (texts.deeper indent.now) (view.block code.now)) }
+{
+    let inner = deeper(alloc, indent)?;
+    push_code(alloc, out, scene, &inner, code)
+}
+
+// A line of a word, and the statements of a branch.
+#[cycle(stmt)]
+fn push_branch(
+    alloc: Global,
+    out: &mut Vec<u8>,
+    scene: &Scene<'_>,
+    indent: &[u8],
+    word: &[u8],
+    code: &[Stmt],
+) -> Result<(), AllocError>
+    ensures { OnOk result (out.new.items ≡ out.old.items ++ texts.line indent.now word.now ++ texts.code_text (core_of scene.now.program.now) (names_in scene.now) (texts.deeper indent.now) (view.block code.now)) }
+{
+    push_fixed(out, indent, word)?;
+    push_deeper(alloc, out, scene, indent, code)
+}
+
+// The head of a loop: its line and its invariants.
+fn push_loop_head(
+    alloc: Global,
+    out: &mut Vec<u8>,
+    scene: &Scene<'_>,
+    indent: &[u8],
+    invariants: &[Expr],
+) -> Result<(), AllocError>
+    ensures { OnOk result (out.new.items ≡ out.old.items ++ texts.line indent.now (codes "loop") ++ flat_map (texts.invariant_text (core_of scene.now.program.now) (names_in scene.now) indent.now) (map view.expr invariants.now)) }
+{
+    push_fixed(out, indent, b"loop")?;
+    push_invariants(alloc, out, scene, indent, invariants)
+}
+
+#[cycle(stmt)]
+fn push_loop(
+    alloc: Global,
+    out: &mut Vec<u8>,
+    scene: &Scene<'_>,
+    indent: &[u8],
+    l: &Loop,
+) -> Result<(), AllocError>
+    ensures { OnOk result (out.new.items ≡ out.old.items ++ texts.stmt_text (core_of scene.now.program.now) (names_in scene.now) indent.now (loop_of l.now)) }
+{
+    push_loop_head(alloc, out, scene, indent, &l.invariants)?;
+    push_deeper(alloc, out, scene, indent, &l.prelude)?;
+    push_worded(alloc, out, scene, indent, b"test ", &l.test)?;
+    push_deeper(alloc, out, scene, indent, &l.body)?;
+    push_fixed(out, indent, b"done")
+}
+
+/// The texts of statements with this indentation, one after the other.
+#[cycle(stmt)]
+pub(crate) fn push_code(
+    alloc: Global,
+    out: &mut Vec<u8>,
+    scene: &Scene<'_>,
+    indent: &[u8],
+    code: &[Stmt],
+) -> Result<(), AllocError>
+    ensures { OnOk result (out.new.items ≡ out.old.items ++ texts.code_text (core_of scene.now.program.now) (names_in scene.now) indent.now (view.block code.now)) }
+{
+    for stmt in code {
+        push_stmt(alloc, out, scene, indent, stmt)?;
+    }
+    Ok(())
+}

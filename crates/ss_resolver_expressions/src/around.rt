@@ -1,0 +1,123 @@
+// What is known at a place within a body.
+
+ghost use Rattle.std.specs.Prelude.{◌≡◌, OnOk, option_map};
+ghost use Rattle.ss_tables_scopes.specs.Locals.{local_of};
+ghost use Rattle.ss_resolver_expressions.specs.Known.{known_of, found};
+ghost use Rattle.ss_resolver_expressions.specs.Around.{none_around, entered, left, with_local, within_member, behind_member};
+
+use crate::known::{KnownName, KnownNames};
+use ss_core::Ty;
+use ss_tables_lookup::StaticType;
+use ss_tables_scopes::{LocalInfo, Scopes};
+use std::alloc::{AllocError, Global};
+use std::marker::Model;
+
+/// The names in scope, with their types and numbers, and the number of the next local.
+#[derive(Drop)]
+pub struct LocalNames {
+    names: Scopes,
+    numbered: KnownNames,
+    next: usize,
+    bound: usize,
+}
+
+impl Model for LocalNames {
+    ghost use Rattle.ss_resolver_expressions.specs.Around.{Around};
+
+    ghost Value = { Around };
+
+    ghost view = { λ a. record { names = a.names; numbered = a.numbered; next = a.next; bound = a.bound } };
+}
+
+impl LocalNames {
+    /// No names, where the first local has this number.
+    pub fn new(alloc: Global, first: usize) -> Self
+        ensures { result ≡ none_around first }
+    {
+        LocalNames {
+            names: Scopes::new(alloc),
+            numbered: KnownNames::new(alloc),
+            next: first,
+            bound: 0,
+        }
+    }
+
+    /// The names with their types.
+    pub fn names(&self) -> &Scopes
+        ensures { result.now ≡ self.now.names }
+    {
+        &self.names
+    }
+
+    /// What a name stands for.
+    pub fn find(&self, name: &str) -> Option<KnownName>
+        ensures { option_map known_of result ≡ found self.now.numbered name.now }
+    {
+        self.numbered.find(name)
+    }
+
+    /// The number of the next local.
+    pub fn next(&self) -> usize
+        ensures { result ≡ self.now.next }
+    {
+        self.next
+    }
+
+    /// Opens a scope.
+    pub fn enter(&mut self, alloc: Global) -> Result<(), AllocError>
+        ensures { OnOk result (self.new ≡ entered self.old) }
+    {
+        self.names.enter(alloc)?;
+        self.numbered.enter(alloc)?;
+        Ok(())
+    }
+
+    /// Closes the innermost scope.
+    pub fn leave(&mut self)
+        ensures { self.new ≡ left self.old }
+    {
+        self.names.leave();
+        self.numbered.leave();
+    }
+
+    /// Declares one more local.
+    pub fn declare(
+        &mut self,
+        alloc: Global,
+        name: &str,
+        local: LocalInfo,
+        ty: Ty,
+    ) -> Result<(), AllocError>
+        ensures { OnOk result (self.new ≡ with_local self.old name.now (local_of local) ty) }
+    {
+        self.names.declare(alloc, name, local)?;
+        let known = KnownName::Variable(self.next, ty);
+        self.numbered.declare(alloc, name, known)?;
+        self.next = self.next.checked_add(1).ok_or(AllocError)?;
+        Ok(())
+    }
+
+    /// Opens the scope of a quantifier's member.
+    pub fn enter_member(&mut self, alloc: Global, name: &str) -> Result<(), AllocError>
+        ensures { OnOk result (self.new ≡ within_member self.old name.now) }
+    {
+        self.enter(alloc)?;
+        let local = LocalInfo {
+            ty: Some(StaticType::Int),
+            is_param: false,
+        };
+        self.names.declare(alloc, name, local)?;
+        self.numbered
+            .declare(alloc, name, KnownName::Bound(self.bound))?;
+        self.bound = self.bound.checked_add(1).ok_or(AllocError)?;
+        Ok(())
+    }
+
+    /// Closes it.
+    pub fn leave_member(&mut self)
+        ensures { self.new ≡ behind_member self.old }
+    {
+        self.leave();
+        self.bound = self.bound.saturating_sub(1);
+    }
+}

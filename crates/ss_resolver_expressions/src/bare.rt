@@ -1,0 +1,149 @@
+// Bare names and members.
+
+ghost use Rattle.std.specs.Prelude.{◌≡◌, IfOk, option_map};
+ghost use Rattle.ss_core.specs.View.{word_tree};
+ghost use Rattle.ss_tables.specs.Classes.{class_number};
+ghost use Rattle.ss_tables_lookup.specs.Views.{declared_field};
+ghost use Rattle.ss_typed.specs.Tree.{ThisOf};
+ghost use Rattle.ss_typed.specs.View as view;
+ghost use Rattle.ss_resolver_expressions.specs.Known.{known_of};
+ghost use Rattle.ss_resolver_expressions.specs.Around.{Around};
+ghost use Rattle.ss_resolver_expressions.specs.Scenes.{env_of};
+ghost use Rattle.ss_resolver_rules.specs.Expressions.{read_field, known_or_field, bare_name, field_behind, state_word, state_question, member};
+
+use crate::around::LocalNames;
+use crate::build::add_step;
+use crate::known::KnownName;
+use crate::scene::Scene;
+use ss_core::{ClassId, Place, StateWord};
+use ss_tables_lookup::{FieldRef, declared_place, is_array_number};
+use ss_resolver_tables::{class_number, field_id, type_id};
+use ss_tables_scopes::is_state_read;
+use ss_typed::{TypedExpr, TypedStep};
+use std::alloc::{AllocError, Global};
+
+/// The object of the class in which a place is.
+pub(crate) fn this(scene: &Scene<'_, '_>, place: Place) -> TypedExpr
+    ensures { view.expr result ≡ ThisOf place (class_number scene.now.within.class) }
+{
+    TypedExpr::This(place, class_number(scene.within.class))
+}
+
+// A field of what stands before the dot.
+fn read_field(
+    alloc: Global,
+    scene: &Scene<'_, '_>,
+    place: Place,
+    object: TypedExpr,
+    field: Option<(usize, FieldRef<'_>)>,
+) -> Result<TypedExpr, AllocError>
+    ensures { (a : Around) → IfOk result (λ e. view.expr e ≡ read_field (env_of scene.now a) place (view.expr object) (option_map declared_field field.entry)) }
+{
+    let Some((class, field)) = field else {
+        return Ok(TypedExpr::Null(place));
+    };
+    let tables = scene.within.tables;
+    let number = field_id(
+        tables,
+        scene.fields,
+        class,
+        field.declarator.name.text.as_str(),
+    );
+    let ty = type_id(tables, field.ty);
+    add_step(alloc, place, object, TypedStep::Field(number, ty))
+}
+
+fn known_or_field(
+    alloc: Global,
+    scene: &Scene<'_, '_>,
+    place: Place,
+    name: &str,
+    known: Option<KnownName>,
+) -> Result<TypedExpr, AllocError>
+    ensures { (a : Around) → IfOk result (λ e. view.expr e ≡ known_or_field (env_of scene.now a) place name.now (option_map known_of known)) }
+{
+    match known {
+        Some(KnownName::Variable(number, ty)) => Ok(TypedExpr::Local(place, number, ty)),
+        Some(KnownName::Bound(number)) => Ok(TypedExpr::Bound(place, number)),
+        None => {
+            let field = scene.within.tables.field_of(scene.within.class, name);
+            read_field(alloc, scene, place, this(scene, place), field)
+        }
+    }
+}
+
+/// A bare name: a local, else a field of `this`.
+pub(crate) fn bare_name(
+    alloc: Global,
+    scene: &Scene<'_, '_>,
+    around: &LocalNames,
+    place: Place,
+    name: &str,
+) -> Result<TypedExpr, AllocError>
+    ensures { IfOk result (λ e. view.expr e ≡ bare_name (env_of scene.now around.now) place name.now) }
+{
+    known_or_field(alloc, scene, place, name, around.find(name))
+}
+
+fn field_behind(
+    alloc: Global,
+    scene: &Scene<'_, '_>,
+    place: Place,
+    object: TypedExpr,
+    name: &str,
+    class: Option<usize>,
+) -> Result<TypedExpr, AllocError>
+    ensures { (a : Around) → IfOk result (λ e. view.expr e ≡ field_behind (env_of scene.now a) place (view.expr object) name.now class) }
+{
+    match class {
+        None => Ok(object),
+        Some(class) => {
+            let field = scene.within.tables.field_of(class, name);
+            read_field(alloc, scene, place, object, field)
+        }
+    }
+}
+
+fn state_word(name: &str) -> StateWord
+    ensures { word_tree result ≡ state_word name.now }
+{
+    if name == "IsConsistent" {
+        StateWord::Consistent
+    } else if name == "IsCommitted" {
+        StateWord::Committed
+    } else {
+        StateWord::New
+    }
+}
+
+/// A state word that asks for a class.
+pub(crate) fn state_question(name: &str, class: ClassId) -> StateWord
+    ensures { word_tree result ≡ state_question name.now class.0 }
+{
+    if name == "IsLevel" {
+        StateWord::Level(class)
+    } else {
+        StateWord::Packed(class)
+    }
+}
+
+/// What is read behind a dot of an object or array of the class with this number.
+pub(crate) fn member(
+    alloc: Global,
+    scene: &Scene<'_, '_>,
+    place: Place,
+    object: TypedExpr,
+    name: &str,
+    class: usize,
+) -> Result<TypedExpr, AllocError>
+    ensures { (a : Around) → IfOk result (λ e. view.expr e ≡ member (env_of scene.now a) place (view.expr object) name.now class) }
+{
+    if is_state_read(name) {
+        let object = Box::new(alloc, object)?;
+        return Ok(TypedExpr::State(place, state_word(name), object));
+    }
+    if is_array_number(class) {
+        return add_step(alloc, place, object, TypedStep::Length);
+    }
+    field_behind(alloc, scene, place, object, name, declared_place(class))
+}

@@ -1,0 +1,286 @@
+// Calls.
+
+ghost use Rattle.std.specs.Prelude.{◌≡◌, IfOk, option_map, option_and_then, codes, if◌then◌else◌};
+ghost use Rattle.std.specs.Str.{bytes_eq};
+ghost use Rattle.ss_ast.specs.Expressions.{Arguments};
+ghost use Rattle.ss_core.specs.Tree.{SameOwner, OwnedAt};
+ghost use Rattle.ss_core.specs.View.{owners_tree};
+ghost use Rattle.ss_tables.specs.Classes.{declared_place};
+ghost use Rattle.ss_tables.specs.Types.{class_of};
+ghost use Rattle.ss_tables_lookup.specs.Views.{type_of};
+ghost use Rattle.ss_typed.specs.Tree.{StateOf, OwnersOf};
+ghost use Rattle.ss_resolver_rules.specs.Names.{Env};
+ghost use Rattle.ss_tables.specs.Members.{is_static};
+ghost use Rattle.ss_tables_lookup.specs.Classes.{trees};
+ghost use Rattle.ss_tables_lookup.specs.Views.{method_tree, declared_method};
+ghost use Rattle.ss_tables_scopes.specs.Views.{receiver_of, callee_of};
+ghost use Rattle.ss_typed.specs.View as view;
+ghost use Rattle.ss_resolver_expressions.specs.Around.{Around};
+ghost use Rattle.ss_resolver_expressions.specs.Scenes.{env_of, given};
+ghost use Rattle.ss_resolver_rules.specs.Expressions.{first_class, third_class, state_question, method_call, base_call, place_or_own, call_of, owner_question, question, called_behind, called_bare};
+
+use crate::bare::{state_question, this};
+use crate::build::add_step;
+use crate::scene::Scene;
+use ss_ast::ModifierWord;
+use ss_core::{ClassId, OwnerTest, Place, StateWord};
+use ss_tables_lookup::{MethodRef, StaticType, declared_place};
+use ss_resolver_tables::{method_id, result_type, table_place};
+use ss_tables_scopes::{Callee, Receiver, class_of_type};
+use ss_typed::{TypedExpr, TypedStep};
+use std::alloc::{AllocError, Global};
+
+/// The classes that the first and the third argument name.
+#[derive(Clone, Copy)]
+pub struct Asked {
+    pub first: ClassId,
+    pub third: ClassId,
+}
+
+/// Whether a method is static: of several words the first counts.
+pub fn is_static(method: MethodRef<'_>) -> bool
+    ensures { result ≡ is_static (method_tree method.entry) }
+{
+    match method.member.modifiers.first() {
+        Some(modifier) => modifier.word == ModifierWord::Static,
+        None => false,
+    }
+}
+
+// A call of a method of the class with this number, on an object where the method isn't static.
+fn method_call(
+    alloc: Global,
+    scene: &Scene<'_, '_>,
+    place: Place,
+    class: usize,
+    object: TypedExpr,
+    args: Vec<TypedExpr>,
+    declared: usize,
+    method: MethodRef<'_>,
+) -> Result<TypedExpr, AllocError>
+    ensures { (a : Around) → IfOk result (λ e. view.expr e ≡ method_call (env_of scene.now a) place class (view.expr object) (given args.items) (declared_method (declared, method.entry))) }
+{
+    let tables = scene.within.tables;
+    let name = method.method.name.text.as_str();
+    let ty = result_type(tables, &method.method.returns);
+    if is_static(method) {
+        let body = method_id(tables, scene.bodies, declared, name);
+        return Ok(TypedExpr::Static(place, body, ty, args));
+    }
+    let step = TypedStep::Call(table_place(tables, scene.tables, class, name), ty, args);
+    add_step(alloc, place, object, step)
+}
+
+// A call of a method of the class above, on `this`.
+fn base_call(
+    scene: &Scene<'_, '_>,
+    place: Place,
+    args: Vec<TypedExpr>,
+    declared: usize,
+    method: MethodRef<'_>,
+    above: Option<usize>,
+) -> TypedExpr
+    ensures { (a : Around) → view.expr result ≡ base_call (env_of scene.now a) place (given args.items) (declared_method (declared, method.entry)) above }
+{
+    let Some(class) = above else {
+        return TypedExpr::Null(place);
+    };
+    let name = method.method.name.text.as_str();
+    let tables = scene.within.tables;
+    let ty = result_type(tables, &method.method.returns);
+    TypedExpr::Base(
+        place,
+        table_place(tables, scene.tables, class, name),
+        ty,
+        args,
+    )
+}
+
+fn place_of(class: Option<usize>) -> Option<usize>
+    ensures { result ≡ option_and_then declared_place class }
+{
+    match class {
+        Some(class) => declared_place(class),
+        None => None,
+    }
+}
+
+// The class in which a method of a value of this type is looked up.
+fn class_of_value(scene: &Scene<'_, '_>, ty: Option<StaticType>) -> usize
+    ensures { (a : Around) → result ≡ place_or_own (env_of scene.now a) (option_and_then declared_place (option_and_then class_of (option_map type_of ty))) }
+{
+    match place_of(class_of_type(ty)) {
+        Some(class) => class,
+        None => scene.within.class,
+    }
+}
+
+// A method that is called, by what stands before the dot.
+fn call_of(
+    alloc: Global,
+    scene: &Scene<'_, '_>,
+    place: Place,
+    receiver: Receiver,
+    object: TypedExpr,
+    args: Vec<TypedExpr>,
+    declared: usize,
+    method: MethodRef<'_>,
+) -> Result<TypedExpr, AllocError>
+    ensures { (a : Around) → IfOk result (λ e. view.expr e ≡ call_of (env_of scene.now a) place (receiver_of receiver) (view.expr object) (given args.items) (declared_method (declared, method.entry))) }
+{
+    match receiver {
+        Receiver::Base => {
+            let above = scene.within.tables.above(scene.within.class);
+            Ok(base_call(scene, place, args, declared, method, above))
+        }
+        Receiver::Class(class) => {
+            method_call(alloc, scene, place, class, object, args, declared, method)
+        }
+        Receiver::Value(ty) => {
+            let class = class_of_value(scene, ty);
+            method_call(alloc, scene, place, class, object, args, declared, method)
+        }
+        Receiver::Console | Receiver::Owner => Ok(TypedExpr::Null(place)),
+    }
+}
+
+// Two objects whose owners are compared.
+fn owners(
+    alloc: Global,
+    place: Place,
+    test: OwnerTest,
+    a: TypedExpr,
+    b: TypedExpr,
+) -> Result<TypedExpr, AllocError>
+    ensures { IfOk result (λ e. view.expr e ≡ OwnersOf place (owners_tree test) (view.expr a) (view.expr b)) }
+{
+    let a = Box::new(alloc, a)?;
+    let b = Box::new(alloc, b)?;
+    Ok(TypedExpr::Owners(place, test, a, b))
+}
+
+fn owner_test(name: &str, class: ClassId) -> OwnerTest
+    ensures { owners_tree result ≡ (if bytes_eq name.now (codes "Same") then SameOwner else OwnedAt class.0) }
+{
+    if name == "Same" {
+        OwnerTest::Same
+    } else {
+        OwnerTest::Is(class)
+    }
+}
+
+fn owner_question(
+    alloc: Global,
+    place: Place,
+    name: &str,
+    third: ClassId,
+    args: Vec<TypedExpr>,
+) -> Result<TypedExpr, AllocError>
+    ensures { (e : Env) → (es : Arguments) → third.0 ≡ third_class e es
+        → IfOk result (λ r. view.expr r ≡ owner_question e place name.now es (given args.items)) }
+{
+    let mut args = args;
+    if args.is_empty() {
+        return Ok(TypedExpr::Null(place));
+    }
+    let first = args.remove(0);
+    if args.is_empty() {
+        let first = Box::new(alloc, first)?;
+        return Ok(TypedExpr::State(place, StateWord::Unowned, first));
+    }
+    let second = args.remove(0);
+    owners(alloc, place, owner_test(name, third), first, second)
+}
+
+fn state_asked(
+    alloc: Global,
+    place: Place,
+    object: TypedExpr,
+    name: &str,
+    first: ClassId,
+) -> Result<TypedExpr, AllocError>
+    ensures { IfOk result (λ r. view.expr r ≡ StateOf place (state_question name.now first.0) (view.expr object)) }
+{
+    let object = Box::new(alloc, object)?;
+    Ok(TypedExpr::State(place, state_question(name, first), object))
+}
+
+// A state word or a question about owners.
+fn question(
+    alloc: Global,
+    place: Place,
+    receiver: Receiver,
+    object: TypedExpr,
+    name: &str,
+    asked: Asked,
+    args: Vec<TypedExpr>,
+) -> Result<TypedExpr, AllocError>
+    ensures { (e : Env) → (es : Arguments) → asked.first.0 ≡ first_class e es → asked.third.0 ≡ third_class e es
+        → IfOk result (λ r. view.expr r ≡ question e place (receiver_of receiver) (view.expr object) name.now es (given args.items)) }
+{
+    match receiver {
+        Receiver::Owner => owner_question(alloc, place, name, asked.third, args),
+        Receiver::Base | Receiver::Class(_) | Receiver::Value(_) => {
+            state_asked(alloc, place, object, name, asked.first)
+        }
+        Receiver::Console => Ok(TypedExpr::Null(place)),
+    }
+}
+
+// What is called behind a dot.
+pub(crate) fn called_behind(
+    alloc: Global,
+    scene: &Scene<'_, '_>,
+    place: Place,
+    receiver: Receiver,
+    object: TypedExpr,
+    name: &str,
+    asked: Asked,
+    args: Vec<TypedExpr>,
+    callee: Callee<'_>,
+) -> Result<TypedExpr, AllocError>
+    ensures { (a : Around) → (es : Arguments) → asked.first.0 ≡ first_class (env_of scene.now a) es → asked.third.0 ≡ third_class (env_of scene.now a) es
+        → IfOk result (λ r. view.expr r ≡ called_behind (env_of scene.now a) place (receiver_of receiver) (view.expr object) name.now es (given args.items) (callee_of callee.entry)) }
+{
+    match callee {
+        Callee::Method(declared, method) => {
+            call_of(
+                alloc, scene, place, receiver, object, args, declared, method,
+            )
+        }
+        Callee::Word => question(alloc, place, receiver, object, name, asked, args),
+        Callee::Print | Callee::Base => Ok(TypedExpr::Null(place)),
+        Callee::Nothing => add_step(alloc, place, object, TypedStep::Call(0, None, args)),
+    }
+}
+
+// A method of the class or of one above, called by its bare name.
+pub(crate) fn called_bare(
+    alloc: Global,
+    scene: &Scene<'_, '_>,
+    place: Place,
+    at: Place,
+    args: Vec<TypedExpr>,
+    callee: Callee<'_>,
+) -> Result<TypedExpr, AllocError>
+    ensures { (a : Around) → IfOk result (λ r. view.expr r ≡ called_bare (env_of scene.now a) place at (given args.items) (callee_of callee.entry)) }
+{
+    match callee {
+        Callee::Method(declared, method) => {
+            let object = this(scene, at);
+            method_call(
+                alloc,
+                scene,
+                place,
+                scene.within.class,
+                object,
+                args,
+                declared,
+                method,
+            )
+        }
+        Callee::Word | Callee::Print | Callee::Base | Callee::Nothing => {
+            Ok(TypedExpr::Null(place))
+        }
+    }
+}

@@ -1,0 +1,288 @@
+// Expressions.
+
+ghost use Rattle.std.specs.Prelude.{◌≡◌, IfOk, OnOk, map};
+ghost use Rattle.ss_ast.specs.Expressions.{ExprTree, grouped, expr_tree, name_tree};
+ghost use Rattle.ss_typed.specs.View as view;
+ghost use Rattle.ss_resolver_rules.specs.Names.{within};
+ghost use Rattle.ss_resolver_rules.specs.Expressions as resolved;
+ghost use Rattle.ss_resolver_rules.specs.Expressions.{class_named_by};
+ghost use Rattle.ss_resolver_expressions.specs.Scenes.{env_of, part, part_view, numbers_of};
+ghost use Rattle.ss_resolver_expressions.specs.Behinds.{link_behind, postfix_behind};
+
+use crate::around::LocalNames;
+use crate::finishing::{dotted, finish};
+use crate::parts::Part;
+use crate::scene::Scene;
+use crate::wholes::{
+    Given, add_given, as_of, call, cast, element, iff, implies, in_parentheses, is_of, negate,
+    new_array, new_object, not, null, number, old, operation, outcome, quantified_part, text,
+    this_word, truth,
+};
+use ss_ast::{Expr, Link, Name, Postfix};
+use ss_core::Place;
+use ss_typed::TypedExpr;
+use std::alloc::{AllocError, Global};
+
+/// An expression up to what may stand behind it.
+#[cycle(expr)]
+pub fn walk<'p>(
+    alloc: Global,
+    scene: &Scene<'_, 'p>,
+    around: &mut LocalNames,
+    e: &'p Expr,
+) -> Result<Part<'p>, AllocError>
+    ensures part { IfOk result (λ r. part_view r ≡ part (env_of scene.now around.old) (expr_tree e.now)) }
+    ensures kept { OnOk result (around.new ≡ around.old) }
+{
+    match e {
+        Expr::Name(place, name) => Ok(Part::Name(*place, name.as_str())),
+        Expr::Base(place) => Ok(Part::Base(*place)),
+        Expr::Path(place, first, postfixes) => {
+            let before = walk(alloc, scene, around, first)?;
+            let longer = walk_postfixes(alloc, scene, around, *place, before, postfixes)?;
+            Ok(longer)
+        }
+        Expr::Chain(place, first, links) => {
+            let before = walk(alloc, scene, around, first)?;
+            let longer = walk_links(alloc, scene, around, *place, before, links)?;
+            Ok(longer)
+        }
+        Expr::Number(place, n) => Ok(number(*place, *n)),
+        Expr::Truth(place, b) => Ok(truth(*place, *b)),
+        Expr::Null(place) => Ok(null(*place)),
+        Expr::Text(place, _) => Ok(text(*place)),
+        Expr::This(place) => Ok(this_word(scene, *place)),
+        Expr::Result(place) => Ok(outcome(scene, *place)),
+        Expr::Paren(_, inner) => {
+            let inner = walk(alloc, scene, around, inner)?;
+            let whole = in_parentheses(alloc, scene, around, inner)?;
+            Ok(whole)
+        }
+        Expr::Old(place, inner) => {
+            let inner = walk(alloc, scene, around, inner)?;
+            let whole = old(alloc, scene, around, *place, inner)?;
+            Ok(whole)
+        }
+        Expr::Negate(place, inner) => {
+            let inner = resolve(alloc, scene, around, inner)?;
+            let whole = negate(alloc, *place, inner)?;
+            Ok(whole)
+        }
+        Expr::Not(place, inner) => {
+            let inner = resolve(alloc, scene, around, inner)?;
+            let whole = not(alloc, *place, inner)?;
+            Ok(whole)
+        }
+        Expr::Iff(place, a, b) => {
+            let a = resolve(alloc, scene, around, a)?;
+            let b = resolve(alloc, scene, around, b)?;
+            let whole = iff(alloc, *place, a, b)?;
+            Ok(whole)
+        }
+        Expr::Implies(place, a, b) => {
+            let a = resolve(alloc, scene, around, a)?;
+            let b = resolve(alloc, scene, around, b)?;
+            let whole = implies(alloc, *place, a, b)?;
+            Ok(whole)
+        }
+        Expr::Cast(place, ty, inner) => {
+            let inner = resolve(alloc, scene, around, inner)?;
+            let whole = cast(alloc, scene, *place, ty, inner)?;
+            Ok(whole)
+        }
+        Expr::New(place, name, written) => {
+            let values = resolve_values(alloc, scene, around, written)?;
+            Ok(new_object(scene, *place, name, values))
+        }
+        Expr::NewArray(place, _, name, length) => {
+            let length = resolve(alloc, scene, around, length)?;
+            let whole = new_array(alloc, scene, *place, name, length)?;
+            Ok(whole)
+        }
+        Expr::Quantified(place, quantifier, name, low, high, member) => {
+            let low = resolve(alloc, scene, around, low)?;
+            let high = resolve(alloc, scene, around, high)?;
+            let member = resolve_member(alloc, scene, around, name, member)?;
+            let whole = quantified_part(alloc, *place, *quantifier, name, low, high, member)?;
+            Ok(whole)
+        }
+    }
+}
+
+/// The tree of an expression.
+#[cycle(expr)]
+pub fn resolve<'p>(
+    alloc: Global,
+    scene: &Scene<'_, 'p>,
+    around: &mut LocalNames,
+    e: &'p Expr,
+) -> Result<TypedExpr, AllocError>
+    ensures tree { IfOk result (λ r. view.expr r ≡ resolved.expr (env_of scene.now around.old) (expr_tree e.now)) }
+    ensures kept { OnOk result (around.new ≡ around.old) }
+{
+    let whole = walk(alloc, scene, around, e)?;
+    let tree = finish(alloc, scene, around, whole)?;
+    Ok(tree)
+}
+
+// The member of a quantifier.
+#[cycle(expr)]
+fn resolve_member<'p>(
+    alloc: Global,
+    scene: &Scene<'_, 'p>,
+    around: &mut LocalNames,
+    name: &Name,
+    e: &'p Expr,
+) -> Result<TypedExpr, AllocError>
+    ensures tree { IfOk result (λ r. view.expr r ≡ resolved.expr (within (env_of scene.now around.old) (name_tree name.now)) (expr_tree e.now)) }
+    ensures kept { OnOk result (around.new ≡ around.old) }
+{
+    around.enter_member(alloc, name.text.as_str())?;
+    let inner = resolve(alloc, scene, around, e)?;
+    around.leave_member();
+    Ok(inner)
+}
+
+// What stands behind the first operand of a chain.
+#[cycle(expr)]
+fn walk_links<'p>(
+    alloc: Global,
+    scene: &Scene<'_, 'p>,
+    around: &mut LocalNames,
+    place: Place,
+    first: Part<'p>,
+    links: &'p [Link],
+) -> Result<Part<'p>, AllocError>
+    ensures part { (t : ExprTree) → part_view first.entry ≡ part (env_of scene.now around.old) t
+        → IfOk result (λ r. part_view r ≡ part (env_of scene.now around.old) (grouped place t (map link_behind links.now))) }
+    ensures kept { OnOk result (around.new ≡ around.old) }
+{
+    let mut before = first;
+    for link in links {
+        before = walk_link(alloc, scene, around, place, before, link)?;
+    }
+    Ok(before)
+}
+
+#[cycle(expr)]
+fn walk_link<'p>(
+    alloc: Global,
+    scene: &Scene<'_, 'p>,
+    around: &mut LocalNames,
+    place: Place,
+    before: Part<'p>,
+    link: &'p Link,
+) -> Result<Part<'p>, AllocError>
+    ensures part { (t : ExprTree) → part_view before.entry ≡ part (env_of scene.now around.old) t
+        → IfOk result (λ r. part_view r ≡ part (env_of scene.now around.old) (link_behind link.now place t)) }
+    ensures kept { OnOk result (around.new ≡ around.old) }
+{
+    match link {
+        Link::Operation(operator, operand) => {
+            let right = resolve(alloc, scene, around, operand)?;
+            let longer = operation(alloc, scene, around, place, before, *operator, right)?;
+            Ok(longer)
+        }
+        Link::Is(ty) => {
+            let longer = is_of(alloc, scene, around, place, before, ty)?;
+            Ok(longer)
+        }
+        Link::As(ty) => {
+            let longer = as_of(alloc, scene, around, place, before, ty)?;
+            Ok(longer)
+        }
+    }
+}
+
+/// What stands behind the beginning of a path.
+#[cycle(expr)]
+pub fn walk_postfixes<'p>(
+    alloc: Global,
+    scene: &Scene<'_, 'p>,
+    around: &mut LocalNames,
+    place: Place,
+    first: Part<'p>,
+    postfixes: &'p [Postfix],
+) -> Result<Part<'p>, AllocError>
+    ensures part { (t : ExprTree) → part_view first.entry ≡ part (env_of scene.now around.old) t
+        → IfOk result (λ r. part_view r ≡ part (env_of scene.now around.old) (grouped place t (map postfix_behind postfixes.now))) }
+    ensures kept { OnOk result (around.new ≡ around.old) }
+{
+    let mut before = first;
+    for postfix in postfixes {
+        before = walk_postfix(alloc, scene, around, place, before, postfix)?;
+    }
+    Ok(before)
+}
+
+#[cycle(expr)]
+fn walk_postfix<'p>(
+    alloc: Global,
+    scene: &Scene<'_, 'p>,
+    around: &mut LocalNames,
+    place: Place,
+    before: Part<'p>,
+    postfix: &'p Postfix,
+) -> Result<Part<'p>, AllocError>
+    ensures part { (t : ExprTree) → part_view before.entry ≡ part (env_of scene.now around.old) t
+        → IfOk result (λ r. part_view r ≡ part (env_of scene.now around.old) (postfix_behind postfix.now place t)) }
+    ensures kept { OnOk result (around.new ≡ around.old) }
+{
+    match postfix {
+        Postfix::Member(name) => {
+            let longer = dotted(alloc, scene, around, place, before, name)?;
+            Ok(longer)
+        }
+        Postfix::Element(index) => {
+            let index = resolve(alloc, scene, around, index)?;
+            let longer = element(alloc, scene, around, place, before, index)?;
+            Ok(longer)
+        }
+        Postfix::Call(written) => {
+            let given = resolve_given(alloc, scene, around, written)?;
+            let longer = call(alloc, scene, around, place, before, given)?;
+            Ok(longer)
+        }
+    }
+}
+
+/// Arguments of a `new` or of a base constructor.
+#[cycle(expr)]
+pub fn resolve_values<'p>(
+    alloc: Global,
+    scene: &Scene<'_, 'p>,
+    around: &mut LocalNames,
+    written: &'p [Expr],
+) -> Result<Vec<TypedExpr>, AllocError>
+    ensures trees { IfOk result (λ v. view.exprs v.items ≡ map (resolved.expr (env_of scene.now around.old)) (map expr_tree written.now)) }
+    ensures kept { OnOk result (around.new ≡ around.old) }
+{
+    let mut values = Vec::new(alloc);
+    for argument in written {
+        let value = resolve(alloc, scene, around, argument)?;
+        values.push(value)?;
+    }
+    Ok(values)
+}
+
+/// Arguments of a call, and the classes that they name.
+#[cycle(expr)]
+pub fn resolve_given<'p>(
+    alloc: Global,
+    scene: &Scene<'_, 'p>,
+    around: &mut LocalNames,
+    written: &'p [Expr],
+) -> Result<Given, AllocError>
+    ensures values { IfOk result (λ g. view.exprs g.values.items ≡ map (resolved.expr (env_of scene.now around.old)) (map expr_tree written.now)) }
+    ensures classes { IfOk result (λ g. numbers_of g.classes.items ≡ map (class_named_by (env_of scene.now around.old)) (map expr_tree written.now)) }
+    ensures kept { OnOk result (around.new ≡ around.old) }
+{
+    let values = Vec::new(alloc);
+    let classes = Vec::new(alloc);
+    let mut given = Given { values, classes };
+    for argument in written {
+        let part = walk(alloc, scene, around, argument)?;
+        add_given(alloc, scene, around, &mut given, part)?;
+    }
+    Ok(given)
+}

@@ -1,0 +1,55 @@
+// An expression along a path.
+
+ghost use Rattle.std.specs.Prelude.{◌≡◌, option_map};
+ghost use Rattle.ss_tables_lookup.specs.Views.{type_of};
+ghost use Rattle.ss_tables_scopes.specs.Views.{receiver_of};
+ghost use Rattle.ss_resolver_expressions.specs.Scenes.{env_of, part_type, part_receiver, part_view};
+
+use crate::around::LocalNames;
+use crate::scene::Scene;
+use ss_core::Place;
+use ss_tables_lookup::StaticType;
+use ss_tables_scopes::{Receiver, name_receiver, name_type, read_type};
+use ss_typed::TypedExpr;
+
+/// An expression before what may stand behind it.
+#[derive(Drop)]
+pub enum Part<'p> {
+    /// A bare name.
+    Name(Place, &'p str),
+    /// The word `base`.
+    Base(Place),
+    /// A member behind a dot: what stands before it, with its static type and its tree.
+    Member(Place, Receiver, Option<StaticType>, TypedExpr, &'p str),
+    /// Any other, with its static type and its tree.
+    Other(Option<StaticType>, TypedExpr),
+}
+
+/// Its static type.
+pub fn part_type(scene: &Scene<'_, '_>, around: &LocalNames, part: &Part<'_>) -> Option<StaticType>
+    ensures { option_map type_of result ≡ part_type (env_of scene.now around.now) (part_view part.now) }
+{
+    match part {
+        Part::Name(_, name) => name_type(scene.within, around.names(), name),
+        Part::Base(_) => None,
+        Part::Member(_, receiver, _, _, name) => read_type(scene.within.tables, name, *receiver),
+        Part::Other(ty, _) => *ty,
+    }
+}
+
+/// What it is before a dot.
+pub fn part_receiver(scene: &Scene<'_, '_>, around: &LocalNames, part: &Part<'_>) -> Receiver
+    ensures { receiver_of result ≡ part_receiver (env_of scene.now around.now) (part_view part.now) }
+{
+    match part {
+        Part::Name(_, name) => {
+            let ty = name_type(scene.within, around.names(), name);
+            name_receiver(scene.within, around.names(), name, ty)
+        }
+        Part::Base(_) => Receiver::Base,
+        Part::Member(_, receiver, _, _, name) => {
+            Receiver::Value(read_type(scene.within.tables, name, *receiver))
+        }
+        Part::Other(ty, _) => Receiver::Value(*ty),
+    }
+}

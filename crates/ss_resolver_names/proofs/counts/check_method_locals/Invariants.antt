@@ -1,0 +1,9 @@
+use Rattle.std.proofs.Common.{◌≡◌, ◌++◌, map, drop}
+use Rattle.ss_tables_lookup.specs.Classes.{trees}
+use Rattle.ss_tables_lookup.specs.Views.{method_tree}
+use Rattle.ss_resolver_names_rules.specs.Programs.{methods_locals_faults}
+use Rattle.ss_resolver_names.proofs.counts.check_method_locals.Given as goal
+
+abbrev pub invariant-loop-method : goal.invariant-loop-method
+invariant-loop-method l =
+    l.faults.items ++ methods_locals_faults (trees l.tables) l.class (map method_tree (drop l.method-index l.methods)) ≡ l.fn.faults.items ++ methods_locals_faults (trees l.tables) l.class (map method_tree l.methods)

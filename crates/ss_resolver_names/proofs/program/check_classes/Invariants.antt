@@ -1,0 +1,9 @@
+use Rattle.std.proofs.Common.{◌≡◌, ◌++◌, map, drop}
+use Rattle.ss_ast.specs.Programs.{class_tree}
+use Rattle.ss_tables_lookup.specs.Classes.{trees}
+use Rattle.ss_resolver_names_rules.specs.Programs.{classes_faults}
+use Rattle.ss_resolver_names.proofs.program.check_classes.Given as goal
+
+abbrev pub invariant-loop-class : goal.invariant-loop-class
+invariant-loop-class l =
+    l.faults.items ++ classes_faults (trees l.tables) l.class (map class_tree (drop l.class l.classes)) ≡ l.fn.faults.items ++ classes_faults (trees l.tables) 0 (map class_tree l.classes)

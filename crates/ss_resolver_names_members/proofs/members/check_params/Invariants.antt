@@ -1,0 +1,12 @@
+use Rattle.std.proofs.Common.{◌≡◌, ◌++◌, map, drop}
+use Rattle.ss_ast.specs.Programs.{param_tree}
+use Rattle.ss_tables.specs.Scopes.{declare_params}
+use Rattle.ss_tables_scopes.specs.Views.{scope_of}
+use Rattle.ss_resolver_names_rules.specs.Members.{params_faults}
+use Rattle.ss_resolver_names_members.proofs.members.check_params.Given as goal
+
+abbrev pub invariant-loop-param : goal.invariant-loop-param
+invariant-loop-param l = record {
+  noted : l.faults.items ++ params_faults (scope_of l.within l.locals) (map param_tree (drop l.param-index l.params)) ≡ l.fn.faults.items ++ params_faults (scope_of l.within l.fn.locals) (map param_tree l.params);
+  declared : declare_params (scope_of l.within l.locals) (map param_tree (drop l.param-index l.params)) ≡ declare_params (scope_of l.within l.fn.locals) (map param_tree l.params);
+}

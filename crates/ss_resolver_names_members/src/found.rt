@@ -1,0 +1,231 @@
+// Faults that are found, one behind another.
+
+ghost use Rattle.std.specs.Prelude.{◌≡◌, ◌++◌, OnOk};
+ghost use Rattle.ss_ast.specs.Expressions.{type_tree, type_name_tree, name_tree};
+ghost use Rattle.ss_tables.specs.Statics.{AClass};
+ghost use Rattle.ss_resolver_names_rules.specs.Faults.{fault, unless, class_faults, type_name_faults, type_faults};
+ghost use Rattle.ss_resolver_names_rules.specs.Prefixes.{pending, called, asked, dotted, unknown_at, member_pending, member_called};
+ghost use Rattle.ss_tables_scopes.specs.Views.{scope_of, receiver_of};
+ghost use Rattle.ss_resolver_scoping.specs.Views.{prefix_view};
+ghost use Rattle.ss_tables_lookup.specs.Classes.{trees};
+
+use ss_ast::{Name, TypeName, TypeRef};
+use ss_core::Place;
+use ss_faults::Fault;
+use ss_tables_lookup::Tables;
+use ss_resolver_names_rules::Rule;
+use ss_tables_scopes::{
+    Receiver, Scopes, Within, class_of_type, is_known, is_member, is_owner_word, is_print,
+    is_state_word,
+};
+use ss_resolver_scoping::{Prefix, has_member, is_inherited};
+use std::alloc::AllocError;
+
+/// Notes a fault.
+pub fn add(faults: &mut Vec<Fault>, rule: Rule, place: Place) -> Result<(), AllocError>
+    ensures { OnOk result (faults.new.items ≡ faults.old.items ++ fault rule place) }
+{
+    faults.push(Fault {
+        rule: rule.number(),
+        place,
+    })?;
+    Ok(())
+}
+
+/// Notes a fault where something doesn't hold.
+pub fn add_unless(
+    faults: &mut Vec<Fault>,
+    holds: bool,
+    rule: Rule,
+    place: Place,
+) -> Result<(), AllocError>
+    ensures { OnOk result (faults.new.items ≡ faults.old.items ++ unless holds (fault rule place)) }
+{
+    if holds {
+        return Ok(());
+    }
+    add(faults, rule, place)
+}
+
+/// A name that is to be that of a class.
+pub fn check_class(
+    tables: &Tables<'_>,
+    faults: &mut Vec<Fault>,
+    name: &str,
+    place: Place,
+) -> Result<(), AllocError>
+    ensures { OnOk result (faults.new.items ≡ faults.old.items ++ class_faults (trees tables.now) name.now place) }
+{
+    add_unless(
+        faults,
+        tables.class_named(name).is_some(),
+        Rule::Unknown,
+        place,
+    )
+}
+
+/// What a type names.
+pub fn check_type_name(
+    tables: &Tables<'_>,
+    faults: &mut Vec<Fault>,
+    place: Place,
+    name: &TypeName,
+) -> Result<(), AllocError>
+    ensures { OnOk result (faults.new.items ≡ faults.old.items ++ type_name_faults (trees tables.now) place (type_name_tree name.now)) }
+{
+    match name {
+        TypeName::Class(name) => check_class(tables, faults, name.as_str(), place),
+        TypeName::Int | TypeName::Bool | TypeName::Object => Ok(()),
+    }
+}
+
+/// A written type.
+pub fn check_type(
+    tables: &Tables<'_>,
+    faults: &mut Vec<Fault>,
+    ty: &TypeRef,
+) -> Result<(), AllocError>
+    ensures { OnOk result (faults.new.items ≡ faults.old.items ++ type_faults (trees tables.now) (type_tree ty.now)) }
+{
+    check_type_name(tables, faults, ty.place, &ty.name)
+}
+
+// An unknown name, where one stands there.
+fn add_unknown_at(faults: &mut Vec<Fault>, place: Option<Place>) -> Result<(), AllocError>
+    ensures { OnOk result (faults.new.items ≡ faults.old.items ++ unknown_at place) }
+{
+    match place {
+        Some(place) => add(faults, Rule::Unknown, place),
+        None => Ok(()),
+    }
+}
+
+// A class before a dot where nothing is called.
+fn add_member_pending(
+    faults: &mut Vec<Fault>,
+    bare: Option<Place>,
+    receiver: Receiver,
+) -> Result<(), AllocError>
+    ensures { OnOk result (faults.new.items ≡ faults.old.items ++ member_pending bare (receiver_of receiver)) }
+{
+    match receiver {
+        Receiver::Class(_) => add_unknown_at(faults, bare),
+        Receiver::Console | Receiver::Owner | Receiver::Base | Receiver::Value(_) => Ok(()),
+    }
+}
+
+/// What an expression has besides where its value is read.
+pub fn add_pending(
+    within: Within<'_, '_>,
+    locals: &Scopes,
+    faults: &mut Vec<Fault>,
+    prefix: Prefix<'_>,
+) -> Result<(), AllocError>
+    ensures { OnOk result (faults.new.items ≡ faults.old.items ++ pending (scope_of within.entry locals.now) (prefix_view prefix.entry)) }
+{
+    match prefix {
+        Prefix::Name(place, name) => add_unless(
+            faults,
+            is_known(within, locals, name.as_str()),
+            Rule::Unknown,
+            place,
+        ),
+        Prefix::Member(bare, receiver, _) => add_member_pending(faults, bare, receiver),
+        Prefix::Base | Prefix::Value(_) => Ok(()),
+    }
+}
+
+// A method behind a class.
+fn add_class_called(
+    within: Within<'_, '_>,
+    locals: &Scopes,
+    faults: &mut Vec<Fault>,
+    bare: Option<Place>,
+    class: usize,
+    name: &Name,
+) -> Result<(), AllocError>
+    ensures { OnOk result (faults.new.items ≡ faults.old.items ++ member_called (scope_of within.entry locals.now) bare (name_tree name.now) (AClass class)) }
+{
+    if is_state_word(name.text.as_str()) {
+        return add_unknown_at(faults, bare);
+    }
+    add_unless(
+        faults,
+        is_member(within.tables, class, name.text.as_str()),
+        Rule::Unknown,
+        name.place,
+    )
+}
+
+/// What an expression has besides where it is called.
+pub fn add_called(
+    within: Within<'_, '_>,
+    locals: &Scopes,
+    faults: &mut Vec<Fault>,
+    prefix: Prefix<'_>,
+) -> Result<(), AllocError>
+    ensures { OnOk result (faults.new.items ≡ faults.old.items ++ called (scope_of within.entry locals.now) (prefix_view prefix.entry)) }
+{
+    match prefix {
+        Prefix::Name(place, name) => add_unless(
+            faults,
+            is_known(within, locals, name.as_str()),
+            Rule::Unknown,
+            place,
+        ),
+        Prefix::Member(bare, Receiver::Class(class), name) => {
+            add_class_called(within, locals, faults, bare, class, name)
+        }
+        Prefix::Member(
+            _,
+            Receiver::Console | Receiver::Owner | Receiver::Base | Receiver::Value(_),
+            _,
+        )
+        | Prefix::Base
+        | Prefix::Value(_) => Ok(()),
+    }
+}
+
+/// What an expression has besides where it is to be the name of a class.
+pub fn add_asked(
+    within: Within<'_, '_>,
+    locals: &Scopes,
+    faults: &mut Vec<Fault>,
+    prefix: Prefix<'_>,
+) -> Result<(), AllocError>
+    ensures { OnOk result (faults.new.items ≡ faults.old.items ++ asked (scope_of within.entry locals.now) (prefix_view prefix.entry)) }
+{
+    match prefix {
+        Prefix::Name(place, name) => check_class(within.tables, faults, name.as_str(), place),
+        Prefix::Member(bare, receiver, _) => add_member_pending(faults, bare, receiver),
+        Prefix::Base | Prefix::Value(_) => Ok(()),
+    }
+}
+
+/// What an expression has besides where a dot and a name stand behind it.
+pub fn add_dotted(
+    within: Within<'_, '_>,
+    locals: &Scopes,
+    faults: &mut Vec<Fault>,
+    prefix: Prefix<'_>,
+    receiver: Receiver,
+    name: &Name,
+) -> Result<(), AllocError>
+    ensures { OnOk result (faults.new.items ≡ faults.old.items ++ dotted (scope_of within.entry locals.now) (prefix_view prefix.entry) (name_tree name.now) (receiver_of receiver)) }
+{
+    let text = name.text.as_str();
+    match receiver {
+        Receiver::Console => add_unless(faults, is_print(text), Rule::Unknown, name.place),
+        Receiver::Owner => add_unless(faults, is_owner_word(text), Rule::Unknown, name.place),
+        Receiver::Base => {
+            let known = is_state_word(text) || is_inherited(within.tables, within.class, text);
+            add_unless(faults, known, Rule::Unknown, name.place)
+        }
+        Receiver::Class(_) => Ok(()),
+        Receiver::Value(ty) => {
+            add_pending(within, locals, faults, prefix)?;
+            let known = is_state_word(text) || has_member(within.tables, text, class_of_type(ty));
+            add_unless(faults, known, Rule::Unknown, name.place)
+        }
+    }
+}

@@ -1,0 +1,275 @@
+// Faults of the members of a class.
+
+ghost use Rattle.std.specs.Prelude.{◌≡◌, ◌++◌, ◌<◌, true, length, map, OnOk, option_map};
+ghost use Rattle.ss_ast.specs.Expressions.{expr_tree, type_tree};
+ghost use Rattle.ss_ast.specs.Statements.{declarator_tree};
+ghost use Rattle.ss_ast.specs.Programs.{param_tree, modified_tree, clause_tree, base_call_tree, member_kind_tree, member_tree};
+ghost use Rattle.ss_tables.specs.Types.{written_type};
+ghost use Rattle.ss_tables.specs.Scopes.{declare, declare_params, class_scope};
+ghost use Rattle.ss_resolver_names_rules.specs.Faults.{type_faults, twice_in};
+ghost use Rattle.ss_tables_scopes.specs.Names.{Names};
+ghost use Rattle.ss_tables.specs.Statics.{result_type};
+ghost use Rattle.ss_tables_lookup.specs.Views.{type_of};
+ghost use Rattle.ss_resolver_names_rules.specs.Members.{params_faults, modified_expr, modified_faults, clause_faults, clauses_faults, written_type_faults, base_faults, initials_faults, kind_faults, members_faults};
+ghost use Rattle.ss_tables_scopes.specs.Views.{scope_of};
+ghost use Rattle.ss_tables_lookup.specs.Classes.{trees};
+
+use crate::found::check_type;
+use crate::stmts::{check_all, check_any, check_block, check_local};
+use crate::walk::check;
+use ss_ast::{
+    BaseCall, Clause, Constructor, Declarator, Expr, Member, MemberKind, Method, Modified, Param,
+    TypeRef,
+};
+use ss_faults::Fault;
+use ss_tables_lookup::{StaticType, Tables};
+use ss_tables_scopes::{Scopes, Within};
+use ss_resolver_scoping::declare_param;
+use std::alloc::{AllocError, Global};
+
+// A parameter.
+fn check_param(
+    alloc: Global,
+    within: Within<'_, '_>,
+    locals: &mut Scopes,
+    faults: &mut Vec<Fault>,
+    param: &Param,
+) -> Result<(), AllocError>
+    ensures noted { OnOk result (faults.new.items ≡ faults.old.items
+        ++ (type_faults (trees within.entry.tables.now) (param_tree param.now).ty ++ twice_in locals.old.inner (param_tree param.now).name)) }
+    ensures declared { OnOk result (scope_of within.entry locals.new
+        ≡ declare (scope_of within.entry locals.old) (param_tree param.now).name.text (record { ty = written_type (trees within.entry.tables.now) (param_tree param.now).ty; is_param = true })) }
+{
+    check_type(within.tables, faults, &param.ty)?;
+    check_local(locals, faults, &param.name)?;
+    declare_param(alloc, within, locals, param)
+}
+
+// Parameters.
+fn check_params(
+    alloc: Global,
+    within: Within<'_, '_>,
+    locals: &mut Scopes,
+    faults: &mut Vec<Fault>,
+    params: &[Param],
+) -> Result<(), AllocError>
+    ensures noted { OnOk result (faults.new.items ≡ faults.old.items ++ params_faults (scope_of within.entry locals.old) (map param_tree params.now)) }
+    ensures declared { OnOk result (scope_of within.entry locals.new ≡ declare_params (scope_of within.entry locals.old) (map param_tree params.now)) }
+{
+    for param in params {
+        check_param(alloc, within, locals, faults, param)?;
+    }
+    Ok(())
+}
+
+fn modified_expr(modified: &Modified) -> &Expr
+    ensures { expr_tree result.now ≡ modified_expr (modified_tree modified.now) }
+{
+    match modified {
+        Modified::All(e) | Modified::Elements(e) | Modified::One(e) => e,
+    }
+}
+
+fn check_modified(
+    alloc: Global,
+    within: Within<'_, '_>,
+    locals: &mut Scopes,
+    faults: &mut Vec<Fault>,
+    list: &[Modified],
+) -> Result<(), AllocError>
+    ensures noted { OnOk result (faults.new.items ≡ faults.old.items ++ modified_faults (scope_of within.entry locals.old) (map modified_tree list.now)) }
+    ensures kept { OnOk result (locals.new ≡ locals.old) }
+{
+    for modified in list {
+        check(alloc, within, locals, faults, modified_expr(modified))?;
+    }
+    Ok(())
+}
+
+// The same place, where `result` has this type.
+fn with_outcome<'t, 'p>(within: Within<'t, 'p>, outcome: Option<StaticType>) -> Within<'t, 'p>
+    ensures { (names : Names) → scope_of result names ≡ record (scope_of within.entry names) { outcome = option_map type_of outcome } }
+{
+    Within {
+        tables: within.tables,
+        class: within.class,
+        outcome,
+    }
+}
+
+fn check_clause(
+    alloc: Global,
+    within: Within<'_, '_>,
+    locals: &mut Scopes,
+    faults: &mut Vec<Fault>,
+    outcome: Option<StaticType>,
+    clause: &Clause,
+) -> Result<(), AllocError>
+    ensures noted { OnOk result (faults.new.items ≡ faults.old.items ++ clause_faults (scope_of within.entry locals.old) (option_map type_of outcome) (clause_tree clause.now)) }
+    ensures kept { OnOk result (locals.new ≡ locals.old) }
+{
+    match clause {
+        Clause::Requires(e) => {
+            check(alloc, within, locals, faults, e)?;
+            Ok(())
+        }
+        Clause::Ensures(e) => {
+            let within = with_outcome(within, outcome);
+            check(alloc, within, locals, faults, e)?;
+            Ok(())
+        }
+        Clause::Modifies(list) => check_modified(alloc, within, locals, faults, list),
+    }
+}
+
+fn check_clauses(
+    alloc: Global,
+    within: Within<'_, '_>,
+    locals: &mut Scopes,
+    faults: &mut Vec<Fault>,
+    outcome: Option<StaticType>,
+    clauses: &[Clause],
+) -> Result<(), AllocError>
+    ensures noted { OnOk result (faults.new.items ≡ faults.old.items ++ clauses_faults (scope_of within.entry locals.old) (option_map type_of outcome) (map clause_tree clauses.now)) }
+    ensures kept { OnOk result (locals.new ≡ locals.old) }
+{
+    for clause in clauses {
+        check_clause(alloc, within, locals, faults, outcome, clause)?;
+    }
+    Ok(())
+}
+
+fn check_result(
+    tables: &Tables<'_>,
+    faults: &mut Vec<Fault>,
+    ty: &Option<TypeRef>,
+) -> Result<(), AllocError>
+    ensures { OnOk result (faults.new.items ≡ faults.old.items ++ written_type_faults (trees tables.now) (option_map type_tree ty.now)) }
+{
+    match ty {
+        Some(ty) => check_type(tables, faults, ty),
+        None => Ok(()),
+    }
+}
+
+fn result_type(tables: &Tables<'_>, ty: &Option<TypeRef>) -> Option<StaticType>
+    ensures { option_map type_of result ≡ result_type (trees tables.now) (option_map type_tree ty.now) }
+{
+    match ty {
+        Some(ty) => tables.written_type(ty),
+        None => None,
+    }
+}
+
+fn check_base(
+    alloc: Global,
+    within: Within<'_, '_>,
+    locals: &mut Scopes,
+    faults: &mut Vec<Fault>,
+    base: &Option<BaseCall>,
+) -> Result<(), AllocError>
+    ensures noted { OnOk result (faults.new.items ≡ faults.old.items ++ base_faults (scope_of within.entry locals.old) (option_map base_call_tree base.now)) }
+    ensures kept { OnOk result (locals.new ≡ locals.old) }
+{
+    match base {
+        Some(base) => check_all(alloc, within, locals, faults, &base.arguments),
+        None => Ok(()),
+    }
+}
+
+fn check_initials(
+    alloc: Global,
+    within: Within<'_, '_>,
+    locals: &mut Scopes,
+    faults: &mut Vec<Fault>,
+    declarators: &[Declarator],
+) -> Result<(), AllocError>
+    ensures noted { OnOk result (faults.new.items ≡ faults.old.items ++ initials_faults (scope_of within.entry locals.old) (map declarator_tree declarators.now)) }
+    ensures kept { OnOk result (locals.new ≡ locals.old) }
+{
+    for declarator in declarators {
+        check_any(alloc, within, locals, faults, &declarator.initial)?;
+    }
+    Ok(())
+}
+
+fn check_method(
+    alloc: Global,
+    within: Within<'_, '_>,
+    locals: &mut Scopes,
+    faults: &mut Vec<Fault>,
+    method: &Method,
+) -> Result<(), AllocError>
+    ensures { OnOk result (faults.new.items ≡ faults.old.items ++ kind_faults (scope_of within.entry locals.old) (member_kind_tree (MemberKind.Method method.now))) }
+{
+    check_result(within.tables, faults, &method.returns)?;
+    check_params(alloc, within, locals, faults, &method.params)?;
+    let outcome = result_type(within.tables, &method.returns);
+    check_clauses(alloc, within, locals, faults, outcome, &method.clauses)?;
+    check_block(alloc, within, locals, faults, &method.body)
+}
+
+fn check_constructor(
+    alloc: Global,
+    within: Within<'_, '_>,
+    locals: &mut Scopes,
+    faults: &mut Vec<Fault>,
+    constructor: &Constructor,
+) -> Result<(), AllocError>
+    ensures { OnOk result (faults.new.items ≡ faults.old.items ++ kind_faults (scope_of within.entry locals.old) (member_kind_tree (MemberKind.Constructor constructor.now))) }
+{
+    check_params(alloc, within, locals, faults, &constructor.params)?;
+    check_base(alloc, within, locals, faults, &constructor.base)?;
+    check_clauses(alloc, within, locals, faults, None, &constructor.clauses)?;
+    check_block(alloc, within, locals, faults, &constructor.body)
+}
+
+// A member, in which no local stands before.
+fn check_member(
+    alloc: Global,
+    tables: &Tables<'_>,
+    class: usize,
+    faults: &mut Vec<Fault>,
+    member: &Member,
+) -> Result<(), AllocError>
+    requires { class < length (trees tables.now) }
+    ensures { OnOk result (faults.new.items ≡ faults.old.items ++ kind_faults (class_scope (trees tables.now) class) (member_tree member.now).kind) }
+{
+    let within = Within {
+        tables,
+        class,
+        outcome: None,
+    };
+    let mut locals = Scopes::new(alloc);
+    match &member.kind {
+        MemberKind::Fields(declaration) => {
+            check_type(tables, faults, &declaration.ty)?;
+            check_initials(alloc, within, &mut locals, faults, &declaration.declarators)
+        }
+        MemberKind::Invariant(e) => {
+            check(alloc, within, &mut locals, faults, e)?;
+            Ok(())
+        }
+        MemberKind::Method(method) => check_method(alloc, within, &mut locals, faults, method),
+        MemberKind::Constructor(constructor) => {
+            check_constructor(alloc, within, &mut locals, faults, constructor)
+        }
+    }
+}
+
+/// The members of a class.
+pub fn check_members(
+    alloc: Global,
+    tables: &Tables<'_>,
+    class: usize,
+    faults: &mut Vec<Fault>,
+    members: &[Member],
+) -> Result<(), AllocError>
+    requires { class < length (trees tables.now) }
+    ensures { OnOk result (faults.new.items ≡ faults.old.items ++ members_faults (class_scope (trees tables.now) class) (map member_tree members.now)) }
+{
+    for member in members {
+        check_member(alloc, tables, class, faults, member)?;
+    }
+    Ok(())
+}

@@ -1,0 +1,411 @@
+// Unknown names in expressions.
+
+ghost use Rattle.std.specs.Prelude.{◌≡◌, ◌++◌, true, None, Some, map, IfOk, OnOk, option_map, if◌then◌else◌};
+ghost use Rattle.ss_ast.specs.Expressions.{ExprTree, MemberOf, grouped, expr_tree, type_tree, type_name_tree, arguments, name_tree};
+ghost use Rattle.ss_tables.specs.Scopes.{Scope, within_quantifier};
+ghost use Rattle.ss_tables.specs.Classes.{class_named, class_number};
+ghost use Rattle.ss_tables.specs.Types.{reference, array_type, written_type};
+ghost use Rattle.ss_tables.specs.Statics.{static, cast_type};
+ghost use Rattle.ss_tables_lookup.specs.Classes.{trees};
+ghost use Rattle.ss_tables_lookup.specs.Views.{type_of};
+ghost use Rattle.ss_tables_scopes.specs.Views.{scope_of};
+ghost use Rattle.ss_resolver_names_rules.specs.Faults.{Faults, class_faults, type_name_faults, type_faults};
+ghost use Rattle.ss_resolver_names_rules.specs.Expressions.{expr_faults, class_named_by, argument_faults, behind_argument, arguments_faults};
+ghost use Rattle.ss_resolver_names_rules.specs.Prefixes.{AnOther, prefix, settled};
+ghost use Rattle.ss_resolver_scoping.specs.Views.{link_behind, postfix_behind, prefix_view};
+
+use crate::found::{
+    add_asked, add_called, add_dotted, add_pending, check_class, check_type, check_type_name,
+};
+use ss_ast::{Expr, Link, Name, Postfix, TypeName, TypeRef};
+use ss_core::Place;
+use ss_faults::Fault;
+use ss_tables_lookup::StaticType;
+use ss_tables_scopes::{LocalInfo, Scopes, Within, call_type};
+use ss_resolver_scoping::{
+    Prefix, bare_place, operation_type, prefix_asked, prefix_callee, prefix_receiver, prefix_value,
+    type_of_as, type_of_cast, type_of_element,
+};
+use std::alloc::{AllocError, Global};
+
+// A dot and a name behind the beginning of a path.
+fn walk_member<'a>(
+    within: Within<'_, '_>,
+    locals: &Scopes,
+    faults: &mut Vec<Fault>,
+    place: Place,
+    before: Prefix<'a>,
+    name: &'a Name,
+) -> Result<Prefix<'a>, AllocError>
+    ensures noted { (e : ExprTree) → (found : Faults) → faults.old.items ≡ found ++ settled (scope_of within.entry locals.now) e → prefix_view before.entry ≡ prefix (scope_of within.entry locals.now) e
+        → OnOk result (faults.new.items ≡ found ++ settled (scope_of within.entry locals.now) (MemberOf place e (name_tree name.now))) }
+    ensures begun { (e : ExprTree) → prefix_view before.entry ≡ prefix (scope_of within.entry locals.now) e
+        → IfOk result (λ r. prefix_view r ≡ prefix (scope_of within.entry locals.now) (MemberOf place e (name_tree name.now))) }
+{
+    let receiver = prefix_receiver(within, locals, before);
+    add_dotted(within, locals, faults, before, receiver, name)?;
+    Ok(Prefix::Member(bare_place(before), receiver, name))
+}
+
+/// The faults of an expression, up to those that the next part of a path decides.
+#[cycle(expr)]
+pub fn walk<'a>(
+    alloc: Global,
+    within: Within<'_, '_>,
+    locals: &mut Scopes,
+    faults: &mut Vec<Fault>,
+    e: &'a Expr,
+) -> Result<Prefix<'a>, AllocError>
+    ensures noted { OnOk result (faults.new.items ≡ faults.old.items ++ settled (scope_of within.entry locals.old) (expr_tree e.now)) }
+    ensures begun { IfOk result (λ r. prefix_view r ≡ prefix (scope_of within.entry locals.old) (expr_tree e.now)) }
+    ensures kept { OnOk result (locals.new ≡ locals.old) }
+{
+    match e {
+        Expr::Iff(_, a, b) | Expr::Implies(_, a, b) => {
+            check(alloc, within, locals, faults, a)?;
+            walk_operand(alloc, within, locals, faults, StaticType::Bool, b)
+        }
+        Expr::Chain(place, first, links) => {
+            let before = walk(alloc, within, locals, faults, first)?;
+            walk_links(alloc, within, locals, faults, *place, before, links)
+        }
+        Expr::Path(place, first, postfixes) => {
+            let before = walk(alloc, within, locals, faults, first)?;
+            walk_postfixes(alloc, within, locals, faults, *place, before, postfixes)
+        }
+        Expr::Negate(_, e) => walk_operand(alloc, within, locals, faults, StaticType::Int, e),
+        Expr::Not(_, e) => walk_operand(alloc, within, locals, faults, StaticType::Bool, e),
+        Expr::Cast(_, ty, e) => walk_cast(alloc, within, locals, faults, ty, e),
+        Expr::Paren(_, e) | Expr::Old(_, e) => walk_paren(alloc, within, locals, faults, e),
+        Expr::New(_, name, exprs) => walk_new(alloc, within, locals, faults, name, exprs),
+        Expr::NewArray(_, place, name, length) => {
+            walk_new_array(alloc, within, locals, faults, *place, name, length)
+        }
+        Expr::Quantified(_, _, name, low, high, body) => {
+            check(alloc, within, locals, faults, low)?;
+            check(alloc, within, locals, faults, high)?;
+            check_member(alloc, within, locals, faults, name, body)?;
+            Ok(Prefix::Value(Some(StaticType::Bool)))
+        }
+        Expr::Number(..) => Ok(Prefix::Value(Some(StaticType::Int))),
+        Expr::Text(..) => Ok(Prefix::Value(None)),
+        Expr::Truth(..) => Ok(Prefix::Value(Some(StaticType::Bool))),
+        Expr::Null(_) => Ok(Prefix::Value(Some(StaticType::Null))),
+        Expr::This(_) => Ok(Prefix::Value(Some(within.this_type()))),
+        Expr::Base(_) => Ok(Prefix::Base),
+        Expr::Result(_) => Ok(Prefix::Value(within.outcome)),
+        Expr::Name(place, name) => Ok(Prefix::Name(*place, name)),
+    }
+}
+
+// The operand of an operation of this type.
+#[cycle(expr)]
+fn walk_operand<'a>(
+    alloc: Global,
+    within: Within<'_, '_>,
+    locals: &mut Scopes,
+    faults: &mut Vec<Fault>,
+    ty: StaticType,
+    e: &Expr,
+) -> Result<Prefix<'a>, AllocError>
+    ensures noted { OnOk result (faults.new.items ≡ faults.old.items ++ expr_faults (scope_of within.entry locals.old) (expr_tree e.now)) }
+    ensures begun { IfOk result (λ r. prefix_view r ≡ AnOther (Some (type_of ty))) }
+    ensures kept { OnOk result (locals.new ≡ locals.old) }
+{
+    check(alloc, within, locals, faults, e)?;
+    Ok(Prefix::Value(Some(ty)))
+}
+
+// A cast to a written type.
+#[cycle(expr)]
+fn walk_cast<'a>(
+    alloc: Global,
+    within: Within<'_, '_>,
+    locals: &mut Scopes,
+    faults: &mut Vec<Fault>,
+    ty: &TypeRef,
+    e: &Expr,
+) -> Result<Prefix<'a>, AllocError>
+    ensures noted { OnOk result (faults.new.items ≡ faults.old.items ++ (type_faults (trees within.entry.tables.now) (type_tree ty.now) ++ expr_faults (scope_of within.entry locals.old) (expr_tree e.now))) }
+    ensures begun { IfOk result (λ r. prefix_view r ≡ AnOther (cast_type (written_type (trees within.entry.tables.now) (type_tree ty.now)))) }
+    ensures kept { OnOk result (locals.new ≡ locals.old) }
+{
+    check_type(within.tables, faults, ty)?;
+    check(alloc, within, locals, faults, e)?;
+    Ok(Prefix::Value(type_of_cast(within, ty)))
+}
+
+// An expression in parentheses, or inside `old`.
+#[cycle(expr)]
+fn walk_paren<'a>(
+    alloc: Global,
+    within: Within<'_, '_>,
+    locals: &mut Scopes,
+    faults: &mut Vec<Fault>,
+    e: &Expr,
+) -> Result<Prefix<'a>, AllocError>
+    ensures noted { OnOk result (faults.new.items ≡ faults.old.items ++ expr_faults (scope_of within.entry locals.old) (expr_tree e.now)) }
+    ensures begun { IfOk result (λ r. prefix_view r ≡ AnOther (static (scope_of within.entry locals.old) (expr_tree e.now))) }
+    ensures kept { OnOk result (locals.new ≡ locals.old) }
+{
+    let ty = check(alloc, within, locals, faults, e)?;
+    Ok(Prefix::Value(ty))
+}
+
+// A new object of the class of this name.
+#[cycle(expr)]
+fn walk_new<'a>(
+    alloc: Global,
+    within: Within<'_, '_>,
+    locals: &mut Scopes,
+    faults: &mut Vec<Fault>,
+    name: &Name,
+    exprs: &[Expr],
+) -> Result<Prefix<'a>, AllocError>
+    ensures noted { OnOk result (faults.new.items ≡ faults.old.items
+        ++ (class_faults (trees within.entry.tables.now) (name_tree name.now).text (name_tree name.now).place ++ arguments_faults (scope_of within.entry locals.old) None (arguments (map expr_tree exprs.now)))) }
+    ensures begun { IfOk result (λ r. prefix_view r ≡ AnOther (option_map (λ k. reference true (class_number k)) (class_named (trees within.entry.tables.now) (name_tree name.now).text))) }
+    ensures kept { OnOk result (locals.new ≡ locals.old) }
+{
+    check_class(within.tables, faults, name.text.as_str(), name.place)?;
+    check_arguments(alloc, within, locals, faults, None, exprs)?;
+    Ok(Prefix::Value(within.tables.class_type(true, name.text.as_str())))
+}
+
+// A new array of elements of this type.
+#[cycle(expr)]
+fn walk_new_array<'a>(
+    alloc: Global,
+    within: Within<'_, '_>,
+    locals: &mut Scopes,
+    faults: &mut Vec<Fault>,
+    place: Place,
+    name: &TypeName,
+    length: &Expr,
+) -> Result<Prefix<'a>, AllocError>
+    ensures noted { OnOk result (faults.new.items ≡ faults.old.items
+        ++ (type_name_faults (trees within.entry.tables.now) place (type_name_tree name.now) ++ expr_faults (scope_of within.entry locals.old) (expr_tree length.now))) }
+    ensures begun { IfOk result (λ r. prefix_view r ≡ AnOther (array_type (trees within.entry.tables.now) true (type_name_tree name.now))) }
+    ensures kept { OnOk result (locals.new ≡ locals.old) }
+{
+    check_type_name(within.tables, faults, place, name)?;
+    check(alloc, within, locals, faults, length)?;
+    Ok(Prefix::Value(within.tables.array_type(true, name)))
+}
+
+/// The faults of an expression whose value is read, and its static type.
+#[cycle(expr)]
+pub fn check(
+    alloc: Global,
+    within: Within<'_, '_>,
+    locals: &mut Scopes,
+    faults: &mut Vec<Fault>,
+    e: &Expr,
+) -> Result<Option<StaticType>, AllocError>
+    ensures noted { OnOk result (faults.new.items ≡ faults.old.items ++ expr_faults (scope_of within.entry locals.old) (expr_tree e.now)) }
+    ensures typed { IfOk result (λ r. option_map type_of r ≡ static (scope_of within.entry locals.old) (expr_tree e.now)) }
+    ensures kept { OnOk result (locals.new ≡ locals.old) }
+{
+    let read = walk(alloc, within, locals, faults, e)?;
+    add_pending(within, locals, faults, read)?;
+    Ok(prefix_value(within, locals, read))
+}
+
+// The member of a quantifier, in which the bound name is an `int`.
+#[cycle(expr)]
+fn check_member(
+    alloc: Global,
+    within: Within<'_, '_>,
+    locals: &mut Scopes,
+    faults: &mut Vec<Fault>,
+    name: &Name,
+    body: &Expr,
+) -> Result<(), AllocError>
+    ensures noted { OnOk result (faults.new.items ≡ faults.old.items ++ expr_faults (within_quantifier (scope_of within.entry locals.old) (name_tree name.now)) (expr_tree body.now)) }
+    ensures kept { OnOk result (locals.new ≡ locals.old) }
+{
+    locals.enter(alloc)?;
+    let local = LocalInfo {
+        ty: Some(StaticType::Int),
+        is_param: false,
+    };
+    locals.declare(alloc, name.text.as_str(), local)?;
+    check(alloc, within, locals, faults, body)?;
+    locals.leave();
+    Ok(())
+}
+
+// What stands behind the first operand of a chain.
+#[cycle(expr)]
+fn walk_links<'a>(
+    alloc: Global,
+    within: Within<'_, '_>,
+    locals: &mut Scopes,
+    faults: &mut Vec<Fault>,
+    place: Place,
+    first: Prefix<'a>,
+    links: &'a [Link],
+) -> Result<Prefix<'a>, AllocError>
+    ensures noted { (e : ExprTree) → (found : Faults) → faults.old.items ≡ found ++ settled (scope_of within.entry locals.old) e → prefix_view first.entry ≡ prefix (scope_of within.entry locals.old) e
+        → OnOk result (faults.new.items ≡ found ++ settled (scope_of within.entry locals.old) (grouped place e (map link_behind links.now))) }
+    ensures begun { (e : ExprTree) → prefix_view first.entry ≡ prefix (scope_of within.entry locals.old) e
+        → IfOk result (λ r. prefix_view r ≡ prefix (scope_of within.entry locals.old) (grouped place e (map link_behind links.now))) }
+    ensures kept { OnOk result (locals.new ≡ locals.old) }
+{
+    let mut before = first;
+    for link in links {
+        before = walk_link(alloc, within, locals, faults, place, before, link)?;
+    }
+    Ok(before)
+}
+
+#[cycle(expr)]
+fn walk_link<'a>(
+    alloc: Global,
+    within: Within<'_, '_>,
+    locals: &mut Scopes,
+    faults: &mut Vec<Fault>,
+    place: Place,
+    before: Prefix<'a>,
+    link: &'a Link,
+) -> Result<Prefix<'a>, AllocError>
+    ensures noted { (e : ExprTree) → (found : Faults) → faults.old.items ≡ found ++ settled (scope_of within.entry locals.old) e → prefix_view before.entry ≡ prefix (scope_of within.entry locals.old) e
+        → OnOk result (faults.new.items ≡ found ++ settled (scope_of within.entry locals.old) (link_behind link.now place e)) }
+    ensures begun { (e : ExprTree) → IfOk result (λ r. prefix_view r ≡ prefix (scope_of within.entry locals.old) (link_behind link.now place e)) }
+    ensures kept { OnOk result (locals.new ≡ locals.old) }
+{
+    add_pending(within, locals, faults, before)?;
+    match link {
+        Link::Operation(operator, operand) => {
+            check(alloc, within, locals, faults, operand)?;
+            Ok(Prefix::Value(Some(operation_type(*operator))))
+        }
+        Link::Is(ty) => {
+            check_type(within.tables, faults, ty)?;
+            Ok(Prefix::Value(Some(StaticType::Bool)))
+        }
+        Link::As(ty) => {
+            check_type(within.tables, faults, ty)?;
+            Ok(Prefix::Value(type_of_as(within, ty)))
+        }
+    }
+}
+
+// What stands behind the beginning of a path.
+#[cycle(expr)]
+fn walk_postfixes<'a>(
+    alloc: Global,
+    within: Within<'_, '_>,
+    locals: &mut Scopes,
+    faults: &mut Vec<Fault>,
+    place: Place,
+    first: Prefix<'a>,
+    postfixes: &'a [Postfix],
+) -> Result<Prefix<'a>, AllocError>
+    ensures noted { (e : ExprTree) → (found : Faults) → faults.old.items ≡ found ++ settled (scope_of within.entry locals.old) e → prefix_view first.entry ≡ prefix (scope_of within.entry locals.old) e
+        → OnOk result (faults.new.items ≡ found ++ settled (scope_of within.entry locals.old) (grouped place e (map postfix_behind postfixes.now))) }
+    ensures begun { (e : ExprTree) → prefix_view first.entry ≡ prefix (scope_of within.entry locals.old) e
+        → IfOk result (λ r. prefix_view r ≡ prefix (scope_of within.entry locals.old) (grouped place e (map postfix_behind postfixes.now))) }
+    ensures kept { OnOk result (locals.new ≡ locals.old) }
+{
+    let mut before = first;
+    for postfix in postfixes {
+        before = walk_postfix(alloc, within, locals, faults, place, before, postfix)?;
+    }
+    Ok(before)
+}
+
+#[cycle(expr)]
+fn walk_postfix<'a>(
+    alloc: Global,
+    within: Within<'_, '_>,
+    locals: &mut Scopes,
+    faults: &mut Vec<Fault>,
+    place: Place,
+    before: Prefix<'a>,
+    postfix: &'a Postfix,
+) -> Result<Prefix<'a>, AllocError>
+    ensures noted { (e : ExprTree) → (found : Faults) → faults.old.items ≡ found ++ settled (scope_of within.entry locals.old) e → prefix_view before.entry ≡ prefix (scope_of within.entry locals.old) e
+        → OnOk result (faults.new.items ≡ found ++ settled (scope_of within.entry locals.old) (postfix_behind postfix.now place e)) }
+    ensures begun { (e : ExprTree) → prefix_view before.entry ≡ prefix (scope_of within.entry locals.old) e
+        → IfOk result (λ r. prefix_view r ≡ prefix (scope_of within.entry locals.old) (postfix_behind postfix.now place e)) }
+    ensures kept { OnOk result (locals.new ≡ locals.old) }
+{
+    match postfix {
+        Postfix::Member(name) => walk_member(within, locals, faults, place, before, name),
+        Postfix::Element(index) => {
+            add_pending(within, locals, faults, before)?;
+            let ty = prefix_value(within, locals, before);
+            check(alloc, within, locals, faults, index)?;
+            Ok(Prefix::Value(type_of_element(ty)))
+        }
+        Postfix::Call(arguments) => {
+            add_called(within, locals, faults, before)?;
+            let ty = call_type(within.tables, prefix_callee(within, locals, before));
+            let asked = prefix_asked(before);
+            check_arguments(alloc, within, locals, faults, asked, arguments)?;
+            Ok(Prefix::Value(ty))
+        }
+    }
+}
+
+// Arguments, of which one may name a class.
+#[cycle(expr)]
+pub fn check_arguments(
+    alloc: Global,
+    within: Within<'_, '_>,
+    locals: &mut Scopes,
+    faults: &mut Vec<Fault>,
+    asked: Option<usize>,
+    exprs: &[Expr],
+) -> Result<(), AllocError>
+    ensures noted { OnOk result (faults.new.items ≡ faults.old.items ++ arguments_faults (scope_of within.entry locals.old) asked (arguments (map expr_tree exprs.now))) }
+    ensures kept { OnOk result (locals.new ≡ locals.old) }
+{
+    let mut which = asked;
+    for argument in exprs {
+        check_argument(alloc, within, locals, faults, which, argument)?;
+        which = behind_argument(which);
+    }
+    Ok(())
+}
+
+#[cycle(expr)]
+fn check_argument(
+    alloc: Global,
+    within: Within<'_, '_>,
+    locals: &mut Scopes,
+    faults: &mut Vec<Fault>,
+    which: Option<usize>,
+    argument: &Expr,
+) -> Result<(), AllocError>
+    ensures noted { OnOk result (faults.new.items ≡ faults.old.items ++ argument_faults (scope_of within.entry locals.old) which (expr_tree argument.now) (expr_faults (scope_of within.entry locals.old) (expr_tree argument.now))) }
+    ensures kept { OnOk result (locals.new ≡ locals.old) }
+{
+    if names_class(which) {
+        let named = walk(alloc, within, locals, faults, argument)?;
+        return add_asked(within, locals, faults, named);
+    }
+    check(alloc, within, locals, faults, argument)?;
+    Ok(())
+}
+
+// Whether the argument is the one that names a class.
+fn names_class(which: Option<usize>) -> bool
+    ensures { (s : Scope) → (e : ExprTree) → (fs : Faults) → argument_faults s which e fs ≡ (if result then class_named_by s e fs else fs) }
+{
+    match which {
+        Some(number) => number == 0,
+        None => false,
+    }
+}
+
+// The number of the argument that names a class, counted from the next one.
+fn behind_argument(which: Option<usize>) -> Option<usize>
+    ensures { result ≡ behind_argument which }
+{
+    match which {
+        Some(number) => { if number == 0 { None } else { Some(number - 1) } }
+        None => None,
+    }
+}

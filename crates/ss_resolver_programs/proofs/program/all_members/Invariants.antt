@@ -1,0 +1,10 @@
+use Rattle.std.proofs.Common.{◌≡◌, ◌++◌, map, drop}
+use Rattle.ss_ast.specs.Programs.{class_tree}
+use Rattle.ss_core.specs.View as class_view
+use Rattle.ss_tables_lookup.specs.Classes.{trees}
+use Rattle.ss_typed.specs.View as view
+use Rattle.ss_resolver_rules.specs.Programs as resolved
+use Rattle.ss_resolver_programs.proofs.program.all_members.Given as goal
+
+abbrev pub invariant-loop-class : goal.invariant-loop-class
+invariant-loop-class l = map view.members l.list.items ++ resolved.each (resolved.members (trees l.whole.tables.now)) l.class (map class_tree (drop l.class l.classes)) ≡ resolved.each (resolved.members (trees l.whole.tables.now)) 0 (map class_tree l.classes)

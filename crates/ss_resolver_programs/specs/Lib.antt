@@ -1,0 +1,6 @@
+pub mod Locals
+pub mod Forms
+pub mod Alone
+pub mod Terms
+pub mod Behind
+pub mod Parts

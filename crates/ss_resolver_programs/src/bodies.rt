@@ -1,0 +1,286 @@
+// Methods and constructors.
+
+ghost use Rattle.std.specs.Prelude.{◌≡◌, ◌++◌, ◌∷◌, [], None, IfOk, OnOk, map, option_map, unwrap_or, if◌then◌else◌};
+ghost use Rattle.ss_ast.specs.Expressions.{type_tree};
+ghost use Rattle.ss_ast.specs.Statements.{block_tree};
+ghost use Rattle.ss_ast.specs.Programs.{param_tree, clause_tree};
+ghost use Rattle.ss_tables_lookup.specs.Classes.{trees};
+ghost use Rattle.ss_tables_lookup.specs.Views.{type_of, method_tree, constructor_tree};
+ghost use Rattle.ss_core.specs.declared.names.Ty.TheVariants as static_type;
+ghost use Rattle.ss_typed.specs.View as view;
+ghost use Rattle.ss_resolver_rules.specs.Numbers.{type_id};
+ghost use Rattle.ss_resolver_rules.specs.Names.{class_env, declare_params};
+ghost use Rattle.ss_resolver_rules.specs.Programs.{exit_env, method_flags, constructor_flags, method_body, constructor_body};
+ghost use Rattle.ss_resolver_tables.specs.Limits.{HasFewClasses};
+ghost use Rattle.ss_resolver_expressions.specs.Around.{Around};
+ghost use Rattle.ss_resolver_expressions.specs.Scenes.{env_of};
+ghost use Rattle.ss_resolver_programs.specs.Parts.{param_in, AreParts};
+
+use crate::contracts::{resolve_base, resolve_entry, resolve_exit, resolve_modifies};
+use crate::decls::declare_params;
+use crate::locals::list_locals;
+use crate::marks::{copy_names, has_attribute};
+use crate::stmts::resolve_block;
+use ss_ast::{Block, Clause, Param, TypeRef};
+use ss_core::Local;
+use ss_tables_lookup::{ConstructorRef, MethodRef, StaticType, Tables};
+use ss_resolver_expressions::{LocalNames, Scene, is_static};
+use ss_resolver_tables::{class_number, declared_result, type_id};
+use ss_tables_scopes::Within;
+use ss_typed::{TypedBlock, TypedBody, TypedExpr, TypedFlags, TypedModifies, TypedParam};
+use std::alloc::{AllocError, Global};
+
+fn resolve_param(
+    alloc: Global,
+    tables: &Tables<'_>,
+    param: &Param,
+) -> Result<TypedParam, AllocError>
+    requires { HasFewClasses (trees tables.now) }
+    ensures { IfOk result (λ p. view.param p ≡ param_in (trees tables.now) (param_tree param.now)) }
+{
+    let name = String::from_str(alloc, param.name.text.as_str())?;
+    let attributes = copy_names(alloc, &param.attributes)?;
+    let captured = has_attribute("Captured", &param.attributes);
+    Ok(TypedParam {
+        name,
+        place: param.name.place,
+        ty: type_id(tables, &param.ty),
+        captured,
+        attributes,
+    })
+}
+
+// One more parameter.
+fn add_param(
+    alloc: Global,
+    tables: &Tables<'_>,
+    list: &mut Vec<TypedParam>,
+    param: &Param,
+) -> Result<(), AllocError>
+    requires { HasFewClasses (trees tables.now) }
+    ensures { OnOk result (map view.param list.new.items ≡ map view.param list.old.items ++ param_in (trees tables.now) (param_tree param.now) ∷ []) }
+{
+    let param = resolve_param(alloc, tables, param)?;
+    list.push(param)?;
+    Ok(())
+}
+
+fn resolve_params(
+    alloc: Global,
+    tables: &Tables<'_>,
+    params: &[Param],
+) -> Result<Vec<TypedParam>, AllocError>
+    requires { HasFewClasses (trees tables.now) }
+    ensures { IfOk result (λ v. map view.param v.items ≡ map (param_in (trees tables.now)) (map param_tree params.now)) }
+{
+    let mut list = Vec::new(alloc);
+    for param in params {
+        add_param(alloc, tables, &mut list, param)?;
+    }
+    Ok(list)
+}
+
+// The names with the parameters of a body, where the first local has this number.
+fn enter_params(
+    alloc: Global,
+    scene: &Scene<'_, '_>,
+    first: usize,
+    params: &[Param],
+) -> Result<LocalNames, AllocError>
+    requires { scene.now.within.outcome ≡ None }
+    ensures { IfOk result (λ a. env_of scene.now a ≡ declare_params (record (class_env (trees scene.now.within.tables.now) scene.now.within.class) { next = first }) (map param_tree params.now)) }
+{
+    let mut around = LocalNames::new(alloc, first);
+    declare_params(alloc, scene, &mut around, params)?;
+    Ok(around)
+}
+
+/// What a body has besides its heading.
+#[derive(Drop)]
+pub struct Parts {
+    pub params: Vec<TypedParam>,
+    pub locals: Vec<Local>,
+    pub entry: Vec<TypedExpr>,
+    pub exit: Vec<TypedExpr>,
+    pub modifies: Option<Vec<TypedModifies>>,
+    pub block: TypedBlock,
+}
+
+// The parts of a body whose parameters are in scope; `exit` is the scene of its `ensures` clauses.
+fn resolve_parts<'p>(
+    alloc: Global,
+    scene: &Scene<'_, 'p>,
+    exit: &Scene<'_, 'p>,
+    around: &mut LocalNames,
+    params: &[Param],
+    clauses: &'p [Clause],
+    body: &'p Block,
+) -> Result<Parts, AllocError>
+    ensures { IfOk result (λ p. AreParts (env_of scene.now around.old) (env_of exit.now around.old) (map param_tree params.now) (map clause_tree clauses.now) (block_tree body.now) p) }
+{
+    let tables = scene.within.tables;
+    let params = resolve_params(alloc, tables, params)?;
+    let locals = list_locals(alloc, tables, body)?;
+    let entry = resolve_entry(alloc, scene, around, clauses)?;
+    let exit = resolve_exit(alloc, exit, around, clauses)?;
+    let modifies = resolve_modifies(alloc, scene, around, clauses)?;
+    let block = resolve_block(alloc, scene, around, body)?;
+    Ok(Parts {
+        params,
+        locals,
+        entry,
+        exit,
+        modifies,
+        block,
+    })
+}
+
+fn or_null(ty: Option<StaticType>) -> StaticType
+    ensures { type_of result ≡ unwrap_or (option_map type_of ty) static_type.Null }
+{
+    match ty {
+        Some(ty) => ty,
+        None => StaticType::Null,
+    }
+}
+
+// The static type of `result`.
+fn outcome_of(tables: &Tables<'_>, ty: &Option<TypeRef>) -> Option<StaticType>
+    ensures { option_map type_of result ≡ option_map (type_id (trees tables.now)) (option_map type_tree ty.now) }
+{
+    match ty {
+        Some(ty) => Some(or_null(tables.written_type(ty))),
+        None => None,
+    }
+}
+
+// The scene in which `result` has its type.
+fn exit_scene<'t, 'p>(scene: &Scene<'t, 'p>, returns: &Option<TypeRef>) -> Scene<'t, 'p>
+    ensures { (a : Around) → env_of result a ≡ exit_env (env_of scene.now a) (option_map (type_id (trees scene.now.within.tables.now)) (option_map type_tree returns.now)) }
+{
+    let tables = scene.within.tables;
+    Scene {
+        within: Within {
+            tables,
+            class: scene.within.class,
+            outcome: outcome_of(tables, returns),
+        },
+        fields: scene.fields,
+        bodies: scene.bodies,
+        tables: scene.tables,
+        outcome: declared_result(tables, returns),
+    }
+}
+
+fn method_flags(method: MethodRef<'_>) -> TypedFlags
+    ensures { result ≡ method_flags (method_tree method.entry) }
+{
+    TypedFlags {
+        is_static: is_static(method),
+        ctor: false,
+        delayed: false,
+        pure: has_attribute("Pure", &method.member.attributes),
+        no_default_contract: has_attribute("NoDefaultContract", &method.member.attributes),
+    }
+}
+
+fn constructor_flags(constructor: ConstructorRef<'_>) -> TypedFlags
+    ensures { result ≡ constructor_flags (constructor_tree constructor.entry) }
+{
+    TypedFlags {
+        is_static: false,
+        ctor: true,
+        delayed: !has_attribute("NotDelayed", constructor.attributes),
+        pure: has_attribute("Pure", constructor.attributes),
+        no_default_contract: has_attribute("NoDefaultContract", constructor.attributes),
+    }
+}
+
+// The number of the first local: a static method has no `this`.
+fn first_local(is_static: bool) -> usize
+    ensures { result ≡ (if is_static then 0 else 1) }
+{
+    if is_static { 0 } else { 1 }
+}
+
+/// A method.
+pub(crate) fn resolve_method<'p>(
+    alloc: Global,
+    scene: &Scene<'_, 'p>,
+    method: MethodRef<'p>,
+) -> Result<TypedBody, AllocError>
+    requires { scene.now.within.outcome ≡ None }
+    ensures { IfOk result (λ b. view.body b ≡ method_body (trees scene.now.within.tables.now) scene.now.within.class (method_tree method.entry)) }
+{
+    let written = method.method;
+    let exit = exit_scene(scene, &written.returns);
+    let first = first_local(is_static(method));
+    let mut around = enter_params(alloc, scene, first, &written.params)?;
+    let parts = resolve_parts(
+        alloc,
+        scene,
+        &exit,
+        &mut around,
+        &written.params,
+        &written.clauses,
+        &written.body,
+    )?;
+    let name = String::from_str(alloc, written.name.text.as_str())?;
+    let attributes = copy_names(alloc, &method.member.attributes)?;
+    Ok(TypedBody {
+        class: class_number(scene.within.class),
+        name,
+        place: written.name.place,
+        flags: method_flags(method),
+        attributes,
+        params: parts.params,
+        locals: parts.locals,
+        result: declared_result(scene.within.tables, &written.returns),
+        entry: parts.entry,
+        exit: parts.exit,
+        modifies: parts.modifies,
+        base: None,
+        block: parts.block,
+    })
+}
+
+/// A constructor.
+pub(crate) fn resolve_constructor<'p>(
+    alloc: Global,
+    scene: &Scene<'_, 'p>,
+    constructor: ConstructorRef<'p>,
+) -> Result<TypedBody, AllocError>
+    requires { scene.now.within.outcome ≡ None }
+    ensures { IfOk result (λ b. view.body b ≡ constructor_body (trees scene.now.within.tables.now) scene.now.within.class (constructor_tree constructor.entry)) }
+{
+    let written = constructor.constructor;
+    let mut around = enter_params(alloc, scene, 1, &written.params)?;
+    let base = resolve_base(alloc, scene, &mut around, &written.base)?;
+    let exit = *scene;
+    let parts = resolve_parts(
+        alloc,
+        scene,
+        &exit,
+        &mut around,
+        &written.params,
+        &written.clauses,
+        &written.body,
+    )?;
+    let name = String::from_str(alloc, written.name.text.as_str())?;
+    let attributes = copy_names(alloc, constructor.attributes)?;
+    Ok(TypedBody {
+        class: class_number(scene.within.class),
+        name,
+        place: written.name.place,
+        flags: constructor_flags(constructor),
+        attributes,
+        params: parts.params,
+        locals: parts.locals,
+        result: None,
+        entry: parts.entry,
+        exit: parts.exit,
+        modifies: parts.modifies,
+        base,
+        block: parts.block,
+    })
+}

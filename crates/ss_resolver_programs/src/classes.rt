@@ -1,0 +1,281 @@
+// Classes.
+
+ghost use Rattle.std.specs.Prelude.{◌≡◌, ◌++◌, ◌∷◌, [], ◌<◌, IfOk, OnOk, length, map, option_map, slice_get, None};
+ghost use Rattle.ss_ast.specs.Expressions.{name_tree};
+ghost use Rattle.ss_ast.specs.Programs.{member_tree, class_tree};
+ghost use Rattle.ss_core.specs.View as class_view;
+ghost use Rattle.ss_tables.specs.Classes.{above};
+ghost use Rattle.ss_tables_lookup.specs.Classes.{trees};
+ghost use Rattle.ss_tables_lookup.specs.Shelves as shelves;
+ghost use Rattle.ss_tables_lookup.specs.Shelved.{shelf_of};
+ghost use Rattle.ss_tables_lookup.specs.Views.{field_tree};
+ghost use Rattle.ss_typed.specs.View as view;
+ghost use Rattle.ss_resolver_rules.specs.Numbers.{table};
+ghost use Rattle.ss_resolver_rules.specs.Numbers as numbers;
+ghost use Rattle.ss_resolver_rules.specs.Programs.{mark_of, invariants_of_kind, invariants_in, field_member, written_constructor};
+ghost use Rattle.ss_resolver_rules.specs.Programs as resolved;
+ghost use Rattle.ss_resolver_tables.specs.Limits.{HasFewClasses};
+ghost use Rattle.ss_resolver_tables.specs.Slots.{slot_of, slots_of};
+ghost use Rattle.ss_resolver_expressions.specs.Scenes.{env_of};
+
+use crate::decls::resolve_option;
+use crate::marks::{copy_names, has_attribute};
+use crate::whole::Whole;
+use ss_ast::{ClassDecl, Member, MemberKind, Name};
+use ss_core::{BodyId, Class, ClassId, Entry, Field, Mark};
+use ss_tables_lookup::{FieldRef, Shelf, Tables};
+use ss_resolver_expressions::{LocalNames, Scene, resolve as resolve_expr};
+use ss_resolver_tables::{MethodTable, Slot, constructor_id, number_or_object, type_id};
+use ss_typed::{TypedClass, TypedField, TypedInvariant};
+use std::alloc::{AllocError, Global};
+
+fn mark_of(attributes: &[Name]) -> Mark
+    ensures { result ≡ mark_of (map name_tree attributes.now) }
+{
+    if has_attribute("Rep", attributes) {
+        Mark::Rep
+    } else if has_attribute("Peer", attributes) {
+        Mark::Peer
+    } else {
+        Mark::Plain
+    }
+}
+
+fn core_field(alloc: Global, tables: &Tables<'_>, field: FieldRef<'_>) -> Result<Field, AllocError>
+    requires { HasFewClasses (trees tables.now) }
+    ensures { IfOk result (λ f. class_view.field_of f ≡ resolved.field (trees tables.now) (field_tree field.entry)) }
+{
+    let name = String::from_str(alloc, field.declarator.name.text.as_str())?;
+    Ok(Field {
+        name,
+        ty: type_id(tables, field.ty),
+        mark: mark_of(field.attributes),
+    })
+}
+
+// One more field.
+fn add_core_field(
+    alloc: Global,
+    tables: &Tables<'_>,
+    list: &mut Vec<Field>,
+    field: FieldRef<'_>,
+) -> Result<(), AllocError>
+    requires { HasFewClasses (trees tables.now) }
+    ensures { OnOk result (map class_view.field_of list.new.items ≡ map class_view.field_of list.old.items ++ resolved.field (trees tables.now) (field_tree field.entry) ∷ []) }
+{
+    let field = core_field(alloc, tables, field)?;
+    list.push(field)?;
+    Ok(())
+}
+
+fn core_fields(
+    alloc: Global,
+    tables: &Tables<'_>,
+    fields: &[FieldRef<'_>],
+) -> Result<Vec<Field>, AllocError>
+    requires { HasFewClasses (trees tables.now) }
+    ensures { IfOk result (λ v. map class_view.field_of v.items ≡ map (resolved.field (trees tables.now)) (map field_tree fields.now)) }
+{
+    let mut list = Vec::new(alloc);
+    for field in fields {
+        add_core_field(alloc, tables, &mut list, *field)?;
+    }
+    Ok(list)
+}
+
+// One more entry of a table.
+fn add_entry(alloc: Global, list: &mut Vec<Entry>, slot: Slot<'_>) -> Result<(), AllocError>
+    ensures { OnOk result (map class_view.entry_of list.new.items ≡ map class_view.entry_of list.old.items ++ slot_of slot.entry ∷ []) }
+{
+    let name = String::from_str(alloc, slot.name)?;
+    list.push(Entry {
+        name,
+        body: slot.body,
+    })?;
+    Ok(())
+}
+
+fn entries(alloc: Global, slots: &[Slot<'_>]) -> Result<Vec<Entry>, AllocError>
+    ensures { IfOk result (λ v. map class_view.entry_of v.items ≡ slots_of slots.now) }
+{
+    let mut list = Vec::new(alloc);
+    for slot in slots {
+        add_entry(alloc, &mut list, *slot)?;
+    }
+    Ok(list)
+}
+
+fn table_at<'t, 'p>(list: &'t [MethodTable<'p>], class: usize) -> Option<&'t MethodTable<'p>>
+    ensures { option_map (λ t. t.now) result ≡ slice_get list.now class }
+{
+    list.get(class)
+}
+
+// The table of a class.
+fn table_of(alloc: Global, whole: &Whole<'_, '_>, class: usize) -> Result<Vec<Entry>, AllocError>
+    requires { class < length (trees whole.now.tables.now) }
+    ensures { IfOk result (λ v. map class_view.entry_of v.items ≡ table (trees whole.now.tables.now) class) }
+{
+    match table_at(whole.methods, class) {
+        Some(table) => entries(alloc, &table.slots),
+        None => unreachable!(),
+    }
+}
+
+// The number of the class above a class.
+fn number_above(tables: &Tables<'_>, class: usize) -> ClassId
+    requires { HasFewClasses (trees tables.now) }
+    ensures { result.0 ≡ numbers.number_or_object (above (trees tables.now) class) }
+{
+    number_or_object(tables.above(class))
+}
+
+/// The entry of a class in the table of classes.
+pub(crate) fn core_class(
+    alloc: Global,
+    whole: &Whole<'_, '_>,
+    class: usize,
+    shelf: &Shelf<'_>,
+    written: &ClassDecl,
+) -> Result<Class, AllocError>
+    requires within { class < length (trees whole.now.tables.now) }
+    requires shelved { shelf_of shelf.now ≡ shelves.shelf (trees whole.now.tables.now) (class_tree written.now) }
+    ensures { IfOk result (λ c. class_view.class_of c ≡ resolved.class (trees whole.now.tables.now) class (class_tree written.now)) }
+{
+    let tables = whole.tables;
+    let name = String::from_str(alloc, written.name.text.as_str())?;
+    let fields = core_fields(alloc, tables, &shelf.fields)?;
+    let table = table_of(alloc, whole, class)?;
+    Ok(Class {
+        name,
+        above: number_above(tables, class),
+        also: Vec::new(alloc),
+        fields,
+        invariants: Vec::new(alloc),
+        table,
+    })
+}
+
+fn resolve_field<'p>(
+    alloc: Global,
+    scene: &Scene<'_, 'p>,
+    around: &mut LocalNames,
+    field: FieldRef<'p>,
+) -> Result<TypedField, AllocError>
+    ensures tree { IfOk result (λ f. view.field f ≡ field_member (env_of scene.now around.old) (field_tree field.entry)) }
+    ensures kept { OnOk result (around.new ≡ around.old) }
+{
+    let attributes = copy_names(alloc, field.attributes)?;
+    let initial = resolve_option(alloc, scene, around, &field.declarator.initial)?;
+    Ok(TypedField {
+        place: field.declarator.name.place,
+        attributes,
+        initial,
+    })
+}
+
+// One more field.
+fn add_field<'p>(
+    alloc: Global,
+    scene: &Scene<'_, 'p>,
+    around: &mut LocalNames,
+    list: &mut Vec<TypedField>,
+    field: FieldRef<'p>,
+) -> Result<(), AllocError>
+    ensures trees { OnOk result (map view.field list.new.items ≡ map view.field list.old.items ++ field_member (env_of scene.now around.old) (field_tree field.entry) ∷ []) }
+    ensures kept { OnOk result (around.new ≡ around.old) }
+{
+    let field = resolve_field(alloc, scene, around, field)?;
+    list.push(field)?;
+    Ok(())
+}
+
+fn resolve_fields<'p>(
+    alloc: Global,
+    scene: &Scene<'_, 'p>,
+    around: &mut LocalNames,
+    fields: &[FieldRef<'p>],
+) -> Result<Vec<TypedField>, AllocError>
+    ensures trees { IfOk result (λ v. map view.field v.items ≡ map (field_member (env_of scene.now around.old)) (map field_tree fields.now)) }
+    ensures kept { OnOk result (around.new ≡ around.old) }
+{
+    let mut list = Vec::new(alloc);
+    for field in fields {
+        add_field(alloc, scene, around, &mut list, *field)?;
+    }
+    Ok(list)
+}
+
+// The invariant that a member is, if it is one.
+fn add_invariant<'p>(
+    alloc: Global,
+    scene: &Scene<'_, 'p>,
+    around: &mut LocalNames,
+    list: &mut Vec<TypedInvariant>,
+    member: &'p Member,
+) -> Result<(), AllocError>
+    ensures trees { OnOk result (map view.invariant_of list.new.items ≡ map view.invariant_of list.old.items ++ invariants_of_kind (env_of scene.now around.old) (member_tree member.now).attributes (member_tree member.now).kind) }
+    ensures kept { OnOk result (around.new ≡ around.old) }
+{
+    match &member.kind {
+        MemberKind::Invariant(condition) => {
+            let attributes = copy_names(alloc, &member.attributes)?;
+            let condition = resolve_expr(alloc, scene, around, condition)?;
+            list.push(TypedInvariant {
+                attributes,
+                condition,
+            })?;
+            Ok(())
+        }
+        MemberKind::Fields(_) | MemberKind::Method(_) | MemberKind::Constructor(_) => Ok(()),
+    }
+}
+
+fn resolve_invariants<'p>(
+    alloc: Global,
+    scene: &Scene<'_, 'p>,
+    around: &mut LocalNames,
+    members: &'p [Member],
+) -> Result<Vec<TypedInvariant>, AllocError>
+    ensures trees { IfOk result (λ v. map view.invariant_of v.items ≡ invariants_in (env_of scene.now around.old) (map member_tree members.now)) }
+    ensures kept { OnOk result (around.new ≡ around.old) }
+{
+    let mut list = Vec::new(alloc);
+    for member in members {
+        add_invariant(alloc, scene, around, &mut list, member)?;
+    }
+    Ok(list)
+}
+
+fn written_constructor(scene: &Scene<'_, '_>, shelf: &Shelf<'_>) -> Option<BodyId>
+    ensures { option_map (λ n. n.0) result ≡ written_constructor (trees scene.now.within.tables.now) scene.now.within.class (shelf_of shelf.now).constructors }
+{
+    if shelf.constructors.is_empty() {
+        None
+    } else {
+        let within = scene.within;
+        Some(constructor_id(within.tables, scene.bodies, within.class))
+    }
+}
+
+/// What a class has beside its entry in the table of classes.
+pub(crate) fn resolve_members<'p>(
+    alloc: Global,
+    scene: &Scene<'_, 'p>,
+    shelf: &Shelf<'p>,
+    written: &'p ClassDecl,
+) -> Result<TypedClass, AllocError>
+    requires outcome { scene.now.within.outcome ≡ None }
+    requires shelved { shelf_of shelf.now ≡ shelves.shelf (trees scene.now.within.tables.now) (class_tree written.now) }
+    ensures { IfOk result (λ c. view.members c ≡ resolved.members (trees scene.now.within.tables.now) scene.now.within.class (class_tree written.now)) }
+{
+    let mut around = LocalNames::new(alloc, 1);
+    let fields = resolve_fields(alloc, scene, &mut around, &shelf.fields)?;
+    let invariants = resolve_invariants(alloc, scene, &mut around, &written.members)?;
+    Ok(TypedClass {
+        place: written.name.place,
+        constructor: written_constructor(scene, shelf),
+        fields,
+        invariants,
+    })
+}

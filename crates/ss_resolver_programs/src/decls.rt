@@ -1,0 +1,164 @@
+// Declared locals and parameters.
+
+ghost use Rattle.std.specs.Prelude.{◌≡◌, ◌++◌, ◌∷◌, [], IfOk, OnOk, map, option_map};
+ghost use Rattle.ss_ast.specs.Expressions.{name_tree, type_tree, expr_tree};
+ghost use Rattle.ss_ast.specs.Statements.{declarator_tree, declaration_tree};
+ghost use Rattle.ss_ast.specs.Programs.{param_tree};
+ghost use Rattle.ss_typed.specs.View as view;
+ghost use Rattle.ss_resolver_rules.specs.Names.{declare, declare_all, declare_param, declare_params, behind_declaration};
+ghost use Rattle.ss_resolver_rules.specs.Expressions.{expr};
+ghost use Rattle.ss_resolver_rules.specs.Statements as resolved;
+ghost use Rattle.ss_resolver_expressions.specs.Scenes.{env_of};
+
+use ss_ast::{Declaration, Declarator, Expr, Name, Param, TypeRef};
+use ss_resolver_expressions::{LocalNames, Scene, resolve as resolve_expr};
+use ss_resolver_tables::type_id;
+use ss_tables_scopes::LocalInfo;
+use ss_typed::{TypedDeclarator, TypedExpr};
+use std::alloc::{AllocError, Global};
+
+// Declares a local.
+fn declare_local(
+    alloc: Global,
+    scene: &Scene<'_, '_>,
+    around: &mut LocalNames,
+    ty: &TypeRef,
+    name: &Name,
+) -> Result<(), AllocError>
+    ensures { OnOk result (env_of scene.now around.new ≡ declare (env_of scene.now around.old) (type_tree ty.now) (name_tree name.now)) }
+{
+    let tables = scene.within.tables;
+    let local = LocalInfo {
+        ty: tables.written_type(ty),
+        is_param: false,
+    };
+    around.declare(alloc, name.text.as_str(), local, type_id(tables, ty))
+}
+
+// Declares a parameter.
+fn declare_param(
+    alloc: Global,
+    scene: &Scene<'_, '_>,
+    around: &mut LocalNames,
+    param: &Param,
+) -> Result<(), AllocError>
+    ensures { OnOk result (env_of scene.now around.new ≡ declare_param (env_of scene.now around.old) (param_tree param.now)) }
+{
+    let tables = scene.within.tables;
+    let local = LocalInfo {
+        ty: tables.written_type(&param.ty),
+        is_param: true,
+    };
+    let name = param.name.text.as_str();
+    around.declare(alloc, name, local, type_id(tables, &param.ty))
+}
+
+/// Declares parameters in order.
+pub(crate) fn declare_params(
+    alloc: Global,
+    scene: &Scene<'_, '_>,
+    around: &mut LocalNames,
+    params: &[Param],
+) -> Result<(), AllocError>
+    ensures { OnOk result (env_of scene.now around.new ≡ declare_params (env_of scene.now around.old) (map param_tree params.now)) }
+{
+    for param in params {
+        declare_param(alloc, scene, around, param)?;
+    }
+    Ok(())
+}
+
+/// An expression where there is one.
+pub(crate) fn resolve_option<'p>(
+    alloc: Global,
+    scene: &Scene<'_, 'p>,
+    around: &mut LocalNames,
+    e: &'p Option<Expr>,
+) -> Result<Option<TypedExpr>, AllocError>
+    ensures tree { IfOk result (λ r. option_map view.expr r ≡ option_map (expr (env_of scene.now around.old)) (option_map expr_tree e.now)) }
+    ensures kept { OnOk result (around.new ≡ around.old) }
+{
+    match e {
+        Some(e) => {
+            let value = resolve_expr(alloc, scene, around, e)?;
+            Ok(Some(value))
+        }
+        None => Ok(None),
+    }
+}
+
+// A declarator, behind which its name is in scope.
+fn resolve_declarator<'p>(
+    alloc: Global,
+    scene: &Scene<'_, 'p>,
+    around: &mut LocalNames,
+    ty: &TypeRef,
+    declarator: &'p Declarator,
+) -> Result<TypedDeclarator, AllocError>
+    ensures tree { IfOk result (λ d. view.declarator d ≡ resolved.declarator (env_of scene.now around.old) (type_tree ty.now) (declarator_tree declarator.now)) }
+    ensures behind { OnOk result (env_of scene.now around.new ≡ declare (env_of scene.now around.old) (type_tree ty.now) (name_tree declarator.now.name)) }
+{
+    let initial = resolve_option(alloc, scene, around, &declarator.initial)?;
+    let local = around.next();
+    declare_local(alloc, scene, around, ty, &declarator.name)?;
+    Ok(TypedDeclarator {
+        place: declarator.name.place,
+        local,
+        ty: type_id(scene.within.tables, ty),
+        initial,
+    })
+}
+
+// One more declarator.
+fn add_declarator<'p>(
+    alloc: Global,
+    scene: &Scene<'_, 'p>,
+    around: &mut LocalNames,
+    list: &mut Vec<TypedDeclarator>,
+    ty: &TypeRef,
+    declarator: &'p Declarator,
+) -> Result<(), AllocError>
+    ensures trees { OnOk result (map view.declarator list.new.items ≡ map view.declarator list.old.items ++ resolved.declarator (env_of scene.now around.old) (type_tree ty.now) (declarator_tree declarator.now) ∷ []) }
+    ensures behind { OnOk result (env_of scene.now around.new ≡ declare (env_of scene.now around.old) (type_tree ty.now) (name_tree declarator.now.name)) }
+{
+    let declarator = resolve_declarator(alloc, scene, around, ty, declarator)?;
+    list.push(declarator)?;
+    Ok(())
+}
+
+// Declarators of one type, in order.
+fn resolve_declarators<'p>(
+    alloc: Global,
+    scene: &Scene<'_, 'p>,
+    around: &mut LocalNames,
+    ty: &TypeRef,
+    declarators: &'p [Declarator],
+) -> Result<Vec<TypedDeclarator>, AllocError>
+    ensures trees { IfOk result (λ v. map view.declarator v.items ≡ resolved.declarators (env_of scene.now around.old) (type_tree ty.now) (map declarator_tree declarators.now)) }
+    ensures behind { OnOk result (env_of scene.now around.new ≡ declare_all (env_of scene.now around.old) (type_tree ty.now) (map declarator_tree declarators.now)) }
+{
+    let mut list = Vec::new(alloc);
+    for declarator in declarators {
+        add_declarator(alloc, scene, around, &mut list, ty, declarator)?;
+    }
+    Ok(list)
+}
+
+/// The declarators of a declaration, behind which their names are in scope.
+pub(crate) fn resolve_declaration<'p>(
+    alloc: Global,
+    scene: &Scene<'_, 'p>,
+    around: &mut LocalNames,
+    declaration: &'p Declaration,
+) -> Result<Vec<TypedDeclarator>, AllocError>
+    ensures trees { IfOk result (λ v. map view.declarator v.items ≡ resolved.declaration (env_of scene.now around.old) (declaration_tree declaration.now)) }
+    ensures behind { OnOk result (env_of scene.now around.new ≡ behind_declaration (env_of scene.now around.old) (declaration_tree declaration.now)) }
+{
+    resolve_declarators(
+        alloc,
+        scene,
+        around,
+        &declaration.ty,
+        &declaration.declarators,
+    )
+}

@@ -1,5 +1,0 @@
-use Rattle.ss_sources.proofs.Meanings.{one_meaning}
-use Rattle.ss_sources.proofs.laws.one_meaning.Goals as goal
-
-pub returns : goal.returns
-returns c = one_meaning

@@ -1,0 +1,84 @@
+// Types with the numbers of classes, of which a program may have more than a core program can.
+
+ghost use Rattle.std.specs.Prelude.{◌≡◌, option_map};
+ghost use Rattle.ss_tables.specs.Classes.{is_array_number, declared_place};
+ghost use Rattle.ss_tables.specs.Types.{class_of, element_type, nullable};
+ghost use Rattle.ss_tables_lookup.specs.Views.{type_of};
+
+/// A static type. A class is told by its number: 0 is `object`, 1 `int[]`, 2 `bool[]`, 3 `object[]`; the declared class at
+/// place `k` has `4 + 2 k`, and its array `5 + 2 k`.
+#[derive(Clone, Copy, Debug, PartialEq, Eq)]
+pub enum StaticType {
+    Int,
+    Bool,
+    Null,
+    Ref { class: usize, non_null: bool },
+}
+
+/// The class of the values of a type, by its number.
+pub fn class_of(ty: StaticType) -> Option<usize>
+    ensures { result ≡ class_of (type_of ty) }
+{
+    match ty {
+        StaticType::Ref { class, .. } => Some(class),
+        StaticType::Int | StaticType::Bool | StaticType::Null => None,
+    }
+}
+
+/// The same type with null.
+pub fn nullable(ty: StaticType) -> StaticType
+    ensures { type_of result ≡ nullable (type_of ty) }
+{
+    match ty {
+        StaticType::Ref { class, .. } => StaticType::Ref {
+            class,
+            non_null: false,
+        },
+        StaticType::Int => StaticType::Int,
+        StaticType::Bool => StaticType::Bool,
+        StaticType::Null => StaticType::Null,
+    }
+}
+
+/// Whether this is the number of an array class.
+pub fn is_array_number(class: usize) -> bool
+    ensures { result ≡ is_array_number class }
+{
+    if class >= 4 {
+        class % 2 == 1
+    } else {
+        class >= 1
+    }
+}
+
+/// The place of the declared class with this number.
+pub fn declared_place(class: usize) -> Option<usize>
+    ensures { result ≡ declared_place class }
+{
+    if class >= 4 && class % 2 == 0 {
+        Some((class - 4) / 2)
+    } else {
+        None
+    }
+}
+
+/// The type of the elements of arrays of this class.
+pub fn element_type(class: usize) -> Option<StaticType>
+    ensures { option_map type_of result ≡ element_type class }
+{
+    if !is_array_number(class) {
+        return None;
+    }
+    Some(match class {
+        1 => StaticType::Int,
+        2 => StaticType::Bool,
+        3 => StaticType::Ref {
+            class: 0,
+            non_null: false,
+        },
+        _ => StaticType::Ref {
+            class: class - 1,
+            non_null: false,
+        },
+    })
+}

@@ -1,0 +1,316 @@
+// Static types of names and members, and what a call calls.
+
+ghost use Rattle.std.specs.Prelude.{◌≡◌, option_map, option_and_then};
+ghost use Rattle.ss_tables.specs.Classes.{declared_place};
+ghost use Rattle.ss_ast.specs.Expressions.{type_tree};
+ghost use Rattle.ss_tables.specs.Statics.{is_member, is_known, class_or_value, name_receiver, type_of_field, name_type, field_type, member_type, read_type, method_callee, name_callee, method_at, member_callee, result_type, call_type, reference_only, cast_type};
+ghost use Rattle.ss_tables.specs.Types.{class_of};
+ghost use Rattle.ss_tables_lookup.specs.Classes.{trees};
+ghost use Rattle.ss_tables_lookup.specs.Views.{type_of, declared_field, declared_method};
+ghost use Rattle.ss_tables_scopes.specs.Names.{Names};
+ghost use Rattle.ss_tables_scopes.specs.Views.{scope_of, receiver_of, callee_of};
+
+use crate::scopes::Scopes;
+use crate::within::Within;
+use crate::words::{
+    is_console, is_length, is_owner, is_owner_word, is_print, is_state_call, is_state_read,
+};
+use ss_ast::TypeRef;
+use ss_tables_lookup::{
+    FieldRef, MethodRef, StaticType, Tables, class_of, declared_place, is_array_number,
+};
+
+/// What stands before a dot.
+#[derive(Clone, Copy)]
+pub enum Receiver {
+    /// The word `Console`, which no local hides.
+    Console,
+    /// The word `Owner`.
+    Owner,
+    /// The word `base`.
+    Base,
+    /// A class, by its place.
+    Class(usize),
+    /// Any other expression, with its static type.
+    Value(Option<StaticType>),
+}
+
+/// What a call calls.
+#[derive(Clone, Copy)]
+pub enum Callee<'p> {
+    /// A method, with the class that declares it.
+    Method(usize, MethodRef<'p>),
+    /// `Console.Write` or `Console.WriteLine`.
+    Print,
+    /// A question about owners, or a state word that asks for a class.
+    Word,
+    /// `base(..)`.
+    Base,
+    /// Nothing that can be called.
+    Nothing,
+}
+
+/// Whether a bare name may mean a member of the class or of one above.
+pub fn is_member(tables: &Tables<'_>, class: usize, name: &str) -> bool
+    ensures { result ≡ is_member (trees tables.now) class name.now }
+{
+    tables.field_of(class, name).is_some() || tables.method_of(class, name).is_some()
+}
+
+/// Whether a bare name means something.
+pub fn is_known(within: Within<'_, '_>, locals: &Scopes, name: &str) -> bool
+    ensures { result ≡ is_known (scope_of within.entry locals.now) name.now }
+{
+    locals.find(name).is_some() || is_member(within.tables, within.class, name)
+}
+
+fn class_or_value(class: Option<usize>, ty: Option<StaticType>) -> Receiver
+    ensures { receiver_of result ≡ class_or_value class (option_map type_of ty) }
+{
+    match class {
+        Some(class) => Receiver::Class(class),
+        None => Receiver::Value(ty),
+    }
+}
+
+/// What a bare name is before a dot.
+pub fn name_receiver(
+    within: Within<'_, '_>,
+    locals: &Scopes,
+    name: &str,
+    ty: Option<StaticType>,
+) -> Receiver
+    ensures { receiver_of result ≡ name_receiver (scope_of within.entry locals.now) name.now (option_map type_of ty) }
+{
+    if locals.find(name).is_some() {
+        return Receiver::Value(ty);
+    }
+    if is_console(name) {
+        return Receiver::Console;
+    }
+    if is_owner(name) {
+        return Receiver::Owner;
+    }
+    if is_member(within.tables, within.class, name) {
+        return Receiver::Value(ty);
+    }
+    class_or_value(within.tables.class_named(name), ty)
+}
+
+fn type_of_field(tables: &Tables<'_>, field: Option<(usize, FieldRef<'_>)>) -> Option<StaticType>
+    ensures { option_map type_of result ≡ type_of_field (trees tables.now) (option_map declared_field field.entry) }
+{
+    match field {
+        Some((_, field)) => tables.written_type(field.ty),
+        None => None,
+    }
+}
+
+/// The static type of a bare name: that of a local, else that of a field.
+pub fn name_type(within: Within<'_, '_>, locals: &Scopes, name: &str) -> Option<StaticType>
+    ensures { option_map type_of result ≡ name_type (scope_of within.entry locals.now) name.now }
+{
+    match locals.find(name) {
+        Some(local) => local.ty,
+        None => type_of_field(within.tables, within.tables.field_of(within.class, name)),
+    }
+}
+
+fn field_type(tables: &Tables<'_>, name: &str, class: Option<usize>) -> Option<StaticType>
+    ensures { option_map type_of result ≡ field_type (trees tables.now) name.now class }
+{
+    match class {
+        Some(class) => type_of_field(tables, tables.field_of(class, name)),
+        None => None,
+    }
+}
+
+// A member of an object of the class with this number.
+fn member_type(tables: &Tables<'_>, name: &str, class: Option<usize>) -> Option<StaticType>
+    ensures { option_map type_of result ≡ member_type (trees tables.now) name.now class }
+{
+    let Some(number) = class else {
+        return None;
+    };
+    if !is_array_number(number) {
+        return field_type(tables, name, declared_place(number));
+    }
+    if is_length(name) {
+        Some(StaticType::Int)
+    } else {
+        None
+    }
+}
+
+/// The number of the class of a value of this type.
+pub fn class_of_type(ty: Option<StaticType>) -> Option<usize>
+    ensures { result ≡ option_and_then class_of (option_map type_of ty) }
+{
+    match ty {
+        Some(ty) => class_of(ty),
+        None => None,
+    }
+}
+
+fn value_type(tables: &Tables<'_>, name: &str, ty: Option<StaticType>) -> Option<StaticType>
+    ensures { option_map type_of result ≡ read_type (trees tables.now) name.now (receiver_of (Receiver.Value ty)) }
+{
+    if is_state_read(name) {
+        return Some(StaticType::Bool);
+    }
+    if is_state_call(name) {
+        return None;
+    }
+    member_type(tables, name, class_of_type(ty))
+}
+
+/// The static type of what is read behind a dot.
+pub fn read_type(tables: &Tables<'_>, name: &str, receiver: Receiver) -> Option<StaticType>
+    ensures { option_map type_of result ≡ read_type (trees tables.now) name.now (receiver_of receiver) }
+{
+    match receiver {
+        Receiver::Console | Receiver::Owner | Receiver::Base | Receiver::Class(_) => None,
+        Receiver::Value(ty) => value_type(tables, name, ty),
+    }
+}
+
+fn method_callee<'p>(method: Option<(usize, MethodRef<'p>)>) -> Callee<'p>
+    ensures { callee_of result ≡ method_callee (option_map declared_method method.entry) }
+{
+    match method {
+        Some((class, method)) => Callee::Method(class, method),
+        None => Callee::Nothing,
+    }
+}
+
+/// What a call of a bare name calls.
+pub fn name_callee<'p>(within: Within<'_, 'p>, locals: &Scopes, name: &str) -> Callee<'p>
+    ensures { callee_of result ≡ name_callee (scope_of within.entry locals.now) name.now }
+{
+    if locals.find(name).is_some() {
+        return Callee::Nothing;
+    }
+    if within.tables.field_of(within.class, name).is_some() {
+        return Callee::Nothing;
+    }
+    method_callee(within.tables.method_of(within.class, name))
+}
+
+fn method_at<'p>(tables: &Tables<'p>, name: &str, class: Option<usize>) -> Callee<'p>
+    ensures { callee_of result ≡ method_at (trees tables.now) name.now class }
+{
+    match class {
+        Some(class) => method_callee(tables.method_of(class, name)),
+        None => Callee::Nothing,
+    }
+}
+
+fn place_of_class(class: Option<usize>) -> Option<usize>
+    ensures { result ≡ option_and_then declared_place class }
+{
+    match class {
+        Some(class) => declared_place(class),
+        None => None,
+    }
+}
+
+// A method or a state word of a value.
+fn value_callee<'p>(within: Within<'_, 'p>, name: &str, ty: Option<StaticType>) -> Callee<'p>
+    ensures { (names : Names) → callee_of result ≡ member_callee (scope_of within.entry names) name.now (receiver_of (Receiver.Value ty)) }
+{
+    if is_state_call(name) {
+        return Callee::Word;
+    }
+    if is_state_read(name) {
+        return Callee::Nothing;
+    }
+    method_at(within.tables, name, place_of_class(class_of_type(ty)))
+}
+
+fn base_callee<'p>(within: Within<'_, 'p>, name: &str) -> Callee<'p>
+    ensures { (names : Names) → callee_of result ≡ member_callee (scope_of within.entry names) name.now (receiver_of Receiver.Base) }
+{
+    if is_state_call(name) {
+        return Callee::Word;
+    }
+    if is_state_read(name) {
+        return Callee::Nothing;
+    }
+    method_callee(within.tables.inherited_method(within.class, name))
+}
+
+fn class_callee<'p>(within: Within<'_, 'p>, class: usize, name: &str) -> Callee<'p>
+    ensures { (names : Names) → callee_of result ≡ member_callee (scope_of within.entry names) name.now (receiver_of (Receiver.Class class)) }
+{
+    if is_state_call(name) {
+        return Callee::Word;
+    }
+    if is_state_read(name) {
+        return Callee::Nothing;
+    }
+    method_callee(within.tables.method_of(class, name))
+}
+
+/// What a call of what stands behind a dot calls.
+pub fn member_callee<'p>(within: Within<'_, 'p>, name: &str, receiver: Receiver) -> Callee<'p>
+    ensures { (names : Names) → callee_of result ≡ member_callee (scope_of within.entry names) name.now (receiver_of receiver) }
+{
+    match receiver {
+        Receiver::Console => {
+            if is_print(name) {
+                Callee::Print
+            } else {
+                Callee::Nothing
+            }
+        }
+        Receiver::Owner => {
+            if is_owner_word(name) {
+                Callee::Word
+            } else {
+                Callee::Nothing
+            }
+        }
+        Receiver::Base => base_callee(within, name),
+        Receiver::Class(class) => class_callee(within, class, name),
+        Receiver::Value(ty) => value_callee(within, name, ty),
+    }
+}
+
+fn result_type(tables: &Tables<'_>, ty: &Option<TypeRef>) -> Option<StaticType>
+    ensures { option_map type_of result ≡ result_type (trees tables.now) (option_map type_tree ty.now) }
+{
+    match ty {
+        Some(ty) => tables.written_type(ty),
+        None => None,
+    }
+}
+
+/// The static type of a call.
+pub fn call_type(tables: &Tables<'_>, callee: Callee<'_>) -> Option<StaticType>
+    ensures { option_map type_of result ≡ call_type (trees tables.now) (callee_of callee.entry) }
+{
+    match callee {
+        Callee::Method(_, method) => result_type(tables, &method.method.returns),
+        Callee::Word => Some(StaticType::Bool),
+        Callee::Print | Callee::Base | Callee::Nothing => None,
+    }
+}
+
+fn reference_only(ty: StaticType) -> Option<StaticType>
+    ensures { option_map type_of result ≡ reference_only (type_of ty) }
+{
+    match ty {
+        StaticType::Ref { class, non_null } => Some(StaticType::Ref { class, non_null }),
+        StaticType::Int | StaticType::Bool | StaticType::Null => None,
+    }
+}
+
+/// The static type of a cast to a type.
+pub fn cast_type(ty: Option<StaticType>) -> Option<StaticType>
+    ensures { option_map type_of result ≡ cast_type (option_map type_of ty) }
+{
+    match ty {
+        Some(ty) => reference_only(ty),
+        None => None,
+    }
+}

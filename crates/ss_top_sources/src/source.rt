@@ -1,0 +1,79 @@
+// The phases of the front end, one after the other.
+
+ghost use Rattle.std.specs.Prelude.{◌≡◌, ℕ, List, IfOk};
+ghost use Rattle.ss_core.specs.View as core;
+ghost use Rattle.ss_ast.specs.Tokens.{Tok, toks};
+ghost use Rattle.ss_ast.specs.Programs.{program_tree};
+ghost use Rattle.ss_lexer.specs.Reading.{HasTokens};
+ghost use Rattle.ss_typed.specs.View.{typed};
+ghost use Rattle.ss_expand_rules.specs.Elaborated.{elaborated};
+ghost use Rattle.ss_top_sources.specs.Sources.{AreProgram, IsAccepted, Gives};
+
+use ss_ast::{Program, Token};
+use ss_core::FrontStop;
+use ss_decls::parse_program;
+use ss_expand::expand;
+use ss_resolver::{Resolved, resolve};
+use ss_lexer::tokens;
+use ss_typed::Typed;
+use std::alloc::{AllocError, Global};
+
+/// An accepted source: its tokens, and its resolved program.
+#[derive(Drop)]
+pub struct Accepted {
+    pub tokens: Vec<Token>,
+    pub program: Typed,
+}
+
+// The phases behind the grammar.
+fn check_program(
+    alloc: Global,
+    source: &[u8],
+    tokens: Vec<Token>,
+    program: &Program,
+) -> Result<Accepted, FrontStop>
+    requires reads { HasTokens source.now (toks tokens.items) }
+    requires parses { AreProgram (toks tokens.items) (program_tree program.now) }
+    ensures { Gives source.now result }
+{
+    let _source = source;
+    match resolve(alloc, program) {
+        Ok(Resolved::Program(program)) => Ok(Accepted { tokens, program }),
+        Ok(Resolved::Refused(fault)) => Err(FrontStop::Refused {
+            rule: fault.rule,
+            place: fault.place,
+        }),
+        Err(_) => Err(FrontStop::Memory),
+    }
+}
+
+// The phases behind the tokens.
+fn read_program(alloc: Global, source: &[u8], tokens: Vec<Token>) -> Result<Accepted, FrontStop>
+    requires reads { HasTokens source.now (toks tokens.items) }
+    ensures { Gives source.now result }
+{
+    match parse_program(alloc, &tokens) {
+        Ok(program) => check_program(alloc, source, tokens, &program),
+        Err(stop) => Err(stop),
+    }
+}
+
+/// The tokens and the resolved program of a source. Refused comes with its first fault: rule 5 where it is too long, 1 to 4 at its
+/// bytes, 10 to 12 at its tokens, 20 to 23, 25 and 27 at its names, 24, 26 and 28 at its types, 30 and 31 at what may be null, and 40 to
+/// 42 at its constructors.
+pub fn read_source(alloc: Global, source: &[u8]) -> Result<Accepted, FrontStop>
+    ensures { Gives source.now result }
+{
+    match tokens(alloc, source) {
+        Ok(tokens) => read_program(alloc, source, tokens),
+        Err(stop) => Err(stop),
+    }
+}
+
+/// The core program of an accepted source.
+pub fn elaborate(alloc: Global, accepted: &Accepted) -> Result<ss_core::Core, AllocError>
+    requires accepted { (source : List ℕ) × (tokens : List Tok) × IsAccepted source tokens (typed accepted.now.program) }
+    ensures { IfOk result (λ c. core.core c ≡ elaborated (typed accepted.now.program)) }
+{
+    expand(alloc, &accepted.program)
+}
