@@ -16,6 +16,7 @@ use Rattle.ss_ast.specs.declared.class.Program.{Program}
 use Rattle.ss_ast.specs.Expressions.{NameTree, TypeTree, ExprTree, name_tree, type_tree, expr_tree}
 use Rattle.ss_ast.specs.Statements.{DeclarationTree, BlockTree, declaration_tree, block_tree}
 
+-- a parameter with its attributes, each a name at the place of its `[`
 pub record ParamTree : Type 0 where
   pub attributes : List NameTree
   pub ty : TypeTree
@@ -44,7 +45,7 @@ pub data MemberKindTree : Type 0 where
   MethodOf : Option TypeTree → NameTree → List ParamTree → List ClauseTree → BlockTree → MemberKindTree
   ConstructorOf : NameTree → List ParamTree → Option BaseCallTree → List ClauseTree → BlockTree → MemberKindTree
 
--- a member with its attributes and its words `static`, `virtual` and `override`
+-- a member with its attributes, each a name at the place of its `[`, and its words `static`, `virtual` and `override`
 pub record MemberTree : Type 0 where
   pub attributes : List NameTree
   pub modifiers : List Modifier

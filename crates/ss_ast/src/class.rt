@@ -18,7 +18,7 @@ pub struct Modifier {
     pub word: ModifierWord,
 }
 
-/// A parameter with its attributes.
+/// A parameter with its attributes, each a name at the place of its `[`.
 #[derive(Drop)]
 pub struct Param {
     pub attributes: Vec<Name>,
@@ -80,7 +80,8 @@ pub enum MemberKind {
     Constructor(Constructor),
 }
 
-/// A member of a class, with its attributes and with its words `static`, `virtual` and `override` in order.
+/// A member of a class, with its attributes, each a name at the place of its `[`, and with its words `static`, `virtual` and `override`
+/// in order.
 #[derive(Drop)]
 pub struct Member {
     pub attributes: Vec<Name>,

@@ -121,14 +121,3 @@ pub fn same_word(one: Word, other: Word) -> bool
 {
     number_of(one) == number_of(other)
 }
-
-#[cfg(test)]
-mod tests {
-    use super::*;
-
-    #[test]
-    fn tells_words_apart(rt: HostRuntime) {
-        assert!(rt; same_word(Word::In, Word::In));
-        assert!(rt; !same_word(Word::Using, Word::In));
-    }
-}

@@ -13,9 +13,9 @@ ghost use Rattle.ss_grammar_programs.specs.Parser.{modifies, clause_behind, clau
 use crate::modified::parse_modifies;
 use ss_ast::{Block, Clause, Modified, Symbol, Token, TokenKind, Word};
 use ss_grammar::fault::Stop;
-use ss_parser_expressions::heads::expect;
 use ss_parser::headings::parse_ended;
 use ss_parser::statements::parse_whole_block;
+use ss_parser_expressions::heads::expect;
 use std::alloc::Global;
 
 #[tactic(auto, unfolding(ss_grammar_statements::specs::Parser::ended))]

@@ -20,11 +20,11 @@ use ss_ast::{
 };
 use ss_core::Place;
 use ss_grammar::fault::{Fault, Stop};
+use ss_parser::declarations::parse_decls_from;
+use ss_parser::headings::parse_ended;
 use ss_parser_expressions::arguments::parse_args_end;
 use ss_parser_expressions::heads::{Start, expect, expect_name, expect_word};
 use ss_parser_expressions::types::parse_type_end;
-use ss_parser::declarations::parse_decls_from;
-use ss_parser::headings::parse_ended;
 use std::alloc::{AllocError, Global};
 
 // Fields, behind the type and the first name.

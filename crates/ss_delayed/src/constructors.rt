@@ -15,9 +15,9 @@ use crate::escapes::{Use, find_in_each};
 use crate::noting::{note_base, note_escapes, note_unassigned};
 use crate::opening::{BaseCall, count_opening, written_base};
 use crate::statements::{find_along, find_in, find_in_all};
-use ss_paths_assigned::{Fields, assigned_by_initializers, assigned_first, members_at};
 use ss_core::{BodyId, ClassId, Place};
 use ss_faults::Fault;
+use ss_paths_assigned::{Fields, assigned_by_initializers, assigned_first, members_at};
 use ss_typed::{Typed, TypedBase, TypedBody};
 use std::alloc::{AllocError, Global};
 

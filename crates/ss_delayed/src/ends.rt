@@ -11,9 +11,9 @@ ghost use Rattle.ss_delayed_rules.specs.Constructors.{unassigned_faults};
 ghost use Rattle.ss_delayed.specs.Walked.{known_of, joined, begun_with, left_with, walked, walked_in, walked_along, ended, ended_in, ended_along};
 
 use crate::noting::note_unassigned;
-use ss_paths_assigned::{Assigned, Numbers, is_true};
 use ss_core::{ClassId, Place};
 use ss_faults::Fault;
+use ss_paths_assigned::{Assigned, Numbers, is_true};
 use ss_typed::{Typed, TypedBlock, TypedExpr, TypedInit, TypedSimple, TypedStmt};
 use std::alloc::AllocError;
 

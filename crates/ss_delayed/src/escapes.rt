@@ -7,8 +7,8 @@ ghost use Rattle.ss_delayed_rules.specs.Escapes.{may_read, uses, uses_each};
 ghost use Rattle.ss_paths_assigned.specs.Views.{step_behind};
 ghost use Rattle.ss_delayed.specs.Parts.{use_of, nowhere, nothing, link_uses, links_uses, step_uses, steps_uses, is_field, starts_with_field, is_allowed_read, unless};
 
-use ss_paths_assigned::is_this;
 use ss_core::Place;
+use ss_paths_assigned::is_this;
 use ss_typed::{TypedExpr, TypedLink, TypedStep};
 use std::alloc::AllocError;
 

@@ -8,10 +8,10 @@ ghost use Rattle.ss_paths.specs.Fields.{is_non_null, fields_in};
 ghost use Rattle.ss_delayed_rules.specs.Constructors.{at, escapes, are_assigned_from, are_assigned, unassigned_faults};
 ghost use Rattle.ss_delayed.specs.Walked.{known_of};
 
-use ss_paths_assigned::{Assigned, class_at, is_non_null};
+use ss_bit_set::BitSet;
 use ss_core::{Class, ClassId, Field, Place};
 use ss_faults::Fault;
-use ss_bit_set::BitSet;
+use ss_paths_assigned::{Assigned, class_at, is_non_null};
 use ss_typed::Typed;
 use std::alloc::AllocError;
 

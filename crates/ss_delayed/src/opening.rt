@@ -8,9 +8,9 @@ ghost use Rattle.ss_delayed_rules.specs.Opening.{is_empty, is_field_of_class, is
 ghost use Rattle.ss_delayed.specs.Openings.{run, is_no_base, base_at, base_of};
 
 use crate::escapes::{Use, find_uses};
-use ss_paths_assigned::{Fields, has_base, is_base, own_field};
 use ss_ast::AssignOperator;
 use ss_core::{ClassId, Place};
+use ss_paths_assigned::{Fields, has_base, is_base, own_field};
 use ss_typed::{TypedBody, TypedExpr, TypedSimple, TypedStmt};
 use std::alloc::{AllocError, Global};
 

@@ -14,9 +14,9 @@ use crate::constructors::{check_above, check_constructor};
 use crate::escapes::Use;
 use crate::noting::{note_escapes, note_unset};
 use crate::statements::find_if;
-use ss_paths_assigned::{Fields, started_in};
 use ss_core::{Class, ClassId, Place};
 use ss_faults::{Fault, first_fault};
+use ss_paths_assigned::{Fields, started_in};
 use ss_typed::{Typed, TypedBody, TypedClass, TypedExpr, TypedField};
 use std::alloc::{AllocError, Global};
 

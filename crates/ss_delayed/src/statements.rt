@@ -7,9 +7,9 @@ ghost use Rattle.ss_delayed_rules.specs.Escapes.{is_own_field_read, uses_left, u
 ghost use Rattle.ss_delayed.specs.Parts.{use_of, target_uses};
 
 use crate::escapes::{Use, find_in_each, find_uses};
-use ss_paths_assigned::own_field;
 use ss_ast::AssignOperator;
 use ss_core::Place;
+use ss_paths_assigned::own_field;
 use ss_typed::{TypedBlock, TypedDeclarator, TypedExpr, TypedInit, TypedSimple, TypedStmt};
 use std::alloc::AllocError;
 

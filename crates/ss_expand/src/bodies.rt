@@ -24,12 +24,12 @@ use crate::constructors::add_constructor;
 use crate::heads::{contract_of, params_of};
 use crate::leaving::leave_empty;
 use crate::statements::add_stmts;
+use ss_core::{Body, Expr, Local, Place, Stmt, Ty};
 use ss_expand_bodies::{
     Origin, add_copies, add_locals, add_temporaries, core_flags, first_copy, first_param, numbers,
 };
-use ss_core::{Body, Expr, Local, Place, Stmt, Ty};
-use ss_expand_lifting::{Code, Setting};
 use ss_expand_expressions::{Numbers, assigned_locals};
+use ss_expand_lifting::{Code, Setting};
 use ss_typed::{Typed, TypedBlock, TypedBody, TypedParam, TypedStmt};
 use std::alloc::{AllocError, Global};
 

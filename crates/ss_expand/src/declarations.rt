@@ -7,8 +7,8 @@ ghost use Rattle.ss_core.specs.View as core;
 ghost use Rattle.ss_typed.specs.View as typed;
 ghost use Rattle.ss_expand_rules.specs.Contracts as contracts;
 
-use ss_expand_bodies::declared_at;
 use ss_core::{ClassId, MOST_LEVELS};
+use ss_expand_bodies::declared_at;
 use ss_typed::{Typed, TypedBody};
 use std::alloc::{AllocError, Global};
 

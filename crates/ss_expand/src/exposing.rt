@@ -15,10 +15,12 @@ ghost use Rattle.ss_expand_lifting.specs.Settings.{setting_of};
 ghost use Rattle.ss_expand.specs.Opening.{opened_by, object_of, opening};
 
 use crate::looping::add_one;
-use ss_expand_bodies::{Opened, pack_of};
 use ss_core::{ClassId, Place, Stmt, Ty};
+use ss_expand_bodies::{Opened, pack_of};
+use ss_expand_expressions::{
+    any_object, class_of_type, in_local, next, place_of, temporary_type, type_of,
+};
 use ss_expand_lifting::{Code, Setting, right_side};
-use ss_expand_expressions::{any_object, class_of_type, in_local, next, place_of, temporary_type, type_of};
 use ss_typed::TypedExpr;
 use std::alloc::{AllocError, Global};
 

@@ -7,8 +7,8 @@ ghost use Rattle.ss_expand_rules.specs.Bodies as bodies;
 ghost use Rattle.ss_expand_rules.specs.Contracts as contracts;
 ghost use Rattle.ss_expand_expressions.specs.Views.{numbers_of};
 
-use ss_expand_bodies::{add_params, entry_conditions, exit_conditions, named_terms};
 use ss_core::{ClassId, Expr, Local, Modifies, Place};
+use ss_expand_bodies::{add_params, entry_conditions, exit_conditions, named_terms};
 use ss_expand_expressions::Numbers;
 use ss_typed::{TypedBody, TypedParam};
 use std::alloc::{AllocError, Global};

@@ -11,11 +11,11 @@ ghost use Rattle.ss_expand_bodies.specs.Origins.{origin_of};
 ghost use Rattle.ss_expand.specs.Inherited.{inherited_code};
 
 use crate::heads::{contract_of, params_of};
+use ss_core::{Body, ClassId, Local, Place, Stmt, Ty};
 use ss_expand_bodies::{
     Origin, above_of, add_temporaries, number_in_table, numbers_from, own_params, wrapper_code,
     wrapper_flags, wrapper_types,
 };
-use ss_core::{Body, ClassId, Local, Place, Stmt, Ty};
 use ss_expand_expressions::Numbers;
 use ss_typed::{Typed, TypedBody};
 use std::alloc::{AllocError, Global};

@@ -13,8 +13,8 @@ ghost use Rattle.ss_expand.specs.Constructing as constructing;
 
 use crate::targets::own_field;
 use ss_ast::AssignOperator;
-use ss_expand_bodies::field_at;
 use ss_core::{ClassId, Field, FieldId};
+use ss_expand_bodies::field_at;
 use ss_expand_expressions::mentions_this;
 use ss_typed::{Typed, TypedBody, TypedExpr, TypedSimple, TypedStmt};
 

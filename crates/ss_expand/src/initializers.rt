@@ -13,8 +13,8 @@ ghost use Rattle.ss_expand_expressions.specs.Sources.{stmts_of};
 ghost use Rattle.ss_expand_lifting.specs.Settings.{setting_of};
 ghost use Rattle.ss_expand.specs.Constructing.{declares_some};
 
-use ss_expand_bodies::{field_at, members_of};
 use ss_core::{Class, ClassId, Field, FieldId, Place, Ty};
+use ss_expand_bodies::{field_at, members_of};
 use ss_expand_lifting::{Code, Setting, assign_field};
 use ss_typed::{Typed, TypedClass, TypedExpr, TypedField};
 use std::alloc::{AllocError, Global};

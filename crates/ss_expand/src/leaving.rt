@@ -13,10 +13,10 @@ ghost use Rattle.ss_expand_lifting.specs.Settings.{setting_of};
 ghost use Rattle.ss_expand.specs.Returns.{returned_value};
 
 use crate::looping::add_one;
-use ss_expand_bodies::{add_pack_this, add_packs};
 use ss_core::{Expr, Place, Stmt, Ty};
-use ss_expand_lifting::{Code, Setting, right_side, value};
+use ss_expand_bodies::{add_pack_this, add_packs};
 use ss_expand_expressions::{any_object, in_local, next, place_of};
+use ss_expand_lifting::{Code, Setting, right_side, value};
 use ss_typed::TypedExpr;
 use std::alloc::{AllocError, Global};
 

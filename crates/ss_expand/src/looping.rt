@@ -14,10 +14,10 @@ ghost use Rattle.ss_expand_lifting.specs.Made.{coded_by};
 ghost use Rattle.ss_expand_lifting.specs.Settings.{setting_of};
 ghost use Rattle.ss_expand.specs.Loops.{tested};
 
-use ss_expand_bodies::{add_plain, list_exposed};
 use ss_core::{Exposed, Expr, Loop, Place, Stmt, Ty};
-use ss_expand_lifting::{Code, Setting, declare, simple_statement, value};
+use ss_expand_bodies::{add_plain, list_exposed};
 use ss_expand_expressions::plain;
+use ss_expand_lifting::{Code, Setting, declare, simple_statement, value};
 use ss_typed::{TypedExpr, TypedInit, TypedSimple};
 use std::alloc::{AllocError, Global};
 

@@ -17,11 +17,11 @@ ghost use Rattle.ss_expand.specs.Limits.{HasFewClasses};
 use crate::bodies::written_body;
 use crate::declarations::declarations;
 use crate::inherited::wrapper_body;
+use ss_core::{Body, Class, ClassId, Core, Place};
 use ss_expand_bodies::{
     Origin, constructor_of, elaborate_classes, is_declared_by, list_bodies, members_of, method_at,
     number_of_written,
 };
-use ss_core::{Body, Class, ClassId, Core, Place};
 use ss_typed::{Typed, TypedBlock, TypedBody, TypedClass, TypedFlags};
 use std::alloc::{AllocError, Global};
 

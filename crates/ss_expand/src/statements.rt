@@ -16,8 +16,8 @@ use crate::exposing::{close, open, within};
 use crate::leaving::leave;
 use crate::looping::{add_assert, add_assume, add_branch, add_loop, advance_where, begin, test_of};
 use ss_core::{ClassId, Place, Ty};
-use ss_expand_lifting::{Code, Setting, declare, simple_statement, value};
 use ss_expand_expressions::can_end;
+use ss_expand_lifting::{Code, Setting, declare, simple_statement, value};
 use ss_typed::{TypedBlock, TypedExpr, TypedInit, TypedSimple, TypedStmt};
 use std::alloc::{AllocError, Global};
 

@@ -27,8 +27,8 @@ use crate::operations::are_kept;
 use crate::settings::Setting;
 use crate::settled::{field_path, settle};
 use ss_ast::{AssignOperator, StepOperator};
-use ss_expand_bodies::field_at;
 use ss_core::{Expr, FieldId, Operator, Place, Stmt, Ty};
+use ss_expand_bodies::field_at;
 use ss_expand_expressions::{
     Operand, Source, binary, has_call, is_lazy_operator, place_of, plain, put, step_operator,
     valued,

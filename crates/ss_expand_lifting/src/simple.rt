@@ -17,10 +17,10 @@ use crate::assignments::{add_put, assignment, one_more};
 use crate::code::Code;
 use crate::lifting::{arguments, right_side, value};
 use crate::settings::Setting;
+use ss_core::{BodyId, Callee, ClassId, Expr, Place, Stmt, Ty};
 use ss_expand_bodies::{
     Origin, above_of, constructor_of, has_delayed_constructor, number_among, params_in,
 };
-use ss_core::{BodyId, Callee, ClassId, Expr, Place, Stmt, Ty};
 use ss_expand_expressions::{Source, default_of, dropped};
 use ss_typed::{TypedDeclarator, TypedExpr, TypedSimple};
 use std::alloc::{AllocError, Global};

@@ -10,9 +10,11 @@
 //     }
 
 use ss_ast::AssignOperator;
-use ss_core::{BodyId, Class, ClassId, Classes, Entry, Field, FieldId, Local, Mark, Operator, Place, Ty};
-use ss_report_core::core_text;
+use ss_core::{
+    BodyId, Class, ClassId, Classes, Entry, Field, FieldId, Local, Mark, Operator, Place, Ty,
+};
 use ss_expand::expand;
+use ss_report_core::core_text;
 use ss_typed::{
     Typed, TypedBlock, TypedBody, TypedClass, TypedDeclarator, TypedExpr, TypedField, TypedFlags,
     TypedLink, TypedParam, TypedSimple, TypedStep, TypedStmt,

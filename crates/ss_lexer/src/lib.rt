@@ -8,7 +8,5 @@ mod meaning;
 mod pieces;
 mod scans;
 mod spelling;
-#[cfg(test)]
-mod tests;
 
 pub use lexer::{MAX_BYTES, one_answer, tokens};

@@ -8,8 +8,8 @@ ghost use Rattle.ss_machine.specs.Ends.{IfDone, IfFailed, IfStopped, OnWhole, Is
 use crate::frame;
 use crate::step::{self, Move};
 use ss_core::{Kind, Place};
-use ss_second_core::Core;
 use ss_io::Sink;
+use ss_second_core::Core;
 use std::alloc::Global;
 
 /// How a run ends.

@@ -11,8 +11,8 @@ ghost use Rattle.ss_machine.specs.Moves.{StepIs, QuietIs, PrintIs, HasCause};
 use crate::frame::{self, CodeFrame, Machine};
 use crate::values;
 use ss_core::{BodyId, Kind, Place};
-use ss_second_core::{Core, Expr, Stmt, Value};
 use ss_io::{Sink, WriteStop};
+use ss_second_core::{Core, Expr, Stmt, Value};
 use std::alloc::{AllocError, Global};
 
 // What a step did, or why it was not made.

@@ -10,9 +10,9 @@ use crate::initializers::only_fields;
 use crate::simple::check_base;
 use crate::site::Site;
 use crate::stmts::check_block;
-use ss_paths_assigned::{Fields, assigned_by_initializers, assigned_first};
 use ss_core::ClassId;
 use ss_faults::Fault;
+use ss_paths_assigned::{Fields, assigned_by_initializers, assigned_first};
 use ss_typed::{TypedBase, TypedBody};
 use std::alloc::{AllocError, Global};
 

@@ -18,8 +18,10 @@ use crate::seen::{
 };
 use crate::site::Site;
 use ss_core::{ClassId, Operator, Place, Ty};
-use ss_nonnull_facts::{Called, base_method, class_type, constructor, method_of, static_method, type_at};
 use ss_faults::Fault;
+use ss_nonnull_facts::{
+    Called, base_method, class_type, constructor, method_of, static_method, type_at,
+};
 use ss_typed::{TypedExpr, TypedLink, TypedStep};
 use std::alloc::{AllocError, Global};
 

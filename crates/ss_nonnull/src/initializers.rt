@@ -15,10 +15,10 @@ ghost use Rattle.ss_nonnull_rules.specs.Program.{only_fields};
 use crate::expr::check_wanted;
 use crate::known::{Known, begin};
 use crate::site::Site;
-use ss_paths_assigned::{Assigned, Numbers};
+use ss_bit_set::BitSet;
 use ss_core::{Class, Field, Ty};
 use ss_faults::Fault;
-use ss_bit_set::BitSet;
+use ss_paths_assigned::{Assigned, Numbers};
 use ss_typed::{Typed, TypedClass, TypedExpr, TypedField};
 use std::alloc::{AllocError, Global};
 

@@ -9,11 +9,11 @@ ghost use Rattle.ss_nonnull.specs.Codes.{known_of, path_of, site_of};
 ghost use Rattle.ss_nonnull.specs.Paths.{told, untold, with_fact, with_left, assigned_known, fields_known, with_begun, met_paths, left_by};
 
 use crate::site::Site;
-use ss_paths_assigned::{Assigned, Numbers};
 use ss_ast::AssignOperator;
+use ss_bit_set::BitSet;
 use ss_core::FieldId;
 use ss_nonnull_facts::put_all;
-use ss_bit_set::BitSet;
+use ss_paths_assigned::{Assigned, Numbers};
 use ss_typed::TypedSimple;
 use std::alloc::AllocError;
 

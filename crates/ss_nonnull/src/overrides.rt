@@ -12,8 +12,8 @@ ghost use Rattle.ss_tables_lookup.specs.Places.{places_of, found};
 ghost use Rattle.ss_nonnull.specs.Names.{entry_names, table_names, declared_place, mark_fault};
 
 use ss_core::{BodyId, Class, Entry, Place};
-use ss_nonnull_facts::{above, body_at, body_of_entry, entry_at, is_non_null, is_non_null_type};
 use ss_faults::Fault;
+use ss_nonnull_facts::{above, body_at, body_of_entry, entry_at, is_non_null, is_non_null_type};
 use ss_tables_lookup::Places;
 use ss_typed::{Typed, TypedBody, TypedParam};
 use std::alloc::{AllocError, Global};

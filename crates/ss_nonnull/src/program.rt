@@ -9,8 +9,8 @@ ghost use Rattle.ss_nonnull_rules.specs.Program.{body_faults, bodies_faults, nul
 use crate::bodies::check_body;
 use crate::initializers::check_initializers;
 use crate::overrides::{all_names, check_override};
-use ss_paths_assigned::Fields;
 use ss_faults::{Fault, first_fault};
+use ss_paths_assigned::Fields;
 use ss_tables_lookup::Places;
 use ss_typed::{Typed, TypedBody};
 use std::alloc::{AllocError, Global};

@@ -16,8 +16,8 @@ use crate::seen::{Seen, literal, note_null};
 use crate::site::Site;
 use ss_ast::AssignOperator;
 use ss_core::{Place, Ty};
-use ss_nonnull_facts::{above, constructor, is_non_null};
 use ss_faults::Fault;
+use ss_nonnull_facts::{above, constructor, is_non_null};
 use ss_typed::{TypedDeclarator, TypedExpr, TypedInit, TypedSimple};
 use std::alloc::{AllocError, Global};
 

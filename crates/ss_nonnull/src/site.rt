@@ -1,7 +1,7 @@
 // Where an expression stands.
 
-use ss_paths_assigned::Numbers;
 use ss_core::Ty;
+use ss_paths_assigned::Numbers;
 use ss_typed::Typed;
 
 /// Where an expression stands.

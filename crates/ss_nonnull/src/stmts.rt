@@ -13,8 +13,8 @@ use crate::simple::{
     check_declarators, check_first, check_returned, check_simple, check_step, check_test,
 };
 use crate::site::Site;
-use ss_nonnull_facts::{assigned_in_loop, assigned_within};
 use ss_faults::Fault;
+use ss_nonnull_facts::{assigned_in_loop, assigned_within};
 use ss_typed::{TypedBlock, TypedSimple, TypedStmt};
 use std::alloc::{AllocError, Global};
 

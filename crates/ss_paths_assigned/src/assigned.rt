@@ -8,8 +8,8 @@ ghost use Rattle.ss_paths.specs.Assigned.{has_field, own_assigned, assigned_by, 
 use crate::fields::Numbers;
 use crate::shapes::own_field;
 use ss_ast::AssignOperator;
-use ss_core::FieldId;
 use ss_bit_set::BitSet;
+use ss_core::FieldId;
 use ss_typed::{TypedExpr, TypedSimple};
 use std::alloc::AllocError;
 

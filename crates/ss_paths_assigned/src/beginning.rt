@@ -11,8 +11,8 @@ ghost use Rattle.ss_paths_assigned.specs.Started.{started};
 
 use crate::assigned::Assigned;
 use crate::fields::members_at;
-use ss_core::ClassId;
 use ss_bit_set::BitSet;
+use ss_core::ClassId;
 use ss_typed::{Typed, TypedBody, TypedClass, TypedField, TypedSimple, TypedStmt};
 use std::alloc::{AllocError, Global};
 

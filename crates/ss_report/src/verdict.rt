@@ -10,8 +10,8 @@ ghost use Rattle.ss_report.specs.Verdict.{verdict_text as verdict_of, line_of, l
 
 use crate::texts::not_proved;
 use ss_core::BodyId;
-use ss_second_core::{Body, Core};
 use ss_search::Countered;
+use ss_second_core::{Body, Core};
 use ss_vcgen::{Obligation, Obligations};
 use std::alloc::{AllocError, Global};
 

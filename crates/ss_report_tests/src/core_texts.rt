@@ -1,6 +1,9 @@
 // Texts of programs that are built by hand.
 
-use ss_core::{Body, BodyFlags, BodyId, Callee, Class, ClassId, Classes, Core, Entry, Expr, Field, FieldId, Link, Local, Loop, Mark, Operator, OwnerTest, Place, Quantifier, StateWord, Step, Stmt, Ty};
+use ss_core::{
+    Body, BodyFlags, BodyId, Callee, Class, ClassId, Classes, Core, Entry, Expr, Field, FieldId,
+    Link, Local, Loop, Mark, Operator, OwnerTest, Place, Quantifier, StateWord, Step, Stmt, Ty,
+};
 use ss_report_core::core_text;
 use std::alloc::{AllocError, Global};
 use std::test::Fail;

@@ -9,8 +9,8 @@ ghost use Rattle.ss_resolver.specs.Phases.{phases, phases_of_resolved, resolved_
 use ss_ast::Program;
 use ss_delayed::check_construction;
 use ss_faults::Fault;
-use ss_resolver_names::check_names;
 use ss_nonnull::check_nulls;
+use ss_resolver_names::check_names;
 use ss_resolver_programs::resolve_program;
 use ss_resolver_types::first_type_fault;
 use ss_typed::Typed;

@@ -6,8 +6,8 @@ ghost use Rattle.ss_tables.specs.Classes.{steps_above, members_at};
 ghost use Rattle.ss_tables_lookup.specs.Classes.{trees};
 ghost use Rattle.ss_resolver_names_rules.specs.Programs.{ends, is_deep, inherited_fields, is_first_of_cycle};
 
-use ss_tables_lookup::Tables;
 use ss_resolver_scoping::plus;
+use ss_tables_lookup::Tables;
 use std::alloc::AllocError;
 
 // How many classes stand at most between a class and `object`, itself counted.

@@ -17,10 +17,10 @@ use indexmap::IndexSet;
 use ss_ast::{ClassDecl, Declarator, Member, MemberKind, Name};
 use ss_core::Place;
 use ss_faults::Fault;
-use ss_tables_lookup::{ConstructorRef, FieldRef, MethodRef, Tables};
 use ss_resolver_names_members::{add, check_class};
 use ss_resolver_names_rules::Rule;
 use ss_resolver_scoping::{is_listed, note_name, plus};
+use ss_tables_lookup::{ConstructorRef, FieldRef, MethodRef, Tables};
 use std::alloc::{AllocError, Global};
 
 const MOST_FIELDS: usize = 1024;

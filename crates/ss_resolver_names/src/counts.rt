@@ -11,10 +11,10 @@ ghost use Rattle.ss_resolver_names_rules.specs.Programs.{initials_in, locals_fau
 
 use ss_ast::Name;
 use ss_faults::Fault;
-use ss_tables_lookup::{ConstructorRef, MethodRef, Shelf, Tables};
 use ss_resolver_names_members::add;
 use ss_resolver_names_rules::Rule;
 use ss_resolver_names_temporaries::{constructor_locals, initials_temps, method_locals};
+use ss_tables_lookup::{ConstructorRef, MethodRef, Shelf, Tables};
 use std::alloc::{AllocError, Global};
 
 const MOST_LOCALS: usize = 4096;

@@ -12,10 +12,10 @@ ghost use Rattle.ss_tables_lookup.specs.Classes.{trees};
 
 use ss_ast::{Clause, Name, Param, TypeName, TypeRef};
 use ss_faults::Fault;
-use ss_tables_lookup::{MethodRef, Tables};
 use ss_resolver_names_members::add_unless;
 use ss_resolver_names_rules::Rule;
 use ss_resolver_scoping::{is_open, is_override};
+use ss_tables_lookup::{MethodRef, Tables};
 use std::alloc::AllocError;
 
 fn is_int(name: &TypeName) -> bool

@@ -23,10 +23,10 @@ use crate::overrides::check_overrides;
 use indexmap::IndexSet;
 use ss_ast::{ClassDecl, Param, Program, TypeName};
 use ss_faults::{Fault, first_fault};
-use ss_tables_lookup::{MethodRef, Shelf, Tables};
 use ss_resolver_names_members::{add, add_unless, check_members};
 use ss_resolver_names_rules::Rule;
 use ss_resolver_scoping::{is_static, plus};
+use ss_tables_lookup::{MethodRef, Shelf, Tables};
 use std::alloc::{AllocError, Global};
 
 const MOST_CLASSES: usize = 4096;

@@ -12,13 +12,13 @@ ghost use Rattle.ss_tables_lookup.specs.Classes.{trees};
 use ss_ast::{Name, TypeName, TypeRef};
 use ss_core::Place;
 use ss_faults::Fault;
-use ss_tables_lookup::Tables;
 use ss_resolver_names_rules::Rule;
+use ss_resolver_scoping::{Prefix, has_member, is_inherited};
+use ss_tables_lookup::Tables;
 use ss_tables_scopes::{
     Receiver, Scopes, Within, class_of_type, is_known, is_member, is_owner_word, is_print,
     is_state_word,
 };
-use ss_resolver_scoping::{Prefix, has_member, is_inherited};
 use std::alloc::AllocError;
 
 /// Notes a fault.

@@ -22,9 +22,9 @@ use ss_ast::{
     TypeRef,
 };
 use ss_faults::Fault;
+use ss_resolver_scoping::declare_param;
 use ss_tables_lookup::{StaticType, Tables};
 use ss_tables_scopes::{Scopes, Within};
-use ss_resolver_scoping::declare_param;
 use std::alloc::{AllocError, Global};
 
 // A parameter.

@@ -14,8 +14,8 @@ use crate::found::{add, check_class, check_type};
 use crate::walk::check;
 use ss_ast::{Block, Declaration, Declarator, Expr, ForInit, Name, Simple, Stmt, TypeRef};
 use ss_faults::Fault;
-use ss_tables_lookup::Tables;
 use ss_resolver_names_rules::Rule;
+use ss_tables_lookup::Tables;
 use ss_tables_scopes::{LocalInfo, Scopes, Within};
 use std::alloc::{AllocError, Global};
 

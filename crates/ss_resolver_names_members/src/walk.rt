@@ -20,12 +20,12 @@ use crate::found::{
 use ss_ast::{Expr, Link, Name, Postfix, TypeName, TypeRef};
 use ss_core::Place;
 use ss_faults::Fault;
-use ss_tables_lookup::StaticType;
-use ss_tables_scopes::{LocalInfo, Scopes, Within, call_type};
 use ss_resolver_scoping::{
     Prefix, bare_place, operation_type, prefix_asked, prefix_callee, prefix_receiver, prefix_value,
     type_of_as, type_of_cast, type_of_element,
 };
+use ss_tables_lookup::StaticType;
+use ss_tables_scopes::{LocalInfo, Scopes, Within, call_type};
 use std::alloc::{AllocError, Global};
 
 // A dot and a name behind the beginning of a path.

@@ -12,8 +12,8 @@ ghost use Rattle.ss_resolver_scoping.specs.Views.{names_of};
 
 use indexmap::IndexSet;
 use ss_ast::{Block, Expr, ForInit, Simple, Stmt};
-use ss_tables_scopes::{LocalInfo, Scopes, Within};
 use ss_resolver_scoping::{bare_name, declare_declaration, declare_init, note_name};
+use ss_tables_scopes::{LocalInfo, Scopes, Within};
 use std::alloc::{AllocError, Global};
 
 // Notes the name of a local that is a parameter.

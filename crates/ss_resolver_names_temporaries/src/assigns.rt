@@ -15,8 +15,8 @@ use crate::lift::{lift, lift_postfixes, lifting};
 use crate::lifting::{Lifting, Operands, as_operand, either, in_place, no_operands, with_operand};
 use ss_ast::{AssignOperator, Expr, Postfix, Simple};
 use ss_core::Place;
-use ss_tables_scopes::{LocalInfo, Scopes, Within};
 use ss_resolver_scoping::{bare_name, is_path_to_this, is_this, plus};
+use ss_tables_scopes::{LocalInfo, Scopes, Within};
 use std::alloc::AllocError;
 
 // The object or the index of what is assigned, other than `this`.

@@ -20,9 +20,9 @@ use crate::lifting::{in_temporaries, no_operands};
 use crate::temps::block_temps;
 use indexmap::IndexSet;
 use ss_ast::{BaseCall, Block, Expr};
+use ss_resolver_scoping::{declare_params, plus};
 use ss_tables_lookup::{ConstructorRef, FieldRef, MethodRef, Tables};
 use ss_tables_scopes::{Scopes, Within};
-use ss_resolver_scoping::{declare_params, plus};
 use std::alloc::{AllocError, Global};
 
 // How many parameters a block assigns.

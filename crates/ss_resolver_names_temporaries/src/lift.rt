@@ -23,12 +23,12 @@ use crate::lifting::{
 };
 use ss_ast::{Expr, Link, Name, Postfix, TypeName};
 use ss_core::Place;
-use ss_tables_lookup::StaticType;
-use ss_tables_scopes::{Scopes, Within, call_type, name_callee};
 use ss_resolver_scoping::{
     Prefix, bare_place, operation_type, prefix_callee, prefix_receiver, prefix_value, type_of_as,
     type_of_cast, type_of_element,
 };
+use ss_tables_lookup::StaticType;
+use ss_tables_scopes::{Scopes, Within, call_type, name_callee};
 use std::alloc::AllocError;
 
 /// An expression with what is lifted out of it.

@@ -8,8 +8,8 @@ ghost use Rattle.ss_resolver_names_rules.specs.Sums.{no_operands, with_operand, 
 ghost use Rattle.ss_resolver_names_temporaries.specs.Lifted.{lifting_of, sums_of, operand_list};
 
 use ss_ast::Operator;
-use ss_tables_scopes::{Callee, Receiver};
 use ss_resolver_scoping::{is_static, plus};
+use ss_tables_scopes::{Callee, Receiver};
 use std::alloc::AllocError;
 
 /// What is lifted out of an expression.

@@ -10,8 +10,8 @@ ghost use Rattle.ss_resolver_names_rules.specs.Temporaries.{initial_temps, decla
 
 use crate::assigns::{place_temps, simple_temps, whole_temps};
 use ss_ast::{Block, Declaration, Declarator, Expr, ForInit, Simple, Stmt, TypeRef};
-use ss_tables_scopes::{Scopes, Within};
 use ss_resolver_scoping::{declare_local, plus, reaches_end};
+use ss_tables_scopes::{Scopes, Within};
 use std::alloc::{AllocError, Global};
 
 fn initial_temps(

@@ -23,9 +23,9 @@ use crate::marks::{copy_names, has_attribute};
 use crate::whole::Whole;
 use ss_ast::{ClassDecl, Member, MemberKind, Name};
 use ss_core::{BodyId, Class, ClassId, Entry, Field, Mark};
-use ss_tables_lookup::{FieldRef, Shelf, Tables};
 use ss_resolver_expressions::{LocalNames, Scene, resolve as resolve_expr};
 use ss_resolver_tables::{MethodTable, Slot, constructor_id, number_or_object, type_id};
+use ss_tables_lookup::{FieldRef, Shelf, Tables};
 use ss_typed::{TypedClass, TypedField, TypedInvariant};
 use std::alloc::{AllocError, Global};
 

@@ -11,8 +11,8 @@ ghost use Rattle.ss_resolver_programs.specs.Locals.{local_in, locals_in, locals_
 
 use ss_ast::{Block, Declaration, Declarator, ForInit, Name, Stmt, TypeRef};
 use ss_core::Local;
-use ss_tables_lookup::Tables;
 use ss_resolver_tables::type_id;
+use ss_tables_lookup::Tables;
 use std::alloc::{AllocError, Global};
 
 fn list_local(

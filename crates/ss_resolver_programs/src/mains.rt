@@ -14,9 +14,9 @@ ghost use Rattle.ss_resolver_rules.specs.Programs.{main_from};
 use crate::whole::Whole;
 use ss_ast::{Param, TypeName};
 use ss_core::BodyId;
-use ss_tables_lookup::{MethodRef, Tables};
 use ss_resolver_expressions::is_static;
 use ss_resolver_tables::method_id;
+use ss_tables_lookup::{MethodRef, Tables};
 
 // Whether a type is `int`.
 fn is_int(name: &TypeName) -> bool

@@ -19,9 +19,9 @@ use crate::mains::main_body;
 use crate::whole::Whole;
 use ss_ast::{ClassDecl, Program};
 use ss_core::{Class, Classes};
-use ss_tables_lookup::{ConstructorRef, MethodRef, Shelf, Tables};
 use ss_resolver_expressions::Scene;
 use ss_resolver_tables::{body_starts, field_starts, method_tables};
+use ss_tables_lookup::{ConstructorRef, MethodRef, Shelf, Tables};
 use ss_typed::{Typed, TypedBody, TypedClass};
 use std::alloc::{AllocError, Global};
 

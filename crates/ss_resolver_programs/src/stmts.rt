@@ -20,9 +20,9 @@ use crate::decls::{resolve_declaration, resolve_option};
 use crate::simples::{resolve_first, resolve_simple, resolve_step};
 use ss_ast::{Block, Expr, ForInit, Name, Simple, Stmt};
 use ss_core::{ClassId, Place};
-use ss_tables_lookup::Tables;
 use ss_resolver_expressions::{LocalNames, Scene, resolve as resolve_expr, resolve_values};
 use ss_resolver_tables::class_id;
+use ss_tables_lookup::Tables;
 use ss_typed::{TypedBlock, TypedStmt};
 use std::alloc::{AllocError, Global};
 

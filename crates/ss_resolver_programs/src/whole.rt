@@ -6,9 +6,9 @@ ghost use Rattle.ss_resolver_rules.specs.Numbers.{field_count, body_count};
 ghost use Rattle.ss_resolver_tables.specs.Limits.{IsWithinLimits};
 ghost use Rattle.ss_resolver_tables.specs.Slots.{AreStarts, AreTables};
 
-use ss_tables_lookup::Tables;
 use ss_resolver_expressions::Scene;
 use ss_resolver_tables::{MethodTable, Starts};
+use ss_tables_lookup::Tables;
 use ss_tables_scopes::Within;
 
 /// The classes of a program, the numbers of their fields and bodies, and their tables of methods.

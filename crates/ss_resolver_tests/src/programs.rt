@@ -2,8 +2,8 @@
 
 use crate::shown::shown;
 use ss_decls::parse_program;
-use ss_resolver::{Resolved, resolve};
 use ss_lexer::tokens;
+use ss_resolver::{Resolved, resolve};
 use std::alloc::{AllocError, Global};
 use std::test::Fail;
 

@@ -16,9 +16,11 @@ use crate::body::{Body, Outcome};
 use crate::simple::{check_condition, is_member_target, read};
 use ss_ast::{Clause, Expr, Modified, Param, TypeRef};
 use ss_faults::Fault;
+use ss_resolver_types_expressions::{
+    Around, Head, Want, check_as, note_bad_type, note_mark, place_of,
+};
 use ss_tables_lookup::StaticType;
 use ss_tables_scopes::{LocalInfo, Scopes, Within};
-use ss_resolver_types_expressions::{Around, Head, Want, check_as, note_bad_type, note_mark, place_of};
 use std::alloc::{AllocError, Global};
 
 // Whether `modifies` may name it as a field.

@@ -29,12 +29,12 @@ use ss_ast::{
 };
 use ss_core::Place;
 use ss_faults::Fault;
-use ss_tables_lookup::Tables;
-use ss_tables_scopes::{Scopes, Within};
 use ss_resolver_types_expressions::{
     Around, Want, block_reaches_end, call_above, check_as, check_call, note_bad_type, note_end,
     note_mark, takes_nothing,
 };
+use ss_tables_lookup::Tables;
+use ss_tables_scopes::{Scopes, Within};
 use std::alloc::{AllocError, Global};
 
 // ---- words

@@ -16,11 +16,11 @@ ghost use Rattle.ss_resolver_types.specs.Bodies.{body_of, target_at, alone_at, a
 use crate::body::Body;
 use ss_ast::{AssignOperator, Expr, Simple, StepOperator, TypeRef};
 use ss_faults::Fault;
-use ss_tables_lookup::is_array_number;
-use ss_tables_scopes::{Scopes, class_of_type, is_length, is_state_word};
 use ss_resolver_types_expressions::{
     Around, Form, Head, Known, Want, check_as, note_bad_type, note_misfit, place_of, settle, walk,
 };
+use ss_tables_lookup::is_array_number;
+use ss_tables_scopes::{Scopes, class_of_type, is_length, is_state_word};
 use std::alloc::{AllocError, Global};
 
 /// An expression of the code that is to be what is wanted.

@@ -20,9 +20,9 @@ use crate::simple::{
 use ss_ast::{Block, Declaration, Declarator, Expr, ForInit, Name, Simple, Stmt, TypeRef};
 use ss_core::Place;
 use ss_faults::Fault;
+use ss_resolver_types_expressions::{Around, Want, check, note_bad_type, note_mark, place_within};
 use ss_tables_lookup::Tables;
 use ss_tables_scopes::{LocalInfo, Scopes};
-use ss_resolver_types_expressions::{Around, Want, check, note_bad_type, note_mark, place_within};
 use std::alloc::{AllocError, Global};
 
 // What a declared local begins with.

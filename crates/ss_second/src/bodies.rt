@@ -104,7 +104,10 @@ pub(crate) fn narrow_body(alloc: Global, body: &Body) -> Result<ss_second_core::
 }
 
 /// The bodies in the trees of the second form.
-pub(crate) fn narrow_bodies(alloc: Global, bodies: &[Body]) -> Result<Vec<ss_second_core::Body>, FormStop>
+pub(crate) fn narrow_bodies(
+    alloc: Global,
+    bodies: &[Body],
+) -> Result<Vec<ss_second_core::Body>, FormStop>
     ensures { Answers (λ v. map core.body v.items) (all_of narrow.body (map whole.body bodies.now)) result }
 {
     let mut list = Vec::new(alloc);

@@ -96,7 +96,10 @@ fn narrow_link(
 }
 
 /// The expressions in the trees of the second form.
-pub(crate) fn narrow_exprs(alloc: Global, es: &[Expr]) -> Result<Vec<ss_second_core::Expr>, FormStop>
+pub(crate) fn narrow_exprs(
+    alloc: Global,
+    es: &[Expr],
+) -> Result<Vec<ss_second_core::Expr>, FormStop>
     ensures { Answers (λ v. core.exprs v.items) (all_of narrow.expr (whole.exprs es.now)) result }
 {
     let mut list = Vec::new(alloc);

@@ -33,7 +33,11 @@ fn narrow_call(
     Ok(ss_second_core::Stmt::Call(place, into, BodyId(number.0 - 1), args))
 }
 
-fn narrow_return(alloc: Global, place: Place, e: &Option<Expr>) -> Result<ss_second_core::Stmt, FormStop>
+fn narrow_return(
+    alloc: Global,
+    place: Place,
+    e: &Option<Expr>,
+) -> Result<ss_second_core::Stmt, FormStop>
     ensures { Answers core.stmt_of (narrow.stmt (ReturnStmt place (option_map whole.expr e.now))) result }
 {
     match e {
@@ -86,7 +90,10 @@ fn narrow_stmt(alloc: Global, stmt: &Stmt) -> Result<ss_second_core::Stmt, FormS
 
 /// The statements in the trees of the second form.
 #[cycle(stmts)]
-pub(crate) fn narrow_code(alloc: Global, code: &[Stmt]) -> Result<Vec<ss_second_core::Stmt>, FormStop>
+pub(crate) fn narrow_code(
+    alloc: Global,
+    code: &[Stmt],
+) -> Result<Vec<ss_second_core::Stmt>, FormStop>
     ensures { Answers (λ v. core.block v.items) (narrow.code (whole.block code.now)) result }
 {
     let mut list = Vec::new(alloc);

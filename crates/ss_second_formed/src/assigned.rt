@@ -8,8 +8,8 @@ ghost use Rattle.ss_bit_set.specs.Marked.{marked};
 ghost use Rattle.ss_second_formed.specs.Reads.{first, reads_within, all_read_within, result_reads_within, kept, met, assigned_in, assigned_along, reads_in, reads_along, after};
 
 use crate::types::both;
-use ss_second_core::{Expr, Stmt};
 use ss_bit_set::BitSet;
+use ss_second_core::{Expr, Stmt};
 use std::alloc::{AllocError, Global};
 
 /// The locals of the numbers below this one.

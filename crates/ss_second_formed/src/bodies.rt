@@ -14,9 +14,9 @@ use crate::assigned::{all_read_within, first_locals, walk_along};
 use crate::ends::reaches_end;
 use crate::stmts::{Scene, are_typed, body_at};
 use crate::types::{are_conditions, both};
+use ss_bit_set::BitSet;
 use ss_core::{BodyId, ClassId};
 use ss_second_core::{Body, Core, Local, Ty};
-use ss_bit_set::BitSet;
 use std::alloc::{AllocError, Global};
 
 // Puts the types of these locals behind the others.

@@ -12,8 +12,8 @@ ghost use Rattle.ss_sound.specs.Decided.{IfDerived, IfRefuted};
 ghost use Rattle.ss_sound.specs.Verdicts.{IsProved, AreProved, IsRefutedBy, AreDecided, IsUnproved, IfVerified, IfUnproved};
 
 use crate::decision::{Decision, decide};
-use ss_second_core::Core;
 use ss_search::Countered;
+use ss_second_core::Core;
 use ss_terms::{Bank, FormulaId};
 use ss_vcgen::{Obligation, Obligations};
 use std::alloc::{AllocFailed, Global};

@@ -1,7 +1,6 @@
 // The obligations of small programs, built by hand.
 
 use ss_core::{BodyId, ClassId, Kind, Place};
-
 use ss_second_core::{Body, Classes, Core, Expr, Local, Stmt, Ty};
 use ss_vcgen::obligations;
 use std::alloc::{AllocError, Global};

@@ -1,10 +1,9 @@
 // Runs of small programs, built by hand.
 
 use ss_core::{BodyId, ClassId, Kind, Place};
-
-use ss_second_core::{Body, Classes, Core, Expr, Local, Stmt, Ty, Value};
 use ss_io::MemSink;
 use ss_machine::{CheckedEnd, run_checked};
+use ss_second_core::{Body, Classes, Core, Expr, Local, Stmt, Ty, Value};
 use std::alloc::{AllocError, Global};
 use std::test::Fail;
 

@@ -9,8 +9,8 @@ ghost use Rattle.ss_core.specs.Chain.{IsWithinLimits};
 
 use program::{PART, V, condition, program};
 use ss_core::{Core, Expr};
-use ss_store_rules::Value;
 use ss_store::Store;
+use ss_store_rules::Value;
 use std::rt::Env;
 use std::{env, io};
 

@@ -4,7 +4,10 @@ ghost use Rattle.std.specs.Prelude.{IfOk};
 ghost use Rattle.ss_core.specs.View.{classes};
 ghost use Rattle.ss_core.specs.Chain.{IsWithinLimits};
 
-use ss_core::{BodyId, Class, ClassId, Classes, Core, Expr, Field, FieldId, Link, Mark, Operator, Place, Step, Ty};
+use ss_core::{
+    BodyId, Class, ClassId, Classes, Core, Expr, Field, FieldId, Link, Mark, Operator, Place, Step,
+    Ty,
+};
 use std::alloc::{AllocError, Global};
 
 pub const PART: ClassId = ClassId(4);

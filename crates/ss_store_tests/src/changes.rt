@@ -5,8 +5,8 @@ ghost use Rattle.ss_core.specs.Chain.{IsWithinLimits};
 
 use crate::part::{INT_ARRAY, PART, V, program};
 use ss_core::{Core, Kind};
-use ss_store_rules::{Refused, Value};
 use ss_store::{Before, NewStop, Store};
+use ss_store_rules::{Refused, Value};
 use std::alloc::{AllocError, Global};
 use std::test::Fail;
 

@@ -4,7 +4,9 @@ ghost use Rattle.std.specs.Prelude.{◌≤◌, IfOk, length};
 ghost use Rattle.ss_core.specs.View.{classes};
 ghost use Rattle.ss_core.specs.Chain.{most_classes};
 
-use ss_core::{Body, BodyFlags, BodyId, ClassId, Classes, Core, Expr, Link, Local, Operator, Place, Step, Ty};
+use ss_core::{
+    Body, BodyFlags, BodyId, ClassId, Classes, Core, Expr, Link, Local, Operator, Place, Step, Ty,
+};
 use ss_store::admitted;
 use std::alloc::{AllocError, Global};
 use std::test::Fail;

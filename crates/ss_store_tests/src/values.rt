@@ -4,9 +4,12 @@ ghost use Rattle.ss_core.specs.View.{classes};
 ghost use Rattle.ss_core.specs.Chain.{IsWithinLimits};
 
 use crate::part::{INT_ARRAY, PART, V, program};
-use ss_core::{ClassId, Core, Expr, FieldId, Kind, Link, Operator, OwnerTest, Place, Quantifier, StateWord, Step};
-use ss_store_rules::{Undefined, Value};
+use ss_core::{
+    ClassId, Core, Expr, FieldId, Kind, Link, Operator, OwnerTest, Place, Quantifier, StateWord,
+    Step,
+};
 use ss_store::Store;
+use ss_store_rules::{Undefined, Value};
 use std::alloc::{AllocError, Global};
 use std::test::Fail;
 

@@ -9,9 +9,8 @@ ghost use Rattle.ss_top_sources.specs.Sources.{IsAccepted};
 ghost use Rattle.ss_top.specs.Sources.{Gives};
 
 use ss_core::{FrontStop, Place};
-
-use ss_second_core::Core;
 use ss_second::{FormStop, second_form};
+use ss_second_core::Core;
 use ss_top_sources::{Accepted, elaborate, read_source};
 use std::alloc::Global;
 

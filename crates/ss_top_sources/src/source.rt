@@ -13,8 +13,8 @@ use ss_ast::{Program, Token};
 use ss_core::FrontStop;
 use ss_decls::parse_program;
 use ss_expand::expand;
-use ss_resolver::{Resolved, resolve};
 use ss_lexer::tokens;
+use ss_resolver::{Resolved, resolve};
 use ss_typed::Typed;
 use std::alloc::{AllocError, Global};
 

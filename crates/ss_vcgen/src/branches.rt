@@ -14,8 +14,8 @@ use crate::builder::{Builder, after};
 use crate::formulas::any;
 use crate::guard::{Guard, fails, reached, side, under};
 use crate::meant::Meant;
-use ss_second_core::Ty;
 use ss_logic::Sort;
+use ss_second_core::Ty;
 use ss_terms::{Bank, FormulaId, TermId};
 use std::alloc::{AllocError, Global};
 

@@ -16,8 +16,8 @@ use crate::guard::{Guard, under};
 use crate::list::Obligation;
 use crate::meant::{Meant, stand_for};
 use ss_core::{BodyId, Kind, Place};
-use ss_second_core::{Expr, Ty};
 use ss_logic::Sort;
+use ss_second_core::{Expr, Ty};
 use ss_terms::{Bank, FormulaId, Term, TermId};
 use std::alloc::{AllocError, Global};
 
