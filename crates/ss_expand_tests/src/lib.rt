@@ -1,6 +1,0 @@
-//! Tests of the elaboration.
-
-#![tactic(auto)]
-
-#[cfg(test)]
-mod expanded;

@@ -1,0 +1,19 @@
+//! Tests of the run side over its public calls: the outside, the class chain, the object store, the values of expressions, the inputs
+//! that a program admits, and the machine.
+
+#![tactic(auto)]
+
+#[cfg(test)]
+mod changes;
+#[cfg(test)]
+mod classes;
+#[cfg(test)]
+mod inputs;
+#[cfg(test)]
+mod outside;
+#[cfg(test)]
+mod part;
+#[cfg(test)]
+mod runs;
+#[cfg(test)]
+mod values;
