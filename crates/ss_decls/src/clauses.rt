@@ -1,22 +1,37 @@
 // Clauses, and the block behind them.
 
 ghost use Rattle.std.specs.Prelude.{◌<◌, ◌≤◌, length, map, IfOk, IfSome};
+ghost use Rattle.ss_ast.specs.Expressions.{expr_tree};
 ghost use Rattle.ss_ast.specs.Statements.{block_tree};
 ghost use Rattle.ss_ast.specs.Programs.{modified_tree, clause_tree};
 ghost use Rattle.ss_grammar.specs.Reading.{one_more};
 ghost use Rattle.ss_grammar.specs.Stops.{Gives, GivesMore};
 ghost use Rattle.ss_grammar_expressions.specs.Heads.{pieces};
+ghost use Rattle.ss_grammar_expressions.specs.Parser.{below, whole_expression};
 ghost use Rattle.ss_grammar_statements.specs.Parser.{ended};
 ghost use Rattle.ss_grammar_programs.specs.Heads.{clause_head};
 ghost use Rattle.ss_grammar_programs.specs.Parser.{modifies, clause_behind, clauses, specified};
 
 use crate::modified::parse_modifies;
-use ss_ast::{Block, Clause, Modified, Symbol, Token, TokenKind, Word};
+use ss_ast::{Block, Clause, Expr, Modified, Symbol, Token, TokenKind, Word};
 use ss_grammar::fault::Stop;
 use ss_parser::headings::parse_ended;
 use ss_parser::statements::parse_whole_block;
 use ss_parser_expressions::heads::expect;
 use std::alloc::Global;
+
+/// A condition and its `;`.
+pub fn parse_condition(
+    alloc: Global,
+    depth: u32,
+    tokens: &[Token],
+) -> Result<(Expr, &[Token]), Stop>
+    ensures gives { Gives (λ x. (expr_tree x.0, pieces x.1.now)) result (ended (whole_expression depth (below depth)) (pieces tokens.now)) }
+    ensures fewer { IfOk result (λ x. length x.1.now ≤ length tokens.now) }
+{
+    let (condition, rest) = parse_ended(alloc, depth, tokens)?;
+    Ok((Box::into_inner(condition), rest))
+}
 
 #[tactic(auto, unfolding(ss_grammar_statements::specs::Parser::ended))]
 fn parse_modifies_end(
@@ -51,11 +66,11 @@ fn next_clause(
             rest @ ..,
         ] => match word {
             Word::Requires => {
-                let (condition, rest) = parse_ended(alloc, depth, rest)?;
+                let (condition, rest) = parse_condition(alloc, depth, rest)?;
                 Ok(Some((Clause::Requires(condition), rest)))
             }
             Word::Ensures => {
-                let (condition, rest) = parse_ended(alloc, depth, rest)?;
+                let (condition, rest) = parse_condition(alloc, depth, rest)?;
                 Ok(Some((Clause::Ensures(condition), rest)))
             }
             Word::Modifies => {

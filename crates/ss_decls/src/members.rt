@@ -11,7 +11,7 @@ ghost use Rattle.ss_grammar_programs.specs.Heads.{begins_member};
 ghost use Rattle.ss_grammar_programs.specs.Grammar.{join_word};
 ghost use Rattle.ss_grammar_programs.specs.Parser.{fields, method, base_end, base_behind, base, constructor, fields_or_method, typed, void_method, name_first, member_kind, words, member, members};
 
-use crate::clauses::parse_specified;
+use crate::clauses::{parse_condition, parse_specified};
 use crate::heads::{is_field_ahead, is_member, is_type_ahead, next_modifier};
 use crate::params::{parse_attributes, parse_parameters};
 use ss_ast::{
@@ -21,7 +21,6 @@ use ss_ast::{
 use ss_core::Place;
 use ss_grammar::fault::{Fault, Stop};
 use ss_parser::declarations::parse_decls_from;
-use ss_parser::headings::parse_ended;
 use ss_parser_expressions::arguments::parse_args_end;
 use ss_parser_expressions::heads::{Start, expect, expect_name, expect_word};
 use ss_parser_expressions::types::parse_type_end;
@@ -245,7 +244,7 @@ fn parse_kind(alloc: Global, depth: u32, tokens: &[Token]) -> Result<(MemberKind
     match tokens {
         [Token { kind, place }, rest @ ..] => match kind {
             TokenKind::Word(Word::Invariant) => {
-                let (condition, rest) = parse_ended(alloc, depth, rest)?;
+                let (condition, rest) = parse_condition(alloc, depth, rest)?;
                 Ok((MemberKind::Invariant(condition), rest))
             }
             TokenKind::Word(Word::Void) => parse_void_method(alloc, depth, rest),

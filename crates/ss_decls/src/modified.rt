@@ -1,7 +1,7 @@
 // Terms of `modifies` clauses.
 
-ghost use Rattle.std.specs.Prelude.{◌<◌, ◌≤◌, length, map, IfOk, IfSome};
-ghost use Rattle.ss_ast.specs.Expressions.{expr_tree};
+ghost use Rattle.std.specs.Prelude.{◌≡◌, ◌<◌, ◌≤◌, length, map, IfOk, IfSome};
+ghost use Rattle.ss_ast.specs.Expressions.{expr_tree, grouped};
 ghost use Rattle.ss_ast.specs.Programs.{modified_tree};
 ghost use Rattle.ss_grammar.specs.Reading.{times, one_more};
 ghost use Rattle.ss_grammar.specs.Stops.{Gives, GivesMore};
@@ -9,6 +9,7 @@ ghost use Rattle.ss_grammar_expressions.specs.Heads.{is, the, pieces, postfix_he
 ghost use Rattle.ss_grammar_programs.specs.Again.{another};
 ghost use Rattle.ss_grammar_programs.specs.Grammar.{push_behind};
 ghost use Rattle.ss_grammar_programs.specs.Parser.{dot_step, index_step, call_step, step, modified_from, modified_term, modifies};
+ghost use Rattle.ss_parser_expressions.specs.View.{postfix_tree};
 ghost use Rattle.ss_decls.specs.View.{step_of};
 
 use ss_ast::{Expr, Modified, Postfix, Symbol, Token, TokenKind};
@@ -18,7 +19,7 @@ use ss_parser::posts::parse_prim;
 use ss_parser_expressions::arguments::{parse_args_end, parse_index_end};
 use ss_parser_expressions::build;
 use ss_parser_expressions::heads::{expect, expect_name};
-use std::alloc::Global;
+use std::alloc::{AllocError, Global};
 
 /// What stands behind a path in a term.
 #[derive(Drop)]
@@ -126,16 +127,29 @@ fn next_step(
     }
 }
 
+// A path, out of its box.
+fn path_of(
+    alloc: Global,
+    place: Place,
+    first: Box<Expr>,
+    postfixes: Vec<Postfix>,
+) -> Result<Expr, AllocError>
+    ensures { IfOk result (λ e. expr_tree e ≡ grouped place (expr_tree first.value) (map postfix_tree postfixes.items)) }
+{
+    let path = build::path(alloc, place, first, postfixes)?;
+    Ok(Box::into_inner(path))
+}
+
 // The term that begins with `first` at this place.
 #[tactic(auto, unfolding(ss_grammar_programs::specs::Parser::modified_from, ss_grammar_programs::specs::Parser::steps))]
 fn parse_modified_from(
     alloc: Global,
     depth: u32,
     place: Place,
-    first: Expr,
+    first: Box<Expr>,
     tokens: &[Token],
 ) -> Result<(Modified, &[Token]), Stop>
-    ensures gives { Gives (λ x. (modified_tree x.0, pieces x.1.now)) result (modified_from place depth (expr_tree first) (pieces tokens.now)) }
+    ensures gives { Gives (λ x. (modified_tree x.0, pieces x.1.now)) result (modified_from place depth (expr_tree first.value) (pieces tokens.now)) }
     ensures fewer { IfOk result (λ x. length x.1.now ≤ length tokens.now) }
 {
     let mut postfixes = Vec::new(alloc);
@@ -144,17 +158,17 @@ fn parse_modified_from(
         match step {
             TermStep::Postfix(postfix) => postfixes.push(postfix)?,
             TermStep::All => {
-                let path = build::path(alloc, place, first, postfixes)?;
+                let path = path_of(alloc, place, first, postfixes)?;
                 return Ok((Modified::All(path), after));
             }
             TermStep::Elements => {
-                let path = build::path(alloc, place, first, postfixes)?;
+                let path = path_of(alloc, place, first, postfixes)?;
                 return Ok((Modified::Elements(path), after));
             }
         }
         rest = after;
     }
-    let path = build::path(alloc, place, first, postfixes)?;
+    let path = path_of(alloc, place, first, postfixes)?;
     Ok((Modified::One(path), rest))
 }
 

@@ -9,3 +9,5 @@ pub mod Unaries
 pub mod Chains
 pub mod Whole
 pub mod Tied
+pub mod Kept
+pub mod Written

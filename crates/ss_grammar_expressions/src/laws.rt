@@ -1,11 +1,14 @@
 // What holds of every list of tokens.
 
-ghost use Rattle.std.specs.Prelude.{◌≡◌, ℕ, List};
+ghost use Rattle.std.specs.Prelude.{◌≡◌, ◌⊎◌, ℕ, List};
+ghost use Rattle.ss_core.specs.declared.names.Place.{Place};
 ghost use Rattle.ss_ast.specs.Expressions.{ExprTree};
 ghost use Rattle.ss_grammar.specs.Language.{Finds};
 ghost use Rattle.ss_grammar_expressions.specs.Heads.{Piece};
-ghost use Rattle.ss_grammar_expressions.specs.Grammar.{Expression, TheExpression};
+ghost use Rattle.ss_grammar_expressions.specs.Grammar.{AtLevel, Paren, OtherParen, Expression, TheExpression};
 ghost use Rattle.ss_grammar_expressions.specs.Parser.{reading};
+ghost use Rattle.ss_grammar_expressions.specs.Ends.{TakesNoEnd};
+ghost use Rattle.ss_grammar_expressions.specs.Written.{Casted};
 
 /// A list of tokens is one expression at most, however deep it may be nested.
 pub fn one_expression()
@@ -16,4 +19,14 @@ pub fn one_expression()
 /// too many.
 pub fn reading_is_the_grammar()
     ensures { (d : ℕ) (ts : List Piece) → Finds Expression d ts (reading d TheExpression ts) }
+{}
+
+/// No expression takes the end of the text.
+pub fn no_expression_takes_the_end()
+    ensures { (d : ℕ) (ts : List Piece) (e : ExprTree) → Expression d ts e → TakesNoEnd ts }
+{}
+
+/// What stands behind a `(`, which is told apart by its first tokens, is `Type ")" Unary` or `Expr ")"` with its postfixes.
+pub fn behind_a_parenthesis_are_two_productions()
+    ensures { (d : ℕ) (p : Place) (ts : List Piece) (e : ExprTree) → Paren (AtLevel d) p ts e → Casted (AtLevel d) p ts e ⊎ OtherParen (AtLevel d) p ts e }
 {}

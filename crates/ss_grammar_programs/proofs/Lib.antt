@@ -6,3 +6,5 @@ pub mod Parameters
 pub mod Clauses
 pub mod Members
 pub mod Programs
+pub mod Written
+pub mod Terms

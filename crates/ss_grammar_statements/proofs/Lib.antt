@@ -12,3 +12,4 @@ pub mod Written
 pub mod Told
 pub mod Productions
 pub mod Elses
+pub mod Kept

@@ -6,6 +6,7 @@ ghost use Rattle.ss_ast.specs.Expressions.{ExprTree};
 ghost use Rattle.ss_ast.specs.Statements.{BlockTree, ForInitTree, StmtTree, IfElseOf};
 ghost use Rattle.ss_grammar.specs.Language.{Finds};
 ghost use Rattle.ss_grammar_expressions.specs.Heads.{Piece};
+ghost use Rattle.ss_grammar_expressions.specs.Ends.{TakesNoEnd};
 ghost use Rattle.ss_grammar_statements.specs.Grammar.{ForInit, TheGoverned, NestedAt, open_if, Block};
 ghost use Rattle.ss_grammar_statements.specs.Written.{Declaration, Simply, Leveled, Begins, room, declares_names};
 ghost use Rattle.ss_grammar_statements.specs.Parser.{block};
@@ -41,4 +42,9 @@ pub fn a_type_and_a_name_declare()
 /// An `else` belongs to the nearest `if`: what stands before it never ends with an `if` that has none.
 pub fn the_nearest_if_has_the_else()
     ensures { (d : ℕ) (ts : List Piece) (p : Place) (e : ExprTree) (a b : StmtTree) → NestedAt d TheGoverned ts (IfElseOf p e a b) → open_if a ≡ false }
+{}
+
+/// No block takes the end of the text.
+pub fn no_block_takes_the_end()
+    ensures { (d : ℕ) (ts : List Piece) (b : BlockTree) → Block d ts b → TakesNoEnd ts }
 {}

@@ -1,8 +1,12 @@
 -- What the values of the code stand for.
-use Rattle.std.specs.Prelude.{map, option_map}
+use Rattle.std.specs.Global.{Box}
+use Rattle.std.specs.Prelude.{map, Option, Some, None}
 use Rattle.ss_core.specs.declared.names.Place.{Place}
-use Rattle.ss_ast.specs.Expressions.{name_tree, expr_tree}
-use Rattle.ss_ast.specs.Statements.{stmt_trees, stmt_tree, for_init_tree, simple_tree}
+use Rattle.ss_ast.specs.declared.expr.Expr.{Expr}
+use Rattle.ss_ast.specs.declared.stmt.ForInit.{ForInit}
+use Rattle.ss_ast.specs.declared.stmt.Simple.{Simple}
+use Rattle.ss_ast.specs.Expressions.{ExprTree, name_tree, expr_tree}
+use Rattle.ss_ast.specs.Statements.{ForInitTree, SimpleTree, stmt_trees, stmt_tree, for_init_tree, simple_tree}
 use Rattle.ss_parser_expressions.specs.View.{start_of}
 use Rattle.ss_grammar_statements.specs.Heads.{PrimHead, ParenPrim, LeafPrim, OldPrim, NewPrim, QuantifierPrim, SimpleHead, AssignHead, StepHead, StartHead, TypeFirst, NameFirst, PrimFirst, StmtHead, BlockFirst, StartFirst, IfFirst, WhileFirst, ForFirst, ReturnFirst, AssertFirst, AssumeFirst, ExposeFirst, EmptyFirst}
 use Rattle.ss_grammar_statements.specs.Grammar.{Listed, HeadingTree}
@@ -21,7 +25,7 @@ use Rattle.ss_parser.specs.declared.build.Heading.{Heading}
 
 abbrev pub prim_start_of : PrimStart → PrimHead
 prim_start_of (prim.Paren p) = ParenPrim p
-prim_start_of (prim.Leaf p e) = LeafPrim p (expr_tree e)
+prim_start_of (prim.Leaf p e) = LeafPrim p (expr_tree e.value)
 prim_start_of (prim.Old p) = OldPrim p
 prim_start_of (prim.New p) = NewPrim p
 prim_start_of (prim.Quantifier p q) = QuantifierPrim p q
@@ -53,5 +57,18 @@ stmt_start_of (stmt.Empty p) = EmptyFirst p
 abbrev pub listed_of : StmtList → Listed
 listed_of l = record { statements = stmt_trees (map stmt_tree l.statements.items); end = l.end }
 
+-- parts that may be absent, in their boxes
+abbrev pub value_of : Option (Box Expr) → Option ExprTree
+value_of None = None
+value_of (Some e) = Some (expr_tree e.value)
+
+abbrev pub init_of : Option (Box ForInit) → Option ForInitTree
+init_of None = None
+init_of (Some i) = Some (for_init_tree i.value)
+
+abbrev pub step_of : Option (Box Simple) → Option SimpleTree
+step_of None = None
+step_of (Some s) = Some (simple_tree s.value)
+
 abbrev pub heading_of : Heading → HeadingTree
-heading_of h = record { first = option_map for_init_tree h.first; test = option_map expr_tree h.test; step = option_map simple_tree h.step }
+heading_of h = record { first = init_of h.first; test = value_of h.test; step = step_of h.step }

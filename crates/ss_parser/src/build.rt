@@ -2,14 +2,15 @@
 
 ghost use Rattle.std.specs.Prelude.{◌≡◌, true, false, map, IfOk, option_map};
 ghost use Rattle.ss_ast.specs.Expressions.{expr_tree, type_tree, name_tree};
-ghost use Rattle.ss_ast.specs.Statements.{declarator_tree, for_init_tree, stmt_tree, block_tree, BlockOf, InBlock, IfOf, IfElseOf, WhileOf, ForOf, ExposeOf, ReturnOf, AssertOf, AssumeOf, EmptyOf};
+ghost use Rattle.ss_ast.specs.Statements.{declarator_tree, for_init_tree, simple_tree, stmt_tree, block_tree, BlockOf, InBlock, IfOf, IfElseOf, WhileOf, ForOf, ExposeOf, ReturnOf, AssertOf, AssumeOf, EmptyOf, AssignOf, StepOf, AloneOf};
 ghost use Rattle.ss_grammar_expressions.specs.Grammar.{type_of, head_of};
 ghost use Rattle.ss_grammar_statements.specs.Grammar.{declared, declares, statement_of};
 ghost use Rattle.ss_grammar_statements.specs.Parser.{initial, invariants, other, heading, block};
-ghost use Rattle.ss_parser.specs.View.{listed_of, heading_of};
+ghost use Rattle.ss_parser.specs.View.{value_of, init_of, step_of, listed_of, heading_of};
 
 use ss_ast::{
-    Block, Declaration, Declarator, Expr, ForInit, Name, Simple, Stmt, TypeName, TypeRef,
+    AssignOperator, Block, Declaration, Declarator, Expr, ForInit, Name, Simple, StepOperator,
+    Stmt, TypeName, TypeRef,
 };
 use ss_core::Place;
 use std::alloc::{AllocError, Global};
@@ -24,16 +25,109 @@ pub struct StmtList {
 /// What stands in the heading of a `for`.
 #[derive(Drop)]
 pub struct Heading {
-    pub first: Option<ForInit>,
-    pub test: Option<Expr>,
-    pub step: Option<Simple>,
+    pub first: Option<Box<ForInit>>,
+    pub test: Option<Box<Expr>>,
+    pub step: Option<Box<Simple>>,
+}
+
+/// The invariants and the body of a loop.
+#[derive(Drop)]
+pub struct Guarded {
+    pub invariants: Vec<Expr>,
+    pub body: Box<Stmt>,
+}
+
+/// The statement in a box.
+pub fn boxed(alloc: Global, stmt: Stmt) -> Result<Box<Stmt>, AllocError>
+    ensures { IfOk result (λ s. s.value ≡ stmt) }
+{
+    Ok(Box::new(alloc, stmt)?)
+}
+
+// The expression out of its box, where there is one.
+fn value_in(value: Option<Box<Expr>>) -> Option<Expr>
+    ensures { option_map expr_tree result ≡ value_of value }
+{
+    match value {
+        Some(value) => Some(Box::into_inner(value)),
+        None => None,
+    }
+}
+
+// The beginning of a `for` out of its box, where there is one.
+fn init_in(init: Option<Box<ForInit>>) -> Option<ForInit>
+    ensures { option_map for_init_tree result ≡ init_of init }
+{
+    match init {
+        Some(init) => Some(Box::into_inner(init)),
+        None => None,
+    }
+}
+
+// The step of a `for` out of its box, where there is one.
+fn step_in(step: Option<Box<Simple>>) -> Option<Simple>
+    ensures { option_map simple_tree result ≡ step_of step }
+{
+    match step {
+        Some(step) => Some(Box::into_inner(step)),
+        None => None,
+    }
 }
 
 /// `x = e`, or `x` alone.
-pub fn declarator(name: Name, initial: Option<Expr>) -> Declarator
+pub fn declarator(name: Name, initial: Option<Box<Expr>>) -> Declarator
+    ensures { declarator_tree result ≡ declared (name_tree name) (value_of initial) }
+{
+    declarator_of(name, value_in(initial))
+}
+
+// `x = e`, or `x` alone, from an expression out of its box.
+fn declarator_of(name: Name, initial: Option<Expr>) -> Declarator
     ensures { declarator_tree result ≡ declared (name_tree name) (option_map expr_tree initial) }
 {
     Declarator { name, initial }
+}
+
+/// `a = e`, `a += e` and their kind.
+pub fn assign(path: Box<Expr>, operator: AssignOperator, value: Box<Expr>) -> Simple
+    ensures { simple_tree result ≡ AssignOf (expr_tree path.value) operator (expr_tree value.value) }
+{
+    assign_of(Box::into_inner(path), operator, Box::into_inner(value))
+}
+
+// `a = e`, from expressions out of their boxes.
+fn assign_of(path: Expr, operator: AssignOperator, value: Expr) -> Simple
+    ensures { simple_tree result ≡ AssignOf (expr_tree path) operator (expr_tree value) }
+{
+    Simple::Assign(path, operator, value)
+}
+
+/// `a++` and `a--`
+pub fn step(path: Box<Expr>, operator: StepOperator) -> Simple
+    ensures { simple_tree result ≡ StepOf (expr_tree path.value) operator }
+{
+    step_of_path(Box::into_inner(path), operator)
+}
+
+// `a++` and `a--`, from an expression out of its box.
+fn step_of_path(path: Expr, operator: StepOperator) -> Simple
+    ensures { simple_tree result ≡ StepOf (expr_tree path) operator }
+{
+    Simple::Step(path, operator)
+}
+
+/// A path alone.
+pub fn alone(path: Box<Expr>) -> Simple
+    ensures { simple_tree result ≡ AloneOf (expr_tree path.value) }
+{
+    alone_of(Box::into_inner(path))
+}
+
+// A path alone, from an expression out of its box.
+fn alone_of(path: Expr) -> Simple
+    ensures { simple_tree result ≡ AloneOf (expr_tree path) }
+{
+    Simple::Alone(path)
 }
 
 /// `T x = e, y`
@@ -103,10 +197,15 @@ fn if_boxed(place: Place, test: Expr, side: Box<Stmt>) -> Stmt
 }
 
 /// `if (e) a`
-pub fn if_alone(alloc: Global, place: Place, test: Expr, side: Stmt) -> Result<Stmt, AllocError>
-    ensures { IfOk result (λ s. stmt_tree s ≡ IfOf place (expr_tree test) (stmt_tree side)) }
+pub fn if_alone(
+    alloc: Global,
+    place: Place,
+    test: Box<Expr>,
+    side: Box<Stmt>,
+) -> Result<Box<Stmt>, AllocError>
+    ensures { IfOk result (λ s. stmt_tree s.value ≡ IfOf place (expr_tree test.value) (stmt_tree side.value)) }
 {
-    Ok(if_boxed(place, test, Box::new(alloc, side)?))
+    boxed(alloc, if_boxed(place, Box::into_inner(test), side))
 }
 
 // `if (e) a else b`.
@@ -120,15 +219,16 @@ fn if_else_boxed(place: Place, test: Expr, side: Box<Stmt>, other: Box<Stmt>) ->
 pub fn if_else(
     alloc: Global,
     place: Place,
-    test: Expr,
-    side: Stmt,
-    other: Stmt,
-) -> Result<Stmt, AllocError>
-    ensures { IfOk result (λ s. stmt_tree s ≡ IfElseOf place (expr_tree test) (stmt_tree side) (stmt_tree other)) }
+    test: Box<Expr>,
+    side: Box<Stmt>,
+    other: Box<Stmt>,
+) -> Result<Box<Stmt>, AllocError>
+    ensures { IfOk result (λ s. stmt_tree s.value ≡ IfElseOf place (expr_tree test.value) (stmt_tree side.value) (stmt_tree other.value)) }
 {
-    let side = Box::new(alloc, side)?;
-    let other = Box::new(alloc, other)?;
-    Ok(if_else_boxed(place, test, side, other))
+    boxed(
+        alloc,
+        if_else_boxed(place, Box::into_inner(test), side, other),
+    )
 }
 
 // `while (e) invariant .. a`.
@@ -142,22 +242,44 @@ fn while_boxed(place: Place, test: Expr, invariants: Vec<Expr>, body: Box<Stmt>)
 pub fn while_loop(
     alloc: Global,
     place: Place,
-    test: Expr,
-    invariants: Vec<Expr>,
-    body: Stmt,
-) -> Result<Stmt, AllocError>
-    ensures { IfOk result (λ s. stmt_tree s ≡ WhileOf place (expr_tree test) (map expr_tree invariants.items) (stmt_tree body)) }
+    test: Box<Expr>,
+    guarded: Guarded,
+) -> Result<Box<Stmt>, AllocError>
+    ensures { IfOk result (λ s. stmt_tree s.value ≡ WhileOf place (expr_tree test.value) (map expr_tree guarded.invariants.items) (stmt_tree guarded.body.value)) }
 {
-    let body = Box::new(alloc, body)?;
-    Ok(while_boxed(place, test, invariants, body))
+    let Guarded { invariants, body } = guarded;
+    boxed(
+        alloc,
+        while_boxed(place, Box::into_inner(test), invariants, body),
+    )
+}
+
+// `for (a; e; b) invariant .. c`, from parts out of their boxes.
+fn for_parts(
+    place: Place,
+    first: Option<ForInit>,
+    test: Option<Expr>,
+    step: Option<Simple>,
+    guarded: Guarded,
+) -> Stmt
+    ensures { stmt_tree result ≡ ForOf place (option_map for_init_tree first) (option_map expr_tree test) (option_map simple_tree step) (map expr_tree guarded.invariants.items) (stmt_tree guarded.body.value) }
+{
+    let Guarded { invariants, body } = guarded;
+    Stmt::For(place, first, test, step, invariants, body)
 }
 
 // `for (a; e; b) invariant .. c`.
-fn for_boxed(place: Place, heading: Heading, invariants: Vec<Expr>, body: Box<Stmt>) -> Stmt
-    ensures { stmt_tree result ≡ (let h = heading_of heading in ForOf place h.first h.test h.step (map expr_tree invariants.items) (stmt_tree body.value)) }
+fn for_stmt(place: Place, heading: Heading, guarded: Guarded) -> Stmt
+    ensures { stmt_tree result ≡ (let h = heading_of heading in ForOf place h.first h.test h.step (map expr_tree guarded.invariants.items) (stmt_tree guarded.body.value)) }
 {
     let Heading { first, test, step } = heading;
-    Stmt::For(place, first, test, step, invariants, body)
+    for_parts(
+        place,
+        init_in(first),
+        value_in(test),
+        step_in(step),
+        guarded,
+    )
 }
 
 /// `for (a; e; b) invariant .. c`
@@ -165,38 +287,77 @@ pub fn for_loop(
     alloc: Global,
     place: Place,
     heading: Heading,
-    invariants: Vec<Expr>,
-    body: Stmt,
-) -> Result<Stmt, AllocError>
-    ensures { IfOk result (λ s. stmt_tree s ≡ (let h = heading_of heading in ForOf place h.first h.test h.step (map expr_tree invariants.items) (stmt_tree body))) }
+    guarded: Guarded,
+) -> Result<Box<Stmt>, AllocError>
+    ensures { IfOk result (λ s. stmt_tree s.value ≡ (let h = heading_of heading in ForOf place h.first h.test h.step (map expr_tree guarded.invariants.items) (stmt_tree guarded.body.value))) }
 {
-    let body = Box::new(alloc, body)?;
-    Ok(for_boxed(place, heading, invariants, body))
+    boxed(alloc, for_stmt(place, heading, guarded))
 }
 
 /// `expose (e at T) { .. }`
-pub fn expose(place: Place, object: Expr, level: Option<Name>, body: Block) -> Stmt
+pub fn expose(
+    alloc: Global,
+    place: Place,
+    object: Box<Expr>,
+    level: Option<Name>,
+    body: Block,
+) -> Result<Box<Stmt>, AllocError>
+    ensures { IfOk result (λ s. stmt_tree s.value ≡ ExposeOf place (expr_tree object.value) (option_map name_tree level) (block_tree body)) }
+{
+    boxed(
+        alloc,
+        expose_of(place, Box::into_inner(object), level, body),
+    )
+}
+
+// `expose (e at T) { .. }`, from an expression out of its box.
+fn expose_of(place: Place, object: Expr, level: Option<Name>, body: Block) -> Stmt
     ensures { stmt_tree result ≡ ExposeOf place (expr_tree object) (option_map name_tree level) (block_tree body) }
 {
     Stmt::Expose(place, object, level, body)
 }
 
 /// `return e;`
-pub fn returns(place: Place, value: Option<Expr>) -> Stmt
+pub fn returns(
+    alloc: Global,
+    place: Place,
+    value: Option<Box<Expr>>,
+) -> Result<Box<Stmt>, AllocError>
+    ensures { IfOk result (λ s. stmt_tree s.value ≡ ReturnOf place (value_of value)) }
+{
+    boxed(alloc, returns_of(place, value_in(value)))
+}
+
+// `return e;`, from an expression out of its box.
+fn returns_of(place: Place, value: Option<Expr>) -> Stmt
     ensures { stmt_tree result ≡ ReturnOf place (option_map expr_tree value) }
 {
     Stmt::Return(place, value)
 }
 
 /// `assert e;`
-pub fn asserts(place: Place, condition: Expr) -> Stmt
+pub fn asserts(alloc: Global, place: Place, condition: Box<Expr>) -> Result<Box<Stmt>, AllocError>
+    ensures { IfOk result (λ s. stmt_tree s.value ≡ AssertOf place (expr_tree condition.value)) }
+{
+    boxed(alloc, asserts_of(place, Box::into_inner(condition)))
+}
+
+// `assert e;`, from an expression out of its box.
+fn asserts_of(place: Place, condition: Expr) -> Stmt
     ensures { stmt_tree result ≡ AssertOf place (expr_tree condition) }
 {
     Stmt::Assert(place, condition)
 }
 
 /// `assume e;`
-pub fn assumes(place: Place, condition: Expr) -> Stmt
+pub fn assumes(alloc: Global, place: Place, condition: Box<Expr>) -> Result<Box<Stmt>, AllocError>
+    ensures { IfOk result (λ s. stmt_tree s.value ≡ AssumeOf place (expr_tree condition.value)) }
+{
+    boxed(alloc, assumes_of(place, Box::into_inner(condition)))
+}
+
+// `assume e;`, from an expression out of its box.
+fn assumes_of(place: Place, condition: Expr) -> Stmt
     ensures { stmt_tree result ≡ AssumeOf place (expr_tree condition) }
 {
     Stmt::Assume(place, condition)

@@ -26,17 +26,17 @@ fn parse_expose_body(
     alloc: Global,
     depth: u32,
     place: Place,
-    object: Expr,
+    object: Box<Expr>,
     level: Option<Name>,
     tokens: &[Token],
-) -> Result<(Stmt, &[Token]), Stop>
+) -> Result<(Box<Stmt>, &[Token]), Stop>
     requires { 0 < depth }
-    ensures gives { Gives (λ x. (stmt_tree x.0, pieces x.1.now)) result (expose_body depth (below depth) (nested_below depth) place (expr_tree object) (option_map name_tree level) (pieces tokens.now)) }
+    ensures gives { Gives (λ x. (stmt_tree x.0.value, pieces x.1.now)) result (expose_body depth (below depth) (nested_below depth) place (expr_tree object.value) (option_map name_tree level) (pieces tokens.now)) }
     ensures fewer { IfOk result (λ x. length x.1.now ≤ length tokens.now) }
 {
     let (_, rest) = expect(tokens, Symbol::Close)?;
     let (body, rest) = parse_inner_block(alloc, depth, rest)?;
-    Ok((build::expose(place, object, level, body), rest))
+    Ok((build::expose(alloc, place, object, level, body)?, rest))
 }
 
 // What is behind the `(` of an `expose`.
@@ -47,9 +47,9 @@ fn parse_expose_end(
     depth: u32,
     place: Place,
     tokens: &[Token],
-) -> Result<(Stmt, &[Token]), Stop>
+) -> Result<(Box<Stmt>, &[Token]), Stop>
     requires { 0 < depth }
-    ensures gives { Gives (λ x. (stmt_tree x.0, pieces x.1.now)) result (expose_end depth (below depth) (nested_below depth) place (pieces tokens.now)) }
+    ensures gives { Gives (λ x. (stmt_tree x.0.value, pieces x.1.now)) result (expose_end depth (below depth) (nested_below depth) place (pieces tokens.now)) }
     ensures fewer { IfOk result (λ x. length x.1.now ≤ length tokens.now) }
 {
     let (object, rest) = inner_expression(alloc, depth, tokens)?;
@@ -65,8 +65,8 @@ pub fn parse_expose(
     depth: u32,
     place: Place,
     tokens: &[Token],
-) -> Result<(Stmt, &[Token]), Stop>
-    ensures gives { Gives (λ x. (stmt_tree x.0, pieces x.1.now)) result (stmt_behind depth (below depth) (nested_below depth) (ExposeFirst place) (pieces tokens.now)) }
+) -> Result<(Box<Stmt>, &[Token]), Stop>
+    ensures gives { Gives (λ x. (stmt_tree x.0.value, pieces x.1.now)) result (stmt_behind depth (below depth) (nested_below depth) (ExposeFirst place) (pieces tokens.now)) }
     ensures fewer { IfOk result (λ x. length x.1.now ≤ length tokens.now) }
 {
     match tokens {

@@ -39,9 +39,13 @@ fn inner_statements(
 // A governed statement, one level deeper.
 #[cycle(stmt)]
 #[tactic(auto, using(crate::proofs::Readers::nested_is))]
-fn inner_governed(alloc: Global, depth: u32, tokens: &[Token]) -> Result<(Stmt, &[Token]), Stop>
+fn inner_governed(
+    alloc: Global,
+    depth: u32,
+    tokens: &[Token],
+) -> Result<(Box<Stmt>, &[Token]), Stop>
     requires { 0 < depth }
-    ensures gives { Gives (λ x. (stmt_tree x.0, pieces x.1.now)) result (nested_below depth TheGoverned (pieces tokens.now)) }
+    ensures gives { Gives (λ x. (stmt_tree x.0.value, pieces x.1.now)) result (nested_below depth TheGoverned (pieces tokens.now)) }
     ensures fewer { IfOk result (λ x. length x.1.now ≤ length tokens.now) }
 {
     parse_other(alloc, depth - 1, tokens)
@@ -83,21 +87,29 @@ pub fn parse_inner_block(
 // A block as a statement.
 #[cycle(stmt)]
 #[tactic(auto, unfolding(ss_grammar_statements::specs::Parser::in_block))]
-fn parse_in_block(alloc: Global, depth: u32, tokens: &[Token]) -> Result<(Stmt, &[Token]), Stop>
+fn parse_in_block(
+    alloc: Global,
+    depth: u32,
+    tokens: &[Token],
+) -> Result<(Box<Stmt>, &[Token]), Stop>
     requires { 0 < depth }
-    ensures gives { Gives (λ x. (stmt_tree x.0, pieces x.1.now)) result (in_block depth (below depth) (nested_below depth) (pieces tokens.now)) }
+    ensures gives { Gives (λ x. (stmt_tree x.0.value, pieces x.1.now)) result (in_block depth (below depth) (nested_below depth) (pieces tokens.now)) }
     ensures fewer { IfOk result (λ x. length x.1.now ≤ length tokens.now) }
 {
     let (block, rest) = parse_inner_block(alloc, depth, tokens)?;
-    Ok((build::in_block(block), rest))
+    Ok((build::boxed(alloc, build::in_block(block))?, rest))
 }
 
 /// A statement that `if`, `else`, `while` or `for` governs.
 #[cycle(stmt)]
 #[tactic(auto, unfolding(ss_grammar_statements::specs::Parser::governed))]
-pub fn parse_governed(alloc: Global, depth: u32, tokens: &[Token]) -> Result<(Stmt, &[Token]), Stop>
+pub fn parse_governed(
+    alloc: Global,
+    depth: u32,
+    tokens: &[Token],
+) -> Result<(Box<Stmt>, &[Token]), Stop>
     requires { 0 < depth }
-    ensures gives { Gives (λ x. (stmt_tree x.0, pieces x.1.now)) result (governed depth (below depth) (nested_below depth) (pieces tokens.now)) }
+    ensures gives { Gives (λ x. (stmt_tree x.0.value, pieces x.1.now)) result (governed depth (below depth) (nested_below depth) (pieces tokens.now)) }
     ensures fewer { IfOk result (λ x. length x.1.now ≤ length tokens.now) }
 {
     match tokens {
@@ -119,12 +131,12 @@ fn parse_other_side(
     alloc: Global,
     depth: u32,
     place: Place,
-    test: Expr,
-    side: Stmt,
+    test: Box<Expr>,
+    side: Box<Stmt>,
     tokens: &[Token],
-) -> Result<(Stmt, &[Token]), Stop>
+) -> Result<(Box<Stmt>, &[Token]), Stop>
     requires { 0 < depth }
-    ensures gives { Gives (λ x. (stmt_tree x.0, pieces x.1.now)) result (other_side depth (below depth) (nested_below depth) place (expr_tree test) (stmt_tree side) (pieces tokens.now)) }
+    ensures gives { Gives (λ x. (stmt_tree x.0.value, pieces x.1.now)) result (other_side depth (below depth) (nested_below depth) place (expr_tree test.value) (stmt_tree side.value) (pieces tokens.now)) }
     ensures fewer { IfOk result (λ x. length x.1.now ≤ length tokens.now) }
 {
     let (other, rest) = parse_governed(alloc, depth, tokens)?;
@@ -138,12 +150,12 @@ fn parse_else_end(
     alloc: Global,
     depth: u32,
     place: Place,
-    test: Expr,
-    side: Stmt,
+    test: Box<Expr>,
+    side: Box<Stmt>,
     tokens: &[Token],
-) -> Result<(Stmt, &[Token]), Stop>
+) -> Result<(Box<Stmt>, &[Token]), Stop>
     requires { 0 < depth }
-    ensures gives { Gives (λ x. (stmt_tree x.0, pieces x.1.now)) result (else_end depth (below depth) (nested_below depth) place (expr_tree test) (stmt_tree side) (pieces tokens.now)) }
+    ensures gives { Gives (λ x. (stmt_tree x.0.value, pieces x.1.now)) result (else_end depth (below depth) (nested_below depth) place (expr_tree test.value) (stmt_tree side.value) (pieces tokens.now)) }
     ensures fewer { IfOk result (λ x. length x.1.now ≤ length tokens.now) }
 {
     match tokens {
@@ -166,9 +178,9 @@ fn parse_if_end(
     depth: u32,
     place: Place,
     tokens: &[Token],
-) -> Result<(Stmt, &[Token]), Stop>
+) -> Result<(Box<Stmt>, &[Token]), Stop>
     requires { 0 < depth }
-    ensures gives { Gives (λ x. (stmt_tree x.0, pieces x.1.now)) result (if_end depth (below depth) (nested_below depth) place (pieces tokens.now)) }
+    ensures gives { Gives (λ x. (stmt_tree x.0.value, pieces x.1.now)) result (if_end depth (below depth) (nested_below depth) place (pieces tokens.now)) }
     ensures fewer { IfOk result (λ x. length x.1.now ≤ length tokens.now) }
 {
     let (test, rest) = parse_paren_end(alloc, depth, tokens)?;
@@ -184,8 +196,8 @@ pub fn parse_if(
     depth: u32,
     place: Place,
     tokens: &[Token],
-) -> Result<(Stmt, &[Token]), Stop>
-    ensures gives { Gives (λ x. (stmt_tree x.0, pieces x.1.now)) result (stmt_behind depth (below depth) (nested_below depth) (IfFirst place) (pieces tokens.now)) }
+) -> Result<(Box<Stmt>, &[Token]), Stop>
+    ensures gives { Gives (λ x. (stmt_tree x.0.value, pieces x.1.now)) result (stmt_behind depth (below depth) (nested_below depth) (IfFirst place) (pieces tokens.now)) }
     ensures fewer { IfOk result (λ x. length x.1.now ≤ length tokens.now) }
 {
     match tokens {

@@ -9,25 +9,28 @@ ghost use Rattle.ss_grammar_expressions.specs.Heads.{the_word, pieces};
 ghost use Rattle.ss_grammar_expressions.specs.Grammar.{join_argument};
 ghost use Rattle.ss_grammar_expressions.specs.Parser.{below, whole_expression};
 ghost use Rattle.ss_grammar_statements.specs.Parser.{ended, some_of, optional, simple, for_init, invariants, at_end, heading, nested_below};
-ghost use Rattle.ss_parser.specs.View.{heading_of};
+ghost use Rattle.ss_parser.specs.View.{value_of, init_of, step_of, heading_of};
 
 use crate::build::Heading;
 use crate::simples::{parse_for_init, parse_simple};
 use ss_ast::{Expr, ForInit, Name, Simple, Symbol, Token, TokenKind, Word};
 use ss_grammar::fault::Stop;
 use ss_parser_expressions::expressions::parse_expression;
-use ss_parser_expressions::heads::{expect, expect_name, next_word};
+use ss_parser_expressions::heads::{expect, expect_name, next_word, then_symbol};
 use std::alloc::Global;
 
 /// An expression and a `;`.
 #[tactic(auto, unfolding(ss_grammar_statements::specs::Parser::ended))]
-pub fn parse_ended(alloc: Global, depth: u32, tokens: &[Token]) -> Result<(Expr, &[Token]), Stop>
-    ensures gives { Gives (λ x. (expr_tree x.0, pieces x.1.now)) result (ended (whole_expression depth (below depth)) (pieces tokens.now)) }
+pub fn parse_ended(
+    alloc: Global,
+    depth: u32,
+    tokens: &[Token],
+) -> Result<(Box<Expr>, &[Token]), Stop>
+    ensures gives { Gives (λ x. (expr_tree x.0.value, pieces x.1.now)) result (ended (whole_expression depth (below depth)) (pieces tokens.now)) }
     ensures fewer { IfOk result (λ x. length x.1.now ≤ length tokens.now) }
 {
     let (expr, rest) = parse_expression(alloc, depth, tokens)?;
-    let (_, rest) = expect(rest, Symbol::Semicolon)?;
-    Ok((expr, rest))
+    then_symbol(expr, Symbol::Semicolon, rest)
 }
 
 // An expression and a `;`, where one is there.
@@ -36,8 +39,8 @@ fn parse_some_value(
     alloc: Global,
     depth: u32,
     tokens: &[Token],
-) -> Result<(Option<Expr>, &[Token]), Stop>
-    ensures gives { Gives (λ x. (option_map expr_tree x.0, pieces x.1.now)) result (some_of Symbol.Semicolon (whole_expression depth (below depth)) (pieces tokens.now)) }
+) -> Result<(Option<Box<Expr>>, &[Token]), Stop>
+    ensures gives { Gives (λ x. (value_of x.0, pieces x.1.now)) result (some_of Symbol.Semicolon (whole_expression depth (below depth)) (pieces tokens.now)) }
     ensures fewer { IfOk result (λ x. length x.1.now ≤ length tokens.now) }
 {
     let (expr, rest) = parse_expression(alloc, depth, tokens)?;
@@ -51,8 +54,8 @@ pub fn parse_optional_value(
     alloc: Global,
     depth: u32,
     tokens: &[Token],
-) -> Result<(Option<Expr>, &[Token]), Stop>
-    ensures gives { Gives (λ x. (option_map expr_tree x.0, pieces x.1.now)) result (optional Symbol.Semicolon (whole_expression depth (below depth)) (pieces tokens.now)) }
+) -> Result<(Option<Box<Expr>>, &[Token]), Stop>
+    ensures gives { Gives (λ x. (value_of x.0, pieces x.1.now)) result (optional Symbol.Semicolon (whole_expression depth (below depth)) (pieces tokens.now)) }
     ensures fewer { IfOk result (λ x. length x.1.now ≤ length tokens.now) }
 {
     match tokens {
@@ -73,11 +76,12 @@ fn parse_some_init(
     alloc: Global,
     depth: u32,
     tokens: &[Token],
-) -> Result<(Option<ForInit>, &[Token]), Stop>
-    ensures gives { Gives (λ x. (option_map for_init_tree x.0, pieces x.1.now)) result (some_of Symbol.Semicolon (for_init depth (below depth)) (pieces tokens.now)) }
+) -> Result<(Option<Box<ForInit>>, &[Token]), Stop>
+    ensures gives { Gives (λ x. (init_of x.0, pieces x.1.now)) result (some_of Symbol.Semicolon (for_init depth (below depth)) (pieces tokens.now)) }
     ensures fewer { IfOk result (λ x. length x.1.now ≤ length tokens.now) }
 {
     let (init, rest) = parse_for_init(alloc, depth, tokens)?;
+    let init = Box::new(alloc, init)?;
     let (_, rest) = expect(rest, Symbol::Semicolon)?;
     Ok((Some(init), rest))
 }
@@ -88,8 +92,8 @@ fn parse_optional_init(
     alloc: Global,
     depth: u32,
     tokens: &[Token],
-) -> Result<(Option<ForInit>, &[Token]), Stop>
-    ensures gives { Gives (λ x. (option_map for_init_tree x.0, pieces x.1.now)) result (optional Symbol.Semicolon (for_init depth (below depth)) (pieces tokens.now)) }
+) -> Result<(Option<Box<ForInit>>, &[Token]), Stop>
+    ensures gives { Gives (λ x. (init_of x.0, pieces x.1.now)) result (optional Symbol.Semicolon (for_init depth (below depth)) (pieces tokens.now)) }
     ensures fewer { IfOk result (λ x. length x.1.now ≤ length tokens.now) }
 {
     match tokens {
@@ -110,11 +114,12 @@ fn parse_some_step(
     alloc: Global,
     depth: u32,
     tokens: &[Token],
-) -> Result<(Option<Simple>, &[Token]), Stop>
-    ensures gives { Gives (λ x. (option_map simple_tree x.0, pieces x.1.now)) result (some_of Symbol.Close (simple depth (below depth)) (pieces tokens.now)) }
+) -> Result<(Option<Box<Simple>>, &[Token]), Stop>
+    ensures gives { Gives (λ x. (step_of x.0, pieces x.1.now)) result (some_of Symbol.Close (simple depth (below depth)) (pieces tokens.now)) }
     ensures fewer { IfOk result (λ x. length x.1.now ≤ length tokens.now) }
 {
     let (step, rest) = parse_simple(alloc, depth, tokens)?;
+    let step = Box::new(alloc, step)?;
     let (_, rest) = expect(rest, Symbol::Close)?;
     Ok((Some(step), rest))
 }
@@ -125,8 +130,8 @@ fn parse_optional_step(
     alloc: Global,
     depth: u32,
     tokens: &[Token],
-) -> Result<(Option<Simple>, &[Token]), Stop>
-    ensures gives { Gives (λ x. (option_map simple_tree x.0, pieces x.1.now)) result (optional Symbol.Close (simple depth (below depth)) (pieces tokens.now)) }
+) -> Result<(Option<Box<Simple>>, &[Token]), Stop>
+    ensures gives { Gives (λ x. (step_of x.0, pieces x.1.now)) result (optional Symbol.Close (simple depth (below depth)) (pieces tokens.now)) }
     ensures fewer { IfOk result (λ x. length x.1.now ≤ length tokens.now) }
 {
     match tokens {
@@ -170,7 +175,7 @@ fn parse_more_invariants(
     let mut rest = tokens;
     while let Some((_, after)) = next_word(rest, Word::Invariant) {
         let (condition, after) = parse_ended(alloc, depth, after)?;
-        conditions.push(condition)?;
+        conditions.push(Box::into_inner(condition))?;
         rest = after;
     }
     Ok((conditions, rest))

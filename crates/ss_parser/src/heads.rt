@@ -19,7 +19,7 @@ use std::alloc::{AllocError, Global};
 #[derive(Drop)]
 pub enum PrimStart {
     Paren(Place),
-    Leaf(Place, Expr),
+    Leaf(Place, Box<Expr>),
     Old(Place),
     New(Place),
     Quantifier(Place, Quantifier),

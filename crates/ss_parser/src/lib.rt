@@ -15,3 +15,4 @@ pub mod simples;
 pub mod statements;
 
 pub use blocks::parse_block;
+pub use ss_parser_expressions::parse_expr;

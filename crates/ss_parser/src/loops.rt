@@ -1,6 +1,6 @@
 // Loops.
 
-ghost use Rattle.std.specs.Prelude.{◌<◌, ◌≤◌, length, IfOk};
+ghost use Rattle.std.specs.Prelude.{◌<◌, ◌≤◌, length, map, IfOk};
 ghost use Rattle.ss_ast.specs.Expressions.{expr_tree};
 ghost use Rattle.ss_ast.specs.Statements.{stmt_tree};
 ghost use Rattle.ss_grammar.specs.Stops.{Gives};
@@ -10,9 +10,10 @@ ghost use Rattle.ss_grammar_statements.specs.Heads.{WhileFirst, ForFirst};
 ghost use Rattle.ss_grammar_statements.specs.Grammar.{TheHeading};
 ghost use Rattle.ss_grammar_statements.specs.Parser.{while_body, while_end, for_body, for_end, stmt_behind, heading, nested_below};
 ghost use Rattle.ss_parser.specs.View.{heading_of};
+ghost use Rattle.ss_parser.specs.Loops.{guarded};
 
 use crate::build;
-use crate::build::Heading;
+use crate::build::{Guarded, Heading};
 use crate::governed::parse_governed;
 use crate::headings::{parse_heading, parse_invariants};
 use ss_ast::{Expr, Stmt, Symbol, Token, TokenKind};
@@ -31,26 +32,35 @@ fn inner_heading(alloc: Global, depth: u32, tokens: &[Token]) -> Result<(Heading
     parse_heading(alloc, depth - 1, tokens)
 }
 
+// The invariants and the body of a loop.
+#[cycle(stmt)]
+#[tactic(auto, unfolding(crate::specs::Loops::guarded))]
+fn parse_guarded(alloc: Global, depth: u32, tokens: &[Token]) -> Result<(Guarded, &[Token]), Stop>
+    requires { 0 < depth }
+    ensures gives { Gives (λ x. ((map expr_tree x.0.invariants.items, stmt_tree x.0.body.value), pieces x.1.now)) result (guarded depth (below depth) (nested_below depth) (pieces tokens.now)) }
+    ensures fewer { IfOk result (λ x. length x.1.now ≤ length tokens.now) }
+{
+    let (invariants, rest) = parse_invariants(alloc, depth, tokens)?;
+    let (body, rest) = parse_governed(alloc, depth, rest)?;
+    Ok((Guarded { invariants, body }, rest))
+}
+
 // The invariants and the body of a `while`.
 #[cycle(stmt)]
-#[tactic(auto, unfolding(ss_grammar_statements::specs::Parser::while_body))]
+#[tactic(auto, using(crate::proofs::Guarded::while_guarded))]
 fn parse_while_body(
     alloc: Global,
     depth: u32,
     place: Place,
-    test: Expr,
+    test: Box<Expr>,
     tokens: &[Token],
-) -> Result<(Stmt, &[Token]), Stop>
+) -> Result<(Box<Stmt>, &[Token]), Stop>
     requires { 0 < depth }
-    ensures gives { Gives (λ x. (stmt_tree x.0, pieces x.1.now)) result (while_body depth (below depth) (nested_below depth) place (expr_tree test) (pieces tokens.now)) }
+    ensures gives { Gives (λ x. (stmt_tree x.0.value, pieces x.1.now)) result (while_body depth (below depth) (nested_below depth) place (expr_tree test.value) (pieces tokens.now)) }
     ensures fewer { IfOk result (λ x. length x.1.now ≤ length tokens.now) }
 {
-    let (conditions, rest) = parse_invariants(alloc, depth, tokens)?;
-    let (body, rest) = parse_governed(alloc, depth, rest)?;
-    Ok((
-        build::while_loop(alloc, place, test, conditions, body)?,
-        rest,
-    ))
+    let (guarded, rest) = parse_guarded(alloc, depth, tokens)?;
+    Ok((build::while_loop(alloc, place, test, guarded)?, rest))
 }
 
 // What is behind the `(` of a `while`.
@@ -61,9 +71,9 @@ fn parse_while_end(
     depth: u32,
     place: Place,
     tokens: &[Token],
-) -> Result<(Stmt, &[Token]), Stop>
+) -> Result<(Box<Stmt>, &[Token]), Stop>
     requires { 0 < depth }
-    ensures gives { Gives (λ x. (stmt_tree x.0, pieces x.1.now)) result (while_end depth (below depth) (nested_below depth) place (pieces tokens.now)) }
+    ensures gives { Gives (λ x. (stmt_tree x.0.value, pieces x.1.now)) result (while_end depth (below depth) (nested_below depth) place (pieces tokens.now)) }
     ensures fewer { IfOk result (λ x. length x.1.now ≤ length tokens.now) }
 {
     let (test, rest) = parse_paren_end(alloc, depth, tokens)?;
@@ -78,8 +88,8 @@ pub fn parse_while(
     depth: u32,
     place: Place,
     tokens: &[Token],
-) -> Result<(Stmt, &[Token]), Stop>
-    ensures gives { Gives (λ x. (stmt_tree x.0, pieces x.1.now)) result (stmt_behind depth (below depth) (nested_below depth) (WhileFirst place) (pieces tokens.now)) }
+) -> Result<(Box<Stmt>, &[Token]), Stop>
+    ensures gives { Gives (λ x. (stmt_tree x.0.value, pieces x.1.now)) result (stmt_behind depth (below depth) (nested_below depth) (WhileFirst place) (pieces tokens.now)) }
     ensures fewer { IfOk result (λ x. length x.1.now ≤ length tokens.now) }
 {
     match tokens {
@@ -101,24 +111,20 @@ pub fn parse_while(
 
 // The invariants and the body of a `for`.
 #[cycle(stmt)]
-#[tactic(auto, unfolding(ss_grammar_statements::specs::Parser::for_body))]
+#[tactic(auto, using(crate::proofs::Guarded::for_guarded))]
 fn parse_for_body(
     alloc: Global,
     depth: u32,
     place: Place,
     heading: Heading,
     tokens: &[Token],
-) -> Result<(Stmt, &[Token]), Stop>
+) -> Result<(Box<Stmt>, &[Token]), Stop>
     requires { 0 < depth }
-    ensures gives { Gives (λ x. (stmt_tree x.0, pieces x.1.now)) result (for_body depth (below depth) (nested_below depth) place (heading_of heading) (pieces tokens.now)) }
+    ensures gives { Gives (λ x. (stmt_tree x.0.value, pieces x.1.now)) result (for_body depth (below depth) (nested_below depth) place (heading_of heading) (pieces tokens.now)) }
     ensures fewer { IfOk result (λ x. length x.1.now ≤ length tokens.now) }
 {
-    let (conditions, rest) = parse_invariants(alloc, depth, tokens)?;
-    let (body, rest) = parse_governed(alloc, depth, rest)?;
-    Ok((
-        build::for_loop(alloc, place, heading, conditions, body)?,
-        rest,
-    ))
+    let (guarded, rest) = parse_guarded(alloc, depth, tokens)?;
+    Ok((build::for_loop(alloc, place, heading, guarded)?, rest))
 }
 
 // What is behind the `(` of a `for`.
@@ -129,9 +135,9 @@ fn parse_for_end(
     depth: u32,
     place: Place,
     tokens: &[Token],
-) -> Result<(Stmt, &[Token]), Stop>
+) -> Result<(Box<Stmt>, &[Token]), Stop>
     requires { 0 < depth }
-    ensures gives { Gives (λ x. (stmt_tree x.0, pieces x.1.now)) result (for_end depth (below depth) (nested_below depth) place (pieces tokens.now)) }
+    ensures gives { Gives (λ x. (stmt_tree x.0.value, pieces x.1.now)) result (for_end depth (below depth) (nested_below depth) place (pieces tokens.now)) }
     ensures fewer { IfOk result (λ x. length x.1.now ≤ length tokens.now) }
 {
     let (heading, rest) = inner_heading(alloc, depth, tokens)?;
@@ -146,8 +152,8 @@ pub fn parse_for(
     depth: u32,
     place: Place,
     tokens: &[Token],
-) -> Result<(Stmt, &[Token]), Stop>
-    ensures gives { Gives (λ x. (stmt_tree x.0, pieces x.1.now)) result (stmt_behind depth (below depth) (nested_below depth) (ForFirst place) (pieces tokens.now)) }
+) -> Result<(Box<Stmt>, &[Token]), Stop>
+    ensures gives { Gives (λ x. (stmt_tree x.0.value, pieces x.1.now)) result (stmt_behind depth (below depth) (nested_below depth) (ForFirst place) (pieces tokens.now)) }
     ensures fewer { IfOk result (λ x. length x.1.now ≤ length tokens.now) }
 {
     match tokens {

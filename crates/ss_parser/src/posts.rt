@@ -28,8 +28,8 @@ fn parse_prim_from<'a>(
     start: PrimStart,
     first: &Token,
     tokens: &'a [Token],
-) -> Result<(Expr, &'a [Token]), Stop>
-    ensures gives { Gives (λ x. (expr_tree x.0, pieces x.1.now)) result (opened (prim_opens (prim_start_of start)) depth (prim_behind depth (below depth) (prim_start_of start)) (AToken (tok first.now)) (pieces tokens.now)) }
+) -> Result<(Box<Expr>, &'a [Token]), Stop>
+    ensures gives { Gives (λ x. (expr_tree x.0.value, pieces x.1.now)) result (opened (prim_opens (prim_start_of start)) depth (prim_behind depth (below depth) (prim_start_of start)) (AToken (tok first.now)) (pieces tokens.now)) }
     ensures fewer { IfOk result (λ x. length x.1.now ≤ length tokens.now) }
 {
     match start {
@@ -51,8 +51,12 @@ fn parse_prim_from<'a>(
 
 /// What a path begins with.
 #[tactic(auto, unfolding(ss_grammar_statements::specs::Parser::prim))]
-pub fn parse_prim(alloc: Global, depth: u32, tokens: &[Token]) -> Result<(Expr, &[Token]), Stop>
-    ensures gives { Gives (λ x. (expr_tree x.0, pieces x.1.now)) result (prim depth (below depth) (pieces tokens.now)) }
+pub fn parse_prim(
+    alloc: Global,
+    depth: u32,
+    tokens: &[Token],
+) -> Result<(Box<Expr>, &[Token]), Stop>
+    ensures gives { Gives (λ x. (expr_tree x.0.value, pieces x.1.now)) result (prim depth (below depth) (pieces tokens.now)) }
     ensures fewer { IfOk result (λ x. length x.1.now < length tokens.now) }
 {
     match tokens {
@@ -85,8 +89,8 @@ pub fn parse_post_from<'a>(
     start: PrimStart,
     first: &Token,
     tokens: &'a [Token],
-) -> Result<(Expr, &'a [Token]), Stop>
-    ensures gives { Gives (λ x. (expr_tree x.0, pieces x.1.now)) result (opened (prim_opens (prim_start_of start)) depth (post_behind depth (below depth) (prim_start_of start)) (AToken (tok first.now)) (pieces tokens.now)) }
+) -> Result<(Box<Expr>, &'a [Token]), Stop>
+    ensures gives { Gives (λ x. (expr_tree x.0.value, pieces x.1.now)) result (opened (prim_opens (prim_start_of start)) depth (post_behind depth (below depth) (prim_start_of start)) (AToken (tok first.now)) (pieces tokens.now)) }
     ensures fewer { IfOk result (λ x. length x.1.now ≤ length tokens.now) }
 {
     let place = place_of(&start);
@@ -96,8 +100,12 @@ pub fn parse_post_from<'a>(
 
 /// A path.
 #[tactic(auto, unfolding(ss_grammar_statements::specs::Parser::post))]
-pub fn parse_post(alloc: Global, depth: u32, tokens: &[Token]) -> Result<(Expr, &[Token]), Stop>
-    ensures gives { Gives (λ x. (expr_tree x.0, pieces x.1.now)) result (post depth (below depth) (pieces tokens.now)) }
+pub fn parse_post(
+    alloc: Global,
+    depth: u32,
+    tokens: &[Token],
+) -> Result<(Box<Expr>, &[Token]), Stop>
+    ensures gives { Gives (λ x. (expr_tree x.0.value, pieces x.1.now)) result (post depth (below depth) (pieces tokens.now)) }
     ensures fewer { IfOk result (λ x. length x.1.now < length tokens.now) }
 {
     match tokens {

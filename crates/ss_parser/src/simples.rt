@@ -32,10 +32,10 @@ use std::alloc::Global;
 fn parse_simple_end(
     alloc: Global,
     depth: u32,
-    path: Expr,
+    path: Box<Expr>,
     tokens: &[Token],
 ) -> Result<(Simple, &[Token]), Stop>
-    ensures gives { Gives (λ x. (simple_tree x.0, pieces x.1.now)) result (simple_end depth (below depth) (expr_tree path) (pieces tokens.now)) }
+    ensures gives { Gives (λ x. (simple_tree x.0, pieces x.1.now)) result (simple_end depth (below depth) (expr_tree path.value) (pieces tokens.now)) }
     ensures fewer { IfOk result (λ x. length x.1.now ≤ length tokens.now) }
 {
     match tokens {
@@ -43,14 +43,14 @@ fn parse_simple_end(
             TokenKind::Symbol(symbol) => match simple_start(*symbol) {
                 Some(SimpleStart::Assign(operator)) => {
                     let (value, rest) = parse_expression(alloc, depth, rest)?;
-                    Ok((Simple::Assign(path, operator, value), rest))
+                    Ok((build::assign(path, operator, value), rest))
                 }
-                Some(SimpleStart::Step(operator)) => Ok((Simple::Step(path, operator), rest)),
-                None => Ok((Simple::Alone(path), tokens)),
+                Some(SimpleStart::Step(operator)) => Ok((build::step(path, operator), rest)),
+                None => Ok((build::alone(path), tokens)),
             },
-            _ => Ok((Simple::Alone(path), tokens)),
+            _ => Ok((build::alone(path), tokens)),
         },
-        _ => Ok((Simple::Alone(path), tokens)),
+        _ => Ok((build::alone(path), tokens)),
     }
 }
 
@@ -69,10 +69,10 @@ pub fn parse_simple(alloc: Global, depth: u32, tokens: &[Token]) -> Result<(Simp
 fn parse_simple_then(
     alloc: Global,
     depth: u32,
-    path: Expr,
+    path: Box<Expr>,
     tokens: &[Token],
 ) -> Result<(ForInit, &[Token]), Stop>
-    ensures gives { Gives (λ x. (for_init_tree x.0, pieces x.1.now)) result (simple_then depth (below depth) (expr_tree path) (pieces tokens.now)) }
+    ensures gives { Gives (λ x. (for_init_tree x.0, pieces x.1.now)) result (simple_then depth (below depth) (expr_tree path.value) (pieces tokens.now)) }
     ensures fewer { IfOk result (λ x. length x.1.now ≤ length tokens.now) }
 {
     let (simple, rest) = parse_simple_end(alloc, depth, path, tokens)?;
@@ -85,10 +85,10 @@ fn parse_simple_from(
     alloc: Global,
     depth: u32,
     place: Place,
-    path: Expr,
+    path: Box<Expr>,
     tokens: &[Token],
 ) -> Result<(ForInit, &[Token]), Stop>
-    ensures gives { Gives (λ x. (for_init_tree x.0, pieces x.1.now)) result (simple_from depth (below depth) place (expr_tree path) (pieces tokens.now)) }
+    ensures gives { Gives (λ x. (for_init_tree x.0, pieces x.1.now)) result (simple_from depth (below depth) place (expr_tree path.value) (pieces tokens.now)) }
     ensures fewer { IfOk result (λ x. length x.1.now ≤ length tokens.now) }
 {
     let (path, rest) = parse_postfixes(alloc, depth, place, path, tokens)?;
@@ -218,7 +218,8 @@ fn parse_named_path(
     ensures fewer { IfOk result (λ x. length x.1.now ≤ length tokens.now) }
 {
     let place = name.place;
-    parse_simple_from(alloc, depth, place, name_expr(name), tokens)
+    let path = name_expr(alloc, name)?;
+    parse_simple_from(alloc, depth, place, path, tokens)
 }
 
 // A simple statement, from what its path begins with on; `first` is its first token.

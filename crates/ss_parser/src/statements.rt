@@ -8,8 +8,8 @@ ghost use Rattle.ss_grammar.specs.Stops.{Gives};
 ghost use Rattle.ss_grammar_expressions.specs.First.{tokened};
 ghost use Rattle.ss_grammar_expressions.specs.Heads.{pieces, AToken};
 ghost use Rattle.ss_grammar_expressions.specs.Parser.{below};
-ghost use Rattle.ss_grammar_statements.specs.Heads.{stmt_head, StartFirst};
-ghost use Rattle.ss_grammar_statements.specs.Parser.{one_stmt, other, joins_stmt, statements, nested_below, block};
+ghost use Rattle.ss_grammar_statements.specs.Heads.{stmt_head, StartFirst, ReturnFirst, AssertFirst, AssumeFirst};
+ghost use Rattle.ss_grammar_statements.specs.Parser.{one_stmt, stmt_behind, other, joins_stmt, statements, nested_below, block};
 ghost use Rattle.ss_parser.specs.View.{init_start_of, word_first, stmt_start_of, listed_of};
 
 use crate::build;
@@ -26,6 +26,51 @@ use ss_grammar::fault::{Fault, Stop};
 use ss_parser_expressions::heads::expect;
 use std::alloc::Global;
 
+// What is behind `return`.
+#[tactic(auto, unfolding(ss_grammar_statements::specs::Parser::stmt_behind))]
+fn parse_return(
+    alloc: Global,
+    depth: u32,
+    place: Place,
+    tokens: &[Token],
+) -> Result<(Box<Stmt>, &[Token]), Stop>
+    ensures gives { Gives (λ x. (stmt_tree x.0.value, pieces x.1.now)) result (stmt_behind depth (below depth) (nested_below depth) (ReturnFirst place) (pieces tokens.now)) }
+    ensures fewer { IfOk result (λ x. length x.1.now ≤ length tokens.now) }
+{
+    let (value, rest) = parse_optional_value(alloc, depth, tokens)?;
+    Ok((build::returns(alloc, place, value)?, rest))
+}
+
+// What is behind `assert`.
+#[tactic(auto, unfolding(ss_grammar_statements::specs::Parser::stmt_behind))]
+fn parse_assert(
+    alloc: Global,
+    depth: u32,
+    place: Place,
+    tokens: &[Token],
+) -> Result<(Box<Stmt>, &[Token]), Stop>
+    ensures gives { Gives (λ x. (stmt_tree x.0.value, pieces x.1.now)) result (stmt_behind depth (below depth) (nested_below depth) (AssertFirst place) (pieces tokens.now)) }
+    ensures fewer { IfOk result (λ x. length x.1.now ≤ length tokens.now) }
+{
+    let (condition, rest) = parse_ended(alloc, depth, tokens)?;
+    Ok((build::asserts(alloc, place, condition)?, rest))
+}
+
+// What is behind `assume`.
+#[tactic(auto, unfolding(ss_grammar_statements::specs::Parser::stmt_behind))]
+fn parse_assume(
+    alloc: Global,
+    depth: u32,
+    place: Place,
+    tokens: &[Token],
+) -> Result<(Box<Stmt>, &[Token]), Stop>
+    ensures gives { Gives (λ x. (stmt_tree x.0.value, pieces x.1.now)) result (stmt_behind depth (below depth) (nested_below depth) (AssumeFirst place) (pieces tokens.now)) }
+    ensures fewer { IfOk result (λ x. length x.1.now ≤ length tokens.now) }
+{
+    let (condition, rest) = parse_ended(alloc, depth, tokens)?;
+    Ok((build::assumes(alloc, place, condition)?, rest))
+}
+
 // A statement, behind the word that it begins with, which is `first`.
 #[cycle(stmt)]
 #[tactic(auto, unfolding(ss_grammar_statements::specs::Parser::stmt_behind))]
@@ -36,8 +81,8 @@ fn parse_word<'a>(
     word: StmtWord,
     first: &Token,
     tokens: &'a [Token],
-) -> Result<(Stmt, &'a [Token]), Stop>
-    ensures gives { Gives (λ x. (stmt_tree x.0, pieces x.1.now)) result (one_stmt depth (below depth) (nested_below depth) (word_first place word, AToken (tok first.now)) (pieces tokens.now)) }
+) -> Result<(Box<Stmt>, &'a [Token]), Stop>
+    ensures gives { Gives (λ x. (stmt_tree x.0.value, pieces x.1.now)) result (one_stmt depth (below depth) (nested_below depth) (word_first place word, AToken (tok first.now)) (pieces tokens.now)) }
     ensures fewer { IfOk result (λ x. length x.1.now ≤ length tokens.now) }
 {
     match word {
@@ -45,18 +90,9 @@ fn parse_word<'a>(
         StmtWord::While => parse_while(alloc, depth, place, tokens),
         StmtWord::For => parse_for(alloc, depth, place, tokens),
         StmtWord::Expose => parse_expose(alloc, depth, place, tokens),
-        StmtWord::Return => {
-            let (value, rest) = parse_optional_value(alloc, depth, tokens)?;
-            Ok((build::returns(place, value), rest))
-        }
-        StmtWord::Assert => {
-            let (condition, rest) = parse_ended(alloc, depth, tokens)?;
-            Ok((build::asserts(place, condition), rest))
-        }
-        StmtWord::Assume => {
-            let (condition, rest) = parse_ended(alloc, depth, tokens)?;
-            Ok((build::assumes(place, condition), rest))
-        }
+        StmtWord::Return => parse_return(alloc, depth, place, tokens),
+        StmtWord::Assert => parse_assert(alloc, depth, place, tokens),
+        StmtWord::Assume => parse_assume(alloc, depth, place, tokens),
     }
 }
 
@@ -68,20 +104,25 @@ fn parse_start_end<'a>(
     start: InitStart,
     first: &Token,
     tokens: &'a [Token],
-) -> Result<(Stmt, &'a [Token]), Stop>
-    ensures gives { Gives (λ x. (stmt_tree x.0, pieces x.1.now)) result (one_stmt depth (below depth) (nested_below depth) (StartFirst (init_start_of start), AToken (tok first.now)) (pieces tokens.now)) }
+) -> Result<(Box<Stmt>, &'a [Token]), Stop>
+    ensures gives { Gives (λ x. (stmt_tree x.0.value, pieces x.1.now)) result (one_stmt depth (below depth) (nested_below depth) (StartFirst (init_start_of start), AToken (tok first.now)) (pieces tokens.now)) }
     ensures fewer { IfOk result (λ x. length x.1.now ≤ length tokens.now) }
 {
     let (init, rest) = parse_start(alloc, depth, start, first, tokens)?;
+    let stmt = build::boxed(alloc, build::statement(init))?;
     let (_, rest) = expect(rest, Symbol::Semicolon)?;
-    Ok((build::statement(init), rest))
+    Ok((stmt, rest))
 }
 
 /// A statement that is no block.
 #[cycle(stmt)]
 #[tactic(auto, unfolding(ss_grammar_statements::specs::Parser::other, ss_grammar_statements::specs::Parser::stmt_behind), using(crate::proofs::Opened::word_alone))]
-pub fn parse_other(alloc: Global, depth: u32, tokens: &[Token]) -> Result<(Stmt, &[Token]), Stop>
-    ensures gives { Gives (λ x. (stmt_tree x.0, pieces x.1.now)) result (other depth (below depth) (nested_below depth) (pieces tokens.now)) }
+pub fn parse_other(
+    alloc: Global,
+    depth: u32,
+    tokens: &[Token],
+) -> Result<(Box<Stmt>, &[Token]), Stop>
+    ensures gives { Gives (λ x. (stmt_tree x.0.value, pieces x.1.now)) result (other depth (below depth) (nested_below depth) (pieces tokens.now)) }
     ensures fewer { IfOk result (λ x. length x.1.now ≤ length tokens.now) }
 {
     match tokens {
@@ -90,7 +131,7 @@ pub fn parse_other(alloc: Global, depth: u32, tokens: &[Token]) -> Result<(Stmt,
             Some(StmtStart::Word(place, word)) => parse_word(
                 alloc, depth, place, word, token, rest,
             ),
-            Some(StmtStart::Empty(place)) => Ok((build::empty(place), rest)),
+            Some(StmtStart::Empty(place)) => Ok((build::boxed(alloc, build::empty(place))?, rest)),
             Some(StmtStart::Block(_)) => Err(Stop::Fault(Fault::Expected, tokens.len())),
             None => Err(Stop::Fault(Fault::Expected, tokens.len())),
         },
@@ -107,8 +148,8 @@ fn parse_stmt<'a>(
     start: StmtStart,
     first: &Token,
     tokens: &'a [Token],
-) -> Result<(Stmt, &'a [Token]), Stop>
-    ensures gives { Gives (λ x. (stmt_tree x.0, pieces x.1.now)) result (one_stmt depth (below depth) (nested_below depth) (stmt_start_of start, AToken (tok first.now)) (pieces tokens.now)) }
+) -> Result<(Box<Stmt>, &'a [Token]), Stop>
+    ensures gives { Gives (λ x. (stmt_tree x.0.value, pieces x.1.now)) result (one_stmt depth (below depth) (nested_below depth) (stmt_start_of start, AToken (tok first.now)) (pieces tokens.now)) }
     ensures fewer { IfOk result (λ x. length x.1.now ≤ length tokens.now) }
 {
     match start {
@@ -117,11 +158,11 @@ fn parse_stmt<'a>(
                 return Err(Stop::Fault(Fault::TooDeep, tokens.len() + 1));
             }
             let (block, rest) = parse_block_behind(alloc, depth, place, tokens)?;
-            Ok((build::in_block(block), rest))
+            Ok((build::boxed(alloc, build::in_block(block))?, rest))
         }
         StmtStart::Init(init) => parse_start_end(alloc, depth, init, first, tokens),
         StmtStart::Word(place, word) => parse_word(alloc, depth, place, word, first, tokens),
-        StmtStart::Empty(place) => Ok((build::empty(place), tokens)),
+        StmtStart::Empty(place) => Ok((build::boxed(alloc, build::empty(place))?, tokens)),
     }
 }
 
@@ -135,7 +176,7 @@ fn parse_stmts(alloc: Global, depth: u32, tokens: &[Token]) -> Result<(Vec<Stmt>
     let mut rest = tokens;
     while let Some((start, first, after)) = next_start(alloc, rest)? {
         let (stmt, after) = parse_stmt(alloc, depth, start, first, after)?;
-        stmts.push(stmt)?;
+        stmts.push(Box::into_inner(stmt))?;
         rest = after;
     }
     Ok((stmts, rest))

@@ -1,9 +1,10 @@
 -- What reading one part of a program from a list of tokens answers.
-use Rattle.std.specs.Prelude.{◌≡◌, ℕ, List, [], ◌∷◌, drop, ◌⊎◌, Result, Ok, Err}
+use Rattle.std.specs.Prelude.{◌≡◌, ℕ, List, [], ◌∷◌, ◌++◌, drop, ◌⊎◌, Result, Ok, Err}
 use Rattle.ss_core.specs.declared.names.Place.{Place}
 use Rattle.ss_core.specs.declared.names.FrontStop.{FrontStop}
 use Rattle.ss_core.specs.declared.names.FrontStop.TheVariants as front
 use Rattle.ss_ast.specs.declared.token.Token.{Token}
+use Rattle.ss_ast.specs.declared.token.TokenKind.TheVariants as kind
 use Rattle.ss_grammar.specs.declared.fault.Fault.{Fault}
 use Rattle.ss_grammar.specs.declared.fault.Fault.TheVariants.{Expected, TooDeep}
 use Rattle.ss_grammar.specs.Language.{Accepts, Refuses, IsDeep}
@@ -26,6 +27,13 @@ abbrev pub PartAnswer : {X A : Type 0} → (ℕ → List Piece → A → Type 0)
 PartAnswer L view tokens at (Ok x) = Accepts L 64 (pieces (drop at tokens)) (view x.0) (pieces (drop x.1 tokens))
 PartAnswer L view tokens at (Err (front.Refused rule place)) = (rest : List Piece) × (first_place rest ≡ place) × Refusal L rule (pieces (drop at tokens)) rest
 PartAnswer L view tokens at (Err front.Memory) = Unit {0}
+
+-- the last token is the end of the text
+pub record EndsText (tokens : List Token) : Type 0 where
+  pub front : List Token
+  pub last : Token
+  pub parts : tokens ≡ front ++ last ∷ []
+  pub is_end : last.kind ≡ kind.TextEnd
 
 abbrev pub rule_of : Fault → ℕ
 rule_of Expected = 10

@@ -42,14 +42,14 @@ opening_of p opening.Paren = OpenHead p
 
 abbrev pub unary_start_of : UnaryStart → Head
 unary_start_of (unary.Opening p o) = opening_of p o
-unary_start_of (unary.Leaf p e) = Leaf p (expr_tree e)
+unary_start_of (unary.Leaf p e) = Leaf p (expr_tree e.value)
 unary_start_of (unary.Old p) = OldHead p
 unary_start_of (unary.New p) = NewHead p
 unary_start_of (unary.Quantifier p q) = QuantifierHead p q
 
 abbrev pub inside_of : Inside → Enclosed
 inside_of (inside.Type t) = AType (type_tree t)
-inside_of (inside.Expr e) = AnExpr (expr_tree e)
+inside_of (inside.Expr e) = AnExpr (expr_tree e.value)
 
 -- whether f holds of the first
 abbrev pub first_is : {T : Type 0} → (T → Bool) → List T → Bool

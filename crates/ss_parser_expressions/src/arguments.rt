@@ -9,7 +9,7 @@ ghost use Rattle.ss_grammar_expressions.specs.Grammar.{TheExpression, join_argum
 ghost use Rattle.ss_grammar_expressions.specs.Parser.{below, args, some_args, args_end, index_end, paren_end};
 
 use crate::expressions::parse_expression;
-use crate::heads::{expect, next_symbol};
+use crate::heads::{expect, next_symbol, then_symbol};
 use ss_ast::{Expr, Symbol, Token, TokenKind};
 use ss_grammar::fault::Stop;
 use std::alloc::Global;
@@ -21,9 +21,9 @@ pub fn inner_expression(
     alloc: Global,
     depth: u32,
     tokens: &[Token],
-) -> Result<(Expr, &[Token]), Stop>
+) -> Result<(Box<Expr>, &[Token]), Stop>
     requires { 0 < depth }
-    ensures gives { Gives (λ x. (expr_tree x.0, pieces x.1.now)) result (below depth TheExpression (pieces tokens.now)) }
+    ensures gives { Gives (λ x. (expr_tree x.0.value, pieces x.1.now)) result (below depth TheExpression (pieces tokens.now)) }
     ensures fewer { IfOk result (λ x. length x.1.now ≤ length tokens.now) }
 {
     parse_expression(alloc, depth - 1, tokens)
@@ -39,7 +39,7 @@ fn parse_args(alloc: Global, depth: u32, tokens: &[Token]) -> Result<(Vec<Expr>,
 {
     let (first, rest) = inner_expression(alloc, depth, tokens)?;
     let mut given = Vec::new(alloc);
-    given.push(first)?;
+    given.push(Box::into_inner(first))?;
     parse_more_args(alloc, depth, given, rest)
 }
 
@@ -59,7 +59,7 @@ fn parse_more_args(
     let mut rest = tokens;
     while let Some((_, after)) = next_symbol(rest, Symbol::Comma) {
         let (next, after) = inner_expression(alloc, depth, after)?;
-        given.push(next)?;
+        given.push(Box::into_inner(next))?;
         rest = after;
     }
     Ok((given, rest))
@@ -113,14 +113,13 @@ pub fn parse_index_end(
     alloc: Global,
     depth: u32,
     tokens: &[Token],
-) -> Result<(Expr, &[Token]), Stop>
+) -> Result<(Box<Expr>, &[Token]), Stop>
     requires { 0 < depth }
-    ensures gives { Gives (λ x. (expr_tree x.0, pieces x.1.now)) result (index_end (below depth TheExpression) (pieces tokens.now)) }
+    ensures gives { Gives (λ x. (expr_tree x.0.value, pieces x.1.now)) result (index_end (below depth TheExpression) (pieces tokens.now)) }
     ensures fewer { IfOk result (λ x. length x.1.now ≤ length tokens.now) }
 {
     let (inner, rest) = inner_expression(alloc, depth, tokens)?;
-    let (_, rest) = expect(rest, Symbol::CloseBracket)?;
-    Ok((inner, rest))
+    then_symbol(inner, Symbol::CloseBracket, rest)
 }
 
 /// An expression and `)`.
@@ -130,12 +129,11 @@ pub fn parse_paren_end(
     alloc: Global,
     depth: u32,
     tokens: &[Token],
-) -> Result<(Expr, &[Token]), Stop>
+) -> Result<(Box<Expr>, &[Token]), Stop>
     requires { 0 < depth }
-    ensures gives { Gives (λ x. (expr_tree x.0, pieces x.1.now)) result (paren_end (below depth TheExpression) (pieces tokens.now)) }
+    ensures gives { Gives (λ x. (expr_tree x.0.value, pieces x.1.now)) result (paren_end (below depth TheExpression) (pieces tokens.now)) }
     ensures fewer { IfOk result (λ x. length x.1.now ≤ length tokens.now) }
 {
     let (inner, rest) = inner_expression(alloc, depth, tokens)?;
-    let (_, rest) = expect(rest, Symbol::Close)?;
-    Ok((inner, rest))
+    then_symbol(inner, Symbol::Close, rest)
 }

@@ -13,11 +13,25 @@ use std::alloc::{AllocError, Global};
 #[derive(Drop)]
 pub enum Inside {
     Type(TypeRef),
-    Expr(Expr),
+    Expr(Box<Expr>),
+}
+
+/// The expression in a box.
+pub fn boxed(alloc: Global, expr: Expr) -> Result<Box<Expr>, AllocError>
+    ensures { IfOk result (λ e. e.value ≡ expr) }
+{
+    Ok(Box::new(alloc, expr)?)
 }
 
 /// `op operand`
-pub fn operation(operator: Operator, operand: Expr) -> Link
+pub fn operation(operator: Operator, operand: Box<Expr>) -> Link
+    ensures { link_tree result ≡ (λ p a. BinaryOf p operator a (expr_tree operand.value)) }
+{
+    operation_of(operator, Box::into_inner(operand))
+}
+
+// `op operand`, from an expression out of its box.
+fn operation_of(operator: Operator, operand: Expr) -> Link
     ensures { link_tree result ≡ (λ p a. BinaryOf p operator a (expr_tree operand)) }
 {
     Link::Operation(operator, operand)
@@ -45,7 +59,14 @@ pub fn member(name: Name) -> Postfix
 }
 
 /// `[e]`
-pub fn element(index: Expr) -> Postfix
+pub fn element(index: Box<Expr>) -> Postfix
+    ensures { postfix_tree result ≡ (λ p a. ElementOf p a (expr_tree index.value)) }
+{
+    index_postfix(Box::into_inner(index))
+}
+
+// `[e]`, from an expression out of its box.
+fn index_postfix(index: Expr) -> Postfix
     ensures { postfix_tree result ≡ (λ p a. ElementOf p a (expr_tree index)) }
 {
     Postfix::Element(index)
@@ -59,45 +80,59 @@ pub fn call(given: Vec<Expr>) -> Postfix
 }
 
 /// `-e`
-pub fn negated(alloc: Global, place: Place, operand: Expr) -> Result<Expr, AllocError>
-    ensures { IfOk result (λ e. expr_tree e ≡ NegateOf place (expr_tree operand)) }
+pub fn negated(alloc: Global, place: Place, operand: Box<Expr>) -> Result<Box<Expr>, AllocError>
+    ensures { IfOk result (λ e. expr_tree e.value ≡ NegateOf place (expr_tree operand.value)) }
 {
-    Ok(Expr::Negate(place, Box::new(alloc, operand)?))
+    boxed(alloc, Expr::Negate(place, operand))
 }
 
 /// `!e`
-pub fn denied(alloc: Global, place: Place, operand: Expr) -> Result<Expr, AllocError>
-    ensures { IfOk result (λ e. expr_tree e ≡ NotOf place (expr_tree operand)) }
+pub fn denied(alloc: Global, place: Place, operand: Box<Expr>) -> Result<Box<Expr>, AllocError>
+    ensures { IfOk result (λ e. expr_tree e.value ≡ NotOf place (expr_tree operand.value)) }
 {
-    Ok(Expr::Not(place, Box::new(alloc, operand)?))
+    boxed(alloc, Expr::Not(place, operand))
 }
 
 /// `(T)e`
-pub fn cast(alloc: Global, place: Place, ty: TypeRef, operand: Expr) -> Result<Expr, AllocError>
-    ensures { IfOk result (λ e. expr_tree e ≡ CastOf place (type_tree ty) (expr_tree operand)) }
+pub fn cast(
+    alloc: Global,
+    place: Place,
+    ty: TypeRef,
+    operand: Box<Expr>,
+) -> Result<Box<Expr>, AllocError>
+    ensures { IfOk result (λ e. expr_tree e.value ≡ CastOf place (type_tree ty) (expr_tree operand.value)) }
 {
-    Ok(Expr::Cast(place, ty, Box::new(alloc, operand)?))
+    boxed(alloc, Expr::Cast(place, ty, operand))
 }
 
 /// `(e)`
-pub fn in_parentheses(alloc: Global, place: Place, inner: Expr) -> Result<Expr, AllocError>
-    ensures { IfOk result (λ e. expr_tree e ≡ ParenOf place (expr_tree inner)) }
+pub fn in_parentheses(
+    alloc: Global,
+    place: Place,
+    inner: Box<Expr>,
+) -> Result<Box<Expr>, AllocError>
+    ensures { IfOk result (λ e. expr_tree e.value ≡ ParenOf place (expr_tree inner.value)) }
 {
-    Ok(Expr::Paren(place, Box::new(alloc, inner)?))
+    boxed(alloc, Expr::Paren(place, inner))
 }
 
 /// `old(e)`
-pub fn old(alloc: Global, place: Place, inner: Expr) -> Result<Expr, AllocError>
-    ensures { IfOk result (λ e. expr_tree e ≡ OldOf place (expr_tree inner)) }
+pub fn old(alloc: Global, place: Place, inner: Box<Expr>) -> Result<Box<Expr>, AllocError>
+    ensures { IfOk result (λ e. expr_tree e.value ≡ OldOf place (expr_tree inner.value)) }
 {
-    Ok(Expr::Old(place, Box::new(alloc, inner)?))
+    boxed(alloc, Expr::Old(place, inner))
 }
 
 /// `new C(a, b)`
-pub fn new_object(place: Place, name: Name, given: Vec<Expr>) -> Expr
-    ensures { expr_tree result ≡ NewOf place (name_tree name) (arguments (map expr_tree given.items)) }
+pub fn new_object(
+    alloc: Global,
+    place: Place,
+    name: Name,
+    given: Vec<Expr>,
+) -> Result<Box<Expr>, AllocError>
+    ensures { IfOk result (λ e. expr_tree e.value ≡ NewOf place (name_tree name) (arguments (map expr_tree given.items))) }
 {
-    Expr::New(place, name, given)
+    boxed(alloc, Expr::New(place, name, given))
 }
 
 /// `new E[n]`
@@ -106,11 +141,11 @@ pub fn new_array(
     place: Place,
     at: Place,
     name: TypeName,
-    length: Expr,
-) -> Result<Expr, AllocError>
-    ensures { IfOk result (λ e. expr_tree e ≡ NewArrayOf place at (type_name_tree name) (expr_tree length)) }
+    length: Box<Expr>,
+) -> Result<Box<Expr>, AllocError>
+    ensures { IfOk result (λ e. expr_tree e.value ≡ NewArrayOf place at (type_name_tree name) (expr_tree length.value)) }
 {
-    Ok(Expr::NewArray(place, at, name, Box::new(alloc, length)?))
+    boxed(alloc, Expr::NewArray(place, at, name, length))
 }
 
 /// `forall{int i in (low: high); body}`
@@ -119,59 +154,70 @@ pub fn quantified(
     place: Place,
     quantifier: Quantifier,
     name: Name,
-    bounds: (Expr, Expr),
-    body: Expr,
-) -> Result<Expr, AllocError>
-    ensures { IfOk result (λ e. expr_tree e ≡ QuantifiedOf place quantifier (name_tree name) (expr_tree bounds.0) (expr_tree bounds.1) (expr_tree body)) }
+    bounds: (Box<Expr>, Box<Expr>),
+    body: Box<Expr>,
+) -> Result<Box<Expr>, AllocError>
+    ensures { IfOk result (λ e. expr_tree e.value ≡ QuantifiedOf place quantifier (name_tree name) (expr_tree bounds.0.value) (expr_tree bounds.1.value) (expr_tree body.value)) }
 {
     let (low, high) = bounds;
-    Ok(Expr::Quantified(
-        place,
-        quantifier,
-        name,
-        Box::new(alloc, low)?,
-        Box::new(alloc, high)?,
-        Box::new(alloc, body)?,
-    ))
+    boxed(
+        alloc,
+        Expr::Quantified(place, quantifier, name, low, high, body),
+    )
 }
 
 /// `a ==> b`
-pub fn implies(alloc: Global, place: Place, left: Expr, right: Expr) -> Result<Expr, AllocError>
-    ensures { IfOk result (λ e. expr_tree e ≡ ImpliesOf place (expr_tree left) (expr_tree right)) }
+pub fn implies(
+    alloc: Global,
+    place: Place,
+    left: Box<Expr>,
+    right: Box<Expr>,
+) -> Result<Box<Expr>, AllocError>
+    ensures { IfOk result (λ e. expr_tree e.value ≡ ImpliesOf place (expr_tree left.value) (expr_tree right.value)) }
 {
-    Ok(Expr::Implies(place, Box::new(alloc, left)?, Box::new(alloc, right)?))
+    boxed(alloc, Expr::Implies(place, left, right))
 }
 
 /// `a <==> b`
-pub fn iff(alloc: Global, place: Place, left: Expr, right: Expr) -> Result<Expr, AllocError>
-    ensures { IfOk result (λ e. expr_tree e ≡ IffOf place (expr_tree left) (expr_tree right)) }
+pub fn iff(
+    alloc: Global,
+    place: Place,
+    left: Box<Expr>,
+    right: Box<Expr>,
+) -> Result<Box<Expr>, AllocError>
+    ensures { IfOk result (λ e. expr_tree e.value ≡ IffOf place (expr_tree left.value) (expr_tree right.value)) }
 {
-    Ok(Expr::Iff(place, Box::new(alloc, left)?, Box::new(alloc, right)?))
+    boxed(alloc, Expr::Iff(place, left, right))
 }
 
 /// A chain of operations, which is its first operand where there are no others.
-pub fn chain(alloc: Global, place: Place, first: Expr, links: Vec<Link>) -> Result<Expr, AllocError>
-    ensures { IfOk result (λ e. expr_tree e ≡ grouped place (expr_tree first) (map link_tree links.items)) }
+pub fn chain(
+    alloc: Global,
+    place: Place,
+    first: Box<Expr>,
+    links: Vec<Link>,
+) -> Result<Box<Expr>, AllocError>
+    ensures { IfOk result (λ e. expr_tree e.value ≡ grouped place (expr_tree first.value) (map link_tree links.items)) }
 {
     if links.is_empty() {
         return Ok(first);
     }
-    Ok(Expr::Chain(place, Box::new(alloc, first)?, links))
+    boxed(alloc, Expr::Chain(place, first, links))
 }
 
 /// A path, which is its beginning where nothing stands behind it.
 pub fn path(
     alloc: Global,
     place: Place,
-    first: Expr,
+    first: Box<Expr>,
     postfixes: Vec<Postfix>,
-) -> Result<Expr, AllocError>
-    ensures { IfOk result (λ e. expr_tree e ≡ grouped place (expr_tree first) (map postfix_tree postfixes.items)) }
+) -> Result<Box<Expr>, AllocError>
+    ensures { IfOk result (λ e. expr_tree e.value ≡ grouped place (expr_tree first.value) (map postfix_tree postfixes.items)) }
 {
     if postfixes.is_empty() {
         return Ok(first);
     }
-    Ok(Expr::Path(place, Box::new(alloc, first)?, postfixes))
+    boxed(alloc, Expr::Path(place, first, postfixes))
 }
 
 /// A number.
@@ -207,10 +253,10 @@ pub fn named(place: Place, name: &String) -> Result<Expr, AllocError>
 }
 
 /// A name.
-pub fn name_expr(name: Name) -> Expr
-    ensures { expr_tree result ≡ NameOf name.place (string_bytes name.text) }
+pub fn name_expr(alloc: Global, name: Name) -> Result<Box<Expr>, AllocError>
+    ensures { IfOk result (λ e. expr_tree e.value ≡ NameOf name.place (string_bytes name.text)) }
 {
-    Expr::Name(name.place, name.text)
+    boxed(alloc, Expr::Name(name.place, name.text))
 }
 
 /// `true` or `false`.
@@ -261,11 +307,12 @@ pub fn class_type(name: Name, is_array: bool, non_null: bool) -> Inside
 }
 
 /// `a[i]`
-pub fn element_of(alloc: Global, name: Name, index: Expr) -> Result<Expr, AllocError>
-    ensures { IfOk result (λ e. expr_tree e ≡ ElementOf name.place (NameOf name.place (string_bytes name.text)) (expr_tree index)) }
+pub fn element_of(alloc: Global, name: Name, index: Box<Expr>) -> Result<Box<Expr>, AllocError>
+    ensures { IfOk result (λ e. expr_tree e.value ≡ ElementOf name.place (NameOf name.place (string_bytes name.text)) (expr_tree index.value)) }
 {
     let place = name.place;
     let mut postfixes = Vec::new(alloc);
     postfixes.push(element(index))?;
-    path(alloc, place, name_expr(name), postfixes)
+    let first = name_expr(alloc, name)?;
+    path(alloc, place, first, postfixes)
 }

@@ -46,9 +46,9 @@ fn parse_cast_end(
     place: Place,
     ty: TypeRef,
     tokens: &[Token],
-) -> Result<(Expr, &[Token]), Stop>
+) -> Result<(Box<Expr>, &[Token]), Stop>
     requires { 0 < depth }
-    ensures gives { Gives (λ x. (expr_tree x.0, pieces x.1.now)) result (cast_end depth (below depth) place (type_tree ty) (pieces tokens.now)) }
+    ensures gives { Gives (λ x. (expr_tree x.0.value, pieces x.1.now)) result (cast_end depth (below depth) place (type_tree ty) (pieces tokens.now)) }
     ensures fewer { IfOk result (λ x. length x.1.now ≤ length tokens.now) }
 {
     let (operand, rest) = inner_unary(alloc, depth, tokens)?;
@@ -64,9 +64,9 @@ fn parse_cast_only(
     place: Place,
     ty: TypeRef,
     tokens: &[Token],
-) -> Result<(Expr, &[Token]), Stop>
+) -> Result<(Box<Expr>, &[Token]), Stop>
     requires { 0 < depth }
-    ensures gives { Gives (λ x. (expr_tree x.0, pieces x.1.now)) result (cast_only depth (below depth) place (type_tree ty) (pieces tokens.now)) }
+    ensures gives { Gives (λ x. (expr_tree x.0.value, pieces x.1.now)) result (cast_only depth (below depth) place (type_tree ty) (pieces tokens.now)) }
     ensures fewer { IfOk result (λ x. length x.1.now ≤ length tokens.now) }
 {
     if is_castable(tokens) {
@@ -82,10 +82,10 @@ fn parse_after_paren(
     alloc: Global,
     depth: u32,
     place: Place,
-    inner: Expr,
+    inner: Box<Expr>,
     tokens: &[Token],
-) -> Result<(Expr, &[Token]), Stop>
-    ensures gives { Gives (λ x. (expr_tree x.0, pieces x.1.now)) result (postfixes depth (below depth) place (ParenOf place (expr_tree inner)) (pieces tokens.now)) }
+) -> Result<(Box<Expr>, &[Token]), Stop>
+    ensures gives { Gives (λ x. (expr_tree x.0.value, pieces x.1.now)) result (postfixes depth (below depth) place (ParenOf place (expr_tree inner.value)) (pieces tokens.now)) }
     ensures fewer { IfOk result (λ x. length x.1.now ≤ length tokens.now) }
 {
     let inner = build::in_parentheses(alloc, place, inner)?;
@@ -101,9 +101,9 @@ fn parse_bare(
     place: Place,
     name: Name,
     tokens: &[Token],
-) -> Result<(Expr, &[Token]), Stop>
+) -> Result<(Box<Expr>, &[Token]), Stop>
     requires { 0 < depth }
-    ensures gives { Gives (λ x. (expr_tree x.0, pieces x.1.now)) result (bare_end depth (below depth) place (name_tree name) (pieces tokens.now)) }
+    ensures gives { Gives (λ x. (expr_tree x.0.value, pieces x.1.now)) result (bare_end depth (below depth) place (name_tree name) (pieces tokens.now)) }
     ensures fewer { IfOk result (λ x. length x.1.now ≤ length tokens.now) }
 {
     if is_castable(tokens) {
@@ -115,7 +115,8 @@ fn parse_bare(
         };
         parse_cast_end(alloc, depth, place, ty, tokens)
     } else {
-        parse_after_paren(alloc, depth, place, build::name_expr(name), tokens)
+        let inner = build::name_expr(alloc, name)?;
+        parse_after_paren(alloc, depth, place, inner, tokens)
     }
 }
 
@@ -128,9 +129,9 @@ fn parse_closed(
     place: Place,
     inside: Inside,
     tokens: &[Token],
-) -> Result<(Expr, &[Token]), Stop>
+) -> Result<(Box<Expr>, &[Token]), Stop>
     requires { 0 < depth }
-    ensures gives { Gives (λ x. (expr_tree x.0, pieces x.1.now)) result (closed depth (below depth) place (inside_of inside) (pieces tokens.now)) }
+    ensures gives { Gives (λ x. (expr_tree x.0.value, pieces x.1.now)) result (closed depth (below depth) place (inside_of inside) (pieces tokens.now)) }
     ensures fewer { IfOk result (λ x. length x.1.now ≤ length tokens.now) }
 {
     match inside {
@@ -148,9 +149,9 @@ fn parse_word_paren(
     place: Place,
     start: Start,
     tokens: &[Token],
-) -> Result<(Expr, &[Token]), Stop>
+) -> Result<(Box<Expr>, &[Token]), Stop>
     requires { 0 < depth }
-    ensures gives { Gives (λ x. (expr_tree x.0, pieces x.1.now)) result (word_paren depth (below depth) place (start_of start) (pieces tokens.now)) }
+    ensures gives { Gives (λ x. (expr_tree x.0.value, pieces x.1.now)) result (word_paren depth (below depth) place (start_of start) (pieces tokens.now)) }
     ensures fewer { IfOk result (λ x. length x.1.now ≤ length tokens.now) }
 {
     let (ty, rest) = inner_type_end(depth, start, tokens)?;
@@ -167,9 +168,9 @@ fn parse_enclosed(
     place: Place,
     name: Name,
     tokens: &[Token],
-) -> Result<(Expr, &[Token]), Stop>
+) -> Result<(Box<Expr>, &[Token]), Stop>
     requires { 0 < depth }
-    ensures gives { Gives (λ x. (expr_tree x.0, pieces x.1.now)) result (enclosed depth (below depth) place (name_tree name) (pieces tokens.now)) }
+    ensures gives { Gives (λ x. (expr_tree x.0.value, pieces x.1.now)) result (enclosed depth (below depth) place (name_tree name) (pieces tokens.now)) }
     ensures fewer { IfOk result (λ x. length x.1.now ≤ length tokens.now) }
 {
     let (inside, rest) = inner_named(alloc, depth, name, tokens)?;
@@ -186,9 +187,9 @@ fn parse_name_paren(
     place: Place,
     name: Name,
     tokens: &[Token],
-) -> Result<(Expr, &[Token]), Stop>
+) -> Result<(Box<Expr>, &[Token]), Stop>
     requires { 0 < depth }
-    ensures gives { Gives (λ x. (expr_tree x.0, pieces x.1.now)) result (name_paren depth (below depth) place (name_tree name) (pieces tokens.now)) }
+    ensures gives { Gives (λ x. (expr_tree x.0.value, pieces x.1.now)) result (name_paren depth (below depth) place (name_tree name) (pieces tokens.now)) }
     ensures fewer { IfOk result (λ x. length x.1.now ≤ length tokens.now) }
 {
     match tokens {
@@ -211,9 +212,9 @@ fn parse_other_paren(
     depth: u32,
     place: Place,
     tokens: &[Token],
-) -> Result<(Expr, &[Token]), Stop>
+) -> Result<(Box<Expr>, &[Token]), Stop>
     requires { 0 < depth }
-    ensures gives { Gives (λ x. (expr_tree x.0, pieces x.1.now)) result (other_paren depth (below depth) place (pieces tokens.now)) }
+    ensures gives { Gives (λ x. (expr_tree x.0.value, pieces x.1.now)) result (other_paren depth (below depth) place (pieces tokens.now)) }
     ensures fewer { IfOk result (λ x. length x.1.now ≤ length tokens.now) }
 {
     let (inner, rest) = parse_paren_end(alloc, depth, tokens)?;
@@ -228,9 +229,9 @@ pub fn parse_paren(
     depth: u32,
     place: Place,
     tokens: &[Token],
-) -> Result<(Expr, &[Token]), Stop>
+) -> Result<(Box<Expr>, &[Token]), Stop>
     requires { 0 < depth }
-    ensures gives { Gives (λ x. (expr_tree x.0, pieces x.1.now)) result (paren depth (below depth) place (pieces tokens.now)) }
+    ensures gives { Gives (λ x. (expr_tree x.0.value, pieces x.1.now)) result (paren depth (below depth) place (pieces tokens.now)) }
     ensures fewer { IfOk result (λ x. length x.1.now ≤ length tokens.now) }
 {
     match tokens {

@@ -25,9 +25,9 @@ fn parse_operand(
     depth: u32,
     rank: u32,
     tokens: &[Token],
-) -> Result<(Expr, &[Token]), Stop>
+) -> Result<(Box<Expr>, &[Token]), Stop>
     requires { rank < 6 }
-    ensures gives { Gives (λ x. (expr_tree x.0, pieces x.1.now)) result (operand depth (below depth) rank (pieces tokens.now)) }
+    ensures gives { Gives (λ x. (expr_tree x.0.value, pieces x.1.now)) result (operand depth (below depth) rank (pieces tokens.now)) }
     ensures fewer { IfOk result (λ x. length x.1.now ≤ length tokens.now) }
 {
     match tokens {
@@ -77,11 +77,11 @@ pub fn parse_chain(
     depth: u32,
     rank: u32,
     place: Place,
-    first: Expr,
+    first: Box<Expr>,
     tokens: &[Token],
-) -> Result<(Expr, &[Token]), Stop>
+) -> Result<(Box<Expr>, &[Token]), Stop>
     requires { rank ≤ 6 }
-    ensures gives { Gives (λ x. (expr_tree x.0, pieces x.1.now)) result (chain depth (below depth) rank place (expr_tree first) (pieces tokens.now)) }
+    ensures gives { Gives (λ x. (expr_tree x.0.value, pieces x.1.now)) result (chain depth (below depth) rank place (expr_tree first.value) (pieces tokens.now)) }
     ensures fewer { IfOk result (λ x. length x.1.now ≤ length tokens.now) }
 {
     if rank == 0 {
@@ -98,11 +98,11 @@ fn parse_links(
     depth: u32,
     rank: u32,
     place: Place,
-    first: Expr,
+    first: Box<Expr>,
     tokens: &[Token],
-) -> Result<(Expr, &[Token]), Stop>
+) -> Result<(Box<Expr>, &[Token]), Stop>
     requires { rank < 6 }
-    ensures gives { Gives (λ x. (expr_tree x.0, pieces x.1.now)) result (times (link_head (rank + 1)) (link_behind depth (below depth) (operand depth (below depth) rank)) (joins depth (below depth) place) (length (pieces tokens.now)) (expr_tree first) (pieces tokens.now)) }
+    ensures gives { Gives (λ x. (expr_tree x.0.value, pieces x.1.now)) result (times (link_head (rank + 1)) (link_behind depth (below depth) (operand depth (below depth) rank)) (joins depth (below depth) place) (length (pieces tokens.now)) (expr_tree first.value) (pieces tokens.now)) }
     ensures fewer { IfOk result (λ x. length x.1.now ≤ length tokens.now) }
 {
     let mut links = Vec::new(alloc);

@@ -26,10 +26,10 @@ fn parse_rest(
     alloc: Global,
     depth: u32,
     place: Place,
-    first: Expr,
+    first: Box<Expr>,
     tokens: &[Token],
-) -> Result<(Expr, &[Token]), Stop>
-    ensures gives { Gives (λ x. (expr_tree x.0, pieces x.1.now)) result (rest_of depth (below depth) place (expr_tree first) (pieces tokens.now)) }
+) -> Result<(Box<Expr>, &[Token]), Stop>
+    ensures gives { Gives (λ x. (expr_tree x.0.value, pieces x.1.now)) result (rest_of depth (below depth) place (expr_tree first.value) (pieces tokens.now)) }
     ensures fewer { IfOk result (λ x. length x.1.now ≤ length tokens.now) }
 {
     let (first, rest) = parse_postfixes(alloc, depth, place, first, tokens)?;
@@ -105,7 +105,8 @@ fn parse_named_rest(
     ensures fewer { IfOk result (λ x. length x.1.now ≤ length tokens.now) }
 {
     let place = name.place;
-    let (inner, rest) = parse_rest(alloc, depth, place, build::name_expr(name), tokens)?;
+    let first = build::name_expr(alloc, name)?;
+    let (inner, rest) = parse_rest(alloc, depth, place, first, tokens)?;
     Ok((Inside::Expr(inner), rest))
 }
 

@@ -18,9 +18,13 @@ use std::alloc::Global;
 // The right side of `==>`, one level deeper.
 #[cycle(expr)]
 #[tactic(auto, using(crate::proofs::Readers::inner_is))]
-fn inner_implication(alloc: Global, depth: u32, tokens: &[Token]) -> Result<(Expr, &[Token]), Stop>
+fn inner_implication(
+    alloc: Global,
+    depth: u32,
+    tokens: &[Token],
+) -> Result<(Box<Expr>, &[Token]), Stop>
     requires { 0 < depth }
-    ensures gives { Gives (λ x. (expr_tree x.0, pieces x.1.now)) result (below depth TheImplication (pieces tokens.now)) }
+    ensures gives { Gives (λ x. (expr_tree x.0.value, pieces x.1.now)) result (below depth TheImplication (pieces tokens.now)) }
     ensures fewer { IfOk result (λ x. length x.1.now ≤ length tokens.now) }
 {
     parse_implication(alloc, depth - 1, tokens)
@@ -33,11 +37,11 @@ fn parse_right_side(
     alloc: Global,
     depth: u32,
     place: Place,
-    left: Expr,
+    left: Box<Expr>,
     tokens: &[Token],
-) -> Result<(Expr, &[Token]), Stop>
+) -> Result<(Box<Expr>, &[Token]), Stop>
     requires { 0 < depth }
-    ensures gives { Gives (λ x. (expr_tree x.0, pieces x.1.now)) result (right_side depth (below depth) place (expr_tree left) (pieces tokens.now)) }
+    ensures gives { Gives (λ x. (expr_tree x.0.value, pieces x.1.now)) result (right_side depth (below depth) place (expr_tree left.value) (pieces tokens.now)) }
     ensures fewer { IfOk result (λ x. length x.1.now ≤ length tokens.now) }
 {
     let (right, rest) = inner_implication(alloc, depth, tokens)?;
@@ -51,10 +55,10 @@ fn parse_implication_end(
     alloc: Global,
     depth: u32,
     place: Place,
-    left: Expr,
+    left: Box<Expr>,
     tokens: &[Token],
-) -> Result<(Expr, &[Token]), Stop>
-    ensures gives { Gives (λ x. (expr_tree x.0, pieces x.1.now)) result (implication_end depth (below depth) place (expr_tree left) (pieces tokens.now)) }
+) -> Result<(Box<Expr>, &[Token]), Stop>
+    ensures gives { Gives (λ x. (expr_tree x.0.value, pieces x.1.now)) result (implication_end depth (below depth) place (expr_tree left.value) (pieces tokens.now)) }
     ensures fewer { IfOk result (λ x. length x.1.now ≤ length tokens.now) }
 {
     match tokens {
@@ -81,10 +85,10 @@ fn parse_implication_from(
     alloc: Global,
     depth: u32,
     place: Place,
-    first: Expr,
+    first: Box<Expr>,
     tokens: &[Token],
-) -> Result<(Expr, &[Token]), Stop>
-    ensures gives { Gives (λ x. (expr_tree x.0, pieces x.1.now)) result (implication_from depth (below depth) place (expr_tree first) (pieces tokens.now)) }
+) -> Result<(Box<Expr>, &[Token]), Stop>
+    ensures gives { Gives (λ x. (expr_tree x.0.value, pieces x.1.now)) result (implication_from depth (below depth) place (expr_tree first.value) (pieces tokens.now)) }
     ensures fewer { IfOk result (λ x. length x.1.now ≤ length tokens.now) }
 {
     let (left, rest) = parse_chain(alloc, depth, 6, place, first, tokens)?;
@@ -94,8 +98,12 @@ fn parse_implication_from(
 // An implication.
 #[cycle(expr)]
 #[tactic(auto, unfolding(ss_grammar_expressions::specs::Parser::implication))]
-fn parse_implication(alloc: Global, depth: u32, tokens: &[Token]) -> Result<(Expr, &[Token]), Stop>
-    ensures gives { Gives (λ x. (expr_tree x.0, pieces x.1.now)) result (implication depth (below depth) (pieces tokens.now)) }
+fn parse_implication(
+    alloc: Global,
+    depth: u32,
+    tokens: &[Token],
+) -> Result<(Box<Expr>, &[Token]), Stop>
+    ensures gives { Gives (λ x. (expr_tree x.0.value, pieces x.1.now)) result (implication depth (below depth) (pieces tokens.now)) }
     ensures fewer { IfOk result (λ x. length x.1.now ≤ length tokens.now) }
 {
     match tokens {
@@ -114,10 +122,10 @@ fn parse_iff_end(
     alloc: Global,
     depth: u32,
     place: Place,
-    left: Expr,
+    left: Box<Expr>,
     tokens: &[Token],
-) -> Result<(Expr, &[Token]), Stop>
-    ensures gives { Gives (λ x. (expr_tree x.0, pieces x.1.now)) result (iff_end depth (below depth) place (expr_tree left) (pieces tokens.now)) }
+) -> Result<(Box<Expr>, &[Token]), Stop>
+    ensures gives { Gives (λ x. (expr_tree x.0.value, pieces x.1.now)) result (iff_end depth (below depth) place (expr_tree left.value) (pieces tokens.now)) }
     ensures fewer { IfOk result (λ x. length x.1.now ≤ length tokens.now) }
 {
     match tokens {
@@ -142,10 +150,10 @@ pub fn parse_expression_from(
     alloc: Global,
     depth: u32,
     place: Place,
-    first: Expr,
+    first: Box<Expr>,
     tokens: &[Token],
-) -> Result<(Expr, &[Token]), Stop>
-    ensures gives { Gives (λ x. (expr_tree x.0, pieces x.1.now)) result (expression_from depth (below depth) place (expr_tree first) (pieces tokens.now)) }
+) -> Result<(Box<Expr>, &[Token]), Stop>
+    ensures gives { Gives (λ x. (expr_tree x.0.value, pieces x.1.now)) result (expression_from depth (below depth) place (expr_tree first.value) (pieces tokens.now)) }
     ensures fewer { IfOk result (λ x. length x.1.now ≤ length tokens.now) }
 {
     let (left, rest) = parse_implication_from(alloc, depth, place, first, tokens)?;
@@ -159,8 +167,8 @@ pub fn parse_expression(
     alloc: Global,
     depth: u32,
     tokens: &[Token],
-) -> Result<(Expr, &[Token]), Stop>
-    ensures gives { Gives (λ x. (expr_tree x.0, pieces x.1.now)) result (whole_expression depth (below depth) (pieces tokens.now)) }
+) -> Result<(Box<Expr>, &[Token]), Stop>
+    ensures gives { Gives (λ x. (expr_tree x.0.value, pieces x.1.now)) result (whole_expression depth (below depth) (pieces tokens.now)) }
     ensures fewer { IfOk result (λ x. length x.1.now ≤ length tokens.now) }
 {
     match tokens {

@@ -1,9 +1,9 @@
 // The tokens that a part begins with.
 
-ghost use Rattle.std.specs.Prelude.{◌≡◌, ◌<◌, length, option_map, IfOk, IfSome, Some};
+ghost use Rattle.std.specs.Prelude.{◌≡◌, ◌==◌, ◌<◌, length, option_map, IfOk, IfSome, Some};
 ghost use Rattle.ss_ast.specs.Tokens.{kind_of, tok};
 ghost use Rattle.ss_ast.specs.Expressions.{name_tree, expr_tree};
-ghost use Rattle.ss_grammar_expressions.specs.Heads.{the, the_word, type_head, link_head, link_of, link_symbol, link_word, pieces, Operation, castable, castable_word, type_word_of, unary_symbol, unary_word, unary_head, AToken, Leaf};
+ghost use Rattle.ss_grammar_expressions.specs.Heads.{the, symbol_number, the_word, type_head, link_head, link_of, link_symbol, link_word, pieces, Operation, castable, castable_word, type_word_of, unary_symbol, unary_word, unary_head, AToken, Leaf};
 ghost use Rattle.ss_parser_expressions.specs.View.{first_is};
 ghost use Rattle.ss_grammar_expressions.specs.Parser.{give, name_at};
 ghost use Rattle.ss_grammar.specs.Reading.{take, seen};
@@ -55,10 +55,24 @@ pub enum Opening {
 #[derive(Drop)]
 pub enum UnaryStart {
     Opening(Place, Opening),
-    Leaf(Place, Expr),
+    Leaf(Place, Box<Expr>),
     Old(Place),
     New(Place),
     Quantifier(Place, Quantifier),
+}
+
+// The number of a symbol.
+fn number_of(symbol: Symbol) -> u8
+    ensures { result ≡ symbol_number symbol }
+{
+    symbol as u8
+}
+
+/// Whether the two are the same symbol.
+pub fn same_symbol(one: Symbol, other: Symbol) -> bool
+    ensures { result ≡ (symbol_number one == symbol_number other) }
+{
+    number_of(one) == number_of(other)
 }
 
 /// The place of this symbol, and the tokens behind it.
@@ -73,9 +87,22 @@ pub fn expect(tokens: &[Token], symbol: Symbol) -> Result<(Place, &[Token]), Sto
                 place,
             },
             rest @ ..,
-        ] if *s == symbol => Ok((*place, rest)),
+        ] if same_symbol(*s, symbol) => Ok((*place, rest)),
         _ => Err(Stop::Fault(Fault::Expected, tokens.len())),
     }
+}
+
+/// The expression, and the tokens behind this symbol.
+pub fn then_symbol(
+    expr: Box<Expr>,
+    symbol: Symbol,
+    tokens: &[Token],
+) -> Result<(Box<Expr>, &[Token]), Stop>
+    ensures gives { Gives (λ x. (expr_tree x.0.value, pieces x.1.now)) result (take (the symbol) (λ _. give (expr_tree expr.value)) (pieces tokens.now)) }
+    ensures fewer { IfOk result (λ x. length x.1.now < length tokens.now) }
+{
+    let (_, rest) = expect(tokens, symbol)?;
+    Ok((expr, rest))
 }
 
 /// The place of this symbol, and the tokens behind it, where it is the next.
@@ -90,7 +117,7 @@ pub fn next_symbol(tokens: &[Token], symbol: Symbol) -> Option<(Place, &[Token])
                 place,
             },
             rest @ ..,
-        ] if *s == symbol => Some((*place, rest)),
+        ] if same_symbol(*s, symbol) => Some((*place, rest)),
         _ => None,
     }
 }
@@ -320,28 +347,29 @@ fn unary_symbol(place: Place, symbol: Symbol) -> Option<UnaryStart>
 }
 
 // A leaf.
-fn leaf(place: Place, expr: Expr) -> Option<UnaryStart>
-    ensures { option_map unary_start_of result ≡ Some (Leaf place (expr_tree expr)) }
+fn leaf(alloc: Global, place: Place, expr: Expr) -> Result<Option<UnaryStart>, AllocError>
+    ensures { IfOk result (λ start. option_map unary_start_of start ≡ Some (Leaf place (expr_tree expr))) }
 {
-    Some(UnaryStart::Leaf(place, expr))
+    let expr = build::boxed(alloc, expr)?;
+    Ok(Some(UnaryStart::Leaf(place, expr)))
 }
 
 // What a unary expression begins with, where it may be this word.
-fn unary_word(place: Place, word: Word) -> Option<UnaryStart>
-    ensures { unary_word place word ≡ option_map unary_start_of result }
+fn unary_word(alloc: Global, place: Place, word: Word) -> Result<Option<UnaryStart>, AllocError>
+    ensures { IfOk result (λ start. unary_word place word ≡ option_map unary_start_of start) }
 {
     match word {
-        Word::True => leaf(place, build::truth(place, true)),
-        Word::False => leaf(place, build::truth(place, false)),
-        Word::Null => leaf(place, build::null(place)),
-        Word::This => leaf(place, build::this(place)),
-        Word::Base => leaf(place, build::base(place)),
-        Word::Result => leaf(place, build::result(place)),
-        Word::Old => Some(UnaryStart::Old(place)),
-        Word::New => Some(UnaryStart::New(place)),
-        Word::Forall => Some(UnaryStart::Quantifier(place, Quantifier::Forall)),
-        Word::Exists => Some(UnaryStart::Quantifier(place, Quantifier::Exists)),
-        _ => None,
+        Word::True => leaf(alloc, place, build::truth(place, true)),
+        Word::False => leaf(alloc, place, build::truth(place, false)),
+        Word::Null => leaf(alloc, place, build::null(place)),
+        Word::This => leaf(alloc, place, build::this(place)),
+        Word::Base => leaf(alloc, place, build::base(place)),
+        Word::Result => leaf(alloc, place, build::result(place)),
+        Word::Old => Ok(Some(UnaryStart::Old(place))),
+        Word::New => Ok(Some(UnaryStart::New(place))),
+        Word::Forall => Ok(Some(UnaryStart::Quantifier(place, Quantifier::Forall))),
+        Word::Exists => Ok(Some(UnaryStart::Quantifier(place, Quantifier::Exists))),
+        _ => Ok(None),
     }
 }
 
@@ -352,10 +380,10 @@ pub fn unary_start(alloc: Global, token: &Token) -> Result<Option<UnaryStart>, A
     let place = token.place;
     match &token.kind {
         TokenKind::Symbol(symbol) => Ok(unary_symbol(place, *symbol)),
-        TokenKind::Word(word) => Ok(unary_word(place, *word)),
-        TokenKind::Name(name) => Ok(leaf(place, build::named(place, name)?)),
-        TokenKind::Number(n) => Ok(leaf(place, build::number(place, i64::from(*n)))),
-        TokenKind::Text(text) => Ok(leaf(place, build::text(alloc, place, text)?)),
+        TokenKind::Word(word) => unary_word(alloc, place, *word),
+        TokenKind::Name(name) => leaf(alloc, place, build::named(place, name)?),
+        TokenKind::Number(n) => leaf(alloc, place, build::number(place, i64::from(*n))),
+        TokenKind::Text(text) => leaf(alloc, place, build::text(alloc, place, text)?),
         TokenKind::TextEnd => Ok(None),
     }
 }

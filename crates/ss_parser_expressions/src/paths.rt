@@ -61,10 +61,10 @@ pub fn parse_postfixes(
     alloc: Global,
     depth: u32,
     place: Place,
-    first: Expr,
+    first: Box<Expr>,
     tokens: &[Token],
-) -> Result<(Expr, &[Token]), Stop>
-    ensures gives { Gives (λ x. (expr_tree x.0, pieces x.1.now)) result (postfixes depth (below depth) place (expr_tree first) (pieces tokens.now)) }
+) -> Result<(Box<Expr>, &[Token]), Stop>
+    ensures gives { Gives (λ x. (expr_tree x.0.value, pieces x.1.now)) result (postfixes depth (below depth) place (expr_tree first.value) (pieces tokens.now)) }
     ensures fewer { IfOk result (λ x. length x.1.now ≤ length tokens.now) }
 {
     let mut postfixes = Vec::new(alloc);
@@ -84,8 +84,8 @@ pub fn parse_new(
     depth: u32,
     place: Place,
     tokens: &[Token],
-) -> Result<(Expr, &[Token]), Stop>
-    ensures gives { Gives (λ x. (expr_tree x.0, pieces x.1.now)) result (new depth (below depth) place (pieces tokens.now)) }
+) -> Result<(Box<Expr>, &[Token]), Stop>
+    ensures gives { Gives (λ x. (expr_tree x.0.value, pieces x.1.now)) result (new depth (below depth) place (pieces tokens.now)) }
     ensures fewer { IfOk result (λ x. length x.1.now ≤ length tokens.now) }
 {
     let (start, rest) = expect_type(tokens)?;
@@ -101,8 +101,8 @@ fn parse_new_end(
     place: Place,
     start: Start,
     tokens: &[Token],
-) -> Result<(Expr, &[Token]), Stop>
-    ensures gives { Gives (λ x. (expr_tree x.0, pieces x.1.now)) result (new_end depth (below depth) place (start_of start) (pieces tokens.now)) }
+) -> Result<(Box<Expr>, &[Token]), Stop>
+    ensures gives { Gives (λ x. (expr_tree x.0.value, pieces x.1.now)) result (new_end depth (below depth) place (start_of start) (pieces tokens.now)) }
     ensures fewer { IfOk result (λ x. length x.1.now ≤ length tokens.now) }
 {
     let Start { place: at, name } = start;
@@ -121,10 +121,8 @@ fn parse_new_end(
                         return Err(Stop::Fault(Fault::TooDeep, tokens.len()));
                     }
                     let (given, rest) = parse_args_end(alloc, depth, rest)?;
-                    Ok((
-                        build::new_object(place, Name { text, place: at }, given),
-                        rest,
-                    ))
+                    let name = Name { text, place: at };
+                    Ok((build::new_object(alloc, place, name, given)?, rest))
                 }
                 _ => Err(Stop::Fault(Fault::Expected, tokens.len())),
             },
@@ -142,8 +140,8 @@ pub fn parse_old(
     depth: u32,
     place: Place,
     tokens: &[Token],
-) -> Result<(Expr, &[Token]), Stop>
-    ensures gives { Gives (λ x. (expr_tree x.0, pieces x.1.now)) result (old depth (below depth) place (pieces tokens.now)) }
+) -> Result<(Box<Expr>, &[Token]), Stop>
+    ensures gives { Gives (λ x. (expr_tree x.0.value, pieces x.1.now)) result (old depth (below depth) place (pieces tokens.now)) }
     ensures fewer { IfOk result (λ x. length x.1.now ≤ length tokens.now) }
 {
     match tokens {

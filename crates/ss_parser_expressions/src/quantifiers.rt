@@ -9,7 +9,7 @@ ghost use Rattle.ss_grammar_expressions.specs.Parser.{below, range_high, range_e
 
 use crate::arguments::{inner_expression, parse_paren_end};
 use crate::build;
-use crate::heads::{expect, expect_name, expect_word};
+use crate::heads::{expect, expect_name, expect_word, then_symbol};
 use crate::paths::parse_postfixes;
 use ss_ast::{Expr, Name, Quantifier, Symbol, Token, TokenKind, Word};
 use ss_core::Place;
@@ -23,9 +23,9 @@ fn inner_range(
     alloc: Global,
     depth: u32,
     tokens: &[Token],
-) -> Result<((Expr, Expr), &[Token]), Stop>
+) -> Result<((Box<Expr>, Box<Expr>), &[Token]), Stop>
     requires { 0 < depth }
-    ensures gives { Gives (λ x. ((expr_tree x.0.0, expr_tree x.0.1), pieces x.1.now)) result (below depth TheRange (pieces tokens.now)) }
+    ensures gives { Gives (λ x. ((expr_tree x.0.0.value, expr_tree x.0.1.value), pieces x.1.now)) result (below depth TheRange (pieces tokens.now)) }
     ensures fewer { IfOk result (λ x. length x.1.now ≤ length tokens.now) }
 {
     parse_range(alloc, depth - 1, tokens)
@@ -37,11 +37,11 @@ fn inner_range(
 fn parse_range_high(
     alloc: Global,
     depth: u32,
-    low: Expr,
+    low: Box<Expr>,
     tokens: &[Token],
-) -> Result<((Expr, Expr), &[Token]), Stop>
+) -> Result<((Box<Expr>, Box<Expr>), &[Token]), Stop>
     requires { 0 < depth }
-    ensures gives { Gives (λ x. ((expr_tree x.0.0, expr_tree x.0.1), pieces x.1.now)) result (range_high depth (below depth) (expr_tree low) (pieces tokens.now)) }
+    ensures gives { Gives (λ x. ((expr_tree x.0.0.value, expr_tree x.0.1.value), pieces x.1.now)) result (range_high depth (below depth) (expr_tree low.value) (pieces tokens.now)) }
     ensures fewer { IfOk result (λ x. length x.1.now ≤ length tokens.now) }
 {
     let (_, rest) = expect(tokens, Symbol::Colon)?;
@@ -56,9 +56,9 @@ fn parse_range_end(
     alloc: Global,
     depth: u32,
     tokens: &[Token],
-) -> Result<((Expr, Expr), &[Token]), Stop>
+) -> Result<((Box<Expr>, Box<Expr>), &[Token]), Stop>
     requires { 0 < depth }
-    ensures gives { Gives (λ x. ((expr_tree x.0.0, expr_tree x.0.1), pieces x.1.now)) result (range_end depth (below depth) (pieces tokens.now)) }
+    ensures gives { Gives (λ x. ((expr_tree x.0.0.value, expr_tree x.0.1.value), pieces x.1.now)) result (range_end depth (below depth) (pieces tokens.now)) }
     ensures fewer { IfOk result (λ x. length x.1.now ≤ length tokens.now) }
 {
     let (low, rest) = inner_expression(alloc, depth, tokens)?;
@@ -72,8 +72,8 @@ fn parse_range(
     alloc: Global,
     depth: u32,
     tokens: &[Token],
-) -> Result<((Expr, Expr), &[Token]), Stop>
-    ensures gives { Gives (λ x. ((expr_tree x.0.0, expr_tree x.0.1), pieces x.1.now)) result (range depth (below depth) (pieces tokens.now)) }
+) -> Result<((Box<Expr>, Box<Expr>), &[Token]), Stop>
+    ensures gives { Gives (λ x. ((expr_tree x.0.0.value, expr_tree x.0.1.value), pieces x.1.now)) result (range depth (below depth) (pieces tokens.now)) }
     ensures fewer { IfOk result (λ x. length x.1.now ≤ length tokens.now) }
 {
     match tokens {
@@ -96,15 +96,14 @@ fn parse_range(
 // The body, from `;` to `}`.
 #[cycle(expr)]
 #[tactic(auto, unfolding(ss_grammar_expressions::specs::Parser::body))]
-fn parse_body(alloc: Global, depth: u32, tokens: &[Token]) -> Result<(Expr, &[Token]), Stop>
+fn parse_body(alloc: Global, depth: u32, tokens: &[Token]) -> Result<(Box<Expr>, &[Token]), Stop>
     requires { 0 < depth }
-    ensures gives { Gives (λ x. (expr_tree x.0, pieces x.1.now)) result (body depth (below depth) (pieces tokens.now)) }
+    ensures gives { Gives (λ x. (expr_tree x.0.value, pieces x.1.now)) result (body depth (below depth) (pieces tokens.now)) }
     ensures fewer { IfOk result (λ x. length x.1.now ≤ length tokens.now) }
 {
     let (_, rest) = expect(tokens, Symbol::Semicolon)?;
     let (inner, rest) = inner_expression(alloc, depth, rest)?;
-    let (_, rest) = expect(rest, Symbol::CloseBrace)?;
-    Ok((inner, rest))
+    then_symbol(inner, Symbol::CloseBrace, rest)
 }
 
 // The bound name, from `int` to `in`.
@@ -138,9 +137,9 @@ fn parse_bounds_and_body(
     quantifier: Quantifier,
     name: Name,
     tokens: &[Token],
-) -> Result<(Expr, &[Token]), Stop>
+) -> Result<(Box<Expr>, &[Token]), Stop>
     requires { 0 < depth }
-    ensures gives { Gives (λ x. (expr_tree x.0, pieces x.1.now)) result (bounds_and_body depth (below depth) place quantifier (name_tree name) (pieces tokens.now)) }
+    ensures gives { Gives (λ x. (expr_tree x.0.value, pieces x.1.now)) result (bounds_and_body depth (below depth) place quantifier (name_tree name) (pieces tokens.now)) }
     ensures fewer { IfOk result (λ x. length x.1.now ≤ length tokens.now) }
 {
     let (bounds, rest) = inner_range(alloc, depth, tokens)?;
@@ -160,9 +159,9 @@ fn parse_quantified_end(
     place: Place,
     quantifier: Quantifier,
     tokens: &[Token],
-) -> Result<(Expr, &[Token]), Stop>
+) -> Result<(Box<Expr>, &[Token]), Stop>
     requires { 0 < depth }
-    ensures gives { Gives (λ x. (expr_tree x.0, pieces x.1.now)) result (quantified_behind depth (below depth) place quantifier (pieces tokens.now)) }
+    ensures gives { Gives (λ x. (expr_tree x.0.value, pieces x.1.now)) result (quantified_behind depth (below depth) place quantifier (pieces tokens.now)) }
     ensures fewer { IfOk result (λ x. length x.1.now ≤ length tokens.now) }
 {
     let (name, rest) = parse_bound(depth, tokens)?;
@@ -178,8 +177,8 @@ pub fn parse_quantified(
     place: Place,
     quantifier: Quantifier,
     tokens: &[Token],
-) -> Result<(Expr, &[Token]), Stop>
-    ensures gives { Gives (λ x. (expr_tree x.0, pieces x.1.now)) result (quantified depth (below depth) place quantifier (pieces tokens.now)) }
+) -> Result<(Box<Expr>, &[Token]), Stop>
+    ensures gives { Gives (λ x. (expr_tree x.0.value, pieces x.1.now)) result (quantified depth (below depth) place quantifier (pieces tokens.now)) }
     ensures fewer { IfOk result (λ x. length x.1.now ≤ length tokens.now) }
 {
     match tokens {
@@ -208,8 +207,8 @@ pub fn parse_then_postfixes(
     place: Place,
     quantifier: Quantifier,
     tokens: &[Token],
-) -> Result<(Expr, &[Token]), Stop>
-    ensures gives { Gives (λ x. (expr_tree x.0, pieces x.1.now)) result (unary_behind depth (below depth) (QuantifierHead place quantifier) (pieces tokens.now)) }
+) -> Result<(Box<Expr>, &[Token]), Stop>
+    ensures gives { Gives (λ x. (expr_tree x.0.value, pieces x.1.now)) result (unary_behind depth (below depth) (QuantifierHead place quantifier) (pieces tokens.now)) }
     ensures fewer { IfOk result (λ x. length x.1.now ≤ length tokens.now) }
 {
     let (first, rest) = parse_quantified(alloc, depth, place, quantifier, tokens)?;

@@ -21,9 +21,13 @@ use std::alloc::Global;
 /// A unary expression one level deeper.
 #[cycle(expr)]
 #[tactic(auto, using(crate::proofs::Readers::inner_is))]
-pub fn inner_unary(alloc: Global, depth: u32, tokens: &[Token]) -> Result<(Expr, &[Token]), Stop>
+pub fn inner_unary(
+    alloc: Global,
+    depth: u32,
+    tokens: &[Token],
+) -> Result<(Box<Expr>, &[Token]), Stop>
     requires { 0 < depth }
-    ensures gives { Gives (λ x. (expr_tree x.0, pieces x.1.now)) result (below depth TheUnary (pieces tokens.now)) }
+    ensures gives { Gives (λ x. (expr_tree x.0.value, pieces x.1.now)) result (below depth TheUnary (pieces tokens.now)) }
     ensures fewer { IfOk result (λ x. length x.1.now ≤ length tokens.now) }
 {
     parse_unary(alloc, depth - 1, tokens)
@@ -37,9 +41,9 @@ fn parse_negation(
     depth: u32,
     place: Place,
     tokens: &[Token],
-) -> Result<(Expr, &[Token]), Stop>
+) -> Result<(Box<Expr>, &[Token]), Stop>
     requires { 0 < depth }
-    ensures gives { Gives (λ x. (expr_tree x.0, pieces x.1.now)) result (negation depth (below depth) place (pieces tokens.now)) }
+    ensures gives { Gives (λ x. (expr_tree x.0.value, pieces x.1.now)) result (negation depth (below depth) place (pieces tokens.now)) }
     ensures fewer { IfOk result (λ x. length x.1.now ≤ length tokens.now) }
 {
     let (operand, rest) = inner_unary(alloc, depth, tokens)?;
@@ -54,9 +58,9 @@ fn parse_negated(
     depth: u32,
     place: Place,
     tokens: &[Token],
-) -> Result<(Expr, &[Token]), Stop>
+) -> Result<(Box<Expr>, &[Token]), Stop>
     requires { 0 < depth }
-    ensures gives { Gives (λ x. (expr_tree x.0, pieces x.1.now)) result (negated depth (below depth) place (pieces tokens.now)) }
+    ensures gives { Gives (λ x. (expr_tree x.0.value, pieces x.1.now)) result (negated depth (below depth) place (pieces tokens.now)) }
     ensures fewer { IfOk result (λ x. length x.1.now ≤ length tokens.now) }
 {
     match tokens {
@@ -67,7 +71,8 @@ fn parse_negated(
             },
             rest @ ..,
         ] if *n == 2147483648 => {
-            parse_postfixes(alloc, depth, place, build::number(place, -2147483648), rest)
+            let first = build::boxed(alloc, build::number(place, -2147483648))?;
+            parse_postfixes(alloc, depth, place, first, rest)
         }
         _ => parse_negation(alloc, depth, place, tokens),
     }
@@ -82,9 +87,9 @@ fn parse_opening(
     place: Place,
     opening: Opening,
     tokens: &[Token],
-) -> Result<(Expr, &[Token]), Stop>
+) -> Result<(Box<Expr>, &[Token]), Stop>
     requires { 0 < depth }
-    ensures gives { Gives (λ x. (expr_tree x.0, pieces x.1.now)) result (unary_behind depth (below depth) (opening_of place opening) (pieces tokens.now)) }
+    ensures gives { Gives (λ x. (expr_tree x.0.value, pieces x.1.now)) result (unary_behind depth (below depth) (opening_of place opening) (pieces tokens.now)) }
     ensures fewer { IfOk result (λ x. length x.1.now ≤ length tokens.now) }
 {
     match opening {
@@ -100,8 +105,12 @@ fn parse_opening(
 /// A unary expression.
 #[cycle(expr)]
 #[tactic(auto, unfolding(ss_grammar_expressions::specs::Parser::unary, ss_grammar_expressions::specs::Parser::unary_behind))]
-pub fn parse_unary(alloc: Global, depth: u32, tokens: &[Token]) -> Result<(Expr, &[Token]), Stop>
-    ensures gives { Gives (λ x. (expr_tree x.0, pieces x.1.now)) result (unary depth (below depth) (pieces tokens.now)) }
+pub fn parse_unary(
+    alloc: Global,
+    depth: u32,
+    tokens: &[Token],
+) -> Result<(Box<Expr>, &[Token]), Stop>
+    ensures gives { Gives (λ x. (expr_tree x.0.value, pieces x.1.now)) result (unary depth (below depth) (pieces tokens.now)) }
     ensures fewer { IfOk result (λ x. length x.1.now ≤ length tokens.now) }
 {
     match tokens {

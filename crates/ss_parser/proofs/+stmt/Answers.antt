@@ -24,8 +24,8 @@ statements::parse_stmts-loop-stmts-preserved t c =
     let after = c.in_ok-stmt.after.now in
     let sees = subst (λ o. seen f (pieces rest) ≡ option_map (λ x. ((stmt_start_of x.0, AToken (tok x.1.now)), pieces x.2.now)) o) c.in-Some.is c.in_ok-start.ensures.sees in
     let lt : length c.in-Some.after.now < length rest = subst (λ o. IfSome o (λ x. length x.2.now < length rest)) c.in-Some.is c.in_ok-start.ensures.fewer in
-    let s = turns_on f k j so_far (pieces rest) _ (pieces c.in-Some.after.now) (stmt_tree c.in_ok-stmt.stmt) (pieces after) _ sees c.in_ok-stmt.ensures.gives (pieces_fewer after c.in-Some.after.now c.in_ok-stmt.ensures.fewer) c.loop-stmts.invariant.turns in
-    let e : map stmt_tree c.push.new.self.items ≡ so_far ++ stmt_tree c.in_ok-stmt.stmt ∷ [] = ap (λ l. map stmt_tree l) c.in_ok-push.ensures.items ∙ map_push stmt_tree c.loop-stmts.stmts.items c.in_ok-stmt.stmt in
+    let s = turns_on f k j so_far (pieces rest) _ (pieces c.in-Some.after.now) (stmt_tree c.in_ok-stmt.stmt.value) (pieces after) _ sees c.in_ok-stmt.ensures.gives (pieces_fewer after c.in-Some.after.now c.in_ok-stmt.ensures.fewer) c.loop-stmts.invariant.turns in
+    let e : map stmt_tree c.push.new.self.items ≡ so_far ++ stmt_tree c.in_ok-stmt.stmt.value ∷ [] = ap (λ l. map stmt_tree l) c.in_ok-push.ensures.items ∙ map_push stmt_tree c.loop-stmts.stmts.items c.into_inner.result ∙ ap (λ z. so_far ++ stmt_tree z ∷ []) c.into_inner.ensures in
     record { turns = subst (λ (a : List StmtTree). Turns f k j a (pieces after) (times f k j (length (pieces c.args.tokens.now)) [] (pieces c.args.tokens.now))) (sym e) s; fewer = omega (arith, c.loop-stmts.invariant.fewer, c.in_ok-stmt.ensures.fewer) }
 
 pub statements::parse_stmts-returns-clause-gives : goal.statements::parse_stmts-returns-clause-gives

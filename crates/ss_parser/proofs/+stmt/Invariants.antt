@@ -39,23 +39,26 @@ decreases-governed::parse_if_end l = 16 * l.depth + 7
 abbrev pub decreases-governed::parse_if : goal.decreases-governed::parse_if
 decreases-governed::parse_if l = 16 * l.depth + 8
 
+abbrev pub decreases-loops::parse_guarded : goal.decreases-loops::parse_guarded
+decreases-loops::parse_guarded l = 16 * l.depth + 5
+
 abbrev pub decreases-loops::parse_while_body : goal.decreases-loops::parse_while_body
-decreases-loops::parse_while_body l = 16 * l.depth + 5
+decreases-loops::parse_while_body l = 16 * l.depth + 6
 
 abbrev pub decreases-loops::parse_while_end : goal.decreases-loops::parse_while_end
-decreases-loops::parse_while_end l = 16 * l.depth + 6
+decreases-loops::parse_while_end l = 16 * l.depth + 7
 
 abbrev pub decreases-loops::parse_while : goal.decreases-loops::parse_while
-decreases-loops::parse_while l = 16 * l.depth + 7
+decreases-loops::parse_while l = 16 * l.depth + 8
 
 abbrev pub decreases-loops::parse_for_body : goal.decreases-loops::parse_for_body
-decreases-loops::parse_for_body l = 16 * l.depth + 5
+decreases-loops::parse_for_body l = 16 * l.depth + 6
 
 abbrev pub decreases-loops::parse_for_end : goal.decreases-loops::parse_for_end
-decreases-loops::parse_for_end l = 16 * l.depth + 6
+decreases-loops::parse_for_end l = 16 * l.depth + 7
 
 abbrev pub decreases-loops::parse_for : goal.decreases-loops::parse_for
-decreases-loops::parse_for l = 16 * l.depth + 7
+decreases-loops::parse_for l = 16 * l.depth + 8
 
 abbrev pub decreases-exposes::parse_expose_body : goal.decreases-exposes::parse_expose_body
 decreases-exposes::parse_expose_body l = 16 * l.depth + 3

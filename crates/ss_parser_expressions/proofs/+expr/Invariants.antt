@@ -183,7 +183,7 @@ decreases-arguments::parse_more_args-loop-after l = length l.rest
 
 abbrev pub invariant-chains::parse_links-loop-joint : goal.invariant-chains::parse_links-loop-joint
 invariant-chains::parse_links-loop-joint l = record {
-  turns : Turns (link_head (l.rank + 1)) (link_behind l.depth (below l.depth) (operand l.depth (below l.depth) l.rank)) (joins l.depth (below l.depth) l.place) (grouped l.place (expr_tree l.first) (map link_tree l.links.items)) (pieces l.rest) (times (link_head (l.rank + 1)) (link_behind l.depth (below l.depth) (operand l.depth (below l.depth) l.rank)) (joins l.depth (below l.depth) l.place) (length (pieces l.fn.tokens)) (expr_tree l.fn.first) (pieces l.fn.tokens));
+  turns : Turns (link_head (l.rank + 1)) (link_behind l.depth (below l.depth) (operand l.depth (below l.depth) l.rank)) (joins l.depth (below l.depth) l.place) (grouped l.place (expr_tree l.first.value) (map link_tree l.links.items)) (pieces l.rest) (times (link_head (l.rank + 1)) (link_behind l.depth (below l.depth) (operand l.depth (below l.depth) l.rank)) (joins l.depth (below l.depth) l.place) (length (pieces l.fn.tokens)) (expr_tree l.fn.first.value) (pieces l.fn.tokens));
   fewer : length l.rest ≤ length l.fn.tokens;
 }
 
@@ -192,7 +192,7 @@ decreases-chains::parse_links-loop-joint l = length l.rest
 
 abbrev pub invariant-paths::parse_postfixes-loop-postfixes : goal.invariant-paths::parse_postfixes-loop-postfixes
 invariant-paths::parse_postfixes-loop-postfixes l = record {
-  turns : Turns (tokened postfix_head) (postfix l.depth (below l.depth)) (joins l.depth (below l.depth) l.place) (grouped l.place (expr_tree l.first) (map postfix_tree l.postfixes.items)) (pieces l.rest) (times (tokened postfix_head) (postfix l.depth (below l.depth)) (joins l.depth (below l.depth) l.place) (length (pieces l.fn.tokens)) (expr_tree l.fn.first) (pieces l.fn.tokens));
+  turns : Turns (tokened postfix_head) (postfix l.depth (below l.depth)) (joins l.depth (below l.depth) l.place) (grouped l.place (expr_tree l.first.value) (map postfix_tree l.postfixes.items)) (pieces l.rest) (times (tokened postfix_head) (postfix l.depth (below l.depth)) (joins l.depth (below l.depth) l.place) (length (pieces l.fn.tokens)) (expr_tree l.fn.first.value) (pieces l.fn.tokens));
   fewer : length l.rest ≤ length l.fn.tokens;
 }
 

@@ -15,8 +15,8 @@ use Rattle.ss_decls.proofs.modified.parse_modified_from.Goals as goal
 pub returns-in-All-clause-gives : goal.returns-in-All-clause-gives
 returns-in-All-clause-gives c =
     let p = c.args.place in
-    let a = expr_tree c.args.first in
-    let b = grouped p (expr_tree c.loop-postfixes.first-1) (map postfix_tree c.loop-postfixes.postfixes.items) in
+    let a = expr_tree c.args.first.value in
+    let b = grouped p (expr_tree c.args.first.value) (map postfix_tree c.loop-postfixes.postfixes.items) in
     let rest = c.loop-postfixes.rest.now in
     let after = c.in-Some.after.now in
     let g = subst (λ o. GivesMore (λ x. (step_of x.0, pieces x.1.now)) (Ok o) (another (is postfix_head) (step c.args.depth) (pieces rest))) c.in-Some.is c.in_ok-step.ensures.gives in
@@ -28,8 +28,8 @@ returns-in-All-clause-gives c =
 pub returns-in-Elements-clause-gives : goal.returns-in-Elements-clause-gives
 returns-in-Elements-clause-gives c =
     let p = c.args.place in
-    let a = expr_tree c.args.first in
-    let b = grouped p (expr_tree c.loop-postfixes.first-1) (map postfix_tree c.loop-postfixes.postfixes.items) in
+    let a = expr_tree c.args.first.value in
+    let b = grouped p (expr_tree c.args.first.value) (map postfix_tree c.loop-postfixes.postfixes.items) in
     let rest = c.loop-postfixes.rest.now in
     let after = c.in-Some.after.now in
     let g = subst (λ o. GivesMore (λ x. (step_of x.0, pieces x.1.now)) (Ok o) (another (is postfix_head) (step c.args.depth) (pieces rest))) c.in-Some.is c.in_ok-step.ensures.gives in
@@ -41,8 +41,8 @@ returns-in-Elements-clause-gives c =
 pub loop-postfixes-preserved : goal.loop-postfixes-preserved
 loop-postfixes-preserved c =
     let p = c.args.place in
-    let a = expr_tree c.args.first in
-    let e = expr_tree c.loop-postfixes.first-1 in
+    let a = expr_tree c.args.first.value in
+    let e = expr_tree c.args.first.value in
     let b = grouped p e (map postfix_tree c.loop-postfixes.postfixes.items) in
     let rest = c.loop-postfixes.rest.now in
     let after = c.in-Some.after.now in
@@ -58,8 +58,8 @@ loop-postfixes-preserved c =
 pub returns-clause-gives : goal.returns-clause-gives
 returns-clause-gives c =
     let p = c.args.place in
-    let a = expr_tree c.args.first in
-    let b = grouped p (expr_tree c.loop-postfixes.first-1) (map postfix_tree c.loop-postfixes.postfixes.items) in
+    let a = expr_tree c.args.first.value in
+    let b = grouped p (expr_tree c.args.first.value) (map postfix_tree c.loop-postfixes.postfixes.items) in
     let rest = c.loop-postfixes.rest.now in
     let g = subst (λ o. GivesMore (λ x. (step_of x.0, pieces x.1.now)) (Ok o) (another (is postfix_head) (step c.args.depth) (pieces rest))) c.in_default.is c.in_ok-step.ensures.gives in
     ends_path p c.args.depth a c.args.tokens.now b rest g c.loop-postfixes.invariant.turns ∙ ap (λ e. Ok (OneOf e, pieces rest)) (sym c.in_ok-path.ensures)

@@ -9,7 +9,7 @@ use Rattle.ss_decls.proofs.modified.parse_modified_from.Given as goal
 
 abbrev pub invariant-loop-postfixes : goal.invariant-loop-postfixes
 invariant-loop-postfixes l = record {
-  turns : Rounds path_goes (step l.depth) (stepped l.place) (Path (grouped l.place (expr_tree l.first) (map postfix_tree l.postfixes.items))) (pieces l.rest) (steps l.place l.depth (expr_tree l.fn.first) (pieces l.fn.tokens));
+  turns : Rounds path_goes (step l.depth) (stepped l.place) (Path (grouped l.place (expr_tree l.first.value) (map postfix_tree l.postfixes.items))) (pieces l.rest) (steps l.place l.depth (expr_tree l.fn.first.value) (pieces l.fn.tokens));
   fewer : length l.rest ≤ length l.fn.tokens;
 }
 

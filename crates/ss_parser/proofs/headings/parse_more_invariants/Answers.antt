@@ -17,8 +17,8 @@ loop-after-preserved c =
     let k = λ (_ : _). ended (whole_expression c.args.depth (below c.args.depth)) in
     let so_far = map expr_tree c.loop-after.conditions.items in
     let rest = pieces c.in_ok-condition.after.now in
-    let s = turns_on f k join_argument so_far (pieces c.loop-after.rest.now) _ (pieces c.in-Some.after.now) (expr_tree c.in_ok-condition.condition) rest _ c.in-Some.ensures.sees c.in_ok-condition.ensures.gives (pieces_fewer c.in_ok-condition.after.now c.in-Some.after.now c.in_ok-condition.ensures.fewer) c.loop-after.invariant.turns in
-    let e : map expr_tree c.push.new.self.items ≡ so_far ++ expr_tree c.in_ok-condition.condition ∷ [] = ap (λ l. map expr_tree l) c.in_ok-push.ensures.items ∙ map_push expr_tree c.loop-after.conditions.items c.in_ok-condition.condition in
+    let s = turns_on f k join_argument so_far (pieces c.loop-after.rest.now) _ (pieces c.in-Some.after.now) (expr_tree c.in_ok-condition.condition.value) rest _ c.in-Some.ensures.sees c.in_ok-condition.ensures.gives (pieces_fewer c.in_ok-condition.after.now c.in-Some.after.now c.in_ok-condition.ensures.fewer) c.loop-after.invariant.turns in
+    let e : map expr_tree c.push.new.self.items ≡ so_far ++ expr_tree c.in_ok-condition.condition.value ∷ [] = ap (λ l. map expr_tree l) c.in_ok-push.ensures.items ∙ map_push expr_tree c.loop-after.conditions.items c.into_inner.result ∙ ap (λ z. so_far ++ expr_tree z ∷ []) c.into_inner.ensures in
     record { turns = subst (λ (a : List ExprTree). Turns f k join_argument a rest (times f k join_argument (length (pieces c.args.tokens.now)) [] (pieces c.args.tokens.now))) (sym e) s; fewer = omega (arith, c.loop-after.invariant.fewer, c.in-Some.ensures.fewer, c.in_ok-condition.ensures.fewer) }
 
 pub returns-clause-gives : goal.returns-clause-gives
