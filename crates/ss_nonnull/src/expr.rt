@@ -3,7 +3,7 @@
 ghost use Rattle.std.specs.Prelude.{◌≡◌, ◌++◌, true, false, Option, Some, List, IfOk, OnOk, map, option_map};
 ghost use Rattle.ss_typed.specs.Tree.{ExprTree, BinaryOf, ElementOf, CallOf, arguments};
 ghost use Rattle.ss_typed.specs.View.{expr, grouped};
-ghost use Rattle.ss_nonnull_rules.specs.NonNull.{known_right};
+ghost use Rattle.ss_nonnull_rules.specs.NonNull.{is_set_result, known_right};
 ghost use Rattle.ss_nonnull_rules.specs.Faults.{inside, handed, wanted_if};
 ghost use Rattle.ss_nonnull_facts.specs.Views.{link_behind, step_behind};
 ghost use Rattle.ss_nonnull_facts.specs.Called.{called_types};
@@ -20,7 +20,7 @@ use crate::site::Site;
 use ss_core::{ClassId, Operator, Place, Ty};
 use ss_faults::Fault;
 use ss_nonnull_facts::{
-    Called, base_method, class_type, constructor, method_of, static_method, type_at,
+    Called, base_method, class_type, constructor, is_non_null, method_of, static_method, type_at,
 };
 use ss_typed::{TypedExpr, TypedLink, TypedStep};
 use std::alloc::{AllocError, Global};
@@ -30,6 +30,16 @@ fn value(alloc: Global, place: Place, ty: Ty) -> Seen
     ensures { seen_of result ≡ plain place (Some ty) false }
 {
     plain(alloc, place, Some(ty), false)
+}
+
+// Whether `result` of this type is never null; that of a body that has none fits everything.
+fn is_set_result(ty: Option<Ty>) -> bool
+    ensures { result ≡ is_set_result ty }
+{
+    match ty {
+        Some(ty) => is_non_null(ty),
+        None => true,
+    }
 }
 
 // What `new` gives.
@@ -57,7 +67,7 @@ pub fn check(
         TypedExpr::Null(place) => Ok(null_literal(alloc, *place)),
         TypedExpr::This(place, class) => Ok(this_object(alloc, *place, *class)),
         TypedExpr::Local(place, local, ty) => Ok(local_read(alloc, known, *place, *local, *ty)),
-        TypedExpr::Result(place, ty) => Ok(plain(alloc, *place, *ty, true)),
+        TypedExpr::Result(place, ty) => Ok(plain(alloc, *place, *ty, is_set_result(*ty))),
         TypedExpr::Bound(place, _) => Ok(value(alloc, *place, Ty::Int)),
         TypedExpr::Iff(place, a, b) => {
             check(alloc, site, known, found, a)?;

@@ -46,8 +46,12 @@ is_non_null_type (Some t) = is_non_null t
 abbrev pub field_is_set : Site → Option Known → ExprTree → ℕ → Bool
 field_is_set s k e f = not s.constructs || not s.in_old && (not (is_this e) || has_its_field s k f)
 
--- The value isn't null by its type, or because it is a local that is known. `result` may stand in conditions alone, where no value is
--- handed over; what it is elsewhere another rule sees to.
+-- the result of a body that has none fits everything: where it may stand another rule sees to
+abbrev pub is_set_result : Option Ty → Bool
+is_set_result None = true
+is_set_result (Some t) = is_non_null t
+
+-- The value isn't null by its type, or because it is a local that is known.
 abbrev pub is_never_null : Site → Option Known → ExprTree → Bool
 is_never_null s k (ThisOf p t) = true
 is_never_null s k (LocalOf p x t) = is_non_null t || knows k x
@@ -59,7 +63,7 @@ is_never_null s k (NewArrayOf p t e) = true
 is_never_null s k (CallOf p e m t es) = is_non_null_type t
 is_never_null s k (StaticOf p n t es) = is_non_null_type t
 is_never_null s k (BaseOf p m t es) = is_non_null_type t
-is_never_null s k (ResultOf p t) = true
+is_never_null s k (ResultOf p t) = is_set_result t
 is_never_null s k e = false
 
 -- ---- along paths

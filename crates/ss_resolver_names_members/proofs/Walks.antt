@@ -69,14 +69,14 @@ member_read : (s : Scope) (e : ExprTree) (n : NameTree) → settled s e ++ pendi
     → settled s e ++ dotted s (prefix s e) n (prefix_receiver s (prefix s e)) ++ member_pending (bare_place (prefix s e)) (prefix_receiver s (prefix s e))
     ≡ before_dot (prefix_receiver s (prefix s e)) (expr_faults s e) ++ read_faults s n (prefix_receiver s (prefix s e))
 member_read s (NameOf p m) n h = name_read s p m n (name_receiver s m (name_type s m)) (bare s m (name_type s m))
-member_read s (BaseOf p) n h = append-nil _
+member_read s (BaseOf p) n h = refl
 member_read s e n h = value_read (settled s e) (pending s (prefix s e)) (no_member s n (prefix_value s (prefix s e))) (expr_faults s e) h
 
 member_is_called : (s : Scope) (e : ExprTree) (n : NameTree) → settled s e ++ pending s (prefix s e) ≡ expr_faults s e
     → settled s e ++ dotted s (prefix s e) n (prefix_receiver s (prefix s e)) ++ member_called s (bare_place (prefix s e)) n (prefix_receiver s (prefix s e))
     ≡ called_faults s n (prefix_receiver s (prefix s e)) (before_dot (prefix_receiver s (prefix s e)) (expr_faults s e) ++ read_faults s n (prefix_receiver s (prefix s e)))
 member_is_called s (NameOf p m) n h = name_called s p m n (name_receiver s m (name_type s m)) (bare s m (name_type s m))
-member_is_called s (BaseOf p) n h = append-nil _
+member_is_called s (BaseOf p) n h = refl
 member_is_called s e n h = value_read (settled s e) (pending s (prefix s e)) (no_member s n (prefix_value s (prefix s e))) (expr_faults s e) h
 
 mutual

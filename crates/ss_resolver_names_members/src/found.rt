@@ -2,7 +2,7 @@
 
 ghost use Rattle.std.specs.Prelude.{◌≡◌, ◌++◌, OnOk};
 ghost use Rattle.ss_ast.specs.Expressions.{type_tree, type_name_tree, name_tree};
-ghost use Rattle.ss_tables.specs.Statics.{AClass};
+ghost use Rattle.ss_tables.specs.Statics.{TheBase, AClass};
 ghost use Rattle.ss_resolver_names_rules.specs.Faults.{fault, unless, class_faults, type_name_faults, type_faults};
 ghost use Rattle.ss_resolver_names_rules.specs.Prefixes.{pending, called, asked, dotted, unknown_at, member_pending, member_called};
 ghost use Rattle.ss_tables_scopes.specs.Views.{scope_of, receiver_of};
@@ -135,6 +135,21 @@ pub fn add_pending(
     }
 }
 
+// A method behind `base`.
+fn add_base_called(
+    within: Within<'_, '_>,
+    locals: &Scopes,
+    faults: &mut Vec<Fault>,
+    bare: Option<Place>,
+    name: &Name,
+) -> Result<(), AllocError>
+    ensures { OnOk result (faults.new.items ≡ faults.old.items ++ member_called (scope_of within.entry locals.now) bare (name_tree name.now) TheBase) }
+{
+    let text = name.text.as_str();
+    let known = is_state_word(text) || is_inherited(within.tables, within.class, text);
+    add_unless(faults, known, Rule::Unknown, name.place)
+}
+
 // A method behind a class.
 fn add_class_called(
     within: Within<'_, '_>,
@@ -176,11 +191,10 @@ pub fn add_called(
         Prefix::Member(bare, Receiver::Class(class), name) => {
             add_class_called(within, locals, faults, bare, class, name)
         }
-        Prefix::Member(
-            _,
-            Receiver::Console | Receiver::Owner | Receiver::Base | Receiver::Value(_),
-            _,
-        )
+        Prefix::Member(bare, Receiver::Base, name) => {
+            add_base_called(within, locals, faults, bare, name)
+        }
+        Prefix::Member(_, Receiver::Console | Receiver::Owner | Receiver::Value(_), _)
         | Prefix::Base
         | Prefix::Value(_) => Ok(()),
     }
@@ -217,11 +231,7 @@ pub fn add_dotted(
     match receiver {
         Receiver::Console => add_unless(faults, is_print(text), Rule::Unknown, name.place),
         Receiver::Owner => add_unless(faults, is_owner_word(text), Rule::Unknown, name.place),
-        Receiver::Base => {
-            let known = is_state_word(text) || is_inherited(within.tables, within.class, text);
-            add_unless(faults, known, Rule::Unknown, name.place)
-        }
-        Receiver::Class(_) => Ok(()),
+        Receiver::Base | Receiver::Class(_) => Ok(()),
         Receiver::Value(ty) => {
             add_pending(within, locals, faults, prefix)?;
             let known = is_state_word(text) || has_member(within.tables, text, class_of_type(ty));

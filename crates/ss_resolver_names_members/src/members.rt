@@ -2,7 +2,7 @@
 
 ghost use Rattle.std.specs.Prelude.{◌≡◌, ◌++◌, ◌<◌, true, length, map, OnOk, option_map};
 ghost use Rattle.ss_ast.specs.Expressions.{expr_tree, type_tree};
-ghost use Rattle.ss_ast.specs.Statements.{declarator_tree};
+ghost use Rattle.ss_ast.specs.Statements.{declarator_tree, block_tree};
 ghost use Rattle.ss_ast.specs.Programs.{param_tree, modified_tree, clause_tree, base_call_tree, member_kind_tree, member_tree};
 ghost use Rattle.ss_tables.specs.Types.{written_type};
 ghost use Rattle.ss_tables.specs.Scopes.{declare, declare_params, class_scope};
@@ -10,7 +10,7 @@ ghost use Rattle.ss_resolver_names_rules.specs.Faults.{type_faults, twice_in};
 ghost use Rattle.ss_tables_scopes.specs.Names.{Names};
 ghost use Rattle.ss_tables.specs.Statics.{result_type};
 ghost use Rattle.ss_tables_lookup.specs.Views.{type_of};
-ghost use Rattle.ss_resolver_names_rules.specs.Members.{params_faults, modified_expr, modified_faults, clause_faults, clauses_faults, written_type_faults, base_faults, initials_faults, kind_faults, members_faults};
+ghost use Rattle.ss_resolver_names_rules.specs.Members.{params_faults, modified_expr, modified_faults, clause_faults, clauses_faults, written_type_faults, base_faults, initials_faults, with_outcome, body_faults, kind_faults, members_faults};
 ghost use Rattle.ss_tables_scopes.specs.Views.{scope_of};
 ghost use Rattle.ss_tables_lookup.specs.Classes.{trees};
 
@@ -18,8 +18,8 @@ use crate::found::check_type;
 use crate::stmts::{check_all, check_any, check_block, check_local};
 use crate::walk::check;
 use ss_ast::{
-    BaseCall, Clause, Constructor, Declarator, Expr, Member, MemberKind, Method, Modified, Param,
-    TypeRef,
+    BaseCall, Block, Clause, Constructor, Declarator, Expr, Member, MemberKind, Method, Modified,
+    Param, TypeRef,
 };
 use ss_faults::Fault;
 use ss_resolver_scoping::declare_param;
@@ -88,7 +88,7 @@ fn check_modified(
 
 // The same place, where `result` has this type.
 fn with_outcome<'t, 'p>(within: Within<'t, 'p>, outcome: Option<StaticType>) -> Within<'t, 'p>
-    ensures { (names : Names) → scope_of result names ≡ record (scope_of within.entry names) { outcome = option_map type_of outcome } }
+    ensures { (names : Names) → scope_of result names ≡ with_outcome (scope_of within.entry names) (option_map type_of outcome) }
 {
     Within {
         tables: within.tables,
@@ -102,19 +102,13 @@ fn check_clause(
     within: Within<'_, '_>,
     locals: &mut Scopes,
     faults: &mut Vec<Fault>,
-    outcome: Option<StaticType>,
     clause: &Clause,
 ) -> Result<(), AllocError>
-    ensures noted { OnOk result (faults.new.items ≡ faults.old.items ++ clause_faults (scope_of within.entry locals.old) (option_map type_of outcome) (clause_tree clause.now)) }
+    ensures noted { OnOk result (faults.new.items ≡ faults.old.items ++ clause_faults (scope_of within.entry locals.old) (clause_tree clause.now)) }
     ensures kept { OnOk result (locals.new ≡ locals.old) }
 {
     match clause {
-        Clause::Requires(e) => {
-            check(alloc, within, locals, faults, e)?;
-            Ok(())
-        }
-        Clause::Ensures(e) => {
-            let within = with_outcome(within, outcome);
+        Clause::Requires(e) | Clause::Ensures(e) => {
             check(alloc, within, locals, faults, e)?;
             Ok(())
         }
@@ -127,14 +121,13 @@ fn check_clauses(
     within: Within<'_, '_>,
     locals: &mut Scopes,
     faults: &mut Vec<Fault>,
-    outcome: Option<StaticType>,
     clauses: &[Clause],
 ) -> Result<(), AllocError>
-    ensures noted { OnOk result (faults.new.items ≡ faults.old.items ++ clauses_faults (scope_of within.entry locals.old) (option_map type_of outcome) (map clause_tree clauses.now)) }
+    ensures noted { OnOk result (faults.new.items ≡ faults.old.items ++ clauses_faults (scope_of within.entry locals.old) (map clause_tree clauses.now)) }
     ensures kept { OnOk result (locals.new ≡ locals.old) }
 {
     for clause in clauses {
-        check_clause(alloc, within, locals, faults, outcome, clause)?;
+        check_clause(alloc, within, locals, faults, clause)?;
     }
     Ok(())
 }
@@ -193,6 +186,26 @@ fn check_initials(
     Ok(())
 }
 
+// The parameters, the contract and the body.
+fn check_body(
+    alloc: Global,
+    within: Within<'_, '_>,
+    locals: &mut Scopes,
+    faults: &mut Vec<Fault>,
+    params: &[Param],
+    base: &Option<BaseCall>,
+    clauses: &[Clause],
+    block: &Block,
+) -> Result<(), AllocError>
+    ensures { OnOk result (faults.new.items ≡ faults.old.items ++ body_faults (scope_of within.entry locals.old) (map param_tree params.now)
+        (option_map base_call_tree base.now) (map clause_tree clauses.now) (block_tree block.now)) }
+{
+    check_params(alloc, within, locals, faults, params)?;
+    check_base(alloc, within, locals, faults, base)?;
+    check_clauses(alloc, within, locals, faults, clauses)?;
+    check_block(alloc, within, locals, faults, block)
+}
+
 fn check_method(
     alloc: Global,
     within: Within<'_, '_>,
@@ -203,10 +216,18 @@ fn check_method(
     ensures { OnOk result (faults.new.items ≡ faults.old.items ++ kind_faults (scope_of within.entry locals.old) (member_kind_tree (MemberKind.Method method.now))) }
 {
     check_result(within.tables, faults, &method.returns)?;
-    check_params(alloc, within, locals, faults, &method.params)?;
     let outcome = result_type(within.tables, &method.returns);
-    check_clauses(alloc, within, locals, faults, outcome, &method.clauses)?;
-    check_block(alloc, within, locals, faults, &method.body)
+    let inner = with_outcome(within, outcome);
+    check_body(
+        alloc,
+        inner,
+        locals,
+        faults,
+        &method.params,
+        &None,
+        &method.clauses,
+        &method.body,
+    )
 }
 
 fn check_constructor(
@@ -218,10 +239,16 @@ fn check_constructor(
 ) -> Result<(), AllocError>
     ensures { OnOk result (faults.new.items ≡ faults.old.items ++ kind_faults (scope_of within.entry locals.old) (member_kind_tree (MemberKind.Constructor constructor.now))) }
 {
-    check_params(alloc, within, locals, faults, &constructor.params)?;
-    check_base(alloc, within, locals, faults, &constructor.base)?;
-    check_clauses(alloc, within, locals, faults, None, &constructor.clauses)?;
-    check_block(alloc, within, locals, faults, &constructor.body)
+    check_body(
+        alloc,
+        within,
+        locals,
+        faults,
+        &constructor.params,
+        &constructor.base,
+        &constructor.clauses,
+        &constructor.body,
+    )
 }
 
 // A member, in which no local stands before.

@@ -25,7 +25,7 @@ use ss_resolver_scoping::{
     type_of_as, type_of_cast, type_of_element,
 };
 use ss_tables_lookup::StaticType;
-use ss_tables_scopes::{LocalInfo, Scopes, Within, call_type};
+use ss_tables_scopes::{LocalInfo, Scopes, Within, call_type, called_with, count};
 use std::alloc::{AllocError, Global};
 
 // A dot and a name behind the beginning of a path.
@@ -341,7 +341,8 @@ fn walk_postfix<'a>(
         }
         Postfix::Call(arguments) => {
             add_called(within, locals, faults, before)?;
-            let ty = call_type(within.tables, prefix_callee(within, locals, before));
+            let callee = called_with(count(arguments), prefix_callee(within, locals, before));
+            let ty = call_type(within.tables, callee);
             let asked = prefix_asked(before);
             check_arguments(alloc, within, locals, faults, asked, arguments)?;
             Ok(Prefix::Value(ty))

@@ -1,8 +1,7 @@
-//! What is in scope along a source: the beginning of a path with what may stand behind it, the types of its parts, the locals of
-//! declarations, and the ends of statements that can be reached.
+//! What is in scope along a source: the beginning of a path with what may stand behind it, the types of its parts, and the
+//! locals of declarations.
 #![tactic(auto)]
 
-mod ends;
 mod modifiers;
 mod names;
 mod prefix;
@@ -11,7 +10,6 @@ mod shapes;
 mod sums;
 mod types;
 
-pub use ends::reaches_end;
 pub use modifiers::{is_open, is_override, is_static};
 pub use names::{is_listed, note_name};
 pub use prefix::{
@@ -21,6 +19,6 @@ pub use prefix::{
 pub use scoping::{
     declare_declaration, declare_init, declare_local, declare_param, declare_params,
 };
-pub use shapes::{bare_name, is_path_to_this, is_this};
+pub use shapes::bare_name;
 pub use sums::plus;
 pub use types::{operation_type, type_of_as, type_of_cast, type_of_element};

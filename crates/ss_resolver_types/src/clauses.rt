@@ -63,7 +63,7 @@ fn check_term(
 {
     match term {
         Modified::All(e) => {
-            check_as(alloc, around, locals, found, Want::AReference, e)?;
+            check_as(alloc, around, locals, found, Want::OfClass(0), e)?;
             Ok(())
         }
         Modified::Elements(e) => {
@@ -90,7 +90,8 @@ fn check_terms(
     Ok(())
 }
 
-fn type_of_result(outcome: Outcome) -> Option<StaticType>
+/// The type of `result`.
+pub fn type_of_result(outcome: Outcome) -> Option<StaticType>
     ensures { option_map type_of result ≡ type_of_result (outcome_of outcome) }
 {
     match outcome {
@@ -108,7 +109,7 @@ fn gives_none(outcome: Outcome) -> bool
     }
 }
 
-// `ensures`, in which `result` is what the body gives.
+// `ensures`, in which `result` is a fault where the body has none.
 fn check_ensures(
     alloc: Global,
     body: &Body<'_, '_>,
@@ -119,13 +120,8 @@ fn check_ensures(
     ensures noted { OnOk result (found.new.items ≡ found.old.items ++ faults_as (after (body_of body.now) (scope_of body.now.within locals.old)) ABool (expr_tree e.now)) }
     ensures same { OnOk result (locals.new ≡ locals.old) }
 {
-    let within = Within {
-        tables: body.within.tables,
-        class: body.within.class,
-        outcome: type_of_result(body.outcome),
-    };
     let around = Around {
-        within,
+        within: body.within,
         is_static: body.is_static,
         in_condition: true,
         lacks_result: gives_none(body.outcome),

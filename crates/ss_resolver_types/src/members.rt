@@ -8,19 +8,20 @@ ghost use Rattle.ss_ast.specs.Programs.{param_tree, clause_tree, base_call_tree,
 ghost use Rattle.ss_tables.specs.Members.{is_static_word, word_of};
 ghost use Rattle.ss_tables.specs.Scopes.{param_scope, behind};
 ghost use Rattle.ss_tables_lookup.specs.Classes.{trees};
+ghost use Rattle.ss_tables_lookup.specs.Views.{type_of};
 ghost use Rattle.ss_tables_scopes.specs.Views.{scope_of};
 ghost use Rattle.ss_resolver_types_expressions.specs.Faults.{bad_type};
 ghost use Rattle.ss_resolver_types_expressions.specs.Wants.{ABool};
 ghost use Rattle.ss_resolver_types_expressions.specs.Expressions.{faults_as, mark_faults};
 ghost use Rattle.ss_resolver_types_expressions.specs.Statements.{block_faults};
-ghost use Rattle.ss_resolver_types_expressions.specs.Members.{surplus_words, clauses_faults, outcome_of, end_faults, constructor_body, base_faults, written_base, block_calls_base, outermost_faults, constructor_stmts, constructor_block, constructor_faults, title_faults, implied_base, kind_faults, method_body, method_faults, fields_faults, in_class, member_faults};
+ghost use Rattle.ss_resolver_types_expressions.specs.Members.{surplus_words, clauses_faults, outcome_of, type_of_result, method_scope, end_faults, constructor_body, base_faults, written_base, block_calls_base, outermost_faults, constructor_stmts, constructor_block, constructor_faults, title_faults, implied_base, kind_faults, method_body, method_faults, fields_faults, in_class, member_faults};
 ghost use Rattle.ss_resolver_types_expressions.specs.Members.{base_call as spec_base_call, is_first_assignment};
 ghost use Rattle.ss_resolver_types_expressions.specs.Codes.{around_of};
 ghost use Rattle.ss_resolver_types.specs.Bodies as bodies;
 
 use crate::bases::{base_call, calls_base, is_first_assignment};
 use crate::body::{Body, Outcome};
-use crate::clauses::{check_clauses, declare_params, note_params, note_result};
+use crate::clauses::{check_clauses, declare_params, note_params, note_result, type_of_result};
 use crate::simple::check_initial;
 use crate::stmts::{check_block, check_stmt};
 use ss_ast::{
@@ -188,10 +189,10 @@ fn check_inner(
     found: &mut Vec<Fault>,
     method: &Method,
 ) -> Result<(), AllocError>
-    requires { body.now.within.outcome ≡ None }
+    requires { option_map type_of body.now.within.outcome ≡ type_of_result (bodies.outcome_of body.now.outcome) }
     ensures { OnOk result (found.new.items ≡ found.old.items
-        ++ (clauses_faults (bodies.body_of body.now) (param_scope (trees body.now.within.tables.now) body.now.within.class (map param_tree method.now.params.items)) (map clause_tree method.now.clauses.items)
-        ++ block_faults (bodies.body_of body.now) (param_scope (trees body.now.within.tables.now) body.now.within.class (map param_tree method.now.params.items)) (block_tree method.now.body))) }
+        ++ (clauses_faults (bodies.body_of body.now) (method_scope (trees body.now.within.tables.now) body.now.within.class (bodies.body_of body.now) (map param_tree method.now.params.items)) (map clause_tree method.now.clauses.items)
+        ++ block_faults (bodies.body_of body.now) (method_scope (trees body.now.within.tables.now) body.now.within.class (bodies.body_of body.now) (map param_tree method.now.params.items)) (block_tree method.now.body))) }
 {
     let mut locals = Scopes::new(alloc);
     declare_params(alloc, body.within, &mut locals, &method.params)?;
@@ -212,14 +213,15 @@ fn check_method(
         ++ method_faults (trees tables.now) class (method_body (trees tables.now) words.now (option_map type_tree method.now.returns)) (option_map type_tree method.now.returns)
         (map param_tree method.now.params.items) (map clause_tree method.now.clauses.items) (block_tree method.now.body)) }
 {
+    let outcome = outcome_of(tables, &method.returns);
     let body = Body {
         within: Within {
             tables,
             class,
-            outcome: None,
+            outcome: type_of_result(outcome),
         },
         is_static: is_static(words),
-        outcome: outcome_of(tables, &method.returns),
+        outcome,
     };
     note_result(found, &method.returns)?;
     note_params(found, &method.params)?;

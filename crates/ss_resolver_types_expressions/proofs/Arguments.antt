@@ -3,12 +3,13 @@ use Rattle.std.proofs.Common.{◌≡◌, ◌++◌, ◌<◌, ◌≤◌, ◌+◌, 
 use Rattle.std.specs.Prelude.{slice_get, not, ◌&&◌}
 use Rattle.ss_ast.specs.Expressions.{ExprTree, Arguments, NoMore, Argument, arguments, expr_tree}
 use Rattle.ss_ast.specs.declared.expr.Expr.{Expr}
+use Rattle.ss_tables.specs.Statics.{count}
 use Rattle.ss_faults.specs.declared.Fault.{Fault}
 use Rattle.ss_resolver_types_expressions.specs.Faults.{bad_type, call_in_condition, fault_where}
 use Rattle.ss_resolver_types_expressions.specs.Wants.{Want, Printable, ClassName, bare, place_within}
 use Rattle.ss_core.specs.declared.names.Place.{Place}
 use Rattle.ss_resolver_types_expressions.specs.Calls.{Around, Called, whole_call, is_wrong_call, argument_wants}
-use Rattle.ss_resolver_types_expressions.specs.Expressions.{argument_faults, argument_where, argument, wanted, count, is_name, is_text, condition_faults}
+use Rattle.ss_resolver_types_expressions.specs.Expressions.{argument_faults, argument_where, argument, wanted, is_name, is_text, condition_faults}
 use Rattle.ss_resolver_types_expressions.specs.Heads.{names_class, is_printed, call_faults}
 use Rattle.ss_resolver_types_expressions.proofs.Endings.{joined}
 use Rattle.ss_resolver_types_expressions.proofs.Loops.{drop_item, drop_past}
@@ -61,10 +62,6 @@ pub value_argument : (a : Around) (w : Want) (e : ExprTree) (within : List Fault
 value_argument a ClassName e within h k = absurd cc
 value_argument a Printable e within h k = ap (λ b. cond b [] (wanted a Printable e within)) k
 value_argument a w e within h k = refl
-
-pub count_is : (xs : List ExprTree) → count (arguments xs) ≡ length xs
-count_is [] = refl
-count_is (x ∷ xs) = ap (λ n. n + 1) (count_is xs) ∙ add-one (length xs)
 
 -- ---- calls
 

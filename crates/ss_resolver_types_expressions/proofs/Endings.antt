@@ -7,12 +7,12 @@ use Rattle.ss_ast.specs.Expressions.{NameTree, TypeTree, ExprTree, Arguments, Be
 use Rattle.ss_core.specs.declared.names.Ty.TheVariants as ty
 use Rattle.ss_tables.specs.Types.{class_of, element_type}
 use Rattle.ss_tables.specs.Scopes.{Scope}
-use Rattle.ss_tables.specs.Statics.{Callee, callee, operation_type, receiver, static}
+use Rattle.ss_tables.specs.Statics.{Callee, callee, count, operation_type, receiver, static}
 use Rattle.ss_faults.specs.declared.Fault.{Fault}
 use Rattle.ss_resolver_types_expressions.specs.declared.heads.Form.TheVariants as form
 use Rattle.ss_resolver_types_expressions.specs.Wants.{Want, AnInt, AReference, AnArray, Known, known, misfit}
 use Rattle.ss_resolver_types_expressions.specs.Calls.{Around, Called, called, whole_call, argument_wants}
-use Rattle.ss_resolver_types_expressions.specs.Expressions.{AsValue, BeforeDot, AsCallee, faults, faults_as, word_faults, is_question, operand, operand_faults, count, no_class, condition_faults, argument_faults}
+use Rattle.ss_resolver_types_expressions.specs.Expressions.{AsValue, BeforeDot, AsCallee, faults, faults_as, word_faults, is_question, operand, operand_faults, no_class, condition_faults, argument_faults}
 use Rattle.ss_resolver_types_expressions.proofs.Loops.{take_item, map_append}
 use Rattle.ss_resolver_types_expressions.specs.Heads.{Head, AMember, AValueOf, ending, value_at, known_at, receiver_at, callee_at, called_at, rest_read, rest_dot, rest_as, IsWalked, Leads, dotted, dot_faults, element, call, call_faults, class_test_faults, as_type}
 
@@ -113,10 +113,10 @@ element_walked a before f0 f1 f2 h out e i p o w q r = record {
 }
 
 pub call_walked : (a : Around) (before f0 f1 : List Fault) (h out : Head) (f : ExprTree) (p : Place) (es : Arguments)
-    → out ≡ call a.scope.classes p (callee_at a.scope h) → IsWalked a before f0 h f → f1 ≡ f0 ++ call_faults a p (not (is_question (callee_at a.scope h))) (called_at a (count es) h) es
+    → out ≡ call a.scope.classes p (count es) (callee_at a.scope h) → IsWalked a before f0 h f → f1 ≡ f0 ++ call_faults a p (not (is_question (callee_at a.scope h))) (called_at a (count es) h) es
     → IsWalked a before f1 out (CallOf p f es)
 call_walked a before f0 f1 h out f p es o w q = record {
-  is = o ∙ ap (call a.scope.classes p) same_callee;
+  is = o ∙ ap (call a.scope.classes p (count es)) same_callee;
   noted =
       joined before f0 f1 (faults a AsCallee f) (call_faults a p (not (is_question (callee_at a.scope h))) (called_at a (count es) h) es) w.noted q
       ∙ ap (λ c. before ++ (faults a AsCallee f ++ call_faults a p (not (is_question c)) (called_at a (count es) h) es)) same_callee
@@ -164,9 +164,9 @@ element_leads a f0 f1 f2 h out p i o q r = record { on = λ e before w. element_
 
 pub call_leads : (a : Around) (f0 f1 : List Fault) (h out : Head) (p : Place) (es : Arguments) (k : Callee) (b : Bool) (d : Called) (n : ℕ)
     → k ≡ callee_at a.scope h → b ≡ is_question k → n ≡ count es → d ≡ called_at a n h
-    → out ≡ call a.scope.classes p k → f1 ≡ f0 ++ call_faults a p (not b) d es → Leads a f0 h f1 out (λ e. CallOf p e es)
+    → out ≡ call a.scope.classes p n k → f1 ≡ f0 ++ call_faults a p (not b) d es → Leads a f0 h f1 out (λ e. CallOf p e es)
 call_leads a f0 f1 h out p es k b d n k_is b_is n_is d_is o q =
-    let made = o ∙ ap (call a.scope.classes p) k_is in
+    let made = o ∙ ap (λ m. call a.scope.classes p m k) n_is ∙ ap (call a.scope.classes p (count es)) k_is in
     let found =
     q ∙ ap (λ x. f0 ++ call_faults a p (not x) d es) (b_is ∙ ap is_question k_is)
     ∙ ap (λ x. f0 ++ call_faults a p (not (is_question (callee_at a.scope h))) x es) (d_is ∙ ap (λ m. called_at a m h) n_is) in

@@ -11,7 +11,7 @@ use Rattle.ss_tables.specs.Members.{FieldTree, MethodTree, ConstructorTree, cons
 use Rattle.ss_tables.specs.Classes.{Declared, above, members_at, field_of, method_of, inherited_field, inherited_method, is_array_number, declared_place}
 use Rattle.ss_tables.specs.Types.{written_type, class_of}
 use Rattle.ss_tables.specs.Scopes.{Scope, local_named}
-use Rattle.ss_tables.specs.Statics.{Receiver, TheConsole, TheOwner, TheBase, AClass, AValue, receiver, static}
+use Rattle.ss_tables.specs.Statics.{Receiver, TheConsole, TheOwner, TheBase, AClass, AValue, is_of_kind, may_have_levels, receiver, static}
 use Rattle.ss_faults.specs.declared.Fault.{Fault}
 use Rattle.ss_resolver_types_expressions.specs.Faults.{bad_type, fault_where}
 use Rattle.ss_resolver_types_expressions.specs.Wants.{Want, AReference, OfType, Printable, ClassName, Known, known}
@@ -59,10 +59,6 @@ pub data Called : Type 0 where
   Refused : Called
   -- a call of something unknown, of which nothing is said
   Unknown : Called
-
-abbrev pub is_of_kind : Bool → MethodTree → Bool
-is_of_kind true m = is_static m
-is_of_kind false m = not (is_static m)
 
 -- a method that has to be static, or not to be
 abbrev pub taking : List ClassTree → Bool → Declared MethodTree → Called
@@ -135,11 +131,15 @@ called_on_object cs n (Some c) =
 abbrev pub class_of_known : Known → Option ℕ
 class_of_known v = option_and_then class_of v.ty
 
+-- what has no value has no level either
+abbrev pub asks_level : Known → Called
+asks_level v = if not v.is_nothing && may_have_levels v.ty then Taking (ClassName ∷ []) else Refused
+
 -- a state word is a question about a value, and has `()` where it asks for a class
 abbrev pub called_value : List ClassTree → Known → List ℕ → Called
 called_value cs v n =
     if is_state_read n then Refused
-    else if is_state_call n then Taking (ClassName ∷ [])
+    else if is_state_call n then asks_level v
     else if has_no_members v then Refused
     else called_on_object cs n (class_of_known v)
 

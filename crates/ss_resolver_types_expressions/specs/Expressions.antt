@@ -10,7 +10,7 @@ use Rattle.ss_tables.specs.Words.{is_state_read, is_state_call, is_state_word}
 use Rattle.ss_tables.specs.Classes.{class_named, field_of, method_of, declared_place}
 use Rattle.ss_tables.specs.Types.{class_of}
 use Rattle.ss_tables.specs.Scopes.{local_named, within_quantifier}
-use Rattle.ss_tables.specs.Statics.{Receiver, TheConsole, TheOwner, TheBase, AClass, AValue, receiver, callee, static, Callee, AMethod, APrint, AWord, ABase, NoCallee}
+use Rattle.ss_tables.specs.Statics.{Receiver, TheConsole, TheOwner, TheBase, AClass, AValue, receiver, callee, count, static, Callee, AMethod, APrint, AWord, ABase, NoCallee}
 use Rattle.ss_faults.specs.declared.Fault.{Fault}
 use Rattle.ss_resolver_types_expressions.specs.Faults.{bad_type, call_in_condition, fault_where}
 use Rattle.ss_resolver_types_expressions.specs.Wants.{Want, AnInt, ABool, AReference, AnArray, AnyValue, OfType, Printable, OfDeclared, OfClass, ClassName, Known, known, bare, place_within, are_alike, misfit, wrong}
@@ -134,9 +134,9 @@ is_wrong_read cs v n TheBase = true
 is_wrong_read cs v n (AClass k) = false
 is_wrong_read cs v n (AValue t) = is_no_read cs v n
 
--- a state word asks about a reference
+-- a state word that is read asks about a reference
 abbrev pub word_faults : List ClassTree → Known → List ℕ → Receiver → List Fault
-word_faults cs v n r = if is_value_receiver r && is_state_word n then misfit cs AReference v else []
+word_faults cs v n r = if is_value_receiver r && is_state_read n then misfit cs AReference v else []
 
 abbrev pub read_faults : List ClassTree → Place → Known → List ℕ → Receiver → List Fault
 read_faults cs p v n r = fault_where (is_wrong_read cs v n r) (bad_type p)
@@ -149,19 +149,15 @@ used_member cs AsCallee p v n r = []
 -- ---- calls
 
 abbrev pub is_question : Callee → Bool
-is_question AWord = true
+is_question (AWord n) = true
 is_question (AMethod m) = false
-is_question APrint = false
+is_question (APrint is_line) = false
 is_question ABase = false
 is_question NoCallee = false
 
 -- a call or a `new` in a condition; questions about states and owners are no calls
 abbrev pub condition_faults : Around → Place → Bool → List Fault
 condition_faults a p is_call = fault_where (a.in_condition && is_call) (call_in_condition p)
-
-abbrev pub count : Arguments → ℕ
-count NoMore = 0
-count (Argument e es) = count es + 1
 
 abbrev pub is_name : ExprTree → Bool
 is_name (NameOf p n) = true

@@ -7,14 +7,14 @@ use Rattle.ss_ast.specs.Expressions.{NameTree, TypeTree, ExprTree, Arguments, If
 use Rattle.ss_ast.specs.Programs.{ClassTree}
 use Rattle.ss_tables.specs.Types.{class_of, element_type, nullable, written_type}
 use Rattle.ss_tables.specs.Scopes.{Scope, within_quantifier}
-use Rattle.ss_tables.specs.Statics.{Receiver, TheBase, AValue, name_receiver, name_type, read_type, receiver, Callee, ABase, NoCallee, name_callee, member_callee, call_type, callee, cast_type, static}
+use Rattle.ss_tables.specs.Statics.{Receiver, TheBase, AValue, name_receiver, name_type, read_type, receiver, Callee, ABase, NoCallee, name_callee, member_callee, count, called_with, call_type, callee, cast_type, static}
 use Rattle.ss_faults.specs.declared.Fault.{Fault}
 use Rattle.ss_resolver_types_expressions.specs.declared.heads.Form.{Form}
 use Rattle.ss_resolver_types_expressions.specs.declared.heads.Form.TheVariants as form
 use Rattle.ss_resolver_types_expressions.specs.Faults.{bad_type}
 use Rattle.ss_resolver_types_expressions.specs.Wants.{Want, AnInt, ABool, AReference, AnArray, AnyValue, OfType, Printable, OfDeclared, OfClass, ClassName, Known, known, misfit, gives_nothing}
 use Rattle.ss_resolver_types_expressions.specs.Calls.{Around, Called, Refused, called_name, called_member, whole_call, argument_wants}
-use Rattle.ss_resolver_types_expressions.specs.Expressions.{AsCallee, name_faults, is_value_receiver, read_faults, word_faults, is_question, condition_faults, count, no_class, faults, argument_faults}
+use Rattle.ss_resolver_types_expressions.specs.Expressions.{AsCallee, name_faults, is_value_receiver, read_faults, word_faults, is_question, condition_faults, no_class, faults, argument_faults}
 
 pub data Head : Type 0 where
   ABareName : Place → List ℕ → Head
@@ -152,9 +152,9 @@ dot_faults a h n = rest_dot a h ++ word_faults a.scope.classes (known_at a.scope
 abbrev pub element : Scope → Place → Head → Head
 element s p h = AValueOf form.Element (value_at p (option_and_then element_type (option_and_then class_of (known_at s h).ty)))
 
--- a call of this
-abbrev pub call : List ClassTree → Place → Callee → Head
-call cs p c = AValueOf (form.Call (is_question c)) (record { place = p; ty = call_type cs c; is_nothing = gives_nothing c })
+-- a call of this with so many arguments
+abbrev pub call : List ClassTree → Place → ℕ → Callee → Head
+call cs p n c = AValueOf (form.Call (is_question c)) (record { place = p; ty = call_type cs (called_with n c); is_nothing = gives_nothing (called_with n c) })
 
 -- the faults of a call besides those of what is called
 abbrev pub call_faults : Around → Place → Bool → Called → Arguments → List Fault

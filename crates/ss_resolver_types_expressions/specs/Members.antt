@@ -11,12 +11,13 @@ use Rattle.ss_ast.specs.Programs.{ParamTree, ClassTree}
 use Rattle.ss_tables.specs.Members.{field_in, is_static_word, word_of}
 use Rattle.ss_tables.specs.Classes.{members_at}
 use Rattle.ss_tables.specs.Types.{written_type}
-use Rattle.ss_tables.specs.Scopes.{Scope, local_named, class_scope, param_scope, enter, behind}
+use Rattle.ss_tables.specs.Scopes.{Scope, local_named, class_scope, declare_params, param_scope, enter, behind}
+use Rattle.ss_tables.specs.Statics.{count}
 use Rattle.ss_faults.specs.declared.Fault.{Fault}
 use Rattle.ss_resolver_types_expressions.specs.Faults.{bad_type, no_return, fault_where}
-use Rattle.ss_resolver_types_expressions.specs.Wants.{ABool, AReference, AnArray, place_of}
+use Rattle.ss_resolver_types_expressions.specs.Wants.{ABool, AnArray, OfClass, place_of}
 use Rattle.ss_resolver_types_expressions.specs.Calls.{Around, Taking, base_wants, takes_nothing, argument_wants, whole_call}
-use Rattle.ss_resolver_types_expressions.specs.Expressions.{AsValue, faults, faults_as, argument_faults, count, mark_faults}
+use Rattle.ss_resolver_types_expressions.specs.Expressions.{AsValue, faults, faults_as, argument_faults, mark_faults}
 use Rattle.ss_resolver_types_expressions.specs.Ends.{block_reaches_end}
 use Rattle.ss_resolver_types_expressions.specs.Statements.{Outcome, Nothing, Gives, Body, in_code, is_target, initial_faults, stmt_faults, block_faults}
 
@@ -41,9 +42,9 @@ is_field_term s (NameOf p n) = is_none (local_named s n)
 is_field_term s (MemberOf p e n) = is_target s (MemberOf p e n)
 is_field_term s e = false
 
--- all fields of a reference, all elements of an array, or a field
+-- all fields of an object, which null isn't; all elements of an array; or a field
 abbrev pub term_faults : Around → ast.ModifiedTree → List Fault
-term_faults a (ast.AllOf e) = faults_as a AReference e
+term_faults a (ast.AllOf e) = faults_as a (OfClass 0) e
 term_faults a (ast.ElementsOf e) = faults_as a AnArray e
 term_faults a (ast.OneOf e) = faults a AsValue e ++ fault_where (not (is_field_term a.scope e)) (bad_type (place_of e))
 
@@ -59,12 +60,12 @@ abbrev pub gives_none : Outcome → Bool
 gives_none Nothing = true
 gives_none (Gives t) = false
 
--- every clause is a condition; `result` is for `ensures`
+-- every clause is a condition; where a body has no result, `result` is a fault of types in `ensures` alone
 abbrev pub before : Body → Scope → Around
 before b s = record { scope = s; is_static = b.is_static; in_condition = true; lacks_result = false }
 
 abbrev pub after : Body → Scope → Around
-after b s = record { scope = record s { outcome = type_of_result b.outcome }; is_static = b.is_static; in_condition = true; lacks_result = gives_none b.outcome }
+after b s = record { scope = s; is_static = b.is_static; in_condition = true; lacks_result = gives_none b.outcome }
 
 abbrev pub clause_faults : Body → Scope → ast.ClauseTree → List Fault
 clause_faults b s (ast.RequiresOf e) = faults_as (before b s) ABool e
@@ -99,10 +100,14 @@ end_faults r x = fault_where (is_some r && block_reaches_end x) (no_return (clos
 abbrev pub method_body : List ClassTree → List Modifier → Option TypeTree → Body
 method_body cs words r = record { is_static = is_static_word (word_of words); outcome = outcome_of cs r }
 
+-- the parameters are in scope in the contract and in the body, and `result` has its type
+abbrev pub method_scope : List ClassTree → ℕ → Body → List ParamTree → Scope
+method_scope cs k b ps = declare_params (record (class_scope cs k) { outcome = type_of_result b.outcome }) ps
+
 abbrev pub method_faults : List ClassTree → ℕ → Body → Option TypeTree → List ParamTree → List ast.ClauseTree → tree.BlockTree → List Fault
 method_faults cs k b r ps clauses x =
-    result_faults r ++ params_faults ps ++ clauses_faults b (param_scope cs k ps) clauses
-    ++ block_faults b (param_scope cs k ps) x ++ end_faults r x
+    result_faults r ++ params_faults ps ++ clauses_faults b (method_scope cs k b ps) clauses
+    ++ block_faults b (method_scope cs k b ps) x ++ end_faults r x
 
 -- ---- constructors
 

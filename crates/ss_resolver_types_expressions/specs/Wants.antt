@@ -8,7 +8,7 @@ use Rattle.ss_ast.specs.Programs.{ClassTree}
 use Rattle.ss_tables.specs.Classes.{chain, is_array_number, declared_place}
 use Rattle.ss_tables.specs.Types.{class_of}
 use Rattle.ss_tables.specs.Scopes.{Scope}
-use Rattle.ss_tables.specs.Statics.{Callee, AMethod, APrint, AWord, ABase, NoCallee, callee, static}
+use Rattle.ss_tables.specs.Statics.{Callee, AMethod, APrint, AWord, ABase, NoCallee, callee, count, called_with, static}
 use Rattle.ss_faults.specs.declared.Fault.{Fault}
 use Rattle.ss_resolver_types_expressions.specs.Faults.{bad_type, fault_where}
 
@@ -155,14 +155,14 @@ suits cs ClassName t = false
 
 abbrev pub gives_nothing : Callee → Bool
 gives_nothing (AMethod m) = is_none m.member.result
-gives_nothing APrint = true
-gives_nothing AWord = false
+gives_nothing (APrint is_line) = true
+gives_nothing (AWord n) = false
 gives_nothing ABase = false
 gives_nothing NoCallee = false
 
--- a call without a result
+-- a call without a result that isn't refused
 abbrev pub has_no_value : Scope → ExprTree → Bool
-has_no_value s (CallOf p f es) = gives_nothing (callee s f)
+has_no_value s (CallOf p f es) = gives_nothing (called_with (count es) (callee s f))
 has_no_value s (ParenOf p e) = has_no_value s e
 has_no_value s e = false
 

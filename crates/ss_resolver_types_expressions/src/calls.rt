@@ -2,24 +2,26 @@
 
 ghost use Rattle.std.specs.Prelude.{◌≡◌, List, map, option_map, length, slice_get, ◌∷◌, []};
 ghost use Rattle.ss_ast.specs.Programs.{ClassTree, param_tree};
-ghost use Rattle.ss_tables.specs.Members.{is_static};
 ghost use Rattle.ss_tables.specs.Classes.{class_named};
 ghost use Rattle.ss_tables_lookup.specs.Classes.{trees};
-ghost use Rattle.ss_tables_lookup.specs.Views.{type_of, method_tree, constructor_tree, declared_field, declared_method};
+ghost use Rattle.ss_tables_lookup.specs.Views.{type_of, constructor_tree, declared_field, declared_method};
 ghost use Rattle.ss_tables.specs.Types.{written_type};
 ghost use Rattle.ss_resolver_types_expressions.specs.Wants.{OfType};
-ghost use Rattle.ss_resolver_types_expressions.specs.Calls.{Taking, is_of_kind, params_of_first, taking, method_or_field, called_on_class, called_name, called_console, called_owner, called_base, is_memberless, has_no_members, called_on_object, called_value, called_member, constructed, base_wants, constructor_wants, param_wants, is_wrong_call, wants_of, called_method, class_of_known, takes_nothing};
+ghost use Rattle.ss_resolver_types_expressions.specs.Calls.{Taking, asks_level, params_of_first, taking, method_or_field, called_on_class, called_name, called_console, called_owner, called_base, is_memberless, has_no_members, called_on_object, called_value, called_member, constructed, base_wants, constructor_wants, param_wants, is_wrong_call, wants_of, called_method, class_of_known, takes_nothing};
 ghost use Rattle.ss_resolver_types_expressions.specs.Codes.{want_of, known_of, around_of, called_of, question_wants};
 ghost use Rattle.ss_tables_scopes.specs.Views.{receiver_of};
 
 use crate::around::Around;
 use crate::wants::{Known, Want};
-use ss_ast::{ModifierWord, Param};
+use ss_ast::Param;
 use ss_tables_lookup::{
     ConstructorRef, FieldRef, MethodRef, StaticType, Tables, class_of, declared_place,
     is_array_number,
 };
-use ss_tables_scopes::{Receiver, Scopes, is_length, is_state_call, is_state_read, is_state_word};
+use ss_tables_scopes::{
+    Receiver, Scopes, is_length, is_of_kind, is_state_call, is_state_read, is_state_word,
+    is_static, may_have_levels,
+};
 
 /// What is asked of objects, or written.
 #[derive(Clone, Copy, Debug, PartialEq, Eq)]
@@ -48,28 +50,6 @@ pub enum Called<'p> {
     Refused,
     /// A call of something unknown.
     Unknown,
-}
-
-fn is_static(method: MethodRef<'_>) -> bool
-    ensures { result ≡ is_static (method_tree method.entry) }
-{
-    match method.member.modifiers.first() {
-        Some(modifier) => match modifier.word {
-            ModifierWord::Static => true,
-            ModifierWord::Virtual | ModifierWord::Override => false,
-        },
-        None => false,
-    }
-}
-
-fn is_of_kind(wants_static: bool, method: MethodRef<'_>) -> bool
-    ensures { result ≡ is_of_kind wants_static (method_tree method.entry) }
-{
-    if wants_static {
-        is_static(method)
-    } else {
-        !is_static(method)
-    }
 }
 
 // A method that has to be static, or not to be.
@@ -250,6 +230,17 @@ pub fn class_of_known(known: Known) -> Option<usize>
     }
 }
 
+// A question about the level of a value.
+fn ask_level<'p>(known: Known) -> Called<'p>
+    ensures { (cs : List ClassTree) → called_of cs result ≡ asks_level (known_of known) }
+{
+    if !known.is_nothing && may_have_levels(known.ty) {
+        Called::Word(Question::AtClass)
+    } else {
+        Called::Refused
+    }
+}
+
 // A method or a state word of a value.
 fn call_value<'p>(tables: &Tables<'p>, known: Known, name: &str) -> Called<'p>
     ensures { called_of (trees tables.now) result ≡ called_value (trees tables.now) (known_of known) name.now }
@@ -258,7 +249,7 @@ fn call_value<'p>(tables: &Tables<'p>, known: Known, name: &str) -> Called<'p>
         return Called::Refused;
     }
     if is_state_call(name) {
-        return Called::Word(Question::AtClass);
+        return ask_level(known);
     }
     if has_no_members(known) {
         return Called::Refused;

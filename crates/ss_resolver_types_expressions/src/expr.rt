@@ -11,7 +11,7 @@ ghost use Rattle.ss_resolver_types_expressions.specs.Views.{link_behind, postfix
 ghost use Rattle.ss_resolver_types_expressions.specs.Faults.{call_in_condition, fault_where};
 ghost use Rattle.ss_resolver_types_expressions.specs.Wants.{AnInt, ABool, AReference, known, bare};
 ghost use Rattle.ss_resolver_types_expressions.specs.Calls.{wants_of, whole_call, argument_wants};
-ghost use Rattle.ss_resolver_types_expressions.specs.Expressions.{AsValue, AsCallee, faults, faults_as, argument_where, argument_faults, condition_faults, no_class, count, is_text};
+ghost use Rattle.ss_resolver_types_expressions.specs.Expressions.{AsValue, AsCallee, faults, faults_as, argument_where, argument_faults, condition_faults, no_class, is_text};
 ghost use Rattle.ss_resolver_types_expressions.specs.Heads.{ending, value_at, AValueOf, Leads, names_class, is_printed, within_bound, call, call_faults};
 ghost use Rattle.ss_resolver_types_expressions.specs.Codes.{want_of, known_of, around_of, called_of, head_of};
 
@@ -29,7 +29,7 @@ use ss_ast::{Expr, Link, Name, Operator, Postfix, TypeRef};
 use ss_core::Place;
 use ss_faults::Fault;
 use ss_tables_lookup::{StaticType, Tables};
-use ss_tables_scopes::{Callee, LocalInfo, Scopes, call_type, cast_type};
+use ss_tables_scopes::{Callee, LocalInfo, Scopes, call_type, called_with, cast_type, count};
 use std::alloc::{AllocError, Global};
 
 // An expression that isn't a path.
@@ -41,21 +41,15 @@ fn other<'e>(place: Place, ty: Option<StaticType>) -> Head<'e>
 
 // ---- calls
 
-// How many arguments there are.
-fn count(list: &[Expr]) -> usize
-    ensures { result ≡ count (arguments (map expr_tree list.now)) }
+// A call of this with so many arguments.
+fn call<'e>(tables: &Tables<'_>, place: Place, number: usize, callee: Callee<'_>) -> Head<'e>
+    ensures { head_of result ≡ call (trees tables.now) place number (callee_of callee.entry) }
 {
-    list.len()
-}
-
-// A call of this.
-fn call<'e>(tables: &Tables<'_>, place: Place, callee: Callee<'_>) -> Head<'e>
-    ensures { head_of result ≡ call (trees tables.now) place (callee_of callee.entry) }
-{
+    let called = called_with(number, callee);
     let known = Known {
         place,
-        ty: call_type(tables, callee),
-        is_nothing: gives_nothing(callee),
+        ty: call_type(tables, called),
+        is_nothing: gives_nothing(called),
     };
     Head::Value(Form::Call(is_question(callee)), known)
 }
@@ -499,7 +493,8 @@ fn walk_call<'e>(
     ensures same { OnOk result (locals.new ≡ locals.old) }
 {
     let callee = callee_at(around, locals, head);
-    let called = called_at(around, locals, count(list), head);
+    let number = count(list);
+    let called = called_at(around, locals, number, head);
     check_call(
         alloc,
         around,
@@ -510,7 +505,7 @@ fn walk_call<'e>(
         called,
         list,
     )?;
-    Ok(call(around.within.tables, place, callee))
+    Ok(call(around.within.tables, place, number, callee))
 }
 
 /// Notes the faults of a call besides those of what is called.

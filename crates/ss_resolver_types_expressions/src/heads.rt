@@ -21,8 +21,8 @@ use ss_core::Place;
 use ss_faults::Fault;
 use ss_tables_lookup::{StaticType, Tables, declared_place};
 use ss_tables_scopes::{
-    Callee, Receiver, Scopes, cast_type, is_state_call, is_state_read, is_state_word,
-    member_callee, name_callee, name_receiver, name_type, read_type,
+    Callee, Receiver, Scopes, cast_type, is_state_call, is_state_read, member_callee, name_callee,
+    name_receiver, name_type, read_type,
 };
 use std::alloc::AllocError;
 
@@ -152,7 +152,7 @@ fn note_word(
 ) -> Result<(), AllocError>
     ensures { OnOk result (found.new.items ≡ found.old.items ++ word_faults (trees tables.now) (known_of known) name.now (receiver_of receiver)) }
 {
-    if is_value(receiver) && is_state_word(name) {
+    if is_value(receiver) && is_state_read(name) {
         return note_misfit(tables, found, Want::AReference, known);
     }
     Ok(())

@@ -172,8 +172,8 @@ pub fn is_question(callee: Callee<'_>) -> bool
     ensures { result ≡ is_question (callee_of callee.entry) }
 {
     match callee {
-        Callee::Word => true,
-        Callee::Method(..) | Callee::Print | Callee::Base | Callee::Nothing => false,
+        Callee::Word(_) => true,
+        Callee::Method(..) | Callee::Print(_) | Callee::Base | Callee::Nothing => false,
     }
 }
 
@@ -183,7 +183,7 @@ pub fn gives_nothing(callee: Callee<'_>) -> bool
 {
     match callee {
         Callee::Method(_, method) => method.method.returns.is_none(),
-        Callee::Print => true,
-        Callee::Word | Callee::Base | Callee::Nothing => false,
+        Callee::Print(_) => true,
+        Callee::Word(_) | Callee::Base | Callee::Nothing => false,
     }
 }

@@ -7,14 +7,14 @@ ghost use Rattle.ss_core.specs.Tree.{ClassTree};
 ghost use Rattle.ss_core.specs.View as whole;
 ghost use Rattle.ss_typed.specs.View as typed;
 ghost use Rattle.ss_expand_rules.specs.Elaborated.{elaborated};
-ghost use Rattle.ss_second.specs.Second.{has_methods_alone, is_one_class, methods, narrowed, formed_alone, second_form};
+ghost use Rattle.ss_second.specs.Second.{has_methods_alone, is_one_class, are_plain_params, is_plain_body, are_plain_bodies, methods, narrowed, formed_alone, second_form};
 ghost use Rattle.ss_second.specs.Answers.{Answers};
 
 use crate::bodies::narrow_bodies;
 use crate::stop::FormStop;
 use ss_core::{Body, BodyId, Class};
 use ss_second_formed::is_formed;
-use ss_typed::{Typed, TypedClass};
+use ss_typed::{Typed, TypedBody, TypedClass, TypedParam};
 use std::alloc::{AllocError, Global};
 
 // Whether no constructor, no field and no invariant is written in the class.
@@ -32,6 +32,36 @@ fn is_one_class(classes: &[TypedClass]) -> bool
         [class] => has_methods_alone(class),
         _ => false,
     }
+}
+
+// Whether no parameter has an attribute.
+fn are_plain_params(params: &[TypedParam]) -> bool
+    ensures { result ≡ are_plain_params (map typed.param params.now) }
+{
+    for param in params {
+        if !param.attributes.is_empty() {
+            return false;
+        }
+    }
+    true
+}
+
+fn is_plain_body(body: &TypedBody) -> bool
+    ensures { result ≡ is_plain_body (typed.body body.now) }
+{
+    body.attributes.is_empty() && are_plain_params(&body.params)
+}
+
+// Whether no written body and no parameter of it has an attribute.
+fn are_plain_bodies(bodies: &[TypedBody]) -> bool
+    ensures { result ≡ are_plain_bodies (map typed.body bodies.now) }
+{
+    for body in bodies {
+        if !is_plain_body(body) {
+            return false;
+        }
+    }
+    true
 }
 
 // The methods, which stand behind the constructor.
@@ -81,7 +111,7 @@ pub fn second_form(
     ensures exact { Answers core.core (second_form (typed.typed program.now)) result }
     ensures formed { IfOk result (λ c. IsFormed (core.core c)) }
 {
-    if !is_one_class(&program.members) {
+    if !is_one_class(&program.members) || !are_plain_bodies(&program.bodies) {
         return Err(FormStop::NotOfForm);
     }
     let narrowed = narrow(alloc, elaboration)?;

@@ -1,14 +1,15 @@
 -- The static type that the form of an expression gives it, whatever its parts are: `a + b` is an `int`. None where a value has
 -- none, where a name is unknown, or where a part has not the form that is wanted.
-use Rattle.std.specs.Prelude.{ℕ, Bool, true, List, Option, Some, None, option_and_then, option_map, is_some, ◌||◌, if◌then◌else◌}
+use Rattle.std.specs.Prelude.{ℕ, ◌+◌, ◌==◌, Bool, true, false, not, List, length, Option, Some, None, option_and_then, option_map, is_some, ◌&&◌, ◌||◌, codes, if◌then◌else◌}
+use Rattle.std.specs.Str.{bytes_eq}
 use Rattle.ss_core.specs.declared.names.Ty.{Ty}
 use Rattle.ss_core.specs.declared.names.Ty.TheVariants as ty
 use Rattle.ss_ast.specs.declared.expr.Operator.{Operator}
 use Rattle.ss_ast.specs.declared.expr.Operator.TheVariants as op
-use Rattle.ss_ast.specs.Expressions.{TypeTree, ExprTree, IffOf, ImpliesOf, BinaryOf, IsOf, AsOf, NegateOf, NotOf, CastOf, MemberOf, ElementOf, CallOf, NumberOf, TextOf, TruthOf, NullOf, ThisOf, BaseOf, ResultOf, NameOf, ParenOf, OldOf, NewOf, NewArrayOf, QuantifiedOf}
+use Rattle.ss_ast.specs.Expressions.{TypeTree, ExprTree, Arguments, NoMore, Argument, IffOf, ImpliesOf, BinaryOf, IsOf, AsOf, NegateOf, NotOf, CastOf, MemberOf, ElementOf, CallOf, NumberOf, TextOf, TruthOf, NullOf, ThisOf, BaseOf, ResultOf, NameOf, ParenOf, OldOf, NewOf, NewArrayOf, QuantifiedOf}
 use Rattle.ss_ast.specs.Programs.{ClassTree}
-use Rattle.ss_tables.specs.Words.{is_console, is_owner, is_print, is_owner_word, is_state_read, is_state_call, is_length}
-use Rattle.ss_tables.specs.Members.{FieldTree, MethodTree}
+use Rattle.ss_tables.specs.Words.{is_console, is_owner, is_print, is_owner_word, is_state_read, is_state_call, is_state_word, is_length}
+use Rattle.ss_tables.specs.Members.{FieldTree, MethodTree, is_static}
 use Rattle.ss_tables.specs.Classes.{Declared, class_named, field_of, method_of, inherited_method, class_number, is_array_number, declared_place}
 use Rattle.ss_tables.specs.Types.{reference, array_type, written_type, class_of, element_type, nullable}
 use Rattle.ss_tables.specs.Scopes.{Local, Scope, local_named}
@@ -114,10 +115,10 @@ read_type cs n (AValue t) =
 pub data Callee : Type 0 where
   -- a method, with the class that declares it
   AMethod : Declared MethodTree → Callee
-  -- `Console.Write` or `Console.WriteLine`
-  APrint : Callee
-  -- a question about owners, or a state word that asks for a class
-  AWord : Callee
+  -- `Console.Write`, or `Console.WriteLine`, where it is a line
+  APrint : Bool → Callee
+  -- a question about owners, or a state word that asks for a class, with the number of arguments that it takes
+  AWord : ℕ → Callee
   -- `base(..)`
   ABase : Callee
   -- nothing that can be called
@@ -127,6 +128,15 @@ abbrev pub method_callee : Option (Declared MethodTree) → Callee
 method_callee None = NoCallee
 method_callee (Some m) = AMethod m
 
+abbrev pub is_of_kind : Bool → MethodTree → Bool
+is_of_kind true m = is_static m
+is_of_kind false m = not (is_static m)
+
+-- a method that has to be static, or not to be
+abbrev pub kind_callee : Bool → Option (Declared MethodTree) → Callee
+kind_callee wants_static None = NoCallee
+kind_callee wants_static (Some m) = if is_of_kind wants_static m.member then AMethod m else NoCallee
+
 -- a local or a field hides a method of its name
 abbrev pub name_callee : Scope → List ℕ → Callee
 name_callee s n =
@@ -134,30 +144,60 @@ name_callee s n =
 
 abbrev pub method_at : List ClassTree → List ℕ → Option ℕ → Callee
 method_at cs n None = NoCallee
-method_at cs n (Some k) = method_callee (method_of cs k n)
+method_at cs n (Some k) = kind_callee false (method_of cs k n)
 
--- what is called behind the dot
+-- how many arguments a question about owners takes
+abbrev pub owner_count : List ℕ → ℕ
+owner_count n = if bytes_eq n (codes "Is") then 3 else if bytes_eq n (codes "Same") then 2 else 1
+
+-- an object has a level; an array is always at its full one, and null and other values have none
+abbrev pub has_levels : Ty → Bool
+has_levels ty.Int = false
+has_levels ty.Bool = false
+has_levels ty.Null = false
+has_levels (ty.Ref t non_null) = not (is_array_number t.0)
+
+-- of what isn't known nothing is said
+abbrev pub may_have_levels : Option Ty → Bool
+may_have_levels None = true
+may_have_levels (Some t) = has_levels t
+
+-- what is called behind the dot: a static method of a class, or a method of an object; a question about a level is one about an object
 abbrev pub member_callee : Scope → List ℕ → Receiver → Callee
-member_callee s n TheConsole = if is_print n then APrint else NoCallee
-member_callee s n TheOwner = if is_owner_word n then AWord else NoCallee
-member_callee s n TheBase =
-    if is_state_call n then AWord else if is_state_read n then NoCallee else method_callee (inherited_method s.classes s.class n)
-member_callee s n (AClass k) =
-    if is_state_call n then AWord else if is_state_read n then NoCallee else method_callee (method_of s.classes k n)
+member_callee s n TheConsole = if is_print n then APrint (bytes_eq n (codes "WriteLine")) else NoCallee
+member_callee s n TheOwner = if is_owner_word n then AWord (owner_count n) else NoCallee
+member_callee s n TheBase = if is_state_word n then NoCallee else kind_callee false (inherited_method s.classes s.class n)
+member_callee s n (AClass k) = if is_state_word n then NoCallee else kind_callee true (method_of s.classes k n)
 member_callee s n (AValue t) =
-    if is_state_call n then AWord
+    if is_state_call n then (if may_have_levels t then AWord 1 else NoCallee)
     else if is_state_read n then NoCallee
     else method_at s.classes n (option_and_then declared_place (option_and_then class_of t))
+
+abbrev pub count : Arguments → ℕ
+count NoMore = 0
+count (Argument e es) = count es + 1
+
+-- it takes so many arguments; `Console.WriteLine` one or none
+abbrev pub takes : ℕ → Callee → Bool
+takes n (AMethod m) = n == length m.member.params
+takes n (APrint is_line) = n == 1 || (is_line && n == 0)
+takes n (AWord k) = n == k
+takes n ABase = false
+takes n NoCallee = false
+
+-- what a call with so many arguments calls: nothing where it takes another number of them
+abbrev pub called_with : ℕ → Callee → Callee
+called_with n c = if takes n c then c else NoCallee
 
 abbrev pub result_type : List ClassTree → Option TypeTree → Option Ty
 result_type cs None = None
 result_type cs (Some t) = written_type cs t
 
--- the result of a call
+-- the result of a call; one that is refused has none
 abbrev pub call_type : List ClassTree → Callee → Option Ty
 call_type cs (AMethod m) = result_type cs m.member.result
-call_type cs APrint = None
-call_type cs AWord = Some ty.Bool
+call_type cs (APrint is_line) = None
+call_type cs (AWord n) = Some ty.Bool
 call_type cs ABase = None
 call_type cs NoCallee = None
 
@@ -200,7 +240,7 @@ abbrev mutual
   static s (CastOf p t e) = cast_type (written_type s.classes t)
   static s (MemberOf p e n) = read_type s.classes n.text (receiver s e (static s e))
   static s (ElementOf p e i) = option_and_then element_type (option_and_then class_of (static s e))
-  static s (CallOf p e es) = call_type s.classes (callee s e)
+  static s (CallOf p e es) = call_type s.classes (called_with (count es) (callee s e))
   static s (NumberOf p n) = Some ty.Int
   static s (TextOf p x) = None
   static s (TruthOf p b) = Some ty.Bool

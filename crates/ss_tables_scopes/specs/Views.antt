@@ -24,7 +24,7 @@ receiver_of (before.Value t) = statics.AValue (option_map type_of t)
 
 abbrev pub callee_of : Callee → statics.Callee
 callee_of (callee.Method k m) = statics.AMethod (declared_method (k, m))
-callee_of callee.Print = statics.APrint
-callee_of callee.Word = statics.AWord
+callee_of (callee.Print is_line) = statics.APrint is_line
+callee_of (callee.Word n) = statics.AWord n
 callee_of callee.Base = statics.ABase
 callee_of callee.Nothing = statics.NoCallee

@@ -1,12 +1,14 @@
 // Static types of names and members, and what a call calls.
 
-ghost use Rattle.std.specs.Prelude.{◌≡◌, option_map, option_and_then};
+ghost use Rattle.std.specs.Prelude.{◌≡◌, map, option_map, option_and_then, if◌then◌else◌};
 ghost use Rattle.ss_tables.specs.Classes.{declared_place};
-ghost use Rattle.ss_ast.specs.Expressions.{type_tree};
-ghost use Rattle.ss_tables.specs.Statics.{is_member, is_known, class_or_value, name_receiver, type_of_field, name_type, field_type, member_type, read_type, method_callee, name_callee, method_at, member_callee, result_type, call_type, reference_only, cast_type};
+ghost use Rattle.ss_ast.specs.Expressions.{type_tree, expr_tree, arguments};
+ghost use Rattle.ss_tables.specs.Statics.{is_member, is_known, class_or_value, name_receiver, type_of_field, name_type, field_type, member_type, read_type, AWord, NoCallee, TheConsole, TheOwner, method_callee, is_of_kind, kind_callee, name_callee, method_at, owner_count, has_levels, may_have_levels, member_callee, count, takes, called_with, result_type, call_type, reference_only, cast_type};
 ghost use Rattle.ss_tables.specs.Types.{class_of};
 ghost use Rattle.ss_tables_lookup.specs.Classes.{trees};
-ghost use Rattle.ss_tables_lookup.specs.Views.{type_of, declared_field, declared_method};
+ghost use Rattle.ss_tables.specs.Members.{is_static};
+ghost use Rattle.ss_tables.specs.Scopes.{Scope};
+ghost use Rattle.ss_tables_lookup.specs.Views.{type_of, method_tree, declared_field, declared_method};
 ghost use Rattle.ss_tables_scopes.specs.Names.{Names};
 ghost use Rattle.ss_tables_scopes.specs.Views.{scope_of, receiver_of, callee_of};
 
@@ -14,8 +16,9 @@ use crate::scopes::Scopes;
 use crate::within::Within;
 use crate::words::{
     is_console, is_length, is_owner, is_owner_word, is_print, is_state_call, is_state_read,
+    is_state_word,
 };
-use ss_ast::TypeRef;
+use ss_ast::{Expr, ModifierWord, TypeRef};
 use ss_tables_lookup::{
     FieldRef, MethodRef, StaticType, Tables, class_of, declared_place, is_array_number,
 };
@@ -40,10 +43,10 @@ pub enum Receiver {
 pub enum Callee<'p> {
     /// A method, with the class that declares it.
     Method(usize, MethodRef<'p>),
-    /// `Console.Write` or `Console.WriteLine`.
-    Print,
-    /// A question about owners, or a state word that asks for a class.
-    Word,
+    /// `Console.Write`, or `Console.WriteLine`, where it is a line.
+    Print(bool),
+    /// A question about owners, or a state word that asks for a class, with the number of arguments that it takes.
+    Word(usize),
     /// `base(..)`.
     Base,
     /// Nothing that can be called.
@@ -183,6 +186,46 @@ fn method_callee<'p>(method: Option<(usize, MethodRef<'p>)>) -> Callee<'p>
     }
 }
 
+/// Whether a method is static, or isn't.
+pub fn is_of_kind(wants_static: bool, method: MethodRef<'_>) -> bool
+    ensures { result ≡ is_of_kind wants_static (method_tree method.entry) }
+{
+    if wants_static {
+        is_static(method)
+    } else {
+        !is_static(method)
+    }
+}
+
+/// Whether a method is static.
+pub fn is_static(method: MethodRef<'_>) -> bool
+    ensures { result ≡ is_static (method_tree method.entry) }
+{
+    match method.member.modifiers.first() {
+        Some(modifier) => match modifier.word {
+            ModifierWord::Static => true,
+            ModifierWord::Virtual | ModifierWord::Override => false,
+        },
+        None => false,
+    }
+}
+
+// A method that has to be static, or not to be.
+fn kind_callee<'p>(wants_static: bool, method: Option<(usize, MethodRef<'p>)>) -> Callee<'p>
+    ensures { callee_of result ≡ kind_callee wants_static (option_map declared_method method.entry) }
+{
+    match method {
+        Some((class, method)) => {
+            if is_of_kind(wants_static, method) {
+                Callee::Method(class, method)
+            } else {
+                Callee::Nothing
+            }
+        }
+        None => Callee::Nothing,
+    }
+}
+
 /// What a call of a bare name calls.
 pub fn name_callee<'p>(within: Within<'_, 'p>, locals: &Scopes, name: &str) -> Callee<'p>
     ensures { callee_of result ≡ name_callee (scope_of within.entry locals.now) name.now }
@@ -200,7 +243,7 @@ fn method_at<'p>(tables: &Tables<'p>, name: &str, class: Option<usize>) -> Calle
     ensures { callee_of result ≡ method_at (trees tables.now) name.now class }
 {
     match class {
-        Some(class) => method_callee(tables.method_of(class, name)),
+        Some(class) => kind_callee(false, tables.method_of(class, name)),
         None => Callee::Nothing,
     }
 }
@@ -214,12 +257,54 @@ fn place_of_class(class: Option<usize>) -> Option<usize>
     }
 }
 
+fn owner_count(name: &str) -> usize
+    ensures { result ≡ owner_count name.now }
+{
+    if name == "Is" {
+        3
+    } else if name == "Same" {
+        2
+    } else {
+        1
+    }
+}
+
+fn has_levels(ty: StaticType) -> bool
+    ensures { result ≡ has_levels (type_of ty) }
+{
+    match ty {
+        StaticType::Int | StaticType::Bool | StaticType::Null => false,
+        StaticType::Ref { class, .. } => !is_array_number(class),
+    }
+}
+
+/// Whether a value of this type has a level, or nothing is known of it.
+pub fn may_have_levels(ty: Option<StaticType>) -> bool
+    ensures { result ≡ may_have_levels (option_map type_of ty) }
+{
+    match ty {
+        Some(ty) => has_levels(ty),
+        None => true,
+    }
+}
+
+// A question about the level of a value.
+fn level_callee<'p>(ty: Option<StaticType>) -> Callee<'p>
+    ensures { callee_of result ≡ (if may_have_levels (option_map type_of ty) then AWord 1 else NoCallee) }
+{
+    if may_have_levels(ty) {
+        Callee::Word(1)
+    } else {
+        Callee::Nothing
+    }
+}
+
 // A method or a state word of a value.
 fn value_callee<'p>(within: Within<'_, 'p>, name: &str, ty: Option<StaticType>) -> Callee<'p>
     ensures { (names : Names) → callee_of result ≡ member_callee (scope_of within.entry names) name.now (receiver_of (Receiver.Value ty)) }
 {
     if is_state_call(name) {
-        return Callee::Word;
+        return level_callee(ty);
     }
     if is_state_read(name) {
         return Callee::Nothing;
@@ -230,25 +315,39 @@ fn value_callee<'p>(within: Within<'_, 'p>, name: &str, ty: Option<StaticType>) 
 fn base_callee<'p>(within: Within<'_, 'p>, name: &str) -> Callee<'p>
     ensures { (names : Names) → callee_of result ≡ member_callee (scope_of within.entry names) name.now (receiver_of Receiver.Base) }
 {
-    if is_state_call(name) {
-        return Callee::Word;
-    }
-    if is_state_read(name) {
+    if is_state_word(name) {
         return Callee::Nothing;
     }
-    method_callee(within.tables.inherited_method(within.class, name))
+    kind_callee(false, within.tables.inherited_method(within.class, name))
 }
 
 fn class_callee<'p>(within: Within<'_, 'p>, class: usize, name: &str) -> Callee<'p>
     ensures { (names : Names) → callee_of result ≡ member_callee (scope_of within.entry names) name.now (receiver_of (Receiver.Class class)) }
 {
-    if is_state_call(name) {
-        return Callee::Word;
-    }
-    if is_state_read(name) {
+    if is_state_word(name) {
         return Callee::Nothing;
     }
-    method_callee(within.tables.method_of(class, name))
+    kind_callee(true, within.tables.method_of(class, name))
+}
+
+fn console_callee<'p>(name: &str) -> Callee<'p>
+    ensures { (s : Scope) → callee_of result ≡ member_callee s name.now TheConsole }
+{
+    if is_print(name) {
+        Callee::Print(name == "WriteLine")
+    } else {
+        Callee::Nothing
+    }
+}
+
+fn owner_callee<'p>(name: &str) -> Callee<'p>
+    ensures { (s : Scope) → callee_of result ≡ member_callee s name.now TheOwner }
+{
+    if is_owner_word(name) {
+        Callee::Word(owner_count(name))
+    } else {
+        Callee::Nothing
+    }
 }
 
 /// What a call of what stands behind a dot calls.
@@ -256,23 +355,40 @@ pub fn member_callee<'p>(within: Within<'_, 'p>, name: &str, receiver: Receiver)
     ensures { (names : Names) → callee_of result ≡ member_callee (scope_of within.entry names) name.now (receiver_of receiver) }
 {
     match receiver {
-        Receiver::Console => {
-            if is_print(name) {
-                Callee::Print
-            } else {
-                Callee::Nothing
-            }
-        }
-        Receiver::Owner => {
-            if is_owner_word(name) {
-                Callee::Word
-            } else {
-                Callee::Nothing
-            }
-        }
+        Receiver::Console => console_callee(name),
+        Receiver::Owner => owner_callee(name),
         Receiver::Base => base_callee(within, name),
         Receiver::Class(class) => class_callee(within, class, name),
         Receiver::Value(ty) => value_callee(within, name, ty),
+    }
+}
+
+/// How many arguments there are.
+pub fn count(list: &[Expr]) -> usize
+    ensures { result ≡ count (arguments (map expr_tree list.now)) }
+{
+    list.len()
+}
+
+fn takes(count: usize, callee: Callee<'_>) -> bool
+    ensures { result ≡ takes count (callee_of callee.entry) }
+{
+    match callee {
+        Callee::Method(_, method) => count == method.method.params.len(),
+        Callee::Print(is_line) => count == 1 || (is_line && count == 0),
+        Callee::Word(taken) => count == taken,
+        Callee::Base | Callee::Nothing => false,
+    }
+}
+
+/// What a call with so many arguments calls: nothing where it takes another number of them.
+pub fn called_with(count: usize, callee: Callee<'_>) -> Callee<'_>
+    ensures { callee_of result ≡ called_with count (callee_of callee.entry) }
+{
+    if takes(count, callee) {
+        callee
+    } else {
+        Callee::Nothing
     }
 }
 
@@ -291,8 +407,8 @@ pub fn call_type(tables: &Tables<'_>, callee: Callee<'_>) -> Option<StaticType>
 {
     match callee {
         Callee::Method(_, method) => result_type(tables, &method.method.returns),
-        Callee::Word => Some(StaticType::Bool),
-        Callee::Print | Callee::Base | Callee::Nothing => None,
+        Callee::Word(_) => Some(StaticType::Bool),
+        Callee::Print(_) | Callee::Base | Callee::Nothing => None,
     }
 }
 

@@ -177,7 +177,7 @@ walk_postfix-returns-in_ok-check_arguments-in-Call-clause-noted t c = λ e found
     let x = prefix_view c.args.before in
     let mid = c.add_called.new.faults.items in
     call_noted s c.args.place e (arguments (map expr_tree c.in-Call.arguments.items)) found c.args.faults.now.items mid _ x o b c.in_ok-add_called-in-Call.ensures
-    (c.in_ok-check_arguments-in-Call.ensures.noted ∙ ap (λ a. mid ++ arguments_faults s a (arguments (map expr_tree c.deref.result.now))) c.prefix_asked-asked.ensures ∙ ap (λ es. mid ++ arguments_faults s (prefix_asked x) (arguments (map expr_tree es))) c.deref.ensures.value)
+    (c.in_ok-check_arguments-in-Call.ensures.noted ∙ ap (λ a. mid ++ arguments_faults s a (arguments (map expr_tree c.deref-in-Call.result.now))) c.prefix_asked-asked.ensures ∙ ap (λ es. mid ++ arguments_faults s (prefix_asked x) (arguments (map expr_tree es))) c.deref-in-Call.ensures.value)
     ∙ ap (λ u. found ++ settled s u) (sym (ap (λ (l : Postfix). postfix_behind l c.args.place e) c.in-Call.is ∙ call_is c.in-Call.arguments c.args.place e))
 
 pub check_argument-returns-then-names_class-clause-noted : goal.check_argument-returns-then-names_class-clause-noted

@@ -107,7 +107,7 @@ walk_element-returns-clause-walked t c =
 pub walk_call-returns-clause-walked : goal.walk_call-returns-clause-walked
 walk_call-returns-clause-walked t c =
     call_leads (around_of c.args.around.now c.args.locals.now) c.args.found.now.items _ (head_of c.args.head) _ c.args.place (arguments (map expr_tree c.args.list.now)) _ _ _ _
-    c.callee_at-callee.ensures c.is_question.ensures c.count.ensures c.called_at-called.ensures c.call.ensures c.in_ok-check_call.ensures.noted
+    c.callee_at-callee.ensures c.is_question.ensures c.count-number.ensures c.called_at-called.ensures c.call.ensures c.in_ok-check_call.ensures.noted
 
 pub check_call-returns-clause-noted : goal.check_call-returns-clause-noted
 check_call-returns-clause-noted t c =

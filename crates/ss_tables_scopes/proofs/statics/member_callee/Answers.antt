@@ -11,3 +11,9 @@ returns-in-Class c = λ names. c.class_callee.ensures names ∙ ap (λ r. member
 
 pub returns-in-Value : goal.returns-in-Value
 returns-in-Value c = λ names. c.value_callee.ensures names ∙ ap (λ r. member_callee (scope_of c.args.within names) c.args.name.now (receiver_of r)) (sym c.in-Value.is)
+
+pub returns-in-Console : goal.returns-in-Console
+returns-in-Console c = λ names. c.console_callee.ensures (scope_of c.args.within names) ∙ ap (λ r. member_callee (scope_of c.args.within names) c.args.name.now (receiver_of r)) (sym c.in-Console.is)
+
+pub returns-in-Owner : goal.returns-in-Owner
+returns-in-Owner c = λ names. c.owner_callee.ensures (scope_of c.args.within names) ∙ ap (λ r. member_callee (scope_of c.args.within names) c.args.name.now (receiver_of r)) (sym c.in-Owner.is)
