@@ -1,5 +1,5 @@
 -- One more part of a chain or a path is resolved.
-use Rattle.std.proofs.Common.{ℕ, ◌≡◌, ◌+◌, ◌-◌, true, List, Option, Some, option_map, refl, sym, ap, ◌∙◌, map, arith}
+use Rattle.std.proofs.Common.{ℕ, length, ◌≡◌, ◌+◌, ◌-◌, true, List, Option, Some, option_map, refl, sym, ap, ◌∙◌, map, arith}
 use Rattle.std.specs.Prelude.{option_and_then}
 use Rattle.ss_core.specs.declared.names.Place.{Place}
 use Rattle.ss_ast.specs.declared.expr.Operator.{Operator as WrittenOperator}
@@ -9,7 +9,7 @@ use Rattle.ss_core.specs.declared.expr.Operator.{Operator}
 use Rattle.ss_ast.specs.Expressions.{TypeTree, arguments}
 use Rattle.ss_ast.specs.Expressions as text
 use Rattle.ss_tables.specs.Types.{written_type, array_type, class_of, element_type, nullable}
-use Rattle.ss_tables.specs.Statics.{Receiver, static, receiver, call_type, cast_type}
+use Rattle.ss_tables.specs.Statics.{Receiver, static, receiver, call_type, called_with, count, cast_type}
 use Rattle.ss_tables.specs.Statics as statics
 use Rattle.ss_typed.specs.Tree.{ExprTree, BinaryOf, IsOf, AsOf, ElementOf}
 use Rattle.ss_typed.specs.Tree as typed
@@ -18,7 +18,7 @@ use Rattle.ss_resolver_rules.specs.Numbers.{class_id, written_class, array_class
 use Rattle.ss_resolver_rules.specs.Expressions.{operator, expr, call}
 use Rattle.ss_resolver_expressions.specs.Scenes.{Part, AnOther, part, part_value, part_type, part_callee, part_called}
 use Rattle.ss_resolver_expressions.specs.Around.{Around, within_member, behind_member}
-use Rattle.ss_resolver_expressions.proofs.PartIs.{value_is, type_is, callee_is, called_is, args_are}
+use Rattle.ss_resolver_expressions.proofs.PartIs.{value_is, type_is, callee_is, called_is, args_are, count_is}
 
 read : (e : Env) (t : text.ExprTree) (x : Part) (left : ExprTree) → x ≡ part e t → left ≡ part_value e x → left ≡ expr e t
 read e t x left h l = l ∙ ap (part_value e) h ∙ value_is e t
@@ -83,13 +83,15 @@ element_done e p t u x object index whole y z h l i w k j =
     ap (λ v. AnOther y v) (w ∙ ap (λ a. ElementOf p a index) same ∙ ap (λ b. ElementOf p (expr e t) b) i)
     ∙ ap (λ y. AnOther y (ElementOf p (expr e t) (expr e u))) (j ∙ ap (λ z. option_and_then element_type (option_and_then class_of z)) (k ∙ ap (part_type e) h ∙ type_is e t))
 
-pub call_done : (e : Env) (p : Place) (t : text.ExprTree) (es : List text.ExprTree) (x : Part) (given : List ExprTree) (whole : ExprTree) (y : Option Ty)
-    → x ≡ part e t → given ≡ map (expr e) es → whole ≡ part_called e p (arguments es) (typed.arguments given) x → y ≡ call_type e.scope.classes (part_callee e x)
+pub call_done : (e : Env) (p : Place) (t : text.ExprTree) (es : List text.ExprTree) (x : Part) (given : List ExprTree) (whole : ExprTree) (n : ℕ) (y : Option Ty)
+    → x ≡ part e t → given ≡ map (expr e) es → whole ≡ part_called e p (arguments es) (typed.arguments given) x → n ≡ length given
+    → y ≡ call_type e.scope.classes (called_with n (part_callee e x))
     → AnOther y whole ≡ part e (text.CallOf p t (arguments es))
-call_done e p t es x given whole y h g w z =
+call_done e p t es x given whole n y h g w many z =
     ap (λ v. AnOther y v) (w ∙ ap (λ x. part_called e p (arguments es) (typed.arguments given) x) h ∙ called_is e p (arguments es) (typed.arguments given) t
     ∙ ap (λ g. call e p (arguments es) g t) (ap typed.arguments g ∙ args_are e es))
-    ∙ ap (λ y. AnOther y (expr e (text.CallOf p t (arguments es)))) (z ∙ ap (λ x. call_type e.scope.classes (part_callee e x)) h ∙ ap (call_type e.scope.classes) (callee_is e t))
+    ∙ ap (λ y. AnOther y (expr e (text.CallOf p t (arguments es)))) (z ∙ ap (λ k. call_type e.scope.classes (called_with k (part_callee e x))) (many ∙ ap length g ∙ count_is e es)
+    ∙ ap (λ x. call_type e.scope.classes (called_with (count (arguments es)) (part_callee e x))) h ∙ ap (λ c. call_type e.scope.classes (called_with (count (arguments es)) c)) (callee_is e t))
 
 pub member_left : (a : Around) (n : List ℕ) → behind_member (within_member a n) ≡ a
 member_left a n = let e : a.bound + 1 - 1 ≡ a.bound = omega arith in ap (λ b. record a { bound = b }) e

@@ -1,10 +1,10 @@
 -- What is known of an expression along a path is what it is.
-use Rattle.std.proofs.Common.{ℕ, ◌≡◌, List, [], ◌∷◌, Option, Some, None, refl, sym, ap, ◌∙◌, map}
+use Rattle.std.proofs.Common.{ℕ, suc, add-one, length, ◌≡◌, List, [], ◌∷◌, Option, Some, None, refl, sym, ap, ◌∙◌, map}
 use Rattle.std.specs.Prelude.{unwrap_or, slice_get}
 use Rattle.ss_core.specs.declared.names.Place.{Place}
 use Rattle.ss_ast.specs.Expressions.{NameOf, BaseOf, MemberOf, Arguments, NoMore, Argument, arguments}
 use Rattle.ss_ast.specs.Expressions as text
-use Rattle.ss_tables.specs.Statics.{static, receiver, callee}
+use Rattle.ss_tables.specs.Statics.{static, receiver, callee, count}
 use Rattle.ss_typed.specs.Tree as typed
 use Rattle.ss_resolver_rules.specs.Names.{Env}
 use Rattle.ss_resolver_rules.specs.Expressions.{expr, call, args, class_named_by, first_class, third_class}
@@ -51,6 +51,10 @@ class_is e t = refl
 pub args_are : (e : Env) (ts : List text.ExprTree) → typed.arguments (map (expr e) ts) ≡ args e (arguments ts)
 args_are e [] = refl
 args_are e (t ∷ ts) = ap (typed.Argument (expr e t)) (args_are e ts)
+
+pub count_is : (e : Env) (ts : List text.ExprTree) → length (map (expr e) ts) ≡ count (arguments ts)
+count_is e [] = refl
+count_is e (t ∷ ts) = ap suc (count_is e ts) ∙ sym (add-one (count (arguments ts)))
 
 pub first_is : (e : Env) (ts : List text.ExprTree) → unwrap_or (slice_get (map (class_named_by e) ts) 0) 0 ≡ first_class e (arguments ts)
 first_is e [] = refl

@@ -78,8 +78,8 @@ part_called e p es args (AnOther t x) = NullOf p
 abbrev pub part_view : CodePart → Part
 part_view (code.Name p n) = ABareName p n.now
 part_view (code.Base p) = ABaseWord p
-part_view (code.Member p r t o n) = AMember p (receiver_of r) (option_map type_of t) (view.expr o) n.now
-part_view (code.Other t x) = AnOther (option_map type_of t) (view.expr x)
+part_view (code.Member p r t o n) = AMember p (receiver_of r) (option_map type_of t) (view.expr o.value) n.now
+part_view (code.Other t x) = AnOther (option_map type_of t) (view.expr x.value)
 
 -- the class that it names
 abbrev pub part_class : Env → Part → ℕ

@@ -12,7 +12,7 @@ ghost use Rattle.ss_resolver_expressions.specs.Scenes.{env_of};
 ghost use Rattle.ss_resolver_rules.specs.Expressions.{read_field, known_or_field, bare_name, field_behind, state_word, state_question, member};
 
 use crate::around::LocalNames;
-use crate::build::add_step;
+use crate::build::{add_step, boxed, null_tree};
 use crate::known::KnownName;
 use crate::scene::Scene;
 use ss_core::{ClassId, Place, StateWord};
@@ -34,13 +34,13 @@ fn read_field(
     alloc: Global,
     scene: &Scene<'_, '_>,
     place: Place,
-    object: TypedExpr,
+    object: Box<TypedExpr>,
     field: Option<(usize, FieldRef<'_>)>,
-) -> Result<TypedExpr, AllocError>
-    ensures { (a : Around) → IfOk result (λ e. view.expr e ≡ read_field (env_of scene.now a) place (view.expr object) (option_map declared_field field.entry)) }
+) -> Result<Box<TypedExpr>, AllocError>
+    ensures { (a : Around) → IfOk result (λ e. view.expr e.value ≡ read_field (env_of scene.now a) place (view.expr object.value) (option_map declared_field field.entry)) }
 {
     let Some((class, field)) = field else {
-        return Ok(TypedExpr::Null(place));
+        return null_tree(alloc, place);
     };
     let tables = scene.within.tables;
     let number = field_id(
@@ -59,15 +59,19 @@ fn known_or_field(
     place: Place,
     name: &str,
     known: Option<KnownName>,
-) -> Result<TypedExpr, AllocError>
-    ensures { (a : Around) → IfOk result (λ e. view.expr e ≡ known_or_field (env_of scene.now a) place name.now (option_map known_of known)) }
+) -> Result<Box<TypedExpr>, AllocError>
+    ensures { (a : Around) → IfOk result (λ e. view.expr e.value ≡ known_or_field (env_of scene.now a) place name.now (option_map known_of known)) }
 {
     match known {
-        Some(KnownName::Variable(number, ty)) => Ok(TypedExpr::Local(place, number, ty)),
-        Some(KnownName::Bound(number)) => Ok(TypedExpr::Bound(place, number)),
+        Some(KnownName::Variable(number, ty)) => Ok(boxed(
+            alloc,
+            TypedExpr::Local(place, number, ty),
+        )?),
+        Some(KnownName::Bound(number)) => Ok(boxed(alloc, TypedExpr::Bound(place, number))?),
         None => {
             let field = scene.within.tables.field_of(scene.within.class, name);
-            read_field(alloc, scene, place, this(scene, place), field)
+            let object = boxed(alloc, this(scene, place))?;
+            read_field(alloc, scene, place, object, field)
         }
     }
 }
@@ -79,8 +83,8 @@ pub(crate) fn bare_name(
     around: &LocalNames,
     place: Place,
     name: &str,
-) -> Result<TypedExpr, AllocError>
-    ensures { IfOk result (λ e. view.expr e ≡ bare_name (env_of scene.now around.now) place name.now) }
+) -> Result<Box<TypedExpr>, AllocError>
+    ensures { IfOk result (λ e. view.expr e.value ≡ bare_name (env_of scene.now around.now) place name.now) }
 {
     known_or_field(alloc, scene, place, name, around.find(name))
 }
@@ -89,11 +93,11 @@ fn field_behind(
     alloc: Global,
     scene: &Scene<'_, '_>,
     place: Place,
-    object: TypedExpr,
+    object: Box<TypedExpr>,
     name: &str,
     class: Option<usize>,
-) -> Result<TypedExpr, AllocError>
-    ensures { (a : Around) → IfOk result (λ e. view.expr e ≡ field_behind (env_of scene.now a) place (view.expr object) name.now class) }
+) -> Result<Box<TypedExpr>, AllocError>
+    ensures { (a : Around) → IfOk result (λ e. view.expr e.value ≡ field_behind (env_of scene.now a) place (view.expr object.value) name.now class) }
 {
     match class {
         None => Ok(object),
@@ -132,15 +136,15 @@ pub(crate) fn member(
     alloc: Global,
     scene: &Scene<'_, '_>,
     place: Place,
-    object: TypedExpr,
+    object: Box<TypedExpr>,
     name: &str,
     class: usize,
-) -> Result<TypedExpr, AllocError>
-    ensures { (a : Around) → IfOk result (λ e. view.expr e ≡ member (env_of scene.now a) place (view.expr object) name.now class) }
+) -> Result<Box<TypedExpr>, AllocError>
+    ensures { (a : Around) → IfOk result (λ e. view.expr e.value ≡ member (env_of scene.now a) place (view.expr object.value) name.now class) }
 {
     if is_state_read(name) {
-        let object = Box::new(alloc, object)?;
-        return Ok(TypedExpr::State(place, state_word(name), object));
+        let word = state_word(name);
+        return Ok(boxed(alloc, TypedExpr::State(place, word, object))?);
     }
     if is_array_number(class) {
         return add_step(alloc, place, object, TypedStep::Length);

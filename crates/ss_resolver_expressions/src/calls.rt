@@ -3,7 +3,7 @@
 ghost use Rattle.std.specs.Prelude.{◌≡◌, IfOk, option_map, option_and_then, codes, if◌then◌else◌};
 ghost use Rattle.std.specs.Str.{bytes_eq};
 ghost use Rattle.ss_ast.specs.Expressions.{Arguments};
-ghost use Rattle.ss_core.specs.Tree.{SameOwner, OwnedAt};
+ghost use Rattle.ss_core.specs.Tree.{SameOwner, OwnedAt, Unowned};
 ghost use Rattle.ss_core.specs.View.{owners_tree};
 ghost use Rattle.ss_tables.specs.Classes.{declared_place};
 ghost use Rattle.ss_tables.specs.Types.{class_of};
@@ -20,7 +20,7 @@ ghost use Rattle.ss_resolver_expressions.specs.Scenes.{env_of, given};
 ghost use Rattle.ss_resolver_rules.specs.Expressions.{first_class, third_class, state_question, method_call, base_call, place_or_own, call_of, owner_question, question, called_behind, called_bare};
 
 use crate::bare::{state_question, this};
-use crate::build::add_step;
+use crate::build::{add_step, boxed, null_tree};
 use crate::scene::Scene;
 use ss_ast::ModifierWord;
 use ss_core::{ClassId, OwnerTest, Place, StateWord};
@@ -53,19 +53,19 @@ fn method_call(
     scene: &Scene<'_, '_>,
     place: Place,
     class: usize,
-    object: TypedExpr,
+    object: Box<TypedExpr>,
     args: Vec<TypedExpr>,
     declared: usize,
     method: MethodRef<'_>,
-) -> Result<TypedExpr, AllocError>
-    ensures { (a : Around) → IfOk result (λ e. view.expr e ≡ method_call (env_of scene.now a) place class (view.expr object) (given args.items) (declared_method (declared, method.entry))) }
+) -> Result<Box<TypedExpr>, AllocError>
+    ensures { (a : Around) → IfOk result (λ e. view.expr e.value ≡ method_call (env_of scene.now a) place class (view.expr object.value) (given args.items) (declared_method (declared, method.entry))) }
 {
     let tables = scene.within.tables;
     let name = method.method.name.text.as_str();
     let ty = result_type(tables, &method.method.returns);
     if is_static(method) {
         let body = method_id(tables, scene.bodies, declared, name);
-        return Ok(TypedExpr::Static(place, body, ty, args));
+        return Ok(boxed(alloc, TypedExpr::Static(place, body, ty, args))?);
     }
     let step = TypedStep::Call(table_place(tables, scene.tables, class, name), ty, args);
     add_step(alloc, place, object, step)
@@ -121,17 +121,18 @@ fn call_of(
     scene: &Scene<'_, '_>,
     place: Place,
     receiver: Receiver,
-    object: TypedExpr,
+    object: Box<TypedExpr>,
     args: Vec<TypedExpr>,
     declared: usize,
     method: MethodRef<'_>,
-) -> Result<TypedExpr, AllocError>
-    ensures { (a : Around) → IfOk result (λ e. view.expr e ≡ call_of (env_of scene.now a) place (receiver_of receiver) (view.expr object) (given args.items) (declared_method (declared, method.entry))) }
+) -> Result<Box<TypedExpr>, AllocError>
+    ensures { (a : Around) → IfOk result (λ e. view.expr e.value ≡ call_of (env_of scene.now a) place (receiver_of receiver) (view.expr object.value) (given args.items) (declared_method (declared, method.entry))) }
 {
     match receiver {
         Receiver::Base => {
             let above = scene.within.tables.above(scene.within.class);
-            Ok(base_call(scene, place, args, declared, method, above))
+            let whole = base_call(scene, place, args, declared, method, above);
+            Ok(boxed(alloc, whole)?)
         }
         Receiver::Class(class) => {
             method_call(alloc, scene, place, class, object, args, declared, method)
@@ -140,7 +141,7 @@ fn call_of(
             let class = class_of_value(scene, ty);
             method_call(alloc, scene, place, class, object, args, declared, method)
         }
-        Receiver::Console | Receiver::Owner => Ok(TypedExpr::Null(place)),
+        Receiver::Console | Receiver::Owner => null_tree(alloc, place),
     }
 }
 
@@ -149,14 +150,12 @@ fn owners(
     alloc: Global,
     place: Place,
     test: OwnerTest,
-    a: TypedExpr,
-    b: TypedExpr,
-) -> Result<TypedExpr, AllocError>
-    ensures { IfOk result (λ e. view.expr e ≡ OwnersOf place (owners_tree test) (view.expr a) (view.expr b)) }
+    a: Box<TypedExpr>,
+    b: Box<TypedExpr>,
+) -> Result<Box<TypedExpr>, AllocError>
+    ensures { IfOk result (λ e. view.expr e.value ≡ OwnersOf place (owners_tree test) (view.expr a.value) (view.expr b.value)) }
 {
-    let a = Box::new(alloc, a)?;
-    let b = Box::new(alloc, b)?;
-    Ok(TypedExpr::Owners(place, test, a, b))
+    Ok(boxed(alloc, TypedExpr::Owners(place, test, a, b))?)
 }
 
 fn owner_test(name: &str, class: ClassId) -> OwnerTest
@@ -169,40 +168,49 @@ fn owner_test(name: &str, class: ClassId) -> OwnerTest
     }
 }
 
+fn unowned(
+    alloc: Global,
+    place: Place,
+    object: Box<TypedExpr>,
+) -> Result<Box<TypedExpr>, AllocError>
+    ensures { IfOk result (λ r. view.expr r.value ≡ StateOf place Unowned (view.expr object.value)) }
+{
+    Ok(boxed(alloc, TypedExpr::State(place, StateWord::Unowned, object))?)
+}
+
 fn owner_question(
     alloc: Global,
     place: Place,
     name: &str,
     third: ClassId,
     args: Vec<TypedExpr>,
-) -> Result<TypedExpr, AllocError>
+) -> Result<Box<TypedExpr>, AllocError>
     ensures { (e : Env) → (es : Arguments) → third.0 ≡ third_class e es
-        → IfOk result (λ r. view.expr r ≡ owner_question e place name.now es (given args.items)) }
+        → IfOk result (λ r. view.expr r.value ≡ owner_question e place name.now es (given args.items)) }
 {
     let mut args = args;
     if args.is_empty() {
-        return Ok(TypedExpr::Null(place));
+        return null_tree(alloc, place);
     }
-    let first = args.remove(0);
+    let first = boxed(alloc, args.remove(0))?;
     if args.is_empty() {
-        let first = Box::new(alloc, first)?;
-        return Ok(TypedExpr::State(place, StateWord::Unowned, first));
+        return unowned(alloc, place, first);
     }
-    let second = args.remove(0);
+    let second = boxed(alloc, args.remove(0))?;
     owners(alloc, place, owner_test(name, third), first, second)
 }
 
 fn state_asked(
     alloc: Global,
     place: Place,
-    object: TypedExpr,
+    object: Box<TypedExpr>,
     name: &str,
     first: ClassId,
-) -> Result<TypedExpr, AllocError>
-    ensures { IfOk result (λ r. view.expr r ≡ StateOf place (state_question name.now first.0) (view.expr object)) }
+) -> Result<Box<TypedExpr>, AllocError>
+    ensures { IfOk result (λ r. view.expr r.value ≡ StateOf place (state_question name.now first.0) (view.expr object.value)) }
 {
-    let object = Box::new(alloc, object)?;
-    Ok(TypedExpr::State(place, state_question(name, first), object))
+    let word = state_question(name, first);
+    Ok(boxed(alloc, TypedExpr::State(place, word, object))?)
 }
 
 // A state word or a question about owners.
@@ -210,20 +218,20 @@ fn question(
     alloc: Global,
     place: Place,
     receiver: Receiver,
-    object: TypedExpr,
+    object: Box<TypedExpr>,
     name: &str,
     asked: Asked,
     args: Vec<TypedExpr>,
-) -> Result<TypedExpr, AllocError>
+) -> Result<Box<TypedExpr>, AllocError>
     ensures { (e : Env) → (es : Arguments) → asked.first.0 ≡ first_class e es → asked.third.0 ≡ third_class e es
-        → IfOk result (λ r. view.expr r ≡ question e place (receiver_of receiver) (view.expr object) name.now es (given args.items)) }
+        → IfOk result (λ r. view.expr r.value ≡ question e place (receiver_of receiver) (view.expr object.value) name.now es (given args.items)) }
 {
     match receiver {
         Receiver::Owner => owner_question(alloc, place, name, asked.third, args),
         Receiver::Base | Receiver::Class(_) | Receiver::Value(_) => {
             state_asked(alloc, place, object, name, asked.first)
         }
-        Receiver::Console => Ok(TypedExpr::Null(place)),
+        Receiver::Console => null_tree(alloc, place),
     }
 }
 
@@ -233,14 +241,14 @@ pub(crate) fn called_behind(
     scene: &Scene<'_, '_>,
     place: Place,
     receiver: Receiver,
-    object: TypedExpr,
+    object: Box<TypedExpr>,
     name: &str,
     asked: Asked,
     args: Vec<TypedExpr>,
     callee: Callee<'_>,
-) -> Result<TypedExpr, AllocError>
+) -> Result<Box<TypedExpr>, AllocError>
     ensures { (a : Around) → (es : Arguments) → asked.first.0 ≡ first_class (env_of scene.now a) es → asked.third.0 ≡ third_class (env_of scene.now a) es
-        → IfOk result (λ r. view.expr r ≡ called_behind (env_of scene.now a) place (receiver_of receiver) (view.expr object) name.now es (given args.items) (callee_of callee.entry)) }
+        → IfOk result (λ r. view.expr r.value ≡ called_behind (env_of scene.now a) place (receiver_of receiver) (view.expr object.value) name.now es (given args.items) (callee_of callee.entry)) }
 {
     match callee {
         Callee::Method(declared, method) => {
@@ -248,8 +256,8 @@ pub(crate) fn called_behind(
                 alloc, scene, place, receiver, object, args, declared, method,
             )
         }
-        Callee::Word => question(alloc, place, receiver, object, name, asked, args),
-        Callee::Print | Callee::Base => Ok(TypedExpr::Null(place)),
+        Callee::Word(_) => question(alloc, place, receiver, object, name, asked, args),
+        Callee::Print(_) | Callee::Base => null_tree(alloc, place),
         Callee::Nothing => add_step(alloc, place, object, TypedStep::Call(0, None, args)),
     }
 }
@@ -262,12 +270,12 @@ pub(crate) fn called_bare(
     at: Place,
     args: Vec<TypedExpr>,
     callee: Callee<'_>,
-) -> Result<TypedExpr, AllocError>
-    ensures { (a : Around) → IfOk result (λ r. view.expr r ≡ called_bare (env_of scene.now a) place at (given args.items) (callee_of callee.entry)) }
+) -> Result<Box<TypedExpr>, AllocError>
+    ensures { (a : Around) → IfOk result (λ r. view.expr r.value ≡ called_bare (env_of scene.now a) place at (given args.items) (callee_of callee.entry)) }
 {
     match callee {
         Callee::Method(declared, method) => {
-            let object = this(scene, at);
+            let object = boxed(alloc, this(scene, at))?;
             method_call(
                 alloc,
                 scene,
@@ -279,8 +287,8 @@ pub(crate) fn called_bare(
                 method,
             )
         }
-        Callee::Word | Callee::Print | Callee::Base | Callee::Nothing => {
-            Ok(TypedExpr::Null(place))
-        }
+        Callee::Word(_) | Callee::Print(_) | Callee::Base | Callee::Nothing => null_tree(
+            alloc, place,
+        ),
     }
 }

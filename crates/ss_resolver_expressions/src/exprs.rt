@@ -10,6 +10,7 @@ ghost use Rattle.ss_resolver_expressions.specs.Scenes.{env_of, part, part_view, 
 ghost use Rattle.ss_resolver_expressions.specs.Behinds.{link_behind, postfix_behind};
 
 use crate::around::LocalNames;
+use crate::build::add_value;
 use crate::finishing::{dotted, finish};
 use crate::parts::Part;
 use crate::scene::Scene;
@@ -47,12 +48,30 @@ pub fn walk<'p>(
             let longer = walk_links(alloc, scene, around, *place, before, links)?;
             Ok(longer)
         }
-        Expr::Number(place, n) => Ok(number(*place, *n)),
-        Expr::Truth(place, b) => Ok(truth(*place, *b)),
-        Expr::Null(place) => Ok(null(*place)),
-        Expr::Text(place, _) => Ok(text(*place)),
-        Expr::This(place) => Ok(this_word(scene, *place)),
-        Expr::Result(place) => Ok(outcome(scene, *place)),
+        Expr::Number(place, n) => {
+            let whole = number(alloc, *place, *n)?;
+            Ok(whole)
+        }
+        Expr::Truth(place, b) => {
+            let whole = truth(alloc, *place, *b)?;
+            Ok(whole)
+        }
+        Expr::Null(place) => {
+            let whole = null(alloc, *place)?;
+            Ok(whole)
+        }
+        Expr::Text(place, _) => {
+            let whole = text(alloc, *place)?;
+            Ok(whole)
+        }
+        Expr::This(place) => {
+            let whole = this_word(alloc, scene, *place)?;
+            Ok(whole)
+        }
+        Expr::Result(place) => {
+            let whole = outcome(alloc, scene, *place)?;
+            Ok(whole)
+        }
         Expr::Paren(_, inner) => {
             let inner = walk(alloc, scene, around, inner)?;
             let whole = in_parentheses(alloc, scene, around, inner)?;
@@ -64,44 +83,45 @@ pub fn walk<'p>(
             Ok(whole)
         }
         Expr::Negate(place, inner) => {
-            let inner = resolve(alloc, scene, around, inner)?;
+            let inner = resolve_boxed(alloc, scene, around, inner)?;
             let whole = negate(alloc, *place, inner)?;
             Ok(whole)
         }
         Expr::Not(place, inner) => {
-            let inner = resolve(alloc, scene, around, inner)?;
+            let inner = resolve_boxed(alloc, scene, around, inner)?;
             let whole = not(alloc, *place, inner)?;
             Ok(whole)
         }
         Expr::Iff(place, a, b) => {
-            let a = resolve(alloc, scene, around, a)?;
-            let b = resolve(alloc, scene, around, b)?;
+            let a = resolve_boxed(alloc, scene, around, a)?;
+            let b = resolve_boxed(alloc, scene, around, b)?;
             let whole = iff(alloc, *place, a, b)?;
             Ok(whole)
         }
         Expr::Implies(place, a, b) => {
-            let a = resolve(alloc, scene, around, a)?;
-            let b = resolve(alloc, scene, around, b)?;
+            let a = resolve_boxed(alloc, scene, around, a)?;
+            let b = resolve_boxed(alloc, scene, around, b)?;
             let whole = implies(alloc, *place, a, b)?;
             Ok(whole)
         }
         Expr::Cast(place, ty, inner) => {
-            let inner = resolve(alloc, scene, around, inner)?;
+            let inner = resolve_boxed(alloc, scene, around, inner)?;
             let whole = cast(alloc, scene, *place, ty, inner)?;
             Ok(whole)
         }
         Expr::New(place, name, written) => {
             let values = resolve_values(alloc, scene, around, written)?;
-            Ok(new_object(scene, *place, name, values))
+            let whole = new_object(alloc, scene, *place, name, values)?;
+            Ok(whole)
         }
         Expr::NewArray(place, _, name, length) => {
-            let length = resolve(alloc, scene, around, length)?;
+            let length = resolve_boxed(alloc, scene, around, length)?;
             let whole = new_array(alloc, scene, *place, name, length)?;
             Ok(whole)
         }
         Expr::Quantified(place, quantifier, name, low, high, member) => {
-            let low = resolve(alloc, scene, around, low)?;
-            let high = resolve(alloc, scene, around, high)?;
+            let low = resolve_boxed(alloc, scene, around, low)?;
+            let high = resolve_boxed(alloc, scene, around, high)?;
             let member = resolve_member(alloc, scene, around, name, member)?;
             let whole = quantified_part(alloc, *place, *quantifier, name, low, high, member)?;
             Ok(whole)
@@ -109,15 +129,15 @@ pub fn walk<'p>(
     }
 }
 
-/// The tree of an expression.
+/// The tree of an expression, in a box.
 #[cycle(expr)]
-pub fn resolve<'p>(
+pub fn resolve_boxed<'p>(
     alloc: Global,
     scene: &Scene<'_, 'p>,
     around: &mut LocalNames,
     e: &'p Expr,
-) -> Result<TypedExpr, AllocError>
-    ensures tree { IfOk result (λ r. view.expr r ≡ resolved.expr (env_of scene.now around.old) (expr_tree e.now)) }
+) -> Result<Box<TypedExpr>, AllocError>
+    ensures tree { IfOk result (λ r. view.expr r.value ≡ resolved.expr (env_of scene.now around.old) (expr_tree e.now)) }
     ensures kept { OnOk result (around.new ≡ around.old) }
 {
     let whole = walk(alloc, scene, around, e)?;
@@ -133,12 +153,12 @@ fn resolve_member<'p>(
     around: &mut LocalNames,
     name: &Name,
     e: &'p Expr,
-) -> Result<TypedExpr, AllocError>
-    ensures tree { IfOk result (λ r. view.expr r ≡ resolved.expr (within (env_of scene.now around.old) (name_tree name.now)) (expr_tree e.now)) }
+) -> Result<Box<TypedExpr>, AllocError>
+    ensures tree { IfOk result (λ r. view.expr r.value ≡ resolved.expr (within (env_of scene.now around.old) (name_tree name.now)) (expr_tree e.now)) }
     ensures kept { OnOk result (around.new ≡ around.old) }
 {
     around.enter_member(alloc, name.text.as_str())?;
-    let inner = resolve(alloc, scene, around, e)?;
+    let inner = resolve_boxed(alloc, scene, around, e)?;
     around.leave_member();
     Ok(inner)
 }
@@ -179,7 +199,7 @@ fn walk_link<'p>(
 {
     match link {
         Link::Operation(operator, operand) => {
-            let right = resolve(alloc, scene, around, operand)?;
+            let right = resolve_boxed(alloc, scene, around, operand)?;
             let longer = operation(alloc, scene, around, place, before, *operator, right)?;
             Ok(longer)
         }
@@ -234,7 +254,7 @@ fn walk_postfix<'p>(
             Ok(longer)
         }
         Postfix::Element(index) => {
-            let index = resolve(alloc, scene, around, index)?;
+            let index = resolve_boxed(alloc, scene, around, index)?;
             let longer = element(alloc, scene, around, place, before, index)?;
             Ok(longer)
         }
@@ -259,8 +279,8 @@ pub fn resolve_values<'p>(
 {
     let mut values = Vec::new(alloc);
     for argument in written {
-        let value = resolve(alloc, scene, around, argument)?;
-        values.push(value)?;
+        let value = resolve_boxed(alloc, scene, around, argument)?;
+        add_value(&mut values, value)?;
     }
     Ok(values)
 }
@@ -285,4 +305,18 @@ pub fn resolve_given<'p>(
         add_given(alloc, scene, around, &mut given, part)?;
     }
     Ok(given)
+}
+
+/// The tree of an expression.
+pub fn resolve<'p>(
+    alloc: Global,
+    scene: &Scene<'_, 'p>,
+    around: &mut LocalNames,
+    e: &'p Expr,
+) -> Result<TypedExpr, AllocError>
+    ensures tree { IfOk result (λ r. view.expr r ≡ resolved.expr (env_of scene.now around.old) (expr_tree e.now)) }
+    ensures kept { OnOk result (around.new ≡ around.old) }
+{
+    let tree = resolve_boxed(alloc, scene, around, e)?;
+    Ok(Box::into_inner(tree))
 }

@@ -2,7 +2,7 @@
 
 ghost use Rattle.std.specs.Prelude.{◌≡◌, IfOk, option_map};
 ghost use Rattle.ss_ast.specs.Expressions.{Arguments, ExprTree, MemberOf, name_tree};
-ghost use Rattle.ss_tables.specs.Statics.{call_type};
+ghost use Rattle.ss_tables.specs.Statics.{call_type, called_with};
 ghost use Rattle.ss_tables_lookup.specs.Views.{type_of};
 ghost use Rattle.ss_typed.specs.View as view;
 ghost use Rattle.ss_resolver_rules.specs.Numbers.{class_in};
@@ -11,6 +11,7 @@ ghost use Rattle.ss_resolver_expressions.specs.Scenes.{env_of, given, part, part
 
 use crate::around::LocalNames;
 use crate::bare::{bare_name, member, this};
+use crate::build::{boxed, null_tree};
 use crate::calls::{Asked, called_bare, called_behind};
 use crate::parts::{Part, part_receiver, part_type};
 use crate::scene::Scene;
@@ -18,7 +19,7 @@ use ss_ast::Name;
 use ss_core::{ClassId, Place};
 use ss_resolver_tables::class_id;
 use ss_tables_lookup::StaticType;
-use ss_tables_scopes::{call_type, class_of_type, member_callee, name_callee};
+use ss_tables_scopes::{call_type, called_with, class_of_type, member_callee, name_callee};
 use ss_typed::TypedExpr;
 use std::alloc::{AllocError, Global};
 
@@ -38,12 +39,12 @@ pub fn finish(
     scene: &Scene<'_, '_>,
     around: &LocalNames,
     part: Part<'_>,
-) -> Result<TypedExpr, AllocError>
-    ensures { IfOk result (λ e. view.expr e ≡ part_value (env_of scene.now around.now) (part_view part.entry)) }
+) -> Result<Box<TypedExpr>, AllocError>
+    ensures { IfOk result (λ e. view.expr e.value ≡ part_value (env_of scene.now around.now) (part_view part.entry)) }
 {
     match part {
         Part::Name(place, name) => bare_name(alloc, scene, around, place, name),
-        Part::Base(place) => Ok(this(scene, place)),
+        Part::Base(place) => Ok(boxed(alloc, this(scene, place))?),
         Part::Member(place, _, ty, object, name) => {
             member(alloc, scene, place, object, name, number_of(ty))
         }
@@ -60,9 +61,9 @@ pub fn called(
     part: Part<'_>,
     asked: Asked,
     args: Vec<TypedExpr>,
-) -> Result<TypedExpr, AllocError>
+) -> Result<Box<TypedExpr>, AllocError>
     ensures { (es : Arguments) → asked.first.0 ≡ first_class (env_of scene.now around.now) es → asked.third.0 ≡ third_class (env_of scene.now around.now) es
-        → IfOk result (λ r. view.expr r ≡ part_called (env_of scene.now around.now) place es (given args.items) (part_view part.entry)) }
+        → IfOk result (λ r. view.expr r.value ≡ part_called (env_of scene.now around.now) place es (given args.items) (part_view part.entry)) }
 {
     match part {
         Part::Name(at, name) => {
@@ -75,7 +76,7 @@ pub fn called(
                 alloc, scene, place, receiver, object, name, asked, args, callee,
             )
         }
-        Part::Base(_) | Part::Other(..) => Ok(TypedExpr::Null(place)),
+        Part::Base(_) | Part::Other(..) => null_tree(alloc, place),
     }
 }
 
@@ -108,21 +109,24 @@ pub fn dotted<'p>(
     Ok(Part::Member(place, receiver, ty, object, name.text.as_str()))
 }
 
-/// The static type of a call of it.
+/// The static type of a call of it with so many arguments.
 pub fn part_call_type(
     scene: &Scene<'_, '_>,
     around: &LocalNames,
     part: &Part<'_>,
+    count: usize,
 ) -> Option<StaticType>
-    ensures { option_map type_of result ≡ call_type (env_of scene.now around.now).scope.classes (part_callee (env_of scene.now around.now) (part_view part.now)) }
+    ensures { option_map type_of result ≡ call_type (env_of scene.now around.now).scope.classes (called_with count (part_callee (env_of scene.now around.now) (part_view part.now))) }
 {
     let tables = scene.within.tables;
     match part {
         Part::Name(_, name) => {
-            call_type(tables, name_callee(scene.within, around.names(), name))
+            let callee = name_callee(scene.within, around.names(), name);
+            call_type(tables, called_with(count, callee))
         }
         Part::Member(_, receiver, _, _, name) => {
-            call_type(tables, member_callee(scene.within, name, *receiver))
+            let callee = member_callee(scene.within, name, *receiver);
+            call_type(tables, called_with(count, callee))
         }
         Part::Base(_) | Part::Other(..) => None,
     }

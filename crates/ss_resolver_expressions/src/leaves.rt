@@ -12,6 +12,7 @@ ghost use Rattle.ss_typed.specs.View as view;
 ghost use Rattle.ss_resolver_rules.specs.Expressions.{operator, as_int, quantified_by};
 ghost use Rattle.ss_resolver_expressions.specs.Scenes.{numbers_of};
 
+use crate::build::boxed;
 use crate::calls::Asked;
 use crate::scene::Scene;
 use ss_ast::{Name, Operator, Quantifier, TypeRef};
@@ -114,18 +115,18 @@ pub(crate) fn quantified(
     place: Place,
     quantifier: Quantifier,
     name: &Name,
-    low: TypedExpr,
-    high: TypedExpr,
-    member: TypedExpr,
-) -> Result<TypedExpr, AllocError>
-    ensures { IfOk result (λ e. view.expr e ≡ QuantifiedOf place (quantified_by quantifier) (name_tree name.now).text (view.expr low) (view.expr high) (view.expr member)) }
+    low: Box<TypedExpr>,
+    high: Box<TypedExpr>,
+    member: Box<TypedExpr>,
+) -> Result<Box<TypedExpr>, AllocError>
+    ensures { IfOk result (λ e. view.expr e.value ≡ QuantifiedOf place (quantified_by quantifier) (name_tree name.now).text (view.expr low.value) (view.expr high.value) (view.expr member.value)) }
 {
-    let low = Box::new(alloc, low)?;
-    let high = Box::new(alloc, high)?;
-    let member = Box::new(alloc, member)?;
     let name = String::from_str(alloc, name.text.as_str())?;
     let quantifier = resolve_quantifier(quantifier);
-    Ok(TypedExpr::Quantified(place, quantifier, name, low, high, member))
+    Ok(boxed(
+        alloc,
+        TypedExpr::Quantified(place, quantifier, name, low, high, member),
+    )?)
 }
 
 fn class_at(classes: &[ClassId], place: usize) -> ClassId

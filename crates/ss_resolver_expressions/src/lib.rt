@@ -15,10 +15,10 @@ mod wholes;
 
 pub use around::LocalNames;
 pub use calls::{Asked, is_static};
-pub use exprs::{resolve, resolve_given, resolve_values, walk, walk_postfixes};
-pub use finishing::{called, dotted, finish, part_call_type, part_class};
+pub use exprs::{resolve, resolve_boxed, resolve_given, resolve_values, walk, walk_postfixes};
+pub use finishing::called;
 pub use known::{KnownName, KnownNames};
 pub use leaves::asked_of;
-pub use parts::{Part, part_receiver, part_type};
+pub use parts::Part;
 pub use scene::Scene;
 pub use wholes::Given;

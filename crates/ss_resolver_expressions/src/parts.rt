@@ -20,9 +20,9 @@ pub enum Part<'p> {
     /// The word `base`.
     Base(Place),
     /// A member behind a dot: what stands before it, with its static type and its tree.
-    Member(Place, Receiver, Option<StaticType>, TypedExpr, &'p str),
+    Member(Place, Receiver, Option<StaticType>, Box<TypedExpr>, &'p str),
     /// Any other, with its static type and its tree.
-    Other(Option<StaticType>, TypedExpr),
+    Other(Option<StaticType>, Box<TypedExpr>),
 }
 
 /// Its static type.

@@ -1,6 +1,6 @@
 // What an expression becomes of its parts.
 
-ghost use Rattle.std.specs.Prelude.{◌≡◌, ◌++◌, [], ◌∷◌, ℕ, List, IfOk, OnOk, Some, None, map};
+ghost use Rattle.std.specs.Prelude.{◌≡◌, ◌++◌, [], ◌∷◌, ℕ, List, IfOk, OnOk, Some, None, length, map};
 ghost use Rattle.ss_core.specs.declared.names.Place.{Place as PlaceValue};
 ghost use Rattle.ss_core.specs.declared.names.Ty.TheVariants as ty;
 ghost use Rattle.ss_ast.specs.Expressions.{ExprTree, ThisOf, ResultOf, ParenOf, OldOf, BinaryOf, IsOf, AsOf, ElementOf, CallOf, CastOf, NewOf, NewArrayOf, arguments, name_tree, type_tree, type_name_tree};
@@ -14,7 +14,7 @@ ghost use Rattle.ss_resolver_expressions.specs.Scenes.{AnOther, env_of, part, pa
 
 use crate::around::LocalNames;
 use crate::bare::this;
-use crate::build::{add_link, add_step};
+use crate::build::{add_link, add_step, add_value, boxed};
 use crate::finishing::{called, finish, part_call_type, part_class};
 use crate::leaves::{
     as_int, asked_of, operation_type, quantified, resolve_operator, type_of_as, type_of_element,
@@ -31,53 +31,71 @@ use std::alloc::{AllocError, Global};
 
 // ---- without parts
 
-pub(crate) fn number<'p>(place: Place, n: i64) -> Part<'p>
-    ensures { part_view result ≡ AnOther (Some ty.Int) (IntOf place (as_int n)) }
+pub(crate) fn number<'p>(alloc: Global, place: Place, n: i64) -> Result<Part<'p>, AllocError>
+    ensures { IfOk result (λ r. part_view r ≡ AnOther (Some ty.Int) (IntOf place (as_int n))) }
 {
-    Part::Other(Some(StaticType::Int), TypedExpr::Int(place, as_int(n)))
+    Ok(Part::Other(
+        Some(StaticType::Int),
+        boxed(alloc, TypedExpr::Int(place, as_int(n)))?,
+    ))
 }
 
-pub(crate) fn truth<'p>(place: Place, b: bool) -> Part<'p>
-    ensures { part_view result ≡ AnOther (Some ty.Bool) (BoolOf place b) }
+pub(crate) fn truth<'p>(alloc: Global, place: Place, b: bool) -> Result<Part<'p>, AllocError>
+    ensures { IfOk result (λ r. part_view r ≡ AnOther (Some ty.Bool) (BoolOf place b)) }
 {
-    Part::Other(Some(StaticType::Bool), TypedExpr::Bool(place, b))
+    Ok(Part::Other(
+        Some(StaticType::Bool),
+        boxed(alloc, TypedExpr::Bool(place, b))?,
+    ))
 }
 
-pub(crate) fn null<'p>(place: Place) -> Part<'p>
-    ensures { part_view result ≡ AnOther (Some ty.Null) (NullOf place) }
+pub(crate) fn null<'p>(alloc: Global, place: Place) -> Result<Part<'p>, AllocError>
+    ensures { IfOk result (λ r. part_view r ≡ AnOther (Some ty.Null) (NullOf place)) }
 {
-    Part::Other(Some(StaticType::Null), TypedExpr::Null(place))
+    Ok(Part::Other(
+        Some(StaticType::Null),
+        boxed(alloc, TypedExpr::Null(place))?,
+    ))
 }
 
-pub(crate) fn text<'p>(place: Place) -> Part<'p>
-    ensures { part_view result ≡ AnOther None (NullOf place) }
+pub(crate) fn text<'p>(alloc: Global, place: Place) -> Result<Part<'p>, AllocError>
+    ensures { IfOk result (λ r. part_view r ≡ AnOther None (NullOf place)) }
 {
-    Part::Other(None, TypedExpr::Null(place))
+    Ok(Part::Other(None, boxed(alloc, TypedExpr::Null(place))?))
 }
 
-pub(crate) fn this_word<'p>(scene: &Scene<'_, '_>, place: Place) -> Part<'p>
-    ensures { (a : Around) → part_view result ≡ part (env_of scene.now a) (ThisOf place) }
+pub(crate) fn this_word<'p>(
+    alloc: Global,
+    scene: &Scene<'_, '_>,
+    place: Place,
+) -> Result<Part<'p>, AllocError>
+    ensures { (a : Around) → IfOk result (λ r. part_view r ≡ part (env_of scene.now a) (ThisOf place)) }
 {
-    let whole = this(scene, place);
-    Part::Other(Some(scene.within.this_type()), whole)
+    let whole = boxed(alloc, this(scene, place))?;
+    Ok(Part::Other(Some(scene.within.this_type()), whole))
 }
 
-pub(crate) fn outcome<'p>(scene: &Scene<'_, '_>, place: Place) -> Part<'p>
-    ensures { (a : Around) → part_view result ≡ part (env_of scene.now a) (ResultOf place) }
+pub(crate) fn outcome<'p>(
+    alloc: Global,
+    scene: &Scene<'_, '_>,
+    place: Place,
+) -> Result<Part<'p>, AllocError>
+    ensures { (a : Around) → IfOk result (λ r. part_view r ≡ part (env_of scene.now a) (ResultOf place)) }
 {
-    Part::Other(
-        scene.within.outcome,
-        TypedExpr::Result(place, scene.outcome),
-    )
+    let whole = boxed(alloc, TypedExpr::Result(place, scene.outcome))?;
+    Ok(Part::Other(scene.within.outcome, whole))
 }
 
 // ---- of one part or several
 
-fn old_value(alloc: Global, place: Place, value: TypedExpr) -> Result<TypedExpr, AllocError>
-    ensures { IfOk result (λ e. view.expr e ≡ typed.OldOf place (view.expr value)) }
+fn old_value(
+    alloc: Global,
+    place: Place,
+    value: Box<TypedExpr>,
+) -> Result<Box<TypedExpr>, AllocError>
+    ensures { IfOk result (λ e. view.expr e.value ≡ typed.OldOf place (view.expr value.value)) }
 {
-    let value = Box::new(alloc, value)?;
-    Ok(TypedExpr::Old(place, value))
+    Ok(boxed(alloc, TypedExpr::Old(place, value))?)
 }
 
 fn cast_value(
@@ -85,30 +103,33 @@ fn cast_value(
     place: Place,
     class: ClassId,
     non_null: bool,
-    value: TypedExpr,
-) -> Result<TypedExpr, AllocError>
-    ensures { IfOk result (λ e. view.expr e ≡ typed.CastOf place class.0 non_null (view.expr value)) }
+    value: Box<TypedExpr>,
+) -> Result<Box<TypedExpr>, AllocError>
+    ensures { IfOk result (λ e. view.expr e.value ≡ typed.CastOf place class.0 non_null (view.expr value.value)) }
 {
-    let value = Box::new(alloc, value)?;
-    Ok(TypedExpr::Cast(place, class, non_null, value))
+    Ok(boxed(alloc, TypedExpr::Cast(place, class, non_null, value))?)
 }
 
-fn new_value(place: Place, class: ClassId, values: Vec<TypedExpr>) -> TypedExpr
-    ensures { view.expr result ≡ typed.NewOf place class.0 (typed.arguments (view.exprs values.items)) }
+fn new_value(
+    alloc: Global,
+    place: Place,
+    class: ClassId,
+    values: Vec<TypedExpr>,
+) -> Result<Box<TypedExpr>, AllocError>
+    ensures { IfOk result (λ e. view.expr e.value ≡ typed.NewOf place class.0 (typed.arguments (view.exprs values.items))) }
 {
-    TypedExpr::New(place, class, values)
+    Ok(boxed(alloc, TypedExpr::New(place, class, values))?)
 }
 
 fn new_array_value(
     alloc: Global,
     place: Place,
     class: ClassId,
-    length: TypedExpr,
-) -> Result<TypedExpr, AllocError>
-    ensures { IfOk result (λ e. view.expr e ≡ typed.NewArrayOf place class.0 (view.expr length)) }
+    length: Box<TypedExpr>,
+) -> Result<Box<TypedExpr>, AllocError>
+    ensures { IfOk result (λ e. view.expr e.value ≡ typed.NewArrayOf place class.0 (view.expr length.value)) }
 {
-    let length = Box::new(alloc, length)?;
-    Ok(TypedExpr::NewArray(place, class, length))
+    Ok(boxed(alloc, TypedExpr::NewArray(place, class, length))?)
 }
 
 pub(crate) fn in_parentheses<'p>(
@@ -144,45 +165,47 @@ pub(crate) fn old<'p>(
 pub(crate) fn negate<'p>(
     alloc: Global,
     place: Place,
-    inner: TypedExpr,
+    inner: Box<TypedExpr>,
 ) -> Result<Part<'p>, AllocError>
-    ensures { IfOk result (λ r. part_view r ≡ AnOther (Some ty.Int) (NegateOf place (view.expr inner))) }
+    ensures { IfOk result (λ r. part_view r ≡ AnOther (Some ty.Int) (NegateOf place (view.expr inner.value))) }
 {
-    let inner = Box::new(alloc, inner)?;
-    Ok(Part::Other(Some(StaticType::Int), TypedExpr::Negate(place, inner)))
+    let whole = boxed(alloc, TypedExpr::Negate(place, inner))?;
+    Ok(Part::Other(Some(StaticType::Int), whole))
 }
 
-pub(crate) fn not<'p>(alloc: Global, place: Place, inner: TypedExpr) -> Result<Part<'p>, AllocError>
-    ensures { IfOk result (λ r. part_view r ≡ AnOther (Some ty.Bool) (NotOf place (view.expr inner))) }
+pub(crate) fn not<'p>(
+    alloc: Global,
+    place: Place,
+    inner: Box<TypedExpr>,
+) -> Result<Part<'p>, AllocError>
+    ensures { IfOk result (λ r. part_view r ≡ AnOther (Some ty.Bool) (NotOf place (view.expr inner.value))) }
 {
-    let inner = Box::new(alloc, inner)?;
-    Ok(Part::Other(Some(StaticType::Bool), TypedExpr::Not(place, inner)))
+    let whole = boxed(alloc, TypedExpr::Not(place, inner))?;
+    Ok(Part::Other(Some(StaticType::Bool), whole))
 }
 
 pub(crate) fn iff<'p>(
     alloc: Global,
     place: Place,
-    a: TypedExpr,
-    b: TypedExpr,
+    a: Box<TypedExpr>,
+    b: Box<TypedExpr>,
 ) -> Result<Part<'p>, AllocError>
-    ensures { IfOk result (λ r. part_view r ≡ AnOther (Some ty.Bool) (IffOf place (view.expr a) (view.expr b))) }
+    ensures { IfOk result (λ r. part_view r ≡ AnOther (Some ty.Bool) (IffOf place (view.expr a.value) (view.expr b.value))) }
 {
-    let a = Box::new(alloc, a)?;
-    let b = Box::new(alloc, b)?;
-    Ok(Part::Other(Some(StaticType::Bool), TypedExpr::Iff(place, a, b)))
+    let whole = boxed(alloc, TypedExpr::Iff(place, a, b))?;
+    Ok(Part::Other(Some(StaticType::Bool), whole))
 }
 
 pub(crate) fn implies<'p>(
     alloc: Global,
     place: Place,
-    a: TypedExpr,
-    b: TypedExpr,
+    a: Box<TypedExpr>,
+    b: Box<TypedExpr>,
 ) -> Result<Part<'p>, AllocError>
-    ensures { IfOk result (λ r. part_view r ≡ AnOther (Some ty.Bool) (ImpliesOf place (view.expr a) (view.expr b))) }
+    ensures { IfOk result (λ r. part_view r ≡ AnOther (Some ty.Bool) (ImpliesOf place (view.expr a.value) (view.expr b.value))) }
 {
-    let a = Box::new(alloc, a)?;
-    let b = Box::new(alloc, b)?;
-    Ok(Part::Other(Some(StaticType::Bool), TypedExpr::Implies(place, a, b)))
+    let whole = boxed(alloc, TypedExpr::Implies(place, a, b))?;
+    Ok(Part::Other(Some(StaticType::Bool), whole))
 }
 
 pub(crate) fn cast<'p>(
@@ -190,9 +213,9 @@ pub(crate) fn cast<'p>(
     scene: &Scene<'_, '_>,
     place: Place,
     ty: &TypeRef,
-    inner: TypedExpr,
+    inner: Box<TypedExpr>,
 ) -> Result<Part<'p>, AllocError>
-    ensures { (a : Around) → (t : ExprTree) → view.expr inner ≡ resolved.expr (env_of scene.now a) t
+    ensures { (a : Around) → (t : ExprTree) → view.expr inner.value ≡ resolved.expr (env_of scene.now a) t
         → IfOk result (λ r. part_view r ≡ part (env_of scene.now a) (CastOf place (type_tree ty.now) t)) }
 {
     let tables = scene.within.tables;
@@ -203,20 +226,21 @@ pub(crate) fn cast<'p>(
 }
 
 pub(crate) fn new_object<'p>(
+    alloc: Global,
     scene: &Scene<'_, '_>,
     place: Place,
     name: &Name,
     values: Vec<TypedExpr>,
-) -> Part<'p>
+) -> Result<Part<'p>, AllocError>
     ensures { (a : Around) → (es : List ExprTree) → view.exprs values.items ≡ map (resolved.expr (env_of scene.now a)) es
-        → part_view result ≡ part (env_of scene.now a) (NewOf place (name_tree name.now) (arguments es)) }
+        → IfOk result (λ r. part_view r ≡ part (env_of scene.now a) (NewOf place (name_tree name.now) (arguments es))) }
 {
     let tables = scene.within.tables;
     let text = name.text.as_str();
     let class = class_id(tables, text);
     let ty = tables.class_type(true, text);
-    let whole = new_value(place, class, values);
-    Part::Other(ty, whole)
+    let whole = new_value(alloc, place, class, values)?;
+    Ok(Part::Other(ty, whole))
 }
 
 pub(crate) fn new_array<'p>(
@@ -224,9 +248,9 @@ pub(crate) fn new_array<'p>(
     scene: &Scene<'_, '_>,
     place: Place,
     name: &TypeName,
-    length: TypedExpr,
+    length: Box<TypedExpr>,
 ) -> Result<Part<'p>, AllocError>
-    ensures { (a : Around) → (at : PlaceValue) → (t : ExprTree) → view.expr length ≡ resolved.expr (env_of scene.now a) t
+    ensures { (a : Around) → (at : PlaceValue) → (t : ExprTree) → view.expr length.value ≡ resolved.expr (env_of scene.now a) t
         → IfOk result (λ r. part_view r ≡ part (env_of scene.now a) (NewArrayOf place at (type_name_tree name.now) t)) }
 {
     let tables = scene.within.tables;
@@ -241,11 +265,11 @@ pub(crate) fn quantified_part<'p>(
     place: Place,
     quantifier: Quantifier,
     name: &Name,
-    low: TypedExpr,
-    high: TypedExpr,
-    member: TypedExpr,
+    low: Box<TypedExpr>,
+    high: Box<TypedExpr>,
+    member: Box<TypedExpr>,
 ) -> Result<Part<'p>, AllocError>
-    ensures { IfOk result (λ r. part_view r ≡ AnOther (Some ty.Bool) (typed.QuantifiedOf place (resolved.quantified_by quantifier) (name_tree name.now).text (view.expr low) (view.expr high) (view.expr member))) }
+    ensures { IfOk result (λ r. part_view r ≡ AnOther (Some ty.Bool) (typed.QuantifiedOf place (resolved.quantified_by quantifier) (name_tree name.now).text (view.expr low.value) (view.expr high.value) (view.expr member.value))) }
 {
     let whole = quantified(alloc, place, quantifier, name, low, high, member)?;
     Ok(Part::Other(Some(StaticType::Bool), whole))
@@ -260,15 +284,16 @@ pub(crate) fn operation<'p>(
     place: Place,
     before: Part<'p>,
     operator: Operator,
-    right: TypedExpr,
+    right: Box<TypedExpr>,
 ) -> Result<Part<'p>, AllocError>
-    ensures { (t : ExprTree) → (u : ExprTree) → part_view before.entry ≡ part (env_of scene.now around.now) t → view.expr right ≡ resolved.expr (env_of scene.now around.now) u
+    ensures { (t : ExprTree) → (u : ExprTree) → part_view before.entry ≡ part (env_of scene.now around.now) t → view.expr right.value ≡ resolved.expr (env_of scene.now around.now) u
         → IfOk result (λ r. part_view r ≡ part (env_of scene.now around.now) (BinaryOf place operator t u)) }
 {
     let left = finish(alloc, scene, around, before)?;
     let meant = resolve_operator(operator);
     let ty = operation_type(operator);
-    let whole = add_link(alloc, place, left, TypedLink::Operation(meant, right))?;
+    let link = TypedLink::Operation(meant, Box::into_inner(right));
+    let whole = add_link(alloc, place, left, link)?;
     Ok(Part::Other(Some(ty), whole))
 }
 
@@ -313,15 +338,16 @@ pub(crate) fn element<'p>(
     around: &LocalNames,
     place: Place,
     before: Part<'p>,
-    index: TypedExpr,
+    index: Box<TypedExpr>,
 ) -> Result<Part<'p>, AllocError>
-    ensures { (t : ExprTree) → (u : ExprTree) → part_view before.entry ≡ part (env_of scene.now around.now) t → view.expr index ≡ resolved.expr (env_of scene.now around.now) u
+    ensures { (t : ExprTree) → (u : ExprTree) → part_view before.entry ≡ part (env_of scene.now around.now) t → view.expr index.value ≡ resolved.expr (env_of scene.now around.now) u
         → IfOk result (λ r. part_view r ≡ part (env_of scene.now around.now) (ElementOf place t u)) }
 {
     let array = part_type(scene, around, &before);
     let ty = type_of_element(array);
     let object = finish(alloc, scene, around, before)?;
-    let whole = add_step(alloc, place, object, TypedStep::Element(index))?;
+    let step = TypedStep::Element(Box::into_inner(index));
+    let whole = add_step(alloc, place, object, step)?;
     Ok(Part::Other(ty, whole))
 }
 
@@ -348,10 +374,18 @@ pub(crate) fn add_given(
     let class = part_class(scene, around, &argument);
     given.classes.push(class)?;
     let value = finish(alloc, scene, around, argument)?;
-    given.values.push(value)?;
+    add_value(&mut given.values, value)?;
     Ok(())
 }
 
+// How many arguments are given.
+fn count_of(values: &[TypedExpr]) -> usize
+    ensures { result ≡ length values.now }
+{
+    values.len()
+}
+
+/// A call.
 pub(crate) fn call<'p>(
     alloc: Global,
     scene: &Scene<'_, '_>,
@@ -365,7 +399,8 @@ pub(crate) fn call<'p>(
         → numbers_of given.classes.items ≡ map (class_named_by (env_of scene.now around.now)) es
         → IfOk result (λ r. part_view r ≡ part (env_of scene.now around.now) (CallOf place t (arguments es))) }
 {
-    let ty = part_call_type(scene, around, &before);
+    let count = count_of(&given.values);
+    let ty = part_call_type(scene, around, &before, count);
     let asked = asked_of(&given.classes);
     let whole = called(alloc, scene, around, place, before, asked, given.values)?;
     Ok(Part::Other(ty, whole))

@@ -19,7 +19,7 @@ use Rattle.ss_typed.specs.View as view
 use Rattle.ss_resolver_rules.specs.Numbers.{type_id}
 use Rattle.ss_resolver_rules.specs.Names.{Env, class_env, declare_params}
 use Rattle.ss_resolver_rules.specs.Statements as resolved
-use Rattle.ss_resolver_rules.specs.Programs.{param, locals, entry_in, exit_in, modifies_in, base_of, param_env, exit_env, method_flags, constructor_flags, method_body, constructor_body}
+use Rattle.ss_resolver_rules.specs.Programs.{param, locals, entry_in, exit_in, modifies_in, base_of, param_env, result_env, method_env, method_flags, constructor_flags, method_body, constructor_body}
 use Rattle.ss_resolver_expressions.specs.Around.{Around, none_around}
 use Rattle.ss_resolver_expressions.specs.Scenes.{env_of}
 use Rattle.ss_resolver_expressions.specs.declared.scene.Scene.{Scene}
@@ -46,20 +46,20 @@ pub params_are : (s : Scene) (first : ℕ) (a a1 : Around) (ps : List written.Pa
 params_are s first a a1 ps none h b = b ∙ ap (λ e. declare_params e ps) (ap (env_of s) h ∙ begins s first none)
 
 -- where the result has its type
-pub exit_is : (s : Scene) (o : Option StaticType) (t : Option Ty) (a : Around) → option_map type_of o ≡ t → exit_env (env_of s a) (option_map type_of o) ≡ exit_env (env_of s a) t
-exit_is s o t a h = ap (exit_env (env_of s a)) h
+pub result_is : (s : Scene) (o : Option StaticType) (t : Option Ty) (a : Around) → option_map type_of o ≡ t → result_env (env_of s a) (option_map type_of o) ≡ result_env (env_of s a) t
+result_is s o t a h = ap (result_env (env_of s a)) h
 
 -- each part in the environment that those before it leave
-pub parts_are : (s x : Scene) (a a1 a2 a3 : Around) (ps : List written.ParamTree) (cs : List written.ClauseTree) (t : text.BlockTree) (p : Parts)
+pub parts_are : (s : Scene) (a a1 a2 a3 : Around) (ps : List written.ParamTree) (cs : List written.ClauseTree) (t : text.BlockTree) (p : Parts)
     → map view.param p.params.items ≡ map (param (env_of s a)) ps → map local_of p.locals.items ≡ locals (env_of s a) t
-    → view.exprs p.entry.items ≡ entry_in (env_of s a) cs → a1 ≡ a → view.exprs p.exit.items ≡ exit_in (env_of x a1) cs → a2 ≡ a1
+    → view.exprs p.entry.items ≡ entry_in (env_of s a) cs → a1 ≡ a → view.exprs p.exit.items ≡ exit_in (env_of s a1) cs → a2 ≡ a1
     → terms_of p.modifies ≡ modifies_in (env_of s a2) cs → a3 ≡ a2 → view.block p.block ≡ resolved.block (env_of s a3) t
-    → AreParts (env_of s a) (env_of x a) ps cs t p
-parts_are s x a a1 a2 a3 ps cs t p params locals entry k1 exit k2 modifies k3 block = record {
+    → AreParts (env_of s a) ps cs t p
+parts_are s a a1 a2 a3 ps cs t p params locals entry k1 exit k2 modifies k3 block = record {
   params = params;
   locals = locals;
   entry = entry;
-  exit = exit ∙ ap (λ n. exit_in (env_of x n) cs) k1;
+  exit = exit ∙ ap (λ n. exit_in (env_of s n) cs) k1;
   modifies = modifies ∙ ap (λ n. modifies_in (env_of s n) cs) (k2 ∙ k1);
   block = block ∙ ap (λ n. resolved.block (env_of s n) t) (k3 ∙ k2 ∙ k1);
 }
@@ -68,12 +68,12 @@ abbrev pub made : ℕ → List ℕ → Place → TypedFlags → List NameTree �
 made a0 a1 a2 a3 a4 a5 a6 a7 a8 a9 a10 a11 a12 = record { class = a0; name = a1; place = a2; flags = a3; attributes = a4; params = a5; locals = a6; result = a7; entry = a8; exit = a9; modifies = a10; base = a11; block = a12 }
 
 -- with the parts that the definitions give, where the heading is the same
-pub body_is : (e x : Env) (ps : List written.ParamTree) (cs : List written.ClauseTree) (t : text.BlockTree) (p : Parts)
+pub body_is : (e : Env) (ps : List written.ParamTree) (cs : List written.ClauseTree) (t : text.BlockTree) (p : Parts)
     (a0 b0 : ℕ) (a1 b1 : List ℕ) (a2 b2 : Place) (a3 b3 : TypedFlags) (a4 b4 : List NameTree) (a7 b7 : Option Ty) (a11 b11 : Option BaseTree)
-    → AreParts e x ps cs t p → a0 ≡ b0 → a1 ≡ b1 → a2 ≡ b2 → a3 ≡ b3 → a4 ≡ b4 → a7 ≡ b7 → a11 ≡ b11
+    → AreParts e ps cs t p → a0 ≡ b0 → a1 ≡ b1 → a2 ≡ b2 → a3 ≡ b3 → a4 ≡ b4 → a7 ≡ b7 → a11 ≡ b11
     → made a0 a1 a2 a3 a4 (map view.param p.params.items) (map local_of p.locals.items) a7 (view.exprs p.entry.items) (view.exprs p.exit.items) (terms_of p.modifies) a11 (view.block p.block)
-    ≡ made b0 b1 b2 b3 b4 (map (param e) ps) (locals e t) b7 (entry_in e cs) (exit_in x cs) (modifies_in e cs) b11 (resolved.block e t)
-body_is e x ps cs t p a0 b0 a1 b1 a2 b2 a3 b3 a4 b4 a7 b7 a11 b11 h h0 h1 h2 h3 h4 h7 h11 =
+    ≡ made b0 b1 b2 b3 b4 (map (param e) ps) (locals e t) b7 (entry_in e cs) (exit_in e cs) (modifies_in e cs) b11 (resolved.block e t)
+body_is e ps cs t p a0 b0 a1 b1 a2 b2 a3 b3 a4 b4 a7 b7 a11 b11 h h0 h1 h2 h3 h4 h7 h11 =
     ap (λ z. made z a1 a2 a3 a4 (map view.param p.params.items) (map local_of p.locals.items) a7 (view.exprs p.entry.items) (view.exprs p.exit.items) (terms_of p.modifies) a11 (view.block p.block)) h0
     ∙ ap (λ z. made b0 z a2 a3 a4 (map view.param p.params.items) (map local_of p.locals.items) a7 (view.exprs p.entry.items) (view.exprs p.exit.items) (terms_of p.modifies) a11 (view.block p.block)) h1
     ∙ ap (λ z. made b0 b1 z a3 a4 (map view.param p.params.items) (map local_of p.locals.items) a7 (view.exprs p.entry.items) (view.exprs p.exit.items) (terms_of p.modifies) a11 (view.block p.block)) h2
@@ -84,21 +84,21 @@ body_is e x ps cs t p a0 b0 a1 b1 a2 b2 a3 b3 a4 b4 a7 b7 a11 b11 h h0 h1 h2 h3 
     ∙ ap (λ z. made b0 b1 b2 b3 b4 (map (param e) ps) (locals e t) z (view.exprs p.entry.items) (view.exprs p.exit.items) (terms_of p.modifies) a11 (view.block p.block)) h7
     ∙ ap (λ z. made b0 b1 b2 b3 b4 (map (param e) ps) (locals e t) b7 z (view.exprs p.exit.items) (terms_of p.modifies) a11 (view.block p.block)) h.entry
     ∙ ap (λ z. made b0 b1 b2 b3 b4 (map (param e) ps) (locals e t) b7 (entry_in e cs) z (terms_of p.modifies) a11 (view.block p.block)) h.exit
-    ∙ ap (λ z. made b0 b1 b2 b3 b4 (map (param e) ps) (locals e t) b7 (entry_in e cs) (exit_in x cs) z a11 (view.block p.block)) h.modifies
-    ∙ ap (λ z. made b0 b1 b2 b3 b4 (map (param e) ps) (locals e t) b7 (entry_in e cs) (exit_in x cs) (modifies_in e cs) z (view.block p.block)) h11
-    ∙ ap (λ z. made b0 b1 b2 b3 b4 (map (param e) ps) (locals e t) b7 (entry_in e cs) (exit_in x cs) (modifies_in e cs) b11 z) h.block
+    ∙ ap (λ z. made b0 b1 b2 b3 b4 (map (param e) ps) (locals e t) b7 (entry_in e cs) (exit_in e cs) z a11 (view.block p.block)) h.modifies
+    ∙ ap (λ z. made b0 b1 b2 b3 b4 (map (param e) ps) (locals e t) b7 (entry_in e cs) (exit_in e cs) (modifies_in e cs) z (view.block p.block)) h11
+    ∙ ap (λ z. made b0 b1 b2 b3 b4 (map (param e) ps) (locals e t) b7 (entry_in e cs) (exit_in e cs) (modifies_in e cs) b11 z) h.block
 
 -- the same parts for equal parameters and clauses
-same_parts : (e x : Env) (ps qs : List written.ParamTree) (cs ds : List written.ClauseTree) (t : text.BlockTree) (p : Parts) → ps ≡ qs → cs ≡ ds → AreParts e x ps cs t p → AreParts e x qs ds t p
-same_parts e x ps qs cs ds t p hp hc h = subst (λ l. AreParts e x qs l t p) hc (subst (λ l. AreParts e x l cs t p) hp h)
+same_parts : (e : Env) (ps qs : List written.ParamTree) (cs ds : List written.ClauseTree) (t : text.BlockTree) (p : Parts) → ps ≡ qs → cs ≡ ds → AreParts e ps cs t p → AreParts e qs ds t p
+same_parts e ps qs cs ds t p hp hc h = subst (λ l. AreParts e qs l t p) hc (subst (λ l. AreParts e l cs t p) hp h)
 
 pub method_is : (s x : Scene) (a : Around) (m : MethodTree) (ps qs : List written.ParamTree) (ds : List written.ClauseTree) (p : Parts) (first : ℕ) (static : Bool)
     (class : ℕ) (name : List ℕ) (flags : TypedFlags) (attributes : List NameTree) (result : Option Ty)
     → ps ≡ m.params → qs ≡ m.params → ds ≡ m.clauses
-    → ((b : Around) → env_of x b ≡ exit_env (env_of s b) (option_map (type_id (trees s.within.tables.now)) m.result))
+    → ((b : Around) → env_of x b ≡ result_env (env_of s b) (option_map (type_id (trees s.within.tables.now)) m.result))
     → static ≡ is_static m → first ≡ (if static then 0 else 1)
     → env_of s a ≡ declare_params (record (class_env (trees s.within.tables.now) s.within.class) { next = first }) ps
-    → AreParts (env_of s a) (env_of x a) qs ds m.body p
+    → AreParts (env_of x a) qs ds m.body p
     → class ≡ class_number s.within.class → name ≡ m.name.text → flags ≡ method_flags m → attributes ≡ m.attributes → result ≡ option_map (type_id (trees s.within.tables.now)) m.result
     → made class name m.name.place flags attributes (map view.param p.params.items) (map local_of p.locals.items) result (view.exprs p.entry.items) (view.exprs p.exit.items) (terms_of p.modifies) None (view.block p.block)
     ≡ method_body (trees s.within.tables.now) s.within.class m
@@ -109,11 +109,10 @@ method_is s x a m ps qs ds p first static class name flags attributes result hps
     let t = option_map (type_id cs) m.result in
     let number : first ≡ (if is_static m then 0 else 1) = hf ∙ ap (λ (b : Bool). if b then 0 else 1) hs in
     let here : env_of s a ≡ e = ha ∙ ap (declare_params (record (class_env cs k) { next = first })) hps ∙ ap (λ n. declare_params (record (class_env cs k) { next = n }) m.params) number in
-    let there : env_of x a ≡ exit_env e t = hx a ∙ ap (λ d. exit_env d t) here in
-    let parts : AreParts e (exit_env e t) m.params m.clauses m.body p =
-    same_parts e (exit_env e t) qs m.params ds m.clauses m.body p hqs hds
-    (subst (λ d. AreParts d (exit_env e t) qs ds m.body p) here (subst (λ d. AreParts (env_of s a) d qs ds m.body p) there hp)) in
-    body_is e (exit_env e t) m.params m.clauses m.body p class (class_number k) name m.name.text m.name.place m.name.place flags (method_flags m) attributes m.attributes result t None None
+    let there : env_of x a ≡ method_env cs k m = hx a ∙ ap (λ d. result_env d t) here in
+    let parts : AreParts (method_env cs k m) m.params m.clauses m.body p =
+    same_parts (method_env cs k m) qs m.params ds m.clauses m.body p hqs hds (subst (λ d. AreParts d qs ds m.body p) there hp) in
+    body_is (method_env cs k m) m.params m.clauses m.body p class (class_number k) name m.name.text m.name.place m.name.place flags (method_flags m) attributes m.attributes result t None None
     parts hc hn refl hg hm hr refl
 
 pub constructor_is : (s : Scene) (a a1 : Around) (m : ConstructorTree) (ps qs : List written.ParamTree) (ds : List written.ClauseTree) (p : Parts)
@@ -121,7 +120,7 @@ pub constructor_is : (s : Scene) (a a1 : Around) (m : ConstructorTree) (ps qs : 
     → ps ≡ m.params → qs ≡ m.params → ds ≡ m.clauses
     → env_of s a ≡ declare_params (record (class_env (trees s.within.tables.now) s.within.class) { next = 1 }) ps
     → base ≡ option_map (base_of (env_of s a)) m.base → a1 ≡ a
-    → AreParts (env_of s a1) (env_of s a1) qs ds m.body p
+    → AreParts (env_of s a1) qs ds m.body p
     → class ≡ class_number s.within.class → name ≡ m.name.text → flags ≡ constructor_flags m → attributes ≡ m.attributes
     → made class name m.name.place flags attributes (map view.param p.params.items) (map local_of p.locals.items) None (view.exprs p.entry.items) (view.exprs p.exit.items) (terms_of p.modifies) base (view.block p.block)
     ≡ constructor_body (trees s.within.tables.now) s.within.class m
@@ -131,6 +130,6 @@ constructor_is s a a1 m ps qs ds p class name flags attributes base hps hqs hds 
     let e = declare_params (record (class_env cs k) { next = 1 }) m.params in
     let there : env_of s a ≡ e = ha ∙ ap (declare_params (record (class_env cs k) { next = 1 })) hps in
     let here : env_of s a1 ≡ e = ap (env_of s) ka ∙ there in
-    let parts : AreParts e e m.params m.clauses m.body p = same_parts e e qs m.params ds m.clauses m.body p hqs hds (subst (λ d. AreParts d d qs ds m.body p) here hp) in
-    body_is e e m.params m.clauses m.body p class (class_number k) name m.name.text m.name.place m.name.place flags (constructor_flags m) attributes m.attributes None None base (option_map (base_of e) m.base)
+    let parts : AreParts e m.params m.clauses m.body p = same_parts e qs m.params ds m.clauses m.body p hqs hds (subst (λ d. AreParts d qs ds m.body p) here hp) in
+    body_is e m.params m.clauses m.body p class (class_number k) name m.name.text m.name.place m.name.place flags (constructor_flags m) attributes m.attributes None None base (option_map (base_of e) m.base)
     parts hc hn refl hg hm refl (hb ∙ ap (λ d. option_map (base_of d) m.base) there)

@@ -23,11 +23,11 @@ param_in cs p = record {
   attributes = p.attributes;
 }
 
--- the parts of a body with these parameters, clauses and statements, in the environment e, and x in an `ensures`
-pub record AreParts (e x : Env) (ps : List ParamTree) (cs : List ClauseTree) (b : BlockTree) (p : Parts) : Type 0 where
+-- the parts of a body with these parameters, clauses and statements, in this environment
+pub record AreParts (e : Env) (ps : List ParamTree) (cs : List ClauseTree) (b : BlockTree) (p : Parts) : Type 0 where
   pub params : map view.param p.params.items ≡ map (param e) ps
   pub locals : map local_of p.locals.items ≡ locals e b
   pub entry : view.exprs p.entry.items ≡ entry_in e cs
-  pub exit : view.exprs p.exit.items ≡ exit_in x cs
+  pub exit : view.exprs p.exit.items ≡ exit_in e cs
   pub modifies : terms_of p.modifies ≡ modifies_in e cs
   pub block : view.block p.block ≡ resolved.block e b

@@ -10,7 +10,7 @@ ghost use Rattle.ss_core.specs.declared.names.Ty.TheVariants as static_type;
 ghost use Rattle.ss_typed.specs.View as view;
 ghost use Rattle.ss_resolver_rules.specs.Numbers.{type_id};
 ghost use Rattle.ss_resolver_rules.specs.Names.{class_env, declare_params};
-ghost use Rattle.ss_resolver_rules.specs.Programs.{exit_env, method_flags, constructor_flags, method_body, constructor_body};
+ghost use Rattle.ss_resolver_rules.specs.Programs.{result_env, method_flags, constructor_flags, method_body, constructor_body};
 ghost use Rattle.ss_resolver_tables.specs.Limits.{HasFewClasses};
 ghost use Rattle.ss_resolver_expressions.specs.Around.{Around};
 ghost use Rattle.ss_resolver_expressions.specs.Scenes.{env_of};
@@ -106,23 +106,22 @@ pub struct Parts {
     pub block: TypedBlock,
 }
 
-// The parts of a body whose parameters are in scope; `exit` is the scene of its `ensures` clauses.
+// The parts of a body whose parameters are in scope.
 fn resolve_parts<'p>(
     alloc: Global,
     scene: &Scene<'_, 'p>,
-    exit: &Scene<'_, 'p>,
     around: &mut LocalNames,
     params: &[Param],
     clauses: &'p [Clause],
     body: &'p Block,
 ) -> Result<Parts, AllocError>
-    ensures { IfOk result (λ p. AreParts (env_of scene.now around.old) (env_of exit.now around.old) (map param_tree params.now) (map clause_tree clauses.now) (block_tree body.now) p) }
+    ensures { IfOk result (λ p. AreParts (env_of scene.now around.old) (map param_tree params.now) (map clause_tree clauses.now) (block_tree body.now) p) }
 {
     let tables = scene.within.tables;
     let params = resolve_params(alloc, tables, params)?;
     let locals = list_locals(alloc, tables, body)?;
     let entry = resolve_entry(alloc, scene, around, clauses)?;
-    let exit = resolve_exit(alloc, exit, around, clauses)?;
+    let exit = resolve_exit(alloc, scene, around, clauses)?;
     let modifies = resolve_modifies(alloc, scene, around, clauses)?;
     let block = resolve_block(alloc, scene, around, body)?;
     Ok(Parts {
@@ -154,9 +153,9 @@ fn outcome_of(tables: &Tables<'_>, ty: &Option<TypeRef>) -> Option<StaticType>
     }
 }
 
-// The scene in which `result` has its type.
-fn exit_scene<'t, 'p>(scene: &Scene<'t, 'p>, returns: &Option<TypeRef>) -> Scene<'t, 'p>
-    ensures { (a : Around) → env_of result a ≡ exit_env (env_of scene.now a) (option_map (type_id (trees scene.now.within.tables.now)) (option_map type_tree returns.now)) }
+// The scene of a method, in which `result` has its type.
+fn method_scene<'t, 'p>(scene: &Scene<'t, 'p>, returns: &Option<TypeRef>) -> Scene<'t, 'p>
+    ensures { (a : Around) → env_of result a ≡ result_env (env_of scene.now a) (option_map (type_id (trees scene.now.within.tables.now)) (option_map type_tree returns.now)) }
 {
     let tables = scene.within.tables;
     Scene {
@@ -213,13 +212,12 @@ pub(crate) fn resolve_method<'p>(
     ensures { IfOk result (λ b. view.body b ≡ method_body (trees scene.now.within.tables.now) scene.now.within.class (method_tree method.entry)) }
 {
     let written = method.method;
-    let exit = exit_scene(scene, &written.returns);
+    let within = method_scene(scene, &written.returns);
     let first = first_local(is_static(method));
     let mut around = enter_params(alloc, scene, first, &written.params)?;
     let parts = resolve_parts(
         alloc,
-        scene,
-        &exit,
+        &within,
         &mut around,
         &written.params,
         &written.clauses,
@@ -256,11 +254,9 @@ pub(crate) fn resolve_constructor<'p>(
     let written = constructor.constructor;
     let mut around = enter_params(alloc, scene, 1, &written.params)?;
     let base = resolve_base(alloc, scene, &mut around, &written.base)?;
-    let exit = *scene;
     let parts = resolve_parts(
         alloc,
         scene,
-        &exit,
         &mut around,
         &written.params,
         &written.clauses,

@@ -73,7 +73,7 @@ fn add_exit<'p>(
     }
 }
 
-/// What the `ensures` clauses say, in the scene in which `result` has its type.
+/// What the `ensures` clauses say.
 pub(crate) fn resolve_exit<'p>(
     alloc: Global,
     scene: &Scene<'_, 'p>,

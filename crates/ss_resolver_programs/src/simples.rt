@@ -111,7 +111,7 @@ fn resolve_call<'p>(
     let given = resolve_given(alloc, scene, around, written)?;
     let asked = asked_of(&given.classes);
     let whole = called(alloc, scene, around, place, before, asked, given.values)?;
-    Ok(whole)
+    Ok(Box::into_inner(whole))
 }
 
 // A call alone, of what stands before its arguments.

@@ -1,4 +1,4 @@
--- The resolved tree of an expression. Parentheses leave no trace. `result` where it has no type stays, with what is asked of it, for a later phase; what else a
+-- The resolved tree of an expression. Parentheses leave no trace. `result` stays, with its type where the body has one, for a later phase; what else a
 -- source without faults doesn't have becomes `null`.
 use Rattle.std.specs.Prelude.{ℕ, ℤ, pos, negsuc, int_lt, Bool, true, false, List, [], ◌∷◌, Option, Some, None, option_and_then, codes, if◌then◌else◌}
 use Rattle.std.specs.Str.{bytes_eq}
@@ -147,16 +147,16 @@ question e p TheConsole o n es args = NullOf p
 -- what is called behind a dot
 abbrev pub called_behind : Env → Place → Receiver → ExprTree → List ℕ → Arguments → typed.Arguments → Callee → ExprTree
 called_behind e p r o n es args (AMethod m) = call_of e p r o args m
-called_behind e p r o n es args AWord = question e p r o n es args
-called_behind e p r o n es args APrint = NullOf p
+called_behind e p r o n es args (AWord k) = question e p r o n es args
+called_behind e p r o n es args (APrint is_line) = NullOf p
 called_behind e p r o n es args ABase = NullOf p
 called_behind e p r o n es args NoCallee = CallOf p o 0 None args
 
 -- a method of the class or of one above, called by its bare name at place q
 abbrev pub called_bare : Env → Place → Place → typed.Arguments → Callee → ExprTree
 called_bare e p q args (AMethod m) = method_call e p e.scope.class (this e q) args m
-called_bare e p q args AWord = NullOf p
-called_bare e p q args APrint = NullOf p
+called_bare e p q args (AWord k) = NullOf p
+called_bare e p q args (APrint is_line) = NullOf p
 called_bare e p q args ABase = NullOf p
 called_bare e p q args NoCallee = NullOf p
 

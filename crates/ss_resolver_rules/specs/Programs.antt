@@ -75,9 +75,13 @@ param e p = record {
 abbrev pub param_env : List ClassTree → ℕ → Bool → List ParamTree → Env
 param_env cs k static ps = declare_params (record (class_env cs k) { next = if static then 0 else 1 }) ps
 
--- in an `ensures` the result has its type
-abbrev pub exit_env : Env → Option Ty → Env
-exit_env e t = record e { scope = record (e.scope) { outcome = t } }
+-- where `result` has this type
+abbrev pub result_env : Env → Option Ty → Env
+result_env e t = record e { scope = record (e.scope) { outcome = t } }
+
+-- a method's body and contract: the parameters are in scope, and `result` has its type
+abbrev pub method_env : List ClassTree → ℕ → MethodTree → Env
+method_env cs k m = result_env (param_env cs k (is_static m) m.params) (option_map (type_id cs) m.result)
 
 abbrev pub locals : Env → BlockTree → List core.LocalTree
 locals e b = map (local e) (declared_in_block b)
@@ -93,7 +97,7 @@ method_flags m = record {
 
 abbrev pub method_body : List ClassTree → ℕ → MethodTree → BodyTree
 method_body cs k m =
-    let e = param_env cs k (is_static m) m.params in
+    let e = method_env cs k m in
     record {
       class = class_number k;
       name = m.name.text;
@@ -104,7 +108,7 @@ method_body cs k m =
       locals = locals e m.body;
       result = option_map (type_id cs) m.result;
       entry = entry_in e m.clauses;
-      exit = exit_in (exit_env e (option_map (type_id cs) m.result)) m.clauses;
+      exit = exit_in e m.clauses;
       modifies = modifies_in e m.clauses;
       base = None;
       block = block e m.body;

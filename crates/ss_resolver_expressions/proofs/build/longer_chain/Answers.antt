@@ -8,7 +8,7 @@ pub returns : goal.returns
 returns c =
     let p : c.args.at ≡ c.args.place = search rules in
     let first = expr c.args.first.value in
-    chain_is c.args.at c.args.first c.push.new.self
+    c.in_ok-boxed.ensures ∙ chain_is c.args.at c.args.first c.push.new.self
     ∙ ap (λ xs. grouped c.args.at first (map typed_link xs)) c.in_ok-push.ensures.items
     ∙ longer typed_link c.args.at first c.args.links.items c.args.link
     ∙ ap (λ at. typed_link c.args.link at (grouped c.args.at first (map typed_link c.args.links.items))) p

@@ -8,7 +8,7 @@ pub returns : goal.returns
 returns c =
     let p : c.args.at ≡ c.args.place = search rules in
     let first = expr c.args.first.value in
-    path_is c.args.at c.args.first c.push.new.self
+    c.in_ok-boxed.ensures ∙ path_is c.args.at c.args.first c.push.new.self
     ∙ ap (λ xs. grouped c.args.at first (map typed_step xs)) c.in_ok-push.ensures.items
     ∙ longer typed_step c.args.at first c.args.steps.items c.args.step
     ∙ ap (λ at. typed_step c.args.step at (grouped c.args.at first (map typed_step c.args.steps.items))) p

@@ -5,7 +5,7 @@ use Rattle.ss_typed.specs.View as view
 use Rattle.ss_resolver_rules.specs.Expressions.{expr, class_named_by}
 use Rattle.ss_resolver_expressions.specs.Scenes.{env_of, part, part_view, numbers_of}
 use Rattle.ss_resolver_expressions.specs.Behinds.{link_behind, postfix_behind}
-use Rattle.ss_resolver_expressions.proofs.Loops.{map_append, none_yet, one_more, drop_all}
+use Rattle.ss_resolver_expressions.proofs.Loops.{none_yet, one_more, drop_all}
 use Rattle.ss_resolver_expressions.proofs.Falls.{links_fall, postfixes_fall}
 use Rattle.ss_resolver_expressions.proofs.Walked as walked
 use Rattle.ss_resolver_expressions.proofs.exprs.+expr.Goals as goal
@@ -58,9 +58,9 @@ pub walk-returns-in_ok-whole-in-Cast-clause-part : goal.walk-returns-in_ok-whole
 walk-returns-in_ok-whole-in-Cast-clause-part t c =
     walked.cast_walked c.args.scene.now c.args.around.now _ _ _ c.args.e.now _ _ _ c.in-Cast.is c.deref-in-Cast.ensures c.in_ok-inner-in-Cast.ensures.tree c.in_ok-whole-in-Cast.ensures
 
-pub walk-returns-in_ok-values-in-New-clause-part : goal.walk-returns-in_ok-values-in-New-clause-part
-walk-returns-in_ok-values-in-New-clause-part t c =
-    walked.new_walked c.args.scene.now c.args.around.now _ _ _ c.args.e.now _ _ _ c.in-New.is c.deref-in-New.ensures.value c.in_ok-values-in-New.ensures.trees c.new_object.ensures
+pub walk-returns-in_ok-whole-in-New-clause-part : goal.walk-returns-in_ok-whole-in-New-clause-part
+walk-returns-in_ok-whole-in-New-clause-part t c =
+    walked.new_walked c.args.scene.now c.args.around.now _ _ _ c.args.e.now _ _ _ c.in-New.is c.deref-in-New.ensures.value c.in_ok-values-in-New.ensures.trees c.in_ok-whole-in-New.ensures
 
 pub walk-returns-in_ok-whole-in-NewArray-clause-part : goal.walk-returns-in_ok-whole-in-NewArray-clause-part
 walk-returns-in_ok-whole-in-NewArray-clause-part t c =
@@ -74,8 +74,8 @@ walk-returns-in_ok-whole-in-Quantified-clause-part t c =
     walked.quantified_walked c.args.scene.now c.args.around.now _ _ _ _ _ _ _ _ c.args.e.now _ _ _ _ _ _ _ a.is c.deref-in-Quantified.ensures c.deref-in-Quantified-2.ensures c.deref-in-Quantified-3.ensures low.kept high.kept
     low.tree high.tree c.in_ok-member-in-Quantified.ensures.tree c.in_ok-whole-in-Quantified.ensures
 
-pub resolve-returns-clause-tree : goal.resolve-returns-clause-tree
-resolve-returns-clause-tree t c =
+pub resolve_boxed-returns-clause-tree : goal.resolve_boxed-returns-clause-tree
+resolve_boxed-returns-clause-tree t c =
     walked.resolved c.args.scene.now c.args.around.now _ c.args.e.now (part_view c.in_ok-whole.whole) _ c.in_ok-whole.ensures.kept c.in_ok-whole.ensures.part c.in_ok-tree.ensures
 
 pub resolve_member-returns-clause-tree : goal.resolve_member-returns-clause-tree
@@ -176,10 +176,10 @@ resolve_values-loop-argument-preserved t c =
     let l = c.loop-argument in
     let v = c.in_ok-value in
     record {
-      trees = one_more (λ (a : Expr). expr (env_of s c.args.around.now) (expr_tree a)) (view.exprs l.values.items) _ _ c.args.written.now l.argument-index c.argument-item.result (view.expr v.value)
+      trees = one_more (λ (a : Expr). expr (env_of s c.args.around.now) (expr_tree a)) (view.exprs l.values.items) _ _ c.args.written.now l.argument-index c.argument-item.result (view.expr v.value.value)
           c.loop-argument-test.true c.argument-item.is
           (v.ensures.tree ∙ ap (λ k. expr (env_of s k) (expr_tree c.argument-item.result)) l.invariant.kept)
-          (ap view.exprs c.in_ok-push.ensures.items ∙ map_append view.expr l.values.items (v.value ∷ []))
+          c.in_ok-add_value.ensures
           l.invariant.trees;
       kept = v.ensures.kept ∙ l.invariant.kept;
     }
@@ -241,8 +241,8 @@ walk-walk_postfixes-requires t c =
     let a = c.in-Path in
     (omega (arith, postfixes_fall a.place a.first a.postfixes c.args.e.now c.deref-in-Path.result.now a.is c.deref-in-Path.ensures.value), tt)
 
-pub walk-returns-in-This-clause-part : goal.walk-returns-in-This-clause-part
-walk-returns-in-This-clause-part t c = walked.this_walked c.args.scene.now c.args.around.now _ c.args.e.now _ c.in-This.is c.this_word.ensures
+pub walk-returns-in_ok-whole-in-This-clause-part : goal.walk-returns-in_ok-whole-in-This-clause-part
+walk-returns-in_ok-whole-in-This-clause-part t c = walked.this_walked c.args.scene.now c.args.around.now _ c.args.e.now _ c.in-This.is c.in_ok-whole-in-This.ensures
 
-pub walk-returns-in-Result-clause-part : goal.walk-returns-in-Result-clause-part
-walk-returns-in-Result-clause-part t c = walked.result_walked c.args.scene.now c.args.around.now _ c.args.e.now _ c.in-Result.is c.outcome.ensures
+pub walk-returns-in_ok-whole-in-Result-clause-part : goal.walk-returns-in_ok-whole-in-Result-clause-part
+walk-returns-in_ok-whole-in-Result-clause-part t c = walked.result_walked c.args.scene.now c.args.around.now _ c.args.e.now _ c.in-Result.is c.in_ok-whole-in-Result.ensures

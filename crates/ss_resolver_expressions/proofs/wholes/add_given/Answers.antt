@@ -10,7 +10,7 @@ pub returns-clause-values : goal.returns-clause-values
 returns-clause-values c = λ t h.
     let e = (env_of c.args.scene.now c.args.around.now) in
     let old = c.args.given.now.values.items in
-    ap view.exprs c.in_ok-push-2.ensures.items ∙ map_append view.expr old (c.in_ok-value.value ∷ [])
+    c.in_ok-add_value.ensures
     ∙ ap (λ v. view.exprs old ++ v ∷ []) (c.in_ok-value.ensures ∙ ap (part_value e) h ∙ value_is e t)
 
 pub returns-clause-classes : goal.returns-clause-classes

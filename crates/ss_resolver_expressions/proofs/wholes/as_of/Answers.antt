@@ -8,5 +8,5 @@ use Rattle.ss_resolver_expressions.proofs.wholes.as_of.Goals as goal
 
 pub returns : goal.returns
 returns c = λ t h.
-    as_done (env_of c.args.scene.now c.args.around.now) c.args.place t (type_tree c.args.ty.now) (part_view c.args.before) (view.expr c.in_ok-left.left) _ _ _ h c.in_ok-left.ensures c.written_class-class.ensures
-    (c.in_ok-whole.ensures ∙ typed.as_is _ c.args.place (view.expr c.in_ok-left.left)) c.type_of_as-known.ensures
+    as_done (env_of c.args.scene.now c.args.around.now) c.args.place t (type_tree c.args.ty.now) (part_view c.args.before) (view.expr c.in_ok-left.left.value) _ _ _ h c.in_ok-left.ensures c.written_class-class.ensures
+    (c.in_ok-whole.ensures ∙ typed.as_is _ c.args.place (view.expr c.in_ok-left.left.value)) c.type_of_as-known.ensures

@@ -8,5 +8,5 @@ use Rattle.ss_resolver_expressions.proofs.wholes.cast.Goals as goal
 
 pub returns : goal.returns
 returns c = λ k t h.
-    cast_done (env_of c.args.scene.now k) c.args.place (type_tree c.args.ty.now) t (view.expr c.args.inner) _ _ _ h c.written_class-class.ensures c.in_ok-whole.ensures
+    cast_done (env_of c.args.scene.now k) c.args.place (type_tree c.args.ty.now) t (view.expr c.args.inner.value) _ _ _ h c.written_class-class.ensures c.in_ok-whole.ensures
     (c.cast_type-known.ensures ∙ ap cast_type c.written_type.ensures)

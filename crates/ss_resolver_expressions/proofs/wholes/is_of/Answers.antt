@@ -8,5 +8,5 @@ use Rattle.ss_resolver_expressions.proofs.wholes.is_of.Goals as goal
 
 pub returns : goal.returns
 returns c = λ t h.
-    is_done (env_of c.args.scene.now c.args.around.now) c.args.place t (type_tree c.args.ty.now) (part_view c.args.before) (view.expr c.in_ok-left.left) _ _ h c.in_ok-left.ensures c.written_class-class.ensures
-    (c.in_ok-whole.ensures ∙ typed.is_is _ c.args.place (view.expr c.in_ok-left.left))
+    is_done (env_of c.args.scene.now c.args.around.now) c.args.place t (type_tree c.args.ty.now) (part_view c.args.before) (view.expr c.in_ok-left.left.value) _ _ h c.in_ok-left.ensures c.written_class-class.ensures
+    (c.in_ok-whole.ensures ∙ typed.is_is _ c.args.place (view.expr c.in_ok-left.left.value))

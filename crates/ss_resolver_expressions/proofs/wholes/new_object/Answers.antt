@@ -14,5 +14,5 @@ pub returns : goal.returns
 returns c = λ k es h.
     let cs = trees c.args.scene.now.within.tables.now in
     new_done (env_of c.args.scene.now k) c.args.place (name_tree c.args.name.now) es (view.exprs c.args.values.items) _ _ _ h
-    (c.class_id-class.ensures ∙ ap (class_id cs) c.as_str-text.ensures.value) c.new_value-whole.ensures
+    (c.class_id-class.ensures ∙ ap (class_id cs) c.as_str-text.ensures.value) c.in_ok-whole.ensures
     (c.class_type-ty.ensures ∙ ap (λ n. option_map (λ k. reference true (class_number k)) (class_named cs n)) c.as_str-text.ensures.value)
