@@ -1,53 +1,71 @@
-//! What a source is to the front end: refused at its first fault of names, types, null or construction, or a resolved program.
+//! Names and types: the resolved program of a source, or the first fault of its names, its types, or the limit on the locals of a body.
 #![tactic(auto)]
 
-ghost use Rattle.std.specs.Prelude.{◌≡◌, IfOk};
+ghost use Rattle.std.specs.Prelude.{◌≡◌, IfOk, None};
 ghost use Rattle.ss_ast.specs.Programs.{program_tree};
+ghost use Rattle.ss_resolver.specs.Phases.{source_fault, Resolves};
+ghost use Rattle.ss_resolver_rules.specs.Programs as programs;
 ghost use Rattle.ss_typed.specs.View.{typed};
-ghost use Rattle.ss_resolver.specs.Phases.{phases, phases_of_resolved, resolved_of};
 
 use ss_ast::Program;
-use ss_delayed::check_construction;
+use ss_core::FrontStop;
 use ss_faults::Fault;
-use ss_nonnull::check_nulls;
+use ss_resolver_limits::first_limit_fault;
 use ss_resolver_names::check_names;
 use ss_resolver_programs::resolve_program;
 use ss_resolver_types::first_type_fault;
 use ss_typed::Typed;
 use std::alloc::{AllocError, Global};
 
-/// A program that is refused, or what it means.
-#[derive(Drop)]
-pub enum Resolved {
-    /// The first fault of the first phase that has one: names, types, null, construction.
-    Refused(Fault),
-    Program(Typed),
-}
-
-// The first fault of null; where there is none the first fault of construction; where there is none of those either, the program.
-fn check_resolved(alloc: Global, program: Typed) -> Result<Resolved, AllocError>
-    ensures { IfOk result (λ r. resolved_of r ≡ phases_of_resolved (typed program)) }
-{
-    if let Some(fault) = check_nulls(alloc, &program)? {
-        return Ok(Resolved::Refused(fault));
-    }
-    if let Some(fault) = check_construction(alloc, &program)? {
-        return Ok(Resolved::Refused(fault));
-    }
-    Ok(Resolved::Program(program))
-}
-
-/// The first fault of names; where there is none the first fault of types; then that of null in the resolved program, and then that of
-/// construction; where there is none at all, the resolved program. The error is want of memory.
-pub fn resolve(alloc: Global, program: &Program) -> Result<Resolved, AllocError>
-    ensures { IfOk result (λ r. resolved_of r ≡ phases (program_tree program.now)) }
+// The first fault of names; where there is none the first fault of types.
+fn source_fault(alloc: Global, program: &Program) -> Result<Option<Fault>, AllocError>
+    ensures { IfOk result (λ f. f ≡ source_fault (program_tree program.now)) }
 {
     if let Some(fault) = check_names(alloc, program)? {
-        return Ok(Resolved::Refused(fault));
+        return Ok(Some(fault));
     }
-    if let Some(fault) = first_type_fault(alloc, program)? {
-        return Ok(Resolved::Refused(fault));
+    first_type_fault(alloc, program)
+}
+
+// The resolved program, where its elaborated bodies are within the limit.
+fn check_limit(alloc: Global, program: &Program, resolved: Typed) -> Result<Typed, FrontStop>
+    requires faultless { source_fault (program_tree program.now) ≡ None }
+    requires resolves { typed resolved ≡ programs.resolved (program_tree program.now) }
+    ensures { Resolves (program_tree program.now) result }
+{
+    let _program = program;
+    match first_limit_fault(alloc, &resolved) {
+        Ok(None) => Ok(resolved),
+        Ok(Some(fault)) => Err(FrontStop::Refused {
+            rule: fault.rule,
+            place: fault.place,
+        }),
+        Err(_) => Err(FrontStop::Memory),
     }
-    let resolved = resolve_program(alloc, program)?;
-    check_resolved(alloc, resolved)
+}
+
+// A program without a fault of names or types.
+fn resolve_faultless(alloc: Global, program: &Program) -> Result<Typed, FrontStop>
+    requires { source_fault (program_tree program.now) ≡ None }
+    ensures { Resolves (program_tree program.now) result }
+{
+    match resolve_program(alloc, program) {
+        Ok(resolved) => check_limit(alloc, program, resolved),
+        Err(_) => Err(FrontStop::Memory),
+    }
+}
+
+/// The resolved program. Refused comes with the first fault of names; where there is none with the first fault of types; and where
+/// there is none of those either with the first body of the elaborated program that has too many locals.
+pub fn resolve(alloc: Global, program: &Program) -> Result<Typed, FrontStop>
+    ensures { Resolves (program_tree program.now) result }
+{
+    match source_fault(alloc, program) {
+        Ok(None) => resolve_faultless(alloc, program),
+        Ok(Some(fault)) => Err(FrontStop::Refused {
+            rule: fault.rule,
+            place: fault.place,
+        }),
+        Err(_) => Err(FrontStop::Memory),
+    }
 }

@@ -2,13 +2,12 @@
 use Rattle.std.proofs.Common.{ℕ, ◌≡◌, List, [], Option, Some, None, option_map, ◌++◌, refl, ap, ◌∙◌}
 use Rattle.std.specs.Prelude.{slice_get}
 use Rattle.std.proofs.lemmas.Option.{same_Some}
-use Rattle.ss_ast.specs.Expressions.{NameTree}
 use Rattle.ss_ast.specs.Programs.{ClassTree}
 use Rattle.ss_tables.specs.Members.{fields_in, methods_in}
 use Rattle.ss_tables.specs.Classes.{members_in, members_at}
 use Rattle.ss_tables_lookup.specs.Shelves.{Shelf, shelf}
 use Rattle.ss_resolver_names_rules.specs.Faults.{Faults}
-use Rattle.ss_resolver_names_rules.specs.Programs.{initials_in, constructors_locals_faults, implicit_locals_faults, methods_locals_faults}
+use Rattle.ss_resolver_names_rules.specs.Programs.{constructors_locals_faults, methods_locals_faults}
 
 fields_of : (cs : List ClassTree) (x : Shelf) (o : Option ClassTree) → Some x ≡ option_map (shelf cs) o → x.fields ≡ fields_in (members_in o)
 fields_of cs x None e = absurd cc
@@ -40,6 +39,5 @@ pub no_shelf_at : (cs : List ClassTree) (k : ℕ) (c : ClassTree) → slice_get 
 no_shelf_at cs k c at e = let h : None ≡ Some (shelf cs c) = e ∙ ap (option_map (shelf cs)) at in cc
 
 -- the faults of bodies by what is kept of a class
-abbrev pub shelf_bodies : List ClassTree → ℕ → NameTree → Shelf → Faults
-shelf_bodies cs k n x =
-    constructors_locals_faults cs k (initials_in x.fields) x.constructors ++ implicit_locals_faults cs k n (initials_in x.fields) x.constructors ++ methods_locals_faults cs k x.methods
+abbrev pub shelf_bodies : List ClassTree → ℕ → Shelf → Faults
+shelf_bodies cs k x = constructors_locals_faults cs k x.constructors ++ methods_locals_faults cs k x.methods

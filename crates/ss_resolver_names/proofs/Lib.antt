@@ -1,3 +1,4 @@
 pub mod Above
 pub mod Counting
 pub mod Kept
+pub mod Targets

@@ -1,23 +1,94 @@
-// Bodies with too many locals.
+// Bodies with too many locals, temporaries left out.
 
-ghost use Rattle.std.specs.Prelude.{◌≡◌, ◌++◌, ◌<◌, List, length, map, OnOk};
-ghost use Rattle.ss_ast.specs.Expressions.{ExprTree, name_tree};
-ghost use Rattle.ss_tables.specs.Scopes.{class_scope};
+ghost use Rattle.std.specs.Prelude.{◌≡◌, ◌++◌, ◌<◌, [], length, map, IfOk, OnOk};
+ghost use Rattle.ss_ast.specs.Expressions.{name_tree};
+ghost use Rattle.ss_ast.specs.Statements.{block_tree};
 ghost use Rattle.ss_tables_lookup.specs.Classes.{trees};
 ghost use Rattle.ss_tables_lookup.specs.Shelved.{shelf_of};
 ghost use Rattle.ss_tables_lookup.specs.Views.{method_tree, constructor_tree};
-ghost use Rattle.ss_resolver_names_rules.specs.Temporaries.{initials_temps};
-ghost use Rattle.ss_resolver_names_rules.specs.Programs.{initials_in, locals_fault, methods_locals_faults, constructors_locals_faults, implicit_locals_faults};
+ghost use Rattle.ss_tables_scopes.specs.Views.{scope_of};
+ghost use Rattle.ss_resolver_names_rules.specs.Locals.{block_params, locals_in};
+ghost use Rattle.ss_resolver_names_rules.specs.Programs.{method_locals, constructor_locals, locals_fault, methods_locals_faults, constructors_locals_faults};
 
-use ss_ast::Name;
+use crate::assigned::note_block;
+use crate::declared::block_locals;
+use indexmap::IndexSet;
+use ss_ast::{Block, Name};
 use ss_faults::Fault;
 use ss_resolver_names_members::add;
 use ss_resolver_names_rules::Rule;
-use ss_resolver_names_temporaries::{constructor_locals, initials_temps, method_locals};
+use ss_resolver_scoping::{declare_params, plus};
 use ss_tables_lookup::{ConstructorRef, MethodRef, Shelf, Tables};
+use ss_tables_scopes::{Scopes, Within};
 use std::alloc::{AllocError, Global};
 
 const MOST_LOCALS: usize = 4096;
+
+// How many parameters a block assigns.
+fn assigned_params(
+    alloc: Global,
+    within: Within<'_, '_>,
+    locals: &mut Scopes,
+    body: &Block,
+) -> Result<usize, AllocError>
+    ensures { IfOk result (λ n. n ≡ length (block_params (scope_of within.entry locals.old) [] (block_tree body.now))) }
+{
+    let mut names = IndexSet::new(alloc);
+    note_block(alloc, within, locals, &mut names, body)?;
+    Ok(names.len())
+}
+
+// The locals of a block in the scope of its parameters.
+fn locals_in(
+    alloc: Global,
+    within: Within<'_, '_>,
+    locals: &mut Scopes,
+    body: &Block,
+) -> Result<usize, AllocError>
+    ensures { IfOk result (λ n. n ≡ locals_in (scope_of within.entry locals.old) (block_tree body.now)) }
+{
+    let declared = block_locals(body)?;
+    let assigned = assigned_params(alloc, within, locals, body)?;
+    plus(declared, assigned)
+}
+
+fn method_locals(
+    alloc: Global,
+    tables: &Tables<'_>,
+    class: usize,
+    method: MethodRef<'_>,
+) -> Result<usize, AllocError>
+    requires { class < length (trees tables.now) }
+    ensures { IfOk result (λ n. n ≡ method_locals (trees tables.now) class (method_tree method.entry)) }
+{
+    let within = Within {
+        tables,
+        class,
+        outcome: None,
+    };
+    let mut locals = Scopes::new(alloc);
+    declare_params(alloc, within, &mut locals, &method.method.params)?;
+    locals_in(alloc, within, &mut locals, &method.method.body)
+}
+
+fn constructor_locals(
+    alloc: Global,
+    tables: &Tables<'_>,
+    class: usize,
+    constructor: ConstructorRef<'_>,
+) -> Result<usize, AllocError>
+    requires { class < length (trees tables.now) }
+    ensures { IfOk result (λ n. n ≡ constructor_locals (trees tables.now) class (constructor_tree constructor.entry)) }
+{
+    let within = Within {
+        tables,
+        class,
+        outcome: None,
+    };
+    let mut locals = Scopes::new(alloc);
+    declare_params(alloc, within, &mut locals, &constructor.constructor.params)?;
+    locals_in(alloc, within, &mut locals, &constructor.constructor.body)
+}
 
 // A body with so many locals, at its name.
 #[tactic(auto, unfolding(ss_resolver_names_rules::specs::Programs::most_locals))]
@@ -52,36 +123,16 @@ fn check_constructor_locals(
     tables: &Tables<'_>,
     class: usize,
     faults: &mut Vec<Fault>,
-    initials: usize,
     constructors: &[ConstructorRef<'_>],
 ) -> Result<(), AllocError>
     requires { class < length (trees tables.now) }
-    ensures { (es : List ExprTree) → initials ≡ initials_temps (class_scope (trees tables.now) class) es
-        → OnOk result (faults.new.items ≡ faults.old.items ++ constructors_locals_faults (trees tables.now) class es (map constructor_tree constructors.now)) }
+    ensures { OnOk result (faults.new.items ≡ faults.old.items ++ constructors_locals_faults (trees tables.now) class (map constructor_tree constructors.now)) }
 {
     for constructor in constructors {
-        let count = constructor_locals(alloc, tables, class, initials, *constructor)?;
+        let count = constructor_locals(alloc, tables, class, *constructor)?;
         check_count(faults, count, &constructor.constructor.name)?;
     }
     Ok(())
-}
-
-// A class without a constructor has one of its own name, which its initializers alone fill.
-fn check_implicit_locals(
-    tables: &Tables<'_>,
-    class: usize,
-    faults: &mut Vec<Fault>,
-    initials: usize,
-    name: &Name,
-    constructors: &[ConstructorRef<'_>],
-) -> Result<(), AllocError>
-    ensures { (es : List ExprTree) → initials ≡ initials_temps (class_scope (trees tables.now) class) es
-        → OnOk result (faults.new.items ≡ faults.old.items ++ implicit_locals_faults (trees tables.now) class (name_tree name.now) es (map constructor_tree constructors.now)) }
-{
-    match constructors {
-        [] => check_count(faults, initials, name),
-        [_, ..] => Ok(()),
-    }
 }
 
 /// Bodies with too many locals.
@@ -90,17 +141,13 @@ pub fn check_bodies(
     tables: &Tables<'_>,
     class: usize,
     faults: &mut Vec<Fault>,
-    name: &Name,
     shelf: &Shelf<'_>,
 ) -> Result<(), AllocError>
     requires { class < length (trees tables.now) }
     ensures { OnOk result (faults.new.items ≡ faults.old.items
-        ++ (constructors_locals_faults (trees tables.now) class (initials_in (shelf_of shelf.now).fields) (shelf_of shelf.now).constructors
-        ++ implicit_locals_faults (trees tables.now) class (name_tree name.now) (initials_in (shelf_of shelf.now).fields) (shelf_of shelf.now).constructors
+        ++ (constructors_locals_faults (trees tables.now) class (shelf_of shelf.now).constructors
         ++ methods_locals_faults (trees tables.now) class (shelf_of shelf.now).methods)) }
 {
-    let initials = initials_temps(alloc, tables, class, &shelf.fields)?;
-    check_constructor_locals(alloc, tables, class, faults, initials, &shelf.constructors)?;
-    check_implicit_locals(tables, class, faults, initials, name, &shelf.constructors)?;
+    check_constructor_locals(alloc, tables, class, faults, &shelf.constructors)?;
     check_method_locals(alloc, tables, class, faults, &shelf.methods)
 }

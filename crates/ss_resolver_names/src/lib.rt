@@ -2,9 +2,11 @@
 //! whether there is one `Main`, and what is past a limit.
 #![tactic(auto)]
 
+mod assigned;
 mod chains;
 mod classes;
 mod counts;
+mod declared;
 mod overrides;
 mod program;
 

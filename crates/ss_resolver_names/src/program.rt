@@ -67,7 +67,7 @@ fn check_shelf(
 {
     check_heading(alloc, tables, class, faults, declaration, kept)?;
     check_members(alloc, tables, class, faults, &declaration.members)?;
-    check_bodies(alloc, tables, class, faults, &declaration.name, kept)
+    check_bodies(alloc, tables, class, faults, kept)
 }
 
 // The class at a place.

@@ -26,11 +26,11 @@ has_member cs n (Some t) = if is_array_number t then is_length n else declares c
 abbrev pub is_inherited : List ClassTree → ℕ → List ℕ → Bool
 is_inherited cs k n = is_some (inherited_field cs k n) || is_some (inherited_method cs k n)
 
--- what is read behind the dot; the state words may stand behind any
+-- what is read behind the dot; the state words may stand behind any, and behind `base` nothing is read
 abbrev pub read_faults : Scope → NameTree → Receiver → Faults
 read_faults s n TheConsole = unless (is_print n.text) (unknown n.place)
 read_faults s n TheOwner = unless (is_owner_word n.text) (unknown n.place)
-read_faults s n TheBase = unless (is_state_word n.text || is_inherited s.classes s.class n.text) (unknown n.place)
+read_faults s n TheBase = []
 read_faults s n (AClass k) = []
 read_faults s n (AValue t) = unless (is_state_word n.text || has_member s.classes n.text (option_and_then class_of t)) (unknown n.place)
 
@@ -42,11 +42,11 @@ before_dot TheBase fs = fs
 before_dot (AClass k) fs = fs
 before_dot (AValue t) fs = fs
 
--- what is called behind the dot, with the faults of the same where it is read: a class may stand before the dot of a call
+-- what is called behind the dot, with the faults of the same where it is read: `base` or a class may stand before the dot of a call
 abbrev pub called_faults : Scope → NameTree → Receiver → Faults → Faults
 called_faults s n TheConsole fs = fs
 called_faults s n TheOwner fs = fs
-called_faults s n TheBase fs = fs
+called_faults s n TheBase fs = unless (is_state_word n.text || is_inherited s.classes s.class n.text) (unknown n.place)
 called_faults s n (AClass k) fs = if is_state_word n.text then fs else unless (is_member s.classes k n.text) (unknown n.place)
 called_faults s n (AValue t) fs = fs
 

@@ -1,11 +1,9 @@
 pub mod Faults
 pub mod Expressions
 pub mod Statements
-pub mod Temporaries
+pub mod Locals
 pub mod Members
 pub mod Programs
 pub mod Prefixes
 pub mod Bare
-pub mod Sums
-pub mod Initials
 pub mod Headings

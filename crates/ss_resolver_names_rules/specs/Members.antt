@@ -3,7 +3,7 @@ use Rattle.std.specs.Prelude.{ℕ, ◌&&◌, not, Bool, true, false, List, [], �
 use Rattle.std.specs.Str.{bytes_eq}
 use Rattle.ss_core.specs.declared.names.Ty.{Ty}
 use Rattle.ss_ast.specs.Expressions.{NameTree, TypeNameTree, IntType, BoolType, ObjectType, ClassType, TypeTree, ExprTree}
-use Rattle.ss_ast.specs.Statements.{DeclaratorTree}
+use Rattle.ss_ast.specs.Statements.{DeclaratorTree, BlockTree}
 use Rattle.ss_ast.specs.Programs.{ParamTree, ModifiedTree, AllOf, ElementsOf, OneOf, ClauseTree, RequiresOf, EnsuresOf, ModifiesOf, BaseCallTree, MemberKindTree, FieldsOf, InvariantOf, MethodOf, ConstructorOf, MemberTree, ClassTree}
 use Rattle.ss_tables.specs.Members.{MethodTree, ConstructorTree, is_override, is_open, has_attribute}
 use Rattle.ss_tables.specs.Classes.{Declared, inherited_method}
@@ -33,15 +33,14 @@ abbrev pub modified_faults : Scope → List ModifiedTree → Faults
 modified_faults s [] = []
 modified_faults s (m ∷ ms) = expr_faults s (modified_expr m) ++ modified_faults s ms
 
--- `result` has a type in an `ensures` alone
-abbrev pub clause_faults : Scope → Option Ty → ClauseTree → Faults
-clause_faults s outcome (RequiresOf e) = expr_faults s e
-clause_faults s outcome (EnsuresOf e) = expr_faults (record s { outcome = outcome }) e
-clause_faults s outcome (ModifiesOf ms) = modified_faults s ms
+abbrev pub clause_faults : Scope → ClauseTree → Faults
+clause_faults s (RequiresOf e) = expr_faults s e
+clause_faults s (EnsuresOf e) = expr_faults s e
+clause_faults s (ModifiesOf ms) = modified_faults s ms
 
-abbrev pub clauses_faults : Scope → Option Ty → List ClauseTree → Faults
-clauses_faults s outcome [] = []
-clauses_faults s outcome (c ∷ cs) = clause_faults s outcome c ++ clauses_faults s outcome cs
+abbrev pub clauses_faults : Scope → List ClauseTree → Faults
+clauses_faults s [] = []
+clauses_faults s (c ∷ cs) = clause_faults s c ++ clauses_faults s cs
 
 abbrev pub written_type_faults : List ClassTree → Option TypeTree → Faults
 written_type_faults cs None = []
@@ -55,16 +54,21 @@ abbrev pub initials_faults : Scope → List DeclaratorTree → Faults
 initials_faults s [] = []
 initials_faults s (d ∷ ds) = faults_of_any s d.initial ++ initials_faults s ds
 
+-- where `result` has this type
+abbrev pub with_outcome : Scope → Option Ty → Scope
+with_outcome s t = record s { outcome = t }
+
 -- the parameters are in scope in the contract, in `: base(..)` and in the body
+abbrev pub body_faults : Scope → List ParamTree → Option BaseCallTree → List ClauseTree → BlockTree → Faults
+body_faults s ps base cs b =
+    params_faults s ps ++ base_faults (declare_params s ps) base
+    ++ clauses_faults (declare_params s ps) cs ++ block_faults (declare_params s ps) b
+
 abbrev pub kind_faults : Scope → MemberKindTree → Faults
 kind_faults s (FieldsOf d) = type_faults s.classes d.ty ++ initials_faults s d.declarators
 kind_faults s (InvariantOf e) = expr_faults s e
-kind_faults s (MethodOf r n ps cs b) =
-    written_type_faults s.classes r ++ params_faults s ps
-    ++ clauses_faults (declare_params s ps) (result_type s.classes r) cs ++ block_faults (declare_params s ps) b
-kind_faults s (ConstructorOf n ps base cs b) =
-    params_faults s ps ++ base_faults (declare_params s ps) base
-    ++ clauses_faults (declare_params s ps) None cs ++ block_faults (declare_params s ps) b
+kind_faults s (MethodOf r n ps cs b) = written_type_faults s.classes r ++ body_faults (with_outcome s (result_type s.classes r)) ps None cs b
+kind_faults s (ConstructorOf n ps base cs b) = body_faults s ps base cs b
 
 abbrev pub members_faults : Scope → List MemberTree → Faults
 members_faults s [] = []

@@ -1,4 +1,4 @@
--- Paths read from the left: what is known of an expression before what stands behind it. A name alone and a member behind a
+-- Paths read from the left: what is known of an expression before what stands behind it. A name alone and a member behind `base` or a
 -- class have faults that the next part decides.
 use Rattle.std.specs.Prelude.{◌≡◌, ℕ, Bool, true, false, ◌||◌, List, [], ◌++◌, Option, Some, None, option_and_then, option_map, if◌then◌else◌}
 use Rattle.ss_core.specs.declared.names.Place.{Place}
@@ -7,7 +7,7 @@ use Rattle.ss_ast.specs.Expressions.{NameTree, ExprTree, IffOf, ImpliesOf, Binar
 use Rattle.ss_tables.specs.Words.{is_print, is_owner_word, is_state_word}
 use Rattle.ss_tables.specs.Types.{class_of, element_type}
 use Rattle.ss_tables.specs.Scopes.{Scope}
-use Rattle.ss_tables.specs.Statics.{Receiver, TheConsole, TheOwner, TheBase, AClass, AValue, Callee, ABase, NoCallee, is_member, is_known, name_receiver, name_type, read_type, name_callee, member_callee, call_type, static}
+use Rattle.ss_tables.specs.Statics.{Receiver, TheConsole, TheOwner, TheBase, AClass, AValue, Callee, ABase, NoCallee, is_member, is_known, name_receiver, name_type, read_type, name_callee, member_callee, count, called_with, call_type, static}
 use Rattle.ss_resolver_names_rules.specs.Faults.{Faults, unless, unknown, class_faults}
 use Rattle.ss_resolver_names_rules.specs.Expressions.{expr_faults, arguments_faults, has_member, is_inherited, read_faults, asked_class}
 
@@ -79,7 +79,7 @@ pending s (AnOther t) = []
 abbrev pub member_called : Scope → Option Place → NameTree → Receiver → Faults
 member_called s b n TheConsole = []
 member_called s b n TheOwner = []
-member_called s b n TheBase = []
+member_called s b n TheBase = unless (is_state_word n.text || is_inherited s.classes s.class n.text) (unknown n.place)
 member_called s b n (AClass k) = if is_state_word n.text then unknown_at b else unless (is_member s.classes k n.text) (unknown n.place)
 member_called s b n (AValue t) = []
 
@@ -101,7 +101,7 @@ asked s (AnOther t) = []
 abbrev pub dotted : Scope → Prefix → NameTree → Receiver → Faults
 dotted s x n TheConsole = unless (is_print n.text) (unknown n.place)
 dotted s x n TheOwner = unless (is_owner_word n.text) (unknown n.place)
-dotted s x n TheBase = unless (is_state_word n.text || is_inherited s.classes s.class n.text) (unknown n.place)
+dotted s x n TheBase = []
 dotted s x n (AClass k) = []
 dotted s x n (AValue t) = pending s x ++ unless (is_state_word n.text || has_member s.classes n.text (option_and_then class_of t)) (unknown n.place)
 
@@ -112,7 +112,7 @@ prefix s (NameOf p n) = ABareName p n
 prefix s (BaseOf p) = ABaseWord
 prefix s (MemberOf p e n) = AMember (bare_place (prefix s e)) (prefix_receiver s (prefix s e)) n
 prefix s (ElementOf p e i) = AnOther (option_and_then element_type (option_and_then class_of (prefix_value s (prefix s e))))
-prefix s (CallOf p e es) = AnOther (call_type s.classes (prefix_callee s (prefix s e)))
+prefix s (CallOf p e es) = AnOther (call_type s.classes (called_with (count es) (prefix_callee s (prefix s e))))
 prefix s (IffOf p a b) = AnOther (static s (IffOf p a b))
 prefix s (ImpliesOf p a b) = AnOther (static s (ImpliesOf p a b))
 prefix s (BinaryOf p o a b) = AnOther (static s (BinaryOf p o a b))

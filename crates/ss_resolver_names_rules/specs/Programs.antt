@@ -1,8 +1,8 @@
 -- Faults of classes and programs, limits, and the first fault of the phase of names.
 use Rattle.std.specs.Prelude.{ℕ, zero, suc, ◌+◌, ◌==◌, ◌&&◌, not, nat_le, nat_lt, Bool, true, false, List, [], ◌∷◌, ◌++◌, map, length, drop, sum_by, count_by, Option, Some, None, is_some, codes, if◌then◌else◌}
 use Rattle.std.specs.Str.{bytes_eq}
-use Rattle.ss_ast.specs.Expressions.{NameTree, IntType, ExprTree}
-use Rattle.ss_ast.specs.Programs.{ParamTree, BaseCallTree, ClassTree, ProgramTree}
+use Rattle.ss_ast.specs.Expressions.{NameTree, IntType}
+use Rattle.ss_ast.specs.Programs.{ParamTree, ClassTree, ProgramTree}
 use Rattle.ss_tables.specs.Members.{FieldTree, MethodTree, ConstructorTree, fields_in, methods_in, constructors_in, is_static}
 use Rattle.ss_tables.specs.Classes.{above, steps_above, chain_above, members_at}
 use Rattle.ss_tables.specs.Scopes.{class_scope, param_scope}
@@ -10,7 +10,7 @@ use Rattle.ss_resolver_names_rules.specs.declared.fault.Rule.TheVariants as rule
 use Rattle.ss_faults.specs.declared.Fault.{Fault}
 use Rattle.ss_faults.specs.First.{first_fault}
 use Rattle.ss_resolver_names_rules.specs.Faults.{Faults, fault, unless, twice_among, class_faults}
-use Rattle.ss_resolver_names_rules.specs.Temporaries.{locals_in, initials_temps, base_temps}
+use Rattle.ss_resolver_names_rules.specs.Locals.{locals_in}
 use Rattle.ss_resolver_names_rules.specs.Members.{members_faults, member_names, faults_at, constructor_faults, override_faults, same_type_name}
 
 -- ---- limits
@@ -62,29 +62,13 @@ fields_faults cs k c = field_limit_faults (if ends cs k then inherited_fields cs
 abbrev pub methods_faults : List MethodTree → Faults
 methods_faults ms = faults_at rule.Limit (map (λ (m : MethodTree). m.name) (drop most_methods ms))
 
--- the initializers of a class's fields
-abbrev pub initials_in : List FieldTree → List ExprTree
-initials_in [] = []
-initials_in (f ∷ fs) = with_initial f.initial (initials_in fs)
-  where
-    with_initial : Option ExprTree → List ExprTree → List ExprTree
-    with_initial None es = es
-    with_initial (Some e) es = e ∷ es
-
-abbrev pub base_arguments : Option BaseCallTree → List ExprTree
-base_arguments None = []
-base_arguments (Some b) = b.arguments
-
 abbrev pub method_locals : List ClassTree → ℕ → MethodTree → ℕ
 method_locals cs k m = locals_in (param_scope cs k m.params) m.body
 
--- a constructor begins with the initializers of the class
-abbrev pub constructor_locals : List ClassTree → ℕ → List ExprTree → ConstructorTree → ℕ
-constructor_locals cs k initials c =
-    initials_temps (class_scope cs k) initials + base_temps (param_scope cs k c.params) (base_arguments c.base)
-    + locals_in (param_scope cs k c.params) c.body
+abbrev pub constructor_locals : List ClassTree → ℕ → ConstructorTree → ℕ
+constructor_locals cs k c = locals_in (param_scope cs k c.params) c.body
 
--- a body with too many locals, at its name
+-- a body with too many locals before its temporaries, at its name
 abbrev pub locals_fault : ℕ → NameTree → Faults
 locals_fault n name = if nat_le n most_locals then [] else fault rule.Limit name.place
 
@@ -92,21 +76,12 @@ abbrev pub methods_locals_faults : List ClassTree → ℕ → List MethodTree �
 methods_locals_faults cs k [] = []
 methods_locals_faults cs k (m ∷ ms) = locals_fault (method_locals cs k m) m.name ++ methods_locals_faults cs k ms
 
-abbrev pub constructors_locals_faults : List ClassTree → ℕ → List ExprTree → List ConstructorTree → Faults
-constructors_locals_faults cs k initials [] = []
-constructors_locals_faults cs k initials (c ∷ ds) =
-    locals_fault (constructor_locals cs k initials c) c.name ++ constructors_locals_faults cs k initials ds
-
--- a class without a constructor has one of its own name, which its initializers alone fill
-abbrev pub implicit_locals_faults : List ClassTree → ℕ → NameTree → List ExprTree → List ConstructorTree → Faults
-implicit_locals_faults cs k name initials [] = locals_fault (initials_temps (class_scope cs k) initials) name
-implicit_locals_faults cs k name initials (c ∷ ds) = []
+abbrev pub constructors_locals_faults : List ClassTree → ℕ → List ConstructorTree → Faults
+constructors_locals_faults cs k [] = []
+constructors_locals_faults cs k (c ∷ ds) = locals_fault (constructor_locals cs k c) c.name ++ constructors_locals_faults cs k ds
 
 abbrev pub bodies_faults : List ClassTree → ℕ → ClassTree → Faults
-bodies_faults cs k c =
-    constructors_locals_faults cs k (initials_in (fields_in c.members)) (constructors_in c.members)
-    ++ implicit_locals_faults cs k c.name (initials_in (fields_in c.members)) (constructors_in c.members)
-    ++ methods_locals_faults cs k (methods_in c.members)
+bodies_faults cs k c = constructors_locals_faults cs k (constructors_in c.members) ++ methods_locals_faults cs k (methods_in c.members)
 
 -- ---- the class above
 

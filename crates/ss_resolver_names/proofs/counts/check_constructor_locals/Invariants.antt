@@ -1,13 +1,9 @@
-use Rattle.std.proofs.Common.{◌≡◌, ◌++◌, List, map, drop}
-use Rattle.ss_ast.specs.Expressions.{ExprTree}
-use Rattle.ss_tables.specs.Scopes.{class_scope}
+use Rattle.std.proofs.Common.{◌≡◌, ◌++◌, map, drop}
 use Rattle.ss_tables_lookup.specs.Classes.{trees}
 use Rattle.ss_tables_lookup.specs.Views.{constructor_tree}
-use Rattle.ss_resolver_names_rules.specs.Temporaries.{initials_temps}
 use Rattle.ss_resolver_names_rules.specs.Programs.{constructors_locals_faults}
 use Rattle.ss_resolver_names.proofs.counts.check_constructor_locals.Given as goal
 
 abbrev pub invariant-loop-constructor : goal.invariant-loop-constructor
 invariant-loop-constructor l =
-    (es : List ExprTree) → l.initials ≡ initials_temps (class_scope (trees l.tables) l.class) es
-    → l.faults.items ++ constructors_locals_faults (trees l.tables) l.class es (map constructor_tree (drop l.constructor-index l.constructors)) ≡ l.fn.faults.items ++ constructors_locals_faults (trees l.tables) l.class es (map constructor_tree l.constructors)
+    l.faults.items ++ constructors_locals_faults (trees l.tables) l.class (map constructor_tree (drop l.constructor-index l.constructors)) ≡ l.fn.faults.items ++ constructors_locals_faults (trees l.tables) l.class (map constructor_tree l.constructors)

@@ -17,4 +17,4 @@ returns c =
     let t = class_tree c.args.declaration.now in
     on_ok_weaker c.check_bodies.result (λ h. two_more c.args.faults.now.items c.check_heading.new.faults.items c.check_members.new.faults.items c.check_bodies.new.faults.items (heading_faults cs k t) (members_faults (class_scope cs k) t.members) (bodies_faults cs k t)
     c.in_ok-check_heading.ensures (c.in_ok-check_members.ensures ∙ ap (λ ms. c.check_heading.new.faults.items ++ members_faults (class_scope cs k) (map member_tree ms)) c.deref.ensures.value)
-    (h ∙ ap (λ x. c.check_members.new.faults.items ++ shelf_bodies cs k t.name x) c.requires.shelved)) c.check_bodies.ensures
+    (h ∙ ap (λ x. c.check_members.new.faults.items ++ shelf_bodies cs k x) c.requires.shelved)) c.check_bodies.ensures

@@ -1,3 +1,0 @@
-pub mod Lifts
-pub mod Summing
-pub mod Targets
