@@ -49,7 +49,7 @@ is_bad may before a = not (may a.text) || is_excluded before a.text
 -- the attributes that may not stand there, or not behind those before them
 abbrev pub bad_behind : Names → List NameTree → List NameTree → List Place
 bad_behind may before [] = []
-bad_behind may before (a ∷ more) = (if is_bad may before a then a.place ∷ [] else []) ++ bad_behind may (a ∷ before) more
+bad_behind may before (a ∷ more) = (if is_bad may before a then a.place ∷ [] else []) ++ bad_behind may (before ++ a ∷ []) more
 
 abbrev pub bad_attributes : Names → List NameTree → List Place
 bad_attributes may attributes = bad_behind may [] attributes

@@ -1,12 +1,13 @@
 -- The faults of ownership of a whole program.
-use Rattle.std.specs.Prelude.{ℕ, ◌+◌, ◌*◌, List, [], ◌∷◌, ◌++◌, map, Option, Some, None}
+use Rattle.std.specs.Prelude.{ℕ, ◌+◌, List, [], ◌∷◌, ◌++◌, map, Option, Some, None, slice_get}
+use Rattle.ss_core.specs.declared.names.Mark.{Mark}
 use Rattle.ss_core.specs.declared.names.Place.{Place}
 use Rattle.ss_faults.specs.declared.Fault.{Fault}
 use Rattle.ss_core.specs.Tree as core
 use Rattle.ss_typed.specs.Tree.{ParamTree, ModifiedTree, OneOf, AllOf, ElementsOf, BaseTree, BodyTree, FieldTree, InvariantTree, MembersTree, TypedTree}
-use Rattle.ss_paths.specs.Fields.{own_fields}
+use Rattle.ss_paths.specs.Fields.{fields_in}
 use Rattle.ss_owners_rules.specs.Words.{NoWord, Questions, EveryWord, misplaced, misplaced_each, misplaced_in_all, misplaced_if, misplaced_in}
-use Rattle.ss_owners_rules.specs.Admissible.{inadmissible}
+use Rattle.ss_owners_rules.specs.Admissible.{field_marks, inadmissible}
 use Rattle.ss_owners_rules.specs.Attributes.{on_field, on_param, on_body, on_invariant, bad_attributes}
 
 -- the numbers of the rules
@@ -34,28 +35,40 @@ of_attributes ps = map (at bad_attribute) ps
 -- ---- members of classes
 
 -- the invariants of a class have no word of conditions, not even `result`
-abbrev pub invariants_faults : List core.ClassTree → List InvariantTree → List Fault
-invariants_faults cs [] = []
-invariants_faults cs (i ∷ more) =
-    of_attributes (bad_attributes on_invariant i.attributes) ++ of_words (misplaced NoWord i.condition) ++ of_reads (inadmissible cs i.condition)
-    ++ invariants_faults cs more
+abbrev pub invariant_faults : List Mark → InvariantTree → List Fault
+invariant_faults ms i = of_attributes (bad_attributes on_invariant i.attributes) ++ of_words (misplaced NoWord i.condition) ++ of_reads (inadmissible ms i.condition)
 
--- these fields, each with its entry in the table of classes
+abbrev pub invariants_faults : List Mark → List InvariantTree → List Fault
+invariants_faults ms [] = []
+invariants_faults ms (i ∷ more) = invariant_faults ms i ++ invariants_faults ms more
+
+-- a field with its entry in the table of classes
+abbrev pub field_faults : FieldTree → core.FieldTree → List Fault
+field_faults f g = of_attributes (bad_attributes (on_field g.ty) f.attributes) ++ of_words (misplaced_if NoWord f.initial)
+
+-- these fields, each with its entry
 abbrev pub fields_faults : List FieldTree → List core.FieldTree → List Fault
 fields_faults [] gs = []
 fields_faults (f ∷ fs) [] = []
-fields_faults (f ∷ fs) (g ∷ gs) = of_attributes (bad_attributes (on_field g.ty) f.attributes) ++ of_words (misplaced_if NoWord f.initial) ++ fields_faults fs gs
+fields_faults (f ∷ fs) (g ∷ gs) = field_faults f g ++ fields_faults fs gs
 
--- these classes, the first of which stands at place k of the list
+-- the class at place k of the list
+abbrev pub class_faults : TypedTree → ℕ → MembersTree → List Fault
+class_faults p k c = fields_faults c.fields (fields_in (slice_get p.classes k)) ++ invariants_faults (field_marks p.classes) c.invariants
+
+-- these classes, the first of which stands at place k
 abbrev pub classes_faults : TypedTree → ℕ → List MembersTree → List Fault
 classes_faults p k [] = []
-classes_faults p k (c ∷ cs) = fields_faults c.fields (own_fields p (4 + 2 * k)) ++ invariants_faults p.classes c.invariants ++ classes_faults p (k + 1) cs
+classes_faults p k (c ∷ cs) = class_faults p k c ++ classes_faults p (k + 1) cs
 
 -- ---- bodies
 
+abbrev pub param_faults : ParamTree → List Fault
+param_faults x = of_attributes (bad_attributes (on_param x.ty) x.attributes)
+
 abbrev pub params_faults : List ParamTree → List Fault
 params_faults [] = []
-params_faults (x ∷ xs) = of_attributes (bad_attributes (on_param x.ty) x.attributes) ++ params_faults xs
+params_faults (x ∷ xs) = param_faults x ++ params_faults xs
 
 abbrev pub misplaced_term : ModifiedTree → List Place
 misplaced_term (OneOf e f) = misplaced NoWord e

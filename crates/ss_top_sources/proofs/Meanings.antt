@@ -1,5 +1,5 @@
 -- A source means one program, or it has one fault.
-use Rattle.std.proofs.Common.{◌≡◌, ◌⊎◌, ⊎_elim, List, ℕ, map, Ok, Err, refl, sym, ap, ◌∙◌, subst}
+use Rattle.std.proofs.Common.{◌≡◌, ◌⊎◌, ⊎_elim, List, ℕ, map, Some, None, Ok, Err, refl, sym, ap, ◌∙◌, subst}
 use Rattle.ss_core.specs.declared.names.Place.{Place}
 use Rattle.ss_ast.specs.Tokens.{Tok}
 use Rattle.ss_ast.specs.Programs.{ProgramTree}
@@ -11,8 +11,8 @@ use Rattle.ss_grammar_programs.proofs.Programs.{program_one}
 use Rattle.ss_decls.specs.Answer.{Refusal}
 use Rattle.ss_faults.specs.declared.Fault.{Fault}
 use Rattle.ss_typed.specs.Tree.{TypedTree}
-use Rattle.ss_resolver.specs.Phases as front
-use Rattle.ss_resolver.specs.Phases.{phases, IsProgram}
+use Rattle.ss_resolver_rules.specs.Programs.{resolved}
+use Rattle.ss_top_sources.specs.Phases.{program_fault}
 use Rattle.ss_top_sources.specs.Sources.{AreProgram, AreRefused, IsAccepted, IsNoProgram, IsFaulty, IsRefused}
 use Rattle.ss_top_sources.proofs.Faults.{refused_none, one_refusal}
 
@@ -22,13 +22,10 @@ one_list source a b x y = let e : Ok a ≡ Ok b = one_answer source (Ok a) (Ok b
 one_tree : (a b : List Tok) (p q : ProgramTree) → a ≡ b → AreProgram a p → AreProgram b q → p ≡ q
 one_tree a b p q same x y = program_one 64 64 (map AToken b) p q (subst (λ ts. AreProgram ts p) same x) y
 
-one_program : (p q : TypedTree) → IsProgram p ≡ IsProgram q → p ≡ q
-one_program p q e = cc
-
 pub one_meaning : (source : List ℕ) (ts us : List Tok) (p q : TypedTree) → IsAccepted source ts p → IsAccepted source us q → (ts ≡ us) × (p ≡ q)
 one_meaning source ts us p q m n =
     let tokens = one_list source ts us m.reads n.reads in
-    (tokens, one_program p q (sym m.resolves ∙ ap phases (one_tree ts us m.tree n.tree tokens m.parses n.parses) ∙ n.resolves))
+    (tokens, sym m.resolves ∙ ap resolved (one_tree ts us m.tree n.tree tokens m.parses n.parses) ∙ n.resolves)
 
 -- ---- what has tokens has no fault in its bytes; what is a program isn't refused
 
@@ -43,14 +40,14 @@ no_refusal source ts p rule at reads parses none =
     let tokens = one_list source ts none.tokens reads none.reads in
     refused_none rule (map AToken none.tokens) (none.refused).0 p (none.refused).2 (subst (λ l. AreProgram l p) tokens parses)
 
-apart_outcomes : (p : TypedTree) (f : Fault) → IsProgram p ≡ front.IsRefused f → ⊥
-apart_outcomes p f e = absurd (cc)
+none_or_some : (f : Fault) → None ≡ Some f → ⊥
+none_or_some f e = absurd (cc)
 
 no_program_fault : (source : List ℕ) (ts : List Tok) (p : TypedTree) (rule : ℕ) (at : Place) → IsAccepted source ts p → IsFaulty source rule at → ⊥
 no_program_fault source ts p rule at m n =
     let tokens = one_list source ts n.tokens m.reads n.reads in
     let tree = one_tree ts n.tokens m.tree n.tree tokens m.parses n.parses in
-    apart_outcomes p (record { rule = rule; place = at }) (sym m.resolves ∙ ap phases tree ∙ n.faulty)
+    none_or_some (record { rule = rule; place = at }) (sym m.faultless ∙ ap program_fault tree ∙ n.faulty)
 
 pub no_fault : (source : List ℕ) (ts : List Tok) (p : TypedTree) (rule : ℕ) (at : Place) → IsAccepted source ts p → IsRefused source rule at → ⊥
 no_fault source ts p rule at m h = ⊎_elim
@@ -79,10 +76,10 @@ one_program_fault : (source : List ℕ) (r s : ℕ) (a b : Place) → IsFaulty s
 one_program_fault source r s a b x y =
     let tokens = one_list source x.tokens y.tokens x.reads y.reads in
     let tree = one_tree x.tokens y.tokens x.tree y.tree tokens x.parses y.parses in
-    let e = one_refusal_of (record { rule = r; place = a }) (record { rule = s; place = b }) (sym x.faulty ∙ ap phases tree ∙ y.faulty) in
+    let e = one_refusal_of (record { rule = r; place = a }) (record { rule = s; place = b }) (sym x.faulty ∙ ap program_fault tree ∙ y.faulty) in
     (ap (λ (f : Fault). f.rule) e, ap (λ (f : Fault). f.place) e)
   where
-    one_refusal_of : (f g : Fault) → front.IsRefused f ≡ front.IsRefused g → f ≡ g
+    one_refusal_of : (f g : Fault) → Some f ≡ Some g → f ≡ g
     one_refusal_of f g e = cc
 
 pub one_fault : (source : List ℕ) (r s : ℕ) (a b : Place) → IsRefused source r a → IsRefused source s b → (r ≡ s) × (a ≡ b)

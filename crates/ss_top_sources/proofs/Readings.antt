@@ -1,5 +1,6 @@
 -- Tokens as the parser and the lexer see them.
-use Rattle.std.proofs.Common.{◌≡◌, inl, inr, ℕ, List, [], ◌∷◌, map, Err, refl, subst}
+use Rattle.std.proofs.Common.{◌≡◌, inl, inr, ℕ, List, [], ◌∷◌, map, Option, Err, refl, sym, ap, ◌∙◌, subst}
+use Rattle.std.specs.Option.{option_or}
 use Rattle.ss_core.specs.declared.names.FrontStop.{FrontStop}
 use Rattle.ss_core.specs.declared.names.FrontStop.TheVariants as front
 use Rattle.ss_ast.specs.declared.token.Token.{Token}
@@ -8,6 +9,11 @@ use Rattle.ss_ast.specs.Programs.{ProgramTree}
 use Rattle.ss_lexer.specs.Reading.{HasTokens}
 use Rattle.ss_grammar_expressions.specs.Heads.{AToken, pieces}
 use Rattle.ss_decls.specs.Answer.{IsProgram, Refusal, ProgramAnswer}
+use Rattle.ss_faults.specs.declared.Fault.{Fault}
+use Rattle.ss_typed.specs.Tree.{TypedTree}
+use Rattle.ss_resolver_rules.specs.Programs.{resolved}
+use Rattle.ss_resolver.specs.Phases.{Resolves, ResolvesTo}
+use Rattle.ss_top_sources.specs.Phases.{typed_fault, program_fault}
 use Rattle.ss_top_sources.specs.Sources.{AreProgram, Gives}
 
 pub pieces_are : (ts : List Token) → pieces ts ≡ map AToken (toks ts)
@@ -25,3 +31,18 @@ refused_gives source ts (front.Refused rule at) reads h = inr (inl (record {
   reads = reads;
   refused = (h.0, h.1, subst (λ ps. Refusal rule ps h.0) (pieces_are ts) h.2);
 }))
+
+-- what the grammar reads, and names or types refuse, has that fault
+pub resolve_gives : (source : List ℕ) (ts : List Token) (tree : ProgramTree) (stop : FrontStop) → HasTokens source (toks ts) → AreProgram (toks ts) tree → Resolves tree (Err stop) → Gives source (Err stop)
+resolve_gives source ts tree front.Memory reads parses h = tt
+resolve_gives source ts tree (front.Refused rule at) reads parses h = inr (inr (record {
+  tokens = toks ts;
+  tree = tree;
+  reads = reads;
+  parses = parses;
+  faulty = ap (λ o. option_or o (typed_fault (resolved tree))) h;
+}))
+
+-- the first fault of a program that resolves is that of the phases behind
+pub behind_resolve : (tree : ProgramTree) (p : TypedTree) (o : Option Fault) → ResolvesTo tree p → o ≡ typed_fault p → program_fault tree ≡ o
+behind_resolve tree p o r h = ap (λ f. option_or f (typed_fault (resolved tree))) r.0 ∙ ap typed_fault r.1 ∙ sym h

@@ -1,5 +1,5 @@
 -- What a source means, and where it is refused.
-use Rattle.std.specs.Prelude.{ℕ, ◌≡◌, ◌⊎◌, List, map, Result, Ok, Err}
+use Rattle.std.specs.Prelude.{ℕ, ◌≡◌, ◌⊎◌, List, map, Some, None, Result, Ok, Err}
 use Rattle.ss_core.specs.declared.names.Place.{Place}
 use Rattle.ss_core.specs.declared.names.FrontStop.{FrontStop}
 use Rattle.ss_core.specs.declared.names.FrontStop.TheVariants as stop
@@ -12,8 +12,8 @@ use Rattle.ss_decls.specs.Answer as grammar
 use Rattle.ss_decls.specs.Answer.{Refusal}
 use Rattle.ss_typed.specs.Tree.{TypedTree}
 use Rattle.ss_typed.specs.View.{typed}
-use Rattle.ss_resolver.specs.Phases as front
-use Rattle.ss_resolver.specs.Phases.{phases, IsProgram}
+use Rattle.ss_resolver_rules.specs.Programs.{resolved}
+use Rattle.ss_top_sources.specs.Phases.{program_fault}
 use Rattle.ss_top_sources.specs.declared.source.Accepted.{Accepted}
 
 -- the tokens are those of a program of this tree, nested at most 64 deep
@@ -31,7 +31,8 @@ pub record IsAccepted (source : List ℕ) (tokens : List Tok) (program : TypedTr
   pub tree : ProgramTree
   pub reads : HasTokens source tokens
   pub parses : AreProgram tokens tree
-  pub resolves : phases tree ≡ IsProgram program
+  pub faultless : program_fault tree ≡ None
+  pub resolves : resolved tree ≡ program
 
 -- its tokens are no program's
 pub record IsNoProgram (source : List ℕ) (rule : ℕ) (at : Place) : Type 0 where
@@ -45,7 +46,7 @@ pub record IsFaulty (source : List ℕ) (rule : ℕ) (at : Place) : Type 0 where
   pub tree : ProgramTree
   pub reads : HasTokens source tokens
   pub parses : AreProgram tokens tree
-  pub faulty : phases tree ≡ front.IsRefused (record { rule = rule; place = at })
+  pub faulty : program_fault tree ≡ Some (record { rule = rule; place = at })
 
 -- the first fault of a source: of its bytes (rules 1 to 5), of its tokens (10 to 12), or of its program
 abbrev pub IsRefused : List ℕ → ℕ → Place → Type 0

@@ -1,5 +1,5 @@
 //! From the bytes of a source to its resolved program and its core program, by the phases of the front end: bytes and tokens, the
-//! grammar, names, types, null, construction.
+//! grammar, names, types, null, construction, ownership.
 #![tactic(auto)]
 
 mod laws;

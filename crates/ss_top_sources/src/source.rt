@@ -7,14 +7,20 @@ ghost use Rattle.ss_ast.specs.Programs.{program_tree};
 ghost use Rattle.ss_lexer.specs.Reading.{HasTokens};
 ghost use Rattle.ss_typed.specs.View.{typed};
 ghost use Rattle.ss_expand_rules.specs.Elaborated.{elaborated};
+ghost use Rattle.ss_resolver.specs.Phases.{ResolvesTo};
+ghost use Rattle.ss_top_sources.specs.Phases.{typed_fault};
 ghost use Rattle.ss_top_sources.specs.Sources.{AreProgram, IsAccepted, Gives};
 
 use ss_ast::{Program, Token};
 use ss_core::FrontStop;
 use ss_decls::parse_program;
+use ss_delayed::check_construction;
 use ss_expand::expand;
+use ss_faults::Fault;
 use ss_lexer::tokens;
-use ss_resolver::{Resolved, resolve};
+use ss_nonnull::check_nulls;
+use ss_owners::check_ownership;
+use ss_resolver::resolve;
 use ss_typed::Typed;
 use std::alloc::{AllocError, Global};
 
@@ -25,25 +31,61 @@ pub struct Accepted {
     pub program: Typed,
 }
 
+// The first fault of the phases of a resolved program.
+fn typed_fault(alloc: Global, program: &Typed) -> Result<Option<Fault>, AllocError>
+    ensures { IfOk result (λ f. f ≡ typed_fault (typed program.now)) }
+{
+    if let Some(fault) = check_nulls(alloc, program)? {
+        return Ok(Some(fault));
+    }
+    if let Some(fault) = check_construction(alloc, program)? {
+        return Ok(Some(fault));
+    }
+    if let Some(fault) = check_ownership(alloc, program)? {
+        return Ok(Some(fault));
+    }
+    Ok(None)
+}
+
+// The phases behind names and types.
+fn check_typed(
+    alloc: Global,
+    source: &[u8],
+    tokens: Vec<Token>,
+    tree: &Program,
+    program: Typed,
+) -> Result<Accepted, FrontStop>
+    requires reads { HasTokens source.now (toks tokens.items) }
+    requires parses { AreProgram (toks tokens.items) (program_tree tree.now) }
+    requires resolves { ResolvesTo (program_tree tree.now) (typed program) }
+    ensures { Gives source.now result }
+{
+    let _source = source;
+    let _tree = tree;
+    match typed_fault(alloc, &program) {
+        Ok(None) => Ok(Accepted { tokens, program }),
+        Ok(Some(fault)) => Err(FrontStop::Refused {
+            rule: fault.rule,
+            place: fault.place,
+        }),
+        Err(_) => Err(FrontStop::Memory),
+    }
+}
+
 // The phases behind the grammar.
 fn check_program(
     alloc: Global,
     source: &[u8],
     tokens: Vec<Token>,
-    program: &Program,
+    tree: &Program,
 ) -> Result<Accepted, FrontStop>
     requires reads { HasTokens source.now (toks tokens.items) }
-    requires parses { AreProgram (toks tokens.items) (program_tree program.now) }
+    requires parses { AreProgram (toks tokens.items) (program_tree tree.now) }
     ensures { Gives source.now result }
 {
-    let _source = source;
-    match resolve(alloc, program) {
-        Ok(Resolved::Program(program)) => Ok(Accepted { tokens, program }),
-        Ok(Resolved::Refused(fault)) => Err(FrontStop::Refused {
-            rule: fault.rule,
-            place: fault.place,
-        }),
-        Err(_) => Err(FrontStop::Memory),
+    match resolve(alloc, tree) {
+        Ok(program) => check_typed(alloc, source, tokens, tree, program),
+        Err(stop) => Err(stop),
     }
 }
 
@@ -53,14 +95,14 @@ fn read_program(alloc: Global, source: &[u8], tokens: Vec<Token>) -> Result<Acce
     ensures { Gives source.now result }
 {
     match parse_program(alloc, &tokens) {
-        Ok(program) => check_program(alloc, source, tokens, &program),
+        Ok(tree) => check_program(alloc, source, tokens, &tree),
         Err(stop) => Err(stop),
     }
 }
 
 /// The tokens and the resolved program of a source. Refused comes with its first fault: rule 5 where it is too long, 1 to 4 at its
-/// bytes, 10 to 12 at its tokens, 20 to 23, 25 and 27 at its names, 24, 26 and 28 at its types, 30 and 31 at what may be null, and 40 to
-/// 42 at its constructors.
+/// bytes, 10 to 12 at its tokens, 20 to 23, 25 and 27 at its names, 24, 26 and 28 at its types, 27 at a body with too many locals,
+/// 30 and 31 at what may be null, 40 to 42 at its constructors, and 50 to 52 at its invariants, words of conditions and attributes.
 pub fn read_source(alloc: Global, source: &[u8]) -> Result<Accepted, FrontStop>
     ensures { Gives source.now result }
 {

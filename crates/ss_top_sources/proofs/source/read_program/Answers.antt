@@ -5,7 +5,7 @@ use Rattle.ss_top_sources.proofs.Readings.{are_program, refused_gives}
 use Rattle.ss_top_sources.proofs.source.read_program.Goals as goal
 
 pub check_program-requires-clause-parses : goal.check_program-requires-clause-parses
-check_program-requires-clause-parses c = are_program c.args.tokens.items (program_tree c.in-Ok.program) (rw c.deref.ensures.value at c.in-Ok.ensures.exact)
+check_program-requires-clause-parses c = are_program c.args.tokens.items (program_tree c.in-Ok.tree) (rw c.deref.ensures.value at c.in-Ok.ensures.exact)
 
 pub returns-in-Err : goal.returns-in-Err
 returns-in-Err c = refused_gives c.args.source.now c.args.tokens.items c.in-Err.stop c.requires.reads (subst (λ ts. ProgramAnswer ts (Err c.in-Err.stop)) c.deref.ensures.value c.in-Err.ensures.exact)

@@ -1,0 +1,5 @@
+pub mod Added
+pub mod Reading
+pub mod Marking
+pub mod Excluding
+pub mod Entries

@@ -1,0 +1,4 @@
+pub mod Parts
+pub mod Marked
+pub mod Bearers
+pub mod Reads
