@@ -1,5 +1,5 @@
 -- What is made keeps a good store good, and so does what isn't made.
-use Rattle.std.proofs.Common.{◌≡◌, ◌^◌, ℕ, ℤ, pos, negsuc, List, Bool, true, ap, Ok, Err}
+use Rattle.std.proofs.Common.{◌≡◌, ◌^◌, ℕ, ℤ, pos, negsuc, List, true, ap, Ok, Err}
 use Rattle.std.proofs.lemmas.Bool.{lt-ltb}
 use mir.Syntax.{w32}
 use mir.Val.{SFits}

@@ -4,7 +4,6 @@ pub mod NewSlots
 pub mod Numbers
 pub mod Packs
 pub mod Rooms
-pub mod Steps
 mod Keeping
 mod Groups
 mod Members

@@ -1,6 +1,6 @@
 -- A loop that changes each object at its position.
 use Rattle.std.proofs.Common.{◌≡◌, ◌≢◌, ℕ, zero, suc, ◌+◌, ◌<◌, ◌≤◌, List, [], ◌∷◌, ◌++◌, length, map, take, drop, set, get_or, Bool, true, false, ◌||◌, refl, sym, ◌∙◌, ap, subst, arith}
-use Rattle.std.proofs.lemmas.List.{get_or_at, set_at, take_more, drop_more, length-take-le, length-map, map-append, append_assoc, append-nil}
+use Rattle.std.proofs.lemmas.List.{get_or_at, set_at, take_more, drop_more, length-take-le, length-map, map-append, append_assoc}
 use Rattle.std.proofs.lemmas.Bool.{eq-eqb, ne_eqb}
 use Rattle.ss_store_rules.specs.declared.Value.{Value}
 use Rattle.ss_store_rules.specs.Store.{Object}

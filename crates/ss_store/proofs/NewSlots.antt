@@ -1,21 +1,22 @@
 -- Slots of new objects.
-use Rattle.std.proofs.Common.{◌≡◌, ◌≢◌, ℕ, zero, suc, ◌+◌, ◌-◌, ◌*◌, ◌^◌, ◌<◌, ◌≤◌, List, [], ◌∷◌, ◌++◌, length, map, take, drop, get_or, Bool, true, false, eqb, refl, sym, ◌∙◌, ap, subst, arith, add-one, drop-cons, Option, Some, None, ⊎_elim, inl, inr, ◌⊎◌, length-append}
-use Rattle.std.specs.Prelude.{slice_get, option_map, flat_map, Result, Ok, Err, OnErr}
+use Rattle.std.proofs.Common.{◌≡◌, ◌≢◌, ℕ, zero, suc, ◌+◌, ◌-◌, ◌*◌, ◌^◌, ◌<◌, ◌≤◌, List, [], ◌∷◌, ◌++◌, length, map, take, drop, get_or, refl, sym, ◌∙◌, ap, subst, arith, add-one, drop-cons, Some, None, ⊎_elim, inl, inr, ◌⊎◌, length-append}
+use Rattle.std.specs.Prelude.{slice_get, option_map, flat_map, reverse, Result, Ok, Err, OnErr}
 use Rattle.std.proofs.lemmas.List.{take_more, map-append, append_assoc, append-nil, length-map, length-take-le}
 use Rattle.std.proofs.Math.ListN.{drop_of_length-le}
 use Rattle.std.proofs.lemmas.List.Concat.{length-flat_map}
+use Rattle.std.proofs.lemmas.List.Sorted.{sum_by-IsPermutation, IsPermutation-reverse}
+use Rattle.std.proofs.lemmas.Grind.{reverse_onto, flat_map-append}
 use Rattle.std.proofs.lemmas.Bool.{cases_eq, eq-eqb, ne_eqb}
 use Rattle.std.proofs.lemmas.Option.{slice_get-map, slice_get_read}
 use Rattle.ss_core.specs.Tree.{ClassTree, FieldTree}
-use Rattle.ss_core.specs.Chain.{declared, DeclaredField, in_class, fields_of_class, fields_from, all_fields, fields_of, field_count, level_above, levels, most_levels, most_classes, most_fields, IsWithinLimits}
+use Rattle.ss_core.specs.Chain.{declared, DeclaredField, in_class, fields_of_class, fields_from, all_fields, fields_of, field_count, above, level_above, levels_from, levels, most_levels, IsWithinLimits}
 use Rattle.ss_core.specs.View.{class_of, field_of}
 use Rattle.ss_core.specs.declared.class.Class.{Class}
 use Rattle.ss_core.specs.declared.class.Field.{Field}
 use Rattle.ss_core.proofs.Declared.{declared_at}
 use Rattle.ss_store_rules.specs.Store.{Slot}
 use Rattle.ss_store_rules.specs.Changes.{slots_from, new_fields}
-use Rattle.ss_store.specs.Slots.{slot_for, slots_of}
-use Rattle.ss_store.proofs.Steps.{left, levels-left, left_more}
+use Rattle.ss_store.specs.Slots.{slot_for, slots_of, slots_upto}
 
 pub length-slots_of : (n : ℕ) (fs : List FieldTree) → length (slots_of n fs) ≡ length fs
 length-slots_of n [] = refl
@@ -183,7 +184,10 @@ pub new_few : (cs : List ClassTree) → IsWithinLimits cs → (c : ℕ) → leng
 new_few cs limits c =
     let all = limits.fields c in
     let flat = field_count-flat cs c in
-    let le = flat_le (λ t. slots_from t 0 (all_fields cs)) (λ level. fields_of (declared cs level)) (slots_few cs) (levels cs c) in
+    let G : ℕ → List FieldTree = λ level. fields_of (declared cs level) in
+    let ts = levels cs c in
+    let le = flat_le (λ t. slots_from t 0 (all_fields cs)) G (slots_few cs) (reverse ts) in
+    let same : length (flat_map G (reverse ts)) ≡ length (flat_map G ts) = length-flat_map G (reverse ts) ∙ sum_by-IsPermutation (λ level. length (G level)) ts (reverse ts) (IsPermutation-reverse ts) ∙ sym (length-flat_map G ts) in
     omega arith
 
 pub class_few : (items : List Class) (i : ℕ) (c : Class) → IsWithinLimits (map class_of items) → i < length items → c ≡ get_or items i c → length c.fields.items ≤ 1024
@@ -200,23 +204,32 @@ first_fits t items i number first all limits l at =
     let low = at.low in
     omega arith
 
--- ---- a walk over the levels
+-- ---- levels, beginning with the topmost
 
-left_first : (cs : List ClassTree) (i level : ℕ) → i < 64 → (ts : List ℕ) × (left cs i level ≡ level ∷ ts)
-left_first cs i level l =
-    let n : 64 - i ≡ suc (63 - i) = omega arith in
-    rw n (_, refl)
+slots_upto-level : (F : ℕ → List Slot) (t : ℕ) (ts : List ℕ) → flat_map F (reverse (t ∷ ts)) ≡ flat_map F (reverse ts) ++ F t
+slots_upto-level F t ts = ap (flat_map F) (reverse_onto ts t []) ∙ flat_map-append F (reverse ts) (t ∷ []) ∙ ap (λ xs. flat_map F (reverse ts) ++ xs) (append-nil (F t))
 
-pub too_many : (F : ℕ → List Slot) (cs : List ClassTree) (i level capacity now : ℕ) (old items all : List Slot) → i < 64 → items ++ flat_map F (left cs i level) ≡ old ++ all → capacity ≤ now → now < length items + length (F level) → capacity < length old + length all
-too_many F cs i level capacity now old items all l same le full =
-    let first = left_first cs i level l in
-    let split : length (flat_map F (left cs i level)) ≡ length (F level ++ flat_map F first.0) = ap (λ ts. length (flat_map F ts)) first.1 in
-    let two = length-append (F level) (flat_map F first.0) in
-    let whole : length (items ++ flat_map F (left cs i level)) ≡ length (old ++ all) = ap length same in
-    let one = length-append items (flat_map F (left cs i level)) in
-    let three = length-append old all in
-    omega arith
+-- the levels above come first
+pub slots_upto-more : (cs : List ClassTree) (n t next : ℕ) → n ≢ 0 → Some next ≡ level_above cs t → slots_upto cs n t ≡ slots_upto cs (n - 1) next ++ slots_from t 0 (all_fields cs)
+slots_upto-more cs zero t next some h = absurd (some refl)
+slots_upto-more cs (suc n) t next some h =
+    ⊎_elim
+    (λ z. let h' : Some next ≡ None = rw (eq-eqb t 0 z) at h in absurd (let x : ⊥ = cc in x))
+    (λ nz. let h' : Some next ≡ Some (above cs t) = rw (ne_eqb t 0 nz) at h in
+    let is : next ≡ above cs t = cc in
+    let m : suc n - 1 ≡ n = omega arith in
+    rw (m, ne_eqb t 0 nz, is) (slots_upto-level (λ level. slots_from level 0 (all_fields cs)) t (levels_from cs n (above cs t))))
+    (cases_eq t 0)
 
-pub level_pushed : (F : ℕ → List Slot) (cs : List ClassTree) (i level next : ℕ) (old items all : List Slot) → i < 64 → Some next ≡ level_above cs level → items ++ flat_map F (left cs i level) ≡ old ++ all → (items ++ F level) ++ flat_map F (left cs (i + 1) next) ≡ old ++ all
-level_pushed F cs i level next old items all l up same =
-    append_assoc items (F level) (flat_map F (left cs (i + 1) next)) ∙ ap (λ ts. items ++ flat_map F ts) (sym (left_more cs i level next l up)) ∙ same
+-- `object` is the topmost
+pub slots_upto-last : (cs : List ClassTree) (n t : ℕ) → n ≢ 0 → None ≡ level_above cs t → slots_upto cs n t ≡ slots_from t 0 (all_fields cs)
+slots_upto-last cs zero t some h = absurd (some refl)
+slots_upto-last cs (suc n) t some h =
+    ⊎_elim
+    (λ z. rw (eq-eqb t 0 z) (append-nil (slots_from t 0 (all_fields cs))))
+    (λ nz. let h' : None ≡ Some (above cs t) = rw (ne_eqb t 0 nz) at h in cc)
+    (cases_eq t 0)
+
+pub new_fields-upto : (cs : List ClassTree) (c : ℕ) → slots_upto cs 64 c ≡ new_fields cs c
+unfolding levels most_levels
+new_fields-upto cs c = refl

@@ -11,9 +11,9 @@ ghost use Rattle.ss_store.specs.Scenes.{setting_of};
 use crate::arithmetic::same_value;
 use crate::before::Before;
 use crate::object::{Object, Slot};
+use crate::owners::{is_group, is_in_group};
 use crate::scene::Scene;
 use crate::store::Store;
-use crate::words::is_group;
 use ss_core::{ClassId, Classes, DefaultCondition, Ty};
 use ss_store_rules::{Owner, Value};
 
@@ -54,15 +54,6 @@ fn are_default_upto(table: &Classes, t: ClassId, slots: &[Slot]) -> bool
     true
 }
 
-fn is_in_group(g: u32, owner: Owner) -> bool
-    ensures { result ≡ reads.is_in_group g owner }
-{
-    match owner {
-        Owner::Group(h) => h == g,
-        Owner::Owned(_, _) => false,
-    }
-}
-
 // Whether it is a pair of this object and this class or one above it.
 fn is_pair_upto(table: &Classes, o: u32, t: ClassId, owner: Owner) -> bool
     ensures { result ≡ reads.is_pair_upto (classes table.now) o t.0 owner }
@@ -99,7 +90,7 @@ fn members_are_full(objects: &[Object], g: u32) -> bool
     ensures { result ≡ reads.members_are_full objects.now g }
 {
     for x in objects {
-        if is_in_group(g, x.owner) && !x.is_full() {
+        if is_in_group(x.owner, g) && !x.is_full() {
             return false;
         }
     }
@@ -166,7 +157,7 @@ impl<'a, B: Before> Scene<'a, B> {
         ensures { result ≡ values.is_this_in (setting_of B.told self.now) g }
     {
         match self.local(0) {
-            Value::Obj(o) => is_in_group(g, self.store.owner_of(o)),
+            Value::Obj(o) => is_in_group(self.store.owner_of(o), g),
             _ => false,
         }
     }

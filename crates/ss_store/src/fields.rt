@@ -3,7 +3,7 @@ ghost use Rattle.std.specs.Prelude.{◌≡◌, ◌+◌, ◌^◌, ◌<◌, ◌≤
 ghost use Rattle.ss_core.specs.View.{classes, field_of};
 ghost use Rattle.ss_core.specs.Chain.{all_fields, IsWithinLimits};
 ghost use Rattle.ss_store_rules.specs.Changes.{slots_from, new_fields};
-ghost use Rattle.ss_store.specs.Slots.{slot_for, slots_of};
+ghost use Rattle.ss_store.specs.Slots.{slot_for, slots_of, slots_upto};
 
 use crate::defaults::default_value;
 use crate::object::Slot;
@@ -51,19 +51,27 @@ fn push_declared(slots: &mut Vec<Slot>, k: &Classes, t: ClassId) -> Result<(), A
     Ok(())
 }
 
+/// Appends slots for the fields of `n` levels from this one upwards, beginning with the topmost.
+fn push_levels(slots: &mut Vec<Slot>, k: &Classes, level: ClassId, n: u8) -> Result<(), AllocError>
+    requires { IsWithinLimits (classes k.now) }
+    ensures pushed { OnOk result (slots.new.items ≡ slots.old.items ++ slots_upto (classes k.now) n level.0) }
+    ensures capacity { vec_capacity slots.old ≤ vec_capacity slots.new }
+    ensures full { OnErr result (vec_capacity slots.old < length slots.old.items + length (slots_upto (classes k.now) n level.0)) }
+{
+    if n == 0 {
+        return Ok(());
+    }
+    if let Some(above) = k.level_above(level) {
+        push_levels(slots, k, above, n - 1)?;
+    }
+    push_declared(slots, k, level)
+}
+
 /// Appends slots for the fields of an object of the class.
 pub(crate) fn push_fields(slots: &mut Vec<Slot>, k: &Classes, c: ClassId) -> Result<(), AllocError>
     requires { IsWithinLimits (classes k.now) }
     ensures pushed { OnOk result (slots.new.items ≡ slots.old.items ++ new_fields (classes k.now) c.0) }
     ensures full { OnErr result (vec_capacity slots.old < length slots.old.items + length (new_fields (classes k.now) c.0)) }
 {
-    let mut level = c;
-    for _i in 0..MOST_LEVELS {
-        push_declared(slots, k, level)?;
-        match k.level_above(level) {
-            Some(above) => level = above,
-            None => return Ok(()),
-        }
-    }
-    Ok(())
+    push_levels(slots, k, c, MOST_LEVELS)
 }

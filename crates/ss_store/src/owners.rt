@@ -1,6 +1,6 @@
 // Owners: a whole group gets one.
 ghost use Rattle.std.specs.Prelude.{◌≡◌, ◌≢◌};
-ghost use Rattle.ss_store_rules.specs.Reads.{is_pair, is_in_group, same_owner};
+ghost use Rattle.ss_store_rules.specs.Reads.{is_group, is_pair, is_in_group, same_owner};
 ghost use Rattle.ss_store_rules.specs.Changes.{IsChange, changed, regrouped, capture_of, join_of};
 ghost use Rattle.ss_store.specs.Shapes.{no_class, HasClass};
 
@@ -9,6 +9,15 @@ use crate::refused::refuse;
 use crate::store::Store;
 use ss_core::{ClassId, Kind};
 use ss_store_rules::{Owner, Refused};
+
+pub(crate) fn is_group(owner: Owner) -> bool
+    ensures { result ≡ is_group owner }
+{
+    match owner {
+        Owner::Group(_) => true,
+        Owner::Owned(_, _) => false,
+    }
+}
 
 /// Whether the owner is the pair of the object at `o` and the class.
 pub(crate) fn is_pair(owner: Owner, o: u32, t: ClassId) -> bool
@@ -20,7 +29,8 @@ pub(crate) fn is_pair(owner: Owner, o: u32, t: ClassId) -> bool
     }
 }
 
-fn is_in_group(owner: Owner, g: u32) -> bool
+/// Whether the object is a member of the group.
+pub(crate) fn is_in_group(owner: Owner, g: u32) -> bool
     ensures { result ≡ is_in_group g owner }
 {
     match owner {
@@ -29,7 +39,7 @@ fn is_in_group(owner: Owner, g: u32) -> bool
     }
 }
 
-fn is_same(v: Owner, w: Owner) -> bool
+pub(crate) fn same_owner(v: Owner, w: Owner) -> bool
     ensures { result ≡ same_owner v w }
 {
     match (v, w) {
@@ -90,7 +100,7 @@ pub(crate) fn join_peer(objects: &mut [Object], o: u32, e: u32) -> Result<(), Re
         return refuse(Kind::Null);
     };
     let (owner, other, committed) = (x.owner, y.owner, y.committed);
-    if is_same(owner, other) {
+    if same_owner(owner, other) {
         return Ok(());
     }
     if let Owner::Group(g) = other {

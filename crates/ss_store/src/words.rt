@@ -2,43 +2,14 @@
 ghost use Rattle.std.specs.Prelude.{◌≡◌};
 ghost use Rattle.ss_core.specs.View.{word_tree, owners_tree};
 ghost use Rattle.ss_store_rules.specs.Values as values;
-ghost use Rattle.ss_store_rules.specs.Reads as reads;
 ghost use Rattle.ss_store.specs.Scenes.{setting_of};
 
 use crate::before::Before;
+use crate::owners::{is_group, is_pair, same_owner};
 use crate::reads::object_of;
 use crate::scene::Scene;
-use ss_core::{ClassId, OwnerTest, Place, StateWord};
-use ss_store_rules::{Owner, Undefined, Value};
-
-pub(crate) fn is_group(owner: Owner) -> bool
-    ensures { result ≡ reads.is_group owner }
-{
-    match owner {
-        Owner::Group(_) => true,
-        Owner::Owned(_, _) => false,
-    }
-}
-
-fn same_owner(left: Owner, right: Owner) -> bool
-    ensures { result ≡ reads.same_owner left right }
-{
-    match (left, right) {
-        (Owner::Group(g), Owner::Group(h)) => g == h,
-        (Owner::Owned(o, t), Owner::Owned(q, u)) => o == q && t == u,
-        _ => false,
-    }
-}
-
-// Whether it is the pair of this object and this class.
-fn is_pair(o: u32, t: ClassId, owner: Owner) -> bool
-    ensures { result ≡ reads.is_pair o t.0 owner }
-{
-    match owner {
-        Owner::Group(_) => false,
-        Owner::Owned(q, u) => q == o && u == t,
-    }
-}
+use ss_core::{OwnerTest, Place, StateWord};
+use ss_store_rules::{Undefined, Value};
 
 impl<'a, B: Before> Scene<'a, B> {
     fn word_object(&self, place: Place, word: StateWord, value: Value) -> Result<u32, Undefined>
@@ -80,7 +51,7 @@ impl<'a, B: Before> Scene<'a, B> {
     {
         match test {
             OwnerTest::Same => same_owner(self.owner(o), self.owner(q)),
-            OwnerTest::Is(t) => is_pair(q, t, self.owner(o)),
+            OwnerTest::Is(t) => is_pair(self.owner(o), q, t),
         }
     }
 

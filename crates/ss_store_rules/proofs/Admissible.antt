@@ -20,7 +20,7 @@ use Rattle.ss_store_rules.specs.declared.Value.TheVariants as value
 use Rattle.ss_store_rules.specs.Store.{Object, slot_value, field_value}
 use Rattle.ss_store_rules.specs.Reads.{as_int, as_bool, no_object, object_at, field_read, element_read}
 use Rattle.ss_store_rules.specs.Numbers.{Outcome}
-use Rattle.ss_store_rules.specs.Values.{Setting, setting, with_bound, and_then, truth, object_of, readable_of, field_value as value_of_field, length_value, state_at, is_index, index, element_value, is_of, cast, length_at, value_of, is_true}
+use Rattle.ss_store_rules.specs.Values.{Setting, setting, with_bound, and_then, truth, readable_of, field_value as value_of_field, length_value, is_index, index, element_value, is_of, cast, value_of, is_true}
 use Rattle.ss_store_rules.specs.Changes.{below, field_class, field_mark, field_type, element_type}
 use Rattle.ss_store_rules.specs.Good.{Invariants, has_type, is_of_class, IsGood, Inside, Direct, Deeper, LooksSame, IsLocal, IsFree}
 use Rattle.ss_store_rules.specs.Admissible.{is_this, is_rep, is_rep_or_peer, is_own_field, is_owned_path, is_admissible, invariants_of, invariants, invariants_hold, AreAdmissible}

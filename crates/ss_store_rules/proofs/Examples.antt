@@ -13,7 +13,7 @@ use Rattle.ss_store_rules.specs.declared.Owner.{Owner}
 use Rattle.ss_store_rules.specs.declared.Owner.TheVariants as owner
 use Rattle.ss_store_rules.specs.Store.{Object}
 use Rattle.ss_store_rules.specs.Good.{IsGood}
-use Rattle.ss_store_rules.proofs.Kept.{IsGood-empty, IsGood-new_object, IsGood-pack}
+use Rattle.ss_store_rules.proofs.StaysGood.{IsGood-empty, IsGood-new_object, IsGood-pack}
 use Rattle.ss_store_rules.specs.Changes.{owned_by, unpack_of, pack_of, write_of, write_element_of, capture_of, join_of, new_object, new_object_of, new_array_of, ready_of}
 
 -- class 4 has an int and two fields for objects of class 6, one of them owned; class 6 is below it and has a peer
@@ -56,7 +56,7 @@ part v level committed w = record {
 node : Value → ℕ → Bool → Owner → Object
 node v level committed w = record {
   class = 6;
-  fields = record { field = 2; content = v } ∷ record { field = 0; content = value.Int (pos 0) } ∷ record { field = 1; content = value.Null } ∷ [];
+  fields = record { field = 0; content = value.Int (pos 0) } ∷ record { field = 1; content = value.Null } ∷ record { field = 2; content = v } ∷ [];
   elements = [];
   level = level;
   committed = committed;

@@ -248,12 +248,15 @@ abbrev has_fields_of_4 : CodeTree → Bool
 has_fields_of_4 code = returns_with_fields (program (constructor_of_4 code)) (constructor_of_4 code)
 
 the_field_is_assigned : has_fields_of_4 whole_constructor ≡ true
+unfolding below levels most_levels
 the_field_is_assigned = refl
 
 a_field_that_is_left_out : has_fields_of_4 (Then (PackStmt at 0 4) return) ≡ false
+unfolding below levels most_levels
 a_field_that_is_left_out = refl
 
 a_field_that_is_left_out_on_one_path : has_fields_of_4 (Then (IfStmt at (BoolExpr at true) (Then (write_reference (local 1)) NoCode) NoCode) (Then (PackStmt at 0 4) return)) ≡ false
+unfolding below levels most_levels
 a_field_that_is_left_out_on_one_path = refl
 
 this_stays_inside : each keeps_this_in whole_constructor ≡ true
@@ -327,6 +330,18 @@ ready_with_its_field = refl
 
 ready_without_its_field : is_ready_of_4 (Then (ReadyStmt at) (Then (write_reference (local 1)) return)) ≡ false
 ready_without_its_field = refl
+
+-- the fields above count too: without `base(..)` they aren't assigned
+abbrev has_fields_of_6 : CodeTree → Bool
+has_fields_of_6 code = returns_with_fields (program (constructor_of_6 true code)) (constructor_of_6 true code)
+
+the_field_above_is_assigned : has_fields_of_6 (Then base (Then (PackStmt at 0 6) return)) ≡ true
+unfolding below levels most_levels
+the_field_above_is_assigned = refl
+
+the_field_above_is_left_out : has_fields_of_6 (Then (PackStmt at 0 6) return) ≡ false
+unfolding below levels most_levels
+the_field_above_is_left_out = refl
 
 -- ---- tables
 

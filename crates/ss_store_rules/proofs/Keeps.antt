@@ -1,18 +1,18 @@
 -- Each change of a store keeps it good, for every program whose invariants are admissible.
-use Rattle.std.specs.Prelude.{slice_get, Result, Ok, Err}
-use Rattle.std.proofs.Common.{◌≡◌, ℕ, ℤ, List, Bool, true, false, Option, Some, None, sym, subst}
+use Rattle.std.specs.Prelude.{slice_get, Result, Ok}
+use Rattle.std.proofs.Common.{◌≡◌, ℕ, ℤ, List, true, false, Some, sym, subst}
 use Rattle.ss_core.specs.Tree.{ClassTree}
-use Rattle.ss_core.specs.Chain.{is_declared, IsChain}
+use Rattle.ss_core.specs.Chain.{is_declared}
 use Rattle.ss_store_rules.specs.declared.Value.{Value}
 use Rattle.ss_store_rules.specs.declared.Refused.{Refused}
 use Rattle.ss_store_rules.specs.Store.{Object}
 use Rattle.ss_store_rules.specs.Numbers.{fits}
 use Rattle.ss_store_rules.specs.Changes.{is_array, field_class, IsChange, unpack_of, pack_of, capture_of, join_of, write_of, write_element_of, new_object_of, new_array_of, ready_of}
 use Rattle.ss_store_rules.specs.Good.{IsReady, IsGood}
-use Rattle.ss_store_rules.specs.Admissible.{AreAdmissible, invariants_hold}
+use Rattle.ss_store_rules.specs.Admissible.{invariants_hold}
 use Rattle.ss_store_rules.specs.Keeps.{Keeps, IsOf, MayStandIn, IsElement, IsUnpacked, HasItsFields}
 use Rattle.ss_store_rules.proofs.Admissible.{IsLocal-invariants, IsFree-invariants}
-use Rattle.ss_store_rules.proofs.Kept.{IsGood-unpack, IsGood-pack, IsGood-capture, IsGood-join, IsGood-write, IsGood-write_element, IsGood-new_object, IsGood-new_array, IsGood-ready}
+use Rattle.ss_store_rules.proofs.StaysGood.{IsGood-unpack, IsGood-pack, IsGood-capture, IsGood-join, IsGood-write, IsGood-write_element, IsGood-new_object, IsGood-new_array, IsGood-ready}
 
 module _ (cs : List ClassTree) (s s' : List Object) where
   pub Keeps-same : s' ≡ s → Keeps cs s s'

@@ -1,9 +1,10 @@
 -- The class that declares a field of an object is a level of the object's class.
 use Rattle.std.proofs.Common.{◌≡◌, ℕ, zero, suc, ◌+◌, ◌<◌, List, [], ◌∷◌, ◌++◌, Bool, true, ◌||◌, Some, sym, ◌∙◌, ap, subst, ⊎_elim, arith}
-use Rattle.std.specs.Prelude.{slice_get, ◌==◌}
+use Rattle.std.specs.Prelude.{slice_get, reverse, ◌==◌}
 use Rattle.std.specs.List.{list_any, flat_map}
 use Rattle.std.proofs.lemmas.Bool.{cases_Bool, eqb-true, eq-eqb, or_left, or_right, or_cases, false≢true}
 use Rattle.std.proofs.lemmas.List.Folds.{list_any-append}
+use Rattle.std.proofs.lemmas.List.Sorted.{list_any-IsPermutation, IsPermutation-reverse}
 use Rattle.std.proofs.lemmas.List.{map-append}
 use Rattle.ss_core.specs.Tree.{ClassTree}
 use Rattle.ss_core.specs.Chain.{DeclaredField, all_fields, levels}
@@ -66,4 +67,6 @@ has_level f ds (t ∷ ts) h =
 
 pub declared_at_level : (cs : List ClassTree) (s : List Object) (x : Object) (f : ℕ) (v : Value) → AreValues cs s x → field_value x f ≡ Some v → below cs x.class (field_class cs f) ≡ true
 unfolding below
-declared_at_level cs s x f v a e = has_level f (all_fields cs) (levels cs x.class) (subst (λ ns. list_any (λ n. n == f) ns ≡ true) a.slots (has_read x.fields f v e))
+declared_at_level cs s x f v a e =
+    let here = has_level f (all_fields cs) (reverse (levels cs x.class)) (subst (λ ns. list_any (λ n. n == f) ns ≡ true) a.slots (has_read x.fields f v e)) in
+    list_any-IsPermutation (λ l. l == field_class cs f) (levels cs x.class) (reverse (levels cs x.class)) (IsPermutation-reverse (levels cs x.class)) ∙ here

@@ -1,6 +1,8 @@
 mod ValueExamples
 pub mod Agreeing
 pub mod Levels
+pub mod FieldPlaces
+pub mod Overrides
 pub mod Admissible
 mod AdmissibleExamples
 mod Examples
@@ -17,7 +19,7 @@ pub mod Defaults
 pub mod New
 pub mod Ready
 pub mod Owners
-pub mod Kept
+pub mod StaysGood
 mod FormedExamples
 mod FormedProgram
 mod FormedCounter

@@ -1,6 +1,6 @@
 -- New objects and arrays keep a good store good.
 use Rattle.std.proofs.Common.{◌≡◌, ℕ, ◌<◌, List, [], ◌∷◌, ◌++◌, length, true, false, Some, refl, sym, ◌∙◌, ap, subst, arith, ⊎_elim}
-use Rattle.std.specs.Prelude.{nat_lt, ◌^◌}
+use Rattle.std.specs.Prelude.{nat_lt, ◌^◌, reverse}
 use Rattle.std.proofs.lemmas.List.{length-replicate}
 use Rattle.std.proofs.lemmas.Option.{slice_get_within}
 use Rattle.std.proofs.lemmas.Bool.{or_right, false≢true, true≢false}
@@ -92,7 +92,7 @@ IsGood-new cs h holds local free s good c declared = IsGood-pushed cs holds loca
     s' = s ++ new_object cs c (length s) ∷ []
 
     defaults : (f : ℕ) (v : Value) → field_value (new_object cs c (length s)) f ≡ Some v → v ≡ default_value (field_type cs f)
-    defaults f v e = field_default cs (levels cs c) f v e
+    defaults f v e = field_default cs (reverse (levels cs c)) f v e
 
 pub IsGood-array : (cs : List ClassTree) → IsChain cs → (holds : Invariants) → IsLocal cs holds → IsFree cs holds → (s : List Object) → IsGood cs holds s →
     (t n : ℕ) → is_array cs t ≡ true → nat_lt n (2 ^ 31) ≡ true → IsGood cs holds (s ++ new_array t n (length s) ∷ [])

@@ -1,5 +1,5 @@
 -- Changes of a store, each with its checks in order: the new store, or the kind of the first check that fails.
-use Rattle.std.specs.Prelude.{◌≡◌, ℕ, ℤ, pos, negsuc, List, [], ◌∷◌, ◌++◌, map, length, replicate, Bool, true, false, not, ◌==◌, ◌&&◌, ◌||◌, ◌+◌, ◌-◌, nat_lt, if◌then◌else◌, Option, Some, None, slice_get, slice_set, flat_map, Result, Ok, Err}
+use Rattle.std.specs.Prelude.{◌≡◌, ℕ, ℤ, pos, negsuc, List, [], ◌∷◌, ◌++◌, map, length, replicate, Bool, true, false, not, ◌==◌, ◌&&◌, ◌||◌, ◌+◌, ◌-◌, nat_lt, if◌then◌else◌, Option, Some, None, slice_get, slice_set, flat_map, reverse, Result, Ok, Err}
 use Rattle.std.specs.List.{list_all}
 use Rattle.ss_core.specs.declared.names.Kind.{Kind}
 use Rattle.ss_core.specs.declared.names.Kind.TheVariants as kind
@@ -222,9 +222,10 @@ slots_from t n (d ∷ ds) =
     if d.class == t then record { field = n; content = default_value d.field.ty } ∷ slots_from t (n + 1) ds
     else slots_from t (n + 1) ds
 
--- the fields of the class, then those of the class above it, and so on
+-- the fields of the topmost class, then those of the class below it, and so on down to the class itself: a field has one place in
+-- every object
 abbrev pub new_fields : List ClassTree → ℕ → List Slot
-new_fields cs c = flat_map (λ t. slots_from t 0 (all_fields cs)) (levels cs c)
+new_fields cs c = flat_map (λ t. slots_from t 0 (all_fields cs)) (reverse (levels cs c))
 
 -- a new object at this position, in a group of its own
 abbrev pub new_object : List ClassTree → ℕ → ℕ → Object

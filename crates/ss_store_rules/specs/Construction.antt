@@ -4,6 +4,7 @@ use Rattle.std.specs.Prelude.{ℕ, List, [], ◌∷◌, Bool, true, false, not, 
 use Rattle.std.specs.List.{list_all}
 use Rattle.ss_core.specs.Tree.{ClassTree, ExprTree, LocalExpr, FieldExpr, ElementExpr, LengthExpr, NegateExpr, NotExpr, BinaryExpr, ImpliesExpr, IffExpr, IsExpr, AsExpr, CastExpr, OldExpr, QuantifiedExpr, StateExpr, OwnersExpr, Base, BaseConstructor, StmtTree, WriteStmt, CallStmt, ReadyStmt, IfStmt, LoopStmt, UnpackStmt, PackStmt, ReturnStmt, CodeTree, NoCode, Then, BodyTree, CoreTree}
 use Rattle.ss_core.specs.Chain.{above, DeclaredField, all_fields}
+use Rattle.ss_store_rules.specs.Changes.{below}
 use Rattle.ss_store_rules.specs.Good.{is_non_null}
 use Rattle.ss_store_rules.specs.Admissible.{is_this}
 use Rattle.ss_store_rules.specs.Locals.{reads_only, is_default, each, all_evaluated}
@@ -111,18 +112,23 @@ abbrev pub has_base_without_this : CodeTree → Bool
 has_base_without_this (Then (CallStmt p x (BaseConstructor n) es) code) = list_all is_without_this es
 has_base_without_this code = true
 
--- ---- fields of the class that are assigned
+-- ---- fields that are assigned
 
--- each non-null field with a number from n on that the class t declares is one of these
-abbrev pub has_fields_from : ℕ → (ℕ → Bool) → ℕ → List DeclaredField → Bool
-has_fields_from t fields n [] = true
-has_fields_from t fields n (d ∷ ds) = (not (d.class == t && is_non_null d.field.ty) || fields n) && has_fields_from t fields (n + 1) ds
+-- each non-null field with a number from n on that one of these classes declares is one of these
+abbrev pub has_fields_from : (ℕ → Bool) → (ℕ → Bool) → ℕ → List DeclaredField → Bool
+has_fields_from classes fields n [] = true
+has_fields_from classes fields n (d ∷ ds) = (not (classes d.class && is_non_null d.field.ty) || fields n) && has_fields_from classes fields (n + 1) ds
 
-abbrev pub has_fields : List ClassTree → ℕ → Known → Bool
-has_fields cs t k = has_fields_from t k.fields 0 (all_fields cs)
+-- those of the class t
+abbrev pub has_own_fields : List ClassTree → ℕ → Known → Bool
+has_own_fields cs t k = has_fields_from (λ u. u == t) k.fields 0 (all_fields cs)
+
+-- those of the class t and of the classes above it
+abbrev pub has_all_fields : List ClassTree → ℕ → Known → Bool
+has_all_fields cs t k = has_fields_from (below cs t) k.fields 0 (all_fields cs)
 
 abbrev pub returns_complete : CoreTree → BodyTree → StmtTree → Known → Bool
-returns_complete c b (ReturnStmt p e) k = has_fields c.classes b.class k
+returns_complete c b (ReturnStmt p e) k = has_all_fields c.classes b.class k
 returns_complete c b s k = true
 
 abbrev pub complete_check : CoreTree → BodyTree → Check Known
@@ -167,7 +173,7 @@ has_opening c b = not (wants_base c b || wants_ready c b) || each (λ s. not (is
 abbrev pub if_delayed : BodyTree → Bool → Bool
 if_delayed b condition = not b.flags.delayed || condition
 
--- each non-null field of the class is assigned on every path to each return
+-- each non-null field of the class and of those above it is assigned on every path to each return
 abbrev pub returns_with_fields : CoreTree → BodyTree → Bool
 returns_with_fields c b = holds_along (known_flow c b) (complete_check c b) b.code (Some (known_at_entry b))
 
@@ -180,4 +186,4 @@ writes_this_first b = each (only_writes_this b.class) (opening b.code) && has_ba
 
 -- and there each non-null field of the class is assigned on every path
 abbrev pub is_ready_with_fields : CoreTree → BodyTree → Bool
-is_ready_with_fields c b = where_reached (has_fields c.classes b.class) (at_end (known_flow c b) (opening b.code) (Some (known_at_entry b)))
+is_ready_with_fields c b = where_reached (has_own_fields c.classes b.class) (at_end (known_flow c b) (opening b.code) (Some (known_at_entry b)))

@@ -55,7 +55,7 @@ pub record IsFormedBody (c : CoreTree) (b : BodyTree) : Type 0 where
   pub delayed_this : if_delayed b (each keeps_this_in b.code) ≡ true
   -- it is packed only directly before a return
   pub delayed_pack : if_delayed b (packs_at_returns b.class b.code) ≡ true
-  -- and has the fields of its class there
+  -- and has the fields of its class and of those above it there
   pub delayed_fields : if_delayed b (returns_with_fields c b) ≡ true
   -- one that isn't delayed first gives its `this` the fields of the class
   pub undelayed_this : if_undelayed b (writes_this_first b) ≡ true

@@ -1,5 +1,5 @@
 -- What each change of a store keeps: that it is good.
-use Rattle.std.specs.Prelude.{◌≡◌, ℕ, List, Bool, true, false, Some, slice_get}
+use Rattle.std.specs.Prelude.{◌≡◌, ℕ, List, true, false, Some, slice_get}
 use Rattle.ss_core.specs.Tree.{ClassTree}
 use Rattle.ss_core.specs.Chain.{below, IsChain}
 use Rattle.ss_store_rules.specs.declared.Value.{Value}

@@ -1,61 +1,67 @@
 -- Tables of methods: what the table of a class has in place of each method of the class above.
-use Rattle.std.specs.Prelude.{◌≡◌, ℕ, List, ◌++◌, map, length, take, drop, Bool, true, false, not, ◌==◌, ◌&&◌, ◌||◌, ◌+◌, ◌-◌, nat_lt, if◌then◌else◌, Option, Some, None, bytes_eq, slice_get}
+use Rattle.std.specs.Prelude.{◌≡◌, ℕ, List, ◌++◌, map, length, take, drop, Bool, true, false, not, ◌==◌, ◌&&◌, ◌||◌, ◌-◌, nat_lt, if◌then◌else◌, Option, Some, None, bytes_eq, slice_get}
 use Rattle.std.specs.List.{list_all, list_any}
+use Rattle.ss_core.specs.declared.names.Place.{Place}
 use Rattle.ss_core.specs.Tree.{ClassTree, EntryTree, LocalTree, DefaultTree, AtLevel, ExprTree, IntExpr, BoolExpr, NullExpr, LocalExpr, FieldExpr, ElementExpr, LengthExpr, NegateExpr, NotExpr, BinaryExpr, ImpliesExpr, IffExpr, IsExpr, AsExpr, CastExpr, OldExpr, QuantifiedExpr, StateExpr, OwnersExpr, DefaultExpr, NamedTree, FieldOf, AllOf, ElementsOf, UptoOf, BodyTree, CoreTree}
 use Rattle.ss_core.specs.Chain.{is_declared, above}
 use Rattle.ss_store_rules.specs.Changes.{below}
-use Rattle.ss_store_rules.specs.Locals.{types_of, argument_count, result_number}
+use Rattle.ss_store_rules.specs.Locals.{types_of, argument_count}
 use Rattle.ss_store_rules.specs.Typed.{body_at, table}
 
--- ---- a contract of one body in the text of another. Arguments are named by position; the other bodies' locals stand between them and the
--- result and the bound names.
+-- ---- Contracts of two bodies are compared by what they are in bodies without other locals: the arguments keep their numbers, and behind
+-- them stand the result and then the bound names.
 
--- the number in the body `to` of what has the number x in the body `from`
-abbrev pub renumbered : BodyTree → BodyTree → ℕ → ℕ
-renumbered from to x = if nat_lt x (argument_count from) then x else x - result_number from + result_number to
+abbrev pub normal_number : BodyTree → ℕ → ℕ
+normal_number b x = if nat_lt x (argument_count b) then x else x - length b.locals
 
--- level 1 of a default condition is the class of the body
-abbrev pub default_for : BodyTree → DefaultTree → DefaultTree
-default_for to (AtLevel t) = AtLevel to.class
-default_for to d = d
+-- level 1 of a default condition is the class of the body, whatever that is
+abbrev pub normal_default : DefaultTree → DefaultTree
+normal_default (AtLevel t) = AtLevel 0
+normal_default d = d
 
--- A condition of the body `from` as one of the body `to`. A default condition has no place in the text that matters.
-abbrev pub condition_for : BodyTree → BodyTree → ExprTree → ExprTree
-condition_for from to (IntExpr p n) = IntExpr p n
-condition_for from to (BoolExpr p b) = BoolExpr p b
-condition_for from to (NullExpr p) = NullExpr p
-condition_for from to (LocalExpr p x) = LocalExpr p (renumbered from to x)
-condition_for from to (FieldExpr p e f) = FieldExpr p (condition_for from to e) f
-condition_for from to (ElementExpr p a i) = ElementExpr p (condition_for from to a) (condition_for from to i)
-condition_for from to (LengthExpr p e) = LengthExpr p (condition_for from to e)
-condition_for from to (NegateExpr p e) = NegateExpr p (condition_for from to e)
-condition_for from to (NotExpr p e) = NotExpr p (condition_for from to e)
-condition_for from to (BinaryExpr p o a b) = BinaryExpr p o (condition_for from to a) (condition_for from to b)
-condition_for from to (ImpliesExpr p a b) = ImpliesExpr p (condition_for from to a) (condition_for from to b)
-condition_for from to (IffExpr p a b) = IffExpr p (condition_for from to a) (condition_for from to b)
-condition_for from to (IsExpr p e t) = IsExpr p (condition_for from to e) t
-condition_for from to (AsExpr p e t) = AsExpr p (condition_for from to e) t
-condition_for from to (CastExpr p t non_null e) = CastExpr p t non_null (condition_for from to e)
-condition_for from to (OldExpr p e) = OldExpr p (condition_for from to e)
-condition_for from to (QuantifiedExpr p q name low high e) = QuantifiedExpr p q name (condition_for from to low) (condition_for from to high) (condition_for from to e)
-condition_for from to (StateExpr p w e) = StateExpr p w (condition_for from to e)
-condition_for from to (OwnersExpr p w a b) = OwnersExpr p w (condition_for from to a) (condition_for from to b)
-condition_for from to (DefaultExpr p d) = DefaultExpr to.place (default_for to d)
+abbrev pub no_place : Place
+no_place = record { line = 0; column = 0 }
+
+-- A condition of the body. The place of a default condition doesn't matter.
+abbrev pub normal_condition : BodyTree → ExprTree → ExprTree
+normal_condition b (IntExpr p n) = IntExpr p n
+normal_condition b (BoolExpr p v) = BoolExpr p v
+normal_condition b (NullExpr p) = NullExpr p
+normal_condition b (LocalExpr p x) = LocalExpr p (normal_number b x)
+normal_condition b (FieldExpr p e f) = FieldExpr p (normal_condition b e) f
+normal_condition b (ElementExpr p a i) = ElementExpr p (normal_condition b a) (normal_condition b i)
+normal_condition b (LengthExpr p e) = LengthExpr p (normal_condition b e)
+normal_condition b (NegateExpr p e) = NegateExpr p (normal_condition b e)
+normal_condition b (NotExpr p e) = NotExpr p (normal_condition b e)
+normal_condition b (BinaryExpr p o x y) = BinaryExpr p o (normal_condition b x) (normal_condition b y)
+normal_condition b (ImpliesExpr p x y) = ImpliesExpr p (normal_condition b x) (normal_condition b y)
+normal_condition b (IffExpr p x y) = IffExpr p (normal_condition b x) (normal_condition b y)
+normal_condition b (IsExpr p e t) = IsExpr p (normal_condition b e) t
+normal_condition b (AsExpr p e t) = AsExpr p (normal_condition b e) t
+normal_condition b (CastExpr p t non_null e) = CastExpr p t non_null (normal_condition b e)
+normal_condition b (OldExpr p e) = OldExpr p (normal_condition b e)
+normal_condition b (QuantifiedExpr p q name low high e) = QuantifiedExpr p q name (normal_condition b low) (normal_condition b high) (normal_condition b e)
+normal_condition b (StateExpr p w e) = StateExpr p w (normal_condition b e)
+normal_condition b (OwnersExpr p w x y) = OwnersExpr p w (normal_condition b x) (normal_condition b y)
+normal_condition b (DefaultExpr p d) = DefaultExpr no_place (normal_default d)
 
 -- `this.*` is what the class of the body knows of it; it has no place that matters either
-abbrev pub named_for : BodyTree → BodyTree → NamedTree → NamedTree
-named_for from to (FieldOf e f) = FieldOf (condition_for from to e) f
-named_for from to (AllOf e) = AllOf (condition_for from to e)
-named_for from to (ElementsOf e) = ElementsOf (condition_for from to e)
-named_for from to (UptoOf e t) = UptoOf (LocalExpr to.place 0) to.class
+abbrev pub normal_named : BodyTree → NamedTree → NamedTree
+normal_named b (FieldOf e f) = FieldOf (normal_condition b e) f
+normal_named b (AllOf e) = AllOf (normal_condition b e)
+normal_named b (ElementsOf e) = ElementsOf (normal_condition b e)
+normal_named b (UptoOf e t) = UptoOf (LocalExpr no_place 0) 0
+
+abbrev pub normal_entry : BodyTree → List ExprTree
+normal_entry b = map (normal_condition b) b.entry
+
+abbrev pub normal_exit : BodyTree → List ExprTree
+normal_exit b = map (normal_condition b) b.exit
+
+abbrev pub all_normal_named : BodyTree → List NamedTree
+all_normal_named b = map (normal_named b) b.named
 
 -- ---- what stands in place of what
-
-abbrev pub conditions_for : BodyTree → BodyTree → List ExprTree → List ExprTree
-conditions_for from to es = map (condition_for from to) es
-
-abbrev pub all_named_for : BodyTree → BodyTree → List NamedTree → List NamedTree
-all_named_for from to ns = map (named_for from to) ns
 
 abbrev pub captures : List LocalTree → List Bool
 captures ls = map (λ l. l.captured) ls
@@ -69,11 +75,11 @@ pub record StandsFor (from to : BodyTree) : Type 0 where
   pub static : to.flags.is_static ≡ from.flags.is_static
   pub pure : to.flags.pure ≡ from.flags.pure
   -- it asks and may change the same
-  pub entry : conditions_for to to to.entry ≡ conditions_for from to from.entry
-  pub named : all_named_for to to to.named ≡ all_named_for from to from.named
+  pub entry : normal_entry to ≡ normal_entry from
+  pub named : all_normal_named to ≡ all_normal_named from
   -- and promises at least the same
   pub more : List ExprTree
-  pub exit : conditions_for to to to.exit ≡ conditions_for from to from.exit ++ more
+  pub exit : normal_exit to ≡ normal_exit from ++ more
 
 abbrev pub is_at_level : ExprTree → Bool
 is_at_level (DefaultExpr p (AtLevel t)) = true

@@ -6,20 +6,13 @@ use Rattle.ss_core.specs.declared.names.Mark.TheVariants as mark
 use Rattle.ss_core.specs.declared.names.Ty.{Ty}
 use Rattle.ss_core.specs.declared.names.Ty.TheVariants as ty
 use Rattle.ss_core.specs.Tree.{ClassTree, FieldTree, EntryTree, LocalTree, DefaultTree, AtLevel, Unpacked, ThisUnowned, Defaults, OwnedFull, Full, ConsistentArgument, FullArgument, Captured, ExprTree, DefaultExpr, CalleeTree, Dispatched, Static, Base, BaseConstructor, ExposedTree, StmtTree, AssignStmt, WriteStmt, WriteElementStmt, NewStmt, NewArrayStmt, CallStmt, ReadyStmt, IfStmt, LoopStmt, UnpackStmt, PackStmt, AssertStmt, AssumeStmt, PrintStmt, PrintTextStmt, ReturnStmt, NamedTree, FieldOf, AllOf, ElementsOf, UptoOf, BodyTree, CoreTree}
-use Rattle.ss_core.specs.Chain.{is_declared, declared, above, is_class, DeclaredField, all_fields}
+use Rattle.ss_core.specs.Chain.{is_declared, declared, above, is_type, DeclaredField, all_fields}
 use Rattle.ss_store_rules.specs.Changes.{below, is_array}
 use Rattle.ss_store_rules.specs.Admissible.{is_this}
 use Rattle.ss_store_rules.specs.Locals.{types_of, local_types, is_argument, is_result, is_bound, reads_only}
 use Rattle.ss_store_rules.specs.Types.{class_type, has_fitting, is_int, is_bool, has_class, is_reference, field_read_type, element_of, type_of, Words, in_code, in_requires, in_assert, in_ensures, code_type, is_condition}
 
 -- ---- declarations
-
--- the type of a declaration, which is never that of `null`
-abbrev pub is_declared_type : List ClassTree → Ty → Bool
-is_declared_type cs ty.Int = true
-is_declared_type cs ty.Bool = true
-is_declared_type cs ty.Null = false
-is_declared_type cs (ty.Ref t non_null) = is_class cs t.0
 
 abbrev pub is_plain : Mark → Bool
 is_plain mark.Plain = true
@@ -32,14 +25,14 @@ is_class_type t = false
 
 -- a field of references alone may be marked
 abbrev pub is_field : List ClassTree → FieldTree → Bool
-is_field cs f = is_declared_type cs f.ty && (is_plain f.mark || is_class_type f.ty)
+is_field cs f = is_type cs f.ty && (is_plain f.mark || is_class_type f.ty)
 
 -- a parameter of references alone may be captured
 abbrev pub is_local : List ClassTree → LocalTree → Bool
-is_local cs l = is_declared_type cs l.ty && (not l.captured || is_class_type l.ty)
+is_local cs l = is_type cs l.ty && (not l.captured || is_class_type l.ty)
 
 abbrev pub are_declared : List ClassTree → List Ty → Bool
-are_declared cs ts = list_all (is_declared_type cs) ts
+are_declared cs ts = list_all (is_type cs) ts
 
 -- ---- bodies by number and by class
 

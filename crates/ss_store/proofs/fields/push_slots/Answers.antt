@@ -1,4 +1,4 @@
-use Rattle.std.proofs.Common.{◌≡◌, ◌+◌, ◌∙◌, ap, get_or, length, arith}
+use Rattle.std.proofs.Common.{◌≡◌, ◌+◌, ◌∙◌, ap, get_or, arith}
 use Rattle.ss_core.specs.View.{field_of}
 use Rattle.ss_store.specs.Slots.{slot_for}
 use Rattle.ss_store.proofs.NewSlots.{pushed_more, pushed_length, on_err_any}

@@ -1,4 +1,4 @@
-use Rattle.std.proofs.Common.{◌≡◌, ◌∙◌, map, ap, subst, sym}
+use Rattle.std.proofs.Common.{◌≡◌, map, subst}
 use Rattle.std.specs.Prelude.{IfOk}
 use Rattle.ss_core.specs.View.{local_of}
 use Rattle.ss_store_rules.specs.Admitted.{main_arguments}

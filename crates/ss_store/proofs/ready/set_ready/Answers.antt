@@ -1,5 +1,4 @@
-use Rattle.std.proofs.Common.{◌≢◌, sym, arith}
-use Rattle.ss_store_rules.specs.Changes.{made_ready}
+use Rattle.std.proofs.Common.{sym}
 use Rattle.ss_store.proofs.Loops.{made_ready_one, made_ready_none}
 use Rattle.ss_store.proofs.ready.set_ready.Goals as goal
 
