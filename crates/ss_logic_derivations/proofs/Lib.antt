@@ -1,0 +1,4 @@
+pub mod Chosen
+pub mod Sound
+mod Bad
+mod Valid

@@ -1,0 +1,4 @@
+pub mod Occurring
+pub mod Opened
+pub mod Matching
+pub mod Ground
