@@ -2,11 +2,15 @@
 #![tactic(auto)]
 
 use ss_io::{RealFiles, RealOut};
+use ss_main_messages::{
+    Heard, Seen, Unread, refused_message, stopped_message, unread_message, usage, verdict_messages,
+};
 use ss_report::{Status, status_line};
 use ss_top::specsharp;
+use std::alloc::{AllocError, Global};
 use std::process::ExitCode;
 use std::rt::Env;
-use std::{env, io};
+use std::{env, fs, io, str};
 
 // The words after the program's name.
 fn words<R: Env + AllocGlobal>(rt: &R) -> io::Result<Vec<String>> {
@@ -17,13 +21,82 @@ fn words<R: Env + AllocGlobal>(rt: &R) -> io::Result<Vec<String>> {
     Ok(words)
 }
 
-// Says the status on standard error; what can't be said there is left unsaid.
-fn tell<R: Eprint + AllocGlobal>(rt: &R, status: &Status) {
+// Why a file couldn't be read.
+fn unread<R: std::rt::Files>(rt: &R, file: &str) -> Unread {
+    match fs::metadata(rt, file) {
+        Ok(found) if found.is_dir() => Unread::Folder,
+        Ok(_) => Unread::Other,
+        Err(error) => match error.kind() {
+            io::ErrorKind::NotFound => Unread::Missing,
+            _ => Unread::Other,
+        },
+    }
+}
+
+// What is said of an answer that speaks of the source of a file, of which these bytes were read.
+fn of_source(
+    alloc: Global,
+    file: &str,
+    source: &[u8],
+    status: &Status,
+    verdict: &[u8],
+) -> Result<String, AllocError> {
+    match status {
+        Status::SourceRefused { rule, place } => {
+            refused_message(alloc, file, source, *place, *rule)
+        }
+        Status::Stopped { place } => stopped_message(alloc, file, source, *place),
+        Status::Unproved { .. } => {
+            verdict_messages(alloc, file, source, str::from_utf8(verdict).unwrap_or(""))
+        }
+        _ => Ok(String::new(alloc)),
+    }
+}
+
+// What is said of an answer beside its status line.
+fn explanation<R: std::rt::Files + AllocGlobal>(
+    rt: &R,
+    file: &str,
+    source: Option<&[u8]>,
+    status: &Status,
+    verdict: &[u8],
+) -> Result<String, AllocError> {
+    match (status, source) {
+        (Status::BadWords, _) => String::from_str(rt.alloc(), usage()),
+        (Status::ReadFault, _) => unread_message(rt.alloc(), file, unread(rt, file)),
+        (_, Some(source)) => of_source(rt.alloc(), file, source, status, verdict),
+        (_, None) => Ok(String::new(rt.alloc())),
+    }
+}
+
+// Says on standard error what was answered, and last the status; what can't be said there is left unsaid.
+fn tell<R: Eprint + AllocGlobal>(rt: &R, explanation: Result<String, AllocError>, status: &Status) {
+    if let Ok(text) = explanation {
+        let _ = eprint!(rt; "{text}");
+    }
     if let Ok(line) = status_line(rt.alloc(), status) {
         if !line.is_empty() {
             let _ = eprintln!(rt; "{line}");
         }
     }
+}
+
+// The second word, or nothing where there is none.
+fn file_of(words: &[String]) -> &str {
+    match words {
+        [_, file, ..] => file.as_str(),
+        _ => "",
+    }
+}
+
+// Does what the words say, and tells it.
+fn answer<R: Print + Eprint + std::rt::Files + AllocGlobal>(rt: &R, words: &[String]) -> Status {
+    let mut files = Seen::new(RealFiles::new(rt, rt.alloc()));
+    let mut out = Heard::new(rt.alloc(), RealOut::new(rt));
+    let status = specsharp(rt.alloc(), words, &mut files, &mut out);
+    let text = explanation(rt, file_of(words), files.last(), &status, out.last());
+    tell(rt, text, &status);
+    status
 }
 
 // The answer where the words can't be had. One that isn't UTF-8 is no word of a command.
@@ -36,13 +109,13 @@ fn without_words(error: &io::Error) -> Status {
 
 fn main(rt: HostRuntime) -> ExitCode {
     let status = match words(&rt) {
-        Ok(words) => {
-            let mut files = RealFiles::new(&rt, rt.alloc());
-            let mut out = RealOut::new(&rt);
-            specsharp(rt.alloc(), &words, &mut files, &mut out)
+        Ok(words) => answer(&rt, &words),
+        Err(error) => {
+            let status = without_words(&error);
+            let text = explanation(&rt, "", None, &status, b"");
+            tell(&rt, text, &status);
+            status
         }
-        Err(error) => without_words(&error),
     };
-    tell(&rt, &status);
     ExitCode::from(status.number())
 }

@@ -1,0 +1,14 @@
+//! The messages on standard error: what is wrong, where, and the line of the source with a mark.
+#![tactic(auto)]
+
+mod heard;
+mod lines;
+mod messages;
+mod seen;
+mod sentences;
+mod verdict;
+
+pub use heard::Heard;
+pub use messages::{Unread, refused_message, stopped_message, unread_message, usage};
+pub use seen::Seen;
+pub use verdict::verdict_messages;

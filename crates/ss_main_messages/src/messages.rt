@@ -1,0 +1,137 @@
+// The messages of a run of the program.
+
+ghost use Rattle.std.specs.Prelude.{◌≡◌, IfOk, string_bytes};
+ghost use Rattle.ss_main_messages.specs.Messages.{error as error_of, heading as heading_of, is_foreign as is_foreign_byte, message as message_of, refused_message as refused_as, said_of, stopped_message as stopped_as};
+
+use crate::lines::{line_at, pointed};
+use crate::sentences::sentence;
+use ss_core::Place;
+use std::alloc::{AllocError, Global};
+
+/// Why a file couldn't be read.
+#[derive(Clone, Copy, Debug, PartialEq, Eq)]
+pub enum Unread {
+    /// There is none of its name.
+    Missing,
+    /// It is a folder.
+    Folder,
+    Other,
+}
+
+/// The commands.
+pub fn usage() -> &'static str {
+    "usage: specsharp verify FILE   verifies the program of the file FILE\n       specsharp run FILE      verifies it, and runs it where it is verified\n       specsharp expand FILE   writes the core program that it means\nFILE doesn't begin with `-`; write ./-FILE for one that does.\n"
+}
+
+/// The message of a file that couldn't be read.
+pub fn unread_message(alloc: Global, file: &str, why: Unread) -> Result<String, AllocError> {
+    match why {
+        Unread::Missing => {
+            format!(in alloc;
+                "{file}: there is no such file; look at its name and at the folder that you are in\n"
+            )
+        }
+        Unread::Folder => format!(in alloc; "{file}: this is a folder; name a file in it\n"),
+        Unread::Other => {
+            format!(in alloc; "{file}: the file can't be read; see whether you may read it\n")
+        }
+    }
+}
+
+// The file and the place.
+fn heading(alloc: Global, file: &str, place: Place) -> Result<String, AllocError>
+    ensures { IfOk result (λ text. string_bytes text ≡ heading_of file.now place) }
+{
+    let mut text = String::from_str(alloc, file)?;
+    text.push_str(":")?;
+    text.push_str(&place.line.to_string(alloc)?)?;
+    text.push_str(":")?;
+    text.push_str(&place.column.to_string(alloc)?)?;
+    text.push_str(": ")?;
+    Ok(text)
+}
+
+/// The file, the place and what is said of it, and below them the line of the source with a mark.
+pub(crate) fn message(
+    alloc: Global,
+    file: &str,
+    source: &[u8],
+    place: Place,
+    said: &str,
+) -> Result<String, AllocError>
+    ensures { IfOk result (λ text. string_bytes text ≡ message_of file.now source.now place said.now) }
+{
+    let mut text = heading(alloc, file, place)?;
+    text.push_str(said)?;
+    text.push_str("\n")?;
+    text.push_str(&pointed(alloc, source, place)?)?;
+    Ok(text)
+}
+
+/// An error by its name, and what is said of it.
+pub(crate) fn error(alloc: Global, name: &str, said: &str) -> Result<String, AllocError>
+    ensures { IfOk result (λ text. string_bytes text ≡ error_of name.now said.now) }
+{
+    let mut text = String::from_str(alloc, "error[")?;
+    text.push_str(name)?;
+    text.push_str("]: ")?;
+    text.push_str(said)?;
+    Ok(text)
+}
+
+// Whether a byte stands in comments and strings alone, or nowhere.
+fn is_foreign(byte: Option<u8>) -> bool
+    ensures { result ≡ is_foreign_byte byte }
+{
+    match byte {
+        Some(byte) => byte == 0 || byte > 127,
+        None => false,
+    }
+}
+
+// What is said of a rule that a source breaks at a place.
+fn said(source: &[u8], place: Place, rule: u16) -> &'static str
+    ensures { result.now ≡ said_of source.now place rule }
+{
+    if source.is_empty() {
+        return "the file is empty; write a class with `static void Main()`";
+    }
+    let before = place.column.saturating_sub(1) as usize;
+    if rule == 1 && is_foreign(line_at(source, place).get(before).copied()) {
+        return "this byte can't stand here; save the file as UTF-8, with letters beyond ASCII in comments and strings alone";
+    }
+    sentence(rule)
+}
+
+/// The message of a source that a rule refuses at a place.
+pub fn refused_message(
+    alloc: Global,
+    file: &str,
+    source: &[u8],
+    place: Place,
+    rule: u16,
+) -> Result<String, AllocError>
+    ensures { IfOk result (λ text. string_bytes text ≡ refused_as file.now source.now place rule) }
+{
+    let name = rule.to_string(alloc)?;
+    let error = error(alloc, name.as_str(), said(source, place, rule))?;
+    message(alloc, file, source, place, error.as_str())
+}
+
+/// The message of a run that stopped at a place.
+pub fn stopped_message(
+    alloc: Global,
+    file: &str,
+    source: &[u8],
+    place: Place,
+) -> Result<String, AllocError>
+    ensures { IfOk result (λ text. string_bytes text ≡ stopped_as file.now source.now place) }
+{
+    message(
+        alloc,
+        file,
+        source,
+        place,
+        "stopped: this `assume` isn't true in this run",
+    )
+}
