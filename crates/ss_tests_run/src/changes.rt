@@ -15,7 +15,7 @@ fn refused(kind: Kind) -> Result<(), Refused> {
 }
 
 /// A change of the store, with what it is made of.
-#[derive(Clone, Copy)]
+#[derive(Clone, Copy, Debug)]
 enum Step {
     Pack(Value),
     Unpack(Value),

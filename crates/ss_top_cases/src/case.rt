@@ -18,6 +18,8 @@ pub struct Case {
     pub words: Vec<String>,
     pub source: Vec<u8>,
     pub output: Vec<u8>,
+    /// The messages on standard error, where the case says them.
+    pub messages: Vec<u8>,
     pub expected: Expected,
 }
 
@@ -83,6 +85,13 @@ fn push_output(case: &mut Case, line: &str) -> Result<(), AllocError> {
     Ok(())
 }
 
+fn push_message(case: &mut Case, line: &str) -> Result<(), AllocError> {
+    let text = line.strip_prefix(" ").unwrap_or(line);
+    case.messages.extend_from_slice(text.as_bytes())?;
+    case.messages.push(b'\n')?;
+    Ok(())
+}
+
 fn push_line(alloc: Global, case: &mut Case, line: &str) -> Result<(), AllocError> {
     if let Some(words) = line.strip_prefix("$ ") {
         for word in words.split_whitespace() {
@@ -92,6 +101,8 @@ fn push_line(alloc: Global, case: &mut Case, line: &str) -> Result<(), AllocErro
         push_source(case, text)?;
     } else if let Some(text) = line.strip_prefix(">") {
         push_output(case, text)?;
+    } else if let Some(text) = line.strip_prefix("!") {
+        push_message(case, text)?;
     } else if line == "= read" {
         case.expected = Expected::Read;
     } else if let Some(text) = line.strip_prefix("= ") {
@@ -110,6 +121,7 @@ pub fn read_cases(alloc: Global, text: &str) -> Result<Vec<Case>, AllocError> {
                 words: Vec::new(alloc),
                 source: Vec::new(alloc),
                 output: Vec::new(alloc),
+                messages: Vec::new(alloc),
                 expected: Expected::Read,
             })?;
         } else if let Some(case) = cases.last_mut() {

@@ -5,11 +5,12 @@ mod case;
 
 use case::{Case, Expected, read_cases};
 use ss_io::{MemFiles, MemSink};
+use ss_main_messages::{refused_message, stopped_message, verdict_messages};
 use ss_report::{Status, status_line};
 use ss_top::specsharp;
 use std::alloc::{AllocError, Global};
 use std::rt::{Env, Files};
-use std::{env, fs, io};
+use std::{env, fs, io, str};
 
 /// The number of a status, and its status line where it has one.
 fn told(alloc: Global, status: &Status) -> Result<String, AllocError> {
@@ -29,6 +30,39 @@ fn is_expected(expected: &Expected, status: &Status, told: &str) -> bool {
     }
 }
 
+/// The messages on standard error of an answer to a source.
+fn messages(
+    alloc: Global,
+    source: &[u8],
+    status: &Status,
+    verdict: &[u8],
+) -> Result<String, AllocError> {
+    match status {
+        Status::SourceRefused { rule, place } => {
+            refused_message(alloc, "FILE", source, *place, *rule)
+        }
+        Status::Stopped { place } => stopped_message(alloc, "FILE", source, *place),
+        Status::Unproved { .. } => {
+            verdict_messages(alloc, "FILE", source, str::from_utf8(verdict).unwrap_or(""))
+        }
+        _ => Ok(String::new(alloc)),
+    }
+}
+
+/// Whether the messages are those that the case says, where it says any.
+fn are_expected(
+    alloc: Global,
+    case: &Case,
+    status: &Status,
+    verdict: &[u8],
+) -> Result<bool, AllocError> {
+    if case.messages.is_empty() {
+        return Ok(true);
+    }
+    let messages = messages(alloc, case.source.as_slice(), status, verdict)?;
+    Ok(messages.as_bytes() == case.messages.as_slice())
+}
+
 /// What a case was answered, where that isn't what is expected.
 fn difference(alloc: Global, case: &Case) -> Result<Option<String>, AllocError> {
     let file = (
@@ -39,7 +73,9 @@ fn difference(alloc: Global, case: &Case) -> Result<Option<String>, AllocError> 
     let mut out = MemSink::new(alloc, Vec::new(alloc));
     let status = specsharp(alloc, &case.words, &mut files, &mut out);
     let told = told(alloc, &status)?;
-    if is_expected(&case.expected, &status, &told) && out.bytes() == case.output.as_slice() {
+    let answered = is_expected(&case.expected, &status, &told);
+    let written = out.bytes() == case.output.as_slice();
+    if answered && written && are_expected(alloc, case, &status, out.bytes())? {
         return Ok(None);
     }
     Ok(Some(told))
