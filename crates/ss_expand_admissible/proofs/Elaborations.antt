@@ -10,7 +10,7 @@ use Rattle.ss_core.specs.declared.names.Mark.TheVariants as mark
 use Rattle.ss_core.specs.Tree.{WordTree, Consistent, Committed, New, Level, Packed, Unowned}
 use Rattle.ss_core.specs.Chain.{DeclaredField, all_fields, below}
 use Rattle.ss_ast.specs.Programs.{ProgramTree}
-use Rattle.ss_typed.specs.Tree.{ExprTree, ThisOf, IffOf, ImpliesOf, BinaryOf, IsOf, AsOf, NegateOf, NotOf, CastOf, FieldOf, ElementOf, LengthOf, OldOf, QuantifiedOf, StateOf, OwnersOf}
+use Rattle.ss_typed.specs.Tree.{ExprTree, ThisOf, ResultOf, IffOf, ImpliesOf, BinaryOf, IsOf, AsOf, NegateOf, NotOf, CastOf, FieldOf, ElementOf, LengthOf, OldOf, QuantifiedOf, StateOf, OwnersOf}
 use Rattle.ss_paths.specs.Assigned.{is_this}
 use Rattle.ss_owners_rules.specs.Words.{NoWord, allows_state, unless, misplaced}
 use Rattle.ss_owners_rules.specs.Admissible as written
@@ -66,6 +66,13 @@ from_implied false b h e = absurd (false≢true e)
 this_stays : (ns : Numbers) (e : ExprTree) → is_this e ≡ true → store.is_this (plain ns e) ≡ true
 this_stays ns (ThisOf p t) h = refl
 this_stays ns e h = absurd (false≢true h)
+
+-- what stands behind a `result` without a type has that word in it
+untyped_word : (x : ExprTree) → written.is_untyped x ≡ true → misplaced NoWord x ≡ [] → ⊥
+untyped_word (ResultOf q u) h m = cc
+untyped_word (ElementOf q a i) h m = untyped_word a h (none_of (misplaced NoWord a) (misplaced NoWord i) m).0
+untyped_word (OldOf q e) h m = cc
+untyped_word x h m = false≢true h
 
 -- the class t of the elaboration, or one above it, declares the field
 abbrev pub is_field_of : ProgramTree → ℕ → ℕ → Bool
@@ -125,9 +132,14 @@ module _ (p : ProgramTree) (t : ℕ) (ns : Numbers) where
   admissible (ElementOf q a k) r m i =
       let reads = and_parts (own_reads (is_field_of p t) a) (own_reads (is_field_of p t) k) r in
       let words = none_of (misplaced NoWord a) (misplaced NoWord k) m in
-      let small = smallest_none (written.is_owned_path marks a) q (inadmissible marks a ++ inadmissible marks k) i in
+      let small = smallest_none (written.is_untyped a || written.is_owned_path marks a) q (inadmissible marks a ++ inadmissible marks k) i in
       let places = none_of (inadmissible marks a) (inadmissible marks k) small.1 in
-      and_from _ _ (owned_stays a reads.0 small.0) (admissible k reads.1 words.1 places.1)
+      let owned : written.is_owned_path marks a ≡ true =
+      ⊎_elim
+      (λ untyped. absurd (untyped_word a untyped words.0))
+      (λ path. path)
+      (or_cases (written.is_untyped a) (written.is_owned_path marks a) small.0) in
+      and_from _ _ (owned_stays a reads.0 owned) (admissible k reads.1 words.1 places.1)
   admissible (LengthOf q e) r m i = admissible e r m i
   admissible (NegateOf q e) r m i = admissible e r m i
   admissible (NotOf q e) r m i = admissible e r m i

@@ -15,7 +15,7 @@ use Rattle.ss_tables.specs.Classes.{Declared, field_of, above, class_named, clas
 use Rattle.ss_tables.specs.Types.{class_of}
 use Rattle.ss_tables.specs.Words.{is_console, is_owner, is_state_read, is_state_call}
 use Rattle.ss_tables.specs.Scopes.{Scope, local_named}
-use Rattle.ss_tables.specs.Statics.{Receiver, TheConsole, TheOwner, TheBase, AClass, AValue, Callee, AMethod, APrint, AWord, ABase, NoCallee, is_member, class_or_value, receiver, member_type, read_type, static, name_callee, member_callee}
+use Rattle.ss_tables.specs.Statics.{Receiver, TheConsole, TheOwner, TheBase, AClass, AValue, Callee, AMethod, APrint, AWord, ABase, NoCallee, is_member, class_or_value, this_type, receiver, member_type, read_type, static, name_callee, member_callee}
 use Rattle.ss_typed.specs.Tree.{ExprTree, IffOf, ImpliesOf, BinaryOf, IsOf, AsOf, NegateOf, NotOf, CastOf, FieldOf, ElementOf, LengthOf, QuantifiedOf, NullOf, StateOf, OwnersOf, CallOf, StaticOf, BaseOf}
 use Rattle.ss_typed.specs.Tree as typed
 use Rattle.ss_paths.specs.Assigned.{is_this}
@@ -180,9 +180,13 @@ member_this : (e : Env) (p : Place) (o : ExprTree) (n : List ℕ) (w : Bool) (t 
 member_this e p o n true t h = absurd (false≢true h)
 member_this e p o n false t h = length_this e p o n (is_array_number t) (declared_place t) h
 
+this_own : (s : Scope) (is_refused : Bool) → IsOwn s (this_type is_refused s.class)
+this_own s true = inr refl
+this_own s false = inl refl
+
 -- what is resolved to `this` is of its class, or of none
 this_is_own : (e : Env) (a : text.ExprTree) → is_this (expr e a) ≡ true → IsOwn e.scope (static e.scope a)
-this_is_own e (text.ThisOf p) h = inl refl
+this_is_own e (text.ThisOf p) h = this_own e.scope e.scope.refuses_this
 this_is_own e (text.BaseOf p) h = inr refl
 this_is_own e (text.ParenOf p a) h = this_is_own e a h
 this_is_own e (text.NameOf p n) h = absurd (false≢true (sym (name_not_this e p n (known e n)) ∙ h))

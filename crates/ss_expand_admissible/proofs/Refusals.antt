@@ -110,7 +110,8 @@ module _ (p : ProgramTree) (t : ℕ) where
       let calls = or_parts (has_call a) (has_call i) c in
       let sides = and_parts (store.is_owned_path (classes p) t (plain invariant_numbers a)) (is_admissible (classes p) t (plain invariant_numbers i)) h in
       let was = path_was a bare.0 sides.0 in
-      small_none (written.is_owned_path marks a) q (inadmissible marks a ++ inadmissible marks i) was (both_none _ _ (path_none marks a was) (kept i bare.1 calls.1 sides.1))
+      small_none (written.is_untyped a || written.is_owned_path marks a) q (inadmissible marks a ++ inadmissible marks i) (or_right (written.is_untyped a) (written.is_owned_path marks a) was)
+      (both_none _ _ (path_none marks a was) (kept i bare.1 calls.1 sides.1))
   kept (LengthOf q e) b c h = kept e b c h
   kept (NegateOf q e) b c h = kept e b c h
   kept (NotOf q e) b c h = kept e b c h

@@ -13,6 +13,7 @@ use Rattle.ss_core.specs.Chain as chain
 use Rattle.ss_core.specs.Chain.{is_declared, declared, below, is_class, is_superclass, is_type, has_numbers, IsChain, NoAlso}
 use Rattle.ss_core.proofs.Declared.{declared_at, declared_place, above_undeclared}
 use Rattle.ss_core.proofs.Levels.{passes, passes_here, passes_above, below-passes}
+use Rattle.ss_ast.specs.declared.class.Modifier.{Modifier}
 use Rattle.ss_ast.specs.Expressions.{NameTree, TypeTree, TypeNameTree, IntType, BoolType, ObjectType, ClassType}
 use Rattle.ss_ast.specs.Statements.{DeclaratorTree}
 use Rattle.ss_ast.specs.Programs.{MemberKindTree, FieldsOf, InvariantOf, MethodOf, ConstructorOf, MemberTree, ClassTree, ProgramTree}
@@ -210,20 +211,20 @@ module _ (p : ProgramTree) (faultless : program_faults p ≡ []) where
   declarators_known attributes t h [] = refl
   declarators_known attributes t h (d ∷ ds) = rw (type_known t h) (declarators_known attributes t h ds)
 
-  kind_known : (k : ℕ) (attributes : List NameTree) (kind : MemberKindTree) → kind_faults (class_scope p.classes k) kind ≡ [] → list_all (λ (f : core.FieldTree). is_type (core_of p).classes f.ty) (map (field p.classes) (fields_of_kind attributes kind)) ≡ true
-  kind_known k attributes (FieldsOf d) h = declarators_known attributes d.ty (none_left (type_faults p.classes d.ty) (initials_faults (class_scope p.classes k) d.declarators) h).0 d.declarators
-  kind_known k attributes (InvariantOf e) h = refl
-  kind_known k attributes (MethodOf r n ps cs b) h = refl
-  kind_known k attributes (ConstructorOf n ps base cs b) h = refl
+  kind_known : (k : ℕ) (attributes : List NameTree) (words : List Modifier) (kind : MemberKindTree) → kind_faults (class_scope p.classes k) words kind ≡ [] → list_all (λ (f : core.FieldTree). is_type (core_of p).classes f.ty) (map (field p.classes) (fields_of_kind attributes kind)) ≡ true
+  kind_known k attributes words (FieldsOf d) h = declarators_known attributes d.ty (none_left (type_faults p.classes d.ty) (initials_faults (class_scope p.classes k) d.declarators) h).0 d.declarators
+  kind_known k attributes words (InvariantOf e) h = refl
+  kind_known k attributes words (MethodOf r n ps cs b) h = refl
+  kind_known k attributes words (ConstructorOf n ps base cs b) h = refl
 
   fields_known : (k : ℕ) (ms : List MemberTree) → members_faults (class_scope p.classes k) ms ≡ [] → list_all (λ (f : core.FieldTree). is_type (core_of p).classes f.ty) (map (field p.classes) (fields_in ms)) ≡ true
   fields_known k [] h = refl
   fields_known k (m ∷ ms) h =
-      let both = none_left (kind_faults (class_scope p.classes k) m.kind) (members_faults (class_scope p.classes k) ms) h in
+      let both = none_left (kind_faults (class_scope p.classes k) m.modifiers m.kind) (members_faults (class_scope p.classes k) ms) h in
       let test = λ (f : core.FieldTree). is_type (core_of p).classes f.ty in
       ap (list_all test) (map-append (field p.classes) (fields_of_kind m.attributes m.kind) (fields_in ms))
       ∙ list_all-append test (map (field p.classes) (fields_of_kind m.attributes m.kind)) (map (field p.classes) (fields_in ms))
-      ∙ rw (kind_known k m.attributes m.kind both.0, fields_known k ms both.1) refl
+      ∙ rw (kind_known k m.attributes m.modifiers m.kind both.0, fields_known k ms both.1) refl
 
   superclass : (k : ℕ) (o : Option ℕ) → above p.classes k ≡ o → is_superclass (core_of p).classes (number_or_object o) ≡ true
   superclass k None e = refl

@@ -13,7 +13,7 @@ use Rattle.ss_ast.specs.Expressions.{NameTree, TypeTree}
 use Rattle.ss_ast.specs.Statements.{BlockTree}
 use Rattle.ss_ast.specs.Programs as written
 use Rattle.ss_ast.specs.Programs.{MemberKindTree, FieldsOf, InvariantOf, MethodOf, ConstructorOf, MemberTree, ClassTree, ProgramTree}
-use Rattle.ss_tables.specs.Members.{MethodTree, methods_of_kind, constructors_of_kind, methods_in, constructors_in, is_static}
+use Rattle.ss_tables.specs.Members.{MethodTree, methods_of_kind, constructors_of_kind, methods_in, constructors_in, is_static_word, word_of, is_static}
 use Rattle.ss_tables.specs.Types.{written_type}
 use Rattle.ss_tables.specs.Scopes.{Scope, class_scope, declare}
 use Rattle.ss_tables.specs.Scopes as scopes
@@ -21,7 +21,7 @@ use Rattle.ss_tables.specs.Statics.{result_type}
 use Rattle.ss_typed.specs.Tree.{ParamTree, BodyTree}
 use Rattle.ss_resolver_names_rules.specs.Faults.{type_faults, twice_in}
 use Rattle.ss_resolver_names_rules.specs.Statements.{block_faults}
-use Rattle.ss_resolver_names_rules.specs.Members.{params_faults, clauses_faults, written_type_faults, base_faults, with_outcome, body_faults, kind_faults, members_faults}
+use Rattle.ss_resolver_names_rules.specs.Members.{params_faults, clauses_faults, written_type_faults, base_faults, in_method, body_faults, kind_faults, members_faults}
 use Rattle.ss_resolver_names_rules.specs.Programs.{program_faults}
 use Rattle.ss_resolver_rules.specs.Names.{Env, class_env, declare_param, declare_params}
 use Rattle.ss_resolver_rules.specs.Numbers.{type_id}
@@ -81,28 +81,28 @@ module _ (p : ProgramTree) (faultless : program_faults p ≡ []) where
   result_known None h = refl
   result_known (Some t) h = rw (type_known p faultless t h) refl
 
-  method_known : (k : ℕ) (attributes : List NameTree) (words : List Modifier) (kind : MemberKindTree) → kind_faults (class_scope p.classes k) kind ≡ [] → list_all are_known (map (method_body p.classes k) (methods_of_kind attributes words kind)) ≡ true
+  method_known : (k : ℕ) (attributes : List NameTree) (words : List Modifier) (kind : MemberKindTree) → kind_faults (class_scope p.classes k) words kind ≡ [] → list_all are_known (map (method_body p.classes k) (methods_of_kind attributes words kind)) ≡ true
   method_known k attributes words (FieldsOf d) h = refl
   method_known k attributes words (InvariantOf e) h = refl
   method_known k attributes words (ConstructorOf n ps base cs b) h = refl
   method_known k attributes words (MethodOf r n ps cs b) h =
-      let s = with_outcome (class_scope p.classes k) (result_type p.classes r) in
+      let s = in_method (class_scope p.classes k) (is_static_word (word_of words)) (result_type p.classes r) in
       let m : MethodTree = record { attributes = attributes; modifiers = words; result = r; name = n; params = ps; clauses = cs; body = b } in
       let both = none_left (written_type_faults p.classes r) (body_faults s ps None cs b) h in
       rw (result_known r both.0, params_known s refl (method_env p.classes k m) (env_of k (is_static m) ps) ps (params_faultless s ps None cs b both.1)) refl
 
-  constructor_known : (k : ℕ) (attributes : List NameTree) (kind : MemberKindTree) → kind_faults (class_scope p.classes k) kind ≡ [] → list_all are_known (map (constructor_body p.classes k) (constructors_of_kind attributes kind)) ≡ true
-  constructor_known k attributes (FieldsOf d) h = refl
-  constructor_known k attributes (InvariantOf e) h = refl
-  constructor_known k attributes (MethodOf r n ps cs b) h = refl
-  constructor_known k attributes (ConstructorOf n ps base cs b) h =
+  constructor_known : (k : ℕ) (attributes : List NameTree) (words : List Modifier) (kind : MemberKindTree) → kind_faults (class_scope p.classes k) words kind ≡ [] → list_all are_known (map (constructor_body p.classes k) (constructors_of_kind attributes kind)) ≡ true
+  constructor_known k attributes words (FieldsOf d) h = refl
+  constructor_known k attributes words (InvariantOf e) h = refl
+  constructor_known k attributes words (MethodOf r n ps cs b) h = refl
+  constructor_known k attributes words (ConstructorOf n ps base cs b) h =
       let s = class_scope p.classes k in
       rw (params_known s refl (param_env p.classes k false ps) (env_of k false ps) ps (params_faultless s ps base cs b h)) refl
 
   methods_known : (k : ℕ) (ms : List MemberTree) → members_faults (class_scope p.classes k) ms ≡ [] → list_all are_known (map (method_body p.classes k) (methods_in ms)) ≡ true
   methods_known k [] h = refl
   methods_known k (m ∷ ms) h =
-      let both = none_left (kind_faults (class_scope p.classes k) m.kind) (members_faults (class_scope p.classes k) ms) h in
+      let both = none_left (kind_faults (class_scope p.classes k) m.modifiers m.kind) (members_faults (class_scope p.classes k) ms) h in
       ap (list_all are_known) (map-append (method_body p.classes k) (methods_of_kind m.attributes m.modifiers m.kind) (methods_in ms))
       ∙ list_all-append are_known (map (method_body p.classes k) (methods_of_kind m.attributes m.modifiers m.kind)) (map (method_body p.classes k) (methods_in ms))
       ∙ rw (method_known k m.attributes m.modifiers m.kind both.0, methods_known k ms both.1) refl
@@ -110,10 +110,10 @@ module _ (p : ProgramTree) (faultless : program_faults p ≡ []) where
   constructors_known : (k : ℕ) (ms : List MemberTree) → members_faults (class_scope p.classes k) ms ≡ [] → list_all are_known (map (constructor_body p.classes k) (constructors_in ms)) ≡ true
   constructors_known k [] h = refl
   constructors_known k (m ∷ ms) h =
-      let both = none_left (kind_faults (class_scope p.classes k) m.kind) (members_faults (class_scope p.classes k) ms) h in
+      let both = none_left (kind_faults (class_scope p.classes k) m.modifiers m.kind) (members_faults (class_scope p.classes k) ms) h in
       ap (list_all are_known) (map-append (constructor_body p.classes k) (constructors_of_kind m.attributes m.kind) (constructors_in ms))
       ∙ list_all-append are_known (map (constructor_body p.classes k) (constructors_of_kind m.attributes m.kind)) (map (constructor_body p.classes k) (constructors_in ms))
-      ∙ rw (constructor_known k m.attributes m.kind both.0, constructors_known k ms both.1) refl
+      ∙ rw (constructor_known k m.attributes m.modifiers m.kind both.0, constructors_known k ms both.1) refl
 
   class_known : (i : ℕ) (c : ClassTree) → slice_get p.classes i ≡ Some c → list_all are_known (bodies_of p.classes (0 + i) c) ≡ true
   class_known i c at =

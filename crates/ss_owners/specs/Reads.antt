@@ -1,28 +1,36 @@
 -- What is known behind the parts of an expression in an invariant.
-use Rattle.std.specs.Prelude.{◌≡◌, ℕ, List, [], ◌∷◌, ◌++◌, length, true, false, ◌&&◌, ◌||◌}
+use Rattle.std.specs.Prelude.{◌≡◌, ℕ, List, [], ◌∷◌, ◌++◌, length, Bool, true, false, ◌&&◌, ◌||◌}
 use Rattle.ss_core.specs.declared.names.Place.{Place}
 use Rattle.ss_core.specs.declared.names.Mark.{Mark}
 use Rattle.ss_typed.specs.declared.expr.TypedLink.{TypedLink}
 use Rattle.ss_typed.specs.Tree.{ExprTree}
 use Rattle.ss_paths.specs.Assigned.{is_this}
 use Rattle.ss_paths_assigned.specs.Views.{link_behind}
-use Rattle.ss_owners_rules.specs.Admissible.{field_mark, is_rep, is_rep_or_peer, is_owned_path, inadmissible}
+use Rattle.ss_owners_rules.specs.Admissible.{field_mark, is_rep, is_rep_or_peer, is_owned_path, is_untyped, inadmissible}
 use Rattle.ss_owners.specs.declared.reads.Reached.{Reached}
 use Rattle.ss_owners.specs.Parts.{nowhere, nothing}
 
 -- ---- what an expression is to the step behind it
 
 abbrev pub reached : List Mark → ExprTree → Reached
-reached ms e = record { is_this = is_this e; is_owned = is_owned_path ms e }
+reached ms e = record { is_this = is_this e; is_owned = is_owned_path ms e; is_untyped = is_untyped e }
+
+-- neither `this` nor a path
+abbrev pub other_reached : Bool → Reached
+other_reached untyped = record { is_this = false; is_owned = false; is_untyped = untyped }
 
 abbrev pub nothing_reached : Reached
-nothing_reached = record { is_this = false; is_owned = false }
+nothing_reached = other_reached false
 
 abbrev pub this_reached : Reached
-this_reached = record { is_this = true; is_owned = false }
+this_reached = record { is_this = true; is_owned = false; is_untyped = false }
 
 abbrev pub behind_field : List Mark → Reached → ℕ → Reached
-behind_field ms r f = record { is_this = false; is_owned = r.is_this && is_rep (field_mark ms f) || r.is_owned && is_rep_or_peer (field_mark ms f) }
+behind_field ms r f = record {
+  is_this = false;
+  is_owned = r.is_this && is_rep (field_mark ms f) || r.is_owned && is_rep_or_peer (field_mark ms f);
+  is_untyped = false;
+}
 
 -- ---- chains
 

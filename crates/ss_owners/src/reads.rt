@@ -7,7 +7,7 @@ ghost use Rattle.ss_typed.specs.Tree.{ExprTree, arguments};
 ghost use Rattle.ss_typed.specs.View.{expr, grouped};
 ghost use Rattle.ss_paths_assigned.specs.Views.{link_behind, step_behind};
 ghost use Rattle.ss_owners_rules.specs.Admissible.{smallest, inadmissible, inadmissible_each};
-ghost use Rattle.ss_owners.specs.Reads.{reached, nothing_reached, this_reached, behind_field, links_reads, link_reads, Leads};
+ghost use Rattle.ss_owners.specs.Reads.{reached, other_reached, nothing_reached, this_reached, behind_field, links_reads, link_reads, Leads};
 
 use crate::marks::{is_owned_field, is_rep_field};
 use ss_core::{FieldId, Mark, Place};
@@ -20,15 +20,25 @@ pub struct Reached {
     pub is_this: bool,
     /// It is a path to what `this` owns.
     pub is_owned: bool,
+    /// It is a `result` that has no type, or stands behind one.
+    pub is_untyped: bool,
+}
+
+// Neither `this` nor a path.
+fn other(is_untyped: bool) -> Reached
+    ensures { result ≡ other_reached is_untyped }
+{
+    Reached {
+        is_this: false,
+        is_owned: false,
+        is_untyped,
+    }
 }
 
 fn nothing() -> Reached
     ensures { result ≡ nothing_reached }
 {
-    Reached {
-        is_this: false,
-        is_owned: false,
-    }
+    other(false)
 }
 
 fn this() -> Reached
@@ -37,6 +47,7 @@ fn this() -> Reached
     Reached {
         is_this: true,
         is_owned: false,
+        is_untyped: false,
     }
 }
 
@@ -48,6 +59,7 @@ fn behind_field(marks: &[Mark], before: Reached, field: FieldId) -> Reached
     Reached {
         is_this: false,
         is_owned: is_rep || before.is_owned && is_owned_field(marks, field),
+        is_untyped: false,
     }
 }
 
@@ -86,8 +98,8 @@ pub fn find_reads(
         | TypedExpr::Bool(..)
         | TypedExpr::Null(..)
         | TypedExpr::Local(..)
-        | TypedExpr::Result(..)
         | TypedExpr::Bound(..) => Ok(nothing()),
+        TypedExpr::Result(_, ty) => Ok(other(ty.is_none())),
         TypedExpr::Iff(_, a, b) => {
             find_reads(marks, a, found)?;
             find_reads(marks, b, found)?;
@@ -116,8 +128,8 @@ pub fn find_reads(
             Ok(nothing())
         }
         TypedExpr::Old(_, inner) => {
-            find_reads(marks, inner, found)?;
-            Ok(nothing())
+            let head = find_reads(marks, inner, found)?;
+            Ok(other(head.is_untyped))
         }
         TypedExpr::State(_, _, inner) => {
             find_reads(marks, inner, found)?;
@@ -234,8 +246,8 @@ fn find_in_step(
         }
         TypedStep::Element(index) => {
             find_reads(marks, index, found)?;
-            add_unless(head.is_owned, place, start, found)?;
-            Ok(nothing())
+            add_unless(head.is_untyped || head.is_owned, place, start, found)?;
+            Ok(other(head.is_untyped))
         }
         TypedStep::Length => Ok(nothing()),
         TypedStep::Call(_, _, list) => {

@@ -1,11 +1,11 @@
 -- Admissible invariants (ECOOP 2004): each speaks of the fields of `this`, and of what `this` owns.
-use Rattle.std.specs.Prelude.{ℕ, List, [], ◌∷◌, ◌++◌, Bool, true, false, ◌&&◌, ◌||◌, if◌then◌else◌, map, unwrap_or, slice_get}
+use Rattle.std.specs.Prelude.{ℕ, List, [], ◌∷◌, ◌++◌, Bool, true, false, ◌&&◌, ◌||◌, if◌then◌else◌, is_none, map, unwrap_or, slice_get}
 use Rattle.ss_core.specs.declared.names.Place.{Place}
 use Rattle.ss_core.specs.declared.names.Mark.{Mark}
 use Rattle.ss_core.specs.declared.names.Mark.TheVariants as mark
 use Rattle.ss_core.specs.Tree.{ClassTree}
 use Rattle.ss_core.specs.Chain.{DeclaredField, all_fields}
-use Rattle.ss_typed.specs.Tree.{ExprTree, FieldOf, ElementOf, LengthOf, NegateOf, NotOf, BinaryOf, ImpliesOf, IffOf, IsOf, AsOf, CastOf, OldOf, QuantifiedOf, StateOf, OwnersOf, NewOf, NewArrayOf, CallOf, StaticOf, BaseOf, Arguments, NoMore, Argument}
+use Rattle.ss_typed.specs.Tree.{ExprTree, ResultOf, FieldOf, ElementOf, LengthOf, NegateOf, NotOf, BinaryOf, ImpliesOf, IffOf, IsOf, AsOf, CastOf, OldOf, QuantifiedOf, StateOf, OwnersOf, NewOf, NewArrayOf, CallOf, StaticOf, BaseOf, Arguments, NoMore, Argument}
 use Rattle.ss_paths.specs.Assigned.{is_this}
 
 -- ---- paths
@@ -34,6 +34,13 @@ is_owned_path ms e = false
 
 -- ---- reads
 
+-- `result` where there is none, and what is written behind it: a field leaves no trace there, and an element is none that is read
+abbrev pub is_untyped : ExprTree → Bool
+is_untyped (ResultOf p t) = is_none t
+is_untyped (ElementOf p a i) = is_untyped a
+is_untyped (OldOf p e) = is_untyped e
+is_untyped e = false
+
 -- a read is a fault where it isn't admissible and no smaller one within it is at fault
 abbrev pub smallest : Bool → Place → List Place → List Place
 smallest is_admissible p [] = if is_admissible then [] else p ∷ []
@@ -41,10 +48,11 @@ smallest is_admissible p (q ∷ qs) = q ∷ qs
 
 abbrev mutual
   -- The smallest reads in an invariant that aren't admissible, each at its first byte. A field is read of `this` or of what it owns, and
-  -- an element of an array that it owns. What `this.f` means is a field of the class or of one above.
+  -- an element of an array that it owns. What `this.f` means is a field of the class or of one above. Behind a `result` that has no type
+  -- nothing is read, so there the word alone is at fault.
   pub inadmissible : List Mark → ExprTree → List Place
   inadmissible ms (FieldOf p e f t) = smallest (is_this e || is_owned_path ms e) p (inadmissible ms e)
-  inadmissible ms (ElementOf p a i) = smallest (is_owned_path ms a) p (inadmissible ms a ++ inadmissible ms i)
+  inadmissible ms (ElementOf p a i) = smallest (is_untyped a || is_owned_path ms a) p (inadmissible ms a ++ inadmissible ms i)
   inadmissible ms (LengthOf p e) = inadmissible ms e
   inadmissible ms (NegateOf p e) = inadmissible ms e
   inadmissible ms (NotOf p e) = inadmissible ms e

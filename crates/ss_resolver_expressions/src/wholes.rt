@@ -25,7 +25,7 @@ use ss_ast::{Name, Operator, Quantifier, TypeName, TypeRef};
 use ss_core::{ClassId, Place};
 use ss_resolver_tables::{array_class, class_id, written_class};
 use ss_tables_lookup::StaticType;
-use ss_tables_scopes::cast_type;
+use ss_tables_scopes::{cast_type, new_type};
 use ss_typed::{TypedExpr, TypedLink, TypedStep};
 use std::alloc::{AllocError, Global};
 
@@ -72,7 +72,7 @@ pub(crate) fn this_word<'p>(
     ensures { (a : Around) → IfOk result (λ r. part_view r ≡ part (env_of scene.now a) (ThisOf place)) }
 {
     let whole = boxed(alloc, this(scene, place))?;
-    Ok(Part::Other(Some(scene.within.this_type()), whole))
+    Ok(Part::Other(scene.within.this_type(), whole))
 }
 
 pub(crate) fn outcome<'p>(
@@ -87,6 +87,13 @@ pub(crate) fn outcome<'p>(
 }
 
 // ---- of one part or several
+
+// How many arguments are given.
+fn count_of(values: &[TypedExpr]) -> usize
+    ensures { result ≡ length values.now }
+{
+    values.len()
+}
 
 fn old_value(
     alloc: Global,
@@ -238,7 +245,8 @@ pub(crate) fn new_object<'p>(
     let tables = scene.within.tables;
     let text = name.text.as_str();
     let class = class_id(tables, text);
-    let ty = tables.class_type(true, text);
+    let count = count_of(&values);
+    let ty = new_type(tables, count, text);
     let whole = new_value(alloc, place, class, values)?;
     Ok(Part::Other(ty, whole))
 }
@@ -376,13 +384,6 @@ pub(crate) fn add_given(
     let value = finish(alloc, scene, around, argument)?;
     add_value(&mut given.values, value)?;
     Ok(())
-}
-
-// How many arguments are given.
-fn count_of(values: &[TypedExpr]) -> usize
-    ensures { result ≡ length values.now }
-{
-    values.len()
 }
 
 /// A call.

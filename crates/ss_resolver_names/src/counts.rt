@@ -64,6 +64,8 @@ fn method_locals(
     let within = Within {
         tables,
         class,
+        refuses_members: false,
+        refuses_this: false,
         outcome: None,
     };
     let mut locals = Scopes::new(alloc);
@@ -83,6 +85,8 @@ fn constructor_locals(
     let within = Within {
         tables,
         class,
+        refuses_members: false,
+        refuses_this: false,
         outcome: None,
     };
     let mut locals = Scopes::new(alloc);

@@ -10,7 +10,7 @@ ghost use Rattle.ss_resolver_names_rules.specs.Faults.{type_faults, twice_in};
 ghost use Rattle.ss_tables_scopes.specs.Names.{Names};
 ghost use Rattle.ss_tables.specs.Statics.{result_type};
 ghost use Rattle.ss_tables_lookup.specs.Views.{type_of};
-ghost use Rattle.ss_resolver_names_rules.specs.Members.{params_faults, modified_expr, modified_faults, clause_faults, clauses_faults, written_type_faults, base_faults, initials_faults, with_outcome, body_faults, kind_faults, members_faults};
+ghost use Rattle.ss_resolver_names_rules.specs.Members.{params_faults, modified_expr, modified_faults, clause_faults, clauses_faults, written_type_faults, base_faults, initials_faults, in_method, body_faults, kind_faults, members_faults};
 ghost use Rattle.ss_tables_scopes.specs.Views.{scope_of};
 ghost use Rattle.ss_tables_lookup.specs.Classes.{trees};
 
@@ -19,10 +19,10 @@ use crate::stmts::{check_all, check_any, check_block, check_local};
 use crate::walk::check;
 use ss_ast::{
     BaseCall, Block, Clause, Constructor, Declarator, Expr, Member, MemberKind, Method, Modified,
-    Param, TypeRef,
+    Modifier, Param, TypeRef,
 };
 use ss_faults::Fault;
-use ss_resolver_scoping::declare_param;
+use ss_resolver_scoping::{declare_param, is_static};
 use ss_tables_lookup::{StaticType, Tables};
 use ss_tables_scopes::{Scopes, Within};
 use std::alloc::{AllocError, Global};
@@ -86,13 +86,19 @@ fn check_modified(
     Ok(())
 }
 
-// The same place, where `result` has this type.
-fn with_outcome<'t, 'p>(within: Within<'t, 'p>, outcome: Option<StaticType>) -> Within<'t, 'p>
-    ensures { (names : Names) → scope_of result names ≡ with_outcome (scope_of within.entry names) (option_map type_of outcome) }
+// The same place in a method, static or not, where `result` has this type.
+fn in_method<'t, 'p>(
+    within: Within<'t, 'p>,
+    is_static: bool,
+    outcome: Option<StaticType>,
+) -> Within<'t, 'p>
+    ensures { (names : Names) → scope_of result names ≡ in_method (scope_of within.entry names) is_static (option_map type_of outcome) }
 {
     Within {
         tables: within.tables,
         class: within.class,
+        refuses_members: is_static,
+        refuses_this: within.refuses_this,
         outcome,
     }
 }
@@ -211,13 +217,14 @@ fn check_method(
     within: Within<'_, '_>,
     locals: &mut Scopes,
     faults: &mut Vec<Fault>,
+    words: &[Modifier],
     method: &Method,
 ) -> Result<(), AllocError>
-    ensures { OnOk result (faults.new.items ≡ faults.old.items ++ kind_faults (scope_of within.entry locals.old) (member_kind_tree (MemberKind.Method method.now))) }
+    ensures { OnOk result (faults.new.items ≡ faults.old.items ++ kind_faults (scope_of within.entry locals.old) words.now (member_kind_tree (MemberKind.Method method.now))) }
 {
     check_result(within.tables, faults, &method.returns)?;
     let outcome = result_type(within.tables, &method.returns);
-    let inner = with_outcome(within, outcome);
+    let inner = in_method(within, is_static(words), outcome);
     check_body(
         alloc,
         inner,
@@ -237,7 +244,8 @@ fn check_constructor(
     faults: &mut Vec<Fault>,
     constructor: &Constructor,
 ) -> Result<(), AllocError>
-    ensures { OnOk result (faults.new.items ≡ faults.old.items ++ kind_faults (scope_of within.entry locals.old) (member_kind_tree (MemberKind.Constructor constructor.now))) }
+    ensures { OnOk result (faults.new.items ≡ faults.old.items ++ body_faults (scope_of within.entry locals.old) (map param_tree constructor.now.params.items)
+        (option_map base_call_tree constructor.now.base) (map clause_tree constructor.now.clauses.items) (block_tree constructor.now.body)) }
 {
     check_body(
         alloc,
@@ -260,11 +268,13 @@ fn check_member(
     member: &Member,
 ) -> Result<(), AllocError>
     requires { class < length (trees tables.now) }
-    ensures { OnOk result (faults.new.items ≡ faults.old.items ++ kind_faults (class_scope (trees tables.now) class) (member_tree member.now).kind) }
+    ensures { OnOk result (faults.new.items ≡ faults.old.items ++ kind_faults (class_scope (trees tables.now) class) (member_tree member.now).modifiers (member_tree member.now).kind) }
 {
     let within = Within {
         tables,
         class,
+        refuses_members: false,
+        refuses_this: false,
         outcome: None,
     };
     let mut locals = Scopes::new(alloc);
@@ -277,7 +287,16 @@ fn check_member(
             check(alloc, within, &mut locals, faults, e)?;
             Ok(())
         }
-        MemberKind::Method(method) => check_method(alloc, within, &mut locals, faults, method),
+        MemberKind::Method(method) => {
+            check_method(
+                alloc,
+                within,
+                &mut locals,
+                faults,
+                &member.modifiers,
+                method,
+            )
+        }
         MemberKind::Constructor(constructor) => {
             check_constructor(alloc, within, &mut locals, faults, constructor)
         }

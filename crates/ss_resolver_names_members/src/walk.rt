@@ -3,9 +3,9 @@
 ghost use Rattle.std.specs.Prelude.{◌≡◌, ◌++◌, true, None, Some, map, IfOk, OnOk, option_map, if◌then◌else◌};
 ghost use Rattle.ss_ast.specs.Expressions.{ExprTree, MemberOf, grouped, expr_tree, type_tree, type_name_tree, arguments, name_tree};
 ghost use Rattle.ss_tables.specs.Scopes.{Scope, within_quantifier};
-ghost use Rattle.ss_tables.specs.Classes.{class_named, class_number};
-ghost use Rattle.ss_tables.specs.Types.{reference, array_type, written_type};
-ghost use Rattle.ss_tables.specs.Statics.{static, cast_type};
+ghost use Rattle.ss_tables.specs.Classes.{class_named};
+ghost use Rattle.ss_tables.specs.Types.{array_type, written_type};
+ghost use Rattle.ss_tables.specs.Statics.{static, count, new_type, cast_type};
 ghost use Rattle.ss_tables_lookup.specs.Classes.{trees};
 ghost use Rattle.ss_tables_lookup.specs.Views.{type_of};
 ghost use Rattle.ss_tables_scopes.specs.Views.{scope_of};
@@ -25,7 +25,7 @@ use ss_resolver_scoping::{
     type_of_as, type_of_cast, type_of_element,
 };
 use ss_tables_lookup::StaticType;
-use ss_tables_scopes::{LocalInfo, Scopes, Within, call_type, called_with, count};
+use ss_tables_scopes::{LocalInfo, Scopes, Within, call_type, called_with, count, new_type};
 use std::alloc::{AllocError, Global};
 
 // A dot and a name behind the beginning of a path.
@@ -91,7 +91,7 @@ pub fn walk<'a>(
         Expr::Text(..) => Ok(Prefix::Value(None)),
         Expr::Truth(..) => Ok(Prefix::Value(Some(StaticType::Bool))),
         Expr::Null(_) => Ok(Prefix::Value(Some(StaticType::Null))),
-        Expr::This(_) => Ok(Prefix::Value(Some(within.this_type()))),
+        Expr::This(_) => Ok(Prefix::Value(within.this_type())),
         Expr::Base(_) => Ok(Prefix::Base),
         Expr::Result(_) => Ok(Prefix::Value(within.outcome)),
         Expr::Name(place, name) => Ok(Prefix::Name(*place, name)),
@@ -164,12 +164,12 @@ fn walk_new<'a>(
 ) -> Result<Prefix<'a>, AllocError>
     ensures noted { OnOk result (faults.new.items ≡ faults.old.items
         ++ (class_faults (trees within.entry.tables.now) (name_tree name.now).text (name_tree name.now).place ++ arguments_faults (scope_of within.entry locals.old) None (arguments (map expr_tree exprs.now)))) }
-    ensures begun { IfOk result (λ r. prefix_view r ≡ AnOther (option_map (λ k. reference true (class_number k)) (class_named (trees within.entry.tables.now) (name_tree name.now).text))) }
+    ensures begun { IfOk result (λ r. prefix_view r ≡ AnOther (new_type (trees within.entry.tables.now) (count (arguments (map expr_tree exprs.now))) (class_named (trees within.entry.tables.now) (name_tree name.now).text))) }
     ensures kept { OnOk result (locals.new ≡ locals.old) }
 {
     check_class(within.tables, faults, name.text.as_str(), name.place)?;
     check_arguments(alloc, within, locals, faults, None, exprs)?;
-    Ok(Prefix::Value(within.tables.class_type(true, name.text.as_str())))
+    Ok(Prefix::Value(new_type(within.tables, count(exprs), name.text.as_str())))
 }
 
 // A new array of elements of this type.

@@ -2,10 +2,11 @@
 use Rattle.std.specs.Prelude.{ℕ, ◌&&◌, not, Bool, true, false, List, [], ◌∷◌, ◌++◌, map, Option, Some, None, codes, if◌then◌else◌}
 use Rattle.std.specs.Str.{bytes_eq}
 use Rattle.ss_core.specs.declared.names.Ty.{Ty}
+use Rattle.ss_ast.specs.declared.class.Modifier.{Modifier}
 use Rattle.ss_ast.specs.Expressions.{NameTree, TypeNameTree, IntType, BoolType, ObjectType, ClassType, TypeTree, ExprTree}
 use Rattle.ss_ast.specs.Statements.{DeclaratorTree, BlockTree}
 use Rattle.ss_ast.specs.Programs.{ParamTree, ModifiedTree, AllOf, ElementsOf, OneOf, ClauseTree, RequiresOf, EnsuresOf, ModifiesOf, BaseCallTree, MemberKindTree, FieldsOf, InvariantOf, MethodOf, ConstructorOf, MemberTree, ClassTree}
-use Rattle.ss_tables.specs.Members.{MethodTree, ConstructorTree, is_override, is_open, has_attribute}
+use Rattle.ss_tables.specs.Members.{MethodTree, ConstructorTree, is_static_word, word_of, is_override, is_open, has_attribute}
 use Rattle.ss_tables.specs.Classes.{Declared, inherited_method}
 use Rattle.ss_tables.specs.Types.{written_type}
 use Rattle.ss_tables.specs.Scopes.{Scope, declare, declare_params}
@@ -54,9 +55,9 @@ abbrev pub initials_faults : Scope → List DeclaratorTree → Faults
 initials_faults s [] = []
 initials_faults s (d ∷ ds) = faults_of_any s d.initial ++ initials_faults s ds
 
--- where `result` has this type
-abbrev pub with_outcome : Scope → Option Ty → Scope
-with_outcome s t = record s { outcome = t }
+-- in a method, static or not, where `result` has this type
+abbrev pub in_method : Scope → Bool → Option Ty → Scope
+in_method s static t = record s { refuses_members = static; outcome = t }
 
 -- the parameters are in scope in the contract, in `: base(..)` and in the body
 abbrev pub body_faults : Scope → List ParamTree → Option BaseCallTree → List ClauseTree → BlockTree → Faults
@@ -64,15 +65,17 @@ body_faults s ps base cs b =
     params_faults s ps ++ base_faults (declare_params s ps) base
     ++ clauses_faults (declare_params s ps) cs ++ block_faults (declare_params s ps) b
 
-abbrev pub kind_faults : Scope → MemberKindTree → Faults
-kind_faults s (FieldsOf d) = type_faults s.classes d.ty ++ initials_faults s d.declarators
-kind_faults s (InvariantOf e) = expr_faults s e
-kind_faults s (MethodOf r n ps cs b) = written_type_faults s.classes r ++ body_faults (with_outcome s (result_type s.classes r)) ps None cs b
-kind_faults s (ConstructorOf n ps base cs b) = body_faults s ps base cs b
+-- a member of this kind with these words before it
+abbrev pub kind_faults : Scope → List Modifier → MemberKindTree → Faults
+kind_faults s words (FieldsOf d) = type_faults s.classes d.ty ++ initials_faults s d.declarators
+kind_faults s words (InvariantOf e) = expr_faults s e
+kind_faults s words (MethodOf r n ps cs b) =
+    written_type_faults s.classes r ++ body_faults (in_method s (is_static_word (word_of words)) (result_type s.classes r)) ps None cs b
+kind_faults s words (ConstructorOf n ps base cs b) = body_faults s ps base cs b
 
 abbrev pub members_faults : Scope → List MemberTree → Faults
 members_faults s [] = []
-members_faults s (m ∷ ms) = kind_faults s m.kind ++ members_faults s ms
+members_faults s (m ∷ ms) = kind_faults s m.modifiers m.kind ++ members_faults s ms
 
 -- ---- names of members: fields and methods share them, and a class has one constructor
 

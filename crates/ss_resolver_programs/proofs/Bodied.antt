@@ -1,5 +1,5 @@
 -- A body by its parts.
-use Rattle.std.proofs.Common.{ℕ, ◌≡◌, List, [], Bool, Option, None, option_map, map, refl, ap, subst, ◌∙◌}
+use Rattle.std.proofs.Common.{ℕ, ◌≡◌, List, [], Bool, false, Option, None, option_map, map, refl, ap, subst, ◌∙◌}
 use Rattle.std.specs.Prelude.{if◌then◌else◌}
 use Rattle.ss_core.specs.declared.names.Place.{Place}
 use Rattle.ss_core.specs.declared.names.Ty.{Ty}
@@ -27,9 +27,17 @@ use Rattle.ss_resolver_programs.specs.declared.bodies.Parts.{Parts}
 use Rattle.ss_resolver_programs.specs.Parts.{AreParts}
 use Rattle.ss_resolver_programs.specs.Terms.{terms_of}
 
-abbrev with_outcome : Scene → ℕ → Option StaticType → Env
-with_outcome s first o = record {
-  scope = record { classes = trees s.within.tables.now; class = s.within.class; outcome = option_map type_of o; inner = []; outer = [] };
+abbrev with_outcome : Scene → ℕ → Bool → Bool → Option StaticType → Env
+with_outcome s first refuses_members refuses_this o = record {
+  scope = record {
+    classes = trees s.within.tables.now;
+    class = s.within.class;
+    refuses_members = refuses_members;
+    refuses_this = refuses_this;
+    outcome = option_map type_of o;
+    inner = [];
+    outer = [];
+  };
   inner = [];
   outer = [];
   next = first;
@@ -37,13 +45,18 @@ with_outcome s first o = record {
 }
 
 -- before the parameters of a body
-begins : (s : Scene) (first : ℕ) → s.within.outcome ≡ None → env_of s (none_around first) ≡ record (class_env (trees s.within.tables.now) s.within.class) { next = first }
-begins s first h = ap (with_outcome s first) h
+begins : (s : Scene) (first : ℕ) → s.within.outcome ≡ None → s.within.refuses_members ≡ false → s.within.refuses_this ≡ false
+    → env_of s (none_around first) ≡ record (class_env (trees s.within.tables.now) s.within.class) { next = first }
+begins s first h calls this =
+    ap (with_outcome s first s.within.refuses_members s.within.refuses_this) h
+    ∙ ap (λ (b : Bool). with_outcome s first b s.within.refuses_this None) calls
+    ∙ ap (λ (b : Bool). with_outcome s first false b None) this
 
 -- within them
-pub params_are : (s : Scene) (first : ℕ) (a a1 : Around) (ps : List written.ParamTree) → s.within.outcome ≡ None → a ≡ none_around first → env_of s a1 ≡ declare_params (env_of s a) ps
+pub params_are : (s : Scene) (first : ℕ) (a a1 : Around) (ps : List written.ParamTree)
+    → s.within.outcome ≡ None → s.within.refuses_members ≡ false → s.within.refuses_this ≡ false → a ≡ none_around first → env_of s a1 ≡ declare_params (env_of s a) ps
     → env_of s a1 ≡ declare_params (record (class_env (trees s.within.tables.now) s.within.class) { next = first }) ps
-params_are s first a a1 ps none h b = b ∙ ap (λ e. declare_params e ps) (ap (env_of s) h ∙ begins s first none)
+params_are s first a a1 ps none calls this h b = b ∙ ap (λ e. declare_params e ps) (ap (env_of s) h ∙ begins s first none calls this)
 
 -- where the result has its type
 pub result_is : (s : Scene) (o : Option StaticType) (t : Option Ty) (a : Around) → option_map type_of o ≡ t → result_env (env_of s a) (option_map type_of o) ≡ result_env (env_of s a) t

@@ -1,6 +1,6 @@
 // Methods and constructors.
 
-ghost use Rattle.std.specs.Prelude.{◌≡◌, ◌++◌, ◌∷◌, [], None, IfOk, OnOk, map, option_map, unwrap_or, if◌then◌else◌};
+ghost use Rattle.std.specs.Prelude.{◌≡◌, ◌++◌, ◌∷◌, [], false, None, IfOk, OnOk, map, option_map, unwrap_or, if◌then◌else◌};
 ghost use Rattle.ss_ast.specs.Expressions.{type_tree};
 ghost use Rattle.ss_ast.specs.Statements.{block_tree};
 ghost use Rattle.ss_ast.specs.Programs.{param_tree, clause_tree};
@@ -87,7 +87,9 @@ fn enter_params(
     first: usize,
     params: &[Param],
 ) -> Result<LocalNames, AllocError>
-    requires { scene.now.within.outcome ≡ None }
+    requires outcome { scene.now.within.outcome ≡ None }
+    requires calls { scene.now.within.refuses_members ≡ false }
+    requires this { scene.now.within.refuses_this ≡ false }
     ensures { IfOk result (λ a. env_of scene.now a ≡ declare_params (record (class_env (trees scene.now.within.tables.now) scene.now.within.class) { next = first }) (map param_tree params.now)) }
 {
     let mut around = LocalNames::new(alloc, first);
@@ -162,6 +164,8 @@ fn method_scene<'t, 'p>(scene: &Scene<'t, 'p>, returns: &Option<TypeRef>) -> Sce
         within: Within {
             tables,
             class: scene.within.class,
+            refuses_members: scene.within.refuses_members,
+            refuses_this: scene.within.refuses_this,
             outcome: outcome_of(tables, returns),
         },
         fields: scene.fields,
@@ -208,7 +212,9 @@ pub(crate) fn resolve_method<'p>(
     scene: &Scene<'_, 'p>,
     method: MethodRef<'p>,
 ) -> Result<TypedBody, AllocError>
-    requires { scene.now.within.outcome ≡ None }
+    requires outcome { scene.now.within.outcome ≡ None }
+    requires calls { scene.now.within.refuses_members ≡ false }
+    requires this { scene.now.within.refuses_this ≡ false }
     ensures { IfOk result (λ b. view.body b ≡ method_body (trees scene.now.within.tables.now) scene.now.within.class (method_tree method.entry)) }
 {
     let written = method.method;
@@ -248,7 +254,9 @@ pub(crate) fn resolve_constructor<'p>(
     scene: &Scene<'_, 'p>,
     constructor: ConstructorRef<'p>,
 ) -> Result<TypedBody, AllocError>
-    requires { scene.now.within.outcome ≡ None }
+    requires outcome { scene.now.within.outcome ≡ None }
+    requires calls { scene.now.within.refuses_members ≡ false }
+    requires this { scene.now.within.refuses_this ≡ false }
     ensures { IfOk result (λ b. view.body b ≡ constructor_body (trees scene.now.within.tables.now) scene.now.within.class (constructor_tree constructor.entry)) }
 {
     let written = constructor.constructor;

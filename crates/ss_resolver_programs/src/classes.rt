@@ -1,6 +1,6 @@
 // Classes.
 
-ghost use Rattle.std.specs.Prelude.{◌≡◌, ◌++◌, ◌∷◌, [], ◌<◌, IfOk, OnOk, length, map, option_map, slice_get, None};
+ghost use Rattle.std.specs.Prelude.{◌≡◌, ◌++◌, ◌∷◌, [], ◌<◌, IfOk, OnOk, length, map, option_map, slice_get, None, false};
 ghost use Rattle.ss_ast.specs.Expressions.{name_tree};
 ghost use Rattle.ss_ast.specs.Programs.{member_tree, class_tree};
 ghost use Rattle.ss_core.specs.View as class_view;
@@ -19,7 +19,7 @@ ghost use Rattle.ss_resolver_tables.specs.Slots.{slot_of, slots_of};
 ghost use Rattle.ss_resolver_expressions.specs.Scenes.{env_of};
 
 use crate::decls::resolve_option;
-use crate::marks::{copy_names, has_attribute};
+use crate::marks::copy_names;
 use crate::whole::Whole;
 use ss_ast::{ClassDecl, Member, MemberKind, Name};
 use ss_core::{BodyId, Class, ClassId, Entry, Field, Mark};
@@ -29,16 +29,20 @@ use ss_tables_lookup::{FieldRef, Shelf, Tables};
 use ss_typed::{TypedClass, TypedField, TypedInvariant};
 use std::alloc::{AllocError, Global};
 
+// The first of the two marks that stands among the attributes.
 fn mark_of(attributes: &[Name]) -> Mark
     ensures { result ≡ mark_of (map name_tree attributes.now) }
 {
-    if has_attribute("Rep", attributes) {
-        Mark::Rep
-    } else if has_attribute("Peer", attributes) {
-        Mark::Peer
-    } else {
-        Mark::Plain
+    for attribute in attributes {
+        let name = attribute.text.as_str();
+        if name == "Rep" {
+            return Mark::Rep;
+        }
+        if name == "Peer" {
+            return Mark::Peer;
+        }
     }
+    Mark::Plain
 }
 
 fn core_field(alloc: Global, tables: &Tables<'_>, field: FieldRef<'_>) -> Result<Field, AllocError>
@@ -266,6 +270,8 @@ pub(crate) fn resolve_members<'p>(
     written: &'p ClassDecl,
 ) -> Result<TypedClass, AllocError>
     requires outcome { scene.now.within.outcome ≡ None }
+    requires calls { scene.now.within.refuses_members ≡ false }
+    requires this { scene.now.within.refuses_this ≡ false }
     requires shelved { shelf_of shelf.now ≡ shelves.shelf (trees scene.now.within.tables.now) (class_tree written.now) }
     ensures { IfOk result (λ c. view.members c ≡ resolved.members (trees scene.now.within.tables.now) scene.now.within.class (class_tree written.now)) }
 {

@@ -1,6 +1,6 @@
 // Programs.
 
-ghost use Rattle.std.specs.Prelude.{◌≡◌, ◌++◌, ◌∷◌, [], ◌<◌, IfOk, OnOk, length, map, slice_get, Some, None};
+ghost use Rattle.std.specs.Prelude.{◌≡◌, ◌++◌, ◌∷◌, [], ◌<◌, IfOk, OnOk, length, map, slice_get, Some, None, false};
 ghost use Rattle.ss_ast.specs.Programs.{class_tree, program_tree};
 ghost use Rattle.ss_core.specs.View as class_view;
 ghost use Rattle.ss_tables_lookup.specs.Classes.{trees};
@@ -106,7 +106,9 @@ fn add_constructors<'p>(
     list: &mut Vec<TypedBody>,
     constructors: &[ConstructorRef<'p>],
 ) -> Result<(), AllocError>
-    requires { scene.now.within.outcome ≡ None }
+    requires outcome { scene.now.within.outcome ≡ None }
+    requires calls { scene.now.within.refuses_members ≡ false }
+    requires this { scene.now.within.refuses_this ≡ false }
     ensures { OnOk result (map view.body list.new.items ≡ map view.body list.old.items ++ map (constructor_body (trees scene.now.within.tables.now) scene.now.within.class) (map constructor_tree constructors.now)) }
 {
     for constructor in constructors {
@@ -121,7 +123,9 @@ fn add_constructor<'p>(
     list: &mut Vec<TypedBody>,
     constructor: ConstructorRef<'p>,
 ) -> Result<(), AllocError>
-    requires { scene.now.within.outcome ≡ None }
+    requires outcome { scene.now.within.outcome ≡ None }
+    requires calls { scene.now.within.refuses_members ≡ false }
+    requires this { scene.now.within.refuses_this ≡ false }
     ensures { OnOk result (map view.body list.new.items ≡ map view.body list.old.items ++ constructor_body (trees scene.now.within.tables.now) scene.now.within.class (constructor_tree constructor.entry) ∷ []) }
 {
     let body = resolve_constructor(alloc, scene, constructor)?;
@@ -135,7 +139,9 @@ fn add_method<'p>(
     list: &mut Vec<TypedBody>,
     method: MethodRef<'p>,
 ) -> Result<(), AllocError>
-    requires { scene.now.within.outcome ≡ None }
+    requires outcome { scene.now.within.outcome ≡ None }
+    requires calls { scene.now.within.refuses_members ≡ false }
+    requires this { scene.now.within.refuses_this ≡ false }
     ensures { OnOk result (map view.body list.new.items ≡ map view.body list.old.items ++ method_body (trees scene.now.within.tables.now) scene.now.within.class (method_tree method.entry) ∷ []) }
 {
     let body = resolve_method(alloc, scene, method)?;
@@ -149,7 +155,9 @@ fn add_methods<'p>(
     list: &mut Vec<TypedBody>,
     methods: &[MethodRef<'p>],
 ) -> Result<(), AllocError>
-    requires { scene.now.within.outcome ≡ None }
+    requires outcome { scene.now.within.outcome ≡ None }
+    requires calls { scene.now.within.refuses_members ≡ false }
+    requires this { scene.now.within.refuses_this ≡ false }
     ensures { OnOk result (map view.body list.new.items ≡ map view.body list.old.items ++ map (method_body (trees scene.now.within.tables.now) scene.now.within.class) (map method_tree methods.now)) }
 {
     for method in methods {
@@ -167,6 +175,8 @@ fn add_shelf<'p>(
     written: &'p ClassDecl,
 ) -> Result<(), AllocError>
     requires outcome { scene.now.within.outcome ≡ None }
+    requires calls { scene.now.within.refuses_members ≡ false }
+    requires this { scene.now.within.refuses_this ≡ false }
     requires shelved { shelf_of shelf.now ≡ shelves.shelf (trees scene.now.within.tables.now) (class_tree written.now) }
     ensures { OnOk result (map view.body list.new.items ≡ map view.body list.old.items ++ bodies_of (trees scene.now.within.tables.now) scene.now.within.class (class_tree written.now)) }
 {

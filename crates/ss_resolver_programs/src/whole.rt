@@ -1,6 +1,6 @@
 // The tables of a whole program.
 
-ghost use Rattle.std.specs.Prelude.{◌≡◌, ◌<◌, length, None};
+ghost use Rattle.std.specs.Prelude.{◌≡◌, ◌<◌, length, None, false};
 ghost use Rattle.ss_tables_lookup.specs.Classes.{trees};
 ghost use Rattle.ss_resolver_rules.specs.Numbers.{field_count, body_count};
 ghost use Rattle.ss_resolver_tables.specs.Limits.{IsWithinLimits};
@@ -31,11 +31,15 @@ impl<'t, 'p> Whole<'t, 'p> {
         ensures tables { result.within.tables.now ≡ self.now.tables.now }
         ensures class { result.within.class ≡ class }
         ensures outcome { result.within.outcome ≡ None }
+        ensures calls { result.within.refuses_members ≡ false }
+        ensures this { result.within.refuses_this ≡ false }
     {
         Scene {
             within: Within {
                 tables: self.tables,
                 class,
+                refuses_members: false,
+                refuses_this: false,
                 outcome: None,
             },
             fields: self.fields,

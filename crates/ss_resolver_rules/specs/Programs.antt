@@ -1,5 +1,6 @@
 -- The resolved tree of a program.
 use Rattle.std.specs.Prelude.{ℕ, zero, suc, ◌+◌, Bool, true, false, not, ◌&&◌, List, [], ◌∷◌, ◌++◌, length, map, flat_map, Option, Some, None, option_map, find, position, unwrap_or, codes, if◌then◌else◌}
+use Rattle.std.specs.Str.{bytes_eq}
 use Rattle.ss_core.specs.declared.names.Ty.{Ty}
 use Rattle.ss_core.specs.declared.names.Mark.{Mark}
 use Rattle.ss_core.specs.declared.names.Mark.TheVariants as mark
@@ -150,8 +151,10 @@ bodies_of cs k c = map (constructor_body cs k) (constructors_in c.members) ++ ma
 
 -- ---- classes
 
+-- the first of the two marks that stands among the attributes
 abbrev pub mark_of : List NameTree → Mark
-mark_of attributes = if has_attribute rep attributes then mark.Rep else if has_attribute peer attributes then mark.Peer else mark.Plain
+mark_of [] = mark.Plain
+mark_of (a ∷ more) = if bytes_eq a.text rep then mark.Rep else if bytes_eq a.text peer then mark.Peer else mark_of more
 
 abbrev pub field : List ClassTree → FieldTree → core.FieldTree
 field cs f = record { name = f.name.text; ty = type_id cs f.ty; mark = mark_of f.attributes }

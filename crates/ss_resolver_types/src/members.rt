@@ -116,6 +116,8 @@ fn check_declared(
         within: Within {
             tables,
             class,
+            refuses_members: false,
+            refuses_this: false,
             outcome: None,
         },
         is_static: false,
@@ -148,6 +150,8 @@ fn check_invariant(
         within: Within {
             tables,
             class,
+            refuses_members: false,
+            refuses_this: false,
             outcome: None,
         },
         is_static: false,
@@ -189,7 +193,9 @@ fn check_inner(
     found: &mut Vec<Fault>,
     method: &Method,
 ) -> Result<(), AllocError>
-    requires { option_map type_of body.now.within.outcome ≡ type_of_result (bodies.outcome_of body.now.outcome) }
+    requires outcome { option_map type_of body.now.within.outcome ≡ type_of_result (bodies.outcome_of body.now.outcome) }
+    requires calls { body.now.within.refuses_members ≡ body.now.is_static }
+    requires this { body.now.within.refuses_this ≡ body.now.is_static }
     ensures { OnOk result (found.new.items ≡ found.old.items
         ++ (clauses_faults (bodies.body_of body.now) (method_scope (trees body.now.within.tables.now) body.now.within.class (bodies.body_of body.now) (map param_tree method.now.params.items)) (map clause_tree method.now.clauses.items)
         ++ block_faults (bodies.body_of body.now) (method_scope (trees body.now.within.tables.now) body.now.within.class (bodies.body_of body.now) (map param_tree method.now.params.items)) (block_tree method.now.body))) }
@@ -214,13 +220,16 @@ fn check_method(
         (map param_tree method.now.params.items) (map clause_tree method.now.clauses.items) (block_tree method.now.body)) }
 {
     let outcome = outcome_of(tables, &method.returns);
+    let is_static = is_static(words);
     let body = Body {
         within: Within {
             tables,
             class,
+            refuses_members: is_static,
+            refuses_this: is_static,
             outcome: type_of_result(outcome),
         },
-        is_static: is_static(words),
+        is_static,
         outcome,
     };
     note_result(found, &method.returns)?;
@@ -425,6 +434,8 @@ fn check_constructed(
     constructor: &Constructor,
 ) -> Result<(), AllocError>
     requires outcome { body.now.within.outcome ≡ None }
+    requires calls { body.now.within.refuses_members ≡ false }
+    requires this { body.now.within.refuses_this ≡ false }
     requires body { bodies.body_of body.now ≡ constructor_body }
     ensures { OnOk result (found.new.items ≡ found.old.items
         ++ (bodies.bases_faults (trees body.now.within.tables.now) body.now.within.class (param_scope (trees body.now.within.tables.now) body.now.within.class (map param_tree constructor.now.params.items)) (name_tree constructor.now.name)
@@ -455,6 +466,8 @@ fn check_constructor(
         within: Within {
             tables,
             class,
+            refuses_members: false,
+            refuses_this: false,
             outcome: None,
         },
         is_static: false,

@@ -1,5 +1,5 @@
 -- What a call takes, and which calls are refused.
-use Rattle.std.specs.Prelude.{ℕ, ◌==◌, ◌&&◌, ◌||◌, not, Bool, true, false, List, [], ◌∷◌, length, map, Option, Some, None, is_some, option_and_then, slice_get, codes, if◌then◌else◌}
+use Rattle.std.specs.Prelude.{ℕ, ◌==◌, ◌&&◌, ◌||◌, not, Bool, true, false, List, [], ◌∷◌, length, map, Option, Some, None, is_some, option_and_then, codes, if◌then◌else◌}
 use Rattle.std.specs.Str.{bytes_eq}
 use Rattle.ss_core.specs.declared.names.Place.{Place}
 use Rattle.ss_core.specs.declared.names.Ty.{Ty}
@@ -7,11 +7,11 @@ use Rattle.ss_core.specs.declared.names.Ty.TheVariants as ty
 use Rattle.ss_ast.specs.Expressions.{ExprTree, MemberOf, NameOf}
 use Rattle.ss_ast.specs.Programs.{ParamTree, ClassTree}
 use Rattle.ss_tables.specs.Words.{is_state_read, is_state_call, is_state_word, is_length}
-use Rattle.ss_tables.specs.Members.{FieldTree, MethodTree, ConstructorTree, constructors_in, is_static}
-use Rattle.ss_tables.specs.Classes.{Declared, above, members_at, field_of, method_of, inherited_field, inherited_method, is_array_number, declared_place}
+use Rattle.ss_tables.specs.Members.{FieldTree, MethodTree, is_static}
+use Rattle.ss_tables.specs.Classes.{Declared, above, field_of, method_of, inherited_field, inherited_method, is_array_number, declared_place}
 use Rattle.ss_tables.specs.Types.{written_type, class_of}
 use Rattle.ss_tables.specs.Scopes.{Scope, local_named}
-use Rattle.ss_tables.specs.Statics.{Receiver, TheConsole, TheOwner, TheBase, AClass, AValue, is_of_kind, may_have_levels, receiver, static}
+use Rattle.ss_tables.specs.Statics.{Receiver, TheConsole, TheOwner, TheBase, AClass, AValue, is_of_kind, may_have_levels, constructor_params, receiver, static}
 use Rattle.ss_faults.specs.declared.Fault.{Fault}
 use Rattle.ss_resolver_types_expressions.specs.Faults.{bad_type, fault_where}
 use Rattle.ss_resolver_types_expressions.specs.Wants.{Want, AReference, OfType, Printable, ClassName, Known, known}
@@ -30,13 +30,9 @@ pub record Around : Type 0 where
 abbrev pub param_wants : List ClassTree → List ParamTree → List Want
 param_wants cs ps = map (λ (p : ParamTree). OfType (written_type cs p.ty)) ps
 
-abbrev pub params_of_first : Option ConstructorTree → List ParamTree
-params_of_first None = []
-params_of_first (Some c) = c.params
-
 -- what the constructor of a class takes: nothing where none is written
 abbrev pub constructor_wants : List ClassTree → ℕ → List Want
-constructor_wants cs k = param_wants cs (params_of_first (slice_get (constructors_in (members_at cs k)) 0))
+constructor_wants cs k = param_wants cs (constructor_params cs k)
 
 abbrev pub wants_above : List ClassTree → Option ℕ → List Want
 wants_above cs None = []

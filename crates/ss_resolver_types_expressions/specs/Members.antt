@@ -102,7 +102,8 @@ method_body cs words r = record { is_static = is_static_word (word_of words); ou
 
 -- the parameters are in scope in the contract and in the body, and `result` has its type
 abbrev pub method_scope : List ClassTree → ℕ → Body → List ParamTree → Scope
-method_scope cs k b ps = declare_params (record (class_scope cs k) { outcome = type_of_result b.outcome }) ps
+method_scope cs k b ps =
+    declare_params (record (class_scope cs k) { refuses_members = b.is_static; refuses_this = b.is_static; outcome = type_of_result b.outcome }) ps
 
 abbrev pub method_faults : List ClassTree → ℕ → Body → Option TypeTree → List ParamTree → List ast.ClauseTree → tree.BlockTree → List Fault
 method_faults cs k b r ps clauses x =

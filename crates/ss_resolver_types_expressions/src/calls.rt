@@ -6,8 +6,9 @@ ghost use Rattle.ss_tables.specs.Classes.{class_named};
 ghost use Rattle.ss_tables_lookup.specs.Classes.{trees};
 ghost use Rattle.ss_tables_lookup.specs.Views.{type_of, constructor_tree, declared_field, declared_method};
 ghost use Rattle.ss_tables.specs.Types.{written_type};
+ghost use Rattle.ss_tables.specs.Statics.{params_of_first};
 ghost use Rattle.ss_resolver_types_expressions.specs.Wants.{OfType};
-ghost use Rattle.ss_resolver_types_expressions.specs.Calls.{Taking, asks_level, params_of_first, taking, method_or_field, called_on_class, called_name, called_console, called_owner, called_base, is_memberless, has_no_members, called_on_object, called_value, called_member, constructed, base_wants, constructor_wants, param_wants, is_wrong_call, wants_of, called_method, class_of_known, takes_nothing};
+ghost use Rattle.ss_resolver_types_expressions.specs.Calls.{Taking, asks_level, taking, method_or_field, called_on_class, called_name, called_console, called_owner, called_base, is_memberless, has_no_members, called_on_object, called_value, called_member, constructed, base_wants, constructor_wants, param_wants, is_wrong_call, wants_of, called_method, class_of_known, takes_nothing};
 ghost use Rattle.ss_resolver_types_expressions.specs.Codes.{want_of, known_of, around_of, called_of, question_wants};
 ghost use Rattle.ss_tables_scopes.specs.Views.{receiver_of};
 

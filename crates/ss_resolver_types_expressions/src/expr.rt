@@ -29,7 +29,9 @@ use ss_ast::{Expr, Link, Name, Operator, Postfix, TypeRef};
 use ss_core::Place;
 use ss_faults::Fault;
 use ss_tables_lookup::{StaticType, Tables};
-use ss_tables_scopes::{Callee, LocalInfo, Scopes, call_type, called_with, cast_type, count};
+use ss_tables_scopes::{
+    Callee, LocalInfo, Scopes, call_type, called_with, cast_type, count, new_type,
+};
 use std::alloc::{AllocError, Global};
 
 // An expression that isn't a path.
@@ -194,7 +196,7 @@ pub fn walk<'e>(
         Expr::Null(place) => Ok(other(*place, Some(StaticType::Null))),
         Expr::This(place) => {
             note_bad_type(found, around.is_static, *place)?;
-            Ok(other(*place, Some(around.within.this_type())))
+            Ok(other(*place, around.within.this_type()))
         }
         Expr::Result(place) => {
             note_bad_type(found, around.lacks_result, *place)?;
@@ -211,7 +213,7 @@ pub fn walk<'e>(
         Expr::New(place, name, list) => {
             let called = call_new(around.within.tables, name.text.as_str());
             check_call(alloc, around, locals, found, *place, true, called, list)?;
-            let ty = around.within.tables.class_type(true, name.text.as_str());
+            let ty = new_type(around.within.tables, count(list), name.text.as_str());
             Ok(Head::Value(Form::New, value(*place, ty)))
         }
         Expr::NewArray(place, _, name, length) => {

@@ -25,6 +25,10 @@ pub record Scope : Type 0 where
   pub classes : List ClassTree
   -- the class in which the place is
   pub class : ℕ
+  -- members of `this` by their bare names and methods of `base` are refused, as in a static method, and have no type
+  pub refuses_members : Bool
+  -- so is `this`; while names are looked up it counts, so that a member that its class hasn't is unknown also there
+  pub refuses_this : Bool
   -- the type of `result`, where there is one
   pub outcome : Option Ty
   -- the innermost scope, and those around it from the inside out
@@ -45,7 +49,7 @@ local_named s n = or_else (local_in s.inner n) (local_among s.outer n)
 
 -- the scope of a member of a class, in which no local stands
 abbrev pub class_scope : List ClassTree → ℕ → Scope
-class_scope cs k = record { classes = cs; class = k; outcome = None; inner = []; outer = [] }
+class_scope cs k = record { classes = cs; class = k; refuses_members = false; refuses_this = false; outcome = None; inner = []; outer = [] }
 
 -- a scope within another one
 abbrev pub enter : Scope → Scope

@@ -1,16 +1,16 @@
 -- The static type that the form of an expression gives it, whatever its parts are: `a + b` is an `int`. None where a value has
--- none, where a name is unknown, or where a part has not the form that is wanted.
-use Rattle.std.specs.Prelude.{ℕ, ◌+◌, ◌==◌, Bool, true, false, not, List, length, Option, Some, None, option_and_then, option_map, is_some, ◌&&◌, ◌||◌, codes, if◌then◌else◌}
+-- none, where a name is unknown, where a part has not the form that is wanted, and where a call, a `new` or what is of `this` is refused.
+use Rattle.std.specs.Prelude.{ℕ, ◌+◌, ◌==◌, Bool, true, false, not, List, [], length, Option, Some, None, option_and_then, option_map, is_some, ◌&&◌, ◌||◌, slice_get, codes, if◌then◌else◌}
 use Rattle.std.specs.Str.{bytes_eq}
 use Rattle.ss_core.specs.declared.names.Ty.{Ty}
 use Rattle.ss_core.specs.declared.names.Ty.TheVariants as ty
 use Rattle.ss_ast.specs.declared.expr.Operator.{Operator}
 use Rattle.ss_ast.specs.declared.expr.Operator.TheVariants as op
 use Rattle.ss_ast.specs.Expressions.{TypeTree, ExprTree, Arguments, NoMore, Argument, IffOf, ImpliesOf, BinaryOf, IsOf, AsOf, NegateOf, NotOf, CastOf, MemberOf, ElementOf, CallOf, NumberOf, TextOf, TruthOf, NullOf, ThisOf, BaseOf, ResultOf, NameOf, ParenOf, OldOf, NewOf, NewArrayOf, QuantifiedOf}
-use Rattle.ss_ast.specs.Programs.{ClassTree}
+use Rattle.ss_ast.specs.Programs.{ParamTree, ClassTree}
 use Rattle.ss_tables.specs.Words.{is_console, is_owner, is_print, is_owner_word, is_state_read, is_state_call, is_state_word, is_length}
-use Rattle.ss_tables.specs.Members.{FieldTree, MethodTree, is_static}
-use Rattle.ss_tables.specs.Classes.{Declared, class_named, field_of, method_of, inherited_method, class_number, is_array_number, declared_place}
+use Rattle.ss_tables.specs.Members.{FieldTree, MethodTree, ConstructorTree, constructors_in, is_static}
+use Rattle.ss_tables.specs.Classes.{Declared, members_at, class_named, field_of, method_of, inherited_method, class_number, is_array_number, declared_place}
 use Rattle.ss_tables.specs.Types.{reference, array_type, written_type, class_of, element_type, nullable}
 use Rattle.ss_tables.specs.Scopes.{Local, Scope, local_named}
 
@@ -85,10 +85,18 @@ abbrev pub type_of_local : Option Local → Option Ty
 type_of_local None = None
 type_of_local (Some l) = l.ty
 
--- a local, else a field
+-- what is refused has no type
+abbrev pub unless_refused : Bool → Option Ty → Option Ty
+unless_refused is_refused t = if is_refused then None else t
+
+abbrev pub this_type : Bool → ℕ → Option Ty
+this_type is_refused k = unless_refused is_refused (Some (reference true (class_number k)))
+
+-- a local, else a field of `this`
 abbrev pub name_type : Scope → List ℕ → Option Ty
 name_type s n =
-    if is_some (local_named s n) then type_of_local (local_named s n) else type_of_field s.classes (field_of s.classes s.class n)
+    if is_some (local_named s n) then type_of_local (local_named s n)
+    else unless_refused s.refuses_members (type_of_field s.classes (field_of s.classes s.class n))
 
 -- the field of the declared class with this number
 abbrev pub field_type : List ClassTree → List ℕ → Option ℕ → Option Ty
@@ -124,9 +132,10 @@ pub data Callee : Type 0 where
   -- nothing that can be called
   NoCallee : Callee
 
-abbrev pub method_callee : Option (Declared MethodTree) → Callee
-method_callee None = NoCallee
-method_callee (Some m) = AMethod m
+-- a method called by its bare name: one that isn't static is called on `this`
+abbrev pub method_callee : Bool → Option (Declared MethodTree) → Callee
+method_callee refuses_members None = NoCallee
+method_callee refuses_members (Some m) = if refuses_members && not (is_static m.member) then NoCallee else AMethod m
 
 abbrev pub is_of_kind : Bool → MethodTree → Bool
 is_of_kind true m = is_static m
@@ -140,7 +149,8 @@ kind_callee wants_static (Some m) = if is_of_kind wants_static m.member then AMe
 -- a local or a field hides a method of its name
 abbrev pub name_callee : Scope → List ℕ → Callee
 name_callee s n =
-    if is_some (local_named s n) || is_some (field_of s.classes s.class n) then NoCallee else method_callee (method_of s.classes s.class n)
+    if is_some (local_named s n) || is_some (field_of s.classes s.class n) then NoCallee
+    else method_callee s.refuses_members (method_of s.classes s.class n)
 
 abbrev pub method_at : List ClassTree → List ℕ → Option ℕ → Callee
 method_at cs n None = NoCallee
@@ -150,23 +160,23 @@ method_at cs n (Some k) = kind_callee false (method_of cs k n)
 abbrev pub owner_count : List ℕ → ℕ
 owner_count n = if bytes_eq n (codes "Is") then 3 else if bytes_eq n (codes "Same") then 2 else 1
 
--- an object has a level; an array is always at its full one, and null and other values have none
+-- a reference has a level, and an array always its full one; of null the question is asked as of any other reference
 abbrev pub has_levels : Ty → Bool
 has_levels ty.Int = false
 has_levels ty.Bool = false
-has_levels ty.Null = false
-has_levels (ty.Ref t non_null) = not (is_array_number t.0)
+has_levels ty.Null = true
+has_levels (ty.Ref t non_null) = true
 
 -- of what isn't known nothing is said
 abbrev pub may_have_levels : Option Ty → Bool
 may_have_levels None = true
 may_have_levels (Some t) = has_levels t
 
--- what is called behind the dot: a static method of a class, or a method of an object; a question about a level is one about an object
+-- what is called behind the dot: a static method of a class, or a method of an object; a question about a level is one about a reference
 abbrev pub member_callee : Scope → List ℕ → Receiver → Callee
 member_callee s n TheConsole = if is_print n then APrint (bytes_eq n (codes "WriteLine")) else NoCallee
 member_callee s n TheOwner = if is_owner_word n then AWord (owner_count n) else NoCallee
-member_callee s n TheBase = if is_state_word n then NoCallee else kind_callee false (inherited_method s.classes s.class n)
+member_callee s n TheBase = if s.refuses_members || is_state_word n then NoCallee else kind_callee false (inherited_method s.classes s.class n)
 member_callee s n (AClass k) = if is_state_word n then NoCallee else kind_callee true (method_of s.classes k n)
 member_callee s n (AValue t) =
     if is_state_call n then (if may_have_levels t then AWord 1 else NoCallee)
@@ -200,6 +210,21 @@ call_type cs (APrint is_line) = None
 call_type cs (AWord n) = Some ty.Bool
 call_type cs ABase = None
 call_type cs NoCallee = None
+
+-- ---- new objects
+
+abbrev pub params_of_first : Option ConstructorTree → List ParamTree
+params_of_first None = []
+params_of_first (Some c) = c.params
+
+-- the parameters of the constructor of a class: none where no constructor is written
+abbrev pub constructor_params : List ClassTree → ℕ → List ParamTree
+constructor_params cs k = params_of_first (slice_get (constructors_in (members_at cs k)) 0)
+
+-- a new object of the class, whose constructor takes so many arguments; one of another number of them has no type
+abbrev pub new_type : List ClassTree → ℕ → Option ℕ → Option Ty
+new_type cs n None = None
+new_type cs n (Some k) = if n == length (constructor_params cs k) then Some (reference true (class_number k)) else None
 
 -- ---- the static type
 
@@ -245,13 +270,13 @@ abbrev mutual
   static s (TextOf p x) = None
   static s (TruthOf p b) = Some ty.Bool
   static s (NullOf p) = Some ty.Null
-  static s (ThisOf p) = Some (reference true (class_number s.class))
+  static s (ThisOf p) = this_type s.refuses_this s.class
   static s (BaseOf p) = None
   static s (ResultOf p) = s.outcome
   static s (NameOf p n) = name_type s n
   static s (ParenOf p e) = static s e
   static s (OldOf p e) = static s e
-  static s (NewOf p n es) = option_map (λ (k : ℕ). reference true (class_number k)) (class_named s.classes n.text)
+  static s (NewOf p n es) = new_type s.classes (count es) (class_named s.classes n.text)
   static s (NewArrayOf p q t e) = array_type s.classes true t
   static s (QuantifiedOf p q n low high e) = Some ty.Bool
 

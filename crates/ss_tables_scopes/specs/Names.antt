@@ -1,5 +1,5 @@
 -- The locals in scope within a body: what of a scope changes from statement to statement.
-use Rattle.std.specs.Prelude.{ℕ, List, [], ◌∷◌, Option, Some, None}
+use Rattle.std.specs.Prelude.{ℕ, Bool, List, [], ◌∷◌, Option, Some, None}
 use Rattle.ss_core.specs.declared.names.Ty.{Ty}
 use Rattle.ss_ast.specs.Programs.{ClassTree}
 use Rattle.ss_tables.specs.Classes.{or_else}
@@ -14,8 +14,16 @@ abbrev pub no_names : Names
 no_names = record { inner = []; outer = [] }
 
 -- the scope with these locals, within a class
-abbrev pub scope_with : List ClassTree → ℕ → Option Ty → Names → Scope
-scope_with cs k outcome names = record { classes = cs; class = k; outcome = outcome; inner = names.inner; outer = names.outer }
+abbrev pub scope_with : List ClassTree → ℕ → Bool → Bool → Option Ty → Names → Scope
+scope_with cs k refuses_members refuses_this outcome names = record {
+  classes = cs;
+  class = k;
+  refuses_members = refuses_members;
+  refuses_this = refuses_this;
+  outcome = outcome;
+  inner = names.inner;
+  outer = names.outer;
+}
 
 -- the local that a name means
 abbrev pub local : Names → List ℕ → Option Local

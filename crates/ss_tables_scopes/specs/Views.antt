@@ -13,7 +13,7 @@ use Rattle.ss_tables_scopes.specs.Names.{Names, scope_with}
 
 -- the scope of a place with these locals
 abbrev pub scope_of : Within → Names → Scope
-scope_of w names = scope_with (trees w.tables.now) w.class (option_map type_of w.outcome) names
+scope_of w names = scope_with (trees w.tables.now) w.class w.refuses_members w.refuses_this (option_map type_of w.outcome) names
 
 abbrev pub receiver_of : Receiver → statics.Receiver
 receiver_of before.Console = statics.TheConsole

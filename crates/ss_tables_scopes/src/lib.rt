@@ -10,7 +10,7 @@ pub use scopes::{LocalInfo, Scopes};
 pub use statics::{
     Callee, Receiver, call_type, called_with, cast_type, class_of_type, count, is_known, is_member,
     is_of_kind, is_static, may_have_levels, member_callee, name_callee, name_receiver, name_type,
-    read_type,
+    new_type, read_type,
 };
 pub use within::Within;
 pub use words::{

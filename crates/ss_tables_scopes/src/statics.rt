@@ -1,14 +1,14 @@
 // Static types of names and members, and what a call calls.
 
-ghost use Rattle.std.specs.Prelude.{◌≡◌, map, option_map, option_and_then, if◌then◌else◌};
-ghost use Rattle.ss_tables.specs.Classes.{declared_place};
+ghost use Rattle.std.specs.Prelude.{◌≡◌, length, map, option_map, option_and_then, if◌then◌else◌};
+ghost use Rattle.ss_tables.specs.Classes.{class_named, field_of, declared_place};
 ghost use Rattle.ss_ast.specs.Expressions.{type_tree, expr_tree, arguments};
-ghost use Rattle.ss_tables.specs.Statics.{is_member, is_known, class_or_value, name_receiver, type_of_field, name_type, field_type, member_type, read_type, AWord, NoCallee, TheConsole, TheOwner, method_callee, is_of_kind, kind_callee, name_callee, method_at, owner_count, has_levels, may_have_levels, member_callee, count, takes, called_with, result_type, call_type, reference_only, cast_type};
+ghost use Rattle.ss_tables.specs.Statics.{is_member, is_known, class_or_value, name_receiver, type_of_field, unless_refused, name_type, field_type, member_type, read_type, AWord, NoCallee, TheConsole, TheOwner, method_callee, is_of_kind, kind_callee, name_callee, method_at, owner_count, has_levels, may_have_levels, member_callee, count, takes, called_with, result_type, call_type, params_of_first, constructor_params, new_type, reference_only, cast_type};
 ghost use Rattle.ss_tables.specs.Types.{class_of};
 ghost use Rattle.ss_tables_lookup.specs.Classes.{trees};
 ghost use Rattle.ss_tables.specs.Members.{is_static};
 ghost use Rattle.ss_tables.specs.Scopes.{Scope};
-ghost use Rattle.ss_tables_lookup.specs.Views.{type_of, method_tree, declared_field, declared_method};
+ghost use Rattle.ss_tables_lookup.specs.Views.{type_of, method_tree, constructor_tree, declared_field, declared_method};
 ghost use Rattle.ss_tables_scopes.specs.Names.{Names};
 ghost use Rattle.ss_tables_scopes.specs.Views.{scope_of, receiver_of, callee_of};
 
@@ -20,7 +20,8 @@ use crate::words::{
 };
 use ss_ast::{Expr, ModifierWord, TypeRef};
 use ss_tables_lookup::{
-    FieldRef, MethodRef, StaticType, Tables, class_of, declared_place, is_array_number,
+    ConstructorRef, FieldRef, MethodRef, StaticType, Tables, class_of, declared_place,
+    is_array_number,
 };
 
 /// What stands before a dot.
@@ -109,13 +110,24 @@ fn type_of_field(tables: &Tables<'_>, field: Option<(usize, FieldRef<'_>)>) -> O
     }
 }
 
-/// The static type of a bare name: that of a local, else that of a field.
+// A field of `this`.
+fn this_field_type(within: Within<'_, '_>, name: &str) -> Option<StaticType>
+    ensures { option_map type_of result ≡ unless_refused within.entry.refuses_members
+        (type_of_field (trees within.entry.tables.now) (field_of (trees within.entry.tables.now) within.entry.class name.now)) }
+{
+    if within.refuses_members {
+        return None;
+    }
+    type_of_field(within.tables, within.tables.field_of(within.class, name))
+}
+
+/// The static type of a bare name: that of a local, else that of a field of `this`.
 pub fn name_type(within: Within<'_, '_>, locals: &Scopes, name: &str) -> Option<StaticType>
     ensures { option_map type_of result ≡ name_type (scope_of within.entry locals.now) name.now }
 {
     match locals.find(name) {
         Some(local) => local.ty,
-        None => type_of_field(within.tables, within.tables.field_of(within.class, name)),
+        None => this_field_type(within, name),
     }
 }
 
@@ -177,11 +189,18 @@ pub fn read_type(tables: &Tables<'_>, name: &str, receiver: Receiver) -> Option<
     }
 }
 
-fn method_callee<'p>(method: Option<(usize, MethodRef<'p>)>) -> Callee<'p>
-    ensures { callee_of result ≡ method_callee (option_map declared_method method.entry) }
+// A method called by its bare name: one that isn't static is called on `this`.
+fn method_callee<'p>(refuses_members: bool, method: Option<(usize, MethodRef<'p>)>) -> Callee<'p>
+    ensures { callee_of result ≡ method_callee refuses_members (option_map declared_method method.entry) }
 {
     match method {
-        Some((class, method)) => Callee::Method(class, method),
+        Some((class, method)) => {
+            if refuses_members && !is_static(method) {
+                Callee::Nothing
+            } else {
+                Callee::Method(class, method)
+            }
+        }
         None => Callee::Nothing,
     }
 }
@@ -236,7 +255,10 @@ pub fn name_callee<'p>(within: Within<'_, 'p>, locals: &Scopes, name: &str) -> C
     if within.tables.field_of(within.class, name).is_some() {
         return Callee::Nothing;
     }
-    method_callee(within.tables.method_of(within.class, name))
+    method_callee(
+        within.refuses_members,
+        within.tables.method_of(within.class, name),
+    )
 }
 
 fn method_at<'p>(tables: &Tables<'p>, name: &str, class: Option<usize>) -> Callee<'p>
@@ -273,12 +295,12 @@ fn has_levels(ty: StaticType) -> bool
     ensures { result ≡ has_levels (type_of ty) }
 {
     match ty {
-        StaticType::Int | StaticType::Bool | StaticType::Null => false,
-        StaticType::Ref { class, .. } => !is_array_number(class),
+        StaticType::Int | StaticType::Bool => false,
+        StaticType::Null | StaticType::Ref { .. } => true,
     }
 }
 
-/// Whether a value of this type has a level, or nothing is known of it.
+/// Whether it may be asked whether a value of this type is at a level, or nothing is known of it.
 pub fn may_have_levels(ty: Option<StaticType>) -> bool
     ensures { result ≡ may_have_levels (option_map type_of ty) }
 {
@@ -315,7 +337,7 @@ fn value_callee<'p>(within: Within<'_, 'p>, name: &str, ty: Option<StaticType>) 
 fn base_callee<'p>(within: Within<'_, 'p>, name: &str) -> Callee<'p>
     ensures { (names : Names) → callee_of result ≡ member_callee (scope_of within.entry names) name.now (receiver_of Receiver.Base) }
 {
-    if is_state_word(name) {
+    if within.refuses_members || is_state_word(name) {
         return Callee::Nothing;
     }
     kind_callee(false, within.tables.inherited_method(within.class, name))
@@ -409,6 +431,44 @@ pub fn call_type(tables: &Tables<'_>, callee: Callee<'_>) -> Option<StaticType>
         Callee::Method(_, method) => result_type(tables, &method.method.returns),
         Callee::Word(_) => Some(StaticType::Bool),
         Callee::Print(_) | Callee::Base | Callee::Nothing => None,
+    }
+}
+
+fn count_params(constructor: Option<&ConstructorRef<'_>>) -> usize
+    ensures { result ≡ length (params_of_first (option_map (λ c. constructor_tree c.now) constructor.entry)) }
+{
+    match constructor {
+        Some(constructor) => constructor.constructor.params.len(),
+        None => 0,
+    }
+}
+
+// How many parameters the constructor of a class has.
+fn constructor_count(tables: &Tables<'_>, class: usize) -> usize
+    ensures { result ≡ length (constructor_params (trees tables.now) class) }
+{
+    match tables.shelf(class) {
+        Some(shelf) => count_params(shelf.constructors.first()),
+        None => 0,
+    }
+}
+
+/// The static type of a new object of the class of this name, with so many arguments.
+pub fn new_type(tables: &Tables<'_>, count: usize, name: &str) -> Option<StaticType>
+    ensures { option_map type_of result ≡ new_type (trees tables.now) count (class_named (trees tables.now) name.now) }
+{
+    match tables.class_named(name) {
+        Some(class) => {
+            if count == constructor_count(tables, class) {
+                Some(StaticType::Ref {
+                    class: tables.class_number(class),
+                    non_null: true,
+                })
+            } else {
+                None
+            }
+        }
+        None => None,
     }
 }
 
