@@ -1,10 +1,10 @@
 -- Calls alone and what is printed, by the form of an expression.
-use Rattle.std.proofs.Common.{ℕ, ◌≡◌, List, Bool, true, false, Option, Some, None, refl, sym, ap, ◌∙◌}
+use Rattle.std.proofs.Common.{ℕ, ◌≡◌, List, Bool, false, Option, Some, None, refl}
 use Rattle.ss_core.specs.declared.names.Place.{Place}
 use Rattle.ss_ast.specs.Expressions.{NameOf, BaseOf, MemberOf, CallOf, ParenOf, TextOf}
 use Rattle.ss_ast.specs.Expressions as text
 use Rattle.ss_tables.specs.Statics.{Receiver, TheConsole, TheOwner, TheBase, AClass, AValue, static, receiver}
-use Rattle.ss_typed.specs.Tree.{SimpleTree, AloneOf}
+use Rattle.ss_typed.specs.Tree.{AloneOf}
 use Rattle.ss_resolver_rules.specs.Names.{Env}
 use Rattle.ss_resolver_rules.specs.Expressions.{expr, args}
 use Rattle.ss_resolver_rules.specs.Statements.{is_line, printed, call_alone, alone}

@@ -6,7 +6,7 @@ use Rattle.ss_ast.specs.declared.stmt.Block.{out-Block}
 use Rattle.ss_ast.specs.declared.stmt.Stmt.TheFolds.{fold_out-Block}
 use Rattle.ss_ast.specs.Statements as written
 use Rattle.ss_typed.specs.Tree.{BlockTree, BlockOf, StmtTree, stmt_trees}
-use Rattle.ss_resolver_rules.specs.Statements.{declared_in_block, declared_in_all, past, block}
+use Rattle.ss_resolver_rules.specs.Statements.{declared_in_block, past, block}
 use Rattle.ss_resolver_expressions.specs.Around.{Around, entered, left}
 use Rattle.ss_resolver_expressions.specs.Scenes.{env_of}
 use Rattle.ss_resolver_expressions.specs.declared.scene.Scene.{Scene}

@@ -105,17 +105,15 @@ body_is e ps cs t p a0 b0 a1 b1 a2 b2 a3 b3 a4 b4 a7 b7 a11 b11 h h0 h1 h2 h3 h4
 same_parts : (e : Env) (ps qs : List written.ParamTree) (cs ds : List written.ClauseTree) (t : text.BlockTree) (p : Parts) → ps ≡ qs → cs ≡ ds → AreParts e ps cs t p → AreParts e qs ds t p
 same_parts e ps qs cs ds t p hp hc h = subst (λ l. AreParts e qs l t p) hc (subst (λ l. AreParts e l cs t p) hp h)
 
-pub method_is : (s x : Scene) (a : Around) (m : MethodTree) (ps qs : List written.ParamTree) (ds : List written.ClauseTree) (p : Parts) (first : ℕ) (static : Bool)
-    (class : ℕ) (name : List ℕ) (flags : TypedFlags) (attributes : List NameTree) (result : Option Ty)
+-- the parts of a method, in the environment of its body
+pub method_parts_are : (s x : Scene) (a : Around) (m : MethodTree) (ps qs : List written.ParamTree) (ds : List written.ClauseTree) (p : Parts) (first : ℕ) (static : Bool)
     → ps ≡ m.params → qs ≡ m.params → ds ≡ m.clauses
     → ((b : Around) → env_of x b ≡ result_env (env_of s b) (option_map (type_id (trees s.within.tables.now)) m.result))
     → static ≡ is_static m → first ≡ (if static then 0 else 1)
     → env_of s a ≡ declare_params (record (class_env (trees s.within.tables.now) s.within.class) { next = first }) ps
     → AreParts (env_of x a) qs ds m.body p
-    → class ≡ class_number s.within.class → name ≡ m.name.text → flags ≡ method_flags m → attributes ≡ m.attributes → result ≡ option_map (type_id (trees s.within.tables.now)) m.result
-    → made class name m.name.place flags attributes (map view.param p.params.items) (map local_of p.locals.items) result (view.exprs p.entry.items) (view.exprs p.exit.items) (terms_of p.modifies) None (view.block p.block)
-    ≡ method_body (trees s.within.tables.now) s.within.class m
-method_is s x a m ps qs ds p first static class name flags attributes result hps hqs hds hx hs hf ha hp hc hn hg hm hr =
+    → AreParts (method_env (trees s.within.tables.now) s.within.class m) m.params m.clauses m.body p
+method_parts_are s x a m ps qs ds p first static hps hqs hds hx hs hf ha hp =
     let cs = trees s.within.tables.now in
     let k = s.within.class in
     let e = param_env cs k (is_static m) m.params in
@@ -123,26 +121,38 @@ method_is s x a m ps qs ds p first static class name flags attributes result hps
     let number : first ≡ (if is_static m then 0 else 1) = hf ∙ ap (λ (b : Bool). if b then 0 else 1) hs in
     let here : env_of s a ≡ e = ha ∙ ap (declare_params (record (class_env cs k) { next = first })) hps ∙ ap (λ n. declare_params (record (class_env cs k) { next = n }) m.params) number in
     let there : env_of x a ≡ method_env cs k m = hx a ∙ ap (λ d. result_env d t) here in
-    let parts : AreParts (method_env cs k m) m.params m.clauses m.body p =
-    same_parts (method_env cs k m) qs m.params ds m.clauses m.body p hqs hds (subst (λ d. AreParts d qs ds m.body p) there hp) in
-    body_is (method_env cs k m) m.params m.clauses m.body p class (class_number k) name m.name.text m.name.place m.name.place flags (method_flags m) attributes m.attributes result t None None
+    same_parts (method_env cs k m) qs m.params ds m.clauses m.body p hqs hds (subst (λ d. AreParts d qs ds m.body p) there hp)
+
+pub method_is : (s : Scene) (m : MethodTree) (p : Parts) (class : ℕ) (name : List ℕ) (flags : TypedFlags) (attributes : List NameTree) (result : Option Ty)
+    → AreParts (method_env (trees s.within.tables.now) s.within.class m) m.params m.clauses m.body p
+    → class ≡ class_number s.within.class → name ≡ m.name.text → flags ≡ method_flags m → attributes ≡ m.attributes → result ≡ option_map (type_id (trees s.within.tables.now)) m.result
+    → made class name m.name.place flags attributes (map view.param p.params.items) (map local_of p.locals.items) result (view.exprs p.entry.items) (view.exprs p.exit.items) (terms_of p.modifies) None (view.block p.block)
+    ≡ method_body (trees s.within.tables.now) s.within.class m
+method_is s m p class name flags attributes result parts hc hn hg hm hr =
+    let cs = trees s.within.tables.now in
+    let k = s.within.class in
+    body_is (method_env cs k m) m.params m.clauses m.body p class (class_number k) name m.name.text m.name.place m.name.place flags (method_flags m) attributes m.attributes result (option_map (type_id cs) m.result) None None
     parts hc hn refl hg hm hr refl
 
-pub constructor_is : (s : Scene) (a a1 : Around) (m : ConstructorTree) (ps qs : List written.ParamTree) (ds : List written.ClauseTree) (p : Parts)
-    (class : ℕ) (name : List ℕ) (flags : TypedFlags) (attributes : List NameTree) (base : Option BaseTree)
-    → ps ≡ m.params → qs ≡ m.params → ds ≡ m.clauses
+-- where the parameters of a constructor are in scope
+pub constructor_env_is : (s : Scene) (a : Around) (m : ConstructorTree) (ps : List written.ParamTree) → ps ≡ m.params
     → env_of s a ≡ declare_params (record (class_env (trees s.within.tables.now) s.within.class) { next = 1 }) ps
-    → base ≡ option_map (base_of (env_of s a)) m.base → a1 ≡ a
-    → AreParts (env_of s a1) qs ds m.body p
+    → env_of s a ≡ param_env (trees s.within.tables.now) s.within.class false m.params
+constructor_env_is s a m ps hps ha = ha ∙ ap (declare_params (record (class_env (trees s.within.tables.now) s.within.class) { next = 1 })) hps
+
+-- its parts there
+pub based_parts_are : (s : Scene) (a a1 : Around) (m : ConstructorTree) (qs : List written.ParamTree) (ds : List written.ClauseTree) (p : Parts)
+    → qs ≡ m.params → ds ≡ m.clauses → a1 ≡ a → AreParts (env_of s a1) qs ds m.body p → AreParts (env_of s a) m.params m.clauses m.body p
+based_parts_are s a a1 m qs ds p hqs hds ka hp =
+    same_parts (env_of s a) qs m.params ds m.clauses m.body p hqs hds (subst (λ d. AreParts d qs ds m.body p) (ap (env_of s) ka) hp)
+
+pub constructor_is : (s : Scene) (m : ConstructorTree) (p : Parts) (class : ℕ) (name : List ℕ) (flags : TypedFlags) (attributes : List NameTree) (base : Option BaseTree)
+    → AreParts (param_env (trees s.within.tables.now) s.within.class false m.params) m.params m.clauses m.body p
+    → base ≡ option_map (base_of (param_env (trees s.within.tables.now) s.within.class false m.params)) m.base
     → class ≡ class_number s.within.class → name ≡ m.name.text → flags ≡ constructor_flags m → attributes ≡ m.attributes
     → made class name m.name.place flags attributes (map view.param p.params.items) (map local_of p.locals.items) None (view.exprs p.entry.items) (view.exprs p.exit.items) (terms_of p.modifies) base (view.block p.block)
     ≡ constructor_body (trees s.within.tables.now) s.within.class m
-constructor_is s a a1 m ps qs ds p class name flags attributes base hps hqs hds ha hb ka hp hc hn hg hm =
-    let cs = trees s.within.tables.now in
-    let k = s.within.class in
-    let e = declare_params (record (class_env cs k) { next = 1 }) m.params in
-    let there : env_of s a ≡ e = ha ∙ ap (declare_params (record (class_env cs k) { next = 1 })) hps in
-    let here : env_of s a1 ≡ e = ap (env_of s) ka ∙ there in
-    let parts : AreParts e m.params m.clauses m.body p = same_parts e qs m.params ds m.clauses m.body p hqs hds (subst (λ d. AreParts d qs ds m.body p) here hp) in
-    body_is e m.params m.clauses m.body p class (class_number k) name m.name.text m.name.place m.name.place flags (constructor_flags m) attributes m.attributes None None base (option_map (base_of e) m.base)
-    parts hc hn refl hg hm refl (hb ∙ ap (λ d. option_map (base_of d) m.base) there)
+constructor_is s m p class name flags attributes base parts hb hc hn hg hm =
+    let e = param_env (trees s.within.tables.now) s.within.class false m.params in
+    body_is e m.params m.clauses m.body p class (class_number s.within.class) name m.name.text m.name.place m.name.place flags (constructor_flags m) attributes m.attributes None None base (option_map (base_of e) m.base)
+    parts hc hn refl hg hm refl hb

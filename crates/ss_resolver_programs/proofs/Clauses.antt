@@ -1,5 +1,5 @@
 -- One more clause of those that a loop goes over.
-use Rattle.std.proofs.Common.{ℕ, suc, ◌≡◌, ◌+◌, ◌<◌, List, [], ◌∷◌, ◌++◌, length, map, drop, get_or, Option, Some, None, refl, sym, ap, ◌∙◌, add-one, append-nil, append_assoc}
+use Rattle.std.proofs.Common.{ℕ, ◌≡◌, ◌+◌, ◌<◌, List, [], ◌∷◌, ◌++◌, length, map, drop, get_or, Option, Some, None, refl, sym, ap, ◌∙◌, add-one, append-nil, append_assoc}
 use Rattle.ss_ast.specs.declared.class.Clause.{Clause}
 use Rattle.ss_ast.specs.Programs.{ClauseTree, clause_tree, RequiresOf, EnsuresOf, ModifiesOf}
 use Rattle.ss_typed.specs.Tree.{ExprTree, ModifiedTree}

@@ -1,9 +1,9 @@
 -- Statements with what they govern.
-use Rattle.std.proofs.Common.{ℕ, ◌≡◌, ◌+◌, List, [], ◌∷◌, ◌++◌, length, map, Option, option_map, refl, sym, ap, ◌∙◌, length-append, add_assoc}
+use Rattle.std.proofs.Common.{◌≡◌, ◌+◌, List, [], ◌∷◌, ◌++◌, length, map, Option, option_map, refl, sym, ap, ◌∙◌, length-append, add_assoc}
 use Rattle.ss_core.specs.declared.names.Place.{Place}
 use Rattle.ss_ast.specs.Expressions as text
 use Rattle.ss_ast.specs.Statements as written
-use Rattle.ss_typed.specs.Tree.{ExprTree, SimpleTree, InitTree, BlockTree, BlockOf, StmtTree, IfOf, IfElseOf, WhileOf, ForOf, Before, stmt_trees}
+use Rattle.ss_typed.specs.Tree.{ExprTree, SimpleTree, InitTree, BlockOf, StmtTree, IfOf, IfElseOf, WhileOf, ForOf, Before, stmt_trees}
 use Rattle.ss_resolver_rules.specs.Names.{Env, enter}
 use Rattle.ss_resolver_rules.specs.Expressions.{expr}
 use Rattle.ss_resolver_rules.specs.Statements.{Declared, declared_in, past, behind, first, behind_first, simple, stmt, stmts, block}
@@ -54,24 +54,27 @@ while_is s a a1 a2 p c es t x xs y h k m l g =
     ∙ ap (λ v. WhileOf p (expr e c) v y) (m ∙ ap (λ n. map (expr (env_of s n)) es) k)
     ∙ ap (λ v. WhileOf p (expr e c) (map (expr e) es) v) (g ∙ ap (λ n. stmt (enter (env_of s n)) t) (l ∙ k))
 
-pub for_is : (s : Scene) (a a1 a2 a3 a4 a5 : Around) (p : Place) (i : Option written.ForInitTree) (c : Option text.ExprTree) (x : Option written.SimpleTree) (es : List text.ExprTree) (t : written.StmtTree)
+-- a `for`, by its heading and what it governs
+pub for_is : (s : Scene) (a a1 a2 : Around) (p : Place) (i : Option written.ForInitTree) (c : Option text.ExprTree) (x : Option written.SimpleTree) (es : List text.ExprTree) (t : written.StmtTree)
     (ri : Option InitTree) (rc : Option ExprTree) (rx : Option SimpleTree) (rs : List ExprTree) (r : StmtTree)
-    → a1 ≡ entered a → ri ≡ first (env_of s a1) i → env_of s a2 ≡ behind_first (env_of s a1) i → rc ≡ option_map (expr (env_of s a2)) c → a3 ≡ a2
-    → rx ≡ option_map (simple (env_of s a3)) x → a4 ≡ a3 → rs ≡ map (expr (env_of s a4)) es → a5 ≡ a4 → r ≡ stmt (enter (env_of s a5)) t
+    → a1 ≡ entered a → ri ≡ first (env_of s a1) i → rc ≡ option_map (expr (behind_first (env_of s a1) i)) c → rx ≡ option_map (simple (behind_first (env_of s a1) i)) x
+    → env_of s a2 ≡ behind_first (env_of s a1) i → rs ≡ map (expr (env_of s a2)) es → r ≡ stmt (enter (env_of s a2)) t
     → ForOf p ri rc rx rs r ≡ stmt (env_of s a) (written.ForOf p i c x es t)
-for_is s a a1 a2 a3 a4 a5 p i c x es t ri rc rx rs r h hi b hc k3 hx k4 hs k5 g =
+for_is s a a1 a2 p i c x es t ri rc rx rs r h hi hc hx b hs g =
     let e = enter (env_of s a) in
     let f = behind_first e i in
-    let e2 : env_of s a2 ≡ f = b ∙ ap (λ n. behind_first (env_of s n) i) h in
-    let e3 : env_of s a3 ≡ f = ap (env_of s) k3 ∙ e2 in
-    let e4 : env_of s a4 ≡ f = ap (env_of s) k4 ∙ e3 in
-    let e5 : env_of s a5 ≡ f = ap (env_of s) k5 ∙ e4 in
+    let e1 : behind_first (env_of s a1) i ≡ f = ap (λ n. behind_first (env_of s n) i) h in
+    let e2 : env_of s a2 ≡ f = b ∙ e1 in
     ap (λ v. ForOf p v rc rx rs r) (hi ∙ ap (λ n. first (env_of s n) i) h)
-    ∙ ap (λ v. ForOf p (first e i) v rx rs r) (hc ∙ ap (λ d. option_map (expr d) c) e2)
-    ∙ ap (λ v. ForOf p (first e i) (option_map (expr f) c) v rs r) (hx ∙ ap (λ d. option_map (simple d) x) e3)
-    ∙ ap (λ v. ForOf p (first e i) (option_map (expr f) c) (option_map (simple f) x) v r) (hs ∙ ap (λ d. map (expr d) es) e4)
-    ∙ ap (λ v. ForOf p (first e i) (option_map (expr f) c) (option_map (simple f) x) (map (expr f) es) v) (g ∙ ap (λ d. stmt (enter d) t) e5)
+    ∙ ap (λ v. ForOf p (first e i) v rx rs r) (hc ∙ ap (λ d. option_map (expr d) c) e1)
+    ∙ ap (λ v. ForOf p (first e i) (option_map (expr f) c) v rs r) (hx ∙ ap (λ d. option_map (simple d) x) e1)
+    ∙ ap (λ v. ForOf p (first e i) (option_map (expr f) c) (option_map (simple f) x) v r) (hs ∙ ap (λ d. map (expr d) es) e2)
+    ∙ ap (λ v. ForOf p (first e i) (option_map (expr f) c) (option_map (simple f) x) (map (expr f) es) v) (g ∙ ap (λ d. stmt (enter d) t) e2)
 
--- behind what a `for` begins with, its heading keeps the names
-pub heading_kept : (s : Scene) (a2 a3 a4 a5 : Around) (t : written.StmtTree) (a6 : Around) → a3 ≡ a2 → a4 ≡ a3 → a5 ≡ a4 → env_of s a6 ≡ past (env_of s a5) (declared_in t) → env_of s a6 ≡ past (env_of s a2) (declared_in t)
-heading_kept s a2 a3 a4 a5 t a6 k3 k4 k5 b = b ∙ ap (λ n. past (env_of s n) (declared_in t)) (k5 ∙ k4 ∙ k3)
+-- the test and the step of a heading, behind what it begins with
+pub test_is : (s : Scene) (a1 : Around) (e : Env) (c : Option text.ExprTree) (rc : Option ExprTree) → env_of s a1 ≡ e → rc ≡ option_map (expr (env_of s a1)) c → rc ≡ option_map (expr e) c
+test_is s a1 e c rc b h = h ∙ ap (λ d. option_map (expr d) c) b
+
+pub step_is : (s : Scene) (a1 a2 : Around) (e : Env) (x : Option written.SimpleTree) (rx : Option SimpleTree)
+    → env_of s a1 ≡ e → a2 ≡ a1 → rx ≡ option_map (simple (env_of s a2)) x → rx ≡ option_map (simple e) x
+step_is s a1 a2 e x rx b k h = h ∙ ap (λ d. option_map (simple d) x) (ap (env_of s) k ∙ b)

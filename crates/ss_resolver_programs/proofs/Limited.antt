@@ -1,5 +1,5 @@
 -- A program without faults of names is within the limits.
-use Rattle.std.proofs.Common.{ℕ, zero, suc, ◌≡◌, ◌+◌, ◌-◌, ◌*◌, ◌<◌, ◌≤◌, ◌^◌, Bool, true, false, List, [], ◌∷◌, ◌++◌, length, map, drop, Option, None, refl, ap, sym, subst, ◌∙◌, arith}
+use Rattle.std.proofs.Common.{ℕ, zero, suc, ◌≡◌, ◌+◌, ◌-◌, ◌*◌, ◌≤◌, Bool, true, false, List, [], ◌∷◌, ◌++◌, length, map, drop, None, refl, ap, sym, ◌∙◌, arith}
 use Rattle.std.specs.Prelude.{sum_by, nat_lt, ◌==◌, if◌then◌else◌}
 use Rattle.std.proofs.lemmas.Bool.{ltb-true}
 use Rattle.std.proofs.lemmas.List.Sums.{sum_by-cons}
@@ -12,7 +12,7 @@ use Rattle.ss_faults.specs.declared.Fault.{Fault}
 use Rattle.ss_faults.specs.First.{first_fault}
 use Rattle.ss_resolver_names_rules.specs.declared.fault.Rule.{Rule}
 use Rattle.ss_resolver_names_rules.specs.declared.fault.Rule.TheVariants as rule
-use Rattle.ss_resolver_names_rules.specs.Faults.{Faults, fault, unless, twice_among}
+use Rattle.ss_resolver_names_rules.specs.Faults.{fault, unless, twice_among}
 use Rattle.ss_resolver_names_rules.specs.Members.{member_names, faults_at, constructor_faults, override_faults, members_faults}
 use Rattle.ss_resolver_names_rules.specs.Programs.{most_classes, most_fields, most_methods, depth_faults, above_faults, field_limit_faults, ends, inherited_fields, fields_faults, methods_faults, bodies_faults, class_faults_of, classes_faults, class_names, mains_in, program_faults, first_name_fault}
 use Rattle.ss_resolver_rules.specs.Numbers.{field_count, body_count}

@@ -10,7 +10,7 @@ ghost use Rattle.ss_core.specs.declared.names.Ty.TheVariants as static_type;
 ghost use Rattle.ss_typed.specs.View as view;
 ghost use Rattle.ss_resolver_rules.specs.Numbers.{type_id};
 ghost use Rattle.ss_resolver_rules.specs.Names.{class_env, declare_params};
-ghost use Rattle.ss_resolver_rules.specs.Programs.{result_env, method_flags, constructor_flags, method_body, constructor_body};
+ghost use Rattle.ss_resolver_rules.specs.Programs.{param_env, result_env, method_env, base_of, method_flags, constructor_flags, method_body, constructor_body};
 ghost use Rattle.ss_resolver_tables.specs.Limits.{HasFewClasses};
 ghost use Rattle.ss_resolver_expressions.specs.Around.{Around};
 ghost use Rattle.ss_resolver_expressions.specs.Scenes.{env_of};
@@ -27,7 +27,9 @@ use ss_resolver_expressions::{LocalNames, Scene, is_static};
 use ss_resolver_tables::{class_number, declared_result, type_id};
 use ss_tables_lookup::{ConstructorRef, MethodRef, StaticType, Tables};
 use ss_tables_scopes::Within;
-use ss_typed::{TypedBlock, TypedBody, TypedExpr, TypedFlags, TypedModifies, TypedParam};
+use ss_typed::{
+    TypedBase, TypedBlock, TypedBody, TypedExpr, TypedFlags, TypedModifies, TypedParam,
+};
 use std::alloc::{AllocError, Global};
 
 fn resolve_param(
@@ -206,6 +208,32 @@ fn first_local(is_static: bool) -> usize
     if is_static { 0 } else { 1 }
 }
 
+// What a method has besides its heading, where `result` has its type.
+fn method_parts<'p>(
+    alloc: Global,
+    scene: &Scene<'_, 'p>,
+    method: MethodRef<'p>,
+) -> Result<Parts, AllocError>
+    requires outcome { scene.now.within.outcome ≡ None }
+    requires calls { scene.now.within.refuses_members ≡ false }
+    requires this { scene.now.within.refuses_this ≡ false }
+    ensures { IfOk result (λ p. AreParts (method_env (trees scene.now.within.tables.now) scene.now.within.class (method_tree method.entry))
+        (method_tree method.entry).params (method_tree method.entry).clauses (method_tree method.entry).body p) }
+{
+    let written = method.method;
+    let within = method_scene(scene, &written.returns);
+    let first = first_local(is_static(method));
+    let mut around = enter_params(alloc, scene, first, &written.params)?;
+    resolve_parts(
+        alloc,
+        &within,
+        &mut around,
+        &written.params,
+        &written.clauses,
+        &written.body,
+    )
+}
+
 /// A method.
 pub(crate) fn resolve_method<'p>(
     alloc: Global,
@@ -218,19 +246,9 @@ pub(crate) fn resolve_method<'p>(
     ensures { IfOk result (λ b. view.body b ≡ method_body (trees scene.now.within.tables.now) scene.now.within.class (method_tree method.entry)) }
 {
     let written = method.method;
-    let within = method_scene(scene, &written.returns);
-    let first = first_local(is_static(method));
-    let mut around = enter_params(alloc, scene, first, &written.params)?;
-    let parts = resolve_parts(
-        alloc,
-        &within,
-        &mut around,
-        &written.params,
-        &written.clauses,
-        &written.body,
-    )?;
     let name = String::from_str(alloc, written.name.text.as_str())?;
     let attributes = copy_names(alloc, &method.member.attributes)?;
+    let parts = method_parts(alloc, scene, method)?;
     Ok(TypedBody {
         class: class_number(scene.within.class),
         name,
@@ -248,6 +266,54 @@ pub(crate) fn resolve_method<'p>(
     })
 }
 
+/// What a constructor has besides its heading.
+#[derive(Drop)]
+pub struct Based {
+    pub base: Option<TypedBase>,
+    pub parts: Parts,
+}
+
+// The same where its parameters are in scope.
+fn based_parts<'p>(
+    alloc: Global,
+    scene: &Scene<'_, 'p>,
+    around: &mut LocalNames,
+    constructor: ConstructorRef<'p>,
+) -> Result<Based, AllocError>
+    ensures base { IfOk result (λ b. option_map view.base b.base ≡ option_map (base_of (env_of scene.now around.old)) (constructor_tree constructor.entry).base) }
+    ensures parts { IfOk result (λ b. AreParts (env_of scene.now around.old) (constructor_tree constructor.entry).params (constructor_tree constructor.entry).clauses (constructor_tree constructor.entry).body b.parts) }
+{
+    let written = constructor.constructor;
+    let base = resolve_base(alloc, scene, around, &written.base)?;
+    let parts = resolve_parts(
+        alloc,
+        scene,
+        around,
+        &written.params,
+        &written.clauses,
+        &written.body,
+    )?;
+    Ok(Based { base, parts })
+}
+
+fn constructor_parts<'p>(
+    alloc: Global,
+    scene: &Scene<'_, 'p>,
+    constructor: ConstructorRef<'p>,
+) -> Result<Based, AllocError>
+    requires outcome { scene.now.within.outcome ≡ None }
+    requires calls { scene.now.within.refuses_members ≡ false }
+    requires this { scene.now.within.refuses_this ≡ false }
+    ensures base { IfOk result (λ b. option_map view.base b.base
+        ≡ option_map (base_of (param_env (trees scene.now.within.tables.now) scene.now.within.class false (constructor_tree constructor.entry).params)) (constructor_tree constructor.entry).base) }
+    ensures parts { IfOk result (λ b. AreParts (param_env (trees scene.now.within.tables.now) scene.now.within.class false (constructor_tree constructor.entry).params)
+        (constructor_tree constructor.entry).params (constructor_tree constructor.entry).clauses (constructor_tree constructor.entry).body b.parts) }
+{
+    let written = constructor.constructor;
+    let mut around = enter_params(alloc, scene, 1, &written.params)?;
+    based_parts(alloc, scene, &mut around, constructor)
+}
+
 /// A constructor.
 pub(crate) fn resolve_constructor<'p>(
     alloc: Global,
@@ -260,18 +326,10 @@ pub(crate) fn resolve_constructor<'p>(
     ensures { IfOk result (λ b. view.body b ≡ constructor_body (trees scene.now.within.tables.now) scene.now.within.class (constructor_tree constructor.entry)) }
 {
     let written = constructor.constructor;
-    let mut around = enter_params(alloc, scene, 1, &written.params)?;
-    let base = resolve_base(alloc, scene, &mut around, &written.base)?;
-    let parts = resolve_parts(
-        alloc,
-        scene,
-        &mut around,
-        &written.params,
-        &written.clauses,
-        &written.body,
-    )?;
     let name = String::from_str(alloc, written.name.text.as_str())?;
     let attributes = copy_names(alloc, constructor.attributes)?;
+    let whole = constructor_parts(alloc, scene, constructor)?;
+    let parts = whole.parts;
     Ok(TypedBody {
         class: class_number(scene.within.class),
         name,
@@ -284,7 +342,7 @@ pub(crate) fn resolve_constructor<'p>(
         entry: parts.entry,
         exit: parts.exit,
         modifies: parts.modifies,
-        base,
+        base: whole.base,
         block: parts.block,
     })
 }

@@ -12,21 +12,23 @@ ghost use Rattle.ss_tables_lookup.specs.Views.{field_tree};
 ghost use Rattle.ss_typed.specs.View as view;
 ghost use Rattle.ss_resolver_rules.specs.Numbers.{table};
 ghost use Rattle.ss_resolver_rules.specs.Numbers as numbers;
+ghost use Rattle.ss_resolver_rules.specs.Names.{class_env};
 ghost use Rattle.ss_resolver_rules.specs.Programs.{mark_of, invariants_of_kind, invariants_in, field_member, written_constructor};
 ghost use Rattle.ss_resolver_rules.specs.Programs as resolved;
 ghost use Rattle.ss_resolver_tables.specs.Limits.{HasFewClasses};
 ghost use Rattle.ss_resolver_tables.specs.Slots.{slot_of, slots_of};
 ghost use Rattle.ss_resolver_expressions.specs.Scenes.{env_of};
 
+use crate::built::value_in;
 use crate::decls::resolve_option;
 use crate::marks::copy_names;
 use crate::whole::Whole;
 use ss_ast::{ClassDecl, Member, MemberKind, Name};
 use ss_core::{BodyId, Class, ClassId, Entry, Field, Mark};
-use ss_resolver_expressions::{LocalNames, Scene, resolve as resolve_expr};
+use ss_resolver_expressions::{LocalNames, Scene, resolve_boxed};
 use ss_resolver_tables::{MethodTable, Slot, constructor_id, number_or_object, type_id};
 use ss_tables_lookup::{FieldRef, Shelf, Tables};
-use ss_typed::{TypedClass, TypedField, TypedInvariant};
+use ss_typed::{TypedClass, TypedExpr, TypedField, TypedInvariant};
 use std::alloc::{AllocError, Global};
 
 // The first of the two marks that stands among the attributes.
@@ -174,7 +176,7 @@ fn resolve_field<'p>(
     Ok(TypedField {
         place: field.declarator.name.place,
         attributes,
-        initial,
+        initial: value_in(initial),
     })
 }
 
@@ -210,6 +212,21 @@ fn resolve_fields<'p>(
     Ok(list)
 }
 
+// One more invariant.
+fn push_invariant(
+    list: &mut Vec<TypedInvariant>,
+    attributes: Vec<Name>,
+    condition: Box<TypedExpr>,
+) -> Result<(), AllocError>
+    ensures { OnOk result (map view.invariant_of list.new.items ≡ map view.invariant_of list.old.items ++ record { attributes = map name_tree attributes.items; condition = view.expr condition.value } ∷ []) }
+{
+    list.push(TypedInvariant {
+        attributes,
+        condition: Box::into_inner(condition),
+    })?;
+    Ok(())
+}
+
 // The invariant that a member is, if it is one.
 fn add_invariant<'p>(
     alloc: Global,
@@ -224,11 +241,8 @@ fn add_invariant<'p>(
     match &member.kind {
         MemberKind::Invariant(condition) => {
             let attributes = copy_names(alloc, &member.attributes)?;
-            let condition = resolve_expr(alloc, scene, around, condition)?;
-            list.push(TypedInvariant {
-                attributes,
-                condition,
-            })?;
+            let condition = resolve_boxed(alloc, scene, around, condition)?;
+            push_invariant(list, attributes, condition)?;
             Ok(())
         }
         MemberKind::Fields(_) | MemberKind::Method(_) | MemberKind::Constructor(_) => Ok(()),
@@ -262,6 +276,28 @@ fn written_constructor(scene: &Scene<'_, '_>, shelf: &Shelf<'_>) -> Option<BodyI
     }
 }
 
+// The same where the names of the class are known.
+fn members_in<'p>(
+    alloc: Global,
+    scene: &Scene<'_, 'p>,
+    around: &mut LocalNames,
+    shelf: &Shelf<'p>,
+    written: &'p ClassDecl,
+) -> Result<TypedClass, AllocError>
+    requires names { env_of scene.now around.old ≡ class_env (trees scene.now.within.tables.now) scene.now.within.class }
+    requires shelved { shelf_of shelf.now ≡ shelves.shelf (trees scene.now.within.tables.now) (class_tree written.now) }
+    ensures { IfOk result (λ c. view.members c ≡ resolved.members (trees scene.now.within.tables.now) scene.now.within.class (class_tree written.now)) }
+{
+    let fields = resolve_fields(alloc, scene, around, &shelf.fields)?;
+    let invariants = resolve_invariants(alloc, scene, around, &written.members)?;
+    Ok(TypedClass {
+        place: written.name.place,
+        constructor: written_constructor(scene, shelf),
+        fields,
+        invariants,
+    })
+}
+
 /// What a class has beside its entry in the table of classes.
 pub(crate) fn resolve_members<'p>(
     alloc: Global,
@@ -276,12 +312,5 @@ pub(crate) fn resolve_members<'p>(
     ensures { IfOk result (λ c. view.members c ≡ resolved.members (trees scene.now.within.tables.now) scene.now.within.class (class_tree written.now)) }
 {
     let mut around = LocalNames::new(alloc, 1);
-    let fields = resolve_fields(alloc, scene, &mut around, &shelf.fields)?;
-    let invariants = resolve_invariants(alloc, scene, &mut around, &written.members)?;
-    Ok(TypedClass {
-        place: written.name.place,
-        constructor: written_constructor(scene, shelf),
-        fields,
-        invariants,
-    })
+    members_in(alloc, scene, &mut around, shelf, written)
 }

@@ -3,6 +3,7 @@
 ghost use Rattle.std.specs.Prelude.{◌≡◌, ◌++◌, ◌∷◌, [], IfOk, OnOk, map, option_map, unwrap_or};
 ghost use Rattle.ss_ast.specs.Expressions.{expr_tree};
 ghost use Rattle.ss_ast.specs.Programs.{modified_tree, clause_tree, base_call_tree};
+ghost use Rattle.ss_typed.specs.Tree.{AllOf, ElementsOf};
 ghost use Rattle.ss_typed.specs.View as view;
 ghost use Rattle.ss_resolver_rules.specs.Programs.{modified, entry_in, exit_in, modifies_in, base_of};
 ghost use Rattle.ss_resolver_expressions.specs.Scenes.{env_of};
@@ -10,9 +11,17 @@ ghost use Rattle.ss_resolver_programs.specs.Terms.{terms_of, joined};
 
 use crate::fields::one_of;
 use ss_ast::{BaseCall, Clause, Modified};
-use ss_resolver_expressions::{LocalNames, Scene, resolve as resolve_expr, resolve_values};
+use ss_resolver_expressions::{LocalNames, Scene, resolve_boxed, resolve_values};
 use ss_typed::{TypedBase, TypedExpr, TypedModifies};
 use std::alloc::{AllocError, Global};
+
+// One more expression of a list.
+fn add_value(list: &mut Vec<TypedExpr>, value: Box<TypedExpr>) -> Result<(), AllocError>
+    ensures { OnOk result (view.exprs list.new.items ≡ view.exprs list.old.items ++ view.expr value.value ∷ []) }
+{
+    list.push(Box::into_inner(value))?;
+    Ok(())
+}
 
 // What this clause says of the entry.
 fn add_entry<'p>(
@@ -27,8 +36,8 @@ fn add_entry<'p>(
 {
     match clause {
         Clause::Requires(condition) => {
-            let condition = resolve_expr(alloc, scene, around, condition)?;
-            list.push(condition)?;
+            let condition = resolve_boxed(alloc, scene, around, condition)?;
+            add_value(list, condition)?;
             Ok(())
         }
         Clause::Ensures(_) | Clause::Modifies(_) => Ok(()),
@@ -65,8 +74,8 @@ fn add_exit<'p>(
 {
     match clause {
         Clause::Ensures(condition) => {
-            let condition = resolve_expr(alloc, scene, around, condition)?;
-            list.push(condition)?;
+            let condition = resolve_boxed(alloc, scene, around, condition)?;
+            add_value(list, condition)?;
             Ok(())
         }
         Clause::Requires(_) | Clause::Modifies(_) => Ok(()),
@@ -90,6 +99,20 @@ pub(crate) fn resolve_exit<'p>(
     Ok(list)
 }
 
+// `o.*`
+fn all_of(object: Box<TypedExpr>) -> TypedModifies
+    ensures { view.modified result ≡ AllOf (view.expr object.value) }
+{
+    TypedModifies::All(Box::into_inner(object))
+}
+
+// `a[*]`
+fn elements_of(array: Box<TypedExpr>) -> TypedModifies
+    ensures { view.modified result ≡ ElementsOf (view.expr array.value) }
+{
+    TypedModifies::Elements(Box::into_inner(array))
+}
+
 fn resolve_modified<'p>(
     alloc: Global,
     scene: &Scene<'_, 'p>,
@@ -101,16 +124,16 @@ fn resolve_modified<'p>(
 {
     match term {
         Modified::All(object) => {
-            let object = resolve_expr(alloc, scene, around, object)?;
-            Ok(TypedModifies::All(object))
+            let object = resolve_boxed(alloc, scene, around, object)?;
+            Ok(all_of(object))
         }
         Modified::Elements(array) => {
-            let array = resolve_expr(alloc, scene, around, array)?;
-            Ok(TypedModifies::Elements(array))
+            let array = resolve_boxed(alloc, scene, around, array)?;
+            Ok(elements_of(array))
         }
         Modified::One(field) => {
-            let field = resolve_expr(alloc, scene, around, field)?;
-            Ok(one_of(field))
+            let field = resolve_boxed(alloc, scene, around, field)?;
+            Ok(one_of(Box::into_inner(field)))
         }
     }
 }

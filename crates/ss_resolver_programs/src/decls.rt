@@ -9,9 +9,11 @@ ghost use Rattle.ss_resolver_rules.specs.Names.{declare, declare_all, declare_pa
 ghost use Rattle.ss_resolver_rules.specs.Expressions.{expr};
 ghost use Rattle.ss_resolver_rules.specs.Statements as resolved;
 ghost use Rattle.ss_resolver_expressions.specs.Scenes.{env_of};
+ghost use Rattle.ss_resolver_programs.specs.Boxes.{value_of};
 
+use crate::built::value_in;
 use ss_ast::{Declaration, Declarator, Expr, Name, Param, TypeRef};
-use ss_resolver_expressions::{LocalNames, Scene, resolve as resolve_expr};
+use ss_resolver_expressions::{LocalNames, Scene, resolve_boxed};
 use ss_resolver_tables::type_id;
 use ss_tables_scopes::LocalInfo;
 use ss_typed::{TypedDeclarator, TypedExpr};
@@ -74,13 +76,13 @@ pub(crate) fn resolve_option<'p>(
     scene: &Scene<'_, 'p>,
     around: &mut LocalNames,
     e: &'p Option<Expr>,
-) -> Result<Option<TypedExpr>, AllocError>
-    ensures tree { IfOk result (λ r. option_map view.expr r ≡ option_map (expr (env_of scene.now around.old)) (option_map expr_tree e.now)) }
+) -> Result<Option<Box<TypedExpr>>, AllocError>
+    ensures tree { IfOk result (λ r. value_of r ≡ option_map (expr (env_of scene.now around.old)) (option_map expr_tree e.now)) }
     ensures kept { OnOk result (around.new ≡ around.old) }
 {
     match e {
         Some(e) => {
-            let value = resolve_expr(alloc, scene, around, e)?;
+            let value = resolve_boxed(alloc, scene, around, e)?;
             Ok(Some(value))
         }
         None => Ok(None),
@@ -105,7 +107,7 @@ fn resolve_declarator<'p>(
         place: declarator.name.place,
         local,
         ty: type_id(scene.within.tables, ty),
-        initial,
+        initial: value_in(initial),
     })
 }
 

@@ -4,6 +4,7 @@
 
 mod bodies;
 mod built;
+mod built_simples;
 mod classes;
 mod contracts;
 mod decls;

@@ -100,6 +100,14 @@ fn all_members<'p>(
     Ok(list)
 }
 
+// One more body.
+fn add_body(list: &mut Vec<TypedBody>, body: TypedBody) -> Result<(), AllocError>
+    ensures { OnOk result (map view.body list.new.items ≡ map view.body list.old.items ++ view.body body ∷ []) }
+{
+    list.push(body)?;
+    Ok(())
+}
+
 fn add_constructors<'p>(
     alloc: Global,
     scene: &Scene<'_, 'p>,
@@ -129,7 +137,7 @@ fn add_constructor<'p>(
     ensures { OnOk result (map view.body list.new.items ≡ map view.body list.old.items ++ constructor_body (trees scene.now.within.tables.now) scene.now.within.class (constructor_tree constructor.entry) ∷ []) }
 {
     let body = resolve_constructor(alloc, scene, constructor)?;
-    list.push(body)?;
+    add_body(list, body)?;
     Ok(())
 }
 
@@ -145,7 +153,7 @@ fn add_method<'p>(
     ensures { OnOk result (map view.body list.new.items ≡ map view.body list.old.items ++ method_body (trees scene.now.within.tables.now) scene.now.within.class (method_tree method.entry) ∷ []) }
 {
     let body = resolve_method(alloc, scene, method)?;
-    list.push(body)?;
+    add_body(list, body)?;
     Ok(())
 }
 
@@ -240,22 +248,35 @@ fn resolve_whole<'p>(
     })
 }
 
+// The same by the tables of its classes alone, where the numbers are known to fit.
+fn resolve_numbered<'p>(
+    alloc: Global,
+    tables: &Tables<'p>,
+    program: &'p Program,
+) -> Result<Typed, AllocError>
+    requires limits { IsWithinLimits (program_tree program.now).classes }
+    requires tables { tables.now ≡ program.now.classes.items }
+    ensures { IfOk result (λ t. view.typed t ≡ resolved.resolved (program_tree program.now)) }
+{
+    let fields = field_starts(alloc, &program.classes)?;
+    let bodies = body_starts(alloc, &program.classes)?;
+    let methods = method_tables(alloc, tables, &bodies)?;
+    let whole = Whole {
+        tables,
+        fields: &fields,
+        bodies: &bodies,
+        methods: &methods,
+    };
+    resolve_whole(alloc, &whole, program)
+}
+
 // The same where the numbers are known to fit.
 fn resolve_within(alloc: Global, program: &Program) -> Result<Typed, AllocError>
     requires { IsWithinLimits (program_tree program.now).classes }
     ensures { IfOk result (λ t. view.typed t ≡ resolved.resolved (program_tree program.now)) }
 {
     let tables = Tables::new(alloc, &program.classes)?;
-    let fields = field_starts(alloc, &program.classes)?;
-    let bodies = body_starts(alloc, &program.classes)?;
-    let methods = method_tables(alloc, &tables, &bodies)?;
-    let whole = Whole {
-        tables: &tables,
-        fields: &fields,
-        bodies: &bodies,
-        methods: &methods,
-    };
-    resolve_whole(alloc, &whole, program)
+    resolve_numbered(alloc, &tables, program)
 }
 
 /// The resolved program that a program without faults of names means. The error is want of memory.

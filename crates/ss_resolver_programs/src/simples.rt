@@ -2,8 +2,9 @@
 
 ghost use Rattle.std.specs.Prelude.{◌≡◌, IfOk, OnOk, map, option_map};
 ghost use Rattle.ss_ast.specs.Expressions.{expr_tree, grouped, arguments};
-ghost use Rattle.ss_ast.specs.Statements.{simple_tree, for_init_tree};
+ghost use Rattle.ss_ast.specs.Statements.{AssignOf, StepOf, simple_tree, for_init_tree};
 ghost use Rattle.ss_tables_scopes.specs.Views.{receiver_of};
+ghost use Rattle.ss_typed.specs.Tree.{BaseCallOf};
 ghost use Rattle.ss_typed.specs.View as view;
 ghost use Rattle.ss_resolver_rules.specs.Expressions.{args};
 ghost use Rattle.ss_resolver_rules.specs.Statements.{is_line, printed, print, alone, behind_first};
@@ -11,14 +12,19 @@ ghost use Rattle.ss_resolver_rules.specs.Statements as resolved;
 ghost use Rattle.ss_resolver_expressions.specs.Behinds.{postfix_behind};
 ghost use Rattle.ss_resolver_expressions.specs.Scenes.{env_of, part, part_view, part_called};
 ghost use Rattle.ss_resolver_programs.specs.Alone.{kind_behind, kind_of, part_alone};
+ghost use Rattle.ss_resolver_programs.specs.Boxes as boxes;
 
+use crate::built_simples::{
+    alone_of, assign_of, base_call_of, declare_first, print_of, print_text_of, simple_first,
+    step_of,
+};
 use crate::decls::resolve_declaration;
 use crate::forms::{call_in, text_in};
-use ss_ast::{Expr, ForInit, Postfix, Simple};
+use ss_ast::{AssignOperator, Expr, ForInit, Postfix, Simple, StepOperator};
 use ss_core::Place;
 use ss_resolver_expressions::{
-    LocalNames, Part, Scene, asked_of, called, resolve as resolve_expr, resolve_given,
-    resolve_values, walk, walk_postfixes,
+    LocalNames, Part, Scene, asked_of, called, resolve_boxed, resolve_given, resolve_values, walk,
+    walk_postfixes,
 };
 use ss_tables_scopes::Receiver;
 use ss_typed::{TypedExpr, TypedInit, TypedSimple};
@@ -63,18 +69,19 @@ fn resolve_printed<'p>(
     place: Place,
     line: bool,
     e: &'p Expr,
-) -> Result<TypedSimple, AllocError>
-    ensures tree { IfOk result (λ s. view.simple_of s ≡ printed (env_of scene.now around.old) place line (expr_tree e.now)) }
+) -> Result<Box<TypedSimple>, AllocError>
+    ensures tree { IfOk result (λ s. view.simple_of s.value ≡ printed (env_of scene.now around.old) place line (expr_tree e.now)) }
     ensures kept { OnOk result (around.new ≡ around.old) }
 {
     match text_in(e) {
         Some(text) => {
-            let text = Vec::from_slice(alloc, text)?;
-            Ok(TypedSimple::PrintText(place, text, line))
+            let whole = print_text_of(alloc, place, text, line)?;
+            Ok(whole)
         }
         None => {
-            let value = resolve_expr(alloc, scene, around, e)?;
-            Ok(TypedSimple::Print(place, Some(value), line))
+            let value = resolve_boxed(alloc, scene, around, e)?;
+            let whole = print_of(alloc, place, Some(value), line)?;
+            Ok(whole)
         }
     }
 }
@@ -86,12 +93,12 @@ fn resolve_print<'p>(
     place: Place,
     line: bool,
     written: &'p [Expr],
-) -> Result<TypedSimple, AllocError>
-    ensures tree { IfOk result (λ s. view.simple_of s ≡ print (env_of scene.now around.old) place line (arguments (map expr_tree written.now))) }
+) -> Result<Box<TypedSimple>, AllocError>
+    ensures tree { IfOk result (λ s. view.simple_of s.value ≡ print (env_of scene.now around.old) place line (arguments (map expr_tree written.now))) }
     ensures kept { OnOk result (around.new ≡ around.old) }
 {
     match written {
-        [] => Ok(TypedSimple::Print(place, None, line)),
+        [] => print_of(alloc, place, None, line),
         [first, ..] => resolve_printed(alloc, scene, around, place, line, first),
     }
 }
@@ -104,14 +111,30 @@ fn resolve_call<'p>(
     place: Place,
     before: Part<'p>,
     written: &'p [Expr],
-) -> Result<TypedExpr, AllocError>
-    ensures tree { IfOk result (λ r. view.expr r ≡ part_called (env_of scene.now around.old) place (arguments (map expr_tree written.now)) (args (env_of scene.now around.old) (arguments (map expr_tree written.now))) (part_view before.entry)) }
+) -> Result<Box<TypedExpr>, AllocError>
+    ensures tree { IfOk result (λ r. view.expr r.value ≡ part_called (env_of scene.now around.old) place (arguments (map expr_tree written.now)) (args (env_of scene.now around.old) (arguments (map expr_tree written.now))) (part_view before.entry)) }
     ensures kept { OnOk result (around.new ≡ around.old) }
 {
     let given = resolve_given(alloc, scene, around, written)?;
     let asked = asked_of(&given.classes);
     let whole = called(alloc, scene, around, place, before, asked, given.values)?;
-    Ok(Box::into_inner(whole))
+    Ok(whole)
+}
+
+// `base(..)`
+fn resolve_base_call<'p>(
+    alloc: Global,
+    scene: &Scene<'_, 'p>,
+    around: &mut LocalNames,
+    place: Place,
+    written: &'p [Expr],
+) -> Result<Box<TypedSimple>, AllocError>
+    ensures tree { IfOk result (λ s. view.simple_of s.value ≡ BaseCallOf place (args (env_of scene.now around.old) (arguments (map expr_tree written.now)))) }
+    ensures kept { OnOk result (around.new ≡ around.old) }
+{
+    let values = resolve_values(alloc, scene, around, written)?;
+    let whole = base_call_of(alloc, place, values)?;
+    Ok(whole)
 }
 
 // A call alone, of what stands before its arguments.
@@ -122,19 +145,17 @@ fn resolve_alone_call<'p>(
     place: Place,
     before: Part<'p>,
     written: &'p [Expr],
-) -> Result<TypedSimple, AllocError>
-    ensures tree { IfOk result (λ s. view.simple_of s ≡ part_alone (env_of scene.now around.old) place (arguments (map expr_tree written.now)) (part_view before.entry)) }
+) -> Result<Box<TypedSimple>, AllocError>
+    ensures tree { IfOk result (λ s. view.simple_of s.value ≡ part_alone (env_of scene.now around.old) place (arguments (map expr_tree written.now)) (part_view before.entry)) }
     ensures kept { OnOk result (around.new ≡ around.old) }
 {
     match kind_of(&before) {
         Alone::Print(line) => resolve_print(alloc, scene, around, place, line, written),
-        Alone::Base => {
-            let values = resolve_values(alloc, scene, around, written)?;
-            Ok(TypedSimple::Base(place, values))
-        }
+        Alone::Base => resolve_base_call(alloc, scene, around, place, written),
         Alone::Call => {
             let whole = resolve_call(alloc, scene, around, place, before, written)?;
-            Ok(TypedSimple::Alone(whole))
+            let simple = alone_of(alloc, whole)?;
+            Ok(simple)
         }
     }
 }
@@ -148,8 +169,8 @@ fn resolve_path_call<'p>(
     first: &'p Expr,
     front: &'p [Postfix],
     written: &'p [Expr],
-) -> Result<TypedSimple, AllocError>
-    ensures tree { IfOk result (λ s. view.simple_of s ≡ part_alone (env_of scene.now around.old) place (arguments (map expr_tree written.now))
+) -> Result<Box<TypedSimple>, AllocError>
+    ensures tree { IfOk result (λ s. view.simple_of s.value ≡ part_alone (env_of scene.now around.old) place (arguments (map expr_tree written.now))
         (part (env_of scene.now around.old) (grouped place (expr_tree first.now) (map postfix_behind front.now)))) }
     ensures kept { OnOk result (around.new ≡ around.old) }
 {
@@ -159,13 +180,14 @@ fn resolve_path_call<'p>(
     Ok(whole)
 }
 
+// A call or a `new` alone.
 fn resolve_alone<'p>(
     alloc: Global,
     scene: &Scene<'_, 'p>,
     around: &mut LocalNames,
     e: &'p Expr,
-) -> Result<TypedSimple, AllocError>
-    ensures tree { IfOk result (λ s. view.simple_of s ≡ alone (env_of scene.now around.old) (expr_tree e.now)) }
+) -> Result<Box<TypedSimple>, AllocError>
+    ensures tree { IfOk result (λ s. view.simple_of s.value ≡ alone (env_of scene.now around.old) (expr_tree e.now)) }
     ensures kept { OnOk result (around.new ≡ around.old) }
 {
     match call_in(e) {
@@ -182,10 +204,43 @@ fn resolve_alone<'p>(
             Ok(whole)
         }
         None => {
-            let whole = resolve_expr(alloc, scene, around, e)?;
-            Ok(TypedSimple::Alone(whole))
+            let whole = resolve_boxed(alloc, scene, around, e)?;
+            let simple = alone_of(alloc, whole)?;
+            Ok(simple)
         }
     }
+}
+
+fn resolve_assign<'p>(
+    alloc: Global,
+    scene: &Scene<'_, 'p>,
+    around: &mut LocalNames,
+    target: &'p Expr,
+    operator: AssignOperator,
+    value: &'p Expr,
+) -> Result<Box<TypedSimple>, AllocError>
+    ensures tree { IfOk result (λ s. view.simple_of s.value ≡ resolved.simple (env_of scene.now around.old) (AssignOf (expr_tree target.now) operator (expr_tree value.now))) }
+    ensures kept { OnOk result (around.new ≡ around.old) }
+{
+    let target = resolve_boxed(alloc, scene, around, target)?;
+    let value = resolve_boxed(alloc, scene, around, value)?;
+    let whole = assign_of(alloc, target, operator, value)?;
+    Ok(whole)
+}
+
+fn resolve_stepped<'p>(
+    alloc: Global,
+    scene: &Scene<'_, 'p>,
+    around: &mut LocalNames,
+    target: &'p Expr,
+    operator: StepOperator,
+) -> Result<Box<TypedSimple>, AllocError>
+    ensures tree { IfOk result (λ s. view.simple_of s.value ≡ resolved.simple (env_of scene.now around.old) (StepOf (expr_tree target.now) operator)) }
+    ensures kept { OnOk result (around.new ≡ around.old) }
+{
+    let target = resolve_boxed(alloc, scene, around, target)?;
+    let whole = step_of(alloc, target, operator)?;
+    Ok(whole)
 }
 
 /// A simple statement.
@@ -194,19 +249,16 @@ pub(crate) fn resolve_simple<'p>(
     scene: &Scene<'_, 'p>,
     around: &mut LocalNames,
     simple: &'p Simple,
-) -> Result<TypedSimple, AllocError>
-    ensures tree { IfOk result (λ s. view.simple_of s ≡ resolved.simple (env_of scene.now around.old) (simple_tree simple.now)) }
+) -> Result<Box<TypedSimple>, AllocError>
+    ensures tree { IfOk result (λ s. view.simple_of s.value ≡ resolved.simple (env_of scene.now around.old) (simple_tree simple.now)) }
     ensures kept { OnOk result (around.new ≡ around.old) }
 {
     match simple {
         Simple::Assign(target, operator, value) => {
-            let target = resolve_expr(alloc, scene, around, target)?;
-            let value = resolve_expr(alloc, scene, around, value)?;
-            Ok(TypedSimple::Assign(target, *operator, value))
+            resolve_assign(alloc, scene, around, target, *operator, value)
         }
         Simple::Step(target, operator) => {
-            let target = resolve_expr(alloc, scene, around, target)?;
-            Ok(TypedSimple::Step(target, *operator))
+            resolve_stepped(alloc, scene, around, target, *operator)
         }
         Simple::Alone(e) => resolve_alone(alloc, scene, around, e),
     }
@@ -218,8 +270,8 @@ pub(crate) fn resolve_step<'p>(
     scene: &Scene<'_, 'p>,
     around: &mut LocalNames,
     step: &'p Option<Simple>,
-) -> Result<Option<TypedSimple>, AllocError>
-    ensures tree { IfOk result (λ r. option_map view.simple_of r ≡ option_map (resolved.simple (env_of scene.now around.old)) (option_map simple_tree step.now)) }
+) -> Result<Option<Box<TypedSimple>>, AllocError>
+    ensures tree { IfOk result (λ r. boxes.step_of r ≡ option_map (resolved.simple (env_of scene.now around.old)) (option_map simple_tree step.now)) }
     ensures kept { OnOk result (around.new ≡ around.old) }
 {
     match step {
@@ -237,19 +289,21 @@ pub(crate) fn resolve_first<'p>(
     scene: &Scene<'_, 'p>,
     around: &mut LocalNames,
     first: &'p Option<ForInit>,
-) -> Result<Option<TypedInit>, AllocError>
-    ensures tree { IfOk result (λ r. option_map view.init_of r ≡ resolved.first (env_of scene.now around.old) (option_map for_init_tree first.now)) }
+) -> Result<Option<Box<TypedInit>>, AllocError>
+    ensures tree { IfOk result (λ r. boxes.init_of r ≡ resolved.first (env_of scene.now around.old) (option_map for_init_tree first.now)) }
     ensures behind { OnOk result (env_of scene.now around.new ≡ behind_first (env_of scene.now around.old) (option_map for_init_tree first.now)) }
 {
     match first {
         None => Ok(None),
         Some(ForInit::Declare(declaration)) => {
             let list = resolve_declaration(alloc, scene, around, declaration)?;
-            Ok(Some(TypedInit::Declare(list)))
+            let first = declare_first(alloc, list)?;
+            Ok(Some(first))
         }
         Some(ForInit::Simple(simple)) => {
             let simple = resolve_simple(alloc, scene, around, simple)?;
-            Ok(Some(TypedInit::Simple(simple)))
+            let first = simple_first(alloc, simple)?;
+            Ok(Some(first))
         }
     }
 }

@@ -2,25 +2,27 @@
 
 ghost use Rattle.std.specs.Prelude.{◌≡◌, IfOk, OnOk, map, option_map};
 ghost use Rattle.ss_ast.specs.Expressions.{name_tree, expr_tree};
-ghost use Rattle.ss_ast.specs.Statements.{IfOf, WhileOf, ForOf, ExposeOf, simple_tree, for_init_tree, block_tree, stmt_tree};
+ghost use Rattle.ss_ast.specs.Statements.{InBlock, DeclareOf, SimpleOf, IfOf, WhileOf, ForOf, ReturnOf, AssertOf, AssumeOf, ExposeOf, simple_tree, declaration_tree, for_init_tree, block_tree, stmt_tree};
 ghost use Rattle.ss_tables_lookup.specs.Classes.{trees};
 ghost use Rattle.ss_typed.specs.View as view;
 ghost use Rattle.ss_resolver_rules.specs.Names.{enter};
-ghost use Rattle.ss_resolver_rules.specs.Statements.{declared_in, declared_in_block, past, behind};
+ghost use Rattle.ss_resolver_rules.specs.Expressions.{expr};
+ghost use Rattle.ss_resolver_rules.specs.Statements.{declared_in, declared_in_block, past, behind, behind_first};
 ghost use Rattle.ss_resolver_rules.specs.Statements as resolved;
 ghost use Rattle.ss_resolver_tables.specs.Limits.{HasFewClasses};
 ghost use Rattle.ss_resolver_expressions.specs.Scenes.{env_of};
 ghost use Rattle.ss_resolver_programs.specs.Behind.{behind_all, each_stmt, class_at};
+ghost use Rattle.ss_resolver_programs.specs.Boxes as boxes;
 
 use crate::built::{
-    assert_of, assume_of, block_of, declare_of, empty_of, expose_of, for_of, if_else_of, if_of,
-    in_block, return_of, simple_of, while_of,
+    Guarded, Heading, add_stmt, assert_of, assume_of, block_of, declare_of, empty_of, expose_of,
+    for_of, if_else_of, if_of, in_block, return_of, simple_of, while_of,
 };
 use crate::decls::{resolve_declaration, resolve_option};
 use crate::simples::{resolve_first, resolve_simple, resolve_step};
-use ss_ast::{Block, Expr, ForInit, Name, Simple, Stmt};
+use ss_ast::{Block, Declaration, Expr, ForInit, Name, Simple, Stmt};
 use ss_core::{ClassId, Place};
-use ss_resolver_expressions::{LocalNames, Scene, resolve as resolve_expr, resolve_values};
+use ss_resolver_expressions::{LocalNames, Scene, resolve_boxed, resolve_values};
 use ss_resolver_tables::class_id;
 use ss_tables_lookup::Tables;
 use ss_typed::{TypedBlock, TypedStmt};
@@ -35,6 +37,101 @@ fn class_at(tables: &Tables<'_>, name: &Option<Name>) -> Option<ClassId>
         Some(name) => Some(class_id(tables, name.text.as_str())),
         None => None,
     }
+}
+
+// A declaration.
+fn resolve_declare<'p>(
+    alloc: Global,
+    scene: &Scene<'_, 'p>,
+    around: &mut LocalNames,
+    declaration: &'p Declaration,
+) -> Result<Box<TypedStmt>, AllocError>
+    ensures tree { IfOk result (λ r. view.stmt_of r.value ≡ resolved.stmt (env_of scene.now around.old) (DeclareOf (declaration_tree declaration.now))) }
+    ensures behind { OnOk result (env_of scene.now around.new ≡ behind (env_of scene.now around.old) (DeclareOf (declaration_tree declaration.now))) }
+{
+    let list = resolve_declaration(alloc, scene, around, declaration)?;
+    let whole = declare_of(alloc, list)?;
+    Ok(whole)
+}
+
+// A simple statement alone.
+fn resolve_line<'p>(
+    alloc: Global,
+    scene: &Scene<'_, 'p>,
+    around: &mut LocalNames,
+    simple: &'p Simple,
+) -> Result<Box<TypedStmt>, AllocError>
+    ensures tree { IfOk result (λ r. view.stmt_of r.value ≡ resolved.stmt (env_of scene.now around.old) (SimpleOf (simple_tree simple.now))) }
+    ensures kept { OnOk result (around.new ≡ around.old) }
+{
+    let simple = resolve_simple(alloc, scene, around, simple)?;
+    let whole = simple_of(alloc, simple)?;
+    Ok(whole)
+}
+
+fn resolve_return<'p>(
+    alloc: Global,
+    scene: &Scene<'_, 'p>,
+    around: &mut LocalNames,
+    place: Place,
+    value: &'p Option<Expr>,
+) -> Result<Box<TypedStmt>, AllocError>
+    ensures tree { IfOk result (λ r. view.stmt_of r.value ≡ resolved.stmt (env_of scene.now around.old) (ReturnOf place (option_map expr_tree value.now))) }
+    ensures kept { OnOk result (around.new ≡ around.old) }
+{
+    let value = resolve_option(alloc, scene, around, value)?;
+    let whole = return_of(alloc, place, value)?;
+    Ok(whole)
+}
+
+fn resolve_assert<'p>(
+    alloc: Global,
+    scene: &Scene<'_, 'p>,
+    around: &mut LocalNames,
+    place: Place,
+    condition: &'p Expr,
+) -> Result<Box<TypedStmt>, AllocError>
+    ensures tree { IfOk result (λ r. view.stmt_of r.value ≡ resolved.stmt (env_of scene.now around.old) (AssertOf place (expr_tree condition.now))) }
+    ensures kept { OnOk result (around.new ≡ around.old) }
+{
+    let condition = resolve_boxed(alloc, scene, around, condition)?;
+    let whole = assert_of(alloc, place, condition)?;
+    Ok(whole)
+}
+
+fn resolve_assume<'p>(
+    alloc: Global,
+    scene: &Scene<'_, 'p>,
+    around: &mut LocalNames,
+    place: Place,
+    condition: &'p Expr,
+) -> Result<Box<TypedStmt>, AllocError>
+    ensures tree { IfOk result (λ r. view.stmt_of r.value ≡ resolved.stmt (env_of scene.now around.old) (AssumeOf place (expr_tree condition.now))) }
+    ensures kept { OnOk result (around.new ≡ around.old) }
+{
+    let condition = resolve_boxed(alloc, scene, around, condition)?;
+    let whole = assume_of(alloc, place, condition)?;
+    Ok(whole)
+}
+
+// The heading of a `for`, behind which its names are in scope.
+fn resolve_heading<'p>(
+    alloc: Global,
+    scene: &Scene<'_, 'p>,
+    around: &mut LocalNames,
+    first: &'p Option<ForInit>,
+    test: &'p Option<Expr>,
+    step: &'p Option<Simple>,
+) -> Result<Heading, AllocError>
+    ensures first { IfOk result (λ h. boxes.init_of h.first ≡ resolved.first (env_of scene.now around.old) (option_map for_init_tree first.now)) }
+    ensures test { IfOk result (λ h. boxes.value_of h.test ≡ option_map (expr (behind_first (env_of scene.now around.old) (option_map for_init_tree first.now))) (option_map expr_tree test.now)) }
+    ensures step { IfOk result (λ h. boxes.step_of h.step ≡ option_map (resolved.simple (behind_first (env_of scene.now around.old) (option_map for_init_tree first.now))) (option_map simple_tree step.now)) }
+    ensures behind { OnOk result (env_of scene.now around.new ≡ behind_first (env_of scene.now around.old) (option_map for_init_tree first.now)) }
+{
+    let first = resolve_first(alloc, scene, around, first)?;
+    let test = resolve_option(alloc, scene, around, test)?;
+    let step = resolve_step(alloc, scene, around, step)?;
+    Ok(Heading { first, test, step })
 }
 
 /// A block, which has a scope of its own.
@@ -66,9 +163,26 @@ fn resolve_stmts<'p>(
 {
     let mut list = Vec::new(alloc);
     for stmt in stmts {
-        list.push(resolve_stmt(alloc, scene, around, stmt)?)?;
+        let stmt = resolve_stmt(alloc, scene, around, stmt)?;
+        add_stmt(&mut list, stmt)?;
     }
     Ok(list)
+}
+
+// A block as a statement.
+#[cycle(stmt)]
+fn resolve_inner<'p>(
+    alloc: Global,
+    scene: &Scene<'_, 'p>,
+    around: &mut LocalNames,
+    block: &'p Block,
+) -> Result<Box<TypedStmt>, AllocError>
+    ensures tree { IfOk result (λ r. view.stmt_of r.value ≡ resolved.stmt (env_of scene.now around.old) (InBlock (block_tree block.now))) }
+    ensures behind { OnOk result (env_of scene.now around.new ≡ past (env_of scene.now around.old) (declared_in_block (block_tree block.now))) }
+{
+    let block = resolve_block(alloc, scene, around, block)?;
+    let whole = in_block(alloc, block)?;
+    Ok(whole)
 }
 
 // A governed statement, which has a scope of its own.
@@ -85,8 +199,25 @@ fn resolve_governed<'p>(
     around.enter(alloc)?;
     let resolved = resolve_stmt(alloc, scene, around, stmt)?;
     around.leave();
-    let boxed = Box::new(alloc, resolved)?;
-    Ok(boxed)
+    Ok(resolved)
+}
+
+// The invariants and the body of a loop.
+#[cycle(stmt)]
+fn resolve_guarded<'p>(
+    alloc: Global,
+    scene: &Scene<'_, 'p>,
+    around: &mut LocalNames,
+    body: &'p Stmt,
+    invariants: &'p [Expr],
+) -> Result<Guarded, AllocError>
+    ensures invariants { IfOk result (λ g. view.exprs g.invariants.items ≡ map (expr (env_of scene.now around.old)) (map expr_tree invariants.now)) }
+    ensures body { IfOk result (λ g. view.stmt_of g.body.value ≡ resolved.stmt (enter (env_of scene.now around.old)) (stmt_tree body.now)) }
+    ensures behind { OnOk result (env_of scene.now around.new ≡ past (env_of scene.now around.old) (declared_in (stmt_tree body.now))) }
+{
+    let invariants = resolve_values(alloc, scene, around, invariants)?;
+    let body = resolve_governed(alloc, scene, around, body)?;
+    Ok(Guarded { invariants, body })
 }
 
 #[cycle(stmt)]
@@ -97,13 +228,14 @@ fn resolve_if<'p>(
     body: &'p Stmt,
     place: Place,
     test: &'p Expr,
-) -> Result<TypedStmt, AllocError>
-    ensures tree { IfOk result (λ r. view.stmt_of r ≡ resolved.stmt (env_of scene.now around.old) (IfOf place (expr_tree test.now) (stmt_tree body.now))) }
+) -> Result<Box<TypedStmt>, AllocError>
+    ensures tree { IfOk result (λ r. view.stmt_of r.value ≡ resolved.stmt (env_of scene.now around.old) (IfOf place (expr_tree test.now) (stmt_tree body.now))) }
     ensures behind { OnOk result (env_of scene.now around.new ≡ past (env_of scene.now around.old) (declared_in (stmt_tree body.now))) }
 {
-    let test = resolve_expr(alloc, scene, around, test)?;
+    let test = resolve_boxed(alloc, scene, around, test)?;
     let body = resolve_governed(alloc, scene, around, body)?;
-    Ok(if_of(place, test, body))
+    let whole = if_of(alloc, place, test, body)?;
+    Ok(whole)
 }
 
 #[cycle(stmt)]
@@ -115,14 +247,14 @@ fn resolve_while<'p>(
     place: Place,
     test: &'p Expr,
     invariants: &'p [Expr],
-) -> Result<TypedStmt, AllocError>
-    ensures tree { IfOk result (λ r. view.stmt_of r ≡ resolved.stmt (env_of scene.now around.old) (WhileOf place (expr_tree test.now) (map expr_tree invariants.now) (stmt_tree body.now))) }
+) -> Result<Box<TypedStmt>, AllocError>
+    ensures tree { IfOk result (λ r. view.stmt_of r.value ≡ resolved.stmt (env_of scene.now around.old) (WhileOf place (expr_tree test.now) (map expr_tree invariants.now) (stmt_tree body.now))) }
     ensures behind { OnOk result (env_of scene.now around.new ≡ past (env_of scene.now around.old) (declared_in (stmt_tree body.now))) }
 {
-    let test = resolve_expr(alloc, scene, around, test)?;
-    let invariants = resolve_values(alloc, scene, around, invariants)?;
-    let body = resolve_governed(alloc, scene, around, body)?;
-    Ok(while_of(place, test, invariants, body))
+    let test = resolve_boxed(alloc, scene, around, test)?;
+    let guarded = resolve_guarded(alloc, scene, around, body, invariants)?;
+    let whole = while_of(alloc, place, test, guarded)?;
+    Ok(whole)
 }
 
 // A `for`, whose heading has a scope of its own.
@@ -137,20 +269,18 @@ fn resolve_for<'p>(
     test: &'p Option<Expr>,
     step: &'p Option<Simple>,
     invariants: &'p [Expr],
-) -> Result<TypedStmt, AllocError>
-    ensures tree { IfOk result (λ r. view.stmt_of r ≡ resolved.stmt (env_of scene.now around.old)
+) -> Result<Box<TypedStmt>, AllocError>
+    ensures tree { IfOk result (λ r. view.stmt_of r.value ≡ resolved.stmt (env_of scene.now around.old)
         (ForOf place (option_map for_init_tree first.now) (option_map expr_tree test.now) (option_map simple_tree step.now) (map expr_tree invariants.now) (stmt_tree body.now))) }
     ensures behind { OnOk result (env_of scene.now around.new ≡ behind (env_of scene.now around.old)
         (ForOf place (option_map for_init_tree first.now) (option_map expr_tree test.now) (option_map simple_tree step.now) (map expr_tree invariants.now) (stmt_tree body.now))) }
 {
     around.enter(alloc)?;
-    let first = resolve_first(alloc, scene, around, first)?;
-    let test = resolve_option(alloc, scene, around, test)?;
-    let step = resolve_step(alloc, scene, around, step)?;
-    let invariants = resolve_values(alloc, scene, around, invariants)?;
-    let body = resolve_governed(alloc, scene, around, body)?;
+    let heading = resolve_heading(alloc, scene, around, first, test, step)?;
+    let guarded = resolve_guarded(alloc, scene, around, body, invariants)?;
     around.leave();
-    Ok(for_of(place, first, test, step, invariants, body))
+    let whole = for_of(alloc, place, heading, guarded)?;
+    Ok(whole)
 }
 
 #[cycle(stmt)]
@@ -162,14 +292,15 @@ fn resolve_expose<'p>(
     place: Place,
     object: &'p Expr,
     class: &'p Option<Name>,
-) -> Result<TypedStmt, AllocError>
-    ensures tree { IfOk result (λ r. view.stmt_of r ≡ resolved.stmt (env_of scene.now around.old) (ExposeOf place (expr_tree object.now) (option_map name_tree class.now) (block_tree block.now))) }
+) -> Result<Box<TypedStmt>, AllocError>
+    ensures tree { IfOk result (λ r. view.stmt_of r.value ≡ resolved.stmt (env_of scene.now around.old) (ExposeOf place (expr_tree object.now) (option_map name_tree class.now) (block_tree block.now))) }
     ensures behind { OnOk result (env_of scene.now around.new ≡ past (env_of scene.now around.old) (declared_in_block (block_tree block.now))) }
 {
-    let object = resolve_expr(alloc, scene, around, object)?;
+    let object = resolve_boxed(alloc, scene, around, object)?;
     let class = class_at(scene.within.tables, class);
     let block = resolve_block(alloc, scene, around, block)?;
-    Ok(expose_of(place, object, class, block))
+    let whole = expose_of(alloc, place, object, class, block)?;
+    Ok(whole)
 }
 
 /// A statement; a declaration alone leaves its names in scope.
@@ -179,31 +310,23 @@ fn resolve_stmt<'p>(
     scene: &Scene<'_, 'p>,
     around: &mut LocalNames,
     stmt: &'p Stmt,
-) -> Result<TypedStmt, AllocError>
-    ensures tree { IfOk result (λ r. view.stmt_of r ≡ resolved.stmt (env_of scene.now around.old) (stmt_tree stmt.now)) }
+) -> Result<Box<TypedStmt>, AllocError>
+    ensures tree { IfOk result (λ r. view.stmt_of r.value ≡ resolved.stmt (env_of scene.now around.old) (stmt_tree stmt.now)) }
     ensures behind { OnOk result (env_of scene.now around.new ≡ behind (env_of scene.now around.old) (stmt_tree stmt.now)) }
 {
     match stmt {
-        Stmt::Block(block) => {
-            let block = resolve_block(alloc, scene, around, block)?;
-            Ok(in_block(block))
-        }
-        Stmt::Declare(declaration) => {
-            let list = resolve_declaration(alloc, scene, around, declaration)?;
-            Ok(declare_of(list))
-        }
-        Stmt::Simple(simple) => {
-            let simple = resolve_simple(alloc, scene, around, simple)?;
-            Ok(simple_of(simple))
-        }
+        Stmt::Block(block) => resolve_inner(alloc, scene, around, block),
+        Stmt::Declare(declaration) => resolve_declare(alloc, scene, around, declaration),
+        Stmt::Simple(simple) => resolve_line(alloc, scene, around, simple),
         Stmt::If(place, test, body, None) => {
             resolve_if(alloc, scene, around, body, *place, test)
         }
         Stmt::If(place, test, body, Some(otherwise)) => {
-            let test = resolve_expr(alloc, scene, around, test)?;
+            let test = resolve_boxed(alloc, scene, around, test)?;
             let body = resolve_governed(alloc, scene, around, body)?;
             let otherwise = resolve_governed(alloc, scene, around, otherwise)?;
-            Ok(if_else_of(*place, test, body, otherwise))
+            let whole = if_else_of(alloc, *place, test, body, otherwise)?;
+            Ok(whole)
         }
         Stmt::While(place, test, invariants, body) => {
             resolve_while(alloc, scene, around, body, *place, test, invariants)
@@ -213,21 +336,16 @@ fn resolve_stmt<'p>(
                 alloc, scene, around, body, *place, first, test, step, invariants,
             )
         }
-        Stmt::Return(place, value) => {
-            let value = resolve_option(alloc, scene, around, value)?;
-            Ok(return_of(*place, value))
-        }
+        Stmt::Return(place, value) => resolve_return(alloc, scene, around, *place, value),
         Stmt::Assert(place, condition) => {
-            let condition = resolve_expr(alloc, scene, around, condition)?;
-            Ok(assert_of(*place, condition))
+            resolve_assert(alloc, scene, around, *place, condition)
         }
         Stmt::Assume(place, condition) => {
-            let condition = resolve_expr(alloc, scene, around, condition)?;
-            Ok(assume_of(*place, condition))
+            resolve_assume(alloc, scene, around, *place, condition)
         }
         Stmt::Expose(place, object, class, block) => {
             resolve_expose(alloc, scene, around, block, *place, object, class)
         }
-        Stmt::Empty(place) => Ok(empty_of(*place)),
+        Stmt::Empty(place) => empty_of(alloc, *place),
     }
 }

@@ -1,4 +1,4 @@
-use Rattle.std.proofs.Common.{◌≡◌, sym, ap, ◌∙◌}
+use Rattle.std.proofs.Common.{sym, ap, ◌∙◌}
 use Rattle.ss_typed.specs.Tree.{AllOf}
 use Rattle.ss_typed.specs.View.{expr}
 use Rattle.ss_resolver_rules.specs.Programs.{one_of}

@@ -1,4 +1,4 @@
-use Rattle.std.proofs.Common.{◌≡◌, ◌++◌, [], ◌∷◌, false, Bool, map, sym, ap, subst, ◌∙◌, refl}
+use Rattle.std.proofs.Common.{◌≡◌, false, map, sym, ap, subst, ◌∙◌, refl}
 use Rattle.std.specs.Prelude.{IfSome, IfNone}
 use Rattle.ss_core.specs.declared.names.Place.{Place}
 use Rattle.ss_ast.specs.declared.expr.Expr.TheOpen as shape

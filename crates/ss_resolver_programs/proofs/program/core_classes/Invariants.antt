@@ -2,7 +2,6 @@ use Rattle.std.proofs.Common.{◌≡◌, ◌++◌, map, drop}
 use Rattle.ss_ast.specs.Programs.{class_tree}
 use Rattle.ss_core.specs.View as class_view
 use Rattle.ss_tables_lookup.specs.Classes.{trees}
-use Rattle.ss_typed.specs.View as view
 use Rattle.ss_resolver_rules.specs.Programs as resolved
 use Rattle.ss_resolver_programs.proofs.program.core_classes.Given as goal
 

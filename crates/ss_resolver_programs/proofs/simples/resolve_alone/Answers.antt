@@ -1,4 +1,4 @@
-use Rattle.std.proofs.Common.{◌≡◌, map, sym, ap, ◌∙◌}
+use Rattle.std.proofs.Common.{map, sym, ap, ◌∙◌}
 use Rattle.ss_ast.specs.Expressions.{expr_tree, grouped, arguments}
 use Rattle.ss_typed.specs.Tree.{AloneOf}
 use Rattle.ss_resolver_rules.specs.Statements.{alone}
@@ -15,7 +15,7 @@ returns-in_ok-whole-in-Some-clause-tree c =
     ∙ call_is e call.place (arguments (map expr_tree call.written.now)) (grouped call.place (expr_tree call.first.now) (map postfix_behind call.front.now))
     ∙ ap (alone e) (sym c.in-Some.ensures.some)
 
-pub returns-in_ok-whole-in-None-clause-tree : goal.returns-in_ok-whole-in-None-clause-tree
-returns-in_ok-whole-in-None-clause-tree c =
+pub returns-in_ok-simple-in-None-clause-tree : goal.returns-in_ok-simple-in-None-clause-tree
+returns-in_ok-simple-in-None-clause-tree c =
     let e = env_of c.args.scene.now c.args.around.now in
-    ap (λ x. AloneOf x) c.in_ok-whole-in-None.ensures.tree ∙ other_is e (expr_tree c.args.e.now) c.in-None.ensures.none
+    c.in_ok-simple-in-None.ensures ∙ ap (λ x. AloneOf x) c.in_ok-whole-in-None.ensures.tree ∙ other_is e (expr_tree c.args.e.now) c.in-None.ensures.none

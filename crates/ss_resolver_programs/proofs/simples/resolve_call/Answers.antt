@@ -1,8 +1,7 @@
-use Rattle.std.proofs.Common.{◌≡◌, map, sym, ap, ◌∙◌}
+use Rattle.std.proofs.Common.{map, sym, ap, ◌∙◌}
 use Rattle.std.specs.Prelude.{unwrap_or, slice_get}
 use Rattle.ss_ast.specs.Expressions.{expr_tree, arguments}
 use Rattle.ss_typed.specs.Tree as typed
-use Rattle.ss_typed.specs.View as view
 use Rattle.ss_resolver_rules.specs.Expressions.{first_class, third_class}
 use Rattle.ss_resolver_expressions.specs.Scenes.{env_of, part_view, part_called, given, numbers_of}
 use Rattle.ss_resolver_expressions.proofs.PartIs.{args_are, first_is, third_is}
@@ -19,6 +18,6 @@ returns-clause-tree c =
     let classes = ap numbers_of c.deref.ensures.value ∙ c.in_ok-given.ensures.classes in
     let one = c.asked_of-asked.ensures.first ∙ ap (λ ns. unwrap_or (slice_get ns 0) 0) classes ∙ first_is e ts ∙ ap (λ n. first_class (env_of s n) (arguments ts)) (sym k) in
     let three = c.asked_of-asked.ensures.third ∙ ap (λ ns. unwrap_or (slice_get ns 2) 0) classes ∙ third_is e ts ∙ ap (λ n. third_class (env_of s n) (arguments ts)) (sym k) in
-    ap view.expr c.into_inner.ensures ∙ c.in_ok-whole.ensures (arguments ts) one three
+    c.in_ok-whole.ensures (arguments ts) one three
     ∙ ap (λ n. part_called (env_of s n) c.args.place (arguments ts) (given g.values.items) x) k
     ∙ ap (λ v. part_called e c.args.place (arguments ts) v x) (ap typed.arguments c.in_ok-given.ensures.values ∙ args_are e ts)

@@ -1,4 +1,4 @@
-use Rattle.std.proofs.Common.{◌≡◌, map, sym, ap, ◌∙◌}
+use Rattle.std.proofs.Common.{map, sym, ap, ◌∙◌}
 use Rattle.ss_ast.specs.Expressions.{expr_tree, grouped, arguments}
 use Rattle.ss_resolver_expressions.specs.Behinds.{postfix_behind}
 use Rattle.ss_resolver_expressions.specs.Scenes.{env_of, part, part_view}
