@@ -50,7 +50,7 @@ params_faultless s ps base cs b h =
     (none_left (params_faults s ps) (base_faults inside base) one.0).0
 
 -- what holds of the bodies of each class holds of all
-classes_pass : (test : BodyTree → Bool) (all : List ClassTree) (j : ℕ) (cs : List ClassTree) → ((i : ℕ) (c : ClassTree) → slice_get cs i ≡ Some c → list_all test (bodies_of all (j + i) c) ≡ true) → list_all test (bodies_from all j cs) ≡ true
+pub classes_pass : (test : BodyTree → Bool) (all : List ClassTree) (j : ℕ) (cs : List ClassTree) → ((i : ℕ) (c : ClassTree) → slice_get cs i ≡ Some c → list_all test (bodies_of all (j + i) c) ≡ true) → list_all test (bodies_from all j cs) ≡ true
 classes_pass test all j [] h = refl
 classes_pass test all j (c ∷ cs) h =
     let z : j + 0 ≡ j = omega arith in
@@ -59,10 +59,10 @@ classes_pass test all j (c ∷ cs) h =
     list_all-append test (bodies_of all j c) (bodies_from all (j + 1) cs) ∙ rw (here, rest) refl
 
 module _ (p : ProgramTree) (faultless : program_faults p ≡ []) where
-  abbrev known : Ty → Bool
+  abbrev pub known : Ty → Bool
   known t = is_type (core_of p).classes t
 
-  abbrev are_known : BodyTree → Bool
+  abbrev pub are_known : BodyTree → Bool
   are_known b = list_all known (option_to_list b.result) && list_all (λ (q : ParamTree). known q.ty) b.params
 
   params_known : (s : Scope) → s.classes ≡ p.classes → (e : Env) → e.scope.classes ≡ p.classes → (ps : List written.ParamTree) → params_faults s ps ≡ [] → list_all (λ (q : ParamTree). known q.ty) (map (param e) ps) ≡ true
@@ -74,7 +74,7 @@ module _ (p : ProgramTree) (faultless : program_faults p ≡ []) where
       let it : known (type_id e.scope.classes q.ty) ≡ true = ap (λ cs. known (type_id cs q.ty)) also ∙ type_known p faultless q.ty (subst (λ cs. type_faults cs q.ty ≡ []) same first.0) in
       rw (it, params_known next same e also ps both.1) refl
 
-  env_of : (k : ℕ) (static : Bool) (ps : List written.ParamTree) → (param_env p.classes k static ps).scope.classes ≡ p.classes
+  pub env_of : (k : ℕ) (static : Bool) (ps : List written.ParamTree) → (param_env p.classes k static ps).scope.classes ≡ p.classes
   env_of k static ps = env_classes (record (class_env p.classes k) { next = if static then 0 else 1 }) ps
 
   result_known : (r : Option TypeTree) → written_type_faults p.classes r ≡ [] → list_all known (option_to_list (option_map (type_id p.classes) r)) ≡ true
@@ -122,7 +122,7 @@ module _ (p : ProgramTree) (faultless : program_faults p ≡ []) where
       rw z (list_all-append are_known (map (constructor_body p.classes i) (constructors_in c.members)) (map (method_body p.classes i) (methods_in c.members))
       ∙ rw (constructors_known i c.members none, methods_known i c.members none) refl)
 
-  all_known : list_all are_known (resolved p).bodies ≡ true
+  pub all_known : list_all are_known (resolved p).bodies ≡ true
   all_known = classes_pass are_known p.classes 0 p.classes class_known
 
   -- ---- bodies of the elaboration

@@ -1,0 +1,11 @@
+pub mod Facts
+pub mod Shape
+pub mod Targets
+pub mod Counted
+pub mod Shaped
+pub mod Along
+pub mod Opens
+pub mod Resolving
+pub mod Bodies
+pub mod Locals
+pub mod Packs

@@ -1,0 +1,4 @@
+pub mod Typings
+pub mod Written
+pub mod Made
+pub mod Types
