@@ -28,7 +28,8 @@ pub(crate) fn as_bool(value: Value) -> bool
     }
 }
 
-pub(crate) fn same_value(left: Value, right: Value) -> bool
+/// Whether two values are equal; references are where they refer to one object.
+pub fn same_value(left: Value, right: Value) -> bool
     ensures { result ≡ reads.same_value left right }
 {
     match (left, right) {

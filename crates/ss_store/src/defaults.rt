@@ -11,7 +11,7 @@ ghost use Rattle.ss_store.specs.Scenes.{setting_of};
 use crate::arithmetic::same_value;
 use crate::before::Before;
 use crate::object::{Object, Slot};
-use crate::owners::{is_group, is_in_group};
+use crate::owners::{is_group, is_in_group, is_pair_upto};
 use crate::scene::Scene;
 use crate::store::Store;
 use ss_core::{ClassId, Classes, DefaultCondition, Ty};
@@ -54,16 +54,6 @@ fn are_default_upto(table: &Classes, t: ClassId, slots: &[Slot]) -> bool
     true
 }
 
-// Whether it is a pair of this object and this class or one above it.
-fn is_pair_upto(table: &Classes, o: u32, t: ClassId, owner: Owner) -> bool
-    ensures { result ≡ reads.is_pair_upto (classes table.now) o t.0 owner }
-{
-    match owner {
-        Owner::Group(_) => false,
-        Owner::Owned(q, u) => q == o && table.is_subclass(t, u),
-    }
-}
-
 impl Object {
     // Whether it is at its full level.
     fn is_full(&self) -> bool
@@ -98,8 +88,8 @@ fn members_are_full(objects: &[Object], g: u32) -> bool
 }
 
 impl Store {
-    // Whether the object is at its full level.
-    fn is_full(&self, o: u32) -> bool
+    /// Whether the object is at its full level.
+    pub fn is_full(&self, o: u32) -> bool
         ensures { result ≡ reads.is_full (reads.object_at self.now.objects o) }
     {
         match self.object(o) {
@@ -108,7 +98,8 @@ impl Store {
         }
     }
 
-    fn owner_of(&self, o: u32) -> Owner
+    /// The owner of the object.
+    pub fn owner_of(&self, o: u32) -> Owner
         ensures { result ≡ (reads.object_at self.now.objects o).owner }
     {
         match self.object(o) {

@@ -247,4 +247,27 @@ impl Store {
         };
         eval(&scene, e)
     }
+
+    /// The value that an expression had at the entry of the body, or the first cause why it had none; `before` tells the store
+    /// at entry.
+    pub fn eval_at_entry<B: Before>(
+        &self,
+        c: &Core,
+        before: &B,
+        e: &Expr,
+        locals: &[Value],
+    ) -> Result<Value, Undefined>
+        requires { length (classes c.now.classes) ≤ most_classes }
+        ensures { result ≡ value_of (view.expr e.now) (values.at_entry (setting (classes c.now.classes) self.now.objects (B.told before.now) locals.now)) }
+    {
+        let names = Names::Locals(locals);
+        let scene = Scene {
+            classes: &c.classes,
+            store: self,
+            entry: before,
+            names: &names,
+            inside_old: true,
+        };
+        eval(&scene, e)
+    }
 }

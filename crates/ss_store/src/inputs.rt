@@ -25,8 +25,8 @@ fn input_elements(alloc: Global, input: &[i32]) -> Result<Vec<Value>, AllocError
     Ok(elements)
 }
 
-/// The store with the input alone, as an array at position 0.
-fn first_store(alloc: Global, input: &[i32]) -> Result<Store, AllocError>
+/// The store with the input alone, as an array at position 0. An error is want of memory.
+pub fn first_store(alloc: Global, input: &[i32]) -> Result<Store, AllocError>
     requires { length input.now < 2 ^ 31 }
     ensures { IfOk result (λ s. s.objects ≡ first_store input.now) }
 {
@@ -97,7 +97,7 @@ fn admits(alloc: Global, c: &Core, main: &Body, input: &[i32]) -> Result<bool, A
     }
     let store = first_store(alloc, input)?;
     let locals = first_locals(alloc, main)?;
-    Ok(store.all_hold(c, &main.entry, &locals))
+    Ok(store.all_hold(c, &store, &main.entry, &locals))
 }
 
 /// Whether the program admits the input: the conditions at the entry of Main hold where the input is the only object, an `int[]`, and

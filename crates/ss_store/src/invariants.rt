@@ -8,28 +8,29 @@ ghost use Rattle.ss_store_rules.specs.Values.{setting, holds};
 ghost use Rattle.ss_store_rules.specs.Admissible.{invariants_hold};
 
 use crate::arithmetic::as_bool;
+use crate::before::Before;
 use crate::store::Store;
 use ss_core::{ClassId, Core, Expr};
 use ss_store_rules::Value;
 
 impl Store {
     /// Whether the expression is true with these values of the locals.
-    fn holds(&self, c: &Core, e: &Expr, locals: &[Value]) -> bool
+    fn holds<B: Before>(&self, c: &Core, before: &B, e: &Expr, locals: &[Value]) -> bool
         requires { length (classes c.now.classes) ≤ most_classes }
-        ensures { result ≡ holds (expr e.now) (setting (classes c.now.classes) self.now.objects self.now.objects locals.now) }
+        ensures { result ≡ holds (expr e.now) (setting (classes c.now.classes) self.now.objects (B.told before.now) locals.now) }
     {
-        match self.eval(c, self, e, locals) {
+        match self.eval(c, before, e, locals) {
             Ok(value) => as_bool(value),
             Err(_) => false,
         }
     }
 
-    /// Whether each expression is true with these values of the locals.
-    pub(crate) fn all_hold(&self, c: &Core, es: &[Expr], locals: &[Value]) -> bool
+    /// Whether each expression is true with these values of the locals; `before` tells what `old` and `IsNew` speak of.
+    pub fn all_hold<B: Before>(&self, c: &Core, before: &B, es: &[Expr], locals: &[Value]) -> bool
         requires { length (classes c.now.classes) ≤ most_classes }
-        ensures { result ≡ list_all (λ e. holds (expr e) (setting (classes c.now.classes) self.now.objects self.now.objects locals.now)) es.now }
+        ensures { result ≡ list_all (λ e. holds (expr e) (setting (classes c.now.classes) self.now.objects (B.told before.now) locals.now)) es.now }
     {
-        es.iter().all(|e| self.holds(c, e, locals))
+        es.iter().all(|e| self.holds(c, before, e, locals))
     }
 
     /// Whether each invariant of the class holds of the object.
@@ -41,7 +42,7 @@ impl Store {
             return true;
         };
         match c.classes.declared(t) {
-            Some(class) => self.all_hold(c, &class.invariants, &[Value::Obj(o)]),
+            Some(class) => self.all_hold(c, self, &class.invariants, &[Value::Obj(o)]),
             None => true,
         }
     }

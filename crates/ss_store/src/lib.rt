@@ -23,7 +23,10 @@ mod store;
 mod words;
 mod writes;
 
+pub use arithmetic::same_value;
 pub use before::Before;
-pub use inputs::admitted;
+pub use inputs::{admitted, first_store};
 pub use making::NewStop;
+pub use object::Slot;
+pub use owners::{is_group, is_pair_upto, same_owner};
 pub use store::Store;

@@ -10,7 +10,7 @@ pub(crate) const NO_CLASS: u16 = 65535;
 
 /// A field of an object.
 #[derive(Drop)]
-pub(crate) struct Slot {
+pub struct Slot {
     pub(crate) field: FieldId,
     pub(crate) value: Value,
 }
@@ -21,6 +21,22 @@ impl Model for Slot {
     ghost Value = { model.Slot };
 
     ghost view = { λ x. record { field = x.field.0; content = x.value } };
+}
+
+impl Slot {
+    /// The number of the field.
+    pub fn field(&self) -> FieldId
+        ensures { result.0 ≡ self.now.field }
+    {
+        self.field
+    }
+
+    /// What it holds.
+    pub fn value(&self) -> Value
+        ensures { result ≡ self.now.content }
+    {
+        self.value
+    }
 }
 
 /// An object, or an array.

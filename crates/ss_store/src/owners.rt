@@ -1,16 +1,18 @@
 // Owners: a whole group gets one.
 ghost use Rattle.std.specs.Prelude.{◌≡◌, ◌≢◌};
-ghost use Rattle.ss_store_rules.specs.Reads.{is_group, is_pair, is_in_group, same_owner};
+ghost use Rattle.ss_core.specs.View.{classes};
+ghost use Rattle.ss_store_rules.specs.Reads.{is_group, is_pair, is_pair_upto, is_in_group, same_owner};
 ghost use Rattle.ss_store_rules.specs.Changes.{IsChange, changed, regrouped, capture_of, join_of};
 ghost use Rattle.ss_store.specs.Shapes.{no_class, HasClass};
 
 use crate::object::Object;
 use crate::refused::refuse;
 use crate::store::Store;
-use ss_core::{ClassId, Kind};
+use ss_core::{ClassId, Classes, Kind};
 use ss_store_rules::{Owner, Refused};
 
-pub(crate) fn is_group(owner: Owner) -> bool
+/// Whether the owner is a group.
+pub fn is_group(owner: Owner) -> bool
     ensures { result ≡ is_group owner }
 {
     match owner {
@@ -29,6 +31,16 @@ pub(crate) fn is_pair(owner: Owner, o: u32, t: ClassId) -> bool
     }
 }
 
+/// Whether it is a pair of this object and this class or one above it.
+pub fn is_pair_upto(table: &Classes, o: u32, t: ClassId, owner: Owner) -> bool
+    ensures { result ≡ is_pair_upto (classes table.now) o t.0 owner }
+{
+    match owner {
+        Owner::Group(_) => false,
+        Owner::Owned(q, u) => q == o && table.is_subclass(t, u),
+    }
+}
+
 /// Whether the object is a member of the group.
 pub(crate) fn is_in_group(owner: Owner, g: u32) -> bool
     ensures { result ≡ is_in_group g owner }
@@ -39,7 +51,8 @@ pub(crate) fn is_in_group(owner: Owner, g: u32) -> bool
     }
 }
 
-pub(crate) fn same_owner(v: Owner, w: Owner) -> bool
+/// Whether two owners are equal.
+pub fn same_owner(v: Owner, w: Owner) -> bool
     ensures { result ≡ same_owner v w }
 {
     match (v, w) {

@@ -48,6 +48,34 @@ impl Store {
         self.objects.get(o as usize)
     }
 
+    /// How many objects there are.
+    pub fn count(&self) -> usize
+        ensures { result ≡ length self.now.objects }
+    {
+        self.objects.len()
+    }
+
+    /// The fields of the object.
+    pub fn fields_of(&self, o: u32) -> &[Slot]
+        ensures { result.now ≡ (object_at self.now.objects o).fields }
+    {
+        match self.object(o) {
+            Some(x) => &x.fields,
+            None => &[],
+        }
+    }
+
+    /// The elements of the array.
+    pub fn elements_of(&self, a: u32) -> &[Value]
+        ensures items { result.now ≡ (object_at self.now.objects a).elements }
+        ensures short { length result.now < 2 ^ 31 }
+    {
+        match self.object(a) {
+            Some(x) => &x.elements,
+            None => &[],
+        }
+    }
+
     /// The class of the object.
     pub fn class_of(&self, o: u32) -> ClassId
         ensures { result.0 ≡ (object_at self.now.objects o).class }

@@ -1,0 +1,5 @@
+pub mod Firsts
+pub mod Givens
+pub mod Stacks
+pub mod Gathered
+pub mod Conditions
