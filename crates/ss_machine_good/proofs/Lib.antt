@@ -1,0 +1,13 @@
+pub mod Flows
+pub mod Within
+pub mod Meets
+pub mod Tests
+pub mod NonNull
+pub mod Assigned
+pub mod Puts
+pub mod Steps
+pub mod Dispatch
+pub mod Calls
+pub mod Entries
+pub mod Frames
+pub mod Start

@@ -1,0 +1,5 @@
+pub mod Flows
+pub mod Known
+pub mod Dispatch
+pub mod Entries
+pub mod Frames

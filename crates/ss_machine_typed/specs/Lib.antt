@@ -1,0 +1,4 @@
+pub mod Older
+pub mod Changes
+pub mod Settings
+pub mod Inputs
