@@ -1,0 +1,372 @@
+// Terms and formulas, each with one number.
+
+ghost use Rattle.std.specs.Prelude.{◌≡◌, ℕ, ◌*◌, ◌<◌, ◌^◌, List, [], length, map, IfOk, true, IsTrue, ◌↔◌, ◌&&◌};
+ghost use Rattle.ss_core.specs.Tree.{ClassTree};
+ghost use Rattle.ss_logic_stores.specs.Terms as tree;
+ghost use Rattle.ss_logic_stores.specs.Terms.{terms_from};
+ghost use Rattle.ss_logic_stores.specs.Formulas as logic;
+ghost use Rattle.ss_logic_stores.specs.Formulas.{neg, formulas_from};
+ghost use Rattle.ss_logic_stores.specs.Equal.{same_term, same_formula};
+ghost use Rattle.ss_terms_stores.specs.Forms.{Forms, LiteralShape, term_shape, shape_of, term_of, term_at, terms_at, formula_of, formula_at, pair_at, HasTerm, HasTerms, HasFormula, HasFormulas, HasArguments, HasParts, IsTermForm, IsFormulaForm, IsGrown, IsBankOf, opposite_shape, other, is_plain};
+ghost use Rattle.ss_terms_stores.specs.Bank.{IsBesideTerm};
+
+use crate::forms::{Formula, FormulaId, Predicate, Term, TermId};
+use crate::index::{add_formula, add_term, place_of_formula, place_of_term};
+use crate::sorts::{result_sort, same_sort};
+use indexmap::IndexMap;
+use ss_logic_stores::Sort;
+use std::alloc::{AllocError, Global};
+use std::marker::Model;
+
+/// What stands beside a term: its sort, and whether it is well sorted and has no bound name.
+#[derive(Clone, Copy, Drop)]
+pub(crate) struct BesideTerm {
+    pub(crate) sort: Sort,
+    pub(crate) is_well_sorted: bool,
+}
+
+/// What stands beside a formula: the form of its negation, and whether both are well formed and no name in them is unbound.
+#[derive(Drop)]
+pub(crate) struct Beside {
+    pub(crate) negation: Formula,
+    pub(crate) is_well_formed: bool,
+}
+
+/// Terms and formulas with numbers, over the fields of a program. Equal ones have equal numbers, a number keeps what it
+/// stands for, and each formula stands with its negation. No call takes longer in a larger bank.
+#[derive(Drop)]
+pub struct Bank {
+    alloc: Global,
+    fields: Vec<Sort>,
+    terms: IndexMap<Term, BesideTerm>,
+    formulas: IndexMap<Formula, Beside>,
+}
+
+impl Model for Bank {
+    ghost use Rattle.std.specs.Prelude.{map};
+    ghost use Rattle.indexmap.specs.IndexMap.{keys};
+    ghost use Rattle.ss_terms_stores.specs.Forms.{Forms, term_shape, shape_of};
+    ghost use Rattle.ss_terms_stores.specs.Bank.{IsBank};
+
+    ghost Value = { Forms };
+
+    ghost view = { λ b. record { fields = b.fields.items; terms = map term_shape (keys b.terms); formulas = map shape_of (keys b.formulas) } };
+
+    ghost invariant = { λ b. IsBank b.fields.items b.terms.entries b.formulas.entries };
+}
+
+impl Bank {
+    /// A bank with no term and no formula, over a program whose fields have these sorts.
+    pub fn new(alloc: Global, fields: Vec<Sort>) -> Self
+        ensures { result ≡ record { fields = fields.items; terms = []; formulas = [] } }
+    {
+        Bank {
+            alloc,
+            fields,
+            terms: IndexMap::new(alloc),
+            formulas: IndexMap::new(alloc),
+        }
+    }
+
+    /// How many terms there are. Their numbers are those below.
+    pub fn term_count(&self) -> usize
+        ensures { result ≡ length self.now.terms }
+    {
+        self.terms.len()
+    }
+
+    /// How many formulas there are, negations counted. Their numbers are those below.
+    pub fn formula_count(&self) -> usize
+        ensures { result ≡ length self.now.formulas * 2 }
+    {
+        self.formulas.len() * 2
+    }
+
+    /// Whether a number stands for a term here.
+    pub fn has_term(&self, t: TermId) -> bool
+        ensures { IsTrue result ↔ HasTerm self.now t }
+    {
+        t.0 < self.terms.len()
+    }
+
+    /// Whether a number stands for a formula here.
+    pub fn has_formula(&self, f: FormulaId) -> bool
+        ensures { IsTrue result ↔ HasFormula self.now f }
+    {
+        f.0 / 2 < self.formulas.len()
+    }
+
+    /// The form of a term.
+    pub fn term_node(&self, t: TermId) -> &Term
+        requires { HasTerm self.now t }
+        ensures { IsTermForm self.now t result.now }
+    {
+        let (form, _beside) = self.terms.get_index(t.0).unwrap();
+        form
+    }
+
+    /// The form of a formula.
+    pub fn formula_node(&self, f: FormulaId) -> &Formula
+        requires { HasFormula self.now f }
+        ensures { IsFormulaForm self.now f result.now }
+    {
+        let (plain, beside) = self.formulas.get_index(f.0 / 2).unwrap();
+        if f.0 % 2 == 0 {
+            plain
+        } else {
+            &beside.negation
+        }
+    }
+
+    /// The number of a formula's negation.
+    pub fn negation(&self, f: FormulaId) -> FormulaId
+        requires { HasFormula self.now f }
+        ensures in_bank { HasFormula self.now result }
+        ensures negation { formula_at self.now result ≡ neg (formula_at self.now f) }
+    {
+        let _formulas = &self.formulas;
+        opposite(f)
+    }
+
+    /// Whether two numbers stand for one term.
+    pub fn is_same_term(&self, x: TermId, y: TermId) -> bool
+        requires left { HasTerm self.now x }
+        requires right { HasTerm self.now y }
+        ensures { result ≡ same_term (term_at self.now x) (term_at self.now y) }
+    {
+        let _terms = &self.terms;
+        x.0 == y.0
+    }
+
+    /// Whether two numbers stand for one formula.
+    pub fn is_same_formula(&self, x: FormulaId, y: FormulaId) -> bool
+        requires left { HasFormula self.now x }
+        requires right { HasFormula self.now y }
+        ensures { result ≡ same_formula (formula_at self.now x) (formula_at self.now y) }
+    {
+        let _formulas = &self.formulas;
+        x.0 == y.0
+    }
+
+    // What stands beside a term.
+    fn beside_term(&self, t: TermId) -> BesideTerm
+        requires { HasTerm self.now t }
+        ensures { IsBesideTerm self.now (term_at self.now t) result }
+    {
+        self.terms[t.0]
+    }
+
+    /// The sort of a term, where no bound name has one.
+    pub fn sort(&self, t: TermId) -> Sort
+        requires { HasTerm self.now t }
+        ensures { (cs : List ClassTree) → IsBankOf cs self.now → result ≡ tree.sort_of cs [] (term_at self.now t) }
+    {
+        self.beside_term(t).sort
+    }
+
+    /// Whether each function in a term takes its arguments, and no name in it is unbound.
+    pub fn is_well_sorted(&self, t: TermId) -> bool
+        requires { HasTerm self.now t }
+        ensures { (cs : List ClassTree) → IsBankOf cs self.now → result ≡ tree.is_well_sorted cs [] (term_at self.now t) }
+    {
+        self.beside_term(t).is_well_sorted
+    }
+
+    /// Whether each part of a formula has the sort that its place asks for, and no name in it is unbound.
+    pub fn is_well_formed(&self, f: FormulaId) -> bool
+        requires { HasFormula self.now f }
+        ensures { (cs : List ClassTree) → IsBankOf cs self.now → result ≡ logic.is_well_formed cs [] (formula_at self.now f) }
+    {
+        self.formulas[f.0 / 2].is_well_formed
+    }
+
+    /// Whether the terms have these sorts, one by one, are well sorted, and have no unbound name.
+    pub fn have_sorts(&self, sorts: &[Sort], ts: &[TermId]) -> bool
+        requires { HasTerms self.now ts.now }
+        ensures { (cs : List ClassTree) → IsBankOf cs self.now → result ≡ tree.have_sorts cs sorts.now (terms_at self.now ts.now) }
+    {
+        match sorts {
+            [] => match ts {
+                [] => true,
+                [_, ..] => false,
+            },
+            [sort, sorts @ ..] => match ts {
+                [] => false,
+                [t, ts @ ..] => self.has_sort(*t, *sort) && self.have_sorts(sorts, ts),
+            },
+        }
+    }
+
+    // Whether the term is well sorted, of this sort.
+    fn has_sort(&self, t: TermId, sort: Sort) -> bool
+        requires { HasTerm self.now t }
+        ensures { (cs : List ClassTree) → IsBankOf cs self.now → result ≡ (tree.same_sort (tree.sort_of cs [] (term_at self.now t)) sort && tree.is_well_sorted cs [] (term_at self.now t)) }
+    {
+        let beside = self.beside_term(t);
+        same_sort(beside.sort, sort) && beside.is_well_sorted
+    }
+
+    // The sorts of the program's fields.
+    pub(crate) fn fields(&self) -> &[Sort]
+        ensures { result.now ≡ self.now.fields }
+    {
+        &self.fields
+    }
+
+    // The allocator.
+    pub(crate) fn allocator(&self) -> Global {
+        self.alloc
+    }
+
+    /// The number of the term with this form, which is added where it is new. An error is want of memory; what the bank had
+    /// before stays.
+    pub fn term(&mut self, node: Term) -> Result<TermId, AllocError>
+        requires { HasArguments self.old (term_shape node) }
+        ensures at { IfOk result (λ t. HasTerm self.new t × (term_at self.new t ≡ term_of (term_at self.old) (term_shape node))) }
+        ensures grown { IsGrown self.old self.new }
+    {
+        if let Some(number) = place_of_term(&self.terms, &node) {
+            return Ok(TermId(number));
+        }
+        let beside = self.beside_form(&node)?;
+        let number = add_term(&mut self.terms, node, beside)?;
+        Ok(TermId(number))
+    }
+
+    // What stands beside the term of a form.
+    fn beside_form(&self, node: &Term) -> Result<BesideTerm, AllocError>
+        requires { HasArguments self.now (term_shape node.now) }
+        ensures { IfOk result (λ e. IsBesideTerm self.now (term_of (term_at self.now) (term_shape node.now)) e) }
+    {
+        match node {
+            Term::Bound(_) => Ok(BesideTerm {
+                sort: Sort::Rest,
+                is_well_sorted: false,
+            }),
+            Term::App(symbol, arguments) => {
+                let is_well_sorted = self.is_applied_under(
+                    &[],
+                    *symbol,
+                    arguments,
+                    self.term_count(),
+                )?;
+                Ok(BesideTerm {
+                    sort: result_sort(self.fields(), *symbol),
+                    is_well_sorted,
+                })
+            }
+        }
+    }
+
+    /// The number of the formula with this form, which is added where it is new, together with its negation. An error is
+    /// want of memory; what the bank had before stays.
+    pub fn formula(&mut self, node: Formula) -> Result<FormulaId, AllocError>
+        requires { HasParts self.old (shape_of node) }
+        ensures at { IfOk result (λ f. HasFormula self.new f × (formula_at self.new f ≡ formula_of (term_at self.old) (formula_at self.old) (shape_of node))) }
+        ensures grown { IsGrown self.old self.new }
+    {
+        match node {
+            Formula::Literal {
+                holds,
+                predicate,
+                arguments,
+            } => self.literal(holds, predicate, arguments),
+            Formula::And(parts) => {
+                let others = opposites(self.alloc, &parts)?;
+                let number = self.pair(Formula::And(parts), Formula::Or(others))?;
+                Ok(FormulaId(number * 2))
+            }
+            Formula::Or(parts) => {
+                let others = opposites(self.alloc, &parts)?;
+                let number = self.pair(Formula::And(others), Formula::Or(parts))?;
+                Ok(FormulaId(number * 2 + 1))
+            }
+            Formula::Forall(sorts, body) => {
+                let same = Vec::from_slice(self.alloc, &sorts)?;
+                let number = self.pair(
+                    Formula::Forall(sorts, body),
+                    Formula::Exists(same, opposite(body)),
+                )?;
+                Ok(FormulaId(number * 2))
+            }
+            Formula::Exists(sorts, body) => {
+                let same = Vec::from_slice(self.alloc, &sorts)?;
+                let number = self.pair(
+                    Formula::Forall(same, opposite(body)),
+                    Formula::Exists(sorts, body),
+                )?;
+                Ok(FormulaId(number * 2 + 1))
+            }
+        }
+    }
+
+    // The number of an atom, or of its negation.
+    fn literal(
+        &mut self,
+        holds: bool,
+        predicate: Predicate,
+        arguments: Vec<TermId>,
+    ) -> Result<FormulaId, AllocError>
+        requires { HasTerms self.old arguments.items }
+        ensures at { IfOk result (λ f. HasFormula self.new f × (formula_at self.new f ≡ formula_of (term_at self.old) (formula_at self.old) (LiteralShape holds predicate arguments.items))) }
+        ensures grown { IsGrown self.old self.new }
+    {
+        let same = Vec::from_slice(self.alloc, &arguments)?;
+        let plain = Formula::Literal {
+            holds: true,
+            predicate,
+            arguments,
+        };
+        let negation = Formula::Literal {
+            holds: false,
+            predicate,
+            arguments: same,
+        };
+        let number = self.pair(plain, negation)?;
+        if holds {
+            Ok(FormulaId(number * 2))
+        } else {
+            Ok(FormulaId(number * 2 + 1))
+        }
+    }
+
+    // The number of the formula that stands with its negation, both added where they are new.
+    fn pair(&mut self, plain: Formula, negation: Formula) -> Result<usize, AllocError>
+        requires plain { is_plain (shape_of plain) ≡ true }
+        requires negation { shape_of negation ≡ opposite_shape (shape_of plain) }
+        requires parts { HasParts self.old (shape_of plain) }
+        ensures in_bank { IfOk result (λ k. k < length self.new.formulas) }
+        ensures small { IfOk result (λ k. k < 2 ^ 63) }
+        ensures at { IfOk result (λ k. pair_at self.new k ≡ formula_of (term_at self.old) (formula_at self.old) (shape_of plain)) }
+        ensures grown { IsGrown self.old self.new }
+    {
+        if let Some(number) = place_of_formula(&self.formulas, &plain) {
+            return Ok(number);
+        }
+        let is_well_formed = self.is_form_under(&[], &plain, self.formula_count())?;
+        let beside = Beside {
+            negation,
+            is_well_formed,
+        };
+        let number = add_formula(&mut self.formulas, plain, beside)?;
+        Ok(number)
+    }
+}
+
+// The number beside.
+fn opposite(f: FormulaId) -> FormulaId
+    ensures { result ≡ other f }
+{
+    FormulaId(f.0 / 2 * 2 + (1 - f.0 % 2))
+}
+
+// The numbers of the negations.
+fn opposites(alloc: Global, fs: &[FormulaId]) -> Result<Vec<FormulaId>, AllocError>
+    ensures { IfOk result (λ v. v.items ≡ map other fs.now) }
+{
+    let mut others = Vec::new(alloc);
+    for f in fs {
+        others.push(opposite(*f))?;
+    }
+    Ok(others)
+}
