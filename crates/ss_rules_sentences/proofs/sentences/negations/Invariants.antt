@@ -1,0 +1,11 @@
+use Rattle.std.proofs.Common.{◌≡◌, take, map}
+use Rattle.ss_terms_stores.specs.Forms.{HasFormulas, formulas_at, IsGrown}
+use Rattle.ss_rules_sentences.specs.Facts.{denied_at}
+use Rattle.ss_rules_sentences.proofs.sentences.negations.Given as goal
+
+abbrev pub invariant-loop-fact : goal.invariant-loop-fact
+invariant-loop-fact l = record {
+  grown : IsGrown l.initial.b l.b;
+  there : HasFormulas l.b l.made.items;
+  made : formulas_at l.b l.made.items ≡ map (denied_at l.initial.b) (take l.fact-index l.facts);
+}
