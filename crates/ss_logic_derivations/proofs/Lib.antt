@@ -1,4 +1,4 @@
 pub mod Chosen
 pub mod Sound
-mod Bad
-mod Valid
+pub mod Bad
+pub mod Valid

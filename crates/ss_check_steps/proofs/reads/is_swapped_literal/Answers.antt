@@ -1,0 +1,17 @@
+use Rattle.std.proofs.Common.{sym, ap, ◌∙◌}
+use Rattle.ss_logic_stores.specs.Terms.{terms_from}
+use Rattle.ss_logic_stores.specs.Formulas.{Literal}
+use Rattle.ss_logic_derivations.specs.Steps.{are_exchanged, is_swapped}
+use Rattle.ss_terms_stores.specs.Forms.{formulas_at, terms_at, predicate_of}
+use Rattle.ss_check_steps.proofs.Exchanged.{swapping}
+use Rattle.ss_check_steps.proofs.reads.is_swapped_literal.Goals as goal
+
+pub returns-else-not-is_same_predicate : goal.returns-else-not-is_same_predicate
+returns-else-not-is_same_predicate c =
+    let n = rw c.in-Literal.is at c.formula_node.ensures in
+    let known = formulas_at c.args.bank.now c.args.known.now in
+    c.are_exchanged_at.ensures
+    ∙ ap (λ us. are_exchanged known (terms_at c.args.bank.now c.args.xs.now) (terms_at c.args.bank.now us) c.args.js.now) c.deref.ensures.value
+    ∙ swapping c.args.bank.now known c.args.js.now c.args.holds c.in-Literal.holds_to (predicate_of c.args.predicate) (predicate_of c.in-Literal.predicate_to) c.args.xs.now c.in-Literal.arguments.items c.if-holds-holds_to.false
+    (sym c.if-not-is_same_predicate.ensures)
+    ∙ ap (λ g. is_swapped known c.args.js.now (Literal c.args.holds (predicate_of c.args.predicate) (terms_from (terms_at c.args.bank.now c.args.xs.now))) g) (sym n.built)

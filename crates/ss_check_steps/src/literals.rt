@@ -1,0 +1,209 @@
+// What single formulas and terms are.
+
+ghost use Rattle.std.specs.Prelude.{◌≡◌, List, [], ◌∷◌, Some, None, Bool, true, false, ◌&&◌, not};
+ghost use Rattle.ss_logic_stores.specs.Formulas as logic;
+ghost use Rattle.ss_logic_rules.specs.Shapes.{literal_of};
+ghost use Rattle.ss_logic_derivations.specs.Steps.{is_literal, is_quantified, is_cut, is_value, is_absurd, is_false_bound, good_store};
+ghost use Rattle.ss_terms_stores.specs.Forms.{formula_at, term_at, HasTerm, HasFormula};
+ghost use Rattle.ss_check_steps.specs.Numbered.{IsTermOf, AreSidesOf, sides_of};
+
+use ss_terms_stores::{Bank, Formula, FormulaId, Predicate, Symbol, Term, TermId};
+
+/// The sides of an equality.
+pub(crate) fn sides(bank: &Bank, f: FormulaId) -> Option<(TermId, TermId)>
+    requires { HasFormula bank.now f }
+    ensures { AreSidesOf bank.now result (sides_of (formula_at bank.now f)) }
+{
+    match bank.formula_node(f) {
+        Formula::Literal {
+            holds: true,
+            predicate: Predicate::Equal,
+            arguments,
+        } => two(arguments),
+        _ => None,
+    }
+}
+
+/// The two terms, where there are so many.
+fn two(ts: &[TermId]) -> Option<(TermId, TermId)>
+    ensures { result ≡ two_of ts.now }
+{
+    match ts {
+        [x, y] => Some((*x, *y)),
+        _ => None,
+    }
+}
+
+/// Whether a formula is an atom or the negation of one.
+pub(crate) fn is_literal_at(bank: &Bank, f: FormulaId) -> bool
+    requires { HasFormula bank.now f }
+    ensures { result ≡ is_literal (formula_at bank.now f) }
+{
+    match bank.formula_node(f) {
+        Formula::Literal { .. } => true,
+        _ => false,
+    }
+}
+
+/// Whether a formula is quantified.
+pub(crate) fn is_quantified_at(bank: &Bank, f: FormulaId) -> bool
+    requires { HasFormula bank.now f }
+    ensures { result ≡ is_quantified (formula_at bank.now f) }
+{
+    match bank.formula_node(f) {
+        Formula::Forall(_, _) => true,
+        Formula::Exists(_, _) => true,
+        _ => false,
+    }
+}
+
+/// Whether a formula may be cut: an atom, or a quantified formula.
+pub(crate) fn is_cut_at(bank: &Bank, f: FormulaId) -> bool
+    requires { HasFormula bank.now f }
+    ensures { result ≡ is_cut (formula_at bank.now f) }
+{
+    match bank.formula_node(f) {
+        Formula::Literal { holds, .. } => *holds,
+        Formula::Forall(_, _) => true,
+        Formula::Exists(_, _) => true,
+        _ => false,
+    }
+}
+
+/// Whether a term is a number, a truth value, null or a class name.
+fn is_value_at(bank: &Bank, t: TermId) -> bool
+    requires { HasTerm bank.now t }
+    ensures { result ≡ is_value (term_at bank.now t) }
+{
+    match bank.term_node(t) {
+        Term::App(symbol, arguments) => is_value_form(bank, *symbol, arguments),
+        Term::Bound(_) => false,
+    }
+}
+
+fn is_value_form(bank: &Bank, symbol: Symbol, ts: &[TermId]) -> bool
+    ensures { result ≡ is_value (App (symbol_of symbol) (terms_from (terms_at bank.now ts.now))) }
+{
+    let _ = bank;
+    match ts {
+        [] => is_value_symbol(symbol),
+        _ => false,
+    }
+}
+
+fn is_value_symbol(symbol: Symbol) -> bool
+    ensures { result ≡ is_value (App (symbol_of symbol) no_terms) }
+{
+    match symbol {
+        Symbol::Number(_) => true,
+        Symbol::Fixed(_) => true,
+        Symbol::Null => true,
+        Symbol::ClassName(_) => true,
+        _ => false,
+    }
+}
+
+ghost use Rattle.ss_logic_stores.specs.Terms.{App, Number, no_terms};
+ghost use Rattle.ss_terms_stores.specs.Forms.{symbol_of};
+ghost use Rattle.ss_check_steps.specs.Numbered.{one_of, two_of};
+
+/// The number that a literal is.
+fn number_at(bank: &Bank, t: TermId) -> Option<i128>
+    requires { HasTerm bank.now t }
+    ensures { result ≡ literal_of (term_at bank.now t) }
+{
+    match bank.term_node(t) {
+        Term::App(Symbol::Number(n), arguments) => number_alone(bank, *n, arguments),
+        _ => None,
+    }
+}
+
+/// The number, where it has no arguments.
+fn number_alone(bank: &Bank, n: i128, ts: &[TermId]) -> Option<i128>
+    ensures { result ≡ literal_of (App (Number n) (terms_from (terms_at bank.now ts.now))) }
+{
+    let _ = bank;
+    match ts {
+        [] => Some(n),
+        _ => None,
+    }
+}
+
+/// Whether the first is 0 and the second a number below it.
+fn is_false_bound_at(bank: &Bank, x: TermId, y: TermId) -> bool
+    requires left { HasTerm bank.now x }
+    requires right { HasTerm bank.now y }
+    ensures { result ≡ is_false_bound (term_at bank.now x) (term_at bank.now y) }
+{
+    match (number_at(bank, x), number_at(bank, y)) {
+        (Some(a), Some(b)) => a == 0 && b < 0,
+        _ => false,
+    }
+}
+
+/// Whether a literal is false everywhere.
+pub(crate) fn is_absurd_at(bank: &Bank, f: FormulaId) -> bool
+    requires { HasFormula bank.now f }
+    ensures { result ≡ is_absurd (formula_at bank.now f) }
+{
+    match bank.formula_node(f) {
+        Formula::Literal {
+            holds,
+            predicate,
+            arguments,
+        } => is_absurd_literal(bank, *holds, *predicate, arguments),
+        _ => false,
+    }
+}
+
+fn is_absurd_literal(bank: &Bank, holds: bool, predicate: Predicate, ts: &[TermId]) -> bool
+    requires { HasTerms bank.now ts.now }
+    ensures { result ≡ is_absurd (logic.Literal holds (predicate_of predicate) (terms_from (terms_at bank.now ts.now))) }
+{
+    let Some((x, y)) = two(ts) else {
+        return false;
+    };
+    match (holds, predicate) {
+        (false, Predicate::Equal) => bank.is_same_term(x, y),
+        (true, Predicate::Equal) => are_different_values(bank, x, y),
+        (true, Predicate::AtMost) => is_false_bound_at(bank, x, y),
+        _ => false,
+    }
+}
+
+fn are_different_values(bank: &Bank, x: TermId, y: TermId) -> bool
+    requires left { HasTerm bank.now x }
+    requires right { HasTerm bank.now y }
+    ensures { result ≡ (is_value (term_at bank.now x) && is_value (term_at bank.now y) && not (same_term (term_at bank.now x) (term_at bank.now y))) }
+{
+    is_value_at(bank, x) && is_value_at(bank, y) && !bank.is_same_term(x, y)
+}
+
+ghost use Rattle.ss_logic_stores.specs.Terms.{terms_from};
+ghost use Rattle.ss_logic_stores.specs.Equal.{same_term};
+ghost use Rattle.ss_terms_stores.specs.Forms.{predicate_of, terms_at, HasTerms};
+
+/// The store of a `good`.
+pub fn good_store_at(bank: &Bank, f: FormulaId) -> Option<TermId>
+    requires { HasFormula bank.now f }
+    ensures { IsTermOf bank.now result (good_store (formula_at bank.now f)) }
+{
+    match bank.formula_node(f) {
+        Formula::Literal {
+            holds: true,
+            predicate: Predicate::Good,
+            arguments,
+        } => one(arguments),
+        _ => None,
+    }
+}
+
+/// The term, where there is one alone.
+fn one(ts: &[TermId]) -> Option<TermId>
+    ensures { result ≡ one_of ts.now }
+{
+    match ts {
+        [x] => Some(*x),
+        _ => None,
+    }
+}

@@ -1,0 +1,4 @@
+pub mod Shape
+pub mod Drafts
+pub mod Lines
+pub mod Trees

@@ -1,0 +1,37 @@
+use Rattle.std.proofs.Common.{map, ap, arith, ◌∙◌}
+use Rattle.ss_logic_stores.specs.Formulas.{put}
+use Rattle.ss_terms_stores.specs.Forms.{terms_at, formulas_at}
+use Rattle.ss_terms_stores.proofs.Grown.{IsGrown-then, HasTerms-grown, HasFormulas-grown, terms_at-grown}
+use Rattle.ss_terms_puts.proofs.Putting.{AreBelow-get, AreBelow-push, formulas_more, put_and, put_or, formula_equal}
+use Rattle.ss_terms_puts.proofs.formulas.+putting_all.Goals as goal
+
+pub put-returns-in_ok-parts-in-And-2-clause-at : goal.put-returns-in_ok-parts-in-And-2-clause-at
+put-returns-in_ok-parts-in-And-2-clause-at t c =
+    formula_equal c.formula.result c.formula.new.self _ _
+    (put_and (terms_at c.args.bank.now c.args.ts.now) c.args.bank.now c.put_all.new.bank c.args.f c.in-And.parts c.in_ok-parts-in-And-2.parts.items (rw c.in-And.is at c.formula_node.ensures)
+    (c.in_ok-parts-in-And-2.ensures.at ∙ ap (λ xs. map (put (terms_at c.args.bank.now c.args.ts.now)) (formulas_at c.args.bank.now xs)) (c.deref-in-And-2.ensures.value ∙ c.in_ok-parts-in-And.ensures.items ∙ c.deref-in-And.ensures.value)))
+    c.formula.ensures.at
+
+pub put-returns-in_ok-parts-in-Or-2-clause-at : goal.put-returns-in_ok-parts-in-Or-2-clause-at
+put-returns-in_ok-parts-in-Or-2-clause-at t c =
+    formula_equal c.formula-in-Or.result c.formula-in-Or.new.self _ _
+    (put_or (terms_at c.args.bank.now c.args.ts.now) c.args.bank.now c.put_all-in-Or.new.bank c.args.f c.in-Or.parts c.in_ok-parts-in-Or-2.parts.items (rw c.in-Or.is at c.formula_node.ensures)
+    (c.in_ok-parts-in-Or-2.ensures.at ∙ ap (λ xs. map (put (terms_at c.args.bank.now c.args.ts.now)) (formulas_at c.args.bank.now xs)) (c.deref-in-Or-2.ensures.value ∙ c.in_ok-parts-in-Or.ensures.items ∙ c.deref-in-Or.ensures.value)))
+    c.formula-in-Or.ensures.at
+
+pub put_all-put-requires : goal.put_all-put-requires
+put_all-put-requires t c =
+    let small = AreBelow-get c.args.bound c.args.fs.now c.loop-f.f-index (record { 0 = 0 }) c.requires.below c.loop-f-test.true in
+    let room = c.loop-f.invariant.grown.more_formulas in
+    let d = c.decreases in
+    (omega arith, (HasTerms-grown c.args.bank.now c.loop-f.bank c.loop-f.invariant.grown c.args.ts.now c.requires.terms, omega arith))
+
+pub put_all-loop-f-preserved : goal.put_all-loop-f-preserved
+put_all-loop-f-preserved t c =
+    let same = terms_at-grown c.args.bank.now c.loop-f.bank c.loop-f.invariant.grown c.args.ts.now c.requires.terms in
+    record {
+      grown = IsGrown-then c.args.bank.now c.loop-f.bank c.put.new.bank c.loop-f.invariant.grown c.put.ensures.grown;
+      below = rw c.in_ok-push.ensures.items (AreBelow-push _ c.loop-f.made.items c.in_ok-g.g (HasFormulas-grown c.loop-f.bank c.put.new.bank c.put.ensures.grown c.loop-f.made.items c.loop-f.invariant.below) c.in_ok-g.ensures.at.0);
+      done = rw c.in_ok-push.ensures.items (formulas_more (put (terms_at c.args.bank.now c.args.ts.now)) c.args.bank.now c.loop-f.bank c.put.new.bank c.args.fs.now c.loop-f.made.items c.args.bound c.loop-f.f-index (record { 0 = 0 }) c.in_ok-g.g
+          c.loop-f.invariant.grown c.put.ensures.grown c.requires.below c.requires.in_bank c.loop-f-test.true c.loop-f.invariant.below c.loop-f.invariant.done (rw same at c.in_ok-g.ensures.at.1));
+    }

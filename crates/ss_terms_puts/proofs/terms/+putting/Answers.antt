@@ -1,0 +1,30 @@
+use Rattle.std.proofs.Common.{map, ap, arith, ◌∙◌}
+use Rattle.ss_logic_stores.specs.Formulas.{put_term}
+use Rattle.ss_terms_stores.specs.Forms.{terms_at}
+use Rattle.ss_terms_stores.proofs.Grown.{IsGrown-then, HasTerms-grown, terms_at-grown}
+use Rattle.ss_terms_puts.proofs.Putting.{AreTermsBelow-get, AreTermsBelow-push, terms_more, put_app, term_equal}
+use Rattle.ss_terms_puts.proofs.terms.+putting.Goals as goal
+
+pub put_term-returns-in_ok-arguments-in-App-2-clause-at : goal.put_term-returns-in_ok-arguments-in-App-2-clause-at
+put_term-returns-in_ok-arguments-in-App-2-clause-at t c =
+    term_equal c.term.result c.term.new.self _ _
+    (put_app (terms_at c.args.bank.now c.args.ts.now) c.args.bank.now c.put_terms.new.bank c.args.t c.in-App.symbol c.in-App.arguments c.in_ok-arguments-in-App-2.arguments.items (rw c.in-App.is at c.term_node.ensures)
+    (c.in_ok-arguments-in-App-2.ensures.at ∙ ap (λ xs. map (put_term (terms_at c.args.bank.now c.args.ts.now)) (terms_at c.args.bank.now xs)) (c.deref-in-App.ensures.value ∙ c.in_ok-arguments-in-App.ensures.items ∙ c.deref.ensures.value)))
+    c.term.ensures.at
+
+pub put_terms-put_term-requires : goal.put_terms-put_term-requires
+put_terms-put_term-requires t c =
+    let small = AreTermsBelow-get c.args.bound c.args.xs.now c.loop-x.x-index (record { 0 = 0 }) c.requires.below c.loop-x-test.true in
+    let room = c.loop-x.invariant.grown.more_terms in
+    let d = c.decreases in
+    (omega arith, (HasTerms-grown c.args.bank.now c.loop-x.bank c.loop-x.invariant.grown c.args.ts.now c.requires.terms, omega arith))
+
+pub put_terms-loop-x-preserved : goal.put_terms-loop-x-preserved
+put_terms-loop-x-preserved t c =
+    let same = terms_at-grown c.args.bank.now c.loop-x.bank c.loop-x.invariant.grown c.args.ts.now c.requires.terms in
+    record {
+      grown = IsGrown-then c.args.bank.now c.loop-x.bank c.put_term.new.bank c.loop-x.invariant.grown c.put_term.ensures.grown;
+      below = rw c.in_ok-push.ensures.items (AreTermsBelow-push _ c.loop-x.made.items c.in_ok-y.y (HasTerms-grown c.loop-x.bank c.put_term.new.bank c.put_term.ensures.grown c.loop-x.made.items c.loop-x.invariant.below) c.in_ok-y.ensures.at.0);
+      done = rw c.in_ok-push.ensures.items (terms_more (put_term (terms_at c.args.bank.now c.args.ts.now)) c.args.bank.now c.loop-x.bank c.put_term.new.bank c.args.xs.now c.loop-x.made.items c.args.bound c.loop-x.x-index (record { 0 = 0 }) c.in_ok-y.y
+          c.loop-x.invariant.grown c.put_term.ensures.grown c.requires.below c.requires.in_bank c.loop-x-test.true c.loop-x.invariant.below c.loop-x.invariant.done (rw same at c.in_ok-y.ensures.at.1));
+    }
