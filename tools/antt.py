@@ -82,6 +82,11 @@ def digits(n):
     return tuple(str(n).encode())
 
 
+def int_div(a, b):
+    quotient = abs(a) // abs(b) if b else 0
+    return quotient if (a < 0) == (b < 0) else -quotient
+
+
 # the words of the library that the definitions use
 WORDS = {
     'suc': (1, lambda n: n + 1),
@@ -117,6 +122,13 @@ WORDS = {
     'nat_le': (2, lambda a, b: a <= b),
     'nat_lt': (2, lambda a, b: a < b),
     'int_lt': (2, lambda a, b: a < b),
+    'int_le': (2, lambda a, b: a <= b),
+    'int_eq': (2, lambda a, b: a == b),
+    'int_gap': (2, lambda a, b: max(0, b - a)),
+    'int_div': (2, int_div),
+    'int_rem': (2, lambda a, b: a - b * int_div(a, b)),
+    'neg_ℤ': (1, lambda a: -a),
+    'slice_set': (3, lambda xs, i, x: xs[:i] + (x,) + xs[i + 1:] if i < len(xs) else xs),
     'cond': (3, lambda b, x, y: x if b else y),
     'min': (2, min),
     'max': (2, max),
@@ -126,13 +138,13 @@ WORDS = {
     'decimal': (1, digits),
     'signed_decimal': (1, digits),
 }
-BUILTINS = {'zero': 0, 'true': True, 'false': False, 'Some': Con('Some'), 'None': NONE}
+BUILTINS = {'zero': 0, 'true': True, 'false': False, 'Some': Con('Some'), 'None': NONE, 'Ok': Con('Ok'), 'Err': Con('Err')}
 BUILTINS.update({name: Fun(arity, fn, (), name) for name, (arity, fn) in WORDS.items()})
 for other, name in (('eqb', 'nat_eq'), ('leb', 'nat_le'), ('ltb', 'nat_lt')):
     BUILTINS[other] = BUILTINS[name]
 
 # ------------------------------------------------------------------ lexing
-TOK = re.compile(r'''\s+|"(?:[^"\\]|\\.)*"|\d+|(?:[A-Za-z_][A-Za-z0-9_'\-]*)(?:\.[A-Za-z0-9_][A-Za-z0-9_'\-]*)*|\.[A-Za-z0-9_][A-Za-z0-9_'\-]*(?:\.[A-Za-z0-9_][A-Za-z0-9_'\-]*)*|λ|→|∷|\+\+|&&|\|\||==|\[\]|[(){};:=,+*/%\-×≡∥]|.''', re.X)
+TOK = re.compile(r'''\s+|"(?:[^"\\]|\\.)*"|\d+|[+\-*]ℤ|neg_ℤ|(?:[A-Za-z_][A-Za-z0-9_'\-]*)(?:\.[A-Za-z0-9_][A-Za-z0-9_'\-]*)*|\.[A-Za-z0-9_][A-Za-z0-9_'\-]*(?:\.[A-Za-z0-9_][A-Za-z0-9_'\-]*)*|λ|→|∷|\+\+|&&|\|\||==|\[\]|[(){};:=,+*/%\-×≡∥]|.''', re.X)
 
 def lex(s):
     out = []
@@ -156,7 +168,7 @@ class P:
         y = self.next()
         if y != x: raise SyntaxError('expected %r, found %r in %s' % (x, y, ' '.join(t for t, _ in self.t)))
 
-BIN = {'||': (2, 'r'), '&&': (3, 'r'), '==': (4, 'l'), '∷': (5, 'r'), '++': (5, 'r'), '+': (6, 'l'), '-': (6, 'l'), '*': (7, 'l'), '/': (7, 'l'), '%': (7, 'l')}
+BIN = {'||': (2, 'r'), '&&': (3, 'r'), '==': (4, 'l'), '∷': (5, 'r'), '++': (5, 'r'), '+': (6, 'l'), '-': (6, 'l'), '*': (7, 'l'), '/': (7, 'l'), '%': (7, 'l'), '+ℤ': (6, 'l'), '-ℤ': (6, 'l'), '*ℤ': (7, 'l'), '^': (8, 'r')}
 IDENT = re.compile(r"^[A-Za-z_]")
 
 def expr(p, level=0):
@@ -339,6 +351,8 @@ def pattern(p):
     first = p.peek()
     if first == 'suc':
         p.next(); x = ('psuc', pattern_atom(p))
+    elif first in ('pos', 'negsuc'):
+        x = ('pcon', p.next(), [pattern_atom(p)])
     elif first not in ('(', '[]') and first is not None and ('.' in first or first[0].isupper()):
         c = p.next().split('.')[-1]; args = []
         while p.peek() not in (')', ',', '∷'): args.append(pattern_atom(p))
@@ -393,6 +407,8 @@ def match(pat, v, env):
     if k == 'pnum': return v == pat[1] and not isinstance(v, bool)
     if k == 'plit': return v is pat[1]
     if k == 'psuc': return isinstance(v, int) and v > 0 and match(pat[1], v - 1, env)
+    if k == 'pcon' and pat[1] == 'pos': return v >= 0 and match(pat[2][0], v, env)
+    if k == 'pcon' and pat[1] == 'negsuc': return v < 0 and match(pat[2][0], -v - 1, env)
     if k == 'pcon':
         if not isinstance(v, Con): raise Exception('pattern %r against %r' % (pat, v))
         return v.name == pat[1] and len(v.args) == len(pat[2]) and all(match(a, b, env) for a, b in zip(pat[2], v.args))
@@ -405,7 +421,7 @@ class Module:
         lines = strip_comments(open(file).read())
         for ls in items(lines):
             t = ' '.join(l.strip() for l in ls)
-            t2 = re.sub(r'^pub\s+', '', t)
+            t2 = re.sub(r'^((unfoldable|pub)\s+)+', '', t)
             if t2.startswith('use '): self.use(t2[4:].strip())
             m = re.match(r'^data (\w+)', t2)
             if m: self.data(ls)
@@ -517,9 +533,11 @@ def ev(mod, e, env):
         if o == '==': return a == b
         if o == '∷': return (a,) + b
         if o == '++': return a + b
-        if o == '+': return a + b
+        if o in ('+', '+ℤ'): return a + b
         if o == '-': return max(0, a - b)
-        if o == '*': return a * b
+        if o == '-ℤ': return a - b
+        if o in ('*', '*ℤ'): return a * b
+        if o == '^': return a ** b
         if o == '/': return a // b if b else 0
         if o == '%': return a % b if b else a
     raise Exception(e)
