@@ -1,26 +1,26 @@
--- A body at its entry.
-use Rattle.std.proofs.Common.{◌≡◌, ℕ, List, ◌++◌, Option, map, sym, ap, ◌∙◌, append_assoc}
-use Rattle.std.proofs.lemmas.List.{map-append}
-use Rattle.ss_second_core.specs.declared.program.Body.{Body}
-use Rattle.ss_second_core.specs.declared.program.Stmt.{Stmt}
-use Rattle.ss_second_core.specs.declared.program.Value.{Value}
-use Rattle.ss_second_core.specs.Tree.{NoCode, followed_by, CodeTree, result_type}
-use Rattle.ss_second_core.specs.View.{block, local_of, body}
-use Rattle.ss_second_run.specs.Values.{default_of}
-use Rattle.ss_second_run.specs.Steps.{Frame, first_locals, frame_at_entry}
-use Rattle.ss_machine.proofs.Blocks.{followed_by_nothing}
+-- A body is entered.
+use Rattle.std.proofs.Common.{◌≡◌, List, [], ◌∷◌, Bool, true, Some, Result, Ok, Err, sym, ap, ◌∙◌, subst}
+use Rattle.ss_core.specs.declared.names.Place.{Place}
+use Rattle.ss_core.specs.declared.names.Kind.TheVariants as kind
+use Rattle.ss_core.specs.Tree.{BodyTree, CoreTree}
+use Rattle.ss_store_rules.specs.declared.Value.{Value}
+use Rattle.ss_store_rules.specs.Store.{Object}
+use Rattle.ss_store_rules.specs.Values.{setting}
+use Rattle.ss_machine_rules.specs.States.{Frame, Target, Next, Goes, locals_at_entry, frame_at_entry}
+use Rattle.ss_machine_rules.specs.Steps.{all_hold, where_holds, enter}
+use Rattle.ss_machine.specs.declared.frame.Frame as code
+use Rattle.ss_machine.specs.declared.halt.Halt.{Halt}
+use Rattle.ss_machine.specs.declared.machine.Machine.{Machine}
+use Rattle.ss_machine.specs.Frames.{frame_of, running, waiting}
+use Rattle.ss_machine.specs.Moves.{Does, HaltIs, Enters, going}
 
-abbrev pub frame : ℕ → List Value → CodeTree → Option ℕ → Frame
-frame n locals left into = record { body = n; locals = locals; left = left; into = into }
-
-first : (b : Body) (args : List Value) → (args ++ map default_of (map (λ l. l.ty) (map local_of b.locals.items))) ++ map default_of (result_type b.result) ≡ first_locals (body b) args
-first b args =
-    let types = map (λ l. l.ty) (map local_of b.locals.items) in
-    append_assoc args (map default_of types) (map default_of (result_type b.result)) ∙ ap (λ (vs : List Value). args ++ vs) (sym (map-append default_of types (result_type b.result)))
-
-pub entered : (b : Body) (n : ℕ) (args locals : List Value) (code : List Stmt) (into : Option ℕ) →
-    locals ≡ (args ++ map default_of (map (λ l. l.ty) (map local_of b.locals.items))) ++ map default_of (result_type b.result) → code ≡ b.code.items →
-    frame n locals (followed_by (block code) NoCode) into ≡ frame_at_entry n (body b) args into
-entered b n args locals code into e f =
-    ap (λ (ls : List Value). frame n ls (followed_by (block code) NoCode) into) (e ∙ first b args)
-    ∙ ap (λ (l : CodeTree). frame n (first_locals (body b) args) l into) (followed_by_nothing (block code) ∙ ap block f)
+module _ (c : CoreTree) (b : BodyTree) (at : Place) (into : Target) (arguments locals : List Value) (f : code.Frame) (old new : Machine) where
+  pub entered : (r : Result Unit Halt) → locals ≡ locals_at_entry b arguments → all_hold b.entry (setting c.classes old.stores.now old.stores.now locals) ≡ true → ((s : List Object) → frame_of f s ≡ frame_at_entry b locals s into)
+      → Enters r f old new → Does r (enter c (Some b) at into arguments (running old) (waiting old) old.stores.now) new
+  entered (Err h) l holds is e = subst (λ (x : Halt). HaltIs x (enter c (Some b) at into arguments (running old) (waiting old) old.stores.now) new) (sym e) tt
+  entered (Ok u) l holds is e =
+      let s = old.stores.now in
+      let gone = λ (ls : List Value). where_holds (all_hold b.entry (setting c.classes s s ls)) kind.Precondition at (Goes (frame_at_entry b ls s into ∷ running old ∷ waiting old) s []) in
+      let first : gone (locals_at_entry b arguments) ≡ gone locals = ap gone (sym l) in
+      let then : gone locals ≡ Goes (frame_at_entry b locals s into ∷ running old ∷ waiting old) s [] = ap (λ (h : Bool). where_holds h kind.Precondition at (Goes (frame_at_entry b locals s into ∷ running old ∷ waiting old) s [])) holds in
+      first ∙ then ∙ ap (λ (x : Frame). Goes (x ∷ running old ∷ waiting old) s []) (sym (is s)) ∙ sym e

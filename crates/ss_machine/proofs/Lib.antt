@@ -1,7 +1,8 @@
-pub mod Chained
-pub mod Waiting
-pub mod Blocks
+pub mod Stacks
+pub mod Pushes
+pub mod Halts
+pub mod Starts
 pub mod Entering
 pub mod Taken
-pub mod Leaving
+pub mod Quiet
 pub mod Runs

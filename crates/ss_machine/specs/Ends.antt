@@ -1,32 +1,11 @@
--- How a run ends, and what its sink took.
-use Rattle.std.specs.Prelude.{◌≡◌, ℕ, ◌<◌, ◌≤◌}
+-- What an answer of the machine says of its run.
+use Rattle.std.specs.Prelude.{ℕ}
 use Rattle.ss_core.specs.declared.names.Kind.{Kind}
 use Rattle.ss_core.specs.declared.names.Place.{Place}
-use Rattle.ss_second_core.specs.Tree.{CoreTree}
-use Rattle.ss_second_run.specs.Steps.{State, Running, Done, Failed, Stopped, run, printed}
-use Rattle.ss_machine.specs.declared.machine.CheckedEnd.{CheckedEnd}
-use Rattle.ss_machine.specs.declared.machine.CheckedEnd.TheVariants as end
-
-abbrev pub IsRunning : State → Type 0
-IsRunning (Running fs before) = Unit {0}
-IsRunning (Done before) = ⊥
-IsRunning (Failed k at before) = ⊥
-IsRunning (Stopped at before) = ⊥
-
--- the run is done after k steps and no fewer, and so after n
-pub record IsDoneAt (c : CoreTree) (k n : ℕ) : Type 0 where
-  pub within : k ≤ n
-  pub least : (m : ℕ) → m < k → IsRunning (run c m)
-  pub done : run c k ≡ Done (printed c n)
-  pub stays : run c n ≡ Done (printed c n)
-
--- after n steps the run has failed with this kind at this place
-abbrev pub HasFailed : CoreTree → Kind → Place → ℕ → Type 0
-HasFailed c kind at n = run c n ≡ Failed kind at (printed c n)
-
--- after n steps the run has stopped at a false assumption, which is at this place
-abbrev pub HasStopped : CoreTree → Place → ℕ → Type 0
-HasStopped c at n = run c n ≡ Stopped at (printed c n)
+use Rattle.ss_machine.specs.declared.halt.Halt.{Halt}
+use Rattle.ss_machine.specs.declared.halt.Halt.TheVariants as halt
+use Rattle.ss_machine.specs.declared.run.CheckedEnd.{CheckedEnd}
+use Rattle.ss_machine.specs.declared.run.CheckedEnd.TheVariants as end
 
 abbrev pub IfDone : CheckedEnd → (ℕ → Type 0) → Type 0
 IfDone (end.Done steps) P = P steps
@@ -60,3 +39,11 @@ OnWhole (end.Stopped at) P = P
 OnWhole end.Running P = P
 OnWhole end.WriteFault P = Unit {0}
 OnWhole end.Memory P = Unit {0}
+
+-- the answer where a step halts; that of a run that is over has the number of its steps
+abbrev pub end_of : Halt → ℕ → CheckedEnd
+end_of halt.Over n = end.Done n
+end_of (halt.Fails k at) n = end.Failed k at
+end_of (halt.Stops at) n = end.Stopped at
+end_of halt.WriteFault n = end.WriteFault
+end_of halt.Memory n = end.Memory

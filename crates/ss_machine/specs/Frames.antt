@@ -1,25 +1,67 @@
--- The frames that the code's stack stands for.
-use Rattle.std.specs.Prelude.{List, [], ◌∷◌, ◌++◌}
-use Rattle.ss_second_core.specs.Tree.{CodeTree, NoCode, followed_by}
-use Rattle.ss_second_core.specs.View.{block}
-use Rattle.ss_second_run.specs.Steps.{Frame}
+-- The frames that the code's stack and its stores stand for.
+use Rattle.std.specs.Prelude.{◌≡◌, List, [], ◌∷◌, ◌++◌, reverse, Option, Some, None}
+use Rattle.ss_core.specs.declared.stmt.Loop.{Loop}
+use Rattle.ss_core.specs.declared.stmt.Stmt.TheFolds.{fold-Loop}
+use Rattle.ss_core.specs.Tree.{StmtTree}
+use Rattle.ss_core.specs.View.{expr, stmt_of, block, body, stmt_step, loop_step}
+use Rattle.ss_store_rules.specs.Store.{Object}
+use Rattle.ss_machine_rules.specs.States as states
+use Rattle.ss_machine_rules.specs.States.{Due, Statement, Test, dues}
+use Rattle.ss_machine_stores.specs.Shapes.{entry_of, rest_of}
 use Rattle.ss_machine.specs.declared.frame.Behind.{Behind}
-use Rattle.ss_machine.specs.declared.frame.CodeFrame.{CodeFrame}
-use Rattle.ss_machine.specs.declared.frame.Machine.{Machine}
+use Rattle.ss_machine.specs.declared.frame.Behind.TheVariants as behind
+use Rattle.ss_machine.specs.declared.frame.Due as code
+use Rattle.ss_machine.specs.declared.frame.Due.TheVariants as due
+use Rattle.ss_machine.specs.declared.frame.Target.{Target}
+use Rattle.ss_machine.specs.declared.frame.Target.TheVariants as target
+use Rattle.ss_machine.specs.declared.frame.Frame.{Frame}
+use Rattle.ss_machine.specs.declared.machine.Machine.{Machine}
 
--- the statements behind blocks, of which the last comes first
-abbrev pub left_of : List Behind → CodeTree
-left_of [] = NoCode
-left_of (p ∷ ps) = followed_by (left_of ps) (block p.code.now)
+abbrev pub loop_of : Loop → StmtTree
+loop_of = fold-Loop StmtTree StmtTree stmt_step loop_step
 
-abbrev pub frame_of : CodeFrame → Frame
-frame_of f = record { body = f.body.0; locals = f.locals.items; left = followed_by (block f.code.now) (left_of f.later.items); into = f.into }
+-- what stands behind a block: statements, the test of a loop, or a loop
+abbrev pub dues_behind : Behind → List Due
+dues_behind (behind.Code code) = dues (block code.now)
+dues_behind (behind.Test l) = Test (expr l.now.test) (block l.now.body.items) (loop_of l.now) ∷ []
+dues_behind (behind.Head l) = Statement (loop_of l.now) ∷ []
 
--- frames, the last one first
-abbrev pub frames_of : List CodeFrame → List Frame
-frames_of [] = []
-frames_of (f ∷ fs) = frames_of fs ++ frame_of f ∷ []
+-- the last comes first
+abbrev pub left_behind : List Behind → List Due
+left_behind [] = []
+left_behind (p ∷ ps) = left_behind ps ++ dues_behind p
 
--- the running frame first
-abbrev pub all_frames : Machine → List Frame
-all_frames m = frame_of m.top ∷ frames_of m.below.items
+abbrev pub left_of : Frame → List Due
+left_of f = dues (block f.code.now) ++ left_behind f.later.items
+
+abbrev pub target_of : Target → states.Target
+target_of (target.Call x) = states.ToCall x
+target_of (target.New x) = states.ToNew x
+
+-- a frame that was entered at this store
+abbrev pub frame_of : Frame → List Object → states.Frame
+frame_of f s = record {
+  body = body f.body.now;
+  locals = f.locals.items;
+  left = left_of f;
+  entry = s;
+  into = target_of f.into;
+}
+
+-- frames with the stores at their entries, the newest first
+abbrev pub frames_of : List Frame → List (List Object) → List states.Frame
+frames_of [] ss = []
+frames_of (f ∷ fs) ss = frame_of f (entry_of ss) ∷ frames_of fs (rest_of ss)
+
+abbrev pub running : Machine → states.Frame
+running m = frame_of m.top (entry_of m.stores.entries)
+
+abbrev pub waiting : Machine → List states.Frame
+waiting m = frames_of (reverse m.below.items) (rest_of m.stores.entries)
+
+-- what was taken was the first of what was left
+abbrev pub IsFirst : Option code.Due → List Due → List Due → Type 0
+IsFirst None old new = (old ≡ []) × (new ≡ [])
+IsFirst (Some (due.Statement s)) old new = old ≡ Statement (stmt_of s.now) ∷ new
+IsFirst (Some (due.Head l)) old new = old ≡ Statement (loop_of l.now) ∷ new
+IsFirst (Some (due.Test l)) old new = old ≡ Test (expr l.now.test) (block l.now.body.items) (loop_of l.now) ∷ new

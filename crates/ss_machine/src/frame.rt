@@ -1,179 +1,142 @@
-// Frames of bodies that run, and the stack of them.
-ghost use Rattle.std.specs.Prelude.{◌≡◌, [], ◌∷◌, ◌++◌, IfOk, MatchOption, map, slice_get, slice_set};
-ghost use Rattle.ss_second_core.specs.Tree as tree;
-ghost use Rattle.ss_second_core.specs.Tree.{NoCode, Then, followed_by};
-ghost use Rattle.ss_second_core.specs.View as view;
-ghost use Rattle.ss_second_run.specs.Values as values;
-ghost use Rattle.ss_second_run.specs.Steps as steps;
-ghost use Rattle.ss_second_run.specs.Steps.{Running, run};
-ghost use Rattle.ss_machine.specs.Frames.{frame_of, all_frames};
+// Frames of bodies that run.
+ghost use Rattle.std.specs.Prelude.{◌≡◌, ◌++◌, List, map, IfOk, OnOk, option_to_list};
+ghost use Rattle.ss_core.specs.View as view;
+ghost use Rattle.ss_store_rules.specs.Store as store;
+ghost use Rattle.ss_store_rules.specs.Store.{Object};
+ghost use Rattle.ss_machine_rules.specs.States as states;
+ghost use Rattle.ss_machine.specs.Frames.{dues_behind, left_behind, left_of, target_of, frame_of, IsFirst};
 
-use crate::values;
-use ss_core::BodyId;
-use ss_second_core::{Body, Core, Local, Stmt, Ty, Value};
+use ss_core::{Body, Loop, Stmt, Ty};
+use ss_store_rules::Value;
 use std::alloc::{AllocError, Global};
 
-// A body that runs: its number, its locals, the statements that are left of the innermost block, those behind that block and the
-// blocks around it, the innermost last, and the local of the caller that gets the result, where it is kept.
+// What stands behind a block: statements, the test of a loop, or a loop.
+#[derive(Clone, Copy)]
+pub enum Behind<'a> {
+    Code(&'a [Stmt]),
+    Test(&'a Loop),
+    Head(&'a Loop),
+}
+
+// Where a body returns to: a call or a `new`, with the local that gets the result or the object.
+#[derive(Clone, Copy, Debug, PartialEq, Eq)]
+pub enum Target {
+    Call(Option<usize>),
+    New(Option<usize>),
+}
+
+// A body that runs: its locals, the statements that are left of the innermost block, what stands behind that block and the blocks
+// around it, the innermost last, and where it returns to.
 #[derive(Drop)]
-pub struct CodeFrame<'a> {
-    pub body: BodyId,
+pub struct Frame<'a> {
+    pub body: &'a Body,
     pub locals: Vec<Value>,
     pub code: &'a [Stmt],
     pub later: Vec<Behind<'a>>,
-    pub into: Option<usize>,
+    pub into: Target,
 }
 
-// Statements behind a block.
+// What a body does next.
 #[derive(Clone, Copy)]
-pub struct Behind<'a> {
-    pub code: &'a [Stmt],
+pub enum Due<'a> {
+    Statement(&'a Stmt),
+    Head(&'a Loop),
+    Test(&'a Loop),
 }
 
-// The running frame, and those that wait, the oldest first.
-#[derive(Drop)]
-pub struct Machine<'a> {
-    pub top: CodeFrame<'a>,
-    pub below: Vec<CodeFrame<'a>>,
-}
-
-// Adds what the locals hold before they are assigned.
-fn add_defaults(first: &mut Vec<Value>, locals: &[Local]) -> Result<(), AllocError>
-    ensures { IfOk result
-        (λ _. first.new.items ≡ first.old.items ++ map values.default_of (map (λ l. l.ty) (map view.local_of locals.now))) }
+// What a local holds before it is assigned.
+fn default_of(ty: Ty) -> Value
+    ensures { result ≡ store.default_value ty }
 {
-    for local in locals {
-        first.push(values::default_of(local.ty))?;
+    match ty {
+        Ty::Int => Value::Int(0),
+        Ty::Bool => Value::Bool(false),
+        Ty::Null | Ty::Ref { .. } => Value::Null,
     }
-    Ok(())
 }
 
-// Adds what the result holds before it is given, where there is a result.
+// Adds the result before it is given, where there is one.
 fn add_result(first: &mut Vec<Value>, result_type: Option<Ty>) -> Result<(), AllocError>
-    ensures { IfOk result
-        (λ _. first.new.items ≡ first.old.items ++ map values.default_of (tree.result_type result_type)) }
+    ensures { OnOk result (first.new.items ≡ first.old.items ++ map store.default_value (option_to_list result_type)) }
 {
-    if let Some(ty) = result_type {
-        first.push(values::default_of(ty))?;
-    }
-    Ok(())
-}
-
-// A body at its entry, where the parameters have these values.
-pub fn at_entry<'a>(
-    number: BodyId,
-    body: &'a Body,
-    args: Vec<Value>,
-    into: Option<usize>,
-) -> Result<CodeFrame<'a>, AllocError>
-    ensures { IfOk result
-        (λ f. frame_of f ≡ steps.frame_at_entry number.0 (view.body body.now) args.items into) }
-{
-    let alloc = *args.allocator();
-    let mut locals = args;
-    add_defaults(&mut locals, &body.locals)?;
-    add_result(&mut locals, body.result)?;
-    Ok(CodeFrame {
-        body: number,
-        locals,
-        code: body.code.as_slice(),
-        later: Vec::new(alloc),
-        into,
-    })
-}
-
-// Main at its entry; no statement is left where there is no such body.
-fn first_frame(alloc: Global, core: &Core) -> Result<CodeFrame<'_>, AllocError>
-    ensures { IfOk result
-        (λ f. frame_of f ≡ steps.first_frame core.now.main.0 (slice_get (view.core core.now).bodies core.now.main.0)) }
-{
-    match core.bodies.get(core.main.0 as usize) {
-        Some(body) => at_entry(core.main, body, Vec::new(alloc), None),
-        None => Ok(CodeFrame {
-            body: core.main,
-            locals: Vec::new(alloc),
-            code: &[],
-            later: Vec::new(alloc),
-            into: None,
-        }),
-    }
-}
-
-// The machine before the first step.
-pub fn start(alloc: Global, core: &Core) -> Result<Machine<'_>, AllocError>
-    ensures { IfOk result (λ m. run (view.core core.now) 0 ≡ Running (all_frames m) []) }
-{
-    let top = first_frame(alloc, core)?;
-    Ok(Machine {
-        top,
-        below: Vec::new(alloc),
-    })
-}
-
-// Takes the first of the statements that are left.
-#[tactic(auto, using(crate::proofs::Blocks::left_push))]
-pub fn fetch<'a>(frame: &mut CodeFrame<'a>) -> Option<&'a Stmt>
-    ensures left { MatchOption result ((frame_of frame.old).left ≡ NoCode)
-        (λ s. (frame_of frame.old).left ≡ Then (view.stmt_of s.now) (frame_of frame.new).left) }
-    ensures locals { frame.new.locals ≡ frame.old.locals }
-    ensures body { frame.new.body ≡ frame.old.body }
-    ensures into { frame.new.into ≡ frame.old.into }
-{
-    loop {
-        if let [first, others @ ..] = frame.code {
-            frame.code = others;
-            return Some(first);
+    match result_type {
+        Some(ty) => {
+            first.push(default_of(ty))?;
+            Ok(())
         }
-        frame.code = frame.later.pop()?.code;
+        None => Ok(()),
     }
 }
 
-// Goes into a block.
-#[tactic(auto, using(crate::proofs::Blocks::left_push))]
-pub fn go_into<'a>(frame: &mut CodeFrame<'a>, block: &'a [Stmt]) -> Result<(), AllocError>
-    ensures left { IfOk result (λ _. (frame_of frame.new).left ≡ followed_by (view.block block.now) (frame_of frame.old).left) }
-    ensures locals { frame.new.locals ≡ frame.old.locals }
-    ensures body { frame.new.body ≡ frame.old.body }
-    ensures into { frame.new.into ≡ frame.old.into }
+// The values of a body's locals at its entry, where its arguments have these.
+pub fn locals_at_entry(body: &Body, arguments: Vec<Value>) -> Result<Vec<Value>, AllocError>
+    ensures { IfOk result (λ v. v.items ≡ states.locals_at_entry (view.body body.now) arguments.items) }
 {
-    if frame.code.is_empty() {
-        frame.code = block;
-        return Ok(());
+    let mut locals = arguments;
+    for local in &body.locals {
+        locals.push(default_of(local.ty))?;
     }
-    frame.later.push(Behind { code: frame.code })?;
-    frame.code = block;
-    Ok(())
+    add_result(&mut locals, body.result)?;
+    Ok(locals)
 }
 
-// Sets a local, where there is such a local.
-pub fn set_local(locals: &mut Vec<Value>, x: usize, value: Value)
-    ensures { locals.new.items ≡ slice_set locals.old.items x value }
-{
-    if x < locals.len() {
-        locals[x] = value;
+impl<'a> Frame<'a> {
+    // A body at its entry.
+    pub fn at_entry(alloc: Global, body: &'a Body, locals: Vec<Value>, into: Target) -> Frame<'a>
+        ensures { (s : List Object) → frame_of result s ≡ states.frame_at_entry (view.body body.now) locals.items s (target_of into) }
+    {
+        Frame {
+            body,
+            locals,
+            code: body.code.as_slice(),
+            later: Vec::new(alloc),
+            into,
+        }
     }
-}
 
-// Sets the local that gets a value, where one does.
-pub fn put(into: Option<usize>, value: Value, locals: &mut Vec<Value>)
-    ensures { locals.new.items ≡ steps.put into value locals.old.items }
-{
-    if let Some(x) = into {
-        set_local(locals, x, value);
+    // Takes the first of what is left.
+    pub fn fetch(&mut self) -> Option<Due<'a>>
+        ensures left { IsFirst result (left_of self.old) (left_of self.new) }
+        ensures body { self.new.body ≡ self.old.body }
+        ensures locals { self.new.locals ≡ self.old.locals }
+        ensures into { self.new.into ≡ self.old.into }
+    {
+        loop {
+            if let [first, others @ ..] = self.code {
+                self.code = others;
+                return Some(Due::Statement(first));
+            }
+            match self.later.pop()? {
+                Behind::Code(code) => self.code = code,
+                Behind::Test(l) => return Some(Due::Test(l)),
+                Behind::Head(l) => return Some(Due::Head(l)),
+            }
+        }
     }
-}
 
-// The number of the result among the locals of a body, where it has one.
-fn result_local(body: &Body) -> Option<usize>
-    ensures { result ≡ steps.result_local (view.body body.now) body.now.result }
-{
-    body.result?;
-    body.params.len().checked_add(body.locals.len())
-}
+    // Something waits behind the statements that come next.
+    #[tactic(auto, using(crate::proofs::Stacks::left_push))]
+    pub fn wait(&mut self, behind: Behind<'a>) -> Result<(), AllocError>
+        ensures left { OnOk result (left_behind self.new.later.items ≡ dues_behind behind.entry ++ left_behind self.old.later.items) }
+        ensures code { self.new.code ≡ self.old.code }
+        ensures body { self.new.body ≡ self.old.body }
+        ensures locals { self.new.locals ≡ self.old.locals }
+        ensures into { self.new.into ≡ self.old.into }
+    {
+        self.later.push(behind)?;
+        Ok(())
+    }
 
-// Sets the result of a body, where it has one.
-pub fn set_result(body: &Body, value: Value, locals: &mut Vec<Value>)
-    ensures { locals.new.items ≡ steps.last_locals (view.body body.now) value locals.old.items }
-{
-    put(result_local(body), value, locals);
+    // The statements that are left wait behind what comes next.
+    pub fn wait_behind(&mut self) -> Result<(), AllocError>
+        ensures left { OnOk result (left_behind self.new.later.items ≡ left_of self.old) }
+        ensures body { self.new.body ≡ self.old.body }
+        ensures locals { self.new.locals ≡ self.old.locals }
+        ensures into { self.new.into ≡ self.old.into }
+    {
+        if self.code.is_empty() {
+            return Ok(());
+        }
+        self.wait(Behind::Code(self.code))
+    }
 }

@@ -1,9 +1,15 @@
-//! The checked machine: it runs core programs, exactly as the definition of a run says.
+//! The checked machine: it runs core programs of the whole language with all their checks, exactly as the definition of a run says.
 #![tactic(auto)]
 
+mod calls;
 mod frame;
+mod halt;
+mod loops;
 mod machine;
+mod printing;
+mod run;
 mod step;
 mod values;
+mod writes;
 
-pub use machine::{CheckedEnd, run_checked};
+pub use run::{CheckedEnd, run_checked};

@@ -1,62 +1,149 @@
-// Whole runs.
-ghost use Rattle.std.specs.Prelude.{◌≡◌, ◌≤◌};
-ghost use Rattle.ss_second_core.specs.View as view;
-ghost use Rattle.ss_io.specs.Outside.{Grew, GrewByFront, Rose};
-ghost use Rattle.ss_second_run.specs.Steps.{run, printed};
-ghost use Rattle.ss_machine.specs.Ends.{IfDone, IfFailed, IfStopped, OnWhole, IsDoneAt, HasFailed, HasStopped, IsRunning};
+// The stack of frames over the stores, and what expressions are read in.
+ghost use Rattle.std.specs.Prelude.{◌≡◌, ◌≤◌, ◌++◌, Ok, Err, length, IfOk, OnErr};
+ghost use Rattle.ss_core.specs.View as view;
+ghost use Rattle.ss_core.specs.Chain.{most_classes};
+ghost use Rattle.ss_store_rules.specs.Values as values;
+ghost use Rattle.ss_machine_rules.specs.Frame as frame;
+ghost use Rattle.ss_machine_rules.specs.States.{dues, span};
+ghost use Rattle.ss_machine_rules.specs.Steps as steps;
+ghost use Rattle.ss_machine.specs.Frames.{dues_behind, running, waiting};
+ghost use Rattle.ss_machine.specs.Moves.{here, IsValue, AreValues, ArePushed, FailsAs, IsInto};
 
-use crate::frame;
-use crate::step::{self, Move};
-use ss_core::{Kind, Place};
-use ss_io::Sink;
-use ss_second_core::Core;
+use crate::frame::{Behind, Frame};
+use crate::halt::Halt;
+use crate::values::as_bool;
+use ss_core::{Core, Expr, Place, Stmt};
+use ss_machine_stores::Stores;
+use ss_store_rules::{Refused, Undefined, Value};
 use std::alloc::Global;
 
-/// How a run ends.
-#[derive(Clone, Copy, Debug, PartialEq, Eq)]
-pub enum CheckedEnd {
-    /// The run is done, after this least number of steps.
-    Done { steps: u64 },
-    /// A check failed.
-    Failed { kind: Kind, place: Place },
-    /// An assumption was false.
-    Stopped { place: Place },
-    /// The steps are spent and the run goes on.
-    Running,
-    /// A write failed.
-    WriteFault,
-    /// There was no memory.
-    Memory,
+// The running frame, those that wait, the oldest first, and the store with those at the entries of the frames.
+#[derive(Drop)]
+pub struct Machine<'a> {
+    pub top: Frame<'a>,
+    pub below: Vec<Frame<'a>>,
+    pub stores: Stores,
 }
 
-/// Runs a program for at most this many steps, and writes each line that it prints in one write.
-///
-/// `Done`, `Failed`, `Stopped` and `Running` say what the run is after these steps, and the sink took all that it
-/// printed. `WriteFault` comes where a write failed, and `Memory` where there was no memory; the sink
-/// then took a front of what the run prints.
-pub fn run_checked<S: Sink>(alloc: Global, core: &Core, steps: u64, out: &mut S) -> CheckedEnd
-    ensures done { IfDone result (λ k. IsDoneAt (view.core core.now) k steps) }
-    ensures failed { IfFailed result (λ kind place. HasFailed (view.core core.now) kind place steps) }
-    ensures stopped { IfStopped result (λ place. HasStopped (view.core core.now) place steps) }
-    ensures running { result ≡ CheckedEnd.Running → IsRunning (run (view.core core.now) steps) }
-    ensures printed { OnWhole result
-        (Grew (S.taken out.old) (S.taken out.new) (printed (view.core core.now) steps)) }
-    ensures front { GrewByFront (S.taken out.old) (S.taken out.new) (printed (view.core core.now) steps) }
-    ensures faults { S.faults out.old ≤ S.faults out.new }
-    ensures cause { result ≡ CheckedEnd.WriteFault → Rose (S.faults out.old) (S.faults out.new) }
+// An expression of code without a value fails with its own kind, at its own place.
+pub fn value_or_halt(found: Result<Value, Undefined>) -> Result<Value, Halt>
+    ensures { IsValue result found }
 {
-    let Ok(mut machine) = frame::start(alloc, core) else {
-        return CheckedEnd::Memory;
-    };
-    for count in 0..steps {
-        match step::step(alloc, core, &mut machine, out) {
-            Move::Goes => {}
-            Move::Over => return CheckedEnd::Done { steps: count + 1 },
-            Move::Fails(kind, place) => return CheckedEnd::Failed { kind, place },
-            Move::Stops(place) => return CheckedEnd::Stopped { place },
-            Move::WriteFault => return CheckedEnd::WriteFault,
-            Move::Memory => return CheckedEnd::Memory,
+    match found {
+        Ok(value) => Ok(value),
+        Err(cause) => Err(Halt::Fails(cause.kind, cause.place)),
+    }
+}
+
+// Want of memory halts the run.
+pub fn or_memory<T: Drop, E: Drop>(made: Result<T, E>) -> Result<T, Halt>
+    ensures made { IfOk result (λ v. made ≡ Ok v) }
+    ensures memory { OnErr result (result ≡ Err Halt.Memory) }
+{
+    match made {
+        Ok(value) => Ok(value),
+        Err(_) => Err(Halt::Memory),
+    }
+}
+
+// A refused change is a check that fails.
+pub fn or_fails(changed: Result<(), Refused>, place: Place) -> Result<(), Halt>
+    ensures { FailsAs result changed place }
+{
+    match changed {
+        Ok(()) => Ok(()),
+        Err(refused) => Err(Halt::Fails(refused.kind, place)),
+    }
+}
+
+impl<'a> Machine<'a> {
+    // The value of an expression of code.
+    pub fn eval(&self, core: &Core, e: &Expr) -> Result<Value, Halt>
+        requires { length (view.classes core.now.classes) ≤ most_classes }
+        ensures { IsValue result (values.value_of (view.expr e.now) (here core.now self.now)) }
+    {
+        value_or_halt(self.stores.eval(core, e, &self.top.locals))
+    }
+
+    // The values of expressions of code, from the left.
+    pub fn eval_all(&self, alloc: Global, core: &Core, es: &[Expr]) -> Result<Vec<Value>, Halt>
+        requires { length (view.classes core.now.classes) ≤ most_classes }
+        ensures { AreValues result (steps.values_of (view.exprs es.now) (here core.now self.now)) }
+    {
+        let mut all = Vec::new(alloc);
+        self.push_all(core, es, &mut all)?;
+        Ok(all)
+    }
+
+    // Adds the values of expressions, from the left.
+    pub fn push_all(&self, core: &Core, es: &[Expr], all: &mut Vec<Value>) -> Result<(), Halt>
+        requires { length (view.classes core.now.classes) ≤ most_classes }
+        ensures { ArePushed result all.old.items all.new.items (steps.values_of (view.exprs es.now) (here core.now self.now)) }
+    {
+        for e in es {
+            let value = self.eval(core, e)?;
+            or_memory(all.push(value))?;
+        }
+        Ok(())
+    }
+
+    // Whether each condition holds in the running body.
+    pub fn all_hold(&self, core: &Core, es: &[Expr]) -> bool
+        requires { length (view.classes core.now.classes) ≤ most_classes }
+        ensures { result ≡ steps.all_hold (view.exprs es.now) (here core.now self.now) }
+    {
+        self.stores.all_hold(core, es, &self.top.locals)
+    }
+
+    // Whether the condition holds in the running body.
+    pub fn holds(&self, core: &Core, e: &Expr) -> bool
+        requires { length (view.classes core.now.classes) ≤ most_classes }
+        ensures { result ≡ values.holds (view.expr e.now) (here core.now self.now) }
+    {
+        match self.stores.eval(core, e, &self.top.locals) {
+            Ok(value) => as_bool(value),
+            Err(_) => false,
         }
     }
-    CheckedEnd::Running
+
+    // Whether the frame condition of the running body holds, but for these objects.
+    pub fn is_kept(&self, core: &Core, outside: &[Value]) -> Result<bool, Halt>
+        requires { length (view.classes core.now.classes) ≤ most_classes }
+        ensures kept { IfOk result (λ b. b ≡ frame.is_kept (span (view.core core.now) (running self.now) self.now.stores.now outside.now)) }
+        ensures memory { OnErr result (result ≡ Err Halt.Memory) }
+    {
+        or_memory(
+            self.stores
+                .is_kept(core, self.top.body, &self.top.locals, outside),
+        )
+    }
+
+    // Goes into a block; what is left waits behind it.
+    pub fn go_into(&mut self, block: &'a [Stmt]) -> Result<(), Halt>
+        ensures { IsInto result (dues (view.block block.now)) self.old self.new }
+    {
+        or_memory(self.top.wait_behind())?;
+        self.top.code = block;
+        Ok(())
+    }
+
+    // Goes into a block, behind which this is due, and then what is left.
+    pub fn go_to(&mut self, behind: Behind<'a>, block: &'a [Stmt]) -> Result<(), Halt>
+        ensures { IsInto result (dues (view.block block.now) ++ dues_behind behind.entry) self.old self.new }
+    {
+        or_memory(self.top.wait_behind())?;
+        or_memory(self.top.wait(behind))?;
+        self.top.code = block;
+        Ok(())
+    }
+
+    // The object to which a value refers is ready.
+    pub fn set_ready(&mut self, core: &Core, object: Value)
+        ensures ready { self.new.stores.now ≡ steps.with_ready self.old.stores.now object }
+        ensures frames { (running self.new ≡ running self.old) × (waiting self.new ≡ waiting self.old) }
+    {
+        if let Value::Obj(o) = object {
+            self.stores.set_ready(core, o);
+        }
+    }
 }

@@ -2,7 +2,7 @@
 
 use ss_core::{BodyId, ClassId, Kind, Place};
 use ss_io::MemSink;
-use ss_machine::{CheckedEnd, run_checked};
+use ss_second_machine::{CheckedEnd, run_checked};
 use ss_second_core::{Body, Classes, Core, Expr, Local, Stmt, Ty, Value};
 use std::alloc::{AllocError, Global};
 use std::test::Fail;

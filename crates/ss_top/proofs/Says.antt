@@ -12,7 +12,7 @@ use Rattle.ss_core.specs.declared.names.Place.{Place}
 use Rattle.ss_second_core.specs.Tree.{CoreTree}
 use Rattle.ss_second_run.specs.Steps.{run, printed}
 use Rattle.ss_second_run.specs.Safe.{IsSafe, IsUnfailed}
-use Rattle.ss_machine.specs.Ends.{IsRunning, IsDoneAt, HasFailed, HasStopped}
+use Rattle.ss_second_machine.specs.Ends.{IsRunning, IsDoneAt, HasFailed, HasStopped}
 use Rattle.ss_vcgen_rules.specs.Obligations.{Obligation, obligations}
 use Rattle.ss_search.specs.declared.model.Countered.{Countered}
 use Rattle.ss_sound.specs.Verdicts.{IsUnproved}

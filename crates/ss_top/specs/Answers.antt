@@ -7,7 +7,7 @@ use Rattle.ss_core.specs.declared.names.FrontStop.TheVariants as front
 use Rattle.ss_second_core.specs.Tree.{CoreTree}
 use Rattle.ss_second_run.specs.Steps.{State, Running, Done, Failed, Stopped, run, printed}
 use Rattle.ss_second_run.specs.Safe.{IsSafe}
-use Rattle.ss_machine.specs.Ends.{IsRunning, HasStopped}
+use Rattle.ss_second_machine.specs.Ends.{IsRunning, HasStopped}
 use Rattle.ss_vcgen_rules.specs.Obligations.{obligations}
 use Rattle.ss_search.specs.declared.model.Countered.{Countered}
 use Rattle.ss_sound.specs.Verdicts.{IsUnproved}

@@ -20,7 +20,7 @@ use crate::front::read_form;
 use crate::words::Command;
 use ss_core::FrontStop;
 use ss_io::{Sink, WriteStop};
-use ss_machine::{CheckedEnd, run_checked};
+use ss_second_machine::{CheckedEnd, run_checked};
 use ss_report::{Status, verdict_text};
 use ss_report_core::core_text;
 use ss_search::Countered;
