@@ -1,8 +1,10 @@
 -- The messages on standard error.
 use Rattle.std.specs.Prelude.{ℕ, ◌-◌, ◌==◌, ◌&&◌, ◌||◌, nat_lt, Bool, false, Option, Some, None, List, ◌++◌, length, codes, decimal, slice_get, if◌then◌else◌}
+use Rattle.ss_core.specs.declared.names.Kind.{Kind}
 use Rattle.ss_core.specs.declared.names.Place.{Place}
+use Rattle.ss_report.specs.Texts.{kind_name}
 use Rattle.ss_main_messages.specs.Lines.{line_at, pointed}
-use Rattle.ss_main_messages.specs.Sentences.{sentence}
+use Rattle.ss_main_messages.specs.Sentences.{sentence, failure}
 
 -- a byte that text in UTF-8 has in comments and strings alone, or nowhere
 abbrev pub is_foreign : Option ℕ → Bool
@@ -36,3 +38,7 @@ refused_message file source at rule = message file source at (error (decimal rul
 -- the message of a run that stopped at a place
 abbrev pub stopped_message : List ℕ → List ℕ → Place → List ℕ
 stopped_message file source at = message file source at (codes "stopped: this `assume` isn't true in this run")
+
+-- the message of a run in which a check of this kind failed at a place
+abbrev pub failed_message : List ℕ → List ℕ → Place → Kind → List ℕ
+failed_message file source at k = message file source at (error (kind_name k) (failure k))

@@ -1,5 +1,7 @@
 -- What a message says of a rule and of a kind of check.
 use Rattle.std.specs.Prelude.{ℕ, ◌==◌, List, codes, if◌then◌else◌}
+use Rattle.ss_core.specs.declared.names.Kind.{Kind}
+use Rattle.ss_core.specs.declared.names.Kind.TheVariants as kind
 
 -- the sentence of a rule
 abbrev pub sentence : ℕ → List ℕ
@@ -31,3 +33,28 @@ sentence rule =
     else if rule == 52 then codes "this attribute is unknown, can't stand here, or stands here already"
     else if rule == 90 then codes "the program is accepted, but only `expand` takes it so far; `verify` and `run` take one class of static methods over `int` and `bool`"
     else codes "this rule is broken"
+
+-- the sentence of a check that failed in a run
+abbrev pub failure : Kind → List ℕ
+failure kind.Null = codes "there is no object here: the value is null"
+failure kind.Index = codes "the index here isn't within the array"
+failure kind.Cast = codes "the value here isn't of the type of the cast"
+failure kind.Overflow = codes "the result here doesn't fit into an `int`"
+failure kind.ZeroDivisor = codes "the divisor here is 0"
+failure kind.NegativeLength = codes "the length here is below 0"
+failure kind.Assert = codes "this `assert` doesn't hold"
+failure kind.Precondition = codes "a `requires` of what is called here, or its default contract, doesn't hold"
+failure kind.Postcondition = codes "an `ensures`, or the default contract, doesn't hold at this return"
+failure kind.Frame = codes "something was changed before this return that `modifies` doesn't name"
+failure kind.LoopInvariant = codes "an `invariant` of this loop doesn't hold"
+failure kind.LoopFrame = codes "something was changed before this turn of the loop that `modifies` doesn't name"
+failure kind.LoopLevel = codes "an object that is exposed around this loop doesn't stand at the level that it stood at"
+failure kind.UnpackLevel = codes "the object doesn't stand at the level that `expose` asks for"
+failure kind.UnpackCommitted = codes "the object has an owner that is closed; expose the owner first"
+failure kind.PackLevel = codes "the object doesn't stand at the level that is closed here"
+failure kind.Invariant = codes "an `invariant` of the class doesn't hold where it is closed"
+failure kind.PackOwned = codes "something that the object owns isn't consistent where it is closed"
+failure kind.WriteLevel = codes "the object isn't exposed where its field is assigned"
+failure kind.WriteCommitted = codes "the array has an owner that is closed; expose the owner first"
+failure kind.RepOwner = codes "the value has another owner already than the one that a `[Rep]` field asks for"
+failure kind.PeerOwner = codes "the value has another owner than the one that a `[Peer]` field asks for"

@@ -9,6 +9,8 @@ mod sentences;
 mod verdict;
 
 pub use heard::Heard;
-pub use messages::{Unread, refused_message, stopped_message, unread_message, usage};
+pub use messages::{
+    Unread, failed_message, refused_message, stopped_message, unread_message, usage,
+};
 pub use seen::Seen;
 pub use verdict::verdict_messages;

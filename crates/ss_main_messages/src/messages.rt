@@ -1,11 +1,12 @@
 // The messages of a run of the program.
 
 ghost use Rattle.std.specs.Prelude.{◌≡◌, IfOk, string_bytes};
-ghost use Rattle.ss_main_messages.specs.Messages.{error as error_of, heading as heading_of, is_foreign as is_foreign_byte, message as message_of, refused_message as refused_as, said_of, stopped_message as stopped_as};
+ghost use Rattle.ss_main_messages.specs.Messages.{error as error_of, failed_message as failed_as, heading as heading_of, is_foreign as is_foreign_byte, message as message_of, refused_message as refused_as, said_of, stopped_message as stopped_as};
 
 use crate::lines::{line_at, pointed};
-use crate::sentences::sentence;
-use ss_core::Place;
+use crate::sentences::{failure, sentence};
+use ss_core::{Kind, Place};
+use ss_report::kind_name;
 use std::alloc::{AllocError, Global};
 
 /// Why a file couldn't be read.
@@ -20,7 +21,7 @@ pub enum Unread {
 
 /// The commands.
 pub fn usage() -> &'static str {
-    "usage: specsharp verify FILE   verifies the program of the file FILE\n       specsharp run FILE      verifies it, and runs it where it is verified\n       specsharp expand FILE   writes the core program that it means\nFILE doesn't begin with `-`; write ./-FILE for one that does.\n"
+    "usage: specsharp verify FILE             verifies the program of the file FILE\n       specsharp run FILE                verifies it, and runs it where it is verified\n       specsharp run FILE --unverified   runs it with all its checks, whatever it is\n           with --steps S, for at most S steps (1000000 without it), and INT .. behind FILE: the input\n       specsharp expand FILE             writes the core program that it means\nFILE doesn't begin with `-`; write ./-FILE for one that does. Numbers below 0 stand behind `--`.\n"
 }
 
 /// The message of a file that couldn't be read.
@@ -134,4 +135,18 @@ pub fn stopped_message(
         place,
         "stopped: this `assume` isn't true in this run",
     )
+}
+
+/// The message of a run in which a check of this kind failed at a place.
+pub fn failed_message(
+    alloc: Global,
+    file: &str,
+    source: &[u8],
+    place: Place,
+    kind: Kind,
+) -> Result<String, AllocError>
+    ensures { IfOk result (λ text. string_bytes text ≡ failed_as file.now source.now place kind) }
+{
+    let error = error(alloc, kind_name(kind), failure(kind))?;
+    message(alloc, file, source, place, error.as_str())
 }

@@ -1,7 +1,9 @@
 // What a message says of a rule and of a kind of check.
 
 ghost use Rattle.std.specs.Prelude.{◌≡◌};
-ghost use Rattle.ss_main_messages.specs.Sentences.{sentence as sentence_of};
+ghost use Rattle.ss_main_messages.specs.Sentences.{sentence as sentence_of, failure as failure_of};
+
+use ss_core::Kind;
 
 /// The sentence of a rule.
 pub(crate) fn sentence(rule: u16) -> &'static str
@@ -69,5 +71,35 @@ pub(crate) fn sentence_of_check(kind: &str) -> &'static str {
         "RepOwner" => "the value isn't shown to be free to be owned by a `[Rep]` field",
         "PeerOwner" => "the value isn't shown to have the owner that a `[Peer]` field asks for",
         _ => "this isn't shown to hold",
+    }
+}
+
+/// The sentence of a check that failed in a run.
+pub(crate) fn failure(kind: Kind) -> &'static str
+    ensures { result.now ≡ failure_of kind }
+{
+    match kind {
+        Kind::Null => "there is no object here: the value is null",
+        Kind::Index => "the index here isn't within the array",
+        Kind::Cast => "the value here isn't of the type of the cast",
+        Kind::Overflow => "the result here doesn't fit into an `int`",
+        Kind::ZeroDivisor => "the divisor here is 0",
+        Kind::NegativeLength => "the length here is below 0",
+        Kind::Assert => "this `assert` doesn't hold",
+        Kind::Precondition => "a `requires` of what is called here, or its default contract, doesn't hold",
+        Kind::Postcondition => "an `ensures`, or the default contract, doesn't hold at this return",
+        Kind::Frame => "something was changed before this return that `modifies` doesn't name",
+        Kind::LoopInvariant => "an `invariant` of this loop doesn't hold",
+        Kind::LoopFrame => "something was changed before this turn of the loop that `modifies` doesn't name",
+        Kind::LoopLevel => "an object that is exposed around this loop doesn't stand at the level that it stood at",
+        Kind::UnpackLevel => "the object doesn't stand at the level that `expose` asks for",
+        Kind::UnpackCommitted => "the object has an owner that is closed; expose the owner first",
+        Kind::PackLevel => "the object doesn't stand at the level that is closed here",
+        Kind::Invariant => "an `invariant` of the class doesn't hold where it is closed",
+        Kind::PackOwned => "something that the object owns isn't consistent where it is closed",
+        Kind::WriteLevel => "the object isn't exposed where its field is assigned",
+        Kind::WriteCommitted => "the array has an owner that is closed; expose the owner first",
+        Kind::RepOwner => "the value has another owner already than the one that a `[Rep]` field asks for",
+        Kind::PeerOwner => "the value has another owner than the one that a `[Peer]` field asks for",
     }
 }

@@ -1,10 +1,10 @@
 // How a run of the program ends.
 
 ghost use Rattle.std.specs.Prelude.{◌≡◌, IfOk, string_bytes};
-ghost use Rattle.ss_report.specs.Status.{refused_text, stopped_text, status_text};
+ghost use Rattle.ss_report.specs.Status.{failed_text, refused_text, stopped_text, status_text};
 
-use crate::texts::place_text;
-use ss_core::Place;
+use crate::texts::{kind_name, place_text};
+use ss_core::{Kind, Place};
 use ss_search::Countered;
 use std::alloc::{AllocError, Global};
 
@@ -24,9 +24,13 @@ pub enum Status {
     /// The output failed.
     WriteFault,
     Memory,
-    /// The program was verified, and its run isn't done within the steps that it has.
+    /// The program doesn't admit the input: the conditions at the entry of its Main don't hold of it.
+    NotAdmitted,
+    /// The run isn't done within the steps that it has.
     StepsSpent,
-    /// The program was verified, and its run stopped at an assumption that is false.
+    /// A check of the run of a program that wasn't verified failed.
+    Failed { kind: Kind, place: Place },
+    /// The run stopped at an assumption that is false.
     Stopped { place: Place },
 }
 
@@ -45,7 +49,9 @@ impl Status {
             Status::SourceRefused { .. } => 4,
             Status::WriteFault => 5,
             Status::Memory => 6,
+            Status::NotAdmitted => 8,
             Status::StepsSpent => 9,
+            Status::Failed { .. } => 10,
             Status::Stopped { .. } => 11,
         }
     }
@@ -69,6 +75,16 @@ fn stopped_line(alloc: Global, place: Place) -> Result<String, AllocError>
     Ok(line)
 }
 
+fn failed_line(alloc: Global, kind: Kind, place: Place) -> Result<String, AllocError>
+    ensures { IfOk result (λ line. string_bytes line ≡ failed_text kind place) }
+{
+    let mut line = String::from_str(alloc, "failed: ")?;
+    line.push_str(kind_name(kind))?;
+    line.push_str(" at ")?;
+    line.push_str(&place_text(alloc, place)?)?;
+    Ok(line)
+}
+
 /// What is said of a status on standard error, without the line end; nothing of Ended.
 pub fn status_line(alloc: Global, status: &Status) -> Result<String, AllocError>
     ensures { IfOk result (λ line. string_bytes line ≡ status_text status.now) }
@@ -81,7 +97,9 @@ pub fn status_line(alloc: Global, status: &Status) -> Result<String, AllocError>
         Status::SourceRefused { rule, place } => refused_line(alloc, *rule, *place),
         Status::WriteFault => String::from_str(alloc, "write fault"),
         Status::Memory => String::from_str(alloc, "out of memory"),
+        Status::NotAdmitted => String::from_str(alloc, "input not admitted"),
         Status::StepsSpent => String::from_str(alloc, "steps spent"),
+        Status::Failed { kind, place } => failed_line(alloc, *kind, *place),
         Status::Stopped { place } => stopped_line(alloc, *place),
     }
 }

@@ -1,14 +1,14 @@
 // The text of a verdict.
 
 ghost use Rattle.std.specs.Prelude.{◌≡◌, IfOk, string_bytes};
-ghost use Rattle.ss_report.specs.Texts.{kind_name, not_proved_line, place_text as place_words};
+ghost use Rattle.ss_report.specs.Texts.{kind_name as kind_words, not_proved_line, place_text as place_words};
 
 use ss_core::{Kind, Place};
 use std::alloc::{AllocError, Global};
 
 /// The name of a kind.
-fn name(kind: Kind) -> &'static str
-    ensures { result.now ≡ kind_name kind }
+pub fn kind_name(kind: Kind) -> &'static str
+    ensures { result.now ≡ kind_words kind }
 {
     match kind {
         Kind::Null => "Null",
@@ -47,7 +47,7 @@ pub fn not_proved(
     ensures { IfOk result (λ line. string_bytes line ≡ not_proved_line kind place class.now body.now) }
 {
     let mut line = String::from_str(alloc, "not proved: ")?;
-    line.push_str(name(kind))?;
+    line.push_str(kind_name(kind))?;
     line.push_str(" at ")?;
     line.push_str(&place_text(alloc, place)?)?;
     line.push_str(" in ")?;

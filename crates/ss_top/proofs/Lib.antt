@@ -1,3 +1,5 @@
+pub mod Limits
 pub mod Meanings
 pub mod Says
+pub mod WholeRuns
 pub mod Whole

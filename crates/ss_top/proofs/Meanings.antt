@@ -3,13 +3,12 @@ use Rattle.std.proofs.Common.{◌≡◌, ⊎_elim, List, ℕ, Option, Some, None
 use Rattle.ss_core.specs.declared.names.Place.{Place}
 use Rattle.ss_second_core.specs.Tree.{CoreTree}
 use Rattle.ss_core.specs.Tree as whole
-use Rattle.ss_typed.specs.Tree.{TypedTree}
 use Rattle.ss_expand_rules.specs.Elaborated.{elaborated}
 use Rattle.ss_second.specs.Second.{second_form}
 use Rattle.ss_top_sources.specs.Sources.{IsRefused}
 use Rattle.ss_top_sources.proofs.Meanings as front
-use Rattle.ss_top.specs.declared.words.Command.{Command}
-use Rattle.ss_top.specs.declared.words.Command.TheVariants as command
+use Rattle.ss_top_words.specs.declared.Command.{Command}
+use Rattle.ss_top_words.specs.declared.Command.TheVariants as command
 use Rattle.ss_top.specs.Sources.{Expands, Means, IsNotOfForm, IsUnbuilt, IsStop}
 
 same_form : {A B : Type 0} (f : A → Option B) (p q : A) (c d : B) → p ≡ q → f p ≡ Some c → f q ≡ Some d → c ≡ d
@@ -39,6 +38,7 @@ not_refused source c rule at m h = front.no_fault source m.tokens m.program rule
 pub no_fault : (source : List ℕ) (c : CoreTree) (k : Command) (rule : ℕ) (at : Place) → Means source c → IsStop k source rule at → ⊥
 no_fault source c command.Verify rule at m h = ⊎_elim (λ x. not_refused source c rule at m x) (λ x. of_form source c m x.2) h
 no_fault source c command.Run rule at m h = ⊎_elim (λ x. not_refused source c rule at m x) (λ x. of_form source c m x.2) h
+no_fault source c command.RunUnverified rule at m h = not_refused source c rule at m h
 no_fault source c command.Expand rule at m h = not_refused source c rule at m h
 
 built : (source : List ℕ) (r s : ℕ) (a b : Place) → IsRefused source r a → IsUnbuilt source s b → ⊥
@@ -53,4 +53,5 @@ same_stop source r s a b h k = ⊎_elim
 pub one_fault : (source : List ℕ) (k : Command) (r s : ℕ) (a b : Place) → IsStop k source r a → IsStop k source s b → (r ≡ s) × (a ≡ b)
 one_fault source command.Verify r s a b h j = same_stop source r s a b h j
 one_fault source command.Run r s a b h j = same_stop source r s a b h j
+one_fault source command.RunUnverified r s a b h j = front.one_fault source r s a b h j
 one_fault source command.Expand r s a b h j = front.one_fault source r s a b h j

@@ -1,5 +1,5 @@
 -- What each answer says, from what the calls below promise.
-use Rattle.std.proofs.Common.{◌≡◌, ◌≢◌, ◌⊎◌, inl, inr, ⊎_elim, ℕ, ◌<◌, ◌≤◌, List, [], ◌++◌, Option, Some, None, Err, refl, sym, ap, ◌∙◌, subst, arith}
+use Rattle.std.proofs.Common.{◌≡◌, ◌≢◌, ◌⊎◌, inl, inr, ⊎_elim, ℕ, ℤ, ◌<◌, ◌≤◌, List, [], Option, Some, None, Err, refl, sym, ap, ◌∙◌, subst, arith}
 use Rattle.std.proofs.lemmas.List.{append-nil}
 use Rattle.std.proofs.lemmas.Bool.{cases_lt}
 use Rattle.std.specs.Prelude.{Result}
@@ -19,8 +19,8 @@ use Rattle.ss_sound.specs.Verdicts.{IsUnproved}
 use Rattle.ss_report.specs.declared.status.Status.{Status}
 use Rattle.ss_report.specs.declared.status.Status.TheVariants as status
 use Rattle.ss_report.specs.Verdict.{verdict_text}
-use Rattle.ss_top.specs.declared.words.Command.{Command}
-use Rattle.ss_top.specs.declared.words.Command.TheVariants as command
+use Rattle.ss_top_words.specs.declared.Command.{Command}
+use Rattle.ss_top_words.specs.declared.Command.TheVariants as command
 use Rattle.ss_core.specs.Tree as whole
 use Rattle.ss_typed.specs.Tree.{TypedTree}
 use Rattle.ss_ast.specs.Tokens.{Tok}
@@ -31,20 +31,22 @@ use Rattle.ss_top_sources.specs.Sources.{IsAccepted, IsRefused}
 use Rattle.ss_top.specs.declared.source.Goal.{Goal}
 use Rattle.ss_top.specs.declared.source.Goal.TheVariants as asked_for
 use Rattle.ss_top.specs.Sources.{Means, Expands, IsStop, Gives}
-use Rattle.ss_top.specs.Answers.{OfSource, OfFile, IsDone, verified_text, run_text, verified_line, IsHeadline, IsToldVerified, HasRun, IsExpanded, RunsOn, StopsAt, IsToldUnproved, IsVerifiedInPart, IsToldInPart, IsExpandedInPart, IsWrittenInPart, IsVerify, IsRun, IsExpand, Verifies, command_of_goal, IfRefused, IfUnproved, IfStopped, ReadsOnly, IsVerified, IsSilent, HasEnded, Says, answer_to}
+use Rattle.ss_top_words.specs.Words.{Asked}
+use Rattle.ss_top.specs.Unverified.{HasRunUnverified, FailsUnverified}
+use Rattle.ss_top.specs.Answers.{OfSource, OfFile, IsDone, verified_text, run_text, verified_line, IsHeadline, IsToldVerified, HasRun, IsExpanded, RunsOn, StopsAt, TakesNoInput, IsToldUnproved, IsVerifiedInPart, IsToldInPart, IsExpandedInPart, IsWrittenInPart, IsVerify, IsRun, IsRunUnverified, IsExpand, Verifies, command_of_goal, IfRefused, IfUnproved, IfStopped, IfFailed, ReadsOnly, IsVerified, IsSilent, HasEnded, IsSpent, IsStopped, IsUnadmitted, Says, answer_to}
 use Rattle.ss_top.proofs.Whole.{OfSource-map}
 
 pub told_verified : (c : CoreTree) (old new : Option (List ℕ)) (source : List ℕ) → Means source c → IsSafe c → Grew old new verified_line → IsToldVerified old new source
 told_verified c old new source means safe took = record { program = c; means = means; safe = safe; took = took }
 
-pub has_run : (c : CoreTree) (k steps : ℕ) (old new : Option (List ℕ)) (source : List ℕ) → Means source c → IsSafe c → IsDoneAt c k steps → Grew old new (printed c steps) → HasRun steps old new source
-has_run c k steps old new source means safe done took = record { program = c; means = means; safe = safe; done = subst IsDone (sym done.stays) tt; took = took }
+pub has_run : (c : CoreTree) (k steps : ℕ) (input : List ℤ) (old new : Option (List ℕ)) (source : List ℕ) → Means source c → IsSafe c → input ≡ [] → IsDoneAt c k steps → Grew old new (printed c steps) → HasRun steps input old new source
+has_run c k steps input old new source means safe empty done took = record { program = c; means = means; safe = safe; empty = empty; done = subst IsDone (sym done.stays) tt; took = took }
 
-pub runs_on : (c : CoreTree) (steps : ℕ) (old new : Option (List ℕ)) (source : List ℕ) → Means source c → IsSafe c → IsRunning (run c steps) → Grew old new (printed c steps) → RunsOn steps old new source
-runs_on c steps old new source means safe running took = record { program = c; means = means; safe = safe; running = running; took = took }
+pub runs_on : (c : CoreTree) (steps : ℕ) (input : List ℤ) (old new : Option (List ℕ)) (source : List ℕ) → Means source c → IsSafe c → input ≡ [] → IsRunning (run c steps) → Grew old new (printed c steps) → RunsOn steps input old new source
+runs_on c steps input old new source means safe empty running took = record { program = c; means = means; safe = safe; empty = empty; running = running; took = took }
 
-pub stops_at : (c : CoreTree) (at : Place) (steps : ℕ) (old new : Option (List ℕ)) (source : List ℕ) → Means source c → IsSafe c → HasStopped c at steps → Grew old new (printed c steps) → StopsAt at steps old new source
-stops_at c at steps old new source means safe stopped took = record { program = c; means = means; safe = safe; stopped = stopped; took = took }
+pub stops_at : (c : CoreTree) (at : Place) (steps : ℕ) (input : List ℤ) (old new : Option (List ℕ)) (source : List ℕ) → Means source c → IsSafe c → input ≡ [] → HasStopped c at steps → Grew old new (printed c steps) → StopsAt at steps input old new source
+stops_at c at steps input old new source means safe empty stopped took = record { program = c; means = means; safe = safe; empty = empty; stopped = stopped; took = took }
 
 pub verified_in_part : (c : CoreTree) (old new : Option (List ℕ)) (source : List ℕ) → Means source c → IsSafe c → GrewByFront old new verified_line → IsVerifiedInPart verified_text old new source
 verified_in_part c old new source means safe front = record { program = c; means = means; safe = safe; front = front }
@@ -89,15 +91,22 @@ pub grew_nothing : (taken : Option (List ℕ)) → Grew taken taken []
 grew_nothing None = refl
 grew_nothing (Some bytes) = ap Some (sym (append-nil bytes))
 
--- the answer to a source that isn't read, or isn't of the form
-pub refused_says : (steps : ℕ) (taken : Option (List ℕ)) (g : Goal) (source : List ℕ) (stop : FrontStop) → Gives source (Err stop) → Says steps taken taken (answer_to stop) (command_of_goal g) source
-refused_says steps taken g source front.Memory h = inl (grew_nothing taken)
-refused_says steps taken asked_for.Verdict source (front.Refused rule at) h = (h, grew_nothing taken)
-refused_says steps taken asked_for.Run source (front.Refused rule at) h = (h, grew_nothing taken)
+pub takes_no_input : (c : CoreTree) (input : List ℤ) (taken : Option (List ℕ)) (source : List ℕ) → Means source c → IsSafe c → input ≢ [] → TakesNoInput input taken taken source
+takes_no_input c input taken source means safe given = record { program = c; means = means; safe = safe; given = given; nothing = grew_nothing taken }
 
-pub unread_says : (steps : ℕ) (taken : Option (List ℕ)) (source : List ℕ) (stop : FrontStop) → reading.Gives source (Err stop) → Says steps taken taken (answer_to stop) command.Expand source
-unread_says steps taken source front.Memory h = inl (grew_nothing taken)
-unread_says steps taken source (front.Refused rule at) h = (h, grew_nothing taken)
+-- the answer to a source that isn't read, or isn't of the form
+pub refused_says : (steps : ℕ) (input : List ℤ) (taken : Option (List ℕ)) (g : Goal) (source : List ℕ) (stop : FrontStop) → Gives source (Err stop) → Says steps input taken taken (answer_to stop) (command_of_goal g) source
+refused_says steps input taken g source front.Memory h = inl (grew_nothing taken)
+refused_says steps input taken asked_for.Verdict source (front.Refused rule at) h = (h, grew_nothing taken)
+refused_says steps input taken asked_for.Run source (front.Refused rule at) h = (h, grew_nothing taken)
+
+pub unread_says : (steps : ℕ) (input : List ℤ) (taken : Option (List ℕ)) (source : List ℕ) (stop : FrontStop) → reading.Gives source (Err stop) → Says steps input taken taken (answer_to stop) command.Expand source
+unread_says steps input taken source front.Memory h = inl (grew_nothing taken)
+unread_says steps input taken source (front.Refused rule at) h = (h, grew_nothing taken)
+
+pub unrun_says : (steps : ℕ) (input : List ℤ) (taken : Option (List ℕ)) (source : List ℕ) (stop : FrontStop) → reading.Gives source (Err stop) → Says steps input taken taken (answer_to stop) command.RunUnverified source
+unrun_says steps input taken source front.Memory h = inl (grew_nothing taken)
+unrun_says steps input taken source (front.Refused rule at) h = (h, grew_nothing taken)
 
 -- what is refused to every command
 pub refused_gives : (source : List ℕ) (stop : FrontStop) → reading.Gives source (Err stop) → Gives source (Err stop)
@@ -105,9 +114,9 @@ refused_gives source front.Memory h = tt
 refused_gives source (front.Refused rule at) h = inl h
 
 -- a front of what a goal lets be written
-pub verdict_in_part : (g : Goal) (steps : ℕ) (old new : Option (List ℕ)) (source : List ℕ) → IsToldInPart old new source → IsWrittenInPart steps old new (command_of_goal g) source
-verdict_in_part asked_for.Verdict steps old new source h = inr h
-verdict_in_part asked_for.Run steps old new source h = inr h
+pub verdict_in_part : (g : Goal) (steps : ℕ) (input : List ℤ) (old new : Option (List ℕ)) (source : List ℕ) → IsToldInPart old new source → IsWrittenInPart steps input old new (command_of_goal g) source
+verdict_in_part asked_for.Verdict steps input old new source h = inr h
+verdict_in_part asked_for.Run steps input old new source h = inr h
 
 pub goal_verifies : (g : Goal) → Verifies (command_of_goal g)
 goal_verifies asked_for.Verdict = tt
@@ -115,103 +124,179 @@ goal_verifies asked_for.Run = tt
 
 -- ---- from what an answer says to the single facts
 
-pub Says-refused : (steps : ℕ) (old new : Option (List ℕ)) (st : Status) (c : Command) (name : List ℕ) (told : List ℕ → Told) → OfSource (told name) (Says steps old new st c)
-    → IfRefused st (λ rule at. OfFile (Some (c, name)) told (λ asked source. IsStop asked source rule at))
-Says-refused steps old new status.Ended c name told h = tt
-Says-refused steps old new status.StepsSpent c name told h = tt
-Says-refused steps old new (status.Stopped at) c name told h = tt
-Says-refused steps old new (status.Unproved listed) c name told h = tt
-Says-refused steps old new (status.SourceRefused rule at) c name told h = OfSource-map (told name) (Says steps old new (status.SourceRefused rule at) c) (λ source. IsStop c source rule at) (λ source x. x.0) h
-Says-refused steps old new status.WriteFault c name told h = tt
-Says-refused steps old new status.Memory c name told h = tt
-Says-refused steps old new status.BadWords c name told h = tt
-Says-refused steps old new status.ReadFault c name told h = tt
+-- what is said where this was asked
+abbrev pub SaysOf : Asked → Option (List ℕ) → Option (List ℕ) → Status → List ℕ → Type 0
+SaysOf a old new st source = Says a.steps a.input old new st a.command source
 
-ended_headline : (c : Command) (steps : ℕ) (old new : Option (List ℕ)) (source : List ℕ) → HasEnded c steps old new source → Verifies c → IsHeadline source
-ended_headline command.Verify steps old new source x v = record { program = x.program; means = x.means; safe = x.safe }
-ended_headline command.Run steps old new source x v = record { program = x.program; means = x.means; safe = x.safe }
-ended_headline command.Expand steps old new source x v = absurd v
+pub Says-refused : (a : Asked) (old new : Option (List ℕ)) (st : Status) (told : List ℕ → Told) → OfSource (told a.file) (SaysOf a old new st)
+    → IfRefused st (λ rule at. OfFile (Some a) told (λ asked source. IsStop asked.command source rule at))
+Says-refused a old new status.Ended told h = tt
+Says-refused a old new status.StepsSpent told h = tt
+Says-refused a old new (status.Stopped at) told h = tt
+Says-refused a old new (status.Failed kind at) told h = tt
+Says-refused a old new status.NotAdmitted told h = tt
+Says-refused a old new (status.Unproved listed) told h = tt
+Says-refused a old new (status.SourceRefused rule at) told h = OfSource-map (told a.file) (SaysOf a old new (status.SourceRefused rule at)) (λ source. IsStop a.command source rule at) (λ source x. x.0) h
+Says-refused a old new status.WriteFault told h = tt
+Says-refused a old new status.Memory told h = tt
+Says-refused a old new status.BadWords told h = tt
+Says-refused a old new status.ReadFault told h = tt
 
-pub Says-headline : (steps : ℕ) (old new : Option (List ℕ)) (st : Status) (c : Command) (name : List ℕ) (told : List ℕ → Told) → OfSource (told name) (Says steps old new st c) → IsVerified st → OfFile (Some (c, name)) told (λ asked source. Verifies asked → IsHeadline source)
-Says-headline steps old new status.Ended c name told h v = OfSource-map (told name) (Says steps old new status.Ended c) (λ source. Verifies c → IsHeadline source) (λ source x. ended_headline c steps old new source x) h
-Says-headline steps old new status.StepsSpent c name told h v = OfSource-map (told name) (Says steps old new status.StepsSpent c) (λ source. Verifies c → IsHeadline source) (λ source x v. record { program = (x.1).program; means = (x.1).means; safe = (x.1).safe }) h
-Says-headline steps old new (status.Stopped at) c name told h v = OfSource-map (told name) (Says steps old new (status.Stopped at) c) (λ source. Verifies c → IsHeadline source) (λ source x v. record { program = (x.1).program; means = (x.1).means; safe = (x.1).safe }) h
-Says-headline steps old new (status.Unproved listed) c name told h v = absurd v
-Says-headline steps old new (status.SourceRefused rule at) c name told h v = absurd v
-Says-headline steps old new status.WriteFault c name told h v = absurd v
-Says-headline steps old new status.Memory c name told h v = absurd v
-Says-headline steps old new status.BadWords c name told h v = absurd v
-Says-headline steps old new status.ReadFault c name told h v = absurd v
+ended_headline : (c : Command) (steps : ℕ) (input : List ℤ) (old new : Option (List ℕ)) (source : List ℕ) → HasEnded c steps input old new source → Verifies c → IsHeadline source
+ended_headline command.Verify steps input old new source x v = record { program = x.program; means = x.means; safe = x.safe }
+ended_headline command.Run steps input old new source x v = record { program = x.program; means = x.means; safe = x.safe }
+ended_headline command.RunUnverified steps input old new source x v = absurd v
+ended_headline command.Expand steps input old new source x v = absurd v
 
-ended_verify : (c : Command) (steps : ℕ) (old new : Option (List ℕ)) (source : List ℕ) → HasEnded c steps old new source → IsVerify c → IsToldVerified old new source
-ended_verify command.Verify steps old new source x v = x
-ended_verify command.Run steps old new source x v = absurd v
-ended_verify command.Expand steps old new source x v = absurd v
+spent_headline : (c : Command) (steps : ℕ) (input : List ℤ) (old new : Option (List ℕ)) (source : List ℕ) → IsSpent c steps input old new source → Verifies c → IsHeadline source
+spent_headline command.Verify steps input old new source x v = absurd x
+spent_headline command.Run steps input old new source x v = record { program = x.program; means = x.means; safe = x.safe }
+spent_headline command.RunUnverified steps input old new source x v = absurd v
+spent_headline command.Expand steps input old new source x v = absurd v
 
-ended_run : (c : Command) (steps : ℕ) (old new : Option (List ℕ)) (source : List ℕ) → HasEnded c steps old new source → IsRun c → HasRun steps old new source
-ended_run command.Verify steps old new source x v = absurd v
-ended_run command.Run steps old new source x v = x
-ended_run command.Expand steps old new source x v = absurd v
+stopped_headline : (at : Place) (c : Command) (steps : ℕ) (input : List ℤ) (old new : Option (List ℕ)) (source : List ℕ) → IsStopped at c steps input old new source → Verifies c → IsHeadline source
+stopped_headline at command.Verify steps input old new source x v = absurd x
+stopped_headline at command.Run steps input old new source x v = record { program = x.program; means = x.means; safe = x.safe }
+stopped_headline at command.RunUnverified steps input old new source x v = absurd v
+stopped_headline at command.Expand steps input old new source x v = absurd v
 
-ended_expand : (c : Command) (steps : ℕ) (old new : Option (List ℕ)) (source : List ℕ) → HasEnded c steps old new source → IsExpand c → IsExpanded old new source
-ended_expand command.Verify steps old new source x v = absurd v
-ended_expand command.Run steps old new source x v = absurd v
-ended_expand command.Expand steps old new source x v = x
+unadmitted_headline : (c : Command) (input : List ℤ) (old new : Option (List ℕ)) (source : List ℕ) → IsUnadmitted c input old new source → Verifies c → IsHeadline source
+unadmitted_headline command.Verify input old new source x v = absurd x
+unadmitted_headline command.Run input old new source x v = record { program = x.program; means = x.means; safe = x.safe }
+unadmitted_headline command.RunUnverified input old new source x v = absurd v
+unadmitted_headline command.Expand input old new source x v = absurd v
 
-pub Says-verified : (steps : ℕ) (old new : Option (List ℕ)) (st : Status) (c : Command) (name : List ℕ) (told : List ℕ → Told) → OfSource (told name) (Says steps old new st c) → st ≡ status.Ended → OfFile (Some (c, name)) told (λ asked source. IsVerify asked → IsToldVerified old new source)
-Says-verified steps old new st c name told h e =
-    OfSource-map (told name) (HasEnded c steps old new) (λ source. IsVerify c → IsToldVerified old new source) (λ source x. ended_verify c steps old new source x) (subst (λ x. OfSource (told name) (Says steps old new x c)) e h)
+pub Says-headline : (a : Asked) (old new : Option (List ℕ)) (st : Status) (told : List ℕ → Told) → OfSource (told a.file) (SaysOf a old new st) → IsVerified st
+    → OfFile (Some a) told (λ asked source. Verifies asked.command → IsHeadline source)
+Says-headline a old new status.Ended told h v = OfSource-map (told a.file) (SaysOf a old new status.Ended) (λ source. Verifies a.command → IsHeadline source) (λ source x. ended_headline a.command a.steps a.input old new source x) h
+Says-headline a old new status.StepsSpent told h v = OfSource-map (told a.file) (SaysOf a old new status.StepsSpent) (λ source. Verifies a.command → IsHeadline source) (λ source x. spent_headline a.command a.steps a.input old new source x) h
+Says-headline a old new (status.Stopped at) told h v = OfSource-map (told a.file) (SaysOf a old new (status.Stopped at)) (λ source. Verifies a.command → IsHeadline source) (λ source x. stopped_headline at a.command a.steps a.input old new source x) h
+Says-headline a old new (status.Failed kind at) told h v = absurd v
+Says-headline a old new status.NotAdmitted told h v = OfSource-map (told a.file) (SaysOf a old new status.NotAdmitted) (λ source. Verifies a.command → IsHeadline source) (λ source x. unadmitted_headline a.command a.input old new source x) h
+Says-headline a old new (status.Unproved listed) told h v = absurd v
+Says-headline a old new (status.SourceRefused rule at) told h v = absurd v
+Says-headline a old new status.WriteFault told h v = absurd v
+Says-headline a old new status.Memory told h v = absurd v
+Says-headline a old new status.BadWords told h v = absurd v
+Says-headline a old new status.ReadFault told h v = absurd v
 
-pub Says-ended : (steps : ℕ) (old new : Option (List ℕ)) (st : Status) (c : Command) (name : List ℕ) (told : List ℕ → Told) → OfSource (told name) (Says steps old new st c) → st ≡ status.Ended → OfFile (Some (c, name)) told (λ asked source. IsRun asked → HasRun steps old new source)
-Says-ended steps old new st c name told h e =
-    OfSource-map (told name) (HasEnded c steps old new) (λ source. IsRun c → HasRun steps old new source) (λ source x. ended_run c steps old new source x) (subst (λ x. OfSource (told name) (Says steps old new x c)) e h)
+ended_verify : (c : Command) (steps : ℕ) (input : List ℤ) (old new : Option (List ℕ)) (source : List ℕ) → HasEnded c steps input old new source → IsVerify c → IsToldVerified old new source
+ended_verify command.Verify steps input old new source x v = x
+ended_verify command.Run steps input old new source x v = absurd v
+ended_verify command.RunUnverified steps input old new source x v = absurd v
+ended_verify command.Expand steps input old new source x v = absurd v
 
-pub Says-expanded : (steps : ℕ) (old new : Option (List ℕ)) (st : Status) (c : Command) (name : List ℕ) (told : List ℕ → Told) → OfSource (told name) (Says steps old new st c) → st ≡ status.Ended → OfFile (Some (c, name)) told (λ asked source. IsExpand asked → IsExpanded old new source)
-Says-expanded steps old new st c name told h e =
-    OfSource-map (told name) (HasEnded c steps old new) (λ source. IsExpand c → IsExpanded old new source) (λ source x. ended_expand c steps old new source x) (subst (λ x. OfSource (told name) (Says steps old new x c)) e h)
+ended_run : (c : Command) (steps : ℕ) (input : List ℤ) (old new : Option (List ℕ)) (source : List ℕ) → HasEnded c steps input old new source → IsRun c → HasRun steps input old new source
+ended_run command.Verify steps input old new source x v = absurd v
+ended_run command.Run steps input old new source x v = x
+ended_run command.RunUnverified steps input old new source x v = absurd v
+ended_run command.Expand steps input old new source x v = absurd v
 
-pub Says-steps_spent : (steps : ℕ) (old new : Option (List ℕ)) (st : Status) (c : Command) (name : List ℕ) (told : List ℕ → Told) → OfSource (told name) (Says steps old new st c) → st ≡ status.StepsSpent → OfFile (Some (c, name)) told (λ asked source. IsRun asked × RunsOn steps old new source)
-Says-steps_spent steps old new st c name told h e = subst (λ x. OfSource (told name) (Says steps old new x c)) e h
+ended_run_unverified : (c : Command) (steps : ℕ) (input : List ℤ) (old new : Option (List ℕ)) (source : List ℕ) → HasEnded c steps input old new source → IsRunUnverified c → HasRunUnverified steps input old new source
+ended_run_unverified command.Verify steps input old new source x v = absurd v
+ended_run_unverified command.Run steps input old new source x v = absurd v
+ended_run_unverified command.RunUnverified steps input old new source x v = x
+ended_run_unverified command.Expand steps input old new source x v = absurd v
 
-pub Says-stopped : (steps : ℕ) (old new : Option (List ℕ)) (st : Status) (c : Command) (name : List ℕ) (told : List ℕ → Told) → OfSource (told name) (Says steps old new st c)
-    → IfStopped st (λ at. OfFile (Some (c, name)) told (λ asked source. IsRun asked × StopsAt at steps old new source))
-Says-stopped steps old new status.Ended c name told h = tt
-Says-stopped steps old new status.StepsSpent c name told h = tt
-Says-stopped steps old new (status.Stopped at) c name told h = h
-Says-stopped steps old new (status.Unproved listed) c name told h = tt
-Says-stopped steps old new (status.SourceRefused rule at) c name told h = tt
-Says-stopped steps old new status.WriteFault c name told h = tt
-Says-stopped steps old new status.Memory c name told h = tt
-Says-stopped steps old new status.BadWords c name told h = tt
-Says-stopped steps old new status.ReadFault c name told h = tt
+ended_expand : (c : Command) (steps : ℕ) (input : List ℤ) (old new : Option (List ℕ)) (source : List ℕ) → HasEnded c steps input old new source → IsExpand c → IsExpanded old new source
+ended_expand command.Verify steps input old new source x v = absurd v
+ended_expand command.Run steps input old new source x v = absurd v
+ended_expand command.RunUnverified steps input old new source x v = absurd v
+ended_expand command.Expand steps input old new source x v = x
 
-pub Says-unproved : (steps : ℕ) (old new : Option (List ℕ)) (st : Status) (c : Command) (name : List ℕ) (told : List ℕ → Told) → OfSource (told name) (Says steps old new st c)
-    → IfUnproved st (λ listed. OfFile (Some (c, name)) told (λ asked source. Verifies asked × IsToldUnproved listed old new source))
-Says-unproved steps old new status.Ended c name told h = tt
-Says-unproved steps old new status.StepsSpent c name told h = tt
-Says-unproved steps old new (status.Stopped at) c name told h = tt
-Says-unproved steps old new (status.Unproved listed) c name told h = h
-Says-unproved steps old new (status.SourceRefused rule at) c name told h = tt
-Says-unproved steps old new status.WriteFault c name told h = tt
-Says-unproved steps old new status.Memory c name told h = tt
-Says-unproved steps old new status.BadWords c name told h = tt
-Says-unproved steps old new status.ReadFault c name told h = tt
+pub Says-verified : (a : Asked) (old new : Option (List ℕ)) (st : Status) (told : List ℕ → Told) → OfSource (told a.file) (SaysOf a old new st) → st ≡ status.Ended
+    → OfFile (Some a) told (λ asked source. IsVerify asked.command → IsToldVerified old new source)
+Says-verified a old new st told h e =
+    OfSource-map (told a.file) (HasEnded a.command a.steps a.input old new) (λ source. IsVerify a.command → IsToldVerified old new source) (λ source x. ended_verify a.command a.steps a.input old new source x) (subst (λ x. OfSource (told a.file) (SaysOf a old new x)) e h)
+
+pub Says-ended : (a : Asked) (old new : Option (List ℕ)) (st : Status) (told : List ℕ → Told) → OfSource (told a.file) (SaysOf a old new st) → st ≡ status.Ended
+    → OfFile (Some a) told (λ asked source. IsRun asked.command → HasRun asked.steps asked.input old new source)
+Says-ended a old new st told h e =
+    OfSource-map (told a.file) (HasEnded a.command a.steps a.input old new) (λ source. IsRun a.command → HasRun a.steps a.input old new source) (λ source x. ended_run a.command a.steps a.input old new source x) (subst (λ x. OfSource (told a.file) (SaysOf a old new x)) e h)
+
+pub Says-ran : (a : Asked) (old new : Option (List ℕ)) (st : Status) (told : List ℕ → Told) → OfSource (told a.file) (SaysOf a old new st) → st ≡ status.Ended
+    → OfFile (Some a) told (λ asked source. IsRunUnverified asked.command → HasRunUnverified asked.steps asked.input old new source)
+Says-ran a old new st told h e =
+    OfSource-map (told a.file) (HasEnded a.command a.steps a.input old new) (λ source. IsRunUnverified a.command → HasRunUnverified a.steps a.input old new source) (λ source x. ended_run_unverified a.command a.steps a.input old new source x) (subst (λ x. OfSource (told a.file) (SaysOf a old new x)) e h)
+
+pub Says-expanded : (a : Asked) (old new : Option (List ℕ)) (st : Status) (told : List ℕ → Told) → OfSource (told a.file) (SaysOf a old new st) → st ≡ status.Ended
+    → OfFile (Some a) told (λ asked source. IsExpand asked.command → IsExpanded old new source)
+Says-expanded a old new st told h e =
+    OfSource-map (told a.file) (HasEnded a.command a.steps a.input old new) (λ source. IsExpand a.command → IsExpanded old new source) (λ source x. ended_expand a.command a.steps a.input old new source x) (subst (λ x. OfSource (told a.file) (SaysOf a old new x)) e h)
+
+pub Says-steps_spent : (a : Asked) (old new : Option (List ℕ)) (st : Status) (told : List ℕ → Told) → OfSource (told a.file) (SaysOf a old new st) → st ≡ status.StepsSpent
+    → OfFile (Some a) told (λ asked source. IsSpent asked.command asked.steps asked.input old new source)
+Says-steps_spent a old new st told h e = subst (λ x. OfSource (told a.file) (SaysOf a old new x)) e h
+
+pub Says-not_admitted : (a : Asked) (old new : Option (List ℕ)) (st : Status) (told : List ℕ → Told) → OfSource (told a.file) (SaysOf a old new st) → st ≡ status.NotAdmitted
+    → OfFile (Some a) told (λ asked source. IsUnadmitted asked.command asked.input old new source)
+Says-not_admitted a old new st told h e = subst (λ x. OfSource (told a.file) (SaysOf a old new x)) e h
+
+pub Says-stopped : (a : Asked) (old new : Option (List ℕ)) (st : Status) (told : List ℕ → Told) → OfSource (told a.file) (SaysOf a old new st)
+    → IfStopped st (λ at. OfFile (Some a) told (λ asked source. IsStopped at asked.command asked.steps asked.input old new source))
+Says-stopped a old new status.Ended told h = tt
+Says-stopped a old new status.StepsSpent told h = tt
+Says-stopped a old new (status.Stopped at) told h = h
+Says-stopped a old new (status.Failed kind at) told h = tt
+Says-stopped a old new status.NotAdmitted told h = tt
+Says-stopped a old new (status.Unproved listed) told h = tt
+Says-stopped a old new (status.SourceRefused rule at) told h = tt
+Says-stopped a old new status.WriteFault told h = tt
+Says-stopped a old new status.Memory told h = tt
+Says-stopped a old new status.BadWords told h = tt
+Says-stopped a old new status.ReadFault told h = tt
+
+pub Says-failed : (a : Asked) (old new : Option (List ℕ)) (st : Status) (told : List ℕ → Told) → OfSource (told a.file) (SaysOf a old new st)
+    → IfFailed st (λ kind at. OfFile (Some a) told (λ asked source. IsRunUnverified asked.command × FailsUnverified kind at asked.steps asked.input old new source))
+Says-failed a old new status.Ended told h = tt
+Says-failed a old new status.StepsSpent told h = tt
+Says-failed a old new (status.Stopped at) told h = tt
+Says-failed a old new (status.Failed kind at) told h = h
+Says-failed a old new status.NotAdmitted told h = tt
+Says-failed a old new (status.Unproved listed) told h = tt
+Says-failed a old new (status.SourceRefused rule at) told h = tt
+Says-failed a old new status.WriteFault told h = tt
+Says-failed a old new status.Memory told h = tt
+Says-failed a old new status.BadWords told h = tt
+Says-failed a old new status.ReadFault told h = tt
+
+pub Says-unproved : (a : Asked) (old new : Option (List ℕ)) (st : Status) (told : List ℕ → Told) → OfSource (told a.file) (SaysOf a old new st)
+    → IfUnproved st (λ listed. OfFile (Some a) told (λ asked source. Verifies asked.command × IsToldUnproved listed old new source))
+Says-unproved a old new status.Ended told h = tt
+Says-unproved a old new status.StepsSpent told h = tt
+Says-unproved a old new (status.Stopped at) told h = tt
+Says-unproved a old new (status.Failed kind at) told h = tt
+Says-unproved a old new status.NotAdmitted told h = tt
+Says-unproved a old new (status.Unproved listed) told h = h
+Says-unproved a old new (status.SourceRefused rule at) told h = tt
+Says-unproved a old new status.WriteFault told h = tt
+Says-unproved a old new status.Memory told h = tt
+Says-unproved a old new status.BadWords told h = tt
+Says-unproved a old new status.ReadFault told h = tt
 
 nothing_in : (told : Told) (P : List ℕ → Type 0) (Q : Type 0) → ((source : List ℕ) → P source → Q) → OfSource told P → Q
 nothing_in None P Q f h = f h.0 h.1
 nothing_in (Some None) P Q f h = absurd h
 nothing_in (Some (Some source)) P Q f h = f source h
 
-pub Says-silent : (steps : ℕ) (old new : Option (List ℕ)) (st : Status) (c : Command) (told : Told) → OfSource told (Says steps old new st c) → IsSilent st → Grew old new []
-Says-silent steps old new status.Ended c told h v = absurd v
-Says-silent steps old new status.StepsSpent c told h v = absurd v
-Says-silent steps old new (status.Stopped at) c told h v = absurd v
-Says-silent steps old new (status.Unproved listed) c told h v = absurd v
-Says-silent steps old new (status.SourceRefused rule at) c told h v = nothing_in told (Says steps old new (status.SourceRefused rule at) c) (Grew old new []) (λ source x. x.1) h
-Says-silent steps old new status.WriteFault c told h v = absurd v
-Says-silent steps old new status.Memory c told h v = absurd v
-Says-silent steps old new status.BadWords c told h v = nothing_in told (Says steps old new status.BadWords c) (Grew old new []) (λ source x. absurd x) h
-Says-silent steps old new status.ReadFault c told h v = nothing_in told (Says steps old new status.ReadFault c) (Grew old new []) (λ source x. absurd x) h
+unadmitted_nothing : (c : Command) (input : List ℤ) (old new : Option (List ℕ)) (source : List ℕ) → IsUnadmitted c input old new source → Grew old new []
+unadmitted_nothing command.Verify input old new source x = absurd x
+unadmitted_nothing command.Run input old new source x = x.nothing
+unadmitted_nothing command.RunUnverified input old new source x = x.nothing
+unadmitted_nothing command.Expand input old new source x = absurd x
+
+pub Says-silent : (a : Asked) (old new : Option (List ℕ)) (st : Status) (told : List ℕ → Told) → OfSource (told a.file) (SaysOf a old new st) → IsSilent st → Grew old new []
+Says-silent a old new status.Ended told h v = absurd v
+Says-silent a old new status.StepsSpent told h v = absurd v
+Says-silent a old new (status.Stopped at) told h v = absurd v
+Says-silent a old new (status.Failed kind at) told h v = absurd v
+Says-silent a old new status.NotAdmitted told h v = nothing_in (told a.file) (SaysOf a old new status.NotAdmitted) (Grew old new []) (λ source x. unadmitted_nothing a.command a.input old new source x) h
+Says-silent a old new (status.Unproved listed) told h v = absurd v
+Says-silent a old new (status.SourceRefused rule at) told h v = nothing_in (told a.file) (SaysOf a old new (status.SourceRefused rule at)) (Grew old new []) (λ source x. x.1) h
+Says-silent a old new status.WriteFault told h v = absurd v
+Says-silent a old new status.Memory told h v = absurd v
+Says-silent a old new status.BadWords told h v = nothing_in (told a.file) (SaysOf a old new status.BadWords) (Grew old new []) (λ source x. absurd x) h
+Says-silent a old new status.ReadFault told h v = nothing_in (told a.file) (SaysOf a old new status.ReadFault) (Grew old new []) (λ source x. absurd x) h
 
 -- of nothing or something of the source, where something can't be told without a source
 either : (told : Told) (A : Type 0) (P : List ℕ → Type 0) → OfSource told (λ source. A ⊎ P source) → A ⊎ OfSource told P
@@ -219,11 +304,13 @@ either None A P h = ⊎_elim (λ a. inl a) (λ p. inr (h.0, p)) h.1
 either (Some None) A P h = absurd h
 either (Some (Some source)) A P h = h
 
-pub Says-written : (steps : ℕ) (old new : Option (List ℕ)) (st : Status) (c : Command) (name : List ℕ) (told : List ℕ → Told) → OfSource (told name) (Says steps old new st c) → st ≡ status.WriteFault → OfFile (Some (c, name)) told (IsWrittenInPart steps old new)
-Says-written steps old new st c name told h e = subst (λ x. OfSource (told name) (Says steps old new x c)) e h
+pub Says-written : (a : Asked) (old new : Option (List ℕ)) (st : Status) (told : List ℕ → Told) → OfSource (told a.file) (SaysOf a old new st) → st ≡ status.WriteFault
+    → OfFile (Some a) told (λ asked source. IsWrittenInPart asked.steps asked.input old new asked.command source)
+Says-written a old new st told h e = subst (λ x. OfSource (told a.file) (SaysOf a old new x)) e h
 
-pub Says-memory : (steps : ℕ) (old new : Option (List ℕ)) (st : Status) (c : Command) (name : List ℕ) (told : List ℕ → Told) → OfSource (told name) (Says steps old new st c) → st ≡ status.Memory → Grew old new [] ⊎ OfFile (Some (c, name)) told (IsWrittenInPart steps old new)
-Says-memory steps old new st c name told h e = either (told name) (Grew old new []) (IsWrittenInPart steps old new c) (subst (λ x. OfSource (told name) (Says steps old new x c)) e h)
+pub Says-memory : (a : Asked) (old new : Option (List ℕ)) (st : Status) (told : List ℕ → Told) → OfSource (told a.file) (SaysOf a old new st) → st ≡ status.Memory
+    → Grew old new [] ⊎ OfFile (Some a) told (λ asked source. IsWrittenInPart asked.steps asked.input old new asked.command source)
+Says-memory a old new st told h e = either (told a.file) (Grew old new []) (IsWrittenInPart a.steps a.input old new a.command) (subst (λ x. OfSource (told a.file) (SaysOf a old new x)) e h)
 
 -- a read leaves the counts of all names but its own
 pub reads_only : {T : Type 0} (before now : List ℕ → ℕ) (file : Option (List ℕ)) (name : List ℕ) (r : Result T ReadStop) → file ≡ Some name → ReadCounts before now name r → ReadsOnly file before now
@@ -241,8 +328,8 @@ reads_only before now file name r named h = record {
 pub reads_nothing : (before : List ℕ → ℕ) (file : Option (List ℕ)) → ReadsOnly file before before
 reads_nothing before file = record { others = λ name differs. refl; later = λ name. omega arith }
 
-pub Says-not : (steps : ℕ) (old new : Option (List ℕ)) (st : Status) (c : Command) (told : Told) → OfSource told (Says steps old new st c) → (st ≡ status.BadWords → ⊥) × (st ≡ status.ReadFault → ⊥)
-Says-not steps old new st c told h = (
-  λ e. nothing_in told (Says steps old new status.BadWords c) ⊥ (λ source x. x) (subst (λ x. OfSource told (Says steps old new x c)) e h),
-  λ e. nothing_in told (Says steps old new status.ReadFault c) ⊥ (λ source x. x) (subst (λ x. OfSource told (Says steps old new x c)) e h),
+pub Says-not : (a : Asked) (old new : Option (List ℕ)) (st : Status) (told : List ℕ → Told) → OfSource (told a.file) (SaysOf a old new st) → (st ≡ status.BadWords → ⊥) × (st ≡ status.ReadFault → ⊥)
+Says-not a old new st told h = (
+  λ e. nothing_in (told a.file) (SaysOf a old new status.BadWords) ⊥ (λ source x. x) (subst (λ x. OfSource (told a.file) (SaysOf a old new x)) e h),
+  λ e. nothing_in (told a.file) (SaysOf a old new status.ReadFault) ⊥ (λ source x. x) (subst (λ x. OfSource (told a.file) (SaysOf a old new x)) e h),
 )

@@ -1,6 +1,8 @@
 -- What the answers of the command say.
-use Rattle.std.specs.Prelude.{ℕ, ◌≡◌, ◌≢◌, ◌≤◌, ◌⊎◌, List, [], ◌∷◌, ◌++◌, Option, Some, None, codes}
+use Rattle.std.specs.Prelude.{ℕ, ℤ, ◌≡◌, ◌≢◌, ◌≤◌, ◌⊎◌, List, [], ◌∷◌, ◌++◌, Option, Some, None, map, String, string_bytes, codes}
 use Rattle.ss_io.specs.Outside.{Told, Grew, GrewByFront}
+use Rattle.std.specs.declared.alloc.Global.{Global}
+use Rattle.ss_core.specs.declared.names.Kind.{Kind}
 use Rattle.ss_core.specs.declared.names.Place.{Place}
 use Rattle.ss_core.specs.declared.names.FrontStop.{FrontStop}
 use Rattle.ss_core.specs.declared.names.FrontStop.TheVariants as front
@@ -14,13 +16,27 @@ use Rattle.ss_sound.specs.Verdicts.{IsUnproved}
 use Rattle.ss_report.specs.declared.status.Status.{Status}
 use Rattle.ss_report.specs.declared.status.Status.TheVariants as status
 use Rattle.ss_report.specs.Verdict.{verdict_text}
+use Rattle.ss_top_words.specs.Words.{Asked, asked}
 use Rattle.ss_top.specs.declared.source.Goal.{Goal}
 use Rattle.ss_top.specs.declared.source.Goal.TheVariants as goal
-use Rattle.ss_top.specs.declared.words.Command.{Command}
-use Rattle.ss_top.specs.declared.words.Command.TheVariants as command
+use Rattle.ss_top_words.specs.declared.Command.{Command}
+use Rattle.ss_top_words.specs.declared.Command.TheVariants as command
 use Rattle.ss_core.specs.Tree as whole
 use Rattle.ss_report_core.specs.Text.{core_text}
 use Rattle.ss_top.specs.Sources.{Means, Expands, IsStop}
+use Rattle.ss_top.specs.Unverified.{HasRunUnverified, RunsOnUnverified, StopsUnverified, FailsUnverified, IsNotAdmitted, RunsInPart}
+
+-- what the words ask for
+abbrev pub asked_by : List (String Global) → Option Asked
+asked_by words = asked (map string_bytes words)
+
+abbrev pub file_named : Option Asked → Option (List ℕ)
+file_named None = None
+file_named (Some a) = Some a.file
+
+-- the name of the file of the words
+abbrev pub file_of : List (String Global) → Option (List ℕ)
+file_of words = file_named (asked_by words)
 
 -- the bytes of the file, where they are told, have this property; where they aren't told, some bytes have it
 abbrev pub OfSource : Told → (List ℕ → Type 0) → Type 0
@@ -28,10 +44,10 @@ OfSource None P = (source : List ℕ) × P source
 OfSource (Some None) P = ⊥
 OfSource (Some (Some source)) P = P source
 
--- the same of the command of the words and the file that they name
-abbrev pub OfFile : Option (Command × List ℕ) → (List ℕ → Told) → (Command → List ℕ → Type 0) → Type 0
+-- the same of what the words ask for and the file that they name
+abbrev pub OfFile : Option Asked → (List ℕ → Told) → (Asked → List ℕ → Type 0) → Type 0
 OfFile None told P = ⊥
-OfFile (Some asked) told P = OfSource (told asked.1) (P asked.0)
+OfFile (Some a) told P = OfSource (told a.file) (P a)
 
 abbrev pub IsDone : State → Type 0
 IsDone (Running fs before) = ⊥
@@ -63,29 +79,41 @@ pub record IsToldVerified (old new : Option (List ℕ)) (source : List ℕ) : Ty
   pub safe : IsSafe program
   pub took : Grew old new verified_line
 
--- the program is safe, its run is done within these steps, and the sink took exactly what the run printed
-pub record HasRun (steps : ℕ) (old new : Option (List ℕ)) (source : List ℕ) : Type 0 where
+-- The program is safe, its run is done within these steps, and the sink took exactly what the run printed. The Main of a program of the
+-- second form has no parameter, and so it is run on the empty input alone.
+pub record HasRun (steps : ℕ) (input : List ℤ) (old new : Option (List ℕ)) (source : List ℕ) : Type 0 where
   pub program : CoreTree
   pub means : Means source program
   pub safe : IsSafe program
+  pub empty : input ≡ []
   pub done : IsDone (run program steps)
   pub took : Grew old new (printed program steps)
 
 -- the same, but after these steps the run isn't at its end
-pub record RunsOn (steps : ℕ) (old new : Option (List ℕ)) (source : List ℕ) : Type 0 where
+pub record RunsOn (steps : ℕ) (input : List ℤ) (old new : Option (List ℕ)) (source : List ℕ) : Type 0 where
   pub program : CoreTree
   pub means : Means source program
   pub safe : IsSafe program
+  pub empty : input ≡ []
   pub running : IsRunning (run program steps)
   pub took : Grew old new (printed program steps)
 
 -- the same, but within these steps the run stopped at an assumption that is false, which is at this place
-pub record StopsAt (at : Place) (steps : ℕ) (old new : Option (List ℕ)) (source : List ℕ) : Type 0 where
+pub record StopsAt (at : Place) (steps : ℕ) (input : List ℤ) (old new : Option (List ℕ)) (source : List ℕ) : Type 0 where
   pub program : CoreTree
   pub means : Means source program
   pub safe : IsSafe program
+  pub empty : input ≡ []
   pub stopped : HasStopped program at steps
   pub took : Grew old new (printed program steps)
+
+-- the program is safe, but its Main has no parameter and the input isn't empty; the sink took nothing
+pub record TakesNoInput (input : List ℤ) (old new : Option (List ℕ)) (source : List ℕ) : Type 0 where
+  pub program : CoreTree
+  pub means : Means source program
+  pub safe : IsSafe program
+  pub given : input ≢ []
+  pub nothing : Grew old new []
 
 -- the listed obligations are refuted by their models and all others valid, and the sink took exactly the text of the verdict
 pub record IsToldUnproved (listed : List Countered) (old new : Option (List ℕ)) (source : List ℕ) : Type 0 where
@@ -122,10 +150,11 @@ pub record IsExpandedInPart (old new : Option (List ℕ)) (source : List ℕ) : 
   pub front : GrewByFront old new (core_text program)
 
 -- the sink took a front of what the answers above let be written
-abbrev pub IsWrittenInPart : ℕ → Option (List ℕ) → Option (List ℕ) → Command → List ℕ → Type 0
-IsWrittenInPart steps old new command.Verify source = IsVerifiedInPart verified_text old new source ⊎ IsToldInPart old new source
-IsWrittenInPart steps old new command.Run source = IsVerifiedInPart (run_text steps) old new source ⊎ IsToldInPart old new source
-IsWrittenInPart steps old new command.Expand source = IsExpandedInPart old new source
+abbrev pub IsWrittenInPart : ℕ → List ℤ → Option (List ℕ) → Option (List ℕ) → Command → List ℕ → Type 0
+IsWrittenInPart steps input old new command.Verify source = IsVerifiedInPart verified_text old new source ⊎ IsToldInPart old new source
+IsWrittenInPart steps input old new command.Run source = IsVerifiedInPart (run_text steps) old new source ⊎ IsToldInPart old new source
+IsWrittenInPart steps input old new command.RunUnverified source = RunsInPart steps input old new source
+IsWrittenInPart steps input old new command.Expand source = IsExpandedInPart old new source
 
 -- no count of faults falls, and only that of the file may rise
 pub record ReadsOnly (file : Option (List ℕ)) (before now : List ℕ → ℕ) : Type 0 where
@@ -137,22 +166,32 @@ pub record ReadsOnly (file : Option (List ℕ)) (before now : List ℕ → ℕ) 
 abbrev pub IsRun : Command → Type 0
 IsRun command.Verify = ⊥
 IsRun command.Run = Unit {0}
+IsRun command.RunUnverified = ⊥
 IsRun command.Expand = ⊥
+
+abbrev pub IsRunUnverified : Command → Type 0
+IsRunUnverified command.Verify = ⊥
+IsRunUnverified command.Run = ⊥
+IsRunUnverified command.RunUnverified = Unit {0}
+IsRunUnverified command.Expand = ⊥
 
 abbrev pub IsVerify : Command → Type 0
 IsVerify command.Verify = Unit {0}
 IsVerify command.Run = ⊥
+IsVerify command.RunUnverified = ⊥
 IsVerify command.Expand = ⊥
 
 abbrev pub IsExpand : Command → Type 0
 IsExpand command.Verify = ⊥
 IsExpand command.Run = ⊥
+IsExpand command.RunUnverified = ⊥
 IsExpand command.Expand = Unit {0}
 
 -- the commands that verify
 abbrev pub Verifies : Command → Type 0
 Verifies command.Verify = Unit {0}
 Verifies command.Run = Unit {0}
+Verifies command.RunUnverified = ⊥
 Verifies command.Expand = ⊥
 
 -- ---- by the answer
@@ -169,11 +208,16 @@ abbrev pub IfStopped : Status → (Place → Type 0) → Type 0
 IfStopped (status.Stopped at) P = P at
 IfStopped _ P = Unit {0}
 
+abbrev pub IfFailed : Status → (Kind → Place → Type 0) → Type 0
+IfFailed (status.Failed kind at) P = P kind at
+IfFailed _ P = Unit {0}
+
 -- the answers of the commands that verify that say that the program was verified
 abbrev pub IsVerified : Status → Type 0
 IsVerified status.Ended = Unit {0}
 IsVerified status.StepsSpent = Unit {0}
 IsVerified (status.Stopped at) = Unit {0}
+IsVerified status.NotAdmitted = Unit {0}
 IsVerified _ = ⊥
 
 -- the answers that come before anything is written
@@ -181,6 +225,7 @@ abbrev pub IsSilent : Status → Type 0
 IsSilent status.BadWords = Unit {0}
 IsSilent status.ReadFault = Unit {0}
 IsSilent (status.SourceRefused rule at) = Unit {0}
+IsSilent status.NotAdmitted = Unit {0}
 IsSilent _ = ⊥
 
 -- the answer to a source that is refused
@@ -195,18 +240,42 @@ command_of_goal goal.Run = command.Run
 
 -- ---- what an answer says of a source that was read
 
-abbrev pub HasEnded : Command → ℕ → Option (List ℕ) → Option (List ℕ) → List ℕ → Type 0
-HasEnded command.Verify steps old new source = IsToldVerified old new source
-HasEnded command.Run steps old new source = HasRun steps old new source
-HasEnded command.Expand steps old new source = IsExpanded old new source
+abbrev pub HasEnded : Command → ℕ → List ℤ → Option (List ℕ) → Option (List ℕ) → List ℕ → Type 0
+HasEnded command.Verify steps input old new source = IsToldVerified old new source
+HasEnded command.Run steps input old new source = HasRun steps input old new source
+HasEnded command.RunUnverified steps input old new source = HasRunUnverified steps input old new source
+HasEnded command.Expand steps input old new source = IsExpanded old new source
 
-abbrev pub Says : ℕ → Option (List ℕ) → Option (List ℕ) → Status → Command → List ℕ → Type 0
-Says steps old new status.Ended c source = HasEnded c steps old new source
-Says steps old new status.StepsSpent c source = IsRun c × RunsOn steps old new source
-Says steps old new (status.Stopped at) c source = IsRun c × StopsAt at steps old new source
-Says steps old new (status.Unproved listed) c source = Verifies c × IsToldUnproved listed.items old new source
-Says steps old new (status.SourceRefused rule at) c source = IsStop c source rule at × Grew old new []
-Says steps old new status.WriteFault c source = IsWrittenInPart steps old new c source
-Says steps old new status.Memory c source = Grew old new [] ⊎ IsWrittenInPart steps old new c source
-Says steps old new status.BadWords c source = ⊥
-Says steps old new status.ReadFault c source = ⊥
+-- after its steps the run isn't at its end
+abbrev pub IsSpent : Command → ℕ → List ℤ → Option (List ℕ) → Option (List ℕ) → List ℕ → Type 0
+IsSpent command.Verify steps input old new source = ⊥
+IsSpent command.Run steps input old new source = RunsOn steps input old new source
+IsSpent command.RunUnverified steps input old new source = RunsOnUnverified steps input old new source
+IsSpent command.Expand steps input old new source = ⊥
+
+-- within its steps the run stopped at an assumption that is false, which is at this place
+abbrev pub IsStopped : Place → Command → ℕ → List ℤ → Option (List ℕ) → Option (List ℕ) → List ℕ → Type 0
+IsStopped at command.Verify steps input old new source = ⊥
+IsStopped at command.Run steps input old new source = StopsAt at steps input old new source
+IsStopped at command.RunUnverified steps input old new source = StopsUnverified at steps input old new source
+IsStopped at command.Expand steps input old new source = ⊥
+
+-- the program doesn't admit the input
+abbrev pub IsUnadmitted : Command → List ℤ → Option (List ℕ) → Option (List ℕ) → List ℕ → Type 0
+IsUnadmitted command.Verify input old new source = ⊥
+IsUnadmitted command.Run input old new source = TakesNoInput input old new source
+IsUnadmitted command.RunUnverified input old new source = IsNotAdmitted input old new source
+IsUnadmitted command.Expand input old new source = ⊥
+
+abbrev pub Says : ℕ → List ℤ → Option (List ℕ) → Option (List ℕ) → Status → Command → List ℕ → Type 0
+Says steps input old new status.Ended c source = HasEnded c steps input old new source
+Says steps input old new status.StepsSpent c source = IsSpent c steps input old new source
+Says steps input old new (status.Stopped at) c source = IsStopped at c steps input old new source
+Says steps input old new (status.Failed kind at) c source = IsRunUnverified c × FailsUnverified kind at steps input old new source
+Says steps input old new status.NotAdmitted c source = IsUnadmitted c input old new source
+Says steps input old new (status.Unproved listed) c source = Verifies c × IsToldUnproved listed.items old new source
+Says steps input old new (status.SourceRefused rule at) c source = IsStop c source rule at × Grew old new []
+Says steps input old new status.WriteFault c source = IsWrittenInPart steps input old new c source
+Says steps input old new status.Memory c source = Grew old new [] ⊎ IsWrittenInPart steps input old new c source
+Says steps input old new status.BadWords c source = ⊥
+Says steps input old new status.ReadFault c source = ⊥

@@ -1,3 +1,3 @@
-pub mod Words
 pub mod Sources
+pub mod Unverified
 pub mod Answers

@@ -1,5 +1,5 @@
 -- What a source means to a command, and where it is refused.
-use Rattle.std.specs.Prelude.{ℕ, ◌≡◌, ◌⊎◌, true, false, List, Option, Some, None, Result, Ok, Err}
+use Rattle.std.specs.Prelude.{ℕ, ◌≡◌, ◌⊎◌, List, Some, None, Result, Ok, Err}
 use Rattle.ss_core.specs.declared.names.Place.{Place}
 use Rattle.ss_core.specs.declared.names.FrontStop.{FrontStop}
 use Rattle.ss_core.specs.declared.names.FrontStop.TheVariants as front
@@ -13,8 +13,8 @@ use Rattle.ss_typed.specs.Tree.{TypedTree}
 use Rattle.ss_expand_rules.specs.Elaborated.{elaborated}
 use Rattle.ss_second.specs.Second.{second_form}
 use Rattle.ss_top_sources.specs.Sources.{IsAccepted, IsRefused}
-use Rattle.ss_top.specs.declared.words.Command.{Command}
-use Rattle.ss_top.specs.declared.words.Command.TheVariants as command
+use Rattle.ss_top_words.specs.declared.Command.{Command}
+use Rattle.ss_top_words.specs.declared.Command.TheVariants as command
 
 -- the source is accepted, and this is its core program
 pub record Expands (source : List ℕ) (c : whole.CoreTree) : Type 0 where
@@ -37,7 +37,7 @@ pub record IsNotOfForm (source : List ℕ) : Type 0 where
   pub accepted : IsAccepted source tokens program
   pub differs : second_form program ≡ None
 
--- what is verified and run so far are programs of the second form: each other one is refused by rule 90 at 1:1
+-- what is verified so far are programs of the second form: each other one is refused by rule 90 at 1:1
 abbrev pub IsUnbuilt : List ℕ → ℕ → Place → Type 0
 IsUnbuilt source rule at = (rule ≡ 90) × (at ≡ start) × IsNotOfForm source
 
@@ -45,6 +45,7 @@ IsUnbuilt source rule at = (rule ≡ 90) × (at ≡ start) × IsNotOfForm source
 abbrev pub IsStop : Command → List ℕ → ℕ → Place → Type 0
 IsStop command.Verify source rule at = IsRefused source rule at ⊎ IsUnbuilt source rule at
 IsStop command.Run source rule at = IsRefused source rule at ⊎ IsUnbuilt source rule at
+IsStop command.RunUnverified source rule at = IsRefused source rule at
 IsStop command.Expand source rule at = IsRefused source rule at
 
 -- what is answered to a source that is to be verified: a program of the second form that it means, or its first fault

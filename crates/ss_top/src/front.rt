@@ -1,14 +1,16 @@
 // From the bytes of a source to its program of the second form.
 
-ghost use Rattle.std.specs.Prelude.{IfOk};
+ghost use Rattle.std.specs.Prelude.{◌≡◌, IfOk};
 ghost use Rattle.ss_second_core.specs.View.{core};
 ghost use Rattle.ss_second_run.specs.Formed.{IsFormed};
 ghost use Rattle.ss_ast.specs.Tokens.{toks};
 ghost use Rattle.ss_typed.specs.View.{typed};
 ghost use Rattle.ss_top_sources.specs.Sources.{IsAccepted};
 ghost use Rattle.ss_top.specs.Sources.{Gives};
+ghost use Rattle.ss_top.specs.Answers.{answer_to};
 
 use ss_core::{FrontStop, Place};
+use ss_report::Status;
 use ss_second::{FormStop, second_form};
 use ss_second_core::Core;
 use ss_top_sources::{Accepted, elaborate, read_source};
@@ -46,5 +48,15 @@ pub fn read_form(alloc: Global, source: &[u8]) -> Result<Core, FrontStop>
     match read_source(alloc, source) {
         Ok(accepted) => read_accepted(alloc, source, &accepted),
         Err(stop) => Err(stop),
+    }
+}
+
+/// The answer to a source that is refused.
+pub fn refuse(stop: FrontStop) -> Status
+    ensures { result ≡ answer_to stop }
+{
+    match stop {
+        FrontStop::Refused { rule, place } => Status::SourceRefused { rule, place },
+        FrontStop::Memory => Status::Memory,
     }
 }

@@ -4,7 +4,7 @@ ghost use Rattle.std.specs.Prelude.{◌≡◌, ℕ, List};
 ghost use Rattle.ss_core.specs.declared.names.Place.{Place};
 ghost use Rattle.ss_second_core.specs.Tree.{CoreTree};
 ghost use Rattle.ss_core.specs.Tree as whole;
-ghost use Rattle.ss_top.specs.declared.words.Command.{Command as AnyCommand};
+ghost use Rattle.ss_top_words.specs.declared.Command.{Command as AnyCommand};
 ghost use Rattle.ss_top.specs.Sources.{Expands, Means, IsStop};
 
 /// A source means one program of the second form at most.

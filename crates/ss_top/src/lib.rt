@@ -5,7 +5,7 @@ mod front;
 mod laws;
 mod source;
 mod top;
-mod words;
+mod unverified;
 
 pub use laws::{no_fault, one_core, one_fault, one_meaning};
 pub use top::specsharp;

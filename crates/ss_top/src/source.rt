@@ -1,6 +1,6 @@
 // A source that was read.
 
-ghost use Rattle.std.specs.Prelude.{◌≡◌, ℕ, ◌≤◌};
+ghost use Rattle.std.specs.Prelude.{◌≡◌, ℕ, ℤ, List, ◌≤◌, ◌<◌, ◌^◌, length};
 ghost use Rattle.ss_io.specs.Outside.{Rose};
 ghost use Rattle.ss_second_core.specs.View.{core};
 ghost use Rattle.ss_second_run.specs.Formed.{IsFormed};
@@ -12,21 +12,21 @@ ghost use Rattle.ss_top.specs.Sources.{Means};
 ghost use Rattle.ss_ast.specs.Tokens.{toks};
 ghost use Rattle.ss_typed.specs.View.{typed};
 ghost use Rattle.ss_top_sources.specs.Sources.{IsAccepted};
-ghost use Rattle.ss_top.specs.Answers.{Says, answer_to, command_of_goal};
+ghost use Rattle.ss_top.specs.Answers.{Says, command_of_goal};
 ghost use Rattle.ss_top.specs.declared.source.Goal.{Goal as AnyGoal};
-ghost use Rattle.ss_top.specs.declared.words.Command.TheVariants as asked;
+ghost use Rattle.ss_top_words.specs.declared.Command.TheVariants as goals;
 
-use crate::front::read_form;
-use crate::words::Command;
-use ss_core::FrontStop;
+use crate::front::{read_form, refuse};
+use crate::unverified::run_unverified;
 use ss_io::{Sink, WriteStop};
-use ss_second_machine::{CheckedEnd, run_checked};
 use ss_report::{Status, verdict_text};
 use ss_report_core::core_text;
 use ss_search::Countered;
 use ss_second_core::Core;
+use ss_second_machine::{CheckedEnd, run_checked};
 use ss_sound::{Verdict, verify};
 use ss_top_sources::{Accepted, elaborate, read_source};
+use ss_top_words::{Asked, Command};
 use ss_vcgen::{Obligations, obligations};
 use std::alloc::Global;
 
@@ -39,38 +39,24 @@ pub enum Goal {
     Run,
 }
 
-/// Does what the command asks of a source; a run has so many steps.
-pub fn answer_source<S: Sink>(
-    alloc: Global,
-    command: Command,
-    source: &[u8],
-    steps: u64,
-    out: &mut S,
-) -> Status
-    ensures says { Says steps (S.taken out.old) (S.taken out.new) result command source.now }
+/// Does what is asked of a source.
+pub fn answer_source<S: Sink>(alloc: Global, asked: &Asked, source: &[u8], out: &mut S) -> Status
+    requires short { length asked.now.input.items < 2 ^ 31 }
+    ensures says { Says asked.now.steps asked.now.input.items (S.taken out.old) (S.taken out.new) result asked.now.command source.now }
     ensures faults { S.faults out.old ≤ S.faults out.new }
     ensures cause { result ≡ Status.WriteFault → Rose (S.faults out.old) (S.faults out.new) }
 {
-    match command {
-        Command::Verify => verify_source(alloc, Goal::Verdict, source, steps, out),
-        Command::Run => verify_source(alloc, Goal::Run, source, steps, out),
+    match asked.command {
+        Command::Verify => verify_source(alloc, Goal::Verdict, asked, source, out),
+        Command::Run => verify_source(alloc, Goal::Run, asked, source, out),
+        Command::RunUnverified => run_unverified(alloc, asked, source, out),
         Command::Expand => expand_source(alloc, source, out),
-    }
-}
-
-// The answer to a source that is refused.
-fn refuse(stop: FrontStop) -> Status
-    ensures { result ≡ answer_to stop }
-{
-    match stop {
-        FrontStop::Refused { rule, place } => Status::SourceRefused { rule, place },
-        FrontStop::Memory => Status::Memory,
     }
 }
 
 // Writes the core program of a source.
 fn expand_source<S: Sink>(alloc: Global, source: &[u8], out: &mut S) -> Status
-    ensures says { (steps : ℕ) → Says steps (S.taken out.old) (S.taken out.new) result asked.Expand source.now }
+    ensures says { (steps : ℕ) (input : List ℤ) → Says steps input (S.taken out.old) (S.taken out.new) result goals.Expand source.now }
     ensures faults { S.faults out.old ≤ S.faults out.new }
     ensures cause { result ≡ Status.WriteFault → Rose (S.faults out.old) (S.faults out.new) }
 {
@@ -88,7 +74,7 @@ fn expand_accepted<S: Sink>(
     out: &mut S,
 ) -> Status
     requires accepted { IsAccepted source.now (toks accepted.now.tokens.items) (typed accepted.now.program) }
-    ensures says { (steps : ℕ) → Says steps (S.taken out.old) (S.taken out.new) result asked.Expand source.now }
+    ensures says { (steps : ℕ) (input : List ℤ) → Says steps input (S.taken out.old) (S.taken out.new) result goals.Expand source.now }
     ensures faults { S.faults out.old ≤ S.faults out.new }
     ensures cause { result ≡ Status.WriteFault → Rose (S.faults out.old) (S.faults out.new) }
 {
@@ -110,16 +96,16 @@ fn expand_accepted<S: Sink>(
 fn verify_source<S: Sink>(
     alloc: Global,
     goal: Goal,
+    asked: &Asked,
     source: &[u8],
-    steps: u64,
     out: &mut S,
 ) -> Status
-    ensures says { Says steps (S.taken out.old) (S.taken out.new) result (command_of_goal goal) source.now }
+    ensures says { Says asked.now.steps asked.now.input.items (S.taken out.old) (S.taken out.new) result (command_of_goal goal) source.now }
     ensures faults { S.faults out.old ≤ S.faults out.new }
     ensures cause { result ≡ Status.WriteFault → Rose (S.faults out.old) (S.faults out.new) }
 {
     match read_form(alloc, source) {
-        Ok(program) => answer_program(alloc, goal, source, &program, steps, out),
+        Ok(program) => answer_program(alloc, goal, asked, source, &program, out),
         Err(stop) => refuse(stop),
     }
 }
@@ -128,14 +114,14 @@ fn verify_source<S: Sink>(
 fn answer_program<S: Sink>(
     alloc: Global,
     goal: Goal,
+    asked: &Asked,
     source: &[u8],
     program: &Core,
-    steps: u64,
     out: &mut S,
 ) -> Status
     requires means { Means source.now (core program.now) }
     requires formed { IsFormed (core program.now) }
-    ensures says { Says steps (S.taken out.old) (S.taken out.new) result (command_of_goal goal) source.now }
+    ensures says { Says asked.now.steps asked.now.input.items (S.taken out.old) (S.taken out.new) result (command_of_goal goal) source.now }
     ensures faults { S.faults out.old ≤ S.faults out.new }
     ensures cause { result ≡ Status.WriteFault → Rose (S.faults out.old) (S.faults out.new) }
 {
@@ -143,7 +129,7 @@ fn answer_program<S: Sink>(
         return Status::Memory;
     };
     match verify(alloc, program, &mut obligations) {
-        Verdict::Verified => answer_safe(alloc, goal, source, program, steps, out),
+        Verdict::Verified => answer_safe(alloc, goal, asked, source, program, out),
         Verdict::Unproved { countered } => {
             tell(alloc, source, program, &obligations, countered, out)
         }
@@ -156,20 +142,20 @@ fn answer_program<S: Sink>(
 fn answer_safe<S: Sink>(
     alloc: Global,
     goal: Goal,
+    asked: &Asked,
     source: &[u8],
     program: &Core,
-    steps: u64,
     out: &mut S,
 ) -> Status
     requires means { Means source.now (core program.now) }
     requires safe { IsSafe (core program.now) }
-    ensures says { Says steps (S.taken out.old) (S.taken out.new) result (command_of_goal goal) source.now }
+    ensures says { Says asked.now.steps asked.now.input.items (S.taken out.old) (S.taken out.new) result (command_of_goal goal) source.now }
     ensures faults { S.faults out.old ≤ S.faults out.new }
     ensures cause { result ≡ Status.WriteFault → Rose (S.faults out.old) (S.faults out.new) }
 {
     match goal {
         Goal::Verdict => tell_verified(source, program, out),
-        Goal::Run => run_safe(alloc, source, program, steps, out),
+        Goal::Run => run_safe(alloc, asked, source, program, out),
     }
 }
 
@@ -177,7 +163,7 @@ fn answer_safe<S: Sink>(
 fn tell_verified<S: Sink>(source: &[u8], program: &Core, out: &mut S) -> Status
     requires means { Means source.now (core program.now) }
     requires safe { IsSafe (core program.now) }
-    ensures says { (steps : ℕ) → Says steps (S.taken out.old) (S.taken out.new) result asked.Verify source.now }
+    ensures says { (steps : ℕ) (input : List ℤ) → Says steps input (S.taken out.old) (S.taken out.new) result goals.Verify source.now }
     ensures faults { S.faults out.old ≤ S.faults out.new }
     ensures cause { result ≡ Status.WriteFault → Rose (S.faults out.old) (S.faults out.new) }
 {
@@ -189,22 +175,25 @@ fn tell_verified<S: Sink>(source: &[u8], program: &Core, out: &mut S) -> Status
     }
 }
 
-// Runs a safe program.
+// Runs a safe program. Its Main has no parameter, and so it admits the empty input alone.
 fn run_safe<S: Sink>(
     alloc: Global,
+    asked: &Asked,
     source: &[u8],
     program: &Core,
-    steps: u64,
     out: &mut S,
 ) -> Status
     requires means { Means source.now (core program.now) }
     requires safe { IsSafe (core program.now) }
-    ensures says { Says steps (S.taken out.old) (S.taken out.new) result asked.Run source.now }
+    ensures says { Says asked.now.steps asked.now.input.items (S.taken out.old) (S.taken out.new) result goals.Run source.now }
     ensures faults { S.faults out.old ≤ S.faults out.new }
     ensures cause { result ≡ Status.WriteFault → Rose (S.faults out.old) (S.faults out.new) }
 {
     let _source = source;
-    match run_checked(alloc, program, steps, out) {
+    if !asked.input.is_empty() {
+        return Status::NotAdmitted;
+    }
+    match run_checked(alloc, program, asked.steps, out) {
         CheckedEnd::Done { .. } => Status::Ended,
         CheckedEnd::Stopped { place } => Status::Stopped { place },
         CheckedEnd::Running => Status::StepsSpent,
@@ -226,7 +215,7 @@ fn tell<S: Sink>(
     requires means { Means source.now (core program.now) }
     requires obligations { trees obligations.now ≡ oblig.obligations (core program.now) }
     requires unproved { IsUnproved (oblig.obligations (core program.now)) countered.items }
-    ensures says { (steps : ℕ) (goal : AnyGoal) → Says steps (S.taken out.old) (S.taken out.new) result (command_of_goal goal) source.now }
+    ensures says { (steps : ℕ) (input : List ℤ) (goal : AnyGoal) → Says steps input (S.taken out.old) (S.taken out.new) result (command_of_goal goal) source.now }
     ensures faults { S.faults out.old ≤ S.faults out.new }
     ensures cause { result ≡ Status.WriteFault → Rose (S.faults out.old) (S.faults out.new) }
 {

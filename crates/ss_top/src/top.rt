@@ -1,58 +1,62 @@
 // The top call.
 
-ghost use Rattle.std.specs.Prelude.{◌≡◌, ◌<◌, ◌≤◌, ◌↔◌, ◌⊎◌, [], None, IsSomeAnd};
+ghost use Rattle.std.specs.Prelude.{◌≡◌, ◌<◌, ◌≤◌, ◌⊎◌, [], None, IsSomeAnd};
 ghost use Rattle.ss_io.specs.Outside.{Rose, Grew};
-ghost use Rattle.ss_top.specs.Words.{command_of, file_of};
 ghost use Rattle.ss_top.specs.Sources.{IsStop};
-ghost use Rattle.ss_top.specs.Answers.{OfFile, IsHeadline, IsToldVerified, HasRun, IsExpanded, RunsOn, StopsAt, IsToldUnproved, IsWrittenInPart, IsVerify, IsRun, IsExpand, Verifies, IfRefused, IfUnproved, IfStopped, IsVerified, IsSilent, ReadsOnly};
+ghost use Rattle.ss_top.specs.Unverified.{HasRunUnverified, FailsUnverified};
+ghost use Rattle.ss_top.specs.Answers.{asked_by, file_of, OfFile, IsHeadline, IsToldVerified, HasRun, IsExpanded, IsSpent, IsStopped, IsUnadmitted, IsToldUnproved, IsWrittenInPart, IsVerify, IsRun, IsRunUnverified, IsExpand, Verifies, IfRefused, IfUnproved, IfStopped, IfFailed, IsVerified, IsSilent, ReadsOnly};
 
 use crate::source::answer_source;
-use crate::words::read_words;
 use ss_io::{Files, ReadStop, Sink};
 use ss_report::Status;
+use ss_top_words::read_words;
 use std::alloc::Global;
-
-/// How many steps a run has.
-pub const STEPS: u64 = 1_000_000;
 
 /// The largest source, in bytes.
 pub const SOURCE_BYTES: usize = 1_048_576;
 
 /// Does what the words say: `verify FILE` verifies the program of the file and writes the verdict, `run FILE` verifies
-/// it and runs it where it is verified, and `expand FILE` writes its core program.
+/// it and runs it where it is verified, `run FILE --unverified` runs it with all its checks, and `expand FILE` writes its core
+/// program. A run has as many steps as `--steps` says, and the numbers behind FILE are its input.
 pub fn specsharp<F: Files, S: Sink>(
     alloc: Global,
     words: &[String],
     files: &mut F,
     out: &mut S,
 ) -> Status
-    ensures bad_words { (result ≡ Status.BadWords) ↔ (command_of words.now ≡ None) }
+    ensures bad_words { result ≡ Status.BadWords → asked_by words.now ≡ None }
+    ensures no_words { asked_by words.now ≡ None → (result ≡ Status.BadWords) ⊎ (result ≡ Status.Memory) }
     ensures read_fault { result ≡ Status.ReadFault → IsSomeAnd (file_of words.now) (λ name. F.faults files.old name < F.faults files.new name) }
-    ensures refused { IfRefused result (λ rule at. OfFile (command_of words.now) (F.told files.old) (λ command source. IsStop command source rule at)) }
+    ensures refused { IfRefused result (λ rule at. OfFile (asked_by words.now) (F.told files.old) (λ asked source. IsStop asked.command source rule at)) }
 
-    ensures headline { IsVerified result → OfFile (command_of words.now) (F.told files.old) (λ command source. Verifies command → IsHeadline source) }
-    ensures verified { result ≡ Status.Ended → OfFile (command_of words.now) (F.told files.old) (λ command source. IsVerify command → IsToldVerified (S.taken out.old) (S.taken out.new) source) }
-    ensures ended { result ≡ Status.Ended → OfFile (command_of words.now) (F.told files.old) (λ command source. IsRun command → HasRun STEPS (S.taken out.old) (S.taken out.new) source) }
-    ensures expanded { result ≡ Status.Ended → OfFile (command_of words.now) (F.told files.old) (λ command source. IsExpand command → IsExpanded (S.taken out.old) (S.taken out.new) source) }
-    ensures steps_spent { result ≡ Status.StepsSpent → OfFile (command_of words.now) (F.told files.old) (λ command source. IsRun command × RunsOn STEPS (S.taken out.old) (S.taken out.new) source) }
-    ensures stopped { IfStopped result (λ place. OfFile (command_of words.now) (F.told files.old) (λ command source. IsRun command × StopsAt place STEPS (S.taken out.old) (S.taken out.new) source)) }
-    ensures unproved { IfUnproved result (λ listed. OfFile (command_of words.now) (F.told files.old) (λ command source. Verifies command × IsToldUnproved listed (S.taken out.old) (S.taken out.new) source)) }
+    ensures headline { IsVerified result → OfFile (asked_by words.now) (F.told files.old) (λ asked source. Verifies asked.command → IsHeadline source) }
+    ensures verified { result ≡ Status.Ended → OfFile (asked_by words.now) (F.told files.old) (λ asked source. IsVerify asked.command → IsToldVerified (S.taken out.old) (S.taken out.new) source) }
+    ensures ended { result ≡ Status.Ended → OfFile (asked_by words.now) (F.told files.old) (λ asked source. IsRun asked.command → HasRun asked.steps asked.input (S.taken out.old) (S.taken out.new) source) }
+    ensures ran { result ≡ Status.Ended → OfFile (asked_by words.now) (F.told files.old) (λ asked source. IsRunUnverified asked.command → HasRunUnverified asked.steps asked.input (S.taken out.old) (S.taken out.new) source) }
+    ensures expanded { result ≡ Status.Ended → OfFile (asked_by words.now) (F.told files.old) (λ asked source. IsExpand asked.command → IsExpanded (S.taken out.old) (S.taken out.new) source) }
+    ensures steps_spent { result ≡ Status.StepsSpent → OfFile (asked_by words.now) (F.told files.old) (λ asked source. IsSpent asked.command asked.steps asked.input (S.taken out.old) (S.taken out.new) source) }
+    ensures stopped { IfStopped result (λ place. OfFile (asked_by words.now) (F.told files.old) (λ asked source. IsStopped place asked.command asked.steps asked.input (S.taken out.old) (S.taken out.new) source)) }
+    ensures failed { IfFailed result (λ kind place. OfFile (asked_by words.now) (F.told files.old) (λ asked source. IsRunUnverified asked.command × FailsUnverified kind place asked.steps asked.input (S.taken out.old) (S.taken out.new) source)) }
+    ensures not_admitted { result ≡ Status.NotAdmitted → OfFile (asked_by words.now) (F.told files.old) (λ asked source. IsUnadmitted asked.command asked.input (S.taken out.old) (S.taken out.new) source) }
+    ensures unproved { IfUnproved result (λ listed. OfFile (asked_by words.now) (F.told files.old) (λ asked source. Verifies asked.command × IsToldUnproved listed (S.taken out.old) (S.taken out.new) source)) }
 
     ensures write_fault { result ≡ Status.WriteFault → Rose (S.faults out.old) (S.faults out.new) }
-    ensures written { result ≡ Status.WriteFault → OfFile (command_of words.now) (F.told files.old) (IsWrittenInPart STEPS (S.taken out.old) (S.taken out.new)) }
+    ensures written { result ≡ Status.WriteFault → OfFile (asked_by words.now) (F.told files.old) (λ asked source. IsWrittenInPart asked.steps asked.input (S.taken out.old) (S.taken out.new) asked.command source) }
     ensures memory { result ≡ Status.Memory → Grew (S.taken out.old) (S.taken out.new) []
-        ⊎ OfFile (command_of words.now) (F.told files.old) (IsWrittenInPart STEPS (S.taken out.old) (S.taken out.new)) }
+        ⊎ OfFile (asked_by words.now) (F.told files.old) (λ asked source. IsWrittenInPart asked.steps asked.input (S.taken out.old) (S.taken out.new) asked.command source) }
     ensures silent { IsSilent result → Grew (S.taken out.old) (S.taken out.new) [] }
 
     ensures stays { F.told files.new ≡ F.told files.old }
     ensures reads { ReadsOnly (file_of words.now) (F.faults files.old) (F.faults files.new) }
     ensures writes { S.faults out.old ≤ S.faults out.new }
 {
-    let Some((command, name)) = read_words(words) else {
-        return Status::BadWords;
+    let asked = match read_words(alloc, words) {
+        Ok(Some(asked)) => asked,
+        Ok(None) => return Status::BadWords,
+        Err(_) => return Status::Memory,
     };
-    match files.read(alloc, name, SOURCE_BYTES + 1) {
-        Ok(source) => answer_source(alloc, command, &source, STEPS, out),
+    match files.read(alloc, asked.file, SOURCE_BYTES + 1) {
+        Ok(source) => answer_source(alloc, &asked, &source, out),
         Err(ReadStop::Failed) => Status::ReadFault,
         Err(ReadStop::Memory) => Status::Memory,
     }

@@ -1,4 +1,4 @@
-use Rattle.std.proofs.Common.{◌≡◌, Err, subst}
+use Rattle.std.proofs.Common.{Err, subst}
 use Rattle.ss_io.specs.declared.outside.WriteStop.{WriteStop}
 use Rattle.ss_io.specs.Outside.{GrewByFront, Takes}
 use Rattle.ss_core.specs.View as core
@@ -8,7 +8,7 @@ use Rattle.ss_top.proofs.Says.{expanded_in_part}
 use Rattle.ss_top.proofs.source.expand_accepted.Goals as goal
 
 pub returns-in-Err-Failed-clause-says : goal.returns-in-Err-Failed-clause-says
-returns-in-Err-Failed-clause-says g c = λ steps.
+returns-in-Err-Failed-clause-says g c = λ steps input.
     let old = g.S.Sink.taken c.args.out.now in
     let new = g.S.Sink.taken c.write.new.self in
     let taken = subst (λ (e : WriteStop). Takes old new c.deref.result.now (Err e)) c.in-Err-Failed.field-0-is c.in-Err-Failed.ensures.taken in

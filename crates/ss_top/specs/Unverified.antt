@@ -1,0 +1,56 @@
+-- What the answers to a run without verification say. The program is the core program of the source, of the whole language.
+use Rattle.std.specs.Prelude.{ℕ, ℤ, ◌≡◌, true, false, List, [], Option}
+use Rattle.ss_io.specs.Outside.{Grew, GrewByFront}
+use Rattle.ss_core.specs.declared.names.Kind.{Kind}
+use Rattle.ss_core.specs.declared.names.Place.{Place}
+use Rattle.ss_core.specs.Tree.{CoreTree}
+use Rattle.ss_store_rules.specs.Admitted.{admitted}
+use Rattle.ss_machine_rules.specs.Runs.{run, printed}
+use Rattle.ss_machine_rules.specs.Ends.{IsRunning, IsDoneWith, HasFailed, HasStopped}
+use Rattle.ss_top.specs.Sources.{Expands}
+
+-- the program admits the input, its run is done within these steps, and the sink took exactly what the run printed
+pub record HasRunUnverified (steps : ℕ) (input : List ℤ) (old new : Option (List ℕ)) (source : List ℕ) : Type 0 where
+  pub program : CoreTree
+  pub expands : Expands source program
+  pub admits : admitted program input ≡ true
+  pub done : IsDoneWith (printed program input steps) (run program input steps)
+  pub took : Grew old new (printed program input steps)
+
+-- the same, but after these steps the run isn't at its end
+pub record RunsOnUnverified (steps : ℕ) (input : List ℤ) (old new : Option (List ℕ)) (source : List ℕ) : Type 0 where
+  pub program : CoreTree
+  pub expands : Expands source program
+  pub admits : admitted program input ≡ true
+  pub running : IsRunning (run program input steps)
+  pub took : Grew old new (printed program input steps)
+
+-- the same, but within these steps the run stopped at an assumption that is false, which is at this place
+pub record StopsUnverified (at : Place) (steps : ℕ) (input : List ℤ) (old new : Option (List ℕ)) (source : List ℕ) : Type 0 where
+  pub program : CoreTree
+  pub expands : Expands source program
+  pub admits : admitted program input ≡ true
+  pub stopped : HasStopped program input at steps
+  pub took : Grew old new (printed program input steps)
+
+-- the same, but within these steps a check of the run failed, of this kind and at this place
+pub record FailsUnverified (kind : Kind) (at : Place) (steps : ℕ) (input : List ℤ) (old new : Option (List ℕ)) (source : List ℕ) : Type 0 where
+  pub program : CoreTree
+  pub expands : Expands source program
+  pub admits : admitted program input ≡ true
+  pub failed : HasFailed program input kind at steps
+  pub took : Grew old new (printed program input steps)
+
+-- the program doesn't admit the input, and the sink took nothing
+pub record IsNotAdmitted (input : List ℤ) (old new : Option (List ℕ)) (source : List ℕ) : Type 0 where
+  pub program : CoreTree
+  pub expands : Expands source program
+  pub refuses : admitted program input ≡ false
+  pub nothing : Grew old new []
+
+-- the program admits the input, and the sink took a front of what the run printed
+pub record RunsInPart (steps : ℕ) (input : List ℤ) (old new : Option (List ℕ)) (source : List ℕ) : Type 0 where
+  pub program : CoreTree
+  pub expands : Expands source program
+  pub admits : admitted program input ≡ true
+  pub front : GrewByFront old new (printed program input steps)
