@@ -5,7 +5,7 @@ Usage: tools/rows.py            writes crates/ss_top_cases/data/rules.txt and ex
        tools/rows.py --check    says whether they are as they would be written, by the status
 
 In docs/RULES.md a section `## RULE: ..` may have a program between lines of three backquotes, and then its answer,
-`refused RULE at LINE:COLUMN`. In an example the last comment lines say what is expected: `// $ specsharp run FILE`, the lines
+`refused RULE at LINE:COLUMN`. In an example the last comment lines say what is expected: `// $ specsharp run FILE OPTIONS`, the lines
 of the output, and where the status isn't 0 `// = STATUS LINE`. All answers are written by hand.
 """
 import glob
@@ -28,8 +28,8 @@ HEADER = """# Made by tools/rows.py of %s. Lines, by their first bytes:
 """
 
 
-def row(name, command, source, output, expected):
-    lines = ["=== " + name, "$ " + command + " FILE"]
+def row(name, command, source, output, expected, options=()):
+    lines = ["=== " + name, " ".join(["$", command, "FILE", *options])]
     lines += ["| " + line for line in source]
     lines += ["> " + line for line in output]
     return lines + ["= " + expected]
@@ -59,14 +59,14 @@ def example_row(path):
     starts = [at for at, line in enumerate(lines) if line.startswith("// $ specsharp ")]
     if len(starts) != 1:
         sys.exit(path + ": no command, or more than one")
-    command = lines[starts[0]].split()[3]
+    words = lines[starts[0]].split()
     expected, output = "0", []
     for line in lines[starts[0] + 1:]:
         if line.startswith("// = "):
             expected = line[5:]
         else:
             output.append(line[3:])
-    return row(os.path.basename(path)[:-4], command, lines, output, expected)
+    return row(os.path.basename(path)[:-4], words[3], lines, output, expected, words[5:])
 
 
 def text(of, rows):
