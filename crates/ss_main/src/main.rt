@@ -3,10 +3,12 @@
 
 use ss_io::{RealFiles, RealOut};
 use ss_main_messages::{
-    Heard, Seen, Unread, refused_message, stopped_message, unread_message, usage, verdict_messages,
+    Heard, Seen, Unread, failed_message, refused_message, stopped_message, unread_message, usage,
+    verdict_messages,
 };
 use ss_report::{Status, status_line};
 use ss_top::specsharp;
+use ss_top_words::read_words;
 use std::alloc::{AllocError, Global};
 use std::process::ExitCode;
 use std::rt::Env;
@@ -45,6 +47,7 @@ fn of_source(
         Status::SourceRefused { rule, place } => {
             refused_message(alloc, file, source, *place, *rule)
         }
+        Status::Failed { kind, place } => failed_message(alloc, file, source, *place, *kind),
         Status::Stopped { place } => stopped_message(alloc, file, source, *place),
         Status::Unproved { .. } => {
             verdict_messages(alloc, file, source, str::from_utf8(verdict).unwrap_or(""))
@@ -81,10 +84,10 @@ fn tell<R: Eprint + AllocGlobal>(rt: &R, explanation: Result<String, AllocError>
     }
 }
 
-// The second word, or nothing where there is none.
-fn file_of(words: &[String]) -> &str {
-    match words {
-        [_, file, ..] => file.as_str(),
+// The file that the words name, or nothing where they name none.
+fn file_of(alloc: Global, words: &[String]) -> &str {
+    match read_words(alloc, words) {
+        Ok(Some(asked)) => asked.file,
         _ => "",
     }
 }
@@ -94,7 +97,13 @@ fn answer<R: Print + Eprint + std::rt::Files + AllocGlobal>(rt: &R, words: &[Str
     let mut files = Seen::new(RealFiles::new(rt, rt.alloc()));
     let mut out = Heard::new(rt.alloc(), RealOut::new(rt));
     let status = specsharp(rt.alloc(), words, &mut files, &mut out);
-    let text = explanation(rt, file_of(words), files.last(), &status, out.last());
+    let text = explanation(
+        rt,
+        file_of(rt.alloc(), words),
+        files.last(),
+        &status,
+        out.last(),
+    );
     tell(rt, text, &status);
     status
 }

@@ -86,12 +86,15 @@ pub(crate) fn failure(kind: Kind) -> &'static str
         Kind::ZeroDivisor => "the divisor here is 0",
         Kind::NegativeLength => "the length here is below 0",
         Kind::Assert => "this `assert` doesn't hold",
-        Kind::Precondition => "a `requires` of what is called here, or its default contract, doesn't hold",
+        Kind::Precondition =>
+            "a `requires` of what is called here, or its default contract, doesn't hold",
         Kind::Postcondition => "an `ensures`, or the default contract, doesn't hold at this return",
         Kind::Frame => "something was changed before this return that `modifies` doesn't name",
         Kind::LoopInvariant => "an `invariant` of this loop doesn't hold",
-        Kind::LoopFrame => "something was changed before this turn of the loop that `modifies` doesn't name",
-        Kind::LoopLevel => "an object that is exposed around this loop doesn't stand at the level that it stood at",
+        Kind::LoopFrame =>
+            "something was changed before this turn of the loop that `modifies` doesn't name",
+        Kind::LoopLevel =>
+            "an object that is exposed around this loop doesn't stand at the level that it stood at",
         Kind::UnpackLevel => "the object doesn't stand at the level that `expose` asks for",
         Kind::UnpackCommitted => "the object has an owner that is closed; expose the owner first",
         Kind::PackLevel => "the object doesn't stand at the level that is closed here",
@@ -99,7 +102,9 @@ pub(crate) fn failure(kind: Kind) -> &'static str
         Kind::PackOwned => "something that the object owns isn't consistent where it is closed",
         Kind::WriteLevel => "the object isn't exposed where its field is assigned",
         Kind::WriteCommitted => "the array has an owner that is closed; expose the owner first",
-        Kind::RepOwner => "the value has another owner already than the one that a `[Rep]` field asks for",
-        Kind::PeerOwner => "the value has another owner than the one that a `[Peer]` field asks for",
+        Kind::RepOwner =>
+            "the value has another owner already than the one that a `[Rep]` field asks for",
+        Kind::PeerOwner =>
+            "the value has another owner than the one that a `[Peer]` field asks for",
     }
 }

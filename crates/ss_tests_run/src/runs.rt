@@ -2,8 +2,8 @@
 
 use ss_core::{BodyId, ClassId, Kind, Place};
 use ss_io::MemSink;
-use ss_second_machine::{CheckedEnd, run_checked};
 use ss_second_core::{Body, Classes, Core, Expr, Local, Stmt, Ty, Value};
+use ss_second_machine::{CheckedEnd, run_checked};
 use std::alloc::{AllocError, Global};
 use std::test::Fail;
 

@@ -5,7 +5,7 @@ mod case;
 
 use case::{Case, Expected, read_cases};
 use ss_io::{MemFiles, MemSink};
-use ss_main_messages::{refused_message, stopped_message, verdict_messages};
+use ss_main_messages::{failed_message, refused_message, stopped_message, verdict_messages};
 use ss_report::{Status, status_line};
 use ss_top::specsharp;
 use std::alloc::{AllocError, Global};
@@ -41,6 +41,7 @@ fn messages(
         Status::SourceRefused { rule, place } => {
             refused_message(alloc, "FILE", source, *place, *rule)
         }
+        Status::Failed { kind, place } => failed_message(alloc, "FILE", source, *place, *kind),
         Status::Stopped { place } => stopped_message(alloc, "FILE", source, *place),
         Status::Unproved { .. } => {
             verdict_messages(alloc, "FILE", source, str::from_utf8(verdict).unwrap_or(""))
