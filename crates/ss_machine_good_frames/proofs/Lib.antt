@@ -1,0 +1,5 @@
+pub mod Later
+pub mod Behind
+pub mod Values
+pub mod Statements
+pub mod Paths
