@@ -58,22 +58,22 @@ frame_setting c f s is = record {
   ready = is.locals.ready;
 }
 
-declared_some : (cs : List ClassTree) (a o : Option Ty) → fits_declared cs a o ≡ true → (t : Ty) × (o ≡ Some t) × (has_fitting cs a t ≡ true)
+pub declared_some : (cs : List ClassTree) (a o : Option Ty) → fits_declared cs a o ≡ true → (t : Ty) × (o ≡ Some t) × (has_fitting cs a t ≡ true)
 declared_some cs a None h = absurd (false≢true h)
 declared_some cs a (Some t) h = (t, refl, h)
 
 -- the value of a truth value has the type of one
-bool_typed : (cs : List ClassTree) (s : List Object) (a : Ty) (v : Value) (u : Bool) → has_type cs s a v ≡ true → v ≡ value.Bool u → a ≡ ty.Bool
+pub bool_typed : (cs : List ClassTree) (s : List Object) (a : Ty) (v : Value) (u : Bool) → has_type cs s a v ≡ true → v ≡ value.Bool u → a ≡ ty.Bool
 bool_typed cs s ty.Bool v u h e = refl
 bool_typed cs s ty.Int v u h e = absurd (false≢true (subst (λ z. has_type cs s ty.Int z ≡ true) e h))
 bool_typed cs s ty.Null v u h e = absurd (false≢true (subst (λ z. has_type cs s ty.Null z ≡ true) e h))
 bool_typed cs s (ty.Ref t n) v u h e = absurd (false≢true (subst (λ z. has_type cs s (ty.Ref t n) z ≡ true) e h))
 
 -- `this` is an argument
-some_argument : (b : BodyTree) → b.flags.is_static ≡ false → 1 ≤ argument_count b
+pub some_argument : (b : BodyTree) → b.flags.is_static ≡ false → 1 ≤ argument_count b
 some_argument b h = let n = length-append (this_types b) (types_of b.params) in let m : length (this_types b) ≡ 1 = rw h refl in omega (arith, n, m)
 
-instance_if : (ctor static none delayed : Bool) → ((not ctor || not static && none) && (not delayed || ctor)) ≡ true → ctor ≡ true → static ≡ false
+pub instance_if : (ctor static none delayed : Bool) → ((not ctor || not static && none) && (not delayed || ctor)) ≡ true → ctor ≡ true → static ≡ false
 instance_if true static none delayed h e = not_true static (and_parts (not static) none (and_parts (not static && none) (not delayed || true) h).0).0
 instance_if false static none delayed h e = absurd (false≢true e)
 
@@ -133,7 +133,7 @@ module _ (c : CoreTree) (f : Frame) (s : List Object) (ds : List Due) where
       }
 
 -- the literal `true` is true
-literal_value : (e : ExprTree) (x : Setting) (v : Value) → is_literal_true e ≡ true → value_of e x ≡ Ok v → as_bool v ≡ true
+pub literal_value : (e : ExprTree) (x : Setting) (v : Value) → is_literal_true e ≡ true → value_of e x ≡ Ok v → as_bool v ≡ true
 literal_value (BoolExpr p b) x v h e = ap as_bool (sym (ok_same (value.Bool b) v e)) ∙ h
 literal_value (IntExpr p n) x v h e = absurd (false≢true h)
 literal_value (NullExpr p) x v h e = absurd (false≢true h)
@@ -157,13 +157,13 @@ literal_value (DefaultExpr p d) x v h e = absurd (false≢true h)
 
 -- ---- code that is gone into
 
-left_dues : (passes : StmtTree → Bool) (on : ExprTree → Bool) (code : CodeTree) (ds : List Due) → each passes code ≡ true → all_left passes on ds ≡ true → all_left passes on (dues code ++ ds) ≡ true
+pub left_dues : (passes : StmtTree → Bool) (on : ExprTree → Bool) (code : CodeTree) (ds : List Due) → each passes code ≡ true → all_left passes on ds ≡ true → all_left passes on (dues code ++ ds) ≡ true
 left_dues passes on NoCode ds h rest = rest
 left_dues passes on (Then s code) ds h rest =
     let p = and_parts (each_inside passes s) (each passes code) h in
     and_from (each_inside passes s) (all_left passes on (dues code ++ ds)) p.0 (left_dues passes on code ds p.1 rest)
 
-either_code : (passes : StmtTree → Bool) (a b : CodeTree) (v : Bool) → each passes a ≡ true → each passes b ≡ true → each passes (if v then a else b) ≡ true
+pub either_code : (passes : StmtTree → Bool) (a b : CodeTree) (v : Bool) → each passes a ≡ true → each passes b ≡ true → each passes (if v then a else b) ≡ true
 either_code passes a b true h k = h
 either_code passes a b false h k = k
 
@@ -279,14 +279,14 @@ module _ (c : CoreTree) (f : Frame) (s : List Object) (is : IsSoundFrame c f s) 
 
 -- ---- entry
 
-entry_known : (b : BodyTree) (x : Setting) → IsTrueOf b.flags.ctor (known_at_entry b) x
+pub entry_known : (b : BodyTree) (x : Setting) → IsTrueOf b.flags.ctor (known_at_entry b) x
 entry_known b x = record {
   facts = λ y h. absurd (false≢true h);
   sides = λ y v e. record { facts = no_facts; there = refl; so = λ z h. absurd (false≢true h) };
   fields = λ ctor g h. absurd (false≢true (sym (ap not ctor) ∙ h));
 }
 
-dues_left : (passes : StmtTree → Bool) (on : ExprTree → Bool) (code : CodeTree) → each passes code ≡ true → all_left passes on (dues code) ≡ true
+pub dues_left : (passes : StmtTree → Bool) (on : ExprTree → Bool) (code : CodeTree) → each passes code ≡ true → all_left passes on (dues code) ≡ true
 dues_left passes on NoCode h = refl
 dues_left passes on (Then s code) h = let p = and_parts (each_inside passes s) (each passes code) h in and_from (each_inside passes s) (all_left passes on (dues code)) p.0 (dues_left passes on code p.1)
 

@@ -26,13 +26,13 @@ start_good c input formed is =
     (first_good c.classes formed.chain input is, (main_locals c.classes input b formed.main.2, tt))
 
 -- the argument of Main isn't null
-argument_not_null : (params : List LocalTree) (others : List Value) (x : ℕ) → are_main_params params ≡ true → x < length (types_of params) → IsNotNull (unwrap_or (slice_get (main_arguments params ++ others) x) value.Null)
+pub argument_not_null : (params : List LocalTree) (others : List Value) (x : ℕ) → are_main_params params ≡ true → x < length (types_of params) → IsNotNull (unwrap_or (slice_get (main_arguments params ++ others) x) value.Null)
 argument_not_null [] others x h l = absurd (omega (arith, l))
 argument_not_null (p ∷ []) others zero h l = λ e. cc
 argument_not_null (p ∷ []) others (suc x) h l = absurd (omega (arith, l))
 argument_not_null (p ∷ q ∷ ps) others x h l = absurd (false≢true h)
 
-static_arguments : (b : BodyTree) → b.flags.is_static ≡ true → argument_types b ≡ types_of b.params
+pub static_arguments : (b : BodyTree) → b.flags.is_static ≡ true → argument_types b ≡ types_of b.params
 static_arguments b h = rw h refl
 
 -- Main's frame is sound there

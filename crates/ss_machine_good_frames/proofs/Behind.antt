@@ -1,5 +1,5 @@
 -- A frame behind one of its statements, in a later store.
-use Rattle.std.proofs.Common.{◌≡◌, ◌≢◌, ℕ, zero, suc, ◌<◌, ◌≤◌, List, [], ◌∷◌, length, Bool, true, false, not, ◌&&◌, ◌||◌, ◌==◌, Option, Some, None, refl, sym, ◌∙◌, ap, subst, arith, ⊎_elim, length-append}
+use Rattle.std.proofs.Common.{◌≡◌, ◌≢◌, ℕ, zero, suc, ◌<◌, List, [], ◌∷◌, length, Bool, true, false, ◌||◌, ◌==◌, Option, Some, None, refl, sym, ◌∙◌, ap, subst, arith, ⊎_elim}
 use Rattle.std.specs.Prelude.{slice_get, if◌then◌else◌, nat_le, nat_lt}
 use Rattle.std.proofs.lemmas.Bool.{false≢true, true≢false, and_parts, or_cases, or_left, or_right, leb-true, cases_Bool, eq-eqb, eqb-true}
 use Rattle.std.proofs.lemmas.Option.{slice_get_within}
@@ -11,7 +11,7 @@ use Rattle.ss_store_rules.specs.declared.Value.TheVariants as value
 use Rattle.ss_store_rules.specs.Store.{Object}
 use Rattle.ss_store_rules.specs.Changes.{field_type}
 use Rattle.ss_store_rules.specs.Types.{in_code, is_condition}
-use Rattle.ss_store_rules.specs.Locals.{argument_count, this_types, types_of, local_types, is_variable, result_number, each_inside, is_kept_in, is_kept_among, is_target, targets_only}
+use Rattle.ss_store_rules.specs.Locals.{argument_count, local_types, is_variable, result_number, each_inside, is_kept_in, is_kept_among, is_target, targets_only}
 use Rattle.ss_store_rules.specs.Typed.{is_typed, has_exposable}
 use Rattle.ss_store_rules.specs.Good.{has_type, is_non_null, IsReady}
 use Rattle.ss_store_rules.specs.States.{AreGoodLocals}
@@ -19,7 +19,6 @@ use Rattle.ss_store_rules.specs.Assigned.{assigned_flow, assigned_check}
 use Rattle.ss_store_rules.specs.NonNull.{Known, is_non_null_type, known_after, known_flow, null_check}
 use Rattle.ss_store_rules.specs.Formed.{has_flags}
 use Rattle.ss_store_rules.proofs.Objects.{same_object}
-use Rattle.ss_store_rules.proofs.Owners.{not_true}
 use Rattle.ss_machine_rules.specs.Frame.{this_of}
 use Rattle.ss_machine_rules.specs.Good.{IsGoodStore}
 use Rattle.ss_machine_rules.specs.States.{Due, Statement, Frame, put, scene}
@@ -31,18 +30,12 @@ use Rattle.ss_machine_good.specs.Known.{IsNotNull, IsTrueOf, AreAssigned}
 use Rattle.ss_machine_good.specs.Frames.{all_left}
 use Rattle.ss_machine_good.proofs.Flows.{known_simple}
 use Rattle.ss_machine_good.proofs.Puts.{put_assigned}
+use Rattle.ss_machine_good.proofs.Frames.{some_argument, instance_if}
 use Rattle.ss_machine_good_constructors.specs.Checks.{fields_check, ready_flow, ready_check, makes_ready, IsThisReady}
 use Rattle.ss_machine_good_frames.specs.Later.{IsLater}
 use Rattle.ss_machine_good_frames.specs.Frames.{HasGiven, IsConstructing, IsGoodFrame, entry_size}
 
 -- ---- the `this` of a constructor isn't assigned
-
-some_argument : (b : BodyTree) → b.flags.is_static ≡ false → 1 ≤ argument_count b
-some_argument b h = let n = length-append (this_types b) (types_of b.params) in let m : length (this_types b) ≡ 1 = rw h refl in omega (arith, n, m)
-
-instance_if : (ctor static none delayed : Bool) → ((not ctor || not static && none) && (not delayed || ctor)) ≡ true → ctor ≡ true → static ≡ false
-instance_if true static none delayed h e = not_true static (and_parts (not static) none (and_parts (not static && none) (not delayed || true) h).0).0
-instance_if false static none delayed h e = absurd (false≢true e)
 
 -- a constructor has a `this`
 pub constructor_instance : (b : BodyTree) → has_flags b ≡ true → b.flags.ctor ≡ true → b.flags.is_static ≡ false

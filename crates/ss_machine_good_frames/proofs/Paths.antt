@@ -1,15 +1,14 @@
 -- A frame behind an `if`, at the head of a loop and behind its test.
-use Rattle.std.proofs.Common.{◌≡◌, List, [], ◌∷◌, ◌++◌, Bool, true, false, ◌&&◌, Ok, refl, sym, ◌∙◌, ap, subst, ⊎_elim, append_assoc}
+use Rattle.std.proofs.Common.{◌≡◌, List, [], ◌∷◌, ◌++◌, Bool, true, false, ◌&&◌, Ok, refl, sym, ◌∙◌, subst, ⊎_elim, append_assoc}
 use Rattle.std.specs.Prelude.{if◌then◌else◌}
-use Rattle.std.proofs.lemmas.Bool.{false≢true, true≢false, and_parts, and_from, cases_Bool}
+use Rattle.std.proofs.lemmas.Bool.{true≢false, and_parts, and_from, cases_Bool}
 use Rattle.ss_core.specs.declared.names.Place.{Place}
 use Rattle.ss_core.specs.declared.names.Ty.TheVariants as ty
-use Rattle.ss_core.specs.Tree.{ExprTree, BoolExpr, StmtTree, IfStmt, CodeTree, NoCode, Then, CoreTree}
+use Rattle.ss_core.specs.Tree.{ExprTree, StmtTree, IfStmt, CodeTree, CoreTree}
 use Rattle.ss_store_rules.specs.declared.Value.{Value}
-use Rattle.ss_store_rules.specs.declared.Value.TheVariants as value
 use Rattle.ss_store_rules.specs.Store.{Object}
 use Rattle.ss_store_rules.specs.Reads.{as_bool}
-use Rattle.ss_store_rules.specs.Values.{Setting, value_of}
+use Rattle.ss_store_rules.specs.Values.{value_of}
 use Rattle.ss_store_rules.specs.Types.{in_code, is_condition, code_type}
 use Rattle.ss_store_rules.specs.Locals.{local_types, each, each_inside}
 use Rattle.ss_store_rules.specs.Paths.{is_literal_true}
@@ -17,7 +16,6 @@ use Rattle.ss_store_rules.specs.Typed.{is_typed, has_exposable}
 use Rattle.ss_store_rules.specs.NonNull.{known_tested, known_flow}
 use Rattle.ss_machine_rules.specs.States.{Due, Statement, Test, dues, Frame, scene}
 use Rattle.ss_machine_rules.specs.Steps.{go_into}
-use Rattle.ss_machine_typed.proofs.Outcomes.{ok_same}
 use Rattle.ss_machine_good.specs.Flows.{Loop, stmt_of, IsKnown, IsTested}
 use Rattle.ss_machine_good.specs.Known.{IsTrueOf}
 use Rattle.ss_machine_good.specs.Frames.{all_left, IsSoundFrame}
@@ -25,25 +23,10 @@ use Rattle.ss_machine_good.proofs.Flows.{known_fork, known_head, known_test}
 use Rattle.ss_machine_good.proofs.Meets.{known_sound}
 use Rattle.ss_machine_good.proofs.Tests.{bool_type_is, tested_true}
 use Rattle.ss_machine_good.proofs.Steps.{code_typed}
-use Rattle.ss_machine_good.proofs.Frames.{frame_setting, forked_frame, looping_frame, tested_frame}
+use Rattle.ss_machine_good.proofs.Frames.{literal_value, left_dues, either_code, frame_setting, forked_frame, looping_frame, tested_frame}
 use Rattle.ss_machine_good_constructors.specs.Checks.{fields_check, ready_flow, ready_check, IsThisReady}
 use Rattle.ss_machine_good_constructors.proofs.Ready.{ready_sound}
 use Rattle.ss_machine_good_frames.specs.Frames.{IsGoodFrame}
-
--- the literal `true` is true
-literal_value : (e : ExprTree) (x : Setting) (v : Value) → is_literal_true e ≡ true → value_of e x ≡ Ok v → as_bool v ≡ true
-literal_value (BoolExpr p b) x v h e = ap as_bool (sym (ok_same (value.Bool b) v e)) ∙ h
-literal_value e x v h ev = absurd (false≢true h)
-
-left_dues : (passes : StmtTree → Bool) (code : CodeTree) (ds : List Due) → each passes code ≡ true → all_left passes (λ e. true) ds ≡ true → all_left passes (λ e. true) (dues code ++ ds) ≡ true
-left_dues passes NoCode ds h rest = rest
-left_dues passes (Then s code) ds h rest =
-    let p = and_parts (each_inside passes s) (each passes code) h in
-    and_from (each_inside passes s) (all_left passes (λ e. true) (dues code ++ ds)) p.0 (left_dues passes code ds p.1 rest)
-
-either_code : (passes : StmtTree → Bool) (a b : CodeTree) (v : Bool) → each passes a ≡ true → each passes b ≡ true → each passes (if v then a else b) ≡ true
-either_code passes a b true h k = h
-either_code passes a b false h k = k
 
 module _ (c : CoreTree) (f : Frame) (s : List Object) (is : IsGoodFrame c f s) where
   -- the frame with other pieces left
@@ -76,7 +59,7 @@ module _ (c : CoreTree) (f : Frame) (s : List Object) (is : IsGoodFrame c f s) w
       let ready_ = known_fork (ready_flow c) (ready_check body) (IsThisReady body.flags.ctor) (ready_sound c (ready_check body) body.flags.ctor) p e a b ds (scene c f s)
       (subst (λ l. IsKnown (ready_flow c) (ready_check body) (IsThisReady body.flags.ctor) l (scene c f s)) at is.ready) in
       with_left (dues (if as_bool v then a else b) ++ ds) (forked_frame c f s is.sound p e a b ds v at ev)
-      (left_dues P (if as_bool v then a else b) ds (either_code P a b (as_bool v) g2.0 g2.1) g.1)
+      (left_dues P (λ d. true) (if as_bool v then a else b) ds (either_code P a b (as_bool v) g2.0 g2.1) g.1)
       (fields_.goes_on (as_bool v) (scene c f s) (tested_true (scene c f s) (local_types body) body.flags.ctor (frame_setting c f s is.sound) fields_.known fields_.so e (as_bool v) e_typed (v, ev, refl)))
       (ready_.goes_on (as_bool v) (scene c f s) ready_.so)
 
@@ -95,7 +78,7 @@ module _ (c : CoreTree) (f : Frame) (s : List Object) (is : IsGoodFrame c f s) w
       (subst (λ z. IsKnown (ready_flow c) (ready_check body) (IsThisReady body.flags.ctor) z (scene c f s)) at is.ready) in
       let whole = append_assoc (dues l.prelude) (here ∷ []) ds in
       with_left ((dues l.prelude ++ here ∷ []) ++ ds) (looping_frame c f s is.sound l ds at)
-      (subst (λ z. all_left P (λ d. true) z ≡ true) (sym whole) (left_dues P l.prelude (here ∷ ds) g3.1 (and_from (each P l.body && each_inside P stmt) _ (and_from (each P l.body) (each_inside P stmt) g2.1 g.0) g.1)))
+      (subst (λ z. all_left P (λ d. true) z ≡ true) (sym whole) (left_dues P (λ d. true) l.prelude (here ∷ ds) g3.1 (and_from (each P l.body && each_inside P stmt) _ (and_from (each P l.body) (each_inside P stmt) g2.1 g.0) g.1)))
       (subst (λ z. IsKnown (known_flow c body) (fields_check c body) (IsTrueOf body.flags.ctor) z (scene c f s)) (sym whole) fields_.goes_on)
       (subst (λ z. IsKnown (ready_flow c) (ready_check body) (IsThisReady body.flags.ctor) z (scene c f s)) (sym whole) ready_.goes_on)
 
@@ -123,7 +106,7 @@ module _ (c : CoreTree) (f : Frame) (s : List Object) (is : IsGoodFrame c f s) w
           let P = has_exposable c.classes f.body in
           let whole = append_assoc (dues code) (Statement st ∷ []) ds in
           with_left ((dues code ++ Statement st ∷ []) ++ ds) sound
-          (subst (λ z. all_left P (λ d. true) z ≡ true) (sym whole) (left_dues P code (Statement st ∷ ds) inside (and_from (each_inside P st) _ again rest)))
+          (subst (λ z. all_left P (λ d. true) z ≡ true) (sym whole) (left_dues P (λ d. true) code (Statement st ∷ ds) inside (and_from (each_inside P st) _ again rest)))
           (subst (λ z. IsKnown (known_flow c f.body) (fields_check c f.body) (IsTrueOf f.body.flags.ctor) z (scene c f s)) (sym whole) (fields_.into (scene c f s) told))
           (subst (λ z. IsKnown (ready_flow c) (ready_check f.body) (IsThisReady f.body.flags.ctor) z (scene c f s)) (sym whole) (ready_.into (scene c f s) ready_.so))
       side false is_w sound fields_ ready_ told rest inside again =

@@ -8,7 +8,6 @@ use Rattle.ss_core.specs.declared.names.Kind.TheVariants as kind
 use Rattle.ss_core.specs.declared.names.Mark.{Mark}
 use Rattle.ss_core.specs.declared.names.Place.{Place}
 use Rattle.ss_core.specs.declared.names.Ty.{Ty}
-use Rattle.ss_core.specs.declared.names.Ty.TheVariants as ty
 use Rattle.ss_core.specs.Tree.{ClassTree, ExprTree, LocalExpr, StmtTree, AssignStmt, WriteStmt, WriteElementStmt, NewArrayStmt, ReadyStmt, UnpackStmt, PackStmt, BodyTree, CoreTree}
 use Rattle.ss_core.specs.Chain.{below, DeclaredField, all_fields}
 use Rattle.ss_core.proofs.Chains.{sub_self}
@@ -19,9 +18,9 @@ use Rattle.ss_store_rules.specs.Reads.{as_int, as_bool}
 use Rattle.ss_store_rules.specs.Values.{Setting, local_value, value_of}
 use Rattle.ss_store_rules.specs.Changes.{packed, field_class, field_mark, field_type, type_of_field, changed, with_field, written, with_owners, then_written, writing, unpack_of, pack_of, write_of, write_element_of, new_array, new_array_of, made_ready, ready_of}
 use Rattle.ss_store_rules.specs.Admissible.{is_this, invariants_hold}
-use Rattle.ss_store_rules.specs.Types.{class_type, has_fitting, is_int, code_type, element_of}
+use Rattle.ss_store_rules.specs.Types.{class_type, is_int, code_type, element_of}
 use Rattle.ss_store_rules.specs.Locals.{local_types, each_inside, is_kept_in, is_target}
-use Rattle.ss_store_rules.specs.Typed.{has_type_in, fits_declared, fits_kept, is_write_of, is_element_write, has_exposable, is_typed}
+use Rattle.ss_store_rules.specs.Typed.{has_type_in, fits_kept, is_write_of, is_element_write, has_exposable, is_typed}
 use Rattle.ss_store_rules.specs.Good.{has_type, is_non_null, IsReady}
 use Rattle.ss_store_rules.specs.Types.{in_code, is_condition}
 use Rattle.ss_store_rules.specs.Assigned.{reads_assigned}
@@ -44,7 +43,7 @@ use Rattle.ss_machine_good.proofs.Puts.{put_true}
 use Rattle.ss_machine_good.proofs.Tests.{learned_true}
 use Rattle.ss_machine_good.proofs.Steps.{fits_typed, value_fits, code_typed, fitting_some, write_good, write_element_good, unpack_good, pack_good, new_array_good}
 use Rattle.ss_machine_good.proofs.Calls.{one_ready}
-use Rattle.ss_machine_good.proofs.Frames.{frame_setting}
+use Rattle.ss_machine_good.proofs.Frames.{declared_some, bool_typed, frame_setting}
 use Rattle.ss_machine_good_constructors.specs.Checks.{fields_check, makes_ready}
 use Rattle.ss_machine_good_constructors.proofs.Fields.{field_had}
 use Rattle.ss_machine_good_frames.specs.Later.{IsLater}
@@ -52,17 +51,6 @@ use Rattle.ss_machine_good_frames.specs.Frames.{HasGiven, IsGoodFrame, entry_siz
 use Rattle.ss_machine_good_frames.proofs.Later.{later_self, later_unpack, later_pack, later_write, later_write_element, later_new_array, later_ready}
 use Rattle.ss_machine_good_frames.proofs.Behind.{each_simple, kept_is, variable_apart, later_given, MayBePut, put_variable, behind_frame, ready_as_before}
 use Rattle.ss_machine_good_frames.proofs.Values.{before_assigned, before_known, before_fields, may_pass, reads_evaluated, known_not_null, stands_not_null}
-
-declared_some : (cs : List ClassTree) (a o : Option Ty) → fits_declared cs a o ≡ true → (t : Ty) × (o ≡ Some t) × (has_fitting cs a t ≡ true)
-declared_some cs a None h = absurd (false≢true h)
-declared_some cs a (Some t) h = (t, refl, h)
-
--- the value of a truth value has the type of one
-bool_typed : (cs : List ClassTree) (s : List Object) (a : Ty) (v : Value) (u : Bool) → has_type cs s a v ≡ true → v ≡ value.Bool u → a ≡ ty.Bool
-bool_typed cs s ty.Bool v u h e = refl
-bool_typed cs s ty.Int v u h e = absurd (false≢true (subst (λ z. has_type cs s ty.Int z ≡ true) e h))
-bool_typed cs s ty.Null v u h e = absurd (false≢true (subst (λ z. has_type cs s ty.Null z ≡ true) e h))
-bool_typed cs s (ty.Ref t n) v u h e = absurd (false≢true (subst (λ z. has_type cs s (ty.Ref t n) z ≡ true) e h))
 
 pub if_true : (k a b : Bool) → k ≡ true → (if k then a else b) ≡ true → a ≡ true
 if_true true a b e h = h

@@ -42,6 +42,7 @@ use Rattle.ss_machine_good.proofs.Steps.{code_typed}
 use Rattle.ss_machine_good.proofs.Calls as calls
 use Rattle.ss_machine_good.proofs.Calls.{one_ready}
 use Rattle.ss_machine_good.proofs.Frames.{frame_setting}
+use Rattle.ss_machine_good.proofs.Start.{static_arguments}
 use Rattle.ss_machine_good_constructors.specs.Checks.{makes_ready}
 use Rattle.ss_machine_good_constructors.proofs.Bases.{where_some}
 use Rattle.ss_machine_good_frames.specs.Later.{IsLater}
@@ -84,9 +85,6 @@ stacked c f ds fs s s1 waiting new later g good wait apart =
     (good, (wait, all_waiting c s s1 later (record f { left = ds }) fs (same_waiting c s f (record f { left = ds }) fs refl refl refl waiting)), (apart, new))
 
 -- ---- bodies that are called
-
-static_types : (b : BodyTree) → b.flags.is_static ≡ true → argument_types b ≡ types_of b.params
-static_types b h = rw h refl
 
 pub instance_types : (b : BodyTree) → b.flags.is_static ≡ false → argument_types b ≡ ty.Ref (record { 0 = b.class }) true ∷ types_of b.params
 instance_types b h = rw h refl
@@ -226,7 +224,7 @@ module _ (c : CoreTree) (formed : IsFormed c) (f : Frame) (s : List Object) (ds 
       let pass = may_pass c f s st ds refl at is in
       let arguments = calls.static_arguments (scene c f s) f.body pass.constructs pass.setting b w.1 es vs k.types pass.apart h in
       enter_good c (body_at c n) b p (ToCall x) vs (record f { left = ds }) fs s w.0
-      (method_stack b fb plain (ToCall x) x refl vs arguments (λ i t v et ev nn. k.not_null vs h i t v (subst (λ ts. slice_get ts i ≡ Some t) (static_types b w.1) et) ev nn) (λ instance_. absurd (true≢false (sym w.1 ∙ instance_)))
+      (method_stack b fb plain (ToCall x) x refl vs arguments (λ i t v et ev nn. k.not_null vs h i t v (subst (λ ts. slice_get ts i ≡ Some t) (static_arguments b w.1) et) ev nn) (λ instance_. absurd (true≢false (sym w.1 ∙ instance_)))
       (λ this. method_waits c f s p x (Static n) es ds at is b this refl (λ j. refl) refl))
 
   -- ---- a dispatched one
@@ -257,7 +255,7 @@ module _ (c : CoreTree) (formed : IsFormed c) (f : Frame) (s : List Object) (ds 
       let arguments = calls.instance_arguments (scene c f s) f.body pass.constructs pass.setting b instance_ s (older_self s) o y.0 y.1 found.class (λ plain. y_ready) es vs types apart.1 h in
       enter_good c (method_at c (object_at s o).class m) b p (ToCall x) (value.Obj o ∷ vs) (record f { left = ds }) fs s there
       (method_stack b fb found.plain (ToCall x) x refl (value.Obj o ∷ vs) arguments
-      (with_this b vs o instance_ (λ i u2 v eu ev nn. k.not_null vs h i u2 v (subst (λ ts. slice_get ts i ≡ Some u2) found.params eu) ev nn)) (λ z. (o, refl))
+      (with_this b vs o instance_ (λ i u2 v eu ev nn. k.not_null vs h i u2 v (subst (λ ts. slice_get ts i ≡ Some u2) {y = types_of k.body.params} found.params eu) ev nn)) (λ z. (o, refl))
       (λ this. method_waits c f s p x (Dispatched e t m) es ds at is b this found.result (λ j. refl) refl))
 
   -- ---- a method of the class above

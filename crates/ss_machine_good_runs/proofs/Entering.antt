@@ -1,44 +1,32 @@
 -- A formed body is entered with a good frame.
-use Rattle.std.proofs.Common.{◌≡◌, ℕ, zero, suc, List, [], ◌∷◌, ◌++◌, map, length, Bool, true, false, not, Some, refl, sym, ◌∙◌, ap, subst, arith}
+use Rattle.std.proofs.Common.{◌≡◌, ℕ, zero, suc, List, [], ◌∷◌, ◌++◌, map, length, true, false, Some, sym, ◌∙◌, ap, subst, arith}
 use Rattle.std.specs.Prelude.{slice_get, unwrap_or, option_to_list}
-use Rattle.std.proofs.lemmas.Bool.{false≢true, and_parts, and_from, ltb-true}
+use Rattle.std.proofs.lemmas.Bool.{false≢true, ltb-true}
 use Rattle.ss_core.specs.declared.names.Ty.{Ty}
-use Rattle.ss_core.specs.Tree.{StmtTree, CodeTree, NoCode, Then, BodyTree, CoreTree}
+use Rattle.ss_core.specs.Tree.{BodyTree, CoreTree}
 use Rattle.ss_store_rules.specs.declared.Value.{Value}
 use Rattle.ss_store_rules.specs.declared.Value.TheVariants as value
 use Rattle.ss_store_rules.specs.Store.{Object, default_value}
-use Rattle.ss_store_rules.specs.Values.{Setting, setting, local_value}
-use Rattle.ss_store_rules.specs.Locals.{types_of, argument_types, local_types, argument_count, is_argument, each, each_inside}
+use Rattle.ss_store_rules.specs.Values.{setting, local_value}
+use Rattle.ss_store_rules.specs.Locals.{types_of, argument_types, local_types, argument_count, is_argument}
 use Rattle.ss_store_rules.specs.Typed.{has_exposable}
 use Rattle.ss_store_rules.specs.Good.{is_non_null}
-use Rattle.ss_store_rules.specs.NonNull.{no_facts, known_at_entry, known_flow, is_non_null_type}
+use Rattle.ss_store_rules.specs.NonNull.{known_at_entry, known_flow, is_non_null_type}
 use Rattle.ss_store_rules.specs.Formed.{IsFormed, IsFormedBody}
 use Rattle.ss_machine_rules.specs.Frame.{this_of}
 use Rattle.ss_machine_rules.specs.Good.{IsGoodStore}
-use Rattle.ss_machine_rules.specs.States.{dues, Target, locals_at_entry, frame_at_entry}
+use Rattle.ss_machine_rules.specs.States.{Target, locals_at_entry, frame_at_entry}
 use Rattle.ss_machine_typed.specs.Settings.{AreGoodArguments}
 use Rattle.ss_machine_typed.proofs.Older.{there_is}
 use Rattle.ss_machine_typed.proofs.First.{entered_locals}
 use Rattle.ss_machine_good.specs.Known.{IsNotNull, IsTrueOf, AreAssigned}
-use Rattle.ss_machine_good.specs.Frames.{all_left}
 use Rattle.ss_machine_good.proofs.Flows.{known_entered}
-use Rattle.ss_machine_good.proofs.Frames.{entered_frame}
+use Rattle.ss_machine_good.proofs.Frames.{entry_known, dues_left, entered_frame}
 use Rattle.ss_store_rules.specs.States.{AreGoodLocals}
 use Rattle.ss_machine_good_constructors.specs.Checks.{fields_check, ready_flow, ready_check, IsThisReady}
 use Rattle.ss_machine_good_constructors.proofs.Fields.{fields_along}
 use Rattle.ss_machine_good_constructors.proofs.This.{ready_along}
 use Rattle.ss_machine_good_frames.specs.Frames.{IsToNew, IsConstructing, IsGoodFrame}
-
-entry_known : (b : BodyTree) (x : Setting) → IsTrueOf b.flags.ctor (known_at_entry b) x
-entry_known b x = record {
-  facts = λ y h. absurd (false≢true h);
-  sides = λ y v e. record { facts = no_facts; there = refl; so = λ z h. absurd (false≢true h) };
-  fields = λ ctor g h. absurd (false≢true (sym (ap not ctor) ∙ h));
-}
-
-dues_left : (passes : StmtTree → Bool) (code : CodeTree) → each passes code ≡ true → all_left passes (λ e. true) (dues code) ≡ true
-dues_left passes NoCode h = refl
-dues_left passes (Then s code) h = let p = and_parts (each_inside passes s) (each passes code) h in and_from (each_inside passes s) (all_left passes (λ e. true) (dues code)) p.0 (dues_left passes code p.1)
 
 pub first_get : {X : Type 0} (xs ys : List X) (i : ℕ) (v : X) → slice_get xs i ≡ Some v → slice_get (xs ++ ys) i ≡ Some v
 first_get [] ys i v e = absurd (let none : ⊥ = cc in none)
@@ -65,7 +53,7 @@ pub entered_with : (c : CoreTree) → IsFormed c → (b : BodyTree) → IsFormed
 entered_with c formed b fb locals s into good are assigned constructs instance_ new_ = record {
   formed = fb;
   sound = entered_frame c b locals s into formed.chain formed.beside fb good are assigned;
-  exposed = dues_left (has_exposable c.classes b) b.code fb.exposed;
+  exposed = dues_left (has_exposable c.classes b) (λ e. true) b.code fb.exposed;
   fields = known_entered (known_flow c b) (fields_check c b) (IsTrueOf b.flags.ctor) b.code (known_at_entry b) (setting c.classes s s locals) (fields_along c formed b fb) fb.returns (entry_known b (setting c.classes s s locals));
   ready = known_entered (ready_flow c) (ready_check b) (IsThisReady b.flags.ctor) b.code false (setting c.classes s s locals) (ready_along c formed b fb) fb.returns (λ ctor h. absurd (false≢true h));
   constructs = constructs;

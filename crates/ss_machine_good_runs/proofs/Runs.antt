@@ -1,11 +1,11 @@
 -- Each state of a run is good.
-use Rattle.std.proofs.Common.{◌≡◌, ℕ, zero, suc, ℤ, ◌<◌, List, [], ◌∷◌, ◌++◌, map, length, Bool, true, false, Option, Some, None, Ok, Err, refl, sym, ◌∙◌, subst, arith}
-use Rattle.std.specs.Prelude.{slice_get, if◌then◌else◌, Result, unwrap_or}
-use Rattle.std.proofs.lemmas.Bool.{false≢true, true≢false, ltb-true, eq-eqb}
+use Rattle.std.proofs.Common.{◌≡◌, ℕ, zero, suc, ℤ, ◌<◌, List, [], ◌∷◌, ◌++◌, map, length, Bool, true, false, Option, Some, None, Ok, Err, refl, sym, ◌∙◌, subst}
+use Rattle.std.specs.Prelude.{if◌then◌else◌, Result}
+use Rattle.std.proofs.lemmas.Bool.{true≢false, ltb-true, eq-eqb}
 use Rattle.ss_core.specs.declared.names.Place.{Place}
 use Rattle.ss_core.specs.declared.names.Kind.{Kind}
 use Rattle.ss_core.specs.declared.names.Kind.TheVariants as kind
-use Rattle.ss_core.specs.Tree.{ExprTree, CalleeTree, Dispatched, Static, Base, BaseConstructor, ExposedTree, StmtTree, AssignStmt, WriteStmt, WriteElementStmt, NewStmt, NewArrayStmt, CallStmt, ReadyStmt, IfStmt, LoopStmt, UnpackStmt, PackStmt, AssertStmt, AssumeStmt, PrintStmt, PrintTextStmt, ReturnStmt, LocalTree, BodyTree, CoreTree}
+use Rattle.ss_core.specs.Tree.{ExprTree, CalleeTree, Dispatched, Static, Base, BaseConstructor, ExposedTree, StmtTree, AssignStmt, WriteStmt, WriteElementStmt, NewStmt, NewArrayStmt, CallStmt, ReadyStmt, IfStmt, LoopStmt, UnpackStmt, PackStmt, AssertStmt, AssumeStmt, PrintStmt, PrintTextStmt, ReturnStmt, BodyTree, CoreTree}
 use Rattle.ss_store_rules.specs.declared.Value.{Value}
 use Rattle.ss_store_rules.specs.declared.Value.TheVariants as value
 use Rattle.ss_store_rules.specs.declared.Undefined.{Undefined}
@@ -15,12 +15,12 @@ use Rattle.ss_store_rules.specs.Reads.{as_int, as_bool}
 use Rattle.ss_store_rules.specs.Values.{local_value, value_of, holds}
 use Rattle.ss_store_rules.specs.Changes.{unpack_of, pack_of, write_of, write_element_of, new_array_of, ready_of}
 use Rattle.ss_store_rules.specs.Admissible.{invariants_hold}
-use Rattle.ss_store_rules.specs.Admitted.{first_store, main_arguments, first_locals}
-use Rattle.ss_store_rules.specs.Locals.{types_of, argument_types, is_kept_in, is_target}
+use Rattle.ss_store_rules.specs.Admitted.{first_store, first_locals}
+use Rattle.ss_store_rules.specs.Locals.{argument_types, is_kept_in, is_target}
 use Rattle.ss_store_rules.specs.Typed.{body_at}
 use Rattle.ss_store_rules.specs.Assigned.{assigned_flow, assigned_check}
 use Rattle.ss_store_rules.specs.NonNull.{Known, known_after}
-use Rattle.ss_store_rules.specs.Formed.{are_main_params, IsMain, IsFormed}
+use Rattle.ss_store_rules.specs.Formed.{IsMain, IsFormed}
 use Rattle.ss_machine_rules.specs.Frame.{this_of, is_kept}
 use Rattle.ss_machine_rules.specs.States.{Due, Statement, Test, dues, ToCall, Frame, State, Running, Done, Failed, Stopped, Next, Goes, Over, Fails, Stops, frame_at_entry, scene, span}
 use Rattle.ss_machine_rules.specs.Steps as steps
@@ -30,8 +30,9 @@ use Rattle.ss_machine_rules.specs.Good.{AreGoodFrames, IsGoodStore, IsGoodState}
 use Rattle.ss_machine_typed.specs.Inputs.{IsInput}
 use Rattle.ss_machine_typed.proofs.First.{first_good, main_locals}
 use Rattle.ss_machine_good.specs.Flows.{is_simple, Loop, IsKnown}
-use Rattle.ss_machine_good.specs.Known.{IsNotNull, AreAssigned}
+use Rattle.ss_machine_good.specs.Known.{AreAssigned}
 use Rattle.ss_machine_good.proofs.Flows.{known_unended}
+use Rattle.ss_machine_good.proofs.Start.{argument_not_null, static_arguments}
 use Rattle.ss_machine_good_constructors.specs.Checks.{makes_ready}
 use Rattle.ss_machine_good_frames.specs.Later.{IsLater}
 use Rattle.ss_machine_good_frames.specs.Frames.{IsGoodFrame, entry_size, constructed, AreWaiting, IsNewTo, AreNew}
@@ -189,16 +190,6 @@ module _ (c : CoreTree) where
     step_good (Stopped at s before) h = h
 
     -- ---- state 0
-
-    -- the argument of Main isn't null
-    argument_not_null : (params : List LocalTree) (others : List Value) (x : ℕ) → are_main_params params ≡ true → x < length (types_of params) → IsNotNull (unwrap_or (slice_get (main_arguments params ++ others) x) value.Null)
-    argument_not_null [] others x h l = absurd (omega (arith, l))
-    argument_not_null (p ∷ []) others zero h l = λ e. cc
-    argument_not_null (p ∷ []) others (suc x) h l = absurd (omega (arith, l))
-    argument_not_null (p ∷ q ∷ ps) others x h l = absurd (false≢true h)
-
-    static_arguments : (b : BodyTree) → b.flags.is_static ≡ true → argument_types b ≡ types_of b.params
-    static_arguments b h = rw h refl
 
     main_good : (input : List ℤ) → IsInput input → (b : BodyTree) → body_at c c.main ≡ Some b → IsMain b → IsGoodFrame c (frame_at_entry b (first_locals b) (first_store input) (ToCall None)) (first_store input)
     main_good input is b at main =
