@@ -1,0 +1,4 @@
+pub mod Undo
+pub mod Logs
+pub mod OldValues
+pub mod Untouched
