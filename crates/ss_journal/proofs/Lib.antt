@@ -1,4 +1,2 @@
 pub mod Undo
-pub mod Logs
-pub mod OldValues
-pub mod Untouched
+pub mod Marks

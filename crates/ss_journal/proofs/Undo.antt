@@ -1,19 +1,21 @@
--- Laws of old values that are put back.
-use Rattle.std.proofs.Common.{◌≡◌, ◌≢◌, ℕ, zero, suc, ◌+◌, ◌<◌, ◌≤◌, List, [], ◌∷◌, ◌++◌, length, take, drop, Some, refl, ◌∙◌, ap, arith}
-use Rattle.std.specs.Prelude.{slice_get}
-use Rattle.std.proofs.lemmas.List.{drop-append-le, drop_all, take_all}
-use Rattle.std.proofs.lemmas.List.{take-append-le}
+-- What was logged takes changes back.
+use Rattle.std.proofs.Common.{◌≡◌, ℕ, zero, suc, ◌+◌, ◌<◌, ◌≤◌, List, [], ◌∷◌, ◌++◌, length, take, Bool, true, false, not, ◌||◌, Option, Some, None, Result, Ok, Err, OnOk, OnErr, refl, sym, ◌∙◌, ap, subst, arith, inl, inr, ◌⊎◌, ⊎_elim}
+use Rattle.std.specs.Prelude.{◌==◌, if◌then◌else◌, nat_lt, is_some, slice_get, unwrap_or}
+use Rattle.std.specs.Option.{option_or}
+use Rattle.std.proofs.lemmas.Bool.{eq-eqb, eqb-true, lt-ltb, ltb-true}
+use Rattle.std.proofs.lemmas.List.{take_all}
+use Rattle.std.specs.declared.alloc.AllocError.{AllocError}
 use Rattle.ss_store_rules.specs.Store.{Object}
+use Rattle.ss_store_rules.specs.Reads.{no_object, object_at}
 use Rattle.ss_store_rules.specs.Changes.{changed_from, changed}
-use Rattle.ss_journal.specs.declared.change.Change.{Change}
-use Rattle.ss_journal.specs.Undo.{put_in, put_all, put_back, store_at}
+use Rattle.ss_journal.specs.declared.changes.OldHeader.{OldHeader}
+use Rattle.ss_journal.specs.Shapes.{OldContent, Segment}
+use Rattle.ss_journal.specs.Undo.{header_of, content_of, with_header, with_content, IsHeaderOf, IsContentOf, restored, store_at, entries_of, joined, with_old_header, with_old_content}
+use Rattle.ss_journal.specs.Saved.{has_header, has_content, counts, HasMore}
 
--- first the later ones, then the earlier ones
-pub put_all-append : (es bs : List Change) (q : ℕ) (x : Object) → put_all (es ++ bs) q x ≡ put_all es q (put_all bs q x)
-put_all-append [] bs q x = refl
-put_all-append (e ∷ es) bs q x = ap (put_in e q) (put_all-append es bs q x)
+-- ---- stores object by object
 
-changed-again_from : (n : ℕ) (f g : ℕ → Object → Object) (s : List Object) → changed_from n f (changed_from n g s) ≡ changed_from n (λ q x. f q (g q x)) s
+pub changed-again_from : (n : ℕ) (f g : ℕ → Object → Object) (s : List Object) → changed_from n f (changed_from n g s) ≡ changed_from n (λ q x. f q (g q x)) s
 changed-again_from n f g [] = refl
 changed-again_from n f g (x ∷ xs) = ap (λ r. f n (g n x) ∷ r) (changed-again_from (n + 1) f g xs)
 
@@ -29,83 +31,231 @@ same_from n f g (x ∷ xs) h =
 pub same_changed : (f g : ℕ → Object → Object) (s : List Object) → ((q : ℕ) (x : Object) → slice_get s q ≡ Some x → f q x ≡ g q x) → changed f s ≡ changed g s
 same_changed f g s h = same_from 0 f g s (λ q x e. let z : 0 + q ≡ q = omega arith in rw z (h q x e))
 
--- each object is as it was, once the old values of a change are put back
-pub record IsLogged (cs : List Change) (f : ℕ → Object → Object) (s : List Object) : Type 0 where
-  pub back : (q : ℕ) (x : Object) → slice_get s q ≡ Some x → put_all cs q (f q x) ≡ x
-
--- a change that is logged doesn't change what stood at an earlier mark
-pub kept_behind : (log cs : List Change) (mark count : ℕ) (f : ℕ → Object → Object) (s : List Object) → mark ≤ length log → IsLogged cs f (take count s) → changed (put_all (drop mark (log ++ cs))) (changed f (take count s)) ≡ store_at log mark count s
-kept_behind log cs mark count f s within logged =
-    ap (λ es. changed (put_all es) (changed f (take count s))) (drop-append-le mark log cs within)
-    ∙ changed-again_from 0 (put_all (drop mark log ++ cs)) f (take count s)
-    ∙ same_changed (λ q x. put_all (drop mark log ++ cs) q (f q x)) (put_all (drop mark log)) (take count s)
-    (λ q x e. put_all-append (drop mark log) cs q (f q x) ∙ ap (put_all (drop mark log) q) (logged.back q x e))
-
 take-changed_from : (n count : ℕ) (f : ℕ → Object → Object) (s : List Object) → take count (changed_from n f s) ≡ changed_from n f (take count s)
 take-changed_from n zero f s = refl
 take-changed_from n (suc count) f [] = refl
 take-changed_from n (suc count) f (x ∷ xs) = ap (λ r. f n x ∷ r) (take-changed_from (n + 1) count f xs)
 
-get_taken : (n : ℕ) (s : List Object) (q : ℕ) (x : Object) → slice_get (take n s) q ≡ Some x → slice_get s q ≡ Some x
+pub get_taken : (n : ℕ) (s : List Object) (q : ℕ) (x : Object) → slice_get (take n s) q ≡ Some x → (slice_get s q ≡ Some x) × (nat_lt q n ≡ true)
 get_taken zero s q x e = cc
 get_taken (suc n) [] q x e = cc
-get_taken (suc n) (y ∷ s) zero x e = e
-get_taken (suc n) (y ∷ s) (suc q) x e = get_taken n s q x e
+get_taken (suc n) (y ∷ s) zero x e = (e, lt-ltb 0 (suc n) (omega arith))
+get_taken (suc n) (y ∷ s) (suc q) x e =
+    let r = get_taken n s q x e in
+    let l : suc q < suc n = let m = ltb-true q n r.1 in omega (arith, m) in
+    (r.0, lt-ltb (suc q) (suc n) l)
 
--- the same, for a store that was changed as a whole
-pub kept_store : (log cs : List Change) (mark count : ℕ) (f : ℕ → Object → Object) (s : List Object) → mark ≤ length log → IsLogged cs f s → store_at (log ++ cs) mark count (changed f s) ≡ store_at log mark count s
-kept_store log cs mark count f s within logged =
-    ap (changed (put_all (drop mark (log ++ cs)))) (take-changed_from 0 count f s)
-    ∙ kept_behind log cs mark count f s within (record { back = λ q x e. logged.back q x (get_taken count s q x e) })
+-- ---- more is logged
 
--- a new object doesn't change what stood before it
-pub kept_by_new : (log : List Change) (mark count : ℕ) (s : List Object) (x : Object) → count ≤ length s → store_at log mark count (s ++ x ∷ []) ≡ store_at log mark count s
-kept_by_new log mark count s x within = ap (put_back (drop mark log)) (take-append-le count s (x ∷ []) within)
+pub more_same : (s : List Object) (gs : List Segment) → HasMore s gs gs
+more_same s gs = record { entries = refl; counts = refl; headers = λ q e. e; contents = λ q e. e }
 
--- a mark that is set now stands for the store of now
-pub store_now : (log : List Change) (s : List Object) → store_at log (length log) (length s) s ≡ s
-store_now log s =
-    let none : drop (length log) log ≡ [] = drop_all (length log) log (omega arith) in
-    let all : take (length s) s ≡ s = take_all (length s) s (omega arith) in
-    rw (none, all) (untouched 0 s)
-  where
-    untouched : (n : ℕ) (s : List Object) → changed_from n (put_all []) s ≡ s
-    untouched n [] = refl
-    untouched n (x ∷ s) = ap (λ r. x ∷ r) (untouched (n + 1) s)
+pub more_again : (s : List Object) (a b d : List Segment) → HasMore s a b → HasMore s b d → HasMore s a d
+more_again s a b d one two = record {
+  entries = two.entries ∙ one.entries;
+  counts = two.counts ∙ one.counts;
+  headers = λ q e. two.headers q (one.headers q e);
+  contents = λ q e. two.contents q (one.contents q e);
+}
 
--- ---- changes of many objects, which log object by object
+either_more : {X : Type 0} (b : Bool) (h : X) (r t e : Option X) → t ≡ option_or r e → (if b then Some h else t) ≡ option_or (if b then Some h else r) e
+either_more true h r t e is = refl
+either_more false h r t e is = is
 
--- what each object logs, from the position n on
-abbrev pub each_log : (ℕ → Object → List Change) → ℕ → List Object → List Change
-each_log g n [] = []
-each_log g n (x ∷ xs) = g n x ++ each_log g (n + 1) xs
+or_some : {X : Type 0} (b : Bool) (r e : Option X) → (b || is_some r) ≡ true → (b || is_some (option_or r e)) ≡ true
+or_some true r e i = refl
+or_some false (Some h) e i = refl
+or_some false None e i = cc
 
--- an object logs only what is its own
-pub record IsOwn (g : ℕ → Object → List Change) : Type 0 where
-  pub apart : (p q : ℕ) (z y : Object) → p ≢ q → put_all (g p z) q y ≡ y
+or_last : {X : Type 0} (b : Bool) (r : Option X) (h : X) → (b || is_some (option_or r (Some h))) ≡ true
+or_last true r h = refl
+or_last false (Some x) h = refl
+or_last false None h = refl
 
-none_before : (g : ℕ → Object → List Change) → IsOwn g → (n : ℕ) (s : List Object) (q : ℕ) (y : Object) → q < n → put_all (each_log g n s) q y ≡ y
-none_before g own n [] q y l = refl
-none_before g own n (z ∷ s) q y l =
-    put_all-append (g n z) (each_log g (n + 1) s) q y
-    ∙ ap (put_all (g n z) q) (none_before g own (n + 1) s q y (omega arith))
-    ∙ own.apart n q z y (omega arith)
+header_more : (hs : List OldHeader) (o : OldHeader) (q : ℕ) → header_of (hs ++ o ∷ []) q ≡ option_or (header_of hs q) (if q == o.position then Some o else None)
+header_more [] o q = refl
+header_more (h ∷ hs) o q = either_more (q == h.position) h (header_of hs q) (header_of (hs ++ o ∷ []) q) (if q == o.position then Some o else None) (header_more hs o q)
 
-own_log : (g : ℕ → Object → List Change) → IsOwn g → (n : ℕ) (s : List Object) (q : ℕ) (x y : Object) → slice_get s q ≡ Some x → put_all (each_log g n s) (n + q) y ≡ put_all (g (n + q) x) (n + q) y
-own_log g own n [] q x y e = cc
-own_log g own n (z ∷ s) zero x y e =
-    let same : z ≡ x = cc in
-    let m : n + 0 ≡ n = omega arith in
-    rw (m, ← same)
-    (put_all-append (g n z) (each_log g (n + 1) s) n y ∙ ap (put_all (g n z) n) (none_before g own (n + 1) s n y (omega arith)))
-own_log g own n (z ∷ s) (suc q) x y e =
-    let m : n + suc q ≡ n + 1 + q = omega arith in
-    let apart : n ≢ n + 1 + q = omega arith in
-    rw m
-    (put_all-append (g n z) (each_log g (n + 1) s) (n + 1 + q) y
-    ∙ own.apart n (n + 1 + q) z (put_all (each_log g (n + 1) s) (n + 1 + q) y) apart
-    ∙ own_log g own (n + 1) s q x y e)
+content_more : (cs : List OldContent) (o : OldContent) (q : ℕ) → content_of (cs ++ o ∷ []) q ≡ option_or (content_of cs q) (if q == o.position then Some o else None)
+content_more [] o q = refl
+content_more (c ∷ cs) o q = either_more (q == c.position) c (content_of cs q) (content_of (cs ++ o ∷ []) q) (if q == o.position then Some o else None) (content_more cs o q)
 
--- what each object logs takes the change back
-pub logged_each : (g : ℕ → Object → List Change) (f : ℕ → Object → Object) (s : List Object) → IsOwn g → ((q : ℕ) (x : Object) → slice_get s q ≡ Some x → put_all (g q x) q (f q x) ≡ x) → IsLogged (each_log g 0 s) f s
-logged_each g f s own back = record { back = λ q x e. let z : 0 + q ≡ q = omega arith in (rw z at (own_log g own 0 s q x (f q x) e)) ∙ back q x e }
+header_same : (r : Option OldHeader) (b : Bool) (o : OldHeader) (x : Object) → (b ≡ true → IsHeaderOf o x) → with_header (option_or r (if b then Some o else None)) x ≡ with_header r x
+header_same (Some h) b o x is = refl
+header_same None true o x is = let e = is refl in rw (e.level, e.committed, e.owner, e.ready) refl
+header_same None false o x is = refl
+
+content_same : (r : Option OldContent) (b : Bool) (o : OldContent) (x : Object) → (b ≡ true → IsContentOf o x) → with_content (option_or r (if b then Some o else None)) x ≡ with_content r x
+content_same (Some h) b o x is = refl
+content_same None true o x is = let e = is refl in rw (e.fields, e.elements) refl
+content_same None false o x is = refl
+
+content_behind : (r : Option OldHeader) (o : OldContent) (x : Object) → IsContentOf o x → IsContentOf o (with_header r x)
+content_behind None o x is = is
+content_behind (Some h) o x is = record { fields = is.fields; elements = is.elements }
+
+object_is : (s : List Object) (n q p : ℕ) (x : Object) → slice_get (take n s) q ≡ Some x → (q == p) ≡ true → object_at s p ≡ x
+object_is s n q p x e b =
+    let is : q ≡ p = eqb-true q p b in
+    ap (λ i. object_at s i) (sym is) ∙ ap (λ o. unwrap_or o no_object) (get_taken n s q x e).0
+
+pub header_logged : (s : List Object) (gs : List Segment) (o : OldHeader) → IsHeaderOf o (object_at s o.position) → HasMore s gs (with_old_header o gs)
+header_logged s [] o is = more_same s []
+header_logged s (g ∷ gs) o is = record {
+  entries = ap (λ t. t ∷ entries_of gs t)
+      (same_changed _ (restored g) (take g.count s)
+      (λ q x e. ap (with_content (content_of g.contents q))
+      (ap (λ r. with_header r x) (header_more g.headers o q)
+      ∙ header_same (header_of g.headers q) (q == o.position) o x (λ b. subst (IsHeaderOf o) (object_is s g.count q o.position x e b) is))));
+  counts = refl;
+  headers = λ q e. ap (λ r. not (nat_lt q g.count) || is_some r) (header_more g.headers o q) ∙ or_some (not (nat_lt q g.count)) (header_of g.headers q) (if q == o.position then Some o else None) e;
+  contents = λ q e. e;
+}
+
+pub header_has : (gs : List Segment) (o : OldHeader) (q : ℕ) → o.position ≡ q → has_header (with_old_header o gs) q ≡ true
+header_has [] o q is = refl
+header_has (g ∷ gs) o q is =
+    ap (λ r. not (nat_lt q g.count) || is_some r) (header_more g.headers o q)
+    ∙ ap (λ b. not (nat_lt q g.count) || is_some (option_or (header_of g.headers q) (if b then Some o else None))) (eq-eqb q o.position (sym is))
+    ∙ or_last (not (nat_lt q g.count)) (header_of g.headers q) o
+
+pub content_logged : (s : List Object) (gs : List Segment) (o : OldContent) → IsContentOf o (object_at s o.position) → HasMore s gs (with_old_content o gs)
+content_logged s [] o is = more_same s []
+content_logged s (g ∷ gs) o is = record {
+  entries = ap (λ t. t ∷ entries_of gs t)
+      (same_changed _ (restored g) (take g.count s)
+      (λ q x e. ap (λ r. with_content r (with_header (header_of g.headers q) x)) (content_more g.contents o q)
+      ∙ content_same (content_of g.contents q) (q == o.position) o (with_header (header_of g.headers q) x)
+      (λ b. content_behind (header_of g.headers q) o x (subst (IsContentOf o) (object_is s g.count q o.position x e b) is))));
+  counts = refl;
+  headers = λ q e. e;
+  contents = λ q e. ap (λ r. not (nat_lt q g.count) || is_some r) (content_more g.contents o q) ∙ or_some (not (nat_lt q g.count)) (content_of g.contents q) (if q == o.position then Some o else None) e;
+}
+
+pub content_has : (gs : List Segment) (o : OldContent) (q : ℕ) → o.position ≡ q → has_content (with_old_content o gs) q ≡ true
+content_has [] o q is = refl
+content_has (g ∷ gs) o q is =
+    ap (λ r. not (nat_lt q g.count) || is_some r) (content_more g.contents o q)
+    ∙ ap (λ b. not (nat_lt q g.count) || is_some (option_or (content_of g.contents q) (if b then Some o else None))) (eq-eqb q o.position (sym is))
+    ∙ or_last (not (nat_lt q g.count)) (content_of g.contents q) o
+
+-- ---- changes
+
+some_header : (r : Option OldHeader) (x y : Object) → is_some r ≡ true → ((h : OldHeader) → with_header (Some h) y ≡ with_header (Some h) x) → with_header r y ≡ with_header r x
+some_header None x y has same = cc
+some_header (Some h) x y has same = same h
+
+some_content : (r : Option OldContent) (x y : Object) → is_some r ≡ true → ((c : OldContent) → with_content (Some c) y ≡ with_content (Some c) x) → with_content r y ≡ with_content r x
+some_content None x y has same = cc
+some_content (Some c) x y has same = same c
+
+if_old : (b d : Bool) → b ≡ true → (not b || d) ≡ true → d ≡ true
+if_old true d t e = e
+if_old false d t e = cc
+
+-- the change leaves the fields and elements of each object, and its class
+abbrev pub IsOfHeaders : (ℕ → Object → Object) → Type 0
+IsOfHeaders f = (q : ℕ) (x : Object) (h : OldHeader) → with_header (Some h) (f q x) ≡ with_header (Some h) x
+
+-- the change leaves all but the fields and elements of each object
+abbrev pub IsOfContents : (ℕ → Object → Object) → Type 0
+IsOfContents f = (q : ℕ) (x : Object) (r : Option OldHeader) (c : OldContent) → with_content (Some c) (with_header r (f q x)) ≡ with_content (Some c) (with_header r x)
+
+entry_same : (g : Segment) (f : ℕ → Object → Object) (s : List Object) → ((q : ℕ) (x : Object) → slice_get (take g.count s) q ≡ Some x → restored g q (f q x) ≡ restored g q x) → store_at g (changed f s) ≡ store_at g s
+entry_same g f s same = ap (changed (restored g)) (take-changed_from 0 g.count f s) ∙ changed-again_from 0 (restored g) f (take g.count s) ∙ same_changed (λ q x. restored g q (f q x)) (restored g) (take g.count s) same
+
+-- a change of headers, where each object is as before or its header is logged, leaves the entries
+pub entries_stay : (gs : List Segment) (f : ℕ → Object → Object) (s : List Object) → IsOfHeaders f → ((q : ℕ) (x : Object) → slice_get s q ≡ Some x → (f q x ≡ x) ⊎ (has_header gs q ≡ true)) → entries_of gs (changed f s) ≡ entries_of gs s
+entries_stay [] f s of why = refl
+entries_stay (g ∷ gs) f s of why =
+    ap (λ t. t ∷ entries_of gs t)
+    (entry_same g f s (λ q x e. ⊎_elim
+    (λ same. ap (restored g q) same)
+    (λ has. ap (with_content (content_of g.contents q)) (some_header (header_of g.headers q) x (f q x) (if_old (nat_lt q g.count) (is_some (header_of g.headers q)) (get_taken g.count s q x e).1 has) (of q x)))
+    (why q x (get_taken g.count s q x e).0)))
+
+-- and so does a change of fields and elements, where they are logged
+pub entries_stay_too : (gs : List Segment) (f : ℕ → Object → Object) (s : List Object) → IsOfContents f → ((q : ℕ) (x : Object) → slice_get s q ≡ Some x → (f q x ≡ x) ⊎ (has_content gs q ≡ true)) → entries_of gs (changed f s) ≡ entries_of gs s
+entries_stay_too [] f s of why = refl
+entries_stay_too (g ∷ gs) f s of why =
+    ap (λ t. t ∷ entries_of gs t)
+    (entry_same g f s (λ q x e. ⊎_elim
+    (λ same. ap (restored g q) same)
+    (λ has. some_content (content_of g.contents q) (with_header (header_of g.headers q) x) (with_header (header_of g.headers q) (f q x)) (if_old (nat_lt q g.count) (is_some (content_of g.contents q)) (get_taken g.count s q x e).1 has) (of q x (header_of g.headers q)))
+    (why q x (get_taken g.count s q x e).0)))
+
+-- ---- entries and exits of bodies
+
+untouched_from : (n : ℕ) (s : List Object) (k : ℕ) → changed_from n (restored (record { count = k; headers = []; contents = [] })) s ≡ s
+untouched_from n [] k = refl
+untouched_from n (x ∷ s) k = ap (λ r. x ∷ r) (untouched_from (n + 1) s k)
+
+-- a body that is entered now has the store of now as that of its entry
+pub entries-entered : (gs : List Segment) (s : List Object) → entries_of (record { count = length s; headers = []; contents = [] } ∷ gs) s ≡ s ∷ entries_of gs s
+entries-entered gs s =
+    let e : store_at (record { count = length s; headers = []; contents = [] }) s ≡ s = ap (changed_from 0 (restored (record { count = length s; headers = []; contents = [] }))) (take_all (length s) s (omega arith)) ∙ untouched_from 0 s (length s) in
+    ap (λ t. t ∷ entries_of gs t) e
+
+header_joined : (hs ks : List OldHeader) (q : ℕ) → header_of (hs ++ ks) q ≡ option_or (header_of hs q) (header_of ks q)
+header_joined [] ks q = refl
+header_joined (h ∷ hs) ks q = either_more (q == h.position) h (header_of hs q) (header_of (hs ++ ks) q) (header_of ks q) (header_joined hs ks q)
+
+content_joined : (bs cs : List OldContent) (q : ℕ) → content_of (bs ++ cs) q ≡ option_or (content_of bs q) (content_of cs q)
+content_joined [] cs q = refl
+content_joined (b ∷ bs) cs q = either_more (q == b.position) b (content_of bs q) (content_of (bs ++ cs) q) (content_of cs q) (content_joined bs cs q)
+
+both_joined : (a b : Option OldHeader) (c d : Option OldContent) (x : Object) → with_content (option_or c d) (with_header (option_or a b) x) ≡ with_content c (with_header a (with_content d (with_header b x)))
+both_joined None None None None x = refl
+both_joined None None None (Some d) x = refl
+both_joined None None (Some c) None x = refl
+both_joined None None (Some c) (Some d) x = refl
+both_joined None (Some b) None None x = refl
+both_joined None (Some b) None (Some d) x = refl
+both_joined None (Some b) (Some c) None x = refl
+both_joined None (Some b) (Some c) (Some d) x = refl
+both_joined (Some a) None None None x = refl
+both_joined (Some a) None None (Some d) x = refl
+both_joined (Some a) None (Some c) None x = refl
+both_joined (Some a) None (Some c) (Some d) x = refl
+both_joined (Some a) (Some b) None None x = refl
+both_joined (Some a) (Some b) None (Some d) x = refl
+both_joined (Some a) (Some b) (Some c) None x = refl
+both_joined (Some a) (Some b) (Some c) (Some d) x = refl
+
+take_part : (i j : ℕ) (xs : List Object) → i ≤ j → take i (take j xs) ≡ take i xs
+take_part zero j xs l = refl
+take_part (suc i) zero xs l = absurd (omega (arith, l))
+take_part (suc i) (suc j) [] l = refl
+take_part (suc i) (suc j) (x ∷ xs) l = ap (λ r. x ∷ r) (take_part i j xs (omega (arith, l)))
+
+-- where a body is left, the stores at the entries of the others stay
+pub entries-left : (g h : Segment) (gs : List Segment) (s : List Object) → h.count ≤ g.count → entries_of (joined (g ∷ h ∷ gs)) s ≡ store_at h (store_at g s) ∷ entries_of gs (store_at h (store_at g s))
+entries-left g h gs s l =
+    let j : Segment = record { count = h.count; headers = h.headers ++ g.headers; contents = h.contents ++ g.contents } in
+    let each : changed (restored j) (take h.count s) ≡ changed (λ q x. restored h q (restored g q x)) (take h.count s) =
+    same_changed (restored j) (λ q x. restored h q (restored g q x)) (take h.count s)
+    (λ q x e. ap (λ r. with_content r (with_header (header_of (h.headers ++ g.headers) q) x)) (content_joined h.contents g.contents q)
+    ∙ ap (λ r. with_content (option_or (content_of h.contents q) (content_of g.contents q)) (with_header r x)) (header_joined h.headers g.headers q)
+    ∙ both_joined (header_of h.headers q) (header_of g.headers q) (content_of h.contents q) (content_of g.contents q) x) in
+    let before : store_at h (store_at g s) ≡ changed (λ q x. restored h q (restored g q x)) (take h.count s) =
+    ap (changed (restored h)) (take-changed_from 0 h.count (restored g) (take g.count s) ∙ ap (changed (restored g)) (take_part h.count g.count s l))
+    ∙ changed-again_from 0 (restored h) (restored g) (take h.count s) in
+    ap (λ t. t ∷ entries_of gs t) (each ∙ sym before)
+
+-- ---- what a call that logs gives
+
+pub header_saved : (s : List Object) (old new : List Segment) (o : OldHeader) (q : ℕ) (r : Result (Unit {0}) AllocError) → o.position ≡ q → IsHeaderOf o (object_at s q) → OnOk r (new ≡ with_old_header o old) → OnErr r (new ≡ old) → HasMore s old new
+header_saved s old new o q (Ok u) p is ok err = subst (λ gs. HasMore s old gs) (sym ok) (header_logged s old o (subst (λ i. IsHeaderOf o (object_at s i)) (sym p) is))
+header_saved s old new o q (Err e) p is ok err = subst (λ gs. HasMore s old gs) (sym err) (more_same s old)
+
+pub header_there : (old new : List Segment) (o : OldHeader) (q : ℕ) (r : Result (Unit {0}) AllocError) → o.position ≡ q → OnOk r (new ≡ with_old_header o old) → OnOk r (has_header new q ≡ true)
+header_there old new o q (Ok u) p ok = ap (λ gs. has_header gs q) ok ∙ header_has old o q p
+header_there old new o q (Err e) p ok = tt
+
+pub content_saved : (s : List Object) (old new : List Segment) (o : OldContent) (r : Result (Unit {0}) AllocError) → IsContentOf o (object_at s o.position) → OnOk r (new ≡ with_old_content o old) → OnErr r (new ≡ old) → HasMore s old new
+content_saved s old new o (Ok u) is ok err = subst (λ gs. HasMore s old gs) (sym ok) (content_logged s old o is)
+content_saved s old new o (Err e) is ok err = subst (λ gs. HasMore s old gs) (sym err) (more_same s old)
+
+pub content_there : (old new : List Segment) (o : OldContent) (r : Result (Unit {0}) AllocError) → OnOk r (new ≡ with_old_content o old) → OnOk r (has_content new o.position ≡ true)
+content_there old new o (Ok u) ok = ap (λ gs. has_content gs o.position) ok ∙ content_has old o o.position refl
+content_there old new o (Err e) ok = tt

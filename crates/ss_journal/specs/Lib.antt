@@ -1,3 +1,4 @@
+pub mod Shapes
 pub mod Undo
-pub mod Logs
-pub mod Reads
+pub mod Marks
+pub mod Saved

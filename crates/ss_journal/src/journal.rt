@@ -1,159 +1,131 @@
 // The log.
-ghost use Rattle.std.specs.Prelude.{◌≡◌, ◌≤◌, [], ◌∷◌, ◌++◌, length, drop, option_map, OnOk, OnErr};
-ghost use Rattle.ss_journal.specs.Reads as reads;
+ghost use Rattle.std.specs.Prelude.{◌≡◌, ◌∷◌, [], option_copied, OnOk, OnErr};
+ghost use Rattle.ss_journal.specs.Undo.{count_of, headers_of, contents_of, header_of, content_of, joined, with_old_header, with_old_content};
+ghost use Rattle.ss_journal.specs.Shapes as shape;
 
-use crate::change::{Change, committed_was, element_was, field_was, level_was, owner_was};
-use ss_core::{ClassId, FieldId};
-use ss_store_rules::{Owner, Value};
+use crate::changes::{OldContent, OldHeader, first_content, first_header};
 use std::alloc::{AllocError, Global};
 use std::marker::Model;
 
-/// Changes of a store, in order.
+/// The entry of a body: how many objects there were, and how many changes were logged before.
+#[derive(Clone, Copy)]
+pub(crate) struct Mark {
+    count: usize,
+    headers: usize,
+    contents: usize,
+}
+
+/// For each body that runs the number of objects at its entry, and what objects were that changed since then and before the next
+/// entry.
 #[derive(Drop)]
 pub struct Journal {
-    changes: Vec<Change>,
+    /// That of the running body is the last.
+    marks: Vec<Mark>,
+    headers: Vec<OldHeader>,
+    contents: Vec<OldContent>,
 }
 
 impl Model for Journal {
-    ghost use Rattle.std.specs.Prelude.{List};
-    ghost use Rattle.ss_journal.specs.declared.change.Change.{Change};
+    ghost use Rattle.std.specs.Prelude.{List, length, reverse};
+    ghost use Rattle.ss_journal.specs.Shapes.{Segment};
+    ghost use Rattle.ss_journal.specs.Marks.{segments, AreWithin};
 
-    ghost Value = { List Change };
+    ghost Value = { List Segment };
 
-    ghost view = { λ j. j.changes.items };
+    ghost view = { λ j. segments (reverse j.marks.items) j.headers.items j.contents.items };
+
+    ghost invariant = { λ j. AreWithin (reverse j.marks.items) (length j.headers.items) (length j.contents.items) };
 }
 
 impl Journal {
-    /// A log without changes.
+    /// A log without entries.
     pub fn new(alloc: Global) -> Journal
         ensures { result ≡ [] }
     {
         Journal {
-            changes: Vec::new(alloc),
+            marks: Vec::new(alloc),
+            headers: Vec::new(alloc),
+            contents: Vec::new(alloc),
         }
     }
 
-    /// The place in the log behind all changes so far.
-    pub fn mark(&self) -> usize
-        ensures { result ≡ length self.now }
-    {
-        self.changes.len()
-    }
-
-    /// Appends a change. An error is want of memory.
-    pub fn log(&mut self, change: Change) -> Result<(), AllocError>
-        ensures logged { OnOk result (self.new ≡ self.old ++ change ∷ []) }
+    /// A body is entered, where there are so many objects. An error is want of memory.
+    pub fn enter(&mut self, count: usize) -> Result<(), AllocError>
+        ensures entered { OnOk result (self.new ≡ record { count = count; headers = []; contents = [] } ∷ self.old) }
         ensures kept { OnErr result (self.new ≡ self.old) }
     {
-        self.changes.push(change)?;
+        self.marks.push(Mark {
+            count,
+            headers: self.headers.len(),
+            contents: self.contents.len(),
+        })?;
         Ok(())
     }
 
-    /// The changes behind the mark.
-    fn since(&self, mark: usize) -> &[Change]
-        requires { mark ≤ length self.now }
-        ensures { result.now ≡ drop mark self.now }
+    /// The running body is left: what it changed, its caller changed.
+    pub fn leave(&mut self)
+        ensures { self.new ≡ joined self.old }
     {
-        &self.changes[mark..]
+        let _ = self.marks.pop();
     }
 
-    /// The value that the field had at the mark, where it changed since.
-    pub fn old_field(&self, mark: usize, o: u32, f: FieldId) -> Option<Value>
-        requires { mark ≤ length self.now }
-        ensures { result ≡ reads.first_of (reads.field_was o f.0) (drop mark self.now) }
+    /// How many objects there were at the entry of the running body.
+    pub fn count(&self) -> usize
+        ensures { result ≡ count_of self.now }
     {
-        first_field(self.since(mark), o, f)
-    }
-
-    /// The value that the element had at the mark, where it changed since.
-    pub fn old_element(&self, mark: usize, a: u32, i: u32) -> Option<Value>
-        requires { mark ≤ length self.now }
-        ensures { result ≡ reads.first_of (reads.element_was a i) (drop mark self.now) }
-    {
-        first_element(self.since(mark), a, i)
-    }
-
-    /// The level that the object had at the mark, where it changed since.
-    pub fn old_level(&self, mark: usize, o: u32) -> Option<ClassId>
-        requires { mark ≤ length self.now }
-        ensures { option_map (λ t. t.0) result ≡ reads.first_of (reads.level_was o) (drop mark self.now) }
-    {
-        first_level(self.since(mark), o)
-    }
-
-    /// Whether the object was committed at the mark, where that changed since.
-    pub fn old_committed(&self, mark: usize, o: u32) -> Option<bool>
-        requires { mark ≤ length self.now }
-        ensures { result ≡ reads.first_of (reads.committed_was o) (drop mark self.now) }
-    {
-        first_committed(self.since(mark), o)
-    }
-
-    /// The owner that the object had at the mark, where it changed since.
-    pub fn old_owner(&self, mark: usize, o: u32) -> Option<Owner>
-        requires { mark ≤ length self.now }
-        ensures { result ≡ reads.first_of (reads.owner_was o) (drop mark self.now) }
-    {
-        first_owner(self.since(mark), o)
-    }
-}
-
-fn first_field(changes: &[Change], o: u32, f: FieldId) -> Option<Value>
-    ensures { result ≡ reads.first_of (reads.field_was o f.0) changes.now }
-{
-    for change in changes {
-        match field_was(*change, o, f) {
-            Some(v) => return Some(v),
-            None => {}
+        match self.marks.last() {
+            Some(mark) => mark.count,
+            None => 0,
         }
     }
-    None
-}
 
-fn first_element(changes: &[Change], a: u32, i: u32) -> Option<Value>
-    ensures { result ≡ reads.first_of (reads.element_was a i) changes.now }
-{
-    for change in changes {
-        match element_was(*change, a, i) {
-            Some(v) => return Some(v),
-            None => {}
+    /// What was logged since the entry of the running body.
+    pub fn headers(&self) -> &[OldHeader]
+        ensures { result.now ≡ headers_of self.now }
+    {
+        match self.marks.last() {
+            Some(mark) => &self.headers[mark.headers..],
+            None => &[],
         }
     }
-    None
-}
 
-fn first_level(changes: &[Change], o: u32) -> Option<ClassId>
-    ensures { option_map (λ t. t.0) result ≡ reads.first_of (reads.level_was o) changes.now }
-{
-    for change in changes {
-        match level_was(*change, o) {
-            Some(v) => return Some(v),
-            None => {}
+    /// What was logged since the entry of the running body.
+    pub fn contents(&self) -> &[OldContent]
+        ensures { result.now ≡ contents_of self.now }
+    {
+        match self.marks.last() {
+            Some(mark) => &self.contents[mark.contents..],
+            None => &[],
         }
     }
-    None
-}
 
-fn first_committed(changes: &[Change], o: u32) -> Option<bool>
-    ensures { result ≡ reads.first_of (reads.committed_was o) changes.now }
-{
-    for change in changes {
-        match committed_was(*change, o) {
-            Some(v) => return Some(v),
-            None => {}
-        }
+    /// What the object was at the entry of the running body, where that was logged.
+    pub fn old_header(&self, q: u32) -> Option<OldHeader>
+        ensures { result ≡ header_of (headers_of self.now) q }
+    {
+        first_header(self.headers(), q)
     }
-    None
-}
 
-fn first_owner(changes: &[Change], o: u32) -> Option<Owner>
-    ensures { result ≡ reads.first_of (reads.owner_was o) changes.now }
-{
-    for change in changes {
-        match owner_was(*change, o) {
-            Some(v) => return Some(v),
-            None => {}
-        }
+    /// What the object had at the entry of the running body, where that was logged.
+    pub fn old_content(&self, q: u32) -> Option<&OldContent>
+        ensures { option_copied result ≡ content_of (contents_of self.now) q }
+    {
+        first_content(self.contents(), q)
     }
-    None
+
+    pub(crate) fn log_header(&mut self, old: OldHeader) -> Result<(), AllocError>
+        ensures logged { OnOk result (self.new ≡ with_old_header old self.old) }
+        ensures kept { OnErr result (self.new ≡ self.old) }
+    {
+        self.headers.push(old)?;
+        Ok(())
+    }
+
+    pub(crate) fn log_content(&mut self, old: OldContent) -> Result<(), AllocError>
+        ensures logged { OnOk result (self.new ≡ with_old_content old self.old) }
+        ensures kept { OnErr result (self.new ≡ self.old) }
+    {
+        self.contents.push(old)?;
+        Ok(())
+    }
 }

@@ -1,8 +1,10 @@
-//! The undo log of a run: each change of the store with the old value, so that the store at a mark can be read.
+//! The undo log of a run: what objects were at the entries of the bodies that run, so that the stores at these entries can be read.
 #![tactic(auto)]
 
-mod change;
+mod changes;
 mod journal;
+mod saving;
 
-pub use change::Change;
+pub use changes::{OldContent, OldHeader};
 pub use journal::Journal;
+pub use saving::header_at;

@@ -9,7 +9,8 @@ use Rattle.ss_io.specs.Outside.{Grew, GrewByFront, Rose}
 use Rattle.ss_core.specs.Tree.{StmtTree, PrintStmt, PrintTextStmt, CoreTree}
 use Rattle.ss_store_rules.specs.declared.Value.{Value}
 use Rattle.ss_store_rules.specs.declared.Undefined.{Undefined}
-use Rattle.ss_store_rules.specs.declared.Refused.{Refused}
+use Rattle.ss_machine_stores.specs.declared.stop.ChangeStop.{ChangeStop}
+use Rattle.ss_machine_stores.specs.declared.stop.ChangeStop.TheVariants as stop
 use Rattle.ss_store_rules.specs.Numbers.{Outcome, undefined}
 use Rattle.ss_store_rules.specs.Values.{Setting}
 use Rattle.ss_machine_rules.specs.States.{Due, Next, Goes, Over, Fails, Stops, scene}
@@ -98,9 +99,13 @@ IsInto (Ok u) ds old new = going new [] ≡ goes (go_into ds (running old)) (wai
 IsInto (Err h) ds old new = h ≡ halt.Memory
 
 -- a change that was refused fails
-abbrev pub FailsAs : Result Unit Halt → Result Unit Refused → Place → Type 0
+abbrev pub FailsAs : Result Unit Halt → Result Unit ChangeStop → Place → Type 0
 FailsAs (Ok u) r at = r ≡ Ok tt
-FailsAs (Err h) r at = (k : Kind) × (h ≡ halt.Fails k at) × (r ≡ Err (record { kind = k }))
+FailsAs (Err (halt.Fails k p)) r at = (p ≡ at) × (r ≡ Err (stop.Refused (record { kind = k })))
+FailsAs (Err halt.Memory) r at = r ≡ Err stop.Memory
+FailsAs (Err halt.Over) r at = ⊥
+FailsAs (Err (halt.Stops p)) r at = ⊥
+FailsAs (Err halt.WriteFault) r at = ⊥
 
 -- ---- with a sink
 

@@ -254,13 +254,15 @@ impl<'a> Machine<'a> {
             return Err(Halt::Over);
         }
         match target {
-            Target::Call(x) => put(x, value, &mut self.top.locals),
+            Target::Call(x) => {
+                put(x, value, &mut self.top.locals);
+                Ok(())
+            }
             Target::New(x) => {
                 put(x, object, &mut self.top.locals);
-                self.set_ready(core, object);
+                self.set_ready(core, object)
             }
         }
-        Ok(())
     }
 
     // The frame that waits next runs, where one waits.

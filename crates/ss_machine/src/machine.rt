@@ -1,5 +1,5 @@
 // The stack of frames over the stores, and what expressions are read in.
-ghost use Rattle.std.specs.Prelude.{◌≡◌, ◌≤◌, ◌++◌, Ok, Err, length, IfOk, OnErr};
+ghost use Rattle.std.specs.Prelude.{◌≡◌, ◌≤◌, ◌++◌, Ok, Err, length, IfOk, OnOk, OnErr};
 ghost use Rattle.ss_core.specs.View as view;
 ghost use Rattle.ss_core.specs.Chain.{most_classes};
 ghost use Rattle.ss_store_rules.specs.Values as values;
@@ -13,8 +13,8 @@ use crate::frame::{Behind, Frame};
 use crate::halt::Halt;
 use crate::values::as_bool;
 use ss_core::{Core, Expr, Place, Stmt};
-use ss_machine_stores::Stores;
-use ss_store_rules::{Refused, Undefined, Value};
+use ss_machine_stores::{ChangeStop, Stores};
+use ss_store_rules::{Undefined, Value};
 use std::alloc::Global;
 
 // The running frame, those that wait, the oldest first, and the store with those at the entries of the frames.
@@ -46,13 +46,14 @@ pub fn or_memory<T: Drop, E: Drop>(made: Result<T, E>) -> Result<T, Halt>
     }
 }
 
-// A refused change is a check that fails.
-pub fn or_fails(changed: Result<(), Refused>, place: Place) -> Result<(), Halt>
+// A refused change is a check that fails; want of memory halts the run.
+pub fn or_fails(changed: Result<(), ChangeStop>, place: Place) -> Result<(), Halt>
     ensures { FailsAs result changed place }
 {
     match changed {
         Ok(()) => Ok(()),
-        Err(refused) => Err(Halt::Fails(refused.kind, place)),
+        Err(ChangeStop::Refused(refused)) => Err(Halt::Fails(refused.kind, place)),
+        Err(ChangeStop::Memory) => Err(Halt::Memory),
     }
 }
 
@@ -138,12 +139,14 @@ impl<'a> Machine<'a> {
     }
 
     // The object to which a value refers is ready.
-    pub fn set_ready(&mut self, core: &Core, object: Value)
-        ensures ready { self.new.stores.now ≡ steps.with_ready self.old.stores.now object }
+    pub fn set_ready(&mut self, core: &Core, object: Value) -> Result<(), Halt>
+        ensures ready { OnOk result (self.new.stores.now ≡ steps.with_ready self.old.stores.now object) }
+        ensures memory { OnErr result (result ≡ Err Halt.Memory) }
         ensures frames { (running self.new ≡ running self.old) × (waiting self.new ≡ waiting self.old) }
     {
-        if let Value::Obj(o) = object {
-            self.stores.set_ready(core, o);
+        match object {
+            Value::Obj(o) => or_memory(self.stores.set_ready(core, o)),
+            _ => Ok(()),
         }
     }
 }

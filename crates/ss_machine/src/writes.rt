@@ -87,8 +87,7 @@ impl<'a> Machine<'a> {
     {
         let _ = place;
         let object = this(&self.top.locals);
-        self.set_ready(core, object);
-        Ok(())
+        self.set_ready(core, object)
     }
 
     // `unpack x from T`

@@ -1,5 +1,11 @@
 pub mod Firsts
 pub mod Givens
-pub mod Stacks
 pub mod Gathered
 pub mod Conditions
+pub mod Untouched
+pub mod Kept
+pub mod Entries
+pub mod Keeping
+pub mod New
+pub mod Entering
+pub mod Listing

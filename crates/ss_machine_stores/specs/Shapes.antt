@@ -1,7 +1,6 @@
 -- What contracts see of the stores of a run.
-use Rattle.std.specs.Prelude.{List, [], ◌∷◌, Option, Some, None}
+use Rattle.std.specs.Prelude.{List, [], ◌∷◌}
 use Rattle.ss_store_rules.specs.Store.{Object}
-use Rattle.ss_store.specs.Shapes.{Contents}
 
 -- the store now, and the stores as they were at the entries of the frames, that of the running one first
 pub record Timeline : Type 0 where
@@ -17,8 +16,3 @@ entry_of (s ∷ ss) = s
 abbrev pub rest_of : List (List Object) → List (List Object)
 rest_of [] = []
 rest_of (s ∷ ss) = ss
-
--- the objects of a store, where there is one
-abbrev pub objects_of : Option Contents → List Object
-objects_of None = []
-objects_of (Some s) = s.objects

@@ -2,59 +2,85 @@
 ghost use Rattle.std.specs.Prelude.{◌≡◌, ◌≤◌, ◌<ℤ◌, ◌↔◌, pos, length, Ok, Err, IfOk, OnOk, OnErr};
 ghost use Rattle.ss_core.specs.View.{classes};
 ghost use Rattle.ss_core.specs.Chain.{most_classes, IsWithinLimits};
-ghost use Rattle.ss_store_rules.specs.Changes.{IsChange, unpack_of, pack_of, write_of, write_element_of, new_object_of, new_array_of, ready_of};
+ghost use Rattle.ss_store_rules.specs.Changes.{unpack_of, pack_of, write_of, write_element_of, new_object_of, new_array_of, ready_of};
 ghost use Rattle.ss_store_rules.specs.Admissible.{invariants_hold};
+ghost use Rattle.ss_machine_stores.specs.Stops.{IsMade};
 
+use crate::levels::{drop_all_full, list};
+use crate::logs::{log_content, log_level, log_write};
+use crate::owners::mark_of;
+use crate::stop::{ChangeStop, answer_of};
 use crate::stores::Stores;
 use ss_core::{ClassId, Core, FieldId};
 use ss_store::NewStop;
-use ss_store_rules::{Refused, Value};
+use ss_store_rules::Value;
 use std::alloc::AllocError;
 
 impl Stores {
     /// The object goes to the level above `t`, and what it owns at `t` is no longer committed. Refused with the first check
-    /// that fails: Null, UnpackLevel, UnpackCommitted.
-    pub fn unpack(&mut self, c: &Core, o: Value, t: ClassId) -> Result<(), Refused>
-        ensures change { IsChange self.old.now self.new.now result (unpack_of (classes c.now.classes) self.old.now o t.0) }
+    /// that fails: Null, UnpackLevel, UnpackCommitted. After a refusal or want of memory all is as before.
+    pub fn unpack(&mut self, c: &Core, o: Value, t: ClassId) -> Result<(), ChangeStop>
+        ensures change { IsMade self.old.now self.new.now result (unpack_of (classes c.now.classes) self.old.now o t.0) }
         ensures entries { self.new.entries ≡ self.old.entries }
     {
-        self.store.unpack(c, o, t)
+        match log_level(&mut self.journal, &mut self.unfull, &self.store, o, t) {
+            Ok(()) => answer_of(self.store.unpack(c, o, t)),
+            Err(_) => Err(ChangeStop::Memory),
+        }
     }
 
     /// The object goes to the level `t`, and what it owns at `t` is committed. Refused with the first check that fails: Null,
-    /// PackLevel, Invariant, PackOwned.
-    pub fn pack(&mut self, c: &Core, o: Value, t: ClassId) -> Result<(), Refused>
+    /// PackLevel, Invariant, PackOwned. After a refusal or want of memory all is as before.
+    pub fn pack(&mut self, c: &Core, o: Value, t: ClassId) -> Result<(), ChangeStop>
         requires { length (classes c.now.classes) ≤ most_classes }
-        ensures change { IsChange self.old.now self.new.now result (pack_of (classes c.now.classes) (invariants_hold (classes c.now.classes)) self.old.now o t.0) }
+        ensures change { IsMade self.old.now self.new.now result (pack_of (classes c.now.classes) (invariants_hold (classes c.now.classes)) self.old.now o t.0) }
         ensures entries { self.new.entries ≡ self.old.entries }
     {
-        self.store.pack(c, o, t)
+        match log_level(&mut self.journal, &mut self.unfull, &self.store, o, t) {
+            Ok(()) => {
+                let changed = self.store.pack(c, o, t);
+                drop_all_full(&mut self.unfull, &self.store);
+                answer_of(changed)
+            }
+            Err(_) => Err(ChangeStop::Memory),
+        }
     }
 
     /// The field gets the value, after the owners that its mark asks for. Refused with the first check that fails: Null,
-    /// WriteLevel, RepOwner, PeerOwner.
-    pub fn write(&mut self, c: &Core, o: Value, f: FieldId, v: Value) -> Result<(), Refused>
+    /// WriteLevel, RepOwner, PeerOwner. After a refusal or want of memory all is as before.
+    pub fn write(&mut self, c: &Core, o: Value, f: FieldId, v: Value) -> Result<(), ChangeStop>
         requires { length (classes c.now.classes) ≤ most_classes }
-        ensures change { IsChange self.old.now self.new.now result (write_of (classes c.now.classes) self.old.now o f.0 v) }
+        ensures change { IsMade self.old.now self.new.now result (write_of (classes c.now.classes) self.old.now o f.0 v) }
         ensures entries { self.new.entries ≡ self.old.entries }
     {
-        self.store.write(c, o, f, v)
+        let mark = mark_of(&c.classes, f);
+        match log_write(&mut self.journal, &self.store, mark, o, v) {
+            Ok(()) => answer_of(self.store.write(c, o, f, v)),
+            Err(_) => Err(ChangeStop::Memory),
+        }
     }
 
-    /// The element gets the value. Refused with the first check that fails: Null, Index, WriteCommitted.
-    pub fn write_element(&mut self, a: Value, i: i32, v: Value) -> Result<(), Refused>
-        ensures change { IsChange self.old.now self.new.now result (write_element_of self.old.now a i v) }
+    /// The element gets the value. Refused with the first check that fails: Null, Index, WriteCommitted. After a refusal or
+    /// want of memory all is as before.
+    pub fn write_element(&mut self, a: Value, i: i32, v: Value) -> Result<(), ChangeStop>
+        ensures change { IsMade self.old.now self.new.now result (write_element_of self.old.now a i v) }
         ensures entries { self.new.entries ≡ self.old.entries }
     {
-        self.store.write_element(a, i, v)
+        match log_content(&mut self.journal, &self.store, a) {
+            Ok(()) => answer_of(self.store.write_element(a, i, v)),
+            Err(_) => Err(ChangeStop::Memory),
+        }
     }
 
-    /// The object is ready from now on.
-    pub fn set_ready(&mut self, c: &Core, o: u32)
-        ensures change { self.new.now ≡ ready_of self.old.now o }
+    /// The object is ready from now on. An error is want of memory, and all is as before.
+    pub fn set_ready(&mut self, c: &Core, o: u32) -> Result<(), AllocError>
+        ensures change { OnOk result (self.new.now ≡ ready_of self.old.now o) }
         ensures entries { self.new.entries ≡ self.old.entries }
+        ensures kept { OnErr result (self.new ≡ self.old) }
     {
+        self.journal.save_header(&self.store, o)?;
         self.store.set_ready(c, o);
+        Ok(())
     }
 
     /// A new object of the class, with the defaults of its fields, at the level `object` and in a group of its own. An error is
@@ -66,9 +92,11 @@ impl Stores {
         ensures entries { self.new.entries ≡ self.old.entries }
         ensures kept { OnErr result (self.new ≡ self.old) }
     {
-        if self.store.count() >= u32::MAX as usize {
+        let count = self.store.count();
+        if count >= u32::MAX as usize {
             return Err(AllocError);
         }
+        list(&mut self.unfull, Value::Obj(count as u32))?;
         self.store.new_object(&c.classes, t)
     }
 

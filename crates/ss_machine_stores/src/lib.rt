@@ -4,10 +4,15 @@
 mod changes;
 mod entry;
 mod free;
+mod levels;
+mod logs;
 mod named;
+mod owners;
 mod span;
+mod stop;
 mod stores;
 mod terms;
 mod unkept;
 
+pub use stop::ChangeStop;
 pub use stores::Stores;

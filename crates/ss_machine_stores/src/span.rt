@@ -2,6 +2,7 @@
 
 use crate::entry::Entry;
 use ss_core::{Body, Classes};
+use ss_journal::Journal;
 use ss_machine_rules::Named;
 use ss_store::Store;
 use ss_store_rules::Value;
@@ -15,6 +16,8 @@ pub(crate) struct Span<'a> {
     pub(crate) locals: &'a [Value],
     pub(crate) before: Entry<'a>,
     pub(crate) store: &'a Store,
+    pub(crate) journal: &'a Journal,
+    pub(crate) unfull: &'a [u32],
     pub(crate) outside: &'a [Value],
     pub(crate) named: Vec<Named>,
     pub(crate) captured: Vec<Value>,

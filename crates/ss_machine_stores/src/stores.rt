@@ -16,27 +16,34 @@ use crate::entry::Entry;
 use crate::named::{all_named, captured_values};
 use crate::span::Span;
 use ss_core::{Body, ClassId, Core, Expr};
+use ss_journal::Journal;
 use ss_machine_rules::Location;
 use ss_store::{Before, Store, first_store};
 use ss_store_rules::{Undefined, Value};
 use std::alloc::{AllocError, Global};
 use std::marker::Model;
 
-/// The store now, and the stores as they were at the entries of the frames.
+/// The store now, and the stores as they were at the entries of the frames: what a call costs doesn't depend on how many objects
+/// there are.
 #[derive(Drop)]
 pub struct Stores {
     pub(crate) store: Store,
-    /// A copy for each frame, that of the running one last.
-    pub(crate) entries: Vec<Store>,
+    /// What objects were that changed since the entries.
+    pub(crate) journal: Journal,
+    /// Among these are the positions of the objects that aren't at their full level.
+    pub(crate) unfull: Vec<u32>,
 }
 
 impl Model for Stores {
-    ghost use Rattle.std.specs.Prelude.{map, reverse};
+    ghost use Rattle.ss_journal.specs.Undo.{entries_of};
     ghost use Rattle.ss_machine_stores.specs.Shapes.{Timeline};
+    ghost use Rattle.ss_machine_stores.specs.Whole.{AreWhole};
 
     ghost Value = { Timeline };
 
-    ghost view = { λ s. record { now = s.store.objects; entries = reverse (map (λ e. e.objects) s.entries.items) } };
+    ghost view = { λ s. record { now = s.store.objects; entries = entries_of s.journal s.store.objects } };
+
+    ghost invariant = { λ s. AreWhole s.store.objects s.journal s.unfull.items };
 }
 
 impl Stores {
@@ -45,10 +52,14 @@ impl Stores {
         requires { length input.now < 2 ^ 31 }
         ensures { IfOk result (λ s. s ≡ record { now = first_store input.now; entries = first_store input.now ∷ [] }) }
     {
+        let mut journal = Journal::new(alloc);
         let store = first_store(alloc, input)?;
-        let entry = first_store(alloc, input)?;
-        let entries = vec![in alloc; entry]?;
-        Ok(Stores { store, entries })
+        journal.enter(store.count())?;
+        Ok(Stores {
+            store,
+            journal,
+            unfull: Vec::new(alloc),
+        })
     }
 
     /// A body is entered: the store as it is now is that of its entry. After want of memory all is as before.
@@ -56,16 +67,14 @@ impl Stores {
         ensures entered { OnOk result (self.new ≡ record { now = self.old.now; entries = self.old.now ∷ self.old.entries }) }
         ensures kept { OnErr result (self.new ≡ self.old) }
     {
-        let entry = self.store.copy()?;
-        self.entries.push(entry)?;
-        Ok(())
+        self.journal.enter(self.store.count())
     }
 
     /// The running body is left.
     pub fn leave(&mut self)
         ensures { self.new ≡ record { now = self.old.now; entries = rest_of self.old.entries } }
     {
-        let _ = self.entries.pop();
+        self.journal.leave();
     }
 
     /// The store at the entry of the running body.
@@ -73,7 +82,8 @@ impl Stores {
         ensures { result ≡ entry_of self.now.entries }
     {
         Entry {
-            store: self.entries.last(),
+            store: &self.store,
+            journal: &self.journal,
         }
     }
 
@@ -127,7 +137,7 @@ impl Stores {
         ensures spoken { IfOk result (λ s. span_of s ≡ span_between c.entry.now.classes body.entry.now locals.entry.now (entry_of self.entry.now.entries) self.entry.now.now outside.entry.now) }
         ensures known { IfOk result (λ s. IsKnown s) }
     {
-        let alloc = *self.entries.allocator();
+        let alloc = *self.unfull.allocator();
         let before = self.entry();
         let named = all_named(alloc, c, &self.store, &before, &body.named, locals)?;
         let captured = captured_values(alloc, body, locals)?;
@@ -137,6 +147,8 @@ impl Stores {
             locals,
             before,
             store: &self.store,
+            journal: &self.journal,
+            unfull: &self.unfull,
             outside,
             named,
             captured,

@@ -1,14 +1,15 @@
 // Locations that the frame condition doesn't keep.
 ghost use Rattle.std.specs.Prelude.{◌≡◌, ◌<◌, ◌^◌, length, flat_map, IfOk};
-ghost use Rattle.std.specs.List.{list_any};
+ghost use Rattle.std.specs.List.{list_all, list_any};
 ghost use Rattle.ss_store_rules.specs.Reads.{object_at, element_read, same_value};
 ghost use Rattle.ss_machine_rules.specs.Frame as frame;
-ghost use Rattle.ss_machine_stores.specs.Spans.{span_of, IsKnown};
+ghost use Rattle.ss_machine_stores.specs.Spans.{span_of, keeps, headers_keep, contents_keep, all_keep, IsKnown};
 ghost use Rattle.ss_machine_stores.specs.Firsts.{first};
 
 use crate::span::Span;
 use crate::terms::{any_names_elements, any_names_field, any_names_level};
 use ss_core::FieldId;
+use ss_journal::OldContent;
 use ss_machine_rules::Location;
 use ss_store::{Before, Slot, same_owner, same_value};
 use ss_store_rules::Value;
@@ -180,6 +181,57 @@ impl<'a> Span<'a> {
         }
     }
 
+    fn keeps(&self, o: u32) -> bool
+        requires { IsKnown self.now }
+        ensures { result ≡ keeps (span_of self.now) o }
+    {
+        self.unkept_at(o).is_none()
+    }
+
+    fn headers_keep(&self) -> bool
+        requires { IsKnown self.now }
+        ensures { result ≡ headers_keep (span_of self.now) self.now.journal.now }
+    {
+        self.journal
+            .headers()
+            .iter()
+            .all(|h| self.keeps(h.position))
+    }
+
+    fn these_keep(&self, contents: &[OldContent]) -> bool
+        requires { IsKnown self.now }
+        ensures { result ≡ list_all (λ o. keeps (span_of self.now) o.position) contents.now }
+    {
+        for content in contents {
+            if !self.keeps(content.position) {
+                return false;
+            }
+        }
+        true
+    }
+
+    fn contents_keep(&self) -> bool
+        requires { IsKnown self.now }
+        ensures { result ≡ contents_keep (span_of self.now) self.now.journal.now }
+    {
+        self.these_keep(self.journal.contents())
+    }
+
+    fn listed_keep(&self) -> bool
+        requires { IsKnown self.now }
+        ensures { result ≡ list_all (keeps (span_of self.now)) self.now.unfull.now }
+    {
+        self.unfull.iter().all(|o| self.keeps(*o))
+    }
+
+    /// Whether each object keeps the frame condition that changed since the entry, or that isn't at its full level.
+    fn all_keep(&self) -> bool
+        requires { IsKnown self.now }
+        ensures { result ≡ all_keep (span_of self.now) self.now.journal.now self.now.unfull.now }
+    {
+        self.headers_keep() && self.contents_keep() && self.listed_keep()
+    }
+
     /// Of the objects, of which there are `n`.
     fn unkept_below(&self, n: u32) -> Option<Location>
         requires known { IsKnown self.now }
@@ -200,6 +252,9 @@ impl<'a> Span<'a> {
         requires { IsKnown self.now }
         ensures { IfOk result (λ l. l ≡ first (frame.unkept (span_of self.now))) }
     {
+        if self.all_keep() {
+            return Ok(None);
+        }
         match u32::try_from(self.store.count()) {
             Ok(n) => Ok(self.unkept_below(n)),
             Err(_) => Err(AllocError),

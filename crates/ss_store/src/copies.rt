@@ -1,8 +1,10 @@
 // Copies of a store.
 ghost use Rattle.std.specs.Prelude.{◌≡◌, IfOk};
+ghost use Rattle.ss_store_rules.specs.Reads.{object_at};
 
 use crate::object::{Object, Slot};
 use crate::store::Store;
+use ss_store_rules::Value;
 use std::alloc::{AllocError, Global};
 
 fn copy_slots(alloc: Global, slots: &[Slot]) -> Result<Vec<Slot>, AllocError>
@@ -55,5 +57,19 @@ impl Store {
             objects,
             spare: Vec::new(alloc),
         })
+    }
+
+    /// The fields of the object once more.
+    pub fn copy_fields(&self, o: u32) -> Result<Vec<Slot>, AllocError>
+        ensures { IfOk result (λ v. v.items ≡ (object_at self.now.objects o).fields) }
+    {
+        copy_slots(*self.objects.allocator(), self.fields_of(o))
+    }
+
+    /// The elements of the array once more.
+    pub fn copy_elements(&self, a: u32) -> Result<Vec<Value>, AllocError>
+        ensures { IfOk result (λ v. v.items ≡ (object_at self.now.objects a).elements) }
+    {
+        Vec::from_slice(*self.objects.allocator(), self.elements_of(a))
     }
 }

@@ -29,4 +29,4 @@ pub use inputs::{admitted, first_store};
 pub use making::NewStop;
 pub use object::Slot;
 pub use owners::{is_group, is_pair_upto, same_owner};
-pub use store::Store;
+pub use store::{Store, slot_value};

@@ -86,6 +86,16 @@ impl Store {
         }
     }
 
+    /// Whether the object is ready.
+    pub fn is_ready(&self, o: u32) -> bool
+        ensures { result ≡ (object_at self.now.objects o).ready }
+    {
+        match self.object(o) {
+            Some(x) => x.ready,
+            None => false,
+        }
+    }
+
     /// The length of the array.
     pub fn length_of(&self, a: u32) -> u32
         ensures count { result ≡ length (object_at self.now.objects a).elements }
@@ -98,8 +108,8 @@ impl Store {
     }
 }
 
-// The content of the first slot of the field.
-fn slot_value(fields: &[Slot], f: FieldId) -> Option<Value>
+/// The content of the first slot of the field.
+pub fn slot_value(fields: &[Slot], f: FieldId) -> Option<Value>
     ensures { result ≡ slot_value fields.now f.0 }
 {
     for slot in fields {

@@ -6,7 +6,8 @@ use Rattle.ss_machine_rules.specs.Runs.{start_with, printed}
 use Rattle.ss_machine_rules.specs.Ends.{IsDoneAt, HasFailed, HasStopped}
 use Rattle.ss_machine.specs.Ends.{IfDone, IfFailed, IfStopped, OnWhole}
 use Rattle.ss_machine.specs.declared.run.CheckedEnd.{CheckedEnd}
-use Rattle.ss_machine.proofs.Runs.{Stands, stands_first, stands_more, halt_done, halt_failed, halt_stopped, halt_printed, halt_front, nothing_done, nothing_took}
+use Rattle.ss_machine.proofs.Runs.{Stands, stands_first, stands_more, halt_done, halt_failed, halt_stopped, halt_printed, halt_front, running_took, nothing_done, nothing_took}
+use Rattle.ss_machine.proofs.Taken.{front_whole}
 use Rattle.ss_machine.proofs.run.run_checked.Goals as goal
 
 pub returns-in_default-clause-done : goal.returns-in_default-clause-done
@@ -70,3 +71,11 @@ returns-in-Err-clause-front g c =
     let l = c.loop-count in
     let told = g.S.Sink.taken in
     halt_front program c.args.input.now l.count c.args.steps l.machine c.step.new.self (told c.args.out.now) (told l.out) (told c.step.new.out) l.invariant.stands c.loop-count-test.true c.in-Err.halt c.in-Err.ensures.step
+
+pub returns-clause-front : goal.returns-clause-front
+returns-clause-front g c =
+    let program = view.core c.args.core.now in
+    let l = c.loop-count in
+    let told = g.S.Sink.taken in
+    front_whole (told c.args.out.now) (told l.out) (printed program c.args.input.now c.args.steps)
+    (running_took program c.args.input.now l.count c.args.steps l.machine (told c.args.out.now) (told l.out) l.invariant.stands c.loop-count-test.false l.auto.count-end)

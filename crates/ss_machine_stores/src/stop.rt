@@ -1,0 +1,24 @@
+// Why a change isn't made.
+ghost use Rattle.std.specs.Prelude.{◌≡◌};
+ghost use Rattle.ss_machine_stores.specs.Stops.{answer_of};
+
+use ss_store_rules::Refused;
+
+/// Why the store isn't changed.
+#[derive(Clone, Copy, Debug, PartialEq, Eq)]
+pub enum ChangeStop {
+    /// A check fails.
+    Refused(Refused),
+    /// There is no memory to log what changes.
+    Memory,
+}
+
+/// The answer to a change that the store made or refused.
+pub(crate) fn answer_of(changed: Result<(), Refused>) -> Result<(), ChangeStop>
+    ensures { result ≡ answer_of changed }
+{
+    match changed {
+        Ok(()) => Ok(()),
+        Err(refused) => Err(ChangeStop::Refused(refused)),
+    }
+}
