@@ -3,6 +3,7 @@
 
 mod calls;
 mod frame;
+mod good;
 mod halt;
 mod loops;
 mod machine;

@@ -1,11 +1,14 @@
 // Whole runs.
-ghost use Rattle.std.specs.Prelude.{◌≡◌, ◌<◌, ◌≤◌, ◌^◌, ◌∷◌, [], Some, length, IfOk};
+ghost use Rattle.std.specs.Prelude.{◌≡◌, ℕ, ◌<◌, ◌≤◌, ◌^◌, ◌∷◌, [], Some, length, IfOk};
 ghost use Rattle.ss_core.specs.View as view;
 ghost use Rattle.ss_core.specs.Chain.{IsWithinLimits};
 ghost use Rattle.ss_io.specs.Outside.{Grew, GrewByFront, Rose};
 ghost use Rattle.ss_store_rules.specs.Admitted.{main_arguments};
 ghost use Rattle.ss_machine_rules.specs.Runs.{run, printed, start_with};
 ghost use Rattle.ss_machine_rules.specs.States.{Running};
+ghost use Rattle.ss_machine_rules.specs.Good.{IsGoodState};
+ghost use Rattle.ss_machine_typed.specs.Inputs.{IsInput};
+ghost use Rattle.ss_store_rules.specs.Formed.{IsFormed};
 ghost use Rattle.ss_machine_rules.specs.Ends.{IsDoneAt, HasFailed, HasStopped, IsRunning};
 ghost use Rattle.ss_machine.specs.Ends as ends;
 ghost use Rattle.ss_machine.specs.Ends.{IfDone, IfFailed, IfStopped, OnWhole};
@@ -13,6 +16,7 @@ ghost use Rattle.ss_machine.specs.Frames.{running, waiting};
 
 use crate::calls::body_at;
 use crate::frame::{Frame, Target, locals_at_entry};
+use crate::good::every_state_is_good;
 use crate::halt::Halt;
 use crate::machine::Machine;
 use ss_core::{Body, Core, Kind, Place};
@@ -80,6 +84,8 @@ fn end_of(halt: Halt, steps: u64) -> CheckedEnd
 ///
 /// `Done`, `Failed`, `Stopped` and `Running` say what the run is after these steps, and the sink took all that it printed. `WriteFault`
 /// comes where a write failed, and `Memory` where there was no memory; the sink then took a front of what the run prints.
+/// Whatever the program does, each state of the run of a formed one is good until a check has failed: each object meets the invariants
+/// of each class at which it is packed (JOT 2004).
 pub fn run_checked<S: Sink>(
     alloc: Global,
     core: &Core,
@@ -96,9 +102,11 @@ pub fn run_checked<S: Sink>(
     ensures printed { OnWhole result
         (Grew (S.taken out.old) (S.taken out.new) (printed (view.core core.now) input.now steps)) }
     ensures front { GrewByFront (S.taken out.old) (S.taken out.new) (printed (view.core core.now) input.now steps) }
+    ensures good { IsFormed (view.core core.now) → IsInput input.now → (n : ℕ) → IsGoodState (view.core core.now) (run (view.core core.now) input.now n) }
     ensures faults { S.faults out.old ≤ S.faults out.new }
     ensures cause { result ≡ CheckedEnd.WriteFault → Rose (S.faults out.old) (S.faults out.new) }
 {
+    every_state_is_good(core, input);
     let Some(main) = body_at(core, core.main) else {
         return CheckedEnd::Done { steps: 0 };
     };
