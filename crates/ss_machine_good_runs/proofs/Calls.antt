@@ -203,9 +203,9 @@ table_class c tables t n b at h = ⊎_elim
 
 module _ (c : CoreTree) (formed : IsFormed c) (f : Frame) (s : List Object) (ds : List Due) (fs : List Frame) (is : IsGoodFrame c f s) (waiting : AreWaiting c s f fs) (new : AreNew (f ∷ fs)) where
   -- a body that is no constructor is entered
-  method_stack : (b : BodyTree) → IsFormedBody c b → b.flags.ctor ≡ false → (into : Target) → (x : Option ℕ) → into ≡ ToCall x → (vs : List Value) → AreGoodArguments c.classes s b vs → AreNotNullArguments b vs → (b.flags.is_static ≡ false → (o : ℕ) × (this_of (locals_at_entry b vs) ≡ value.Obj o)) →
+  method_stack : (b : BodyTree) → IsFormedBody c b → b.flags.ctor ≡ false → (x : Option ℕ) (vs : List Value) → AreGoodArguments c.classes s b vs → AreNotNullArguments b vs → (b.flags.is_static ≡ false → (o : ℕ) × (this_of (locals_at_entry b vs) ≡ value.Obj o)) →
       ((this : Value) → IsWaiting c s b (ToCall x) this (record f { left = ds })) → IsGoodStack c (frame_at_entry b (locals_at_entry b vs) s (ToCall x) ∷ record f { left = ds } ∷ fs) s
-  method_stack b fb plain into x is_call vs arguments not_null instance_ wait =
+  method_stack b fb plain x vs arguments not_null instance_ wait =
       let g = frame_at_entry b (locals_at_entry b vs) s (ToCall x) in
       stacked c f ds fs s s waiting new (λ n. later_self c.classes n s) g
       (entered_good c formed b fb vs s (ToCall x) is.sound.store arguments not_null (λ ctor. absurd (true≢false (sym ctor ∙ plain))) instance_ (λ n. absurd n))
@@ -224,7 +224,7 @@ module _ (c : CoreTree) (formed : IsFormed c) (f : Frame) (s : List Object) (ds 
       let pass = may_pass c f s st ds refl at is in
       let arguments = calls.static_arguments (scene c f s) f.body pass.constructs pass.setting b w.1 es vs k.types pass.apart h in
       enter_good c (body_at c n) b p (ToCall x) vs (record f { left = ds }) fs s w.0
-      (method_stack b fb plain (ToCall x) x refl vs arguments (λ i t v et ev nn. k.not_null vs h i t v (subst (λ ts. slice_get ts i ≡ Some t) (static_arguments b w.1) et) ev nn) (λ instance_. absurd (true≢false (sym w.1 ∙ instance_)))
+      (method_stack b fb plain x vs arguments (λ i t v et ev nn. k.not_null vs h i t v (subst (λ ts. slice_get ts i ≡ Some t) (static_arguments b w.1) et) ev nn) (λ instance_. absurd (true≢false (sym w.1 ∙ instance_)))
       (λ this. method_waits c f s p x (Static n) es ds at is b this refl (λ j. refl) refl))
 
   -- ---- a dispatched one
@@ -251,11 +251,11 @@ module _ (c : CoreTree) (formed : IsFormed c) (f : Frame) (s : List Object) (ds 
       let pass = may_pass c f s st ds refl at is in
       let apart = and_parts (not (pass.constructs && is_this_object e)) (list_all (λ z. not (pass.constructs && is_this_object z)) es) pass.apart in
       let y_ready : y.0.ready ≡ true = value_ready e (scene c f s) (local_types f.body) pass.constructs pass.setting _ (value.Obj o) (not_true (pass.constructs && is_this_object e) apart.0) e_typed eo o y.0 refl y.1 in
-      let types : have_types_in c.classes f.body es (types_of b.params) ≡ true = subst (λ ts. have_types_in c.classes f.body es ts ≡ true) (sym found.params) k.types in
+      let types : have_types_in c.classes f.body es (types_of b.params) ≡ true = subst (λ ts. have_types_in c.classes f.body es ts ≡ true) {x = types_of k.body.params} {y = types_of b.params} (sym found.params) k.types in
       let arguments = calls.instance_arguments (scene c f s) f.body pass.constructs pass.setting b instance_ s (older_self s) o y.0 y.1 found.class (λ plain. y_ready) es vs types apart.1 h in
       enter_good c (method_at c (object_at s o).class m) b p (ToCall x) (value.Obj o ∷ vs) (record f { left = ds }) fs s there
-      (method_stack b fb found.plain (ToCall x) x refl (value.Obj o ∷ vs) arguments
-      (with_this b vs o instance_ (λ i u2 v eu ev nn. k.not_null vs h i u2 v (subst (λ ts. slice_get ts i ≡ Some u2) {y = types_of k.body.params} found.params eu) ev nn)) (λ z. (o, refl))
+      (method_stack b fb found.plain x (value.Obj o ∷ vs) arguments
+      (with_this b vs o instance_ (λ i u2 v eu ev nn. k.not_null vs h i u2 v (subst (λ ts. slice_get ts i ≡ Some u2) {y = types_of k.body.params} found.params eu) ev nn)) (λ z. (o, refl {a = value.Obj o}))
       (λ this. method_waits c f s p x (Dispatched e t m) es ds at is b this found.result (λ j. refl) refl))
 
   -- ---- a method of the class above
@@ -281,5 +281,5 @@ module _ (c : CoreTree) (formed : IsFormed c) (f : Frame) (s : List Object) (ds 
       let arguments = calls.instance_arguments (scene c f s) f.body false setting_ b (not_true b.flags.is_static q.0) s (older_self s) this.0 y.0 y.1 down (λ plain. y_ready) es vs k.types (all_plain es) h in
       enter_good c (body_at c n) b p (ToCall x) (this_of f.locals ∷ vs) (record f { left = ds }) fs s w.0
       (subst (λ u. IsGoodStack c (frame_at_entry b (locals_at_entry b (u ∷ vs)) s (ToCall x) ∷ record f { left = ds } ∷ fs) s) (sym this.1)
-      (method_stack b fb (not_true b.flags.ctor q.1) (ToCall x) x refl (value.Obj this.0 ∷ vs) arguments (with_this b vs this.0 (not_true b.flags.is_static q.0) (k.not_null vs h)) (λ z. (this.0, refl))
+      (method_stack b fb (not_true b.flags.ctor q.1) x (value.Obj this.0 ∷ vs) arguments (with_this b vs this.0 (not_true b.flags.is_static q.0) (k.not_null vs h)) (λ z. (this.0, refl {a = value.Obj this.0}))
       (λ this_. method_waits c f s p x (Base n) es ds at is b this_ refl (λ j. refl) refl)))

@@ -111,7 +111,7 @@ module _ (c : CoreTree) (formed : IsFormed c) (f : Frame) (s : List Object) (ds 
         exact = λ n. sym class;
         given = λ undelayed j apart. given j apart;
       } in
-      let good = entered_good c formed b fb (value.Obj o ∷ vs) s1 (ToNew x) s1_good arguments (with_this b vs o instance_ not_null) constructs (λ z. (o, refl)) (λ n. r.0) in
+      let good = entered_good c formed b fb (value.Obj o ∷ vs) s1 (ToNew x) s1_good arguments (with_this b vs o instance_ not_null) constructs (λ z. (o, refl {a = value.Obj o})) (λ n. r.0) in
       let wait = waits c f s st ds refl at is s1 b (ToNew x) (constructed g) later (λ y. refl) (subst (λ z. fits_kept c.classes b0 x (Some (class_type z)) ≡ true) (sym class) q.1) (λ y e nn. refl)
       (λ z v on answer may j so. kept_known c f s st ds refl at is z x v may true (λ nn. answer.non_null refl) j so)
       (λ z v on answer may. ready_as_before c f s st ds refl at is z x v may refl) in
@@ -241,7 +241,7 @@ module _ (c : CoreTree) (formed : IsFormed c) (f : Frame) (s : List Object) (ds 
           exact = λ to_new. absurd to_new;
           given = λ undelayed j apart. subst (λ u. HasGiven c s u j) object.this (lower_given (undelayed_above undelayed) j apart);
         } in
-        let good = entered_good c formed b fb (value.Obj o ∷ vs) s (ToCall x) is.sound.store arguments not_null constructs (λ z. (o, refl)) (λ to_new. absurd to_new) in
+        let good = entered_good c formed b fb (value.Obj o ∷ vs) s (ToCall x) is.sound.store arguments not_null constructs (λ z. (o, refl {a = value.Obj o})) (λ to_new. absurd to_new) in
         let this_g : constructed g ≡ this_of f.locals = constructs_this g base_is.ctor ∙ sym object.this in
         let apart_ : IsNewTo (this_of f.locals) (record f { left = ds } ∷ fs) = (λ i e. subst (λ k2. (if k2 then 0 else length f.entry) ≤ i) (sym base_ctor) (omega arith), subst (λ u. IsNewTo u fs) (constructs_this f base_ctor) new.0) in
         enter_good c (body_at c n) b p (ToCall x) (this_of f.locals ∷ vs) (record f { left = ds }) fs s base_is.at
