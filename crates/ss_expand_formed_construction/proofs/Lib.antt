@@ -1,0 +1,13 @@
+pub mod Choices
+pub mod Lifts
+pub mod Simple
+pub mod Statements
+pub mod Free
+pub mod Bases
+pub mod Begins
+pub mod Sources
+pub mod Openings
+pub mod Written
+pub mod Builds
+pub mod Delayed
+pub mod Order

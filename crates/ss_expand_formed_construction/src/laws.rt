@@ -1,0 +1,13 @@
+// The parts of "the elaboration is formed" on the construction of objects.
+
+ghost use Rattle.std.specs.Prelude.{◌≡◌, []};
+ghost use Rattle.ss_ast.specs.Programs.{ProgramTree};
+ghost use Rattle.ss_resolver_names_rules.specs.Programs.{program_faults};
+ghost use Rattle.ss_resolver_types_expressions.specs.Programs.{type_faults};
+ghost use Rattle.ss_expand_formed.specs.Laws.{core_of};
+ghost use Rattle.ss_expand_formed_construction.specs.Laws.{StartInOrder};
+
+/// `base(..)` and `ready this` stand once each where they are wanted, among the outermost statements and the second directly behind the first.
+pub fn start_in_order()
+    ensures { (p : ProgramTree) → program_faults p ≡ [] → type_faults p ≡ [] → StartInOrder (core_of p) }
+{}
