@@ -11,3 +11,7 @@ pub mod Written
 pub mod Builds
 pub mod Delayed
 pub mod Order
+pub mod Uses
+pub mod ReadLocals
+pub mod Fine
+pub mod Keeping

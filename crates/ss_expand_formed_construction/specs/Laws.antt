@@ -1,9 +1,14 @@
 -- The parts of a formed core program on how constructors are built, which the elaboration of an accepted program has.
 use Rattle.std.specs.Prelude.{◌≡◌, true}
 use Rattle.ss_core.specs.Tree.{CoreTree}
-use Rattle.ss_store_rules.specs.Construction.{starts_in_order}
+use Rattle.ss_store_rules.specs.Locals.{each}
+use Rattle.ss_store_rules.specs.Construction.{starts_in_order, if_delayed, keeps_this_in}
 use Rattle.ss_expand_formed.specs.Laws.{OfEach}
 
 -- `base(..)` and `ready this` stand once each where they are wanted, the second directly behind the first
 abbrev pub StartInOrder : CoreTree → Type 0
 StartInOrder c = OfEach c (λ b. starts_in_order c b ≡ true)
+
+-- the `this` of a delayed constructor doesn't get out
+abbrev pub KeepThisIn : CoreTree → Type 0
+KeepThisIn c = OfEach c (λ b. if_delayed b (each keeps_this_in b.code) ≡ true)

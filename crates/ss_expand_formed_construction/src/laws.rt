@@ -4,10 +4,17 @@ ghost use Rattle.std.specs.Prelude.{◌≡◌, []};
 ghost use Rattle.ss_ast.specs.Programs.{ProgramTree};
 ghost use Rattle.ss_resolver_names_rules.specs.Programs.{program_faults};
 ghost use Rattle.ss_resolver_types_expressions.specs.Programs.{type_faults};
+ghost use Rattle.ss_resolver_rules.specs.Programs.{resolved};
+ghost use Rattle.ss_delayed_rules.specs.Program.{construction_faults};
 ghost use Rattle.ss_expand_formed.specs.Laws.{core_of};
-ghost use Rattle.ss_expand_formed_construction.specs.Laws.{StartInOrder};
+ghost use Rattle.ss_expand_formed_construction.specs.Laws.{StartInOrder, KeepThisIn};
 
 /// `base(..)` and `ready this` stand once each where they are wanted, among the outermost statements and the second directly behind the first.
 pub fn start_in_order()
     ensures { (p : ProgramTree) → program_faults p ≡ [] → type_faults p ≡ [] → StartInOrder (core_of p) }
+{}
+
+/// The code of a delayed constructor names its `this` only to read or to write a field of it, or to pack it.
+pub fn keep_this_in()
+    ensures { (p : ProgramTree) → construction_faults (resolved p) ≡ [] → KeepThisIn (core_of p) }
 {}

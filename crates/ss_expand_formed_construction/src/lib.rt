@@ -4,4 +4,4 @@
 
 mod laws;
 
-pub use laws::start_in_order;
+pub use laws::{keep_this_in, start_in_order};
