@@ -142,7 +142,7 @@ free_no_base : (x : SimpleTree) → Free x → is_base (SimpleOf x) ≡ false
 free_no_base (BaseCallOf p es) h = absurd (false≢true h)
 free_no_base x h = refl
 
-behind_other : (x : SimpleTree) (ss : StmtTrees) → Free x → base_in (Before (SimpleOf x) ss) ≡ base_in ss
+pub behind_other : (x : SimpleTree) (ss : StmtTrees) → Free x → base_in (Before (SimpleOf x) ss) ≡ base_in ss
 behind_other (BaseCallOf p es) ss h = absurd (false≢true h)
 behind_other x ss h = refl
 

@@ -1,19 +1,26 @@
 -- The statements of a constructor: simple ones, one `base(..)`, and the rest.
-use Rattle.std.proofs.Common.{◌≡◌, ℕ, ◌+◌, List, [], ◌∷◌, true, Option, Some, None, refl, sym, ◌∙◌, ap, ◌⊎◌, ⊎_elim}
-use Rattle.std.specs.Prelude.{if◌then◌else◌}
-use Rattle.std.proofs.lemmas.Bool.{false≢true}
+use Rattle.std.proofs.Common.{◌≡◌, ℕ, ◌+◌, List, [], ◌∷◌, true, false, Option, Some, None, refl, sym, ◌∙◌, ap, subst, ◌⊎◌, ⊎_elim}
+use Rattle.std.specs.Prelude.{◌&&◌, not, if◌then◌else◌}
+use Rattle.std.proofs.lemmas.Bool.{and_parts, false≢true}
 use Rattle.ss_core.specs.declared.names.Place.{Place}
 use Rattle.ss_core.specs.Chain.{DeclaredField}
-use Rattle.ss_typed.specs.Tree.{ExprTree, FieldOf, Arguments, SimpleTree, AssignOf, BaseCallOf, BlockTree, BlockOf, StmtTree, SimpleOf, ReturnOf, StmtTrees, NoMore, Before, BaseTree, FieldTree, MembersTree, BodyTree, TypedTree}
+use Rattle.ss_ast.specs.declared.stmt.AssignOperator.TheVariants as operator
+use Rattle.ss_typed.specs.Tree.{ExprTree, FieldOf, Arguments, SimpleTree, AssignOf, BaseCallOf, BlockTree, BlockOf, StmtTree, InBlock, DeclareOf, SimpleOf, IfOf, IfElseOf, WhileOf, ForOf, ReturnOf, AssertOf, AssumeOf, ExposeOf, EmptyOf, StmtTrees, NoMore, Before, BaseTree, FieldTree, MembersTree, BodyTree, TypedTree}
 use Rattle.ss_typed.specs.Tree as typed
+use Rattle.ss_paths.specs.Assigned.{statements}
+use Rattle.ss_delayed_rules.specs.Opening.{is_first, first_run, before_base, opening_of, opening, base_in, written_base}
+use Rattle.ss_delayed_rules.specs.Constructors.{arguments_of}
 use Rattle.ss_expand_rules.specs.Program.{field_at, members_of}
-use Rattle.ss_expand_rules.specs.Constructors.{before_all, in_block, initialize, initializers_from, initializers_in, initializers, has_base_call, is_initial, behind_initial, base_alone, with_base, constructor_stmts}
+use Rattle.ss_expand_rules.specs.Calls.{is_this, mentions_this}
+use Rattle.ss_expand_rules.specs.Constructors.{before_all, in_block, initialize, initializers_from, initializers_in, initializers, has_base_call, is_declared_in, is_initial, behind_initial, base_alone, with_base, constructor_stmts}
 use Rattle.ss_expand_formed_construction.proofs.Choices.{where_chosen}
 use Rattle.ss_expand_formed_construction.proofs.Statements.{Along}
 use Rattle.ss_expand_formed_construction.proofs.Free.{Anything}
-use Rattle.ss_expand_formed_construction.proofs.Bases.{Free, OnlySimple, Splits, none_found, one_found}
+use Rattle.ss_expand_formed_construction.proofs.Bases.{Free, OnlySimple, Splits, behind_other, none_found, one_found}
+use Rattle.ss_expand_formed_construction.proofs.OwnFields.{is_own, OnlyOwn}
 
-pub record Begins (ss : StmtTrees) : Type 0 where
+-- The statements have only simple ones before one `base(..)`, and none behind it. In a constructor that isn't delayed those before it are these.
+pub record Begins (p : TypedTree) (b : BodyTree) (early : StmtTrees) (args : Arguments) (ss : StmtTrees) : Type 0 where
   pub front : StmtTrees
   pub place : Place
   pub given : Arguments
@@ -21,6 +28,13 @@ pub record Begins (ss : StmtTrees) : Type 0 where
   pub is : ss ≡ before_all front (Before (SimpleOf (BaseCallOf place given)) rest)
   pub simple : OnlySimple front
   pub free : Along Free Anything rest
+  pub own : OnlyOwn p b.class front
+  pub as_early : b.flags.delayed ≡ false → front ≡ early
+  pub as_given : given ≡ args
+
+-- of the whole constructor, as the phase of construction takes it apart
+abbrev pub BeginsWhole : TypedTree → BodyTree → Type 0
+BeginsWhole p b = Begins p b (before_all (initializers p b.class) (opening p b)) (arguments_of (written_base b)) (constructor_stmts p b)
 
 -- ---- lists of statements
 
@@ -39,37 +53,73 @@ free_before (Before x xs) ys h g = (h.0, free_before xs ys h.1 g)
 
 -- ---- where `base(..)` is implied
 
-initial_simple : (p : TypedTree) (t : ℕ) (s : StmtTree) → is_initial p t s ≡ true → (x : SimpleTree) × (s ≡ SimpleOf x) × Free x
-initial_simple p t (SimpleOf (AssignOf l o e)) h = (AssignOf l o e, refl, refl)
+initial_simple : (p : TypedTree) (t : ℕ) (s : StmtTree) → is_initial p t s ≡ true → (x : SimpleTree) × (s ≡ SimpleOf x) × Free x × (is_own p t x ≡ true)
+initial_simple p t (SimpleOf (AssignOf (FieldOf q o f u) operator.Set e)) h =
+    (AssignOf (FieldOf q o f u) operator.Set e, refl, refl, (and_parts (is_this o && is_declared_in t (field_at p f)) (not (mentions_this e)) h).0)
 initial_simple p t s h = absurd (false≢true h)
 
 -- behind the statements with which the block begins
-behind_run : (p : TypedTree) (t : ℕ) (q : Place) (es : Arguments) (ss : StmtTrees) → Along Free Anything ss → Begins (behind_initial p t (SimpleOf (BaseCallOf q es)) ss)
-behind_run p t q es NoMore h = record { front = NoMore; place = q; given = es; rest = NoMore; is = refl; simple = tt; free = tt }
-behind_run p t q es (Before x xs) h =
+behind_run : (p : TypedTree) (b : BodyTree) → ((x : StmtTree) → is_initial p b.class x ≡ is_first p b.class x) → (q : Place) (es : Arguments) (ss : StmtTrees) → Along Free Anything ss → Begins p b (first_run p b.class ss) es (behind_initial p b.class (SimpleOf (BaseCallOf q es)) ss)
+behind_run p b same q es NoMore h = record { front = NoMore; place = q; given = es; rest = NoMore; is = refl; simple = tt; free = tt; own = tt; as_early = λ d. refl; as_given = refl }
+behind_run p b same q es (Before x xs) h =
     let s = SimpleOf (BaseCallOf q es) in
-    where_chosen Begins (is_initial p t x) (Before x (behind_initial p t s xs)) (Before s (Before x xs))
+    let t = b.class in
+    where_chosen (Begins p b (first_run p t (Before x xs)) es) (is_initial p t x) (Before x (behind_initial p t s xs)) (Before s (Before x xs))
     (λ yes.
     let y = initial_simple p t x yes in
-    let r = behind_run p t q es xs h.1 in
-    record { front = Before (SimpleOf y.0) r.front; place = r.place; given = r.given; rest = r.rest; is = ap (λ z. Before z (behind_initial p t s xs)) y.1 ∙ ap (Before (SimpleOf y.0)) r.is; simple = (y.2, r.simple); free = r.free })
-    (λ other. record { front = NoMore; place = q; given = es; rest = Before x xs; is = refl; simple = tt; free = h })
+    let r = behind_run p b same q es xs h.1 in
+    record {
+      front = Before (SimpleOf y.0) r.front;
+      place = r.place;
+      given = r.given;
+      rest = r.rest;
+      is = ap (λ z. Before z (behind_initial p t s xs)) y.1 ∙ ap (Before (SimpleOf y.0)) r.is;
+      simple = (y.2, r.simple);
+      free = r.free;
+      own = (y.3, r.own);
+      as_early = λ d. ap (Before (SimpleOf y.0)) (r.as_early d) ∙ ap (λ z. Before z (first_run p t xs)) (sym y.1) ∙ sym (ap (λ z. if z then Before x (first_run p t xs) else NoMore) (sym (same x) ∙ yes));
+      as_given = r.as_given;
+    })
+    (λ other. record { front = NoMore; place = q; given = es; rest = Before x xs; is = refl; simple = tt; free = h; own = tt; as_early = λ d. sym (ap (λ z. if z then Before x (first_run p t xs) else NoMore) (sym (same x) ∙ other)); as_given = refl })
+
+-- the `base(..)` of the heading, else the one in the block
+abbrev pub base_or : Option BaseTree → StmtTrees → Option BaseTree
+base_or (Some base) ss = Some base
+base_or None ss = base_in ss
+
+not_in : (ss : StmtTrees) → Along Free Anything ss → base_in ss ≡ None
+not_in NoMore h = refl
+not_in (Before (SimpleOf x) ss) h = behind_other x ss h.0 ∙ not_in ss h.1
+not_in (Before (InBlock x) ss) h = not_in ss h.1
+not_in (Before (DeclareOf x) ss) h = not_in ss h.1
+not_in (Before (IfOf p e x) ss) h = not_in ss h.1
+not_in (Before (IfElseOf p e x y) ss) h = not_in ss h.1
+not_in (Before (WhileOf p e is x) ss) h = not_in ss h.1
+not_in (Before (ForOf p i e x is y) ss) h = not_in ss h.1
+not_in (Before (ReturnOf p e) ss) h = not_in ss h.1
+not_in (Before (AssertOf p e) ss) h = not_in ss h.1
+not_in (Before (AssumeOf p e) ss) h = not_in ss h.1
+not_in (Before (ExposeOf p e t x) ss) h = not_in ss h.1
+not_in (Before (EmptyOf p) ss) h = not_in ss h.1
 
 -- what is made of the block
-pub with_base_begins : (p : TypedTree) (b : BodyTree) (base : Option BaseTree) (ss : StmtTrees) → (base ≡ None → Along Free Anything ss ⊎ Splits ss) → ((o : BaseTree) → base ≡ Some o → Along Free Anything ss) → Begins (with_base p b base ss)
-with_base_begins p b (Some base) ss split whole = record { front = NoMore; place = base.place; given = base.arguments; rest = ss; is = refl; simple = tt; free = whole base refl }
-with_base_begins p b None ss split whole =
+pub with_base_begins : (p : TypedTree) (b : BodyTree) → ((x : StmtTree) → is_initial p b.class x ≡ is_first p b.class x) → (base : Option BaseTree) (ss : StmtTrees) → (base ≡ None → Along Free Anything ss ⊎ Splits ss) → (base ≡ None → has_base_call ss ≡ true → OnlyOwn p b.class (before_base ss)) → ((o : BaseTree) → base ≡ Some o → Along Free Anything ss) →
+    Begins p b (opening_of p b.class base ss) (arguments_of (base_or base ss)) (with_base p b base ss)
+with_base_begins p b same (Some base) ss split owns whole = record { front = NoMore; place = base.place; given = base.arguments; rest = ss; is = refl; simple = tt; free = whole base refl; own = tt; as_early = λ d. refl; as_given = refl }
+with_base_begins p b same None ss split owns whole =
     ⊎_elim
     (λ free.
-    let chosen : Begins (if b.flags.delayed then Before (base_alone b) ss else behind_initial p b.class (base_alone b) ss) =
-    where_chosen Begins b.flags.delayed (Before (base_alone b) ss) (behind_initial p b.class (base_alone b) ss)
-    (λ yes. record { front = NoMore; place = b.place; given = typed.Arguments.NoMore; rest = ss; is = refl; simple = tt; free = free })
-    (λ other. behind_run p b.class b.place typed.Arguments.NoMore ss free) in
-    rw (none_found ss free) chosen)
+    let chosen : Begins p b (first_run p b.class ss) typed.Arguments.NoMore (if b.flags.delayed then Before (base_alone b) ss else behind_initial p b.class (base_alone b) ss) =
+    where_chosen (Begins p b (first_run p b.class ss) typed.Arguments.NoMore) b.flags.delayed (Before (base_alone b) ss) (behind_initial p b.class (base_alone b) ss)
+    (λ yes. record { front = NoMore; place = b.place; given = typed.Arguments.NoMore; rest = ss; is = refl; simple = tt; free = free; own = tt; as_early = λ d. absurd (false≢true (sym d ∙ yes)); as_given = refl })
+    (λ other. behind_run p b same b.place typed.Arguments.NoMore ss free) in
+    let none = none_found ss free in
+    rw (none, not_in ss free) chosen)
     (λ r.
     let found : has_base_call ss ≡ true = ap has_base_call r.is ∙ one_found r.front r.place r.given r.rest in
-    let same : Begins ss = record { front = r.front; place = r.place; given = r.given; rest = r.rest; is = r.is; simple = r.simple; free = r.free } in
-    rw found same)
+    let whole_of : Begins p b (before_base ss) r.given ss =
+    record { front = r.front; place = r.place; given = r.given; rest = r.rest; is = r.is; simple = r.simple; free = r.free; own = subst (OnlyOwn p b.class) r.before (owns refl found); as_early = λ d. sym r.before; as_given = refl } in
+    rw (found, r.base) whole_of)
     (split refl)
 
 -- ---- the beginnings of fields
@@ -92,8 +142,20 @@ initializers_simple p t = in_members (members_of p t)
 
 -- ---- the whole
 
-pub constructor_begins : (p : TypedTree) (b : BodyTree) → Begins (with_base p b b.base (in_block b.block)) → Begins (constructor_stmts p b)
-constructor_begins p b r = record {
+own_before : (p : TypedTree) (t : ℕ) (xs ys : StmtTrees) → OnlyOwn p t xs → OnlyOwn p t ys → OnlyOwn p t (before_all xs ys)
+own_before p t NoMore ys h g = g
+own_before p t (Before (SimpleOf x) xs) ys h g = (h.0, own_before p t xs ys h.1 g)
+own_before p t (Before x xs) ys h g = absurd h
+
+same_block : (x : BlockTree) → in_block x ≡ statements x
+same_block (BlockOf q ss end) = refl
+
+written_is : (b : BodyTree) (o : Option BaseTree) → written_base (record b { base = o }) ≡ base_or o (statements b.block)
+written_is b None = refl
+written_is b (Some o) = refl
+
+pub constructor_begins : (p : TypedTree) (b : BodyTree) → OnlyOwn p b.class (initializers p b.class) → Begins p b (opening_of p b.class b.base (in_block b.block)) (arguments_of (base_or b.base (in_block b.block))) (with_base p b b.base (in_block b.block)) → BeginsWhole p b
+constructor_begins p b own r = record {
   front = before_all (initializers p b.class) r.front;
   place = r.place;
   given = r.given;
@@ -101,4 +163,7 @@ constructor_begins p b r = record {
   is = ap (before_all (initializers p b.class)) r.is ∙ sym (before_all_assoc (initializers p b.class) r.front (Before (SimpleOf (BaseCallOf r.place r.given)) r.rest));
   simple = simple_before (initializers p b.class) r.front (initializers_simple p b.class) r.simple;
   free = r.free;
+  own = own_before p b.class (initializers p b.class) r.front own r.own;
+  as_early = λ d. ap (before_all (initializers p b.class)) (r.as_early d ∙ ap (opening_of p b.class b.base) (same_block b.block));
+  as_given = r.as_given ∙ ap (λ ss. arguments_of (base_or b.base ss)) (same_block b.block) ∙ sym (ap arguments_of (written_is b b.base));
 }

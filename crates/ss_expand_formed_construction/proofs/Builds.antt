@@ -1,9 +1,9 @@
 -- Each body of a resolved program without faults of types has no `base(..)`, or is a constructor that begins with one.
-use Rattle.std.proofs.Common.{◌≡◌, ℕ, List, [], ◌++◌, true, false, Option, Some, None, refl, inl, inr, ◌⊎◌}
+use Rattle.std.proofs.Common.{◌≡◌, ℕ, ◌+◌, ◌*◌, List, [], ◌++◌, true, false, Some, None, Option, refl, sym, subst, inl, inr, ◌⊎◌}
 use Rattle.std.specs.Prelude.{◌||◌, slice_get, option_map, is_some, is_none}
 use Rattle.ss_core.specs.declared.names.Place.{Place}
 use Rattle.ss_ast.specs.Statements as written
-use Rattle.ss_ast.specs.Programs.{BaseCallTree, ClassTree, ProgramTree}
+use Rattle.ss_ast.specs.Programs.{ParamTree, BaseCallTree, ClassTree, ProgramTree}
 use Rattle.ss_tables.specs.Members.{MethodTree, ConstructorTree, methods_in, constructors_in}
 use Rattle.ss_tables.specs.Scopes.{Scope, param_scope}
 use Rattle.ss_tables.specs.Scopes as scopes
@@ -17,12 +17,20 @@ use Rattle.ss_resolver_types_expressions.specs.Statements.{block_faults}
 use Rattle.ss_resolver_types_expressions.specs.Members.{title_faults, params_faults, written_base, implied_base, block_calls_base, clauses_faults, constructor_body, constructor_block, result_faults, method_body, method_scope, end_faults}
 use Rattle.ss_resolver_types_expressions.specs.Programs.{type_faults}
 use Rattle.ss_expand_rules.specs.Program.{body_at}
-use Rattle.ss_expand_rules.specs.Constructors.{in_block, with_base, constructor_stmts, implicit_constructor}
+use Rattle.ss_expand_rules.specs.Constructors.{in_block, initializers, is_initial, with_base, implicit_constructor}
 use Rattle.ss_expand_formed.proofs.Facts.{none_left}
 use Rattle.ss_expand_formed_construction.proofs.Statements.{InAll}
 use Rattle.ss_expand_formed_construction.proofs.Free.{Anything}
 use Rattle.ss_expand_formed_construction.proofs.Bases.{Free, block_free, no_more_first, none_or_one}
-use Rattle.ss_expand_formed_construction.proofs.Begins.{Begins, with_base_begins, constructor_begins}
+use Rattle.ss_expand_formed_construction.proofs.Begins.{Begins, BeginsWhole, base_or, with_base_begins, constructor_begins}
+use Rattle.ss_expand_formed_construction.proofs.OwnFields.{OnlyOwn, initializers_own}
+use Rattle.ss_expand_formed_construction.proofs.FirstFields.{in_constructor, before_own}
+use Rattle.ss_expand_formed_construction.proofs.Numbering.{same_first}
+use Rattle.ss_expand_formed.proofs.Places.{source_of}
+use Rattle.ss_core.specs.Tree as core
+use Rattle.ss_core.specs.Chain.{declared}
+use Rattle.ss_delayed_rules.specs.Opening.{is_first, before_base, opening_of}
+use Rattle.ss_delayed_rules.specs.Constructors.{arguments_of}
 use Rattle.ss_expand_formed_construction.proofs.Sources.{of_each, constructor_none, method_none}
 
 pub record BuildsNothing (b : BodyTree) : Type 0 where
@@ -33,14 +41,23 @@ pub record Builds (p : TypedTree) (b : BodyTree) : Type 0 where
   pub ctor : b.flags.ctor ≡ true
   pub static : b.flags.is_static ≡ false
   pub result : b.result ≡ None
-  pub begins : Begins (constructor_stmts p b)
+  pub begins : BeginsWhole p b
 
 abbrev pub IsBuilt : TypedTree → BodyTree → Type 0
 IsBuilt p b = BuildsNothing b ⊎ Builds p b
 
-block_begins : (p : TypedTree) (k : ℕ) (s : Scope) (e : Env) (base : Option BaseCallTree) (x : written.BlockTree) (b : BodyTree) → constructor_block k s (is_none base) x ≡ [] → Begins (with_base p b (option_map (base_of e) base) (in_block (block e x)))
-block_begins p k s e None (written.BlockOf q xs z) b h = with_base_begins p b None (stmts (names.enter e) xs) (λ n. none_or_one k (scopes.enter s) (names.enter e) xs h) (λ o i. absurd (let y : ⊥ = cc in y))
-block_begins p k s e (Some base) (written.BlockOf q xs z) b h = with_base_begins p b (Some (base_of e base)) (stmts (names.enter e) xs) (λ n. absurd (let y : ⊥ = cc in y)) (λ o i. no_more_first k (scopes.enter s) (names.enter e) xs h)
+block_begins : (p : ProgramTree) (k : ℕ) (c : ClassTree) → slice_get p.classes k ≡ Some c → (ps : List ParamTree) (base : Option BaseCallTree) (x : written.BlockTree) (b : BodyTree) → b.class ≡ 4 + 2 * k → constructor_block k (param_scope p.classes k ps) (is_none base) x ≡ [] →
+    Begins (resolved p) b (opening_of (resolved p) b.class (option_map (base_of (param_env p.classes k false ps)) base) (in_block (block (param_env p.classes k false ps) x))) (arguments_of (base_or (option_map (base_of (param_env p.classes k false ps)) base) (in_block (block (param_env p.classes k false ps) x)))) (with_base (resolved p) b (option_map (base_of (param_env p.classes k false ps)) base) (in_block (block (param_env p.classes k false ps) x)))
+block_begins p k c at ps None (written.BlockOf q xs z) b is h =
+    let s = scopes.enter (param_scope p.classes k ps) in
+    let e = names.enter (param_env p.classes k false ps) in
+    with_base_begins (resolved p) b (λ x. subst (λ t. is_initial (resolved p) t x ≡ is_first (resolved p) t x) (sym is) (same_first (resolved p) k x)) None (stmts e xs) (λ n. none_or_one k s e xs h)
+    (λ n found. subst (λ t. OnlyOwn (resolved p) t (before_base (stmts e xs))) (sym is) (before_own p k c at e s (in_constructor p k ps) xs h found)) (λ o i. absurd (let y : ⊥ = cc in y))
+block_begins p k c at ps (Some base) (written.BlockOf q xs z) b is h =
+    let s = scopes.enter (param_scope p.classes k ps) in
+    let e = names.enter (param_env p.classes k false ps) in
+    with_base_begins (resolved p) b (λ x. subst (λ t. is_initial (resolved p) t x ≡ is_first (resolved p) t x) (sym is) (same_first (resolved p) k x)) (Some (base_of (param_env p.classes k false ps) base)) (stmts e xs) (λ n. absurd (let y : ⊥ = cc in y))
+    (λ n. absurd (let y : ⊥ = cc in y)) (λ o i. no_more_first k s e xs h)
 
 module _ (p : ProgramTree) (none : type_faults p ≡ []) where
   constructor_built : (k : ℕ) (c : ClassTree) → slice_get p.classes k ≡ Some c → (n : ℕ) (d : ConstructorTree) → slice_get (constructors_in c.members) n ≡ Some d → IsBuilt (resolved p) (resolver.constructor_body p.classes k d)
@@ -49,7 +66,7 @@ module _ (p : ProgramTree) (none : type_faults p ≡ []) where
       let front = title_faults c d.name ++ params_faults d.params ++ written_base k s d.base ++ implied_base p.classes k (is_some d.base || block_calls_base d.body) d.name.place ++ clauses_faults constructor_body s d.clauses in
       let last = (none_left front (constructor_block k s (is_none d.base) d.body) (constructor_none p none k c at n d e)).1 in
       let b = resolver.constructor_body p.classes k d in
-      inr (record { ctor = refl; static = refl; result = refl; begins = constructor_begins (resolved p) b (block_begins (resolved p) k s (param_env p.classes k false d.params) d.base d.body b last) })
+      inr (record { ctor = refl; static = refl; result = refl; begins = constructor_begins (resolved p) b (initializers_own p k c at) (block_begins p k c at d.params d.base d.body b refl last) })
 
   method_built : (k : ℕ) (c : ClassTree) → slice_get p.classes k ≡ Some c → (n : ℕ) (m : MethodTree) → slice_get (methods_in c.members) n ≡ Some m → IsBuilt (resolved p) (resolver.method_body p.classes k m)
   method_built k c at n m e =
@@ -62,7 +79,15 @@ module _ (p : ProgramTree) (none : type_faults p ≡ []) where
   pub all_built : (n : ℕ) (b : BodyTree) → body_at (resolved p) n ≡ Some b → IsBuilt (resolved p) b
   all_built n b h = of_each p (IsBuilt (resolved p)) constructor_built method_built n b h
 
-pub implicit_built : (p : TypedTree) (t : ℕ) (name : List ℕ) (q : Place) → Builds p (implicit_constructor t name q)
-implicit_built p t name q =
-    let b = implicit_constructor t name q in
-    record { ctor = refl; static = refl; result = refl; begins = constructor_begins p b (with_base_begins p b None (in_block b.block) (λ n. inl tt) (λ o i. absurd (let y : ⊥ = cc in y))) }
+pub implicit_built : (p : ProgramTree) (t : ℕ) (y : core.ClassTree) → declared (resolved p).classes t ≡ Some y → (q : Place) → Builds (resolved p) (implicit_constructor t y.name q)
+implicit_built p t y there q =
+    let s = source_of p t y there in
+    let b = implicit_constructor t y.name q in
+    let own : OnlyOwn (resolved p) t (initializers (resolved p) t) = subst (λ u. OnlyOwn (resolved p) u (initializers (resolved p) u)) (sym s.number) (initializers_own p s.place s.tree s.there) in
+    record {
+      ctor = refl;
+      static = refl;
+      result = refl;
+      begins = constructor_begins (resolved p) b own
+          (with_base_begins (resolved p) b (λ x. subst (λ u. is_initial (resolved p) u x ≡ is_first (resolved p) u x) (sym s.number) (same_first (resolved p) s.place x)) None (in_block b.block) (λ n. inl tt) (λ n found. tt) (λ o i. absurd (let z : ⊥ = cc in z)));
+    }

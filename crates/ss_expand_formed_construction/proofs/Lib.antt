@@ -4,6 +4,9 @@ pub mod Simple
 pub mod Statements
 pub mod Free
 pub mod Bases
+pub mod OwnFields
+pub mod FirstFields
+pub mod Numbering
 pub mod Begins
 pub mod Sources
 pub mod Openings
@@ -11,6 +14,8 @@ pub mod Written
 pub mod Builds
 pub mod Delayed
 pub mod Order
+pub mod OwnWrites
+pub mod Beginnings
 pub mod Uses
 pub mod ReadLocals
 pub mod Fine

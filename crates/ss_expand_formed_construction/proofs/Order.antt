@@ -31,7 +31,7 @@ use Rattle.ss_expand_formed_construction.proofs.Simple.{KeepsSimple, simple_runs
 use Rattle.ss_expand_formed_construction.proofs.Statements.{InAll, Along, KeepsStatements, stmts_run}
 use Rattle.ss_expand_formed_construction.proofs.Free.{Anything, AnyGiven, any_passes, KeepsFree, free_keeps, any_simple}
 use Rattle.ss_expand_formed_construction.proofs.Bases.{Free, OnlySimple}
-use Rattle.ss_expand_formed_construction.proofs.Begins.{Begins, free_before}
+use Rattle.ss_expand_formed_construction.proofs.Begins.{BeginsWhole, free_before}
 use Rattle.ss_expand_formed_construction.proofs.Openings.{has_none, base_where, ready_where, IsInOrder, none_in_order, in_order}
 use Rattle.ss_expand_formed_construction.proofs.Written.{copies_pass, calls, readies, given, lifted_given, s, above, before, front, number, values, ending, rest, code_is}
 use Rattle.ss_expand_formed_construction.proofs.Builds.{BuildsNothing, Builds, IsBuilt, all_built, implicit_built}
@@ -106,7 +106,7 @@ copying_has_none b =
 
 -- ---- bodies
 
-module _ (p : TypedTree) (b : BodyTree) (r : Begins (constructor_stmts p b)) where
+module _ (p : TypedTree) (b : BodyTree) (r : BeginsWhole p b) where
   lifted_has_none : (z : Setting) (t : ℕ) (es : Arguments) (made : List Ty) → has_none (lifted_given z t es made) ≡ true
   lifted_has_none z t es made =
       where_chosen (λ (c : Code). has_none c ≡ true) (t == 0) [] (given z t es made).code (λ yes. refl)
@@ -135,7 +135,7 @@ free_statements p b n = with_end b.result (if b.flags.ctor then constructor_stmt
 
 module _ (p : ProgramTree) (faultless : program_faults p ≡ []) where
   -- what is wanted of a constructor is what its code has
-  pub wanted : (b : BodyTree) (bs : List BodyTree) → chain.is_declared (core_of p).classes b.class ≡ true → b.flags.ctor ≡ true → (x : Begins (constructor_stmts (resolved p) b)) →
+  pub wanted : (b : BodyTree) (bs : List BodyTree) → chain.is_declared (core_of p).classes b.class ≡ true → b.flags.ctor ≡ true → (x : BeginsWhole (resolved p) b) →
       (wants_base (core_of p) (written_body (resolved p) b bs) ≡ calls (s (resolved p) b x) (above (resolved p) b x)) × (wants_ready (core_of p) (written_body (resolved p) b bs) ≡ readies (s (resolved p) b x) (above (resolved p) b x))
   wanted b bs there ctor x =
       let i = is_above p faultless b.class there in
@@ -166,7 +166,7 @@ module _ (p : ProgramTree) (faultless : program_faults p ≡ []) where
 
   made_in_order : type_faults p ≡ [] → (o : Origin) (y : core.BodyTree) → IsMade (resolved p) o y → chain.is_declared (core_of p).classes y.class ≡ true → starts_in_order (core_of p) y ≡ true
   made_in_order none o y (WrittenConstructor {n = n} {b = b} is em en eb) there = written_in_order b (b ∷ []) there (all_built p none n b eb)
-  made_in_order none o y (ImplicitConstructor {t = t} {c = c} {m = m} is ec em empty) there = let b = implicit_constructor t c.name m.place in written_in_order b (b ∷ []) there (inr (implicit_built (resolved p) t c.name m.place))
+  made_in_order none o y (ImplicitConstructor {t = t} {c = c} {m = m} is ec em empty) there = let b = implicit_constructor t c.name m.place in written_in_order b (b ∷ []) there (inr (implicit_built p t c ec m.place))
   made_in_order none o y (WrittenMethod {t = t} {m = m} {b = b} is eb own) there =
       let at = method_is (resolved p) (slice_get (table (resolved p) t) m) b eb in
       written_in_order b (declarations (resolved p) t m) there (all_built p none at.0 b at.1)

@@ -13,13 +13,13 @@ use Rattle.ss_expand_rules.specs.Lifting.{Setting, Listed, arguments_of}
 use Rattle.ss_expand_rules.specs.Code.{Coded}
 use Rattle.ss_expand_rules.specs.Simple.{has_delayed_constructor, ready_behind, base_with, base_of, simple}
 use Rattle.ss_expand_rules.specs.Statements.{stmts}
-use Rattle.ss_expand_rules.specs.Constructors.{before_all, closing_brace, constructor_stmts}
+use Rattle.ss_expand_rules.specs.Constructors.{before_all, closing_brace}
 use Rattle.ss_expand_rules.specs.Bodies.{block_assigns, copying_from, copying, statements, setting, temporary_count, code}
 use Rattle.ss_store_rules.specs.Locals.{each}
 use Rattle.ss_expand_formed_locals.proofs.Shape.{Code}
 use Rattle.ss_expand_formed_construction.proofs.Choices.{where_chosen}
 use Rattle.ss_expand_formed_construction.proofs.Bases.{OnlySimple}
-use Rattle.ss_expand_formed_construction.proofs.Begins.{Begins, before_all_assoc}
+use Rattle.ss_expand_formed_construction.proofs.Begins.{BeginsWhole, before_all_assoc}
 use Rattle.ss_expand_formed_construction.proofs.Openings.{base_where, ready_where}
 
 -- ---- copies of parameters
@@ -78,7 +78,7 @@ base_is s p es t made = by (t == 0) ∙ ap (λ r. lifted_given s t es made ++ (b
 
 -- ---- the whole
 
-module _ (p : TypedTree) (b : BodyTree) (r : Begins (constructor_stmts p b)) where
+module _ (p : TypedTree) (b : BodyTree) (r : BeginsWhole p b) where
   abbrev pub s : Setting
   s = setting p b (temporary_count p b)
 

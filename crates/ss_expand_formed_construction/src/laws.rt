@@ -7,11 +7,16 @@ ghost use Rattle.ss_resolver_types_expressions.specs.Programs.{type_faults};
 ghost use Rattle.ss_resolver_rules.specs.Programs.{resolved};
 ghost use Rattle.ss_delayed_rules.specs.Program.{construction_faults};
 ghost use Rattle.ss_expand_formed.specs.Laws.{core_of};
-ghost use Rattle.ss_expand_formed_construction.specs.Laws.{StartInOrder, KeepThisIn};
+ghost use Rattle.ss_expand_formed_construction.specs.Laws.{StartInOrder, HaveOpening, KeepThisIn};
 
 /// `base(..)` and `ready this` stand once each where they are wanted, among the outermost statements and the second directly behind the first.
 pub fn start_in_order()
     ensures { (p : ProgramTree) → program_faults p ≡ [] → type_faults p ≡ [] → StartInOrder (core_of p) }
+{}
+
+/// Every path to the end of a constructor passes these two, and before them only fields of its `this` that the class declares are written.
+pub fn have_opening()
+    ensures { (p : ProgramTree) → program_faults p ≡ [] → type_faults p ≡ [] → HaveOpening (core_of p) }
 {}
 
 /// The code of a delayed constructor names its `this` only to read or to write a field of it, or to pack it.
