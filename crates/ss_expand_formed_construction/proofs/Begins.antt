@@ -150,7 +150,7 @@ own_before p t (Before x xs) ys h g = absurd h
 same_block : (x : BlockTree) → in_block x ≡ statements x
 same_block (BlockOf q ss end) = refl
 
-written_is : (b : BodyTree) (o : Option BaseTree) → written_base (record b { base = o }) ≡ base_or o (statements b.block)
+pub written_is : (b : BodyTree) (o : Option BaseTree) → written_base (record b { base = o }) ≡ base_or o (statements b.block)
 written_is b None = refl
 written_is b (Some o) = refl
 

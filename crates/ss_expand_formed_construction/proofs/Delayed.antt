@@ -47,6 +47,10 @@ object_without : (t : ℕ) (ms : List MembersTree) → 4 ≤ t → members_from 
 object_without t [] l = refl
 object_without t (m ∷ ms) l = rw (ne_eqb t 0 (λ e. omega arith)) (object_without (t + 2) ms (omega arith))
 
+-- the constructor of `object` counts as delayed
+pub ready_below_object : (p : ProgramTree) → has_delayed_constructor (resolved p) 0 ≡ true
+ready_below_object p = ap (λ m. is_delayed_in (constructor_in (resolved p) m)) (object_without 4 (resolved p).members (omega arith))
+
 module _ (p : ProgramTree) (faultless : program_faults p ≡ []) where
   constructor_found : (j : ℕ) (c : ClassTree) → slice_get p.classes j ≡ Some c → store.constructor_of (core_of p) (4 + 2 * j) ≡ body_of (resolved p) (Constructor (4 + 2 * j))
   constructor_found j c at =

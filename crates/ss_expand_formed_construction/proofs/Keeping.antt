@@ -121,7 +121,7 @@ module _ (p : ProgramTree) (none : classes_faults (resolved p) 0 (resolved p).me
 -- ---- the code of a delayed constructor
 
 module _ (p : TypedTree) (b : BodyTree) (static : b.flags.is_static ≡ false) where
-  copies_behave : (u : Use) → each (behaves u b.class) (code_of (copying b)) ≡ true
+  pub copies_behave : (u : Use) → each (behaves u b.class) (code_of (copying b)) ≡ true
   copies_behave u =
       let z : first_param b + 0 ≡ first_param b = omega arith in
       let one : first_param b ≡ 1 = rw static refl in
@@ -149,7 +149,7 @@ args_of : (e : Env) → IsInside e → (es : List text.ExprTree) → Others (arg
 args_of e i [] = refl
 args_of e i (a ∷ es) = and_from _ _ (expr_other e i a) (args_of e i es)
 
-base_other : (e : Env) → IsInside e → (base : Option BaseCallTree) → Others (delayed.arguments_of (option_map (base_of e) base))
+pub base_other : (e : Env) → IsInside e → (base : Option BaseCallTree) → Others (delayed.arguments_of (option_map (base_of e) base))
 base_other e i None = refl
 base_other e i (Some b) = args_of e i b.arguments
 

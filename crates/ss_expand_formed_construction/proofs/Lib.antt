@@ -20,3 +20,4 @@ pub mod Uses
 pub mod ReadLocals
 pub mod Fine
 pub mod Keeping
+pub mod WritesFirst

@@ -2,7 +2,7 @@
 use Rattle.std.specs.Prelude.{◌≡◌, true}
 use Rattle.ss_core.specs.Tree.{CoreTree}
 use Rattle.ss_store_rules.specs.Locals.{each}
-use Rattle.ss_store_rules.specs.Construction.{starts_in_order, has_opening, if_delayed, keeps_this_in}
+use Rattle.ss_store_rules.specs.Construction.{starts_in_order, has_opening, if_delayed, keeps_this_in, if_undelayed, writes_this_first}
 use Rattle.ss_expand_formed.specs.Laws.{OfEach}
 
 -- `base(..)` and `ready this` stand once each where they are wanted, the second directly behind the first
@@ -16,3 +16,7 @@ HaveOpening c = OfEach c (λ b. has_opening c b ≡ true)
 -- the `this` of a delayed constructor doesn't get out
 abbrev pub KeepThisIn : CoreTree → Type 0
 KeepThisIn c = OfEach c (λ b. if_delayed b (each keeps_this_in b.code) ≡ true)
+
+-- one that isn't delayed first only writes fields of its `this`
+abbrev pub WriteThisFirst : CoreTree → Type 0
+WriteThisFirst c = OfEach c (λ b. if_undelayed b (writes_this_first b) ≡ true)

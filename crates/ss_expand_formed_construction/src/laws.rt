@@ -7,7 +7,7 @@ ghost use Rattle.ss_resolver_types_expressions.specs.Programs.{type_faults};
 ghost use Rattle.ss_resolver_rules.specs.Programs.{resolved};
 ghost use Rattle.ss_delayed_rules.specs.Program.{construction_faults};
 ghost use Rattle.ss_expand_formed.specs.Laws.{core_of};
-ghost use Rattle.ss_expand_formed_construction.specs.Laws.{StartInOrder, HaveOpening, KeepThisIn};
+ghost use Rattle.ss_expand_formed_construction.specs.Laws.{StartInOrder, HaveOpening, KeepThisIn, WriteThisFirst};
 
 /// `base(..)` and `ready this` stand once each where they are wanted, among the outermost statements and the second directly behind the first.
 pub fn start_in_order()
@@ -22,4 +22,9 @@ pub fn have_opening()
 /// The code of a delayed constructor names its `this` only to read or to write a field of it, or to pack it.
 pub fn keep_this_in()
     ensures { (p : ProgramTree) → construction_faults (resolved p) ≡ [] → KeepThisIn (core_of p) }
+{}
+
+/// Up to `base(..)` and `ready this`, the arguments of the first included, a constructor that isn't delayed only writes to its `this`.
+pub fn write_this_first()
+    ensures { (p : ProgramTree) → type_faults p ≡ [] → construction_faults (resolved p) ≡ [] → WriteThisFirst (core_of p) }
 {}

@@ -4,4 +4,4 @@
 
 mod laws;
 
-pub use laws::{have_opening, keep_this_in, start_in_order};
+pub use laws::{have_opening, keep_this_in, start_in_order, write_this_first};
