@@ -1,5 +1,5 @@
 -- The statements of a constructor: simple ones, one `base(..)`, and the rest.
-use Rattle.std.proofs.Common.{◌≡◌, ℕ, ◌+◌, List, [], ◌∷◌, true, false, Option, Some, None, refl, sym, ◌∙◌, ap, subst, ◌⊎◌, ⊎_elim}
+use Rattle.std.proofs.Common.{◌≡◌, ℕ, ◌+◌, List, [], ◌∷◌, true, false, Option, Some, None, refl, sym, ◌∙◌, ap, subst, inl, inr, ◌⊎◌, ⊎_elim}
 use Rattle.std.specs.Prelude.{◌&&◌, not, if◌then◌else◌}
 use Rattle.std.proofs.lemmas.Bool.{and_parts, false≢true}
 use Rattle.ss_core.specs.declared.names.Place.{Place}
@@ -20,7 +20,8 @@ use Rattle.ss_expand_formed_construction.proofs.Bases.{Free, OnlySimple, Splits,
 use Rattle.ss_expand_formed_construction.proofs.OwnFields.{is_own, OnlyOwn}
 
 -- The statements have only simple ones before one `base(..)`, and none behind it. In a constructor that isn't delayed those before it are these.
-pub record Begins (p : TypedTree) (b : BodyTree) (early : StmtTrees) (args : Arguments) (ss : StmtTrees) : Type 0 where
+-- In a delayed one these stand before the block's own, which are none or begin the block.
+pub record Begins (p : TypedTree) (b : BodyTree) (early : StmtTrees) (args : Arguments) (outset inner ss : StmtTrees) : Type 0 where
   pub front : StmtTrees
   pub place : Place
   pub given : Arguments
@@ -31,10 +32,11 @@ pub record Begins (p : TypedTree) (b : BodyTree) (early : StmtTrees) (args : Arg
   pub own : OnlyOwn p b.class front
   pub as_early : b.flags.delayed ≡ false → front ≡ early
   pub as_given : given ≡ args
+  pub as_late : b.flags.delayed ≡ true → (mine : StmtTrees) × (front ≡ before_all outset mine) × (((mine ≡ NoMore) × (rest ≡ inner)) ⊎ (inner ≡ before_all mine (Before (SimpleOf (BaseCallOf place given)) rest)))
 
 -- of the whole constructor, as the phase of construction takes it apart
 abbrev pub BeginsWhole : TypedTree → BodyTree → Type 0
-BeginsWhole p b = Begins p b (before_all (initializers p b.class) (opening p b)) (arguments_of (written_base b)) (constructor_stmts p b)
+BeginsWhole p b = Begins p b (before_all (initializers p b.class) (opening p b)) (arguments_of (written_base b)) (initializers p b.class) (in_block b.block) (constructor_stmts p b)
 
 -- ---- lists of statements
 
@@ -59,15 +61,15 @@ initial_simple p t (SimpleOf (AssignOf (FieldOf q o f u) operator.Set e)) h =
 initial_simple p t s h = absurd (false≢true h)
 
 -- behind the statements with which the block begins
-behind_run : (p : TypedTree) (b : BodyTree) → ((x : StmtTree) → is_initial p b.class x ≡ is_first p b.class x) → (q : Place) (es : Arguments) (ss : StmtTrees) → Along Free Anything ss → Begins p b (first_run p b.class ss) es (behind_initial p b.class (SimpleOf (BaseCallOf q es)) ss)
-behind_run p b same q es NoMore h = record { front = NoMore; place = q; given = es; rest = NoMore; is = refl; simple = tt; free = tt; own = tt; as_early = λ d. refl; as_given = refl }
-behind_run p b same q es (Before x xs) h =
+behind_run : (p : TypedTree) (b : BodyTree) → b.flags.delayed ≡ false → ((x : StmtTree) → is_initial p b.class x ≡ is_first p b.class x) → (q : Place) (es : Arguments) (ss : StmtTrees) → Along Free Anything ss → (inner : StmtTrees) → Begins p b (first_run p b.class ss) es NoMore inner (behind_initial p b.class (SimpleOf (BaseCallOf q es)) ss)
+behind_run p b early same q es NoMore h inner = record { front = NoMore; place = q; given = es; rest = NoMore; is = refl; simple = tt; free = tt; own = tt; as_early = λ d. refl; as_given = refl; as_late = λ d. absurd (false≢true (sym early ∙ d)) }
+behind_run p b early same q es (Before x xs) h inner =
     let s = SimpleOf (BaseCallOf q es) in
     let t = b.class in
-    where_chosen (Begins p b (first_run p t (Before x xs)) es) (is_initial p t x) (Before x (behind_initial p t s xs)) (Before s (Before x xs))
+    where_chosen (Begins p b (first_run p t (Before x xs)) es NoMore inner) (is_initial p t x) (Before x (behind_initial p t s xs)) (Before s (Before x xs))
     (λ yes.
     let y = initial_simple p t x yes in
-    let r = behind_run p b same q es xs h.1 in
+    let r = behind_run p b early same q es xs h.1 inner in
     record {
       front = Before (SimpleOf y.0) r.front;
       place = r.place;
@@ -79,8 +81,9 @@ behind_run p b same q es (Before x xs) h =
       own = (y.3, r.own);
       as_early = λ d. ap (Before (SimpleOf y.0)) (r.as_early d) ∙ ap (λ z. Before z (first_run p t xs)) (sym y.1) ∙ sym (ap (λ z. if z then Before x (first_run p t xs) else NoMore) (sym (same x) ∙ yes));
       as_given = r.as_given;
+      as_late = λ d. absurd (false≢true (sym early ∙ d));
     })
-    (λ other. record { front = NoMore; place = q; given = es; rest = Before x xs; is = refl; simple = tt; free = h; own = tt; as_early = λ d. sym (ap (λ z. if z then Before x (first_run p t xs) else NoMore) (sym (same x) ∙ other)); as_given = refl })
+    (λ other. record { front = NoMore; place = q; given = es; rest = Before x xs; is = refl; simple = tt; free = h; own = tt; as_early = λ d. sym (ap (λ z. if z then Before x (first_run p t xs) else NoMore) (sym (same x) ∙ other)); as_given = refl; as_late = λ d. absurd (false≢true (sym early ∙ d)) })
 
 -- the `base(..)` of the heading, else the one in the block
 abbrev pub base_or : Option BaseTree → StmtTrees → Option BaseTree
@@ -104,21 +107,21 @@ not_in (Before (EmptyOf p) ss) h = not_in ss h.1
 
 -- what is made of the block
 pub with_base_begins : (p : TypedTree) (b : BodyTree) → ((x : StmtTree) → is_initial p b.class x ≡ is_first p b.class x) → (base : Option BaseTree) (ss : StmtTrees) → (base ≡ None → Along Free Anything ss ⊎ Splits ss) → (base ≡ None → has_base_call ss ≡ true → OnlyOwn p b.class (before_base ss)) → ((o : BaseTree) → base ≡ Some o → Along Free Anything ss) →
-    Begins p b (opening_of p b.class base ss) (arguments_of (base_or base ss)) (with_base p b base ss)
-with_base_begins p b same (Some base) ss split owns whole = record { front = NoMore; place = base.place; given = base.arguments; rest = ss; is = refl; simple = tt; free = whole base refl; own = tt; as_early = λ d. refl; as_given = refl }
+    Begins p b (opening_of p b.class base ss) (arguments_of (base_or base ss)) NoMore ss (with_base p b base ss)
+with_base_begins p b same (Some base) ss split owns whole = record { front = NoMore; place = base.place; given = base.arguments; rest = ss; is = refl; simple = tt; free = whole base refl; own = tt; as_early = λ d. refl; as_given = refl; as_late = λ d. (NoMore, refl, inl (refl, refl)) }
 with_base_begins p b same None ss split owns whole =
     ⊎_elim
     (λ free.
-    let chosen : Begins p b (first_run p b.class ss) typed.Arguments.NoMore (if b.flags.delayed then Before (base_alone b) ss else behind_initial p b.class (base_alone b) ss) =
-    where_chosen (Begins p b (first_run p b.class ss) typed.Arguments.NoMore) b.flags.delayed (Before (base_alone b) ss) (behind_initial p b.class (base_alone b) ss)
-    (λ yes. record { front = NoMore; place = b.place; given = typed.Arguments.NoMore; rest = ss; is = refl; simple = tt; free = free; own = tt; as_early = λ d. absurd (false≢true (sym d ∙ yes)); as_given = refl })
-    (λ other. behind_run p b same b.place typed.Arguments.NoMore ss free) in
+    let chosen : Begins p b (first_run p b.class ss) typed.Arguments.NoMore NoMore ss (if b.flags.delayed then Before (base_alone b) ss else behind_initial p b.class (base_alone b) ss) =
+    where_chosen (Begins p b (first_run p b.class ss) typed.Arguments.NoMore NoMore ss) b.flags.delayed (Before (base_alone b) ss) (behind_initial p b.class (base_alone b) ss)
+    (λ yes. record { front = NoMore; place = b.place; given = typed.Arguments.NoMore; rest = ss; is = refl; simple = tt; free = free; own = tt; as_early = λ d. absurd (false≢true (sym d ∙ yes)); as_given = refl; as_late = λ d. (NoMore, refl, inl (refl, refl)) })
+    (λ other. behind_run p b other same b.place typed.Arguments.NoMore ss free ss) in
     let none = none_found ss free in
     rw (none, not_in ss free) chosen)
     (λ r.
     let found : has_base_call ss ≡ true = ap has_base_call r.is ∙ one_found r.front r.place r.given r.rest in
-    let whole_of : Begins p b (before_base ss) r.given ss =
-    record { front = r.front; place = r.place; given = r.given; rest = r.rest; is = r.is; simple = r.simple; free = r.free; own = subst (OnlyOwn p b.class) r.before (owns refl found); as_early = λ d. sym r.before; as_given = refl } in
+    let whole_of : Begins p b (before_base ss) r.given NoMore ss ss =
+    record { front = r.front; place = r.place; given = r.given; rest = r.rest; is = r.is; simple = r.simple; free = r.free; own = subst (OnlyOwn p b.class) r.before (owns refl found); as_early = λ d. sym r.before; as_given = refl; as_late = λ d. (r.front, refl, inr r.is) } in
     rw (found, r.base) whole_of)
     (split refl)
 
@@ -154,7 +157,7 @@ pub written_is : (b : BodyTree) (o : Option BaseTree) → written_base (record b
 written_is b None = refl
 written_is b (Some o) = refl
 
-pub constructor_begins : (p : TypedTree) (b : BodyTree) → OnlyOwn p b.class (initializers p b.class) → Begins p b (opening_of p b.class b.base (in_block b.block)) (arguments_of (base_or b.base (in_block b.block))) (with_base p b b.base (in_block b.block)) → BeginsWhole p b
+pub constructor_begins : (p : TypedTree) (b : BodyTree) → OnlyOwn p b.class (initializers p b.class) → Begins p b (opening_of p b.class b.base (in_block b.block)) (arguments_of (base_or b.base (in_block b.block))) NoMore (in_block b.block) (with_base p b b.base (in_block b.block)) → BeginsWhole p b
 constructor_begins p b own r = record {
   front = before_all (initializers p b.class) r.front;
   place = r.place;
@@ -166,4 +169,5 @@ constructor_begins p b own r = record {
   own = own_before p b.class (initializers p b.class) r.front own r.own;
   as_early = λ d. ap (before_all (initializers p b.class)) (r.as_early d ∙ ap (opening_of p b.class b.base) (same_block b.block));
   as_given = r.as_given ∙ ap (λ ss. arguments_of (base_or b.base ss)) (same_block b.block) ∙ sym (ap arguments_of (written_is b b.base));
+  as_late = λ d. let m = r.as_late d in (m.0, ap (before_all (initializers p b.class)) m.1, m.2);
 }

@@ -7,7 +7,7 @@ use Rattle.ss_ast.specs.Programs.{ParamTree, BaseCallTree, ClassTree, ProgramTre
 use Rattle.ss_tables.specs.Members.{MethodTree, ConstructorTree, methods_in, constructors_in}
 use Rattle.ss_tables.specs.Scopes.{Scope, param_scope}
 use Rattle.ss_tables.specs.Scopes as scopes
-use Rattle.ss_typed.specs.Tree.{BodyTree, TypedTree}
+use Rattle.ss_typed.specs.Tree.{NoMore, BodyTree, TypedTree}
 use Rattle.ss_resolver_rules.specs.Names.{Env}
 use Rattle.ss_resolver_rules.specs.Names as names
 use Rattle.ss_resolver_rules.specs.Statements.{block, stmts}
@@ -47,7 +47,7 @@ abbrev pub IsBuilt : TypedTree → BodyTree → Type 0
 IsBuilt p b = BuildsNothing b ⊎ Builds p b
 
 block_begins : (p : ProgramTree) (k : ℕ) (c : ClassTree) → slice_get p.classes k ≡ Some c → (ps : List ParamTree) (base : Option BaseCallTree) (x : written.BlockTree) (b : BodyTree) → b.class ≡ 4 + 2 * k → constructor_block k (param_scope p.classes k ps) (is_none base) x ≡ [] →
-    Begins (resolved p) b (opening_of (resolved p) b.class (option_map (base_of (param_env p.classes k false ps)) base) (in_block (block (param_env p.classes k false ps) x))) (arguments_of (base_or (option_map (base_of (param_env p.classes k false ps)) base) (in_block (block (param_env p.classes k false ps) x)))) (with_base (resolved p) b (option_map (base_of (param_env p.classes k false ps)) base) (in_block (block (param_env p.classes k false ps) x)))
+    Begins (resolved p) b (opening_of (resolved p) b.class (option_map (base_of (param_env p.classes k false ps)) base) (in_block (block (param_env p.classes k false ps) x))) (arguments_of (base_or (option_map (base_of (param_env p.classes k false ps)) base) (in_block (block (param_env p.classes k false ps) x)))) NoMore (in_block (block (param_env p.classes k false ps) x)) (with_base (resolved p) b (option_map (base_of (param_env p.classes k false ps)) base) (in_block (block (param_env p.classes k false ps) x)))
 block_begins p k c at ps None (written.BlockOf q xs z) b is h =
     let s = scopes.enter (param_scope p.classes k ps) in
     let e = names.enter (param_env p.classes k false ps) in
@@ -60,7 +60,7 @@ block_begins p k c at ps (Some base) (written.BlockOf q xs z) b is h =
     (λ n. absurd (let y : ⊥ = cc in y)) (λ o i. no_more_first k s e xs h)
 
 module _ (p : ProgramTree) (none : type_faults p ≡ []) where
-  constructor_built : (k : ℕ) (c : ClassTree) → slice_get p.classes k ≡ Some c → (n : ℕ) (d : ConstructorTree) → slice_get (constructors_in c.members) n ≡ Some d → IsBuilt (resolved p) (resolver.constructor_body p.classes k d)
+  pub constructor_built : (k : ℕ) (c : ClassTree) → slice_get p.classes k ≡ Some c → (n : ℕ) (d : ConstructorTree) → slice_get (constructors_in c.members) n ≡ Some d → IsBuilt (resolved p) (resolver.constructor_body p.classes k d)
   constructor_built k c at n d e =
       let s = param_scope p.classes k d.params in
       let front = title_faults c d.name ++ params_faults d.params ++ written_base k s d.base ++ implied_base p.classes k (is_some d.base || block_calls_base d.body) d.name.place ++ clauses_faults constructor_body s d.clauses in

@@ -68,7 +68,7 @@ module _ (p : ProgramTree) where
   skipped n t (f ∷ fs) rest other = let one = skipped n t fs rest other in rw (ne_eqb n t other) (omega arith)
 
   -- the number of the first field of a class that has one
-  first_number : (all : List ClassTree) (j n : ℕ) (cs : List ClassTree) (k : ℕ) (c : ClassTree) → slice_get cs k ≡ Some c → (g : FieldTree) (gs : List FieldTree) → fields_in c.members ≡ g ∷ gs →
+  pub first_number : (all : List ClassTree) (j n : ℕ) (cs : List ClassTree) (k : ℕ) (c : ClassTree) → slice_get cs k ≡ Some c → (g : FieldTree) (gs : List FieldTree) → fields_in c.members ≡ g ∷ gs →
       fields_before (n + 2 * k) (fields_from n (each (class all) j cs)) ≡ sum_by field_count (take k cs)
   first_number all j n [] k c h g gs is = absurd (let z : ⊥ = cc in z)
   first_number all j n (d ∷ cs) zero c h g gs is =

@@ -133,7 +133,7 @@ first_from : (y : core.BodyTree) (xs ys : core.CodeTree) → store.opening y.cod
 first_from y xs ys e f h g = rw (e, f) (and_from _ _ h g)
 
 -- one of the two is wanted
-one_wanted : (p : TypedTree) (b : BodyTree) (r : BeginsWhole p b) → b.flags.delayed ≡ false → has_delayed_constructor p 0 ≡ true → (calls (s p b r) (above p b r) ≡ true) ⊎ (readies (s p b r) (above p b r) ≡ true)
+pub one_wanted : (p : TypedTree) (b : BodyTree) (r : BeginsWhole p b) → b.flags.delayed ≡ false → has_delayed_constructor p 0 ≡ true → (calls (s p b r) (above p b r) ≡ true) ⊎ (readies (s p b r) (above p b r) ≡ true)
 one_wanted p b r early object =
     ⊎_elim
     (λ yes. let zero : above p b r ≡ 0 = eqb-true (above p b r) 0 yes in inr (and_from _ _ (ap not early) (ap (has_delayed_constructor p) zero ∙ object)))
