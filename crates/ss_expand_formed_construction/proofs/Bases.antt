@@ -8,7 +8,7 @@ use Rattle.ss_ast.specs.Statements as written
 use Rattle.ss_tables.specs.Scopes.{Scope, enter, behind, behind_init}
 use Rattle.ss_tables.specs.Statics.{Receiver, TheConsole, TheOwner, TheBase, AClass, AValue, receiver, static, count}
 use Rattle.ss_typed.specs.Tree.{ExprTree, Arguments, SimpleTree, BaseCallOf, StmtTree, SimpleOf, StmtTrees, NoMore, Before}
-use Rattle.ss_paths.specs.Assigned.{is_base, has_base}
+use Rattle.ss_paths.specs.Assigned.{is_base}
 use Rattle.ss_delayed_rules.specs.Opening.{before_base, base_in}
 use Rattle.ss_resolver_rules.specs.Names.{Env}
 use Rattle.ss_resolver_rules.specs.Names as names
@@ -223,7 +223,3 @@ one_found (Before s front) p es rest = or_right (is_base_call s) _ (one_found fr
 pub same_base : (s : StmtTree) → is_base s ≡ is_base_call s
 same_base (SimpleOf (BaseCallOf p es)) = refl
 same_base s = refl
-
-pub same_found : (ss : StmtTrees) → has_base ss ≡ has_base_call ss
-same_found NoMore = refl
-same_found (Before s ss) = rw (same_base s, same_found ss) refl

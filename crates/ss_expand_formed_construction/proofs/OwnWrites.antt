@@ -39,32 +39,32 @@ AllAssign F (Before s ss) = ⊥
 
 module _ (F : ExprTree → Type 0) (A : Arguments → Type 0) (P : core.ExprTree → Bool) (test : core.StmtTree → Bool) (s : Setting) (k : Keeps s.numbers F A P test) (t : ℕ)
     (writes : (p q : Place) (f : ℕ) (m : Mark) (e : core.ExprTree) → P e ≡ true → test (WriteStmt p (LocalExpr q 0) f m t e) ≡ true) where
-  abbrev Runs' : Code → Type 0
-  Runs' xs = Runs F A P test xs
+  abbrev Passing : Code → Type 0
+  Passing xs = Runs F A P test xs
 
-  write_runs : (q r : Place) (f : ℕ) (d : Option DeclaredField) (v : core.ExprTree) → is_declared_in t d ≡ true → P v ≡ true → Runs' (write_of q (LocalExpr r 0) f d v)
+  write_runs : (q r : Place) (f : ℕ) (d : Option DeclaredField) (v : core.ExprTree) → is_declared_in t d ≡ true → P v ≡ true → Passing (write_of q (LocalExpr r 0) f d v)
   write_runs q r f None v own h = absurd (false≢true own)
   write_runs q r f (Some d) v own h =
       let same = eqb-true d.class t own in
-      subst (λ u. Runs' (WriteStmt q (LocalExpr r 0) f d.field.mark u v ∷ [])) (sym same) (and_from _ _ (writes q r f d.field.mark v h) refl)
+      subst (λ u. Passing (WriteStmt q (LocalExpr r 0) f d.field.mark u v ∷ [])) (sym same) (and_from _ _ (writes q r f d.field.mark v h) refl)
 
-  settled_runs : (q r : Place) (v f : ℕ) (u : Ty) (e : ExprTree) (made : List Ty) → is_declared_in t (field_at s.program f) ≡ true → F e → Runs' (assign_settled s (FieldOf q (ThisOf r v) f u) e made).code
+  settled_runs : (q r : Place) (v f : ℕ) (u : Ty) (e : ExprTree) (made : List Ty) → is_declared_in t (field_at s.program f) ≡ true → F e → Passing (assign_settled s (FieldOf q (ThisOf r v) f u) e made).code
   settled_runs q r v f u e made own h =
       let x = value s e made in
       let fit = value_fits F A P test s k e made h in
       each-append test x.code (write_of q (LocalExpr r 0) f (field_at s.program f) x.value) fit.0 (write_runs q r f (field_at s.program f) x.value own fit.1)
 
-  pub own_runs : (x : SimpleTree) (made : List Ty) → is_own s.program t x ≡ true → Assigns F x → Runs' (simple s x made).code
+  pub own_runs : (x : SimpleTree) (made : List Ty) → is_own s.program t x ≡ true → Assigns F x → Passing (simple s x made).code
   own_runs (AssignOf (FieldOf q (ThisOf r v) f u) operator.Set e) made own h =
       let l = FieldOf q (ThisOf r v) f u in
-      where_chosen (λ (c : Coded). Runs' c.code) (has_call l || has_call e) (assign_behind s e (settle s l made)) (assign_settled s l e made) (λ yes. settled_runs q r v f u e made own h) (λ other. settled_runs q r v f u e made own h)
+      where_chosen (λ (c : Coded). Passing c.code) (has_call l || has_call e) (assign_behind s e (settle s l made)) (assign_settled s l e made) (λ yes. settled_runs q r v f u e made own h) (λ other. settled_runs q r v f u e made own h)
   own_runs (AssignOf (FieldOf q (ThisOf r v) f u) operator.Add e) made own h = settled_runs q r v f u (BinaryOf q op.Add (FieldOf q (ThisOf r v) f u) e) made own h
   own_runs (AssignOf (FieldOf q (ThisOf r v) f u) operator.Subtract e) made own h = settled_runs q r v f u (BinaryOf q op.Subtract (FieldOf q (ThisOf r v) f u) e) made own h
   own_runs (AssignOf (FieldOf q (ThisOf r v) f u) operator.Multiply e) made own h = settled_runs q r v f u (BinaryOf q op.Multiply (FieldOf q (ThisOf r v) f u) e) made own h
   own_runs (StepOf (FieldOf q (ThisOf r v) f u) o) made own h = settled_runs q r v f u (BinaryOf q (step_operator o) (FieldOf q (ThisOf r v) f u) (IntOf q (pos 1))) made own h
   own_runs x made own h = absurd (false≢true own)
 
-  pub all_own_run : (ss : StmtTrees) (made : List Ty) → OnlyOwn s.program t ss → AllAssign F ss → Runs' (stmts s ss made).code
+  pub all_own_run : (ss : StmtTrees) (made : List Ty) → OnlyOwn s.program t ss → AllAssign F ss → Passing (stmts s ss made).code
   all_own_run NoMore made own h = refl
   all_own_run (Before (SimpleOf x) ss) made own h =
       let one = simple s x made in

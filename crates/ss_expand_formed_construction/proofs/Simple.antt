@@ -69,31 +69,31 @@ pub record KeepsSimple (ns : Numbers) (F : ExprTree → Type 0) (P : core.ExprTr
   pub text_passes : (p : Place) (text : List ℕ) (line : Bool) → test (PrintTextStmt p text line) ≡ true
 
 module _ (F : ExprTree → Type 0) (A : Arguments → Type 0) (P : core.ExprTree → Bool) (test : core.StmtTree → Bool) (s : Setting) (k : Keeps s.numbers F A P test) (w : KeepsSimple s.numbers F P test) where
-  abbrev Runs' : Code → Type 0
-  Runs' code = Runs F A P test code
+  abbrev Passing : Code → Type 0
+  Passing code = Runs F A P test code
 
-  abbrev plain' : ExprTree → core.ExprTree
-  plain' e = plain s.numbers e
+  abbrev plainly : ExprTree → core.ExprTree
+  plainly e = plain s.numbers e
 
-  this_is : (e : ExprTree) → is_this e ≡ true → store.is_this (plain' e) ≡ true
+  this_is : (e : ExprTree) → is_this e ≡ true → store.is_this (plainly e) ≡ true
   this_is (ThisOf p t) h = refl
   this_is e h = absurd (let z : ⊥ = cc in z)
 
   -- ---- writes
 
-  write_of_runs : (p : Place) (o : core.ExprTree) (f : ℕ) (d : Option DeclaredField) (v : core.ExprTree) → (store.is_this o ≡ true) ⊎ (P o ≡ true) → P v ≡ true → Runs' (write_of p o f d v)
+  write_of_runs : (p : Place) (o : core.ExprTree) (f : ℕ) (d : Option DeclaredField) (v : core.ExprTree) → (store.is_this o ≡ true) ⊎ (P o ≡ true) → P v ≡ true → Passing (write_of p o f d v)
   write_of_runs p o f None v h g = refl
   write_of_runs p o f (Some d) v h g = and_from _ _ (w.write_passes p o f d.field.mark d.class v h g) refl
 
-  write_runs : (l : ExprTree) (v : core.ExprTree) → Left F l → P v ≡ true → Runs' (write s l v)
-  write_runs (FieldOf p o f t) v h g = write_of_runs p (plain' o) f (field_at s.program f) v (⊎_elim (λ this. inl (this_is o this)) (λ fine. inr (k.plain_passes o fine)) h) g
-  write_runs (ElementOf p a i) v h g = and_from _ _ (w.element_passes p (plain' a) (plain' i) v (k.plain_passes a h.0) (k.plain_passes i h.1) g) refl
+  write_runs : (l : ExprTree) (v : core.ExprTree) → Left F l → P v ≡ true → Passing (write s l v)
+  write_runs (FieldOf p o f t) v h g = write_of_runs p (plainly o) f (field_at s.program f) v (⊎_elim (λ this. inl (this_is o this)) (λ fine. inr (k.plain_passes o fine)) h) g
+  write_runs (ElementOf p a i) v h g = and_from _ _ (w.element_passes p (plainly a) (plainly i) v (k.plain_passes a h.0) (k.plain_passes i h.1) g) refl
   write_runs l v h g = refl
 
-  into_local_runs : (p : Place) (x : ℕ) (l : Lifted) → FitLift F A P test l → Runs' (into_local p x l).code
+  into_local_runs : (p : Place) (x : ℕ) (l : Lifted) → FitLift F A P test l → Passing (into_local p x l).code
   into_local_runs p x l h = each-append test l.code (put p x l.source ∷ []) h.0 (put_fits F A P test s k p x l.source h.1)
 
-  settled_runs : (l e : ExprTree) (made : List Ty) → Left F l → F e → Runs' (assign_settled s l e made).code
+  settled_runs : (l e : ExprTree) (made : List Ty) → Left F l → F e → Passing (assign_settled s l e made).code
   settled_runs (LocalOf p x t) e made h g = into_local_runs p (number s.numbers x) (right_side s e made) (right_fits F A P test s k e made g)
   settled_runs l e made h g =
       let v = value s e made in
@@ -102,9 +102,9 @@ module _ (F : ExprTree → Type 0) (A : Arguments → Type 0) (P : core.ExprTree
 
   -- ---- left sides
 
-  part_runs : (e : ExprTree) (made : List Ty) → (is_this e ≡ true) ⊎ F e → Runs' (settle_part s e made).code
+  part_runs : (e : ExprTree) (made : List Ty) → (is_this e ≡ true) ⊎ F e → Passing (settle_part s e made).code
   part_runs e made h =
-      where_chosen (λ (x : Settled). Runs' x.code) (is_this e) (record { code = []; target = e; made = made }) (settle_lifted s e (right_side s e made)) (λ yes. refl)
+      where_chosen (λ (x : Settled). Passing x.code) (is_this e) (record { code = []; target = e; made = made }) (settle_lifted s e (right_side s e made)) (λ yes. refl)
       (λ no. let fine = fine_of e no h in into_local_runs (place_of e) (next s.numbers (right_side s e made).made) (right_side s e made) (right_fits F A P test s k e made fine))
     where
       fine_of : (e : ExprTree) → is_this e ≡ false → (is_this e ≡ true) ⊎ F e → F e
@@ -120,7 +120,7 @@ module _ (F : ExprTree → Type 0) (A : Arguments → Type 0) (P : core.ExprTree
       where_chosen (λ (x : Settled). (is_this x.target ≡ true) ⊎ F x.target) (is_this e) (record { code = []; target = e; made = made }) (settle_lifted s e (right_side s e made)) (λ yes. inl yes)
       (λ no. inr (w.local_fine (place_of e) (length (right_side s e made).made) (temporary_type any_object (type_of e))))
 
-  settle_runs : (l : ExprTree) (made : List Ty) → Left F l → Runs' (settle s l made).code
+  settle_runs : (l : ExprTree) (made : List Ty) → Left F l → Passing (settle s l made).code
   settle_runs (FieldOf p o f t) made h = part_runs o made h
   settle_runs (ElementOf p a i) made h = each-append test (settle_part s a made).code (settle_part s i (settle_part s a made).made).code (part_runs a made (inr h.0)) (part_runs i (settle_part s a made).made (inr h.1))
   settle_runs l made h = refl
@@ -142,21 +142,21 @@ module _ (F : ExprTree → Type 0) (A : Arguments → Type 0) (P : core.ExprTree
 
   -- ---- assignments
 
-  behind_runs : (e : ExprTree) (t : Settled) → Runs' t.code → Left F t.target → F e → Runs' (assign_behind s e t).code
+  behind_runs : (e : ExprTree) (t : Settled) → Passing t.code → Left F t.target → F e → Passing (assign_behind s e t).code
   behind_runs e t h g fine = each-append test t.code (assign_settled s t.target e t.made).code h (settled_runs t.target e t.made g fine)
 
-  assign_runs : (l e : ExprTree) (made : List Ty) → Left F l → F e → Runs' (assign s l e made).code
+  assign_runs : (l e : ExprTree) (made : List Ty) → Left F l → F e → Passing (assign s l e made).code
   assign_runs l e made h g =
-      where_chosen (λ (c : Coded). Runs' c.code) (has_call l || has_call e) (assign_behind s e (settle s l made)) (assign_settled s l e made)
+      where_chosen (λ (c : Coded). Passing c.code) (has_call l || has_call e) (assign_behind s e (settle s l made)) (assign_settled s l e made)
       (λ yes. behind_runs e (settle s l made) (settle_runs l made h) (settle_left l made h) g)
       (λ no. settled_runs l e made h g)
 
-  update_runs : (o : Operator) (l e : ExprTree) (made : List Ty) → Left F l → F l → F e → Runs' (update s o l e made).code
+  update_runs : (o : Operator) (l e : ExprTree) (made : List Ty) → Left F l → F l → F e → Passing (update s o l e made).code
   update_runs o l e made h g i =
       let t = settle s l made in
       behind_runs (BinaryOf (place_of t.target) o t.target e) t (settle_runs l made h) (settle_left l made h) (w.binary_fine (place_of t.target) o t.target e (settle_fine l made h g) i)
 
-  assignment_runs : (l : ExprTree) (o : AssignOperator) (e : ExprTree) (made : List Ty) → Assigning F o l e → Runs' (assignment s l o e made).code
+  assignment_runs : (l : ExprTree) (o : AssignOperator) (e : ExprTree) (made : List Ty) → Assigning F o l e → Passing (assignment s l o e made).code
   assignment_runs l operator.Set e made h = assign_runs l e made h.0 h.1
   assignment_runs l operator.Add e made h = update_runs op.Add l e made h.0 h.1 h.2
   assignment_runs l operator.Subtract e made h = update_runs op.Subtract l e made h.0 h.1 h.2
@@ -164,11 +164,11 @@ module _ (F : ExprTree → Type 0) (A : Arguments → Type 0) (P : core.ExprTree
 
   -- ---- declarations
 
-  declared_runs : (d : DeclaratorTree) (e : Option ExprTree) (made : List Ty) → PrintsOnly F e → Runs' (declared_as s d e made).code
+  declared_runs : (d : DeclaratorTree) (e : Option ExprTree) (made : List Ty) → PrintsOnly F e → Passing (declared_as s d e made).code
   declared_runs d None made h = and_from _ _ (k.assign_passes d.place d.local (default_of d.place d.ty) (w.default_passes d.place d.ty)) refl
   declared_runs d (Some e) made h = into_local_runs d.place d.local (right_side s e made) (right_fits F A P test s k e made h)
 
-  pub declare_runs : (ds : List DeclaratorTree) (made : List Ty) → InDeclared F ds → Runs' (declare s ds made).code
+  pub declare_runs : (ds : List DeclaratorTree) (made : List Ty) → InDeclared F ds → Passing (declare s ds made).code
   declare_runs [] made h = refl
   declare_runs (d ∷ ds) made h =
       let one = declared_as s d d.initial made in
@@ -176,16 +176,16 @@ module _ (F : ExprTree → Type 0) (A : Arguments → Type 0) (P : core.ExprTree
 
   -- ---- calls alone and printing
 
-  drop_runs : (v : Source) → Fit F A P test v → Runs' (drop_result v)
+  drop_runs : (v : Source) → Fit F A P test v → Passing (drop_result v)
   drop_runs (Pure e) h = refl
   drop_runs (Created p t es) h = and_from _ _ (k.new_passes p None t es h) refl
   drop_runs (CreatedArray p t e) h = and_from _ _ (k.array_passes p None t e h) refl
   drop_runs (Called p callee es) h = and_from _ _ (h None) refl
 
-  alone_runs : (l : Lifted) → FitLift F A P test l → Runs' (alone l).code
+  alone_runs : (l : Lifted) → FitLift F A P test l → Passing (alone l).code
   alone_runs l h = each-append test l.code (drop_result l.source) h.0 (drop_runs l.source h.1)
 
-  print_runs : (p : Place) (e : Option ExprTree) (line : Bool) (made : List Ty) → PrintsOnly F e → Runs' (print s p e line made).code
+  print_runs : (p : Place) (e : Option ExprTree) (line : Bool) (made : List Ty) → PrintsOnly F e → Passing (print s p e line made).code
   print_runs p None line made h = and_from _ _ (w.line_passes p line) refl
   print_runs p (Some e) line made h =
       let v = value s e made in
@@ -194,20 +194,20 @@ module _ (F : ExprTree → Type 0) (A : Arguments → Type 0) (P : core.ExprTree
 
   -- ---- `base(..)`
 
-  pub ready_runs : (p : Place) (t : ℕ) → test (ReadyStmt p) ≡ true → Runs' (ready_behind s p t)
+  pub ready_runs : (p : Place) (t : ℕ) → test (ReadyStmt p) ≡ true → Passing (ready_behind s p t)
   ready_runs p t h =
-      where_chosen Runs' s.body.flags.delayed [] (if has_delayed_constructor s.program t then ReadyStmt p ∷ [] else []) (λ yes. refl)
-      (λ no. where_chosen Runs' (has_delayed_constructor s.program t) (ReadyStmt p ∷ []) [] (λ yes. and_from _ _ h refl) (λ other. refl))
+      where_chosen Passing s.body.flags.delayed [] (if has_delayed_constructor s.program t then ReadyStmt p ∷ [] else []) (λ yes. refl)
+      (λ no. where_chosen Passing (has_delayed_constructor s.program t) (ReadyStmt p ∷ []) [] (λ yes. and_from _ _ h refl) (λ other. refl))
 
-  pub base_runs : (p : Place) (es : Arguments) (t : ℕ) (made : List Ty) → test (ReadyStmt p) ≡ true → ((n : ℕ) (vs : List core.ExprTree) → list_all P vs ≡ true → test (CallStmt p None (BaseConstructor n) vs) ≡ true) → A es → Runs' (base_of s p es t made).code
+  pub base_runs : (p : Place) (es : Arguments) (t : ℕ) (made : List Ty) → test (ReadyStmt p) ≡ true → ((n : ℕ) (vs : List core.ExprTree) → list_all P vs ≡ true → test (CallStmt p None (BaseConstructor n) vs) ≡ true) → A es → Passing (base_of s p es t made).code
   base_runs p es t made ready call h =
       let l = arguments_of s (param_types_in (constructor_of s.program t)) es made in
       let fit = arguments_fit F A P test s k (param_types_in (constructor_of s.program t)) es made h in
-      where_chosen (λ (c : Coded). Runs' c.code) (t == 0) (record { code = ready_behind s p t; made = made }) (base_with s p t l)
+      where_chosen (λ (c : Coded). Passing c.code) (t == 0) (record { code = ready_behind s p t; made = made }) (base_with s p t l)
       (λ yes. ready_runs p t ready)
       (λ no. each-append test l.code (CallStmt p None (BaseConstructor (number_of s.program (Constructor t))) l.values ∷ ready_behind s p t) fit.0 (and_from _ _ (call (number_of s.program (Constructor t)) l.values fit.1) (ready_runs p t ready)))
 
-  pub simple_runs : (B : Arguments → Type 0) → ((p : Place) (es : Arguments) (made : List Ty) → B es → Runs' (base_of s p es (above_of s.program s.body.class) made).code) → (x : SimpleTree) (made : List Ty) → InSimple F B x → Runs' (simple s x made).code
+  pub simple_runs : (B : Arguments → Type 0) → ((p : Place) (es : Arguments) (made : List Ty) → B es → Passing (base_of s p es (above_of s.program s.body.class) made).code) → (x : SimpleTree) (made : List Ty) → InSimple F B x → Passing (simple s x made).code
   simple_runs B base (AssignOf l o e) made h = assignment_runs l o e made h
   simple_runs B base (StepOf l o) made h = update_runs (step_operator o) l (IntOf (place_of l) (pos 1)) made h.0 h.1 (w.number_fine (place_of l) 1)
   simple_runs B base (AloneOf e) made h = alone_runs (right_side s e made) (right_fits F A P test s k e made h)

@@ -74,14 +74,14 @@ pub record KeepsStatements (ns : Numbers) (P : core.ExprTree → Bool) (test : c
   pub end_passes : (p : Place) → test (ReturnStmt p None) ≡ true
 
 module _ (F : ExprTree → Type 0) (A : Arguments → Type 0) (P : core.ExprTree → Bool) (test : core.StmtTree → Bool) (G : SimpleTree → Type 0) where
-  abbrev Runs' : Code → Type 0
-  Runs' code = Runs F A P test code
+  abbrev Passing : Code → Type 0
+  Passing code = Runs F A P test code
 
   -- the packs of these exposes pass
   abbrev pub are_packed : List Opened → Bool
   are_packed os = list_all (λ (o : Opened). test (pack_of o)) os
 
-  packs_run : (os : List Opened) → are_packed os ≡ true → Runs' (map pack_of os)
+  packs_run : (os : List Opened) → are_packed os ≡ true → Passing (map pack_of os)
   packs_run [] h = refl
   packs_run (o ∷ os) h = let both = and_parts (test (pack_of o)) (are_packed os) h in and_from _ _ both.0 (packs_run os both.1)
 
@@ -90,17 +90,17 @@ module _ (F : ExprTree → Type 0) (A : Arguments → Type 0) (P : core.ExprTree
     abbrev at : List Opened → Setting
     at os = record z { exposes = os }
 
-    module _ (simple_run : (os : List Opened) (x : SimpleTree) (made : List Ty) → G x → Runs' (simple (at os) x made).code) where
+    module _ (simple_run : (os : List Opened) (x : SimpleTree) (made : List Ty) → G x → Passing (simple (at os) x made).code) where
       all_plain_pass : (es : List ExprTree) → AllOf F es → list_all P (all_plain z.numbers es) ≡ true
       all_plain_pass [] h = refl
       all_plain_pass (e ∷ es) h = and_from _ _ (k.plain_passes e h.0) (all_plain_pass es h.1)
 
       -- ---- `if` and loops
 
-      branch_runs : (p : Place) (v : Valued) (xs ys : Code) → FitValue F A P test v → Runs' xs → Runs' ys → Runs' (v.code ++ IfStmt p v.value (code_of xs) (code_of ys) ∷ [])
+      branch_runs : (p : Place) (v : Valued) (xs ys : Code) → FitValue F A P test v → Passing xs → Passing ys → Passing (v.code ++ IfStmt p v.value (code_of xs) (code_of ys) ∷ [])
       branch_runs p v xs ys h a b = each-append test v.code (IfStmt p v.value (code_of xs) (code_of ys) ∷ []) h.0 (and_from _ _ (and_from _ _ (and_from _ _ (k.if_passes p v.value (code_of xs) (code_of ys) h.1) a) b) refl)
 
-      loop_runs : (os : List Opened) (p : Place) (is : List ExprTree) (e : Option ExprTree) (turn : List Ty → Coded) (made : List Ty) → AllOf F is → PrintsOnly F e → ((m : List Ty) → Runs' (turn m).code) → Runs' (loop_while (at os) p is e turn made).code
+      loop_runs : (os : List Opened) (p : Place) (is : List ExprTree) (e : Option ExprTree) (turn : List Ty → Coded) (made : List Ty) → AllOf F is → PrintsOnly F e → ((m : List Ty) → Passing (turn m).code) → Passing (loop_while (at os) p is e turn made).code
       loop_runs os p is None turn made h g a =
           let es = all_plain z.numbers is in
           and_from _ _ (and_from _ _ (and_from _ _ (c.loop_passes p es NoCode (BoolExpr p true) (code_of (turn made).code) (map exposed os) (all_plain_pass is h) (c.true_passes p)) refl) (a made)) refl
@@ -110,51 +110,51 @@ module _ (F : ExprTree → Type 0) (A : Arguments → Type 0) (P : core.ExprTree
           let fit = value_fits F A P test (at os) k e made g in
           and_from _ _ (and_from _ _ (and_from _ _ (c.loop_passes p es (code_of v.code) v.value (code_of (turn v.made).code) (map exposed os) (all_plain_pass is h) fit.1) fit.0) (a v.made)) refl
 
-      begin_runs : (os : List Opened) (i : Option InitTree) (made : List Ty) → AtFirst G F i → Runs' (begin (at os) i made).code
+      begin_runs : (os : List Opened) (i : Option InitTree) (made : List Ty) → AtFirst G F i → Passing (begin (at os) i made).code
       begin_runs os None made h = refl
       begin_runs os (Some (DeclareFirst ds)) made h = declare_runs F A P test (at os) k w ds made h
       begin_runs os (Some (SimpleFirst x)) made h = simple_run os x made h
 
-      advance_runs : (os : List Opened) (x : Option SimpleTree) (made : List Ty) → AtStep G x → Runs' (advance (at os) x made).code
+      advance_runs : (os : List Opened) (x : Option SimpleTree) (made : List Ty) → AtStep G x → Passing (advance (at os) x made).code
       advance_runs os None made h = refl
       advance_runs os (Some x) made h = simple_run os x made h
 
-      then_runs : (made : List Ty) (d : Coded) (b : Bool) (f : List Ty → Coded) → Runs' d.code → ((m : List Ty) → Runs' (f m).code) → Runs' (then_code d (if b then f else nothing)).code
+      then_runs : (made : List Ty) (d : Coded) (b : Bool) (f : List Ty → Coded) → Passing d.code → ((m : List Ty) → Passing (f m).code) → Passing (then_code d (if b then f else nothing)).code
       then_runs made d b f h g =
-          each-append test d.code ((if b then f else nothing) d.made).code h (where_chosen (λ (x : List Ty → Coded). Runs' (x d.made).code) b f nothing (λ yes. g d.made) (λ no. refl))
+          each-append test d.code ((if b then f else nothing) d.made).code h (where_chosen (λ (x : List Ty → Coded). Passing (x d.made).code) b f nothing (λ yes. g d.made) (λ no. refl))
 
       -- ---- returns
 
-      leaving : (os : List Opened) (p : Place) → are_packed os ≡ true → Runs' (packs (at os) p)
+      leaving : (os : List Opened) (p : Place) → are_packed os ≡ true → Passing (packs (at os) p)
       leaving os p h =
           each-append test (map pack_of (reverse os)) (pack_this (at os) p) (packs_run (reverse os) (all_reverse (λ (o : Opened). test (pack_of o)) os h))
-          (where_chosen Runs' z.body.flags.ctor (PackStmt p 0 z.body.class ∷ []) [] (λ yes. and_from _ _ (c.this_passes p z.body.class) refl) (λ no. refl))
+          (where_chosen Passing z.body.flags.ctor (PackStmt p 0 z.body.class ∷ []) [] (λ yes. and_from _ _ (c.this_passes p z.body.class) refl) (λ no. refl))
 
-      leave_with_runs : (os : List Opened) (p : Place) (v : Valued) → are_packed os ≡ true → FitValue F A P test v → Runs' (leave_with (at os) p v).code
+      leave_with_runs : (os : List Opened) (p : Place) (v : Valued) → are_packed os ≡ true → FitValue F A P test v → Passing (leave_with (at os) p v).code
       leave_with_runs os p v h g =
           each-append test (v.code ++ packs (at os) p) (ReturnStmt p (Some v.value) ∷ []) (each-append test v.code (packs (at os) p) g.0 (leaving os p h)) (and_from _ _ (c.return_passes p v.value g.1) refl)
 
-      leave_value_runs : (os : List Opened) (p : Place) (e : ExprTree) (around : List Opened) (made : List Ty) → are_packed os ≡ true → F e → Runs' (leave_value (at os) p e around made).code
+      leave_value_runs : (os : List Opened) (p : Place) (e : ExprTree) (around : List Opened) (made : List Ty) → are_packed os ≡ true → F e → Passing (leave_value (at os) p e around made).code
       leave_value_runs os p e [] made h g = leave_with_runs os p (value (at os) e made) h (value_fits F A P test (at os) k e made g)
       leave_value_runs os p e (o ∷ around) made h g =
           let l = right_side (at os) e made in
           leave_with_runs os p (kept_result (at os) e l) h (local_fits F A P test (at os) k (place_of e) (length l.made) (result_type z.body.result) l (right_fits F A P test (at os) k e made g))
 
-      leave_runs : (os : List Opened) (p : Place) (e : Option ExprTree) (made : List Ty) → are_packed os ≡ true → PrintsOnly F e → Runs' (leave (at os) p e made).code
+      leave_runs : (os : List Opened) (p : Place) (e : Option ExprTree) (made : List Ty) → are_packed os ≡ true → PrintsOnly F e → Passing (leave (at os) p e made).code
       leave_runs os p None made h g = each-append test (packs (at os) p) (ReturnStmt p None ∷ []) (leaving os p h) (and_from _ _ (c.end_passes p) refl)
       leave_runs os p (Some e) made h g = leave_value_runs os p e os made h g
 
       -- ---- exposes
 
-      close_runs : (o : Opened) (ends : Bool) (inside : Coded) → test (pack_of o) ≡ true → Runs' inside.code → Runs' (close o ends inside).code
+      close_runs : (o : Opened) (ends : Bool) (inside : Coded) → test (pack_of o) ≡ true → Passing inside.code → Passing (close o ends inside).code
       close_runs o false inside h g = g
       close_runs o true inside h g = each-append test inside.code (pack_of o ∷ []) g (and_from _ _ h refl)
 
       packed_within : (os : List Opened) (o : Opened) → are_packed os ≡ true → test (pack_of o) ≡ true → are_packed (os ++ o ∷ []) ≡ true
       packed_within os o h g = list_all-append (λ (x : Opened). test (pack_of x)) os (o ∷ []) ∙ and_from _ _ h (and_from _ _ g refl)
 
-      expose_runs : (os : List Opened) (p : Place) (e : ExprTree) (t : ℕ) (ends : Bool) (inner : Setting → List Ty → Coded) (l : Lifted) → FitLift F A P test l → ((o : Opened) (m : List Ty) → test (pack_of o) ≡ true → Runs' (inner (at (os ++ o ∷ [])) m).code) →
-          Runs' (expose_lifted (at os) p e t ends inner l).code
+      expose_runs : (os : List Opened) (p : Place) (e : ExprTree) (t : ℕ) (ends : Bool) (inner : Setting → List Ty → Coded) (l : Lifted) → FitLift F A P test l → ((o : Opened) (m : List Ty) → test (pack_of o) ≡ true → Passing (inner (at (os ++ o ∷ [])) m).code) →
+          Passing (expose_lifted (at os) p e t ends inner l).code
       expose_runs os p e t ends inner l h a =
           let o = opened p (next z.numbers l.made) t in
           let v = in_temporary z.numbers (place_of e) (temporary_type any_object (type_of e)) l in
@@ -168,7 +168,7 @@ module _ (F : ExprTree → Type 0) (A : Arguments → Type 0) (P : core.ExprTree
       -- ---- statements
 
       mutual
-        pub stmt_runs : (os : List Opened) (x : StmtTree) (made : List Ty) → are_packed os ≡ true → At G F x → Runs' (stmt (at os) x made).code
+        pub stmt_runs : (os : List Opened) (x : StmtTree) (made : List Ty) → are_packed os ≡ true → At G F x → Passing (stmt (at os) x made).code
         stmt_runs os (InBlock b) made h g = block_runs os b made h g
         stmt_runs os (DeclareOf ds) made h g = declare_runs F A P test (at os) k w ds made g
         stmt_runs os (SimpleOf x) made h g = simple_run os x made g
@@ -193,9 +193,9 @@ module _ (F : ExprTree → Type 0) (A : Arguments → Type 0) (P : core.ExprTree
             (λ o m packed. block_runs (os ++ o ∷ []) b m (packed_within os o h packed) g.1)
         stmt_runs os (EmptyOf p) made h g = refl
 
-        pub block_runs : (os : List Opened) (b : BlockTree) (made : List Ty) → are_packed os ≡ true → InAll G F b → Runs' (block (at os) b made).code
+        pub block_runs : (os : List Opened) (b : BlockTree) (made : List Ty) → are_packed os ≡ true → InAll G F b → Passing (block (at os) b made).code
         block_runs os (BlockOf p ss end) made h g = stmts_run os ss made h g
 
-        pub stmts_run : (os : List Opened) (ss : StmtTrees) (made : List Ty) → are_packed os ≡ true → Along G F ss → Runs' (stmts (at os) ss made).code
+        pub stmts_run : (os : List Opened) (ss : StmtTrees) (made : List Ty) → are_packed os ≡ true → Along G F ss → Passing (stmts (at os) ss made).code
         stmts_run os NoMore made h g = refl
         stmts_run os (Before x xs) made h g = then_runs made (stmt (at os) x made) (can_end x) (stmts (at os) xs) (stmt_runs os x made h g.0) (λ m. stmts_run os xs m h g.1)
