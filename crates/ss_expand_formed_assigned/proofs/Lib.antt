@@ -1,0 +1,10 @@
+pub mod Flows
+pub mod Reading
+pub mod Walk
+pub mod Bodies
+pub mod Strict
+pub mod Scopes
+pub mod Words
+pub mod Statics
+pub mod Statements
+pub mod Law
