@@ -1,5 +1,4 @@
--- What is assigned along elaborated code, piece by piece: from the locals that are assigned before it, its checks hold, and more locals are
--- assigned behind it.
+-- What is assigned along elaborated code, piece by piece. What is assigned before it is assigned behind it.
 use Rattle.std.proofs.Common.{◌≡◌, ℕ, List, [], ◌∷◌, ◌++◌, map, Bool, true, false, Option, Some, None, refl, sym, ◌∙◌, ap, subst}
 use Rattle.std.specs.Prelude.{◌&&◌, ◌||◌, reverse, option_to_list}
 use Rattle.std.specs.List.{list_all}

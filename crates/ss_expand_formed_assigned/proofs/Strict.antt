@@ -1,4 +1,4 @@
--- What reads no `this` by one walk, no `result` by the rules of ownership, and what is in scope by another walk, reads no more than these.
+-- What reads only what is in scope, nothing of `this` by another walk, and no `result` by the rules of ownership, does all at once.
 use Rattle.std.proofs.Common.{◌≡◌, ℕ, List, [], ◌∷◌, ◌++◌, Bool, true, false, Option, Some, None, refl, sym, subst}
 use Rattle.std.specs.Prelude.{◌&&◌}
 use Rattle.std.specs.List.{list_all}
