@@ -1,0 +1,12 @@
+pub mod Fit
+pub mod Plain
+pub mod Words
+pub mod Scopes
+pub mod Names
+pub mod Classes
+pub mod Places
+pub mod Receivers
+pub mod MemberReads
+pub mod Questions
+pub mod Sources
+pub mod Conditions
