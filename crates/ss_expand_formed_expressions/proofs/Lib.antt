@@ -10,3 +10,6 @@ pub mod MemberReads
 pub mod Questions
 pub mod Sources
 pub mod Conditions
+pub mod Environments
+pub mod Bodies
+pub mod BodyPlaces
