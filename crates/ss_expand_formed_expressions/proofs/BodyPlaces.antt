@@ -38,7 +38,7 @@ use Rattle.ss_expand_formed_members.proofs.Declared.{have_declared_types}
 use Rattle.ss_expand_formed_expressions.proofs.Scopes.{refusing}
 use Rattle.ss_expand_formed_expressions.proofs.Classes.{type_there}
 use Rattle.ss_expand_formed_expressions.proofs.Places.{At, scope_at, IsKnown, IsPlace}
-use Rattle.ss_expand_formed_expressions.proofs.Environments.{with_at, params_at, params_scope, viewed, class_at, first_number, constructor_at, method_at, place_params, this_in, param_types, context_of}
+use Rattle.ss_expand_formed_expressions.proofs.Environments.{with_at, params_at, params_scope, viewed, class_at, first_number, constructor_at, method_at, place_params, this_in, param_types, context_with, context_of}
 use Rattle.ss_expand_formed_expressions.proofs.Bodies.{IsMethod, IsConstructor}
 
 pub there_in_front : {X : Type 0} (xs ys : List X) (i : ℕ) (x : X) → slice_get xs i ≡ Some x → slice_get (xs ++ ys) i ≡ Some x
@@ -76,6 +76,17 @@ module _ (p : ProgramTree) (faultless : program_faults p ≡ []) where
       list_all-append (is_type C) (this_in b ++ param_types b) (map (λ (l : core.LocalTree). l.ty) b.locals)
       ∙ and_from _ _ (list_all-append (is_type C) (this_in b) (param_types b) ∙ and_from _ _ (this_known b.flags.is_static b.class class) (all_types (is_type C) (λ (q : typed.ParamTree). q.ty) b.params all.1)) (local_types_known b.locals own) in
       record { locals = λ y t e. all_at (is_type C) (context_of b).locals y t whole e; result = λ t e. (and_parts (is_type C t) _ (subst (λ o. list_all (known p faultless) (option_to_list o) ≡ true) e all.0)).0 }
+
+  -- so are those of its arguments alone
+  pub arguments_known : (n : ℕ) (b : BodyTree) → body_at (resolved p) n ≡ Some b → is_class C b.class ≡ true → IsKnown p (context_with b [])
+  arguments_known n b at class =
+      let h = body_known n b at class in
+      record { locals = λ y t e. h.locals y t (in_arguments (this_in b ++ param_types b) (map (λ (l : core.LocalTree). l.ty) b.locals) y t e); result = h.result }
+    where
+      in_arguments : (xs ys : List Ty) (y : ℕ) (t : Ty) → slice_get (xs ++ []) y ≡ Some t → slice_get (xs ++ ys) y ≡ Some t
+      in_arguments [] ys y t e = absurd (let z : ⊥ = cc in z)
+      in_arguments (x ∷ xs) ys zero t e = e
+      in_arguments (x ∷ xs) ys (suc y) t e = in_arguments xs ys y t e
 
   pub class_numbered : (k : ℕ) → k < length p.classes → is_class C (class_number k) ≡ true
   class_numbered k l = let s = size p in lt-ltb (4 + 2 * k) (4 + 2 * length C) (omega arith)
@@ -125,10 +136,10 @@ module _ (p : ProgramTree) (faultless : program_faults p ≡ []) where
   outcome_is None h = refl
   outcome_is (Some t) h = type_there p faultless t (type_known p faultless t h)
 
-  module _ (k : ℕ) (l : k < length p.classes) (m : MethodTree) (is : IsMethod p k m) (lacks answer : Bool) (answers : answer ≡ true → lacks ≡ false → (t : Ty) × (option_map (type_id p.classes) m.result ≡ Some t)) where
-    pub method_place : IsPlace p (context_of (method_body p.classes k m)) (is_static m) lacks answer (method_at p k m)
+  module _ (k : ℕ) (l : k < length p.classes) (m : MethodTree) (is : IsMethod p k m) (ls : List Ty) (lacks answer : Bool) (answers : answer ≡ true → lacks ≡ false → (t : Ty) × (option_map (type_id p.classes) m.result ≡ Some t)) where
+    pub method_place : IsPlace p (context_with (method_body p.classes k m) ls) (is_static m) lacks answer (method_at p k m)
     method_place =
-        let x = context_of (method_body p.classes k m) in
+        let x = context_with (method_body p.classes k m) ls in
         let first : IsPlace p x (is_static m) lacks false (class_at p k (first_number p (is_static m))) = record {
           class = l;
           this = λ e. rw e refl;
@@ -141,7 +152,7 @@ module _ (p : ProgramTree) (faultless : program_faults p ≡ []) where
         } in
         let h = place_params p x (is_static m) lacks false (class_at p k (first_number p (is_static m))) m.params first
         (params_written (names.in_method (class_scope p.classes k) (is_static m) (result_type p.classes m.result)) refl m.params (body_params _ m.params None m.clauses m.body is.names))
-        (params_there (method_env p.classes k m) (env_of p faultless k (is_static m) m.params) (is_static m) (class_type (class_number k) true) (map (λ (z : core.LocalTree). z.ty) (method_body p.classes k m).locals) m.params) in
+        (params_there (method_env p.classes k m) (env_of p faultless k (is_static m) m.params) (is_static m) (class_type (class_number k) true) ls m.params) in
         record { class = h.class; this = h.this; in_static = h.in_static; in_class = h.in_class; outcome = λ t e. e; answer_is = answers; inner = h.inner; outer = h.outer }
 
     -- the scopes of the phases of names and types
@@ -157,10 +168,10 @@ module _ (p : ProgramTree) (faultless : program_faults p ≡ []) where
 
   -- ---- constructors
 
-  module _ (k : ℕ) (l : k < length p.classes) (c : ClassTree) (d : ConstructorTree) (is : IsConstructor p k c d) (lacks : Bool) where
-    pub constructor_place : IsPlace p (context_of (constructor_body p.classes k d)) false lacks false (constructor_at p k d)
+  module _ (k : ℕ) (l : k < length p.classes) (c : ClassTree) (d : ConstructorTree) (is : IsConstructor p k c d) (ls : List Ty) (lacks : Bool) where
+    pub constructor_place : IsPlace p (context_with (constructor_body p.classes k d) ls) false lacks false (constructor_at p k d)
     constructor_place =
-        let x = context_of (constructor_body p.classes k d) in
+        let x = context_with (constructor_body p.classes k d) ls in
         let first : IsPlace p x false lacks false (class_at p k 1) = record {
           class = l;
           this = λ e. refl;
@@ -173,7 +184,7 @@ module _ (p : ProgramTree) (faultless : program_faults p ≡ []) where
         } in
         place_params p x false lacks false (class_at p k 1) d.params first
         (params_written (class_scope p.classes k) refl d.params (body_params (class_scope p.classes k) d.params d.base d.clauses d.body is.names))
-        (params_there (param_env p.classes k false d.params) (env_of p faultless k false d.params) false (class_type (class_number k) true) (map (λ (z : core.LocalTree). z.ty) (constructor_body p.classes k d).locals) d.params)
+        (params_there (param_env p.classes k false d.params) (env_of p faultless k false d.params) false (class_type (class_number k) true) ls d.params)
 
     pub constructor_names : param_scope p.classes k d.params ≡ refusing false false (scope_at p (constructor_at p k d))
     constructor_names = params_scope p false false None (class_at p k 1) d.params ∙ ap (λ o. viewed p false false o (scope_at p (constructor_at p k d))) (sym (params_outcome (class_at p k 1) d.params))

@@ -52,8 +52,12 @@ this_in b = if b.flags.is_static then [] else class_type b.class true ∷ []
 abbrev pub param_types : BodyTree → List Ty
 param_types b = map (λ (q : typed.ParamTree). q.ty) b.params
 
+-- its arguments, and locals of these types behind them
+abbrev pub context_with : BodyTree → List Ty → Context
+context_with b ls = record { is_static = b.flags.is_static; class = b.class; locals = this_in b ++ param_types b ++ ls; result = b.result }
+
 abbrev pub context_of : BodyTree → Context
-context_of b = record { is_static = b.flags.is_static; class = b.class; locals = this_in b ++ param_types b ++ map (λ (l : core.LocalTree). l.ty) b.locals; result = b.result }
+context_of b = context_with b (map (λ (l : core.LocalTree). l.ty) b.locals)
 
 -- the context of the invariants of a class, and of what its fields begin with
 abbrev pub class_context : ℕ → Context

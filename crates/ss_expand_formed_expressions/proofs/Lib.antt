@@ -13,3 +13,4 @@ pub mod Conditions
 pub mod Environments
 pub mod Bodies
 pub mod BodyPlaces
+pub mod ContractNumbers
