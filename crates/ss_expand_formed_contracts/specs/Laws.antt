@@ -1,0 +1,15 @@
+-- The parts of a formed core program on contracts, which the elaboration of an accepted program has.
+use Rattle.std.specs.Prelude.{◌≡◌, Bool, true}
+use Rattle.std.specs.List.{list_all}
+use Rattle.ss_core.specs.Tree.{BodyTree, CoreTree, ExprTree, DefaultExpr}
+use Rattle.ss_store_rules.specs.Typed.{is_default_of}
+use Rattle.ss_expand_formed.specs.Laws.{OfEach}
+
+-- where it is a default condition, it is one of the body
+abbrev pub has_own_default : BodyTree → ExprTree → Bool
+has_own_default b (DefaultExpr p d) = is_default_of b d
+has_own_default b e = true
+
+-- the default conditions of a body speak of `this` where it has one, of its class, and of arguments that are references
+abbrev pub HaveDefaults : CoreTree → Type 0
+HaveDefaults c = OfEach c (λ b. (list_all (has_own_default b) b.entry ≡ true) × (list_all (has_own_default b) b.exit ≡ true))

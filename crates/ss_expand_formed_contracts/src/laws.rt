@@ -1,0 +1,14 @@
+// The parts of "the elaboration is formed" on contracts.
+
+ghost use Rattle.std.specs.Prelude.{◌≡◌, []};
+ghost use Rattle.ss_ast.specs.Programs.{ProgramTree};
+ghost use Rattle.ss_resolver_names_rules.specs.Programs.{program_faults};
+ghost use Rattle.ss_resolver_rules.specs.Programs.{resolved};
+ghost use Rattle.ss_owners_rules.specs.Program.{ownership_faults};
+ghost use Rattle.ss_expand_formed.specs.Laws.{core_of};
+ghost use Rattle.ss_expand_formed_contracts.specs.Laws.{HaveDefaults};
+
+/// The default conditions of a body speak of `this` where it has one, of its class, and of arguments that are references.
+pub fn have_defaults()
+    ensures { (p : ProgramTree) → program_faults p ≡ [] → ownership_faults (resolved p) ≡ [] → HaveDefaults (core_of p) }
+{}
