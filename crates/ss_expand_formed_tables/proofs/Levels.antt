@@ -1,13 +1,12 @@
 -- The levels of a class in a resolved program, and what is declared along them.
-use Rattle.std.proofs.Common.{◌≡◌, ◌≢◌, ℕ, zero, suc, ◌+◌, ◌*◌, ◌<◌, List, [], ◌∷◌, ◌++◌, length, true, Option, Some, None, refl, sym, ◌∙◌, ap, arith, ⊎_elim}
+use Rattle.std.proofs.Common.{◌≡◌, ◌≢◌, ℕ, zero, suc, ◌+◌, ◌*◌, ◌<◌, List, [], ◌∷◌, ◌++◌, length, Option, Some, None, refl, sym, ◌∙◌, ap, arith}
 use Rattle.std.specs.Prelude.{◌==◌, reverse, filter_map, if◌then◌else◌}
-use Rattle.std.specs.List.{list_any, cons_option}
-use Rattle.std.proofs.lemmas.Bool.{cases_Bool, ne_eqb, false≢true}
+use Rattle.std.specs.List.{cons_option}
 use Rattle.std.proofs.lemmas.List.{reverse-append}
 use Rattle.ss_core.specs.Tree as core
 use Rattle.ss_core.specs.Chain as chain
 use Rattle.ss_core.specs.Chain.{declared, levels_from, most_levels, levels, below}
-use Rattle.ss_core.proofs.Chains.{levels_object}
+use Rattle.ss_core.proofs.Chains.{levels_object, levels_up}
 use Rattle.ss_core.proofs.Declared.{declared_at, declared_place, above_undeclared}
 use Rattle.ss_ast.specs.Programs.{ProgramTree}
 use Rattle.ss_tables.specs.Classes.{above}
@@ -27,23 +26,8 @@ levels_same : (cs ds : List core.ClassTree) → ((t : ℕ) → chain.above cs t 
 levels_same cs ds same zero t = refl
 levels_same cs ds same (suc n) t = ap (λ ls. t ∷ (if t == 0 then [] else ls)) (levels_same cs ds same n (chain.above cs t) ∙ ap (levels_from ds n) (same t))
 
--- where `object` is reached, more levels than there are add none
-levels_stop : (cs : List core.ClassTree) (n t : ℕ) → list_any (λ level. level == 0) (levels_from cs n t) ≡ true → levels_from cs (suc n) t ≡ levels_from cs n t
-levels_stop cs zero t h = absurd (false≢true h)
-levels_stop cs (suc n) t h =
-    ⊎_elim
-    (λ yes. rw yes refl)
-    (λ other. rw other (ap (λ ls. t ∷ ls) (levels_stop cs n (chain.above cs t) (rw other at h))))
-    (cases_Bool (t == 0))
-
-levels_more : (cs : List core.ClassTree) (t : ℕ) → t ≢ 0 → below cs t 0 ≡ true → levels cs t ≡ t ∷ levels cs (chain.above cs t)
-unfolding below levels most_levels
-levels_more cs t nz h =
-    let no = ne_eqb t 0 nz in
-    let rest : list_any (λ level. level == 0) (levels_from cs 63 (chain.above cs t)) ≡ true = rw no at h in
-    rw no (ap (λ ls. t ∷ ls) (sym (levels_stop cs 63 (chain.above cs t) rest)))
-
-levels_alike : (cs ds : List core.ClassTree) → ((t : ℕ) → chain.above cs t ≡ chain.above ds t) → (t : ℕ) → levels cs t ≡ levels ds t
+-- so are the levels
+pub levels_alike : (cs ds : List core.ClassTree) → ((t : ℕ) → chain.above cs t ≡ chain.above ds t) → (t : ℕ) → levels cs t ≡ levels ds t
 unfolding levels most_levels
 levels_alike cs ds same t = levels_same cs ds same 64 t
 
@@ -74,7 +58,7 @@ module _ (p : ProgramTree) (faultless : program_faults p ≡ []) where
       ap chain.above_of (class_at p k w.tree w.there)
 
   -- the class above stays in the elaboration
-  above_stays : (t : ℕ) → chain.above (resolved p).classes t ≡ chain.above (core_of p).classes t
+  pub above_stays : (t : ℕ) → chain.above (resolved p).classes t ≡ chain.above (core_of p).classes t
   above_stays t = look (declared (core_of p).classes t) refl
     where
       none : (o : Option core.ClassTree) → declared (resolved p).classes t ≡ o → declared (core_of p).classes t ≡ None → chain.above (resolved p).classes t ≡ 0
@@ -98,7 +82,7 @@ module _ (p : ProgramTree) (faultless : program_faults p ≡ []) where
       let nz : 4 + 2 * k ≢ 0 = omega arith in
       let alike = levels_alike (resolved p).classes (core_of p).classes above_stays in
       alike (4 + 2 * k)
-      ∙ levels_more (core_of p).classes (4 + 2 * k) nz ((has_chain p faultless).ends (4 + 2 * k))
+      ∙ levels_up (core_of p).classes (has_chain p faultless) (4 + 2 * k) nz
       ∙ ap (λ ls. (4 + 2 * k) ∷ ls) (ap (levels (core_of p).classes) (up p faultless k l) ∙ sym (alike (number_or_object (above p.classes k))))
 
   -- from the topmost class down
