@@ -31,7 +31,7 @@ use Rattle.ss_expand_formed_contracts.proofs.Arguments.{param_at}
 use Rattle.ss_expand_formed_contracts.proofs.Origins.{contract_of}
 
 -- a parameter of references alone is captured
-abbrev may_capture : ParamTree → Bool
+abbrev pub may_capture : ParamTree → Bool
 may_capture q = not q.captured || is_class_type q.ty
 
 class_of_type : (t : Ty) → is_class_type t ≡ true → has_class (λ c. true) (Some t) ≡ true
@@ -46,7 +46,7 @@ reference_is ty.Bool h = absurd (false≢true h)
 reference_is ty.Null h = absurd (false≢true h)
 reference_is (ty.Ref t n) h = refl
 
-captures_allowed : (cs : List core.ClassTree) (qs : List ParamTree) → list_all (is_local cs) (map param_of qs) ≡ true → list_all may_capture qs ≡ true
+pub captures_allowed : (cs : List core.ClassTree) (qs : List ParamTree) → list_all (is_local cs) (map param_of qs) ≡ true → list_all may_capture qs ≡ true
 captures_allowed cs [] h = refl
 captures_allowed cs (q ∷ qs) h =
     let both = and_parts (is_local cs (param_of q)) (list_all (is_local cs) (map param_of qs)) h in
@@ -127,7 +127,7 @@ module _ (y : core.BodyTree) (b : BodyTree) (bs : List BodyTree) (is : HasContra
       list_all-append (is_default_of y) (of_param b x q) (of_params b (x + 1) qs)
       ∙ rw (list_all-append (is_default_of y) (where_asked asked (of_argument b x)) (where_asked q.captured (core.Captured x (not b.flags.is_static))), one, two) (ap (λ n. list_all (is_default_of y) (of_params b n qs)) (sym next) ∙ rest)
 
-  entry_own : list_all may_capture b.params ≡ true → list_all (is_default_of y) (default_entry b y.class) ≡ true
+  pub entry_own : list_all may_capture b.params ≡ true → list_all (is_default_of y) (default_entry b y.class) ≡ true
   entry_own h =
       let this : list_all (is_default_of y) (if b.flags.no_default_contract then [] else of_this_at_entry b y.class) ≡ true = of_either b.flags.no_default_contract in
       let zero_more : first_param b + 0 ≡ first_param b = omega arith in
@@ -139,7 +139,7 @@ module _ (y : core.BodyTree) (b : BodyTree) (bs : List BodyTree) (is : HasContra
       of_either true = refl
       of_either false = this_own
 
-  exit_own : list_all (is_default_of y) (default_exit b y.class) ≡ true
+  pub exit_own : list_all (is_default_of y) (default_exit b y.class) ≡ true
   exit_own =
       ⊎_elim
       (λ yes. rw yes refl)

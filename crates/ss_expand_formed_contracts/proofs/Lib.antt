@@ -1,3 +1,10 @@
 pub mod Arguments
 pub mod Origins
 pub mod Defaults
+pub mod Narrow
+pub mod Conditions
+pub mod Scenes
+pub mod Sources
+pub mod Soundness
+pub mod Declared
+pub mod Entries

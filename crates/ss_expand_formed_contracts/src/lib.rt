@@ -4,4 +4,4 @@
 
 mod laws;
 
-pub use laws::have_defaults;
+pub use laws::{have_defaults, have_exits};
