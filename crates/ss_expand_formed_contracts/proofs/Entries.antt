@@ -36,6 +36,7 @@ use Rattle.ss_expand_formed_contracts.proofs.Defaults.{may_capture, captures_all
 use Rattle.ss_expand_formed_contracts.proofs.Conditions.{entry_here, exit_here}
 use Rattle.ss_expand_formed_contracts.proofs.Sources.{HasClauses}
 use Rattle.ss_expand_formed_contracts.proofs.Soundness.{Answered, AllSound, entry_sound, exit_sound}
+use Rattle.ss_expand_formed_contracts.proofs.Answers.{answers}
 use Rattle.ss_expand_formed_contracts.proofs.Declared.{clauses_of, IsWorded, worded, no_array, declared_for}
 
 -- ---- the declarations of a body
@@ -120,9 +121,12 @@ have_exits p faultless typed_well no_nulls owned n y at =
     let c = contract_of p n y at in
     exits_all p faultless typed_well no_nulls owned y c.body c.declarations c.contract c.declares
 
-pub have_entries_if : (p : ProgramTree) → Answered p → program_faults p ≡ [] → type_faults p ≡ [] → null_faults (resolved p) ≡ [] → ownership_faults (resolved p) ≡ [] → HaveEntries (core_of p)
+have_entries_if : (p : ProgramTree) → Answered p → program_faults p ≡ [] → type_faults p ≡ [] → null_faults (resolved p) ≡ [] → ownership_faults (resolved p) ≡ [] → HaveEntries (core_of p)
 have_entries_if p answered faultless typed_well no_nulls owned n y at =
     let c = contract_of p n y at in
     let params = have_params p faultless owned n y at in
     let captured = captures_allowed (core_of p).classes c.body.params (subst (λ ls. list_all (is_local (core_of p).classes) ls ≡ true) c.contract.params params) in
     entries_all p faultless typed_well no_nulls owned y c.body c.declarations c.contract answered c.declares captured
+
+pub have_entries : (p : ProgramTree) → program_faults p ≡ [] → type_faults p ≡ [] → null_faults (resolved p) ≡ [] → ownership_faults (resolved p) ≡ [] → HaveEntries (core_of p)
+have_entries p faultless typed_well no_nulls owned = have_entries_if p (λ x known static lacks a place w without y named typed words. answers p x static lacks w without a y named typed words) faultless typed_well no_nulls owned

@@ -7,4 +7,6 @@ pub mod Scenes
 pub mod Sources
 pub mod Soundness
 pub mod Declared
+pub mod Answers
 pub mod Entries
+pub mod Invariants

@@ -130,7 +130,7 @@ param_types e [] = refl
 param_types e (q ∷ ps) = ap (λ ts. type_id e.scope.classes q.ty ∷ ts) (param_types e ps)
 
 module _ (p : ProgramTree) (faultless : program_faults p ≡ []) (typed_well : programs.type_faults p ≡ []) (k : ℕ) (c : ClassTree) (at : slice_get p.classes k ≡ Some c) where
-  members_typed : programs.members_faults p.classes k c c.members ≡ []
+  pub members_typed : programs.members_faults p.classes k c c.members ≡ []
   members_typed =
       let z : 0 + k ≡ k = omega arith in
       subst (λ n. programs.members_faults p.classes n c c.members ≡ []) z (class_types p.classes 0 p.classes k c typed_well at)

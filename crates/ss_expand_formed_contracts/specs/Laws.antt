@@ -1,8 +1,9 @@
 -- The parts of a formed core program on contracts, which the elaboration of an accepted program has.
-use Rattle.std.specs.Prelude.{◌≡◌, Bool, true}
+use Rattle.std.specs.Prelude.{◌≡◌, ℕ, Bool, true}
 use Rattle.std.specs.List.{list_all}
 use Rattle.ss_core.specs.Tree.{BodyTree, CoreTree, ExprTree, DefaultExpr}
-use Rattle.ss_store_rules.specs.Typed.{is_default_of, is_entry, is_exit}
+use Rattle.ss_store_rules.specs.Typed.{is_default_of, is_entry, is_exit, is_invariant}
+use Rattle.ss_store_rules.specs.Admissible.{invariants}
 use Rattle.ss_expand_formed.specs.Laws.{OfEach}
 
 -- where it is a default condition, it is one of the body
@@ -21,3 +22,7 @@ HaveEntries c = OfEach c (λ b. list_all (is_entry c.classes b) b.entry ≡ true
 -- conditions at exit are truth values over the arguments and the result
 abbrev pub HaveExits : CoreTree → Type 0
 HaveExits c = OfEach c (λ b. list_all (is_exit c.classes b) b.exit ≡ true)
+
+-- invariants are truth values over `this`
+abbrev pub HaveInvariants : CoreTree → Type 0
+HaveInvariants c = (t : ℕ) → list_all (is_invariant c.classes t) (invariants c.classes t) ≡ true

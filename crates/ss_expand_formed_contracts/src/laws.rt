@@ -8,14 +8,24 @@ ghost use Rattle.ss_resolver_types_expressions.specs.Programs.{type_faults};
 ghost use Rattle.ss_nonnull_rules.specs.Program.{null_faults};
 ghost use Rattle.ss_owners_rules.specs.Program.{ownership_faults};
 ghost use Rattle.ss_expand_formed.specs.Laws.{core_of};
-ghost use Rattle.ss_expand_formed_contracts.specs.Laws.{HaveDefaults, HaveExits};
+ghost use Rattle.ss_expand_formed_contracts.specs.Laws.{HaveDefaults, HaveEntries, HaveExits, HaveInvariants};
 
 /// The default conditions of a body speak of `this` where it has one, of its class, and of arguments that are references.
 pub fn have_defaults()
     ensures { (p : ProgramTree) → program_faults p ≡ [] → ownership_faults (resolved p) ≡ [] → HaveDefaults (core_of p) }
 {}
 
+/// The conditions at entry are truth values over the arguments, and default conditions are the body's own.
+pub fn have_entries()
+    ensures { (p : ProgramTree) → program_faults p ≡ [] → type_faults p ≡ [] → null_faults (resolved p) ≡ [] → ownership_faults (resolved p) ≡ [] → HaveEntries (core_of p) }
+{}
+
 /// The conditions at exit are truth values over the arguments and the result, and default conditions are the body's own.
 pub fn have_exits()
     ensures { (p : ProgramTree) → program_faults p ≡ [] → type_faults p ≡ [] → null_faults (resolved p) ≡ [] → ownership_faults (resolved p) ≡ [] → HaveExits (core_of p) }
+{}
+
+/// The invariants of each class are truth values over `this`.
+pub fn have_invariants()
+    ensures { (p : ProgramTree) → program_faults p ≡ [] → type_faults p ≡ [] → ownership_faults (resolved p) ≡ [] → HaveInvariants (core_of p) }
 {}
