@@ -1,9 +1,9 @@
 -- Where no `result` is allowed, none stands in a condition without faults.
-use Rattle.std.proofs.Common.{◌≡◌, ℕ, zero, suc, ◌+◌, ◌≤◌, List, [], ◌∷◌, ◌++◌, Bool, true, false, Option, Some, None, refl, sym, ◌∙◌, ap, subst, arith, ⊎_elim}
+use Rattle.std.proofs.Common.{◌≡◌, ℕ, ◌+◌, List, [], ◌∷◌, ◌++◌, Bool, true, false, Option, Some, None, refl, sym, ◌∙◌, ap, subst, arith, ⊎_elim}
 use Rattle.std.specs.Prelude.{◌&&◌, ◌||◌, ◌==◌, not, is_some, is_none, option_and_then, codes, if◌then◌else◌}
 use Rattle.std.specs.Str.{bytes_eq}
 use Rattle.std.proofs.lemmas.Slice.Eq.{bytes_eq-Decides}
-use Rattle.std.proofs.lemmas.Bool.{and_parts, and_from, or_cases, eqb-true, false≢true, cases_Bool}
+use Rattle.std.proofs.lemmas.Bool.{and_from, eqb-true, false≢true, cases_Bool}
 use Rattle.ss_core.specs.declared.names.Place.{Place}
 use Rattle.ss_core.specs.declared.names.Ty.{Ty}
 use Rattle.ss_core.specs.declared.names.Ty.TheVariants as ty
@@ -21,11 +21,11 @@ use Rattle.ss_tables.specs.Statics as statics
 use Rattle.ss_typed.specs.Tree.{ExprTree, StateOf, LengthOf, OwnersOf}
 use Rattle.ss_typed.specs.Tree as typed
 use Rattle.ss_owners_rules.specs.Words.{Allowed, allows_result, allows_old, allows_state, allows_question, unless, misplaced}
-use Rattle.ss_resolver_names_rules.specs.Faults.{unknown, type_faults}
+use Rattle.ss_resolver_names_rules.specs.Faults.{type_faults}
 use Rattle.ss_resolver_names_rules.specs.Expressions.{expr_faults, has_member, before_dot, read_faults, callee_faults, called_faults, arguments_faults, asked_class, class_argument}
-use Rattle.ss_resolver_types_expressions.specs.Wants.{Want, AnInt, ABool, AReference, AnArray, AnyValue, ClassName, known, wrong}
-use Rattle.ss_resolver_types_expressions.specs.Calls.{Around, Called, Taking, Refused, Unknown, without_members, has_no_members, called, called_member, called_owner, called_value, asks_level, is_wrong_call, argument_wants, whole_call}
-use Rattle.ss_resolver_types_expressions.specs.Expressions.{AsValue, BeforeDot, AsCallee, word_faults, used_member, is_wrong_read, is_no_read, reads_method, is_method_name, is_question, condition_faults, is_name, argument, faults, argument_faults, operand_faults, operand, no_class}
+use Rattle.ss_resolver_types_expressions.specs.Wants.{AnInt, ABool, AReference, AnArray, ClassName, known, wrong}
+use Rattle.ss_resolver_types_expressions.specs.Calls.{Around, Called, Taking, Refused, Unknown, called, called_member, called_owner, asks_level, is_wrong_call, argument_wants, whole_call}
+use Rattle.ss_resolver_types_expressions.specs.Expressions.{AsValue, BeforeDot, AsCallee, used_member, is_wrong_read, is_no_read, reads_method, is_method_name, is_question, condition_faults, is_name, argument, faults, argument_faults, no_class}
 use Rattle.ss_resolver_rules.specs.Names.{BoundName}
 use Rattle.ss_resolver_rules.specs.Numbers.{class_in}
 use Rattle.ss_resolver_rules.specs.Expressions.{read_field, field_behind, state_word, member, third_class, owner_question, called_behind, expr, args}

@@ -1,5 +1,5 @@
 -- The conditions at entry and at exit of each body have their types, and read what they may.
-use Rattle.std.proofs.Common.{◌≡◌, ℕ, zero, suc, List, [], ◌∷◌, Bool, true, false, Some, refl, ◌∙◌, ap, subst, inl, inr, ◌⊎◌, ⊎_elim}
+use Rattle.std.proofs.Common.{◌≡◌, ℕ, zero, suc, List, [], ◌∷◌, Bool, true, false, Some, None, refl, ◌∙◌, ap, subst, inl, inr, ◌⊎◌, ⊎_elim}
 use Rattle.std.specs.Prelude.{slice_get}
 use Rattle.std.specs.List.{list_all}
 use Rattle.std.proofs.lemmas.Bool.{and_parts, and_from}
@@ -22,7 +22,7 @@ use Rattle.ss_resolver_types_expressions.specs.Programs.{type_faults}
 use Rattle.ss_resolver_rules.specs.Programs.{resolved}
 use Rattle.ss_expand_rules.specs.Numbers.{plain, all_plain}
 use Rattle.ss_expand_rules.specs.Program.{body_at}
-use Rattle.ss_expand_rules.specs.Contracts.{conditions, default_entry, default_exit, entry_of_first, all_exits}
+use Rattle.ss_expand_rules.specs.Contracts.{conditions, default_entry, default_exit, entry_of_first, modifies_of_first, all_exits}
 use Rattle.ss_store_rules.specs.Changes.{is_array}
 use Rattle.ss_store_rules.specs.Typed.{is_local, is_entry, is_exit, is_default_of}
 use Rattle.ss_expand_formed.specs.Laws.{core_of}
@@ -59,7 +59,7 @@ module _ (p : ProgramTree) (faultless : program_faults p ≡ []) (typed_well : t
       record { heading = heading; under = under; no_array = ap (is_array (core_of p).classes) h.of_class ∙ no_array (core_of p).classes h.class; clauses = h; words = worded (resolved p) owned n d at }
 
   -- of a body that isn't an implicit constructor, whose contract is empty
-  parts_of : (y : core.BodyTree) (b : BodyTree) (bs : List BodyTree) → Declares (resolved p) b y.class bs → AreParts p y b bs ⊎ ((entry_of_first bs ≡ []) × (all_exits bs ≡ []))
+  pub parts_of : (y : core.BodyTree) (b : BodyTree) (bs : List BodyTree) → Declares (resolved p) b y.class bs → AreParts p y b bs ⊎ ((entry_of_first bs ≡ []) × (all_exits bs ≡ []) × (modifies_of_first bs ≡ None))
   parts_of y b bs (OfConstructor u n m em en eb class) = inl (λ i d e. one i d e)
     where
       one : (i : ℕ) (d : BodyTree) → slice_get (b ∷ []) i ≡ Some d → IsPart p y b d
@@ -67,7 +67,7 @@ module _ (p : ProgramTree) (faultless : program_faults p ≡ []) (typed_well : t
           let same : b ≡ d = same_Some _ _ e in
           subst (IsPart p y b) same (part_at y b b n eb (same_heading b) (ap (below (core_of p).classes y.class) class ∙ below_self (core_of p).classes y.class))
       one (suc i) d e = absurd (let z : ⊥ = cc in z)
-  parts_of y b bs (OfImplicit c m ec em none is) = inr (ap (λ (x : BodyTree). x.entry) is, ap (λ (x : BodyTree). all_exits (x ∷ [])) is)
+  parts_of y b bs (OfImplicit c m ec em none is) = inr (ap (λ (x : BodyTree). x.entry) is, ap (λ (x : BodyTree). all_exits (x ∷ [])) is, ap (λ (x : BodyTree). x.modifies) is)
   parts_of y b bs (OfTable m h) = inl (λ i d e. let f = declared_for p faultless no_nulls y.class m b h i d e in part_at y b d f.number f.is f.heading f.under)
 
   module _ (y : core.BodyTree) (b : BodyTree) (bs : List BodyTree) (is : HasContract y b y.class bs) where

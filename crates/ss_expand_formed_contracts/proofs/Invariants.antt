@@ -14,10 +14,9 @@ use Rattle.ss_core.proofs.Declared.{declared_place}
 use Rattle.ss_ast.specs.Expressions as text
 use Rattle.ss_ast.specs.Expressions.{NameTree}
 use Rattle.ss_ast.specs.Programs.{MemberKindTree, FieldsOf, InvariantOf, MethodOf, ConstructorOf, MemberTree, ClassTree, ProgramTree}
-use Rattle.ss_faults.specs.declared.Fault.{Fault}
 use Rattle.ss_tables.specs.Classes.{class_number}
 use Rattle.ss_tables.specs.Scopes.{class_scope}
-use Rattle.ss_typed.specs.Tree.{ExprTree, InvariantTree, MembersTree, TypedTree}
+use Rattle.ss_typed.specs.Tree.{InvariantTree, MembersTree, TypedTree}
 use Rattle.ss_typed.specs.Types.{class_type, type_of}
 use Rattle.ss_owners_rules.specs.Words.{NoWord, misplaced}
 use Rattle.ss_owners_rules.specs.Attributes.{on_invariant, bad_attributes}
@@ -35,7 +34,6 @@ use Rattle.ss_resolver_types_expressions.specs.Programs as programs
 use Rattle.ss_resolver_rules.specs.Names.{class_env}
 use Rattle.ss_resolver_rules.specs.Expressions.{expr}
 use Rattle.ss_resolver_rules.specs.Programs.{invariants_of_kind, invariants_in, members, resolved}
-use Rattle.ss_expand_rules.specs.Program.{members_of}
 use Rattle.ss_expand_rules.specs.Numbers.{plain}
 use Rattle.ss_expand_rules.specs.Elaborated as elaborated
 use Rattle.ss_expand_rules.specs.Elaborated.{invariant_numbers}
@@ -48,8 +46,8 @@ use Rattle.ss_expand_formed.proofs.Facts.{none_left}
 use Rattle.ss_expand_formed.proofs.Places.{each_at, members_at}
 use Rattle.ss_expand_formed.proofs.ChainLaw.{written_at, size, none_at}
 use Rattle.ss_expand_formed_expressions.proofs.Fit.{Context}
-use Rattle.ss_expand_formed_expressions.proofs.Plain.{Reads, bare, bare_bool, plain_type}
-use Rattle.ss_expand_formed_expressions.proofs.Places.{At, scope_at, env_at, IsKnown, IsPlace}
+use Rattle.ss_expand_formed_expressions.proofs.Plain.{Reads, bare_bool, plain_type}
+use Rattle.ss_expand_formed_expressions.proofs.Places.{At, IsKnown, IsPlace}
 use Rattle.ss_expand_formed_expressions.proofs.Conditions.{condition_sound}
 use Rattle.ss_expand_formed_contracts.specs.Laws.{HaveInvariants}
 use Rattle.ss_expand_formed_contracts.proofs.Sources.{members_typed}

@@ -10,3 +10,5 @@ pub mod Declared
 pub mod Answers
 pub mod Entries
 pub mod Invariants
+pub mod Terms
+pub mod Named

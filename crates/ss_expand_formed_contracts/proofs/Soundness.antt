@@ -61,7 +61,7 @@ gives_where : (cs : List ClassTree) (r : Option TypeTree) → types.gives_none (
 gives_where cs None h = absurd (let z : ⊥ = cc in z)
 gives_where cs (Some t) h = (type_id cs t, refl)
 
-some_where : (o : Option Ty) → is_some o ≡ true → (t : Ty) × (o ≡ Some t)
+pub some_where : (o : Option Ty) → is_some o ≡ true → (t : Ty) × (o ≡ Some t)
 some_where None h = absurd (false≢true h)
 some_where (Some t) h = (t, refl)
 

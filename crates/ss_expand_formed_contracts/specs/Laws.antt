@@ -2,7 +2,7 @@
 use Rattle.std.specs.Prelude.{◌≡◌, ℕ, Bool, true}
 use Rattle.std.specs.List.{list_all}
 use Rattle.ss_core.specs.Tree.{BodyTree, CoreTree, ExprTree, DefaultExpr}
-use Rattle.ss_store_rules.specs.Typed.{is_default_of, is_entry, is_exit, is_invariant}
+use Rattle.ss_store_rules.specs.Typed.{is_default_of, is_entry, is_exit, is_named, is_invariant}
 use Rattle.ss_store_rules.specs.Admissible.{invariants}
 use Rattle.ss_expand_formed.specs.Laws.{OfEach}
 
@@ -22,6 +22,10 @@ HaveEntries c = OfEach c (λ b. list_all (is_entry c.classes b) b.entry ≡ true
 -- conditions at exit are truth values over the arguments and the result
 abbrev pub HaveExits : CoreTree → Type 0
 HaveExits c = OfEach c (λ b. list_all (is_exit c.classes b) b.exit ≡ true)
+
+-- what a body may change is over its arguments, and of the types that it takes
+abbrev pub HaveNamed : CoreTree → Type 0
+HaveNamed c = OfEach c (λ b. list_all (is_named c.classes b) b.named ≡ true)
 
 -- invariants are truth values over `this`
 abbrev pub HaveInvariants : CoreTree → Type 0

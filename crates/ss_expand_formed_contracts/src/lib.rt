@@ -4,4 +4,4 @@
 
 mod laws;
 
-pub use laws::{have_defaults, have_entries, have_exits, have_invariants};
+pub use laws::{have_defaults, have_entries, have_exits, have_invariants, have_named};
