@@ -77,7 +77,7 @@ module _ (c : CoreTree) (b : BodyTree) where
   kept_other None y m k h i = i
   kept_other (Some x) y m k h i = other x y m (k.facts y) h i
 
-  base_same : (callee : CalleeTree) (k : Known) → (with_base c b callee k).facts ≡ k.facts
+  pub base_same : (callee : CalleeTree) (k : Known) → (with_base c b callee k).facts ≡ k.facts
   base_same (BaseConstructor n) k = refl
   base_same callee k = refl
 
@@ -106,7 +106,7 @@ module _ (c : CoreTree) (b : BodyTree) where
   base_fields f (BaseConstructor n) k h = or_left _ _ (or_left _ _ h)
   base_fields f callee k h = h
 
-  after_fields : (f : ℕ) (s : StmtTree) (k : Known) → k.fields f ≡ true → (known_after c b s k).fields f ≡ true
+  pub after_fields : (f : ℕ) (s : StmtTree) (k : Known) → k.fields f ≡ true → (known_after c b s k).fields f ≡ true
   after_fields f (AssignStmt p x e) k h = h
   after_fields f (WriteStmt p o g m t e) k h = or_left _ _ h
   after_fields f (NewStmt p x u es) k h = ap (λ z. z f) (kept_fields x true k) ∙ h
