@@ -1,7 +1,17 @@
 pub mod Growing
 pub mod New
+pub mod Spared
+pub mod Growth
 pub mod Plain
 pub mod Putting
 pub mod Lifted
 pub mod Operations
 pub mod Expressions
+pub mod Assignments
+pub mod Lefts
+pub mod Simple
+pub mod Numbers
+pub mod Ends
+pub mod Paths
+pub mod Quiet
+pub mod Statements

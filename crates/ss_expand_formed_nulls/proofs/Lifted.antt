@@ -26,7 +26,7 @@ use Rattle.ss_expand_formed_nulls.proofs.Putting.{temporary_nullable, flow, sour
 
 module _ (z : Frame) (agrees : Agrees z) where
   abbrev pub ns : Numbers
-  ns = z.setting.numbers
+  ns = z.numbers
 
   abbrev pub at : ℕ → ℕ
   at x = number ns x
@@ -203,7 +203,7 @@ module _ (z : Frame) (agrees : Agrees z) where
     pub now : Known
     pub runs : Runs z l d.code now
     pub covers : Covers z k now
-    pub left : (y : ℕ) → z.mine y ≡ true → more.facts y ≡ true → side_facts (now.sides x v) (at y) ≡ true
+    pub left : (y : ℕ) → more.facts y ≡ true → side_facts (now.sides x v) (at y) ≡ true
     pub right : (y : ℕ) → says b v y ≡ true → side_facts (now.sides x v) (at y) ≡ true
 
   unless : {X : Type 0} (b : Bool) (o : Option X) → b ≡ true → (if b then None else o) ≡ None
@@ -219,6 +219,7 @@ module _ (z : Frame) (agrees : Agrees z) where
       (h : Lifts k l i first)
       (gain : (x : ℕ) → more.facts x ≡ true → (k.facts x || says i v x) ≡ true)
       (keep : (x : ℕ) → k.facts x ≡ true → more.facts x ≡ true)
+      (own : (x : ℕ) → more.facts x ≡ true → z.mine x ≡ true)
       (same : more.fields ≡ k.fields)
       (made : HasMade z (second (first.made ++ ty.Bool ∷ [])).made)
       (begins : Begins (first.made ++ ty.Bool ∷ []) (second (first.made ++ ty.Bool ∷ [])).made)
@@ -247,14 +248,15 @@ module _ (z : Frame) (agrees : Agrees z) where
     tested_says : (y : ℕ) → says i v y ≡ true → learned then_known (test (LocalExpr p x)) true (at y) ≡ true
     tested_says y s = ap (λ f. f (at y)) (says_so then_known (LocalExpr p x)) ∙ ap (λ o. side_facts o (at y)) (put_sides z (place_of a) x first.source h.now v) ∙ h.told v y s
 
-    gained : (y : ℕ) → z.mine y ≡ true → (one said : Bool) → k.facts y ≡ one → says i v y ≡ said → (one || said) ≡ true → taken.facts (at y) ≡ true
-    gained y m true said e f g = or_left _ _ (then_covers.facts y m e)
-    gained y m false said e f g = or_right _ _ (tested_says y (f ∙ g))
+    gained : (y : ℕ) → (one said : Bool) → k.facts y ≡ one → says i v y ≡ said → (one || said) ≡ true → taken.facts (at y) ≡ true
+    gained y true said e f g = or_left _ _ (then_covers.facts y e)
+    gained y false said e f g = or_right _ _ (tested_says y (f ∙ g))
 
     taken_covers : Covers z more taken
     taken_covers = record {
-      facts = λ y m g. gained y m (k.facts y) (says i v y) refl refl (gain y g);
-      fields = λ f g. then_covers.fields f (ap (λ s. has_field z.site.numbers s f) (sym same) ∙ g);
+      facts = λ y g. gained y (k.facts y) (says i v y) refl refl (gain y g);
+      mine = own;
+      fields = λ f o g. then_covers.fields f o (ap (λ s. has_field z.site.numbers s f) (sym same) ∙ g);
       free = λ g f. then_covers.free g f;
     }
 
@@ -290,8 +292,9 @@ module _ (z : Frame) (agrees : Agrees z) where
 
     now_covers : Covers z k now
     now_covers = record {
-      facts = λ y m g. and_from _ _ (last_covers.facts y m (keep y g)) (or_left _ _ (then_covers.facts y m g));
-      fields = λ f g. and_from _ _ (last_covers.fields f (ap (λ s. has_field z.site.numbers s f) same ∙ g)) (then_covers.fields f g);
+      facts = λ y g. and_from _ _ (last_covers.facts y (keep y g)) (or_left _ _ (then_covers.facts y g));
+      mine = then_covers.mine;
+      fields = λ f o g. and_from _ _ (last_covers.fields f o (ap (λ s. has_field z.site.numbers s f) same ∙ g)) (then_covers.fields f o g);
       free = λ g f. and_from _ _ (last_covers.free g f) (then_covers.free g f);
     }
 
@@ -300,6 +303,6 @@ module _ (z : Frame) (agrees : Agrees z) where
       now = now;
       runs = runs_join z l then_known now (first.code ++ put (place_of a) x first.source ∷ []) (branch ∷ []) front branch_runs;
       covers = now_covers;
-      left = λ y m g. ap (λ o. side_facts o (at y)) now_side ∙ or_left _ _ (last_covers.facts y m g);
+      left = λ y g. ap (λ o. side_facts o (at y)) now_side ∙ or_left _ _ (last_covers.facts y g);
       right = λ y g. ap (λ o. side_facts o (at y)) now_side ∙ or_right _ _ (inner.told v y g);
     }

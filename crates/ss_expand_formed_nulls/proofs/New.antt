@@ -1,5 +1,5 @@
 -- What is lifted out of an expression assigns new temporaries alone.
-use Rattle.std.proofs.Common.{◌≡◌, ℕ, suc, ◌+◌, ◌≤◌, List, [], ◌∷◌, ◌++◌, map, Bool, true, false, Option, Some, None, refl, sym, ◌∙◌, ap, arith, ⊎_elim}
+use Rattle.std.proofs.Common.{◌≡◌, ℕ, suc, ◌+◌, ◌<◌, ◌≤◌, List, [], ◌∷◌, ◌++◌, map, Bool, true, false, Option, Some, None, refl, sym, ◌∙◌, ap, arith, ⊎_elim}
 use Rattle.std.specs.Prelude.{not, ◌==◌, ◌&&◌, reverse, nat_le, nat_lt}
 use Rattle.std.proofs.lemmas.Bool.{and_parts, and_from, cases_Bool, eqb-true, leb-true, ltb-true, le-leb, false≢true}
 use Rattle.ss_core.specs.Tree.{StmtTree, AssignStmt, NewStmt, NewArrayStmt, CallStmt, IfStmt, LoopStmt, PackStmt, ReturnStmt, CodeTree, NoCode, Then}
@@ -43,6 +43,9 @@ spared f y g (NewStmt p x t es) h = kept_apart f x y h g
 spared f y g (NewArrayStmt p x t e) h = kept_apart f x y h g
 spared f y g (CallStmt p x callee es) h = kept_apart f x y h g
 spared f y g s h = refl
+
+pub too_low : (low y : ℕ) → y < low → nat_le low y ≡ false
+too_low low y h = ⊎_elim (λ i. let l = leb-true low y i in absurd (omega arith)) (λ i. i) (cases_Bool (nat_le low y))
 
 -- ---- new temporaries
 

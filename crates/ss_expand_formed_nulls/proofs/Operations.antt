@@ -1,8 +1,8 @@
 -- Operations and arguments with calls in them.
-use Rattle.std.proofs.Common.{◌≡◌, ℕ, ◌+◌, ◌<◌, List, [], ◌∷◌, ◌++◌, length, Bool, true, false, Option, Some, None, refl, sym, ◌∙◌, ap, arith, ⊎_elim}
+use Rattle.std.proofs.Common.{◌≡◌, ℕ, ◌+◌, ◌<◌, List, [], ◌∷◌, ◌++◌, length, Bool, true, false, Option, Some, None, refl, sym, ◌∙◌, ap, arith}
 use Rattle.std.specs.Prelude.{not, ◌==◌, ◌&&◌, ◌||◌, if◌then◌else◌, is_some, nat_le}
 use Rattle.std.specs.Bool.{beq}
-use Rattle.std.proofs.lemmas.Bool.{and_parts, and_from, or_left, or_right, cases_Bool, eq-eqb, leb-true, false≢true}
+use Rattle.std.proofs.lemmas.Bool.{and_parts, and_from, or_left, or_right, eq-eqb, false≢true}
 use Rattle.ss_core.specs.declared.names.Place.{Place}
 use Rattle.ss_core.specs.declared.names.Ty.{Ty}
 use Rattle.ss_core.specs.declared.names.Ty.TheVariants as ty
@@ -23,7 +23,7 @@ use Rattle.ss_nonnull_rules.specs.Faults.{inside, wanted, handed, null_fault}
 use Rattle.ss_nonnull_rules.specs.Faults as faults
 use Rattle.ss_expand_rules.specs.Numbers.{plain, plain_arguments}
 use Rattle.ss_expand_rules.specs.Calls.{has_call, have_call, is_lazy, place_of}
-use Rattle.ss_expand_rules.specs.Lifting.{Setting, Pure, Lifted, Valued, Listed, unlifted, next, any_object, lifted_of, operand, unary, binary, holds, fails, negated, operation, other_types, lifted}
+use Rattle.ss_expand_rules.specs.Lifting.{Opened, Setting, Pure, Lifted, Valued, Listed, unlifted, next, any_object, lifted_of, operand, unary, binary, holds, fails, negated, operation, other_types, lifted}
 use Rattle.ss_store_rules.specs.Good.{is_non_null}
 use Rattle.ss_store_rules.specs.Locals.{types_of, each, targets_only}
 use Rattle.ss_store_rules.specs.Paths.{where_reached}
@@ -32,9 +32,9 @@ use Rattle.ss_expand_formed.proofs.Facts.{none_left, or_false}
 use Rattle.ss_expand_formed_locals.proofs.Shape.{Code}
 use Rattle.ss_expand_formed_known.proofs.Truths.{of_or}
 use Rattle.ss_expand_formed_known.proofs.Kept.{spares, facts_kept}
-use Rattle.ss_expand_formed_nulls.specs.Fitting.{Frame, implied, wants_no_more, enters_with, fits, all_fit, Agrees, Covers, HasMade}
+use Rattle.ss_expand_formed_nulls.specs.Fitting.{Frame, setting, implied, wants_no_more, enters_with, fits, all_fit, Agrees, Covers, HasMade}
 use Rattle.ss_expand_formed_nulls.proofs.Growing.{begins_append, operand_begins, lifted_of_begins, lifted_begins}
-use Rattle.ss_expand_formed_nulls.proofs.New.{each_more, spared}
+use Rattle.ss_expand_formed_nulls.proofs.New.{each_more, spared, too_low}
 use Rattle.ss_expand_formed_nulls.proofs.Plain.{not_none, either_is, either_left, either_right, implied_true, on_set, local_of, says_mine, plain_says, plain_never}
 use Rattle.ss_expand_formed_nulls.proofs.Putting.{source_says, source_enters, source_is_this, Runs, runs_nothing}
 use Rattle.ss_expand_formed_nulls.proofs.Lifted.{ns, at, never_in, core_never, Lifts, Held, made_before, not_this, lifted_of_known, operand_known, unary_known, binary_known, Lazy, lazily_known}
@@ -75,12 +75,9 @@ wants_others [] ts h = refl
 wants_others (u ∷ us) [] h = absurd (false≢true h)
 wants_others (u ∷ us) (t ∷ ts) h = (and_parts (implied (is_non_null u) (fields.is_non_null t)) (wants_no_more us ts) h).1
 
-too_low : (low y : ℕ) → y < low → nat_le low y ≡ false
-too_low low y h = ⊎_elim (λ i. let l = leb-true low y i in absurd (omega arith)) (λ i. i) (cases_Bool (nat_le low y))
-
-module _ (z : Frame) (agrees : Agrees z) where
+module _ (z : Frame) (agrees : Agrees z) (os : List Opened) where
   abbrev pub s : Setting
-  s = z.setting
+  s = setting z os
 
   -- ---- arguments
 
@@ -197,6 +194,9 @@ module _ (z : Frame) (agrees : Agrees z) where
   same_local x true = and_from _ _ (eq-eqb x x refl) refl
   same_local x false = and_from _ _ (eq-eqb x x refl) refl
 
+  own_or : (a : ExprTree) (v : Bool) (k : source.Known) (l : Known) → Covers z k l → fits z a ≡ true → (y : ℕ) → either k.facts (says a v) y ≡ true → z.mine y ≡ true
+  own_or a v k l c f y h = of_or (k.facts y) (says a v y) (z.mine y) (c.mine y) (λ q. says_mine z a v y f q) (either_is k.facts (says a v) y h)
+
   and_known : (p : Place) (a b : ExprTree) (k : source.Known) (l : Known) (made : List Ty) → Covers z k l → fits z a ≡ true → fits z b ≡ true → inside z.site (Some k) a ≡ [] → inside z.site (Some (source.known_tested a true k)) b ≡ [] →
       HasMade z (operation (ns z agrees) p op.And a b (lifted s a) (lifted s b) made).made → Rec a → Rec b → Lifts z agrees k l (BinaryOf p op.And a b) (operation (ns z agrees) p op.And a b (lifted s a) (lifted s b) made)
   and_known p a b k l made c f g i j m one two =
@@ -208,12 +208,12 @@ module _ (z : Frame) (agrees : Agrees z) where
       let front = lifted_of_known z agrees k l a (lifted s a) made c f (made_before z agrees first.made (second n).made (λ i t e. begins i t (begins_append first.made (ty.Bool ∷ []) i t e)) m) (λ h q. one k l made c i h q) in
       let x = next (ns z agrees) first.made in
       let h : Lazy z agrees k more l b true (operation (ns z agrees) p op.And a b (lifted s a) (lifted s b) made) x =
-      lazily_known z agrees p a b true holds k more l a first second (λ n e. refl) (λ y. same_local y false) front (λ y q. either_is k.facts (says a true) y q) (λ y q. either_left k.facts (says a true) y q) refl m begins
+      lazily_known z agrees p a b true holds k more l a first second (λ n e. refl) (λ y. same_local y false) front (λ y q. either_is k.facts (says a true) y q) (λ y q. either_left k.facts (says a true) y q) (own_or a true k l c f) refl m begins
       (λ q r. lifted_of_known z agrees more q b (lifted s b) n r g m (λ t u. two more q n r j t u)) in
       lazy_lifts k more l (BinaryOf p op.And a b) b true p x (operation (ns z agrees) p op.And a b (lifted s a) (lifted s b) made) refl (low_next first.made) h (said h) refl
     where
       said : {x : ℕ} {d : Lifted} (h : Lazy z agrees k (source.known_tested a true k) l b true d x) (u : Bool) (y : ℕ) → (if u then either (says a true) (says b true) else none) y ≡ true → side_facts (h.now.sides x u) (at z agrees y) ≡ true
-      said h true y i = of_or (says a true y) (says b true y) _ (λ q. h.left y (says_mine z a true y f q) (either_right k.facts (says a true) y q)) (λ q. h.right y q) (either_is (says a true) (says b true) y i)
+      said h true y i = of_or (says a true y) (says b true y) _ (λ q. h.left y (either_right k.facts (says a true) y q)) (λ q. h.right y q) (either_is (says a true) (says b true) y i)
       said h false y i = not_none y i
 
   or_known : (p : Place) (a b : ExprTree) (k : source.Known) (l : Known) (made : List Ty) → Covers z k l → fits z a ≡ true → fits z b ≡ true → inside z.site (Some k) a ≡ [] → inside z.site (Some (source.known_tested a false k)) b ≡ [] →
@@ -227,12 +227,12 @@ module _ (z : Frame) (agrees : Agrees z) where
       let front = lifted_of_known z agrees k l a (lifted s a) made c f (made_before z agrees first.made (second n).made (λ i t e. begins i t (begins_append first.made (ty.Bool ∷ []) i t e)) m) (λ h q. one k l made c i h q) in
       let x = next (ns z agrees) first.made in
       let h : Lazy z agrees k more l b false (operation (ns z agrees) p op.Or a b (lifted s a) (lifted s b) made) x =
-      lazily_known z agrees p a b false (fails p) k more l a first second (λ n e. refl) (λ y. same_local y true) front (λ y q. either_is k.facts (says a false) y q) (λ y q. either_left k.facts (says a false) y q) refl m begins
+      lazily_known z agrees p a b false (fails p) k more l a first second (λ n e. refl) (λ y. same_local y true) front (λ y q. either_is k.facts (says a false) y q) (λ y q. either_left k.facts (says a false) y q) (own_or a false k l c f) refl m begins
       (λ q r. lifted_of_known z agrees more q b (lifted s b) n r g m (λ t u. two more q n r j t u)) in
       lazy_lifts k more l (BinaryOf p op.Or a b) b false p x (operation (ns z agrees) p op.Or a b (lifted s a) (lifted s b) made) refl (low_next first.made) h (said h) refl
     where
       said : {x : ℕ} {d : Lifted} (h : Lazy z agrees k (source.known_tested a false k) l b false d x) (u : Bool) (y : ℕ) → (if u then none else either (says a false) (says b false)) y ≡ true → side_facts (h.now.sides x u) (at z agrees y) ≡ true
-      said h false y i = of_or (says a false y) (says b false y) _ (λ q. h.left y (says_mine z a false y f q) (either_right k.facts (says a false) y q)) (λ q. h.right y q) (either_is (says a false) (says b false) y i)
+      said h false y i = of_or (says a false y) (says b false y) _ (λ q. h.left y (either_right k.facts (says a false) y q)) (λ q. h.right y q) (either_is (says a false) (says b false) y i)
       said h true y i = not_none y i
 
   pub implies_known : (p : Place) (a b : ExprTree) (k : source.Known) (l : Known) (made : List Ty) → Covers z k l → fits z a ≡ true → fits z b ≡ true → inside z.site (Some k) a ≡ [] → inside z.site (Some k) b ≡ [] →
@@ -245,7 +245,7 @@ module _ (z : Frame) (agrees : Agrees z) where
       let front = negated_known k l a made c f (made_before z agrees first.made (second n).made (λ i t e. begins i t (begins_append first.made (ty.Bool ∷ []) i t e)) m) (λ h q. one k l made c i h q) in
       let x = next (ns z agrees) first.made in
       let h : Lazy z agrees k k l b false (lifted s (ImpliesOf p a b) made) x =
-      lazily_known z agrees p a b false (fails p) k k l (NotOf (place_of a) a) first second (λ n e. refl) (λ y. same_local y true) front (λ y q. or_left _ _ q) (λ y q. q) refl m begins
+      lazily_known z agrees p a b false (fails p) k k l (NotOf (place_of a) a) first second (λ n e. refl) (λ y. same_local y true) front (λ y q. or_left _ _ q) (λ y q. q) c.mine refl m begins
       (λ q r. lifted_of_known z agrees k q b (lifted s b) n r g m (λ t u. two k q n r j t u)) in
       lazy_lifts k k l (ImpliesOf p a b) b false p x (lifted s (ImpliesOf p a b) made) refl (low_next first.made) h (λ u y i. not_none y i) refl
 

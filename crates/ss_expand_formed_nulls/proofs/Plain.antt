@@ -16,10 +16,11 @@ use Rattle.ss_nonnull_rules.specs.Facts as told
 use Rattle.ss_nonnull_rules.specs.Facts.{says, the_local, is_null}
 use Rattle.ss_expand_rules.specs.Numbers.{Numbers, number, plain}
 use Rattle.ss_expand_rules.specs.Calls.{has_call}
+use Rattle.ss_expand_rules.specs.Contracts.{is_reference}
 use Rattle.ss_store_rules.specs.Changes.{field_type}
 use Rattle.ss_store_rules.specs.Good.{is_non_null}
-use Rattle.ss_store_rules.specs.NonNull.{Facts, no_facts, both, Known, learned, is_local_number, is_null_literal, compared, operation_facts, site_of, is_this_object, is_never_null}
-use Rattle.ss_expand_formed_nulls.specs.Fitting.{Frame, implied, fits, reads_set, Agrees, Covers}
+use Rattle.ss_store_rules.specs.NonNull.{is_non_null_type, Facts, no_facts, both, Known, learned, is_local_number, is_null_literal, compared, operation_facts, site_of, is_this_object, is_never_null}
+use Rattle.ss_expand_formed_nulls.specs.Fitting.{Frame, local_type, implied, is_own_local, fits, reads_set, Agrees, Covers}
 use Rattle.ss_expand_formed_known.proofs.Truths.{and_more, or_more, of_or}
 
 -- ---- sets of locals
@@ -107,12 +108,14 @@ plain_says ns l e v x h = not_none x h
 module _ (z : Frame) where
   -- ---- it says it of locals of the body
 
-  the_local_mine : (e : ExprTree) (x : ℕ) → fits z e ≡ true → the_local e x ≡ true → z.mine x ≡ true
-  the_local_mine (LocalOf p y t) x f h = ap z.mine (sym (eqb-true y x (only_same y x h))) ∙ (and_parts (z.mine y) _ f).0
+  the_local_mine : (e : ExprTree) (x : ℕ) → is_own_local z e ≡ true → the_local e x ≡ true → z.mine x ≡ true
+  the_local_mine (LocalOf p y t) x f h = ap z.mine (sym (eqb-true y x (only_same y x h))) ∙ f
   the_local_mine e x f h = not_none x h
 
-  compared_mine : (d : Bool) (a b : ExprTree) (x : ℕ) → fits z a ≡ true → told.compared d a b x ≡ true → z.mine x ≡ true
-  compared_mine d a b x f h = the_local_mine a x f (on_set (d && is_null b) (the_local a) x h).1
+  compared_mine : (d : Bool) (a b : ExprTree) (x : ℕ) → implied (is_null b) (is_own_local z a) ≡ true → told.compared d a b x ≡ true → z.mine x ≡ true
+  compared_mine d a b x f h =
+      let parts = on_set (d && is_null b) (the_local a) x h in
+      the_local_mine a x (implied_true (is_null b) (is_own_local z a) f (and_parts d (is_null b) parts.0).1) parts.1
 
   either_mine : (f g : Set) (x : ℕ) (m : Bool) → (f x ≡ true → m ≡ true) → (g x ≡ true → m ≡ true) → either f g x ≡ true → m ≡ true
   either_mine f g x m i j e = of_or (f x) (g x) m i j (either_is f g x e)
@@ -125,7 +128,7 @@ module _ (z : Frame) where
   or_mine true f g x m i j e = not_none x e
   or_mine false f g x m i j e = either_mine (f false) (g false) x m i j e
 
-  operation_mine : (o : Operator) (v : Bool) (a b : ExprTree) (x : ℕ) → fits z a ≡ true → ((u : Bool) → says a u x ≡ true → z.mine x ≡ true) → ((u : Bool) → says b u x ≡ true → z.mine x ≡ true) →
+  operation_mine : (o : Operator) (v : Bool) (a b : ExprTree) (x : ℕ) → implied (is_null b) (is_own_local z a) ≡ true → ((u : Bool) → says a u x ≡ true → z.mine x ≡ true) → ((u : Bool) → says b u x ≡ true → z.mine x ≡ true) →
       told.operation_says o v a b (says a) (says b) x ≡ true → z.mine x ≡ true
   operation_mine op.And v a b x f i j e = and_mine v (says a) (says b) x (z.mine x) (i true) (j true) e
   operation_mine op.Or v a b x f i j e = or_mine v (says a) (says b) x (z.mine x) (i false) (j false) e
@@ -136,44 +139,40 @@ module _ (z : Frame) where
   pub says_mine : (e : ExprTree) (v : Bool) (x : ℕ) → fits z e ≡ true → says e v x ≡ true → z.mine x ≡ true
   says_mine (NotOf p e) v x f h = says_mine e (not v) x f h
   says_mine (BinaryOf p o a b) v x f h =
-      let both = and_parts (fits z a) (fits z b) f in
-      operation_mine o v a b x both.0 (λ u. says_mine a u x both.0) (λ u. says_mine b u x both.1) h
-  says_mine (IsOf p e t) v x f h = the_local_mine e x f (on_set v (the_local e) x h).1
+      let both = and_parts (implied (is_null b) (is_own_local z a) && fits z a) (fits z b) f in
+      let left = and_parts (implied (is_null b) (is_own_local z a)) (fits z a) both.0 in
+      operation_mine o v a b x left.0 (λ u. says_mine a u x left.1) (λ u. says_mine b u x both.1) h
+  says_mine (IsOf p e t) v x f h = the_local_mine e x (and_parts (is_own_local z e) (fits z e) f).0 (on_set v (the_local e) x h).1
   says_mine e v x f h = not_none x h
 
   -- ---- never null
 
   module _ (agrees : Agrees z) (k : source.Known) (l : Known) (covers : Covers z k l) where
-    pub set_field : (e : core.ExprTree) (o : ExprTree) (f : ℕ) → (is_this o ≡ false → (not z.body.flags.ctor || z.free || not (is_this_object e)) ≡ true) →
+    pub set_field : (e : core.ExprTree) (o : ExprTree) (f : ℕ) → (not z.body.flags.ctor || is_this o && z.fields f || z.free || not (is_this_object e)) ≡ true →
         (not z.site.constructs || not z.site.in_old && (not (is_this o) || has_field z.site.numbers k.fields f)) ≡ true →
         (not z.body.flags.ctor || not false && (not (is_this_object e) || l.fields f)) ≡ true
-    set_field e o f reads h = by z.body.flags.ctor agrees.constructs (is_this o) refl reads h
+    set_field e o f reads h = by z.body.flags.ctor agrees.constructs (is_this o) reads h
       where
-        by : (c : Bool) → z.site.constructs ≡ c → (own : Bool) → is_this o ≡ own → (own ≡ false → (not c || z.free || not (is_this_object e)) ≡ true) →
+        ready : (own : Bool) → (own || z.free || not (is_this_object e)) ≡ true → (own ≡ true → l.fields f ≡ true) → (not (is_this_object e) || l.fields f) ≡ true
+        ready true h g = or_right _ _ (g refl)
+        ready false h g = of_or z.free (not (is_this_object e)) _ (λ free. or_right _ _ (covers.free free f)) (λ other. or_left _ _ other) h
+
+        by : (c : Bool) → z.site.constructs ≡ c → (own : Bool) → (not c || own && z.fields f || z.free || not (is_this_object e)) ≡ true →
             (not z.site.constructs || not z.site.in_old && (not own || has_field z.site.numbers k.fields f)) ≡ true → (not c || not false && (not (is_this_object e) || l.fields f)) ≡ true
-        by false i own j reads h = refl
-        by true i true j reads h =
-            let there : (not true || not z.site.in_old && (not true || has_field z.site.numbers k.fields f)) ≡ true = ap (λ b. not b || not z.site.in_old && (not true || has_field z.site.numbers k.fields f)) (sym i) ∙ h in
-            or_right _ _ (covers.fields f (and_parts (not z.site.in_old) (has_field z.site.numbers k.fields f) there).1)
-        by true i false j reads h = of_or z.free (not (is_this_object e)) _ (λ free. or_right _ _ (covers.free free f)) (λ other. or_left _ _ other) (reads refl)
+        by false i own reads h = refl
+        by true i own reads h =
+            let there : (not true || not z.site.in_old && (not own || has_field z.site.numbers k.fields f)) ≡ true = ap (λ b. not b || not z.site.in_old && (not own || has_field z.site.numbers k.fields f)) (sym i) ∙ h in
+            let set = (and_parts (not z.site.in_old) (not own || has_field z.site.numbers k.fields f) there).1 in
+            ready (own && z.fields f) reads (λ g. let both = and_parts own (z.fields f) g in covers.fields f both.1 (ap (λ b. not b || has_field z.site.numbers k.fields f) (sym both.0) ∙ set))
 
-    reads_of : (e : ExprTree) → reads_set z e ≡ true → is_this e ≡ false → (not z.body.flags.ctor || z.free || not (is_this_object (plain z.setting.numbers e))) ≡ true
-    reads_of e h i = by z.body.flags.ctor (is_this e) i h
-      where
-        by : (c own : Bool) → own ≡ false → (not c || own || z.free || not (is_this_object (plain z.setting.numbers e))) ≡ true → (not c || z.free || not (is_this_object (plain z.setting.numbers e))) ≡ true
-        by false own j h = refl
-        by true true j h = absurd (false≢true (sym j))
-        by true false j h = h
-
-    pub plain_never : (e : ExprTree) → fits z e ≡ true → has_call e ≡ false → source.is_never_null z.site (Some k) e ≡ true → is_never_null (site_of z.program z.body) l false (plain z.setting.numbers e) ≡ true
+    pub plain_never : (e : ExprTree) → fits z e ≡ true → has_call e ≡ false → source.is_never_null z.site (Some k) e ≡ true → is_never_null (site_of z.program z.body) l false (plain z.numbers e) ≡ true
     plain_never (ThisOf p t) f n h = or_left _ _ f
     plain_never (LocalOf p x t) f n h =
-        let both = and_parts (z.mine x) _ f in
-        or_more (fields.is_non_null t) (k.facts x) _ _ (implied_true (fields.is_non_null t) _ both.1) (covers.facts x both.0) h
+        or_more (fields.is_non_null t) (k.facts x) _ _ (implied_true (fields.is_non_null t) _ (and_parts (implied (fields.is_non_null t) (is_non_null_type (local_type z (number z.numbers x)))) (implied (z.mine x) (is_reference t)) f).0) (covers.facts x) h
     plain_never (FieldOf p e g t) f n h =
-        let one = and_parts (implied (fields.is_non_null t) (is_non_null (field_type z.program.classes g))) (reads_set z e && fits z e) f in
-        let two = and_parts (reads_set z e) (fits z e) one.1 in
-        and_more (fields.is_non_null t) _ _ _ (implied_true (fields.is_non_null t) _ one.0) (set_field (plain z.setting.numbers e) e g (reads_of e two.0)) h
+        let one = and_parts (implied (fields.is_non_null t) (is_non_null (field_type z.program.classes g))) (reads_set z e g && fits z e) f in
+        let two = and_parts (reads_set z e g) (fits z e) one.1 in
+        and_more (fields.is_non_null t) _ _ _ (implied_true (fields.is_non_null t) _ one.0) (set_field (plain z.numbers e) e g two.0) h
     plain_never (CastOf p t non_null e) f n h = h
     plain_never (OldOf p e) f n h = absurd (false≢true f)
     plain_never (ResultOf p t) f n h = absurd (false≢true f)

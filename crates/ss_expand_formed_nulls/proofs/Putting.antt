@@ -149,12 +149,13 @@ module _ (z : Frame) where
   put_field p x d l f h = after_fields z.program z.body f (put p x d) l h
 
   -- a temporary is none of the locals of the body
-  pub put_covers : Agrees z → (p : Place) (x : ℕ) (d : Source) (k : source.Known) (l : Known) → z.setting.numbers.first_temporary ≤ x → Covers z k l → Covers z k (putting p x d l)
+  pub put_covers : Agrees z → (p : Place) (x : ℕ) (d : Source) (k : source.Known) (l : Known) → z.numbers.first_temporary ≤ x → Covers z k l → Covers z k (putting p x d l)
   put_covers agrees p x d k l from h = record {
-    facts = λ y m i.
-        let below = agrees.own y m in
-        let other = ne_eqb x (number z.setting.numbers y) (λ e. omega arith) in
-        put_facts p x d l (number z.setting.numbers y) ∙ rw other (h.facts y m i);
-    fields = λ f i. put_field p x d l f (h.fields f i);
+    facts = λ y i.
+        let below = agrees.own y (agrees.known y (h.mine y i)) in
+        let other = ne_eqb x (number z.numbers y) (λ e. omega arith) in
+        put_facts p x d l (number z.numbers y) ∙ rw other (h.facts y i);
+    mine = h.mine;
+    fields = λ f own i. put_field p x d l f (h.fields f own i);
     free = λ i f. put_field p x d l f (h.free i f);
   }
