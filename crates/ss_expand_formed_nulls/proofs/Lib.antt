@@ -15,3 +15,5 @@ pub mod Ends
 pub mod Paths
 pub mod Quiet
 pub mod Statements
+pub mod Methods
+pub mod Found

@@ -20,25 +20,25 @@ append_right [] ys i = let e : 0 + i ≡ i = omega arith in ap (slice_get ys) e
 append_right (x ∷ xs) ys i = let e : suc (length xs) + i ≡ suc (length xs + i) = omega arith in ap (slice_get (x ∷ (xs ++ ys))) e ∙ append_right xs ys i
 
 -- what stands in the second of three lists
-in_middle : (xs ys zs : List Ty) (n i : ℕ) (t : Ty) → n ≡ length xs → slice_get ys i ≡ Some t → slice_get (xs ++ (ys ++ zs)) (n + i) ≡ Some t
+pub in_middle : (xs ys zs : List Ty) (n i : ℕ) (t : Ty) → n ≡ length xs → slice_get ys i ≡ Some t → slice_get (xs ++ (ys ++ zs)) (n + i) ≡ Some t
 in_middle xs ys zs n i t e h = ap (λ k. slice_get (xs ++ (ys ++ zs)) (k + i)) e ∙ append_right xs (ys ++ zs) i ∙ begins_append ys zs i t h
 
-types_append : (xs ys : List core.LocalTree) → types_of (xs ++ ys) ≡ types_of xs ++ types_of ys
+pub types_append : (xs ys : List core.LocalTree) → types_of (xs ++ ys) ≡ types_of xs ++ types_of ys
 types_append [] ys = refl
 types_append (x ∷ xs) ys = ap (λ ts. x.ty ∷ ts) (types_append xs ys)
 
 abbrev pub param_types : List ParamTree → List Ty
 param_types qs = map (λ (q : ParamTree). q.ty) qs
 
-params_types : (qs : List ParamTree) → types_of (map param_of qs) ≡ param_types qs
+pub params_types : (qs : List ParamTree) → types_of (map param_of qs) ≡ param_types qs
 params_types [] = refl
 params_types (q ∷ qs) = ap (λ ts. q.ty ∷ ts) (params_types qs)
 
-copies_types : (qs : List ParamTree) → types_of (map copy_of qs) ≡ param_types qs
+pub copies_types : (qs : List ParamTree) → types_of (map copy_of qs) ≡ param_types qs
 copies_types [] = refl
 copies_types (q ∷ qs) = ap (λ ts. q.ty ∷ ts) (copies_types qs)
 
-temporaries_types : (i : ℕ) (ts : List Ty) → types_of (temporaries_from i ts) ≡ ts
+pub temporaries_types : (i : ℕ) (ts : List Ty) → types_of (temporaries_from i ts) ≡ ts
 temporaries_types i [] = refl
 temporaries_types i (t ∷ ts) = ap (λ us. t ∷ us) (temporaries_types (i + 1) ts)
 

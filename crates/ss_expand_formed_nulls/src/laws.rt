@@ -1,20 +1,29 @@
 // Elaborated code keeps nulls out where the phase of null finds no fault.
 
-ghost use Rattle.std.specs.Prelude.{◌≡◌, List, [], true, Some};
+ghost use Rattle.std.specs.Prelude.{◌≡◌, ℕ, List, [], true, false, Some, slice_get};
+ghost use Rattle.ss_core.specs.Tree.{CoreTree};
 ghost use Rattle.ss_core.specs.declared.names.Ty.{Ty};
 ghost use Rattle.ss_core.specs.View.{code_of};
-ghost use Rattle.ss_typed.specs.Tree.{StmtTrees};
+ghost use Rattle.ss_typed.specs.Tree.{StmtTrees, BodyTree, TypedTree};
 ghost use Rattle.ss_paths.specs.Paths.{faults_along};
 ghost use Rattle.ss_nonnull_rules.specs.NonNull as source;
 ghost use Rattle.ss_nonnull_rules.specs.Faults as faults;
+ghost use Rattle.ss_nonnull_rules.specs.Program.{null_faults};
+ghost use Rattle.ss_expand_rules.specs.Bodies.{written_body};
 ghost use Rattle.ss_expand_rules.specs.Lifting.{Opened};
 ghost use Rattle.ss_expand_rules.specs.Statements.{stmts};
 ghost use Rattle.ss_store_rules.specs.Paths.{holds_along};
-ghost use Rattle.ss_store_rules.specs.NonNull.{Known, known_flow, null_check};
-ghost use Rattle.ss_expand_formed_nulls.specs.Fitting.{Frame, setting, all_fitting, Agrees, Builds, Covers, HasMade};
+ghost use Rattle.ss_store_rules.specs.NonNull.{Known, known_flow, null_check, keeps_nulls_out};
+ghost use Rattle.ss_expand_formed_nulls.specs.Fitting.{Frame, setting, block_fits, all_fitting, Agrees, Builds, Covers, HasMade};
+ghost use Rattle.ss_expand_formed_nulls.specs.Bodies.{method_frame};
 
 /// No value that may be null goes where none is wanted in the code of resolved statements without a fault of null, whose names mean in the
 /// elaboration what they mean in them.
-pub fn keeps_nulls_out()
+pub fn statements_keep_nulls_out()
     ensures { (z : Frame) → Agrees z → Builds z → (ss : StmtTrees) → all_fitting z ss ≡ true → (os : List Opened) (k : source.Known) (made : List Ty) → faults_along (source.known_flow z.site) (faults.null_check z.site) ss (Some k) ≡ [] → (l : Known) → Covers z k l → HasMade z (stmts (setting z os) ss made).made → holds_along (known_flow z.program z.body) (null_check z.program z.body) (code_of (stmts (setting z os) ss made).code) (Some l) ≡ true }
+{}
+
+/// So does the elaboration of each method of a program without a fault of null, whose names mean in it what they mean in the source.
+pub fn methods_keep_nulls_out()
+    ensures { (c : CoreTree) (p : TypedTree) (n : ℕ) (b : BodyTree) (bs : List BodyTree) → null_faults p ≡ [] → slice_get p.bodies n ≡ Some b → b.flags.ctor ≡ false → block_fits (method_frame c p b bs) b.block ≡ true → keeps_nulls_out c (written_body p b bs) ≡ true }
 {}

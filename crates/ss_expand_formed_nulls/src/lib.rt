@@ -4,4 +4,4 @@
 
 mod laws;
 
-pub use laws::keeps_nulls_out;
+pub use laws::{methods_keep_nulls_out, statements_keep_nulls_out};
