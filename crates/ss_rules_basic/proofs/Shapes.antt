@@ -1,0 +1,87 @@
+-- What fits no rule, by its form.
+use Rattle.std.proofs.Common.{◌≡◌, ◌≢◌, ℕ, ℤ, pos, ◌+◌, ◌-◌, ◌<◌, ◌≤◌, List, [], ◌∷◌, length, map, drop, get_or, Bool, true, false, Option, Some, None, refl, sym, ◌∙◌, ap, subst, arith}
+use Rattle.std.specs.Prelude.{◌==◌, ◌&&◌, ◌||◌, neg_ℤ, unsigned_abs}
+use Rattle.std.specs.List.{list_any}
+use Rattle.std.proofs.lemmas.List.{drop_more}
+use Rattle.std.proofs.lemmas.Bool.{ne_eqb}
+use Rattle.ss_core.specs.Tree.{ClassTree}
+use Rattle.ss_core.specs.View.{class_of}
+use Rattle.ss_core.specs.declared.class.Class.{Class}
+use Rattle.ss_logic_stores.specs.declared.Sort.TheVariants as sort
+use Rattle.ss_logic_stores.specs.Terms.{Number, ClassName, Add, Multiply, Quotient, Remainder, Pair, Term, App, no_terms, term_then, app, terms_from, have_sorts}
+use Rattle.ss_logic_stores.specs.Formulas.{Formula}
+use Rattle.ss_logic_rules.specs.Shapes.{when, number, equal, at_most, given, all_of, literal_of, class_of_term}
+use Rattle.ss_logic_rules.specs.Rules.{split_of, pairs_agree, stands_beside, division}
+use Rattle.ss_terms_stores.specs.declared.forms.TermId.{TermId}
+use Rattle.ss_terms_stores.specs.Forms.{Forms, terms_at, term_at}
+use Rattle.ss_rules_basic.specs.Arguments.{parts_of}
+
+pub no_number : (b : Forms) (n : ℤ) (ts : List TermId) → 1 ≤ length ts → None ≡ literal_of (App (Number n) (terms_from (terms_at b ts)))
+no_number b n [] h = absurd (omega arith)
+no_number b n (t ∷ ts) h = refl
+
+pub no_class : (b : Forms) (n : ℕ) (ts : List TermId) → 1 ≤ length ts → None ≡ class_of_term (App (ClassName n) (terms_from (terms_at b ts)))
+no_class b n [] h = absurd (omega arith)
+no_class b n (t ∷ ts) h = refl
+
+-- ---- pairs
+
+pub split_many : (cs : List ClassTree) (n : ℕ) (b : Forms) (ts : List TermId) → 3 ≤ length ts → split_of cs n (terms_at b ts) ≡ None
+split_many cs n b [] h = absurd (omega arith)
+split_many cs n b (t ∷ []) h = absurd (omega arith)
+split_many cs n b (t ∷ u ∷ []) h = absurd (omega arith)
+split_many cs n b (t ∷ u ∷ v ∷ ts) h = many (term_at b t) (term_at b u) (term_at b v) (terms_at b ts)
+  where
+    many : (x y z : Term) (xs : List Term) → split_of cs n (x ∷ y ∷ z ∷ xs) ≡ None
+    many (App Pair (term_then a (term_then d no_terms))) (App Pair (term_then e (term_then f no_terms))) z xs = refl
+    many x y z xs = refl
+
+none_some : {A : Type 0} (a : A) → None ≡ Some a → ⊥
+none_some a e = cc
+
+-- the two parts that a term has make it
+pair_of_parts : (x o t : Term) → parts_of x ≡ Some (o, t) → x ≡ app Pair (o ∷ t ∷ [])
+pair_of_parts (App Pair (term_then a (term_then b no_terms))) o t e =
+    let both : ◌≡◌ {A = Term × Term} (a, b) (o, t) = cc in
+    ap (λ (p : Term × Term). app Pair (p.0 ∷ p.1 ∷ [])) both
+pair_of_parts x o t e = absurd (none_some (o, t) e)
+
+module _ (cs : List ClassTree) (n : ℕ) (x y o t u v : Term) (left : parts_of x ≡ Some (o, t)) (right : parts_of y ≡ Some (u, v)) where
+  abbrev Sorted : Bool
+  Sorted = have_sorts cs (sort.Rest ∷ sort.Rest ∷ []) (x ∷ y ∷ [])
+
+  split_pairs : split_of cs n (x ∷ y ∷ []) ≡ when (n == 1 && Sorted) (pairs_agree x y o t u v)
+  split_pairs = rw (pair_of_parts x o t left, pair_of_parts y u v right) refl
+
+  pub split_other : n ≢ 1 → split_of cs n (x ∷ y ∷ []) ≡ None
+  split_other h = split_pairs ∙ ap (λ b. when (b && Sorted) (pairs_agree x y o t u v)) (ne_eqb n 1 h)
+
+  pub split_sorted : (b : Bool) → n ≡ 1 → b ≡ Sorted → split_of cs n (x ∷ y ∷ []) ≡ when b (pairs_agree x y o t u v)
+  split_sorted b h s = split_pairs ∙ rw (h, ← s) refl
+
+-- ---- classes
+
+pub beside_here : (ds : List Class) (i : ℕ) (d : Class) (t : ℕ) → i < length ds → true ≡ list_any (λ u. u == t) (class_of (get_or ds i d)).also → stands_beside (map class_of (drop i ds)) t ≡ true
+beside_here ds i d t h e = ap (λ xs. stands_beside (map class_of xs) t) (drop_more ds i d h) ∙ ap (λ b. b || stands_beside (map class_of (drop (i + 1) ds)) t) (sym e)
+
+pub beside_later : (ds : List Class) (i : ℕ) (d : Class) (t : ℕ) → i < length ds → false ≡ list_any (λ u. u == t) (class_of (get_or ds i d)).also →
+    stands_beside (map class_of (drop i ds)) t ≡ stands_beside (map class_of (drop (i + 1) ds)) t
+beside_later ds i d t h e = ap (λ xs. stands_beside (map class_of xs) t) (drop_more ds i d h) ∙ ap (λ b. b || stands_beside (map class_of (drop (i + 1) ds)) t) (sym e)
+
+-- ---- division, with any bounds of the remainder
+
+abbrev pub division_within : Term → ℤ → ℤ → ℤ → Formula
+division_within x d most least =
+    let y = number d in
+    let q = app Quotient (x ∷ y ∷ []) in
+    let r = app Remainder (x ∷ y ∷ []) in
+    all_of (
+    equal x (app Add (app Multiply (y ∷ q ∷ []) ∷ r ∷ []))
+    ∷ given (at_most (number (pos 0)) x ∷ []) (at_most (number (pos 0)) r)
+    ∷ given (at_most x (number (pos 0)) ∷ []) (at_most r (number (pos 0)))
+    ∷ at_most r (number most)
+    ∷ at_most (number least) r
+    ∷ [])
+
+pub division_bounds : (x : Term) (d most least : ℤ) → most ≡ pos (unsigned_abs d - 1) → least ≡ neg_ℤ (pos (unsigned_abs d - 1)) → division_within x d most least ≡ division x d
+division_bounds x d most least e f = ap (λ m. division_within x d m least) e ∙ ap (λ m. division_within x d (pos (unsigned_abs d - 1)) m) f
