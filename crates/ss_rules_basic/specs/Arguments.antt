@@ -1,6 +1,6 @@
 -- What numbers of a bank say about the terms and formulas of a rule.
 use Rattle.std.specs.Prelude.{◌≡◌, List, [], ◌∷◌, Option, Some, None, Bool, true, false}
-use Rattle.ss_logic_stores.specs.Terms.{Pair, Term, App, no_terms, term_then}
+use Rattle.ss_logic_stores.specs.Terms.{Null, Pair, Next, Term, App, no_terms, term_then}
 use Rattle.ss_logic_stores.specs.Formulas.{Formula}
 use Rattle.ss_terms_stores.specs.declared.forms.TermId.{TermId}
 use Rattle.ss_terms_stores.specs.declared.forms.FormulaId.{FormulaId}
@@ -27,6 +27,15 @@ is_pair t = false
 abbrev pub parts_of : Term → Option (Term × Term)
 parts_of (App Pair (term_then o (term_then t no_terms))) = Some (o, t)
 parts_of t = None
+
+-- the store of which the term is the next reference
+abbrev pub store_of_next : Term → Option Term
+store_of_next (App Next (term_then s no_terms)) = Some s
+store_of_next t = None
+
+abbrev pub is_null_term : Term → Bool
+is_null_term (App Null no_terms) = true
+is_null_term t = false
 
 abbrev pub one_of : List TermId → Option TermId
 one_of (x ∷ []) = Some x

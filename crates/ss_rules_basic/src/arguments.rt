@@ -1,11 +1,11 @@
 // What the arguments of rules are.
 
 ghost use Rattle.std.specs.Prelude.{◌≡◌, Some};
-ghost use Rattle.ss_logic_stores.specs.Terms.{App, Number, ClassName, terms_from};
+ghost use Rattle.ss_logic_stores.specs.Terms.{App, Number, Null, ClassName, terms_from};
 ghost use Rattle.ss_logic_rules.specs.Shapes.{literal_of, natural, natural_of, class_of_term};
 ghost use Rattle.ss_logic_rules.specs.Rules.{is_class_term, store_before};
 ghost use Rattle.ss_terms_stores.specs.Forms.{symbol_of, term_at, terms_at, HasTerm, HasTerms};
-ghost use Rattle.ss_rules_basic.specs.Arguments.{IsTermOf, ArePartsOf, is_pair, parts_of, one_of, two_of};
+ghost use Rattle.ss_rules_basic.specs.Arguments.{IsTermOf, ArePartsOf, is_null_term, store_of_next, is_pair, parts_of, one_of, two_of};
 
 use ss_terms_stores::{Bank, Symbol, Term, TermId};
 
@@ -116,6 +116,39 @@ pub(crate) fn before_new(b: &Bank, t: TermId) -> Option<TermId>
             None => None,
         },
         _ => None,
+    }
+}
+
+/// The store of which a term is the next reference.
+pub fn next_store(b: &Bank, t: TermId) -> Option<TermId>
+    requires { HasTerm b.now t }
+    ensures { IsTermOf b.now result (store_of_next (term_at b.now t)) }
+{
+    match b.term_node(t) {
+        Term::App(Symbol::Next, arguments) => one(arguments),
+        _ => None,
+    }
+}
+
+/// Whether a term is null.
+pub fn is_null(b: &Bank, t: TermId) -> bool
+    requires { HasTerm b.now t }
+    ensures { result ≡ is_null_term (term_at b.now t) }
+{
+    match b.term_node(t) {
+        Term::App(Symbol::Null, arguments) => null_alone(b, arguments),
+        _ => false,
+    }
+}
+
+// Whether there are no arguments.
+fn null_alone(b: &Bank, ts: &[TermId]) -> bool
+    ensures { result ≡ is_null_term (App Null (terms_from (terms_at b.now ts.now))) }
+{
+    let _ = b;
+    match ts {
+        [] => true,
+        _ => false,
     }
 }
 

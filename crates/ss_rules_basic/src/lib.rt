@@ -8,7 +8,7 @@ mod fresh;
 mod owners;
 mod values;
 
-pub use arguments::{class_name, literal, natural};
+pub use arguments::{class_name, is_null, literal, natural, next_store};
 pub use classes::class_rule;
 pub use fresh::fresh_rule;
 pub use owners::split_rule;
