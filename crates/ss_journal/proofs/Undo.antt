@@ -11,7 +11,7 @@ use Rattle.ss_store_rules.specs.Changes.{changed_from, changed}
 use Rattle.ss_journal.specs.declared.changes.OldHeader.{OldHeader}
 use Rattle.ss_journal.specs.Shapes.{OldContent, Segment}
 use Rattle.ss_journal.specs.Undo.{header_of, content_of, with_header, with_content, IsHeaderOf, IsContentOf, restored, store_at, entries_of, joined, with_old_header, with_old_content}
-use Rattle.ss_journal.specs.Saved.{has_header, has_content, counts, HasMore}
+use Rattle.ss_journal.specs.Saved.{has_header, has_content, counts, HasMore, AreSame}
 
 -- ---- stores object by object
 
@@ -259,3 +259,41 @@ content_saved s old new o (Err e) is ok err = subst (λ gs. HasMore s old gs) (s
 pub content_there : (old new : List Segment) (o : OldContent) (r : Result (Unit {0}) AllocError) → OnOk r (new ≡ with_old_content o old) → OnOk r (has_content new o.position ≡ true)
 content_there old new o (Ok u) ok = ap (λ gs. has_content gs o.position) ok ∙ content_has old o o.position refl
 content_there old new o (Err e) ok = tt
+
+-- ---- entries that may go
+
+pub same_again : (a b d : List Segment) → AreSame a b → AreSame b d → AreSame a d
+same_again a b d one two = record { entries = λ s. two.entries s ∙ one.entries s; counts = two.counts ∙ one.counts }
+
+or_same : {X : Type 0} (r : Option X) (b : Bool) (h : X) → (b ≡ true → is_some r ≡ true) → option_or r (if b then Some h else None) ≡ r
+or_same (Some x) b h some = refl
+or_same None true h some = let e = some refl in cc
+or_same None false h some = refl
+
+-- the entry of an object that is new since the entry of the body, or that has an earlier one
+pub header_goes : (g : Segment) (gs : List Segment) (h : OldHeader) → (not (nat_lt h.position g.count) || is_some (header_of g.headers h.position)) ≡ true → AreSame (with_old_header h (g ∷ gs)) (g ∷ gs)
+header_goes g gs h has = record {
+  entries = λ s. sym (ap (λ t. t ∷ entries_of gs t)
+      (same_changed _ (restored g) (take g.count s)
+      (λ q x e. ap (with_content (content_of g.contents q))
+      (ap (λ r. with_header r x)
+      (header_more g.headers h q
+      ∙ or_same (header_of g.headers q) (q == h.position) h
+      (λ b. let is : q ≡ h.position = eqb-true q h.position b in
+      subst (λ i. is_some (header_of g.headers i) ≡ true) (sym is)
+      (if_old (nat_lt h.position g.count) (is_some (header_of g.headers h.position)) (subst (λ i. nat_lt i g.count ≡ true) is (get_taken g.count s q x e).1) has)))))));
+  counts = refl;
+}
+
+pub content_goes : (g : Segment) (gs : List Segment) (c : OldContent) → (not (nat_lt c.position g.count) || is_some (content_of g.contents c.position)) ≡ true → AreSame (with_old_content c (g ∷ gs)) (g ∷ gs)
+content_goes g gs c has = record {
+  entries = λ s. sym (ap (λ t. t ∷ entries_of gs t)
+      (same_changed _ (restored g) (take g.count s)
+      (λ q x e. ap (λ r. with_content r (with_header (header_of g.headers q) x))
+      (content_more g.contents c q
+      ∙ or_same (content_of g.contents q) (q == c.position) c
+      (λ b. let is : q ≡ c.position = eqb-true q c.position b in
+      subst (λ i. is_some (content_of g.contents i) ≡ true) (sym is)
+      (if_old (nat_lt c.position g.count) (is_some (content_of g.contents c.position)) (subst (λ i. nat_lt i g.count ≡ true) is (get_taken g.count s q x e).1) has))))));
+  counts = refl;
+}

@@ -22,3 +22,8 @@ pub record HasMore (s : List Object) (old new : List Segment) : Type 0 where
   pub counts : counts new ≡ counts old
   pub headers : (q : ℕ) → has_header old q ≡ true → has_header new q ≡ true
   pub contents : (q : ℕ) → has_content old q ≡ true → has_content new q ≡ true
+
+-- the stores at the entries stay
+pub record AreSame (old new : List Segment) : Type 0 where
+  pub entries : (s : List Object) → entries_of new s ≡ entries_of old s
+  pub counts : counts new ≡ counts old

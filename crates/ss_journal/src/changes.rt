@@ -1,5 +1,5 @@
 // What objects were.
-ghost use Rattle.std.specs.Prelude.{◌≡◌, option_copied};
+ghost use Rattle.std.specs.Prelude.{◌≡◌, ◌||◌, not, nat_lt, is_some, option_copied};
 ghost use Rattle.ss_journal.specs.Undo.{header_of, content_of};
 
 use ss_core::ClassId;
@@ -56,4 +56,18 @@ pub(crate) fn first_content(contents: &[OldContent], q: u32) -> Option<&OldConte
         }
     }
     None
+}
+
+/// Whether the object is new, where there were so many, or one of these is of it.
+pub(crate) fn has_header(headers: &[OldHeader], count: usize, q: u32) -> bool
+    ensures { result ≡ (not (nat_lt q count) || is_some (header_of headers.now q)) }
+{
+    q as usize >= count || first_header(headers, q).is_some()
+}
+
+/// Whether the object is new, where there were so many, or one of these is of it.
+pub(crate) fn has_content(contents: &[OldContent], count: usize, q: u32) -> bool
+    ensures { result ≡ (not (nat_lt q count) || is_some (content_of contents.now q)) }
+{
+    q as usize >= count || first_content(contents, q).is_some()
 }

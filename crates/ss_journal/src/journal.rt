@@ -1,9 +1,9 @@
 // The log.
 ghost use Rattle.std.specs.Prelude.{◌≡◌, ◌∷◌, [], option_copied, OnOk, OnErr};
 ghost use Rattle.ss_journal.specs.Undo.{count_of, headers_of, contents_of, header_of, content_of, joined, with_old_header, with_old_content};
-ghost use Rattle.ss_journal.specs.Shapes as shape;
+ghost use Rattle.ss_journal.specs.Saved.{AreSame};
 
-use crate::changes::{OldContent, OldHeader, first_content, first_header};
+use crate::changes::{OldContent, OldHeader, first_content, first_header, has_content, has_header};
 use std::alloc::{AllocError, Global};
 use std::marker::Model;
 
@@ -127,5 +127,61 @@ impl Journal {
     {
         self.contents.push(old)?;
         Ok(())
+    }
+
+    /// The last entry of the running body's goes, where its object is new since the entry, or an earlier entry has it.
+    fn drop_header(&mut self) -> bool
+        ensures { AreSame self.old self.new }
+    {
+        let Some((last, before)) = self.headers().split_last() else {
+            return false;
+        };
+        if !has_header(before, self.count(), last.position) {
+            return false;
+        }
+        let _ = self.headers.pop();
+        true
+    }
+
+    fn drop_content(&mut self) -> bool
+        ensures { AreSame self.old self.new }
+    {
+        let Some((last, before)) = self.contents().split_last() else {
+            return false;
+        };
+        if !has_content(before, self.count(), last.position) {
+            return false;
+        }
+        let _ = self.contents.pop();
+        true
+    }
+
+    fn trim_headers(&mut self)
+        ensures { AreSame self.old self.new }
+    {
+        for _i in 0..self.headers.len() {
+            if !self.drop_header() {
+                return;
+            }
+        }
+    }
+
+    fn trim_contents(&mut self)
+        ensures { AreSame self.old self.new }
+    {
+        for _i in 0..self.contents.len() {
+            if !self.drop_content() {
+                return;
+            }
+        }
+    }
+
+    /// Takes the last entries of the running body's out, as long as their objects are new since its entry or earlier entries have
+    /// them: the stores at the entries stay.
+    pub fn trim(&mut self)
+        ensures { AreSame self.old self.new }
+    {
+        self.trim_headers();
+        self.trim_contents();
     }
 }

@@ -1,5 +1,5 @@
 -- Bodies are entered and left, and objects are made.
-use Rattle.std.proofs.Common.{◌≡◌, ℕ, ℤ, pos, negsuc, ◌≤◌, List, [], ◌∷◌, ◌++◌, length, take, Result, Ok, Err, OnOk, OnErr, true, refl, sym, ◌∙◌, ap, subst}
+use Rattle.std.proofs.Common.{◌≡◌, ℕ, ℤ, pos, negsuc, ◌+◌, ◌≤◌, List, [], ◌∷◌, ◌++◌, length, take, Result, Ok, Err, OnOk, OnErr, true, refl, arith, sym, ◌∙◌, ap, subst}
 use Rattle.std.proofs.lemmas.List.{take-append-le}
 use Rattle.std.specs.declared.alloc.AllocError.{AllocError}
 use Rattle.ss_core.specs.Tree.{ClassTree}
@@ -9,7 +9,7 @@ use Rattle.ss_store_rules.specs.Store.{Object}
 use Rattle.ss_store_rules.specs.Changes.{changed, new_object, new_object_of, new_array, new_array_of, ready_of}
 use Rattle.ss_journal.specs.Shapes.{Segment}
 use Rattle.ss_journal.specs.Undo.{restored, store_at, entries_of, joined}
-use Rattle.ss_journal.specs.Saved.{counts, has_header, HasMore}
+use Rattle.ss_journal.specs.Saved.{counts, has_header, HasMore, AreSame}
 use Rattle.ss_journal.proofs.Undo.{entries-entered, entries-left}
 use Rattle.ss_machine_stores.specs.Shapes.{Timeline, rest_of}
 use Rattle.ss_machine_stores.specs.Whole.{is_listed, HasMoreListed, AreCounted, AreWhole}
@@ -64,3 +64,24 @@ pub ready_made : (s t : List Object) (gs hs : List Segment) (us : List ℕ) (o :
 ready_made s t gs hs us o w more has is =
     let k = ready_kept s hs us o has (whole_more s gs hs us us more (λ q e. e) w) in
     subst (λ z. AreKept s z gs hs us) (sym is) (record { entries = k.entries ∙ more.entries; whole = k.whole })
+
+joined_counted : (gs : List Segment) (n : ℕ) → AreCounted (counts gs) n → AreCounted (counts (joined gs)) n
+joined_counted [] n w = tt
+joined_counted (g ∷ []) n w = tt
+joined_counted (g ∷ h ∷ gs) n w = let a = w.0 in let b = w.1.0 in (omega (arith, a, b), w.1.1)
+
+-- the running body is left
+pub left_whole : (s : List Object) (gs hs ks : List Segment) (us : List ℕ) → AreWhole s gs us → hs ≡ joined gs → AreSame hs ks → AreWhole s ks us
+left_whole s gs hs ks us w is same = record {
+  counted = subst (λ ns. AreCounted ns (length s)) (sym (same.counts ∙ ap counts is)) (joined_counted gs (length s) w.counted);
+  agree = w.agree;
+  listed = w.listed;
+}
+
+abbrev pub left : Timeline → Timeline
+left t = record { now = t.now; entries = rest_of t.entries }
+
+pub left_is : (s : List Object) (gs hs ks : List Segment) (t : Timeline) → AreCounted (counts gs) (length s) → hs ≡ joined gs → AreSame hs ks → timeline s gs ≡ t → timeline s ks ≡ left t
+left_is s gs hs ks t w is same view =
+    let here : Timeline → List (List Object) → Timeline = λ z es. record z { entries = es } in
+    ap (here (timeline s gs)) (same.entries s ∙ ap (λ js. entries_of js s) is ∙ left_entries gs s w) ∙ ap left view

@@ -75,6 +75,7 @@ impl Stores {
         ensures { self.new ≡ record { now = self.old.now; entries = rest_of self.old.entries } }
     {
         self.journal.leave();
+        self.journal.trim();
     }
 
     /// The store at the entry of the running body.
