@@ -2,10 +2,12 @@
 """Builds the program, or answers by a run before any proof.
 
 tools/build.py program             proves and builds what is missing or older than its sources: the libraries lowest first,
-                                   four at a time, then the program. The status is 0 where the program is there and new.
+                                   four at a time, each in a copy of the sources of its own, then the program. The status is
+                                   0 where the program is there and new.
 tools/build.py unproved WORDS      runs the program with these words before any proof
 """
 import os
+import shutil
 import signal
 import subprocess
 import sys
@@ -82,11 +84,47 @@ def is_new(names):
     return newest_source(names) <= changed(stamp())
 
 
-def started(words, name, log):
+def link_or_copy(one, other):
+    """Gives a file that was built a second name, where the file system can. The toolchain replaces such a file, and never writes into it."""
+    try:
+        os.link(one, other)
+    except OSError:
+        shutil.copy2(one, other)
+
+
+class Lane:
+    """A copy of the sources in which one crate at a time is built: a build keeps others out of all folders below its crate."""
+
+    def __init__(self, top, names):
+        self.top = top
+        for name in names:
+            for part in ("src", "specs", "proofs"):
+                if os.path.isdir(os.path.join(folder(name), part)):
+                    shutil.copytree(os.path.join(folder(name), part), os.path.join(self.folder(name), part))
+            self.take(name, folder(name))
+        shutil.copy2(os.path.join(TOP, "crates.txt"), self.top)
+
+    def folder(self, name):
+        return os.path.join(self.top, "crates", name)
+
+    def take(self, name, source):
+        share(source, self.folder(name))
+
+
+def share(source, target):
+    """Gives a crate's folder the library that was built in another."""
+    built, here = os.path.join(source, "out", "rlib"), os.path.join(target, "out", "rlib")
+    if not os.path.isdir(built):
+        return
+    shutil.rmtree(here, ignore_errors=True)
+    shutil.copytree(built, here, copy_function=link_or_copy)
+
+
+def started(words, where, log):
     """A command in a crate's folder, with its output in a file, as a group of processes of its own."""
     return subprocess.Popen(
         words,
-        cwd=folder(name),
+        cwd=where,
         stdin=subprocess.DEVNULL,
         stdout=log,
         stderr=subprocess.STDOUT,
@@ -127,29 +165,45 @@ def ready(waiting, done, below):
     return None
 
 
-def build(names, below, logs):
-    waiting, running, done = list(names), {}, set()
+def build(names, below, room):
+    """Builds the libraries in lanes, and the program in its own folder."""
+    lanes = [Lane(os.path.join(room, f"lane{number}"), below) for number in range(AT_A_TIME)]
+    waiting, free, running, done = list(names), list(lanes), {}, set()
     try:
         while waiting or running:
-            while len(running) < AT_A_TIME:
+            while free:
                 name = ready(waiting, done, below)
                 if name is None:
                     break
                 waiting.remove(name)
-                log = open(os.path.join(logs, name), "w+b")
-                running[name] = (started(words_of(name), name, log), log, time.time())
+                lane = free.pop()
+                where = folder(name) if name == PROGRAM else lane.folder(name)
+                log = open(os.path.join(room, name), "w+b")
+                running[name] = (started(words_of(name), where, log), lane, log, time.time())
             time.sleep(0.1)
-            for name, (process, log, since) in list(running.items()):
+            for name, (process, lane, log, since) in list(running.items()):
                 if process.poll() is None:
                     continue
                 del running[name]
                 if process.returncode != 0:
                     fail(name, log)
+                hand_on(name, lane, lanes)
+                free.append(lane)
                 done.add(name)
                 say(f"  {len(done)} of {len(names)}: {name}, {time.time() - since:.0f} s")
     finally:
-        for process, log, since in running.values():
+        for process, lane, log, since in running.values():
             end(process)
+
+
+def hand_on(name, lane, lanes):
+    """Gives a library that a lane has built to the other lanes and to the checkout."""
+    if name == PROGRAM:
+        return
+    for other in lanes:
+        if other is not lane:
+            other.take(name, lane.folder(name))
+    share(lane.folder(name), folder(name))
 
 
 def in_words(seconds):
@@ -175,8 +229,8 @@ def build_program():
     say("Until then `./specsharp --unproved WORDS` answers, and proves nothing.")
     since = time.time()
     newest = newest_source(names)
-    with tempfile.TemporaryDirectory() as logs:
-        build(names, below, logs)
+    with tempfile.TemporaryDirectory() as room:
+        build(names, below, room)
     if not os.access(os.path.join(folder(PROGRAM), "out", PROGRAM), os.X_OK):
         raise Failed("the program isn't there after its build")
     with open(stamp(), "w") as kept:

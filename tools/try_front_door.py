@@ -85,6 +85,9 @@ def main():
         expect("nothing is proved" in err and "run=" not in err, "--unproved says that nothing is proved")
         status, out, err, calls = clone.answer("run", "FILE", fails="ss_typed")
         expect(status == build.NOT_BUILT and "ss_typed can't be built" in err, "a failed build has a status of its own")
+        for words in [("verify", "--", "FILE"), ("expand", "FILE", "--")]:
+            status, out, err, calls = clone.answer(*words, fails="ss_typed")
+            expect(status == build.NOT_BUILT and calls, "a file may stand behind `--`")
         status, out, err, calls = clone.answer("run", "FILE")
         expect(status == 7 and out == "answered run FILE\n", "the status of the program is passed on")
         expect(try_order(calls, below) == set(names), "each crate is built")
