@@ -33,7 +33,7 @@ use Rattle.ss_top.specs.declared.source.Goal.TheVariants as asked_for
 use Rattle.ss_top.specs.Sources.{Means, Expands, IsStop, Gives}
 use Rattle.ss_top_words.specs.Words.{Asked}
 use Rattle.ss_top.specs.Unverified.{HasRunUnverified, FailsUnverified}
-use Rattle.ss_top.specs.Answers.{OfSource, OfFile, IsDone, verified_text, run_text, verified_line, IsHeadline, IsToldVerified, HasRun, IsExpanded, RunsOn, StopsAt, TakesNoInput, IsToldUnproved, IsVerifiedInPart, IsToldInPart, IsExpandedInPart, IsWrittenInPart, IsVerify, IsRun, IsRunUnverified, IsExpand, Verifies, command_of_goal, IfRefused, IfUnproved, IfStopped, IfFailed, ReadsOnly, IsVerified, IsSilent, HasEnded, IsSpent, IsStopped, IsUnadmitted, Says, answer_to}
+use Rattle.ss_top.specs.Answers.{OfSource, OfFile, IsDone, verified_line, IsHeadline, IsToldVerified, HasRun, IsExpanded, RunsOn, StopsAt, TakesNoInput, IsToldUnproved, IsVerifiedInPart, IsRunInPart, IsToldInPart, IsExpandedInPart, IsWrittenInPart, IsVerify, IsRun, IsRunUnverified, IsExpand, Verifies, command_of_goal, IfRefused, IfUnproved, IfStopped, IfFailed, ReadsOnly, IsVerified, IsSilent, HasEnded, IsSpent, IsStopped, IsUnadmitted, Says, answer_to}
 use Rattle.ss_top.proofs.Whole.{OfSource-map}
 
 pub told_verified : (c : CoreTree) (old new : Option (List ℕ)) (source : List ℕ) → Means source c → IsSafe c → Grew old new verified_line → IsToldVerified old new source
@@ -48,11 +48,11 @@ runs_on c steps input old new source means safe empty running took = record { pr
 pub stops_at : (c : CoreTree) (at : Place) (steps : ℕ) (input : List ℤ) (old new : Option (List ℕ)) (source : List ℕ) → Means source c → IsSafe c → input ≡ [] → HasStopped c at steps → Grew old new (printed c steps) → StopsAt at steps input old new source
 stops_at c at steps input old new source means safe empty stopped took = record { program = c; means = means; safe = safe; empty = empty; stopped = stopped; took = took }
 
-pub verified_in_part : (c : CoreTree) (old new : Option (List ℕ)) (source : List ℕ) → Means source c → IsSafe c → GrewByFront old new verified_line → IsVerifiedInPart verified_text old new source
+pub verified_in_part : (c : CoreTree) (old new : Option (List ℕ)) (source : List ℕ) → Means source c → IsSafe c → GrewByFront old new verified_line → IsVerifiedInPart old new source
 verified_in_part c old new source means safe front = record { program = c; means = means; safe = safe; front = front }
 
-pub run_in_part : (c : CoreTree) (steps : ℕ) (old new : Option (List ℕ)) (source : List ℕ) → Means source c → IsSafe c → GrewByFront old new (printed c steps) → IsVerifiedInPart (run_text steps) old new source
-run_in_part c steps old new source means safe front = record { program = c; means = means; safe = safe; front = front }
+pub run_in_part : (c : CoreTree) (steps : ℕ) (input : List ℤ) (old new : Option (List ℕ)) (source : List ℕ) → Means source c → IsSafe c → input ≡ [] → GrewByFront old new (printed c steps) → IsRunInPart steps input old new source
+run_in_part c steps input old new source means safe empty front = record { program = c; means = means; safe = safe; empty = empty; front = front }
 
 pub expands : (source : List ℕ) (ts : List Tok) (p : TypedTree) (c : whole.CoreTree) → IsAccepted source ts p → c ≡ elaborated p → Expands source c
 expands source ts p c a e = record { tokens = ts; program = p; accepted = a; core = sym e }

@@ -17,7 +17,7 @@ use Rattle.ss_top_words.specs.declared.Command.TheVariants as command
 use Rattle.ss_core.specs.Tree as core
 use Rattle.ss_top_sources.specs.Sources.{IsNoProgram, IsFaulty, IsRefused}
 use Rattle.ss_top.specs.Sources.{Means, Expands, IsNotOfForm, IsUnbuilt, IsStop}
-use Rattle.ss_top.specs.Answers.{OfSource, HasRun, RunsOn, StopsAt, TakesNoInput, verified_text, run_text, IsVerifiedInPart, IsToldInPart, IsExpandedInPart, IsWrittenInPart, HasEnded, IsSpent, IsStopped, IsUnadmitted, Says}
+use Rattle.ss_top.specs.Answers.{OfSource, HasRun, RunsOn, StopsAt, TakesNoInput, IsVerifiedInPart, IsRunInPart, IsToldInPart, IsExpandedInPart, IsWrittenInPart, HasEnded, IsSpent, IsStopped, IsUnadmitted, Says}
 use Rattle.ss_top.specs.Unverified.{HasRunUnverified, RunsOnUnverified, StopsUnverified, FailsUnverified, IsNotAdmitted, RunsInPart}
 
 -- a front that is shorter than it may be is the whole
@@ -139,8 +139,11 @@ IsUnadmitted-whole command.Run input old new bytes file e h = TakesNoInput-whole
 IsUnadmitted-whole command.RunUnverified input old new bytes file e h = IsNotAdmitted-whole input old new bytes file e h
 IsUnadmitted-whole command.Expand input old new bytes file e h = h
 
-IsVerifiedInPart-whole : (text : CoreTree → List ℕ) (old new : Option (List ℕ)) (bytes file : List ℕ) → bytes ≡ take 1048577 file → IsVerifiedInPart text old new bytes → IsVerifiedInPart text old new file
-IsVerifiedInPart-whole text old new bytes file e h = record { program = h.program; means = Means-whole bytes file h.program e h.means; safe = h.safe; front = h.front }
+IsVerifiedInPart-whole : (old new : Option (List ℕ)) (bytes file : List ℕ) → bytes ≡ take 1048577 file → IsVerifiedInPart old new bytes → IsVerifiedInPart old new file
+IsVerifiedInPart-whole old new bytes file e h = record { program = h.program; means = Means-whole bytes file h.program e h.means; safe = h.safe; front = h.front }
+
+IsRunInPart-whole : (steps : ℕ) (input : List ℤ) (old new : Option (List ℕ)) (bytes file : List ℕ) → bytes ≡ take 1048577 file → IsRunInPart steps input old new bytes → IsRunInPart steps input old new file
+IsRunInPart-whole steps input old new bytes file e h = record { program = h.program; means = Means-whole bytes file h.program e h.means; safe = h.safe; empty = h.empty; front = h.front }
 
 IsExpandedInPart-whole : (old new : Option (List ℕ)) (bytes file : List ℕ) → bytes ≡ take 1048577 file → IsExpandedInPart old new bytes → IsExpandedInPart old new file
 IsExpandedInPart-whole old new bytes file e h = record { program = h.program; expands = Expands-whole bytes file h.program e h.expands; front = h.front }
@@ -149,8 +152,8 @@ IsToldInPart-whole : (old new : Option (List ℕ)) (bytes file : List ℕ) → b
 IsToldInPart-whole old new bytes file e h = record { program = h.program; means = Means-whole bytes file h.program e h.means; listed = h.listed; unproved = h.unproved; front = h.front }
 
 in_part-whole : (c : Command) (steps : ℕ) (input : List ℤ) (old new : Option (List ℕ)) (bytes file : List ℕ) → bytes ≡ take 1048577 file → IsWrittenInPart steps input old new c bytes → IsWrittenInPart steps input old new c file
-in_part-whole command.Verify steps input old new bytes file e h = ⊎_elim (λ x. inl (IsVerifiedInPart-whole verified_text old new bytes file e x)) (λ told. inr (IsToldInPart-whole old new bytes file e told)) h
-in_part-whole command.Run steps input old new bytes file e h = ⊎_elim (λ x. inl (IsVerifiedInPart-whole (run_text steps) old new bytes file e x)) (λ told. inr (IsToldInPart-whole old new bytes file e told)) h
+in_part-whole command.Verify steps input old new bytes file e h = ⊎_elim (λ x. inl (IsVerifiedInPart-whole old new bytes file e x)) (λ told. inr (IsToldInPart-whole old new bytes file e told)) h
+in_part-whole command.Run steps input old new bytes file e h = ⊎_elim (λ x. inl (IsRunInPart-whole steps input old new bytes file e x)) (λ told. inr (IsToldInPart-whole old new bytes file e told)) h
 in_part-whole command.RunUnverified steps input old new bytes file e h = RunsInPart-whole steps input old new bytes file e h
 in_part-whole command.Expand steps input old new bytes file e h = IsExpandedInPart-whole old new bytes file e h
 

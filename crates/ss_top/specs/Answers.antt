@@ -58,13 +58,6 @@ IsDone (Stopped at before) = ⊥
 abbrev pub verified_line : List ℕ
 verified_line = codes "verified" ++ 10 ∷ []
 
-abbrev pub verified_text : CoreTree → List ℕ
-verified_text c = verified_line
-
--- what a run of so many steps prints
-abbrev pub run_text : ℕ → CoreTree → List ℕ
-run_text steps c = printed c steps
-
 -- the headline: the source is accepted, and its program is safe, that is, after every number of steps no check of its run has failed
 -- and its state is good
 pub record IsHeadline (source : List ℕ) : Type 0 where
@@ -128,12 +121,20 @@ pub record IsExpanded (old new : Option (List ℕ)) (source : List ℕ) : Type 0
   pub expands : Expands source program
   pub took : Grew old new (core_text program)
 
--- the program is safe, and the sink took a front of this text of it
-pub record IsVerifiedInPart (text : CoreTree → List ℕ) (old new : Option (List ℕ)) (source : List ℕ) : Type 0 where
+-- the program is safe, and the sink took a front of the line `verified`
+pub record IsVerifiedInPart (old new : Option (List ℕ)) (source : List ℕ) : Type 0 where
   pub program : CoreTree
   pub means : Means source program
   pub safe : IsSafe program
-  pub front : GrewByFront old new (text program)
+  pub front : GrewByFront old new verified_line
+
+-- the program is safe and is run on the empty input, and the sink took a front of what the run printed
+pub record IsRunInPart (steps : ℕ) (input : List ℤ) (old new : Option (List ℕ)) (source : List ℕ) : Type 0 where
+  pub program : CoreTree
+  pub means : Means source program
+  pub safe : IsSafe program
+  pub empty : input ≡ []
+  pub front : GrewByFront old new (printed program steps)
 
 -- the sink took a front of the text of a verdict that could be given
 pub record IsToldInPart (old new : Option (List ℕ)) (source : List ℕ) : Type 0 where
@@ -151,8 +152,8 @@ pub record IsExpandedInPart (old new : Option (List ℕ)) (source : List ℕ) : 
 
 -- the sink took a front of what the answers above let be written
 abbrev pub IsWrittenInPart : ℕ → List ℤ → Option (List ℕ) → Option (List ℕ) → Command → List ℕ → Type 0
-IsWrittenInPart steps input old new command.Verify source = IsVerifiedInPart verified_text old new source ⊎ IsToldInPart old new source
-IsWrittenInPart steps input old new command.Run source = IsVerifiedInPart (run_text steps) old new source ⊎ IsToldInPart old new source
+IsWrittenInPart steps input old new command.Verify source = IsVerifiedInPart old new source ⊎ IsToldInPart old new source
+IsWrittenInPart steps input old new command.Run source = IsRunInPart steps input old new source ⊎ IsToldInPart old new source
 IsWrittenInPart steps input old new command.RunUnverified source = RunsInPart steps input old new source
 IsWrittenInPart steps input old new command.Expand source = IsExpandedInPart old new source
 

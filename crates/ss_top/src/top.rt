@@ -1,6 +1,6 @@
 // The top call.
 
-ghost use Rattle.std.specs.Prelude.{◌≡◌, ◌<◌, ◌≤◌, ◌⊎◌, [], None, IsSomeAnd};
+ghost use Rattle.std.specs.Prelude.{◌≡◌, ◌<◌, ◌≤◌, ◌⊎◌, ◌↔◌, [], None, IsSomeAnd};
 ghost use Rattle.ss_io.specs.Outside.{Rose, Grew};
 ghost use Rattle.ss_top.specs.Sources.{IsStop};
 ghost use Rattle.ss_top.specs.Unverified.{HasRunUnverified, FailsUnverified};
@@ -24,8 +24,7 @@ pub fn specsharp<F: Files, S: Sink>(
     files: &mut F,
     out: &mut S,
 ) -> Status
-    ensures bad_words { result ≡ Status.BadWords → asked_by words.now ≡ None }
-    ensures no_words { asked_by words.now ≡ None → (result ≡ Status.BadWords) ⊎ (result ≡ Status.Memory) }
+    ensures bad_words { (result ≡ Status.BadWords) ↔ (asked_by words.now ≡ None) }
     ensures read_fault { result ≡ Status.ReadFault → IsSomeAnd (file_of words.now) (λ name. F.faults files.old name < F.faults files.new name) }
     ensures refused { IfRefused result (λ rule at. OfFile (asked_by words.now) (F.told files.old) (λ asked source. IsStop asked.command source rule at)) }
 

@@ -7,9 +7,8 @@ use Rattle.ss_top_words.specs.Numbers.{natural, whole}
 
 -- ---- the words behind the command
 
--- What they have said so far. The positional ones are the file and the input.
-pub record Reading : Type 0 where
-  pub positional : List (List ℕ)
+-- What they have said so far beside the positional ones.
+pub record Options : Type 0 where
   pub steps : Option ℕ
   pub unverified : Bool
   -- the next word is the value of `--steps`
@@ -17,8 +16,14 @@ pub record Reading : Type 0 where
   -- `--` was there, and every word behind it is positional
   pub ended : Bool
 
-abbrev pub first_reading : Reading
-first_reading = record { positional = []; steps = None; unverified = false; wants_steps = false; ended = false }
+abbrev pub no_options : Options
+no_options = record { steps = None; unverified = false; wants_steps = false; ended = false }
+
+-- a word is positional, or it is taken as an option or its value, with what has been said then; or it can't stand there
+pub data Taken : Type 0 where
+  Positional : Taken
+  TakenAs : Options → Taken
+  Refused : Taken
 
 -- the byte of `-`
 abbrev pub begins_with_dash : List ℕ → Bool
@@ -28,32 +33,49 @@ begins_with_dash (b ∷ bs) = b == 45
 abbrev pub most_steps : ℕ
 most_steps = 1000000000
 
-abbrev pub with_steps : Reading → Option ℕ → Option Reading
-with_steps r None = None
-with_steps r (Some n) = Some (record r { steps = Some n; wants_steps = false })
-
-abbrev pub with_positional : Reading → List ℕ → Reading
-with_positional r word = record r { positional = r.positional ++ word ∷ [] }
+abbrev pub with_steps : Options → Option ℕ → Taken
+with_steps o None = Refused
+with_steps o (Some n) = TakenAs (record o { steps = Some n; wants_steps = false })
 
 abbrev pub begins_with : List ℕ → List ℕ → Bool
 begins_with front word = bytes_eq (take (length front) word) front
 
 -- an option, each at most once
-abbrev pub option : Reading → List ℕ → Option Reading
-option r word =
-    if bytes_eq word (codes "--") then Some (record r { ended = true })
-    else if bytes_eq word (codes "--unverified") && not r.unverified then Some (record r { unverified = true })
-    else if bytes_eq word (codes "--steps") && is_none r.steps then Some (record r { wants_steps = true })
-    else if begins_with (codes "--steps=") word && is_none r.steps then with_steps r (natural most_steps (drop 8 word))
-    else None
+abbrev pub option : Options → List ℕ → Taken
+option o word =
+    if bytes_eq word (codes "--") then TakenAs (record o { ended = true })
+    else if bytes_eq word (codes "--unverified") && not o.unverified then TakenAs (record o { unverified = true })
+    else if bytes_eq word (codes "--steps") && is_none o.steps then TakenAs (record o { wants_steps = true })
+    else if begins_with (codes "--steps=") word && is_none o.steps then with_steps o (natural most_steps (drop 8 word))
+    else Refused
+
+-- what one more word is
+unfoldable pub taken : Options → List ℕ → Taken
+taken o word =
+    if o.wants_steps then with_steps o (natural most_steps word)
+    else if o.ended then Positional
+    else if begins_with_dash word then option o word
+    else Positional
+
+-- What they have said so far. The positional ones are the file and the input.
+pub record Reading : Type 0 where
+  pub positional : List (List ℕ)
+  pub options : Options
+
+abbrev pub first_reading : Reading
+first_reading = record { positional = []; options = no_options }
+
+abbrev pub with_positional : Reading → List ℕ → Reading
+with_positional r word = record r { positional = r.positional ++ word ∷ [] }
+
+abbrev pub with_word : Reading → List ℕ → Taken → Option Reading
+with_word r word Positional = Some (with_positional r word)
+with_word r word (TakenAs o) = Some (record r { options = o })
+with_word r word Refused = None
 
 -- one more word
-unfoldable pub read : Reading → List ℕ → Option Reading
-read r word =
-    if r.wants_steps then with_steps r (natural most_steps word)
-    else if r.ended then Some (with_positional r word)
-    else if begins_with_dash word then option r word
-    else Some (with_positional r word)
+abbrev pub read : Reading → List ℕ → Option Reading
+read r word = with_word r word (taken r.options word)
 
 abbrev pub read_next : Option Reading → List ℕ → Option Reading
 read_next None word = None
@@ -96,12 +118,12 @@ most_numbers = 2147483647
 abbrev pub with_input : Reading → List ℕ → Option (List ℤ) → Option Asked
 with_input r file None = None
 with_input r file (Some ns) =
-    if nat_le (length ns) most_numbers then Some (record { command = run_command r.unverified; file = file; steps = unwrap_or r.steps default_steps; input = ns })
+    if nat_le (length ns) most_numbers then Some (record { command = run_command r.options.unverified; file = file; steps = unwrap_or r.options.steps default_steps; input = ns })
     else None
 
 -- a file alone
 abbrev pub of_file : Command → Reading → List (List ℕ) → Option Asked
-of_file c r (file ∷ []) = if is_none r.steps && not r.unverified then Some (record { command = c; file = file; steps = default_steps; input = [] }) else None
+of_file c r (file ∷ []) = if is_none r.options.steps && not r.options.unverified then Some (record { command = c; file = file; steps = default_steps; input = [] }) else None
 of_file c r words = None
 
 -- a file and numbers
@@ -125,7 +147,7 @@ command_named word =
 abbrev pub complete : Option Command → Option Reading → Option Asked
 complete None r = None
 complete (Some c) None = None
-complete (Some c) (Some r) = if r.wants_steps then None else asked_by c r
+complete (Some c) (Some r) = if r.options.wants_steps then None else asked_by c r
 
 -- what the words ask for, or nothing where they aren't those of a command: `verify FILE`, `run FILE` with `--unverified`, `--steps S` and the numbers of
 -- an input, and `expand FILE`

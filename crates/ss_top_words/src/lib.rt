@@ -1,15 +1,18 @@
 //! What the words of a command line ask for.
 #![tactic(auto)]
 
-ghost use Rattle.std.specs.Prelude.{◌≡◌, IfOk, map, option_map, string_bytes};
+ghost use Rattle.std.specs.Prelude.{◌≡◌, IfOk, IsErr, Some, is_some, map, option_map, string_bytes, true};
 ghost use Rattle.ss_top_words.specs.Views.{asked_of, reading_of, texts_of, IsShort};
 ghost use Rattle.ss_top_words.specs.Words as meaning;
 
 mod numbers;
+mod options;
 mod reading;
+mod sketch;
 
 use crate::numbers::push_numbers;
 use crate::reading::Reading;
+use crate::sketch::are_asked;
 use std::alloc::{AllocError, Global};
 
 /// What is done with the file.
@@ -63,7 +66,7 @@ fn of_file<'w>(alloc: Global, command: Command, reading: &Reading<'w>) -> Option
     let [file] = reading.positional.as_slice() else {
         return None;
     };
-    if reading.steps.is_some() || reading.unverified {
+    if reading.options.steps.is_some() || reading.options.unverified {
         return None;
     }
     Some(Asked {
@@ -87,9 +90,9 @@ fn of_run<'w>(alloc: Global, reading: &Reading<'w>) -> Result<Option<Asked<'w>>,
         return Ok(None);
     }
     Ok(Some(Asked {
-        command: run_command(reading.unverified),
+        command: run_command(reading.options.unverified),
         file,
-        steps: reading.steps.unwrap_or(DEFAULT_STEPS),
+        steps: reading.options.steps.unwrap_or(DEFAULT_STEPS),
         input,
     }))
 }
@@ -118,8 +121,26 @@ fn asked_by<'w>(
     }
 }
 
-/// What the words behind the program's name ask for, or nothing where they aren't those of a command. An error is want of memory.
+// What the words behind a command ask for.
+fn read_behind(
+    alloc: Global,
+    command: Command,
+    words: &[String],
+) -> Result<Option<Asked<'_>>, AllocError>
+    ensures means { IfOk result (λ a. option_map asked_of a ≡ meaning.complete (Some command) (meaning.read_all (Some meaning.first_reading) (map string_bytes words.now))) }
+    ensures short { IfOk result IsShort }
+{
+    let mut reading = Reading::new(alloc);
+    if !reading.read_all(words)? || reading.options.wants_steps {
+        return Ok(None);
+    }
+    asked_by(alloc, command, &reading)
+}
+
+/// What the words behind the program's name ask for, or nothing where they aren't those of a command. An error is want of memory, and
+/// comes only where they are.
 pub fn read_words(alloc: Global, words: &[String]) -> Result<Option<Asked<'_>>, AllocError>
+    ensures memory { IsErr result → is_some (meaning.asked (map string_bytes words.now)) ≡ true }
     ensures means { IfOk result (λ a. option_map asked_of a ≡ meaning.asked (map string_bytes words.now)) }
     ensures short { IfOk result IsShort }
 {
@@ -129,9 +150,8 @@ pub fn read_words(alloc: Global, words: &[String]) -> Result<Option<Asked<'_>>, 
     let Some(command) = command_named(word.as_str()) else {
         return Ok(None);
     };
-    let mut reading = Reading::new(alloc);
-    if !reading.read_all(others)? || reading.wants_steps {
+    if !are_asked(command, others) {
         return Ok(None);
     }
-    asked_by(alloc, command, &reading)
+    read_behind(alloc, command, others)
 }

@@ -52,7 +52,7 @@ pub fn natural(limit: u32, bytes: &[u8]) -> Option<u64>
 }
 
 // A number of an input.
-fn whole(bytes: &[u8]) -> Option<i32>
+pub fn whole(bytes: &[u8]) -> Option<i32>
     ensures { result ≡ numbers.whole bytes.now }
 {
     match bytes {

@@ -1,24 +1,16 @@
 // The words behind the command.
 ghost use Rattle.std.specs.Prelude.{◌≡◌, Some, map, string_bytes, IfOk};
 ghost use Rattle.ss_top_words.specs.Views.{reading_of, IsRead};
-ghost use Rattle.ss_top_words.specs.Numbers as numbers;
 ghost use Rattle.ss_top_words.specs.Words as meaning;
 
-use crate::numbers::natural;
+use crate::options::{Options, Taken};
 use std::alloc::{AllocError, Global};
-
-const MOST_STEPS: u32 = 1_000_000_000;
 
 // What they have said so far.
 #[derive(Drop)]
 pub struct Reading<'w> {
     pub positional: Vec<&'w str>,
-    pub steps: Option<u64>,
-    pub unverified: bool,
-    // the next word is the value of `--steps`
-    pub wants_steps: bool,
-    // `--` was there
-    pub ended: bool,
+    pub options: Options,
 }
 
 impl<'w> Reading<'w> {
@@ -27,62 +19,25 @@ impl<'w> Reading<'w> {
     {
         Reading {
             positional: Vec::new(alloc),
-            steps: None,
-            unverified: false,
-            wants_steps: false,
-            ended: false,
-        }
-    }
-
-    // The value of `--steps`; false where it is none.
-    fn set_steps(&mut self, value: &[u8]) -> bool
-        ensures { IsRead result (reading_of self.new) (meaning.with_steps (reading_of self.old) (numbers.natural meaning.most_steps value.now)) }
-    {
-        match natural(MOST_STEPS, value) {
-            Some(steps) => {
-                self.steps = Some(steps);
-                self.wants_steps = false;
-                true
-            }
-            None => false,
-        }
-    }
-
-    // An option; false where it is none, or was there.
-    fn option(&mut self, word: &str) -> bool
-        ensures { IsRead result (reading_of self.new) (meaning.option (reading_of self.old) word.now) }
-    {
-        if word == "--" {
-            self.ended = true;
-            return true;
-        }
-        if word == "--unverified" && !self.unverified {
-            self.unverified = true;
-            return true;
-        }
-        if word == "--steps" && self.steps.is_none() {
-            self.wants_steps = true;
-            return true;
-        }
-        match word.strip_prefix("--steps=") {
-            Some(value) if self.steps.is_none() => self.set_steps(value.as_bytes()),
-            _ => false,
+            options: Options::none(),
         }
     }
 
     // One more word; false where it can't stand there.
-    #[tactic(auto, unfolding(crate::specs::Words::read))]
     fn read(&mut self, word: &'w str) -> Result<bool, AllocError>
         ensures { IfOk result (λ is_read. IsRead is_read (reading_of self.new) (meaning.read (reading_of self.old) word.now)) }
     {
-        if self.wants_steps {
-            return Ok(self.set_steps(word.as_bytes()));
+        match self.options.take(word) {
+            Taken::Positional => {
+                self.positional.push(word)?;
+                Ok(true)
+            }
+            Taken::TakenAs(options) => {
+                self.options = options;
+                Ok(true)
+            }
+            Taken::Refused => Ok(false),
         }
-        if !self.ended && word.starts_with('-') {
-            return Ok(self.option(word));
-        }
-        self.positional.push(word)?;
-        Ok(true)
     }
 
     // The words one after the other; false where one can't stand there.

@@ -25,10 +25,10 @@ said g c =
     (rw c.deref.ensures.value at c.answer_source.ensures.says)
 
 pub returns-in-Ok-clause-bad_words : goal.returns-in-Ok-clause-bad_words
-returns-in-Ok-clause-bad_words g c = λ e. absurd ((Says-not (the_asked g c) (g.S.Sink.taken c.args.out.now) (g.S.Sink.taken c.answer_source.new.out) c.answer_source.result (g.F.Files.told c.args.files.now) (said g c)).0 e)
-
-pub returns-in-Ok-clause-no_words : goal.returns-in-Ok-clause-no_words
-returns-in-Ok-clause-no_words g c = λ e. let n = named g c in absurd (cc)
+returns-in-Ok-clause-bad_words g c = (
+  λ e. absurd ((Says-not (the_asked g c) (g.S.Sink.taken c.args.out.now) (g.S.Sink.taken c.answer_source.new.out) c.answer_source.result (g.F.Files.told c.args.files.now) (said g c)).0 e),
+  λ e. let n = named g c in absurd (cc),
+)
 
 pub returns-in-Ok-clause-read_fault : goal.returns-in-Ok-clause-read_fault
 returns-in-Ok-clause-read_fault g c = λ e. absurd ((Says-not (the_asked g c) (g.S.Sink.taken c.args.out.now) (g.S.Sink.taken c.answer_source.new.out) c.answer_source.result (g.F.Files.told c.args.files.now) (said g c)).1 e)
