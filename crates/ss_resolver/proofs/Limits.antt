@@ -12,7 +12,7 @@ use Rattle.ss_resolver_names_rules.specs.Members.{faults_at}
 use Rattle.ss_resolver_names_rules.specs.Programs.{first_name_fault, program_faults, classes_faults, class_names, mains_in, most_classes}
 use Rattle.ss_resolver_types_expressions.specs.Programs.{first_type_fault}
 use Rattle.ss_resolver_rules.specs.Programs.{resolved, each, class}
-use Rattle.ss_expand.specs.Limits.{HasFewClasses}
+use Rattle.ss_expand_programs.specs.Limits.{HasFewClasses}
 use Rattle.ss_resolver_limits.specs.Limits.{first_limit_fault}
 use Rattle.ss_resolver.specs.Phases.{source_fault, resolve_fault}
 

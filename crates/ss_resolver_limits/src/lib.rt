@@ -4,11 +4,11 @@
 ghost use Rattle.std.specs.Prelude.{◌≡◌, ◌++◌, map, IfOk, OnOk};
 ghost use Rattle.ss_core.specs.View as core;
 ghost use Rattle.ss_typed.specs.View.{typed};
-ghost use Rattle.ss_expand.specs.Limits.{HasFewClasses};
+ghost use Rattle.ss_expand_programs.specs.Limits.{HasFewClasses};
 ghost use Rattle.ss_resolver_limits.specs.Limits.{body_faults, bodies_faults, limit_faults, first_limit_fault};
 
 use ss_core::Body;
-use ss_expand::expand;
+use ss_expand_programs::expand;
 use ss_faults::{Fault, first_fault};
 use ss_resolver_names_rules::Rule;
 use ss_typed::Typed;

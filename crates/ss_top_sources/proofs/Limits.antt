@@ -2,7 +2,7 @@
 use Rattle.std.proofs.Common.{ℕ, List, subst}
 use Rattle.ss_ast.specs.Tokens.{Tok}
 use Rattle.ss_typed.specs.Tree.{TypedTree}
-use Rattle.ss_expand.specs.Limits.{HasFewClasses}
+use Rattle.ss_expand_programs.specs.Limits.{HasFewClasses}
 use Rattle.ss_resolver_rules.specs.Programs.{resolved}
 use Rattle.ss_resolver.specs.Phases.{resolve_fault}
 use Rattle.ss_resolver.proofs.Limits.{first_none, resolved_few}

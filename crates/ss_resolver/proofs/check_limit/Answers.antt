@@ -1,6 +1,6 @@
 use Rattle.std.proofs.Common.{sym, subst}
 use Rattle.ss_ast.specs.Programs.{program_tree}
-use Rattle.ss_expand.specs.Limits.{HasFewClasses}
+use Rattle.ss_expand_programs.specs.Limits.{HasFewClasses}
 use Rattle.ss_resolver.proofs.Limits.{faultless_few}
 use Rattle.ss_resolver.proofs.check_limit.Goals as goal
 

@@ -1,0 +1,34 @@
+use Rattle.std.proofs.Common.{◌≡◌, map, take, drop, sym, ap, ◌∙◌, arith}
+use Rattle.std.specs.Prelude.{if◌then◌else◌}
+use Rattle.std.specs.List.{prefix_len}
+use Rattle.std.proofs.lemmas.List.{take-map, drop-map, length-map}
+use Rattle.std.proofs.lemmas.List.Sums.{prefix_len-le-length}
+use Rattle.ss_typed.specs.Tree.{Before, stmt_trees}
+use Rattle.ss_typed.specs.View as typed
+use Rattle.ss_expand_rules.specs.Constructors.{is_initial, behind_initial, before_all}
+use Rattle.ss_expand_rules.specs.Ends.{all_can_end}
+use Rattle.ss_expand_programs.proofs.Lists.{split_initial, front_ends}
+use Rattle.ss_expand_programs.proofs.initial.front_length.Goals as goal
+
+pub returns-else-body : goal.returns-else-body
+returns-else-body c =
+    let p = typed.typed c.args.program.now in
+    let b = typed.body c.args.body.now in
+    let ss = c.args.stmts.now in
+    let trees = map typed.stmt_of ss in
+    let initial = is_initial p b.class in
+    let n = c.count_initial.result in
+    let counted : n ≡ prefix_len initial trees = c.count_initial.ensures in
+    record {
+      within = omega (arith, counted, prefix_len-le-length initial trees, length-map ss typed.stmt_of);
+      split = λ s.
+          ap (λ d. if d then Before s (stmt_trees trees) else behind_initial p b.class s (stmt_trees trees)) c.if-body.false
+          ∙ split_initial p b.class s trees
+          ∙ ap (λ k. before_all (stmt_trees (take k trees)) (Before s (stmt_trees (drop k trees)))) (sym counted)
+          ∙ ap (λ xs. before_all (stmt_trees xs) (Before s (stmt_trees (drop n trees)))) (take-map typed.stmt_of n ss)
+          ∙ ap (λ xs. before_all (stmt_trees (map typed.stmt_of (take n ss))) (Before s (stmt_trees xs))) (drop-map typed.stmt_of n ss);
+      ends =
+          ap (λ xs. all_can_end (stmt_trees xs)) (sym (take-map typed.stmt_of n ss))
+          ∙ ap (λ k. all_can_end (stmt_trees (take k trees))) counted
+          ∙ front_ends p b.class trees;
+    }

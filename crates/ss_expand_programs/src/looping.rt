@@ -1,0 +1,203 @@
+// Branches and loops, once their parts are written.
+
+ghost use Rattle.std.specs.Prelude.{◌≡◌, ◌++◌, ◌∷◌, [], IfOk, OnOk, map, option_map, if◌then◌else◌};
+ghost use Rattle.ss_core.specs.Tree.{AssertStmt, AssumeStmt, IfStmt, LoopStmt};
+ghost use Rattle.ss_core.specs.View as core;
+ghost use Rattle.ss_typed.specs.View as typed;
+ghost use Rattle.ss_expand_rules.specs.Numbers as elab;
+ghost use Rattle.ss_expand_rules.specs.Code.{after, nothing};
+ghost use Rattle.ss_expand_rules.specs.Statements as statements;
+ghost use Rattle.ss_expand_expressions.specs.Views.{numbers_of};
+ghost use Rattle.ss_expand_expressions.specs.Sources.{stmts_of, valued_by, valued_behind};
+ghost use Rattle.ss_expand_bodies.specs.Exposes.{opened_of};
+ghost use Rattle.ss_expand_lifting.specs.Made.{coded_by};
+ghost use Rattle.ss_expand_lifting.specs.Settings.{setting_of};
+ghost use Rattle.ss_expand_programs.specs.Loops.{tested};
+
+use ss_core::{Exposed, Expr, Loop, Place, Stmt, Ty};
+use ss_expand_bodies::{add_plain, list_exposed};
+use ss_expand_expressions::plain;
+use ss_expand_lifting::{Code, Setting, declare, simple_statement, value};
+use ss_typed::{TypedExpr, TypedInit, TypedSimple};
+use std::alloc::{AllocError, Global};
+
+/// Adds one statement.
+pub fn add_one(code: &mut Code, stmt: Stmt) -> Result<(), AllocError>
+    ensures { OnOk result (stmts_of code.new.statements ≡ stmts_of code.old.statements ++ core.stmt_of stmt ∷ []) }
+{
+    code.statements.push(stmt)?;
+    Ok(())
+}
+
+/// Adds an `assert`.
+pub fn add_assert(
+    alloc: Global,
+    setting: &Setting<'_>,
+    place: Place,
+    e: &TypedExpr,
+    code: &mut Code,
+) -> Result<(), AllocError>
+    ensures { OnOk result (stmts_of code.new.statements ≡ stmts_of code.old.statements ++ AssertStmt place (elab.plain (numbers_of setting.now.numbers.now) (typed.expr e.now)) ∷ []) }
+{
+    let e = plain(alloc, setting.numbers, e)?;
+    add_one(code, Stmt::Assert(place, e))?;
+    Ok(())
+}
+
+/// Adds an `assume`.
+pub fn add_assume(
+    alloc: Global,
+    setting: &Setting<'_>,
+    place: Place,
+    e: &TypedExpr,
+    code: &mut Code,
+) -> Result<(), AllocError>
+    ensures { OnOk result (stmts_of code.new.statements ≡ stmts_of code.old.statements ++ AssumeStmt place (elab.plain (numbers_of setting.now.numbers.now) (typed.expr e.now)) ∷ []) }
+{
+    let e = plain(alloc, setting.numbers, e)?;
+    add_one(code, Stmt::Assume(place, e))?;
+    Ok(())
+}
+
+/// Adds an `if` with these two sides.
+pub fn add_branch(
+    code: &mut Code,
+    place: Place,
+    test: Expr,
+    one: Code,
+    other: Code,
+) -> Result<(), AllocError>
+    ensures { OnOk result (stmts_of code.new.statements ≡ stmts_of code.old.statements ++ IfStmt place (core.expr test) (core.code_of (stmts_of one.statements)) (core.code_of (stmts_of other.statements)) ∷ []) }
+{
+    add_one(
+        code,
+        Stmt::If(place, test, one.statements, other.statements),
+    )?;
+    Ok(())
+}
+
+// The invariants of a loop.
+fn invariants_of(
+    alloc: Global,
+    setting: &Setting<'_>,
+    invariants: &[TypedExpr],
+) -> Result<Vec<Expr>, AllocError>
+    ensures { IfOk result (λ es. core.exprs es.items ≡ elab.all_plain (numbers_of setting.now.numbers.now) (typed.exprs invariants.now)) }
+{
+    let mut exprs = Vec::new(alloc);
+    add_plain(alloc, &mut exprs, setting.numbers, invariants)?;
+    Ok(exprs)
+}
+
+// A loop of these parts.
+fn loop_of(
+    place: Place,
+    invariants: Vec<Expr>,
+    prelude: Code,
+    test: Expr,
+    turn: Code,
+    exposes: Vec<Exposed>,
+) -> Stmt
+    ensures { core.stmt_of result ≡ LoopStmt place (core.exprs invariants.items) (core.code_of (stmts_of prelude.statements)) (core.expr test) (core.code_of (stmts_of turn.statements)) (map core.exposed_tree exposes.items) }
+{
+    Stmt::Loop(Loop {
+        invariants,
+        prelude: prelude.statements,
+        test,
+        body: turn.statements,
+        place,
+        exposes,
+    })
+}
+
+/// Adds a loop with this prelude, this test and this body.
+pub fn add_loop(
+    alloc: Global,
+    setting: &Setting<'_>,
+    code: &mut Code,
+    place: Place,
+    invariants: &[TypedExpr],
+    prelude: Code,
+    test: Expr,
+    turn: Code,
+) -> Result<(), AllocError>
+    ensures { OnOk result (stmts_of code.new.statements ≡ stmts_of code.old.statements ++ LoopStmt place (elab.all_plain (numbers_of setting.now.numbers.now) (typed.exprs invariants.now)) (core.code_of (stmts_of prelude.statements)) (core.expr test) (core.code_of (stmts_of turn.statements)) (map statements.exposed (map opened_of setting.now.exposes.items)) ∷ []) }
+{
+    let invariants = invariants_of(alloc, setting, invariants)?;
+    let exposes = list_exposed(alloc, &setting.exposes)?;
+    let made = loop_of(place, invariants, prelude, test, turn, exposes);
+    add_one(code, made)?;
+    Ok(())
+}
+
+/// The test of a `for`, which without one is `true`.
+pub fn test_of(
+    alloc: Global,
+    setting: &Setting<'_>,
+    place: Place,
+    test: &Option<TypedExpr>,
+    code: &mut Code,
+    made: &mut Vec<Ty>,
+) -> Result<Expr, AllocError>
+    ensures { IfOk result (λ v. valued_by code.new.statements made.new v
+        ≡ valued_behind (stmts_of code.old.statements) (tested (setting_of setting.now) place (option_map typed.expr test.now) made.old.items)) }
+{
+    match test {
+        Some(e) => value(alloc, setting, e, code, made),
+        None => Ok(Expr::Bool(place, true)),
+    }
+}
+
+/// Adds what a `for` begins with.
+pub fn begin(
+    alloc: Global,
+    setting: &Setting<'_>,
+    beginning: &Option<TypedInit>,
+    code: &mut Code,
+    made: &mut Vec<Ty>,
+) -> Result<(), AllocError>
+    ensures { OnOk result (coded_by code.new made.new
+        ≡ after (stmts_of code.old.statements) (statements.begin (setting_of setting.now) (option_map typed.init_of beginning.now) made.old.items)) }
+{
+    match beginning {
+        Some(TypedInit::Declare(declarators)) => declare(alloc, setting, declarators, code, made),
+        Some(TypedInit::Simple(stmt)) => simple_statement(alloc, setting, stmt, code, made),
+        None => Ok(()),
+    }
+}
+
+// Adds the step of a `for`.
+fn advance(
+    alloc: Global,
+    setting: &Setting<'_>,
+    step: &Option<TypedSimple>,
+    code: &mut Code,
+    made: &mut Vec<Ty>,
+) -> Result<(), AllocError>
+    ensures { OnOk result (coded_by code.new made.new
+        ≡ after (stmts_of code.old.statements) (statements.advance (setting_of setting.now) (option_map typed.simple_of step.now) made.old.items)) }
+{
+    match step {
+        Some(stmt) => simple_statement(alloc, setting, stmt, code, made),
+        None => Ok(()),
+    }
+}
+
+/// Adds it where the end of the turn before it can be reached.
+pub fn advance_where(
+    alloc: Global,
+    setting: &Setting<'_>,
+    reached: bool,
+    step: &Option<TypedSimple>,
+    code: &mut Code,
+    made: &mut Vec<Ty>,
+) -> Result<(), AllocError>
+    ensures { OnOk result (coded_by code.new made.new
+        ≡ after (stmts_of code.old.statements) ((if reached then statements.advance (setting_of setting.now) (option_map typed.simple_of step.now) else nothing) made.old.items)) }
+{
+    if reached {
+        advance(alloc, setting, step, code, made)
+    } else {
+        Ok(())
+    }
+}
