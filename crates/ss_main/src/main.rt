@@ -49,8 +49,9 @@ fn of_source(
         }
         Status::Failed { kind, place } => failed_message(alloc, file, source, *place, *kind),
         Status::Stopped { place } => stopped_message(alloc, file, source, *place),
-        Status::Unproved { .. } => {
-            verdict_messages(alloc, file, source, str::from_utf8(verdict).unwrap_or(""))
+        Status::Unproved { countered } => {
+            let verdict = str::from_utf8(verdict).unwrap_or("");
+            verdict_messages(alloc, file, source, verdict, countered)
         }
         _ => Ok(String::new(alloc)),
     }

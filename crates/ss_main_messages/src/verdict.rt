@@ -3,6 +3,8 @@
 use crate::messages::{error, message};
 use crate::sentences::sentence_of_check;
 use ss_core::Place;
+use ss_main_values::model_texts;
+use ss_search::Countered;
 use std::alloc::{AllocError, Global};
 
 // A line of a verdict: the kind of a check that isn't shown to hold, and where it stands.
@@ -40,19 +42,47 @@ fn unproved_message(
     message(alloc, file, source, unproved.place, error.as_str())
 }
 
-/// The messages of a verdict, one for each of its lines.
+// Adds what a model gives to the locals, where it gives them something.
+fn push_values(text: &mut String, values: Option<&String>) -> Result<(), AllocError> {
+    match values {
+        Some(values) if !values.is_empty() => {
+            text.push_str("    a model that refutes it: ")?;
+            text.push_str(values.as_str())?;
+            text.push_str("\n")
+        }
+        _ => Ok(()),
+    }
+}
+
+// The messages of the lines of a verdict, each with its values.
+fn with_values(
+    alloc: Global,
+    file: &str,
+    source: &[u8],
+    verdict: &str,
+    values: &[String],
+) -> Result<String, AllocError> {
+    let mut text = String::new(alloc);
+    let mut number: usize = 0;
+    for line in verdict.lines() {
+        if let Some(unproved) = read_unproved(line) {
+            let message = unproved_message(alloc, file, source, &unproved)?;
+            text.push_str(message.as_str())?;
+            push_values(&mut text, values.get(number))?;
+            number = number.saturating_add(1);
+        }
+    }
+    Ok(text)
+}
+
+/// The messages of a verdict, one for each of its lines, with the values that the models of the verdict give to locals.
 pub fn verdict_messages(
     alloc: Global,
     file: &str,
     source: &[u8],
     verdict: &str,
+    countered: &[Countered],
 ) -> Result<String, AllocError> {
-    let mut text = String::new(alloc);
-    for line in verdict.lines() {
-        if let Some(unproved) = read_unproved(line) {
-            let message = unproved_message(alloc, file, source, &unproved)?;
-            text.push_str(message.as_str())?;
-        }
-    }
-    Ok(text)
+    let values = model_texts(alloc, source, countered)?;
+    with_values(alloc, file, source, verdict, &values)
 }

@@ -43,8 +43,9 @@ fn messages(
         }
         Status::Failed { kind, place } => failed_message(alloc, "FILE", source, *place, *kind),
         Status::Stopped { place } => stopped_message(alloc, "FILE", source, *place),
-        Status::Unproved { .. } => {
-            verdict_messages(alloc, "FILE", source, str::from_utf8(verdict).unwrap_or(""))
+        Status::Unproved { countered } => {
+            let verdict = str::from_utf8(verdict).unwrap_or("");
+            verdict_messages(alloc, "FILE", source, verdict, countered)
         }
         _ => Ok(String::new(alloc)),
     }

@@ -9,6 +9,7 @@ use Rattle.ss_vcgen_rules.specs.Obligations as tree
 use Rattle.ss_vcgen.specs.declared.builder.Builder.{Builder}
 use Rattle.ss_vcgen.specs.declared.guard.Guard.{Guard}
 use Rattle.ss_vcgen.specs.Guards.{guard_of}
+use Rattle.ss_vcgen.specs.declared.list.Locals.{Locals}
 use Rattle.ss_vcgen.specs.declared.list.Obligation.{Obligation}
 use Rattle.ss_vcgen.specs.declared.meant.Meant.{Meant}
 use Rattle.ss_vcgen.specs.Numbers.{meant_in, meants_in, HasMeant, HasMeants}
@@ -100,9 +101,9 @@ module _ (s : Builder) (fine : IsFine s) where
 
   -- ---- one obligation more
 
-  pub asks_pushed : (o : Obligation) (t : Vec Obligation Global) → t.items ≡ s.list.items ++ o ∷ [] → HasFormula s.bank o.goal → o.first ≡ s.first → o.end ≡ length s.trail.items →
-      Asks s (record s { list = t }) (known_of s) (record { premises = formulas_at s.bank (drop s.first s.trail.items); goal = formula_at s.bank o.goal; kind = o.kind; place = o.place; body = o.body.0 } ∷ [])
-  asks_pushed o t e within is_first is_end = record {
+  pub asks_pushed : (o : Obligation) (t : Vec Obligation Global) (seen : Vec Locals Global) → t.items ≡ s.list.items ++ o ∷ [] → HasFormula s.bank o.goal → o.first ≡ s.first → o.end ≡ length s.trail.items →
+      Asks s (record s { list = t; seen = seen }) (known_of s) (record { premises = formulas_at s.bank (drop s.first s.trail.items); goal = formula_at s.bank o.goal; kind = o.kind; place = o.place; body = o.body.0 } ∷ [])
+  asks_pushed o t seen e within is_first is_end = record {
     fine = record {
       env = fine.env;
       trail = fine.trail;

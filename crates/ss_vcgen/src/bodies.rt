@@ -12,7 +12,7 @@ ghost use Rattle.ss_vcgen.specs.Builder.{known_of, listed, IsFine, Becomes, Asks
 use crate::builder::Builder;
 use crate::conditions::condition_env;
 use crate::guard::Guard;
-use crate::list::Obligations;
+use crate::list::{Obligations, Positions};
 use crate::meant::Meant;
 use crate::statements::Within;
 use ss_core::BodyId;
@@ -22,7 +22,7 @@ use std::alloc::{AllocError, Global};
 
 impl Builder {
     // Before the first body.
-    fn new(alloc: Global) -> Self
+    fn new(alloc: Global, watched: Vec<usize>) -> Self
         ensures fine { IsFine result }
         ensures known { known_of result ≡ fresh 0 0 }
         ensures listed { listed result ≡ [] }
@@ -37,6 +37,8 @@ impl Builder {
             first: 0,
             trail: Vec::new(alloc),
             list: Vec::new(alloc),
+            watched,
+            seen: Vec::new(alloc),
         }
     }
 
@@ -128,7 +130,7 @@ pub fn obligations(alloc: Global, core: &Core) -> Result<Obligations, AllocError
     ensures exact { IfOk result (λ o. trees o ≡ tree.obligations (view.core core.now)) }
     ensures in_bank { IfOk result IsWithin }
 {
-    let mut builder = Builder::new(alloc);
+    let mut builder = Builder::new(alloc, Vec::new(alloc));
     builder.add_bodies(core)?;
     let Builder {
         bank,
@@ -137,4 +139,17 @@ pub fn obligations(alloc: Global, core: &Core) -> Result<Obligations, AllocError
         ..
     } = builder;
     Ok(Obligations { bank, trail, list })
+}
+
+/// What the locals stand for where the obligations of these numbers, which ascend, are listed. The constants are numbered as in the
+/// list of obligations. An error is want of memory.
+pub fn positions(
+    alloc: Global,
+    core: &Core,
+    obligations: Vec<usize>,
+) -> Result<Positions, AllocError> {
+    let mut builder = Builder::new(alloc, obligations);
+    builder.add_bodies(core)?;
+    let Builder { bank, seen, .. } = builder;
+    Ok(Positions { bank, locals: seen })
 }

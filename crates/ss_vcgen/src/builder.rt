@@ -13,7 +13,7 @@ ghost use Rattle.ss_vcgen.specs.Builder.{known_of, term_here, formula_here, goal
 use crate::express::{formula_of, is_whole, meant_of, term_of};
 use crate::formulas::{equal, has_truth_of};
 use crate::guard::{Guard, under};
-use crate::list::Obligation;
+use crate::list::{Locals, Obligation};
 use crate::meant::{Meant, stand_for};
 use ss_core::{BodyId, Kind, Place};
 use ss_logic::Sort;
@@ -22,7 +22,8 @@ use ss_terms::{Bank, FormulaId, Term, TermId};
 use std::alloc::{AllocError, Global};
 
 /// A list under construction: what each local stands for, the guard of the position, the numbers of the next new constants, where
-/// the premises of the body begin in the trail, the premises so far and the obligations so far.
+/// the premises of the body begin in the trail, the premises so far and the obligations so far. It notes what the locals stand for
+/// where the obligations of the watched numbers are listed.
 #[derive(Drop)]
 pub(crate) struct Builder {
     pub(crate) alloc: Global,
@@ -34,6 +35,9 @@ pub(crate) struct Builder {
     pub(crate) first: usize,
     pub(crate) trail: Vec<FormulaId>,
     pub(crate) list: Vec<Obligation>,
+    // numbers of obligations, in order
+    pub(crate) watched: Vec<usize>,
+    pub(crate) seen: Vec<Locals>,
 }
 
 // The next number; past the largest one there is no memory for so many.
@@ -41,6 +45,22 @@ pub(crate) fn after(number: usize) -> Result<usize, AllocError>
     ensures { IfOk result (λ n. n ≡ number + 1) }
 {
     number.checked_add(1).ok_or(AllocError)
+}
+
+// Notes what the locals stand for, where the obligation of this number is watched.
+fn note(
+    alloc: Global,
+    seen: &mut Vec<Locals>,
+    watched: &[usize],
+    number: usize,
+    body: BodyId,
+    env: &[Meant],
+) -> Result<(), AllocError> {
+    if watched.get(seen.len()).copied() == Some(number) {
+        let values = Vec::from_slice(alloc, env)?;
+        seen.push(Locals { body, values })?;
+    }
+    Ok(())
 }
 
 impl Builder {
@@ -133,6 +153,14 @@ impl Builder {
         ensures { OnOk result (Asks self.old self.new (known_of self.old)
             (goal_of body.0 kind place (known_of self.old) (formula_at self.old.bank goal) ∷ [])) }
     {
+        note(
+            self.alloc,
+            &mut self.seen,
+            &self.watched,
+            self.list.len(),
+            body,
+            &self.env,
+        )?;
         self.list.push(Obligation {
             first: self.first,
             end: self.trail.len(),

@@ -15,5 +15,6 @@ mod meant;
 mod shape;
 mod statements;
 
-pub use bodies::obligations;
-pub use list::{Obligation, Obligations};
+pub use bodies::{obligations, positions};
+pub use list::{Locals, Obligation, Obligations, Positions};
+pub use meant::Meant;

@@ -1,5 +1,6 @@
 // Lists of obligations.
 
+use crate::meant::Meant;
 use ss_core::{BodyId, Kind, Place};
 use ss_terms::{Bank, FormulaId};
 
@@ -28,4 +29,20 @@ pub struct Obligations {
     pub trail: Vec<FormulaId>,
     /// The obligations.
     pub list: Vec<Obligation>,
+}
+
+/// What the locals of a body stand for at a position in it.
+#[derive(Drop)]
+pub struct Locals {
+    pub body: BodyId,
+    /// By the numbers of the locals.
+    pub values: Vec<Meant>,
+}
+
+/// What the locals stand for where obligations are listed, one by one.
+#[derive(Drop)]
+pub struct Positions {
+    /// The terms and formulas.
+    pub bank: Bank,
+    pub locals: Vec<Locals>,
 }
