@@ -16,7 +16,7 @@ use Rattle.ss_owners_rules.specs.Words.{Allowed, NoWord, Questions, EveryWord, a
 use Rattle.ss_expand_rules.specs.Calls.{has_call, is_this}
 use Rattle.ss_expand_rules.specs.Numbers.{Numbers, number, plain}
 use Rattle.ss_expand_rules.specs.Contracts.{named}
-use Rattle.ss_expand_rules.specs.Bodies.{results, param_of}
+use Rattle.ss_expand_rules.specs.Bodies.{results}
 use Rattle.ss_store_rules.specs.Changes.{below, is_array}
 use Rattle.ss_store_rules.specs.Locals.{types_of, argument_types, local_types, argument_count, is_argument, result_number, is_result, is_bound, reads_only}
 use Rattle.ss_store_rules.specs.Types.{Words, is_allowed, is_bool, has_class, is_reference, field_read_type, where_typed, typed, code_type, is_condition}
@@ -30,6 +30,7 @@ use Rattle.ss_expand_formed_expressions.proofs.Words.{words, Apart, plain_words}
 use Rattle.ss_expand_formed_tables.proofs.Readings.{behind_params}
 use Rattle.ss_expand_formed_tables.proofs.Normal.{HasContract}
 use Rattle.ss_expand_formed_tables.proofs.Headings.{SameHeading}
+use Rattle.ss_expand_formed_tables.proofs.Contracts.{types_kept}
 use Rattle.ss_expand_formed_contracts.proofs.Arguments.{in_arguments}
 use Rattle.ss_expand_formed_contracts.proofs.Narrow.{Narrows, Same, Lower, AreNarrowed, bool_same, reference_same, array_same, below_stays, narrow_type}
 
@@ -113,10 +114,6 @@ narrowed_if C false a b ps ls rs h = record { count = refl; each = at }
     at : (n : ℕ) → Narrows C (bare (slice_get ((a ∷ []) ++ ps ++ ls ++ rs) n)) (bare (slice_get ((b ∷ []) ++ ps ++ ls ++ rs) n))
     at zero = h refl
     at (suc n) = Same refl
-
-types_kept : (qs : List ParamTree) → types_of (map param_of qs) ≡ map (λ (q : ParamTree). q.ty) qs
-types_kept [] = refl
-types_kept (q ∷ qs) = ap (λ ts. q.ty ∷ ts) (types_kept qs)
 
 module _ (P : TypedTree) (C : List core.ClassTree) (chain : IsChain C) (y : core.BodyTree) (b : BodyTree) (bs : List BodyTree) (is : HasContract y b y.class bs) (d : BodyTree) (same : SameHeading d b) (under : d.flags.is_static ≡ false → below C y.class d.class ≡ true) (no_array : is_array C d.class ≡ false) where
   -- the body as one of the class that wrote the contract

@@ -147,7 +147,7 @@ first_terms_kept : (before more : List BodyTree) (x : BodyTree) → modifies_of_
 first_terms_kept [] more x = refl
 first_terms_kept (y ∷ ys) more x = refl
 
-types_kept : (qs : List ParamTree) → types_of (map param_of qs) ≡ map (λ (q : ParamTree). q.ty) qs
+pub types_kept : (qs : List ParamTree) → types_of (map param_of qs) ≡ map (λ (q : ParamTree). q.ty) qs
 types_kept [] = refl
 types_kept (q ∷ qs) = ap (λ ts. q.ty ∷ ts) (types_kept qs)
 

@@ -200,8 +200,6 @@ module _ (p : ProgramTree) where
     pub tree : ClassTree
     pub method : MethodTree
     pub there : slice_get p.classes class ≡ Some tree
-    pub place : ℕ
-    pub in_tree : slice_get (methods_in tree.members) place ≡ Some method
     pub listed : is_listed (method_names tree.members) e.name ≡ true
     pub is : body_at (resolved p) e.body ≡ Some (method_body p.classes class method)
     -- it stands at this place of the table of its class too
@@ -298,7 +296,7 @@ module _ (p : ProgramTree) (faultless : program_faults p ≡ []) (no_nulls : nul
       let body : body_at (resolved p) e.body ≡ Some b = ap (λ (x : core.EntryTree). body_at (resolved p) x.body) (sym is) ∙ w.is in
       let here = declares_own p (4 + 2 * k) m b (method_here p k c at m e h ∙ body) refl in
       let all : declarations (resolved p) (4 + 2 * k) m ≡ over ++ b ∷ [] = declarations_step p faultless k m (slice_get_within p.classes k c at) ∙ ap (λ bs. bs ++ declared_last (declares (resolved p) m (4 + 2 * k))) above_is ∙ ap (λ o. over ++ declared_last o) here in
-      record { class = k; tree = c; method = w.method; there = at; place = w.place; in_tree = w.there; listed = listed; is = body; in_class = h; before = over; declared = all; own = all; alike = alike }
+      record { class = k; tree = c; method = w.method; there = at; listed = listed; is = body; in_class = h; before = over; declared = all; own = all; alike = alike }
 
   -- the class has what the class above has
   kept : (k j : ℕ) (c : ClassTree) → slice_get p.classes k ≡ Some c → above p.classes k ≡ Some j → (m : ℕ) (e : core.EntryTree) → slice_get (table p.classes k) m ≡ Some e → is_listed (method_names c.members) e.name ≡ false → IsInherited p j m e → IsInherited p k m e
@@ -311,7 +309,7 @@ module _ (p : ProgramTree) (faultless : program_faults p ≡ []) (no_nulls : nul
       let none = declares_other p (4 + 2 * k) m b (method_here p k c at m e h ∙ x.is) apart in
       let over : declarations (resolved p) (number_or_object (above p.classes k)) m ≡ x.before ++ b ∷ [] = ap (λ o. declarations (resolved p) (number_or_object o) m) up ∙ x.declared in
       let all : declarations (resolved p) (4 + 2 * k) m ≡ x.before ++ b ∷ [] = declarations_step p faultless k m (slice_get_within p.classes k c at) ∙ ap (λ bs. bs ++ declared_last (declares (resolved p) m (4 + 2 * k))) over ∙ ap (λ o. (x.before ++ b ∷ []) ++ declared_last o) none ∙ nothing_behind (x.before ++ b ∷ []) in
-      record { class = x.class; tree = x.tree; method = x.method; there = x.there; place = x.place; in_tree = x.in_tree; listed = x.listed; is = x.is; in_class = x.in_class; before = x.before; declared = all; own = x.own; alike = x.alike }
+      record { class = x.class; tree = x.tree; method = x.method; there = x.there; listed = x.listed; is = x.is; in_class = x.in_class; before = x.before; declared = all; own = x.own; alike = x.alike }
     where
       nothing_behind : (xs : List BodyTree) → xs ++ [] ≡ xs
       nothing_behind [] = refl
