@@ -14,3 +14,4 @@ pub mod Environments
 pub mod Bodies
 pub mod BodyPlaces
 pub mod ContractNumbers
+pub mod Answered
