@@ -17,3 +17,5 @@ pub mod Quiet
 pub mod Statements
 pub mod Methods
 pub mod Found
+pub mod Wrappers
+pub mod Constructors

@@ -1,5 +1,5 @@
--- The elaboration of a method keeps nulls out.
-use Rattle.std.proofs.Common.{◌≡◌, ℕ, suc, ◌+◌, List, [], ◌∷◌, ◌++◌, length, Bool, true, false, Option, Some, None, refl, sym, ◌∙◌, ap, subst, arith, append_assoc, ⊎_elim}
+-- The elaboration of a body keeps nulls out.
+use Rattle.std.proofs.Common.{◌≡◌, ℕ, suc, ◌+◌, ◌<◌, List, [], ◌∷◌, ◌++◌, length, Bool, true, false, Option, Some, None, refl, sym, ◌∙◌, ap, subst, arith, append_assoc, ⊎_elim}
 use Rattle.std.specs.Prelude.{not, slice_get, if◌then◌else◌, option_to_list, option_and_then}
 use Rattle.std.proofs.lemmas.Bool.{and_parts, and_from, or_left, cases_Bool, false≢true}
 use Rattle.std.proofs.lemmas.List.{length-map, length-append}
@@ -23,12 +23,12 @@ use Rattle.ss_expand_rules.specs.Bodies.{block_assigns, assigned_from, assigned_
 use Rattle.ss_store_rules.specs.Locals.{this_types, types_of, local_types}
 use Rattle.ss_store_rules.specs.NonNull.{Known, known_at_entry, is_non_null_type, keeps_nulls_out}
 use Rattle.ss_expand_formed.proofs.Facts.{none_left}
-use Rattle.ss_expand_formed_locals.proofs.Shape.{Code}
 use Rattle.ss_expand_formed_locals.proofs.Counted.{stmts_same}
 use Rattle.ss_expand_formed_nulls.specs.Fitting.{Frame, local_type, is_reference_type, stmt_fits, block_fits, all_fitting, Agrees, Builds, Covers, HasMade}
-use Rattle.ss_expand_formed_nulls.specs.Bodies.{method_frame}
+use Rattle.ss_expand_formed_nulls.specs.Bodies.{body_frame, method_frame}
 use Rattle.ss_expand_formed_nulls.proofs.Plain.{not_none}
-use Rattle.ss_expand_formed_nulls.proofs.Putting.{Runs, runs_nothing, runs_join, put_runs, put_field}
+use Rattle.ss_expand_formed_nulls.proofs.Putting.{runs_join, putting, put_runs, put_field}
+use Rattle.ss_expand_formed_nulls.proofs.Assignments.{Done, done_nothing}
 use Rattle.ss_expand_formed_nulls.proofs.Numbers.{in_middle, types_append, param_types, params_types, copies_types, temporaries_types, behind_copies, own_below, own_within, past_all, own_apart}
 use Rattle.ss_expand_formed_nulls.proofs.Paths.{runs_goes}
 use Rattle.ss_expand_formed_nulls.proofs.Statements.{stmts_known}
@@ -127,9 +127,9 @@ module _ (p : TypedTree) (b : BodyTree) (bs : List BodyTree) where
       let n : behind_copies b 0 ≡ length (A ++ (P ++ (L ++ C))) = omega (arith, this_size, param_size, local_size, copy_size) in
       ap (λ ts. slice_get ts (behind_copies b 0 + i)) (all_types ∙ e) ∙ in_middle (A ++ (P ++ (L ++ C))) T R (behind_copies b 0) i t n h
 
-module _ (c : core.CoreTree) (p : TypedTree) (b : BodyTree) (bs : List BodyTree) (method : b.flags.ctor ≡ false) where
+module _ (c : core.CoreTree) (p : TypedTree) (b : BodyTree) (bs : List BodyTree) (fields : ℕ → Bool) (free : Bool) (builds : Builds (body_frame c p b bs fields free)) (behind_this : b.flags.ctor ≡ true → 0 < behind_copies b 0) where
   abbrev z : Frame
-  z = method_frame c p b bs
+  z = body_frame c p b bs fields free
 
   abbrev n : ℕ
   n = temporary_count p b
@@ -143,36 +143,32 @@ module _ (c : core.CoreTree) (p : TypedTree) (b : BodyTree) (bs : List BodyTree)
     own = own_below b n;
     apart = own_apart b n;
     past = past_all b n;
-    behind_this = λ h. absurd (false≢true (sym method ∙ h));
+    behind_this = behind_this;
   }
-
-  builds : Builds z
-  builds = record { delayed = refl; above = λ f h. absurd (false≢true h); inherited = λ f h. absurd (false≢true h) }
 
   -- ---- copies of parameters
 
-  -- code behind which `this` has its fields
-  record Ready (l : Known) (xs : Code) : Type 0 where
-    now : Known
-    runs : Runs z l xs now
-    all : (f : ℕ) → now.fields f ≡ true
+  -- what is known of fields alone
+  unknown_covers : (k : source.Known) (l m : Known) → ((x : ℕ) → k.facts x ≡ true → ⊥) → Covers z k l → ((f : ℕ) → l.fields f ≡ true → m.fields f ≡ true) → Covers z k m
+  unknown_covers k l m empty h more = record { facts = λ x i. absurd (empty x i); mine = h.mine; fields = λ f o i. more f (h.fields f o i); free = λ i f. more f (h.free i f) }
 
-  copying_ready : (copy x : ℕ) (qs : List ParamTree) → ((i : ℕ) (t : Ty) → slice_get (param_types qs) i ≡ Some t → local_type z (x + i) ≡ Some t) →
-      ((i : ℕ) (t : Ty) → slice_get (param_types (assigned_from b.block x qs)) i ≡ Some t → local_type z (copy + i) ≡ Some t) → (l : Known) → ((f : ℕ) → l.fields f ≡ true) → Ready l (copying_from b.block copy x qs)
-  copying_ready copy x [] param copied l all = record { now = l; runs = runs_nothing z l; all = all }
-  copying_ready copy x (q ∷ qs) param copied l all =
+  copying_done : (k : source.Known) → ((x : ℕ) → k.facts x ≡ true → ⊥) → (copy x : ℕ) (qs : List ParamTree) → ((i : ℕ) (t : Ty) → slice_get (param_types qs) i ≡ Some t → local_type z (x + i) ≡ Some t) →
+      ((i : ℕ) (t : Ty) → slice_get (param_types (assigned_from b.block x qs)) i ≡ Some t → local_type z (copy + i) ≡ Some t) → (l : Known) → Covers z k l → Done z agrees l k (copying_from b.block copy x qs)
+  copying_done k empty copy x [] param copied l h = done_nothing z agrees l k h
+  copying_done k empty copy x (q ∷ qs) param copied l h =
       ⊎_elim
       (λ yes.
       let there : (i : ℕ) (t : Ty) → slice_get (q.ty ∷ param_types (assigned_from b.block (x + 1) qs)) i ≡ Some t → local_type z (copy + i) ≡ Some t = rw yes at copied in
       let d = Pure (LocalExpr q.place x) in
       let here : local_type z x ≡ Some q.ty = subst (λ k. local_type z k ≡ Some q.ty) (let e : x + 0 ≡ x = omega arith in e) (param 0 q.ty refl) in
       let new : local_type z copy ≡ Some q.ty = subst (λ k. local_type z k ≡ Some q.ty) (let e : copy + 0 ≡ copy = omega arith in e) (there 0 q.ty refl) in
+      let now = putting z q.place copy d l in
       let first = put_runs z q.place copy d l refl (λ h. or_left _ _ (ap is_non_null_type (here ∙ sym new) ∙ h)) in
-      let rest = copying_ready (copy + 1) (x + 1) qs (shifted x (param_types qs) q.ty param) (shifted copy (param_types (assigned_from b.block (x + 1) qs)) q.ty there) _ (λ f. put_field z q.place copy d l f (all f)) in
-      rw yes (record { now = rest.now; runs = runs_join z l _ rest.now (AssignStmt q.place copy (LocalExpr q.place x) ∷ []) _ first rest.runs; all = rest.all }))
+      let rest = copying_done k empty (copy + 1) (x + 1) qs (shifted x (param_types qs) q.ty param) (shifted copy (param_types (assigned_from b.block (x + 1) qs)) q.ty there) now (unknown_covers k l now empty h (put_field z q.place copy d l)) in
+      rw yes (record { now = rest.now; runs = runs_join z l now rest.now (AssignStmt q.place copy (LocalExpr q.place x) ∷ []) _ first rest.runs; covers = rest.covers }))
       (λ other.
       let there : (i : ℕ) (t : Ty) → slice_get (param_types (assigned_from b.block (x + 1) qs)) i ≡ Some t → local_type z (copy + i) ≡ Some t = rw other at copied in
-      rw other (copying_ready copy (x + 1) qs (shifted x (param_types qs) q.ty param) there l all))
+      rw other (copying_done k empty copy (x + 1) qs (shifted x (param_types qs) q.ty param) there l h))
       (cases_Bool (block_assigns x b.block))
     where
       shifted : (at : ℕ) (ts : List Ty) (u : Ty) → ((i : ℕ) (t : Ty) → slice_get (u ∷ ts) i ≡ Some t → local_type z (at + i) ≡ Some t) → (i : ℕ) (t : Ty) → slice_get ts i ≡ Some t → local_type z (at + 1 + i) ≡ Some t
@@ -180,20 +176,30 @@ module _ (c : core.CoreTree) (p : TypedTree) (b : BodyTree) (bs : List BodyTree)
 
   -- ---- the whole body
 
-  abbrev begun : source.Known
-  begun = record { facts = none; fields = assigned_first p b }
-
-  pub method_keeps : block_fits z b.block ≡ true → phase.faults_in (source.known_flow (site_of p b)) (faults.null_check (site_of p b)) b.block (only_fields (assigned_first p b)) ≡ [] → keeps_nulls_out c (written_body p b bs) ≡ true
-  method_keeps fit clean =
-      let F = source.known_flow (site_of p b) in
-      let K = faults.null_check (site_of p b) in
-      let is : with_return b b.result (in_block b.block) ≡ statements p b = ap (λ d. with_return b b.result (if d then constructor_stmts p b else in_block b.block)) (sym method) in
-      let fitting = subst (λ ss. all_fitting z ss ≡ true) is (fitting_with_return z b b.result (in_block b.block) (fitting_of_block z b.block fit)) in
-      let pure = subst (λ ss. phase.faults_along F K ss (Some begun) ≡ []) is (faults_with_return F K (λ k. refl) b b.result (in_block b.block) (Some begun) (faults_of_block F K (λ k. refl) b.block (Some begun) clean)) in
-      let front = copying_ready (first_copy b) (first_param b) b.params (param_at p b bs) (copy_at p b bs) (known_at_entry (written_body p b bs)) (λ f. ap not method) in
-      let covers : Covers z begun front.now = record { facts = λ x h. not_none x h; mine = λ x h. not_none x h; fields = λ f o h. front.all f; free = λ h f. front.all f } in
+  -- It keeps nulls out where the phase finds no fault in its statements, as they are elaborated, from what it knows at the entry.
+  pub body_keeps : (k : source.Known) → ((x : ℕ) → k.facts x ≡ true → ⊥) → Covers z k (known_at_entry (written_body p b bs)) → all_fitting z (statements p b) ≡ true →
+      phase.faults_along (source.known_flow (site_of p b)) (faults.null_check (site_of p b)) (statements p b) (Some k) ≡ [] → keeps_nulls_out c (written_body p b bs) ≡ true
+  body_keeps k empty covers fitting pure =
+      let entry = known_at_entry (written_body p b bs) in
+      let front = copying_done k empty (first_copy b) (first_param b) b.params (param_at p b bs) (copy_at p b bs) entry covers in
       let first = behind_copies b n in
       let same : (code_with p b n).made ≡ temporary_types p b = stmts_same p b (meant b) first (first + n) (first + 0) (first + n + results b.result) (first + 0 + results b.result) [] (statements p b) [] in
       let made : HasMade z (code_with p b n).made = λ i t h. temporary_at p b bs i t (ap (λ ts. slice_get ts i) (sym same) ∙ h) in
-      let rest = stmts_known z agrees builds (statements p b) fitting [] begun [] pure front.now covers made in
-      (runs_goes z agrees (known_at_entry (written_body p b bs)) front.now _ (copying b) (code_with p b n).code front.runs rest).held
+      let rest = stmts_known z agrees builds (statements p b) fitting [] k [] pure front.now front.covers made in
+      (runs_goes z agrees entry front.now _ (copying b) (code_with p b n).code front.runs rest).held
+
+-- ---- methods
+
+pub method_keeps : (c : core.CoreTree) (p : TypedTree) (b : BodyTree) (bs : List BodyTree) → b.flags.ctor ≡ false → block_fits (method_frame c p b bs) b.block ≡ true →
+    phase.faults_in (source.known_flow (site_of p b)) (faults.null_check (site_of p b)) b.block (only_fields (assigned_first p b)) ≡ [] → keeps_nulls_out c (written_body p b bs) ≡ true
+method_keeps c p b bs method fit clean =
+    let z = method_frame c p b bs in
+    let F = source.known_flow (site_of p b) in
+    let K = faults.null_check (site_of p b) in
+    let k : source.Known = record { facts = none; fields = assigned_first p b } in
+    let is : with_return b b.result (in_block b.block) ≡ statements p b = ap (λ d. with_return b b.result (if d then constructor_stmts p b else in_block b.block)) (sym method) in
+    let fitting = subst (λ ss. all_fitting z ss ≡ true) is (fitting_with_return z b b.result (in_block b.block) (fitting_of_block z b.block fit)) in
+    let pure = subst (λ ss. phase.faults_along F K ss (Some k) ≡ []) is (faults_with_return F K (λ k. refl) b b.result (in_block b.block) (Some k) (faults_of_block F K (λ k. refl) b.block (Some k) clean)) in
+    let builds : Builds z = record { delayed = refl; above = λ f h. absurd (false≢true h); inherited = λ f h. absurd (false≢true h) } in
+    let covers : Covers z k (known_at_entry (written_body p b bs)) = record { facts = λ x h. not_none x h; mine = λ x h. not_none x h; fields = λ f o h. ap not method; free = λ h f. ap not method } in
+    body_keeps c p b bs (λ f. false) true builds (λ h. absurd (false≢true (sym method ∙ h))) k (λ x h. not_none x h) covers fitting pure

@@ -4,4 +4,7 @@
 
 mod laws;
 
-pub use laws::{methods_keep_nulls_out, statements_keep_nulls_out};
+pub use laws::{
+    constructors_keep_nulls_out, methods_keep_nulls_out, statements_keep_nulls_out,
+    wrappers_keep_nulls_out,
+};
