@@ -10,8 +10,3 @@ pub mod MemberReads
 pub mod Questions
 pub mod Sources
 pub mod Conditions
-pub mod Environments
-pub mod Bodies
-pub mod BodyPlaces
-pub mod ContractNumbers
-pub mod Answered
