@@ -1,0 +1,4 @@
+pub mod Placed
+pub mod Changes
+pub mod Joined
+pub mod New

@@ -1,0 +1,375 @@
+// What reads give over stores with a change at an object.
+
+ghost use Rattle.std.specs.Prelude.{◌≡◌, ℕ, List, [], ◌∷◌, IfOk};
+ghost use Rattle.ss_core.specs.Tree.{ClassTree};
+ghost use Rattle.ss_core.specs.Chain.{above};
+ghost use Rattle.ss_core.specs.View as view;
+ghost use Rattle.ss_logic_stores.specs.Terms as tree;
+ghost use Rattle.ss_logic_rules.specs.Shapes.{all_of};
+ghost use Rattle.ss_logic_rules.specs.Reads.{FieldLook, ElementLook, CommittedLook, leveled, over_set, over_put, over_unpack, over_pack, over_ready};
+ghost use Rattle.ss_terms_stores.specs.Forms.{term_at, formula_at, HasTerm, HasFormula, IsGrown, IsBankOf};
+ghost use Rattle.ss_rules_looks.specs.Looks.{look_in, HasLook};
+ghost use Rattle.ss_rules_reads.specs.Changes.{element_placed, cleared};
+
+use crate::placed::{added_atom, placed_term};
+use crate::same::same_read;
+use ss_core::{ClassId, Classes};
+use ss_logic_stores::Sort;
+use ss_rules_looks::Look;
+use ss_rules_plans::{Claim, Clause, Plan, Slot, fill};
+use ss_terms_stores::{Bank, FormulaId, Predicate, Symbol, TermId};
+use std::alloc::{AllocError, Global};
+
+/// The stores after and before a change.
+#[derive(Clone, Copy)]
+pub(crate) struct Stores {
+    pub(crate) after: TermId,
+    pub(crate) before: TermId,
+}
+
+// A field of an object where that field of one was set.
+fn set_field(
+    alloc: Global,
+    b: &mut Bank,
+    stores: Stores,
+    f: u32,
+    p: TermId,
+    o: TermId,
+    v: TermId,
+) -> Result<FormulaId, AllocError>
+    requires after { HasTerm b.old stores.after }
+    requires before { HasTerm b.old stores.before }
+    requires read { HasTerm b.old p }
+    requires object { HasTerm b.old o }
+    requires value { HasTerm b.old v }
+    ensures at { IfOk result (λ r. HasFormula b.new r × (formula_at b.new r ≡ all_of (over_set (term_at b.old stores.after) f (term_at b.old stores.before) (term_at b.old o) (term_at b.old v) (FieldLook (term_at b.old p) f)))) }
+    ensures grown { IsGrown b.old b.new }
+{
+    let is_same = b.is_same_term(p, o);
+    let (p, o, v) = (Slot::Known(p), Slot::Known(o), Slot::Known(v));
+    let plans = [
+        Plan::Two(Symbol::Field(f), Slot::Known(stores.after), p),
+        Plan::Two(Symbol::Field(f), Slot::Known(stores.before), p),
+    ];
+    placed_term(alloc, b, &plans, (p, o), is_same, v)
+}
+
+// A read where a field of an object was set.
+pub(crate) fn set_read(
+    alloc: Global,
+    b: &mut Bank,
+    stores: Stores,
+    f: u32,
+    o: TermId,
+    v: TermId,
+    look: Look,
+) -> Result<FormulaId, AllocError>
+    requires after { HasTerm b.old stores.after }
+    requires before { HasTerm b.old stores.before }
+    requires object { HasTerm b.old o }
+    requires value { HasTerm b.old v }
+    requires look { HasLook b.old look }
+    ensures at { IfOk result (λ r. HasFormula b.new r × (formula_at b.new r ≡ all_of (over_set (term_at b.old stores.after) f (term_at b.old stores.before) (term_at b.old o) (term_at b.old v) (look_in b.old look)))) }
+    ensures grown { IsGrown b.old b.new }
+{
+    match look {
+        Look::Field(p, g) => {
+            if g == f {
+                return set_field(alloc, b, stores, f, p, o, v);
+            }
+            same_read(alloc, b, look, (stores.after, stores.before))
+        }
+        _ => same_read(alloc, b, look, (stores.after, stores.before)),
+    }
+}
+
+// An element where one of that sort was put into an array.
+fn put_element(
+    alloc: Global,
+    b: &mut Bank,
+    stores: Stores,
+    sort: Sort,
+    read: (TermId, TermId),
+    written: (TermId, TermId),
+    v: TermId,
+) -> Result<FormulaId, AllocError>
+    requires after { HasTerm b.old stores.after }
+    requires before { HasTerm b.old stores.before }
+    requires read_array { HasTerm b.old read.0 }
+    requires read_index { HasTerm b.old read.1 }
+    requires array { HasTerm b.old written.0 }
+    requires index { HasTerm b.old written.1 }
+    requires value { HasTerm b.old v }
+    ensures at { IfOk result (λ r. HasFormula b.new r × (formula_at b.new r ≡ all_of (element_placed (term_at b.old stores.after) (term_at b.old stores.before) (term_at b.old written.0) (term_at b.old written.1) (term_at b.old v) sort (term_at b.old read.0) (term_at b.old read.1)))) }
+    ensures grown { IsGrown b.old b.new }
+{
+    let same_array = b.is_same_term(read.0, written.0);
+    let same_index = b.is_same_term(read.1, written.1);
+    let (array, index) = (Slot::Known(read.0), Slot::Known(read.1));
+    let (a, i) = (Slot::Known(written.0), Slot::Known(written.1));
+    let plans = [
+        Plan::Three(
+            Symbol::Element(sort),
+            Slot::Known(stores.after),
+            array,
+            index,
+        ),
+        Plan::Three(
+            Symbol::Element(sort),
+            Slot::Known(stores.before),
+            array,
+            index,
+        ),
+    ];
+    let changed = Claim::Is(Predicate::Equal, Slot::Made(0), Slot::Known(v));
+    let kept = Claim::Is(Predicate::Equal, Slot::Made(0), Slot::Made(1));
+    let at_array = Claim::Is(Predicate::Equal, array, a);
+    let at_index = Claim::Is(Predicate::Equal, index, i);
+    let other_array = Clause::If(Claim::Not(Predicate::Equal, array, a), kept);
+    let other_index = Clause::If(Claim::Not(Predicate::Equal, index, i), kept);
+    if same_array && same_index {
+        return fill(alloc, b, &plans, &[Clause::Fact(changed)]);
+    }
+    if same_array {
+        return fill(
+            alloc,
+            b,
+            &plans,
+            &[Clause::If(at_index, changed), other_index],
+        );
+    }
+    if same_index {
+        return fill(
+            alloc,
+            b,
+            &plans,
+            &[Clause::If(at_array, changed), other_array],
+        );
+    }
+    let here = Clause::IfTwo(at_array, at_index, changed);
+    fill(alloc, b, &plans, &[here, other_array, other_index])
+}
+
+// A read where an element was put into an array.
+pub(crate) fn put_read(
+    alloc: Global,
+    b: &mut Bank,
+    stores: Stores,
+    written: (TermId, TermId),
+    v: TermId,
+    look: Look,
+) -> Result<FormulaId, AllocError>
+    requires after { HasTerm b.old stores.after }
+    requires before { HasTerm b.old stores.before }
+    requires array { HasTerm b.old written.0 }
+    requires index { HasTerm b.old written.1 }
+    requires value { HasTerm b.old v }
+    requires look { HasLook b.old look }
+    ensures at { (cs : List ClassTree) → IsBankOf cs b.old → IfOk result (λ r. HasFormula b.new r × (formula_at b.new r ≡ all_of (over_put cs (term_at b.old stores.after) (term_at b.old stores.before) (term_at b.old written.0) (term_at b.old written.1) (term_at b.old v) (look_in b.old look)))) }
+    ensures grown { IsGrown b.old b.new }
+{
+    match look {
+        Look::Element(sort, a, i) => {
+            if has_sort(b, v, sort) {
+                return put_element(alloc, b, stores, sort, (a, i), written, v);
+            }
+            same_read(alloc, b, look, (stores.after, stores.before))
+        }
+        _ => same_read(alloc, b, look, (stores.after, stores.before)),
+    }
+}
+
+// Whether the term has the sort.
+fn has_sort(b: &Bank, t: TermId, sort: Sort) -> bool
+    requires { HasTerm b.now t }
+    ensures { (cs : List ClassTree) → IsBankOf cs b.now → result ≡ tree.same_sort (tree.sort_of cs [] (term_at b.now t)) sort }
+{
+    is_same_sort(b.sort(t), sort)
+}
+
+// Whether the two sorts are one.
+fn is_same_sort(x: Sort, y: Sort) -> bool
+    ensures { result ≡ tree.same_sort x y }
+{
+    x == y
+}
+
+// The level of an object where one has the level of a class.
+fn placed_level(
+    alloc: Global,
+    b: &mut Bank,
+    stores: Stores,
+    t: u16,
+    o: TermId,
+    p: TermId,
+) -> Result<FormulaId, AllocError>
+    requires after { HasTerm b.old stores.after }
+    requires before { HasTerm b.old stores.before }
+    requires object { HasTerm b.old o }
+    requires read { HasTerm b.old p }
+    ensures at { IfOk result (λ r. HasFormula b.new r × (formula_at b.new r ≡ all_of (leveled (term_at b.old stores.after) t (term_at b.old stores.before) (term_at b.old o) (term_at b.old p)))) }
+    ensures grown { IsGrown b.old b.new }
+{
+    let is_same = b.is_same_term(p, o);
+    let (p, o) = (Slot::Known(p), Slot::Known(o));
+    let plans = [
+        Plan::Two(Symbol::Level, Slot::Known(stores.after), p),
+        Plan::Two(Symbol::Level, Slot::Known(stores.before), p),
+        Plan::Leaf(Symbol::ClassName(t)),
+    ];
+    placed_term(alloc, b, &plans, (p, o), is_same, Slot::Made(2))
+}
+
+// Whether an object is committed, where one was unpacked from a class.
+fn unpacked_committed(
+    alloc: Global,
+    b: &mut Bank,
+    stores: Stores,
+    t: u16,
+    o: TermId,
+    p: TermId,
+) -> Result<FormulaId, AllocError>
+    requires after { HasTerm b.old stores.after }
+    requires before { HasTerm b.old stores.before }
+    requires object { HasTerm b.old o }
+    requires read { HasTerm b.old p }
+    ensures at { IfOk result (λ r. HasFormula b.new r × (formula_at b.new r ≡ all_of (cleared (term_at b.old stores.after) t (term_at b.old stores.before) (term_at b.old o) (term_at b.old p)))) }
+    ensures grown { IsGrown b.old b.new }
+{
+    let (after, before) = (Slot::Known(stores.after), Slot::Known(stores.before));
+    let (p, o) = (Slot::Known(p), Slot::Known(o));
+    let plans = [
+        Plan::Two(Symbol::Owner, before, p),
+        Plan::Leaf(Symbol::ClassName(t)),
+        Plan::Two(Symbol::Pair, o, Slot::Made(1)),
+    ];
+    let owned = Claim::Is(Predicate::Equal, Slot::Made(0), Slot::Made(2));
+    let not_owned = Claim::Not(Predicate::Equal, Slot::Made(0), Slot::Made(2));
+    let cleared = Claim::Not(Predicate::Committed, after, p);
+    let clauses = [
+        Clause::If(owned, cleared),
+        Clause::IfTwo(
+            not_owned,
+            Claim::Is(Predicate::Committed, before, p),
+            Claim::Is(Predicate::Committed, after, p),
+        ),
+        Clause::If(Claim::Not(Predicate::Committed, before, p), cleared),
+    ];
+    fill(alloc, b, &plans, &clauses)
+}
+
+// Whether an object is committed, where one was packed at a class.
+fn packed_committed(
+    alloc: Global,
+    b: &mut Bank,
+    stores: Stores,
+    t: u16,
+    o: TermId,
+    p: TermId,
+) -> Result<FormulaId, AllocError>
+    requires after { HasTerm b.old stores.after }
+    requires before { HasTerm b.old stores.before }
+    requires object { HasTerm b.old o }
+    requires read { HasTerm b.old p }
+    ensures at { IfOk result (λ r. HasFormula b.new r × (formula_at b.new r ≡ all_of (over_pack (term_at b.old stores.after) t (term_at b.old stores.before) (term_at b.old o) (CommittedLook (term_at b.old p))))) }
+    ensures grown { IsGrown b.old b.new }
+{
+    let (after, before) = (Slot::Known(stores.after), Slot::Known(stores.before));
+    let (p, o) = (Slot::Known(p), Slot::Known(o));
+    let plans = [
+        Plan::Two(Symbol::Owner, before, p),
+        Plan::Leaf(Symbol::ClassName(t)),
+        Plan::Two(Symbol::Pair, o, Slot::Made(1)),
+    ];
+    let owned = Claim::Is(Predicate::Equal, Slot::Made(0), Slot::Made(2));
+    let not_owned = Claim::Not(Predicate::Equal, Slot::Made(0), Slot::Made(2));
+    let set = Claim::Is(Predicate::Committed, after, p);
+    let clauses = [
+        Clause::If(owned, set),
+        Clause::If(Claim::Is(Predicate::Committed, before, p), set),
+        Clause::IfTwo(
+            not_owned,
+            Claim::Not(Predicate::Committed, before, p),
+            Claim::Not(Predicate::Committed, after, p),
+        ),
+    ];
+    fill(alloc, b, &plans, &clauses)
+}
+
+// A read where an object was unpacked from a class.
+pub(crate) fn unpacked_read(
+    alloc: Global,
+    b: &mut Bank,
+    classes: &Classes,
+    stores: Stores,
+    t: u16,
+    o: TermId,
+    look: Look,
+) -> Result<FormulaId, AllocError>
+    requires after { HasTerm b.old stores.after }
+    requires before { HasTerm b.old stores.before }
+    requires object { HasTerm b.old o }
+    requires look { HasLook b.old look }
+    ensures at { IfOk result (λ r. HasFormula b.new r × (formula_at b.new r ≡ all_of (over_unpack (view.classes classes.now) (term_at b.old stores.after) t (term_at b.old stores.before) (term_at b.old o) (look_in b.old look)))) }
+    ensures grown { IsGrown b.old b.new }
+{
+    match look {
+        Look::Level(p) => {
+            let above = classes.above(ClassId(t));
+            placed_level(alloc, b, stores, above.0, o, p)
+        }
+        Look::Committed(p) => unpacked_committed(alloc, b, stores, t, o, p),
+        _ => same_read(alloc, b, look, (stores.after, stores.before)),
+    }
+}
+
+// A read where an object was packed at a class.
+pub(crate) fn packed_read(
+    alloc: Global,
+    b: &mut Bank,
+    stores: Stores,
+    t: u16,
+    o: TermId,
+    look: Look,
+) -> Result<FormulaId, AllocError>
+    requires after { HasTerm b.old stores.after }
+    requires before { HasTerm b.old stores.before }
+    requires object { HasTerm b.old o }
+    requires look { HasLook b.old look }
+    ensures at { IfOk result (λ r. HasFormula b.new r × (formula_at b.new r ≡ all_of (over_pack (term_at b.old stores.after) t (term_at b.old stores.before) (term_at b.old o) (look_in b.old look)))) }
+    ensures grown { IsGrown b.old b.new }
+{
+    match look {
+        Look::Level(p) => placed_level(alloc, b, stores, t, o, p),
+        Look::Committed(p) => packed_committed(alloc, b, stores, t, o, p),
+        _ => same_read(alloc, b, look, (stores.after, stores.before)),
+    }
+}
+
+// A read where an object was made ready.
+pub(crate) fn ready_read(
+    alloc: Global,
+    b: &mut Bank,
+    stores: Stores,
+    o: TermId,
+    look: Look,
+) -> Result<FormulaId, AllocError>
+    requires after { HasTerm b.old stores.after }
+    requires before { HasTerm b.old stores.before }
+    requires object { HasTerm b.old o }
+    requires look { HasLook b.old look }
+    ensures at { IfOk result (λ r. HasFormula b.new r × (formula_at b.new r ≡ all_of (over_ready (term_at b.old stores.after) (term_at b.old stores.before) (term_at b.old o) (look_in b.old look)))) }
+    ensures grown { IsGrown b.old b.new }
+{
+    let Look::Ready(p) = look else {
+        return same_read(alloc, b, look, (stores.after, stores.before));
+    };
+    let is_same = b.is_same_term(p, o);
+    let places = (Slot::Known(p), Slot::Known(o));
+    let atoms = (
+        Predicate::Ready,
+        Slot::Known(stores.after),
+        Slot::Known(stores.before),
+    );
+    added_atom(alloc, b, &[], places, is_same, atoms)
+}
