@@ -1,12 +1,16 @@
 // Repeats changes of a store and evaluations, for `bench/run`. A word that is a number says how often; `writes` writes a field so often,
-// and `evaluations` evaluates a condition so often. Each prints how many of them did what they should.
+// and `evaluations` evaluates a condition so often. Behind `objects` so many objects live: `calls` enters and leaves so many bodies that
+// write a field, `turns` goes so often round a loop over an array, and `frames` enters so many bodies one from the other. Each prints how
+// many of them did what they should.
 #![tactic(auto)]
 
+mod calls;
 mod program;
 
 ghost use Rattle.ss_core.specs.View.{classes};
 ghost use Rattle.ss_core.specs.Chain.{IsWithinLimits};
 
+use calls::{call_all, enter_all, turn_all};
 use program::{PART, V, condition, program};
 use ss_core::{Core, Expr};
 use ss_store::Store;
@@ -40,7 +44,7 @@ fn evaluate_all(c: &Core, s: &Store, e: &Expr, count: i32) -> usize
     done
 }
 
-fn measure<R: Print + AllocGlobal>(rt: &R, name: &str, count: i32) -> io::Result<()> {
+fn measure<R: Print + AllocGlobal>(rt: &R, name: &str, live: i32, count: i32) -> io::Result<()> {
     let alloc = rt.alloc();
     let c = program(alloc)?;
     let mut s = Store::new(alloc);
@@ -49,6 +53,12 @@ fn measure<R: Print + AllocGlobal>(rt: &R, name: &str, count: i32) -> io::Result
         write_all(&c, &mut s, count)
     } else if name == "evaluations" {
         evaluate_all(&c, &s, &condition(alloc)?, count)
+    } else if name == "calls" {
+        call_all(alloc, &c, live, count)?
+    } else if name == "turns" {
+        turn_all(alloc, &c, live, count)?
+    } else if name == "frames" {
+        enter_all(alloc, &c, count)?
     } else {
         0
     };
@@ -57,10 +67,12 @@ fn measure<R: Print + AllocGlobal>(rt: &R, name: &str, count: i32) -> io::Result
 
 fn run<R: Print + Env + AllocGlobal>(rt: &R) -> io::Result<()> {
     let mut count = 0i32;
+    let mut live = 0i32;
     for word in env::args(rt)?.skip(1) {
         match word.parse::<i32>() {
             Ok(n) => count = n,
-            Err(_) => measure(rt, &word, count)?,
+            Err(_) if word.as_str() == "objects" => live = count,
+            Err(_) => measure(rt, &word, live, count)?,
         }
     }
     Ok(())

@@ -42,7 +42,7 @@ pub fn program(alloc: Global) -> Result<Core, AllocError>
 
 const HERE: Place = Place { line: 1, column: 1 };
 
-fn local(x: usize) -> Expr {
+pub fn local(x: usize) -> Expr {
     Expr::Local(HERE, x)
 }
 
