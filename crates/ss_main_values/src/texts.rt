@@ -10,6 +10,7 @@ use std::alloc::{AllocError, Global};
 
 // How many obligations have their values told, and how many values are told of one.
 const MOST_OBLIGATIONS: usize = 100;
+
 const MOST_VALUES: usize = 20;
 
 /// What a model gives to a term.
