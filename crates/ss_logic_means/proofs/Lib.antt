@@ -1,3 +1,4 @@
 pub mod Denoting
 pub mod Operations
 pub mod Arithmetic
+pub mod Classes
