@@ -29,7 +29,7 @@ IsReferenceOf h (value.Obj o) = nat_lt o h.next ≡ true
 IsReferenceOf h value.Null = Unit {0}
 IsReferenceOf h u = ⊥
 
-abbrev is_null : ObjectValue → Bool
+abbrev pub is_null : ObjectValue → Bool
 is_null (value.Obj o) = false
 is_null u = true
 
@@ -54,7 +54,7 @@ module _ (cs : List ClassTree) (m : Structure) (e : List Value) (h : Heap) where
 
   -- ---- classes
 
-  sub_means : (t : Term) (k o : ℕ) → nat_lt o h.next ≡ true → V cs m e t ≡ thing (reference o) → M cs m e (sub_atom (shape.type_of t) (class_term k)) (sub cs (object_at Store o).class k)
+  pub sub_means : (t : Term) (k o : ℕ) → nat_lt o h.next ≡ true → V cs m e t ≡ thing (reference o) → M cs m e (sub_atom (shape.type_of t) (class_term k)) (sub cs (object_at Store o).class k)
   sub_means t k o l p =
       let same : sub cs (m.table.class_of (as_thing (V cs m e t))) k ≡ sub cs (object_at Store o).class k = ap (λ v. sub cs (m.table.class_of (as_thing v)) k) p ∙ ap (λ x. sub cs x.class k) (sym (object_known o l)) in
       (λ q. sym same ∙ q, λ q. same ∙ q)

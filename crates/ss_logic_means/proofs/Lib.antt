@@ -2,3 +2,4 @@ pub mod Denoting
 pub mod Operations
 pub mod Arithmetic
 pub mod Classes
+pub mod Reading
