@@ -3,3 +3,4 @@ pub mod Operations
 pub mod Arithmetic
 pub mod Classes
 pub mod Reading
+pub mod States
