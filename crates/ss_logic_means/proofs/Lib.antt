@@ -4,3 +4,4 @@ pub mod Arithmetic
 pub mod Classes
 pub mod Reading
 pub mod States
+pub mod Quantifiers
