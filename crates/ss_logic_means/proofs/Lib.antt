@@ -5,3 +5,4 @@ pub mod Classes
 pub mod Reading
 pub mod States
 pub mod Quantifiers
+pub mod Quantified

@@ -69,14 +69,14 @@ joined_none quantifier.Exists true b h k = h
 joined_none quantifier.Exists false b h k = k
 
 module _ (cs : List ClassTree) (m : Structure) (e : List Value) (b : ℤ) (q : Quantifier) (ps : List Formula) (x : Meant) where
-  abbrev at : ℤ → List Value
+  abbrev pub at : ℤ → List Value
   at i = e ++ whole i ∷ []
 
-  abbrev Defined : ℤ → Type 0
+  abbrev pub Defined : ℤ → Type 0
   Defined i = All cs m (at i) ps
 
   -- it doesn't decide: what a `forall` asks of each, and an `exists` of none
-  abbrev Claim : Quantifier → ℤ → Type 0
+  abbrev pub Claim : Quantifier → ℤ → Type 0
   Claim quantifier.Forall i = T cs m (at i) (said x)
   Claim quantifier.Exists i = T cs m (at i) (said x) → ⊥
 
@@ -120,10 +120,10 @@ module _ (cs : List ClassTree) (m : Structure) (e : List Value) (b : ℤ) (q : Q
 
 module _ (cs : List ClassTree) (m : Structure) (e : List Value) (a b : ℤ) (o1 o2 : Formula)
     (low : (i : ℤ) → M cs m (e ++ whole i ∷ []) o1 (not (int_le a i))) (high : (i : ℤ) → M cs m (e ++ whole i ∷ []) o2 (not (int_le (i +ℤ pos 1) b))) where
-  abbrev True_at : Formula → ℤ → Type 0
+  abbrev pub True_at : Formula → ℤ → Type 0
   True_at f i = T cs m (e ++ whole i ∷ []) f
 
-  no_more : {c : Bool} → c ≡ true → not c ≡ true → ⊥
+  pub no_more : {c : Bool} → c ≡ true → not c ≡ true → ⊥
   no_more {c = true} p q = false≢true q
   no_more {c = false} p q = false≢true p
 
