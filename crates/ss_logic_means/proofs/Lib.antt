@@ -4,5 +4,6 @@ pub mod Arithmetic
 pub mod Classes
 pub mod Reading
 pub mod States
+pub mod Words
 pub mod Quantifiers
 pub mod Quantified
