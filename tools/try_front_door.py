@@ -77,7 +77,7 @@ def main():
         expect(time.time() - since < 1, "--help answers at once")
         status, out, err, calls = clone.answer("--version")
         expect(status == 0 and out.startswith("specsharp ") and not calls, "--version answers without a build")
-        for words in [(), ("verify",), ("walk", "FILE"), ("verify", "FILE", "FILE")]:
+        for words in [(), ("verify",), ("walk", "FILE"), ("walk", "run"), ("verify", "FILE", "FILE")]:
             status, out, err, calls = clone.answer(*words)
             expect(status == 2 and err.endswith("bad words\n") and not calls, "words of no command are refused")
         status, out, err, calls = clone.answer("--unproved", "run", "FILE")

@@ -14,7 +14,8 @@ pub fn start_in_order()
     ensures { (p : ProgramTree) → program_faults p ≡ [] → type_faults p ≡ [] → StartInOrder (core_of p) }
 {}
 
-/// Every path to the end of a constructor passes these two, and before them only fields of its `this` that the class declares are written.
+/// Every path to the end of a constructor passes these two. Before them no field of its `this` is written but those that the class
+/// declares.
 pub fn have_opening()
     ensures { (p : ProgramTree) → program_faults p ≡ [] → type_faults p ≡ [] → HaveOpening (core_of p) }
 {}
@@ -24,7 +25,8 @@ pub fn keep_this_in()
     ensures { (p : ProgramTree) → construction_faults (resolved p) ≡ [] → KeepThisIn (core_of p) }
 {}
 
-/// Up to `base(..)` and `ready this`, the arguments of the first included, a constructor that isn't delayed only writes to its `this`.
+/// Up to `base(..)` and `ready this`, the arguments of the first included, a constructor that isn't delayed names its `this` only to
+/// write a field that the class declares.
 pub fn write_this_first()
     ensures { (p : ProgramTree) → type_faults p ≡ [] → construction_faults (resolved p) ≡ [] → WriteThisFirst (core_of p) }
 {}

@@ -1,4 +1,5 @@
-//! Frames of bodies that run and of those that wait: what holds of them goes on in later stores, behind each statement that enters no body.
+//! Frames of bodies that run and of those that wait: what holds of them goes on in later stores, and behind what changes the store or
+//! the locals without entering a body.
 //! No step of the program calls these functions: each says one law over the definitions.
 #![tactic(auto)]
 

@@ -23,8 +23,8 @@ use ss_store_rules::{Undefined, Value};
 use std::alloc::{AllocError, Global};
 use std::marker::Model;
 
-/// The store now, and the stores as they were at the entries of the frames: what a call costs doesn't depend on how many objects
-/// there are.
+/// The store now, and the stores as they were at the entries of the frames. What entering and leaving a body costs depends on what it
+/// changed and on what isn't at its full level, and not on how many objects there are.
 #[derive(Drop)]
 pub struct Stores {
     pub(crate) store: Store,

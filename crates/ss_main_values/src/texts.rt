@@ -48,12 +48,12 @@ fn value_of(bank: &Bank, model: &Countermodel, term: TermId) -> Option<Value> {
 fn add_valued<'a>(
     valued: &mut Vec<Valued<'a>>,
     locals: &'a [Local],
-    meants: &[Meant],
+    meanings: &[Meant],
     bank: &Bank,
     model: &Countermodel,
 ) -> Result<(), AllocError> {
     for number in 0..locals.len() {
-        if let Some(Meant::Term(term)) = meants.get(number) {
+        if let Some(Meant::Term(term)) = meanings.get(number) {
             if let Some(value) = value_of(bank, model, *term) {
                 let name = locals[number].name.as_str();
                 valued.push(Valued { name, value })?;
@@ -67,13 +67,13 @@ fn add_valued<'a>(
 fn valued_locals<'a>(
     alloc: Global,
     body: &'a Body,
-    meants: &[Meant],
+    meanings: &[Meant],
     bank: &Bank,
     model: &Countermodel,
 ) -> Result<Vec<Valued<'a>>, AllocError> {
     let mut valued = Vec::new(alloc);
-    add_valued(&mut valued, &body.params, meants, bank, model)?;
-    let others = meants.get(body.params.len()..).unwrap_or(&[]);
+    add_valued(&mut valued, &body.params, meanings, bank, model)?;
+    let others = meanings.get(body.params.len()..).unwrap_or(&[]);
     add_valued(&mut valued, &body.locals, others, bank, model)?;
     Ok(valued)
 }
