@@ -1,5 +1,5 @@
 -- Conditions and terms of a contract, in each body that has it.
-use Rattle.std.proofs.Common.{◌≡◌, ℕ, zero, suc, ◌+◌, ◌<◌, List, [], ◌∷◌, ◌++◌, length, map, Bool, true, false, Option, Some, None, refl, sym, ◌∙◌, ap, subst, arith, length-append, ⊎_elim}
+use Rattle.std.proofs.Common.{inl, ◌≡◌, ℕ, zero, suc, ◌+◌, ◌<◌, List, [], ◌∷◌, ◌++◌, length, map, Bool, true, false, Option, Some, None, refl, sym, ◌∙◌, ap, subst, arith, length-append, ⊎_elim}
 use Rattle.std.specs.Prelude.{not, ◌==◌, ◌&&◌, ◌||◌, slice_get, unwrap_or, is_some, option_to_list, if◌then◌else◌}
 use Rattle.std.proofs.lemmas.Bool.{and_from, cases_Bool, or_left, or_right, eq-eqb, ne_eqb, lt-ltb, le-leb, false≢true}
 use Rattle.std.proofs.lemmas.Option.{slice_get_within}
@@ -166,11 +166,14 @@ module _ (P : TypedTree) (C : List core.ClassTree) (chain : IsChain C) (y : core
       let seven = is.bound in
       omega arith
 
-  read : Reads (contract_context d) is.numbers (local_types above)
+  this_above : (k : ℕ) → slice_get (contract_context d).locals 0 ≡ Some (class_type k true) → bare (slice_get (local_types above) 0) ≡ bare (Some (class_type k true))
+  this_above k h = ap bare (in_above 0 (class_type k true) h)
+
+  read : Reads C (contract_context d) is.numbers (local_types above)
   read = record {
-    locals = λ n t h. (t, ap (slice_get (local_types above)) (number_is n) ∙ in_above n t h, refl);
-    this = λ t h. (t, in_above 0 t h, refl);
-    result = λ t h. (t, outcome_at y.result t (is.result ∙ sym same.result ∙ h), refl);
+    locals = λ n t h. ap bare (ap (slice_get (local_types above)) (number_is n) ∙ in_above n t h);
+    this = λ k h. inl (this_above k h);
+    result = λ t h. ap bare (outcome_at y.result t (is.result ∙ sym same.result ∙ h));
     bound = bound_above;
   }
 
@@ -226,7 +229,7 @@ module _ (P : TypedTree) (C : List core.ClassTree) (chain : IsChain C) (y : core
   typed_here w e s = ap (λ z. if z then types.type_of C (local_types y) (plain is.numbers e) else None) (plain_words P C y (contract_context d) is.numbers apart w 0 e s.fit s.callless s.words)
 
   narrow_here : (w : Allowed) (e : ExprTree) → IsSound P C d w e → Narrows C (bare (type_of e)) (typed C y (words w) (plain is.numbers e))
-  narrow_here w e s = subst (Narrows C (bare (type_of e))) (sym (typed_here w e s)) (narrow_type P C chain (contract_context d) is.numbers (local_types above) (local_types y) read narrowed e s.fit s.callless)
+  narrow_here w e s = subst (Narrows C (bare (type_of e))) (sym (typed_here w e s)) (narrow_type P C chain (contract_context d) is.numbers (local_types above) (local_types y) read this_above narrowed e s.fit s.callless)
 
   condition_here : (w : Allowed) (e : ExprTree) → IsSoundCondition P C d w e → is_condition C y (words w) (plain is.numbers e) ≡ true
   condition_here w e s = bool_same C (bare (type_of e)) (typed C y (words w) (plain is.numbers e)) (narrow_here w e s.sound) ∙ bare_bool (type_of e) ∙ s.truth

@@ -1,5 +1,5 @@
 -- The invariants of each class are truth values over `this`.
-use Rattle.std.proofs.Common.{◌≡◌, ℕ, zero, suc, ◌+◌, ◌*◌, ◌<◌, List, [], ◌∷◌, ◌++◌, length, map, Bool, true, false, Option, Some, None, refl, sym, ◌∙◌, ap, subst, arith}
+use Rattle.std.proofs.Common.{inl, ◌≡◌, ℕ, zero, suc, ◌+◌, ◌*◌, ◌<◌, List, [], ◌∷◌, ◌++◌, length, map, Bool, true, false, Option, Some, None, refl, sym, ◌∙◌, ap, subst, arith}
 use Rattle.std.specs.Prelude.{slice_get}
 use Rattle.std.specs.List.{list_all}
 use Rattle.std.proofs.lemmas.Bool.{and_from, false≢true, lt-ltb}
@@ -44,9 +44,10 @@ use Rattle.ss_expand_admissible.proofs.Classes.{class_at}
 use Rattle.ss_expand_formed.specs.Laws.{core_of}
 use Rattle.ss_expand_formed.proofs.Facts.{none_left}
 use Rattle.ss_expand_formed.proofs.Places.{each_at, members_at}
-use Rattle.ss_expand_formed.proofs.ChainLaw.{written_at, size, none_at}
+use Rattle.ss_expand_formed.proofs.ChainLaw.{written_at, size, none_at, has_chain}
 use Rattle.ss_expand_formed_expressions.proofs.Fit.{Context}
-use Rattle.ss_expand_formed_expressions.proofs.Plain.{Reads, bare_bool, plain_type}
+use Rattle.ss_expand_formed_expressions.proofs.Exact.{exact_type}
+use Rattle.ss_expand_formed_expressions.proofs.Plain.{Reads, bare, bare_bool}
 use Rattle.ss_expand_formed_expressions.proofs.Places.{At, IsKnown, IsPlace}
 use Rattle.ss_expand_formed_expressions.proofs.Conditions.{condition_sound}
 use Rattle.ss_expand_formed_contracts.specs.Laws.{HaveInvariants}
@@ -84,8 +85,11 @@ one_at : (u : Ty) (n : ℕ) (t : Ty) → slice_get (u ∷ []) n ≡ Some t → u
 one_at u zero t h = same_Some _ _ h
 one_at u (suc n) t h = absurd (let z : ⊥ = cc in z)
 
-reads_this : (k : ℕ) → Reads (context_in_class k) invariant_numbers (invariant_types (class_number k))
-reads_this k = record { locals = λ n t h. (t, h, refl); this = λ t h. (t, h, refl); result = λ t h. absurd (let z : ⊥ = cc in z); bound = refl }
+this_at : (k d : ℕ) → slice_get (invariant_types (class_number k)) 0 ≡ Some (class_type d true) → bare (slice_get (invariant_types (class_number k)) 0) ≡ bare (Some (class_type d true))
+this_at k d h = ap bare h
+
+reads_this : (C : List core.ClassTree) (k : ℕ) → Reads C (context_in_class k) invariant_numbers (invariant_types (class_number k))
+reads_this C k = record { locals = λ n t h. ap bare h; this = λ d h. inl (this_at k d h); result = λ t h. absurd (let z : ⊥ = cc in z); bound = refl }
 
 module _ (p : ProgramTree) (faultless : program_faults p ≡ []) (typed_well : programs.type_faults p ≡ []) (owned : ownership_faults (resolved p) ≡ []) where
   abbrev C : List core.ClassTree
@@ -105,7 +109,7 @@ module _ (p : ProgramTree) (faultless : program_faults p ≡ []) (typed_well : p
       let value = (none_left (faults (types.in_class p.classes k true) AsValue y) (wrong (class_scope p.classes k) ABool y) typed).0 in
       let answered = answers p (context_in_class k) false false NoWord refl (place_in_class k) y named value words in
       let c = condition_sound p faultless (context_in_class k) (known_in_class k l) false false false (place_in_class k) (is_place_in_class k l) y answered named typed in
-      ap is_bool (plain_type (resolved p) C (context_in_class k) invariant_numbers (invariant_types (class_number k)) (reads_this k) 0 (expr (class_env p.classes k) y) c.fit c.calls) ∙ bare_bool (type_of (expr (class_env p.classes k) y)) ∙ c.type
+      ap is_bool (exact_type (resolved p) C (context_in_class k) invariant_numbers (invariant_types (class_number k)) (has_chain p faultless) (reads_this C k) (this_at k) 0 (expr (class_env p.classes k) y) c.fit c.calls) ∙ bare_bool (type_of (expr (class_env p.classes k) y)) ∙ c.type
 
   -- ---- the invariants of a class
 

@@ -10,7 +10,7 @@ use Rattle.ss_core.specs.Tree as core
 use Rattle.ss_core.specs.Chain.{IsChain}
 use Rattle.ss_core.proofs.Chains.{below_trans}
 use Rattle.ss_typed.specs.Tree.{ExprTree, IntOf, BoolOf, NullOf, ThisOf, LocalOf, ResultOf, BoundOf, IffOf, ImpliesOf, BinaryOf, IsOf, AsOf, NegateOf, NotOf, CastOf, FieldOf, ElementOf, LengthOf, OldOf, QuantifiedOf, StateOf, OwnersOf, NewOf, NewArrayOf, CallOf, StaticOf, BaseOf, TypedTree}
-use Rattle.ss_typed.specs.Types.{type_of}
+use Rattle.ss_typed.specs.Types.{class_type, type_of}
 use Rattle.ss_expand_rules.specs.Numbers.{Numbers, number, plain}
 use Rattle.ss_expand_rules.specs.Calls.{has_call}
 use Rattle.ss_store_rules.specs.Changes.{below, is_array}
@@ -19,7 +19,8 @@ use Rattle.ss_store_rules.specs.Types as types
 use Rattle.ss_expand_formed.proofs.Facts.{or_false}
 use Rattle.ss_expand_formed.proofs.Searching.{at_front, at_back}
 use Rattle.ss_expand_formed_expressions.proofs.Fit.{Context, Fit}
-use Rattle.ss_expand_formed_expressions.proofs.Plain.{Reads, bare, bare_class, with_bound, plain_type}
+use Rattle.ss_expand_formed_expressions.proofs.Exact.{exact_type}
+use Rattle.ss_expand_formed_expressions.proofs.Plain.{Reads, bare, bare_class, with_bound}
 
 -- it is the same type, or that of a class below, which isn't one of arrays
 pub data Narrows (C : List core.ClassTree) (a b : Option Ty) : Type 0 where
@@ -90,7 +91,8 @@ one_more C ts tys t h = record { count = longer ts tys h.count; each = at }
 two_false : (a b c : Bool) → (a || b || c) ≡ false → (a ≡ false) × (b ≡ false) × (c ≡ false)
 two_false a b c h = let one = or_false (a || b) c h in let two = or_false a b one.0 in (two.0, two.1, one.1)
 
-module _ (P : TypedTree) (C : List core.ClassTree) (chain : IsChain C) (x : Context) (ns : Numbers) (ts tys : List Ty) (reads : Reads x ns ts) (narrowed : AreNarrowed C ts tys) where
+module _ (P : TypedTree) (C : List core.ClassTree) (chain : IsChain C) (x : Context) (ns : Numbers) (ts tys : List Ty) (reads : Reads C x ns ts)
+    (exact : (d : ℕ) → slice_get x.locals 0 ≡ Some (class_type d true) → bare (slice_get ts 0) ≡ bare (Some (class_type d true))) (narrowed : AreNarrowed C ts tys) where
   bound_narrowed : (k : ℕ) → AreNarrowed C (with_bound ts k) (with_bound tys k)
   bound_narrowed zero = narrowed
   bound_narrowed (suc k) = one_more C (with_bound ts k) (with_bound tys k) ty.Int (bound_narrowed k)
@@ -115,7 +117,7 @@ module _ (P : TypedTree) (C : List core.ClassTree) (chain : IsChain C) (x : Cont
   references k e h = reference_same C (Above k e) (In k e) h
 
   arrays : (k : ℕ) (e : ExprTree) → Fit P C x k e → has_call e ≡ false → has_class (is_array C) (type_of e) ≡ true → Narrow k e → In k e ≡ Above k e
-  arrays k e f without h n = array_same C (Above k e) (In k e) n (ap (has_class (is_array C)) (plain_type P C x ns ts reads k e f without) ∙ bare_class (is_array C) (type_of e) ∙ h)
+  arrays k e f without h n = array_same C (Above k e) (In k e) n (ap (has_class (is_array C)) (exact_type P C x ns ts chain reads exact k e f without) ∙ bare_class (is_array C) (type_of e) ∙ h)
 
   pub narrow : (k : ℕ) (e : ExprTree) → Fit P C x k e → has_call e ≡ false → Narrow k e
   narrow k (IntOf p n) f without = Same refl
@@ -142,7 +144,7 @@ module _ (P : TypedTree) (C : List core.ClassTree) (chain : IsChain C) (x : Cont
   narrow k (FieldOf p e g t) f without =
       let r = f.1 in
       let test = λ (c : ℕ). below C c r.field.class in
-      let over : has_class test (Above k e) ≡ true = ap (has_class test) (plain_type P C x ns ts reads k e f.0 without) ∙ bare_class test (type_of e) ∙ r.has in
+      let over : has_class test (Above k e) ≡ true = ap (has_class test) (exact_type P C x ns ts chain reads exact k e f.0 without) ∙ bare_class test (type_of e) ∙ r.has in
       let here = below_stays C chain r.field.class (Above k e) (In k e) (narrow k e f.0 without) over in
       Same (ap (field_read_type C (In k e)) r.there ∙ ap (λ b. where_typed b (types.plain r.field.field.ty)) here ∙ sym (ap (field_read_type C (Above k e)) r.there ∙ ap (λ b. where_typed b (types.plain r.field.field.ty)) over))
   narrow k (ElementOf p a i) f without =
@@ -168,4 +170,4 @@ module _ (P : TypedTree) (C : List core.ClassTree) (chain : IsChain C) (x : Cont
 
   -- the type in the body is that of the expression, or a lower one
   pub narrow_type : (e : ExprTree) → Fit P C x 0 e → has_call e ≡ false → Narrows C (bare (type_of e)) (types.type_of C tys (plain ns e))
-  narrow_type e f without = subst (λ t. Narrows C t (types.type_of C tys (plain ns e))) (plain_type P C x ns ts reads 0 e f without) (narrow 0 e f without)
+  narrow_type e f without = subst (λ t. Narrows C t (types.type_of C tys (plain ns e))) (exact_type P C x ns ts chain reads exact 0 e f without) (narrow 0 e f without)

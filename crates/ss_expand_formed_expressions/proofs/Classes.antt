@@ -69,6 +69,21 @@ place_is t k h = by (nat_le 4 t && t % 2 == 0) refl h
         omega arith
     by false e g = absurd (let z : ⊥ = cc in z)
 
+-- ---- searching
+
+pub found_place : {X : Type 0} (test : X → Bool) (xs : List X) (y : X) → find test xs ≡ Some y → slice_get xs (unwrap_or (position test xs) 0) ≡ Some y
+found_place test xs y e =
+    let there : slice_get xs (position_or_len test xs) ≡ Some y = sym (find_at test xs) ∙ e in
+    rw (lt-ltb _ _ (slice_get_within xs (position_or_len test xs) y there)) there
+
+pub find_passes : {X : Type 0} (test : X → Bool) (xs : List X) (y : X) → find test xs ≡ Some y → test y ≡ true
+find_passes test [] y h = absurd (let z : ⊥ = cc in z)
+find_passes test (x ∷ xs) y h =
+    ⊎_elim
+    (λ yes. let g : Some x ≡ Some y = rw yes at h in subst (λ z. test z ≡ true) (same_Some _ _ g) yes)
+    (λ other. find_passes test xs y (rw other at h))
+    (cases_Bool (test x))
+
 module _ (p : ProgramTree) (faultless : program_faults p ≡ []) where
   abbrev C : List core.ClassTree
   C = (core_of p).classes
@@ -159,19 +174,6 @@ module _ (p : ProgramTree) (faultless : program_faults p ≡ []) where
   field_first : (n : List ℕ) (f : Declared FieldTree) (ks : List ℕ) → first_field p.classes n ks ≡ Some f → field_in (members_at p.classes f.class) n ≡ Some f.member
   field_first n f [] h = absurd (let z : ⊥ = cc in z)
   field_first n f (k ∷ ks) h = field_of_first n f k ks (field_in (members_at p.classes k) n) refl (field_first n f ks) h
-
-  found_place : {X : Type 0} (test : X → Bool) (xs : List X) (y : X) → find test xs ≡ Some y → slice_get xs (unwrap_or (position test xs) 0) ≡ Some y
-  found_place test xs y e =
-      let there : slice_get xs (position_or_len test xs) ≡ Some y = sym (find_at test xs) ∙ e in
-      rw (lt-ltb _ _ (slice_get_within xs (position_or_len test xs) y there)) there
-
-  find_passes : {X : Type 0} (test : X → Bool) (xs : List X) (y : X) → find test xs ≡ Some y → test y ≡ true
-  find_passes test [] y h = absurd (let z : ⊥ = cc in z)
-  find_passes test (x ∷ xs) y h =
-      ⊎_elim
-      (λ yes. let g : Some x ≡ Some y = rw yes at h in subst (λ z. test z ≡ true) (same_Some _ _ g) yes)
-      (λ other. find_passes test xs y (rw other at h))
-      (cases_Bool (test x))
 
   member_class : (n : List ℕ) (m : FieldTree) (o : Option ClassTree) → field_in (members_in o) n ≡ Some m → (c : ClassTree) × (o ≡ Some c)
   member_class n m None e = absurd (let x : ⊥ = cc in x)

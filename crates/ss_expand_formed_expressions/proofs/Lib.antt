@@ -10,3 +10,14 @@ pub mod MemberReads
 pub mod Questions
 pub mod Sources
 pub mod Conditions
+pub mod Environments
+pub mod Bodies
+pub mod BodyPlaces
+pub mod ContractNumbers
+pub mod Answered
+pub mod Methods
+pub mod CallsSound
+pub mod CallCases
+pub mod CallsBehind
+pub mod CallsFit
+pub mod Exact

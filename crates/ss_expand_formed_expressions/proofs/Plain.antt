@@ -1,5 +1,5 @@
 -- The type of an expression in the numbers of a body is that of the resolved expression.
-use Rattle.std.proofs.Common.{◌≡◌, ℕ, zero, suc, ◌+◌, ◌<◌, List, [], ◌∷◌, ◌++◌, length, Bool, true, false, Option, Some, None, refl, sym, ◌∙◌, ap, arith, ⊎_elim}
+use Rattle.std.proofs.Common.{◌≡◌, ℕ, zero, suc, ◌+◌, ◌<◌, List, [], ◌∷◌, ◌++◌, length, Bool, true, false, Option, Some, None, refl, sym, ◌∙◌, ap, arith, ⊎_elim, subst, inl, ◌⊎◌}
 use Rattle.std.specs.Prelude.{◌&&◌, ◌||◌, ◌==◌, ◌-◌, slice_get, option_map, if◌then◌else◌}
 use Rattle.std.proofs.lemmas.Bool.{false≢true, cases_lt}
 use Rattle.std.proofs.lemmas.Option.{slice_get_within}
@@ -8,6 +8,8 @@ use Rattle.ss_core.specs.declared.names.Ty.TheVariants as ty
 use Rattle.ss_core.specs.declared.expr.Operator.{Operator}
 use Rattle.ss_core.specs.declared.expr.Operator.TheVariants as op
 use Rattle.ss_core.specs.Tree as core
+use Rattle.ss_core.specs.Chain.{IsChain}
+use Rattle.ss_core.proofs.Chains.{below_trans}
 use Rattle.ss_typed.specs.Tree.{ExprTree, IntOf, BoolOf, NullOf, ThisOf, LocalOf, ResultOf, BoundOf, IffOf, ImpliesOf, BinaryOf, IsOf, AsOf, NegateOf, NotOf, CastOf, FieldOf, ElementOf, LengthOf, OldOf, QuantifiedOf, StateOf, OwnersOf, NewOf, NewArrayOf, CallOf, StaticOf, BaseOf, TypedTree}
 use Rattle.ss_typed.specs.Types.{class_type, type_of}
 use Rattle.ss_typed.specs.Types as typed
@@ -65,21 +67,6 @@ bare_fits C (ty.Ref c n) (ty.Ref t m) = refl
 pub bare_fitting : (C : List core.ClassTree) (a : Option Ty) (t : Ty) → has_fitting C (bare a) t ≡ has_fitting C a t
 bare_fitting C None t = refl
 bare_fitting C (Some a) t = bare_fits C a t
-
-bare_operation : (o : Operator) (a b : Option Ty) → operation_type o (bare a) (bare b) ≡ operation_type o a b
-bare_operation op.Or a b = rw (bare_bool a, bare_bool b) refl
-bare_operation op.And a b = rw (bare_bool a, bare_bool b) refl
-bare_operation op.Equal a b = rw (bare_int a, bare_int b, bare_bool a, bare_bool b, bare_reference a, bare_reference b) refl
-bare_operation op.NotEqual a b = rw (bare_int a, bare_int b, bare_bool a, bare_bool b, bare_reference a, bare_reference b) refl
-bare_operation op.Less a b = rw (bare_int a, bare_int b) refl
-bare_operation op.LessEqual a b = rw (bare_int a, bare_int b) refl
-bare_operation op.Greater a b = rw (bare_int a, bare_int b) refl
-bare_operation op.GreaterEqual a b = rw (bare_int a, bare_int b) refl
-bare_operation op.Add a b = rw (bare_int a, bare_int b) refl
-bare_operation op.Subtract a b = rw (bare_int a, bare_int b) refl
-bare_operation op.Multiply a b = rw (bare_int a, bare_int b) refl
-bare_operation op.Divide a b = rw (bare_int a, bare_int b) refl
-bare_operation op.Remainder a b = rw (bare_int a, bare_int b) refl
 
 operation_plain : (o : Operator) → types.plain (typed.operation_type o) ≡ typed.operation_type o
 operation_plain op.Or = refl
@@ -146,11 +133,61 @@ bound_at ts (suc k) n l =
     ap (slice_get (with_bound ts k ++ ty.Int ∷ [])) i ∙ at_back (with_bound ts k) (ty.Int ∷ []) 0)
     (cases_lt n k)
 
+-- ---- heirs
+
+-- the value is of a class below the one that the resolved program has for it, as `this` is in an inherited contract
+pub record IsHeir (C : List core.ClassTree) (u t : Option Ty) : Type 0 where
+  pub class : ℕ
+  pub above : ℕ
+  pub has : u ≡ Some (class_type class false)
+  pub stands_for : t ≡ Some (class_type above true)
+  pub below : below C class above ≡ true
+  pub no_array : is_array C above ≡ false
+
+-- the type is that of the resolved program without its `!`, or that of an heir
+abbrev pub Lower : List core.ClassTree → Option Ty → Option Ty → Type 0
+Lower C u t = (u ≡ bare t) ⊎ IsHeir C u t
+
+module _ (C : List core.ClassTree) (u t : Option Ty) where
+  pub lower_int : Lower C u t → is_int u ≡ is_int t
+  lower_int l = ⊎_elim (λ e. ap is_int e ∙ bare_int t) (λ h. ap is_int h.has ∙ sym (ap is_int h.stands_for)) l
+
+  pub lower_bool : Lower C u t → is_bool u ≡ is_bool t
+  lower_bool l = ⊎_elim (λ e. ap is_bool e ∙ bare_bool t) (λ h. ap is_bool h.has ∙ sym (ap is_bool h.stands_for)) l
+
+  pub lower_reference : Lower C u t → is_reference u ≡ is_reference t
+  lower_reference l = ⊎_elim (λ e. ap is_reference e ∙ bare_reference t) (λ h. ap is_reference h.has ∙ sym (ap is_reference h.stands_for)) l
+
+  pub lower_array : Lower C u t → has_class (is_array C) t ≡ true → u ≡ bare t
+  lower_array l g = ⊎_elim (λ e. e) (λ h. absurd (false≢true (sym h.no_array ∙ sym (ap (has_class (is_array C)) h.stands_for) ∙ g))) l
+
+  pub lower_below : IsChain C → (d : ℕ) → Lower C u t → has_class (λ c. below C c d) t ≡ true → has_class (λ c. below C c d) u ≡ true
+  lower_below chain d l g =
+      ⊎_elim
+      (λ e. ap (has_class (λ c. below C c d)) e ∙ bare_class (λ c. below C c d) t ∙ g)
+      (λ h. ap (has_class (λ c. below C c d)) h.has ∙ below_trans C chain h.class h.above d h.below (sym (ap (has_class (λ c. below C c d)) h.stands_for) ∙ g))
+      l
+
+lower_operation : (C : List core.ClassTree) (o : Operator) (u v t s : Option Ty) → Lower C u t → Lower C v s → operation_type o u v ≡ operation_type o t s
+lower_operation C op.Or u v t s l m = rw (lower_bool C u t l, lower_bool C v s m) refl
+lower_operation C op.And u v t s l m = rw (lower_bool C u t l, lower_bool C v s m) refl
+lower_operation C op.Equal u v t s l m = rw (lower_int C u t l, lower_int C v s m, lower_bool C u t l, lower_bool C v s m, lower_reference C u t l, lower_reference C v s m) refl
+lower_operation C op.NotEqual u v t s l m = rw (lower_int C u t l, lower_int C v s m, lower_bool C u t l, lower_bool C v s m, lower_reference C u t l, lower_reference C v s m) refl
+lower_operation C op.Less u v t s l m = rw (lower_int C u t l, lower_int C v s m) refl
+lower_operation C op.LessEqual u v t s l m = rw (lower_int C u t l, lower_int C v s m) refl
+lower_operation C op.Greater u v t s l m = rw (lower_int C u t l, lower_int C v s m) refl
+lower_operation C op.GreaterEqual u v t s l m = rw (lower_int C u t l, lower_int C v s m) refl
+lower_operation C op.Add u v t s l m = rw (lower_int C u t l, lower_int C v s m) refl
+lower_operation C op.Subtract u v t s l m = rw (lower_int C u t l, lower_int C v s m) refl
+lower_operation C op.Multiply u v t s l m = rw (lower_int C u t l, lower_int C v s m) refl
+lower_operation C op.Divide u v t s l m = rw (lower_int C u t l, lower_int C v s m) refl
+lower_operation C op.Remainder u v t s l m = rw (lower_int C u t l, lower_int C v s m) refl
+
 -- the numbers of a body, whose locals have these types, stand for what the context has
-pub record Reads (x : Context) (ns : Numbers) (tys : List Ty) : Type 0 where
-  pub locals : (y : ℕ) (t : Ty) → slice_get x.locals y ≡ Some t → (u : Ty) × (slice_get tys (number ns y) ≡ Some u) × (types.plain u ≡ types.plain t)
-  pub this : (t : Ty) → slice_get x.locals 0 ≡ Some t → (u : Ty) × (slice_get tys 0 ≡ Some u) × (types.plain u ≡ types.plain t)
-  pub result : (t : Ty) → x.result ≡ Some t → (u : Ty) × (slice_get tys ns.outcome ≡ Some u) × (types.plain u ≡ types.plain t)
+pub record Reads (C : List core.ClassTree) (x : Context) (ns : Numbers) (tys : List Ty) : Type 0 where
+  pub locals : (y : ℕ) (t : Ty) → slice_get x.locals y ≡ Some t → bare (slice_get tys (number ns y)) ≡ bare (Some t)
+  pub this : (d : ℕ) → slice_get x.locals 0 ≡ Some (class_type d true) → Lower C (bare (slice_get tys 0)) (Some (class_type d true))
+  pub result : (t : Ty) → x.result ≡ Some t → bare (slice_get tys ns.outcome) ≡ bare (Some t)
   pub bound : length tys ≡ ns.first_bound
 
 -- ---- expressions
@@ -163,68 +200,81 @@ both false b h g = h
 two_false : (a b c : Bool) → (a || b || c) ≡ false → (a ≡ false) × (b ≡ false) × (c ≡ false)
 two_false a b c h = let one = or_false (a || b) c h in let two = or_false a b one.0 in (two.0, two.1, one.1)
 
-module _ (P : TypedTree) (C : List core.ClassTree) (x : Context) (ns : Numbers) (tys : List Ty) (reads : Reads x ns tys) where
-  read_at : (k n : ℕ) (t : Ty) → (u : Ty) × (slice_get tys n ≡ Some u) × (types.plain u ≡ types.plain t) → bare (slice_get (with_bound tys k) n) ≡ Some (types.plain t)
-  read_at k n t r = ap bare (stays tys k n r.0 r.1) ∙ ap Some r.2
+module _ (P : TypedTree) (C : List core.ClassTree) (x : Context) (ns : Numbers) (tys : List Ty) (chain : IsChain C) (reads : Reads C x ns tys) where
+  pub read_at : (k n : ℕ) (t : Ty) → bare (slice_get tys n) ≡ bare (Some t) → bare (slice_get (with_bound tys k) n) ≡ bare (slice_get tys n)
+  read_at k n t r = by (slice_get tys n) refl r
+    where
+      by : (o : Option Ty) → slice_get tys n ≡ o → bare o ≡ bare (Some t) → bare (slice_get (with_bound tys k) n) ≡ bare (slice_get tys n)
+      by None e g = absurd (let z : ⊥ = cc in z)
+      by (Some u) e g = ap bare (stays tys k n u e ∙ sym e)
+
+  -- `this` has a type in the body
+  this_at : (k : ℕ) (d : ℕ) → Lower C (bare (slice_get tys 0)) (Some (class_type d true)) → Lower C (bare (slice_get (with_bound tys k) 0)) (Some (class_type d true))
+  this_at k d l = subst (λ o. Lower C o (Some (class_type d true))) (sym (by (slice_get tys 0) refl l)) l
+    where
+      by : (o : Option Ty) → slice_get tys 0 ≡ o → Lower C (bare o) (Some (class_type d true)) → bare (slice_get (with_bound tys k) 0) ≡ bare (slice_get tys 0)
+      by None e m = ⊎_elim (λ g. absurd (let z : ⊥ = cc in z)) (λ h. absurd (let g = h.has in let z : ⊥ = cc in z)) m
+      by (Some u) e m = ap bare (stays tys k 0 u e ∙ sym e)
 
   -- the type of the expression in the body's numbers
   abbrev In : ℕ → ExprTree → Option Ty
   In k e = types.type_of C (with_bound tys k) (plain ns e)
 
-  int_in : (k : ℕ) (e : ExprTree) → In k e ≡ bare (type_of e) → is_int (type_of e) ≡ true → is_int (In k e) ≡ true
-  int_in k e is h = ap is_int is ∙ bare_int (type_of e) ∙ h
+  abbrev Is : ℕ → ExprTree → Type 0
+  Is k e = Lower C (In k e) (type_of e)
 
-  bool_in : (k : ℕ) (e : ExprTree) → In k e ≡ bare (type_of e) → is_bool (type_of e) ≡ true → is_bool (In k e) ≡ true
-  bool_in k e is h = ap is_bool is ∙ bare_bool (type_of e) ∙ h
+  int_in : (k : ℕ) (e : ExprTree) → Is k e → is_int (type_of e) ≡ true → is_int (In k e) ≡ true
+  int_in k e l h = lower_int C (In k e) (type_of e) l ∙ h
 
-  reference_in : (k : ℕ) (e : ExprTree) → In k e ≡ bare (type_of e) → is_reference (type_of e) ≡ true → is_reference (In k e) ≡ true
-  reference_in k e is h = ap is_reference is ∙ bare_reference (type_of e) ∙ h
+  bool_in : (k : ℕ) (e : ExprTree) → Is k e → is_bool (type_of e) ≡ true → is_bool (In k e) ≡ true
+  bool_in k e l h = lower_bool C (In k e) (type_of e) l ∙ h
 
-  class_in : (test : ℕ → Bool) (k : ℕ) (e : ExprTree) → In k e ≡ bare (type_of e) → has_class test (type_of e) ≡ true → has_class test (In k e) ≡ true
-  class_in test k e is h = ap (has_class test) is ∙ bare_class test (type_of e) ∙ h
+  reference_in : (k : ℕ) (e : ExprTree) → Is k e → is_reference (type_of e) ≡ true → is_reference (In k e) ≡ true
+  reference_in k e l h = lower_reference C (In k e) (type_of e) l ∙ h
 
-  pub plain_type : (k : ℕ) (e : ExprTree) → Fit P C x k e → has_call e ≡ false → In k e ≡ bare (type_of e)
-  plain_type k (IntOf p n) f without = rw f refl
-  plain_type k (BoolOf p b) f without = refl
-  plain_type k (NullOf p) f without = refl
-  plain_type k (ThisOf p t) f without = read_at k 0 (class_type t true) (reads.this (class_type t true) f)
-  plain_type k (LocalOf p y t) f without = read_at k (number ns y) t (reads.locals y t f)
-  plain_type k (ResultOf p t) f without = read_at k ns.outcome f.0 (reads.result f.0 f.2) ∙ ap bare (sym f.1)
-  plain_type k (BoundOf p n) f without = ap (λ i. bare (slice_get (with_bound tys k) (i + n))) (sym reads.bound) ∙ ap bare (bound_at tys k n f)
+  array_in : (k : ℕ) (e : ExprTree) → Is k e → has_class (is_array C) (type_of e) ≡ true → has_class (is_array C) (In k e) ≡ true
+  array_in k e l h = ap (has_class (is_array C)) (lower_array C (In k e) (type_of e) l h) ∙ bare_class (is_array C) (type_of e) ∙ h
+
+  pub plain_type : (k : ℕ) (e : ExprTree) → Fit P C x k e → has_call e ≡ false → Is k e
+  plain_type k (IntOf p n) f without = inl (rw f refl)
+  plain_type k (BoolOf p b) f without = inl refl
+  plain_type k (NullOf p) f without = inl refl
+  plain_type k (ThisOf p t) f without = this_at k t (reads.this t f)
+  plain_type k (LocalOf p y t) f without = inl (read_at k (number ns y) t (reads.locals y t f) ∙ reads.locals y t f)
+  plain_type k (ResultOf p t) f without = inl (read_at k ns.outcome f.0 (reads.result f.0 f.2) ∙ reads.result f.0 f.2 ∙ ap bare (sym f.1))
+  plain_type k (BoundOf p n) f without = inl (ap (λ i. bare (slice_get (with_bound tys k) (i + n))) (sym reads.bound) ∙ ap bare (bound_at tys k n f))
   plain_type k (IffOf p a b) f without =
       let none = or_false (has_call a) (has_call b) without in
-      rw (bool_in k a (plain_type k a f.0 none.0) f.2, bool_in k b (plain_type k b f.1 none.1) f.3) refl
+      inl (rw (bool_in k a (plain_type k a f.0 none.0) f.2, bool_in k b (plain_type k b f.1 none.1) f.3) refl)
   plain_type k (ImpliesOf p a b) f without =
       let none = or_false (has_call a) (has_call b) without in
-      rw (bool_in k a (plain_type k a f.0 none.0) f.2, bool_in k b (plain_type k b f.1 none.1) f.3) refl
+      inl (rw (bool_in k a (plain_type k a f.0 none.0) f.2, bool_in k b (plain_type k b f.1 none.1) f.3) refl)
   plain_type k (BinaryOf p o a b) f without =
       let none = or_false (has_call a) (has_call b) without in
-      ap (λ t. operation_type o t (In k b)) (plain_type k a f.0 none.0)
-      ∙ ap (operation_type o (bare (type_of a))) (plain_type k b f.1 none.1)
-      ∙ bare_operation o (type_of a) (type_of b) ∙ f.2 ∙ ap Some (sym (operation_plain o))
-  plain_type k (IsOf p e t) f without = rw (reference_in k e (plain_type k e f.0 without) f.1, f.2) refl
-  plain_type k (AsOf p e t) f without = rw (reference_in k e (plain_type k e f.0 without) f.1, f.2) refl
-  plain_type k (NegateOf p e) f without = rw (int_in k e (plain_type k e f.0 without) f.1) refl
-  plain_type k (NotOf p e) f without = rw (bool_in k e (plain_type k e f.0 without) f.1) refl
-  plain_type k (CastOf p t non_null e) f without = rw (reference_in k e (plain_type k e f.0 without) f.1, f.2) refl
+      inl (lower_operation C o (In k a) (In k b) (type_of a) (type_of b) (plain_type k a f.0 none.0) (plain_type k b f.1 none.1) ∙ f.2 ∙ ap Some (sym (operation_plain o)))
+  plain_type k (IsOf p e t) f without = inl (rw (reference_in k e (plain_type k e f.0 without) f.1, f.2) refl)
+  plain_type k (AsOf p e t) f without = inl (rw (reference_in k e (plain_type k e f.0 without) f.1, f.2) refl)
+  plain_type k (NegateOf p e) f without = inl (rw (int_in k e (plain_type k e f.0 without) f.1) refl)
+  plain_type k (NotOf p e) f without = inl (rw (bool_in k e (plain_type k e f.0 without) f.1) refl)
+  plain_type k (CastOf p t non_null e) f without = inl (rw (reference_in k e (plain_type k e f.0 without) f.1, f.2) refl)
   plain_type k (FieldOf p e g t) f without =
       let r = f.1 in
-      ap (types.field_read_type C (In k e)) r.there
-      ∙ (rw (class_in (λ c. below C c r.field.class) k e (plain_type k e f.0 without) r.has) refl)
-      ∙ ap (λ u. Some (types.plain u)) r.type
+      inl (ap (types.field_read_type C (In k e)) r.there
+      ∙ (rw (lower_below C (In k e) (type_of e) chain r.field.class (plain_type k e f.0 without) r.has) refl)
+      ∙ ap (λ u. Some (types.plain u)) r.type)
   plain_type k (ElementOf p a i) f without =
       let none = or_false (has_call a) (has_call i) without in
-      ap (λ b. if b then element_of C (In k a) else None) (int_in k i (plain_type k i f.1 none.1) f.3)
-      ∙ ap (element_of C) (plain_type k a f.0 none.0) ∙ element_is C (type_of a) f.2
-  plain_type k (LengthOf p e) f without = rw (class_in (is_array C) k e (plain_type k e f.0 without) f.1) refl
+      inl (ap (λ b. if b then element_of C (In k a) else None) (int_in k i (plain_type k i f.1 none.1) f.3)
+      ∙ ap (element_of C) (lower_array C (In k a) (type_of a) (plain_type k a f.0 none.0) f.2) ∙ element_is C (type_of a) f.2)
+  plain_type k (LengthOf p e) f without = inl (rw (array_in k e (plain_type k e f.0 without) f.1) refl)
   plain_type k (OldOf p e) f without = plain_type k e f without
   plain_type k (QuantifiedOf p q name low high e) f without =
       let none = two_false (has_call low) (has_call high) (has_call e) without in
-      rw (int_in k low (plain_type k low f.0 none.0) f.3, int_in k high (plain_type k high f.1 none.1) f.4, bool_in (suc k) e (plain_type (suc k) e f.2 none.2) f.5) refl
-  plain_type k (StateOf p w e) f without = rw (reference_in k e (plain_type k e f.0 without) f.1, f.2) refl
+      inl (rw (int_in k low (plain_type k low f.0 none.0) f.3, int_in k high (plain_type k high f.1 none.1) f.4, bool_in (suc k) e (plain_type (suc k) e f.2 none.2) f.5) refl)
+  plain_type k (StateOf p w e) f without = inl (rw (reference_in k e (plain_type k e f.0 without) f.1, f.2) refl)
   plain_type k (OwnersOf p w a b) f without =
       let none = or_false (has_call a) (has_call b) without in
-      rw (reference_in k a (plain_type k a f.0 none.0) f.2, reference_in k b (plain_type k b f.1 none.1) f.3, f.4) refl
+      inl (rw (reference_in k a (plain_type k a f.0 none.0) f.2, reference_in k b (plain_type k b f.1 none.1) f.3, f.4) refl)
   plain_type k (NewOf p t es) f without = absurd (false≢true (sym without))
   plain_type k (NewArrayOf p t e) f without = absurd (false≢true (sym without))
   plain_type k (CallOf p e m t es) f without = absurd (false≢true (sym without))

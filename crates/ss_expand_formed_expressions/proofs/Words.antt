@@ -1,10 +1,11 @@
 -- An expression in the numbers of a body has the words that its resolved expression may have there.
-use Rattle.std.proofs.Common.{◌≡◌, ℕ, suc, ◌+◌, List, [], ◌++◌, Bool, true, false, Some, refl, sym, ◌∙◌, ap}
-use Rattle.std.specs.Prelude.{◌||◌, not, slice_get}
+use Rattle.std.proofs.Common.{◌≡◌, ℕ, suc, ◌+◌, List, [], ◌++◌, Bool, true, false, Some, refl, sym, ◌∙◌, ap, subst, None}
+use Rattle.std.specs.Prelude.{◌||◌, not, slice_get, if◌then◌else◌}
 use Rattle.std.proofs.lemmas.Bool.{and_from, or_right, false≢true}
 use Rattle.ss_core.specs.declared.names.Place.{Place}
 use Rattle.ss_core.specs.declared.names.Ty.{Ty}
 use Rattle.ss_core.specs.Tree as core
+use Rattle.ss_core.specs.Chain.{IsChain}
 use Rattle.ss_core.specs.Tree.{WordTree, Consistent, Committed, New, Level, Packed, Unowned, StateExpr}
 use Rattle.ss_typed.specs.Tree.{ExprTree, IntOf, BoolOf, NullOf, ThisOf, LocalOf, ResultOf, BoundOf, IffOf, ImpliesOf, BinaryOf, IsOf, AsOf, NegateOf, NotOf, CastOf, FieldOf, ElementOf, LengthOf, OldOf, QuantifiedOf, StateOf, OwnersOf, NewOf, NewArrayOf, CallOf, StaticOf, BaseOf, TypedTree}
 use Rattle.ss_typed.specs.Types.{class_type, type_of}
@@ -17,7 +18,7 @@ use Rattle.ss_store_rules.specs.Locals as locals
 use Rattle.ss_store_rules.specs.Types as types
 use Rattle.ss_expand_formed.proofs.Facts.{none_left, or_false}
 use Rattle.ss_expand_formed_expressions.proofs.Fit.{Context, Fit}
-use Rattle.ss_expand_formed_expressions.proofs.Plain.{Reads, bare, bare_bool, plain_type}
+use Rattle.ss_expand_formed_expressions.proofs.Plain.{Reads, Lower, lower_bool, plain_type}
 
 -- the same words in a body
 abbrev pub words : Allowed → Words
@@ -124,9 +125,10 @@ module _ (P : TypedTree) (C : List core.ClassTree) (b : core.BodyTree) (x : Cont
   plain_words k (BaseOf p m t es) f without h = absurd (false≢true (sym without))
 
   -- the type of the expression in the body
-  pub typed_in : Reads x ns (locals.local_types b) → (e : ExprTree) → Fit P C x 0 e → has_call e ≡ false → misplaced w e ≡ [] → types.typed C b (words w) (plain ns e) ≡ bare (type_of e)
-  typed_in reads e f without h = rw (plain_words 0 e f without h) (plain_type P C x ns (locals.local_types b) reads 0 e f without)
+  pub typed_in : IsChain C → Reads C x ns (locals.local_types b) → (e : ExprTree) → Fit P C x 0 e → has_call e ≡ false → misplaced w e ≡ [] → Lower C (types.typed C b (words w) (plain ns e)) (type_of e)
+  typed_in chain reads e f without h =
+      subst (λ z. Lower C (if z then types.type_of C (locals.local_types b) (plain ns e) else None) (type_of e)) (sym (plain_words 0 e f without h)) (plain_type P C x ns (locals.local_types b) chain reads 0 e f without)
 
   -- a condition
-  pub condition_in : Reads x ns (locals.local_types b) → (e : ExprTree) → Fit P C x 0 e → is_bool (type_of e) ≡ true → has_call e ≡ false → misplaced w e ≡ [] → types.is_condition C b (words w) (plain ns e) ≡ true
-  condition_in reads e f t without h = ap is_bool (typed_in reads e f without h) ∙ bare_bool (type_of e) ∙ t
+  pub condition_in : IsChain C → Reads C x ns (locals.local_types b) → (e : ExprTree) → Fit P C x 0 e → is_bool (type_of e) ≡ true → has_call e ≡ false → misplaced w e ≡ [] → types.is_condition C b (words w) (plain ns e) ≡ true
+  condition_in chain reads e f t without h = lower_bool C (types.typed C b (words w) (plain ns e)) (type_of e) (typed_in chain reads e f without h) ∙ t

@@ -1,0 +1,10 @@
+pub mod Fits
+pub mod Values
+pub mod Lifting
+pub mod Wider
+pub mod Simple
+pub mod Statements
+pub mod Written
+pub mod Bodies
+pub mod Callees
+pub mod Tables
