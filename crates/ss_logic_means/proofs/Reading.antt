@@ -122,7 +122,7 @@ module _ (cs : List ClassTree) (m : Structure) (e : List Value) (h : Heap) where
   length_rest p x (value.Obj o) a d = (
     ((not_null_means cs m e h x (value.Obj o) a.0 d).1 refl, tt),
     mapped_denotes cs m e length_of x (thing (reference o)) (whole (pos (length (object_at Store o).elements))) d (λ t q.
-    ap (λ v. whole (pos (m.table.length_of (as_thing v)))) q ∙ ap (λ n. whole (pos n)) (sym (length_known o a.0 a.1))),
+        ap (λ v. whole (pos (m.table.length_of (as_thing v)))) q ∙ ap (λ n. whole (pos n)) (sym (length_known o a.0 a.1))),
   )
   length_rest p x value.Null a d = λ k. false≢true ((not_null_means cs m e h x value.Null tt d).0 k.0)
   length_rest p x (value.Int n) a d = absurd a

@@ -51,7 +51,7 @@ module _ (cs : List ClassTree) (m : Structure) (e : List Value) (now entry : Hea
   new_rest p x (value.Obj o) l d = (
     ((not_null_means cs m e now x (value.Obj o) l d).1 refl, tt),
     says_denotes cs m e (over x (λ t. neg (allocated s0 t))) (not (reads.is_allocated (objects_of cs m.table entry) o))
-    (over_means cs m e x (λ t. neg (allocated s0 t)) (thing (reference o)) (not (reads.is_allocated (objects_of cs m.table entry) o)) d (λ t q. new_means t o q)),
+        (over_means cs m e x (λ t. neg (allocated s0 t)) (thing (reference o)) (not (reads.is_allocated (objects_of cs m.table entry) o)) d (λ t q. new_means t o q)),
   )
   new_rest p x value.Null l d = λ a. false≢true ((not_null_means cs m e now x value.Null l d).0 a.0)
   new_rest p x (value.Int n) l d = absurd l
