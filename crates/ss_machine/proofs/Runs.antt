@@ -36,7 +36,7 @@ stays c (Done s p) never = refl
 stays c (Failed k at p) never = refl
 stays c (Stopped at s p) never = refl
 
-ended_stays : (c : CoreTree) (input : List ℤ) (k n : ℕ) (s : State) → (IsRunning s → ⊥) → run c input n ≡ s → run c input (k + n) ≡ s
+pub ended_stays : (c : CoreTree) (input : List ℤ) (k n : ℕ) (s : State) → (IsRunning s → ⊥) → run c input n ≡ s → run c input (k + n) ≡ s
 ended_stays c input zero n s never e = let z : zero + n ≡ n = omega arith in ap (run c input) z ∙ e
 ended_stays c input (suc k) n s never e =
     let z : suc k + n ≡ suc (k + n) = omega arith in
@@ -56,7 +56,7 @@ ran_all c input (suc k) m h =
     ran_all c input k m (ran_before c (run c input (k + m)) (subst (λ i. IsRunning (run c input i)) z h))
 
 -- what a step prints
-then_prints : (s : List Object) (p : List ℕ) (n : Next) → printed_in (then_is s p n) ≡ p ++ piece_of n
+pub then_prints : (s : List Object) (p : List ℕ) (n : Next) → printed_in (then_is s p n) ≡ p ++ piece_of n
 then_prints s p (Goes fs t piece) = refl
 then_prints s p (Over t) = sym (append-nil p)
 then_prints s p (Fails k at) = sym (append-nil p)
@@ -204,7 +204,7 @@ running_took c input n steps m old new s le ge =
 
 -- ---- a program without a body for Main
 
-no_main : (c : CoreTree) (input : List ℤ) (n : ℕ) → body_at c c.main ≡ None → run c input n ≡ Done (first_store input) []
+pub no_main : (c : CoreTree) (input : List ℤ) (n : ℕ) → body_at c c.main ≡ None → run c input n ≡ Done (first_store input) []
 no_main c input n e =
     let z : n ≡ n + zero = omega arith in
     ap (run c input) z ∙ ended_stays c input n zero (Done (first_store input) []) (λ r. r) (ap (start_with input) e)

@@ -1,3 +1,4 @@
 pub mod Frames
 pub mod Moves
 pub mod Ends
+pub mod Pieces

@@ -2,6 +2,7 @@
 ghost use Rattle.std.specs.Prelude.{◌≡◌, IfOk, string_bytes};
 ghost use Rattle.ss_machine_rules.specs.Steps as steps;
 ghost use Rattle.ss_machine.specs.Moves.{WriteIs, HasCause};
+ghost use Rattle.ss_machine.specs.Pieces.{WritesOne};
 
 use crate::halt::Halt;
 use ss_io::{Sink, WriteStop};
@@ -42,6 +43,7 @@ pub fn line(alloc: Global, text: &[u8], newline: bool) -> Result<Vec<u8>, AllocE
 // Writes a piece in one write; an empty one makes none.
 pub fn write<S: Sink>(piece: &[u8], out: &mut S) -> Result<(), Halt>
     ensures step { WriteIs result piece.now (S.taken out.old) (S.taken out.new) }
+    ensures pieces { WritesOne result piece.now (S.pieces out.old) (S.pieces out.new) }
     ensures cause { HasCause result (S.faults out.old) (S.faults out.new) }
 {
     if piece.is_empty() {

@@ -2,7 +2,7 @@
 ghost use Rattle.std.specs.Prelude.{◌≡◌, ℕ, ◌<◌, ◌≤◌, ◌^◌, ◌∷◌, [], Some, length, IfOk};
 ghost use Rattle.ss_core.specs.View as view;
 ghost use Rattle.ss_core.specs.Chain.{IsWithinLimits};
-ghost use Rattle.ss_io.specs.Outside.{Grew, GrewByFront, Rose};
+ghost use Rattle.ss_io.specs.Outside.{Grew, GrewByFront, Wrote, Rose};
 ghost use Rattle.ss_store_rules.specs.Admitted.{main_arguments};
 ghost use Rattle.ss_machine_rules.specs.Runs.{run, printed, start_with};
 ghost use Rattle.ss_machine_rules.specs.States.{Running};
@@ -13,6 +13,7 @@ ghost use Rattle.ss_machine_rules.specs.Ends.{IsDoneAt, HasFailed, HasStopped, I
 ghost use Rattle.ss_machine.specs.Ends as ends;
 ghost use Rattle.ss_machine.specs.Ends.{IfDone, IfFailed, IfStopped, OnWhole};
 ghost use Rattle.ss_machine.specs.Frames.{running, waiting};
+ghost use Rattle.ss_machine.specs.Pieces.{pieces, WroteFirst};
 
 use crate::calls::body_at;
 use crate::frame::{Frame, Target, locals_at_entry};
@@ -84,6 +85,7 @@ fn end_of(halt: Halt, steps: u64) -> CheckedEnd
 ///
 /// `Done`, `Failed`, `Stopped` and `Running` say what the run is after these steps, and the sink took all that it printed. `WriteFault`
 /// comes where a write failed, and `Memory` where there was no memory; the sink then took a front of what the run prints.
+/// Each step that prints something makes one write, of its whole piece.
 /// Whatever the program does, each state of the run of a formed one is good until a check has failed: each object meets the invariants
 /// of each class at which it is packed (JOT 2004).
 pub fn run_checked<S: Sink>(
@@ -102,6 +104,9 @@ pub fn run_checked<S: Sink>(
     ensures printed { OnWhole result
         (Grew (S.taken out.old) (S.taken out.new) (printed (view.core core.now) input.now steps)) }
     ensures front { GrewByFront (S.taken out.old) (S.taken out.new) (printed (view.core core.now) input.now steps) }
+    ensures pieces { OnWhole result
+        (Wrote (S.pieces out.old) (S.pieces out.new) (pieces (view.core core.now) input.now steps)) }
+    ensures first_pieces { WroteFirst (S.pieces out.old) (S.pieces out.new) (pieces (view.core core.now) input.now steps) }
     ensures good { IsFormed (view.core core.now) → IsInput input.now → (n : ℕ) → IsGoodState (view.core core.now) (run (view.core core.now) input.now n) }
     ensures faults { S.faults out.old ≤ S.faults out.new }
     ensures cause { result ≡ CheckedEnd.WriteFault → Rose (S.faults out.old) (S.faults out.new) }

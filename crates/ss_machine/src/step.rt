@@ -8,6 +8,7 @@ ghost use Rattle.ss_machine_rules.specs.Steps as steps;
 ghost use Rattle.ss_machine_rules.specs.Steps.{next};
 ghost use Rattle.ss_machine.specs.Frames.{running, waiting};
 ghost use Rattle.ss_machine.specs.Moves.{Does, StepIs, HasCause, IsValue, doing, going, here, is_quiet};
+ghost use Rattle.ss_machine.specs.Pieces.{PieceIs};
 
 use crate::calls::Site;
 use crate::frame::Due;
@@ -21,7 +22,7 @@ use std::alloc::Global;
 
 impl<'a> Machine<'a> {
     // Prints the value of an expression, and a line end, where one is asked for.
-    #[tactic(auto, using(crate::proofs::Quiet::value_stops))]
+    #[tactic(auto, using(crate::proofs::Quiet::value_stops, crate::proofs::Pieces::stopped_piece))]
     fn print_value<S: Sink>(
         &self,
         alloc: Global,
@@ -33,6 +34,8 @@ impl<'a> Machine<'a> {
         requires { IsWithinLimits (view.classes core.now.classes) }
         ensures step { StepIs result (steps.print (Some (view.expr e.now)) newline (view.core core.now) (running self.now) (waiting self.now) self.now.stores.now) self.now
             (S.taken out.old) (S.taken out.new) }
+        ensures pieces { PieceIs result (steps.print (Some (view.expr e.now)) newline (view.core core.now) (running self.now) (waiting self.now) self.now.stores.now)
+            (S.pieces out.old) (S.pieces out.new) }
         ensures cause { HasCause result (S.faults out.old) (S.faults out.new) }
     {
         let value = self.eval(core, e)?;
@@ -52,6 +55,8 @@ impl<'a> Machine<'a> {
         requires { IsWithinLimits (view.classes core.now.classes) }
         ensures step { StepIs result (steps.print (option_map view.expr e.now) newline (view.core core.now) (running self.now) (waiting self.now) self.now.stores.now) self.now
             (S.taken out.old) (S.taken out.new) }
+        ensures pieces { PieceIs result (steps.print (option_map view.expr e.now) newline (view.core core.now) (running self.now) (waiting self.now) self.now.stores.now)
+            (S.pieces out.old) (S.pieces out.new) }
         ensures cause { HasCause result (S.faults out.old) (S.faults out.new) }
     {
         match e {
@@ -69,6 +74,7 @@ impl<'a> Machine<'a> {
         out: &mut S,
     ) -> Result<(), Halt>
         ensures step { StepIs result (going self.now (steps.line text.now newline)) self.now (S.taken out.old) (S.taken out.new) }
+        ensures pieces { PieceIs result (going self.now (steps.line text.now newline)) (S.pieces out.old) (S.pieces out.new) }
         ensures cause { HasCause result (S.faults out.old) (S.faults out.new) }
     {
         let piece = or_memory(printing::line(alloc, text, newline))?;
@@ -168,7 +174,7 @@ impl<'a> Machine<'a> {
     }
 
     // One statement, which the running frame no longer has.
-    #[tactic(auto, using(crate::proofs::Quiet::quiet_step))]
+    #[tactic(auto, using(crate::proofs::Quiet::quiet_step, crate::proofs::Pieces::quiet_piece))]
     fn act<S: Sink>(
         &mut self,
         alloc: Global,
@@ -178,6 +184,7 @@ impl<'a> Machine<'a> {
     ) -> Result<(), Halt>
         requires { IsWithinLimits (view.classes core.now.classes) }
         ensures step { StepIs result (doing (view.core core.now) (view.stmt_of stmt.now) self.old) self.new (S.taken out.old) (S.taken out.new) }
+        ensures pieces { PieceIs result (doing (view.core core.now) (view.stmt_of stmt.now) self.old) (S.pieces out.old) (S.pieces out.new) }
         ensures cause { HasCause result (S.faults out.old) (S.faults out.new) }
     {
         match stmt {
@@ -188,10 +195,11 @@ impl<'a> Machine<'a> {
     }
 
     // One step.
-    #[tactic(auto, using(crate::proofs::Quiet::quiet_step))]
+    #[tactic(auto, using(crate::proofs::Quiet::quiet_step, crate::proofs::Pieces::quiet_piece))]
     pub fn step<S: Sink>(&mut self, alloc: Global, core: &'a Core, out: &mut S) -> Result<(), Halt>
         requires { IsWithinLimits (view.classes core.now.classes) }
         ensures step { StepIs result (next (view.core core.now) (running self.old ∷ waiting self.old) self.old.stores.now) self.new (S.taken out.old) (S.taken out.new) }
+        ensures pieces { PieceIs result (next (view.core core.now) (running self.old ∷ waiting self.old) self.old.stores.now) (S.pieces out.old) (S.pieces out.new) }
         ensures cause { HasCause result (S.faults out.old) (S.faults out.new) }
     {
         match self.top.fetch() {

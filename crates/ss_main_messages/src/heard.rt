@@ -34,6 +34,8 @@ impl<S: Sink + Drop> Sink for Heard<S> {
 
     ghost taken = { λ s. S.taken s.sink };
 
+    ghost pieces = { λ s. S.pieces s.sink };
+
     fn write(&mut self, piece: &[u8]) -> Result<(), WriteStop> {
         self.last.clear();
         let _ = self.last.extend_from_slice(piece);

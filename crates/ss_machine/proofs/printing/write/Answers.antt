@@ -1,0 +1,1 @@
+use Rattle.ss_machine.proofs.printing.write.Goals as goal

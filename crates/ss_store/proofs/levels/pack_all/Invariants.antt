@@ -1,7 +1,0 @@
-use Rattle.std.proofs.Common.{◌≡◌}
-use Rattle.ss_store_rules.specs.Changes.{repacked}
-use Rattle.ss_store.proofs.Loops.{upto}
-use Rattle.ss_store.proofs.levels.pack_all.Given as goal
-
-abbrev pub invariant-loop-i : goal.invariant-loop-i
-invariant-loop-i l = l.objects ≡ upto (repacked l.o l.t.0) l.i l.initial.objects

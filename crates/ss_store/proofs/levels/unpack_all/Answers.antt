@@ -1,7 +1,0 @@
-use Rattle.ss_core.specs.View.{classes}
-use Rattle.ss_store_rules.specs.Changes.{unpacked}
-use Rattle.ss_store.proofs.Loops.{upto_more}
-use Rattle.ss_store.proofs.levels.unpack_all.Goals as goal
-
-pub loop-i-preserved : goal.loop-i-preserved
-loop-i-preserved c = rw c.unpack.ensures (upto_more (unpacked (classes c.args.k.now) c.args.o c.args.t.0) c.args.objects.now c.loop-i.objects c.loop-i.i c.index-objects-i.result c.loop-i-test.true c.loop-i.invariant)
