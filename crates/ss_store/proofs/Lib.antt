@@ -8,3 +8,5 @@ mod Keeping
 mod Groups
 mod Members
 pub mod FirstLocals
+pub mod Undergone
+pub mod Filed

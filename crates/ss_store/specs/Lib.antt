@@ -5,3 +5,6 @@ pub mod Slots
 pub mod Whole
 pub mod Scenes
 pub mod Grouped
+pub mod Effects
+pub mod Listed
+pub mod Full

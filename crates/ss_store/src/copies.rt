@@ -4,6 +4,7 @@ ghost use Rattle.ss_store_rules.specs.Reads.{object_at};
 
 use crate::object::{Object, Slot};
 use crate::store::Store;
+use ss_store_lists::Lists;
 use ss_store_rules::Value;
 use std::alloc::{AllocError, Global};
 
@@ -56,6 +57,7 @@ impl Store {
         Ok(Store {
             objects,
             spare: Vec::new(alloc),
+            lists: Lists::none(alloc),
         })
     }
 

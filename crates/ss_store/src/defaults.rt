@@ -7,6 +7,8 @@ ghost use Rattle.ss_store_rules.specs.Store as model;
 ghost use Rattle.ss_store_rules.specs.Values as values;
 ghost use Rattle.ss_store_rules.specs.Reads as reads;
 ghost use Rattle.ss_store.specs.Scenes.{setting_of};
+ghost use Rattle.ss_store.specs.Listed.{AreListed, holds_at};
+ghost use Rattle.ss_store.specs.Full.{is_full_among};
 
 use crate::arithmetic::same_value;
 use crate::before::Before;
@@ -15,6 +17,7 @@ use crate::owners::{is_group, is_in_group, is_pair_upto};
 use crate::scene::Scene;
 use crate::store::Store;
 use ss_core::{ClassId, Classes, DefaultCondition, Ty};
+use ss_store_lists::Lists;
 use ss_store_rules::{Owner, Value};
 
 // What a new field of the type has.
@@ -56,35 +59,57 @@ fn are_default_upto(table: &Classes, t: ClassId, slots: &[Slot]) -> bool
 
 impl Object {
     // Whether it is at its full level.
-    fn is_full(&self) -> bool
+    pub(crate) fn is_full(&self) -> bool
         ensures { result ≡ reads.is_full self.now }
     {
         self.level == self.class
     }
 }
 
-// Whether each object that is owned by this one at this class or one above it is at its full level.
-fn owned_are_full(table: &Classes, objects: &[Object], o: u32, t: ClassId) -> bool
-    ensures { result ≡ reads.owned_are_full (classes table.now) objects.now o t.0 }
-{
-    for x in objects {
-        if is_pair_upto(table, o, t, x.owner) && !x.is_full() {
-            return false;
-        }
-    }
-    true
+/// Objects by their owner.
+#[derive(Clone, Copy)]
+enum Those<'a> {
+    /// What this object owns at the class or one above it.
+    OwnedUpto(&'a Classes, u32, ClassId),
+    /// The members of the group.
+    Members(u32),
 }
 
-// Whether each member of the group is at its full level.
-fn members_are_full(objects: &[Object], g: u32) -> bool
-    ensures { result ≡ reads.members_are_full objects.now g }
+// Whether the object isn't one of those, or is at its full level.
+fn is_full_among(x: &Object, those: Those<'_>) -> bool
+    ensures { result ≡ is_full_among those.entry x.now }
 {
-    for x in objects {
-        if is_in_group(x.owner, g) && !x.is_full() {
-            return false;
-        }
+    let is_one = match those {
+        Those::OwnedUpto(table, o, t) => is_pair_upto(table, o, t, x.owner),
+        Those::Members(g) => is_in_group(x.owner, g),
+    };
+    !is_one || x.is_full()
+}
+
+fn is_full_at(objects: &[Object], those: Those<'_>, q: u32) -> bool
+    ensures { result ≡ holds_at (is_full_among those.entry) objects.now q }
+{
+    match objects.get(q as usize) {
+        Some(x) => is_full_among(x, those),
+        None => true,
     }
-    true
+}
+
+fn are_full_at(objects: &[Object], those: Those<'_>, positions: &[u32]) -> bool
+    ensures { result ≡ list_all (holds_at (is_full_among those.entry) objects.now) positions.now }
+{
+    positions.iter().all(|q| is_full_at(objects, those, *q))
+}
+
+// Whether each of those objects is at its full level.
+fn are_full(objects: &[Object], lists: &Lists, those: Those<'_>) -> bool
+    requires { AreListed objects.now lists.now }
+    ensures { result ≡ list_all (is_full_among those.entry) objects.now }
+{
+    match lists.unfull() {
+        Some(positions) => are_full_at(objects, those, positions),
+        None => objects.iter().all(|x| is_full_among(x, those)),
+    }
 }
 
 impl Store {
@@ -121,13 +146,13 @@ impl Store {
     fn owned_are_full(&self, table: &Classes, o: u32, t: ClassId) -> bool
         ensures { result ≡ reads.owned_are_full (classes table.now) self.now.objects o t.0 }
     {
-        owned_are_full(table, &self.objects, o, t)
+        are_full(&self.objects, &self.lists, Those::OwnedUpto(table, o, t))
     }
 
     fn members_are_full(&self, g: u32) -> bool
         ensures { result ≡ reads.members_are_full self.now.objects g }
     {
-        members_are_full(&self.objects, g)
+        are_full(&self.objects, &self.lists, Those::Members(g))
     }
 }
 

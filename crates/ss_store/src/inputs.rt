@@ -9,6 +9,7 @@ use crate::defaults::default_value;
 use crate::object::Object;
 use crate::store::Store;
 use ss_core::{Body, ClassId, Core, Local, Ty};
+use ss_store_lists::Lists;
 use ss_store_rules::{Owner, Value};
 use std::alloc::{AllocError, Global};
 
@@ -40,9 +41,12 @@ pub fn first_store(alloc: Global, input: &[i32]) -> Result<Store, AllocError>
         owner: Owner::Group(0),
         ready: true,
     };
+    let mut lists = Lists::new(alloc);
+    lists.add_holder();
     Ok(Store {
         objects: vec![in alloc; array]?,
         spare: Vec::new(alloc),
+        lists,
     })
 }
 

@@ -5,41 +5,19 @@ ghost use Rattle.ss_core.specs.Chain.{most_classes};
 ghost use Rattle.ss_store_rules.specs.Admissible.{invariants_hold};
 ghost use Rattle.std.specs.List.{list_all};
 ghost use Rattle.ss_store_rules.specs.Changes.{IsChange, changed, unpacked, unpack_of, repacked, may_be_committed, pack_of};
+ghost use Rattle.ss_store.specs.Listed.{AreListed, holds_at};
 
+use crate::effects::{Effect, undergo};
+use crate::listed::drop_full;
 use crate::object::Object;
 use crate::owners::is_pair;
 use crate::refused::refuse;
 use crate::store::Store;
 use ss_core::{ClassId, Classes, Core, Kind};
+use ss_store_lists::Lists;
 use ss_store_rules::{Refused, Value};
 
 impl Object {
-    /// The object at `q`, where the one at `o` is unpacked from `t`.
-    fn unpack(&mut self, k: &Classes, o: u32, t: ClassId, q: usize)
-        ensures { self.new ≡ unpacked (classes k.now) o t.0 q self.old }
-    {
-        if is_pair(self.owner, o, t) {
-            self.committed = false;
-        }
-        if q == o as usize {
-            self.level = k.above(t);
-        }
-    }
-}
-
-impl Object {
-    /// The object at `q`, where the one at `o` is packed as `t`.
-    fn pack(&mut self, o: u32, t: ClassId, q: usize)
-        ensures { self.new ≡ repacked o t.0 q self.old }
-    {
-        if is_pair(self.owner, o, t) {
-            self.committed = true;
-        }
-        if q == o as usize {
-            self.level = t;
-        }
-    }
-
     /// Whether the object isn't owned by the one at `o` at `t`, or is at its full level and not committed.
     fn may_be_committed(&self, o: u32, t: ClassId) -> bool
         ensures { result ≡ may_be_committed o t.0 self.now }
@@ -48,16 +26,45 @@ impl Object {
     }
 }
 
-fn unpack_all(objects: &mut [Object], k: &Classes, o: u32, t: ClassId)
+fn unpack_all(objects: &mut [Object], lists: &Lists, k: &Classes, o: u32, t: ClassId)
+    requires { AreListed objects.old lists.now }
     ensures { objects.new ≡ changed (unpacked (classes k.now) o t.0) objects.old }
 {
-    for (i, x) in objects.iter_mut().enumerate() {
-        x.unpack(k, o, t, i);
-    }
+    undergo(
+        objects,
+        lists,
+        Effect::Unpack {
+            object: o,
+            class: t,
+            above: k.above(t),
+        },
+    );
 }
 
-fn unpack(objects: &mut [Object], k: &Classes, o: Value, t: ClassId) -> Result<(), Refused>
-    ensures { IsChange objects.old objects.new result (unpack_of (classes k.now) objects.old o t.0) }
+fn pack_all(objects: &mut [Object], lists: &Lists, o: u32, t: ClassId)
+    requires { AreListed objects.old lists.now }
+    ensures { objects.new ≡ changed (repacked o t.0) objects.old }
+{
+    undergo(
+        objects,
+        lists,
+        Effect::Pack {
+            object: o,
+            class: t,
+        },
+    );
+}
+
+fn unpack(
+    objects: &mut [Object],
+    lists: &mut Lists,
+    k: &Classes,
+    o: Value,
+    t: ClassId,
+) -> Result<(), Refused>
+    requires listed { AreListed objects.old lists.old }
+    ensures change { IsChange objects.old objects.new result (unpack_of (classes k.now) objects.old o t.0) }
+    ensures listed { AreListed objects.new lists.new }
 {
     let Value::Obj(o) = o else {
         return refuse(Kind::Null);
@@ -71,33 +78,54 @@ fn unpack(objects: &mut [Object], k: &Classes, o: Value, t: ClassId) -> Result<(
     if x.committed {
         return refuse(Kind::UnpackCommitted);
     }
-    unpack_all(objects, k, o, t);
+    unpack_all(objects, lists, k, o, t);
+    lists.add_unfull(o);
     Ok(())
 }
 
-fn pack_all(objects: &mut [Object], o: u32, t: ClassId)
-    ensures { objects.new ≡ changed (repacked o t.0) objects.old }
+fn may_be_committed_at(objects: &[Object], o: u32, t: ClassId, q: u32) -> bool
+    ensures { result ≡ holds_at (may_be_committed o t.0) objects.now q }
 {
-    for (i, x) in objects.iter_mut().enumerate() {
-        x.pack(o, t, i);
+    match objects.get(q as usize) {
+        Some(x) => x.may_be_committed(o, t),
+        None => true,
     }
 }
 
-fn may_be_committed(objects: &[Object], o: u32, t: ClassId) -> bool
+fn may_be_committed_among(objects: &[Object], o: u32, t: ClassId, positions: &[u32]) -> bool
+    ensures { result ≡ list_all (holds_at (may_be_committed o t.0) objects.now) positions.now }
+{
+    positions
+        .iter()
+        .all(|q| may_be_committed_at(objects, o, t, *q))
+}
+
+/// Whether all that the object at `o` owns at `t` is at its full level and not committed.
+fn may_commit(objects: &[Object], lists: &Lists, o: u32, t: ClassId) -> bool
+    requires { AreListed objects.now lists.now }
     ensures { result ≡ list_all (may_be_committed o t.0) objects.now }
 {
-    objects.iter().all(|x| x.may_be_committed(o, t))
+    match lists.held(o) {
+        Some(positions) => {
+            may_be_committed_at(objects, o, t, o)
+                && may_be_committed_among(objects, o, t, positions)
+        }
+        None => objects.iter().all(|x| x.may_be_committed(o, t)),
+    }
 }
 
 /// `holds` says whether the invariants of `t` hold of the object.
 fn pack(
     objects: &mut [Object],
+    lists: &mut Lists,
     k: &Classes,
     o: Value,
     t: ClassId,
     holds: bool,
 ) -> Result<(), Refused>
-    ensures { IsChange objects.old objects.new result (pack_of (classes k.now) (λ _ _ _. holds) objects.old o t.0) }
+    requires listed { AreListed objects.old lists.old }
+    ensures change { IsChange objects.old objects.new result (pack_of (classes k.now) (λ _ _ _. holds) objects.old o t.0) }
+    ensures listed { AreListed objects.new lists.new }
 {
     let Value::Obj(o) = o else {
         return refuse(Kind::Null);
@@ -111,10 +139,12 @@ fn pack(
     if !holds {
         return refuse(Kind::Invariant);
     }
-    if !may_be_committed(objects, o, t) {
+    if !may_commit(objects, lists, o, t) {
         return refuse(Kind::PackOwned);
     }
-    pack_all(objects, o, t);
+    lists.add_unfull(o);
+    pack_all(objects, lists, o, t);
+    drop_full(objects, lists);
     Ok(())
 }
 
@@ -134,7 +164,7 @@ impl Store {
         ensures change { IsChange self.old.objects self.new.objects result (pack_of (classes c.now.classes) (λ _ _ _. holds) self.old.objects o t.0) }
         ensures spare { self.new.spare ≡ self.old.spare }
     {
-        pack(&mut self.objects, &c.classes, o, t, holds)
+        pack(&mut self.objects, &mut self.lists, &c.classes, o, t, holds)
     }
 
     /// The object goes to the level above `t`, and what it owns at `t` is no longer committed.
@@ -142,6 +172,6 @@ impl Store {
         ensures change { IsChange self.old.objects self.new.objects result (unpack_of (classes c.now.classes) self.old.objects o t.0) }
         ensures spare { self.new.spare ≡ self.old.spare }
     {
-        unpack(&mut self.objects, &c.classes, o, t)
+        unpack(&mut self.objects, &mut self.lists, &c.classes, o, t)
     }
 }

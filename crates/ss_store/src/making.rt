@@ -96,6 +96,8 @@ impl Store {
             owner: Owner::Group(position),
             ready: false,
         })?;
+        self.lists.add_holder();
+        self.lists.add_unfull(position);
         Ok(position)
     }
 
@@ -120,6 +122,7 @@ impl Store {
             owner: Owner::Group(a),
             ready: true,
         })?;
+        self.lists.add_holder();
         Ok(a)
     }
 

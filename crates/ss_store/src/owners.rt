@@ -4,11 +4,15 @@ ghost use Rattle.ss_core.specs.View.{classes};
 ghost use Rattle.ss_store_rules.specs.Reads.{is_group, is_pair, is_pair_upto, is_in_group, same_owner};
 ghost use Rattle.ss_store_rules.specs.Changes.{IsChange, changed, regrouped, capture_of, join_of};
 ghost use Rattle.ss_store.specs.Shapes.{no_class, HasClass};
+ghost use Rattle.ss_store.specs.Listed.{AreListed};
 
+use crate::effects::{Effect, undergo};
+use crate::listed::refile;
 use crate::object::Object;
 use crate::refused::refuse;
 use crate::store::Store;
 use ss_core::{ClassId, Classes, Kind};
+use ss_store_lists::Lists;
 use ss_store_rules::{Owner, Refused};
 
 /// Whether the owner is a group.
@@ -62,38 +66,35 @@ pub fn same_owner(v: Owner, w: Owner) -> bool
     }
 }
 
-impl Object {
-    /// A member of the group gets the owner.
-    fn regroup(&mut self, g: u32, owner: Owner)
-        requires { HasClass owner }
-        ensures { self.new ≡ regrouped g owner 0 self.old }
-    {
-        if is_in_group(self.owner, g) {
-            self.owner = owner;
-        }
-    }
-}
-
-fn regroup_all(objects: &mut [Object], g: u32, owner: Owner)
-    requires { HasClass owner }
-    ensures { objects.new ≡ changed (regrouped g owner) objects.old }
+/// Each member of the group gets the owner.
+fn regroup(objects: &mut [Object], lists: &mut Lists, g: u32, owner: Owner)
+    requires told { HasClass owner }
+    requires listed { AreListed objects.old lists.old }
+    ensures change { objects.new ≡ changed (regrouped g owner) objects.old }
+    ensures listed { AreListed objects.new lists.new }
 {
-    for (i, x) in objects.iter_mut().enumerate() {
-        let _ = i;
-        x.regroup(g, owner);
-    }
+    undergo(objects, lists, Effect::Regroup { group: g, owner });
+    refile(objects, lists, g);
 }
 
-pub(crate) fn capture(objects: &mut [Object], o: u32, t: ClassId, e: u32) -> Result<(), Refused>
-    requires { t.0 ≢ no_class }
-    ensures { IsChange objects.old objects.new result (capture_of objects.old o t.0 e) }
+pub(crate) fn capture(
+    objects: &mut [Object],
+    lists: &mut Lists,
+    o: u32,
+    t: ClassId,
+    e: u32,
+) -> Result<(), Refused>
+    requires told { t.0 ≢ no_class }
+    requires listed { AreListed objects.old lists.old }
+    ensures change { IsChange objects.old objects.new result (capture_of objects.old o t.0 e) }
+    ensures listed { AreListed objects.new lists.new }
 {
     let Some(y) = objects.get(e as usize) else {
         return refuse(Kind::Null);
     };
     let owner = y.owner;
     if let Owner::Group(g) = owner {
-        regroup_all(objects, g, Owner::Owned(o, t));
+        regroup(objects, lists, g, Owner::Owned(o, t));
         return Ok(());
     }
     if is_pair(owner, o, t) {
@@ -103,8 +104,15 @@ pub(crate) fn capture(objects: &mut [Object], o: u32, t: ClassId, e: u32) -> Res
     }
 }
 
-pub(crate) fn join_peer(objects: &mut [Object], o: u32, e: u32) -> Result<(), Refused>
-    ensures { IsChange objects.old objects.new result (join_of objects.old o e) }
+pub(crate) fn join_peer(
+    objects: &mut [Object],
+    lists: &mut Lists,
+    o: u32,
+    e: u32,
+) -> Result<(), Refused>
+    requires listed { AreListed objects.old lists.old }
+    ensures change { IsChange objects.old objects.new result (join_of objects.old o e) }
+    ensures listed { AreListed objects.new lists.new }
 {
     let Some(x) = objects.get(o as usize) else {
         return refuse(Kind::Null);
@@ -117,12 +125,12 @@ pub(crate) fn join_peer(objects: &mut [Object], o: u32, e: u32) -> Result<(), Re
         return Ok(());
     }
     if let Owner::Group(g) = other {
-        regroup_all(objects, g, owner);
+        regroup(objects, lists, g, owner);
         return Ok(());
     }
     match owner {
         Owner::Group(g) if !committed => {
-            regroup_all(objects, g, other);
+            regroup(objects, lists, g, other);
             Ok(())
         }
         _ => refuse(Kind::PeerOwner),
@@ -136,7 +144,7 @@ impl Store {
         ensures change { IsChange self.old.objects self.new.objects result (capture_of self.old.objects o t.0 e) }
         ensures spare { self.new.spare ≡ self.old.spare }
     {
-        capture(&mut self.objects, o, t, e)
+        capture(&mut self.objects, &mut self.lists, o, t, e)
     }
 
     /// The objects at `o` and `e` get one owner.
@@ -144,6 +152,6 @@ impl Store {
         ensures change { IsChange self.old.objects self.new.objects result (join_of self.old.objects o e) }
         ensures spare { self.new.spare ≡ self.old.spare }
     {
-        join_peer(&mut self.objects, o, e)
+        join_peer(&mut self.objects, &mut self.lists, o, e)
     }
 }

@@ -6,6 +6,7 @@ ghost use Rattle.ss_store_rules.specs.Reads.{object_at};
 use crate::before::Before;
 use crate::object::{NO_CLASS, Object, Slot};
 use ss_core::{ClassId, FieldId};
+use ss_store_lists::Lists;
 use ss_store_rules::Value;
 use std::alloc::Global;
 use std::marker::Model;
@@ -16,18 +17,20 @@ pub struct Store {
     pub(crate) objects: Vec<Object>,
     /// Room for the fields of objects to come.
     pub(crate) spare: Vec<Vec<Slot>>,
+    /// The objects that may be below their full level, and each by what holds it.
+    pub(crate) lists: Lists,
 }
 
 impl Model for Store {
     ghost use Rattle.std.specs.Prelude.{length};
     ghost use Rattle.ss_store.specs.Shapes.{Contents};
-    ghost use Rattle.ss_store.specs.Room.{HasRoom};
+    ghost use Rattle.ss_store.specs.Listed.{IsStore};
 
     ghost Value = { Contents };
 
     ghost view = { λ s. record { objects = s.objects.items; spare = length s.spare.items } };
 
-    ghost invariant = { λ s. HasRoom s.objects s.spare };
+    ghost invariant = { λ s. IsStore s.objects s.spare s.lists };
 }
 
 impl Store {
@@ -38,6 +41,7 @@ impl Store {
         Store {
             objects: Vec::new(alloc),
             spare: Vec::new(alloc),
+            lists: Lists::new(alloc),
         }
     }
 

@@ -1,15 +1,18 @@
 // Writes of fields and of elements.
-ghost use Rattle.std.specs.Prelude.{◌≡◌, ◌≢◌, ◌<◌, ◌≤◌, length};
+ghost use Rattle.std.specs.Prelude.{◌≡◌, ◌≢◌, ◌<◌, ◌≤◌, length, Option};
 ghost use Rattle.ss_core.specs.View.{classes};
 ghost use Rattle.ss_core.specs.Chain.{most_classes};
 ghost use Rattle.ss_store_rules.specs.Changes.{IsChange, changed, field_class, field_mark, with_content, with_field, written, with_owners, write_of, element_written, write_element_of};
 ghost use Rattle.ss_store.specs.Shapes.{no_class};
+ghost use Rattle.ss_store_lists.specs.Listing.{Listing};
+ghost use Rattle.ss_store.specs.Listed.{AreListed};
 
 use crate::object::{Object, Slot};
 use crate::owners::{capture, join_peer};
 use crate::refused::refuse;
 use crate::store::Store;
 use ss_core::{ClassId, Classes, Core, FieldId, Kind, Mark};
+use ss_store_lists::Lists;
 use ss_store_rules::{Refused, Value};
 
 impl Slot {
@@ -51,14 +54,16 @@ impl Object {
 
 fn write_element_at(objects: &mut [Object], a: u32, i: usize, v: Value)
     requires { a < length objects.old }
-    ensures { objects.new ≡ changed (element_written a i v) objects.old }
+    ensures change { objects.new ≡ changed (element_written a i v) objects.old }
+    ensures listed { (l : Option Listing) → AreListed objects.old l → AreListed objects.new l }
 {
     let x = &mut objects[a as usize];
     x.write_element(i, v);
 }
 
 fn write_element(objects: &mut [Object], a: Value, i: i32, v: Value) -> Result<(), Refused>
-    ensures { IsChange objects.old objects.new result (write_element_of objects.old a i v) }
+    ensures change { IsChange objects.old objects.new result (write_element_of objects.old a i v) }
+    ensures listed { (l : Option Listing) → AreListed objects.old l → AreListed objects.new l }
 {
     let Value::Obj(a) = a else {
         return refuse(Kind::Null);
@@ -94,31 +99,50 @@ fn declaration(k: &Classes, f: FieldId) -> (ClassId, Mark)
 }
 
 /// What the mark asks of the owners, where the object at `o` comes to refer to the value.
-fn own(objects: &mut [Object], mark: Mark, o: u32, t: ClassId, v: Value) -> Result<(), Refused>
-    requires { t.0 ≢ no_class }
-    ensures { IsChange objects.old objects.new result (with_owners mark objects.old o t.0 v) }
+fn own(
+    objects: &mut [Object],
+    lists: &mut Lists,
+    mark: Mark,
+    o: u32,
+    t: ClassId,
+    v: Value,
+) -> Result<(), Refused>
+    requires told { t.0 ≢ no_class }
+    requires listed { AreListed objects.old lists.old }
+    ensures change { IsChange objects.old objects.new result (with_owners mark objects.old o t.0 v) }
+    ensures listed { AreListed objects.new lists.new }
 {
     let Value::Obj(e) = v else {
         return Ok(());
     };
     match mark {
         Mark::Plain => Ok(()),
-        Mark::Rep => capture(objects, o, t, e),
-        Mark::Peer => join_peer(objects, o, e),
+        Mark::Rep => capture(objects, lists, o, t, e),
+        Mark::Peer => join_peer(objects, lists, o, e),
     }
 }
 
 fn write_field_at(objects: &mut [Object], o: u32, f: FieldId, v: Value)
     requires { o < length objects.old }
-    ensures { objects.new ≡ changed (written o f.0 v) objects.old }
+    ensures change { objects.new ≡ changed (written o f.0 v) objects.old }
+    ensures listed { (l : Option Listing) → AreListed objects.old l → AreListed objects.new l }
 {
     let x = &mut objects[o as usize];
     x.write(f, v);
 }
 
-fn write(objects: &mut [Object], k: &Classes, o: Value, f: FieldId, v: Value) -> Result<(), Refused>
-    requires { length (classes k.now) ≤ most_classes }
-    ensures { IsChange objects.old objects.new result (write_of (classes k.now) objects.old o f.0 v) }
+fn write(
+    objects: &mut [Object],
+    lists: &mut Lists,
+    k: &Classes,
+    o: Value,
+    f: FieldId,
+    v: Value,
+) -> Result<(), Refused>
+    requires few { length (classes k.now) ≤ most_classes }
+    requires listed { AreListed objects.old lists.old }
+    ensures change { IsChange objects.old objects.new result (write_of (classes k.now) objects.old o f.0 v) }
+    ensures listed { AreListed objects.new lists.new }
 {
     let Value::Obj(o) = o else {
         return refuse(Kind::Null);
@@ -130,7 +154,7 @@ fn write(objects: &mut [Object], k: &Classes, o: Value, f: FieldId, v: Value) ->
     if k.is_level(x.level, t) {
         return refuse(Kind::WriteLevel);
     }
-    own(objects, mark, o, t, v)?;
+    own(objects, lists, mark, o, t, v)?;
     write_field_at(objects, o, f, v);
     Ok(())
 }
@@ -148,7 +172,7 @@ impl Store {
         ensures change { IsChange self.old.objects self.new.objects result (write_of (classes c.now.classes) self.old.objects o f.0 v) }
         ensures spare { self.new.spare ≡ self.old.spare }
     {
-        write(&mut self.objects, &c.classes, o, f, v)
+        write(&mut self.objects, &mut self.lists, &c.classes, o, f, v)
     }
 
     /// The element gets the value.
