@@ -1,5 +1,5 @@
 -- Bodies are entered and left, and objects are made.
-use Rattle.std.proofs.Common.{◌≡◌, ℕ, ℤ, pos, negsuc, ◌+◌, ◌≤◌, List, [], ◌∷◌, ◌++◌, length, take, Result, Ok, Err, OnOk, OnErr, true, refl, arith, sym, ◌∙◌, ap, subst}
+use Rattle.std.proofs.Common.{◌≡◌, ℕ, ℤ, pos, negsuc, List, [], ◌∷◌, ◌++◌, length, Result, Ok, Err, OnOk, OnErr, true, refl, arith, sym, ◌∙◌, ap, subst}
 use Rattle.std.proofs.lemmas.List.{take-append-le}
 use Rattle.std.specs.declared.alloc.AllocError.{AllocError}
 use Rattle.ss_core.specs.Tree.{ClassTree}
@@ -8,7 +8,7 @@ use Rattle.ss_store.specs.Shapes.{Contents}
 use Rattle.ss_store_rules.specs.Store.{Object}
 use Rattle.ss_store_rules.specs.Changes.{changed, new_object, new_object_of, new_array, new_array_of, ready_of}
 use Rattle.ss_journal.specs.Shapes.{Segment}
-use Rattle.ss_journal.specs.Undo.{restored, store_at, entries_of, joined}
+use Rattle.ss_journal.specs.Undo.{restored, entries_of, joined}
 use Rattle.ss_journal.specs.Saved.{counts, has_header, HasMore, AreSame}
 use Rattle.ss_journal.proofs.Undo.{entries-entered, entries-left}
 use Rattle.ss_machine_stores.specs.Shapes.{Timeline, rest_of}

@@ -3,14 +3,13 @@ use Rattle.std.proofs.Common.{◌≡◌, ℕ, zero, suc, ◌<◌, ◌≤◌, Lis
 use Rattle.std.specs.Prelude.{slice_get, unwrap_or, nat_lt}
 use Rattle.std.proofs.lemmas.Bool.{ltb-true, lt-ltb, and_parts}
 use Rattle.std.proofs.lemmas.List.{length-take}
-use Rattle.ss_store_rules.specs.declared.Value.{Value}
 use Rattle.ss_store_rules.specs.declared.Value.TheVariants as value
 use Rattle.ss_store_rules.specs.Store.{Object, slot_value}
 use Rattle.ss_store_rules.specs.Reads.{no_object, object_at, is_allocated, field_read, element_read}
 use Rattle.ss_store_rules.proofs.Objects.{becomes, length-changed}
 use Rattle.ss_journal.specs.declared.changes.OldHeader.{OldHeader}
 use Rattle.ss_journal.specs.Shapes.{OldContent, Segment}
-use Rattle.ss_journal.specs.Undo.{header_of, content_of, with_header, with_content, IsHeaderOf, restored, store_at, entries_of, count_of, headers_of, contents_of}
+use Rattle.ss_journal.specs.Undo.{header_of, content_of, with_header, with_content, IsHeaderOf, restored, entries_of, count_of, headers_of, contents_of}
 use Rattle.ss_journal.proofs.Undo.{get_taken}
 use Rattle.ss_machine_stores.specs.Shapes.{entry_of}
 

@@ -1,7 +1,7 @@
 -- Where all that changed keeps the frame condition, and all that isn't at its full level, every object does.
-use Rattle.std.proofs.Common.{◌≡◌, ℕ, zero, suc, ◌+◌, List, [], ◌∷◌, Bool, true, false, ◌&&◌, ◌||◌, Option, Some, None, refl, sym, ◌∙◌, ap, subst, arith, inl, inr, ◌⊎◌, ⊎_elim}
+use Rattle.std.proofs.Common.{◌≡◌, ℕ, zero, suc, ◌+◌, List, [], ◌∷◌, Bool, true, false, ◌&&◌, Option, Some, None, refl, sym, ◌∙◌, ap, subst, arith, inl, inr, ◌⊎◌, ⊎_elim}
 use Rattle.std.specs.Prelude.{◌==◌, if◌then◌else◌, not, slice_get, unwrap_or, is_some}
-use Rattle.std.specs.List.{list_all, list_any}
+use Rattle.std.specs.List.{list_all}
 use Rattle.std.proofs.lemmas.Bool.{eqb-true, and_parts}
 use Rattle.ss_store_rules.specs.Store.{Object}
 use Rattle.ss_store_rules.specs.Reads.{no_object, object_at, is_allocated, is_full}

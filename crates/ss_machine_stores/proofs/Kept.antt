@@ -1,8 +1,8 @@
 -- What a change keeps: the stores at entries, and what holds of the stores of a run.
-use Rattle.std.proofs.Common.{◌≡◌, ℕ, ℤ, pos, negsuc, ◌+◌, ◌≤◌, List, [], ◌∷◌, ◌++◌, length, map, Bool, true, false, not, ◌&&◌, ◌||◌, Option, Some, None, Result, Ok, Err, refl, sym, ◌∙◌, ap, subst, arith, inl, inr, ◌⊎◌, ⊎_elim}
-use Rattle.std.specs.Prelude.{◌==◌, nat_lt, if◌then◌else◌, slice_get, slice_set, unwrap_or, option_map}
+use Rattle.std.proofs.Common.{◌≡◌, ℕ, ℤ, pos, negsuc, ◌+◌, List, [], ◌∷◌, length, Bool, true, false, not, ◌&&◌, Option, Some, None, Result, Ok, Err, refl, sym, ◌∙◌, ap, subst, inl, inr, ◌⊎◌, ⊎_elim}
+use Rattle.std.specs.Prelude.{◌==◌, nat_lt, if◌then◌else◌, slice_get, unwrap_or, option_map}
 use Rattle.std.specs.List.{list_all}
-use Rattle.std.proofs.lemmas.Bool.{eq-eqb, eqb-true, and_parts}
+use Rattle.std.proofs.lemmas.Bool.{eqb-true, and_parts}
 use Rattle.std.proofs.Math.Bool.{and-true, or-false}
 use Rattle.ss_core.specs.declared.names.Kind.{Kind}
 use Rattle.ss_core.specs.declared.names.Kind.TheVariants as kind
@@ -16,8 +16,8 @@ use Rattle.ss_store_rules.specs.declared.Owner.{Owner}
 use Rattle.ss_store_rules.specs.declared.Owner.TheVariants as owner
 use Rattle.ss_store_rules.specs.declared.Refused.{Refused}
 use Rattle.ss_store_rules.specs.Store.{Slot, Object, slot_value}
-use Rattle.ss_store_rules.specs.Reads.{is_pair, is_in_group, same_owner, same_value, no_object, object_at, is_full}
-use Rattle.ss_store_rules.specs.Changes.{packed, is_owned, owned_by, check, at_object, changed_from, changed, field_class, field_mark, unpacked, unpacking, unpack_of, repacked, may_be_committed, packing, pack_of, regrouped, captured, capture_of, joined, joined_apart, join_of, with_owners, with_content, with_field, written, then_written, writing, write_of, element_written, writing_element, write_element_of, made_ready, ready_of, IsChange}
+use Rattle.ss_store_rules.specs.Reads.{is_pair, is_in_group, same_owner, no_object, object_at, is_full}
+use Rattle.ss_store_rules.specs.Changes.{packed, is_owned, owned_by, at_object, changed_from, changed, field_class, field_mark, unpacked, unpacking, unpack_of, repacked, may_be_committed, packing, pack_of, regrouped, captured, joined, joined_apart, with_owners, with_field, written, then_written, writing, write_of, element_written, writing_element, write_element_of, made_ready, ready_of, IsChange}
 use Rattle.ss_store_rules.proofs.Objects.{length-changed, each_changed}
 use Rattle.ss_store_rules.proofs.Owners.{check_ok, at_object_ok, on_object_ok}
 use Rattle.ss_journal.specs.Shapes.{Segment}
@@ -26,7 +26,6 @@ use Rattle.ss_journal.specs.Saved.{has_header, has_content, counts, HasMore}
 use Rattle.ss_journal.proofs.Undo.{IsOfHeaders, IsOfContents, entries_stay, entries_stay_too}
 use Rattle.ss_machine_stores.specs.Whole.{agrees_with, agrees, is_listed, HasMoreListed, AreCounted, AreWhole}
 use Rattle.ss_machine_stores.specs.Moved.{group_joined, group_captured, group_for, moved_group, HasContent, IsGroupSaved, IsReadyForLevel, IsReadyForWrite}
-use Rattle.ss_machine_stores.specs.declared.stop.ChangeStop.{ChangeStop}
 use Rattle.ss_machine_stores.specs.Stops.{answer_of, IsMade}
 use Rattle.ss_machine_stores.proofs.Untouched.{same_self}
 

@@ -9,3 +9,4 @@ pub mod Keeping
 pub mod New
 pub mod Entering
 pub mod Listing
+pub mod Held

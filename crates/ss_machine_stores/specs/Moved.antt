@@ -20,8 +20,17 @@ abbrev pub has_owner : Owned → Owner → Bool
 has_owner (owned.Pair o t) w = is_pair o t.0 w
 has_owner (owned.Member g) w = is_in_group g w
 
+-- the position of the object that holds them
+abbrev pub holder_of : Owned → ℕ
+holder_of (owned.Pair o t) = o
+holder_of (owned.Member g) = g
+
 abbrev pub AreSaved : Owned → List Object → List Segment → Type 0
 AreSaved those s gs = (q : ℕ) (x : Object) → slice_get s q ≡ Some x → has_owner those x.owner ≡ true → has_header gs q ≡ true
+
+-- the one at this position, where there is one and it is one of those
+abbrev pub IsSavedAt : Owned → List Object → List Segment → ℕ → Type 0
+IsSavedAt those s gs q = (x : Object) → slice_get s q ≡ Some x → has_owner those x.owner ≡ true → has_header gs q ≡ true
 
 -- the group that gets another owner, where what has the owner w comes to refer by a field of this mark to what has the owner v
 abbrev pub group_joined : Owner → Owner → Option ℕ

@@ -1,10 +1,11 @@
 -- What holds of the stores of a run.
-use Rattle.std.specs.Prelude.{◌≡◌, ◌≤◌, ℕ, List, [], ◌∷◌, length, Bool, true, false, ◌==◌, Option, Some, None, slice_get}
-use Rattle.std.specs.List.{list_all, list_any}
+use Rattle.std.specs.Prelude.{◌≡◌, ◌≤◌, ℕ, List, [], ◌∷◌, length, Bool, true, false, Option, Some, None, slice_get}
+use Rattle.std.specs.List.{list_all}
 use Rattle.ss_store_rules.specs.declared.Value.{Value}
 use Rattle.ss_store_rules.specs.declared.Value.TheVariants as value
 use Rattle.ss_store_rules.specs.Store.{Object, slot_value}
 use Rattle.ss_store_rules.specs.Reads.{same_value, is_full}
+pub use Rattle.ss_store_lists.specs.Listing.{is_listed}
 use Rattle.ss_journal.specs.Shapes.{Segment}
 use Rattle.ss_journal.specs.Saved.{counts}
 
@@ -16,9 +17,6 @@ agrees_with (Some w) v = same_value v w
 -- each slot has the value of its field
 abbrev pub agrees : Object → Bool
 agrees x = list_all (λ y. agrees_with (slot_value x.fields y.field) y.content) x.fields
-
-abbrev pub is_listed : List ℕ → ℕ → Bool
-is_listed unfull q = list_any (λ o. o == q) unfull
 
 abbrev pub IsListedObject : Value → List ℕ → Type 0
 IsListedObject v unfull = (q : ℕ) → v ≡ value.Obj q → is_listed unfull q ≡ true

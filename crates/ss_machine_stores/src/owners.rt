@@ -1,10 +1,11 @@
 // What is logged before levels and owners change.
-ghost use Rattle.std.specs.Prelude.{◌≡◌, ◌≤◌, length, true, OnOk};
+ghost use Rattle.std.specs.Prelude.{◌≡◌, ◌≤◌, ℕ, length, true, OnOk};
 ghost use Rattle.ss_core.specs.View.{classes};
 ghost use Rattle.ss_core.specs.Chain.{most_classes};
 ghost use Rattle.ss_store_rules.specs.Changes.{field_mark};
 ghost use Rattle.ss_journal.specs.Saved.{HasMore, has_header};
-ghost use Rattle.ss_machine_stores.specs.Moved.{has_owner, AreSaved, group_joined, group_captured, group_for, moved_group};
+ghost use Rattle.ss_machine_stores.specs.Whole.{is_listed};
+ghost use Rattle.ss_machine_stores.specs.Moved.{has_owner, holder_of, AreSaved, IsSavedAt, group_joined, group_captured, group_for, moved_group};
 
 use ss_core::{ClassId, Classes, FieldId, Mark};
 use ss_journal::Journal;
@@ -32,6 +33,16 @@ fn has_owner(those: Owned, owner: Owner) -> bool
     }
 }
 
+/// The position of the object that holds them.
+fn holder_of(those: Owned) -> u32
+    ensures { result ≡ holder_of those }
+{
+    match those {
+        Owned::Pair(o, _) => o,
+        Owned::Member(g) => g,
+    }
+}
+
 /// Logs what the object is, where this is so. An error is want of memory.
 fn save_if(journal: &mut Journal, store: &Store, q: u32, is: bool) -> Result<(), AllocError>
     ensures more { HasMore store.now.objects journal.old journal.new }
@@ -44,6 +55,14 @@ fn save_if(journal: &mut Journal, store: &Store, q: u32, is: bool) -> Result<(),
     }
 }
 
+/// Logs what the object at the position is, where it is one of those. An error is want of memory.
+fn save_at(journal: &mut Journal, store: &Store, those: Owned, q: u32) -> Result<(), AllocError>
+    ensures more { HasMore store.now.objects journal.old journal.new }
+    ensures saved { OnOk result (IsSavedAt those store.now.objects journal.new q) }
+{
+    save_if(journal, store, q, has_owner(those, store.owner_of(q)))
+}
+
 /// Logs what those of the first `n` objects are. An error is want of memory.
 fn save_below(journal: &mut Journal, store: &Store, those: Owned, n: u32) -> Result<(), AllocError>
     requires { length store.now.objects ≡ n }
@@ -51,12 +70,39 @@ fn save_below(journal: &mut Journal, store: &Store, those: Owned, n: u32) -> Res
     ensures saved { OnOk result (AreSaved those store.now.objects journal.new) }
 {
     for q in 0..n {
-        save_if(journal, store, q, has_owner(those, store.owner_of(q)))?;
+        save_at(journal, store, those, q)?;
     }
     Ok(())
 }
 
-/// Logs what those objects are. A store with too many objects for a number answers want of memory.
+/// Logs what those at these positions are. An error is want of memory.
+fn save_among(
+    journal: &mut Journal,
+    store: &Store,
+    those: Owned,
+    positions: &[u32],
+) -> Result<(), AllocError>
+    ensures more { HasMore store.now.objects journal.old journal.new }
+    ensures saved { OnOk result ((q : ℕ) → is_listed positions.now q ≡ true → IsSavedAt those store.now.objects journal.new q) }
+{
+    for q in positions {
+        save_at(journal, store, those, *q)?;
+    }
+    Ok(())
+}
+
+/// Logs what each object of a store is that is one of those. A store with too many objects for a number answers want of memory.
+fn save_each(journal: &mut Journal, store: &Store, those: Owned) -> Result<(), AllocError>
+    ensures more { HasMore store.now.objects journal.old journal.new }
+    ensures saved { OnOk result (AreSaved those store.now.objects journal.new) }
+{
+    match u32::try_from(store.count()) {
+        Ok(n) => save_below(journal, store, those, n),
+        Err(_) => Err(AllocError),
+    }
+}
+
+/// Logs what those objects are. An error is want of memory.
 pub(crate) fn save_those(
     journal: &mut Journal,
     store: &Store,
@@ -65,9 +111,13 @@ pub(crate) fn save_those(
     ensures more { HasMore store.now.objects journal.old journal.new }
     ensures saved { OnOk result (AreSaved those store.now.objects journal.new) }
 {
-    match u32::try_from(store.count()) {
-        Ok(n) => save_below(journal, store, those, n),
-        Err(_) => Err(AllocError),
+    let o = holder_of(those);
+    match store.held_by(o) {
+        Some(positions) => {
+            save_at(journal, store, those, o)?;
+            save_among(journal, store, those, positions)
+        }
+        None => save_each(journal, store, those),
     }
 }
 

@@ -1,5 +1,5 @@
 -- What is listed of a store after a change.
-use Rattle.std.proofs.Common.{◌≡◌, ◌≢◌, ◌⊎◌, inl, inr, ⊎_elim, ℕ, zero, suc, ◌+◌, ◌<◌, ◌≤◌, List, [], ◌∷◌, ◌++◌, length, drop, get_or, Bool, true, false, not, ◌==◌, ◌&&◌, ◌||◌, Option, Some, None, refl, sym, ◌∙◌, ap, subst, arith}
+use Rattle.std.proofs.Common.{◌≡◌, ◌≢◌, ◌⊎◌, inl, inr, ⊎_elim, ℕ, zero, suc, ◌+◌, ◌<◌, List, [], ◌∷◌, ◌++◌, length, drop, get_or, Bool, true, false, not, ◌==◌, ◌&&◌, ◌||◌, Option, Some, None, refl, sym, ◌∙◌, ap, subst}
 use Rattle.std.specs.Prelude.{slice_get, if◌then◌else◌}
 use Rattle.std.specs.List.{list_all}
 use Rattle.std.proofs.lemmas.Bool.{eqb-true, eq-eqb}
@@ -7,11 +7,10 @@ use Rattle.std.proofs.lemmas.List.{drop_more}
 use Rattle.ss_core.specs.Tree.{ClassTree}
 use Rattle.ss_core.specs.Chain.{above}
 use Rattle.ss_store_rules.specs.declared.Owner.{Owner}
-use Rattle.ss_store_rules.specs.declared.Owner.TheVariants as owner
 use Rattle.ss_store_rules.specs.Store.{Object}
 use Rattle.ss_store_rules.specs.Reads.{is_full, is_in_group, is_pair_upto}
 use Rattle.ss_store_rules.specs.Changes.{changed, is_owned, may_be_committed, regrouped, unpacked, repacked, new_object, new_array}
-use Rattle.ss_store_rules.proofs.Objects.{was, each_changed, each_pushed, same_object}
+use Rattle.ss_store_rules.proofs.Objects.{each_changed, each_pushed}
 use Rattle.ss_store_lists.specs.Listing.{Listing, is_listed, is_unfull, is_held, HasMore, IsTaken, IsLast, IsDropped}
 use Rattle.ss_store.specs.Listed.{holder, holds_of, holds_at, AreListed, AreFiledBut, IsMoved}
 use Rattle.ss_core.specs.View.{classes}

@@ -1,5 +1,5 @@
 -- What is done with many objects at once.
-use Rattle.std.specs.Prelude.{◌≡◌, ℕ, List, Bool, ◌==◌, ◌&&◌, ◌||◌, not, if◌then◌else◌}
+use Rattle.std.specs.Prelude.{ℕ, List, ◌==◌, ◌&&◌, ◌||◌, not, if◌then◌else◌}
 use Rattle.ss_store_rules.specs.Store.{Object}
 use Rattle.ss_store_rules.specs.Reads.{is_in_group}
 use Rattle.ss_store_rules.specs.Changes.{is_owned}

@@ -1,5 +1,5 @@
 -- What the lists of a store name.
-use Rattle.std.specs.Prelude.{◌≡◌, ◌⊎◌, ℕ, List, Bool, true, false, Option, Some, None, slice_get}
+use Rattle.std.specs.Prelude.{◌≡◌, ◌≢◌, ◌⊎◌, ℕ, List, Bool, true, false, Option, Some, None, slice_get}
 use Rattle.std.specs.declared.vec.Vec.{Vec}
 use Rattle.ss_store_rules.specs.declared.Owner.{Owner}
 use Rattle.ss_store_rules.specs.declared.Owner.TheVariants as owner
@@ -41,3 +41,7 @@ pub record AreFiledBut (s : List Object) (l : Option Listing) (positions : List 
 pub record IsMoved (s : List Object) (l : Option Listing) (g : ℕ) : Type 0 where
   pub unfull : (q : ℕ) (x : Object) → slice_get s q ≡ Some x → is_full x ≡ false → is_unfull l q ≡ true
   pub held : (q : ℕ) (x : Object) → slice_get s q ≡ Some x → (is_held l (holder x.owner) q ≡ true) ⊎ (is_held l g q ≡ true)
+
+-- what the object at k holds is itself, or is at one of these positions
+abbrev pub HoldsNoOther : List Object → ℕ → List ℕ → Type 0
+HoldsNoOther s k positions = (q : ℕ) (x : Object) → slice_get s q ≡ Some x → holder x.owner ≡ k → q ≢ k → is_listed positions q ≡ true

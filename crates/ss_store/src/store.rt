@@ -1,7 +1,8 @@
 // Stores.
-ghost use Rattle.std.specs.Prelude.{◌≡◌, ◌<◌, ◌^◌, [], length, option_copied, slice_get};
+ghost use Rattle.std.specs.Prelude.{◌≡◌, ◌<◌, ◌^◌, [], length, option_copied, slice_get, IfSome};
 ghost use Rattle.ss_store_rules.specs.Store.{slot_value};
 ghost use Rattle.ss_store_rules.specs.Reads.{object_at};
+ghost use Rattle.ss_store.specs.Listed.{HoldsNoOther};
 
 use crate::before::Before;
 use crate::object::{NO_CLASS, Object, Slot};
@@ -50,6 +51,14 @@ impl Store {
         ensures { option_copied result ≡ slice_get self.now.objects o }
     {
         self.objects.get(o as usize)
+    }
+
+    /// The positions among which are all objects that the one at `k` holds beside itself: those that it owns, and the members of
+    /// its group. None where every object has to be looked at.
+    pub fn held_by(&self, k: u32) -> Option<&[u32]>
+        ensures { IfSome result (λ ps. HoldsNoOther self.now.objects k ps.now) }
+    {
+        self.lists.held(k)
     }
 
     /// How many objects there are.

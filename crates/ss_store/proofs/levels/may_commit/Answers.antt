@@ -1,4 +1,4 @@
-use Rattle.std.proofs.Common.{◌≡◌, sym, ◌∙◌}
+use Rattle.std.proofs.Common.{sym, ◌∙◌}
 use Rattle.ss_store.proofs.Filed.{commits_then, commits_else}
 use Rattle.ss_store.proofs.levels.may_commit.Goals as goal
 

@@ -1,4 +1,4 @@
-use Rattle.std.proofs.Common.{ap, subst, ◌∙◌}
+use Rattle.std.proofs.Common.{ap, ◌∙◌}
 use Rattle.ss_core.specs.View.{classes}
 use Rattle.ss_machine_stores.specs.Shapes.{Timeline}
 use Rattle.ss_machine_stores.proofs.Kept.{made_kept, unpack_kept}

@@ -1,5 +1,4 @@
-use Rattle.std.proofs.Common.{ap, subst, ◌∙◌}
-use Rattle.ss_core.specs.View.{classes}
+use Rattle.std.proofs.Common.{ap, ◌∙◌}
 use Rattle.ss_machine_stores.specs.Shapes.{Timeline}
 use Rattle.ss_machine_stores.proofs.Kept.{made_kept, element_kept}
 use Rattle.ss_machine_stores.proofs.stores.Stores.write_element.Goals as goal
