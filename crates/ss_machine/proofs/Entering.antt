@@ -6,13 +6,13 @@ use Rattle.ss_core.specs.Tree.{BodyTree, CoreTree}
 use Rattle.ss_store_rules.specs.declared.Value.{Value}
 use Rattle.ss_store_rules.specs.Store.{Object}
 use Rattle.ss_store_rules.specs.Values.{setting}
-use Rattle.ss_machine_rules.specs.States.{Frame, Target, Next, Goes, locals_at_entry, frame_at_entry}
+use Rattle.ss_machine_rules.specs.States.{Frame, Target, Goes, locals_at_entry, frame_at_entry}
 use Rattle.ss_machine_rules.specs.Steps.{all_hold, where_holds, enter}
 use Rattle.ss_machine.specs.declared.frame.Frame as code
 use Rattle.ss_machine.specs.declared.halt.Halt.{Halt}
 use Rattle.ss_machine.specs.declared.machine.Machine.{Machine}
 use Rattle.ss_machine.specs.Frames.{frame_of, running, waiting}
-use Rattle.ss_machine.specs.Moves.{Does, HaltIs, Enters, going}
+use Rattle.ss_machine.specs.Moves.{Does, HaltIs, Enters}
 
 module _ (c : CoreTree) (b : BodyTree) (at : Place) (into : Target) (arguments locals : List Value) (f : code.Frame) (old new : Machine) where
   pub entered : (r : Result Unit Halt) → locals ≡ locals_at_entry b arguments → all_hold b.entry (setting c.classes old.stores.now old.stores.now locals) ≡ true → ((s : List Object) → frame_of f s ≡ frame_at_entry b locals s into)

@@ -6,4 +6,4 @@ pub mod Entering
 pub mod Taken
 pub mod Quiet
 pub mod Runs
-pub mod Pieces
+pub mod Written

@@ -3,7 +3,7 @@ use Rattle.std.proofs.Common.{◌≡◌, ℕ, List, [], Option, Result, Ok, Err,
 use Rattle.ss_io.specs.Outside.{Grew, GrewByFront}
 use Rattle.ss_store_rules.specs.declared.Value.{Value}
 use Rattle.ss_store_rules.specs.Numbers.{Outcome}
-use Rattle.ss_machine_rules.specs.States.{Next, Goes}
+use Rattle.ss_machine_rules.specs.States.{Next}
 use Rattle.ss_machine_rules.specs.Steps.{with_value}
 use Rattle.ss_machine.specs.Moves.{piece_of, going, Does, StepIs, WriteIs, IsValue}
 use Rattle.ss_machine.specs.declared.halt.Halt.{Halt}

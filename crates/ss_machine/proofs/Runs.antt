@@ -1,5 +1,5 @@
 -- Whole runs.
-use Rattle.std.proofs.Common.{◌≡◌, ℕ, ℤ, zero, suc, ◌+◌, ◌-◌, ◌<◌, ◌≤◌, List, [], ◌∷◌, ◌++◌, Option, None, Result, Ok, Err, refl, sym, ap, subst, ◌∙◌, arith, append_assoc}
+use Rattle.std.proofs.Common.{◌≡◌, ℕ, ℤ, zero, suc, ◌+◌, ◌-◌, ◌<◌, ◌≤◌, List, [], ◌∷◌, ◌++◌, Option, None, Ok, Err, refl, sym, ap, subst, ◌∙◌, arith, append_assoc}
 use Rattle.std.proofs.lemmas.List.{append-nil}
 use Rattle.ss_core.specs.Tree.{CoreTree}
 use Rattle.ss_core.specs.declared.names.Kind.{Kind}
@@ -8,12 +8,12 @@ use Rattle.ss_io.specs.Outside.{Grew, GrewByFront}
 use Rattle.ss_store_rules.specs.Store.{Object}
 use Rattle.ss_store_rules.specs.Admitted.{first_store}
 use Rattle.ss_store_rules.specs.Typed.{body_at}
-use Rattle.ss_machine_rules.specs.States.{Frame, Next, Goes, Over, Fails, Stops, State, Running, Done, Failed, Stopped}
+use Rattle.ss_machine_rules.specs.States.{Next, Goes, Over, Fails, Stops, State, Running, Done, Failed, Stopped}
 use Rattle.ss_machine_rules.specs.Steps.{next}
 use Rattle.ss_machine_rules.specs.Runs.{then_is, step, start_with, run, printed_in, printed}
-use Rattle.ss_machine_rules.specs.Ends.{IsRunning, IsDoneWith, IsDoneAt, HasFailed, HasStopped}
+use Rattle.ss_machine_rules.specs.Ends.{IsRunning, IsDoneAt, HasFailed, HasStopped}
 use Rattle.ss_machine.specs.Frames.{running, waiting}
-use Rattle.ss_machine.specs.Moves.{going, piece_of, StepIs}
+use Rattle.ss_machine.specs.Moves.{piece_of, StepIs}
 use Rattle.ss_machine.specs.declared.halt.Halt.{Halt}
 use Rattle.ss_machine.specs.declared.halt.Halt.TheVariants as halt
 use Rattle.ss_machine.specs.Ends.{end_of, IfDone, IfFailed, IfStopped, OnWhole}

@@ -4,7 +4,7 @@ use Rattle.ss_core.specs.Tree.{BodyTree}
 use Rattle.ss_store_rules.specs.declared.Value.{Value}
 use Rattle.ss_store_rules.specs.Store.{Object}
 use Rattle.ss_store_rules.specs.Admitted.{main_arguments, first_store, first_locals}
-use Rattle.ss_machine_rules.specs.States.{Frame, ToCall, Running, State, frame_at_entry, locals_at_entry}
+use Rattle.ss_machine_rules.specs.States.{Frame, ToCall, Running, frame_at_entry, locals_at_entry}
 use Rattle.ss_machine_rules.specs.Runs.{start_with}
 use Rattle.ss_machine_stores.specs.Shapes.{Timeline, entry_of, rest_of}
 use Rattle.ss_machine.specs.declared.frame.Frame as code

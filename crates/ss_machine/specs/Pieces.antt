@@ -1,5 +1,5 @@
 -- The pieces that a run writes: one for each step that prints something.
-use Rattle.std.specs.Prelude.{ℕ, zero, suc, ℤ, List, [], ◌∷◌, ◌++◌, Option, Result, Ok, Err}
+use Rattle.std.specs.Prelude.{◌≡◌, ℕ, zero, suc, ℤ, List, [], ◌∷◌, ◌++◌, Option, Result, Ok, Err}
 use Rattle.ss_core.specs.Tree.{CoreTree}
 use Rattle.ss_io.specs.Outside.{Wrote}
 use Rattle.ss_machine_rules.specs.States.{State, Running, Done, Failed, Stopped, Next}

@@ -7,10 +7,12 @@ mod good;
 mod halt;
 mod loops;
 mod machine;
+mod pieces;
 mod printing;
 mod run;
 mod step;
 mod values;
 mod writes;
 
+pub use pieces::pieces_are_printed;
 pub use run::{CheckedEnd, run_checked};

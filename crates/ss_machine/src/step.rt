@@ -22,7 +22,7 @@ use std::alloc::Global;
 
 impl<'a> Machine<'a> {
     // Prints the value of an expression, and a line end, where one is asked for.
-    #[tactic(auto, using(crate::proofs::Quiet::value_stops, crate::proofs::Pieces::stopped_piece))]
+    #[tactic(auto, using(crate::proofs::Quiet::value_stops, crate::proofs::Written::stopped_piece))]
     fn print_value<S: Sink>(
         &self,
         alloc: Global,
@@ -174,7 +174,7 @@ impl<'a> Machine<'a> {
     }
 
     // One statement, which the running frame no longer has.
-    #[tactic(auto, using(crate::proofs::Quiet::quiet_step, crate::proofs::Pieces::quiet_piece))]
+    #[tactic(auto, using(crate::proofs::Quiet::quiet_step, crate::proofs::Written::quiet_piece))]
     fn act<S: Sink>(
         &mut self,
         alloc: Global,
@@ -195,7 +195,7 @@ impl<'a> Machine<'a> {
     }
 
     // One step.
-    #[tactic(auto, using(crate::proofs::Quiet::quiet_step, crate::proofs::Pieces::quiet_piece))]
+    #[tactic(auto, using(crate::proofs::Quiet::quiet_step, crate::proofs::Written::quiet_piece))]
     pub fn step<S: Sink>(&mut self, alloc: Global, core: &'a Core, out: &mut S) -> Result<(), Halt>
         requires { IsWithinLimits (view.classes core.now.classes) }
         ensures step { StepIs result (next (view.core core.now) (running self.old ∷ waiting self.old) self.old.stores.now) self.new (S.taken out.old) (S.taken out.new) }

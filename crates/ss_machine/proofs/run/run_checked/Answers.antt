@@ -1,14 +1,13 @@
-use Rattle.std.proofs.Common.{◌≡◌, ◌+◌, suc, None, Some, option_map, sym, ap, ◌∙◌, subst, arith}
+use Rattle.std.proofs.Common.{◌≡◌, ◌+◌, suc, option_map, sym, ap, ◌∙◌, subst, arith}
 use Rattle.ss_core.specs.View as view
 use Rattle.ss_io.specs.Outside.{Grew, Wrote}
-use Rattle.ss_store_rules.specs.Typed.{body_at}
 use Rattle.ss_machine_rules.specs.Runs.{start_with, printed}
 use Rattle.ss_machine_rules.specs.Ends.{IsDoneAt, HasFailed, HasStopped}
 use Rattle.ss_machine.specs.Ends.{IfDone, IfFailed, IfStopped, OnWhole}
 use Rattle.ss_machine.specs.Pieces.{pieces}
 use Rattle.ss_machine.specs.declared.run.CheckedEnd.{CheckedEnd}
 use Rattle.ss_machine.proofs.Runs.{Stands, stands_first, stands_more, halt_done, halt_failed, halt_stopped, halt_printed, halt_front, running_took, nothing_done, nothing_took}
-use Rattle.ss_machine.proofs.Pieces.{wrote_nothing, wrote_one_more, halt_pieces, halt_first, running_pieces, wrote_all, nothing_written}
+use Rattle.ss_machine.proofs.Written.{wrote_nothing, wrote_one_more, halt_pieces, halt_first, running_pieces, wrote_all, nothing_written}
 use Rattle.ss_machine.proofs.Taken.{front_whole}
 use Rattle.ss_machine.proofs.run.run_checked.Goals as goal
 

@@ -1,4 +1,4 @@
-use Rattle.std.proofs.Common.{◌≡◌, ◌∷◌, ◌++◌, List, sym, ap, ◌∙◌}
+use Rattle.std.proofs.Common.{◌∷◌, ◌++◌, List, sym, ap, ◌∙◌}
 use Rattle.ss_machine_rules.specs.States.{Due, Statement, Test}
 use Rattle.ss_core.specs.View.{expr, block}
 use Rattle.ss_machine.specs.declared.frame.Behind.{Behind}

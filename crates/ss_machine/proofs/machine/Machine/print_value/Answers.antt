@@ -7,7 +7,7 @@ use Rattle.ss_machine.specs.Frames.{running, waiting}
 use Rattle.ss_machine.specs.Moves.{here, piece_of}
 use Rattle.ss_machine.proofs.Halts.{of_made}
 use Rattle.ss_machine.proofs.Quiet.{value_printed}
-use Rattle.ss_machine.proofs.Pieces.{written_piece}
+use Rattle.ss_machine.proofs.Written.{written_piece}
 use Rattle.ss_machine.proofs.machine.Machine.print_value.Goals as goal
 
 pub returns-clause-step : goal.returns-clause-step

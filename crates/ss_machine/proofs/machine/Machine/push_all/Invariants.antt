@@ -1,4 +1,4 @@
-use Rattle.std.proofs.Common.{◌≡◌, ◌++◌, List, map, drop}
+use Rattle.std.proofs.Common.{map, drop}
 use Rattle.ss_core.specs.View.{expr}
 use Rattle.ss_machine_rules.specs.Steps.{values_of}
 use Rattle.ss_machine.specs.Moves.{here}

@@ -1,19 +1,17 @@
 -- The pieces that a run writes.
-use Rattle.std.proofs.Common.{◌≡◌, ℕ, ℤ, zero, suc, ◌+◌, ◌-◌, ◌<◌, ◌≤◌, List, [], ◌∷◌, ◌++◌, concat, Bool, true, false, is_empty, Option, None, Some, Result, Ok, Err, refl, sym, ap, subst, ◌∙◌, arith, append_assoc}
+use Rattle.std.proofs.Common.{◌≡◌, ℕ, ℤ, zero, suc, ◌+◌, ◌-◌, ◌<◌, ◌≤◌, List, [], ◌∷◌, ◌++◌, Option, None, Some, Result, Ok, Err, refl, sym, ap, subst, ◌∙◌, arith, append_assoc}
+use Rattle.std.specs.List.{concat}
 use Rattle.std.proofs.lemmas.List.{append-nil}
 use Rattle.ss_core.specs.Tree.{BodyTree, CoreTree}
 use Rattle.ss_io.specs.Outside.{Wrote}
-use Rattle.ss_store_rules.specs.Store.{Object}
 use Rattle.ss_store_rules.specs.Admitted.{first_store}
 use Rattle.ss_store_rules.specs.Typed.{body_at}
-use Rattle.ss_store_rules.specs.declared.Value.{Value}
-use Rattle.ss_store_rules.specs.Numbers.{Outcome}
-use Rattle.ss_machine_rules.specs.States.{Next, Goes, Over, Fails, Stops, State, Running, Done, Failed, Stopped}
-use Rattle.ss_machine_rules.specs.Steps.{next, with_value}
+use Rattle.ss_machine_rules.specs.States.{Next, State, Running, Done, Failed, Stopped}
+use Rattle.ss_machine_rules.specs.Steps.{next}
 use Rattle.ss_machine_rules.specs.Runs.{then_is, step, start_with, run, printed_in, printed}
 use Rattle.ss_machine_rules.specs.Ends.{IsRunning}
 use Rattle.ss_machine.specs.Frames.{running, waiting}
-use Rattle.ss_machine.specs.Moves.{going, piece_of, Does, StepIs}
+use Rattle.ss_machine.specs.Moves.{piece_of, Does, StepIs}
 use Rattle.ss_machine.specs.Pieces.{one_piece, next_piece, pieces, WroteFirst, PieceIs, WritesOne}
 use Rattle.ss_machine.specs.Ends.{end_of, OnWhole}
 use Rattle.ss_machine.specs.declared.halt.Halt.{Halt}
@@ -37,15 +35,6 @@ wrote_more (Some xs) b c p q g h = go b g h
     go (Some ys) g h = h ∙ (let e : ys ≡ xs ++ p = cc in ap (λ (l : List (List ℕ)). Some (l ++ q)) e ∙ ap Some (append_assoc xs p q))
 
 -- ---- one step
-
--- a piece that isn't empty is one
-pub one_whole : (piece : List ℕ) → is_empty piece ≡ false → one_piece piece ≡ piece ∷ []
-one_whole [] e = absurd (let f : true ≡ false = e in cc)
-one_whole (b ∷ bytes) e = refl
-
-pub one_none : (piece : List ℕ) → is_empty piece ≡ true → one_piece piece ≡ []
-one_none [] e = refl
-one_none (b ∷ bytes) e = absurd (let f : false ≡ true = e in cc)
 
 -- a step that isn't made writes nothing
 pub stopped_piece : (h : Halt) (n : Next) (t : Option (List (List ℕ))) → PieceIs (Err h) n t t

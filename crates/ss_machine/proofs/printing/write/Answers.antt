@@ -1,1 +1,0 @@
-use Rattle.ss_machine.proofs.printing.write.Goals as goal
