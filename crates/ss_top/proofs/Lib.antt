@@ -3,3 +3,4 @@ pub mod Meanings
 pub mod Says
 pub mod WholeRuns
 pub mod Whole
+pub mod Inputs

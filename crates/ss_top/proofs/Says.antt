@@ -34,6 +34,8 @@ use Rattle.ss_top.specs.Sources.{Means, Expands, IsStop, Gives}
 use Rattle.ss_top_words.specs.Words.{Asked}
 use Rattle.ss_top.specs.Unverified.{HasRunUnverified, FailsUnverified}
 use Rattle.ss_top.specs.Answers.{OfSource, OfFile, IsDone, verified_line, IsHeadline, IsToldVerified, HasRun, IsExpanded, RunsOn, StopsAt, TakesNoInput, IsToldUnproved, IsVerifiedInPart, IsRunInPart, IsToldInPart, IsExpandedInPart, IsWrittenInPart, IsVerify, IsRun, IsRunUnverified, IsExpand, Verifies, command_of_goal, IfRefused, IfUnproved, IfStopped, IfFailed, ReadsOnly, IsVerified, IsSilent, HasEnded, IsSpent, IsStopped, IsUnadmitted, Says, answer_to}
+use Rattle.ss_store_rules.specs.Formed.{IsFormed}
+use Rattle.ss_top.proofs.Limits.{accepted_formed}
 use Rattle.ss_top.proofs.Whole.{OfSource-map}
 
 pub told_verified : (c : CoreTree) (old new : Option (List ℕ)) (source : List ℕ) → Means source c → IsSafe c → Grew old new verified_line → IsToldVerified old new source
@@ -55,7 +57,7 @@ pub run_in_part : (c : CoreTree) (steps : ℕ) (input : List ℤ) (old new : Opt
 run_in_part c steps input old new source means safe empty front = record { program = c; means = means; safe = safe; empty = empty; front = front }
 
 pub expands : (source : List ℕ) (ts : List Tok) (p : TypedTree) (c : whole.CoreTree) → IsAccepted source ts p → c ≡ elaborated p → Expands source c
-expands source ts p c a e = record { tokens = ts; program = p; accepted = a; core = sym e }
+expands source ts p c a e = record { tokens = ts; program = p; accepted = a; core = sym e; formed = subst IsFormed (sym e) (accepted_formed source ts p a) }
 
 pub expanded : (source : List ℕ) (ts : List Tok) (p : TypedTree) (c : whole.CoreTree) (text : List ℕ) (old new : Option (List ℕ)) → IsAccepted source ts p → c ≡ elaborated p → text ≡ core_text c → Grew old new text → IsExpanded old new source
 expanded source ts p c text old new a e is took = record { program = c; expands = expands source ts p c a e; took = subst (λ t. Grew old new t) is took }

@@ -96,16 +96,16 @@ TakesNoInput-whole input old new bytes file e h = record { program = h.program; 
 -- ---- of runs without verification
 
 HasRunUnverified-whole : (steps : ℕ) (input : List ℤ) (old new : Option (List ℕ)) (bytes file : List ℕ) → bytes ≡ take 1048577 file → HasRunUnverified steps input old new bytes → HasRunUnverified steps input old new file
-HasRunUnverified-whole steps input old new bytes file e h = record { program = h.program; expands = Expands-whole bytes file h.program e h.expands; admits = h.admits; done = h.done; took = h.took }
+HasRunUnverified-whole steps input old new bytes file e h = record { program = h.program; expands = Expands-whole bytes file h.program e h.expands; admits = h.admits; done = h.done; good = h.good; took = h.took }
 
 RunsOnUnverified-whole : (steps : ℕ) (input : List ℤ) (old new : Option (List ℕ)) (bytes file : List ℕ) → bytes ≡ take 1048577 file → RunsOnUnverified steps input old new bytes → RunsOnUnverified steps input old new file
-RunsOnUnverified-whole steps input old new bytes file e h = record { program = h.program; expands = Expands-whole bytes file h.program e h.expands; admits = h.admits; running = h.running; took = h.took }
+RunsOnUnverified-whole steps input old new bytes file e h = record { program = h.program; expands = Expands-whole bytes file h.program e h.expands; admits = h.admits; running = h.running; good = h.good; took = h.took }
 
 StopsUnverified-whole : (at : Place) (steps : ℕ) (input : List ℤ) (old new : Option (List ℕ)) (bytes file : List ℕ) → bytes ≡ take 1048577 file → StopsUnverified at steps input old new bytes → StopsUnverified at steps input old new file
-StopsUnverified-whole at steps input old new bytes file e h = record { program = h.program; expands = Expands-whole bytes file h.program e h.expands; admits = h.admits; stopped = h.stopped; took = h.took }
+StopsUnverified-whole at steps input old new bytes file e h = record { program = h.program; expands = Expands-whole bytes file h.program e h.expands; admits = h.admits; stopped = h.stopped; good = h.good; took = h.took }
 
 FailsUnverified-whole : (kind : Kind) (at : Place) (steps : ℕ) (input : List ℤ) (old new : Option (List ℕ)) (bytes file : List ℕ) → bytes ≡ take 1048577 file → FailsUnverified kind at steps input old new bytes → FailsUnverified kind at steps input old new file
-FailsUnverified-whole kind at steps input old new bytes file e h = record { program = h.program; expands = Expands-whole bytes file h.program e h.expands; admits = h.admits; failed = h.failed; took = h.took }
+FailsUnverified-whole kind at steps input old new bytes file e h = record { program = h.program; expands = Expands-whole bytes file h.program e h.expands; admits = h.admits; failed = h.failed; good = h.good; took = h.took }
 
 IsNotAdmitted-whole : (input : List ℤ) (old new : Option (List ℕ)) (bytes file : List ℕ) → bytes ≡ take 1048577 file → IsNotAdmitted input old new bytes → IsNotAdmitted input old new file
 IsNotAdmitted-whole input old new bytes file e h = record { program = h.program; expands = Expands-whole bytes file h.program e h.expands; refuses = h.refuses; nothing = h.nothing }

@@ -7,20 +7,22 @@ use Rattle.ss_core.specs.Tree.{CoreTree}
 use Rattle.ss_store_rules.specs.Admitted.{admitted}
 use Rattle.ss_machine_rules.specs.Runs.{run, printed}
 use Rattle.ss_machine_rules.specs.Ends.{IsRunning, IsDoneAt, HasFailed, HasStopped}
+use Rattle.ss_machine_typed.specs.Inputs.{IsInput}
+use Rattle.ss_machine_good_runs.proofs.Runs.{run_good}
 use Rattle.ss_top.specs.Sources.{Expands}
 use Rattle.ss_top.specs.Unverified.{HasRunUnverified, RunsOnUnverified, StopsUnverified, FailsUnverified, IsNotAdmitted, RunsInPart}
 
-pub has_run_unverified : (c : CoreTree) (k steps : ℕ) (input : List ℤ) (old new : Option (List ℕ)) (source : List ℕ) → Expands source c → admitted c input ≡ true → IsDoneAt c input k steps → Grew old new (printed c input steps) → HasRunUnverified steps input old new source
-has_run_unverified c k steps input old new source expands admits done took = record { program = c; expands = expands; admits = admits; done = done.stays; took = took }
+pub has_run_unverified : (c : CoreTree) (k steps : ℕ) (input : List ℤ) (old new : Option (List ℕ)) (source : List ℕ) → Expands source c → admitted c input ≡ true → IsInput input → IsDoneAt c input k steps → Grew old new (printed c input steps) → HasRunUnverified steps input old new source
+has_run_unverified c k steps input old new source expands admits given done took = record { program = c; expands = expands; admits = admits; done = done.stays; good = run_good c expands.formed input given; took = took }
 
-pub runs_on_unverified : (c : CoreTree) (steps : ℕ) (input : List ℤ) (old new : Option (List ℕ)) (source : List ℕ) → Expands source c → admitted c input ≡ true → IsRunning (run c input steps) → Grew old new (printed c input steps) → RunsOnUnverified steps input old new source
-runs_on_unverified c steps input old new source expands admits running took = record { program = c; expands = expands; admits = admits; running = running; took = took }
+pub runs_on_unverified : (c : CoreTree) (steps : ℕ) (input : List ℤ) (old new : Option (List ℕ)) (source : List ℕ) → Expands source c → admitted c input ≡ true → IsInput input → IsRunning (run c input steps) → Grew old new (printed c input steps) → RunsOnUnverified steps input old new source
+runs_on_unverified c steps input old new source expands admits given running took = record { program = c; expands = expands; admits = admits; running = running; good = run_good c expands.formed input given; took = took }
 
-pub stops_unverified : (c : CoreTree) (at : Place) (steps : ℕ) (input : List ℤ) (old new : Option (List ℕ)) (source : List ℕ) → Expands source c → admitted c input ≡ true → HasStopped c input at steps → Grew old new (printed c input steps) → StopsUnverified at steps input old new source
-stops_unverified c at steps input old new source expands admits stopped took = record { program = c; expands = expands; admits = admits; stopped = stopped; took = took }
+pub stops_unverified : (c : CoreTree) (at : Place) (steps : ℕ) (input : List ℤ) (old new : Option (List ℕ)) (source : List ℕ) → Expands source c → admitted c input ≡ true → IsInput input → HasStopped c input at steps → Grew old new (printed c input steps) → StopsUnverified at steps input old new source
+stops_unverified c at steps input old new source expands admits given stopped took = record { program = c; expands = expands; admits = admits; stopped = stopped; good = run_good c expands.formed input given; took = took }
 
-pub fails_unverified : (c : CoreTree) (kind : Kind) (at : Place) (steps : ℕ) (input : List ℤ) (old new : Option (List ℕ)) (source : List ℕ) → Expands source c → admitted c input ≡ true → HasFailed c input kind at steps → Grew old new (printed c input steps) → FailsUnverified kind at steps input old new source
-fails_unverified c kind at steps input old new source expands admits failed took = record { program = c; expands = expands; admits = admits; failed = failed; took = took }
+pub fails_unverified : (c : CoreTree) (kind : Kind) (at : Place) (steps : ℕ) (input : List ℤ) (old new : Option (List ℕ)) (source : List ℕ) → Expands source c → admitted c input ≡ true → IsInput input → HasFailed c input kind at steps → Grew old new (printed c input steps) → FailsUnverified kind at steps input old new source
+fails_unverified c kind at steps input old new source expands admits given failed took = record { program = c; expands = expands; admits = admits; failed = failed; good = run_good c expands.formed input given; took = took }
 
 pub is_not_admitted : (c : CoreTree) (input : List ℤ) (old new : Option (List ℕ)) (source : List ℕ) → Expands source c → admitted c input ≡ false → Grew old new [] → IsNotAdmitted input old new source
 is_not_admitted c input old new source expands refuses nothing = record { program = c; expands = expands; refuses = refuses; nothing = nothing }

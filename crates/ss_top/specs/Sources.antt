@@ -11,17 +11,19 @@ use Rattle.ss_ast.specs.Tokens.{Tok}
 use Rattle.ss_lexer.specs.Reading.{start}
 use Rattle.ss_typed.specs.Tree.{TypedTree}
 use Rattle.ss_expand_rules.specs.Elaborated.{elaborated}
+use Rattle.ss_store_rules.specs.Formed.{IsFormed}
 use Rattle.ss_second.specs.Second.{second_form}
 use Rattle.ss_top_sources.specs.Sources.{IsAccepted, IsRefused}
 use Rattle.ss_top_words.specs.declared.Command.{Command}
 use Rattle.ss_top_words.specs.declared.Command.TheVariants as command
 
--- the source is accepted, and this is its core program
+-- the source is accepted, and this is its core program, which is formed
 pub record Expands (source : List ℕ) (c : whole.CoreTree) : Type 0 where
   pub tokens : List Tok
   pub program : TypedTree
   pub accepted : IsAccepted source tokens program
   pub core : elaborated program ≡ c
+  pub formed : IsFormed c
 
 -- the source is accepted, and this is its program of the second form
 pub record Means (source : List ℕ) (c : CoreTree) : Type 0 where

@@ -6,15 +6,22 @@ use Rattle.ss_core.specs.declared.names.Place.{Place}
 use Rattle.ss_core.specs.Tree.{CoreTree}
 use Rattle.ss_store_rules.specs.Admitted.{admitted}
 use Rattle.ss_machine_rules.specs.Runs.{run, printed}
+use Rattle.ss_machine_rules.specs.Good.{IsGoodState}
 use Rattle.ss_machine_rules.specs.Ends.{IsRunning, IsDoneWith, HasFailed, HasStopped}
 use Rattle.ss_top.specs.Sources.{Expands}
 
--- the program admits the input, its run is done within these steps, and the sink took exactly what the run printed
+-- every state of the program's run is good until a check has failed: each object meets the invariants of each class at which it is packed
+abbrev pub IsGoodThroughout : CoreTree → List ℤ → Type 0
+IsGoodThroughout c input = (n : ℕ) → IsGoodState c (run c input n)
+
+-- The program admits the input, its run is done within these steps, every state of it is good, and the sink took exactly what the run
+-- printed.
 pub record HasRunUnverified (steps : ℕ) (input : List ℤ) (old new : Option (List ℕ)) (source : List ℕ) : Type 0 where
   pub program : CoreTree
   pub expands : Expands source program
   pub admits : admitted program input ≡ true
   pub done : IsDoneWith (printed program input steps) (run program input steps)
+  pub good : IsGoodThroughout program input
   pub took : Grew old new (printed program input steps)
 
 -- the same, but after these steps the run isn't at its end
@@ -23,6 +30,7 @@ pub record RunsOnUnverified (steps : ℕ) (input : List ℤ) (old new : Option (
   pub expands : Expands source program
   pub admits : admitted program input ≡ true
   pub running : IsRunning (run program input steps)
+  pub good : IsGoodThroughout program input
   pub took : Grew old new (printed program input steps)
 
 -- the same, but within these steps the run stopped at an assumption that is false, which is at this place
@@ -31,6 +39,7 @@ pub record StopsUnverified (at : Place) (steps : ℕ) (input : List ℤ) (old ne
   pub expands : Expands source program
   pub admits : admitted program input ≡ true
   pub stopped : HasStopped program input at steps
+  pub good : IsGoodThroughout program input
   pub took : Grew old new (printed program input steps)
 
 -- the same, but within these steps a check of the run failed, of this kind and at this place
@@ -39,6 +48,7 @@ pub record FailsUnverified (kind : Kind) (at : Place) (steps : ℕ) (input : Lis
   pub expands : Expands source program
   pub admits : admitted program input ≡ true
   pub failed : HasFailed program input kind at steps
+  pub good : IsGoodThroughout program input
   pub took : Grew old new (printed program input steps)
 
 -- the program doesn't admit the input, and the sink took nothing

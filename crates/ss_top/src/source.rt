@@ -11,6 +11,7 @@ ghost use Rattle.ss_sound.specs.Verdicts.{IsUnproved};
 ghost use Rattle.ss_top.specs.Sources.{Means};
 ghost use Rattle.ss_ast.specs.Tokens.{toks};
 ghost use Rattle.ss_typed.specs.View.{typed};
+ghost use Rattle.ss_machine_typed.specs.Inputs.{IsInput};
 ghost use Rattle.ss_top_sources.specs.Sources.{IsAccepted};
 ghost use Rattle.ss_top.specs.Answers.{Says, command_of_goal};
 ghost use Rattle.ss_top.specs.declared.source.Goal.{Goal as AnyGoal};
@@ -42,6 +43,7 @@ pub enum Goal {
 /// Does what is asked of a source.
 pub fn answer_source<S: Sink>(alloc: Global, asked: &Asked, source: &[u8], out: &mut S) -> Status
     requires short { length asked.now.input.items < 2 ^ 31 }
+    requires input { IsInput asked.now.input.items }
     ensures says { Says asked.now.steps asked.now.input.items (S.taken out.old) (S.taken out.new) result asked.now.command source.now }
     ensures faults { S.faults out.old ≤ S.faults out.new }
     ensures cause { result ≡ Status.WriteFault → Rose (S.faults out.old) (S.faults out.new) }

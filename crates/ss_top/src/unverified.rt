@@ -7,6 +7,7 @@ ghost use Rattle.ss_core.specs.Chain.{IsWithinLimits};
 ghost use Rattle.ss_ast.specs.Tokens.{toks};
 ghost use Rattle.ss_typed.specs.View.{typed};
 ghost use Rattle.ss_store_rules.specs.Admitted as store;
+ghost use Rattle.ss_machine_typed.specs.Inputs.{IsInput};
 ghost use Rattle.ss_top_sources.specs.Sources.{IsAccepted};
 ghost use Rattle.ss_top.specs.Sources.{Expands};
 ghost use Rattle.ss_top.specs.Answers.{Says};
@@ -25,6 +26,7 @@ use std::alloc::Global;
 /// Runs the program of a source with all its checks, whatever it is.
 pub fn run_unverified<S: Sink>(alloc: Global, asked: &Asked, source: &[u8], out: &mut S) -> Status
     requires short { length asked.now.input.items < 2 ^ 31 }
+    requires input { IsInput asked.now.input.items }
     ensures says { Says asked.now.steps asked.now.input.items (S.taken out.old) (S.taken out.new) result goals.RunUnverified source.now }
     ensures faults { S.faults out.old ≤ S.faults out.new }
     ensures cause { result ≡ Status.WriteFault → Rose (S.faults out.old) (S.faults out.new) }
@@ -44,6 +46,7 @@ fn run_accepted<S: Sink>(
     out: &mut S,
 ) -> Status
     requires short { length asked.now.input.items < 2 ^ 31 }
+    requires input { IsInput asked.now.input.items }
     requires accepted { IsAccepted source.now (toks accepted.now.tokens.items) (typed accepted.now.program) }
     ensures says { Says asked.now.steps asked.now.input.items (S.taken out.old) (S.taken out.new) result goals.RunUnverified source.now }
     ensures faults { S.faults out.old ≤ S.faults out.new }
@@ -64,6 +67,7 @@ fn run_whole<S: Sink>(
     out: &mut S,
 ) -> Status
     requires short { length asked.now.input.items < 2 ^ 31 }
+    requires input { IsInput asked.now.input.items }
     requires expands { Expands source.now (core program.now) }
     requires limits { IsWithinLimits (classes program.now.classes) }
     ensures says { Says asked.now.steps asked.now.input.items (S.taken out.old) (S.taken out.new) result goals.RunUnverified source.now }
@@ -86,6 +90,7 @@ fn run_admitted<S: Sink>(
     out: &mut S,
 ) -> Status
     requires short { length asked.now.input.items < 2 ^ 31 }
+    requires input { IsInput asked.now.input.items }
     requires expands { Expands source.now (core program.now) }
     requires limits { IsWithinLimits (classes program.now.classes) }
     requires admits { store.admitted (core program.now) asked.now.input.items ≡ true }

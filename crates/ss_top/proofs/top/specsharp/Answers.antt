@@ -1,7 +1,8 @@
-use Rattle.std.proofs.Common.{◌≡◌, Some, option_map, sym, ap, ◌∙◌}
+use Rattle.std.proofs.Common.{◌≡◌, Some, option_map, map, string_bytes, sym, ap, ◌∙◌}
 use Rattle.ss_top_words.specs.Words.{Asked}
 use Rattle.ss_top_words.specs.Views.{asked_of}
 use Rattle.ss_top.specs.Answers.{asked_by, file_of, file_named, OfSource}
+use Rattle.ss_top.proofs.Inputs.{asked_has_input}
 use Rattle.ss_top.proofs.Whole.{Says-source}
 use Rattle.ss_top.proofs.Says.{SaysOf, Says-refused, Says-headline, Says-verified, Says-ended, Says-ran, Says-expanded, Says-steps_spent, Says-stopped, Says-failed, Says-not_admitted, Says-unproved, reads_only, Says-silent, Says-written, Says-memory, Says-not}
 use Rattle.ss_top.proofs.top.specsharp.Given.{Over}
@@ -16,6 +17,9 @@ named g c = sym c.in-Ok-Some.ensures.means ∙ ap (option_map asked_of) c.in-Ok-
 
 named_file : (g : Over) (c : goal.After-drop-asked g) → file_of c.args.words.now ≡ Some (the_asked g c).file
 named_file g c = ap file_named (named g c)
+
+pub answer_source-requires-clause-input : goal.answer_source-requires-clause-input
+answer_source-requires-clause-input g c = asked_has_input (map string_bytes c.args.words.now) (asked_of c.in-Ok-Some.asked) (sym c.in-Ok-Some.ensures.means ∙ ap (option_map asked_of) c.in-Ok-Some.field-0-is)
 
 -- what the answer says of its source
 said : (g : Over) (c : goal.After-drop-asked g) → OfSource (g.F.Files.told c.args.files.now (the_asked g c).file) (SaysOf (the_asked g c) (g.S.Sink.taken c.args.out.now) (g.S.Sink.taken c.answer_source.new.out) c.answer_source.result)
