@@ -38,13 +38,13 @@ use Rattle.ss_expand_formed_expressions.proofs.CallsSound.{class_there, method_f
 use Rattle.ss_expand_formed_expressions.proofs.CallCases.{taken}
 
 -- a method that a class has, of the kind that is wanted, is what a call with as many arguments takes
-record IsMeant (cs : List ClassTree) (kind : Bool) (m : Option (Declared MethodTree)) (c : Called) : Type 0 where
-  method : Declared MethodTree
-  is : m ≡ Some method
-  kind_is : is_of_kind kind method.member ≡ true
-  takes : c ≡ Taking (param_wants cs method.member.params)
+pub record IsMeant (cs : List ClassTree) (kind : Bool) (m : Option (Declared MethodTree)) (c : Called) : Type 0 where
+  pub method : Declared MethodTree
+  pub is : m ≡ Some method
+  pub kind_is : is_of_kind kind method.member ≡ true
+  pub takes : c ≡ Taking (param_wants cs method.member.params)
 
-meant : (cs : List ClassTree) (kind : Bool) (m : Option (Declared MethodTree)) (f : Option (Declared FieldTree)) (n : ℕ) → is_wrong_call n (method_or_field cs kind m f) ≡ false → (is_some f || is_some m) ≡ true → IsMeant cs kind m (method_or_field cs kind m f)
+pub meant : (cs : List ClassTree) (kind : Bool) (m : Option (Declared MethodTree)) (f : Option (Declared FieldTree)) (n : ℕ) → is_wrong_call n (method_or_field cs kind m f) ≡ false → (is_some f || is_some m) ≡ true → IsMeant cs kind m (method_or_field cs kind m f)
 meant cs kind None None n wrong some = absurd (false≢true some)
 meant cs kind None (Some f) n wrong some = absurd (true≢false wrong)
 meant cs kind (Some m) f n wrong some = by (is_of_kind kind m.member) refl wrong
@@ -53,11 +53,18 @@ meant cs kind (Some m) f n wrong some = by (is_of_kind kind m.member) refl wrong
     by true e g = record { method = m; is = refl; kind_is = e; takes = refl }
     by false e g = absurd (true≢false g)
 
-kind_called : (kind : Bool) (o : Option (Declared MethodTree)) (m : Declared MethodTree) → o ≡ Some m → is_of_kind kind m.member ≡ true → statics.kind_callee kind o ≡ AMethod m
+pub kind_called : (kind : Bool) (o : Option (Declared MethodTree)) (m : Declared MethodTree) → o ≡ Some m → is_of_kind kind m.member ≡ true → statics.kind_callee kind o ≡ AMethod m
 kind_called kind o m e h = ap (statics.kind_callee kind) e ∙ (rw h refl)
 
+pub not_static : (m : MethodTree) → is_of_kind false m ≡ true → is_static m ≡ false
+not_static m h = by (is_static m) h
+  where
+    by : (b : Bool) → not b ≡ true → b ≡ false
+    by true g = absurd (false≢true g)
+    by false g = refl
+
 -- a class that is named before a dot is one of the program
-named_before : (s : Scope) (y : text.ExprTree) (k : ℕ) → receiver s y (statics.static s y) ≡ AClass k → k < length s.classes
+pub named_before : (s : Scope) (y : text.ExprTree) (k : ℕ) → receiver s y (statics.static s y) ≡ AClass k → k < length s.classes
 named_before s (NameOf q m) k r = by (is_some (local_named s m)) (is_console m) (is_owner m) (is_member s.classes s.class m) (class_named s.classes m) refl (statics.static s (NameOf q m)) r
   where
     by : (l c o b : Bool) (j : Option ℕ) → class_named s.classes m ≡ j → (v : Option Ty) → (if l then AValue v else if c then TheConsole else if o then TheOwner else if b then AValue v else class_or_value j v) ≡ AClass k → k < length s.classes
@@ -71,7 +78,7 @@ named_before s (BaseOf q) k r = absurd (let z : ⊥ = cc in z)
 named_before s y k r = absurd (let z : ⊥ = cc in z)
 
 -- what a print takes
-print_takes : (k : ℕ) (w l : Bool) → (w || l) ≡ true → is_wrong_call k (if w then Taking (Printable ∷ []) else if l then Taking (if k == 0 then [] else Printable ∷ []) else Unknown) ≡ false → (k == 1 || (l && k == 0)) ≡ true
+pub print_takes : (k : ℕ) (w l : Bool) → (w || l) ≡ true → is_wrong_call k (if w then Taking (Printable ∷ []) else if l then Taking (if k == 0 then [] else Printable ∷ []) else Unknown) ≡ false → (k == 1 || (l && k == 0)) ≡ true
 print_takes k true l some wrong = or_left (k == 1) (l && k == 0) (not_false _ wrong)
 print_takes k false false some wrong = absurd (false≢true some)
 print_takes k false true some wrong = by (k == 0) refl wrong
@@ -142,13 +149,6 @@ module _ (p : ProgramTree) (faultless : program_faults p ≡ []) (x : Context) (
 
   -- ---- values
 
-  not_static : (m : MethodTree) → is_of_kind false m ≡ true → is_static m ≡ false
-  not_static m h = by (is_static m) h
-    where
-      by : (b : Bool) → not b ≡ true → b ≡ false
-      by true g = absurd (false≢true g)
-      by false g = refl
-
   place_sound : (q m : Place) (y : text.ExprTree) (n : NameTree) (es : Arguments) (c : ℕ) (nn : Bool) (k : Option ℕ) → declared_place c ≡ k → Is y → statics.static (scope_at p a) y ≡ Some (ty.Ref (record { 0 = c }) nn) →
       receiver (scope_at p a) y (statics.static (scope_at p a) y) ≡ AValue (Some (ty.Ref (record { 0 = c }) nn)) → receiver T y (statics.static T y) ≡ AValue (Some (ty.Ref (record { 0 = c }) nn)) → is_state_call n.text ≡ false → is_state_read n.text ≡ false → declares p.classes n.text k ≡ true →
       is_wrong_call (count es) (called_on_declared p.classes n.text k) ≡ false → argument_faults A (argument_wants (count es) (called_on_declared p.classes n.text k)) es ≡ [] → Sounds p x static lacks answer false a es → arguments_faults U None es ≡ [] → Is (CallOf q (MemberOf m y n) es)
@@ -172,7 +172,7 @@ module _ (p : ProgramTree) (faultless : program_faults p ≡ []) (x : Context) (
       (method_fit p faultless x is_known static lacks answer a here q k l o (args (env_at p a) es) w.method has (λ z. (s.fit, (nn, s.typed (ty.Ref (record { 0 = c }) nn) is ∙ ap (λ (u : ℕ). Some (ty.Ref (record { 0 = u }) nn)) number))) t.1)
 
   -- what is called of a value
-  object_called : (n : List ℕ) (k : ℕ) (v : Called) (c : ℕ) → v ≡ called_on_object p.classes n (Some c) → is_wrong_call k v ≡ false → has_member p.classes n (Some c) ≡ true → (v ≡ called_on_declared p.classes n (declared_place c)) × (declares p.classes n (declared_place c) ≡ true)
+  pub object_called : (n : List ℕ) (k : ℕ) (v : Called) (c : ℕ) → v ≡ called_on_object p.classes n (Some c) → is_wrong_call k v ≡ false → has_member p.classes n (Some c) ≡ true → (v ≡ called_on_declared p.classes n (declared_place c)) × (declares p.classes n (declared_place c) ≡ true)
   object_called n k v c is wrong member = by (is_array_number c) is member
     where
       by : (b : Bool) → v ≡ (if b then (if is_length n then Refused else Unknown) else called_on_declared p.classes n (declared_place c)) → (if b then is_length n else declares p.classes n (declared_place c)) ≡ true → (v ≡ called_on_declared p.classes n (declared_place c)) × (declares p.classes n (declared_place c) ≡ true)

@@ -18,7 +18,7 @@ use Rattle.ss_tables.specs.Types.{reference, array_type, written_type}
 use Rattle.ss_tables.specs.Scopes.{Scope}
 use Rattle.ss_tables.specs.Statics.{Callee, AMethod, result_type, constructor_params, count, callee, called_with, call_type}
 use Rattle.ss_tables.specs.Statics as statics
-use Rattle.ss_typed.specs.Tree.{ExprTree, CallOf as CallTree, StaticOf as StaticTree}
+use Rattle.ss_typed.specs.Tree.{ExprTree, CallOf as CallTree, StaticOf as StaticTree, BaseOf as BaseTree}
 use Rattle.ss_typed.specs.Tree as typed
 use Rattle.ss_typed.specs.Types.{class_type, type_of}
 use Rattle.ss_resolver_names_rules.specs.Expressions.{expr_faults, arguments_faults}
@@ -133,19 +133,38 @@ module _ (p : ProgramTree) (faultless : program_faults p ≡ []) (x : Context) (
       by None = refl
       by (Some t) = refl
 
-  -- a call that means this method, and is resolved to a call of it that fits
-  pub call_is : (q : Place) (f : text.ExprTree) (es : Arguments) (k : ℕ) (o : ExprTree) (m : Declared MethodTree) → HasMethod p k m → callee (scope_at p a) f ≡ AMethod m → callee T f ≡ AMethod m → count es ≡ length m.member.params →
-      expr (env_at p a) (CallOf q f es) ≡ method_call (env_at p a) q k o (args (env_at p a) es) m → Fit (resolved p) C x a.bound (method_call (env_at p a) q k o (args (env_at p a) es) m) → Sound p x static lacks answer false a (CallOf q f es)
-  call_is q f es k o m has here_is there_is size tree fit =
+  -- a call that means this method, and is resolved to a tree of its type that fits
+  pub call_as : (q : Place) (f : text.ExprTree) (es : Arguments) (k : ℕ) (m : Declared MethodTree) → HasMethod p k m → callee (scope_at p a) f ≡ AMethod m → callee T f ≡ AMethod m → count es ≡ length m.member.params →
+      (tree : ExprTree) → type_of tree ≡ result_type p.classes m.member.result → expr (env_at p a) (CallOf q f es) ≡ tree → Fit (resolved p) C x a.bound tree → Sound p x static lacks answer false a (CallOf q f es)
+  call_as q f es k m has here_is there_is size tree type is fit =
       let takes : (count es == length m.member.params) ≡ true = eq-eqb (count es) (length m.member.params) size in
       let static_is : statics.static (scope_at p a) (CallOf q f es) ≡ result_type p.classes m.member.result = ap (λ c. call_type p.classes (called_with (count es) c)) here_is ∙ (rw takes refl) in
       let nothing : has_no_value T (CallOf q f es) ≡ is_none m.member.result = ap (λ c. gives_nothing (called_with (count es) c)) there_is ∙ (rw takes refl) in
       record {
-        typed = λ u e. ap type_of tree ∙ call_type_is q k o (args (env_at p a) es) m ∙ sym static_is ∙ e;
+        typed = λ u e. ap type_of is ∙ type ∙ sym static_is ∙ e;
         valued = ap (λ b. is_some (statics.static (scope_at p a) (CallOf q f es)) || b) nothing ∙ ap (λ z. is_some z || is_none m.member.result) static_is ∙ called_valued m has.result;
-        fit = subst (Fit (resolved p) C x a.bound) (sym tree) fit;
+        fit = subst (Fit (resolved p) C x a.bound) (sym is) fit;
         calls = λ c. absurd (false≢true c);
       }
+
+  -- one on an object of the class at place k, or of a static method
+  pub call_is : (q : Place) (f : text.ExprTree) (es : Arguments) (k : ℕ) (o : ExprTree) (m : Declared MethodTree) → HasMethod p k m → callee (scope_at p a) f ≡ AMethod m → callee T f ≡ AMethod m → count es ≡ length m.member.params →
+      expr (env_at p a) (CallOf q f es) ≡ method_call (env_at p a) q k o (args (env_at p a) es) m → Fit (resolved p) C x a.bound (method_call (env_at p a) q k o (args (env_at p a) es) m) → Sound p x static lacks answer false a (CallOf q f es)
+  call_is q f es k o m has here_is there_is size is fit =
+      call_as q f es k m has here_is there_is size (method_call (env_at p a) q k o (args (env_at p a) es) m) (call_type_is q k o (args (env_at p a) es) m) is fit
+
+  -- one of a method of the class above, which is at place k
+  pub base_is : (q : Place) (f : text.ExprTree) (es : Arguments) (k : ℕ) (m : Declared MethodTree) → HasMethod p k m → is_static m.member ≡ false → x.is_static ≡ false → program.above_of (resolved p) x.class ≡ class_number k → callee (scope_at p a) f ≡ AMethod m → callee T f ≡ AMethod m →
+      count es ≡ length m.member.params → expr (env_at p a) (CallOf q f es) ≡ BaseTree q (table_place p.classes k m.member.name.text) (result_type p.classes m.member.result) (args (env_at p a) es) →
+      Fits (resolved p) C x a.bound (args (env_at p a) es) (types_of_params m.member.params) → Sound p x static lacks answer false a (CallOf q f es)
+  base_is q f es k m has object outside above here_is there_is size is fits =
+      let at : program.method_at (resolved p) (program.above_of (resolved p) x.class) (table_place p.classes k m.member.name.text) ≡ Some (method_body p.classes m.class m.member) =
+      ap (λ t. program.method_at (resolved p) t (table_place p.classes k m.member.name.text)) above ∙ has.by_table in
+      call_as q f es k m has here_is there_is size (BaseTree q (table_place p.classes k m.member.name.text) (result_type p.classes m.member.result) (args (env_at p a) es)) refl is (
+        outside,
+        callee_is k m has (program.method_at (resolved p) (program.above_of (resolved p) x.class) (table_place p.classes k m.member.name.text)) at false object,
+        subst (Fits (resolved p) C x a.bound (args (env_at p a) es)) (sym (ap param_types_in at ∙ method_types m.class m)) fits,
+      )
 
   -- ---- new objects
 

@@ -1,5 +1,5 @@
 -- Where `this` is exactly of its class, each expression without calls that fits has its own type.
-use Rattle.std.proofs.Common.{◌≡◌, ℕ, suc, ◌-◌, Bool, true, false, Option, Some, None, refl, sym, ◌∙◌, ap, ⊎_elim, List}
+use Rattle.std.proofs.Common.{◌≡◌, ℕ, ◌-◌, Bool, true, false, Option, Some, None, refl, sym, ◌∙◌, ap, ⊎_elim, List}
 use Rattle.std.specs.Prelude.{◌==◌, if◌then◌else◌, slice_get}
 use Rattle.std.proofs.lemmas.Bool.{false≢true}
 use Rattle.ss_core.specs.declared.names.Ty.{Ty}

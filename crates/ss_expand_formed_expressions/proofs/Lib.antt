@@ -14,10 +14,12 @@ pub mod Environments
 pub mod Bodies
 pub mod BodyPlaces
 pub mod ContractNumbers
+pub mod BeforeReads
 pub mod Answered
 pub mod Methods
 pub mod CallsSound
 pub mod CallCases
 pub mod CallsBehind
 pub mod CallsFit
+pub mod Calls
 pub mod Exact

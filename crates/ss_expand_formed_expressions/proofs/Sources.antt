@@ -142,7 +142,7 @@ module _ (p : ProgramTree) (faultless : program_faults p ≡ []) (x : Context) (
   Args c a es = Sounds p x static lacks answer c a es
 
   -- what stands before the dot of what is called
-  abbrev Before : Bool → At → text.ExprTree → Type 0
+  abbrev pub Before : Bool → At → text.ExprTree → Type 0
   Before c a (MemberOf m y n) = expr_faults (U a) y ≡ [] → faults (A c a) AsValue y ≡ [] → Is c a y
   Before c a f = Unit {0}
 
