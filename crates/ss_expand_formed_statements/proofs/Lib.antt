@@ -1,4 +1,5 @@
 pub mod Fits
+pub mod SourceCode
 pub mod Values
 pub mod Lifting
 pub mod Wider
