@@ -56,7 +56,7 @@ use Rattle.ss_expand_formed_expressions.proofs.Methods.{constructor_has}
 use Rattle.ss_expand_formed_expressions.proofs.CallsBehind.{meant, kind_called, not_static, print_takes, object_called, console_sound}
 use Rattle.ss_expand_formed_expressions.proofs.Sources.{sound}
 use Rattle.ss_expand_formed_expressions.proofs.Calls.{inherited_from, asks_none, code_sound, code_args}
-use Rattle.ss_expand_formed_statements.proofs.Fits.{can_lift, can_lift_all}
+use Rattle.ss_expand_formed_statements.proofs.Fits.{can_lift, can_lift_all, FitCode}
 
 -- ---- what prints
 
@@ -609,6 +609,9 @@ module _ (p : ProgramTree) (faultless : program_faults p ≡ []) (x : Context) (
         let g = clear y names types words quiet in
         let s = code_sound p faultless x is_known_there static false false a here y g.0 names types in
         record { answer = g.0; sound = s; fit = subst (λ k. Fit (resolved p) C x k (expr E y)) outside s.fit; words = words; lifts = g.1 }
+
+    pub fit_code : (constructs : Bool) (first : ℕ) (y : text.ExprTree) → IsCode y → FitCode (resolved p) C x constructs first (expr E y)
+    fit_code constructs first y h = (h.fit, h.words, h.lifts)
 
     -- one that may print
     pub record IsAny (y : text.ExprTree) : Type 0 where
