@@ -94,13 +94,13 @@ module _ (p : ProgramTree) (k : ℕ) (c : ClassTree) (at : slice_get p.classes k
   abbrev n : Numbers
   n = field_numbers q t
 
-  own_is : own_fields q t ≡ map (field p.classes) (fields_in c.members)
+  pub own_is : own_fields q t ≡ map (field p.classes) (fields_in c.members)
   own_is =
       let place : class_place t ≡ k = omega arith in
       let z : 0 + k ≡ k = omega arith in
       ap (λ i. paths.fields_in (slice_get q.classes i)) place ∙ ap paths.fields_in (each_at (class p.classes) 0 p.classes k c at ∙ ap (λ i. Some (class p.classes i c)) z)
 
-  first_is : n.first ≡ sum_by field_count (take k p.classes)
+  pub first_is : n.first ≡ sum_by field_count (take k p.classes)
   first_is =
       let place : class_place t ≡ k = omega arith in
       ap (λ i. sum_by paths.field_count (take i q.classes)) place ∙ counts p.classes 0 p.classes k
@@ -201,7 +201,7 @@ module _ (p : ProgramTree) (k : ℕ) (c : ClassTree) (at : slice_get p.classes k
           (λ i h. put_grows (f - n.first) i a.own h) (λ h. ap (put (f - n.first) true a.own) (sym place) ∙ put_has (f - n.first) a.own) (go b)
 
   -- what is said of fields that begin with a value
-  fields_are : written_fields q t ≡ map made (fields_in c.members)
+  pub fields_are : written_fields q t ≡ map made (fields_in c.members)
   fields_are =
       let place : class_place t ≡ k = omega arith in
       let z : 0 + k ≡ k = omega arith in

@@ -19,7 +19,8 @@ use Rattle.ss_expand_formed_nulls.specs.Bodies.{body_frame, nothing_known}
 use Rattle.ss_expand_formed_nulls.proofs.Plain.{not_none}
 use Rattle.ss_expand_formed_nulls.proofs.Methods.{body_keeps}
 
-none_assigned : {X : Type 0} (n : Numbers) (f : ℕ) → has_field n nothing_known.fields f ≡ true → X
+-- at the entry of a constructor no field is assigned
+pub none_assigned : {X : Type 0} (n : Numbers) (f : ℕ) → has_field n nothing_known.fields f ≡ true → X
 none_assigned {X = X} n f h = by (is_among n f) h
   where
     by : (b : Bool) → (if b then none (f - n.first) else false) ≡ true → X

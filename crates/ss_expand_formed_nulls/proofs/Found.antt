@@ -17,7 +17,8 @@ use Rattle.ss_expand_formed_nulls.specs.Fitting.{block_fits}
 use Rattle.ss_expand_formed_nulls.specs.Bodies.{method_frame}
 use Rattle.ss_expand_formed_nulls.proofs.Methods.{method_keeps}
 
-body_at : (p : TypedTree) (bs : List BodyTree) (n : ℕ) (b : BodyTree) → bodies_faults p bs ≡ [] → slice_get bs n ≡ Some b → body_faults p b ≡ []
+-- a body of the program has no fault of null
+pub body_at : (p : TypedTree) (bs : List BodyTree) (n : ℕ) (b : BodyTree) → bodies_faults p bs ≡ [] → slice_get bs n ≡ Some b → body_faults p b ≡ []
 body_at p [] n b h e = absurd (let x : ⊥ = cc in x)
 body_at p (x ∷ xs) zero b h e = subst (λ y. body_faults p y ≡ []) (same_Some _ _ e) (none_left (body_faults p x) (bodies_faults p xs) h).0
 body_at p (x ∷ xs) (suc n) b h e = body_at p xs n b (none_left (body_faults p x) (bodies_faults p xs) h).1 e

@@ -8,6 +8,7 @@ use Rattle.ss_core.specs.declared.names.Ty.{Ty}
 use Rattle.ss_core.specs.declared.names.Ty.TheVariants as ty
 use Rattle.ss_core.specs.Tree as core
 use Rattle.ss_core.specs.Tree.{LocalExpr, AssignStmt}
+use Rattle.ss_core.specs.View.{code_of}
 use Rattle.ss_typed.specs.Tree.{BlockTree, BlockOf, StmtTree, ReturnOf, StmtTrees, Before, ParamTree, BodyTree, TypedTree}
 use Rattle.ss_typed.specs.Tree as typed
 use Rattle.ss_paths.specs.Sets.{none}
@@ -21,22 +22,23 @@ use Rattle.ss_expand_rules.specs.Constructors.{before_all, in_block, closing_bra
 use Rattle.ss_expand_rules.specs.Lifting.{Pure}
 use Rattle.ss_expand_rules.specs.Bodies.{block_assigns, assigned_from, assigned_params, first_copy, meant, results, copies, temporaries_from, copying_from, copying, with_return, statements, code_with, temporary_types, temporary_count, written_body}
 use Rattle.ss_store_rules.specs.Locals.{this_types, types_of, local_types}
+use Rattle.ss_store_rules.specs.Paths.{holds_along}
 use Rattle.ss_store_rules.specs.NonNull.{Known, known_at_entry, is_non_null_type, keeps_nulls_out}
 use Rattle.ss_expand_formed.proofs.Facts.{none_left}
+use Rattle.ss_expand_formed_locals.proofs.Along.{holds-append}
 use Rattle.ss_expand_formed_locals.proofs.Counted.{stmts_same}
 use Rattle.ss_expand_formed_nulls.specs.Fitting.{Frame, local_type, is_reference_type, stmt_fits, block_fits, all_fitting, Agrees, Builds, Covers, HasMade}
 use Rattle.ss_expand_formed_nulls.specs.Bodies.{body_frame, method_frame}
 use Rattle.ss_expand_formed_nulls.proofs.Plain.{not_none}
-use Rattle.ss_expand_formed_nulls.proofs.Putting.{runs_join, putting, put_runs, put_field}
+use Rattle.ss_expand_formed_nulls.proofs.Putting.{flow, check, runs_join, putting, put_runs, put_field}
 use Rattle.ss_expand_formed_nulls.proofs.Assignments.{Done, done_nothing}
 use Rattle.ss_expand_formed_nulls.proofs.Numbers.{in_middle, types_append, param_types, params_types, copies_types, temporaries_types, behind_copies, own_below, own_within, past_all, own_apart}
-use Rattle.ss_expand_formed_nulls.proofs.Paths.{runs_goes}
 use Rattle.ss_expand_formed_nulls.proofs.Statements.{stmts_known}
 
 -- ---- the statements of a method
 
 module _ (f : phase.Flow source.Known) (c : phase.Check source.Known) (returns_freely : (k : Option source.Known) → c.returned None k ≡ []) where
-  faults_before_return : (q : Place) (ss : StmtTrees) (k : Option source.Known) → phase.faults_along f c ss k ≡ [] → phase.faults_along f c (before_all ss (Before (ReturnOf q None) typed.NoMore)) k ≡ []
+  pub faults_before_return : (q : Place) (ss : StmtTrees) (k : Option source.Known) → phase.faults_along f c ss k ≡ [] → phase.faults_along f c (before_all ss (Before (ReturnOf q None) typed.NoMore)) k ≡ []
   faults_before_return q typed.NoMore k h = ap (λ xs. xs ++ []) (returns_freely k)
   faults_before_return q (Before s ss) k h =
       let both = none_left (phase.faults_at f c s k) (phase.faults_along f c ss (option_and_then (phase.behind f s) k)) h in
@@ -46,7 +48,7 @@ module _ (f : phase.Flow source.Known) (c : phase.Check source.Known) (returns_f
   faults_with_return b None ss k h = faults_before_return (closing_brace b.block) ss k h
   faults_with_return b (Some t) ss k h = h
 
-  faults_of_block : (b : BlockTree) (k : Option source.Known) → phase.faults_in f c b k ≡ [] → phase.faults_along f c (in_block b) k ≡ []
+  pub faults_of_block : (b : BlockTree) (k : Option source.Known) → phase.faults_in f c b k ≡ [] → phase.faults_along f c (in_block b) k ≡ []
   faults_of_block (BlockOf q ss end) k h = h
 
 fitting_before_return : (z : Frame) (q : Place) (ss : StmtTrees) → all_fitting z ss ≡ true → all_fitting z (before_all ss (Before (ReturnOf q None) typed.NoMore)) ≡ true
@@ -134,7 +136,7 @@ module _ (c : core.CoreTree) (p : TypedTree) (b : BodyTree) (bs : List BodyTree)
   abbrev n : ℕ
   n = temporary_count p b
 
-  agrees : Agrees z
+  pub agrees : Agrees z
   agrees = record {
     constructs = refl;
     now = refl;
@@ -176,17 +178,20 @@ module _ (c : core.CoreTree) (p : TypedTree) (b : BodyTree) (bs : List BodyTree)
 
   -- ---- the whole body
 
-  -- It keeps nulls out where the phase finds no fault in its statements, as they are elaborated, from what it knows at the entry.
-  pub body_keeps : (k : source.Known) → ((x : ℕ) → k.facts x ≡ true → ⊥) → Covers z k (known_at_entry (written_body p b bs)) → all_fitting z (statements p b) ≡ true →
-      phase.faults_along (source.known_flow (site_of p b)) (faults.null_check (site_of p b)) (statements p b) (Some k) ≡ [] → keeps_nulls_out c (written_body p b bs) ≡ true
-  body_keeps k empty covers fitting pure =
+  -- It keeps nulls out where the code of its statements does, behind which are the copies of what is known at the entry.
+  pub body_from : (k : source.Known) → ((x : ℕ) → k.facts x ≡ true → ⊥) → Covers z k (known_at_entry (written_body p b bs)) → ((l : Known) → Covers z k l → HasMade z (code_with p b n).made → holds_along (flow z) (check z) (code_of (code_with p b n).code) (Some l) ≡ true) → keeps_nulls_out c (written_body p b bs) ≡ true
+  body_from k empty covers rest =
       let entry = known_at_entry (written_body p b bs) in
       let front = copying_done k empty (first_copy b) (first_param b) b.params (param_at p b bs) (copy_at p b bs) entry covers in
       let first = behind_copies b n in
       let same : (code_with p b n).made ≡ temporary_types p b = stmts_same p b (meant b) first (first + n) (first + 0) (first + n + results b.result) (first + 0 + results b.result) [] (statements p b) [] in
       let made : HasMade z (code_with p b n).made = λ i t h. temporary_at p b bs i t (ap (λ ts. slice_get ts i) (sym same) ∙ h) in
-      let rest = stmts_known z agrees builds (statements p b) fitting [] k [] pure front.now front.covers made in
-      (runs_goes z agrees entry front.now _ (copying b) (code_with p b n).code front.runs rest).held
+      holds-append (flow z) (check z) (copying b) (code_with p b n).code (Some entry) front.runs.checked (ap (holds_along (flow z) (check z) (code_of (code_with p b n).code)) front.runs.at ∙ rest front.now front.covers made)
+
+  -- It keeps nulls out where the phase finds no fault in its statements, as they are elaborated, from what it knows at the entry.
+  pub body_keeps : (k : source.Known) → ((x : ℕ) → k.facts x ≡ true → ⊥) → Covers z k (known_at_entry (written_body p b bs)) → all_fitting z (statements p b) ≡ true →
+      phase.faults_along (source.known_flow (site_of p b)) (faults.null_check (site_of p b)) (statements p b) (Some k) ≡ [] → keeps_nulls_out c (written_body p b bs) ≡ true
+  body_keeps k empty covers fitting pure = body_from k empty covers (λ l known made. (stmts_known z agrees builds (statements p b) fitting [] k [] pure l known made).held)
 
 -- ---- methods
 
