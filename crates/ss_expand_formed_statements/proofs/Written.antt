@@ -148,7 +148,7 @@ module _ (c : core.CoreTree) (p : TypedTree) (b : BodyTree) (bs : List BodyTree)
   copy_size : length Q ≡ length (assigned_params b)
   copy_size = length-map (assigned_params b) (λ (q : ParamTree). q.ty)
 
-  in_locals : (n : ℕ) (t : Ty) → slice_get front n ≡ Some t → slice_get (local_types y) n ≡ Some t
+  pub in_locals : (n : ℕ) (t : Ty) → slice_get front n ≡ Some t → slice_get (local_types y) n ≡ Some t
   in_locals n t h = begins_append front (option_to_list b.result) n t h
 
   param_at : (i : ℕ) (t : Ty) → slice_get P i ≡ Some t → slice_get front (first_param b + i) ≡ Some t
@@ -176,7 +176,7 @@ module _ (c : core.CoreTree) (p : TypedTree) (b : BodyTree) (bs : List BodyTree)
       let n : first_temporary ≡ length (A ++ (P ++ (L ++ Q))) = omega (arith, this_size, param_size, local_size, copy_size) in
       ap (λ ts. slice_get ts (first_temporary + i)) (front_is ∙ e) ∙ ap (λ k. slice_get ((A ++ (P ++ (L ++ Q))) ++ T) (k + i)) n ∙ at_back (A ++ (P ++ (L ++ Q))) T i ∙ h
 
-  context_at : (n : ℕ) (t : Ty) → slice_get (context_of b).locals n ≡ Some t → slice_get front n ≡ Some t
+  pub context_at : (n : ℕ) (t : Ty) → slice_get (context_of b).locals n ≡ Some t → slice_get front n ≡ Some t
   context_at n t h =
       let e : (A ++ P) ++ ((L ++ Q) ++ T) ≡ (A ++ P ++ L) ++ (Q ++ T) = simp append_assoc in
       ap (λ ts. slice_get ts n) (front_is ∙ e) ∙ begins_append (A ++ P ++ L) (Q ++ T) n t h
@@ -189,7 +189,7 @@ module _ (c : core.CoreTree) (p : TypedTree) (b : BodyTree) (bs : List BodyTree)
   abbrev ms : List ℕ
   ms = meant_from b.block (first_copy b) (first_param b) b.params
 
-  past_params : (n : ℕ) → first_param b + length b.params ≤ n → number (numbers b N) n ≡ n
+  pub past_params : (n : ℕ) → first_param b + length b.params ≤ n → number (numbers b N) n ≡ n
   past_params n l =
       let i = n - first_param b in
       let e : first_param b + i ≡ n = omega arith in
@@ -197,7 +197,7 @@ module _ (c : core.CoreTree) (p : TypedTree) (b : BodyTree) (bs : List BodyTree)
       ap (λ o. unwrap_or o n) (ap (slice_get (meant b)) (sym e) ∙ meant_behind b.flags.is_static ms i ∙ slice_get_past ms i (omega arith))
 
   -- a local is meant by one of its type
-  number_at : (n : ℕ) (t : Ty) → slice_get front n ≡ Some t → slice_get front (number (numbers b N) n) ≡ Some t
+  pub number_at : (n : ℕ) (t : Ty) → slice_get front n ≡ Some t → slice_get front (number (numbers b N) n) ≡ Some t
   number_at n t h =
       ⊎_elim
       (λ this. ap (slice_get front) (this_number b.flags.is_static ms n this) ∙ h)
