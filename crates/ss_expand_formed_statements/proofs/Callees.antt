@@ -40,7 +40,7 @@ same_fields p = fields_kept p 4 p.classes
 
 -- ---- constructors
 
-tree_at : (cs : List ClassTree) (k : ℕ) → k < length cs → (c : ClassTree) × (slice_get cs k ≡ Some c)
+pub tree_at : (cs : List ClassTree) (k : ℕ) → k < length cs → (c : ClassTree) × (slice_get cs k ≡ Some c)
 tree_at [] k l = absurd (omega arith)
 tree_at (c ∷ cs) zero l = (c, refl)
 tree_at (c ∷ cs) (suc k) l = tree_at cs k (omega arith)

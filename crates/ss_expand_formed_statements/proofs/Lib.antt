@@ -9,3 +9,7 @@ pub mod Written
 pub mod Bodies
 pub mod Callees
 pub mod Tables
+pub mod Statics
+pub mod Calls
+pub mod Wrappers
+pub mod Inherits

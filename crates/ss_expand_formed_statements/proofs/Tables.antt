@@ -142,7 +142,7 @@ module _ (p : ProgramTree) (faultless : program_faults p ≡ []) where
       subst (λ o. IsMethodOf o b) (sym (ap choice other ∙ ap at_number number ∙ q.1)) (written_is P w b q.0 (same_Some _ _ (sym body ∙ is)) method moving))
       (cases_Bool (is_own t (body_at P e.body)))
 
-  not_null : (n : ℕ) (y : core.BodyTree) → at_number n ≡ Some y → y.result ≡ Some ty.Null → ⊥
+  pub not_null : (n : ℕ) (y : core.BodyTree) → at_number n ≡ Some y → y.result ≡ Some ty.Null → ⊥
   not_null n y h e = (let r = have_result_types p faultless n y h in let z : false ≡ true = sym (ap (λ o. are_declared (core_of p).classes (option_to_list o)) e) ∙ r in false≢true z)
 
   in_core_table : (k : ℕ) → k < length p.classes → (m : ℕ) (e : core.EntryTree) → slice_get (table p.classes k) m ≡ Some e → slice_get (store.table (core_of p).classes (4 + 2 * k)) m ≡ Some (record { name = e.name; body = entry_number P (4 + 2 * k) m e.body })

@@ -167,7 +167,7 @@ filter_passes test (x ∷ ns) i n h =
     front (suc j) rest e passed = rest j e
 
 module _ (p : ProgramTree) (faultless : program_faults p ≡ []) where
-  members_apart : (k : ℕ) → AreApart (method_names (members_at p.classes k))
+  pub members_apart : (k : ℕ) → AreApart (method_names (members_at p.classes k))
   members_apart k = look (slice_get p.classes k) refl
     where
       look : (o : Option ClassTree) → slice_get p.classes k ≡ o → AreApart (method_names (members_in o))

@@ -234,7 +234,7 @@ module _ (p : ProgramTree) (faultless : program_faults p ≡ []) where
   first_table zero k size over = ap (λ l. table_along p.classes (chain_from p.classes l (Some k))) size
   first_table (suc n) k size over = ap (λ l. table_along p.classes (chain_from p.classes l (Some k))) size ∙ ap (λ o. table_along p.classes (k ∷ chain_from p.classes (suc n) o)) over
 
-  table_of_first : (k : ℕ) → k < length p.classes → above p.classes k ≡ None → table p.classes k ≡ added p.classes k []
+  pub table_of_first : (k : ℕ) → k < length p.classes → above p.classes k ≡ None → table p.classes k ≡ added p.classes k []
   table_of_first k l e = let n = length p.classes - 1 in let more : length p.classes ≡ suc n = omega arith in first_table n k more e
 
   pub tree_at : (k : ℕ) → k < length p.classes → (c : ClassTree) × (slice_get p.classes k ≡ Some c)
