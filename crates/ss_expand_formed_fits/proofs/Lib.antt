@@ -1,0 +1,11 @@
+pub mod Given
+pub mod Targets
+pub mod Simple
+pub mod Declared
+pub mod Exposed
+pub mod Statements
+pub mod Owned
+pub mod Fields
+pub mod Bases
+pub mod Outer
+pub mod Bodies
