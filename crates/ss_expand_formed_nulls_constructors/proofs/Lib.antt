@@ -1,0 +1,11 @@
+pub mod Seams
+pub mod BehindBase
+pub mod Refit
+pub mod Initial
+pub mod Reading
+pub mod Initializers
+pub mod Splits
+pub mod Constructors
+pub mod Owned
+pub mod Sources
+pub mod All
