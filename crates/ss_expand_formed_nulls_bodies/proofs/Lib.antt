@@ -1,3 +1,5 @@
 pub mod Names
 pub mod Expressions
 pub mod Statements
+pub mod Sources
+pub mod Bodies
