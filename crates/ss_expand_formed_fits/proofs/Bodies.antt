@@ -40,7 +40,7 @@ use Rattle.ss_resolver_rules.specs.Names.{Env}
 use Rattle.ss_resolver_rules.specs.Expressions.{expr, args}
 use Rattle.ss_resolver_rules.specs.Statements.{Declared, declared_in_block, block, local}
 use Rattle.ss_resolver_rules.specs.Programs.{param, param_env, method_env, locals, base_of, method_body, constructor_body, written_constructor, resolved}
-use Rattle.ss_expand_rules.specs.Program.{body_at, constructor_in, constructor_of}
+use Rattle.ss_expand_rules.specs.Program.{body_at, above_of, constructor_in, constructor_of, param_types_in}
 use Rattle.ss_expand_rules.specs.Constructors.{in_block, has_base_call, implicit_constructor}
 use Rattle.ss_expand_rules.specs.Contracts.{first_param}
 use Rattle.ss_expand_rules.specs.Bodies.{statements}
@@ -60,17 +60,12 @@ use Rattle.ss_expand_formed_expressions.proofs.BodyPlaces.{body_known, class_num
 use Rattle.ss_expand_formed_statements.proofs.Fits.{FitArguments, FitBlock}
 use Rattle.ss_expand_formed_statements.proofs.Bodies.{InBody, method_in}
 use Rattle.ss_expand_formed_statements.proofs.Bodies.{constructor_in as constructor_stands}
-use Rattle.ss_expand_formed_fits.proofs.Given.{named_at, code_at, HasCode, Stands}
+use Rattle.ss_expand_formed_fits.proofs.Given.{named_at, code_at, Stands, base_given}
 use Rattle.ss_expand_formed_fits.proofs.Declared.{Placed}
 use Rattle.ss_expand_formed_fits.proofs.Statements.{Returns, block_fits}
 use Rattle.ss_expand_formed_fits.proofs.Owned.{worded}
 use Rattle.ss_expand_formed_fits.proofs.Fields.{initializers_fit}
-use Rattle.ss_expand_formed_fits.proofs.Bases.{taken_above, base_given}
 use Rattle.ss_expand_formed_fits.proofs.Outer.{block_calls_none, constructor_block_fits}
-
--- in each context, each expression of code without faults fits
-abbrev pub AllCode : ProgramTree → Type 0
-AllCode p = (x : Context) → IsKnown p x → (static : Bool) → HasCode p x static
 
 -- ---- the numbers of locals
 
@@ -115,7 +110,7 @@ module _ (p : ProgramTree) where
 
 -- ---- bodies
 
-module _ (p : ProgramTree) (faultless : program_faults p ≡ []) (typed_well : type_faults p ≡ []) (owned : ownership_faults (resolved p) ≡ []) (code : AllCode p) where
+module _ (p : ProgramTree) (faultless : program_faults p ≡ []) (typed_well : type_faults p ≡ []) (owned : ownership_faults (resolved p) ≡ []) where
   abbrev C : List core.ClassTree
   C = (core_of p).classes
 
@@ -145,7 +140,7 @@ module _ (p : ProgramTree) (faultless : program_faults p ≡ []) (typed_well : t
       let next = params_next p (class_at p k (first_number p (is_static m))) m.params in
       let size : length b.params ≡ length m.params = length-map m.params (param (method_env p.classes k m)) in
       let number : (method_at p k m).next ≡ first b = omega arith in
-      let here : Stands p faultless x known (is_static m) false (first b) (code x known (is_static m)) (method_at p k m) = record {
+      let here : Stands p faultless x known (is_static m) false (first b) (method_at p k m) = record {
         place = place;
         unbound = params_bound p (class_at p k (first_number p (is_static m))) m.params;
         behind = omega arith;
@@ -158,7 +153,7 @@ module _ (p : ProgramTree) (faultless : program_faults p ≡ []) (typed_well : t
       let well : typing_in.block_faults body types_in m.body ≡ [] = (none_left (typing.result_faults m.result ++ typing.params_faults m.params ++ typing.clauses_faults body types_in m.clauses) _ typed_so).1 in
       let words : misplaced_in (block (env_at p (method_at p k m)) m.body) ≡ [] = subst (λ e. misplaced_in (block e m.body) ≡ []) (method_env_is p k m) (worded P owned n b there).block in
       let placed : Placed p x (method_at p k m).next (declared_in_block m.body) = locals_placed p b (method_env p.classes k m) (env_of p faultless k (is_static m) m.params) m.body refl (method_at p k m).next number in
-      let fits = block_fits p faultless x known (is_static m) false (first b) (code x known (is_static m)) (typing.outcome_of p.classes m.result) (returned m.result is.result) (method_at p k m) here m.body placed
+      let fits = block_fits p faultless x known (is_static m) false (first b) (typing.outcome_of p.classes m.result) (returned m.result is.result) (method_at p k m) here m.body placed
       (subst (λ s. naming_in.block_faults s m.body ≡ []) (method_names p faultless k l m is ls false false (λ e g. absurd (false≢true e))) named)
       (subst (λ s. typing_in.block_faults body s m.body ≡ []) (method_types p faultless k l m is ls false false (λ e g. absurd (false≢true e))) well) words in
       subst (λ e. FitBlock P C x false (first b) (block e m.body)) (sym (method_env_is p k m)) fits
@@ -230,7 +225,7 @@ module _ (p : ProgramTree) (faultless : program_faults p ≡ []) (typed_well : t
         let size : length b.params ≡ length d.params = length-map d.params (param (param_env p.classes k false d.params)) in
         omega arith
 
-    here : Stands p faultless x known false true (first b) (code x known false) a
+    here : Stands p faultless x known false true (first b) a
     here = let same = number in record { place = constructor_place p faultless k l c d is ls false; unbound = params_bound p (class_at p k 1) d.params; behind = omega arith }
 
     abbrev S : scopes.Scope
@@ -274,7 +269,7 @@ module _ (p : ProgramTree) (faultless : program_faults p ≡ []) (typed_well : t
     env_is = constructor_env p k d
 
     abbrev Given : typed.Arguments → Type 0
-    Given es = FitArguments P C x true (first b) es (taken_above p k)
+    Given es = FitArguments P C x true (first b) es (param_types_in (constructor_of P (above_of P b.class)))
 
     written_given : (base : Option BaseCallTree) → typing.written_base k (named_at p x false a) base ≡ [] → naming.base_faults (named_at p x false a) base ≡ [] → misplaced_base (option_map (base_of (param_env p.classes k false d.params)) base) ≡ [] →
         (y : BaseTree) → option_map (base_of (param_env p.classes k false d.params)) base ≡ Some y → Given y.arguments
@@ -284,22 +279,22 @@ module _ (p : ProgramTree) (faultless : program_faults p ≡ []) (typed_well : t
         let ts = none_left (whole_call q.place (count es) (Taking (base_wants p.classes k))) _ types in
         let tree : args (env_at p a) es ≡ typed.arguments (map (expr (param_env p.classes k false d.params)) q.arguments) = args_of_list (env_at p a) q.arguments ∙ ap (λ v. typed.arguments (map (expr v) q.arguments)) (sym env_is) in
         let worded : misplaced_each NoWord (args (env_at p a) es) ≡ [] = ap (misplaced_each NoWord) tree ∙ words in
-        let given = base_given p faultless x known true (first b) (code x known false) a here k c at es (all_named (named_at p x false a) q.arguments names) (no_fault _ _ ts.0) ts.1 worded in
+        let given = base_given p faultless x known true (first b) k refl a here es (all_named (named_at p x false a) q.arguments names) (no_fault _ _ ts.0) ts.1 worded in
         subst (λ (z : BaseTree). Given z.arguments) (same_Some _ _ e) (subst Given tree given)
 
     implied_given : (base : Option BaseCallTree) → typing.implied_base p.classes k (is_some base || typing.block_calls_base d.body) d.name.place ≡ [] → option_map (base_of (param_env p.classes k false d.params)) base ≡ None → has_base_call (in_block b.block) ≡ false → Given typed.Arguments.NoMore
     implied_given (Some q) types e none = absurd (let z : ⊥ = cc in z)
     implied_given None types e none =
         let takes = implied k (typing.block_calls_base d.body) d.name.place (block_calls_none (param_env p.classes k false d.params) d.body none) types in
-        base_given p faultless x known true (first b) (code x known false) a here k c at text.NoMore refl (none_taken (base_wants p.classes k) takes) (none_given (code_at p x false a) (argument_wants 0 (Taking (base_wants p.classes k)))) refl
+        base_given p faultless x known true (first b) k refl a here text.NoMore refl (none_taken (base_wants p.classes k) takes) (none_given (code_at p x false a) (argument_wants 0 (Taking (base_wants p.classes k)))) refl
 
     -- the statements of a constructor
     pub constructor_fits : InBody P C b (statements P b)
     constructor_fits =
         let words = worded P owned n b there in
-        let own = initializers_fit p faultless typed_well owned k c at x known true (first b) (code x known false) refl (class_place k l b refl refl) in
+        let own = initializers_fit p faultless typed_well owned k c at x known true (first b) refl (class_place k l b refl refl) in
         let placed : Placed p x a.next (declared_in_block d.body) = locals_placed p b (param_env p.classes k false d.params) (env_of p faultless k false d.params) d.body refl a.next number in
-        let inner = constructor_block_fits p faultless x known (first b) (code x known false) tt k c at refl a here d.body placed named.block (is_none d.base) typings.block (subst (λ e. misplaced_in (block e d.body) ≡ []) env_is words.block) in
+        let inner = constructor_block_fits p faultless x known (first b) tt k refl a here d.body placed named.block (is_none d.base) typings.block (subst (λ e. misplaced_in (block e d.body) ≡ []) env_is words.block) in
         let whole : FitBlock P C x true (first b) b.block = subst (λ e. FitBlock P C x true (first b) (block e d.body)) (sym env_is) inner in
         constructor_stands P C b refl own (written_given d.base typings.base named.base words.base) (implied_given d.base typings.implied) whole
 
@@ -345,12 +340,12 @@ module _ (p : ProgramTree) (faultless : program_faults p ≡ []) (typed_well : t
         let x = context_of implicit in
         let known = implicit_known in
         let place = class_place k within implicit refl refl in
-        let here : Stands p faultless x known false true (first implicit) (code x known false) (class_at p k 1) = record { place = place; unbound = refl; behind = omega arith } in
+        let here : Stands p faultless x known false true (first implicit) (class_at p k 1) = record { place = place; unbound = refl; behind = omega arith } in
         let z : 0 + k ≡ k = omega arith in
         let faults : phases.class_faults p.classes k c ≡ [] = subst (λ i. phases.class_faults p.classes i c ≡ []) z (class_types 0 p.classes k c typed_well at) in
         let takes = implied k (phases.has_constructor (constructors_in c.members)) c.name.place (ap phases.has_constructor none) (none_left (phases.members_faults p.classes k c c.members) _ faults).1 in
-        let given = base_given p faultless x known true (first implicit) (code x known false) (class_at p k 1) here k c at text.NoMore refl (none_taken (base_wants p.classes k) takes) (none_given (code_at p x false (class_at p k 1)) (argument_wants 0 (Taking (base_wants p.classes k)))) refl in
-        let own = initializers_fit p faultless typed_well owned k c at x known true (first implicit) (code x known false) refl place in
+        let given = base_given p faultless x known true (first implicit) k refl (class_at p k 1) here text.NoMore refl (none_taken (base_wants p.classes k) takes) (none_given (code_at p x false (class_at p k 1)) (argument_wants 0 (Taking (base_wants p.classes k)))) refl in
+        let own = initializers_fit p faultless typed_well owned k c at x known true (first implicit) refl place in
         constructor_stands P C implicit refl own (λ y e. absurd (let w : ⊥ = cc in w)) (λ e n. given) tt
 
   -- ---- all written bodies

@@ -32,7 +32,7 @@ use Rattle.ss_expand_formed_expressions.proofs.Classes.{type_there}
 use Rattle.ss_expand_formed_expressions.proofs.Places.{At, scope_at, env_at, IsKnown}
 use Rattle.ss_expand_formed_expressions.proofs.Environments.{with_at, place_with}
 use Rattle.ss_expand_formed_statements.proofs.Fits.{FitValue, FitDeclared, WhereGiven}
-use Rattle.ss_expand_formed_fits.proofs.Given.{named_at, typed_at, code_at, HasCode, Stands, value_fits}
+use Rattle.ss_expand_formed_fits.proofs.Given.{named_at, typed_at, code_at, Stands, value_fits}
 
 abbrev named : TypeTree → written.DeclaratorTree → Declared
 named t d = record { name = d.name; ty = t }
@@ -165,12 +165,12 @@ module _ (p : ProgramTree) (x : Context) where
   placed_right n [] es h = let z : n ≡ n + 0 = omega arith in subst (λ m. Placed m es) z h
   placed_right n (d ∷ ds) es h = let s : n + 1 + length ds ≡ n + suc (length ds) = omega arith in subst (λ m. Placed m es) s (placed_right (n + 1) ds es h.1)
 
-module _ (p : ProgramTree) (faultless : program_faults p ≡ []) (x : Context) (is_known : IsKnown p x) (static constructs : Bool) (first : ℕ) (code : HasCode p x static) where
+module _ (p : ProgramTree) (faultless : program_faults p ≡ []) (x : Context) (is_known : IsKnown p x) (static constructs : Bool) (first : ℕ) where
   abbrev C : List core.ClassTree
   C = (core_of p).classes
 
   abbrev Here : At → Type 0
-  Here a = Stands p faultless x is_known static constructs first code a
+  Here a = Stands p faultless x is_known static constructs first a
 
   pub enter_stands : (a : At) → Here a → Here (enter_at a)
   enter_stands a h =
@@ -207,7 +207,7 @@ module _ (p : ProgramTree) (faultless : program_faults p ≡ []) (x : Context) (
   initial_fits : (a : At) → Here a → (t : TypeTree) → IsWritten t → (o : Option text.ExprTree) → naming.faults_of_any (named_at p x static a) o ≡ [] → initial_faults (code_at p x static a) t o ≡ [] → misplaced_if NoWord (option_map (expr (env_at p a)) o) ≡ [] →
       WhereGiven (resolved p) C x constructs first (FitValue (resolved p) C x constructs first (type_id p.classes t)) (option_map (expr (env_at p a)) o)
   initial_fits a here t w None names types words = tt
-  initial_fits a here t w (Some y) names types words = value_fits p faultless x is_known static constructs first code a here (written_type p.classes t) (type_id p.classes t) w.is w.known y names types words
+  initial_fits a here t w (Some y) names types words = value_fits p faultless x is_known static constructs first a here (written_type p.classes t) (type_id p.classes t) w.is w.known y names types words
 
   module _ (o : Outcome) where
     abbrev B : Body

@@ -46,7 +46,7 @@ use Rattle.ss_expand_formed_expressions.proofs.Environments.{class_at}
 use Rattle.ss_expand_formed_expressions.proofs.Bodies.{members_typed}
 use Rattle.ss_expand_formed_statements.proofs.Callees.{same_fields}
 use Rattle.ss_expand_formed_statements.proofs.Fits.{FitAll, FitStmt}
-use Rattle.ss_expand_formed_fits.proofs.Given.{HasCode, Stands, value_fits}
+use Rattle.ss_expand_formed_fits.proofs.Given.{Stands, value_fits}
 use Rattle.ss_expand_formed_fits.proofs.Owned.{field_worded}
 
 -- ---- fields without faults
@@ -95,7 +95,7 @@ field_faultless p faultless typed_well k c at i f e = of_members p k c c.members
 -- ---- initial assignments
 
 module _ (p : ProgramTree) (faultless : program_faults p ≡ []) (typed_well : phases.type_faults p ≡ []) (owned : ownership_faults (resolved p) ≡ []) (k : ℕ) (c : ClassTree) (at : slice_get p.classes k ≡ Some c)
-    (x : Context) (is_known : IsKnown p x) (constructs : Bool) (first : ℕ) (code : HasCode p x false) (this : slice_get x.locals 0 ≡ Some (class_type (class_number k) true)) (place : IsPlace p x false false false (class_at p k 1)) where
+    (x : Context) (is_known : IsKnown p x) (constructs : Bool) (first : ℕ) (this : slice_get x.locals 0 ≡ Some (class_type (class_number k) true)) (place : IsPlace p x false false false (class_at p k 1)) where
   abbrev C : List core.ClassTree
   C = (core_of p).classes
 
@@ -111,14 +111,14 @@ module _ (p : ProgramTree) (faultless : program_faults p ≡ []) (typed_well : p
   abbrev made : FieldTree → typed.FieldTree
   made f = field_member (class_env p.classes k) f
 
-  here : Stands p faultless x is_known false constructs 0 code (class_at p k 1)
+  here : Stands p faultless x is_known false constructs 0 (class_at p k 1)
   here = record { place = place; unbound = refl; behind = omega arith }
 
   assigned : (f : ℕ) (g : FieldTree) → field_at P f ≡ Some (in_class t (field p.classes g)) → IsField p k c g → (e : text.ExprTree) → faults_of_any (class_scope p.classes k) (Some e) ≡ [] → initial_faults (typing.in_class p.classes k false) g.ty (Some e) ≡ [] → misplaced_if NoWord (Some (expr (class_env p.classes k) e)) ≡ [] →
       FitStmt P C x constructs first (initial_assignment t f g.name.place (field p.classes g) (expr (class_env p.classes k) e))
   assigned f g is fine e names types words =
       let known = type_known p faultless g.ty fine.type in
-      let v = value_fits p faultless x is_known false constructs 0 code (class_at p k 1) here _ (type_id p.classes g.ty) (type_there p faultless g.ty known) known e names types words in
+      let v = value_fits p faultless x is_known false constructs 0 (class_at p k 1) here _ (type_id p.classes g.ty) (type_there p faultless g.ty known) known e names types words in
       let there : slice_get (all_fields C) f ≡ Some (in_class t (field p.classes g)) = ap (λ fs. slice_get fs f) (same_fields P) ∙ is in
       (((this, record { field = _; there = there; has = below_self C t; type = refl }), refl, refl), v.0, v.1)
 

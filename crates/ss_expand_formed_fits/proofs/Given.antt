@@ -1,48 +1,37 @@
 -- An expression of code without faults is resolved to one that fits where it stands.
-use Rattle.std.proofs.Common.{◌≡◌, ℕ, ◌≤◌, List, [], ◌∷◌, map, Bool, true, false, Option, Some, refl, ◌∙◌, ap, subst}
+use Rattle.std.proofs.Common.{◌≡◌, ℕ, ◌≤◌, List, [], ◌∷◌, map, Bool, true, false, Option, Some, None, refl, ◌∙◌, ap, subst, arith}
 use Rattle.ss_core.specs.declared.names.Ty.{Ty}
 use Rattle.ss_core.specs.Tree as core
 use Rattle.ss_core.specs.Chain.{is_type}
-use Rattle.ss_ast.specs.Expressions.{CallOf, MemberOf, ParenOf}
+use Rattle.ss_ast.specs.Expressions.{Arguments}
 use Rattle.ss_ast.specs.Expressions as text
 use Rattle.ss_ast.specs.Programs.{ProgramTree}
 use Rattle.ss_tables.specs.Scopes.{Scope}
-use Rattle.ss_tables.specs.Statics.{Receiver, TheConsole, TheOwner, TheBase, AClass, AValue, receiver}
-use Rattle.ss_tables.specs.Statics as statics
+use Rattle.ss_tables.specs.Classes.{class_number}
+use Rattle.ss_tables.specs.Statics.{count}
 use Rattle.ss_typed.specs.Tree.{TypedTree}
-use Rattle.ss_owners_rules.specs.Words.{Allowed, NoWord, OfEntry, allows_result, misplaced, misplaced_in_all}
-use Rattle.ss_resolver_names_rules.specs.Expressions.{expr_faults}
+use Rattle.ss_owners_rules.specs.Words.{Allowed, NoWord, OfEntry, allows_result, misplaced, misplaced_each, misplaced_in_all}
+use Rattle.ss_resolver_names_rules.specs.Expressions.{expr_faults, arguments_faults}
 use Rattle.ss_resolver_names_rules.specs.Statements.{faults_of_all}
 use Rattle.ss_resolver_names_rules.specs.Programs.{program_faults}
-use Rattle.ss_resolver_types_expressions.specs.Wants.{Want, ABool, OfType, may_stand_for, suits, wrong}
-use Rattle.ss_resolver_types_expressions.specs.Calls.{Around}
-use Rattle.ss_resolver_types_expressions.specs.Expressions.{AsValue, faults, faults_as}
+use Rattle.ss_resolver_types_expressions.specs.Wants.{Want, ABool, OfType, may_stand_for, suits}
+use Rattle.ss_resolver_types_expressions.specs.Calls.{Around, Taking, base_wants, argument_wants, is_wrong_call}
+use Rattle.ss_resolver_types_expressions.specs.Expressions.{AsValue, faults, argument_faults, faults_as}
 use Rattle.ss_resolver_types_expressions.specs.Statements.{Outcome, conditions}
-use Rattle.ss_resolver_rules.specs.Expressions.{expr}
+use Rattle.ss_resolver_rules.specs.Expressions.{expr, args}
 use Rattle.ss_resolver_rules.specs.Programs.{resolved}
+use Rattle.ss_expand_rules.specs.Program.{above_of, constructor_of, param_types_in}
 use Rattle.ss_store_rules.specs.Types.{has_fitting}
 use Rattle.ss_expand_formed.specs.Laws.{core_of}
 use Rattle.ss_expand_formed.proofs.Facts.{none_left}
 use Rattle.ss_expand_formed_expressions.proofs.Fit.{Context, Fit}
 use Rattle.ss_expand_formed_expressions.proofs.Scopes.{refusing, around}
 use Rattle.ss_expand_formed_expressions.proofs.Classes.{stands_fits}
-use Rattle.ss_expand_formed_expressions.proofs.Places.{At, scope_at, env_at, IsKnown, IsPlace, class_of_value, Sound, IsWanted, is_wanted, wanted_bool}
+use Rattle.ss_expand_formed_expressions.proofs.Places.{At, scope_at, env_at, IsKnown, IsPlace, class_of_value, IsWanted, wanted_bool}
 use Rattle.ss_expand_formed_expressions.proofs.Conditions.{condition_sound}
 use Rattle.ss_expand_formed_expressions.proofs.Answered.{answered}
-use Rattle.ss_expand_formed_statements.proofs.Fits.{can_lift, FitCode, FitValue, FitTest, FitClaim, FitClaims}
-
-abbrev pub is_the_console : Receiver → Bool
-is_the_console TheConsole = true
-is_the_console TheOwner = false
-is_the_console TheBase = false
-is_the_console (AClass k) = false
-is_the_console (AValue t) = false
-
--- the expression is a print
-abbrev pub prints : Scope → text.ExprTree → Bool
-prints s (CallOf q (MemberOf m y n) es) = is_the_console (receiver s y (statics.static s y))
-prints s (ParenOf q y) = prints s y
-prints s y = false
+use Rattle.ss_expand_formed_statements.proofs.Fits.{FitCode, FitArguments, FitValue, FitTest, FitClaim, FitClaims}
+use Rattle.ss_expand_formed_statements.proofs.SourceCode.{any_of, value_of, base_arguments_of}
 
 -- ---- the scopes of the phases at a place
 
@@ -58,17 +47,7 @@ module _ (p : ProgramTree) (x : Context) (static : Bool) where
   abbrev pub code_at : At → Around
   code_at a = around static false false (scope_at p a)
 
-  -- what an expression of code is resolved to fits, and its calls can be lifted out
-  pub record IsCode (a : At) (y : text.ExprTree) : Type 0 where
-    pub sound : Sound p x static false false false a y
-    pub lifts : can_lift (expr (env_at p a) y) ≡ true
-
-  -- each expression of code without faults is one, unless it prints
-  pub record HasCode : Type 0 where
-    pub code : (a : At) → IsPlace p x static false false a → a.bound ≡ 0 → (y : text.ExprTree) → expr_faults (named_at a) y ≡ [] → faults (code_at a) AsValue y ≡ [] → misplaced NoWord (expr (env_at p a) y) ≡ [] → prints (scope_at p a) y ≡ false → IsCode a y
-    pub value : (w : Want) (a : At) → IsPlace p x static false false a → a.bound ≡ 0 → (y : text.ExprTree) → expr_faults (named_at a) y ≡ [] → faults_as (code_at a) w y ≡ [] → misplaced NoWord (expr (env_at p a) y) ≡ [] → IsCode a y
-
-module _ (p : ProgramTree) (faultless : program_faults p ≡ []) (x : Context) (is_known : IsKnown p x) (static constructs : Bool) (first : ℕ) (code : HasCode p x static) where
+module _ (p : ProgramTree) (faultless : program_faults p ≡ []) (x : Context) (is_known : IsKnown p x) (static constructs : Bool) (first : ℕ) where
   abbrev C : List core.ClassTree
   C = (core_of p).classes
 
@@ -93,12 +72,10 @@ module _ (p : ProgramTree) (faultless : program_faults p ≡ []) (x : Context) (
   abbrev Code : At → text.ExprTree → Type 0
   Code a y = FitCode P C x constructs first (expr (env_at p a) y)
 
-  of_code : (a : At) → Stands a → (y : text.ExprTree) → Words a y → IsCode p x static a y → Code a y
-  of_code a here y words c = (subst (λ k. Fit P C x k (expr (env_at p a) y)) here.unbound c.sound.fit, words, c.lifts)
-
-  -- an expression that doesn't print
-  pub code_fits : (a : At) → Stands a → (y : text.ExprTree) → Names a y → faults (code_at p x static a) AsValue y ≡ [] → Words a y → prints (scope_at p a) y ≡ false → Code a y
-  code_fits a here y names types words silent = of_code a here y words (code.code a here.place here.unbound y names types words silent)
+  pub code_fits : (a : At) → Stands a → (y : text.ExprTree) → Names a y → faults (code_at p x static a) AsValue y ≡ [] → Words a y → Code a y
+  code_fits a here y names types words =
+      let c = any_of p faultless x is_known static a here.place y names types words in
+      (subst (λ k. Fit P C x k (expr (env_at p a) y)) here.unbound c.sound.fit, words, c.lifts)
 
   -- ---- what is wanted
 
@@ -108,9 +85,8 @@ module _ (p : ProgramTree) (faultless : program_faults p ≡ []) (x : Context) (
 
   pub given : (a : At) → Stands a → (w : Want) (y : text.ExprTree) → Names a y → Types a w y → Words a y → IsGiven a w y
   given a here w y names types words =
-      let both = none_left (faults (code_at p x static a) AsValue y) (wrong (typed_at p x static a) w y) types in
-      let c = code.value w a here.place here.unbound y names types words in
-      record { fits = of_code a here y words c; wanted = is_wanted p x static false false false a w y both.0 c.sound both.1 }
+      let v = value_of p faultless x is_known static a here.place w here.unbound y names types words in
+      record { fits = (v.code.fit, v.code.words, v.code.lifts); wanted = v.wanted }
 
   -- a value of a type that is written
   pub value_fits : (a : At) → Stands a → (t : Option Ty) (u : Ty) → t ≡ Some u → is_type C u ≡ true → (y : text.ExprTree) → Names a y → Types a (OfType t) y → Words a y → FitValue P C x constructs first u (expr (env_at p a) y)
@@ -145,3 +121,14 @@ module _ (p : ProgramTree) (faultless : program_faults p ≡ []) (x : Context) (
       let ts = none_left (faults_as (around static true false (scope_at p a)) ABool y) _ types in
       let hs = none_left (misplaced OfEntry (expr (env_at p a) y)) _ words in
       (claim_fits OfEntry refl a here y ns.0 ts.0 hs.0, claims_fit o a here ys ns.1 ts.1 hs.1)
+
+module _ (p : ProgramTree) (faultless : program_faults p ≡ []) (x : Context) (is_known : IsKnown p x) (constructs : Bool) (first : ℕ) (k : ℕ) (class : x.class ≡ class_number k) where
+  -- the arguments of `base(..)` in a constructor of the class
+  pub base_given : (a : At) → Stands p faultless x is_known false constructs first a → (es : Arguments) → arguments_faults (named_at p x false a) None es ≡ [] → is_wrong_call (count es) (Taking (base_wants p.classes k)) ≡ false →
+      argument_faults (code_at p x false a) (argument_wants (count es) (Taking (base_wants p.classes k))) es ≡ [] → misplaced_each NoWord (args (env_at p a) es) ≡ [] →
+      FitArguments (resolved p) (core_of p).classes x constructs first (args (env_at p a) es) (param_types_in (constructor_of (resolved p) (above_of (resolved p) x.class)))
+  base_given a here es names wrong types words =
+      let in_class = here.place.in_class in
+      let same : k ≡ a.class = omega arith in
+      base_arguments_of p faultless x is_known false a here.place here.unbound es (subst (λ j. is_wrong_call (count es) (Taking (base_wants p.classes j)) ≡ false) same wrong)
+      (subst (λ j. argument_faults (code_at p x false a) (argument_wants (count es) (Taking (base_wants p.classes j))) es ≡ []) same types) names words

@@ -6,6 +6,5 @@ pub mod Exposed
 pub mod Statements
 pub mod Owned
 pub mod Fields
-pub mod Bases
 pub mod Outer
 pub mod Bodies

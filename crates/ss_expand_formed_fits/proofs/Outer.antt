@@ -1,11 +1,11 @@
 -- The statements of a constructor's block fit, where one of them may be `base(..)`.
-use Rattle.std.proofs.Common.{◌≡◌, ℕ, List, [], Bool, true, false, Some, None, refl, sym, subst}
-use Rattle.std.specs.Prelude.{◌&&◌, slice_get, is_some}
+use Rattle.std.proofs.Common.{◌≡◌, ℕ, List, [], Bool, true, false, None, refl, sym, subst}
+use Rattle.std.specs.Prelude.{◌&&◌, is_some}
 use Rattle.std.proofs.lemmas.Bool.{true≢false}
 use Rattle.ss_core.specs.Tree as core
 use Rattle.ss_ast.specs.Expressions as text
 use Rattle.ss_ast.specs.Statements as written
-use Rattle.ss_ast.specs.Programs.{ClassTree, ProgramTree}
+use Rattle.ss_ast.specs.Programs.{ProgramTree}
 use Rattle.ss_tables.specs.Classes.{class_number}
 use Rattle.ss_tables.specs.Scopes.{Scope}
 use Rattle.ss_tables.specs.Statics.{count}
@@ -17,21 +17,18 @@ use Rattle.ss_resolver_types_expressions.specs.Calls.{Taking, base_wants, whole_
 use Rattle.ss_resolver_types_expressions.specs.Statements.{Nothing, stmt_faults}
 use Rattle.ss_resolver_types_expressions.specs.Members.{constructor_body, base_call, is_first_assignment, outermost_faults, constructor_stmts, constructor_block, calls_base, block_calls_base}
 use Rattle.ss_resolver_rules.specs.Names.{Env}
-use Rattle.ss_resolver_rules.specs.Expressions.{args}
 use Rattle.ss_resolver_rules.specs.Statements.{declared_in_block, declared_in, declared_in_all, behind, block, stmt, stmts}
 use Rattle.ss_resolver_rules.specs.Programs.{resolved}
-use Rattle.ss_expand_rules.specs.Program.{above_of, constructor_of, param_types_in}
 use Rattle.ss_expand_rules.specs.Constructors.{in_block, is_base_call, has_base_call}
 use Rattle.ss_expand_formed.specs.Laws.{core_of}
 use Rattle.ss_expand_formed.proofs.Facts.{none_left, or_false}
 use Rattle.ss_expand_formed_expressions.proofs.Fit.{Context}
 use Rattle.ss_expand_formed_expressions.proofs.Scopes.{no_fault}
 use Rattle.ss_expand_formed_expressions.proofs.Places.{At, env_at, IsKnown}
-use Rattle.ss_expand_formed_statements.proofs.Fits.{FitArguments, FitStmt, FitBlock, FitAll}
-use Rattle.ss_expand_formed_fits.proofs.Given.{named_at, typed_at, HasCode, Stands}
+use Rattle.ss_expand_formed_statements.proofs.Fits.{FitStmt, FitBlock, FitAll}
+use Rattle.ss_expand_formed_fits.proofs.Given.{named_at, typed_at, Stands, base_given}
 use Rattle.ss_expand_formed_fits.proofs.Declared.{enter_at, behind_at, behind_env, behind_scope, behind_next, Placed, placed_left, placed_right, enter_stands}
 use Rattle.ss_expand_formed_fits.proofs.Statements.{Returns, behind_stands, stmt_fits}
-use Rattle.ss_expand_formed_fits.proofs.Bases.{base_given}
 
 -- ---- whether a block has one
 
@@ -50,7 +47,7 @@ block_calls_none e (written.BlockOf q ys r) h = none_called _ ys h
 
 -- ---- the block
 
-module _ (p : ProgramTree) (faultless : program_faults p ≡ []) (x : Context) (is_known : IsKnown p x) (first : ℕ) (code : HasCode p x false) (returns : Returns Nothing x.result) (k : ℕ) (c : ClassTree) (at : slice_get p.classes k ≡ Some c) (class : x.class ≡ class_number k) where
+module _ (p : ProgramTree) (faultless : program_faults p ≡ []) (x : Context) (is_known : IsKnown p x) (first : ℕ) (returns : Returns Nothing x.result) (k : ℕ) (class : x.class ≡ class_number k) where
   abbrev C : List core.ClassTree
   C = (core_of p).classes
 
@@ -58,7 +55,7 @@ module _ (p : ProgramTree) (faultless : program_faults p ≡ []) (x : Context) (
   P = resolved p
 
   abbrev Here : At → Type 0
-  Here a = Stands p faultless x is_known false true first code a
+  Here a = Stands p faultless x is_known false true first a
 
   abbrev U : At → Scope
   U a = named_at p x false a
@@ -73,8 +70,8 @@ module _ (p : ProgramTree) (faultless : program_faults p ≡ []) (x : Context) (
 
   ordinary : (a : At) → Here a → (y : written.StmtTree) → Placed p x a.next (declared_in y) → naming.stmt_faults (U a) y ≡ [] → stmt_faults constructor_body (T a) y ≡ [] → misplaced_at (stmt (env_at p a) y) ≡ [] → IsOuter a y
   ordinary a here y placed ns ts ws = record {
-    fit = stmt_fits p faultless x is_known false true first code Nothing returns a here y placed ns ts ws;
-    here = behind_stands p faultless x is_known false true first code Nothing returns a here y placed ns ts ws;
+    fit = stmt_fits p faultless x is_known false true first Nothing returns a here y placed ns ts ws;
+    here = behind_stands p faultless x is_known false true first Nothing returns a here y placed ns ts ws;
   }
 
   no_base : (s : Scope) (y : written.StmtTree) (may : Bool) → base_call y ≡ None → outermost_faults k s y may (base_call y) ≡ [] → stmt_faults constructor_body s y ≡ []
@@ -84,8 +81,8 @@ module _ (p : ProgramTree) (faultless : program_faults p ≡ []) (x : Context) (
   outer_fits : (a : At) → Here a → (y : written.StmtTree) → Placed p x a.next (declared_in y) → naming.stmt_faults (U a) y ≡ [] → (may : Bool) → outermost_faults k (T a) y may (base_call y) ≡ [] → misplaced_at (stmt (env_at p a) y) ≡ [] → IsOuter a y
   outer_fits a here (written.SimpleOf (written.AloneOf (text.CallOf q (text.BaseOf r) es))) placed ns true ts ws =
       let both = none_left (whole_call q (count es) (Taking (base_wants p.classes k))) _ ts in
-      let given = base_given p faultless x is_known true first code a here k c at es ns (no_fault _ _ both.0) both.1 ws in
-      record { fit = (refl, subst (λ t. FitArguments P C x true first (args (env_at p a) es) (param_types_in (constructor_of P (above_of P t)))) (sym class) given); here = here }
+      let given = base_given p faultless x is_known true first k class a here es ns (no_fault _ _ both.0) both.1 ws in
+      record { fit = (refl, given); here = here }
   outer_fits a here (written.SimpleOf (written.AloneOf (text.CallOf q (text.BaseOf r) es))) placed ns false ts ws = ordinary a here (written.SimpleOf (written.AloneOf (text.CallOf q (text.BaseOf r) es))) placed ns ts ws
   outer_fits a here y placed ns may ts ws = ordinary a here y placed ns (no_base (T a) y may refl ts) ws
 
@@ -104,4 +101,4 @@ module _ (p : ProgramTree) (faultless : program_faults p ≡ []) (x : Context) (
       (o.fit, subst (λ e. FitAll P C x true first (stmts e ys)) (sym (behind_env p a y)) (all_fit b o.here ys more named (may && is_first_assignment k (T a) y) typed worded))
 
   pub constructor_block_fits : (a : At) → Here a → (b : written.BlockTree) → Placed p x a.next (declared_in_block b) → naming.block_faults (U a) b ≡ [] → (may : Bool) → constructor_block k (T a) may b ≡ [] → misplaced_in (block (env_at p a) b) ≡ [] → FitBlock P C x true first (block (env_at p a) b)
-  constructor_block_fits a here (written.BlockOf q ys r) placed names may types words = all_fit (enter_at a) (enter_stands p faultless x is_known false true first code a here) ys placed names may types words
+  constructor_block_fits a here (written.BlockOf q ys r) placed names may types words = all_fit (enter_at a) (enter_stands p faultless x is_known false true first a here) ys placed names may types words

@@ -29,7 +29,7 @@ use Rattle.ss_resolver_types_expressions.specs.Wants.{AnInt, OfType, Printable, 
 use Rattle.ss_resolver_types_expressions.specs.Wants as wants
 use Rattle.ss_resolver_types_expressions.specs.Calls.{Around, Taking, Unknown, called, called_console, argument_wants, is_wrong_call, whole_call, called_member}
 use Rattle.ss_resolver_types_expressions.specs.Expressions.{AsValue, AsCallee, BeforeDot, argument, argument_faults, condition_faults, is_question, faults, faults_as}
-use Rattle.ss_resolver_types_expressions.specs.Statements.{is_target, target_faults, assigned_faults, may_stand_alone}
+use Rattle.ss_resolver_types_expressions.specs.Statements.{is_target, target_faults, assigned_faults}
 use Rattle.ss_resolver_types_expressions.specs.Statements as typing
 use Rattle.ss_resolver_rules.specs.Expressions.{expr}
 use Rattle.ss_resolver_rules.specs.Statements.{is_line, printed, print, call_alone, alone, simple}
@@ -44,7 +44,8 @@ use Rattle.ss_expand_formed_expressions.proofs.Places.{At, scope_at, env_at, IsK
 use Rattle.ss_expand_formed_expressions.proofs.Receivers.{receiver_of}
 use Rattle.ss_expand_formed_expressions.proofs.MemberReads.{not_unless}
 use Rattle.ss_expand_formed_statements.proofs.Fits.{FitCode, FitPrinted, FitSimple}
-use Rattle.ss_expand_formed_fits.proofs.Given.{is_the_console, prints, named_at, typed_at, code_at, HasCode, Stands, code_fits, given, value_fits}
+use Rattle.ss_expand_formed_statements.proofs.SourceCode.{any_of}
+use Rattle.ss_expand_formed_fits.proofs.Given.{named_at, typed_at, code_at, Stands, code_fits, given, value_fits}
 use Rattle.ss_expand_formed_fits.proofs.Targets.{type_known, target_not_null}
 
 print_suited : (t : Ty) → (wants.is_int t || wants.is_bool t) ≡ true → (is_int (Some t) || is_bool (Some t)) ≡ true
@@ -64,12 +65,12 @@ printable false true es z some wrong =
     let right : is_wrong_call (count es + 1) (Taking (Printable ∷ [])) ≡ false = rw none at wrong in
     rw none (ap (λ (b : Bool). if b then [] else Printable ∷ []) right)
 
-module _ (p : ProgramTree) (faultless : program_faults p ≡ []) (x : Context) (is_known : IsKnown p x) (static constructs : Bool) (first : ℕ) (code : HasCode p x static) where
+module _ (p : ProgramTree) (faultless : program_faults p ≡ []) (x : Context) (is_known : IsKnown p x) (static constructs : Bool) (first : ℕ) where
   abbrev C : List core.ClassTree
   C = (core_of p).classes
 
   abbrev Here : At → Type 0
-  Here a = Stands p faultless x is_known static constructs first code a
+  Here a = Stands p faultless x is_known static constructs first a
 
   abbrev A : At → Around
   A a = code_at p x static a
@@ -99,12 +100,6 @@ module _ (p : ProgramTree) (faultless : program_faults p ≡ []) (x : Context) (
   target_valued s (ElementOf q e i) h = refl
   target_valued s y h = absurd (false≢true h)
 
-  target_silent : (s t : Scope) (y : text.ExprTree) → is_target s y ≡ true → prints t y ≡ false
-  target_silent s t (NameOf q n) h = refl
-  target_silent s t (MemberOf q e n) h = refl
-  target_silent s t (ElementOf q e i) h = refl
-  target_silent s t y h = absurd (false≢true h)
-
   some_type : (o : Option Ty) (b : Bool) → (is_some o || b) ≡ true → b ≡ false → (t : Ty) × (o ≡ Some t)
   some_type (Some t) b h g = (t, refl)
   some_type None b h g = absurd (false≢true (sym g ∙ h))
@@ -113,12 +108,11 @@ module _ (p : ProgramTree) (faultless : program_faults p ≡ []) (x : Context) (
   target a here y names types words =
       let both = none_left (faults (A a) AsValue y) _ types in
       let is = not_false (is_target (T a) y) (no_fault _ _ both.1) in
-      let silent = target_silent (T a) (scope_at p a) y is in
-      let s = (code.code a here.place here.unbound y names both.0 words silent).sound in
+      let s = (any_of p faultless x is_known static a here.place y names both.0 words).sound in
       let t = some_type (statics.static (scope_at p a) y) (has_no_value (T a) y) s.valued (target_valued (T a) y is) in
       let type = s.typed t.0 t.1 in
       record {
-        fits = code_fits p faultless x is_known static constructs first code a here y names both.0 words silent;
+        fits = code_fits p faultless x is_known static constructs first a here y names both.0 words;
         type = t.0;
         static_is = static_at p x static false false false a y both.0 ∙ t.1;
         is = type;
@@ -127,23 +121,21 @@ module _ (p : ProgramTree) (faultless : program_faults p ≡ []) (x : Context) (
 
   target_int : (a : At) → Here a → (y : text.ExprTree) → expr_faults (U a) y ≡ [] → target_faults (A a) y ≡ [] → misplaced NoWord (expr (env_at p a) y) ≡ [] → wrong (T a) AnInt y ≡ [] → is_int (type_of (expr (env_at p a) y)) ≡ true
   target_int a here y names types words want =
-      let both = none_left (faults (A a) AsValue y) _ types in
-      let is = not_false (is_target (T a) y) (no_fault _ _ both.1) in
-      let c = code.code a here.place here.unbound y names both.0 words (target_silent (T a) (scope_at p a) y is) in
-      wanted_int p x static false false false a y (is_wanted p x static false false false a AnInt y both.0 c.sound want)
+      let within = (none_left (faults (A a) AsValue y) _ types).0 in
+      wanted_int p x static false false false a y (is_wanted p x static false false false a AnInt y within (any_of p faultless x is_known static a here.place y names within words).sound want)
 
   updates : (a : At) → Here a → (y z : text.ExprTree) → expr_faults (U a) y ≡ [] → expr_faults (U a) z ≡ [] → target_faults (A a) y ≡ [] → wrong (T a) AnInt y ++ faults_as (A a) AnInt z ≡ [] → misplaced NoWord (expr (env_at p a) y) ≡ [] → misplaced NoWord (expr (env_at p a) z) ≡ [] →
       FitCode (resolved p) C x constructs first (expr (env_at p a) y) × FitCode (resolved p) C x constructs first (expr (env_at p a) z) × ((is_int (type_of (expr (env_at p a) y)) ≡ true) × (is_int (type_of (expr (env_at p a) z)) ≡ true))
   updates a here y z ny nz types update wy wz =
       let both = none_left (wrong (T a) AnInt y) (faults_as (A a) AnInt z) update in
-      let g = given p faultless x is_known static constructs first code a here AnInt z nz both.1 wz in
+      let g = given p faultless x is_known static constructs first a here AnInt z nz both.1 wz in
       ((target a here y ny types wy).fits, g.fits, (target_int a here y ny types wy both.0, wanted_int p x static false false false a z g.wanted))
 
   assigns : (a : At) → Here a → (y z : text.ExprTree) (o : AssignOperator) → expr_faults (U a) y ≡ [] → expr_faults (U a) z ≡ [] → target_faults (A a) y ≡ [] → assigned_faults (A a) o y z ≡ [] → misplaced NoWord (expr (env_at p a) y) ≡ [] → misplaced NoWord (expr (env_at p a) z) ≡ [] →
       Fits (AssignOf (expr (env_at p a) y) o (expr (env_at p a) z))
   assigns a here y z operator.Set ny nz types set wy wz =
       let t = target a here y ny types wy in
-      let v = value_fits p faultless x is_known static constructs first code a here (statics.static (T a) y) t.type t.static_is t.known z nz set wz in
+      let v = value_fits p faultless x is_known static constructs first a here (statics.static (T a) y) t.type t.static_is t.known z nz set wz in
       (t.fits, v.0, ap (fits_declared C (type_of (expr (env_at p a) z))) t.is ∙ v.1)
   assigns a here y z operator.Add ny nz types update wy wz = updates a here y z ny nz types update wy wz
   assigns a here y z operator.Subtract ny nz types update wy wz = updates a here y z ny nz types update wy wz
@@ -156,7 +148,7 @@ module _ (p : ProgramTree) (faultless : program_faults p ≡ []) (x : Context) (
 
   value_printed : (a : At) → Here a → (y : text.ExprTree) → expr_faults (U a) y ≡ [] → faults_as (A a) Printable y ≡ [] → misplaced NoWord (expr (env_at p a) y) ≡ [] → FitPrinted (resolved p) C x constructs first (expr (env_at p a) y)
   value_printed a here y names types words =
-      let g = given p faultless x is_known static constructs first code a here Printable y names types words in
+      let g = given p faultless x is_known static constructs first a here Printable y names types words in
       (g.fits, ap (λ o. is_int o || is_bool o) g.wanted.is ∙ print_suited g.wanted.type g.wanted.suits)
 
   text_printed : (a : At) → Here a → (q : Place) (line : Bool) (y : text.ExprTree) → expr_faults (U a) y ≡ [] → argument (A a) Printable y (faults (A a) AsValue y) ≡ [] → misplaced_done (printed (env_at p a) q line y) ≡ [] → Printed a q line y
@@ -201,16 +193,15 @@ module _ (p : ProgramTree) (faultless : program_faults p ≡ []) (x : Context) (
           (subst (λ r. is_wrong_call (count es) (called_member (A a) (count es) (wants.known (T a) z) n.text r) ≡ false) rt (no_fault _ _ four.2))
           (subst (λ r. arguments_faults (U a) (asked_class n.text r) es ≡ []) ru ns.1)
           (subst (λ r. argument_faults (A a) (argument_wants (count es) (called_member (A a) (count es) (wants.known (T a) z) n.text r)) es ≡ []) rt four.3) w
-      by TheOwner e w = code_fits p faultless x is_known static constructs first code a here (Call q m z n es) names types w (ap is_the_console e)
-      by TheBase e w = code_fits p faultless x is_known static constructs first code a here (Call q m z n es) names types w (ap is_the_console e)
-      by (AClass k) e w = code_fits p faultless x is_known static constructs first code a here (Call q m z n es) names types w (ap is_the_console e)
-      by (AValue t) e w = code_fits p faultless x is_known static constructs first code a here (Call q m z n es) names types w (ap is_the_console e)
+      by TheOwner e w = code_fits p faultless x is_known static constructs first a here (Call q m z n es) names types w
+      by TheBase e w = code_fits p faultless x is_known static constructs first a here (Call q m z n es) names types w
+      by (AClass k) e w = code_fits p faultless x is_known static constructs first a here (Call q m z n es) names types w
+      by (AValue t) e w = code_fits p faultless x is_known static constructs first a here (Call q m z n es) names types w
 
-  alone_fits : (a : At) → Here a → (y : text.ExprTree) → may_stand_alone (T a) y ≡ true → expr_faults (U a) y ≡ [] → faults (A a) AsValue y ≡ [] → misplaced_done (alone (env_at p a) y) ≡ [] → Fits (alone (env_at p a) y)
-  alone_fits a here (CallOf q (BaseOf r) es) may names types words = absurd (refused a q r es types)
-  alone_fits a here (CallOf q (MemberOf m z n) es) may names types words = member_alone a here q m z n es names types words
-  alone_fits a here (ParenOf q y) may names types words = absurd (false≢true may)
-  alone_fits a here y may names types words = code_fits p faultless x is_known static constructs first code a here y names types words refl
+  alone_fits : (a : At) → Here a → (y : text.ExprTree) → expr_faults (U a) y ≡ [] → faults (A a) AsValue y ≡ [] → misplaced_done (alone (env_at p a) y) ≡ [] → Fits (alone (env_at p a) y)
+  alone_fits a here (CallOf q (BaseOf r) es) names types words = absurd (refused a q r es types)
+  alone_fits a here (CallOf q (MemberOf m z n) es) names types words = member_alone a here q m z n es names types words
+  alone_fits a here y names types words = code_fits p faultless x is_known static constructs first a here y names types words
 
   -- ---- simple statements
 
@@ -223,6 +214,4 @@ module _ (p : ProgramTree) (faultless : program_faults p ≡ []) (x : Context) (
   simple_fits a here (written.StepOf y o) names types words =
       let ts = none_left (target_faults (A a) y) (wrong (T a) AnInt y) types in
       ((target a here y names ts.0 words).fits, target_int a here y names ts.0 words ts.1)
-  simple_fits a here (written.AloneOf y) names types words =
-      let ts = none_left (faults (A a) AsValue y) _ types in
-      alone_fits a here y (not_false (may_stand_alone (T a) y) (no_fault _ _ ts.1)) names ts.0 words
+  simple_fits a here (written.AloneOf y) names types words = alone_fits a here y names (none_left (faults (A a) AsValue y) _ types).0 words

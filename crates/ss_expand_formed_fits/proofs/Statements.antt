@@ -30,7 +30,7 @@ use Rattle.ss_expand_formed_expressions.proofs.Fit.{Context}
 use Rattle.ss_expand_formed_expressions.proofs.Scopes.{three_left}
 use Rattle.ss_expand_formed_expressions.proofs.Places.{At, env_at, IsKnown}
 use Rattle.ss_expand_formed_statements.proofs.Fits.{WhereGiven, FitTest, FitClaims, FitFirst, FitStep, FitReturn, FitExposed, FitStmt, FitBlock, FitAll}
-use Rattle.ss_expand_formed_fits.proofs.Given.{named_at, typed_at, code_at, HasCode, Stands, given, value_fits, test_fits, claim_fits, claims_fit}
+use Rattle.ss_expand_formed_fits.proofs.Given.{named_at, typed_at, code_at, Stands, given, value_fits, test_fits, claim_fits, claims_fit}
 use Rattle.ss_expand_formed_fits.proofs.Simple.{simple_fits}
 use Rattle.ss_expand_formed_fits.proofs.Declared.{enter_at, past_at, first_at, behind_at, first_env, behind_env, first_scope, behind_scope, first_next, behind_next, Placed, placed_left, placed_right, enter_stands, past_stands, declaration_fits}
 use Rattle.ss_expand_formed_fits.proofs.Exposed.{exposed_fits}
@@ -42,7 +42,7 @@ Returns Nothing (Some t) = ⊥
 Returns (Gives t) None = ⊥
 Returns (Gives t) (Some u) = t ≡ Some u
 
-module _ (p : ProgramTree) (faultless : program_faults p ≡ []) (x : Context) (is_known : IsKnown p x) (static constructs : Bool) (from : ℕ) (code : HasCode p x static) (outcome : Outcome) (returns : Returns outcome x.result) where
+module _ (p : ProgramTree) (faultless : program_faults p ≡ []) (x : Context) (is_known : IsKnown p x) (static constructs : Bool) (from : ℕ) (outcome : Outcome) (returns : Returns outcome x.result) where
   abbrev C : List core.ClassTree
   C = (core_of p).classes
 
@@ -53,7 +53,7 @@ module _ (p : ProgramTree) (faultless : program_faults p ≡ []) (x : Context) (
   B = record { is_static = static; outcome = outcome }
 
   abbrev Here : At → Type 0
-  Here a = Stands p faultless x is_known static constructs from code a
+  Here a = Stands p faultless x is_known static constructs from a
 
   abbrev A : At → Around
   A a = code_at p x static a
@@ -76,7 +76,7 @@ module _ (p : ProgramTree) (faultless : program_faults p ≡ []) (x : Context) (
       by Nothing (Some t) i h e ns ts ws = absurd h
       by (Gives t) None i h e ns ts ws = absurd h
       by (Gives t) (Some u) i h None ns ts ws = let z : ⊥ = cc in z
-      by (Gives t) (Some u) i h (Some y) ns ts ws = value_fits p faultless x is_known static constructs from code a here t u h (is_known.result u i) y ns ts ws
+      by (Gives t) (Some u) i h (Some y) ns ts ws = value_fits p faultless x is_known static constructs from a here t u h (is_known.result u i) y ns ts ws
 
   -- ---- the heading of a `for`
 
@@ -88,36 +88,36 @@ module _ (p : ProgramTree) (faultless : program_faults p ≡ []) (x : Context) (
   begins : (a : At) → Here a → (i : Option written.ForInitTree) → Placed p x a.next (declared_first i) → naming.init_faults (U a) i ≡ [] → typing.init_faults B (T a) i ≡ [] → misplaced_first (first (env_at p a) i) ≡ [] → IsBegun a i
   begins a here None placed names types words = record { fit = tt; here = here }
   begins a here (Some (written.DeclareFirst d)) placed names types words =
-      let r = declaration_fits p faultless x is_known static constructs from code outcome a here d placed names types words in
+      let r = declaration_fits p faultless x is_known static constructs from outcome a here d placed names types words in
       record { fit = r.fit; here = r.here }
-  begins a here (Some (written.SimpleFirst s)) placed names types words = record { fit = simple_fits p faultless x is_known static constructs from code a here s names types words; here = here }
+  begins a here (Some (written.SimpleFirst s)) placed names types words = record { fit = simple_fits p faultless x is_known static constructs from a here s names types words; here = here }
 
   tested : (a : At) → Here a → (e : Option text.ExprTree) → naming.faults_of_any (U a) e ≡ [] → typing.test_faults B (T a) e ≡ [] → misplaced_if NoWord (option_map (expr (env_at p a)) e) ≡ [] → WhereGiven P C x constructs from (FitTest P C x constructs from) (option_map (expr (env_at p a)) e)
   tested a here None names types words = tt
-  tested a here (Some y) names types words = test_fits p faultless x is_known static constructs from code a here y names types words
+  tested a here (Some y) names types words = test_fits p faultless x is_known static constructs from a here y names types words
 
   stepped : (a : At) → Here a → (s : Option written.SimpleTree) → naming.faults_of_any_simple (U a) s ≡ [] → typing.step_faults B (T a) s ≡ [] → misplaced_step (option_map (simple (env_at p a)) s) ≡ [] → FitStep P C x constructs from (option_map (simple (env_at p a)) s)
   stepped a here None names types words = tt
-  stepped a here (Some s) names types words = simple_fits p faultless x is_known static constructs from code a here s names types words
+  stepped a here (Some s) names types words = simple_fits p faultless x is_known static constructs from a here s names types words
 
   -- ---- statements
 
   pub behind_stands : (a : At) → Here a → (s : written.StmtTree) → Placed p x a.next (declared_in s) → naming.stmt_faults (U a) s ≡ [] → typing.stmt_faults B (T a) s ≡ [] → misplaced_at (stmt (env_at p a) s) ≡ [] → Here (behind_at p a s)
-  behind_stands a here (written.DeclareOf d) placed names types words = (declaration_fits p faultless x is_known static constructs from code outcome a here d placed names types words).here
-  behind_stands a here (written.InBlock b) placed names types words = past_stands p faultless x is_known static constructs from code a here (declared_in_block b)
+  behind_stands a here (written.DeclareOf d) placed names types words = (declaration_fits p faultless x is_known static constructs from outcome a here d placed names types words).here
+  behind_stands a here (written.InBlock b) placed names types words = past_stands p faultless x is_known static constructs from a here (declared_in_block b)
   behind_stands a here (written.SimpleOf s) placed names types words = here
-  behind_stands a here (written.IfOf q e s) placed names types words = past_stands p faultless x is_known static constructs from code a here (declared_in s)
-  behind_stands a here (written.IfElseOf q e s r) placed names types words = past_stands p faultless x is_known static constructs from code a here (declared_in s ++ declared_in r)
-  behind_stands a here (written.WhileOf q e es s) placed names types words = past_stands p faultless x is_known static constructs from code a here (declared_in s)
-  behind_stands a here (written.ForOf q i e z es s) placed names types words = past_stands p faultless x is_known static constructs from code a here (declared_first i ++ declared_in s)
+  behind_stands a here (written.IfOf q e s) placed names types words = past_stands p faultless x is_known static constructs from a here (declared_in s)
+  behind_stands a here (written.IfElseOf q e s r) placed names types words = past_stands p faultless x is_known static constructs from a here (declared_in s ++ declared_in r)
+  behind_stands a here (written.WhileOf q e es s) placed names types words = past_stands p faultless x is_known static constructs from a here (declared_in s)
+  behind_stands a here (written.ForOf q i e z es s) placed names types words = past_stands p faultless x is_known static constructs from a here (declared_first i ++ declared_in s)
   behind_stands a here (written.ReturnOf q e) placed names types words = here
   behind_stands a here (written.AssertOf q e) placed names types words = here
   behind_stands a here (written.AssumeOf q e) placed names types words = here
-  behind_stands a here (written.ExposeOf q e n b) placed names types words = past_stands p faultless x is_known static constructs from code a here (declared_in_block b)
+  behind_stands a here (written.ExposeOf q e n b) placed names types words = past_stands p faultless x is_known static constructs from a here (declared_in_block b)
   behind_stands a here (written.EmptyOf q) placed names types words = here
 
   abbrev entered : (a : At) → Here a → Here (enter_at a)
-  entered a here = enter_stands p faultless x is_known static constructs from code a here
+  entered a here = enter_stands p faultless x is_known static constructs from a here
 
   -- of what stands behind what a `for` begins with, in its environment and in the scopes of the phases
   abbrev Heading : Env → Scope → Scope → Option text.ExprTree → Option written.SimpleTree → List text.ExprTree → Type 0
@@ -127,7 +127,7 @@ module _ (p : ProgramTree) (faultless : program_faults p ≡ []) (x : Context) (
       WhereGiven P C x constructs from (FitTest P C x constructs from) (option_map (expr e) c) × FitStep P C x constructs from (option_map (simple e) z) × FitClaims P C x constructs from OfEntry (map (expr e) es)
 
   headed : (a : At) → Here a → (c : Option text.ExprTree) (z : Option written.SimpleTree) (es : List text.ExprTree) → Heading (env_at p a) (U a) (T a) c z es
-  headed a here c z es nc nz ne tc tz te wc wz we = (tested a here c nc tc wc, stepped a here z nz tz wz, claims_fit p faultless x is_known static constructs from code outcome a here es ne te we)
+  headed a here c z es nc nz ne tc tz te wc wz we = (tested a here c nc tc wc, stepped a here z nz tz wz, claims_fit p faultless x is_known static constructs from outcome a here es ne te we)
 
   headed_in : (a : At) → Here a → (e : Env) → e ≡ env_at p a → (s : Scope) → s ≡ U a → (t : Scope) → t ≡ T a → (c : Option text.ExprTree) (z : Option written.SimpleTree) (es : List text.ExprTree) → Heading e s t c z es
   headed_in a here e ee s se t te c z es = subst (λ k. Heading k s t c z es) (sym ee) (subst (λ k. Heading (env_at p a) k t c z es) (sym se) (subst (λ k. Heading (env_at p a) (U a) k c z es) (sym te) (headed a here c z es)))
@@ -148,35 +148,35 @@ module _ (p : ProgramTree) (faultless : program_faults p ≡ []) (x : Context) (
   exposes : (a : At) → Here a → (y : text.ExprTree) (n : Option text.NameTree) → expr_faults (U a) y ≡ [] → naming.named_class_faults p.classes n ≡ [] → faults_as (A a) (exposed_want p.classes n) y ≡ [] → misplaced NoWord (expr (env_at p a) y) ≡ [] →
       FitExposed P C x constructs from (expr (env_at p a) y) (exposed_class (expr (env_at p a) y) (option_map (λ (m : text.NameTree). class_id p.classes m.text) n))
   exposes a here y n names class types words =
-      let g = given p faultless x is_known static constructs from code a here (exposed_want p.classes n) y names types words in
+      let g = given p faultless x is_known static constructs from a here (exposed_want p.classes n) y names types words in
       let e = exposed_fits p faultless x is_known static a here.place y n class g.wanted in
       (g.fits, e.0, e.1)
 
   mutual
     pub stmt_fits : (a : At) → Here a → (y : written.StmtTree) → Placed p x a.next (declared_in y) → Fine (env_at p a) (U a) (T a) y
     stmt_fits a here (written.InBlock b) placed names types words = block_fits a here b placed names types words
-    stmt_fits a here (written.DeclareOf d) placed names types words = (declaration_fits p faultless x is_known static constructs from code outcome a here d placed names types words).fit
-    stmt_fits a here (written.SimpleOf s) placed names types words = simple_fits p faultless x is_known static constructs from code a here s names types words
+    stmt_fits a here (written.DeclareOf d) placed names types words = (declaration_fits p faultless x is_known static constructs from outcome a here d placed names types words).fit
+    stmt_fits a here (written.SimpleOf s) placed names types words = simple_fits p faultless x is_known static constructs from a here s names types words
     stmt_fits a here (written.IfOf q e s) placed names types words =
         let ns = none_left (expr_faults (U a) e) _ names in
         let ts = none_left (typing.test B (T a) e) _ types in
         let ws = none_left (misplaced NoWord (expr (env_at p a) e)) _ words in
-        (test_fits p faultless x is_known static constructs from code a here e ns.0 ts.0 ws.0, stmt_fits (enter_at a) (entered a here) s placed ns.1 ts.1 ws.1)
+        (test_fits p faultless x is_known static constructs from a here e ns.0 ts.0 ws.0, stmt_fits (enter_at a) (entered a here) s placed ns.1 ts.1 ws.1)
     stmt_fits a here (written.IfElseOf q e s r) placed names types words =
         let ns = three_left (expr_faults (U a) e) (naming.stmt_faults (scopes.enter (U a)) s) _ names in
         let ts = three_left (typing.test B (T a) e) (typing.stmt_faults B (scopes.enter (T a)) s) _ types in
         let ws = three_left (misplaced NoWord (expr (env_at p a) e)) (misplaced_at (stmt (enter (env_at p a)) s)) _ words in
         let b = past_at a (declared_in s) in (
-          test_fits p faultless x is_known static constructs from code a here e ns.0 ts.0 ws.0,
+          test_fits p faultless x is_known static constructs from a here e ns.0 ts.0 ws.0,
           stmt_fits (enter_at a) (entered a here) s (placed_left p x a.next (declared_in s) (declared_in r) placed) ns.1 ts.1 ws.1,
-          stmt_fits (enter_at b) (entered b (past_stands p faultless x is_known static constructs from code a here (declared_in s))) r (placed_right p x a.next (declared_in s) (declared_in r) placed) ns.2 ts.2 ws.2,
+          stmt_fits (enter_at b) (entered b (past_stands p faultless x is_known static constructs from a here (declared_in s))) r (placed_right p x a.next (declared_in s) (declared_in r) placed) ns.2 ts.2 ws.2,
         )
     stmt_fits a here (written.WhileOf q e es s) placed names types words =
         let ns = three_left (expr_faults (U a) e) (naming.faults_of_all (U a) es) _ names in
         let ts = three_left (typing.test B (T a) e) (typing.conditions B (T a) es) _ types in
         let ws = three_left (misplaced NoWord (expr (env_at p a) e)) (misplaced_in_all OfEntry (map (expr (env_at p a)) es)) _ words in (
-          test_fits p faultless x is_known static constructs from code a here e ns.0 ts.0 ws.0,
-          claims_fit p faultless x is_known static constructs from code outcome a here es ns.1 ts.1 ws.1,
+          test_fits p faultless x is_known static constructs from a here e ns.0 ts.0 ws.0,
+          claims_fit p faultless x is_known static constructs from outcome a here es ns.1 ts.1 ws.1,
           stmt_fits (enter_at a) (entered a here) s placed ns.2 ts.2 ws.2,
         )
     stmt_fits a here (written.ForOf q i e z es s) placed names types words =
@@ -202,8 +202,8 @@ module _ (p : ProgramTree) (faultless : program_faults p ≡ []) (x : Context) (
         let governed = fine_in inner env ee named se known te s (stmt_fits (enter_at inner) (entered inner begun.here) s further) ns.2 last.1 end.1 in
         (begun.fit, heading.0, heading.1, heading.2, governed)
     stmt_fits a here (written.ReturnOf q e) placed names types words = return_fits a here q e names types words
-    stmt_fits a here (written.AssertOf q e) placed names types words = claim_fits p faultless x is_known static constructs from code OfEntry refl a here e names types words
-    stmt_fits a here (written.AssumeOf q e) placed names types words = claim_fits p faultless x is_known static constructs from code NoWord refl a here e names types words
+    stmt_fits a here (written.AssertOf q e) placed names types words = claim_fits p faultless x is_known static constructs from OfEntry refl a here e names types words
+    stmt_fits a here (written.AssumeOf q e) placed names types words = claim_fits p faultless x is_known static constructs from NoWord refl a here e names types words
     stmt_fits a here (written.ExposeOf q e n b) placed names types words =
         let ns = three_left (expr_faults (U a) e) (naming.named_class_faults p.classes n) _ names in
         let ts = none_left (faults_as (A a) (exposed_want p.classes n) e) _ types in
