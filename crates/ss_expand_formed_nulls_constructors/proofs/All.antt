@@ -67,7 +67,7 @@ pub record OfClass (p : ProgramTree) (b : BodyTree) : Type 0 where
   pub static : b.flags.is_static ≡ false
   pub result : b.result ≡ None
 
-of_class : (p : ProgramTree) (n : ℕ) (b : BodyTree) → body_at (resolved p) n ≡ Some b → b.flags.ctor ≡ true → OfClass p b
+pub of_class : (p : ProgramTree) (n : ℕ) (b : BodyTree) → body_at (resolved p) n ≡ Some b → b.flags.ctor ≡ true → OfClass p b
 of_class p = of_each p (λ b. b.flags.ctor ≡ true → OfClass p b)
     (λ k c at n d e ctor. record { place = k; tree = c; there = at; class = refl; static = refl; result = refl })
     (λ k c at n m e ctor. absurd (false≢true ctor))

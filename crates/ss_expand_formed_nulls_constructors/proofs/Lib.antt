@@ -9,3 +9,4 @@ pub mod Constructors
 pub mod Owned
 pub mod Sources
 pub mod All
+pub mod Law
