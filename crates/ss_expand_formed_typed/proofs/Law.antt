@@ -6,11 +6,13 @@ use Rattle.std.proofs.lemmas.Bool.{and_parts}
 use Rattle.ss_core.specs.declared.names.Place.{Place}
 use Rattle.ss_core.specs.Tree as core
 use Rattle.ss_core.specs.Chain.{is_type, declared}
-use Rattle.ss_ast.specs.Programs.{ClassTree, ProgramTree}
+use Rattle.ss_ast.specs.Programs.{ProgramTree}
 use Rattle.ss_typed.specs.Tree.{BodyTree, TypedTree}
 use Rattle.ss_resolver_names_rules.specs.Programs.{program_faults}
+use Rattle.ss_resolver_types_expressions.specs.Programs.{type_faults}
 use Rattle.ss_resolver_rules.specs.Programs.{resolved}
-use Rattle.ss_expand_rules.specs.Program.{body_at, table, constructor_of, Origin}
+use Rattle.ss_owners_rules.specs.Program.{ownership_faults}
+use Rattle.ss_expand_rules.specs.Program.{table, constructor_of, Origin}
 use Rattle.ss_expand_rules.specs.Contracts.{declarations}
 use Rattle.ss_expand_rules.specs.Constructors.{implicit_constructor}
 use Rattle.ss_expand_rules.specs.Bodies.{statements, written_body, wrapper_body}
@@ -34,6 +36,7 @@ use Rattle.ss_expand_formed_statements.proofs.Callees.{same_fields}
 use Rattle.ss_expand_formed_statements.proofs.Calls.{has_calls}
 use Rattle.ss_expand_formed_statements.proofs.Wrappers.{wrapper_typed, wrapper_exposes}
 use Rattle.ss_expand_formed_statements.proofs.Inherits.{inherited_takes}
+use Rattle.ss_expand_formed_fits.proofs.Bodies.{none_written, implicit_fits, each_fits}
 use Rattle.ss_expand_formed_typed.specs.Laws.{HaveTypedCode, ExposeByClass}
 
 -- a constructor has a `this`
@@ -43,13 +46,7 @@ moves y h ctor =
     let here : (not y.flags.is_static && is_none y.result) ≡ true = rw ctor at one in
     not_true y.flags.is_static (and_parts (not y.flags.is_static) (is_none y.result) here).0
 
--- the resolved statements of each body fit, those of implicit constructors too
-pub record HaveFitting (p : ProgramTree) : Type 0 where
-  pub written : (n : ℕ) (b : BodyTree) → body_at (resolved p) n ≡ Some b → InBody (resolved p) (core_of p).classes b (statements (resolved p) b)
-  pub implicit : (k : ℕ) (c : ClassTree) → slice_get p.classes k ≡ Some c → constructor_of (resolved p) (4 + 2 * k) ≡ None → (name : List ℕ) (q : Place) →
-      InBody (resolved p) (core_of p).classes (implicit_constructor (4 + 2 * k) name q) (statements (resolved p) (implicit_constructor (4 + 2 * k) name q))
-
-module _ (p : ProgramTree) (faultless : program_faults p ≡ []) (fitting : HaveFitting p) where
+module _ (p : ProgramTree) (faultless : program_faults p ≡ []) (typed_well : type_faults p ≡ []) (owned : ownership_faults (resolved p) ≡ []) where
   abbrev P : TypedTree
   P = resolved p
 
@@ -73,18 +70,18 @@ module _ (p : ProgramTree) (faultless : program_faults p ≡ []) (fitting : Have
       let known : list_all (is_type cs) (param_types b.params) ≡ true = subst (λ ts. are_declared cs ts ≡ true) (params_types b.params) (have_param_types p faultless i y at) in
       (written_typed target P b bs chain (same_fields P) calls moving class known fits, written_exposes target P b bs chain (same_fields P) calls moving class known fits)
 
-  implicit_fits : (t : ℕ) (c : core.ClassTree) → declared P.classes t ≡ Some c → constructor_of P t ≡ None → (q : Place) → InBody P cs (implicit_constructor t c.name q) (statements P (implicit_constructor t c.name q))
-  implicit_fits t c there none q =
+  implicit_stands : (t : ℕ) (c : core.ClassTree) → declared P.classes t ≡ Some c → constructor_of P t ≡ None → (q : Place) → InBody P cs (implicit_constructor t c.name q) (statements P (implicit_constructor t c.name q))
+  implicit_stands t c there none q =
       let s = source_of p t c there in
       let without : constructor_of P (4 + 2 * s.place) ≡ None = subst (λ u. constructor_of P u ≡ None) s.number none in
-      subst (λ u. InBody P cs (implicit_constructor u c.name q) (statements P (implicit_constructor u c.name q))) (sym s.number) (fitting.implicit s.place s.tree s.there without c.name q)
+      subst (λ u. InBody P cs (implicit_constructor u c.name q) (statements P (implicit_constructor u c.name q))) (sym s.number) (implicit_fits p faultless typed_well owned s.place s.tree s.there (none_written p faultless typed_well owned s.place s.tree s.there without) c.name q)
 
   made_passes : (i : ℕ) (y : core.BodyTree) → store.body_at target i ≡ Some y → (o : Origin) → IsOrigin P o → IsMade P o y → Passes y
-  made_passes i y at o origin (WrittenConstructor {n = n} {b = b} is em en eb) = written_passes b (b ∷ []) i at (fitting.written n b eb)
-  made_passes i y at o origin (ImplicitConstructor {t = t} {c = c} {m = m} is ec em none) = let b = implicit_constructor t c.name m.place in written_passes b (b ∷ []) i at (implicit_fits t c ec none m.place)
+  made_passes i y at o origin (WrittenConstructor {n = n} {b = b} is em en eb) = written_passes b (b ∷ []) i at (each_fits p faultless typed_well owned n b eb)
+  made_passes i y at o origin (ImplicitConstructor {t = t} {c = c} {m = m} is ec em none) = let b = implicit_constructor t c.name m.place in written_passes b (b ∷ []) i at (implicit_stands t c ec none m.place)
   made_passes i y at o origin (WrittenMethod {t = t} {m = m} {b = b} is eb own) =
       let r = method_is P (slice_get (table P t) m) b eb in
-      written_passes b (declarations P t m) i at (fitting.written r.0 b r.1)
+      written_passes b (declarations P t m) i at (each_fits p faultless typed_well owned r.0 b r.1)
   made_passes i y at o origin (Wrapper {t = t} {m = m} {b = b} {ms = ms} is eb own em) =
       let bs = declarations P t m in
       let x = wrapper_body P ms.place t m b bs in
@@ -95,8 +92,8 @@ module _ (p : ProgramTree) (faultless : program_faults p ≡ []) (fitting : Have
   passes_each : (i : ℕ) (y : core.BodyTree) → store.body_at target i ≡ Some y → Passes y
   passes_each i y at = let from = origin_of P i y at in made_passes i y at from.origin (origin_is P from.place from.origin from.there) from.made
 
-  pub typed_with : HaveTypedCode target
-  typed_with i y at = (passes_each i y at).0
+  pub have_typed_code : HaveTypedCode target
+  have_typed_code i y at = (passes_each i y at).0
 
-  pub exposes_with : ExposeByClass target
-  exposes_with i y at = (passes_each i y at).1
+  pub expose_by_class : ExposeByClass target
+  expose_by_class i y at = (passes_each i y at).1

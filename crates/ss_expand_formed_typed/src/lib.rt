@@ -1,2 +1,7 @@
-//! The types of the statements of elaborated programs. No step of the program calls this crate: it holds lemmas over the definitions.
+//! The types of the statements of elaborated code, of every program that the phases find no fault in. No step of the program calls these
+//! functions: each says one law over the definitions.
 #![tactic(auto)]
+
+mod laws;
+
+pub use laws::{expose_by_class, have_typed_code};
