@@ -10,3 +10,4 @@ pub mod Owned
 pub mod Sources
 pub mod All
 pub mod Law
+pub mod Whole
