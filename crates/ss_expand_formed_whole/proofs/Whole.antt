@@ -30,6 +30,7 @@ use Rattle.ss_expand_formed_construction.proofs.Keeping.{keep_this_in}
 use Rattle.ss_expand_formed_construction.proofs.WritesFirst.{write_this_first}
 use Rattle.ss_expand_formed_fields.proofs.Returns.{return_with_fields}
 use Rattle.ss_expand_formed_fields.proofs.Ready.{are_ready_with_fields}
+use Rattle.ss_expand_formed_typed.proofs.Law.{have_typed_code, expose_by_class}
 use Rattle.ss_expand_formed_whole.specs.Laws.{HasNoFault, HasOtherParts}
 
 module _ (p : ProgramTree) (none : HasNoFault p) (other : HasOtherParts (core_of p)) where
@@ -43,8 +44,8 @@ module _ (p : ProgramTree) (none : HasNoFault p) (other : HasOtherParts (core_of
     entry = have_entries p none.names none.types none.nulls none.ownership n b at;
     exit = have_exits p none.names none.types none.nulls none.ownership n b at;
     named = have_named p none.names none.types none.nulls none.ownership n b at;
-    typed = other.typed n b at;
-    exposed = other.exposed n b at;
+    typed = have_typed_code p none.names none.types none.ownership n b at;
+    exposed = expose_by_class p none.names none.types none.ownership n b at;
     targets = have_targets p n b at;
     returns = all_end_in_a_return p none.types n b at;
     assigned = read_what_is_assigned p none.names none.types none.ownership n b at;

@@ -2,8 +2,6 @@
 use Rattle.std.specs.Prelude.{◌≡◌, [], true}
 use Rattle.ss_ast.specs.Programs.{ProgramTree}
 use Rattle.ss_core.specs.Tree.{CoreTree}
-use Rattle.ss_store_rules.specs.Locals.{each}
-use Rattle.ss_store_rules.specs.Typed.{is_typed, has_exposable}
 use Rattle.ss_store_rules.specs.NonNull.{keeps_nulls_out}
 use Rattle.ss_resolver_names_rules.specs.Programs.{program_faults}
 use Rattle.ss_resolver_rules.specs.Programs.{resolved}
@@ -22,9 +20,5 @@ pub record HasNoFault (p : ProgramTree) : Type 0 where
   pub ownership : ownership_faults (resolved p) ≡ []
 
 pub record HasOtherParts (c : CoreTree) : Type 0 where
-  -- the types of statements
-  pub typed : OfEach c (λ b. each (is_typed c b) b.code ≡ true)
-  -- what is exposed is of its class
-  pub exposed : OfEach c (λ b. each (has_exposable c.classes b) b.code ≡ true)
   -- no value that may be null goes where none is wanted
   pub nulls : OfEach c (λ b. keeps_nulls_out c b ≡ true)
