@@ -79,6 +79,7 @@ module _ (p : ProgramTree) (faultless : program_faults p ≡ []) (x : Context) (
 
   -- ---- what is wanted
 
+  -- an expression that is what is wanted where it stands
   pub record IsGiven (a : At) (w : Want) (y : text.ExprTree) : Type 0 where
     pub fits : Code a y
     pub wanted : IsWanted p x static false false false a w y

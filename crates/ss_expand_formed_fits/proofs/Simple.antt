@@ -48,6 +48,7 @@ use Rattle.ss_expand_formed_statements.proofs.SourceCode.{any_of}
 use Rattle.ss_expand_formed_fits.proofs.Given.{named_at, typed_at, code_at, Stands, code_fits, given, value_fits}
 use Rattle.ss_expand_formed_fits.proofs.Targets.{type_known, target_not_null}
 
+-- a number or a truth value is printed
 print_suited : (t : Ty) → (wants.is_int t || wants.is_bool t) ≡ true → (is_int (Some t) || is_bool (Some t)) ≡ true
 print_suited ty.Int h = refl
 print_suited ty.Bool h = refl
@@ -55,11 +56,11 @@ print_suited ty.Null h = absurd (false≢true h)
 print_suited (ty.Ref c n) h = absurd (false≢true h)
 
 -- what is printed is one argument that can be
-printable : (w l : Bool) (es : Arguments) (z : text.ExprTree) → (w || l) ≡ true → is_wrong_call (count es + 1) (if w then Taking (Printable ∷ []) else if l then Taking (if count es + 1 == 0 then [] else Printable ∷ []) else Unknown) ≡ false →
+printable : (w l : Bool) (es : Arguments) → (w || l) ≡ true → is_wrong_call (count es + 1) (if w then Taking (Printable ∷ []) else if l then Taking (if count es + 1 == 0 then [] else Printable ∷ []) else Unknown) ≡ false →
     argument_wants (count es + 1) (if w then Taking (Printable ∷ []) else if l then Taking (if count es + 1 == 0 then [] else Printable ∷ []) else Unknown) ≡ Printable ∷ []
-printable true l es z some wrong = ap (λ (b : Bool). if b then [] else Printable ∷ []) wrong
-printable false false es z some wrong = absurd (false≢true some)
-printable false true es z some wrong =
+printable true l es some wrong = ap (λ (b : Bool). if b then [] else Printable ∷ []) wrong
+printable false false es some wrong = absurd (false≢true some)
+printable false true es some wrong =
     let other : count es + 1 ≢ 0 = λ e. omega arith in
     let none : (count es + 1 == 0) ≡ false = ne_eqb (count es + 1) 0 other in
     let right : is_wrong_call (count es + 1) (Taking (Printable ∷ [])) ≡ false = rw none at wrong in
@@ -119,6 +120,7 @@ module _ (p : ProgramTree) (faultless : program_faults p ≡ []) (x : Context) (
         known = type_known C t.0 (λ e. target_not_null p x is_known static false false a here.place (T a) y is (t.1 ∙ ap Some e)) (λ c n e. class_of_value p x is_known static false false a here.place y c n (type ∙ ap Some e));
       }
 
+  -- a number is updated
   target_int : (a : At) → Here a → (y : text.ExprTree) → expr_faults (U a) y ≡ [] → target_faults (A a) y ≡ [] → misplaced NoWord (expr (env_at p a) y) ≡ [] → wrong (T a) AnInt y ≡ [] → is_int (type_of (expr (env_at p a) y)) ≡ true
   target_int a here y names types words want =
       let within = (none_left (faults (A a) AsValue y) _ types).0 in
@@ -160,7 +162,7 @@ module _ (p : ProgramTree) (faultless : program_faults p ≡ []) (x : Context) (
       Fits (print (env_at p a) q (is_line n) es)
   print_fits a here q n NoMore is wrong names types words = tt
   print_fits a here q n (Argument z es) is wrong names types words =
-      let want = printable (bytes_eq n (codes "Write")) (bytes_eq n (codes "WriteLine")) es z is wrong in
+      let want = printable (bytes_eq n (codes "Write")) (bytes_eq n (codes "WriteLine")) es is wrong in
       let all : argument_faults (A a) (Printable ∷ []) (Argument z es) ≡ [] = subst (λ ws. argument_faults (A a) ws (Argument z es) ≡ []) want types in
       text_printed a here q (is_line n) z (none_left (expr_faults (U a) z) _ names).0 (none_left (argument (A a) Printable z (faults (A a) AsValue z)) _ all).0 words
 
