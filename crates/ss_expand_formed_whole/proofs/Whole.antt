@@ -31,9 +31,10 @@ use Rattle.ss_expand_formed_construction.proofs.WritesFirst.{write_this_first}
 use Rattle.ss_expand_formed_fields.proofs.Returns.{return_with_fields}
 use Rattle.ss_expand_formed_fields.proofs.Ready.{are_ready_with_fields}
 use Rattle.ss_expand_formed_typed.proofs.Law.{have_typed_code, expose_by_class}
-use Rattle.ss_expand_formed_whole.specs.Laws.{HasNoFault, HasOtherParts}
+use Rattle.ss_expand_formed_nulls_constructors.proofs.Whole.{keep_nulls_out}
+use Rattle.ss_expand_formed_whole.specs.Laws.{HasNoFault}
 
-module _ (p : ProgramTree) (none : HasNoFault p) (other : HasOtherParts (core_of p)) where
+module _ (p : ProgramTree) (none : HasNoFault p) where
   body : (n : ℕ) (b : BodyTree) → body_at (core_of p) n ≡ Some b → IsFormedBody (core_of p) b
   body n b at = record {
     class = have_classes p n b at;
@@ -50,7 +51,7 @@ module _ (p : ProgramTree) (none : HasNoFault p) (other : HasOtherParts (core_of
     returns = all_end_in_a_return p none.types n b at;
     assigned = read_what_is_assigned p none.names none.types none.ownership n b at;
     exposes = name_open_exposes p n b at;
-    nulls = other.nulls n b at;
+    nulls = keep_nulls_out p none.names none.types none.nulls none.construction none.ownership n b at;
     requires_of_this = require_nothing_of_this p none.construction n b at;
     order = start_in_order p none.names none.types n b at;
     opening = have_opening p none.names none.types n b at;
@@ -62,8 +63,8 @@ module _ (p : ProgramTree) (none : HasNoFault p) (other : HasOtherParts (core_of
     undelayed_fields = are_ready_with_fields p none.types none.construction n b at;
   }
 
-  pub is_formed_with : IsFormed (core_of p)
-  is_formed_with = record {
+  pub elaboration_is_formed : IsFormed (core_of p)
+  elaboration_is_formed = record {
     chain = has_chain p none.names;
     beside = nothing_beside p;
     limits = has_limits p none.names;

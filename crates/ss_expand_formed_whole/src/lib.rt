@@ -3,4 +3,4 @@
 
 mod laws;
 
-pub use laws::is_formed_with;
+pub use laws::elaboration_is_formed;
