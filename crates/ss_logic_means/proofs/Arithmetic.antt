@@ -68,7 +68,7 @@ module _ (cs : List ClassTree) (m : Structure) (e : List Value) where
         says_denotes cs m e (same_truths x y) (beq (as_bool u) (as_bool w)) (bools_mean x y u w (ga u is) (gb w it) d q))
 
     -- truth values are compared as such, and other values as terms
-    abbrev AreBools : Bool → Type 0
+    abbrev pub AreBools : Bool → Type 0
     AreBools true = Gives IsBool a × Gives IsBool b
     AreBools false = Unit {0}
 

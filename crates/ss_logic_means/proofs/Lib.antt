@@ -7,3 +7,14 @@ pub mod States
 pub mod Words
 pub mod Quantifiers
 pub mod Quantified
+pub mod Elements
+pub mod Owners
+pub mod Typed
+pub mod Standing
+pub mod Asking
+pub mod Operands
+pub mod Translating
+pub mod Invariants
+pub mod Listed
+pub mod Defaults
+pub mod Contracts

@@ -88,7 +88,7 @@ standing_same u w h = absurd (let no : ⊥ = cc in no)
 less_or : (a b : ℤ) → not (int_le b a) ≡ int_lt a b
 less_or a b = grind (arith, ints)
 
-fits_between : (z : ℤ) → (int_le (negsuc (2 ^ 31 - 1)) z && int_le z (pos (2 ^ 31 - 1))) ≡ fits z
+pub fits_between : (z : ℤ) → (int_le (negsuc (2 ^ 31 - 1)) z && int_le z (pos (2 ^ 31 - 1))) ≡ fits z
 fits_between (pos n) = grind arith
 fits_between (negsuc n) = grind arith
 

@@ -31,7 +31,7 @@ gap_at (negsuc a) (pos b) (suc n) h = omega (arith, ints, h)
 gap_at (negsuc a) (negsuc b) zero h = le-leb a b (omega (arith, h))
 gap_at (negsuc a) (negsuc b) (suc n) h = omega (arith, ints, h)
 
-le_self : (i : ℤ) → int_le i i ≡ true
+pub le_self : (i : ℤ) → int_le i i ≡ true
 le_self i = grind (arith, ints)
 
 same_ok : (u v : ObjectValue) → ◌≡◌ {A = Outcome} (Ok u) (Ok v) → u ≡ v

@@ -41,14 +41,14 @@ IsArrayOf cs m h (value.Obj o) = (nat_lt o h.next ≡ true) × (is_array cs (m.t
 IsArrayOf cs m h value.Null = Unit {0}
 IsArrayOf cs m h u = ⊥
 
-array_reference : (cs : List ClassTree) (m : Structure) (h : Heap) (u : ObjectValue) → IsArrayOf cs m h u → IsReferenceOf h u
+pub array_reference : (cs : List ClassTree) (m : Structure) (h : Heap) (u : ObjectValue) → IsArrayOf cs m h u → IsReferenceOf h u
 array_reference cs m h (value.Obj o) a = a.0
 array_reference cs m h value.Null a = tt
 array_reference cs m h (value.Int n) a = a
 array_reference cs m h (value.Bool b) a = a
 
 -- what stands at a place of the type is what the cells of its sort have there
-content_stands : (cs : List ClassTree) (s : List Object) (t : Ty) (c : Cells ℕ) (f : ℕ) → (t ≡ ty.Null → ⊥) → has_type cs s t (content t c f) ≡ true → cell (sort_of_type t) c f ≡ standing (content t c f)
+pub content_stands : {Place : Type 0} (cs : List ClassTree) (s : List Object) (t : Ty) (c : Cells Place) (f : Place) → (t ≡ ty.Null → ⊥) → has_type cs s t (content t c f) ≡ true → cell (sort_of_type t) c f ≡ standing (content t c f)
 content_stands cs s ty.Int c f n h = refl
 content_stands cs s ty.Bool c f n h = refl
 content_stands cs s ty.Null c f n h = absurd (n refl)
@@ -102,7 +102,7 @@ module _ (cs : List ClassTree) (m : Structure) (e : List Value) (h : Heap) where
 
   -- ---- lengths
 
-  length_known : (o : ℕ) → nat_lt o h.next ≡ true → is_array cs (m.table.class_of (reference o)) ≡ true → length (object_at Store o).elements ≡ m.table.length_of (reference o)
+  pub length_known : (o : ℕ) → nat_lt o h.next ≡ true → is_array cs (m.table.class_of (reference o)) ≡ true → length (object_at Store o).elements ≡ m.table.length_of (reference o)
   length_known o l a =
       ap (λ x. length x.elements) (object_known cs m e h o l)
       ∙ element_length (element_type (m.table.class_of (reference o))) (h.at (reference o)) 0 (element_count cs m.table o)
