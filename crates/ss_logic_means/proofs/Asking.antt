@@ -1,5 +1,5 @@
 -- Questions on states and owners, and quantifiers, as they stand in a scene.
-use Rattle.std.proofs.Common.{◌≡◌, ℕ, ℤ, pos, ◌+ℤ◌, List, [], ◌∷◌, ◌++◌, length, Bool, true, false, not, ◌&&◌, map, eqb, Ok, Err, refl, sym, ◌∙◌, ap, subst}
+use Rattle.std.proofs.Common.{◌≡◌, ℕ, ℤ, pos, ◌+ℤ◌, List, [], ◌∷◌, ◌++◌, length, Bool, true, false, not, ◌&&◌, map, eqb, Ok, refl, sym, ◌∙◌, ap, subst}
 use Rattle.std.specs.Prelude.{nat_lt, int_le, if◌then◌else◌}
 use Rattle.std.specs.Int.{int_gap}
 use Rattle.ss_core.specs.declared.names.Place.{Place}
@@ -9,7 +9,7 @@ use Rattle.ss_core.specs.Tree.{ClassTree, WordTree, Consistent, Committed, New, 
 use Rattle.ss_core.specs.Chain.{sub}
 use Rattle.ss_store_rules.specs.declared.Value.{Value as ObjectValue}
 use Rattle.ss_store_rules.specs.Store.{Object}
-use Rattle.ss_store_rules.specs.Numbers.{Outcome, fits}
+use Rattle.ss_store_rules.specs.Numbers.{Outcome}
 use Rattle.ss_store_rules.specs.Reads as reads
 use Rattle.ss_store_rules.specs.Reads.{as_int, object_at}
 use Rattle.ss_store_rules.specs.Values as run

@@ -1,6 +1,6 @@
 -- The conditions of contracts: each is stated as the laws ask, and its formula is true exactly where it holds.
-use Rattle.std.proofs.Common.{◌≡◌, ℕ, List, [], ◌∷◌, ◌++◌, length, Bool, true, false, not, ◌&&◌, ◌||◌, eqb, Option, Some, None, refl, sym, ◌∙◌, ap, subst}
-use Rattle.std.specs.Prelude.{slice_get, if◌then◌else◌, option_to_list}
+use Rattle.std.proofs.Common.{◌≡◌, ℕ, List, [], ◌∷◌, ◌++◌, length, Bool, true, false, not, ◌&&◌, ◌||◌, eqb, Option, Some, None, refl, ◌∙◌, ap, subst}
+use Rattle.std.specs.Prelude.{slice_get, if◌then◌else◌, option_to_list, is_some}
 use Rattle.std.proofs.lemmas.Bool.{false≢true, and_parts, and_from, eqb-true}
 use Rattle.ss_core.specs.declared.names.Ty.{Ty}
 use Rattle.ss_core.specs.declared.names.Ty.TheVariants as ty
@@ -9,7 +9,7 @@ use Rattle.ss_core.specs.Chain.{below}
 use Rattle.ss_core.proofs.Chains.{below_self}
 use Rattle.ss_store_rules.specs.declared.Value.{Value as ObjectValue}
 use Rattle.ss_store_rules.specs.Locals.{types_of, local_types, everywhere, is_argument, reads_only}
-use Rattle.ss_store_rules.specs.Types.{is_bool, is_reference, has_class, type_of, Words, is_allowed, is_condition}
+use Rattle.ss_store_rules.specs.Types.{is_bool, is_reference, has_class, type_of, Words, is_allowed, typed, is_condition}
 use Rattle.ss_store_rules.specs.Typed.{is_reference_argument, is_default_of, is_contract}
 use Rattle.ss_store_rules.specs.Values as run
 use Rattle.ss_logic_stores.specs.Values.{Heap, Value, Structure}
@@ -111,6 +111,21 @@ module _ (cs : List ClassTree) (b : BodyTree) where
     condition_stated x h =
         let parts = typed_parts (everywhere (is_allowed b w) x) (type_of cs (local_types b) x) h in
         and_from (has_no_default x) (is_bool (type_of cs (local_types b) x)) (allowed_no_default x parts.0) parts.1
+
+    some_parts : (c : Bool) (o : Option Ty) → is_some (if c then o else None) ≡ true → (c ≡ true) × (is_some o ≡ true)
+    some_parts true o h = (refl, h)
+    some_parts false o h = absurd (false≢true h)
+
+    -- an expression of the body has no default condition
+    pub typed_without : (x : ExprTree) → is_some (typed cs b w x) ≡ true → (has_no_default x ≡ true) × (is_some (type_of cs (local_types b) x) ≡ true)
+    typed_without x h =
+        let parts = some_parts (everywhere (is_allowed b w) x) (type_of cs (local_types b) x) h in
+        (allowed_no_default x parts.0, parts.1)
+
+    -- each condition of its code is stated
+    pub code_stated : (x : ExprTree) → is_condition cs b w x ≡ true → is_stated cs (local_types b) x ≡ true
+    code_stated (DefaultExpr p d) h = absurd (false≢true (condition_stated (DefaultExpr p d) h))
+    code_stated x h = condition_stated x h
 
     -- each condition of a contract is stated
     pub contract_stated : (among : ℕ → Bool) (x : ExprTree) → is_contract cs b w among x ≡ true → is_stated cs (local_types b) x ≡ true

@@ -1,5 +1,5 @@
 -- Default conditions: their formulas are true exactly where they hold.
-use Rattle.std.proofs.Common.{◌≡◌, ℕ, zero, suc, ◌+◌, ◌<◌, ℤ, pos, List, [], ◌∷◌, ◌++◌, length, Bool, true, false, not, ◌&&◌, ◌||◌, map, eqb, Option, Some, None, refl, sym, ◌∙◌, ap, subst, append-nil, arith}
+use Rattle.std.proofs.Common.{◌≡◌, ℕ, zero, suc, ◌+◌, List, [], ◌∷◌, ◌++◌, length, Bool, true, false, not, ◌&&◌, ◌||◌, map, eqb, Option, Some, None, refl, sym, ◌∙◌, ap, subst, append-nil, arith}
 use Rattle.std.specs.Prelude.{nat_lt, slice_get, unwrap_or, if◌then◌else◌}
 use Rattle.std.specs.List.{list_all, list_any}
 use Rattle.std.proofs.lemmas.Bool.{false≢true, and_parts, and_from, eqb-true, eq-eqb}
@@ -21,14 +21,14 @@ use Rattle.ss_store_rules.specs.Good.{has_type, AreValues}
 use Rattle.ss_store_rules.specs.Types.{is_reference, has_class}
 use Rattle.ss_store_rules.specs.Values as run
 use Rattle.ss_logic_stores.specs.declared.Sort.TheVariants as sort
-use Rattle.ss_logic_stores.specs.Values.{null, reference, class_name, group_number, owner_pair, Thing, Entry, Heap, Value, whole, truth, thing, store, as_thing, as_store, Structure}
+use Rattle.ss_logic_stores.specs.Values.{null, reference, class_name, group_number, owner_pair, Thing, Entry, Heap, Value, thing, store, as_thing, as_store, Structure}
 use Rattle.ss_logic_stores.specs.Terms.{Term, Bound, app, sort_of_type, field_sort, cell, value_of}
 use Rattle.ss_logic_stores.specs.Terms as term
 use Rattle.ss_logic_stores.specs.Formulas.{Formula, Forall, neg}
 use Rattle.ss_logic_stores.specs.Objects.{content, owner_of_thing, filled, object_in, objects_of}
 use Rattle.ss_logic_stores.proofs.Tabled.{field_there}
 use Rattle.ss_logic_rules.specs.Shapes.{null_term, class_term, level_of, owner_of, pair_of, equal, differ, allocated, committed, group}
-use Rattle.ss_logic_express.specs.Express.{and_of, or_of, Meant, choices, over, Scene, local_meant, is_full, default_of_sort, defaults_from, owned_full, may_be_captured, met_by, subject, default_said}
+use Rattle.ss_logic_express.specs.Express.{and_of, or_of, choices, over, Scene, local_meant, is_full, default_of_sort, defaults_from, owned_full, may_be_captured, met_by, subject, default_said}
 use Rattle.ss_machine_typed.specs.Settings.{IsGoodSetting}
 use Rattle.ss_machine_typed.proofs.Sound.{class_of_type}
 use Rattle.ss_logic_means.specs.Means.{standing}

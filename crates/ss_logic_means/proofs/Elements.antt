@@ -1,5 +1,5 @@
 -- Elements: what is read of an array at an index within its length.
-use Rattle.std.proofs.Common.{◌≡◌, ℕ, zero, suc, ◌+◌, ◌-◌, ◌<◌, ℤ, pos, negsuc, List, [], ◌∷◌, ◌++◌, length, Bool, true, false, Option, Some, Ok, Err, refl, sym, ◌∙◌, ap, subst, append_assoc, eqb, arith}
+use Rattle.std.proofs.Common.{◌≡◌, ℕ, zero, suc, ◌+◌, ◌-◌, ◌<◌, ℤ, pos, negsuc, List, [], ◌∷◌, ◌++◌, length, Bool, true, false, Some, Ok, Err, refl, sym, ◌∙◌, ap, subst, append_assoc, eqb, arith}
 use Rattle.std.specs.Prelude.{nat_lt, int_le, int_lt, unwrap_or, slice_get, if◌then◌else◌}
 use Rattle.std.proofs.lemmas.Bool.{false≢true, ltb-true, le-leb}
 use Rattle.ss_core.specs.declared.names.Place.{Place}
@@ -9,7 +9,6 @@ use Rattle.ss_core.specs.declared.names.Ty.TheVariants as ty
 use Rattle.ss_core.specs.Tree.{ClassTree}
 use Rattle.ss_store_rules.specs.declared.Value.{Value as ObjectValue}
 use Rattle.ss_store_rules.specs.declared.Value.TheVariants as value
-use Rattle.ss_store_rules.specs.declared.Undefined.{Undefined}
 use Rattle.ss_store_rules.specs.Store.{Object}
 use Rattle.ss_store_rules.specs.Numbers.{Outcome, undefined}
 use Rattle.ss_store_rules.specs.Reads.{as_int, object_at, element_read}
@@ -29,7 +28,7 @@ use Rattle.ss_logic_means.proofs.Denoting.{V, M, D, R, over_means, over_two_mean
 use Rattle.ss_logic_means.proofs.Operations.{IsWhole, Gives, at_most_means, less_means, whole_denotes}
 use Rattle.ss_logic_means.proofs.Arithmetic.{where_true, three_read}
 use Rattle.ss_logic_means.proofs.Classes.{IsReferenceOf, object_known}
-use Rattle.ss_logic_means.proofs.Reading.{IsArrayOf, array_reference, content_stands, length_known}
+use Rattle.ss_logic_means.proofs.Reading.{content_stands, length_known}
 use Rattle.ss_logic_means.proofs.States.{parts_of, readable, readable_then}
 
 -- no array has elements of the type of null

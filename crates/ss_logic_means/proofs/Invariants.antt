@@ -1,6 +1,6 @@
 -- The rule on invariants: in a good store the invariants of an object are true at each class at which it is packed.
-use Rattle.std.proofs.Common.{◌≡◌, ℕ, zero, suc, List, [], ◌∷◌, ◌++◌, length, Bool, true, false, not, ◌&&◌, ◌||◌, map, eqb, Option, Some, None, Ok, Err, refl, sym, ◌∙◌, ap, subst, ⊎_elim}
-use Rattle.std.specs.Prelude.{slice_get, nat_lt, is_some, if◌then◌else◌}
+use Rattle.std.proofs.Common.{◌≡◌, ℕ, zero, suc, List, [], ◌∷◌, ◌++◌, length, Bool, true, false, ◌&&◌, map, eqb, Option, Some, None, Ok, Err, refl, sym, ◌∙◌, ap, subst, ⊎_elim}
+use Rattle.std.specs.Prelude.{slice_get, nat_lt, if◌then◌else◌}
 use Rattle.std.specs.List.{list_all}
 use Rattle.std.proofs.lemmas.Bool.{false≢true, and_parts, and_from, or_cases}
 use Rattle.ss_core.specs.declared.names.Ty.{Ty}
@@ -12,12 +12,11 @@ use Rattle.ss_store_rules.specs.declared.Value.{Value as ObjectValue}
 use Rattle.ss_store_rules.specs.declared.Value.TheVariants as value
 use Rattle.ss_store_rules.specs.Store.{Object}
 use Rattle.ss_store_rules.specs.Numbers.{Outcome}
-use Rattle.ss_store_rules.specs.Reads.{as_bool}
 use Rattle.ss_store_rules.specs.Changes.{field_class, field_mark}
 use Rattle.ss_store_rules.specs.Types.{is_bool, type_of}
 use Rattle.ss_store_rules.specs.Typed.{invariant_types, is_invariant}
 use Rattle.ss_store_rules.specs.Good.{has_type, is_of_class, IsReady}
-use Rattle.ss_store_rules.specs.Admissible.{is_this, is_rep, is_rep_or_peer, is_own_field, is_owned_path, is_admissible, invariants, invariants_hold}
+use Rattle.ss_store_rules.specs.Admissible.{is_this, is_rep, is_rep_or_peer, is_own_field, is_owned_path, is_admissible, invariants}
 use Rattle.ss_store_rules.specs.Values as run
 use Rattle.ss_logic_stores.specs.declared.Sort.TheVariants as sort
 use Rattle.ss_logic_stores.specs.Values.{reference, class_name, Thing, Heap, Value, whole, truth, thing, store, sort_of_value, as_thing, as_store, is_allocated, Structure}
@@ -34,7 +33,7 @@ use Rattle.ss_machine_typed.specs.Settings.{IsGoodSetting}
 use Rattle.ss_machine_typed.proofs.Older.{older_self}
 use Rattle.ss_logic_means.specs.Means.{standing, Means}
 use Rattle.ss_logic_means.specs.Scenes.{setting_of, Stands, has_no_default, AreInvariants}
-use Rattle.ss_logic_means.proofs.Denoting.{M, D, R, one_denotes, said_means, All-append, All-parts}
+use Rattle.ss_logic_means.proofs.Denoting.{M, D, R, one_denotes, All-append, All-parts}
 use Rattle.ss_logic_means.proofs.Operations.{IsBool, Gives, truth_denotes}
 use Rattle.ss_logic_means.proofs.Operands.{bool_some}
 use Rattle.ss_logic_means.proofs.Typed.{fine, gives_bool}

@@ -18,3 +18,5 @@ pub mod Invariants
 pub mod Listed
 pub mod Defaults
 pub mod Contracts
+pub mod Following
+pub mod Closed

@@ -1,14 +1,14 @@
 -- Formulas over each object of a store, and over each term of a local.
-use Rattle.std.proofs.Common.{◌≡◌, ℕ, zero, suc, ◌+◌, ◌<◌, List, [], ◌∷◌, ◌++◌, length, Bool, true, false, not, ◌&&◌, ◌||◌, map, refl, sym, ◌∙◌, ap, subst, arith}
-use Rattle.std.specs.Prelude.{nat_lt, slice_get}
+use Rattle.std.proofs.Common.{◌≡◌, ℕ, zero, suc, ◌+◌, ◌<◌, List, [], ◌∷◌, ◌++◌, length, Bool, true, false, ◌&&◌, ◌||◌, map, refl, sym, ◌∙◌, ap, subst, arith}
+use Rattle.std.specs.Prelude.{nat_lt}
 use Rattle.std.specs.List.{list_all}
 use Rattle.std.proofs.lemmas.Bool.{false≢true, and_from, lt-ltb}
 use Rattle.ss_core.specs.Tree.{ClassTree}
 use Rattle.ss_store_rules.specs.Store.{Object}
 use Rattle.ss_logic_stores.specs.declared.Sort.TheVariants as sort
 use Rattle.ss_logic_stores.specs.Values.{null, reference, class_name, group_number, owner_pair, Thing, Heap, Table, Value, whole, truth, thing, store, as_thing, as_store, is_allocated, Structure}
-use Rattle.ss_logic_stores.specs.Terms.{Term, Bound, value_of}
-use Rattle.ss_logic_stores.specs.Formulas.{Formula, Forall, True, NoneTrue, AreOf, formulas_from, neg}
+use Rattle.ss_logic_stores.specs.Terms.{Term, Bound}
+use Rattle.ss_logic_stores.specs.Formulas.{Formula, Forall, NoneTrue, formulas_from, neg}
 use Rattle.ss_logic_stores.specs.Objects.{object_in, objects_from, objects_of}
 use Rattle.ss_logic_stores.proofs.Stable.{bool_stable}
 use Rattle.ss_logic_stores.proofs.Tabled.{there}

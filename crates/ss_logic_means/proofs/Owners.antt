@@ -1,11 +1,9 @@
 -- Questions on the owners of two objects: equal owners of a good store come from one thing.
-use Rattle.std.proofs.Common.{◌≡◌, ℕ, ◌<◌, List, [], ◌∷◌, ◌++◌, Bool, true, false, ◌&&◌, eqb, Ok, refl, sym, ◌∙◌, ap, subst, append_assoc, append-nil, arith}
+use Rattle.std.proofs.Common.{◌≡◌, ℕ, ◌<◌, List, [], ◌++◌, Bool, true, eqb, refl, sym, ◌∙◌, ap, subst, append_assoc, append-nil, arith}
 use Rattle.std.specs.Prelude.{nat_lt, if◌then◌else◌}
 use Rattle.std.proofs.lemmas.Bool.{false≢true, and_parts, and_from, eqb-true, eq-eqb, ltb-true}
 use Rattle.ss_core.specs.declared.names.Place.{Place}
 use Rattle.ss_core.specs.Tree.{ClassTree}
-use Rattle.ss_store_rules.specs.declared.Value.{Value as ObjectValue}
-use Rattle.ss_store_rules.specs.declared.Value.TheVariants as value
 use Rattle.ss_store_rules.specs.declared.Owner.{Owner}
 use Rattle.ss_store_rules.specs.declared.Owner.TheVariants as owner
 use Rattle.ss_store_rules.specs.Store.{Object}

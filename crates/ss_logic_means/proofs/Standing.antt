@@ -1,26 +1,24 @@
 -- What a scene stands for, inside `old` and with one more bound name.
-use Rattle.std.proofs.Common.{◌≡◌, ℕ, zero, suc, ◌+◌, ◌<◌, ℤ, pos, negsuc, ◌+ℤ◌, List, [], ◌∷◌, ◌++◌, length, Bool, true, false, ◌&&◌, Some, refl, sym, ◌∙◌, ap, subst, append_assoc, inl, inr, ◌⊎◌, ⊎_elim, arith}
+use Rattle.std.proofs.Common.{◌≡◌, ℕ, zero, suc, ◌<◌, ℤ, pos, negsuc, ◌+ℤ◌, List, [], ◌∷◌, ◌++◌, length, Bool, true, Some, refl, sym, ◌∙◌, ap, subst, append_assoc, inl, inr, ◌⊎◌, ⊎_elim, arith}
 use Rattle.std.specs.Prelude.{slice_get, unwrap_or, int_le, ◌^◌, ◌-◌}
-use Rattle.std.proofs.lemmas.Bool.{false≢true, and_from}
+use Rattle.std.proofs.lemmas.Bool.{and_from}
 use Rattle.std.proofs.lemmas.Int.{ints}
 use Rattle.std.proofs.lemmas.Option.{slice_get_within}
 use Rattle.ss_core.specs.declared.names.Ty.{Ty}
 use Rattle.ss_core.specs.declared.names.Ty.TheVariants as ty
-use Rattle.ss_core.specs.Tree.{ClassTree}
 use Rattle.ss_store_rules.specs.declared.Value.{Value as ObjectValue}
 use Rattle.ss_store_rules.specs.declared.Value.TheVariants as value
-use Rattle.ss_store_rules.specs.Store.{Object}
 use Rattle.ss_store_rules.specs.Numbers.{fits}
 use Rattle.ss_store_rules.specs.Good.{has_type, IsReady}
 use Rattle.ss_store_rules.specs.Values.{Setting}
 use Rattle.ss_store_rules.specs.Values as run
 use Rattle.ss_logic_stores.specs.Values.{null, Heap, Value, whole, thing, store, Structure}
 use Rattle.ss_logic_stores.specs.Terms.{Bound, argument, value_of}
-use Rattle.ss_logic_express.specs.Express.{Meant, One, Scene, at_entry, with_bound, meant_or_null, local_meant}
+use Rattle.ss_logic_express.specs.Express.{One, Scene, at_entry, with_bound, meant_or_null, local_meant}
 use Rattle.ss_logic_rules.proofs.Numbers.{fits_low, fits_high}
 use Rattle.ss_machine_typed.specs.Settings.{IsGoodSetting}
 use Rattle.ss_logic_means.specs.Means.{standing, Denotes}
-use Rattle.ss_logic_means.specs.Scenes.{setting_of, Stands}
+use Rattle.ss_logic_means.specs.Scenes.{Stands}
 use Rattle.ss_logic_means.proofs.Denoting.{one_denotes}
 use Rattle.ss_logic_means.proofs.Operations.{fits_between}
 

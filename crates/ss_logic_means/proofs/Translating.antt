@@ -1,26 +1,25 @@
 -- The translation law: the parts of an expression are true exactly where it has a value, and what it means has that value.
-use Rattle.std.proofs.Common.{◌≡◌, ℕ, ◌+◌, ℤ, pos, ◌+ℤ◌, List, [], ◌∷◌, ◌++◌, length, Bool, true, false, not, ◌&&◌, Option, Some, None, Ok, refl, sym, ◌∙◌, ap, subst, append-nil, arith}
-use Rattle.std.specs.Prelude.{slice_get, nat_lt, is_some, int_le, option_map, unwrap_or}
+use Rattle.std.proofs.Common.{◌≡◌, ℕ, List, [], ◌∷◌, ◌++◌, length, Bool, true, ◌&&◌, Option, Some, None, Ok, refl, sym, subst, append-nil, arith}
+use Rattle.std.specs.Prelude.{slice_get, nat_lt, is_some, option_map, unwrap_or}
 use Rattle.std.proofs.lemmas.Bool.{false≢true, and_parts}
 use Rattle.std.proofs.lemmas.Option.{slice_get_within}
 use Rattle.ss_core.specs.declared.names.Ty.{Ty}
 use Rattle.ss_core.specs.declared.names.Ty.TheVariants as ty
-use Rattle.ss_core.specs.Tree.{ClassTree, ExprTree, IntExpr, BoolExpr, NullExpr, LocalExpr, FieldExpr, ElementExpr, LengthExpr, NegateExpr, NotExpr, BinaryExpr, ImpliesExpr, IffExpr, IsExpr, AsExpr, CastExpr, OldExpr, QuantifiedExpr, StateExpr, OwnersExpr, DefaultExpr}
+use Rattle.ss_core.specs.Tree.{ExprTree, IntExpr, BoolExpr, NullExpr, LocalExpr, FieldExpr, ElementExpr, LengthExpr, NegateExpr, NotExpr, BinaryExpr, ImpliesExpr, IffExpr, IsExpr, AsExpr, CastExpr, OldExpr, QuantifiedExpr, StateExpr, OwnersExpr, DefaultExpr}
 use Rattle.ss_core.specs.Chain.{below, is_class, all_fields}
 use Rattle.ss_store_rules.specs.declared.Value.{Value as ObjectValue}
 use Rattle.ss_store_rules.specs.declared.Value.TheVariants as value
-use Rattle.ss_store_rules.specs.Store.{Object}
-use Rattle.ss_store_rules.specs.Numbers.{Outcome, fits}
+use Rattle.ss_store_rules.specs.Numbers.{fits}
 use Rattle.ss_store_rules.specs.Reads.{as_int}
 use Rattle.ss_store_rules.specs.Types.{plain, class_type, is_int, is_bool, is_reference, has_class, is_word, is_owners_word, element_of, type_of}
 use Rattle.ss_store_rules.specs.Changes.{is_array}
-use Rattle.ss_store_rules.specs.Good.{has_type, AreValues}
+use Rattle.ss_store_rules.specs.Good.{AreValues}
 use Rattle.ss_store_rules.specs.Values as run
 use Rattle.ss_logic_stores.specs.Values.{Heap, Value, whole, truth, thing, store, null, Structure}
 use Rattle.ss_logic_stores.specs.Terms.{value_of}
 use Rattle.ss_logic_stores.specs.Objects.{object_in, objects_of}
 use Rattle.ss_logic_rules.specs.Shapes.{number, null_term}
-use Rattle.ss_logic_express.specs.Express.{Meant, truth_term, Scene, at_entry, with_bound, local_meant, element_sort, meant, defined}
+use Rattle.ss_logic_express.specs.Express.{truth_term, Scene, at_entry, with_bound, local_meant, element_sort, meant, defined}
 use Rattle.ss_machine_typed.specs.Settings.{IsGoodSetting}
 use Rattle.ss_machine_typed.proofs.Outcomes.{int_typed}
 use Rattle.ss_machine_typed.proofs.Sound.{old_setting}

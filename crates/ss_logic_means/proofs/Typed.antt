@@ -1,36 +1,35 @@
 -- What the value of an expression is by its type, in a store that a structure tables.
-use Rattle.std.proofs.Common.{◌≡◌, ℕ, ◌<◌, List, [], ◌∷◌, Bool, true, false, ◌&&◌, ◌||◌, Option, Some, None, Ok, refl, sym, ◌∙◌, ap, subst}
-use Rattle.std.specs.Prelude.{slice_get, nat_lt, is_some, length, if◌then◌else◌}
+use Rattle.std.proofs.Common.{◌≡◌, ℕ, ◌<◌, List, Bool, true, false, ◌&&◌, Option, Some, None, Ok, refl, sym, ◌∙◌, ap, subst}
+use Rattle.std.specs.Prelude.{slice_get, nat_lt, is_some, length}
 use Rattle.std.specs.List.{list_all}
-use Rattle.std.proofs.lemmas.Bool.{false≢true, and_parts, ltb-true, ltb-false, lt-ltb}
+use Rattle.std.proofs.lemmas.Bool.{false≢true, and_parts, ltb-false, lt-ltb}
 use Rattle.std.proofs.lemmas.Option.{slice_get_within}
 use Rattle.ss_core.specs.declared.names.ClassId.{ClassId}
 use Rattle.ss_core.specs.declared.names.Ty.{Ty}
 use Rattle.ss_core.specs.declared.names.Ty.TheVariants as ty
 use Rattle.ss_core.specs.Tree.{ClassTree, FieldTree, ExprTree}
-use Rattle.ss_core.specs.Chain.{sub, below, is_class, is_superclass, is_type, has_numbers, DeclaredField, all_fields, IsChain, NoAlso}
+use Rattle.ss_core.specs.Chain.{sub, below, is_class, is_superclass, is_type, has_numbers, DeclaredField, all_fields, IsChain}
 use Rattle.ss_core.proofs.Chains.{sub-below, below_trans}
 use Rattle.ss_core.proofs.Declared.{declared_place}
 use Rattle.ss_core.proofs.Fields.{field_declared}
 use Rattle.ss_store_rules.specs.declared.Value.{Value as ObjectValue}
 use Rattle.ss_store_rules.specs.declared.Value.TheVariants as value
 use Rattle.ss_store_rules.specs.Store.{Object}
-use Rattle.ss_store_rules.specs.Numbers.{Outcome}
-use Rattle.ss_store_rules.specs.Changes.{is_array, element_type, class_of_field, type_of_field, field_class, field_type, owned_by}
-use Rattle.ss_store_rules.specs.Types.{plain, is_int, is_bool, is_reference, has_class, where_typed, field_read_type, element_of, type_of}
+use Rattle.ss_store_rules.specs.Changes.{is_array, element_type, class_of_field, type_of_field, field_type}
+use Rattle.ss_store_rules.specs.Types.{is_int, is_bool, is_reference, has_class, where_typed, element_of, type_of}
 use Rattle.ss_store_rules.specs.Good.{has_type, is_of_class, AreValues, IsFine, IsGood}
 use Rattle.ss_store_rules.specs.Admissible.{invariants_hold}
 use Rattle.ss_store_rules.specs.Values as run
 use Rattle.ss_logic_stores.specs.declared.Sort.{Sort}
 use Rattle.ss_logic_stores.specs.Values.{reference, Heap, Table, Structure}
 use Rattle.ss_logic_stores.specs.Terms.{sort_of_type, has_field}
-use Rattle.ss_logic_stores.specs.Objects.{owner_of_thing, object_in, objects_of}
+use Rattle.ss_logic_stores.specs.Objects.{object_in, objects_of}
 use Rattle.ss_logic_stores.proofs.Tabled.{there, not_there, count}
 use Rattle.ss_logic_express.specs.Express.{element_sort}
 use Rattle.ss_machine_typed.specs.Settings.{IsGoodSetting}
 use Rattle.ss_machine_typed.specs.Older.{IsOlder}
 use Rattle.ss_machine_typed.proofs.Slots.{all_at, of_array}
-use Rattle.ss_machine_typed.proofs.Outcomes.{where_typed_some, is_int_type}
+use Rattle.ss_machine_typed.proofs.Outcomes.{is_int_type}
 use Rattle.ss_machine_typed.proofs.Sound.{value_sound, class_of_type}
 use Rattle.ss_logic_means.proofs.Operations.{IsBool, IsWhole, Gives}
 use Rattle.ss_logic_means.proofs.Classes.{IsReferenceOf}

@@ -11,7 +11,7 @@ use Rattle.ss_store_rules.specs.Types.{is_bool, is_reference, has_class, type_of
 use Rattle.ss_store_rules.specs.Typed.{is_invariant}
 use Rattle.ss_store_rules.specs.Admissible.{invariants, AreAdmissible}
 use Rattle.ss_logic_stores.specs.Values.{Heap, Value, store, Structure}
-use Rattle.ss_logic_stores.specs.Terms.{value_of}
+use Rattle.ss_logic_stores.specs.Terms.{Term, is_well_sorted, value_of}
 use Rattle.ss_logic_stores.specs.Objects.{objects_of}
 use Rattle.ss_logic_express.specs.Express.{Choice, choices, Scene, local_meant, subject}
 use Rattle.ss_logic_means.specs.Means.{standing, Denotes}
@@ -32,6 +32,17 @@ pub record Stands (m : Structure) (c : Scene) (current former : Heap) (values : 
   pub entry : (vs : List Value) → value_of c.classes m (e ++ vs) c.entry ≡ store former
   pub count : length c.locals ≡ length values
   pub locals : (x : ℕ) (v : ObjectValue) → slice_get values x ≡ Some v → (vs : List Value) → Denotes c.classes m (e ++ vs) (local_meant c x) (standing v)
+
+-- terms without bound names, one for each value, which it has
+abbrev pub HaveValues : List ClassTree → Structure → List Term → List ObjectValue → Type 0
+HaveValues cs m [] [] = Unit {0}
+HaveValues cs m [] (v ∷ vs) = ⊥
+HaveValues cs m (t ∷ ts) [] = ⊥
+HaveValues cs m (t ∷ ts) (v ∷ vs) = (is_well_sorted cs [] t ≡ true) × (value_of cs m [] t ≡ standing v) × HaveValues cs m ts vs
+
+-- a term without bound names for this store
+abbrev pub IsStoreTerm : List ClassTree → Structure → Term → Heap → Type 0
+IsStoreTerm cs m t h = (is_well_sorted cs [] t ≡ true) × (value_of cs m [] t ≡ store h)
 
 -- The terms of these choices have their values whatever more bound names stand behind.
 abbrev pub Stay : List ClassTree → Structure → List Value → List Choice → Type 0
