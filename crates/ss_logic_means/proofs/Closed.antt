@@ -1,12 +1,12 @@
 -- Scenes of terms without bound names.
-use Rattle.std.proofs.Common.{◌≡◌, ℕ, zero, suc, List, [], ◌∷◌, ◌++◌, length, map, true, Some, refl, sym, ◌∙◌, ap, subst}
+use Rattle.std.proofs.Common.{◌≡◌, ℕ, zero, suc, List, [], ◌∷◌, ◌++◌, length, map, Some, refl, sym, ◌∙◌, ap, subst}
 use Rattle.std.specs.Prelude.{slice_get}
 use Rattle.ss_core.specs.Tree.{ClassTree}
 use Rattle.ss_store_rules.specs.declared.Value.{Value as ObjectValue}
 use Rattle.ss_logic_stores.specs.Values.{Heap, Value, Structure}
-use Rattle.ss_logic_stores.specs.Terms.{Term, value_of}
+use Rattle.ss_logic_stores.specs.Terms.{Term}
 use Rattle.ss_logic_stores.proofs.Truth.{closed_value}
-use Rattle.ss_logic_express.specs.Express.{Meant, One, Scene, choices, meant_or_null, local_meant}
+use Rattle.ss_logic_express.specs.Express.{One, Scene, choices, meant_or_null, local_meant}
 use Rattle.ss_logic_means.specs.Means.{standing}
 use Rattle.ss_logic_means.specs.Scenes.{HaveValues, IsStoreTerm, Stands, Stay}
 use Rattle.ss_logic_means.proofs.Denoting.{D, one_denotes}

@@ -255,56 +255,56 @@ module _ (c : Scene) (chain : IsChain c.classes) (beside : NoAlso c.classes) (m 
     var = Bound c.bound
 
     module _ (q : ℕ) (here : nat_lt q h.next ≡ true) where
-      abbrev E' : List Value
-      E' = e ++ thing (reference q) ∷ []
+      abbrev With : List Value
+      With = e ++ thing (reference q) ∷ []
 
-      store_there : V c.classes m E' c.now ≡ store h
+      store_there : V c.classes m With c.now ≡ store h
       store_there = is_store (thing (reference q) ∷ [])
 
-      var_is : V c.classes m E' var ≡ thing (reference q)
+      var_is : V c.classes m With var ≡ thing (reference q)
       var_is = bound_thing c.classes m e h c.now is_store c.bound at (reference q)
 
-      allocated_here : M c.classes m E' (neg (allocated c.now var)) false
-      allocated_here = subst (λ b. M c.classes m E' (neg (allocated c.now var)) (not b)) here (neg_means c.classes m E' (allocated c.now var) (nat_lt q h.next) (allocated_means c.classes m E' h c.now store_there var q var_is))
+      allocated_here : M c.classes m With (neg (allocated c.now var)) false
+      allocated_here = subst (λ b. M c.classes m With (neg (allocated c.now var)) (not b)) here (neg_means c.classes m With (allocated c.now var) (nat_lt q h.next) (allocated_means c.classes m With h c.now store_there var q var_is))
 
-      full_here : M c.classes m E' (is_full c.now var) (reads.is_full (object_at Store q))
-      full_here = full_means c.classes m E' h c.now store_there var q here var_is
+      full_here : M c.classes m With (is_full c.now var) (reads.is_full (object_at Store q))
+      full_here = full_means c.classes m With h c.now store_there var q here var_is
 
       abbrev owned_part : ℕ → Formula
       owned_part u = or_of (differ (owner_of c.now var) (pair_of t (class_term u)) ∷ is_full c.now var ∷ [])
 
-      owned_here : (u : ℕ) → M c.classes m E' (owned_part u) (not (is_pair o u (object_at Store q).owner) || reads.is_full (object_at Store q))
+      owned_here : (u : ℕ) → M c.classes m With (owned_part u) (not (is_pair o u (object_at Store q).owner) || reads.is_full (object_at Store q))
       owned_here u =
           let pair = equal (owner_of c.now var) (pair_of t (class_term u)) in
-          or_means c.classes m E' (differ (owner_of c.now var) (pair_of t (class_term u))) (is_full c.now var) (not (is_pair o u (object_at Store q).owner)) (reads.is_full (object_at Store q))
-          (neg_means c.classes m E' pair (is_pair o u (object_at Store q).owner) (owned_at_means c.classes m E' h c.now store_there var t u q o here l var_is (is (thing (reference q) ∷ [])))) full_here
+          or_means c.classes m With (differ (owner_of c.now var) (pair_of t (class_term u))) (is_full c.now var) (not (is_pair o u (object_at Store q).owner)) (reads.is_full (object_at Store q))
+          (neg_means c.classes m With pair (is_pair o u (object_at Store q).owner) (owned_at_means c.classes m With h c.now store_there var t u q o here l var_is (is (thing (reference q) ∷ [])))) full_here
 
       abbrev owned_test : ℕ → Object → Bool
       owned_test k x = not (is_pair_upto c.classes o k x.owner) || reads.is_full x
 
-      owned_at : (k : ℕ) → M c.classes m E' (or_of (neg (allocated c.now var) ∷ and_of (map owned_part (levels c.classes k)) ∷ [])) (owned_test k (object_in c.classes m.table h q))
+      owned_at : (k : ℕ) → M c.classes m With (or_of (neg (allocated c.now var) ∷ and_of (map owned_part (levels c.classes k)) ∷ [])) (owned_test k (object_in c.classes m.table h q))
       owned_at k =
           let x = object_at Store q in
           let all = list_all (λ u. not (is_pair o u x.owner) || reads.is_full x) (levels c.classes k) in
           let same : all ≡ owned_test k (object_in c.classes m.table h q) = each_level c.classes beside o (reads.is_full x) k x.owner ∙ ap (owned_test k) (object_known c.classes m e h q here) in
-          subst (λ b. M c.classes m E' (or_of (neg (allocated c.now var) ∷ and_of (map owned_part (levels c.classes k)) ∷ [])) b) same
-          (or_means c.classes m E' (neg (allocated c.now var)) (and_of (map owned_part (levels c.classes k))) false all allocated_here (and_all c.classes m E' owned_part (λ u. not (is_pair o u x.owner) || reads.is_full x) owned_here (levels c.classes k)))
+          subst (λ b. M c.classes m With (or_of (neg (allocated c.now var) ∷ and_of (map owned_part (levels c.classes k)) ∷ [])) b) same
+          (or_means c.classes m With (neg (allocated c.now var)) (and_of (map owned_part (levels c.classes k))) false all allocated_here (and_all c.classes m With owned_part (λ u. not (is_pair o u x.owner) || reads.is_full x) owned_here (levels c.classes k)))
 
       -- ---- members of a group
 
       module _ (g : ℕ) (group_is : Here.owner ≡ group_number g) where
-        member_here : M c.classes m E' (equal (owner_of c.now var) (owner_of c.now t)) (is_in_group g (object_at Store q).owner)
-        member_here = member_means E' store_there var q here var_is (is (thing (reference q) ∷ [])) g group_is
+        member_here : M c.classes m With (equal (owner_of c.now var) (owner_of c.now t)) (is_in_group g (object_at Store q).owner)
+        member_here = member_means With store_there var q here var_is (is (thing (reference q) ∷ [])) g group_is
 
         abbrev member_test : Object → Bool
         member_test x = not (is_in_group g x.owner) || reads.is_full x
 
-        member_at : M c.classes m E' (or_of (neg (allocated c.now var) ∷ differ (owner_of c.now var) (owner_of c.now t) ∷ is_full c.now var ∷ [])) (member_test (object_in c.classes m.table h q))
+        member_at : M c.classes m With (or_of (neg (allocated c.now var) ∷ differ (owner_of c.now var) (owner_of c.now t) ∷ is_full c.now var ∷ [])) (member_test (object_in c.classes m.table h q))
         member_at =
-            subst (λ x. M c.classes m E' (or_of (neg (allocated c.now var) ∷ differ (owner_of c.now var) (owner_of c.now t) ∷ is_full c.now var ∷ [])) (member_test x)) (object_known c.classes m e h q here)
-            (or_more c.classes m E' (neg (allocated c.now var)) (differ (owner_of c.now var) (owner_of c.now t) ∷ is_full c.now var ∷ []) false (member_test (object_at Store q)) allocated_here
-            (or_means c.classes m E' (differ (owner_of c.now var) (owner_of c.now t)) (is_full c.now var) (not (is_in_group g (object_at Store q).owner)) (reads.is_full (object_at Store q))
-            (neg_means c.classes m E' (equal (owner_of c.now var) (owner_of c.now t)) (is_in_group g (object_at Store q).owner) member_here) full_here))
+            subst (λ x. M c.classes m With (or_of (neg (allocated c.now var) ∷ differ (owner_of c.now var) (owner_of c.now t) ∷ is_full c.now var ∷ [])) (member_test x)) (object_known c.classes m e h q here)
+            (or_more c.classes m With (neg (allocated c.now var)) (differ (owner_of c.now var) (owner_of c.now t) ∷ is_full c.now var ∷ []) false (member_test (object_at Store q)) allocated_here
+            (or_means c.classes m With (differ (owner_of c.now var) (owner_of c.now t)) (is_full c.now var) (not (is_in_group g (object_at Store q).owner)) (reads.is_full (object_at Store q))
+            (neg_means c.classes m With (equal (owner_of c.now var) (owner_of c.now t)) (is_in_group g (object_at Store q).owner) member_here) full_here))
 
     owned_mean : (k : ℕ) → M c.classes m e (owned_full c k t) (owned_are_full c.classes Store o k)
     owned_mean k =

@@ -9,7 +9,7 @@ use Rattle.ss_logic_stores.specs.Formulas.{Good, Formula, True, Hold, IsValid, a
 use Rattle.ss_logic_rules.proofs.Goods.{good_instance_true}
 use Rattle.ss_logic_rules.proofs.Sentences.{Hold-append}
 use Rattle.ss_logic_means.specs.Scenes.{AreInvariants}
-use Rattle.ss_logic_means.specs.Sentences.{IsOfGood, Instance, OfInvariants, FollowsFromGood, AllFollowFromGood}
+use Rattle.ss_logic_means.specs.Sentences.{IsOfGood, Instance, OfInvariants, AllFollowFromGood}
 use Rattle.ss_logic_means.proofs.Invariants.{invariants_true}
 
 pub sentence_true : (cs : List ClassTree) → IsChain cs → NoAlso cs → AreInvariants cs → (m : Structure) (s : Term) (f : Formula) → IsOfGood cs s f → True cs m [] (atom Good (s ∷ [])) → True cs m [] f

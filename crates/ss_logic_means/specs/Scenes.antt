@@ -49,8 +49,8 @@ abbrev pub Stay : List ClassTree → Structure → List Value → List Choice �
 Stay cs m e [] = Unit {0}
 Stay cs m e (x ∷ xs) = ((vs : List Value) → value_of cs m (e ++ vs) x.value ≡ value_of cs m e x.value) × Stay cs m e xs
 
--- A default condition speaks of a local of a reference type: where it asks for defaults up to a class, of one of that class or below, and
--- where it asks that `this` is apart, of `this` too.
+-- A default condition speaks of a local of a reference type. Defaults up to a class are asked of an object of that class or below. Where
+-- `this` is to be apart, the condition speaks of `this` too.
 abbrev pub has_subject : List ClassTree → List Ty → DefaultTree → Bool
 has_subject cs tys (Defaults t) = has_class (λ c. below cs c t) (slice_get tys 0)
 has_subject cs tys (Captured x apart) = is_reference (slice_get tys x) && (not apart || is_reference (slice_get tys 0))

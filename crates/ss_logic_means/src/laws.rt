@@ -53,7 +53,7 @@ pub fn typed_expressions_have_no_default()
     ensures { (cs : List ClassTree) (b : BodyTree) (w : Words) (x : ExprTree) → is_some (typed cs b w x) ≡ true → (has_no_default x ≡ true) × (is_some (type_of cs (local_types b) x) ≡ true) }
 {}
 
-/// The formula of a default condition is true exactly where it holds, where no more bound names than those that stand there matter to the terms of its local.
+/// The formula of a default condition is true exactly where it holds, if the terms of its local don't rest on names bound behind.
 pub fn default_conditions_are_true_where_they_hold()
     ensures { (m : Structure) (now entry : Heap) (d : DefaultTree) (c : Scene) (locals : List ObjectValue) (k : Bool) → IsGoodSetting (setting_of m c now entry locals) c.types k → (e : List Value) → Stands m c now entry locals e → length e ≡ c.bound → has_subject c.classes c.types d ≡ true → Stay c.classes m e (choices (local_meant c (subject d))) → Means c.classes m e (default_said c d) (run.default_holds (setting_of m c now entry locals) d) }
 {}

@@ -7,6 +7,7 @@ mod laws;
 pub use laws::{
     a_good_store_meets_every_sentence, a_good_store_meets_its_invariants, closed_terms_stand,
     closed_terms_stay, conditions_are_true_where_they_hold, conditions_of_code_are_stated,
-    contracts_are_stated, default_conditions_are_true_where_they_hold, expressions_mean_their_values,
-    sentences_on_good_stores_may_be_premises, typed_expressions_have_no_default,
+    contracts_are_stated, default_conditions_are_true_where_they_hold,
+    expressions_mean_their_values, sentences_on_good_stores_may_be_premises,
+    typed_expressions_have_no_default,
 };
