@@ -1,0 +1,240 @@
+// Terms and formulas of a bank, read from texts.
+
+ghost use Rattle.std.specs.Prelude.{◌≡◌, IsTrue};
+ghost use Rattle.ss_terms_stores.specs.Forms.{HasTerms, HasFormulas};
+
+use crate::words::{Head, head_of, leaf, with_word};
+use ss_terms_stores::{Bank, FormulaId, Predicate, Symbol, TermId};
+use std::alloc::{AllocError, Global};
+
+/// Whether each number stands for a term of the bank.
+pub fn has_terms(bank: &Bank, ts: &[TermId]) -> bool
+    ensures { IsTrue result → HasTerms bank.now ts.now }
+{
+    match ts {
+        [] => true,
+        [t, ts @ ..] => bank.has_term(*t) && has_terms(bank, ts),
+    }
+}
+
+// Whether each number stands for a formula of the bank.
+fn has_formulas(bank: &Bank, fs: &[FormulaId]) -> bool
+    ensures { IsTrue result → HasFormulas bank.now fs.now }
+{
+    match fs {
+        [] => true,
+        [f, fs @ ..] => bank.has_formula(*f) && has_formulas(bank, fs),
+    }
+}
+
+// All of the formulas, or one of them.
+fn joined(bank: &mut Bank, is_and: bool, fs: &[FormulaId]) -> Result<FormulaId, AllocError>
+    requires { HasFormulas bank.old fs.now }
+    ensures { bank.new.fields ≡ bank.old.fields }
+{
+    if is_and { bank.and(fs) } else { bank.or(fs) }
+}
+
+// What stands behind a parenthesis that is open, and how many terms and formulas stand before it.
+#[derive(Clone, Copy)]
+struct Open {
+    head: Head,
+    terms: usize,
+    formulas: usize,
+}
+
+/// The terms and formulas of a text, one behind the other.
+#[derive(Drop)]
+pub struct Reader {
+    pub terms: Vec<TermId>,
+    pub formulas: Vec<FormulaId>,
+    /// What `S` stands for.
+    pub store: Option<TermId>,
+    /// Whether each word was one, and each parenthesis fitted.
+    pub is_read: bool,
+    opens: Vec<Open>,
+    is_head: bool,
+}
+
+impl Reader {
+    pub fn new(alloc: Global, store: Option<TermId>) -> Self {
+        Reader {
+            terms: Vec::new(alloc),
+            formulas: Vec::new(alloc),
+            store,
+            is_read: true,
+            opens: Vec::new(alloc),
+            is_head: false,
+        }
+    }
+
+    /// Reads the text.
+    pub fn read(&mut self, alloc: Global, bank: &mut Bank, text: &str) -> Result<(), AllocError>
+        ensures { bank.new.fields ≡ bank.old.fields }
+    {
+        let mut word = String::new(alloc);
+        for c in text.chars() {
+            match c {
+                '(' => self.is_head = true,
+                ')' => {
+                    self.end_word(bank, word.as_str())?;
+                    word.clear();
+                    self.close(bank)?;
+                }
+                ' ' => {
+                    self.end_word(bank, word.as_str())?;
+                    word.clear();
+                }
+                c => word.push(c)?,
+            }
+        }
+        self.end_word(bank, word.as_str())?;
+        self.is_read = self.is_read && self.opens.is_empty();
+        Ok(())
+    }
+
+    fn fail(&mut self) -> Result<(), AllocError> {
+        self.is_read = false;
+        Ok(())
+    }
+
+    fn add_term(&mut self, t: TermId) -> Result<(), AllocError> {
+        self.terms.push(t)?;
+        Ok(())
+    }
+
+    fn add_formula(&mut self, f: FormulaId) -> Result<(), AllocError> {
+        self.formulas.push(f)?;
+        Ok(())
+    }
+
+    // A word ends.
+    fn end_word(&mut self, bank: &mut Bank, word: &str) -> Result<(), AllocError>
+        ensures { bank.new.fields ≡ bank.old.fields }
+    {
+        if word.is_empty() || self.completes(word) {
+            return Ok(());
+        }
+        if self.is_head {
+            self.is_head = false;
+            return self.begin(word);
+        }
+        match self.store {
+            Some(store) if word == "S" => self.add_term(store),
+            _ => self.add_leaf(bank, word),
+        }
+    }
+
+    // Whether the word is the class or the field of the last open function, which takes it.
+    fn completes(&mut self, word: &str) -> bool {
+        if self.is_head || self.opens.is_empty() {
+            return false;
+        }
+        let last = self.opens.len() - 1;
+        let Head::Function(symbol) = self.opens[last].head else {
+            return false;
+        };
+        match with_word(symbol, word) {
+            Some(symbol) => {
+                self.opens[last].head = Head::Function(symbol);
+                true
+            }
+            None => false,
+        }
+    }
+
+    fn begin(&mut self, word: &str) -> Result<(), AllocError> {
+        match head_of(word) {
+            Some(head) => {
+                self.opens.push(Open {
+                    head,
+                    terms: self.terms.len(),
+                    formulas: self.formulas.len(),
+                })?;
+                Ok(())
+            }
+            None => self.fail(),
+        }
+    }
+
+    fn add_leaf(&mut self, bank: &mut Bank, word: &str) -> Result<(), AllocError>
+        ensures { bank.new.fields ≡ bank.old.fields }
+    {
+        match leaf(word) {
+            Some(symbol) => {
+                let t = bank.apply(symbol, &[])?;
+                self.add_term(t)
+            }
+            None => self.fail(),
+        }
+    }
+
+    // A parenthesis closes.
+    fn close(&mut self, bank: &mut Bank) -> Result<(), AllocError>
+        ensures { bank.new.fields ≡ bank.old.fields }
+    {
+        let Some(open) = self.opens.pop() else {
+            return self.fail();
+        };
+        match open.head {
+            Head::Function(symbol) => self.apply(bank, symbol, open.terms),
+            Head::Atom(predicate) => self.atom(bank, predicate, open.terms),
+            Head::Not => self.negate(bank),
+            Head::And => self.join(bank, true, open.formulas),
+            Head::Or => self.join(bank, false, open.formulas),
+        }
+    }
+
+    fn apply(&mut self, bank: &mut Bank, symbol: Symbol, from: usize) -> Result<(), AllocError>
+        ensures { bank.new.fields ≡ bank.old.fields }
+    {
+        if from > self.terms.len() {
+            return self.fail();
+        }
+        let ts = &self.terms[from..];
+        if !has_terms(bank, ts) {
+            return self.fail();
+        }
+        let t = bank.apply(symbol, ts)?;
+        self.terms.truncate(from);
+        self.add_term(t)
+    }
+
+    fn atom(&mut self, bank: &mut Bank, predicate: Predicate, from: usize) -> Result<(), AllocError>
+        ensures { bank.new.fields ≡ bank.old.fields }
+    {
+        if from > self.terms.len() {
+            return self.fail();
+        }
+        let ts = &self.terms[from..];
+        if !has_terms(bank, ts) {
+            return self.fail();
+        }
+        let f = bank.atom(true, predicate, ts)?;
+        self.terms.truncate(from);
+        self.add_formula(f)
+    }
+
+    fn negate(&mut self, bank: &Bank) -> Result<(), AllocError> {
+        match self.formulas.pop() {
+            Some(f) if bank.has_formula(f) => self.add_formula(bank.negation(f)),
+            _ => self.fail(),
+        }
+    }
+
+    // All of the formulas from this place on, or one of them.
+    fn join(&mut self, bank: &mut Bank, is_and: bool, from: usize) -> Result<(), AllocError>
+        ensures { bank.new.fields ≡ bank.old.fields }
+    {
+        if from > self.formulas.len() {
+            return self.fail();
+        }
+        let fs = &self.formulas[from..];
+        if !has_formulas(bank, fs) {
+            return self.fail();
+        }
+        let f = joined(bank, is_and, fs)?;
+        self.formulas.truncate(from);
+        self.add_formula(f)
+    }
+}
