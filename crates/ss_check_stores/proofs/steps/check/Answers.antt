@@ -1,0 +1,10 @@
+use Rattle.ss_core.specs.View.{classes}
+use Rattle.ss_logic_derivations.proofs.Bad.{bad-not_derived}
+use Rattle.ss_terms_stores.specs.Forms.{formula_at, formulas_at}
+use Rattle.ss_deriv.specs.Lines.{lines_of}
+use Rattle.ss_check_stores.proofs.steps.check.Goals as goal
+
+pub returns-clause-refused : goal.returns-clause-refused
+returns-clause-refused c = λ n e d.
+    bad-not_derived (classes c.args.classes.now) (formulas_at c.args.bank.now c.args.premises.now) (formula_at c.args.bank.now c.args.goal) (lines_of c.args.bank.now c.args.derivation.now) n
+    (rw c.lines.ensures at (c.check_lines.ensures.first n e)) d

@@ -1,0 +1,68 @@
+// The formulas that lines make known.
+
+ghost use Rattle.std.specs.Prelude.{◌≡◌, ℕ, List, [], ◌∷◌, ◌++◌, Some, None, true, option_and_then, slice_get, IfOk};
+ghost use Rattle.ss_core.specs.Chain.{IsWithinLimits};
+ghost use Rattle.ss_core.specs.View as view;
+ghost use Rattle.ss_logic_stores.specs.Equal.{same_term};
+ghost use Rattle.ss_logic_rules.specs.Shapes.{when, equal};
+ghost use Rattle.ss_logic_derivations.specs.Steps.{part_of, walk, is_congruent, is_swapped, fact_of};
+ghost use Rattle.ss_terms_stores.specs.Forms.{formula_at, formulas_at, term_at, terms_at, HasTerm, HasTerms, HasFormula, HasFormulas, IsGrown, IsBankOf};
+ghost use Rattle.ss_deriv.specs.Lines.{line_in};
+ghost use Rattle.ss_check_steps.specs.Numbered.{IsNumberOf};
+ghost use Rattle.ss_check_stores.specs.Within.{LineWithin};
+
+use crate::choices::choose;
+use crate::instances::{good, rule};
+use ss_check_steps::{chain, cong, inst, known_at, part, swap};
+use ss_core::Classes;
+use ss_deriv::Line;
+use ss_terms_stores::{Bank, FormulaId};
+use std::alloc::{AllocError, Global};
+
+/// The formula that a line makes known.
+pub(crate) fn fact(
+    alloc: Global,
+    bank: &mut Bank,
+    classes: &Classes,
+    premises: &[FormulaId],
+    goal: FormulaId,
+    known: &[FormulaId],
+    line: &Line,
+) -> Result<Option<FormulaId>, AllocError>
+    requires bank { IsBankOf (view.classes classes.now) bank.old }
+    requires limits { IsWithinLimits (view.classes classes.now) }
+    requires premises { HasFormulas bank.old premises.now }
+    requires goal { HasFormula bank.old goal }
+    requires known { HasFormulas bank.old known.now }
+    requires line { LineWithin bank.old line.now }
+    ensures fact { IfOk result (λ o. IsNumberOf bank.new o (fact_of (view.classes classes.now) (formulas_at bank.old premises.now) (formula_at bank.old goal) (formulas_at bank.old known.now) (line_in bank.old line.now))) }
+    ensures grown { IsGrown bank.old bank.new }
+{
+    match line {
+        Line::Premise { number } => Ok(known_at(bank, premises, *number)),
+        Line::Denied => Ok(Some(bank.negation(goal))),
+        Line::Part { of, part: j } => Ok(part(bank, known, *of, *j)),
+        Line::Inst { of, terms } => inst(alloc, bank, classes, known, *of, terms),
+        Line::Choose { formula, constants } => {
+            choose(alloc, bank, premises, goal, known, *formula, constants)
+        }
+        Line::Rule { name, arguments } => rule(alloc, bank, classes, *name, arguments),
+        Line::Good {
+            name,
+            store,
+            arguments,
+        } => good(alloc, bank, classes, known, *name, *store, arguments),
+        Line::Chain { left, right, path } => chain(alloc, bank, known, *left, *right, path),
+        Line::Cong {
+            left,
+            right,
+            equalities,
+        } => cong(alloc, bank, known, *left, *right, equalities),
+        Line::Swap {
+            of,
+            formula,
+            equalities,
+        } => Ok(swap(bank, known, *of, *formula, equalities)),
+        _ => Ok(None),
+    }
+}
