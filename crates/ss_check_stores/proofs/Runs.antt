@@ -5,13 +5,13 @@ use Rattle.std.proofs.lemmas.Bool.{and_parts, ltb-true}
 use Rattle.std.specs.Prelude.{if◌then◌else◌}
 use Rattle.ss_core.specs.Tree.{ClassTree}
 use Rattle.ss_logic_stores.specs.Formulas.{Formula}
-use Rattle.ss_logic_derivations.specs.Steps.{State, Open, Between, add_fact, fact_of, step_open, step, bad_from, at_end, Nowhere, Case as TreeCase, Cut as TreeCut, Inst as TreeInst, Choose as TreeChoose, Rule as TreeRule, GoodLine as TreeGood, Swap as TreeSwap}
+use Rattle.ss_logic_derivations.specs.Steps.{State, Open, Between, add_fact, fact_of, step_open, step, bad_from, at_end, Nowhere, Case as TreeCase, Cut as TreeCut, Inst as TreeInst, Rule as TreeRule, GoodLine as TreeGood, Swap as TreeSwap}
 use Rattle.ss_terms_stores.specs.declared.forms.TermId.{TermId}
 use Rattle.ss_terms_stores.specs.declared.forms.FormulaId.{FormulaId}
 use Rattle.ss_deriv.specs.declared.line.Line.{Line}
 use Rattle.ss_deriv.specs.declared.line.Line.TheVariants.{Premise, Denied, Part, Split, Cut, Inst, Choose, Rule, Good, Chain, Cong, Swap, Clash, Case}
 use Rattle.ss_terms_stores.specs.Forms.{Forms, formula_at, formulas_at, HasTerms, HasFormula, HasFormulas, IsGrown}
-use Rattle.ss_deriv.specs.Lines.{all_below, is_within, line_in, line_of, lines_of}
+use Rattle.ss_deriv.specs.Lines.{all_below, is_within, line_in, line_of}
 use Rattle.ss_terms_stores.proofs.Grown.{HasTerm-grown, HasTerms-grown, HasFormula-grown, terms_at-grown, formulas_at-grown}
 use Rattle.ss_check_steps.specs.Numbered.{IsStepped}
 use Rattle.ss_check_stores.specs.Within.{LineWithin}

@@ -1,6 +1,6 @@
 // New constants for what there is.
 
-ghost use Rattle.std.specs.Prelude.{◌≡◌, List, [], ◌∷◌, ◌++◌, ◌&&◌, IfOk};
+ghost use Rattle.std.specs.Prelude.{◌≡◌, [], ◌∷◌, ◌++◌, ◌&&◌, IfOk};
 ghost use Rattle.ss_logic_stores.specs.Formulas as logic;
 ghost use Rattle.ss_logic_stores.specs.Formulas.{neg, formulas_from};
 ghost use Rattle.ss_logic_derivations.specs.Steps as steps;

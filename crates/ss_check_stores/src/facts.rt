@@ -1,12 +1,10 @@
 // The formulas that lines make known.
 
-ghost use Rattle.std.specs.Prelude.{◌≡◌, ℕ, List, [], ◌∷◌, ◌++◌, Some, None, true, option_and_then, slice_get, IfOk};
+ghost use Rattle.std.specs.Prelude.{IfOk};
 ghost use Rattle.ss_core.specs.Chain.{IsWithinLimits};
 ghost use Rattle.ss_core.specs.View as view;
-ghost use Rattle.ss_logic_stores.specs.Equal.{same_term};
-ghost use Rattle.ss_logic_rules.specs.Shapes.{when, equal};
-ghost use Rattle.ss_logic_derivations.specs.Steps.{part_of, walk, is_congruent, is_swapped, fact_of};
-ghost use Rattle.ss_terms_stores.specs.Forms.{formula_at, formulas_at, term_at, terms_at, HasTerm, HasTerms, HasFormula, HasFormulas, IsGrown, IsBankOf};
+ghost use Rattle.ss_logic_derivations.specs.Steps.{fact_of};
+ghost use Rattle.ss_terms_stores.specs.Forms.{formula_at, formulas_at, HasFormula, HasFormulas, IsGrown, IsBankOf};
 ghost use Rattle.ss_deriv.specs.Lines.{line_in};
 ghost use Rattle.ss_check_steps.specs.Numbered.{IsNumberOf};
 ghost use Rattle.ss_check_stores.specs.Within.{LineWithin};

@@ -1,12 +1,12 @@
 // The instances of rules that lines make known.
 
-ghost use Rattle.std.specs.Prelude.{◌≡◌, ℕ, List, [], ◌∷◌, ◌++◌, Some, None, true, option_and_then, slice_get, IfOk};
+ghost use Rattle.std.specs.Prelude.{option_and_then, slice_get, IfOk};
 ghost use Rattle.ss_core.specs.Chain.{IsWithinLimits};
 ghost use Rattle.ss_core.specs.View as view;
 ghost use Rattle.ss_logic_rules.specs.Rules.{instance_of};
 ghost use Rattle.ss_logic_rules.specs.GoodRules.{good_instance_of};
 ghost use Rattle.ss_logic_derivations.specs.Steps.{good_store};
-ghost use Rattle.ss_terms_stores.specs.Forms.{formula_at, formulas_at, term_at, terms_at, HasTerm, HasTerms, HasFormula, HasFormulas, IsGrown, IsBankOf};
+ghost use Rattle.ss_terms_stores.specs.Forms.{formulas_at, terms_at, HasTerms, HasFormulas, IsGrown, IsBankOf};
 ghost use Rattle.ss_check_steps.specs.Numbered.{IsNumberOf};
 
 use ss_check_steps::{good_store_at, known_at};

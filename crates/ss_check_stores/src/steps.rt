@@ -1,10 +1,10 @@
 // The check of a derivation, line by line.
 
-ghost use Rattle.std.specs.Prelude.{◌≡◌, ℕ, ◌*◌, List, [], ◌∷◌, ◌++◌, length, map, Some, None, Err, true, false, slice_get, IfOk, OnOk, IsTrue, ◌↔◌};
+ghost use Rattle.std.specs.Prelude.{◌≡◌, ℕ, [], Some, Err, true, false, IfOk, OnOk, IsTrue, ◌↔◌};
 ghost use Rattle.ss_core.specs.View as view;
 ghost use Rattle.ss_core.specs.Chain.{IsChain, IsWithinLimits, NoAlso};
-ghost use Rattle.ss_logic_stores.specs.Formulas.{neg, IsValid};
-ghost use Rattle.ss_logic_derivations.specs.Steps.{State, Open, Between, cases_of, open_cases, add_fact, split_case, cut_case, close_case, fact_of, step_open, step, Derives, first_bad};
+ghost use Rattle.ss_logic_stores.specs.Formulas.{IsValid};
+ghost use Rattle.ss_logic_derivations.specs.Steps.{add_fact, fact_of, step_open, step, Derives, first_bad};
 ghost use Rattle.ss_terms_stores.specs.Forms.{formula_at, formulas_at, HasFormula, HasFormulas, IsGrown, IsBankOf};
 ghost use Rattle.ss_deriv.specs.Lines.{line_in, lines_of, is_within, all_below};
 ghost use Rattle.ss_check_steps.specs.Numbered.{IsStepped};
