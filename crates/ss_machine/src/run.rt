@@ -85,7 +85,7 @@ fn end_of(halt: Halt, steps: u64) -> CheckedEnd
 ///
 /// `Done`, `Failed`, `Stopped` and `Running` say what the run is after these steps, and the sink took all that it printed. `WriteFault`
 /// comes where a write failed, and `Memory` where there was no memory; the sink then took a front of what the run prints.
-/// Each step that prints something makes one write, of its whole piece.
+/// What a step prints is one piece, which the sink takes whole in one write; an empty one is not written.
 /// Whatever the program does, each state of the run of a formed one is good until a check has failed: each object meets the invariants
 /// of each class at which it is packed (JOT 2004).
 pub fn run_checked<S: Sink>(

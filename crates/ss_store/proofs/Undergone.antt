@@ -7,7 +7,7 @@ use Rattle.ss_store_rules.specs.declared.Owner.TheVariants as owner
 use Rattle.ss_store_rules.specs.Store.{Object}
 use Rattle.ss_store_rules.specs.Reads.{is_in_group, is_pair}
 use Rattle.ss_store_rules.specs.Changes.{is_owned, changed_from, changed}
-use Rattle.ss_store_lists.specs.Listing.{Listing, is_listed, is_held}
+use Rattle.ss_store_lists.specs.Listing.{is_listed, is_held}
 use Rattle.ss_store.specs.Effects.{effect, reach, among}
 use Rattle.ss_store.specs.Listed.{holder, AreListed}
 use Rattle.ss_store.specs.declared.effects.Effect.{Effect}
@@ -151,7 +151,7 @@ undergone_more e ps p s =
     ∙ changed_same (λ q x. among (p ∷ []) (effect e) q (among ps (effect e) q x)) (among (ps ++ p ∷ []) (effect e)) s (λ q x is. among_more e ps p q x)
 
 -- so an effect on what is listed is one on all
-pub undergone_all : (e : Effect) (l : Option Listing) (ps : List ℕ) (s : List Object) → AreListed s l → ((q : ℕ) → is_held l (reach e) q ≡ true → q ≢ reach e → is_listed ps q ≡ true) → changed (among ps (effect e)) (changed (among (reach e ∷ []) (effect e)) s) ≡ changed (effect e) s
+pub undergone_all : (e : Effect) (l : Option (List (List ℕ))) (ps : List ℕ) (s : List Object) → AreListed s l → ((q : ℕ) → is_held l (reach e) q ≡ true → q ≢ reach e → is_listed ps q ≡ true) → changed (among ps (effect e)) (changed (among (reach e ∷ []) (effect e)) s) ≡ changed (effect e) s
 undergone_all e l ps s listed reached =
     changed_from-after 0 (among (reach e ∷ []) (effect e)) (among ps (effect e)) s
     ∙ changed_same (λ q x. among ps (effect e) q (among (reach e ∷ []) (effect e) q x)) (effect e) s one
@@ -161,7 +161,7 @@ undergone_all e l ps s listed reached =
     at_reach false q x = refl
 
     apart : (q : ℕ) (x : Object) → slice_get s q ≡ Some x → q ≢ reach e → is_listed ps q ≡ false → effect e q x ≡ x
-    apart q x is n not_listed = effect_apart e q x n (λ h. not_both (is_listed ps q) (reached q (subst (λ k. is_held l k q ≡ true) h (listed.held q x is)) n) not_listed)
+    apart q x is n not_listed = effect_apart e q x n (λ h. not_both (is_listed ps q) (reached q (subst (λ k. is_held l k q ≡ true) h (listed q x is)) n) not_listed)
 
     one : (q : ℕ) (x : Object) → slice_get s q ≡ Some x → among ps (effect e) q (among (reach e ∷ []) (effect e) q x) ≡ effect e q x
     one q x is = ⊎_elim

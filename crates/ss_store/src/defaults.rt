@@ -8,7 +8,7 @@ ghost use Rattle.ss_store_rules.specs.Values as values;
 ghost use Rattle.ss_store_rules.specs.Reads as reads;
 ghost use Rattle.ss_store.specs.Scenes.{setting_of};
 ghost use Rattle.ss_store.specs.Listed.{AreListed, holds_at};
-ghost use Rattle.ss_store.specs.Full.{is_full_among};
+ghost use Rattle.ss_store.specs.Full.{is_full_among, holder_of};
 
 use crate::arithmetic::same_value;
 use crate::before::Before;
@@ -101,13 +101,26 @@ fn are_full_at(objects: &[Object], those: Those<'_>, positions: &[u32]) -> bool
     positions.iter().all(|q| is_full_at(objects, those, *q))
 }
 
+// The object that holds them.
+fn holder_of(those: Those<'_>) -> u32
+    ensures { result ≡ holder_of those.entry }
+{
+    match those {
+        Those::OwnedUpto(_, o, _) => o,
+        Those::Members(g) => g,
+    }
+}
+
 // Whether each of those objects is at its full level.
 fn are_full(objects: &[Object], lists: &Lists, those: Those<'_>) -> bool
     requires { AreListed objects.now lists.now }
     ensures { result ≡ list_all (is_full_among those.entry) objects.now }
 {
-    match lists.unfull() {
-        Some(positions) => are_full_at(objects, those, positions),
+    let o = holder_of(those);
+    match lists.held(o) {
+        Some(positions) => {
+            is_full_at(objects, those, o) && are_full_at(objects, those, positions)
+        }
         None => objects.iter().all(|x| is_full_among(x, those)),
     }
 }

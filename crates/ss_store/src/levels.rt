@@ -8,7 +8,6 @@ ghost use Rattle.ss_store_rules.specs.Changes.{IsChange, changed, unpacked, unpa
 ghost use Rattle.ss_store.specs.Listed.{AreListed, holds_at};
 
 use crate::effects::{Effect, undergo};
-use crate::listed::drop_full;
 use crate::object::Object;
 use crate::owners::is_pair;
 use crate::refused::refuse;
@@ -57,14 +56,14 @@ fn pack_all(objects: &mut [Object], lists: &Lists, o: u32, t: ClassId)
 
 fn unpack(
     objects: &mut [Object],
-    lists: &mut Lists,
+    lists: &Lists,
     k: &Classes,
     o: Value,
     t: ClassId,
 ) -> Result<(), Refused>
-    requires listed { AreListed objects.old lists.old }
+    requires listed { AreListed objects.old lists.now }
     ensures change { IsChange objects.old objects.new result (unpack_of (classes k.now) objects.old o t.0) }
-    ensures listed { AreListed objects.new lists.new }
+    ensures listed { AreListed objects.new lists.now }
 {
     let Value::Obj(o) = o else {
         return refuse(Kind::Null);
@@ -79,7 +78,6 @@ fn unpack(
         return refuse(Kind::UnpackCommitted);
     }
     unpack_all(objects, lists, k, o, t);
-    lists.add_unfull(o);
     Ok(())
 }
 
@@ -117,15 +115,15 @@ fn may_commit(objects: &[Object], lists: &Lists, o: u32, t: ClassId) -> bool
 /// `holds` says whether the invariants of `t` hold of the object.
 fn pack(
     objects: &mut [Object],
-    lists: &mut Lists,
+    lists: &Lists,
     k: &Classes,
     o: Value,
     t: ClassId,
     holds: bool,
 ) -> Result<(), Refused>
-    requires listed { AreListed objects.old lists.old }
+    requires listed { AreListed objects.old lists.now }
     ensures change { IsChange objects.old objects.new result (pack_of (classes k.now) (λ _ _ _. holds) objects.old o t.0) }
-    ensures listed { AreListed objects.new lists.new }
+    ensures listed { AreListed objects.new lists.now }
 {
     let Value::Obj(o) = o else {
         return refuse(Kind::Null);
@@ -142,9 +140,7 @@ fn pack(
     if !may_commit(objects, lists, o, t) {
         return refuse(Kind::PackOwned);
     }
-    lists.add_unfull(o);
     pack_all(objects, lists, o, t);
-    drop_full(objects, lists);
     Ok(())
 }
 
@@ -164,7 +160,7 @@ impl Store {
         ensures change { IsChange self.old.objects self.new.objects result (pack_of (classes c.now.classes) (λ _ _ _. holds) self.old.objects o t.0) }
         ensures spare { self.new.spare ≡ self.old.spare }
     {
-        pack(&mut self.objects, &mut self.lists, &c.classes, o, t, holds)
+        pack(&mut self.objects, &self.lists, &c.classes, o, t, holds)
     }
 
     /// The object goes to the level above `t`, and what it owns at `t` is no longer committed.
@@ -172,6 +168,6 @@ impl Store {
         ensures change { IsChange self.old.objects self.new.objects result (unpack_of (classes c.now.classes) self.old.objects o t.0) }
         ensures spare { self.new.spare ≡ self.old.spare }
     {
-        unpack(&mut self.objects, &mut self.lists, &c.classes, o, t)
+        unpack(&mut self.objects, &self.lists, &c.classes, o, t)
     }
 }

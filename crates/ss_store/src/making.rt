@@ -97,7 +97,6 @@ impl Store {
             ready: false,
         })?;
         self.lists.add_holder();
-        self.lists.add_unfull(position);
         Ok(position)
     }
 

@@ -1,7 +1,6 @@
 // Objects become ready (OOPSLA 2003).
-ghost use Rattle.std.specs.Prelude.{◌≡◌, true, Option};
+ghost use Rattle.std.specs.Prelude.{◌≡◌, ℕ, List, true, Option};
 ghost use Rattle.ss_store_rules.specs.Changes.{ready_of};
-ghost use Rattle.ss_store_lists.specs.Listing.{Listing};
 ghost use Rattle.ss_store.specs.Listed.{AreListed};
 
 use crate::object::Object;
@@ -18,7 +17,7 @@ impl Object {
 
 fn set_ready(objects: &mut [Object], o: u32)
     ensures change { objects.new ≡ ready_of objects.old o }
-    ensures listed { (l : Option Listing) → AreListed objects.old l → AreListed objects.new l }
+    ensures listed { (l : Option (List (List ℕ))) → AreListed objects.old l → AreListed objects.new l }
 {
     let o = o as usize;
     if o < objects.len() {

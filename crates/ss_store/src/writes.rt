@@ -1,10 +1,9 @@
 // Writes of fields and of elements.
-ghost use Rattle.std.specs.Prelude.{◌≡◌, ◌≢◌, ◌<◌, ◌≤◌, length, Option};
+ghost use Rattle.std.specs.Prelude.{◌≡◌, ◌≢◌, ◌<◌, ◌≤◌, length, ℕ, List, Option};
 ghost use Rattle.ss_core.specs.View.{classes};
 ghost use Rattle.ss_core.specs.Chain.{most_classes};
 ghost use Rattle.ss_store_rules.specs.Changes.{IsChange, changed, field_class, field_mark, with_content, with_field, written, with_owners, write_of, element_written, write_element_of};
 ghost use Rattle.ss_store.specs.Shapes.{no_class};
-ghost use Rattle.ss_store_lists.specs.Listing.{Listing};
 ghost use Rattle.ss_store.specs.Listed.{AreListed};
 
 use crate::object::{Object, Slot};
@@ -55,7 +54,7 @@ impl Object {
 fn write_element_at(objects: &mut [Object], a: u32, i: usize, v: Value)
     requires { a < length objects.old }
     ensures change { objects.new ≡ changed (element_written a i v) objects.old }
-    ensures listed { (l : Option Listing) → AreListed objects.old l → AreListed objects.new l }
+    ensures listed { (l : Option (List (List ℕ))) → AreListed objects.old l → AreListed objects.new l }
 {
     let x = &mut objects[a as usize];
     x.write_element(i, v);
@@ -63,7 +62,7 @@ fn write_element_at(objects: &mut [Object], a: u32, i: usize, v: Value)
 
 fn write_element(objects: &mut [Object], a: Value, i: i32, v: Value) -> Result<(), Refused>
     ensures change { IsChange objects.old objects.new result (write_element_of objects.old a i v) }
-    ensures listed { (l : Option Listing) → AreListed objects.old l → AreListed objects.new l }
+    ensures listed { (l : Option (List (List ℕ))) → AreListed objects.old l → AreListed objects.new l }
 {
     let Value::Obj(a) = a else {
         return refuse(Kind::Null);
@@ -125,7 +124,7 @@ fn own(
 fn write_field_at(objects: &mut [Object], o: u32, f: FieldId, v: Value)
     requires { o < length objects.old }
     ensures change { objects.new ≡ changed (written o f.0 v) objects.old }
-    ensures listed { (l : Option Listing) → AreListed objects.old l → AreListed objects.new l }
+    ensures listed { (l : Option (List (List ℕ))) → AreListed objects.old l → AreListed objects.new l }
 {
     let x = &mut objects[o as usize];
     x.write(f, v);

@@ -1,10 +1,9 @@
 -- What is listed after a list was changed.
-use Rattle.std.proofs.Common.{◌≡◌, ◌≢◌, ◌⊎◌, inl, inr, ⊎_elim, ℕ, zero, suc, ◌<◌, ◌≤◌, ◌-◌, List, [], ◌∷◌, ◌++◌, length, get_or, Bool, true, false, ◌||◌, ◌==◌, Option, Some, None, refl, sym, ◌∙◌, ap, subst, arith}
-use Rattle.std.specs.Prelude.{slice_get, slice_set, Vec, option_to_list, if◌then◌else◌}
+use Rattle.std.proofs.Common.{◌≡◌, ◌≢◌, ◌⊎◌, inl, inr, ⊎_elim, ℕ, zero, suc, ◌<◌, ◌≤◌, List, [], ◌∷◌, ◌++◌, length, get_or, Bool, true, false, ◌||◌, ◌==◌, Option, Some, None, refl, sym, ◌∙◌, ap, subst, arith}
+use Rattle.std.specs.Prelude.{slice_set, Vec, if◌then◌else◌}
 use Rattle.std.specs.declared.alloc.Global.{Global}
 use Rattle.std.proofs.lemmas.Bool.{eqb-true, eq-eqb}
-use Rattle.std.proofs.lemmas.List.{length-append, append-nil}
-use Rattle.ss_store_lists.specs.Listing.{Listing, is_listed, held_by, lists, listing, is_unfull, is_held, HasMore, HasMoreHeld, IsTaken, IsDropped}
+use Rattle.ss_store_lists.specs.Listing.{is_listed, held_by, lists, listing, is_held, HasMore, HasMoreHeld, IsTaken}
 
 -- ---- the list at one position
 
@@ -89,69 +88,33 @@ added_if false vs ws v is = subst (λ xs. HasMoreHeld (lists vs) (lists xs)) (sy
 
 -- ---- the lists as a whole
 
-pub more_held : (w : Bool) (us : List ℕ) (a b : List (List ℕ)) → HasMoreHeld a b → HasMore (listing w us a) (listing w us b)
-more_held true us a b h = record { unfull = λ q e. e; held = λ k q e. or_more (q == k) (is_listed (held_by a k) q) (is_listed (held_by b k) q) (h k q) e }
-more_held false us a b h = record { unfull = λ q e. e; held = λ k q e. e }
+pub more_held : (w : Bool) (a b : List (List ℕ)) → HasMoreHeld a b → HasMore (listing w a) (listing w b)
+more_held true a b h k q e = or_more (q == k) (is_listed (held_by a k) q) (is_listed (held_by b k) q) (h k q) e
+more_held false a b h k q e = e
 
-pub none_left : (l : Option Listing) (us : List ℕ) (held : List (List ℕ)) → HasMore l (listing false us held)
-none_left l us held = record { unfull = λ q e. refl; held = λ k q e. refl }
+pub none_left : (l : Option (List (List ℕ))) (held : List (List ℕ)) → HasMore l (listing false held)
+none_left l held k q e = refl
 
-pub more_added : (w b : Bool) (us : List ℕ) (vs ws : List (Vec ℕ Global)) (v : Vec ℕ Global) → ws ≡ (if b then vs ++ v ∷ [] else vs) → HasMore (listing w us (lists vs)) (listing w us (lists ws))
-more_added w b us vs ws v is = more_held w us (lists vs) (lists ws) (added_if b vs ws v is)
+pub more_added : (w b : Bool) (vs ws : List (Vec ℕ Global)) (v : Vec ℕ Global) → ws ≡ (if b then vs ++ v ∷ [] else vs) → HasMore (listing w (lists vs)) (listing w (lists ws))
+more_added w b vs ws v is = more_held w (lists vs) (lists ws) (added_if b vs ws v is)
 
-pub held_pushed : (w : Bool) (us : List ℕ) (held : List (List ℕ)) (k q : ℕ) → is_listed (held_by held k) q ≡ true → is_held (listing w us held) k q ≡ true
-held_pushed true us held k q e = or_right (q == k) (is_listed (held_by held k) q) e
-held_pushed false us held k q e = refl
+pub held_pushed : (w : Bool) (held : List (List ℕ)) (k q : ℕ) → is_listed (held_by held k) q ≡ true → is_held (listing w held) k q ≡ true
+held_pushed true held k q e = or_right (q == k) (is_listed (held_by held k) q) e
+held_pushed false held k q e = refl
 
-pub held_itself : (l : Option Listing) (k q : ℕ) → k ≡ q → is_held l k q ≡ true
+pub held_itself : (l : Option (List (List ℕ))) (k q : ℕ) → k ≡ q → is_held l k q ≡ true
 held_itself None k q e = refl
-held_itself (Some l) k q e = or_left (q == k) (is_listed (held_by l.held k) q) (eq-eqb q k (sym e))
+held_itself (Some held) k q e = or_left (q == k) (is_listed (held_by held k) q) (eq-eqb q k (sym e))
 
 -- what was taken out
-pub taken_others : (w : Bool) (us : List ℕ) (a b : List (List ℕ)) (k : ℕ) → ((h : ℕ) → h ≢ k → held_by b h ≡ held_by a h) → (h q : ℕ) → h ≢ k → is_held (listing w us a) h q ≡ true → is_held (listing w us b) h q ≡ true
-taken_others false us a b k others h q n e = refl
-taken_others true us a b k others h q n e = ap (λ xs. q == h || is_listed xs q) (others h n) ∙ e
+pub taken_others : (w : Bool) (a b : List (List ℕ)) (k : ℕ) → ((h : ℕ) → h ≢ k → held_by b h ≡ held_by a h) → (h q : ℕ) → h ≢ k → is_held (listing w a) h q ≡ true → is_held (listing w b) h q ≡ true
+taken_others false a b k others h q n e = refl
+taken_others true a b k others h q n e = ap (λ xs. q == h || is_listed xs q) (others h n) ∙ e
 
-pub taken_own : (w : Bool) (us : List ℕ) (a b : List (List ℕ)) (k : ℕ) (ps : List ℕ) → ps ≡ held_by a k → (q : ℕ) → is_held (listing w us a) k q ≡ true → IsTaken (listing w us b) k ps q
-taken_own false us a b k ps is q e = tt
-taken_own true us a b k ps is q e =
+pub taken_own : (w : Bool) (a b : List (List ℕ)) (k : ℕ) (ps : List ℕ) → ps ≡ held_by a k → (q : ℕ) → is_held (listing w a) k q ≡ true → IsTaken (listing w b) k ps q
+taken_own false a b k ps is q e = tt
+taken_own true a b k ps is q e =
     ⊎_elim
     (λ own. inl (eqb-true q k own))
     (λ not_own. inr (ap (λ xs. is_listed xs q) is ∙ (let f : is_listed (held_by a k) q ≡ true = rw not_own at e in f)))
     (either (q == k))
-
-pub taken_unfull : (w : Bool) (us : List ℕ) (a b : List (List ℕ)) (q : ℕ) → is_unfull (listing w us a) q ≡ true → is_unfull (listing w us b) q ≡ true
-taken_unfull true us a b q e = e
-taken_unfull false us a b q e = e
-
--- ---- the last one
-
-at_end : (us : List ℕ) (p : ℕ) → slice_get (us ++ p ∷ []) (length us) ≡ Some p
-at_end [] p = refl
-at_end (u ∷ us) p = at_end us p
-
-listed_or_last : (us : List ℕ) (p q : ℕ) → is_listed (us ++ p ∷ []) q ≡ true → (is_listed us q ≡ true) ⊎ (q ≡ p)
-listed_or_last [] p q e = inr (sym (eqb-true p q (or_false (p == q) e)))
-  where
-    or_false : (b : Bool) → (b || false) ≡ true → b ≡ true
-    or_false true e = refl
-    or_false false e = e
-listed_or_last (u ∷ us) p q e =
-    ⊎_elim
-    (λ here. inl (or_left (u == q) (is_listed us q) here))
-    (λ other. ⊎_elim (λ l. inl (or_right (u == q) (is_listed us q) l)) (λ same. inr same) (listed_or_last us p q (let f : is_listed (us ++ p ∷ []) q ≡ true = rw other at e in f)))
-    (either (u == q))
-
-pub dropped_unfull : (w : Bool) (us vs : List ℕ) (held : List (List ℕ)) (r : Option ℕ) → us ≡ vs ++ option_to_list r → (q : ℕ) → is_unfull (listing w us held) q ≡ true → (is_unfull (listing w vs held) q ≡ true) ⊎ IsDropped (listing w us held) q
-dropped_unfull false us vs held r is q e = inl refl
-dropped_unfull true us vs held None is q e = inl (ap (λ xs. is_listed xs q) (sym (is ∙ append-nil vs)) ∙ e)
-dropped_unfull true us vs held (Some p) is q e =
-    let n : length (vs ++ p ∷ []) - 1 ≡ length vs = let l = length-append vs (p ∷ []) in omega (arith, l) in
-    ⊎_elim
-    (λ still. inl still)
-    (λ last. inr (ap Some last ∙ sym (at_end vs p) ∙ ap (slice_get (vs ++ p ∷ [])) (sym n) ∙ ap (λ xs. slice_get xs (length xs - 1)) (sym is)))
-    (listed_or_last vs p q (ap (λ xs. is_listed xs q) (sym is) ∙ e))
-
-pub dropped_held : (w : Bool) (us vs : List ℕ) (held : List (List ℕ)) (h q : ℕ) → is_held (listing w us held) h q ≡ true → is_held (listing w vs held) h q ≡ true
-dropped_held true us vs held h q e = e
-dropped_held false us vs held h q e = e

@@ -1,28 +1,26 @@
-// Positions of objects: those that may be below their full level, and those that each object holds.
-ghost use Rattle.std.specs.Prelude.{◌≡◌, ◌≢◌, ◌⊎◌, ℕ, true, None, IfSome};
-ghost use Rattle.ss_store_lists.specs.Listing.{is_listed, is_unfull, is_held, held_by, lists, HasMore, HasMoreHeld, IsTaken, IsLast, IsDropped};
+// Positions of objects by the object that holds them.
+ghost use Rattle.std.specs.Prelude.{◌≡◌, ◌≢◌, ℕ, true, None, IfSome};
+ghost use Rattle.ss_store_lists.specs.Listing.{is_listed, is_held, held_by, lists, HasMore, HasMoreHeld, IsTaken};
 
 use std::alloc::Global;
 use std::marker::Model;
 use std::mem;
 
-/// The positions of the objects that may be below their full level, and of those that each object holds: it owns them, or
-/// they are in its group. There may be others among them. Where memory was wanting the lists are given up, and then every
-/// position counts as listed.
+/// The positions of the objects that each object holds: it owns them, or they are in its group. There may be others among
+/// them. Where memory was wanting the lists are given up, and then every position counts as listed.
 #[derive(Drop)]
 pub struct Lists {
-    unfull: Vec<u32>,
     held: Vec<Vec<u32>>,
     is_whole: bool,
 }
 
 impl Model for Lists {
-    ghost use Rattle.std.specs.Prelude.{Option};
-    ghost use Rattle.ss_store_lists.specs.Listing.{Listing, lists, listing};
+    ghost use Rattle.std.specs.Prelude.{ℕ, List, Option};
+    ghost use Rattle.ss_store_lists.specs.Listing.{lists, listing};
 
-    ghost Value = { Option Listing };
+    ghost Value = { Option (List (List ℕ)) };
 
-    ghost view = { λ l. listing l.is_whole l.unfull.items (lists l.held.items) };
+    ghost view = { λ l. listing l.is_whole (lists l.held.items) };
 }
 
 // Pushes a position to the list at `k`, where there is one and memory for it.
@@ -57,7 +55,6 @@ impl Lists {
     /// Lists of nothing.
     pub fn new(alloc: Global) -> Lists {
         Lists {
-            unfull: Vec::new(alloc),
             held: Vec::new(alloc),
             is_whole: true,
         }
@@ -68,19 +65,8 @@ impl Lists {
         ensures { result ≡ None }
     {
         Lists {
-            unfull: Vec::new(alloc),
             held: Vec::new(alloc),
             is_whole: false,
-        }
-    }
-
-    /// The object at the position may be below its full level.
-    pub fn add_unfull(&mut self, q: u32)
-        ensures listed { is_unfull self.new q ≡ true }
-        ensures more { HasMore self.old self.new }
-    {
-        if self.unfull.push(q).is_err() {
-            self.is_whole = false;
         }
     }
 
@@ -109,38 +95,11 @@ impl Lists {
 
     /// Takes out those that the object at `k` holds beside itself.
     pub fn take_held(&mut self, k: u32) -> Vec<u32>
-        ensures unfull { (q : ℕ) → is_unfull self.old q ≡ true → is_unfull self.new q ≡ true }
         ensures others { (h q : ℕ) → h ≢ k → is_held self.old h q ≡ true → is_held self.new h q ≡ true }
         ensures taken { (q : ℕ) → is_held self.old k q ≡ true → IsTaken self.new k result.items q }
     {
         let alloc = *self.held.allocator();
         take_at(alloc, &mut self.held, k)
-    }
-
-    /// The position that was listed last as that of an object that may be below its full level.
-    pub fn last_unfull(&self) -> Option<u32>
-        ensures { IsLast result self.now }
-    {
-        self.unfull.last().copied()
-    }
-
-    /// Takes that position out.
-    pub fn drop_unfull(&mut self)
-        ensures unfull { (q : ℕ) → is_unfull self.old q ≡ true → (is_unfull self.new q ≡ true) ⊎ IsDropped self.old q }
-        ensures held { (h q : ℕ) → is_held self.old h q ≡ true → is_held self.new h q ≡ true }
-    {
-        let _ = self.unfull.pop();
-    }
-
-    /// The positions of the objects that may be below their full level, where there is a list.
-    pub fn unfull(&self) -> Option<&[u32]>
-        ensures { IfSome result (λ us. (q : ℕ) → is_unfull self.now q ≡ true → is_listed us.now q ≡ true) }
-    {
-        if self.is_whole {
-            Some(&self.unfull)
-        } else {
-            None
-        }
     }
 
     /// Those that the object at `k` holds beside itself, where there is a list.

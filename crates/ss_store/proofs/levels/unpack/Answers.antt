@@ -5,4 +5,4 @@ use Rattle.ss_store.proofs.Filed.{unpacked_listed}
 use Rattle.ss_store.proofs.levels.unpack.Goals as goal
 
 pub returns-clause-listed : goal.returns-clause-listed
-returns-clause-listed c = subst (λ s. AreListed s c.add_unfull.new.self) (sym c.unpack_all.ensures) (unpacked_listed (classes c.args.k.now) c.in-Obj.o c.args.t.0 c.args.objects.now c.args.lists.now c.add_unfull.new.self c.add_unfull.ensures.more c.add_unfull.ensures.listed c.requires.listed)
+returns-clause-listed c = subst (λ s. AreListed s c.args.lists.now) (sym c.unpack_all.ensures) (unpacked_listed (classes c.args.k.now) c.in-Obj.o c.args.t.0 c.args.objects.now c.args.lists.now c.requires.listed)

@@ -13,4 +13,4 @@ pub returns-clause-listed : goal.returns-clause-listed
 returns-clause-listed c = λ l b.
     let s = c.args.objects.now in
     let is : slice_set s c.args.a c.write_element.new.self ≡ changed (element_written c.args.a c.args.i c.args.v) s = rw c.write_element.ensures (sym (element_written_one c.args.a c.args.i c.args.v s c.index-objects-a.result c.requires)) in
-    subst (λ r. AreListed r l) (sym is) (same_listed (element_written c.args.a c.args.i c.args.v) s l (λ q x. refl) (λ q x. refl) b)
+    subst (λ r. AreListed r l) (sym is) (same_listed (element_written c.args.a c.args.i c.args.v) s l (λ q x. refl) b)

@@ -13,4 +13,4 @@ pub returns-clause-listed : goal.returns-clause-listed
 returns-clause-listed c = λ l a.
     let s = c.args.objects.now in
     let is : slice_set s c.args.o c.write.new.self ≡ changed (written c.args.o c.args.f.0 c.args.v) s = rw c.write.ensures (sym (written_one c.args.o c.args.f.0 c.args.v s c.index-objects-o.result c.requires)) in
-    subst (λ r. AreListed r l) (sym is) (same_listed (written c.args.o c.args.f.0 c.args.v) s l (λ q x. refl) (λ q x. refl) a)
+    subst (λ r. AreListed r l) (sym is) (same_listed (written c.args.o c.args.f.0 c.args.v) s l (λ q x. refl) a)
