@@ -11,7 +11,7 @@ ghost use Rattle.ss_owners_rules.specs.Program.{ownership_faults};
 ghost use Rattle.ss_expand_formed.specs.Laws.{core_of};
 ghost use Rattle.ss_expand_formed_nulls_constructors.specs.Laws.{KeepNullsOut};
 
-/// No value that may be null goes where none is wanted, in any body of the elaboration of a program that the phases find no fault in.
+/// In the elaboration of a program without faults no value that may be null goes where none is wanted.
 pub fn keep_nulls_out()
     ensures { (p : ProgramTree) → program_faults p ≡ [] → type_faults p ≡ [] → null_faults (resolved p) ≡ [] → construction_faults (resolved p) ≡ [] → ownership_faults (resolved p) ≡ [] → KeepNullsOut (core_of p) }
 {}

@@ -8,7 +8,7 @@ use Rattle.ss_nonnull_rules.specs.Program.{null_faults}
 use Rattle.ss_delayed_rules.specs.Program.{construction_faults}
 use Rattle.ss_owners_rules.specs.Program.{ownership_faults}
 
--- no phase finds a fault in the program
+-- no phase finds a fault in the program, whatever the limit on its locals says
 pub record HasNoFault (p : ProgramTree) : Type 0 where
   pub names : program_faults p ≡ []
   pub types : type_faults p ≡ []

@@ -10,12 +10,13 @@ use Rattle.ss_machine_rules.specs.Good.{IsGoodState}
 use Rattle.ss_machine_rules.specs.Ends.{IsRunning, IsDoneWith, HasFailed, HasStopped}
 use Rattle.ss_top.specs.Sources.{Expands}
 
--- every state of the program's run is good until a check has failed: each object meets the invariants of each class at which it is packed
+-- Every state of the run is good until a check has failed. Each object then meets the invariants of each class at which it is
+-- packed.
 abbrev pub IsGoodThroughout : CoreTree → List ℤ → Type 0
 IsGoodThroughout c input = (n : ℕ) → IsGoodState c (run c input n)
 
--- The program admits the input, its run is done within these steps, every state of it is good, and the sink took exactly what the run
--- printed.
+-- The program admits the input, and its run is done within these steps. Every state of it is good, and the sink took exactly what
+-- the run printed.
 pub record HasRunUnverified (steps : ℕ) (input : List ℤ) (old new : Option (List ℕ)) (source : List ℕ) : Type 0 where
   pub program : CoreTree
   pub expands : Expands source program
