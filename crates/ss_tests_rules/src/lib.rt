@@ -1,8 +1,11 @@
-//! Tests of the instances of rules: each rule at arguments that fit it, with the sentence that docs/OBLIGATIONS.md gives, and at others.
+//! Tests of the instances of rules: each rule at arguments that fit it, with the sentence that docs/OBLIGATIONS.md gives, and at others;
+//! and of the constants that a `choose` may take.
 #![tactic(auto)]
 
 #[cfg(test)]
 mod classes;
+#[cfg(test)]
+mod constants;
 #[cfg(test)]
 mod reader;
 #[cfg(test)]

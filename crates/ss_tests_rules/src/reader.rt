@@ -17,8 +17,8 @@ pub fn has_terms(bank: &Bank, ts: &[TermId]) -> bool
     }
 }
 
-// Whether each number stands for a formula of the bank.
-fn has_formulas(bank: &Bank, fs: &[FormulaId]) -> bool
+/// Whether each number stands for a formula of the bank.
+pub fn has_formulas(bank: &Bank, fs: &[FormulaId]) -> bool
     ensures { IsTrue result → HasFormulas bank.now fs.now }
 {
     match fs {
