@@ -9,13 +9,13 @@ use Rattle.ss_core.specs.Chain.{above}
 use Rattle.ss_logic_stores.specs.declared.Sort.{Sort}
 use Rattle.ss_logic_stores.specs.declared.Sort.TheVariants as sort
 use Rattle.ss_logic_stores.specs.Values.{Thing, null, reference, class_name, owner_pair, same_thing, is_group, Cells, Entry, Heap, Value, whole, truth, thing, store, sort_of_value, as_thing, as_whole, as_store, no_cells, is_allocated, Structure}
-use Rattle.ss_logic_stores.specs.Changes.{put_cell, with_new, new_object, new_array, moved, joined_owner}
+use Rattle.ss_logic_stores.specs.Changes.{put_cell, with_new, new_object, new_array, moved, shared_owner, joined_owner}
 use Rattle.ss_logic_stores.specs.Terms.{Symbol, Field, Element, Set, Put, Unpack, Pack, Capture, Join, New, NewArray, MakeReady, Term, Bound, App, Terms, no_terms, term_then, term_list, app, field_sort, has_field, same_sort, same_sorts, is_store_sort, takes, sort_of, is_well_sorted, are_well_sorted, have_sorts, cell}
 use Rattle.ss_logic_stores.specs.Formulas.{Formula, AreOf, Hold, neg}
 use Rattle.ss_logic_stores.proofs.Stable.{equal_things, same_thing_refl}
 use Rattle.ss_logic_stores.proofs.Truth.{value_sorted, values, AllClosed, AreOf-values, equal_sorts, type_sort}
 use Rattle.ss_logic_rules.specs.Shapes.{null_term, class_term, level_of, owner_of, pair_of, next_of, equal, differ, allocated, committed, ready, group, given, all_of, where_equal, where_different}
-use Rattle.ss_logic_rules.specs.Reads.{Look, FieldLook, ElementLook, LevelLook, OwnerLook, NextLook, AllocatedLook, CommittedLook, ReadyLook, LengthLook, is_look, look_at, same_over, over_set, over_put, leveled, owned_at, over_unpack, over_pack, over_capture, joined_owners, kept_owners, over_join, default_term, over_new, over_ready, over_change, reads_a_store, read_over, read_moved, is_constant_store, without_last, last_of, look_from, read_instance}
+use Rattle.ss_logic_rules.specs.Reads.{Look, FieldLook, ElementLook, LevelLook, OwnerLook, NextLook, AllocatedLook, CommittedLook, ReadyLook, LengthLook, is_look, look_at, same_over, over_set, over_put, leveled, owned_at, over_unpack, over_pack, captured_owners, over_capture, joined_owners, kept_owners, over_join, default_term, over_new, over_ready, over_change, reads_a_store, read_over, read_moved, is_constant_store, without_last, last_of, look_from, read_instance}
 use Rattle.ss_logic_rules.proofs.Options.{mapped_some, if_some, when_some, and_then_some}
 use Rattle.ss_logic_rules.proofs.Sentences.{T, V, given_true, all_true, Hold-append, Hold-parts, equal_values, different_true, SameLooked, same_true}
 
@@ -288,25 +288,44 @@ module _ (cs : List ClassTree) (m : Structure) where
   moved_none : (group new owner : Thing) → (is_group group ≡ true → ⊥) → moved group new owner ≡ owner
   moved_none group_ new owner n = if_no _ new owner (not_first _ _ (false_from_ne_true (is_group group_) n))
 
-  capture_true : (t : ℕ) (s o e : Term) → (look : Look) → is_look cs look ≡ true → Hold cs m (over_capture (app (Capture t) (s ∷ o ∷ e ∷ [])) t s o e look)
-  capture_true t s o e (OwnerLook p) k =
-      let after = app (Capture t) (s ∷ o ∷ e ∷ []) in (
-        given_true cs m (group (owner_of s e) ∷ where_equal (owner_of s p) (owner_of s e)) (equal (owner_of after p) (pair_of o (class_term t))) (λ h.
-            ap thing (moved_yes _ _ _ h.0 (same_owners s p e h.1))),
-        (
-          given_true cs m (neg (group (owner_of s e)) ∷ []) (equal (owner_of after p) (owner_of s p)) (λ h. ap thing (moved_none _ _ _ h.0)),
-          different_true cs m (owner_of s p) (owner_of s e) (same_over (OwnerLook p) after s) (same_true cs m (OwnerLook p) after s (differ (owner_of s p) (owner_of s e) ∷ []) (λ h.
-              ap thing (moved_other _ _ _ (other_owners s p e h.0)))),
-        ),
+  captured_null : (h : Heap) (e new owner : Thing) → same_thing e null ≡ true → moved (shared_owner h e) new owner ≡ owner
+  captured_null h e new owner n = ap (λ v. moved v new owner) (if_yes _ null (h.at e).owner n)
+
+  captured_some : (h : Heap) (e new owner : Thing) → same_thing e null ≡ false → moved (shared_owner h e) new owner ≡ moved (h.at e).owner new owner
+  captured_some h e new owner n = ap (λ v. moved v new owner) (if_no _ null (h.at e).owner n)
+
+  -- what the owner of p is after a capture where this is its owner if e isn't null
+  captured_or_null : (h : Heap) (e new owner : Thing) → moved (h.at e).owner new owner ≡ owner → moved (shared_owner h e) new owner ≡ owner
+  captured_or_null h e new owner same = by_test (same_thing e null) (captured_null h e new owner) (λ n. captured_some h e new owner n ∙ same)
+
+  capture_true : (t : ℕ) (s o e : Term) → IsRest e → (look : Look) → is_look cs look ≡ true → Hold cs m (over_capture (app (Capture t) (s ∷ o ∷ e ∷ [])) t s o e look)
+  capture_true t s o e re (OwnerLook p) k =
+      let after = app (Capture t) (s ∷ o ∷ e ∷ []) in
+      let before = as_store (V cs m s) in
+      let captured = as_thing (V cs m e) in
+      let pair = owner_pair (as_thing (V cs m o)) (class_name t) in
+      let not_null : T cs m (differ e null_term) → same_thing captured null ≡ false = λ n. things_differ _ (thing null) re refl n in
+      let kept : moved (OwnerAt s e) pair (OwnerAt s p) ≡ OwnerAt s p → moved (shared_owner before captured) pair (OwnerAt s p) ≡ OwnerAt s p = captured_or_null before captured pair (OwnerAt s p) in (
+        given_true cs m (where_equal e null_term) (equal (owner_of after p) (owner_of s p)) (λ h. ap thing (captured_null before captured pair (OwnerAt s p) (things_same _ _ (equal_values cs m e null_term h)))),
+        Hold-append cs m (where_different e null_term (captured_owners after t s o e p)) (given (neg (group (owner_of s e)) ∷ []) (equal (owner_of after p) (owner_of s p)) ∷ where_different (owner_of s p) (owner_of s e) (same_over (OwnerLook p) after s))
+            (different_true cs m e null_term (captured_owners after t s o e p) (
+              given_true cs m (differ e null_term ∷ group (owner_of s e) ∷ where_equal (owner_of s p) (owner_of s e)) (equal (owner_of after p) (pair_of o (class_term t))) (λ h.
+                  ap thing (captured_some before captured pair (OwnerAt s p) (not_null h.0) ∙ moved_yes (OwnerAt s e) pair (OwnerAt s p) h.1.0 (same_owners s p e h.1.1))),
+              tt,
+            )) (
+              given_true cs m (neg (group (owner_of s e)) ∷ []) (equal (owner_of after p) (owner_of s p)) (λ h. ap thing (kept (moved_none (OwnerAt s e) pair (OwnerAt s p) h.0))),
+              different_true cs m (owner_of s p) (owner_of s e) (same_over (OwnerLook p) after s) (same_true cs m (OwnerLook p) after s (differ (owner_of s p) (owner_of s e) ∷ []) (λ h.
+                  ap thing (kept (moved_other (OwnerAt s e) pair (OwnerAt s p) (other_owners s p e h.0))))),
+            ),
       )
-  capture_true t s o e (FieldLook p g) k = same_true cs m (FieldLook p g) (app (Capture t) (s ∷ o ∷ e ∷ [])) s [] (λ _. refl)
-  capture_true t s o e (ElementLook r b j) k = same_true cs m (ElementLook r b j) (app (Capture t) (s ∷ o ∷ e ∷ [])) s [] (λ _. refl)
-  capture_true t s o e (LevelLook p) k = same_true cs m (LevelLook p) (app (Capture t) (s ∷ o ∷ e ∷ [])) s [] (λ _. refl)
-  capture_true t s o e NextLook k = same_true cs m NextLook (app (Capture t) (s ∷ o ∷ e ∷ [])) s [] (λ _. refl)
-  capture_true t s o e (AllocatedLook p) k = same_true cs m (AllocatedLook p) (app (Capture t) (s ∷ o ∷ e ∷ [])) s [] (λ _. alloc_same (as_store (V cs m (app (Capture t) (s ∷ o ∷ e ∷ [])))) (as_store (V cs m s)) (as_thing (V cs m p)) refl)
-  capture_true t s o e (CommittedLook p) k = same_true cs m (CommittedLook p) (app (Capture t) (s ∷ o ∷ e ∷ [])) s [] (λ _. ((λ t. t), (λ t. t)))
-  capture_true t s o e (ReadyLook p) k = same_true cs m (ReadyLook p) (app (Capture t) (s ∷ o ∷ e ∷ [])) s [] (λ _. ((λ t. t), (λ t. t)))
-  capture_true t s o e (LengthLook a0) k = same_true cs m (LengthLook a0) (app (Capture t) (s ∷ o ∷ e ∷ [])) s [] (λ _. tt)
+  capture_true t s o e re (FieldLook p g) k = same_true cs m (FieldLook p g) (app (Capture t) (s ∷ o ∷ e ∷ [])) s [] (λ _. refl)
+  capture_true t s o e re (ElementLook r b j) k = same_true cs m (ElementLook r b j) (app (Capture t) (s ∷ o ∷ e ∷ [])) s [] (λ _. refl)
+  capture_true t s o e re (LevelLook p) k = same_true cs m (LevelLook p) (app (Capture t) (s ∷ o ∷ e ∷ [])) s [] (λ _. refl)
+  capture_true t s o e re NextLook k = same_true cs m NextLook (app (Capture t) (s ∷ o ∷ e ∷ [])) s [] (λ _. refl)
+  capture_true t s o e re (AllocatedLook p) k = same_true cs m (AllocatedLook p) (app (Capture t) (s ∷ o ∷ e ∷ [])) s [] (λ _. alloc_same (as_store (V cs m (app (Capture t) (s ∷ o ∷ e ∷ [])))) (as_store (V cs m s)) (as_thing (V cs m p)) refl)
+  capture_true t s o e re (CommittedLook p) k = same_true cs m (CommittedLook p) (app (Capture t) (s ∷ o ∷ e ∷ [])) s [] (λ _. ((λ t. t), (λ t. t)))
+  capture_true t s o e re (ReadyLook p) k = same_true cs m (ReadyLook p) (app (Capture t) (s ∷ o ∷ e ∷ [])) s [] (λ _. ((λ t. t), (λ t. t)))
+  capture_true t s o e re (LengthLook a0) k = same_true cs m (LengthLook a0) (app (Capture t) (s ∷ o ∷ e ∷ [])) s [] (λ _. tt)
 
   join_null : (e w v u : Thing) → same_thing e null ≡ true → joined_owner e w v u ≡ u
   join_null e w v u n = if_yes _ _ _ n
@@ -581,7 +600,7 @@ module _ (cs : List ClassTree) (m : Structure) where
       given_list _ fs e (put_true s a i v (value_sorted cs m a c.1.0 ∙ p.0) (value_sorted cs m i c.1.1.0 ∙ p.1) (value_sorted cs m v c.1.1.1.0) p.2 look k)
   change_true look (Unpack t) (s ∷ o ∷ []) fs k h c e = given_list _ fs e (unpack_true t s o (sorts_values (sort.Store ∷ sort.Rest ∷ []) (s ∷ o ∷ []) h c).1.0 look k)
   change_true look (Pack t) (s ∷ o ∷ []) fs k h c e = given_list _ fs e (pack_true t s o (sorts_values (sort.Store ∷ sort.Rest ∷ []) (s ∷ o ∷ []) h c).1.0 look k)
-  change_true look (Capture t) (s ∷ o ∷ x ∷ []) fs k h c e = given_list _ fs e (capture_true t s o x look k)
+  change_true look (Capture t) (s ∷ o ∷ x ∷ []) fs k h c e = given_list _ fs e (capture_true t s o x (sorts_values (sort.Store ∷ sort.Rest ∷ sort.Rest ∷ []) (s ∷ o ∷ x ∷ []) h c).1.1.0 look k)
   change_true look Join (s ∷ o ∷ x ∷ []) fs k h c e = given_list _ fs e (join_true s o x (sorts_values (sort.Store ∷ sort.Rest ∷ sort.Rest ∷ []) (s ∷ o ∷ x ∷ []) h c).1.1.0 look k)
   change_true look (New t) (s ∷ []) fs k h c e = given_list _ fs e (new_true t s look k)
   change_true look (NewArray t) (s ∷ n ∷ []) fs k h c e = given_list _ fs e (array_true t s n look k)

@@ -132,11 +132,18 @@ over_pack after t s o (CommittedLook p) =
     ∷ []
 over_pack after t s o look = same_over look after s []
 
--- the group of e has the pair of o and t as its owner
+-- the group of e has the pair of o and t as its owner, under the premise that e isn't null
+abbrev pub captured_owners : Term → ℕ → Term → Term → Term → Term → List Formula → List Formula
+captured_owners after t s o e p ps =
+    given (ps ++ group (owner_of s e) ∷ where_equal (owner_of s p) (owner_of s e)) (equal (owner_of after p) (pair_of o (class_term t)))
+    ∷ []
+
+-- null is in no group, and what isn't in the group keeps its owner
 abbrev pub over_capture : Term → ℕ → Term → Term → Term → Look → List Formula
 over_capture after t s o e (OwnerLook p) =
-    given (group (owner_of s e) ∷ where_equal (owner_of s p) (owner_of s e)) (equal (owner_of after p) (pair_of o (class_term t)))
-    ∷ given (neg (group (owner_of s e)) ∷ []) (equal (owner_of after p) (owner_of s p))
+    given (where_equal e null_term) (equal (owner_of after p) (owner_of s p))
+    ∷ where_different e null_term (captured_owners after t s o e p)
+    ++ given (neg (group (owner_of s e)) ∷ []) (equal (owner_of after p) (owner_of s p))
     ∷ where_different (owner_of s p) (owner_of s e) (same_over (OwnerLook p) after s)
 over_capture after t s o e look = same_over look after s []
 

@@ -6,7 +6,7 @@ use Rattle.ss_core.specs.Tree.{ClassTree}
 use Rattle.ss_logic_stores.specs.declared.Sort.{Sort}
 use Rattle.ss_logic_stores.specs.declared.Sort.TheVariants as sort
 use Rattle.ss_logic_stores.specs.Values.{Thing, null, reference, class_name, group_number, owner_pair, same_thing, is_group, Cells, Entry, Heap, no_heap, as_store, is_allocated, IsNumbered, Structure}
-use Rattle.ss_logic_stores.specs.Changes.{moved, joined_owner, with_new, new_object, new_array}
+use Rattle.ss_logic_stores.specs.Changes.{moved, shared_owner, joined_owner, with_new, new_object, new_array}
 use Rattle.ss_logic_stores.specs.Terms.{Symbol, Constant, Field, Element, Set, Put, Unpack, Pack, Capture, Join, New, NewArray, MakeReady, Term, Bound, App, Terms, no_terms, term_then, field_sort, cell, constant_value, whole_at, thing_at, store_at, value_of, values_of}
 use Rattle.ss_logic_stores.proofs.Stable.{equal_things}
 
@@ -115,7 +115,7 @@ module _ (cs : List ClassTree) (m : Structure) where
     store_numbered (App (Pack t) ts) w g e = as_first (First ts) (After (Pack t) ts) refl w g (first_numbered ts w g e)
     store_numbered (App (Capture t) ts) w g e =
         as_first (First ts) (After (Capture t) ts) refl w g
-        (moved_numbered (First ts) (first_numbered ts) ((First ts).at (Third ts)).owner (owner_pair (Second ts) (class_name t)) (pair_low (First ts).next (Second ts) (class_name t)) w g e)
+        (moved_numbered (First ts) (first_numbered ts) (shared_owner (First ts) (Third ts)) (owner_pair (Second ts) (class_name t)) (pair_low (First ts).next (Second ts) (class_name t)) w g e)
     store_numbered (App Join ts) w g e = as_first (First ts) (After Join ts) refl w g (joined_numbered (First ts) (first_numbered ts) (Second ts) (Third ts) w g e)
     store_numbered (App (New t) ts) w g e = new_numbered (First ts) (first_numbered ts) (new_object (First ts).next) refl w g e
     store_numbered (App (NewArray t) ts) w g e = new_numbered (First ts) (first_numbered ts) (new_array t (First ts).next) refl w g e

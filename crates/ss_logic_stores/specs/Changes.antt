@@ -54,9 +54,13 @@ moved group new owner = if is_group group && same_thing owner group then new els
 abbrev pub regrouped : Thing → Thing → Thing → Entry → Entry
 regrouped group new w x = record x { owner = moved group new x.owner }
 
+-- the owner that e shares with its group; null is in no group
+abbrev pub shared_owner : Heap → Thing → Thing
+shared_owner h e = if same_thing e null then null else (h.at e).owner
+
 -- the group of e gets the pair of o and t; what is in no group is no member of one
 abbrev pub captured : Heap → Thing → ℕ → Thing → Heap
-captured h o t e = changed (regrouped (h.at e).owner (owner_pair o (class_name t))) h
+captured h o t e = changed (regrouped (shared_owner h e) (owner_pair o (class_name t))) h
 
 -- the owner of what had this one, where e, of the owner v, joins the owner w: the group of e gets w; where v is no group, the group w
 -- gets v; null joins nothing

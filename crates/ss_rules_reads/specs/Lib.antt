@@ -1,4 +1,5 @@
 pub mod Placed
 pub mod Changes
+pub mod Captured
 pub mod Joined
 pub mod New

@@ -1,11 +1,12 @@
 // What reads give over stores with other owners.
 
-ghost use Rattle.std.specs.Prelude.{◌≡◌, List, [], ◌∷◌, map, IfOk, OnOk};
+ghost use Rattle.std.specs.Prelude.{◌≡◌, List, [], ◌∷◌, ◌++◌, map, IfOk, OnOk};
 ghost use Rattle.ss_logic_stores.specs.Equal.{same_term};
 ghost use Rattle.ss_logic_rules.specs.Shapes.{all_of, null_term, owner_of};
 ghost use Rattle.ss_logic_rules.specs.Reads.{OwnerLook, over_capture, over_join};
 ghost use Rattle.ss_terms_stores.specs.Forms.{term_at, formula_at, HasTerm, HasFormula, IsGrown};
 ghost use Rattle.ss_rules_looks.specs.Looks.{look_in, HasLook};
+ghost use Rattle.ss_rules_reads.specs.Captured.{captured_clauses, owned_clause, left_clauses};
 ghost use Rattle.ss_rules_reads.specs.Joined.{joined_clauses};
 
 use crate::changes::Stores;
@@ -15,6 +16,58 @@ use ss_rules_looks::Look;
 use ss_rules_plans::{Claim, Clause, Plan, Slot, fill};
 use ss_terms_stores::{Bank, FormulaId, Predicate, Symbol, TermId};
 use std::alloc::{AllocError, Global};
+
+// What is said of the owner of an object where the group of another was captured, by which terms are one: whether the captured one is
+// null, and whether the two have one owner.
+fn capture_clauses(
+    alloc: Global,
+    is_null: bool,
+    is_captured: bool,
+    e: Slot,
+) -> Result<Vec<Clause>, AllocError>
+    ensures { IfOk result (λ v. v.items ≡ captured_clauses is_null is_captured e) }
+{
+    let mut clauses = Vec::new(alloc);
+    add_null(&mut clauses, is_null, e)?;
+    if !is_null {
+        add_captured(&mut clauses, is_captured, e)?;
+    }
+    add_left(&mut clauses, is_captured)?;
+    Ok(clauses)
+}
+
+// What is in the group has the pair as its owner.
+fn add_captured(clauses: &mut Vec<Clause>, is_captured: bool, e: Slot) -> Result<(), AllocError>
+    ensures { OnOk result (clauses.new.items ≡ clauses.old.items ++ owned_clause is_captured e ∷ []) }
+{
+    let (now, was) = (Slot::Made(0), Slot::Made(1));
+    let (captured, pair) = (Slot::Made(2), Slot::Made(5));
+    let not_null = Claim::Not(Predicate::Equal, e, Slot::Made(4));
+    let group = Claim::Group(captured);
+    let owned = Claim::Is(Predicate::Equal, now, pair);
+    let clause = if is_captured {
+        Clause::IfTwo(not_null, group, owned)
+    } else {
+        let here = Claim::Is(Predicate::Equal, was, captured);
+        Clause::IfThree(not_null, group, here, owned)
+    };
+    clauses.push(clause)?;
+    Ok(())
+}
+
+// What isn't in the group keeps its owner.
+fn add_left(clauses: &mut Vec<Clause>, is_captured: bool) -> Result<(), AllocError>
+    ensures { OnOk result (clauses.new.items ≡ clauses.old.items ++ left_clauses is_captured) }
+{
+    let (now, was, captured) = (Slot::Made(0), Slot::Made(1), Slot::Made(2));
+    let kept = Claim::Is(Predicate::Equal, now, was);
+    clauses.push(Clause::If(Claim::NoGroup(captured), kept))?;
+    if !is_captured {
+        let apart = Claim::Not(Predicate::Equal, was, captured);
+        clauses.push(Clause::If(apart, kept))?;
+    }
+    Ok(())
+}
 
 // The owner of an object where the group of another one was captured.
 fn captured_owner(
@@ -33,36 +86,18 @@ fn captured_owner(
     ensures at { IfOk result (λ r. HasFormula b.new r × (formula_at b.new r ≡ all_of (over_capture (term_at b.old stores.after) t (term_at b.old stores.before) (term_at b.old objects.0) (term_at b.old objects.1) (OwnerLook (term_at b.old p))))) }
     ensures grown { IsGrown b.old b.new }
 {
-    let is_same = is_same_owner(b, stores.before, p, objects.1);
+    let (o, e) = objects;
+    let none_captured = is_none(b, e);
+    let is_captured = is_same_owner(b, stores.before, p, e);
+    let clauses = capture_clauses(alloc, none_captured, is_captured, Slot::Known(e))?;
     let (after, before) = (Slot::Known(stores.after), Slot::Known(stores.before));
-    let (p, o, e) = (
-        Slot::Known(p),
-        Slot::Known(objects.0),
-        Slot::Known(objects.1),
-    );
     let plans = [
-        Plan::Two(Symbol::Owner, after, p),
-        Plan::Two(Symbol::Owner, before, p),
-        Plan::Two(Symbol::Owner, before, e),
+        Plan::Two(Symbol::Owner, after, Slot::Known(p)),
+        Plan::Two(Symbol::Owner, before, Slot::Known(p)),
+        Plan::Two(Symbol::Owner, before, Slot::Known(e)),
         Plan::Leaf(Symbol::ClassName(t)),
-        Plan::Two(Symbol::Pair, o, Slot::Made(3)),
-    ];
-    let (now, was, group) = (Slot::Made(0), Slot::Made(1), Slot::Made(2));
-    let owned = Claim::Is(Predicate::Equal, now, Slot::Made(4));
-    let kept = Claim::Is(Predicate::Equal, now, was);
-    let ungrouped = Clause::If(Claim::NoGroup(group), kept);
-    if is_same {
-        let clauses = [Clause::If(Claim::Group(group), owned), ungrouped];
-        return fill(alloc, b, &plans, &clauses);
-    }
-    let clauses = [
-        Clause::IfTwo(
-            Claim::Group(group),
-            Claim::Is(Predicate::Equal, was, group),
-            owned,
-        ),
-        ungrouped,
-        Clause::If(Claim::Not(Predicate::Equal, was, group), kept),
+        Plan::Leaf(Symbol::Null),
+        Plan::Two(Symbol::Pair, Slot::Known(o), Slot::Made(3)),
     ];
     fill(alloc, b, &plans, &clauses)
 }
@@ -128,7 +163,6 @@ fn join_clauses(
     Ok(clauses)
 }
 
-ghost use Rattle.std.specs.Prelude.{◌++◌};
 ghost use Rattle.ss_rules_reads.specs.Joined.{null_clauses, given_clauses, kept_clauses};
 
 // Null joins nothing.
