@@ -20,3 +20,9 @@ pub mod Defaults
 pub mod Contracts
 pub mod Following
 pub mod Closed
+pub mod Sorting
+pub mod Forming
+pub mod Operating
+pub mod Scening
+pub mod Expressed
+pub mod Stated

@@ -79,7 +79,7 @@ element_reference cs (Some (ty.Ref t n)) h = refl
 
 -- ---- two types
 
-by_comparable : {P : Type 0} (a b : Option Ty) → are_comparable a b ≡ true → (is_int a ≡ true → is_int b ≡ true → P) → (is_bool a ≡ true → is_bool b ≡ true → P) → (is_reference a ≡ true → is_reference b ≡ true → P) → P
+pub by_comparable : {P : Type 0} (a b : Option Ty) → are_comparable a b ≡ true → (is_int a ≡ true → is_int b ≡ true → P) → (is_bool a ≡ true → is_bool b ≡ true → P) → (is_reference a ≡ true → is_reference b ≡ true → P) → P
 by_comparable a b h ints bools references =
     ⊎_elim
     (λ l. ⊎_elim

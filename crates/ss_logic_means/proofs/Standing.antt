@@ -24,16 +24,16 @@ use Rattle.ss_logic_means.proofs.Operations.{fits_between}
 
 -- ---- lists with one more
 
-get_old : {A : Type 0} (xs ys : List A) (k : ℕ) (x : A) → slice_get xs k ≡ Some x → slice_get (xs ++ ys) k ≡ Some x
+pub get_old : {A : Type 0} (xs ys : List A) (k : ℕ) (x : A) → slice_get xs k ≡ Some x → slice_get (xs ++ ys) k ≡ Some x
 get_old [] ys k x e = absurd (let no : ⊥ = cc in no)
 get_old (y ∷ xs) ys zero x e = e
 get_old (y ∷ xs) ys (suc k) x e = get_old xs ys k x e
 
-get_at : {A : Type 0} (xs : List A) (z : A) (ys : List A) → slice_get (xs ++ z ∷ ys) (length xs) ≡ Some z
+pub get_at : {A : Type 0} (xs : List A) (z : A) (ys : List A) → slice_get (xs ++ z ∷ ys) (length xs) ≡ Some z
 get_at [] z ys = refl
 get_at (x ∷ xs) z ys = get_at xs z ys
 
-get_either : {A : Type 0} (xs : List A) (z : A) (k : ℕ) (x : A) → slice_get (xs ++ z ∷ []) k ≡ Some x → (slice_get xs k ≡ Some x) ⊎ ((k ≡ length xs) × (z ≡ x))
+pub get_either : {A : Type 0} (xs : List A) (z : A) (k : ℕ) (x : A) → slice_get (xs ++ z ∷ []) k ≡ Some x → (slice_get xs k ≡ Some x) ⊎ ((k ≡ length xs) × (z ≡ x))
 get_either [] z zero x e = inr (refl, cc)
 get_either [] z (suc k) x e = absurd (let no : ⊥ = cc in no)
 get_either (y ∷ xs) z zero x e = inl e

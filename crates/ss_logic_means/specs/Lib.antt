@@ -1,3 +1,4 @@
 pub mod Means
 pub mod Scenes
 pub mod Sentences
+pub mod Sorts

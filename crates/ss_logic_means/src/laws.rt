@@ -9,13 +9,16 @@ ghost use Rattle.ss_store_rules.specs.Locals.{local_types};
 ghost use Rattle.ss_store_rules.specs.Typed.{is_contract};
 ghost use Rattle.ss_store_rules.specs.Values as run;
 ghost use Rattle.ss_logic_stores.specs.Values.{Heap, Value, Structure};
-ghost use Rattle.ss_logic_stores.specs.Terms.{Term};
-ghost use Rattle.ss_logic_stores.specs.Formulas.{Good, Formula, True, IsValid, atom};
-ghost use Rattle.ss_logic_express.specs.Express.{One, Scene, choices, local_meant, subject, meant, defined, default_said, holds_formula};
-ghost use Rattle.ss_logic_express.specs.Invariants.{invariants_of};
+ghost use Rattle.ss_logic_stores.specs.Terms.{Term, sort_of_type, have_sorts};
+ghost use Rattle.ss_logic_stores.specs.Formulas.{Good, Formula, is_well_formed, True, IsValid, atom};
+ghost use Rattle.ss_logic_express.specs.Express.{One, Scene, choices, local_meant, subject, element_sort, meant, defined, default_said, holds_formula};
+ghost use Rattle.ss_logic_express.specs.Invariants.{packed_invariants, invariants_of};
 ghost use Rattle.ss_machine_typed.specs.Settings.{IsGoodSetting};
 ghost use Rattle.ss_logic_means.specs.Means.{Means, Reads};
 ghost use Rattle.ss_logic_means.specs.Scenes.{setting_of, Stands, HaveValues, IsStoreTerm, Stay, has_subject, has_no_default, is_stated, Settled, AreInvariants};
+ghost use Rattle.ss_logic_stores.specs.declared.Sort.{Sort};
+ghost use Rattle.ss_logic_stores.specs.declared.Sort.TheVariants as sort;
+ghost use Rattle.ss_logic_means.specs.Sorts.{IsWellExpressed, IsSorted};
 ghost use Rattle.ss_logic_means.specs.Sentences.{IsOfGood, AllFollowFromGood};
 
 /// The translation law: the parts of a typed expression are true exactly where it has a value, and what it means then has that value.
@@ -71,4 +74,39 @@ pub fn a_good_store_meets_every_sentence()
 /// So an obligation is valid where it is valid with such sentences among its premises, of stores that its own premises say are good.
 pub fn sentences_on_good_stores_may_be_premises()
     ensures { (cs : List ClassTree) → IsChain cs → NoAlso cs → AreInvariants cs → (premises sentences : List Formula) (goal : Formula) → AllFollowFromGood cs premises sentences → IsValid cs (premises ++ sentences) goal → IsValid cs premises goal }
+{}
+
+/// The formulas of a typed expression are well formed: each of its parts, and what it means, which has the sort of its type.
+pub fn expressions_are_well_formed()
+    ensures { (x : ExprTree) (c : Scene) (bound : List Sort) → IsSorted c bound → length bound ≡ c.bound → has_no_default x ≡ true → is_some (type_of c.classes c.types x) ≡ true → IsWellExpressed c.classes bound (element_sort (type_of c.classes c.types x)) (defined x c) (meant x c) }
+{}
+
+/// The formula of a default condition is well formed, if it speaks of a local that fits it.
+pub fn default_conditions_are_well_formed()
+    ensures { (d : DefaultTree) (c : Scene) (bound : List Sort) → IsSorted c bound → length bound ≡ c.bound → has_subject c.classes c.types d ≡ true → is_well_formed c.classes bound (default_said c d) ≡ true }
+{}
+
+/// So are the formulas of each stated expression, default conditions among them: its parts, and what it means, which is a truth value.
+pub fn stated_expressions_are_well_formed()
+    ensures { (x : ExprTree) (c : Scene) (bound : List Sort) → IsSorted c bound → length bound ≡ c.bound → is_stated c.classes c.types x ≡ true → IsWellExpressed c.classes bound sort.Truth (defined x c) (meant x c) }
+{}
+
+/// And so is the formula that it is defined and holds.
+pub fn conditions_are_well_formed()
+    ensures { (x : ExprTree) (c : Scene) (bound : List Sort) → IsSorted c bound → length bound ≡ c.bound → is_stated c.classes c.types x ≡ true → is_well_formed c.classes bound (holds_formula x c) ≡ true }
+{}
+
+/// A scene of terms without bound names, two stores and for each local a term of the sort of its type, meets what these laws ask of it.
+pub fn closed_terms_are_sorted()
+    ensures { (c : Scene) (terms : List Term) → have_sorts c.classes (sort.Store ∷ sort.Store ∷ []) (c.now ∷ c.entry ∷ []) ≡ true → c.locals ≡ map One terms → have_sorts c.classes (map sort_of_type c.types) terms ≡ true → IsSorted c [] }
+{}
+
+/// The formula that an object has its invariants where it is packed is well formed, of a store and an object without bound names.
+pub fn packed_invariants_are_well_formed()
+    ensures { (cs : List ClassTree) → AreInvariants cs → (s o : Term) → have_sorts cs (sort.Store ∷ sort.Rest ∷ []) (s ∷ o ∷ []) ≡ true → (t : ℕ) → is_well_formed cs [] (packed_invariants cs s o t) ≡ true }
+{}
+
+/// So is each instance of the rule on invariants.
+pub fn instances_on_invariants_are_well_formed()
+    ensures { (cs : List ClassTree) → AreInvariants cs → (s : Term) (ts : List Term) (f : Formula) → invariants_of cs s ts ≡ Some f → is_well_formed cs [] f ≡ true }
 {}

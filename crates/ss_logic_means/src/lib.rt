@@ -5,9 +5,12 @@
 mod laws;
 
 pub use laws::{
-    a_good_store_meets_every_sentence, a_good_store_meets_its_invariants, closed_terms_stand,
-    closed_terms_stay, conditions_are_true_where_they_hold, conditions_of_code_are_stated,
-    contracts_are_stated, default_conditions_are_true_where_they_hold,
-    expressions_mean_their_values, sentences_on_good_stores_may_be_premises,
+    a_good_store_meets_every_sentence, a_good_store_meets_its_invariants, closed_terms_are_sorted,
+    closed_terms_stand, closed_terms_stay, conditions_are_true_where_they_hold,
+    conditions_are_well_formed, conditions_of_code_are_stated, contracts_are_stated,
+    default_conditions_are_true_where_they_hold, default_conditions_are_well_formed,
+    expressions_are_well_formed, expressions_mean_their_values,
+    instances_on_invariants_are_well_formed, packed_invariants_are_well_formed,
+    sentences_on_good_stores_may_be_premises, stated_expressions_are_well_formed,
     typed_expressions_have_no_default,
 };
