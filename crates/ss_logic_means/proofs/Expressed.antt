@@ -22,12 +22,12 @@ use Rattle.ss_logic_rules.specs.Shapes as shape
 use Rattle.ss_logic_express.specs.Express.{or_of, Choice, Meant, Says, choices, over, over_two, said, same_truths, Scene, state, at_entry, with_bound, element_sort, is_of, fits_int, less, word_said, owners_said, as_class, out_of_range, quantified_said, meant, not_null, readable, under, word_parts, defined}
 use Rattle.ss_logic_means.specs.Scenes.{has_no_default}
 use Rattle.ss_logic_means.specs.Sorts.{HasSort, AreWellFormed, HaveSort, IsWellExpressed, IsSorted}
-use Rattle.ss_logic_means.proofs.Operands.{where_some, where_bool, int_some, bool_some, reference_some, class_reference, int_or_bool, reference_or_bool, field_from, elements_from, element_reference, are_operands}
+use Rattle.ss_logic_means.proofs.Operands.{three_parts, where_some, where_bool, int_some, bool_some, reference_some, class_reference, int_or_bool, reference_or_bool, field_from, elements_from, element_reference, are_operands}
 use Rattle.ss_logic_means.proofs.Sorting.{sorted_one, sorted_two, sorted_three, equal_formed, all_formed, more_formed, each_formed}
 use Rattle.ss_logic_means.proofs.Forming.{F, S, C, and_two, or_two, negation, under_formed, says_sorted, flat_sorted, over_formed, over_two_formed, said_formed, same_formed, mapped_sorted, paired_sorted}
 use Rattle.ss_logic_means.proofs.Operating.{int_sort, bool_sort, reference_sort, where_sort, number_sorted, null_sorted, at_most_formed, less_formed, fits_formed, not_null_formed, as_sort, operation_formed}
 use Rattle.ss_logic_means.proofs.Standing.{length_more}
-use Rattle.ss_logic_means.proofs.Scening.{bound_sorted, class_sorted, type_sorted, pair_sorted, sub_formed, group_formed, level_sorted, owner_sorted, allocated_formed, committed_formed, consistent_formed, state_sorted, local_expressed, readable_formed, old_sorted, longer_sorted, with_bound_sorted}
+use Rattle.ss_logic_means.proofs.Scening.{bound_sorted, class_sorted, type_sorted, pair_sorted, sub_formed, group_formed, level_sorted, owner_sorted, allocated_formed, committed_formed, consistent_formed, plain_sort, state_sorted, local_expressed, readable_formed, old_sorted, longer_sorted, with_bound_sorted}
 
 -- ---- results by their types
 
@@ -88,18 +88,12 @@ field_sorted cs bound s o h k f d is =
     let read = sorted_two cs bound (Field f) sort.Store sort.Rest s o (field_taken cs f d is) h k in
     (read.0 ∙ field_is cs f d is, read.1)
 
-plain_is : (t : Ty) → sort_of_type (plain t) ≡ sort_of_type t
-plain_is ty.Int = refl
-plain_is ty.Bool = refl
-plain_is ty.Null = refl
-plain_is (ty.Ref t n) = refl
-
 element_no_store : (a : Option Ty) → not (is_store_sort (element_sort a)) ≡ true
 element_no_store None = refl
 element_no_store (Some t) = ap not (type_sort t)
 
 field_result : (cs : List ClassTree) (a : Option Ty) (o : Option DeclaredField) (d : DeclaredField) → o ≡ Some d → has_class (λ u. below cs u d.class) a ≡ true → sort_of_type d.field.ty ≡ element_sort (field_read_type cs a o)
-field_result cs a o d is h = sym (ap (λ r. element_sort (field_read_type cs a r)) is ∙ where_sort (has_class (λ u. below cs u d.class) a) (plain d.field.ty) h ∙ plain_is d.field.ty)
+field_result cs a o d is h = sym (ap (λ r. element_sort (field_read_type cs a r)) is ∙ where_sort (has_class (λ u. below cs u d.class) a) (plain d.field.ty) h ∙ plain_sort d.field.ty)
 
 element_result : (b : Bool) (a : Option Ty) → b ≡ true → element_sort a ≡ element_sort (if b then a else None)
 element_result true a h = refl
@@ -162,9 +156,6 @@ module _ (c : Scene) (bound : List Sort) (at : length bound ≡ c.bound) (low hi
   all_in_range (f ∷ fs) h = (in_range f h.0, all_in_range fs h.1)
 
 -- ---- expressions
-
-three_parts : (a b c : Bool) → (a && b && c) ≡ true → (a ≡ true) × (b ≡ true) × (c ≡ true)
-three_parts a b c h = let p = and_parts (a && b) c h in let q = and_parts a b p.0 in (q.0, q.1, p.1)
 
 abbrev Type-of : Scene → ExprTree → Option Ty
 Type-of c x = type_of c.classes c.types x

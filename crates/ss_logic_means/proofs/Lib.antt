@@ -26,3 +26,4 @@ pub mod Operating
 pub mod Scening
 pub mod Expressed
 pub mod Stated
+pub mod Bodies

@@ -19,6 +19,9 @@ use Rattle.ss_logic_means.proofs.Denoting.{R}
 use Rattle.ss_logic_means.proofs.Operations.{IsBool, IsWhole, Gives, and_reads, or_reads}
 use Rattle.ss_logic_means.proofs.Arithmetic.{AreBools, equal_reads, not_equal_reads, less_reads, less_equal_reads, greater_reads, greater_equal_reads, add_reads, subtract_reads, multiply_reads, divide_reads, remainder_reads}
 
+pub three_parts : (a b c : Bool) → (a && b && c) ≡ true → (a ≡ true) × (b ≡ true) × (c ≡ true)
+three_parts a b c h = let p = and_parts (a && b) c h in let q = and_parts a b p.0 in (q.0, q.1, p.1)
+
 -- ---- one type
 
 pub where_some : (b : Bool) (t : Ty) → is_some (where_typed b t) ≡ true → b ≡ true

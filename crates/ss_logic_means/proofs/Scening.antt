@@ -65,7 +65,7 @@ module _ (cs : List ClassTree) (bound : List Sort) where
 
 -- ---- scenes
 
-plain_sort : (t : Ty) → sort_of_type (plain t) ≡ sort_of_type t
+pub plain_sort : (t : Ty) → sort_of_type (plain t) ≡ sort_of_type t
 plain_sort ty.Int = refl
 plain_sort ty.Bool = refl
 plain_sort ty.Null = refl

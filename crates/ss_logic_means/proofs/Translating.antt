@@ -34,12 +34,9 @@ use Rattle.ss_logic_means.proofs.States.{field_reads}
 use Rattle.ss_logic_means.proofs.Elements.{element_reads}
 use Rattle.ss_logic_means.proofs.Owners.{HasOwners}
 use Rattle.ss_logic_means.proofs.Typed as typed
-use Rattle.ss_logic_means.proofs.Operands.{where_some, where_bool, int_some, bool_some, reference_some, class_reference, int_or_bool, reference_or_bool, field_from, elements_from, element_reference, are_operands, operation_reads}
+use Rattle.ss_logic_means.proofs.Operands.{three_parts, where_some, where_bool, int_some, bool_some, reference_some, class_reference, int_or_bool, reference_or_bool, field_from, elements_from, element_reference, are_operands, operation_reads}
 use Rattle.ss_logic_means.proofs.Standing.{old_stands, more_stands, bound_stands, bound_good, range_fits, get_found, length_more}
 use Rattle.ss_logic_means.proofs.Asking.{word_read, owners_word_read, quantifier_read}
-
-three_parts : (a b c : Bool) → (a && b && c) ≡ true → (a ≡ true) × (b ≡ true) × (c ≡ true)
-three_parts a b c h = let p = and_parts (a && b) c h in let q = and_parts a b p.0 in (q.0, q.1, p.1)
 
 module _ (m : Structure) (now entry : Heap) where
   -- ---- what a scene gives

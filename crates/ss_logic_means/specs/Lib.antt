@@ -2,3 +2,4 @@ pub mod Means
 pub mod Scenes
 pub mod Sentences
 pub mod Sorts
+pub mod Bodies

@@ -1,23 +1,26 @@
 // What expressions mean, as formulas and terms over stores.
 
 ghost use Rattle.std.specs.Prelude.{◌≡◌, ℕ, List, [], ◌∷◌, ◌++◌, length, map, Bool, true, Some, is_some};
+ghost use Rattle.ss_core.specs.declared.names.Ty.{Ty};
 ghost use Rattle.ss_core.specs.Tree.{ClassTree, BodyTree, DefaultTree, ExprTree};
 ghost use Rattle.ss_core.specs.Chain.{IsChain, NoAlso};
 ghost use Rattle.ss_store_rules.specs.declared.Value.{Value as ObjectValue};
 ghost use Rattle.ss_store_rules.specs.Types.{type_of, Words, typed, is_condition};
 ghost use Rattle.ss_store_rules.specs.Locals.{local_types};
 ghost use Rattle.ss_store_rules.specs.Typed.{is_contract};
+ghost use Rattle.ss_store_rules.specs.Values.{Setting};
 ghost use Rattle.ss_store_rules.specs.Values as run;
-ghost use Rattle.ss_logic_stores.specs.Values.{Heap, Value, Structure};
+ghost use Rattle.ss_logic_stores.specs.Values.{Heap, Table, IsNumbered, Value, Structure};
 ghost use Rattle.ss_logic_stores.specs.Terms.{Term, sort_of_type, have_sorts};
-ghost use Rattle.ss_logic_stores.specs.Formulas.{Good, Formula, is_well_formed, True, IsValid, atom};
+ghost use Rattle.ss_logic_stores.specs.Formulas.{Good, Formula, is_well_formed, AreOf, True, IsValid, atom};
 ghost use Rattle.ss_logic_express.specs.Express.{One, Scene, choices, local_meant, subject, element_sort, meant, defined, default_said, holds_formula};
 ghost use Rattle.ss_logic_express.specs.Invariants.{packed_invariants, invariants_of};
 ghost use Rattle.ss_machine_typed.specs.Settings.{IsGoodSetting};
-ghost use Rattle.ss_logic_means.specs.Means.{Means, Reads};
+ghost use Rattle.ss_logic_means.specs.Means.{standing, Means, Reads};
 ghost use Rattle.ss_logic_means.specs.Scenes.{setting_of, Stands, HaveValues, IsStoreTerm, Stay, has_subject, has_no_default, is_stated, Settled, AreInvariants};
 ghost use Rattle.ss_logic_stores.specs.declared.Sort.{Sort};
 ghost use Rattle.ss_logic_stores.specs.declared.Sort.TheVariants as sort;
+ghost use Rattle.ss_logic_means.specs.Bodies.{body_scene, GivesFrom};
 ghost use Rattle.ss_logic_means.specs.Sorts.{IsWellExpressed, IsSorted};
 ghost use Rattle.ss_logic_means.specs.Sentences.{IsOfGood, AllFollowFromGood};
 
@@ -109,4 +112,29 @@ pub fn packed_invariants_are_well_formed()
 /// So is each instance of the rule on invariants.
 pub fn instances_on_invariants_are_well_formed()
     ensures { (cs : List ClassTree) → AreInvariants cs → (s : Term) (ts : List Term) (f : Formula) → invariants_of cs s ts ≡ Some f → is_well_formed cs [] f ≡ true }
+{}
+
+/// The scene of a body whose locals are constants meets what the laws on well formed formulas ask, between stores without bound names.
+pub fn scenes_of_bodies_are_sorted()
+    ensures { (cs : List ClassTree) (b : BodyTree) (now entry : Term) → have_sorts cs (sort.Store ∷ sort.Store ∷ []) (now ∷ entry ∷ []) ≡ true → IsSorted (body_scene cs b now entry) [] }
+{}
+
+/// It stands for those stores, and for the values that a structure gives the constants.
+pub fn scenes_of_bodies_stand()
+    ensures { (m : Structure) (cs : List ClassTree) (b : BodyTree) (now entry : Term) (current former : Heap) (locals : List ObjectValue) → IsStoreTerm cs m now current → IsStoreTerm cs m entry former → GivesFrom m 0 (local_types b) locals → Stands m (body_scene cs b now entry) current former locals [] }
+{}
+
+/// And its terms stay what they are behind more bound names.
+pub fn scenes_of_bodies_stay()
+    ensures { (m : Structure) (cs : List ClassTree) (b : BodyTree) (now entry : Term) (locals : List ObjectValue) → GivesFrom m 0 (local_types b) locals → (x : ℕ) → Stay cs m [] (choices (local_meant (body_scene cs b now entry) x)) }
+{}
+
+/// Whatever two stores and values of the locals' sorts are met in a run, some structure has these stores as its first two constants, and gives the constants of the locals these values.
+pub fn some_structure_gives_the_values()
+    ensures { (table : Table) (now entry : Heap) → IsNumbered now → IsNumbered entry → (locals : List ObjectValue) (types : List Ty) → AreOf (map sort_of_type types) (map standing locals) → (m : Structure) × (m.table ≡ table) × (m.stores 0 ≡ now) × (m.stores 1 ≡ entry) × GivesFrom m 0 types locals }
+{}
+
+/// Locals of a good setting have values of the sorts of their types.
+pub fn locals_have_the_sorts_of_their_types()
+    ensures { (s : Setting) (types : List Ty) (k : Bool) → IsGoodSetting s types k → AreOf (map sort_of_type types) (map standing s.locals) }
 {}

@@ -10,7 +10,9 @@ pub use laws::{
     conditions_are_well_formed, conditions_of_code_are_stated, contracts_are_stated,
     default_conditions_are_true_where_they_hold, default_conditions_are_well_formed,
     expressions_are_well_formed, expressions_mean_their_values,
-    instances_on_invariants_are_well_formed, packed_invariants_are_well_formed,
-    sentences_on_good_stores_may_be_premises, stated_expressions_are_well_formed,
+    instances_on_invariants_are_well_formed, locals_have_the_sorts_of_their_types,
+    packed_invariants_are_well_formed, scenes_of_bodies_are_sorted, scenes_of_bodies_stand,
+    scenes_of_bodies_stay, sentences_on_good_stores_may_be_premises,
+    some_structure_gives_the_values, stated_expressions_are_well_formed,
     typed_expressions_have_no_default,
 };
