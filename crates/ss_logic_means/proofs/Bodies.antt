@@ -4,26 +4,28 @@ use Rattle.std.specs.Prelude.{slice_get, unwrap_or, ◌+◌}
 use Rattle.std.proofs.lemmas.Bool.{false≢true, and_from}
 use Rattle.ss_core.specs.declared.names.Ty.{Ty}
 use Rattle.ss_core.specs.declared.names.Ty.TheVariants as ty
-use Rattle.ss_core.specs.Tree.{ClassTree, BodyTree}
+use Rattle.ss_core.specs.Tree.{ClassTree, BodyTree, ExprTree, DefaultExpr}
 use Rattle.ss_store_rules.specs.declared.Value.{Value as ObjectValue}
 use Rattle.ss_store_rules.specs.declared.Value.TheVariants as value
 use Rattle.ss_store_rules.specs.Store.{Object}
 use Rattle.ss_store_rules.specs.Good.{has_type}
 use Rattle.ss_store_rules.specs.Locals.{local_types}
 use Rattle.ss_store_rules.specs.Values.{Setting}
+use Rattle.ss_store_rules.specs.Values as run
 use Rattle.ss_logic_stores.specs.declared.Sort.TheVariants as sort
 use Rattle.ss_logic_stores.specs.Values.{Heap, Table, IsNumbered, Value, whole, truth, thing, as_whole, as_truth, as_thing, sort_of_value, Structure}
 use Rattle.ss_logic_stores.specs.Terms.{Term, sort_of_type, same_sort, have_sorts, constant_value}
-use Rattle.ss_logic_stores.specs.Formulas.{AreOf}
+use Rattle.ss_logic_stores.specs.Formulas.{is_well_formed, AreOf}
 use Rattle.ss_logic_stores.proofs.Truth.{same_sort_refl}
-use Rattle.ss_logic_express.specs.Express.{choices, local_meant}
+use Rattle.ss_logic_express.specs.Express.{choices, Scene, local_meant, subject, holds_formula}
 use Rattle.ss_machine_typed.specs.Settings.{IsGoodSetting}
-use Rattle.ss_logic_means.specs.Means.{standing}
-use Rattle.ss_logic_means.specs.Scenes.{HaveValues, IsStoreTerm, Stands, Stay}
+use Rattle.ss_logic_means.specs.Means.{standing, Means}
+use Rattle.ss_logic_means.specs.Scenes.{setting_of, HaveValues, IsStoreTerm, Stands, Stay, is_stated, Settled}
 use Rattle.ss_logic_means.specs.Sorts.{IsSorted}
 use Rattle.ss_logic_means.specs.Bodies.{constants_from, body_scene, GivesFrom}
 use Rattle.ss_logic_means.proofs.Closed.{closed_stands, closed_stay}
-use Rattle.ss_logic_means.proofs.Stated.{closed_sorted}
+use Rattle.ss_logic_means.proofs.Contracts.{stated_means}
+use Rattle.ss_logic_means.proofs.Stated.{closed_sorted, condition_formed}
 
 -- ---- sorts
 
@@ -121,3 +123,20 @@ module _ (table : Table) (now entry : Heap) (numbered : IsNumbered now) (before 
 
   pub some_structure : (tys : List Ty) → AreOf (map sort_of_type tys) (map standing locals) → (m : Structure) × (m.table ≡ table) × (m.stores 0 ≡ now) × (m.stores 1 ≡ entry) × GivesFrom m 0 tys locals
   some_structure tys sorts = (Made, refl, refl, refl, gives 0 tys locals (λ i v is. subst (λ j. slice_get locals j ≡ Some v) (sym (number_self i)) is) sorts)
+
+-- ---- conditions of a body
+
+pub body_formed : (cs : List ClassTree) (b : BodyTree) (x : ExprTree) → is_stated cs (local_types b) x ≡ true → (now entry : Term) → have_sorts cs (sort.Store ∷ sort.Store ∷ []) (now ∷ entry ∷ []) ≡ true →
+    is_well_formed cs [] (holds_formula x (body_scene cs b now entry)) ≡ true
+body_formed cs b x is now entry h = condition_formed (body_scene cs b now entry) [] (body_sorted cs b now entry h) refl x is
+
+settled : (m : Structure) (c : Scene) → ((x : ℕ) → Stay c.classes m [] (choices (local_meant c x))) → (x : ExprTree) → Settled m [] c x
+settled m c stay (DefaultExpr p d) = stay (subject d)
+settled m c stay x = tt
+
+pub body_means : (cs : List ClassTree) (b : BodyTree) (x : ExprTree) → is_stated cs (local_types b) x ≡ true → (m : Structure) (now entry : Term) (current former : Heap) (locals : List ObjectValue) (k : Bool) →
+    IsGoodSetting (setting_of m (body_scene cs b now entry) current former locals) (local_types b) k → IsStoreTerm cs m now current → IsStoreTerm cs m entry former → GivesFrom m 0 (local_types b) locals →
+    Means cs m [] (holds_formula x (body_scene cs b now entry)) (run.holds x (setting_of m (body_scene cs b now entry) current former locals))
+body_means cs b x is m now entry current former locals k good n e given =
+    stated_means m current former x (body_scene cs b now entry) locals k good [] (body_stands m cs b now entry current former locals n e given) refl is
+    (settled m (body_scene cs b now entry) (body_stays m cs b now entry locals given) x)

@@ -138,3 +138,13 @@ pub fn some_structure_gives_the_values()
 pub fn locals_have_the_sorts_of_their_types()
     ensures { (s : Setting) (types : List Ty) (k : Bool) → IsGoodSetting s types k → AreOf (map sort_of_type types) (map standing s.locals) }
 {}
+
+/// So each condition of a contract of a body, or of its code, is a well formed formula in the scene of the body.
+pub fn conditions_of_bodies_are_well_formed()
+    ensures { (cs : List ClassTree) (b : BodyTree) (x : ExprTree) → is_stated cs (local_types b) x ≡ true → (now entry : Term) → have_sorts cs (sort.Store ∷ sort.Store ∷ []) (now ∷ entry ∷ []) ≡ true → is_well_formed cs [] (holds_formula x (body_scene cs b now entry)) ≡ true }
+{}
+
+/// And it is true exactly where the condition holds, for the values that a structure gives the constants of the locals.
+pub fn conditions_of_bodies_are_true_where_they_hold()
+    ensures { (cs : List ClassTree) (b : BodyTree) (x : ExprTree) → is_stated cs (local_types b) x ≡ true → (m : Structure) (now entry : Term) (current former : Heap) (locals : List ObjectValue) (k : Bool) → IsGoodSetting (setting_of m (body_scene cs b now entry) current former locals) (local_types b) k → IsStoreTerm cs m now current → IsStoreTerm cs m entry former → GivesFrom m 0 (local_types b) locals → Means cs m [] (holds_formula x (body_scene cs b now entry)) (run.holds x (setting_of m (body_scene cs b now entry) current former locals)) }
+{}

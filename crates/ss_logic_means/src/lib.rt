@@ -7,7 +7,8 @@ mod laws;
 pub use laws::{
     a_good_store_meets_every_sentence, a_good_store_meets_its_invariants, closed_terms_are_sorted,
     closed_terms_stand, closed_terms_stay, conditions_are_true_where_they_hold,
-    conditions_are_well_formed, conditions_of_code_are_stated, contracts_are_stated,
+    conditions_are_well_formed, conditions_of_bodies_are_true_where_they_hold,
+    conditions_of_bodies_are_well_formed, conditions_of_code_are_stated, contracts_are_stated,
     default_conditions_are_true_where_they_hold, default_conditions_are_well_formed,
     expressions_are_well_formed, expressions_mean_their_values,
     instances_on_invariants_are_well_formed, locals_have_the_sorts_of_their_types,
