@@ -129,7 +129,7 @@ pub fn scenes_of_bodies_stay()
     ensures { (m : Structure) (cs : List ClassTree) (b : BodyTree) (now entry : Term) (locals : List ObjectValue) → GivesFrom m 0 (local_types b) locals → (x : ℕ) → Stay cs m [] (choices (local_meant (body_scene cs b now entry) x)) }
 {}
 
-/// Whatever two stores and values of the locals' sorts are met in a run, some structure has these stores as its first two constants, and gives the constants of the locals these values.
+/// For two stores whose groups are numbered, and values of the sorts of these types, some structure has the stores as its first two constants, and gives the constants of the types these values.
 pub fn some_structure_gives_the_values()
     ensures { (table : Table) (now entry : Heap) → IsNumbered now → IsNumbered entry → (locals : List ObjectValue) (types : List Ty) → AreOf (map sort_of_type types) (map standing locals) → (m : Structure) × (m.table ≡ table) × (m.stores 0 ≡ now) × (m.stores 1 ≡ entry) × GivesFrom m 0 types locals }
 {}
