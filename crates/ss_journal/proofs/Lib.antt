@@ -1,2 +1,4 @@
 pub mod Undo
 pub mod Marks
+pub mod Links
+pub mod Running

@@ -121,7 +121,7 @@ ends (b ∷ before) h =
     ap (λ i. take i (b ∷ (before ++ h ∷ []))) n ∙ ap (λ r. b ∷ r) (ends before h)
 
 -- all but the last, where the part from m on is known
-behind_split : {X : Type 0} (m : ℕ) (hs before : List X) (h : X) → m ≤ length hs → drop m hs ≡ before ++ h ∷ [] → (hs ≡ take (length hs - 1) hs ++ h ∷ []) × (drop m (take (length hs - 1) hs) ≡ before) × (m ≤ length (take (length hs - 1) hs))
+pub behind_split : {X : Type 0} (m : ℕ) (hs before : List X) (h : X) → m ≤ length hs → drop m hs ≡ before ++ h ∷ [] → (hs ≡ take (length hs - 1) hs ++ h ∷ []) × (drop m (take (length hs - 1) hs) ≡ before) × (m ≤ length (take (length hs - 1) hs))
 behind_split zero hs before h l e =
     let t : take (length hs - 1) hs ≡ before = ap (λ xs. take (length xs - 1) xs) e ∙ ends before h in
     (e ∙ ap (λ b. b ++ h ∷ []) (sym t), t, omega arith)

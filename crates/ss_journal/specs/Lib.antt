@@ -2,3 +2,4 @@ pub mod Shapes
 pub mod Undo
 pub mod Marks
 pub mod Saved
+pub mod Places

@@ -1,6 +1,6 @@
 // What objects were.
-ghost use Rattle.std.specs.Prelude.{◌≡◌, ◌||◌, not, nat_lt, is_some, option_copied};
-ghost use Rattle.ss_journal.specs.Undo.{header_of, content_of};
+ghost use Rattle.std.specs.Prelude.{◌≡◌, option_copied};
+ghost use Rattle.ss_journal.specs.Places.{at_place};
 
 use ss_core::ClassId;
 use ss_store::Slot;
@@ -34,40 +34,22 @@ impl Model for OldContent {
     ghost view = { λ c. record { position = c.position; fields = c.fields.items; elements = c.elements.items } };
 }
 
-/// The first of these that is of the object.
-pub(crate) fn first_header(headers: &[OldHeader], q: u32) -> Option<OldHeader>
-    ensures { result ≡ header_of headers.now q }
+/// The entry at this place.
+pub(crate) fn header_at(headers: &[OldHeader], place: Option<usize>) -> Option<OldHeader>
+    ensures { result ≡ at_place headers.now place }
 {
-    for header in headers {
-        if q == header.position {
-            return Some(*header);
-        }
+    match place {
+        Some(place) => headers.get(place).copied(),
+        None => None,
     }
-    None
 }
 
-/// The first of these that is of the object.
-pub(crate) fn first_content(contents: &[OldContent], q: u32) -> Option<&OldContent>
-    ensures { option_copied result ≡ content_of contents.now q }
+/// The entry at this place.
+pub(crate) fn content_at(contents: &[OldContent], place: Option<usize>) -> Option<&OldContent>
+    ensures { option_copied result ≡ at_place contents.now place }
 {
-    for content in contents {
-        if q == content.position {
-            return Some(content);
-        }
+    match place {
+        Some(place) => contents.get(place),
+        None => None,
     }
-    None
-}
-
-/// Whether the object is new, where there were so many, or one of these is of it.
-pub(crate) fn has_header(headers: &[OldHeader], count: usize, q: u32) -> bool
-    ensures { result ≡ (not (nat_lt q count) || is_some (header_of headers.now q)) }
-{
-    q as usize >= count || first_header(headers, q).is_some()
-}
-
-/// Whether the object is new, where there were so many, or one of these is of it.
-pub(crate) fn has_content(contents: &[OldContent], count: usize, q: u32) -> bool
-    ensures { result ≡ (not (nat_lt q count) || is_some (content_of contents.now q)) }
-{
-    q as usize >= count || first_content(contents, q).is_some()
 }

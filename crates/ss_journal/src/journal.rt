@@ -1,9 +1,13 @@
 // The log.
-ghost use Rattle.std.specs.Prelude.{◌≡◌, ◌∷◌, [], option_copied, OnOk, OnErr};
+ghost use Rattle.std.specs.Prelude.{◌≡◌, ◌++◌, ◌∷◌, [], List, is_some, option_copied, OnOk, OnErr};
+ghost use Rattle.ss_journal.specs.Shapes as shape;
 ghost use Rattle.ss_journal.specs.Undo.{count_of, headers_of, contents_of, header_of, content_of, joined, with_old_header, with_old_content};
+ghost use Rattle.ss_journal.specs.Places.{place_of};
+ghost use Rattle.ss_journal.specs.Marks.{header_positions, content_positions};
 ghost use Rattle.ss_journal.specs.Saved.{AreSame};
 
-use crate::changes::{OldContent, OldHeader, first_content, first_header, has_content, has_header};
+use crate::changes::{OldContent, OldHeader, content_at, header_at};
+use crate::places::Places;
 use std::alloc::{AllocError, Global};
 use std::marker::Model;
 
@@ -23,18 +27,20 @@ pub struct Journal {
     marks: Vec<Mark>,
     headers: Vec<OldHeader>,
     contents: Vec<OldContent>,
+    header_places: Places,
+    content_places: Places,
 }
 
 impl Model for Journal {
-    ghost use Rattle.std.specs.Prelude.{List, length, reverse};
+    ghost use Rattle.std.specs.Prelude.{List, reverse};
     ghost use Rattle.ss_journal.specs.Shapes.{Segment};
-    ghost use Rattle.ss_journal.specs.Marks.{segments, AreWithin};
+    ghost use Rattle.ss_journal.specs.Marks.{segments, IsLog};
 
     ghost Value = { List Segment };
 
     ghost view = { λ j. segments (reverse j.marks.items) j.headers.items j.contents.items };
 
-    ghost invariant = { λ j. AreWithin (reverse j.marks.items) (length j.headers.items) (length j.contents.items) };
+    ghost invariant = { λ j. IsLog (reverse j.marks.items) j.headers.items j.contents.items j.header_places j.content_places };
 }
 
 impl Journal {
@@ -46,6 +52,8 @@ impl Journal {
             marks: Vec::new(alloc),
             headers: Vec::new(alloc),
             contents: Vec::new(alloc),
+            header_places: Places::new(alloc),
+            content_places: Places::new(alloc),
         }
     }
 
@@ -99,60 +107,130 @@ impl Journal {
         }
     }
 
+    /// Where the first of the object's entries is among the running body's.
+    fn header_place(&self, q: u32) -> Option<usize>
+        ensures { result ≡ place_of (header_positions (headers_of self.now)) q }
+    {
+        match self.marks.last() {
+            Some(mark) => self.header_places.first(mark.headers, q),
+            None => None,
+        }
+    }
+
     /// What the object was at the entry of the running body, where that was logged.
     pub fn old_header(&self, q: u32) -> Option<OldHeader>
         ensures { result ≡ header_of (headers_of self.now) q }
     {
-        first_header(self.headers(), q)
+        header_at(self.headers(), self.header_place(q))
+    }
+
+    /// Where the first of the object's entries is among the running body's.
+    fn content_place(&self, q: u32) -> Option<usize>
+        ensures { result ≡ place_of (content_positions (contents_of self.now)) q }
+    {
+        match self.marks.last() {
+            Some(mark) => self.content_places.first(mark.contents, q),
+            None => None,
+        }
     }
 
     /// What the object had at the entry of the running body, where that was logged.
     pub fn old_content(&self, q: u32) -> Option<&OldContent>
         ensures { option_copied result ≡ content_of (contents_of self.now) q }
     {
-        first_content(self.contents(), q)
+        content_at(self.contents(), self.content_place(q))
+    }
+
+    /// Whether the object has an entry of the running body's.
+    pub(crate) fn is_header_logged(&self, q: u32) -> bool
+        ensures { result ≡ is_some (header_of (headers_of self.now) q) }
+    {
+        match self.marks.last() {
+            Some(mark) => self.header_places.has(mark.headers, q),
+            None => false,
+        }
     }
 
     pub(crate) fn log_header(&mut self, old: OldHeader) -> Result<(), AllocError>
         ensures logged { OnOk result (self.new ≡ with_old_header old self.old) }
         ensures kept { OnErr result (self.new ≡ self.old) }
     {
-        self.headers.push(old)?;
+        self.header_places.push(old.position)?;
+        if let Err(error) = self.headers.push(old) {
+            self.header_places.pop();
+            return Err(error.into());
+        }
         Ok(())
+    }
+
+    /// Whether the object has an entry of the running body's.
+    pub(crate) fn is_content_logged(&self, q: u32) -> bool
+        ensures { result ≡ is_some (content_of (contents_of self.now) q) }
+    {
+        match self.marks.last() {
+            Some(mark) => self.content_places.has(mark.contents, q),
+            None => false,
+        }
     }
 
     pub(crate) fn log_content(&mut self, old: OldContent) -> Result<(), AllocError>
         ensures logged { OnOk result (self.new ≡ with_old_content old self.old) }
         ensures kept { OnErr result (self.new ≡ self.old) }
     {
-        self.contents.push(old)?;
+        self.content_places.push(old.position)?;
+        if let Err(error) = self.contents.push(old) {
+            self.content_places.pop();
+            return Err(error.into());
+        }
         Ok(())
+    }
+
+    /// Whether the object of the running body's last entry has an earlier one.
+    fn repeats_header(&self) -> bool
+        ensures { (before : List OldHeader) (last : OldHeader) → headers_of self.now ≡ before ++ last ∷ [] → result ≡ is_some (header_of before last.position) }
+    {
+        match self.marks.last() {
+            Some(mark) => self.header_places.repeats(mark.headers),
+            None => false,
+        }
     }
 
     /// The last entry of the running body's goes, where its object is new since the entry, or an earlier entry has it.
     fn drop_header(&mut self) -> bool
         ensures { AreSame self.old self.new }
     {
-        let Some((last, before)) = self.headers().split_last() else {
+        let Some(last) = self.headers().last() else {
             return false;
         };
-        if !has_header(before, self.count(), last.position) {
+        if (last.position as usize) < self.count() && !self.repeats_header() {
             return false;
         }
         let _ = self.headers.pop();
+        self.header_places.pop();
         true
+    }
+
+    /// Whether the object of the running body's last entry has an earlier one.
+    fn repeats_content(&self) -> bool
+        ensures { (before : List shape.OldContent) (last : shape.OldContent) → contents_of self.now ≡ before ++ last ∷ [] → result ≡ is_some (content_of before last.position) }
+    {
+        match self.marks.last() {
+            Some(mark) => self.content_places.repeats(mark.contents),
+            None => false,
+        }
     }
 
     fn drop_content(&mut self) -> bool
         ensures { AreSame self.old self.new }
     {
-        let Some((last, before)) = self.contents().split_last() else {
+        let Some(last) = self.contents().last() else {
             return false;
         };
-        if !has_content(before, self.count(), last.position) {
+        if (last.position as usize) < self.count() && !self.repeats_content() {
             return false;
         }
         let _ = self.contents.pop();
+        self.content_places.pop();
         true
     }
 

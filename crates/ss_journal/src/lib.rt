@@ -3,6 +3,7 @@
 
 mod changes;
 mod journal;
+mod places;
 mod saving;
 
 pub use changes::{OldContent, OldHeader};

@@ -29,7 +29,7 @@ impl Journal {
         ensures more { HasMore store.now.objects self.old self.new }
         ensures saved { OnOk result (has_header self.new q ≡ true) }
     {
-        if q as usize >= self.count() || self.old_header(q).is_some() {
+        if q as usize >= self.count() || self.is_header_logged(q) {
             return Ok(());
         }
         self.log_header(header_at(store, q))
@@ -40,7 +40,7 @@ impl Journal {
         ensures more { HasMore store.now.objects self.old self.new }
         ensures saved { OnOk result (has_content self.new q ≡ true) }
     {
-        if q as usize >= self.count() || self.old_content(q).is_some() {
+        if q as usize >= self.count() || self.is_content_logged(q) {
             return Ok(());
         }
         let fields = store.copy_fields(q)?;

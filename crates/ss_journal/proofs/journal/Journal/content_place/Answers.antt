@@ -1,0 +1,9 @@
+use Rattle.std.proofs.Common.{ap, ◌∙◌}
+use Rattle.ss_journal.specs.Places.{place_of}
+use Rattle.ss_journal.proofs.Running.{content_places}
+use Rattle.ss_journal.proofs.journal.Journal.content_place.Goals as goal
+
+pub returns-in-Some : goal.returns-in-Some
+returns-in-Some c =
+    let j = c.self.inside in
+    c.first.ensures ∙ ap (λ ps. place_of ps c.args.q) (content_places j.marks.items c.deref.result.now j.headers.items j.contents.items j.header_places j.content_places c.args.self.now c.in-Some.mark.now c.self.invariant c.deref.ensures.value c.in-Some.ensures.value c.self.view_is)
