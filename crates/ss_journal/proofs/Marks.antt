@@ -1,11 +1,11 @@
 -- The log by its marks.
-use Rattle.std.proofs.Common.{◌≡◌, ℕ, zero, suc, ◌+◌, ◌-◌, ◌<◌, ◌≤◌, List, [], ◌∷◌, ◌++◌, length, take, drop, Bool, true, not, ◌||◌, reverse, get_or, Option, Some, None, refl, sym, ◌∙◌, ap, subst, arith}
+use Rattle.std.proofs.Common.{◌≡◌, ℕ, zero, suc, ◌+◌, ◌-◌, ◌<◌, ◌≤◌, List, [], ◌∷◌, ◌++◌, length, take, drop, true, not, ◌||◌, reverse, get_or, Some, None, refl, sym, ◌∙◌, ap, subst, arith}
 use Rattle.std.specs.Prelude.{slice_get, nat_lt, is_some}
 use Rattle.std.proofs.lemmas.List.{take_more, take_all, drop_all, drop-append-le, take-append-le, reverse-append, length-append}
 use Rattle.std.proofs.lemmas.Option.{slice_get-get_or}
 use Rattle.ss_journal.specs.declared.changes.OldHeader.{OldHeader}
 use Rattle.ss_journal.specs.declared.journal.Mark.{Mark}
-use Rattle.ss_journal.specs.Shapes.{OldContent, Segment}
+use Rattle.ss_journal.specs.Shapes.{OldContent}
 use Rattle.ss_journal.specs.Undo.{header_of, content_of, count_of, headers_of, contents_of, joined, with_old_header, with_old_content}
 use Rattle.ss_journal.specs.Marks.{segments, AreWithin}
 use Rattle.ss_journal.specs.Saved.{AreSame}

@@ -1,5 +1,5 @@
 -- What was logged takes changes back.
-use Rattle.std.proofs.Common.{◌≡◌, ℕ, zero, suc, ◌+◌, ◌<◌, ◌≤◌, List, [], ◌∷◌, ◌++◌, length, take, Bool, true, false, not, ◌||◌, Option, Some, None, Result, Ok, Err, OnOk, OnErr, refl, sym, ◌∙◌, ap, subst, arith, inl, inr, ◌⊎◌, ⊎_elim}
+use Rattle.std.proofs.Common.{◌≡◌, ℕ, zero, suc, ◌+◌, ◌<◌, ◌≤◌, List, [], ◌∷◌, ◌++◌, length, take, Bool, true, false, not, ◌||◌, Option, Some, None, Result, Ok, Err, OnOk, OnErr, refl, sym, ◌∙◌, ap, subst, arith, ◌⊎◌, ⊎_elim}
 use Rattle.std.specs.Prelude.{◌==◌, if◌then◌else◌, nat_lt, is_some, slice_get, unwrap_or}
 use Rattle.std.specs.Option.{option_or}
 use Rattle.std.proofs.lemmas.Bool.{eq-eqb, eqb-true, lt-ltb, ltb-true}
@@ -11,7 +11,7 @@ use Rattle.ss_store_rules.specs.Changes.{changed_from, changed}
 use Rattle.ss_journal.specs.declared.changes.OldHeader.{OldHeader}
 use Rattle.ss_journal.specs.Shapes.{OldContent, Segment}
 use Rattle.ss_journal.specs.Undo.{header_of, content_of, with_header, with_content, IsHeaderOf, IsContentOf, restored, store_at, entries_of, joined, with_old_header, with_old_content}
-use Rattle.ss_journal.specs.Saved.{has_header, has_content, counts, HasMore, AreSame}
+use Rattle.ss_journal.specs.Saved.{has_header, has_content, HasMore, AreSame}
 
 -- ---- stores object by object
 

@@ -35,7 +35,7 @@ impl Model for OldContent {
 }
 
 /// The entry at this place.
-pub(crate) fn header_at(headers: &[OldHeader], place: Option<usize>) -> Option<OldHeader>
+pub(crate) fn nth_header(headers: &[OldHeader], place: Option<usize>) -> Option<OldHeader>
     ensures { result ≡ at_place headers.now place }
 {
     match place {
@@ -45,7 +45,7 @@ pub(crate) fn header_at(headers: &[OldHeader], place: Option<usize>) -> Option<O
 }
 
 /// The entry at this place.
-pub(crate) fn content_at(contents: &[OldContent], place: Option<usize>) -> Option<&OldContent>
+pub(crate) fn nth_content(contents: &[OldContent], place: Option<usize>) -> Option<&OldContent>
     ensures { option_copied result ≡ at_place contents.now place }
 {
     match place {

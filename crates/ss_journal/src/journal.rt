@@ -6,7 +6,7 @@ ghost use Rattle.ss_journal.specs.Places.{place_of};
 ghost use Rattle.ss_journal.specs.Marks.{header_positions, content_positions};
 ghost use Rattle.ss_journal.specs.Saved.{AreSame};
 
-use crate::changes::{OldContent, OldHeader, content_at, header_at};
+use crate::changes::{OldContent, OldHeader, nth_content, nth_header};
 use crate::places::Places;
 use std::alloc::{AllocError, Global};
 use std::marker::Model;
@@ -121,7 +121,7 @@ impl Journal {
     pub fn old_header(&self, q: u32) -> Option<OldHeader>
         ensures { result ≡ header_of (headers_of self.now) q }
     {
-        header_at(self.headers(), self.header_place(q))
+        nth_header(self.headers(), self.header_place(q))
     }
 
     /// Where the first of the object's entries is among the running body's.
@@ -138,7 +138,7 @@ impl Journal {
     pub fn old_content(&self, q: u32) -> Option<&OldContent>
         ensures { option_copied result ≡ content_of (contents_of self.now) q }
     {
-        content_at(self.contents(), self.content_place(q))
+        nth_content(self.contents(), self.content_place(q))
     }
 
     /// Whether the object has an entry of the running body's.

@@ -6,7 +6,7 @@ use Rattle.ss_journal.proofs.journal.Journal.old_header.Goals as goal
 
 pub returns : goal.returns
 returns c =
-    c.header_at.ensures
+    c.nth_header.ensures
     ∙ ap (λ xs. at_place xs c.header_place.result) c.headers.ensures
     ∙ ap (at_place (headers_of c.args.self.now)) c.header_place.ensures
     ∙ header_at_place (headers_of c.args.self.now) c.args.q
