@@ -273,6 +273,10 @@ under f parts = map (λ p. or_of (neg f ∷ p ∷ [])) parts
 abbrev pub not_zero : Meant → Formula
 not_zero m = over m (λ y. differ y (number (pos 0)))
 
+-- the array has an element at the index
+abbrev pub index_fits : Meant → Meant → Formula
+index_fits a i = over_two a i (λ x y. and_of (at_most (number (pos 0)) y ∷ less y (app term.Length (x ∷ [])) ∷ []))
+
 abbrev pub operation_parts : Operator → Meant → Meant → List Formula → List Formula → List Formula
 operation_parts op.And a b ps qs = ps ++ under (said a) qs
 operation_parts op.Or a b ps qs = ps ++ under (neg (said a)) qs
@@ -293,9 +297,7 @@ defined (BoolExpr p b) c = []
 defined (NullExpr p) c = []
 defined (LocalExpr p x) c = []
 defined (FieldExpr p e f) c = defined e c ++ readable c (meant e c)
-defined (ElementExpr p a i) c =
-    defined a c ++ defined i c ++ readable c (meant a c)
-    ++ over (meant i c) (λ x. at_most (number (pos 0)) x) ∷ over_two (meant a c) (meant i c) (λ x y. less y (app term.Length (x ∷ []))) ∷ []
+defined (ElementExpr p a i) c = defined a c ++ defined i c ++ readable c (meant a c) ++ index_fits (meant a c) (meant i c) ∷ []
 defined (LengthExpr p e) c = defined e c ++ not_null (meant e c) ∷ []
 defined (NegateExpr p e) c = defined e c ++ over (meant e c) (λ x. fits_int (app term.Subtract (number (pos 0) ∷ x ∷ []))) ∷ []
 defined (NotExpr p e) c = defined e c

@@ -1,0 +1,2 @@
+//! Definitions: the obligations of a core program over stores, for each body built from the front.
+#![tactic(auto)]
