@@ -1,5 +1,5 @@
 -- Contracts as formulas: of a body, at its entry and where it is left, and as its callers see it.
-use Rattle.std.specs.Prelude.{ℕ, List, [], ◌∷◌, ◌++◌, map, flat_map, length, drop, Bool, true, false, not, ◌&&◌, ◌==◌, Option, Some, None, option_map, if◌then◌else◌}
+use Rattle.std.specs.Prelude.{ℕ, List, [], ◌∷◌, ◌++◌, map, flat_map, length, drop, Bool, true, false, not, ◌&&◌, ◌==◌, Option, Some, None, option_map, option_to_list, if◌then◌else◌}
 use Rattle.ss_core.specs.declared.names.Ty.{Ty}
 use Rattle.ss_core.specs.declared.names.Ty.TheVariants as ty
 use Rattle.ss_core.specs.Tree.{ClassTree, DefaultTree, AtLevel, ConsistentArgument, ExprTree, DefaultExpr, CalleeTree, Dispatched, Static, Base, BaseConstructor, LocalTree, NamedTree, FieldOf, AllOf, ElementsOf, UptoOf, BodyTree, CoreTree}
@@ -42,6 +42,10 @@ contract_scene cs b now entry arguments result = record {
   locals = arguments ++ map (λ l. One null_term) b.locals ++ result;
   bound = 0;
 }
+
+-- the result before there is one, which no condition reads
+abbrev pub no_result : BodyTree → List Meant
+no_result b = map (λ t. One null_term) (option_to_list b.result)
 
 abbrev pub conditions : List ExprTree → Scene → List Formula
 conditions es c = map (λ e. holds_formula e c) es
@@ -88,7 +92,7 @@ owned_terms cs b c = if b.flags.ctor then flat_map (pairs_of cs b.class) (term_o
 -- What a body may change between its entry and a later store, where its arguments mean this.
 abbrev pub frame_terms : List ClassTree → BodyTree → Term → Term → List Meant → List Term → CallTerms
 frame_terms cs b before after arguments outside =
-    let c = record (contract_scene cs b before before arguments []) { inside_old = true } in
+    let c = record (contract_scene cs b before before arguments (no_result b)) { inside_old = true } in
     record {
       before = before;
       after = after;

@@ -26,7 +26,7 @@ use Rattle.ss_logic_express.specs.Invariants.{invariant_scene}
 use Rattle.ss_logic_frames.specs.Frames.{kept, grown}
 use Rattle.ss_vcgen_heaps.specs.Parts.{parts}
 use Rattle.ss_vcgen_heaps.specs.Positions.{Obligation, Guard, Always, When, Never, Counters, Position, Walk, good, assume, assume_all, check, check_all, check_unless, new_term, with_new, set_local, set_store, with_store, ended, meant_of, local_term, site, scene_at, meant_at, evaluate, evaluate_all, holds_at, define, with_term, term_for, settled, meant_settled, first_side, second_side, join, if_reached}
-use Rattle.ss_vcgen_heaps.specs.Contracts.{is_of_type, contract_scene, conditions, frame_terms, called}
+use Rattle.ss_vcgen_heaps.specs.Contracts.{is_of_type, contract_scene, no_result, conditions, frame_terms, called}
 
 -- ---- names for parts of a walk
 
@@ -132,7 +132,7 @@ arguments_settled w (e ∷ es) k =
 -- the conditions at entry
 abbrev pub check_entry : Walk → Place → BodyTree → List Meant → Position → Position
 check_entry w at callee arguments k =
-    check_all w kind.Precondition at (conditions callee.entry (contract_scene (classes_of w) callee k.store k.store arguments [])) k
+    check_all w kind.Precondition at (conditions callee.entry (contract_scene (classes_of w) callee k.store k.store arguments (no_result callee))) k
 
 -- a result is a new constant
 abbrev pub result_term : Option Ty → Position → List Term
@@ -404,7 +404,7 @@ abbrev pub at_entry : Walk → Counters → Position
 at_entry w next =
     let entered = enter_arguments (argument_types w.body) (first_position w.body next) in
     let k = record entered { locals = entered.locals ++ map (λ l. None) w.body.locals ++ (if is_some w.body.result then None ∷ [] else []) } in
-    assume_all (good k.store ∷ types_from w k.store 0 (argument_types w.body) k.locals k.locals ++ conditions w.body.entry (contract_scene (classes_of w) w.body k.store k.store (arguments_at w k) [])) k
+    assume_all (good k.store ∷ types_from w k.store 0 (argument_types w.body) k.locals k.locals ++ conditions w.body.entry (contract_scene (classes_of w) w.body k.store k.store (arguments_at w k) (no_result w.body))) k
 
 -- behind the code of a body
 abbrev pub at_end : Walk → Counters → Position
