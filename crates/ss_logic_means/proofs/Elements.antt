@@ -1,5 +1,5 @@
 -- Elements: what is read of an array at an index within its length.
-use Rattle.std.proofs.Common.{◌≡◌, ℕ, zero, suc, ◌+◌, ◌-◌, ◌<◌, ℤ, pos, negsuc, List, [], ◌∷◌, ◌++◌, length, Bool, true, false, Some, Ok, Err, refl, sym, ◌∙◌, ap, subst, append_assoc, eqb, arith}
+use Rattle.std.proofs.Common.{◌≡◌, ℕ, zero, suc, ◌+◌, ◌-◌, ◌<◌, ℤ, pos, negsuc, List, [], ◌∷◌, ◌++◌, length, Bool, true, false, ◌&&◌, Some, Ok, Err, refl, sym, ◌∙◌, ap, subst, append_assoc, eqb, arith}
 use Rattle.std.specs.Prelude.{nat_lt, int_le, int_lt, unwrap_or, slice_get, if◌then◌else◌}
 use Rattle.std.proofs.lemmas.Bool.{false≢true, ltb-true, le-leb}
 use Rattle.ss_core.specs.declared.names.Place.{Place}
@@ -22,9 +22,9 @@ use Rattle.ss_logic_stores.specs.Terms as term
 use Rattle.ss_logic_stores.specs.Formulas.{Formula}
 use Rattle.ss_logic_stores.specs.Objects.{content, elements_from, element_count, object_in, objects_of}
 use Rattle.ss_logic_rules.specs.Shapes.{number, at_most}
-use Rattle.ss_logic_express.specs.Express.{Meant, over, over_two, paired, less}
+use Rattle.ss_logic_express.specs.Express.{and_of, Meant, paired, less, index_fits}
 use Rattle.ss_logic_means.specs.Means.{standing}
-use Rattle.ss_logic_means.proofs.Denoting.{V, M, D, R, over_means, over_two_means, paired_denotes, reads_append}
+use Rattle.ss_logic_means.proofs.Denoting.{V, M, D, R, and_means, over_two_means, paired_denotes}
 use Rattle.ss_logic_means.proofs.Operations.{IsWhole, Gives, at_most_means, less_means, whole_denotes}
 use Rattle.ss_logic_means.proofs.Arithmetic.{where_true, three_read}
 use Rattle.ss_logic_means.proofs.Classes.{IsReferenceOf, object_known}
@@ -113,22 +113,19 @@ module _ (cs : List ClassTree) (m : Structure) (e : List Value) (now entry : Hea
   abbrev pub element_value : Bool → Place → ObjectValue → ℤ → Outcome
   element_value old p u i = run.and_then (readable cs m e now entry s0 is_entry old p u) (element_or old p i)
 
-  abbrev pub is_from_zero : Meant → Formula
-  is_from_zero y = over y (λ t. at_most (number (pos 0)) t)
-
-  abbrev pub is_below_length : Meant → Meant → Formula
-  is_below_length x y = over_two x y (λ t i. less i (app term.Length (t ∷ [])))
-
   abbrev pub element_meant : Bool → Sort → Meant → Meant → Meant
   element_meant old r x y = paired (λ t i. app (term.Element r) ((if old then s0 else s) ∷ t ∷ i ∷ [])) x y
 
-  from_zero_means : (y : Meant) (i : ℤ) → D cs m e y (whole i) → M cs m e (is_from_zero y) (int_le (pos 0) i)
-  from_zero_means y i d = over_means cs m e y (λ t. at_most (number (pos 0)) t) (whole i) (int_le (pos 0) i) d (λ t q. at_most_means cs m e (number (pos 0)) t (pos 0) i refl q)
+  -- an index is at least zero and below the length
+  abbrev is_within : ℕ → ℤ → Bool
+  is_within o i = int_le (pos 0) i && int_lt i (pos (m.table.length_of (reference o)))
 
-  below_length_means : (x y : Meant) (o : ℕ) (i : ℤ) → D cs m e x (thing (reference o)) → D cs m e y (whole i) → M cs m e (is_below_length x y) (int_lt i (pos (m.table.length_of (reference o))))
-  below_length_means x y o i d k =
-      over_two_means cs m e x y (λ t j. less j (app term.Length (t ∷ []))) (thing (reference o)) (whole i) (int_lt i (pos (m.table.length_of (reference o)))) d k (λ t j p q.
-      less_means cs m e j (app term.Length (t ∷ [])) i (pos (m.table.length_of (reference o))) q (ap (λ v. whole (pos (m.table.length_of (as_thing v)))) p))
+  index_means : (x y : Meant) (o : ℕ) (i : ℤ) → D cs m e x (thing (reference o)) → D cs m e y (whole i) → M cs m e (index_fits x y) (is_within o i)
+  index_means x y o i d k =
+      let size = pos (m.table.length_of (reference o)) in
+      over_two_means cs m e x y (λ t j. and_of (at_most (number (pos 0)) j ∷ less j (app term.Length (t ∷ [])) ∷ [])) (thing (reference o)) (whole i) (is_within o i) d k (λ t j p q.
+      and_means cs m e (at_most (number (pos 0)) j) (less j (app term.Length (t ∷ []))) (int_le (pos 0) i) (int_lt i size) (at_most_means cs m e (number (pos 0)) j (pos 0) i refl q)
+      (less_means cs m e j (app term.Length (t ∷ [])) i size q (ap (λ v. whole (pos (m.table.length_of (as_thing v)))) p)))
 
   read_denotes : (old : Bool) (r : Sort) (x y : Meant) (o n : ℕ) → nat_lt o (if old then entry else now).next ≡ true → is_array cs (m.table.class_of (reference o)) ≡ true → r ≡ sort_of_type (element_type (m.table.class_of (reference o))) → n < m.table.length_of (reference o) →
       D cs m e x (thing (reference o)) → D cs m e y (whole (pos n)) → D cs m e (element_meant old r x y) (standing (element_read (object_at (if old then objects_of cs m.table entry else objects_of cs m.table now) o) n))
@@ -136,22 +133,21 @@ module _ (cs : List ClassTree) (m : Structure) (e : List Value) (now entry : Hea
   read_denotes true r x y o n l a same below d k = element_denotes cs m e entry s0 is_entry entry_values r x y o n l a same below d k
 
   index_rest : (old : Bool) (p : Place) (r : Sort) (x y : Meant) (o : ℕ) (i : ℤ) → IsArrayWith cs m now r (value.Obj o) → nat_lt o (if old then entry else now).next ≡ true → D cs m e x (thing (reference o)) → D cs m e y (whole i) →
-      R cs m e (is_from_zero y ∷ is_below_length x y ∷ []) (element_meant old r x y) (element_or old p i o)
-  index_rest old p r x y o (negsuc i) a l d k = λ t. false≢true ((from_zero_means y (negsuc i) k).0 t.0)
+      R cs m e (index_fits x y ∷ []) (element_meant old r x y) (element_or old p i o)
+  index_rest old p r x y o (negsuc i) a l d k = λ t. false≢true ((index_means x y o (negsuc i) d k).0 t.0)
   index_rest old p r x y o (pos n) a l d k =
       let known = length_known cs m e now o a.0 a.1 in
       let within = nat_lt n (length (object_at (objects_of cs m.table now) o).elements) in
       let from : int_le (pos 0) (pos n) ≡ true = le-leb 0 n (omega arith) in
-      reads_append cs m e (is_from_zero y ∷ []) (is_below_length x y ∷ []) (element_meant old r x y) (element_or old p (pos n) o) ((from_zero_means y (pos n) k).1 from, tt)
-      (where_true cs m e (is_below_length x y) within (element_meant old r x y) (element_read (object_at (if old then objects_of cs m.table entry else objects_of cs m.table now) o) n) (undefined p kind.Index)
-      (subst (λ j. M cs m e (is_below_length x y) (nat_lt n j)) (sym known) (below_length_means x y o (pos n) d k))
-      (λ q. read_denotes old r x y o n l a.1 a.2 (subst (λ j. n < j) known (ltb-true n (length (object_at (objects_of cs m.table now) o).elements) q)) d k))
+      where_true cs m e (index_fits x y) within (element_meant old r x y) (element_read (object_at (if old then objects_of cs m.table entry else objects_of cs m.table now) o) n) (undefined p kind.Index)
+      (subst (λ j. M cs m e (index_fits x y) (nat_lt n j)) (sym known) (subst (λ b. M cs m e (index_fits x y) (b && nat_lt n (m.table.length_of (reference o)))) from (index_means x y o (pos n) d k)))
+      (λ q. read_denotes old r x y o n l a.1 a.2 (subst (λ j. n < j) known (ltb-true n (length (object_at (objects_of cs m.table now) o).elements) q)) d k)
 
   pub element_reads : (old : Bool) (p : Place) (r : Sort) (ps qs : List Formula) (x y : Meant) (a b : Outcome) → Gives (IsArrayWith cs m now r) a → Gives IsWhole b → R cs m e ps x a → R cs m e qs y b →
-      R cs m e (ps ++ qs ++ parts_of cs m e now entry s0 is_entry old x ++ is_from_zero y ∷ is_below_length x y ∷ []) (element_meant old r x y) (run.and_then a (λ v. run.and_then b (λ w. element_value old p v (as_int w))))
+      R cs m e (ps ++ qs ++ parts_of cs m e now entry s0 is_entry old x ++ index_fits x y ∷ []) (element_meant old r x y) (run.and_then a (λ v. run.and_then b (λ w. element_value old p v (as_int w))))
   element_reads old p r ps qs x y a b ga gb ra rb =
       let parts = parts_of cs m e now entry s0 is_entry old x in
-      subst (λ fs. R cs m e fs (element_meant old r x y) (run.and_then a (λ v. run.and_then b (λ w. element_value old p v (as_int w))))) (sym (append_assoc (ps ++ qs) parts (is_from_zero y ∷ is_below_length x y ∷ [])))
-      (three_read cs m e ps qs x y a b ra rb (parts ++ is_from_zero y ∷ is_below_length x y ∷ []) (element_meant old r x y) (λ v w. element_value old p v (as_int w)) (λ u w is it d k.
-      readable_then cs m e now entry s0 is_entry old p x u (with_array cs m now r u (ga u is)) d (is_from_zero y ∷ is_below_length x y ∷ []) (element_meant old r x y) (element_or old p (as_int w)) (λ o q l.
+      subst (λ fs. R cs m e fs (element_meant old r x y) (run.and_then a (λ v. run.and_then b (λ w. element_value old p v (as_int w))))) (sym (append_assoc (ps ++ qs) parts (index_fits x y ∷ [])))
+      (three_read cs m e ps qs x y a b ra rb (parts ++ index_fits x y ∷ []) (element_meant old r x y) (λ v w. element_value old p v (as_int w)) (λ u w is it d k.
+      readable_then cs m e now entry s0 is_entry old p x u (with_array cs m now r u (ga u is)) d (index_fits x y ∷ []) (element_meant old r x y) (element_or old p (as_int w)) (λ o q l.
       index_rest old p r x y o (as_int w) (ga (value.Obj o) (is ∙ ap Ok q)) l (subst (λ v. D cs m e x (standing v)) q d) (whole_denotes cs m e y b gb w it k))))

@@ -19,7 +19,7 @@ use Rattle.ss_logic_stores.specs.Formulas.{Formula, Forall, neg}
 use Rattle.ss_logic_stores.proofs.Truth.{type_sort}
 use Rattle.ss_logic_rules.specs.Shapes.{number, null_term, class_term, level_of, owner_of, pair_of, equal, differ, at_most, sub_atom, allocated, committed, group}
 use Rattle.ss_logic_rules.specs.Shapes as shape
-use Rattle.ss_logic_express.specs.Express.{or_of, Choice, Meant, Says, choices, over, over_two, said, same_truths, Scene, state, at_entry, with_bound, element_sort, is_of, fits_int, less, word_said, owners_said, as_class, out_of_range, quantified_said, meant, not_null, readable, under, word_parts, defined}
+use Rattle.ss_logic_express.specs.Express.{and_of, or_of, Choice, Meant, Says, choices, over, over_two, said, same_truths, Scene, state, at_entry, with_bound, element_sort, is_of, fits_int, less, word_said, owners_said, as_class, out_of_range, quantified_said, meant, not_null, readable, under, index_fits, word_parts, defined}
 use Rattle.ss_logic_means.specs.Scenes.{has_no_default}
 use Rattle.ss_logic_means.specs.Sorts.{HasSort, AreWellFormed, HaveSort, IsWellExpressed, IsSorted}
 use Rattle.ss_logic_means.proofs.Operands.{three_parts, where_some, where_bool, int_some, bool_some, reference_some, class_reference, int_or_bool, reference_or_bool, field_from, elements_from, element_reference, are_operands}
@@ -193,10 +193,11 @@ expressed (ElementExpr p x i) c bound st none is at =
     let t = element_of c.classes a in
     let read = paired_sorted c.classes bound sort.Rest sort.Whole (element_sort t) (λ u v. app (Element (element_sort t)) (state c ∷ u ∷ v ∷ []))
     (λ u v j k. element_sorted c.classes bound t (state c) u v (state_sorted c bound st) j k) (meant x c) (meant i c) object index in
-    let low = over_formed c.classes bound sort.Whole (λ v. at_most (number (pos 0)) v) (λ v k. at_most_formed c.classes bound (number (pos 0)) v (number_sorted c.classes bound (pos 0)) k) (meant i c) index in
-    let high = over_two_formed c.classes bound sort.Rest sort.Whole (λ u v. less v (app Length (u ∷ []))) (λ u v j k. less_formed c.classes bound v (app Length (u ∷ [])) k (length_sorted c.classes bound u j)) (meant x c) (meant i c) object index in (
-      more_formed c.classes bound (defined x c ++ defined i c ++ readable c (meant x c)) (over (meant i c) (λ v. at_most (number (pos 0)) v) ∷ over_two (meant x c) (meant i c) (λ u v. less v (app Length (u ∷ []))) ∷ [])
-          (more_formed c.classes bound (defined x c ++ defined i c) (readable c (meant x c)) (more_formed c.classes bound (defined x c) (defined i c) first.0 second.0) (readable_formed c bound st (meant x c) object)) (low, (high, tt)),
+    let fits = over_two_formed c.classes bound sort.Rest sort.Whole (λ u v. and_of (at_most (number (pos 0)) v ∷ less v (app Length (u ∷ [])) ∷ [])) (λ u v j k.
+    and_two c.classes bound (at_most (number (pos 0)) v) (less v (app Length (u ∷ []))) (at_most_formed c.classes bound (number (pos 0)) v (number_sorted c.classes bound (pos 0)) k)
+    (less_formed c.classes bound v (app Length (u ∷ [])) k (length_sorted c.classes bound u j))) (meant x c) (meant i c) object index in (
+      more_formed c.classes bound (defined x c ++ defined i c ++ readable c (meant x c)) (index_fits (meant x c) (meant i c) ∷ [])
+          (more_formed c.classes bound (defined x c ++ defined i c) (readable c (meant x c)) (more_formed c.classes bound (defined x c) (defined i c) first.0 second.0) (readable_formed c bound st (meant x c) object)) (fits, tt),
       as_sort c.classes bound (element_sort t) (element_sort (Type-of c (ElementExpr p x i))) (meant (ElementExpr p x i) c) (element_result (is_int n) t both.0) read,
     )
 expressed (LengthExpr p x) c bound st none is at =
