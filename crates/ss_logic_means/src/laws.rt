@@ -34,7 +34,7 @@ pub fn closed_terms_stand()
     ensures { (m : Structure) (c : Scene) (now entry : Heap) (terms : List Term) (locals : List ObjectValue) → IsStoreTerm c.classes m c.now now → IsStoreTerm c.classes m c.entry entry → c.locals ≡ map One terms → HaveValues c.classes m terms locals → Stands m c now entry locals [] }
 {}
 
-/// And its terms stay what they are behind more bound names.
+/// The terms of a scene without bound names stay what they are behind more bound names.
 pub fn closed_terms_stay()
     ensures { (m : Structure) (c : Scene) (terms : List Term) (locals : List ObjectValue) → c.locals ≡ map One terms → HaveValues c.classes m terms locals → (x : ℕ) → Stay c.classes m [] (choices (local_meant c x)) }
 {}
@@ -44,12 +44,12 @@ pub fn conditions_are_true_where_they_hold()
     ensures { (m : Structure) (now entry : Heap) (x : ExprTree) (c : Scene) (locals : List ObjectValue) (k : Bool) → IsGoodSetting (setting_of m c now entry locals) c.types k → (e : List Value) → Stands m c now entry locals e → length e ≡ c.bound → is_stated c.classes c.types x ≡ true → Settled m e c x → Means c.classes m e (holds_formula x c) (run.holds x (setting_of m c now entry locals)) }
 {}
 
-/// Each condition at entry or at exit of a body is stated as that law asks.
+/// Each condition at entry or at exit of a body is a default condition of a local that fits it, or a truth value without one.
 pub fn contracts_are_stated()
     ensures { (cs : List ClassTree) (b : BodyTree) (w : Words) (among : ℕ → Bool) (x : ExprTree) → is_contract cs b w among x ≡ true → is_stated cs (local_types b) x ≡ true }
 {}
 
-/// So is each condition of its code.
+/// Each condition of the code of a body is a truth value without a default condition.
 pub fn conditions_of_code_are_stated()
     ensures { (cs : List ClassTree) (b : BodyTree) (w : Words) (x : ExprTree) → is_condition cs b w x ≡ true → is_stated cs (local_types b) x ≡ true }
 {}
@@ -69,12 +69,12 @@ pub fn a_good_store_meets_its_invariants()
     ensures { (cs : List ClassTree) → IsChain cs → NoAlso cs → AreInvariants cs → (m : Structure) (s : Term) (ts : List Term) (f : Formula) → invariants_of cs s ts ≡ Some f → True cs m [] (atom Good (s ∷ [])) → True cs m [] f }
 {}
 
-/// With the instances of the other rules on good stores: whatever one of them says of a store is true where the store is good.
+/// Whatever a rule on good stores says of a store, that on invariants among them, is true where the store is good.
 pub fn a_good_store_meets_every_sentence()
     ensures { (cs : List ClassTree) → IsChain cs → NoAlso cs → AreInvariants cs → (m : Structure) (s : Term) (f : Formula) → IsOfGood cs s f → True cs m [] (atom Good (s ∷ [])) → True cs m [] f }
 {}
 
-/// So an obligation is valid where it is valid with such sentences among its premises, of stores that its own premises say are good.
+/// An obligation is valid where it is valid with sentences on good stores among its premises, of stores that its own premises say are good.
 pub fn sentences_on_good_stores_may_be_premises()
     ensures { (cs : List ClassTree) → IsChain cs → NoAlso cs → AreInvariants cs → (premises sentences : List Formula) (goal : Formula) → AllFollowFromGood cs premises sentences → IsValid cs (premises ++ sentences) goal → IsValid cs premises goal }
 {}
@@ -89,17 +89,17 @@ pub fn default_conditions_are_well_formed()
     ensures { (d : DefaultTree) (c : Scene) (bound : List Sort) → IsSorted c bound → length bound ≡ c.bound → has_subject c.classes c.types d ≡ true → is_well_formed c.classes bound (default_said c d) ≡ true }
 {}
 
-/// So are the formulas of each stated expression, default conditions among them: its parts, and what it means, which is a truth value.
+/// The formulas of each stated expression are well formed, default conditions among them: its parts, and what it means, which is a truth value.
 pub fn stated_expressions_are_well_formed()
     ensures { (x : ExprTree) (c : Scene) (bound : List Sort) → IsSorted c bound → length bound ≡ c.bound → is_stated c.classes c.types x ≡ true → IsWellExpressed c.classes bound sort.Truth (defined x c) (meant x c) }
 {}
 
-/// And so is the formula that it is defined and holds.
+/// The formula that a stated expression is defined and holds is well formed.
 pub fn conditions_are_well_formed()
     ensures { (x : ExprTree) (c : Scene) (bound : List Sort) → IsSorted c bound → length bound ≡ c.bound → is_stated c.classes c.types x ≡ true → is_well_formed c.classes bound (holds_formula x c) ≡ true }
 {}
 
-/// A scene of terms without bound names, two stores and for each local a term of the sort of its type, meets what these laws ask of it.
+/// A scene of terms without bound names, two stores and for each local a term of the sort of its type, meets what the laws on well formed formulas ask of a scene.
 pub fn closed_terms_are_sorted()
     ensures { (c : Scene) (terms : List Term) → have_sorts c.classes (sort.Store ∷ sort.Store ∷ []) (c.now ∷ c.entry ∷ []) ≡ true → c.locals ≡ map One terms → have_sorts c.classes (map sort_of_type c.types) terms ≡ true → IsSorted c [] }
 {}
@@ -109,7 +109,7 @@ pub fn packed_invariants_are_well_formed()
     ensures { (cs : List ClassTree) → AreInvariants cs → (s o : Term) → have_sorts cs (sort.Store ∷ sort.Rest ∷ []) (s ∷ o ∷ []) ≡ true → (t : ℕ) → is_well_formed cs [] (packed_invariants cs s o t) ≡ true }
 {}
 
-/// So is each instance of the rule on invariants.
+/// Each instance of the rule on invariants is a well formed formula.
 pub fn instances_on_invariants_are_well_formed()
     ensures { (cs : List ClassTree) → AreInvariants cs → (s : Term) (ts : List Term) (f : Formula) → invariants_of cs s ts ≡ Some f → is_well_formed cs [] f ≡ true }
 {}
@@ -119,12 +119,12 @@ pub fn scenes_of_bodies_are_sorted()
     ensures { (cs : List ClassTree) (b : BodyTree) (now entry : Term) → have_sorts cs (sort.Store ∷ sort.Store ∷ []) (now ∷ entry ∷ []) ≡ true → IsSorted (body_scene cs b now entry) [] }
 {}
 
-/// It stands for those stores, and for the values that a structure gives the constants.
+/// The scene of a body whose locals are constants stands for the stores between which it is, and for the values that a structure gives the constants.
 pub fn scenes_of_bodies_stand()
     ensures { (m : Structure) (cs : List ClassTree) (b : BodyTree) (now entry : Term) (current former : Heap) (locals : List ObjectValue) → IsStoreTerm cs m now current → IsStoreTerm cs m entry former → GivesFrom m 0 (local_types b) locals → Stands m (body_scene cs b now entry) current former locals [] }
 {}
 
-/// And its terms stay what they are behind more bound names.
+/// The constants of the scene of a body stay what they are behind more bound names.
 pub fn scenes_of_bodies_stay()
     ensures { (m : Structure) (cs : List ClassTree) (b : BodyTree) (now entry : Term) (locals : List ObjectValue) → GivesFrom m 0 (local_types b) locals → (x : ℕ) → Stay cs m [] (choices (local_meant (body_scene cs b now entry) x)) }
 {}
@@ -139,12 +139,12 @@ pub fn locals_have_the_sorts_of_their_types()
     ensures { (s : Setting) (types : List Ty) (k : Bool) → IsGoodSetting s types k → AreOf (map sort_of_type types) (map standing s.locals) }
 {}
 
-/// So each condition of a contract of a body, or of its code, is a well formed formula in the scene of the body.
+/// Each condition of a contract of a body, or of its code, is a well formed formula in the scene of the body.
 pub fn conditions_of_bodies_are_well_formed()
     ensures { (cs : List ClassTree) (b : BodyTree) (x : ExprTree) → is_stated cs (local_types b) x ≡ true → (now entry : Term) → have_sorts cs (sort.Store ∷ sort.Store ∷ []) (now ∷ entry ∷ []) ≡ true → is_well_formed cs [] (holds_formula x (body_scene cs b now entry)) ≡ true }
 {}
 
-/// And it is true exactly where the condition holds, for the values that a structure gives the constants of the locals.
+/// The formula of a condition of a body is true exactly where the condition holds, for the values that a structure gives the constants of the locals.
 pub fn conditions_of_bodies_are_true_where_they_hold()
     ensures { (cs : List ClassTree) (b : BodyTree) (x : ExprTree) → is_stated cs (local_types b) x ≡ true → (m : Structure) (now entry : Term) (current former : Heap) (locals : List ObjectValue) (k : Bool) → IsGoodSetting (setting_of m (body_scene cs b now entry) current former locals) (local_types b) k → IsStoreTerm cs m now current → IsStoreTerm cs m entry former → GivesFrom m 0 (local_types b) locals → Means cs m [] (holds_formula x (body_scene cs b now entry)) (run.holds x (setting_of m (body_scene cs b now entry) current former locals)) }
 {}
