@@ -13,7 +13,7 @@ use Rattle.ss_logic_stores.specs.declared.Sort.{Sort}
 use Rattle.ss_logic_stores.specs.declared.Sort.TheVariants as sort
 use Rattle.ss_logic_stores.specs.Terms.{Term, Bound, app, sort_of_type}
 use Rattle.ss_logic_stores.specs.Terms as term
-use Rattle.ss_logic_stores.specs.Formulas.{Formula, And, Or, Forall, Exists, formulas_from, neg}
+use Rattle.ss_logic_stores.specs.Formulas.{Formula, And, Or, Forall, Exists, formulas_from, formula_list, neg}
 use Rattle.ss_logic_rules.specs.Shapes.{number, null_term, class_term, level_of, owner_of, pair_of, equal, differ, at_most, sub_atom, allocated, committed, group}
 use Rattle.ss_logic_rules.specs.Shapes as shape
 
@@ -25,8 +25,18 @@ and_of fs = And (formulas_from fs)
 abbrev pub or_of : List Formula → Formula
 or_of fs = Or (formulas_from fs)
 
+-- each implies the other
 abbrev pub iff : Formula → Formula → Formula
-iff f g = or_of (and_of (f ∷ g ∷ []) ∷ and_of (neg f ∷ neg g ∷ []) ∷ [])
+iff f g = and_of (or_of (neg f ∷ g ∷ []) ∷ or_of (f ∷ neg g ∷ []) ∷ [])
+
+-- both of them, or either; a chain is one `and` or one `or`
+abbrev pub and_more : Formula → Formula → Formula
+and_more (And fs) g = And (formulas_from (formula_list fs ++ g ∷ []))
+and_more f g = and_of (f ∷ g ∷ [])
+
+abbrev pub or_more : Formula → Formula → Formula
+or_more (Or fs) g = Or (formulas_from (formula_list fs ++ g ∷ []))
+or_more f g = or_of (f ∷ g ∷ [])
 
 abbrev pub truth_term : Bool → Term
 truth_term b = app (term.Fixed b) []
@@ -207,8 +217,8 @@ equal_meant false a b = over_two a b equal
 
 -- `bools` says that the operands are truth values
 abbrev pub operated : Operator → Bool → Meant → Meant → Meant
-operated op.And bools a b = Says (and_of (said a ∷ said b ∷ []))
-operated op.Or bools a b = Says (or_of (said a ∷ said b ∷ []))
+operated op.And bools a b = Says (and_more (said a) (said b))
+operated op.Or bools a b = Says (or_more (said a) (said b))
 operated op.Equal bools a b = Says (equal_meant bools a b)
 operated op.NotEqual bools a b = Says (neg (equal_meant bools a b))
 operated op.Less bools a b = Says (over_two a b less)

@@ -9,11 +9,11 @@ use Rattle.ss_store_rules.specs.Numbers.{Outcome}
 use Rattle.ss_store_rules.specs.Values as run
 use Rattle.ss_logic_stores.specs.Values.{Value, truth, as_truth, Structure}
 use Rattle.ss_logic_stores.specs.Terms.{Term, value_of}
-use Rattle.ss_logic_stores.specs.Formulas.{Formula, True, AllTrue, NoneTrue, formulas_from, neg}
+use Rattle.ss_logic_stores.specs.Formulas.{Formula, Formulas, Literal, And, Or, Forall, Exists, no_formulas, formula_then, formula_list, True, AllTrue, NoneTrue, formulas_from, neg}
 use Rattle.ss_logic_stores.proofs.Stable.{bool_stable}
 use Rattle.ss_logic_stores.proofs.Truth.{not_both, neg_true, formula_stable}
 use Rattle.ss_logic_rules.specs.Shapes.{equal}
-use Rattle.ss_logic_express.specs.Express.{and_of, or_of, iff, truth_term, Choice, Meant, One, Either, Says, choice, choices, over, over_two, mapped, both, paired, said, under}
+use Rattle.ss_logic_express.specs.Express.{and_of, or_of, iff, and_more, or_more, truth_term, Choice, Meant, One, Either, Says, choice, choices, over, over_two, mapped, both, paired, said, under}
 use Rattle.ss_logic_means.specs.Means.{standing, Means, Agree, NoneOf, Denotes, Reads}
 
 module _ (cs : List ClassTree) (m : Structure) (e : List Value) where
@@ -52,10 +52,59 @@ module _ (cs : List ClassTree) (m : Structure) (e : List Value) where
   neg_means f false x = (λ _. refl, λ _. neg_true cs m e f (λ t. false≢true (x.0 t)))
 
   pub iff_means : (f g : Formula) (a b : Bool) → M f a → M g b → M (iff f g) (beq a b)
-  iff_means f g true true x y = or_means (and_of (f ∷ g ∷ [])) (and_of (neg f ∷ neg g ∷ [])) true false (and_means f g true true x y) (and_means (neg f) (neg g) false false (neg_means f true x) (neg_means g true y))
-  iff_means f g true false x y = or_means (and_of (f ∷ g ∷ [])) (and_of (neg f ∷ neg g ∷ [])) false false (and_means f g true false x y) (and_means (neg f) (neg g) false true (neg_means f true x) (neg_means g false y))
-  iff_means f g false true x y = or_means (and_of (f ∷ g ∷ [])) (and_of (neg f ∷ neg g ∷ [])) false false (and_means f g false true x y) (and_means (neg f) (neg g) true false (neg_means f false x) (neg_means g true y))
-  iff_means f g false false x y = or_means (and_of (f ∷ g ∷ [])) (and_of (neg f ∷ neg g ∷ [])) false true (and_means f g false false x y) (and_means (neg f) (neg g) true true (neg_means f false x) (neg_means g false y))
+  iff_means f g true true x y = and_means (or_of (neg f ∷ g ∷ [])) (or_of (f ∷ neg g ∷ [])) true true (or_means (neg f) g false true (neg_means f true x) y) (or_means f (neg g) true false x (neg_means g true y))
+  iff_means f g true false x y = and_means (or_of (neg f ∷ g ∷ [])) (or_of (f ∷ neg g ∷ [])) false true (or_means (neg f) g false false (neg_means f true x) y) (or_means f (neg g) true true x (neg_means g false y))
+  iff_means f g false true x y = and_means (or_of (neg f ∷ g ∷ [])) (or_of (f ∷ neg g ∷ [])) true false (or_means (neg f) g true true (neg_means f false x) y) (or_means f (neg g) false false x (neg_means g true y))
+  iff_means f g false false x y = and_means (or_of (neg f ∷ g ∷ [])) (or_of (f ∷ neg g ∷ [])) true true (or_means (neg f) g true false (neg_means f false x) y) (or_means f (neg g) false true x (neg_means g false y))
+
+  -- ---- chains
+
+  all_with : (fs : Formulas) (g : Formula) → AllTrue cs m e fs → T g → AllTrue cs m e (formulas_from (formula_list fs ++ g ∷ []))
+  all_with no_formulas g h k = (k, tt)
+  all_with (formula_then f fs) g h k = (h.0, all_with fs g h.1 k)
+
+  all_without : (fs : Formulas) (g : Formula) → AllTrue cs m e (formulas_from (formula_list fs ++ g ∷ [])) → AllTrue cs m e fs × T g
+  all_without no_formulas g h = (tt, h.0)
+  all_without (formula_then f fs) g h = let z = all_without fs g h.1 in ((h.0, z.0), z.1)
+
+  none_with : (fs : Formulas) (g : Formula) → NoneTrue cs m e fs → (T g → ⊥) → NoneTrue cs m e (formulas_from (formula_list fs ++ g ∷ []))
+  none_with no_formulas g h k = (k, tt)
+  none_with (formula_then f fs) g h k = (h.0, none_with fs g h.1 k)
+
+  none_without : (fs : Formulas) (g : Formula) → NoneTrue cs m e (formulas_from (formula_list fs ++ g ∷ [])) → NoneTrue cs m e fs × (T g → ⊥)
+  none_without no_formulas g h = (tt, h.0)
+  none_without (formula_then f fs) g h = let z = none_without fs g h.1 in ((h.0, z.0), z.1)
+
+  -- a longer chain says what an `and` or `or` of two says
+  pub and_more_is : (f g : Formula) → (T (and_more f g) → T f × T g) × (T f → T g → T (and_more f g))
+  and_more_is (And fs) g = (λ h. all_without fs g h, λ h k. all_with fs g h k)
+  and_more_is (Literal sign p ts) g = (λ h. (h.0, h.1.0), λ h k. (h, (k, tt)))
+  and_more_is (Or fs) g = (λ h. (h.0, h.1.0), λ h k. (h, (k, tt)))
+  and_more_is (Forall ss f) g = (λ h. (h.0, h.1.0), λ h k. (h, (k, tt)))
+  and_more_is (Exists ss f) g = (λ h. (h.0, h.1.0), λ h k. (h, (k, tt)))
+
+  pub or_more_is : (f g : Formula) → (T (or_more f g) → (T f → ⊥) → (T g → ⊥) → ⊥) × (((T f → ⊥) → (T g → ⊥) → ⊥) → T (or_more f g))
+  or_more_is (Or fs) g = (λ h x y. x (λ n. h (none_with fs g n y)), λ h n. let z = none_without fs g n in h (λ t. t z.0) z.1)
+  or_more_is (Literal sign p ts) g = (λ h x y. h (x, (y, tt)), λ h n. h n.0 n.1.0)
+  or_more_is (And fs) g = (λ h x y. h (x, (y, tt)), λ h n. h n.0 n.1.0)
+  or_more_is (Forall ss f) g = (λ h x y. h (x, (y, tt)), λ h n. h n.0 n.1.0)
+  or_more_is (Exists ss f) g = (λ h x y. h (x, (y, tt)), λ h n. h n.0 n.1.0)
+
+  pub and_more_fails : (f g : Formula) → M f false → M (and_more f g) false
+  and_more_fails f g x = (λ t. x.0 ((and_more_is f g).0 t).0, λ h. absurd (false≢true h))
+
+  pub and_more_means : (f g : Formula) (a b : Bool) → M f a → M g b → M (and_more f g) (a && b)
+  and_more_means f g true true x y = (λ _. refl, λ _. (and_more_is f g).1 (x.1 refl) (y.1 refl))
+  and_more_means f g true false x y = (λ t. y.0 ((and_more_is f g).0 t).1, λ h. absurd (false≢true h))
+  and_more_means f g false b x y = and_more_fails f g x
+
+  pub or_more_holds : (f g : Formula) → M f true → M (or_more f g) true
+  or_more_holds f g x = (λ _. refl, λ _. (or_more_is f g).1 (λ n k. n (x.1 refl)))
+
+  pub or_more_means : (f g : Formula) (a b : Bool) → M f a → M g b → M (or_more f g) (a || b)
+  or_more_means f g true b x y = or_more_holds f g x
+  or_more_means f g false true x y = (λ _. refl, λ _. (or_more_is f g).1 (λ n k. k (y.1 refl)))
+  or_more_means f g false false x y = (λ t. absurd ((or_more_is f g).0 t (λ k. false≢true (x.0 k)) (λ k. false≢true (y.0 k))), λ h. absurd (false≢true h))
 
   -- ---- what is meant
 

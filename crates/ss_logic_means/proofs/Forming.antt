@@ -1,12 +1,13 @@
 -- Sorts of what is meant, and formulas over it that are well formed.
 use Rattle.std.proofs.Common.{◌≡◌, List, [], ◌∷◌, ◌++◌, true, map, refl}
 use Rattle.std.specs.Prelude.{flat_map}
+use Rattle.std.proofs.lemmas.Bool.{and_parts, and_from}
 use Rattle.ss_core.specs.Tree.{ClassTree}
 use Rattle.ss_logic_stores.specs.declared.Sort.{Sort}
 use Rattle.ss_logic_stores.specs.declared.Sort.TheVariants as sort
 use Rattle.ss_logic_stores.specs.Terms.{Term}
-use Rattle.ss_logic_stores.specs.Formulas.{Formula, is_well_formed, neg}
-use Rattle.ss_logic_express.specs.Express.{and_of, or_of, iff, truth_term, Choice, choice, Meant, One, Either, Says, choices, over, over_two, mapped, both, paired, said, same_truths, under}
+use Rattle.ss_logic_stores.specs.Formulas.{Formula, Formulas, Literal, And, Or, Forall, Exists, no_formulas, formula_then, formula_list, formulas_from, is_well_formed, are_well_formed, neg}
+use Rattle.ss_logic_express.specs.Express.{and_of, or_of, iff, and_more, or_more, truth_term, Choice, choice, Meant, One, Either, Says, choices, over, over_two, mapped, both, paired, said, same_truths, under}
 use Rattle.ss_logic_means.specs.Sorts.{HasSort, AreWellFormed, HaveSort}
 use Rattle.ss_logic_means.proofs.Sorting.{equal_formed, all_formed, each_formed, neg_formed}
 
@@ -34,7 +35,25 @@ module _ (cs : List ClassTree) (bound : List Sort) where
   negation f h = neg_formed cs bound f h
 
   pub iff_formed : (f g : Formula) → F f → F g → F (iff f g)
-  iff_formed f g h k = or_two (and_of (f ∷ g ∷ [])) (and_of (neg f ∷ neg g ∷ [])) (and_two f g h k) (and_two (neg f) (neg g) (negation f h) (negation g k))
+  iff_formed f g h k = and_two (or_of (neg f ∷ g ∷ [])) (or_of (f ∷ neg g ∷ [])) (or_two (neg f) g (negation f h) k) (or_two f (neg g) h (negation g k))
+
+  with_formed : (fs : Formulas) (g : Formula) → are_well_formed cs bound fs ≡ true → F g → are_well_formed cs bound (formulas_from (formula_list fs ++ g ∷ [])) ≡ true
+  with_formed no_formulas g h k = and_from _ _ k refl
+  with_formed (formula_then f fs) g h k = let p = and_parts (is_well_formed cs bound f) (are_well_formed cs bound fs) h in and_from _ _ p.0 (with_formed fs g p.1 k)
+
+  pub and_more_formed : (f g : Formula) → F f → F g → F (and_more f g)
+  and_more_formed (And fs) g h k = with_formed fs g h k
+  and_more_formed (Literal sign p ts) g h k = and_two (Literal sign p ts) g h k
+  and_more_formed (Or fs) g h k = and_two (Or fs) g h k
+  and_more_formed (Forall ss f) g h k = and_two (Forall ss f) g h k
+  and_more_formed (Exists ss f) g h k = and_two (Exists ss f) g h k
+
+  pub or_more_formed : (f g : Formula) → F f → F g → F (or_more f g)
+  or_more_formed (Or fs) g h k = with_formed fs g h k
+  or_more_formed (Literal sign p ts) g h k = or_two (Literal sign p ts) g h k
+  or_more_formed (And fs) g h k = or_two (And fs) g h k
+  or_more_formed (Forall ss f) g h k = or_two (Forall ss f) g h k
+  or_more_formed (Exists ss f) g h k = or_two (Exists ss f) g h k
 
   pub under_formed : (f : Formula) (parts : List Formula) → F f → AreWellFormed cs bound parts → AreWellFormed cs bound (under f parts)
   under_formed f parts h k = each_formed cs bound (λ p. or_of (neg f ∷ p ∷ [])) parts (λ p q. or_two (neg f) p (negation f h) q) k

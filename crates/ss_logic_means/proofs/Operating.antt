@@ -13,11 +13,11 @@ use Rattle.ss_logic_stores.specs.declared.Sort.TheVariants as sort
 use Rattle.ss_logic_stores.specs.Terms.{Symbol, Add, Subtract, Multiply, Quotient, Remainder, Term, app, result_sort, takes, sort_of_type}
 use Rattle.ss_logic_stores.specs.Formulas.{AtMost, Formula, neg}
 use Rattle.ss_logic_rules.specs.Shapes.{number, null_term, equal, differ, at_most}
-use Rattle.ss_logic_express.specs.Express.{and_of, or_of, Meant, Says, over_two, paired, said, element_sort, fits_int, less, equal_meant, operated, operation_parts, not_zero, not_null}
+use Rattle.ss_logic_express.specs.Express.{and_of, or_of, and_more, or_more, Meant, Says, over_two, paired, said, element_sort, fits_int, less, equal_meant, operated, operation_parts, not_zero, not_null}
 use Rattle.ss_logic_means.specs.Sorts.{AreWellFormed, IsWellExpressed}
 use Rattle.ss_logic_means.proofs.Operands.{where_some, int_or_bool, reference_or_bool, by_comparable}
 use Rattle.ss_logic_means.proofs.Sorting.{sorted_two, formed_two, equal_formed, more_formed}
-use Rattle.ss_logic_means.proofs.Forming.{F, S, C, and_two, or_two, negation, under_formed, says_sorted, over_formed, over_two_formed, said_formed, same_formed, paired_sorted}
+use Rattle.ss_logic_means.proofs.Forming.{F, S, C, and_two, or_two, and_more_formed, or_more_formed, negation, under_formed, says_sorted, over_formed, over_two_formed, said_formed, same_formed, paired_sorted}
 
 -- ---- sorts of types
 
@@ -146,11 +146,11 @@ module _ (cs : List ClassTree) (bound : List Sort) where
     pub operation_formed : (o : Operator) → is_some (operation_type o a b) ≡ true → IsWellExpressed cs bound (element_sort (operation_type o a b)) (operation_parts o x y ps qs) (operated o (is_bool a) x y)
     operation_formed op.And h = (
       more_formed cs bound ps _ left.0 (under_formed cs bound (said x) qs (first_said h) right.0),
-      says_bools h (and_of (said x ∷ said y ∷ [])) (and_two cs bound (said x) (said y) (first_said h) (second_said h)),
+      says_bools h (and_more (said x) (said y)) (and_more_formed cs bound (said x) (said y) (first_said h) (second_said h)),
     )
     operation_formed op.Or h = (
       more_formed cs bound ps _ left.0 (under_formed cs bound (neg (said x)) qs (negation cs bound (said x) (first_said h)) right.0),
-      says_bools h (or_of (said x ∷ said y ∷ [])) (or_two cs bound (said x) (said y) (first_said h) (second_said h)),
+      says_bools h (or_more (said x) (said y)) (or_more_formed cs bound (said x) (said y) (first_said h) (second_said h)),
     )
     operation_formed op.Equal h =
         let f = equal_meant_formed (where_some (are_comparable a b) ty.Bool h) (is_bool a) refl in

@@ -17,9 +17,9 @@ use Rattle.ss_logic_stores.specs.Values.{Value, whole, truth, as_whole, as_truth
 use Rattle.ss_logic_stores.specs.Terms.{Term}
 use Rattle.ss_logic_stores.specs.Formulas.{Formula, neg}
 use Rattle.ss_logic_rules.specs.Shapes.{number, equal, at_most}
-use Rattle.ss_logic_express.specs.Express.{and_of, or_of, Meant, Says, said, less, fits_int, under}
+use Rattle.ss_logic_express.specs.Express.{and_of, or_of, and_more, or_more, Meant, Says, said, less, fits_int, under}
 use Rattle.ss_logic_means.specs.Means.{standing}
-use Rattle.ss_logic_means.proofs.Denoting.{V, M, D, R, and_means, or_means, neg_means, says_denotes, said_means, under_off, under_on, reads_then, reads_map}
+use Rattle.ss_logic_means.proofs.Denoting.{V, M, D, R, and_means, and_more_fails, and_more_means, or_more_holds, or_more_means, or_means, neg_means, says_denotes, said_means, under_off, under_on, reads_then, reads_map}
 
 -- ---- values
 
@@ -128,30 +128,30 @@ module _ (cs : List ClassTree) (m : Structure) (e : List Value) where
       says_denotes cs m e (neg (said x)) (not (as_bool u)) (neg_means cs m e (said x) (as_bool u) (truth_denotes x r g u is d)))
 
   module _ (ps qs : List Formula) (x y : Meant) (a b : Outcome) (ga : Gives IsBool a) (gb : Gives IsBool b) (ra : R cs m e ps x a) (rb : R cs m e qs y b) where
-    and_rest : (p : Place) (v : Bool) → M cs m e (said x) v → R cs m e (under (said x) qs) (Says (and_of (said x ∷ said y ∷ []))) (if not v then run.truth v else run.and_then b (λ w. run.truth (v && as_bool w)))
-    and_rest p true s = under_on cs m e (said x) (s.1 refl) qs (Says (and_of (said x ∷ said y ∷ []))) (run.and_then b (λ w. run.truth (as_bool w)))
-        (reads_map cs m e qs y (Says (and_of (said x ∷ said y ∷ []))) b (λ w. value.Bool (as_bool w)) rb (λ u is d.
-        says_denotes cs m e (and_of (said x ∷ said y ∷ [])) (as_bool u) (and_means cs m e (said x) (said y) true (as_bool u) s (truth_denotes y b gb u is d))))
+    and_rest : (p : Place) (v : Bool) → M cs m e (said x) v → R cs m e (under (said x) qs) (Says (and_more (said x) (said y))) (if not v then run.truth v else run.and_then b (λ w. run.truth (v && as_bool w)))
+    and_rest p true s = under_on cs m e (said x) (s.1 refl) qs (Says (and_more (said x) (said y))) (run.and_then b (λ w. run.truth (as_bool w)))
+        (reads_map cs m e qs y (Says (and_more (said x) (said y))) b (λ w. value.Bool (as_bool w)) rb (λ u is d.
+        says_denotes cs m e (and_more (said x) (said y)) (as_bool u) (and_more_means cs m e (said x) (said y) true (as_bool u) s (truth_denotes y b gb u is d))))
     and_rest p false s = (
       under_off cs m e (said x) (λ t. false≢true (s.0 t)) qs,
-      says_denotes cs m e (and_of (said x ∷ said y ∷ [])) false (λ t. s.0 t.0, λ h. absurd (false≢true h)),
+      says_denotes cs m e (and_more (said x) (said y)) false (and_more_fails cs m e (said x) (said y) s),
     )
 
-    pub and_reads : (p : Place) → R cs m e (ps ++ under (said x) qs) (Says (and_of (said x ∷ said y ∷ []))) (run.operation op.And p a b)
-    and_reads p = reads_then cs m e ps (under (said x) qs) x (Says (and_of (said x ∷ said y ∷ []))) a (λ v. if not (as_bool v) then run.truth (as_bool v) else run.and_then b (λ w. run.truth (as_bool v && as_bool w))) ra (λ u is d.
+    pub and_reads : (p : Place) → R cs m e (ps ++ under (said x) qs) (Says (and_more (said x) (said y))) (run.operation op.And p a b)
+    and_reads p = reads_then cs m e ps (under (said x) qs) x (Says (and_more (said x) (said y))) a (λ v. if not (as_bool v) then run.truth (as_bool v) else run.and_then b (λ w. run.truth (as_bool v && as_bool w))) ra (λ u is d.
         and_rest p (as_bool u) (truth_denotes x a ga u is d))
 
-    or_rest : (p : Place) (v : Bool) → M cs m e (said x) v → R cs m e (under (neg (said x)) qs) (Says (or_of (said x ∷ said y ∷ []))) (if v then run.truth v else run.and_then b (λ w. run.truth (v || as_bool w)))
-    or_rest p false s = under_on cs m e (neg (said x)) ((neg_means cs m e (said x) false s).1 refl) qs (Says (or_of (said x ∷ said y ∷ []))) (run.and_then b (λ w. run.truth (as_bool w)))
-        (reads_map cs m e qs y (Says (or_of (said x ∷ said y ∷ []))) b (λ w. value.Bool (as_bool w)) rb (λ u is d.
-        says_denotes cs m e (or_of (said x ∷ said y ∷ [])) (as_bool u) (or_means cs m e (said x) (said y) false (as_bool u) s (truth_denotes y b gb u is d))))
+    or_rest : (p : Place) (v : Bool) → M cs m e (said x) v → R cs m e (under (neg (said x)) qs) (Says (or_more (said x) (said y))) (if v then run.truth v else run.and_then b (λ w. run.truth (v || as_bool w)))
+    or_rest p false s = under_on cs m e (neg (said x)) ((neg_means cs m e (said x) false s).1 refl) qs (Says (or_more (said x) (said y))) (run.and_then b (λ w. run.truth (as_bool w)))
+        (reads_map cs m e qs y (Says (or_more (said x) (said y))) b (λ w. value.Bool (as_bool w)) rb (λ u is d.
+        says_denotes cs m e (or_more (said x) (said y)) (as_bool u) (or_more_means cs m e (said x) (said y) false (as_bool u) s (truth_denotes y b gb u is d))))
     or_rest p true s = (
       under_off cs m e (neg (said x)) (λ t. false≢true ((neg_means cs m e (said x) true s).0 t)) qs,
-      says_denotes cs m e (or_of (said x ∷ said y ∷ [])) true (λ _. refl, λ _ n. n.0 (s.1 refl)),
+      says_denotes cs m e (or_more (said x) (said y)) true (or_more_holds cs m e (said x) (said y) s),
     )
 
-    pub or_reads : (p : Place) → R cs m e (ps ++ under (neg (said x)) qs) (Says (or_of (said x ∷ said y ∷ []))) (run.operation op.Or p a b)
-    or_reads p = reads_then cs m e ps (under (neg (said x)) qs) x (Says (or_of (said x ∷ said y ∷ []))) a (λ v. if as_bool v then run.truth (as_bool v) else run.and_then b (λ w. run.truth (as_bool v || as_bool w))) ra (λ u is d.
+    pub or_reads : (p : Place) → R cs m e (ps ++ under (neg (said x)) qs) (Says (or_more (said x) (said y))) (run.operation op.Or p a b)
+    or_reads p = reads_then cs m e ps (under (neg (said x)) qs) x (Says (or_more (said x) (said y))) a (λ v. if as_bool v then run.truth (as_bool v) else run.and_then b (λ w. run.truth (as_bool v || as_bool w))) ra (λ u is d.
         or_rest p (as_bool u) (truth_denotes x a ga u is d))
 
     implies_rest : (v : Bool) → M cs m e (said x) v → R cs m e (under (said x) qs) (Says (or_of (neg (said x) ∷ said y ∷ []))) (if v then run.and_then b (λ w. run.truth (as_bool w)) else run.truth true)
