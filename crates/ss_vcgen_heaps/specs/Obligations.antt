@@ -218,13 +218,17 @@ new_array w at x t e k =
 
 -- ---- returns
 
--- what the arguments and the result of the body mean at a return
+-- what the arguments of the body mean, and its result at a return
 abbrev pub arguments_at : Walk → Position → List Meant
 arguments_at w k = map meant_of (take (argument_count w.body) k.locals)
 
-abbrev pub result_meant : Walk → Option ExprTree → Position → List Meant
-result_meant w None k = []
-result_meant w (Some e) k = meant_at w e k ∷ []
+abbrev pub result_settled : Walk → Option ExprTree → Position → List Meant
+result_settled w None k = []
+result_settled w (Some e) k = meant_settled (meant_at w e k) (element_sort w.body.result) k ∷ []
+
+abbrev pub settle_result : Walk → Option ExprTree → Position → Position
+settle_result w None k = k
+settle_result w (Some e) k = settled (meant_at w e k) (element_sort w.body.result) k
 
 abbrev pub frame_formula : Walk → List Term → Position → Formula
 frame_formula w outside k = kept (classes_of w) (frame_terms (classes_of w) w.body w.entry k.store (arguments_at w k) outside)
@@ -236,8 +240,9 @@ evaluate_result w (Some e) k = evaluate w e k
 abbrev pub return_with : Walk → Place → Option ExprTree → Position → Position
 return_with w at e k =
     let evaluated = evaluate_result w e k in
-    let c = contract_scene (classes_of w) w.body k.store w.entry (arguments_at w k) (result_meant w e k) in
-    let met = check_all w kind.Postcondition at (conditions w.body.exit c) evaluated in
+    let settled = settle_result w e evaluated in
+    let c = contract_scene (classes_of w) w.body settled.store w.entry (arguments_at w settled) (result_settled w e evaluated) in
+    let met = check_all w kind.Postcondition at (conditions w.body.exit c) settled in
     ended (check w kind.Frame at (frame_formula w [] met) met)
 
 -- ---- loops

@@ -225,16 +225,12 @@ term_for s (One t) k = t
 term_for s (Either xs) k = new_term s k
 term_for s (Says f) k = new_term s k
 
--- One of several terms gets a new constant; a truth value without a term stands for its formula.
+-- What is handed over gets a term, so that no formula comes under names that others bind.
 abbrev pub settled : Meant → Sort → Position → Position
-settled (One t) s k = k
-settled (Either xs) s k = define s (Either xs) k
-settled (Says f) s k = k
+settled m s k = with_term s m k
 
 abbrev pub meant_settled : Meant → Sort → Position → Meant
-meant_settled (One t) s k = One t
-meant_settled (Either xs) s k = One (new_term s k)
-meant_settled (Says f) s k = Says f
+meant_settled m s k = One (term_for s m k)
 
 -- ---- branches
 
