@@ -4,13 +4,13 @@ use Rattle.ss_core.specs.declared.names.Ty.{Ty}
 use Rattle.ss_core.specs.declared.names.Ty.TheVariants as ty
 use Rattle.ss_core.specs.Tree.{ClassTree, DefaultTree, AtLevel, ConsistentArgument, ExprTree, DefaultExpr, CalleeTree, Dispatched, Static, Base, BaseConstructor, LocalTree, NamedTree, FieldOf, AllOf, ElementsOf, UptoOf, BodyTree, CoreTree}
 use Rattle.ss_core.specs.Chain.{levels}
-use Rattle.ss_store_rules.specs.Locals.{this_types, local_types}
+use Rattle.ss_store_rules.specs.Locals.{types_of, this_types, local_types}
 use Rattle.ss_store_rules.specs.Typed.{callee_of}
-use Rattle.ss_logic_stores.specs.Terms.{Term}
+use Rattle.ss_logic_stores.specs.Terms.{Term, sort_of_type}
 use Rattle.ss_logic_stores.specs.Formulas.{Formula}
 use Rattle.ss_logic_rules.specs.Shapes.{null_term, class_term, equal, differ, sub_atom, allocated, ready}
 use Rattle.ss_logic_rules.specs.Shapes as shape
-use Rattle.ss_logic_express.specs.Express.{and_of, or_of, Choice, Meant, One, Either, Says, Scene, meant, defined, not_null, fits_int, holds_formula, local_meant}
+use Rattle.ss_logic_express.specs.Express.{and_of, or_of, Choice, Meant, One, Either, Says, Scene, meant, defined, not_null, default_of_sort, fits_int, holds_formula, local_meant}
 use Rattle.ss_logic_frames.specs.Frames.{NamedTerm, NamesField, NamesAll, NamesUpto, NamesElements, OwnerTerm, CallTerms}
 use Rattle.ss_machine_rules.specs.Frame.{subject_of}
 
@@ -31,7 +31,11 @@ is_of_type asks_ready s (ty.Ref t non_null) x =
 
 -- ---- where a contract stands
 
--- The conditions of a body between these stores, where its arguments and its result mean this. No condition reads another local.
+-- what locals of these types mean at an entry: the defaults of the types
+abbrev pub defaults_meant : List Ty → List Meant
+defaults_meant ts = map (λ t. One (default_of_sort (sort_of_type t))) ts
+
+-- The conditions of a body between these stores, where its arguments and its result mean this. The other locals are as at an entry.
 abbrev pub contract_scene : List ClassTree → BodyTree → Term → Term → List Meant → List Meant → Scene
 contract_scene cs b now entry arguments result = record {
   classes = cs;
@@ -39,13 +43,13 @@ contract_scene cs b now entry arguments result = record {
   entry = entry;
   inside_old = false;
   types = local_types b;
-  locals = arguments ++ map (λ l. One null_term) b.locals ++ result;
+  locals = arguments ++ defaults_meant (types_of b.locals) ++ result;
   bound = 0;
 }
 
--- the result before there is one, which no condition reads
+-- the result before there is one
 abbrev pub no_result : BodyTree → List Meant
-no_result b = map (λ t. One null_term) (option_to_list b.result)
+no_result b = defaults_meant (option_to_list b.result)
 
 abbrev pub conditions : List ExprTree → Scene → List Formula
 conditions es c = map (λ e. holds_formula e c) es
