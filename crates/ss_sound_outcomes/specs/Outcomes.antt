@@ -14,7 +14,7 @@ use Rattle.ss_store_rules.specs.Admissible.{invariants_hold}
 use Rattle.ss_store_rules.specs.Locals.{assigns}
 use Rattle.ss_store_rules.specs.Typed.{constructor_of}
 use Rattle.ss_machine_rules.specs.Frame.{Span, this_of, is_kept}
-use Rattle.ss_machine_rules.specs.States.{Target, ToCall, ToNew, locals_at_entry, put, span}
+use Rattle.ss_machine_rules.specs.States.{Target, ToCall, locals_at_entry, put, span}
 use Rattle.ss_machine_rules.specs.Steps.{values_of, all_hold, with_ready, result_local, result_value, held_by, are_exposed}
 use Rattle.ss_machine_rules.specs.Good.{IsGoodStore}
 use Rattle.ss_machine_good_frames.specs.Later.{IsLater}
@@ -88,13 +88,13 @@ Calls a u Q p x (BaseConstructor n) es = Has (values_of es (scene a p)) (λ vs. 
 
 -- ---- new objects
 
--- the store s has the new object already
+-- The store s has the new object already. A constructor returns like a body that was called, and its object is ready only behind that.
 abbrev pub ConstructsSafely : Activation → StmtTree → (Point → Type 0) → Point → Option ℕ → Option BodyTree → Value → List Value → List Object → Type 0
 ConstructsSafely a u Q p x None this vs s = Q (with_store s p)
 ConstructsSafely a u Q p x (Some b) this vs s =
     ArePassed a.program b s (this ∷ vs) →
     Enters a b (this ∷ vs) s
-    × ((z : List Object) (v : Value) → Fits a.program.classes a.table z → IsReturn a b (ToNew x) (this ∷ vs) s z v → GoesOn a u Q p (with_local x this (with_store (with_ready z this) p)))
+    × ((z : List Object) (v : Value) → Fits a.program.classes a.table z → IsReturn a b (ToCall x) (this ∷ vs) s z v → GoesOn a u Q p (with_local x this (with_store (with_ready z this) p)))
 
 abbrev pub Constructs : Activation → StmtTree → (Point → Type 0) → Point → Option ℕ → ℕ → List ExprTree → Type 0
 Constructs a u Q p x t es =
