@@ -172,7 +172,7 @@ pub all_plain : (es : List ExprTree) → list_all (λ e. not (false && is_this_o
 all_plain [] = refl
 all_plain (e ∷ es) = all_plain es
 
-method_number : (c : CoreTree) (d m : ℕ) (b : BodyTree) → method_at c d m ≡ Some b → (n : ℕ) × (body_at c n ≡ Some b)
+pub method_number : (c : CoreTree) (d m : ℕ) (b : BodyTree) → method_at c d m ≡ Some b → (n : ℕ) × (body_at c n ≡ Some b)
 method_number c d m b h = here (slice_get (table c.classes d) m) h
   where
     here : (o : Option EntryTree) → option_and_then (λ (z : EntryTree). body_at c z.body) o ≡ Some b → (n : ℕ) × (body_at c n ≡ Some b)
@@ -180,7 +180,7 @@ method_number c d m b h = here (slice_get (table c.classes d) m) h
     here (Some z) g = (z.body, g)
 
 -- a body of the table of a class is of that class or of one above it
-table_class : (c : CoreTree) → AreTables c → (t n : ℕ) (b : BodyTree) → body_at c n ≡ Some b → stands_in_table c t n ≡ true → below c.classes t b.class ≡ true
+pub table_class : (c : CoreTree) → AreTables c → (t n : ℕ) (b : BodyTree) → body_at c n ≡ Some b → stands_in_table c t n ≡ true → below c.classes t b.class ≡ true
 table_class c tables t n b at h = ⊎_elim
     (λ declares.
     let e = any_there (λ (z : EntryTree). z.body == n) (table c.classes t) h in

@@ -43,7 +43,7 @@ use Rattle.ss_machine_good_runs.proofs.Waiting.{older_size, waits}
 use Rattle.ss_machine_good_runs.proofs.Calls.{constructs_this, enter_good, stacked, with_this, call_parts, called}
 
 -- the first body found passes the test
-found_passes : {X : Type 0} (p : X → Bool) (xs : List X) (y : X) → find p xs ≡ Some y → (n : ℕ) × (slice_get xs n ≡ Some y) × (p y ≡ true)
+pub found_passes : {X : Type 0} (p : X → Bool) (xs : List X) (y : X) → find p xs ≡ Some y → (n : ℕ) × (slice_get xs n ≡ Some y) × (p y ≡ true)
 found_passes p [] y e = absurd (let none : ⊥ = cc in none)
 found_passes p (x ∷ xs) y e = ⊎_elim
     (λ yes. let is : Some x ≡ Some y = rw yes at e in let same : x ≡ y = cc in (0, is, subst (λ z. p z ≡ true) same yes))

@@ -37,7 +37,7 @@ first_get (x ∷ xs) ys (suc i) v e = first_get xs ys i v e
 abbrev pub AreNotNullArguments : BodyTree → List Value → Type 0
 AreNotNullArguments b vs = (i : ℕ) (t : Ty) (v : Value) → slice_get (argument_types b) i ≡ Some t → slice_get vs i ≡ Some v → is_non_null t ≡ true → IsNotNull v
 
-arguments_assigned : (c : CoreTree) (b : BodyTree) (s : List Object) (vs : List Value) → length vs ≡ argument_count b → AreNotNullArguments b vs → AreAssigned b (is_argument b) (setting c.classes s s (locals_at_entry b vs))
+pub arguments_assigned : (c : CoreTree) (b : BodyTree) (s : List Object) (vs : List Value) → length vs ≡ argument_count b → AreNotNullArguments b vs → AreAssigned b (is_argument b) (setting c.classes s s (locals_at_entry b vs))
 arguments_assigned c b s vs count not_null x arg typed =
     let l = ltb-true x (argument_count b) arg in
     let v = there_is vs x (omega (arith, l, count)) in

@@ -53,7 +53,7 @@ none_if true static none delayed h e = (and_parts (not static) none (and_parts (
 none_if false static none delayed h e = absurd (false≢true e)
 
 -- a constructor has no result
-constructor_result : (b : BodyTree) → has_flags b ≡ true → b.flags.ctor ≡ true → b.result ≡ None
+pub constructor_result : (b : BodyTree) → has_flags b ≡ true → b.flags.ctor ≡ true → b.result ≡ None
 constructor_result b flags ctor = here b.result (none_if b.flags.ctor b.flags.is_static (is_none b.result) b.flags.delayed flags ctor)
   where
     here : (o : Option Ty) → is_none o ≡ true → o ≡ None
@@ -69,7 +69,7 @@ something_returned cs b None x h = absurd (false≢true h)
 something_returned cs b (Some t) x h = (t, refl, h)
 
 -- a value that a body may give back as its result
-record IsResult (c : CoreTree) (b : BodyTree) (s : List Object) (v : Value) : Type 0 where
+pub record IsResult (c : CoreTree) (b : BodyTree) (s : List Object) (v : Value) : Type 0 where
   types : (t : Ty) → b.result ≡ Some t → has_type c.classes s t v ≡ true
   ready : IsReady s v
   non_null : is_non_null_type b.result ≡ true → IsNotNull v
@@ -124,7 +124,7 @@ module _ (c : CoreTree) (formed : IsFormed c) (f : Frame) (s : List Object) (p :
       apart_if true m h = absurd (true≢false h)
       apart_if false m h = refl
 
-  result_is : (o : Option ExprTree) → e ≡ o → (v : Value) → steps.result_value o (scene c f s) ≡ Ok v → IsResult c f.body s v
+  pub result_is : (o : Option ExprTree) → e ≡ o → (v : Value) → steps.result_value o (scene c f s) ≡ Ok v → IsResult c f.body s v
   result_is None same v ev = result_none v (nothing_returned c.classes f.body f.body.result (subst (λ o. is_returned c.classes f.body f.body.result o ≡ true) same typed_end)) (sym (ok_same value.Null v ev))
   result_is (Some x) same v ev = result_some x v same ev
 
@@ -149,7 +149,7 @@ module _ (c : CoreTree) (formed : IsFormed c) (f : Frame) (s : List Object) (p :
       (λ rest. ⊎_elim (λ delayed. absurd (true≢false (sym delayed ∙ undelayed))) (λ ready. ready_end.so ctor ready) (or_cases f.body.flags.delayed ready_end.known rest))
       (or_cases (not f.body.flags.ctor) (f.body.flags.delayed || ready_end.known) ready_end.checked))
 
-  answer_call : (x : Option ℕ) (v : Value) → IsResult c f.body s v → IsAnswer c f.body (ToCall x) (constructed f) s v
+  pub answer_call : (x : Option ℕ) (v : Value) → IsResult c f.body s v → IsAnswer c f.body (ToCall x) (constructed f) s v
   answer_call x v result = record { types = result.types; ready = result.ready; non_null = result.non_null; fields = given_end; whole = whole_end }
 
   module _ (fs : List Frame) (caller : Frame) (waiting : AreWaiting c s f (caller ∷ fs)) (new : AreNew (f ∷ caller ∷ fs)) where
