@@ -59,7 +59,7 @@ end_is_new c s g (f ∷ fs) are = (λ o e. let same : length s ≡ o = cc in bel
     below_end true n o l = omega arith
     below_end false n o l = l
 
-low_size : (f : Frame) (n : ℕ) → length f.entry ≤ n → entry_size f ≤ n
+pub low_size : (f : Frame) (n : ℕ) → length f.entry ≤ n → entry_size f ≤ n
 low_size f n l = here f.body.flags.ctor
   where
     here : (k : Bool) → (if k then 0 else length f.entry) ≤ n
