@@ -99,22 +99,22 @@ value_read cs m e ps x r u is h = let read = subst (λ o. R cs m e ps x o) is h 
 
 module _ (m : Structure) (c : Scene) (e : List Value) (at : length e ≡ c.bound) (ps qs : List Formula) (x y : Meant) (a b : Outcome) (ga : Gives IsWhole a) (gb : Gives IsWhole b)
     (ra : R c.classes m e ps x a) (rb : R c.classes m e qs y b) (rest_a : (i : ℤ) → R c.classes m (e ++ whole i ∷ []) ps x a) (rest_b : (i : ℤ) → R c.classes m (e ++ whole i ∷ []) qs y b) where
-  abbrev With : ℤ → List Value
+  abbrev pub With : ℤ → List Value
   With i = e ++ whole i ∷ []
 
   bound_value : (i : ℤ) → V c.classes m (With i) (Bound c.bound) ≡ whole i
   bound_value i = argument_at e (whole i) [] c.bound at
 
-  low_means : (u : ObjectValue) → a ≡ Ok u → (i : ℤ) → M c.classes m (With i) (neg (over x (λ t. at_most t (Bound c.bound)))) (not (int_le (as_int u) i))
+  pub low_means : (u : ObjectValue) → a ≡ Ok u → (i : ℤ) → M c.classes m (With i) (neg (over x (λ t. at_most t (Bound c.bound)))) (not (int_le (as_int u) i))
   low_means u is i =
       let d = whole_denotes c.classes m (With i) x a ga u is (value_read c.classes m (With i) ps x a u is (rest_a i)) in
       neg_means c.classes m (With i) (over x (λ t. at_most t (Bound c.bound))) (int_le (as_int u) i)
       (over_means c.classes m (With i) x (λ t. at_most t (Bound c.bound)) (whole (as_int u)) (int_le (as_int u) i) d (λ t p. at_most_means c.classes m (With i) t (Bound c.bound) (as_int u) i p (bound_value i)))
 
-  abbrev after : Term
+  abbrev pub after : Term
   after = app term.Add (Bound c.bound ∷ number (pos 1) ∷ [])
 
-  high_means : (w : ObjectValue) → b ≡ Ok w → (i : ℤ) → M c.classes m (With i) (neg (over y (λ t. at_most after t))) (not (int_le (i +ℤ pos 1) (as_int w)))
+  pub high_means : (w : ObjectValue) → b ≡ Ok w → (i : ℤ) → M c.classes m (With i) (neg (over y (λ t. at_most after t))) (not (int_le (i +ℤ pos 1) (as_int w)))
   high_means w is i =
       let d = whole_denotes c.classes m (With i) y b gb w is (value_read c.classes m (With i) qs y b w is (rest_b i)) in
       neg_means c.classes m (With i) (over y (λ t. at_most after t)) (int_le (i +ℤ pos 1) (as_int w))

@@ -24,7 +24,9 @@ use Rattle.ss_logic_means.specs.Scenes.{setting_of, HaveValues, IsStoreTerm, Sta
 use Rattle.ss_logic_means.specs.Sorts.{IsSorted}
 use Rattle.ss_logic_means.specs.Bodies.{constants_from, body_scene, GivesFrom}
 use Rattle.ss_logic_means.proofs.Closed.{closed_stands, closed_stay}
-use Rattle.ss_logic_means.proofs.Contracts.{stated_means}
+use Rattle.ss_logic_means.proofs.Contracts.{all_stated_mean}
+use Rattle.ss_logic_means.proofs.Everywhere.{all_locals, speaks_all}
+use Rattle.ss_logic_means.proofs.Scening.{sorted_among}
 use Rattle.ss_logic_means.proofs.Stated.{closed_sorted, condition_formed}
 
 -- ---- sorts
@@ -128,7 +130,7 @@ module _ (table : Table) (now entry : Heap) (numbered : IsNumbered now) (before 
 
 pub body_formed : (cs : List ClassTree) (b : BodyTree) (x : ExprTree) → is_stated cs (local_types b) x ≡ true → (now entry : Term) → have_sorts cs (sort.Store ∷ sort.Store ∷ []) (now ∷ entry ∷ []) ≡ true →
     is_well_formed cs [] (holds_formula x (body_scene cs b now entry)) ≡ true
-body_formed cs b x is now entry h = condition_formed (body_scene cs b now entry) [] (body_sorted cs b now entry h) refl x is
+body_formed cs b x is now entry h = condition_formed all_locals (body_scene cs b now entry) [] (sorted_among all_locals (body_scene cs b now entry) [] (body_sorted cs b now entry h)) refl x (speaks_all x) is
 
 settled : (m : Structure) (c : Scene) → ((x : ℕ) → Stay c.classes m [] (choices (local_meant c x))) → (x : ExprTree) → Settled m [] c x
 settled m c stay (DefaultExpr p d) = stay (subject d)
@@ -138,5 +140,5 @@ pub body_means : (cs : List ClassTree) (b : BodyTree) (x : ExprTree) → is_stat
     IsGoodSetting (setting_of m (body_scene cs b now entry) current former locals) (local_types b) k → IsStoreTerm cs m now current → IsStoreTerm cs m entry former → GivesFrom m 0 (local_types b) locals →
     Means cs m [] (holds_formula x (body_scene cs b now entry)) (run.holds x (setting_of m (body_scene cs b now entry) current former locals))
 body_means cs b x is m now entry current former locals k good n e given =
-    stated_means m current former x (body_scene cs b now entry) locals k good [] (body_stands m cs b now entry current former locals n e given) refl is
+    all_stated_mean m current former x (body_scene cs b now entry) locals k good [] (body_stands m cs b now entry current former locals n e given) refl is
     (settled m (body_scene cs b now entry) (body_stays m cs b now entry locals given) x)

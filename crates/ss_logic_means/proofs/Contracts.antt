@@ -1,7 +1,7 @@
 -- The conditions of contracts: each is stated as the laws ask, and its formula is true exactly where it holds.
-use Rattle.std.proofs.Common.{◌≡◌, ℕ, List, [], ◌∷◌, ◌++◌, length, Bool, true, false, not, ◌&&◌, ◌||◌, eqb, Option, Some, None, refl, ◌∙◌, ap, subst}
-use Rattle.std.specs.Prelude.{slice_get, if◌then◌else◌, option_to_list, is_some}
-use Rattle.std.proofs.lemmas.Bool.{false≢true, and_parts, and_from, eqb-true}
+use Rattle.std.proofs.Common.{◌≡◌, ℕ, List, [], ◌∷◌, ◌++◌, length, Bool, true, false, not, ◌&&◌, ◌||◌, eqb, arith, Option, Some, None, refl, ◌∙◌, ap, subst}
+use Rattle.std.specs.Prelude.{slice_get, nat_lt, if◌then◌else◌, option_to_list, is_some}
+use Rattle.std.proofs.lemmas.Bool.{false≢true, and_parts, and_from, eqb-true, lt-ltb}
 use Rattle.ss_core.specs.declared.names.Ty.{Ty}
 use Rattle.ss_core.specs.declared.names.Ty.TheVariants as ty
 use Rattle.ss_core.specs.Tree.{ClassTree, BodyTree, DefaultTree, AtLevel, Unpacked, ThisUnowned, Defaults, OwnedFull, Full, ConsistentArgument, FullArgument, Captured, ExprTree, IntExpr, BoolExpr, NullExpr, LocalExpr, FieldExpr, ElementExpr, LengthExpr, NegateExpr, NotExpr, BinaryExpr, ImpliesExpr, IffExpr, IsExpr, AsExpr, CastExpr, OldExpr, QuantifiedExpr, StateExpr, OwnersExpr, DefaultExpr}
@@ -16,10 +16,12 @@ use Rattle.ss_logic_stores.specs.Values.{Heap, Value, Structure}
 use Rattle.ss_logic_express.specs.Express.{Scene, default_said, holds_formula}
 use Rattle.ss_machine_typed.specs.Settings.{IsGoodSetting}
 use Rattle.ss_logic_means.specs.Means.{Means}
-use Rattle.ss_logic_means.specs.Scenes.{setting_of, Stands, has_subject, has_no_default, is_stated, Settled}
+use Rattle.ss_logic_means.specs.Scenes.{setting_of, Stands, StandsAmong, has_subject, has_no_default, speaks_of, speaks_only, is_stated, Settled}
 use Rattle.ss_logic_means.proofs.Operands.{class_reference}
 use Rattle.ss_logic_means.proofs.Invariants.{condition_means}
 use Rattle.ss_logic_means.proofs.Listed.{and_one}
+use Rattle.ss_logic_means.proofs.Everywhere.{all_locals, plainly_from, speaks_all}
+use Rattle.ss_logic_means.proofs.Standing.{stands_among}
 use Rattle.ss_logic_means.proofs.Defaults.{default_means}
 
 -- ---- default conditions of a body
@@ -27,6 +29,10 @@ use Rattle.ss_logic_means.proofs.Defaults.{default_means}
 this_first : (s : Bool) (t : Ty) (xs ys zs : List Ty) → not s ≡ true → slice_get ((if s then [] else t ∷ []) ++ xs ++ ys ++ zs) 0 ≡ Some t
 this_first true t xs ys zs h = absurd (false≢true h)
 this_first false t xs ys zs h = refl
+
+first_within : (s : Bool) (t : Ty) (xs : List Ty) → not s ≡ true → nat_lt 0 (length ((if s then [] else t ∷ []) ++ xs)) ≡ true
+first_within true t xs h = absurd (false≢true h)
+first_within false t xs h = lt-ltb 0 (length (t ∷ xs)) (omega arith)
 
 module _ (cs : List ClassTree) (b : BodyTree) where
   this_type : not b.flags.is_static ≡ true → slice_get (local_types b) 0 ≡ Some (ty.Ref (record { 0 = b.class }) true)
@@ -59,6 +65,39 @@ module _ (cs : List ClassTree) (b : BodyTree) where
   default_subject (Captured x apart) h =
       let p = and_parts (is_reference_argument b x) (not apart || not b.flags.is_static) h in
       and_from (is_reference (slice_get (local_types b) x)) (not apart || is_reference (slice_get (local_types b) 0)) (argument_reference x p.0) (this_apart apart p.1)
+
+  -- ---- the locals of which contracts speak
+
+  module _ (among : ℕ → Bool) (arguments : (y : ℕ) → is_argument b y ≡ true → among y ≡ true) where
+    this_among : not b.flags.is_static ≡ true → among 0 ≡ true
+    this_among h = arguments 0 (first_within b.flags.is_static (ty.Ref (record { 0 = b.class }) true) (types_of b.params) h)
+
+    argument_among : (x : ℕ) → is_reference_argument b x ≡ true → among x ≡ true
+    argument_among x h =
+        let p = and_parts (is_argument b x && (b.flags.is_static || not (eqb x 0))) (has_class (λ c. true) (slice_get (local_types b) x)) h in
+        arguments x (and_parts (is_argument b x) (b.flags.is_static || not (eqb x 0)) p.0).0
+
+    apart_among : (apart : Bool) → (not apart || not b.flags.is_static) ≡ true → (not apart || among 0) ≡ true
+    apart_among true h = this_among h
+    apart_among false h = refl
+
+    pub default_speaks : (d : DefaultTree) → is_default_of b d ≡ true → speaks_of among d ≡ true
+    default_speaks (AtLevel t) h = this_among (and_parts (not b.flags.is_static) (eqb t b.class) h).0
+    default_speaks Unpacked h = this_among h
+    default_speaks ThisUnowned h = this_among h
+    default_speaks (Defaults t) h = this_among (and_parts (not b.flags.is_static) (eqb t b.class) h).0
+    default_speaks (OwnedFull t) h = this_among (and_parts (not b.flags.is_static) (eqb t b.class) h).0
+    default_speaks Full h = this_among h
+    default_speaks (ConsistentArgument x) h = argument_among x h
+    default_speaks (FullArgument x) h = argument_among x h
+    default_speaks (Captured x apart) h =
+        let p = and_parts (is_reference_argument b x) (not apart || not b.flags.is_static) h in
+        and_from (among x) (not apart || among 0) (argument_among x p.0) (apart_among apart p.1)
+
+  -- a condition of a contract speaks of the arguments, and of what else it may read
+  pub contract_speaks : (w : Words) (among : ℕ → Bool) (x : ExprTree) → is_contract cs b w among x ≡ true → ((y : ℕ) → is_argument b y ≡ true → among y ≡ true) → speaks_only among x ≡ true
+  contract_speaks w among (DefaultExpr p d) h arguments = default_speaks among arguments d h
+  contract_speaks w among x h arguments = (and_parts (is_condition cs b w x) (reads_only among x) h).1
 
   -- ---- written conditions
 
@@ -134,10 +173,15 @@ module _ (cs : List ClassTree) (b : BodyTree) where
 
 -- ---- what stated conditions say
 
-pub stated_means : (m : Structure) (now entry : Heap) (x : ExprTree) (c : Scene) (locals : List ObjectValue) (k : Bool) → IsGoodSetting (setting_of m c now entry locals) c.types k → (e : List Value) → Stands m c now entry locals e → length e ≡ c.bound →
-    is_stated c.classes c.types x ≡ true → Settled m e c x → Means c.classes m e (holds_formula x c) (run.holds x (setting_of m c now entry locals))
-stated_means m now entry (DefaultExpr p d) c locals k good e st at is stay =
-    and_one c.classes m e (default_said c d) (run.default_holds (setting_of m c now entry locals) d) (default_means m now entry c locals k good e st at d is stay)
-stated_means m now entry x c locals k good e st at is stay =
+pub stated_means : (among : ℕ → Bool) (m : Structure) (now entry : Heap) (x : ExprTree) (c : Scene) (locals : List ObjectValue) (k : Bool) → IsGoodSetting (setting_of m c now entry locals) c.types k → (e : List Value) → StandsAmong among m c now entry locals e → length e ≡ c.bound →
+    speaks_only among x ≡ true → is_stated c.classes c.types x ≡ true → Settled m e c x → Means c.classes m e (holds_formula x c) (run.holds x (setting_of m c now entry locals))
+stated_means among m now entry (DefaultExpr p d) c locals k good e st at speaks is stay =
+    and_one c.classes m e (default_said c d) (run.default_holds (setting_of m c now entry locals) d) (default_means among m now entry c locals k good e st at d speaks is stay)
+stated_means among m now entry x c locals k good e st at speaks is stay =
     let parts = and_parts (has_no_default x) (is_bool (type_of c.classes c.types x)) is in
-    condition_means m now entry x c locals k good e st parts.0 parts.1 at
+    condition_means among m now entry x c locals k good e st (plainly_from among x speaks parts.0) parts.1 at
+
+-- where the scene stands for all its locals
+pub all_stated_mean : (m : Structure) (now entry : Heap) (x : ExprTree) (c : Scene) (locals : List ObjectValue) (k : Bool) → IsGoodSetting (setting_of m c now entry locals) c.types k → (e : List Value) → Stands m c now entry locals e → length e ≡ c.bound →
+    is_stated c.classes c.types x ≡ true → Settled m e c x → Means c.classes m e (holds_formula x c) (run.holds x (setting_of m c now entry locals))
+all_stated_mean m now entry x c locals k good e st at is stay = stated_means all_locals m now entry x c locals k good e (stands_among all_locals m c now entry locals e st) at (speaks_all x) is stay

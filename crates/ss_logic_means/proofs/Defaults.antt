@@ -32,7 +32,7 @@ use Rattle.ss_logic_express.specs.Express.{and_of, or_of, choices, over, Scene, 
 use Rattle.ss_machine_typed.specs.Settings.{IsGoodSetting}
 use Rattle.ss_machine_typed.proofs.Sound.{class_of_type}
 use Rattle.ss_logic_means.specs.Means.{standing}
-use Rattle.ss_logic_means.specs.Scenes.{setting_of, Stands, Stay, has_subject}
+use Rattle.ss_logic_means.specs.Scenes.{setting_of, StandsAmong, Stay, has_subject, speaks_of}
 use Rattle.ss_logic_means.proofs.Denoting.{V, M, D, and_means, or_means, neg_means, over_means}
 use Rattle.ss_logic_means.proofs.Operations.{equal_means}
 use Rattle.ss_logic_means.proofs.Classes.{IsReferenceOf, object_known, null_means}
@@ -384,7 +384,7 @@ module _ (c : Scene) (chain : IsChain c.classes) (beside : NoAlso c.classes) (m 
       met_means (Captured x apart) asks = captured_mean apart asks
 
 -- ---- default conditions of a scene
-module _ (m : Structure) (now former : Heap) (c : Scene) (locals : List ObjectValue) (k : Bool) (good : IsGoodSetting (setting_of m c now former locals) c.types k) (e : List Value) (st : Stands m c now former locals e) (at : length e ≡ c.bound) where
+module _ (among : ℕ → Bool) (m : Structure) (now former : Heap) (c : Scene) (locals : List ObjectValue) (k : Bool) (good : IsGoodSetting (setting_of m c now former locals) c.types k) (e : List Value) (st : StandsAmong among m c now former locals e) (at : length e ≡ c.bound) where
   abbrev Run : run.Setting
   Run = setting_of m c now former locals
 
@@ -392,19 +392,19 @@ module _ (m : Structure) (now former : Heap) (c : Scene) (locals : List ObjectVa
   Now = objects_of c.classes m.table now
 
   -- a local that has a type has a value
-  valued : (x : ℕ) (t : Ty) → slice_get c.types x ≡ Some t → (has_type c.classes Now t (run.local_value Run x) ≡ true) × D c.classes m e (local_meant c x) (standing (run.local_value Run x))
-  valued x t there =
+  valued : (x : ℕ) (t : Ty) → among x ≡ true → slice_get c.types x ≡ Some t → (has_type c.classes Now t (run.local_value Run x) ≡ true) × D c.classes m e (local_meant c x) (standing (run.local_value Run x))
+  valued x t asked there =
       let within = slice_get_within c.types x t there in
       let count = good.count in
       let v = get_found locals x (omega (arith, within, count)) in
       let is : run.local_value Run x ≡ v.0 = ap (λ o. unwrap_or o value.Null) v.1 in (
         subst (λ u. has_type c.classes Now t u ≡ true) (sym is) (good.types x t v.0 there v.1),
-        subst (λ u. D c.classes m e (local_meant c x) (standing u)) (sym is) (subst (λ w. D c.classes m w (local_meant c x) (standing v.0)) (append-nil e) (st.locals x v.0 v.1 [])),
+        subst (λ u. D c.classes m e (local_meant c x) (standing u)) (sym is) (subst (λ w. D c.classes m w (local_meant c x) (standing v.0)) (append-nil e) (st.locals x v.0 asked v.1 [])),
       )
 
-  referred : (x : ℕ) (a : Option Ty) → slice_get c.types x ≡ a → is_reference a ≡ true → IsReferenceOf now (run.local_value Run x) × D c.classes m e (local_meant c x) (standing (run.local_value Run x))
-  referred x None there r = absurd (false≢true r)
-  referred x (Some t) there r = let v = valued x t there in (reference_value c.classes m.table now t r (run.local_value Run x) v.0, v.1)
+  referred : (x : ℕ) (a : Option Ty) → among x ≡ true → slice_get c.types x ≡ a → is_reference a ≡ true → IsReferenceOf now (run.local_value Run x) × D c.classes m e (local_meant c x) (standing (run.local_value Run x))
+  referred x None asked there r = absurd (false≢true r)
+  referred x (Some t) asked there r = let v = valued x t asked there in (reference_value c.classes m.table now t r (run.local_value Run x) v.0, v.1)
 
   -- null meets each condition
   said_means : (x : ℕ) (d : DefaultTree) (u : ObjectValue) → IsReferenceOf now u → D c.classes m e (local_meant c x) (standing u) → Stay c.classes m e (choices (local_meant c x)) →
@@ -423,37 +423,38 @@ module _ (m : Structure) (now former : Heap) (c : Scene) (locals : List ObjectVa
   met d o l t is asks = met_means c good.chain good.beside m e now st.now at (good_values c.classes m.table now good.store) t o l is former locals d asks
 
   -- it speaks of a local of a reference type alone
-  plain_means : (d : DefaultTree) (x : ℕ) → is_reference (slice_get c.types x) ≡ true → Stay c.classes m e (choices (local_meant c x)) →
+  plain_means : (d : DefaultTree) (x : ℕ) → among x ≡ true → is_reference (slice_get c.types x) ≡ true → Stay c.classes m e (choices (local_meant c x)) →
       ((o : ℕ) (l : nat_lt o now.next ≡ true) (t : Term) (is : (vs : List Value) → V c.classes m (e ++ vs) t ≡ thing (reference o)) → Asks c good.chain good.beside m e now st.now at (good_values c.classes m.table now good.store) t o l is former locals d) →
       M c.classes m e (over (local_meant c x) (λ t. or_of (equal t null_term ∷ met_by c d t ∷ []))) (is_null_or (run.local_value Run x) (run.is_met_by Run d))
-  plain_means d x r stay asks =
-      let v = referred x (slice_get c.types x) refl r in
+  plain_means d x asked r stay asks =
+      let v = referred x (slice_get c.types x) asked refl r in
       said_means x d (run.local_value Run x) v.0 v.1 stay (λ o _ l t is. met d o l t is (asks o l t is))
 
-  upto : (t : ℕ) → has_class (λ y. below c.classes y t) (slice_get c.types 0) ≡ true → Stay c.classes m e (choices (local_meant c 0)) → M c.classes m e (default_said c (Defaults t)) (run.default_holds Run (Defaults t))
-  upto t h stay =
+  upto : (t : ℕ) → among 0 ≡ true → has_class (λ y. below c.classes y t) (slice_get c.types 0) ≡ true → Stay c.classes m e (choices (local_meant c 0)) → M c.classes m e (default_said c (Defaults t)) (run.default_holds Run (Defaults t))
+  upto t asked h stay =
       let of = class_of_type (λ y. below c.classes y t) (slice_get c.types 0) h in
-      let v = valued 0 (ty.Ref (record { 0 = of.0 }) of.1) of.2 in
+      let v = valued 0 (ty.Ref (record { 0 = of.0 }) of.1) asked of.2 in
       said_means 0 (Defaults t) (run.local_value Run 0) (reference_value c.classes m.table now (ty.Ref (record { 0 = of.0 }) of.1) refl (run.local_value Run 0) v.0) v.1 stay (λ o is l x fixed.
       let held = class_held c.classes m.table now of.0 o (subst (λ u. has_type c.classes Now (ty.Ref (record { 0 = of.0 }) of.1) u ≡ true) is v.0) in
       let own = m.table.class_of (reference o) in
       let up = below_trans c.classes good.chain own of.0 t (sym (sub-below c.classes good.beside own of.0) ∙ held.1) of.3 in
       met (Defaults t) o l x fixed (sub-below c.classes good.beside own t ∙ up))
 
-  this_asked : (apart : Bool) → (not apart || is_reference (slice_get c.types 0)) ≡ true → (o : ℕ) (l : nat_lt o now.next ≡ true) (t : Term) (is : (vs : List Value) → V c.classes m (e ++ vs) t ≡ thing (reference o)) →
+  this_asked : (apart : Bool) → (not apart || among 0) ≡ true → (not apart || is_reference (slice_get c.types 0)) ≡ true → (o : ℕ) (l : nat_lt o now.next ≡ true) (t : Term) (is : (vs : List Value) → V c.classes m (e ++ vs) t ≡ thing (reference o)) →
       HasThis c good.chain good.beside m e now st.now at (good_values c.classes m.table now good.store) t o l is former locals apart
-  this_asked true h o l t is = referred 0 (slice_get c.types 0) refl h
-  this_asked false h o l t is = tt
+  this_asked true asked h o l t is = referred 0 (slice_get c.types 0) asked refl h
+  this_asked false asked h o l t is = tt
 
-  pub default_means : (d : DefaultTree) → has_subject c.classes c.types d ≡ true → Stay c.classes m e (choices (local_meant c (subject d))) → M c.classes m e (default_said c d) (run.default_holds Run d)
-  default_means (AtLevel t) r stay = plain_means (AtLevel t) 0 r stay (λ o l x is. tt)
-  default_means Unpacked r stay = plain_means Unpacked 0 r stay (λ o l x is. tt)
-  default_means ThisUnowned r stay = plain_means ThisUnowned 0 r stay (λ o l x is. tt)
-  default_means (Defaults t) r stay = upto t r stay
-  default_means (OwnedFull t) r stay = plain_means (OwnedFull t) 0 r stay (λ o l x is. tt)
-  default_means Full r stay = plain_means Full 0 r stay (λ o l x is. tt)
-  default_means (ConsistentArgument x) r stay = plain_means (ConsistentArgument x) x r stay (λ o l y is. tt)
-  default_means (FullArgument x) r stay = plain_means (FullArgument x) x r stay (λ o l y is. tt)
-  default_means (Captured x apart) r stay =
+  pub default_means : (d : DefaultTree) → speaks_of among d ≡ true → has_subject c.classes c.types d ≡ true → Stay c.classes m e (choices (local_meant c (subject d))) → M c.classes m e (default_said c d) (run.default_holds Run d)
+  default_means (AtLevel t) asked r stay = plain_means (AtLevel t) 0 asked r stay (λ o l x is. tt)
+  default_means Unpacked asked r stay = plain_means Unpacked 0 asked r stay (λ o l x is. tt)
+  default_means ThisUnowned asked r stay = plain_means ThisUnowned 0 asked r stay (λ o l x is. tt)
+  default_means (Defaults t) asked r stay = upto t asked r stay
+  default_means (OwnedFull t) asked r stay = plain_means (OwnedFull t) 0 asked r stay (λ o l x is. tt)
+  default_means Full asked r stay = plain_means Full 0 asked r stay (λ o l x is. tt)
+  default_means (ConsistentArgument x) asked r stay = plain_means (ConsistentArgument x) x asked r stay (λ o l y is. tt)
+  default_means (FullArgument x) asked r stay = plain_means (FullArgument x) x asked r stay (λ o l y is. tt)
+  default_means (Captured x apart) asked r stay =
+      let of = and_parts (among x) (not apart || among 0) asked in
       let both = and_parts (is_reference (slice_get c.types x)) (not apart || is_reference (slice_get c.types 0)) r in
-      plain_means (Captured x apart) x both.0 stay (λ o l y is. this_asked apart both.1 o l y is)
+      plain_means (Captured x apart) x of.0 both.0 stay (λ o l y is. this_asked apart of.1 both.1 o l y is)

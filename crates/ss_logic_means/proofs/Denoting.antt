@@ -223,11 +223,11 @@ module _ (cs : List ClassTree) (m : Structure) (e : List Value) where
   All-parts [] ys a = (tt, a)
   All-parts (f ∷ xs) ys a = let p = All-parts xs ys a.1 in ((a.0, p.0), p.1)
 
-  under_all : (f : Formula) (qs : List Formula) → All qs → All (under f qs)
+  pub under_all : (f : Formula) (qs : List Formula) → All qs → All (under f qs)
   under_all f [] a = tt
   under_all f (q ∷ qs) a = (λ n. n.1.0 a.0, under_all f qs a.1)
 
-  under_back : (f : Formula) → T f → (qs : List Formula) → All (under f qs) → All qs
+  pub under_back : (f : Formula) → T f → (qs : List Formula) → All (under f qs) → All qs
   under_back f t [] a = tt
   under_back f t (q ∷ qs) a = (formula_stable cs m e q (λ n. a.0 ((λ k. not_both cs m e f t k), (n, tt))), under_back f t qs a.1)
 

@@ -20,12 +20,12 @@ use Rattle.ss_logic_stores.proofs.Truth.{type_sort}
 use Rattle.ss_logic_rules.specs.Shapes.{number, null_term, class_term, level_of, owner_of, pair_of, equal, differ, at_most, sub_atom, allocated, committed, group}
 use Rattle.ss_logic_rules.specs.Shapes as shape
 use Rattle.ss_logic_express.specs.Express.{and_of, or_of, Choice, Meant, Says, choices, over, over_two, said, same_truths, Scene, state, at_entry, with_bound, element_sort, is_of, fits_int, less, word_said, owners_said, as_class, out_of_range, quantified_said, meant, not_null, readable, under, index_fits, word_parts, defined}
-use Rattle.ss_logic_means.specs.Scenes.{has_no_default}
-use Rattle.ss_logic_means.specs.Sorts.{HasSort, AreWellFormed, HaveSort, IsWellExpressed, IsSorted}
+use Rattle.ss_logic_means.specs.Sorts.{HasSort, AreWellFormed, HaveSort, IsWellExpressed, IsSortedAmong}
 use Rattle.ss_logic_means.proofs.Operands.{three_parts, where_some, where_bool, int_some, bool_some, reference_some, class_reference, int_or_bool, reference_or_bool, field_from, elements_from, element_reference, are_operands}
 use Rattle.ss_logic_means.proofs.Sorting.{sorted_one, sorted_two, sorted_three, equal_formed, all_formed, more_formed, each_formed}
 use Rattle.ss_logic_means.proofs.Forming.{F, S, C, and_two, or_two, negation, under_formed, says_sorted, flat_sorted, over_formed, over_two_formed, said_formed, same_formed, mapped_sorted, paired_sorted}
 use Rattle.ss_logic_means.proofs.Operating.{int_sort, bool_sort, reference_sort, where_sort, number_sorted, null_sorted, at_most_formed, less_formed, fits_formed, not_null_formed, as_sort, operation_formed}
+use Rattle.ss_logic_means.proofs.Everywhere.{reads_plainly}
 use Rattle.ss_logic_means.proofs.Standing.{length_more}
 use Rattle.ss_logic_means.proofs.Scening.{bound_sorted, class_sorted, type_sorted, pair_sorted, sub_formed, group_formed, level_sorted, owner_sorted, allocated_formed, committed_formed, consistent_formed, plain_sort, state_sorted, local_expressed, readable_formed, old_sorted, longer_sorted, with_bound_sorted}
 
@@ -105,9 +105,9 @@ element_sorted cs bound a s x i h k l = sorted_three cs bound (Element (element_
 
 -- ---- words and quantifiers of a scene
 
-module _ (c : Scene) (bound : List Sort) (st : IsSorted c bound) where
+module _ (among : ℕ → Bool) (c : Scene) (bound : List Sort) (st : IsSortedAmong among c bound) where
   now : S c.classes bound sort.Store (state c)
-  now = state_sorted c bound st
+  now = state_sorted among c bound st
 
   word_formed : (w : WordTree) (x : Term) → S c.classes bound sort.Rest x → F c.classes bound (word_said c w x)
   word_formed Consistent x h = consistent_formed c.classes bound (state c) now x h
@@ -119,7 +119,7 @@ module _ (c : Scene) (bound : List Sort) (st : IsSorted c bound) where
 
   word_parts_formed : (w : WordTree) (m : Meant) → C c.classes bound sort.Rest m → AreWellFormed c.classes bound (word_parts c w m)
   word_parts_formed New m h = (not_null_formed c.classes bound m h, tt)
-  word_parts_formed w m h = readable_formed c bound st m h
+  word_parts_formed w m h = readable_formed among c bound st m h
 
   owners_formed : (w : OwnersTree) (x y : Term) → S c.classes bound sort.Rest x → S c.classes bound sort.Rest y → F c.classes bound (owners_said c w x y)
   owners_formed SameOwner x y h k =
@@ -164,145 +164,145 @@ abbrev E : Scene → List Sort → ExprTree → Type 0
 E c bound x = IsWellExpressed c.classes bound (element_sort (Type-of c x)) (defined x c) (meant x c)
 
 -- An expression of another type than that of truth values may stand behind more bound names.
-pub expressed : (x : ExprTree) (c : Scene) (bound : List Sort) → IsSorted c bound → has_no_default x ≡ true → is_some (Type-of c x) ≡ true → (is_bool (Type-of c x) ≡ true → length bound ≡ c.bound) → E c bound x
-expressed (IntExpr p n) c bound st none is at = (tt, typed_sorted c.classes bound (fits n) ty.Int (meant (IntExpr p n) c) is (refl, number_sorted c.classes bound n, tt))
-expressed (BoolExpr p b) c bound st none is at = (tt, (refl, (refl, refl), tt))
-expressed (NullExpr p) c bound st none is at = (tt, (refl, (refl, refl), tt))
-expressed (LocalExpr p x) c bound st none is at = (tt, local_expressed c bound st x is)
-expressed (FieldExpr p x f) c bound st none is at =
+pub expressed : (among : ℕ → Bool) (x : ExprTree) (c : Scene) (bound : List Sort) → IsSortedAmong among c bound → reads_plainly among x ≡ true → is_some (Type-of c x) ≡ true → (is_bool (Type-of c x) ≡ true → length bound ≡ c.bound) → E c bound x
+expressed among (IntExpr p n) c bound st none is at = (tt, typed_sorted c.classes bound (fits n) ty.Int (meant (IntExpr p n) c) is (refl, number_sorted c.classes bound n, tt))
+expressed among (BoolExpr p b) c bound st none is at = (tt, (refl, (refl, refl), tt))
+expressed among (NullExpr p) c bound st none is at = (tt, (refl, (refl, refl), tt))
+expressed among (LocalExpr p x) c bound st none is at = (tt, local_expressed among c bound st x none is)
+expressed among (FieldExpr p x f) c bound st none is at =
     let a = Type-of c x in
     let d = field_from c.classes a (slice_get (all_fields c.classes) f) is in
     let r = class_reference (λ u. below c.classes u d.0.class) a d.2 in
-    let part = expressed x c bound st none (reference_some a r) (λ b. absurd (reference_or_bool a r b)) in
+    let part = expressed among x c bound st none (reference_some a r) (λ b. absurd (reference_or_bool a r b)) in
     let object = things c.classes bound a (meant x c) r part.1 in
     let read = mapped_sorted c.classes bound sort.Rest (sort_of_type d.0.field.ty) (λ o. app (Field f) (state c ∷ o ∷ []))
-    (λ o k. field_sorted c.classes bound (state c) o (state_sorted c bound st) k f d.0 d.1) (meant x c) object in (
-      more_formed c.classes bound (defined x c) (readable c (meant x c)) part.0 (readable_formed c bound st (meant x c) object),
+    (λ o k. field_sorted c.classes bound (state c) o (state_sorted among c bound st) k f d.0 d.1) (meant x c) object in (
+      more_formed c.classes bound (defined x c) (readable c (meant x c)) part.0 (readable_formed among c bound st (meant x c) object),
       as_sort c.classes bound (sort_of_type d.0.field.ty) (element_sort (Type-of c (FieldExpr p x f))) (meant (FieldExpr p x f) c) (field_result c.classes a (slice_get (all_fields c.classes) f) d.0 d.1 d.2) read,
     )
-expressed (ElementExpr p x i) c bound st none is at =
+expressed among (ElementExpr p x i) c bound st none is at =
     let a = Type-of c x in
     let n = Type-of c i in
     let both = elements_from c.classes a n is in
     let r = element_reference c.classes a both.1 in
-    let parts = and_parts (has_no_default x) (has_no_default i) none in
-    let first = expressed x c bound st parts.0 (reference_some a r) (λ b. absurd (reference_or_bool a r b)) in
-    let second = expressed i c bound st parts.1 (int_some n both.0) (λ b. absurd (int_or_bool n both.0 b)) in
+    let parts = and_parts (reads_plainly among x) (reads_plainly among i) none in
+    let first = expressed among x c bound st parts.0 (reference_some a r) (λ b. absurd (reference_or_bool a r b)) in
+    let second = expressed among i c bound st parts.1 (int_some n both.0) (λ b. absurd (int_or_bool n both.0 b)) in
     let object = things c.classes bound a (meant x c) r first.1 in
     let index = wholes c.classes bound n (meant i c) both.0 second.1 in
     let t = element_of c.classes a in
     let read = paired_sorted c.classes bound sort.Rest sort.Whole (element_sort t) (λ u v. app (Element (element_sort t)) (state c ∷ u ∷ v ∷ []))
-    (λ u v j k. element_sorted c.classes bound t (state c) u v (state_sorted c bound st) j k) (meant x c) (meant i c) object index in
+    (λ u v j k. element_sorted c.classes bound t (state c) u v (state_sorted among c bound st) j k) (meant x c) (meant i c) object index in
     let fits = over_two_formed c.classes bound sort.Rest sort.Whole (λ u v. and_of (at_most (number (pos 0)) v ∷ less v (app Length (u ∷ [])) ∷ [])) (λ u v j k.
     and_two c.classes bound (at_most (number (pos 0)) v) (less v (app Length (u ∷ []))) (at_most_formed c.classes bound (number (pos 0)) v (number_sorted c.classes bound (pos 0)) k)
     (less_formed c.classes bound v (app Length (u ∷ [])) k (length_sorted c.classes bound u j))) (meant x c) (meant i c) object index in (
       more_formed c.classes bound (defined x c ++ defined i c ++ readable c (meant x c)) (index_fits (meant x c) (meant i c) ∷ [])
-          (more_formed c.classes bound (defined x c ++ defined i c) (readable c (meant x c)) (more_formed c.classes bound (defined x c) (defined i c) first.0 second.0) (readable_formed c bound st (meant x c) object)) (fits, tt),
+          (more_formed c.classes bound (defined x c ++ defined i c) (readable c (meant x c)) (more_formed c.classes bound (defined x c) (defined i c) first.0 second.0) (readable_formed among c bound st (meant x c) object)) (fits, tt),
       as_sort c.classes bound (element_sort t) (element_sort (Type-of c (ElementExpr p x i))) (meant (ElementExpr p x i) c) (element_result (is_int n) t both.0) read,
     )
-expressed (LengthExpr p x) c bound st none is at =
+expressed among (LengthExpr p x) c bound st none is at =
     let a = Type-of c x in
     let array = where_some (has_class (is_array c.classes) a) ty.Int is in
     let r = class_reference (is_array c.classes) a array in
-    let part = expressed x c bound st none (reference_some a r) (λ b. absurd (reference_or_bool a r b)) in
+    let part = expressed among x c bound st none (reference_some a r) (λ b. absurd (reference_or_bool a r b)) in
     let object = things c.classes bound a (meant x c) r part.1 in (
       more_formed c.classes bound (defined x c) (not_null (meant x c) ∷ []) part.0 (not_null_formed c.classes bound (meant x c) object, tt),
       typed_sorted c.classes bound (has_class (is_array c.classes) a) ty.Int (meant (LengthExpr p x) c) is
           (mapped_sorted c.classes bound sort.Rest sort.Whole (λ o. app Length (o ∷ [])) (length_sorted c.classes bound) (meant x c) object),
     )
-expressed (NegateExpr p x) c bound st none is at =
+expressed among (NegateExpr p x) c bound st none is at =
     let a = Type-of c x in
     let n = where_some (is_int a) ty.Int is in
-    let part = expressed x c bound st none (int_some a n) (λ b. absurd (int_or_bool a n b)) in
+    let part = expressed among x c bound st none (int_some a n) (λ b. absurd (int_or_bool a n b)) in
     let value = wholes c.classes bound a (meant x c) n part.1 in
     let fit = over_formed c.classes bound sort.Whole (λ v. fits_int (app Subtract (number (pos 0) ∷ v ∷ []))) (λ v k. fits_formed c.classes bound (app Subtract (number (pos 0) ∷ v ∷ [])) (negative_sorted c.classes bound v k)) (meant x c) value in (
       more_formed c.classes bound (defined x c) (over (meant x c) (λ v. fits_int (app Subtract (number (pos 0) ∷ v ∷ []))) ∷ []) part.0 (fit, tt),
       typed_sorted c.classes bound (is_int a) ty.Int (meant (NegateExpr p x) c) is
           (mapped_sorted c.classes bound sort.Whole sort.Whole (λ v. app Subtract (number (pos 0) ∷ v ∷ [])) (negative_sorted c.classes bound) (meant x c) value),
     )
-expressed (NotExpr p x) c bound st none is at =
+expressed among (NotExpr p x) c bound st none is at =
     let a = Type-of c x in
     let b = where_some (is_bool a) ty.Bool is in
-    let part = expressed x c bound st none (bool_some a b) (λ _. at (where_bool (is_bool a) b)) in
+    let part = expressed among x c bound st none (bool_some a b) (λ _. at (where_bool (is_bool a) b)) in
     (part.0, says_typed c.classes bound (is_bool a) (neg (said (meant x c))) is (negation c.classes bound (said (meant x c)) (said_formed c.classes bound (meant x c) (truths c.classes bound a (meant x c) b part.1))))
-expressed (BinaryExpr p o x y) c bound st none is at =
+expressed among (BinaryExpr p o x y) c bound st none is at =
     let a = Type-of c x in
     let b = Type-of c y in
-    let parts = and_parts (has_no_default x) (has_no_default y) none in
+    let parts = and_parts (reads_plainly among x) (reads_plainly among y) none in
     let operands = are_operands o a b is in
     operation_formed c.classes bound (defined x c) (defined y c) (meant x c) (meant y c) a b
-    (expressed x c bound st parts.0 operands.left (λ h. at (operands.left_bool h)))
-    (expressed y c bound st parts.1 operands.right (λ h. at (operands.right_bool h))) o is
-expressed (ImpliesExpr p x y) c bound st none is at =
+    (expressed among x c bound st parts.0 operands.left (λ h. at (operands.left_bool h)))
+    (expressed among y c bound st parts.1 operands.right (λ h. at (operands.right_bool h))) o is
+expressed among (ImpliesExpr p x y) c bound st none is at =
     let a = Type-of c x in
     let b = Type-of c y in
-    let parts = and_parts (has_no_default x) (has_no_default y) none in
+    let parts = and_parts (reads_plainly among x) (reads_plainly among y) none in
     let holds = where_some (is_bool a && is_bool b) ty.Bool is in
     let both = and_parts (is_bool a) (is_bool b) holds in
     let placed = at (where_bool (is_bool a && is_bool b) holds) in
-    let first = expressed x c bound st parts.0 (bool_some a both.0) (λ _. placed) in
-    let second = expressed y c bound st parts.1 (bool_some b both.1) (λ _. placed) in
+    let first = expressed among x c bound st parts.0 (bool_some a both.0) (λ _. placed) in
+    let second = expressed among y c bound st parts.1 (bool_some b both.1) (λ _. placed) in
     let one = said_formed c.classes bound (meant x c) (truths c.classes bound a (meant x c) both.0 first.1) in
     let other = said_formed c.classes bound (meant y c) (truths c.classes bound b (meant y c) both.1 second.1) in (
       more_formed c.classes bound (defined x c) (under (said (meant x c)) (defined y c)) first.0 (under_formed c.classes bound (said (meant x c)) (defined y c) one second.0),
       says_typed c.classes bound (is_bool a && is_bool b) (or_of (neg (said (meant x c)) ∷ said (meant y c) ∷ [])) is
           (or_two c.classes bound (neg (said (meant x c))) (said (meant y c)) (negation c.classes bound (said (meant x c)) one) other),
     )
-expressed (IffExpr p x y) c bound st none is at =
+expressed among (IffExpr p x y) c bound st none is at =
     let a = Type-of c x in
     let b = Type-of c y in
-    let parts = and_parts (has_no_default x) (has_no_default y) none in
+    let parts = and_parts (reads_plainly among x) (reads_plainly among y) none in
     let holds = where_some (is_bool a && is_bool b) ty.Bool is in
     let both = and_parts (is_bool a) (is_bool b) holds in
     let placed = at (where_bool (is_bool a && is_bool b) holds) in
-    let first = expressed x c bound st parts.0 (bool_some a both.0) (λ _. placed) in
-    let second = expressed y c bound st parts.1 (bool_some b both.1) (λ _. placed) in (
+    let first = expressed among x c bound st parts.0 (bool_some a both.0) (λ _. placed) in
+    let second = expressed among y c bound st parts.1 (bool_some b both.1) (λ _. placed) in (
       more_formed c.classes bound (defined x c) (defined y c) first.0 second.0,
       says_typed c.classes bound (is_bool a && is_bool b) (same_truths (meant x c) (meant y c)) is
           (same_formed c.classes bound (meant x c) (meant y c) (truths c.classes bound a (meant x c) both.0 first.1) (truths c.classes bound b (meant y c) both.1 second.1)),
     )
-expressed (IsExpr p x t) c bound st none is at =
+expressed among (IsExpr p x t) c bound st none is at =
     let a = Type-of c x in
     let r = (and_parts (is_reference a) (is_class c.classes t) (where_some (is_reference a && is_class c.classes t) ty.Bool is)).0 in
-    let part = expressed x c bound st none (reference_some a r) (λ b. absurd (reference_or_bool a r b)) in
+    let part = expressed among x c bound st none (reference_some a r) (λ b. absurd (reference_or_bool a r b)) in
     let object = things c.classes bound a (meant x c) r part.1 in
     (part.0, says_typed c.classes bound (is_reference a && is_class c.classes t) (over (meant x c) (is_of t)) is (over_formed c.classes bound sort.Rest (is_of t) (is_of_formed c.classes bound t) (meant x c) object))
-expressed (AsExpr p x t) c bound st none is at =
+expressed among (AsExpr p x t) c bound st none is at =
     let a = Type-of c x in
     let r = (and_parts (is_reference a) (is_class c.classes t) (where_some (is_reference a && is_class c.classes t) (class_type t) is)).0 in
-    let part = expressed x c bound st none (reference_some a r) (λ b. absurd (reference_or_bool a r b)) in
+    let part = expressed among x c bound st none (reference_some a r) (λ b. absurd (reference_or_bool a r b)) in
     let object = things c.classes bound a (meant x c) r part.1 in (
       part.0,
       typed_sorted c.classes bound (is_reference a && is_class c.classes t) (class_type t) (meant (AsExpr p x t) c) is
           (flat_sorted c.classes bound sort.Rest sort.Rest (as_class t) (choices (meant x c)) (as_class_sorted c.classes bound t) object),
     )
-expressed (CastExpr p t non_null x) c bound st none is at =
+expressed among (CastExpr p t non_null x) c bound st none is at =
     let a = Type-of c x in
     let r = (and_parts (is_reference a) (is_class c.classes t) (where_some (is_reference a && is_class c.classes t) (class_type t) is)).0 in
-    let part = expressed x c bound st none (reference_some a r) (λ b. absurd (reference_or_bool a r b)) in
+    let part = expressed among x c bound st none (reference_some a r) (λ b. absurd (reference_or_bool a r b)) in
     let object = things c.classes bound a (meant x c) r part.1 in
     let of_class = over_formed c.classes bound sort.Rest (λ v. or_of (equal v null_term ∷ sub_atom (shape.type_of v) (class_term t) ∷ [])) (may_be_formed c.classes bound t) (meant x c) object in (
       more_formed c.classes bound (defined x c ++ (if non_null then not_null (meant x c) ∷ [] else [])) (over (meant x c) (λ v. or_of (equal v null_term ∷ sub_atom (shape.type_of v) (class_term t) ∷ [])) ∷ [])
           (more_formed c.classes bound (defined x c) (if non_null then not_null (meant x c) ∷ [] else []) part.0 (where_asked c.classes bound non_null (not_null (meant x c)) (not_null_formed c.classes bound (meant x c) object))) (of_class, tt),
       typed_sorted c.classes bound (is_reference a && is_class c.classes t) (class_type t) (meant x c) is object,
     )
-expressed (OldExpr p x) c bound st none is at = expressed x (at_entry c) bound (old_sorted c bound st) none is at
-expressed (QuantifiedExpr p q name low high x) c bound st none is at =
+expressed among (OldExpr p x) c bound st none is at = expressed among x (at_entry c) bound (old_sorted among c bound st) none is at
+expressed among (QuantifiedExpr p q name low high x) c bound st none is at =
     let a = Type-of c low in
     let b = Type-of c high in
     let t = type_of c.classes (c.types ++ ty.Int ∷ []) x in
-    let parts = three_parts (has_no_default low) (has_no_default high) (has_no_default x) none in
+    let parts = three_parts (reads_plainly among low) (reads_plainly among high) (reads_plainly among x) none in
     let holds = where_some (is_int a && is_int b && is_bool t) ty.Bool is in
     let all = and_parts (is_int a && is_int b) (is_bool t) holds in
     let ints = and_parts (is_int a) (is_int b) all.0 in
     let placed = at (where_bool (is_int a && is_int b && is_bool t) holds) in
     let more = bound ++ sort.Whole ∷ [] in
-    let longer = longer_sorted c bound st (sort.Whole ∷ []) in
-    let first = expressed low c bound st parts.0 (int_some a ints.0) (λ h. absurd (int_or_bool a ints.0 h)) in
-    let second = expressed high c bound st parts.1 (int_some b ints.1) (λ h. absurd (int_or_bool b ints.1 h)) in
-    let from = expressed low c more longer parts.0 (int_some a ints.0) (λ h. absurd (int_or_bool a ints.0 h)) in
-    let to = expressed high c more longer parts.1 (int_some b ints.1) (λ h. absurd (int_or_bool b ints.1 h)) in
-    let body = expressed x (with_bound c) more (with_bound_sorted c bound st placed) parts.2 (bool_some t all.1) (λ _. let count = length_more bound sort.Whole in omega (arith, count, placed)) in
+    let longer = longer_sorted among c bound st (sort.Whole ∷ []) in
+    let first = expressed among low c bound st parts.0 (int_some a ints.0) (λ h. absurd (int_or_bool a ints.0 h)) in
+    let second = expressed among high c bound st parts.1 (int_some b ints.1) (λ h. absurd (int_or_bool b ints.1 h)) in
+    let from = expressed among low c more longer parts.0 (int_some a ints.0) (λ h. absurd (int_or_bool a ints.0 h)) in
+    let to = expressed among high c more longer parts.1 (int_some b ints.1) (λ h. absurd (int_or_bool b ints.1 h)) in
+    let body = expressed among x (with_bound c) more (with_bound_sorted among c bound st placed) parts.2 (bool_some t all.1) (λ _. let count = length_more bound sort.Whole in omega (arith, count, placed)) in
     let is_low = wholes c.classes more a (meant low c) ints.0 from.1 in
     let is_high = wholes c.classes more b (meant high c) ints.1 to.1 in
     let says = said_formed c.classes more (meant x (with_bound c)) (truths c.classes more t (meant x (with_bound c)) all.1 body.1) in (
@@ -311,26 +311,26 @@ expressed (QuantifiedExpr p q name low high x) c bound st none is at =
       says_typed c.classes bound (is_int a && is_int b && is_bool t) (quantified_said c q (meant low c) (meant high c) (said (meant x (with_bound c)))) is
           (quantified_formed c bound placed (meant low c) (meant high c) is_low is_high q (said (meant x (with_bound c))) says),
     )
-expressed (StateExpr p w x) c bound st none is at =
+expressed among (StateExpr p w x) c bound st none is at =
     let a = Type-of c x in
     let r = (and_parts (is_reference a) (is_word c.classes w) (where_some (is_reference a && is_word c.classes w) ty.Bool is)).0 in
-    let part = expressed x c bound st none (reference_some a r) (λ b. absurd (reference_or_bool a r b)) in
+    let part = expressed among x c bound st none (reference_some a r) (λ b. absurd (reference_or_bool a r b)) in
     let object = things c.classes bound a (meant x c) r part.1 in (
-      more_formed c.classes bound (defined x c) (word_parts c w (meant x c)) part.0 (word_parts_formed c bound st w (meant x c) object),
-      says_typed c.classes bound (is_reference a && is_word c.classes w) (over (meant x c) (word_said c w)) is (over_formed c.classes bound sort.Rest (word_said c w) (word_formed c bound st w) (meant x c) object),
+      more_formed c.classes bound (defined x c) (word_parts c w (meant x c)) part.0 (word_parts_formed among c bound st w (meant x c) object),
+      says_typed c.classes bound (is_reference a && is_word c.classes w) (over (meant x c) (word_said c w)) is (over_formed c.classes bound sort.Rest (word_said c w) (word_formed among c bound st w) (meant x c) object),
     )
-expressed (OwnersExpr p w x y) c bound st none is at =
+expressed among (OwnersExpr p w x y) c bound st none is at =
     let a = Type-of c x in
     let b = Type-of c y in
-    let parts = and_parts (has_no_default x) (has_no_default y) none in
+    let parts = and_parts (reads_plainly among x) (reads_plainly among y) none in
     let both = and_parts (is_reference a) (is_reference b) (and_parts (is_reference a && is_reference b) (is_owners_word c.classes w) (where_some (is_reference a && is_reference b && is_owners_word c.classes w) ty.Bool is)).0 in
-    let first = expressed x c bound st parts.0 (reference_some a both.0) (λ h. absurd (reference_or_bool a both.0 h)) in
-    let second = expressed y c bound st parts.1 (reference_some b both.1) (λ h. absurd (reference_or_bool b both.1 h)) in
+    let first = expressed among x c bound st parts.0 (reference_some a both.0) (λ h. absurd (reference_or_bool a both.0 h)) in
+    let second = expressed among y c bound st parts.1 (reference_some b both.1) (λ h. absurd (reference_or_bool b both.1 h)) in
     let one = things c.classes bound a (meant x c) both.0 first.1 in
     let other = things c.classes bound b (meant y c) both.1 second.1 in (
       more_formed c.classes bound (defined x c ++ defined y c ++ readable c (meant x c)) (readable c (meant y c))
-          (more_formed c.classes bound (defined x c ++ defined y c) (readable c (meant x c)) (more_formed c.classes bound (defined x c) (defined y c) first.0 second.0) (readable_formed c bound st (meant x c) one)) (readable_formed c bound st (meant y c) other),
+          (more_formed c.classes bound (defined x c ++ defined y c) (readable c (meant x c)) (more_formed c.classes bound (defined x c) (defined y c) first.0 second.0) (readable_formed among c bound st (meant x c) one)) (readable_formed among c bound st (meant y c) other),
       says_typed c.classes bound (is_reference a && is_reference b && is_owners_word c.classes w) (over_two (meant x c) (meant y c) (owners_said c w)) is
-          (over_two_formed c.classes bound sort.Rest sort.Rest (owners_said c w) (owners_formed c bound st w) (meant x c) (meant y c) one other),
+          (over_two_formed c.classes bound sort.Rest sort.Rest (owners_said c w) (owners_formed among c bound st w) (meant x c) (meant y c) one other),
     )
-expressed (DefaultExpr p d) c bound st none is at = absurd (false≢true none)
+expressed among (DefaultExpr p d) c bound st none is at = absurd (false≢true none)

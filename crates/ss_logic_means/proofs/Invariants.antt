@@ -32,11 +32,13 @@ use Rattle.ss_logic_express.specs.Invariants.{invariant_scene, invariants_said, 
 use Rattle.ss_machine_typed.specs.Settings.{IsGoodSetting}
 use Rattle.ss_machine_typed.proofs.Older.{older_self}
 use Rattle.ss_logic_means.specs.Means.{standing, Means}
-use Rattle.ss_logic_means.specs.Scenes.{setting_of, Stands, has_no_default, AreInvariants}
+use Rattle.ss_logic_means.specs.Scenes.{setting_of, Stands, StandsAmong, has_no_default, AreInvariants}
 use Rattle.ss_logic_means.proofs.Denoting.{M, D, R, one_denotes, All-append, All-parts}
 use Rattle.ss_logic_means.proofs.Operations.{IsBool, Gives, truth_denotes}
 use Rattle.ss_logic_means.proofs.Operands.{bool_some}
 use Rattle.ss_logic_means.proofs.Typed.{fine, gives_bool}
+use Rattle.ss_logic_means.proofs.Everywhere.{reads_plainly, all_locals, plainly_all}
+use Rattle.ss_logic_means.proofs.Standing.{stands_among}
 use Rattle.ss_logic_means.proofs.Translating.{translated}
 
 -- ---- conditions
@@ -48,11 +50,11 @@ holds_from cs m e ps x (Ok v) g h =
     (λ t. says.0 (All-parts cs m e ps (said x ∷ []) t).1.0, λ y. All-append cs m e ps (said x ∷ []) h.0 (says.1 y, tt))
 holds_from cs m e ps x (Err u) g h = (λ t. absurd (h (All-parts cs m e ps (said x ∷ []) t).0), λ y. absurd (false≢true y))
 
-pub condition_means : (m : Structure) (now entry : Heap) (x : ExprTree) (c : Scene) (locals : List ObjectValue) (k : Bool) → IsGoodSetting (setting_of m c now entry locals) c.types k → (e : List Value) → Stands m c now entry locals e →
-    has_no_default x ≡ true → is_bool (type_of c.classes c.types x) ≡ true → length e ≡ c.bound → Means c.classes m e (holds_formula x c) (run.holds x (setting_of m c now entry locals))
-condition_means m now entry x c locals k good e st none is at =
+pub condition_means : (among : ℕ → Bool) (m : Structure) (now entry : Heap) (x : ExprTree) (c : Scene) (locals : List ObjectValue) (k : Bool) → IsGoodSetting (setting_of m c now entry locals) c.types k → (e : List Value) → StandsAmong among m c now entry locals e →
+    reads_plainly among x ≡ true → is_bool (type_of c.classes c.types x) ≡ true → length e ≡ c.bound → Means c.classes m e (holds_formula x c) (run.holds x (setting_of m c now entry locals))
+condition_means among m now entry x c locals k good e st none is at =
     holds_from c.classes m e (defined x c) (meant x c) (run.value_of x (setting_of m c now entry locals)) (gives_bool m (setting_of m c now entry locals) now refl c.types k good x is)
-    (translated m now entry x c locals k good e st none (bool_some (type_of c.classes c.types x) is) (λ _. at))
+    (translated among m now entry x c locals k good e st none (bool_some (type_of c.classes c.types x) is) (λ _. at))
 
 -- ---- an admissible invariant has no default condition
 
@@ -188,7 +190,7 @@ module _ (cs : List ClassTree) (chain : IsChain cs) (beside : NoAlso cs) (are : 
     }
 
     one_true : (x : ExprTree) → is_invariant cs t x ≡ true → is_admissible cs t x ≡ true → run.holds x (run.setting cs Objects Objects This) ≡ true → True cs m [] (holds_formula x C)
-    one_true x is_typed may holds = (condition_means m H H x C This true good_setting [] stands (admissible_no_default cs t x may) is_typed refl).1 holds
+    one_true x is_typed may holds = (condition_means all_locals m H H x C This true good_setting [] (stands_among all_locals m C H H This [] stands) (plainly_all x (admissible_no_default cs t x may)) is_typed refl).1 holds
 
     all_true : (xs : List ExprTree) → list_all (is_invariant cs t) xs ≡ true → list_all (is_admissible cs t) xs ≡ true → list_all (λ x. run.holds x (run.setting cs Objects Objects This)) xs ≡ true →
         AllTrue cs m [] (formulas_from (map (λ x. holds_formula x C) xs))

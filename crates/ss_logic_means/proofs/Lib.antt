@@ -10,6 +10,7 @@ pub mod Quantified
 pub mod Elements
 pub mod Owners
 pub mod Typed
+pub mod Everywhere
 pub mod Standing
 pub mod Asking
 pub mod Operands

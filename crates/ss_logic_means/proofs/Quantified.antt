@@ -55,11 +55,11 @@ module _ (cs : List ClassTree) (m : Structure) (e : List Value) (a b : ℤ) (o1 
   abbrev pub over_range : List Formula → List Formula
   over_range ps = map (λ part. Forall (sort.Whole ∷ []) (or_of (o1 ∷ o2 ∷ part ∷ []))) ps
 
-  parts_upto : (ps : List Formula) → All cs m e (over_range ps) → Upto b (λ i. All cs m (e ++ whole i ∷ []) ps) a
+  pub parts_upto : (ps : List Formula) → All cs m e (over_range ps) → Upto b (λ i. All cs m (e ++ whole i ∷ []) ps) a
   parts_upto [] t j p r = tt
   parts_upto (f ∷ ps) t j p r = (forall_upto cs m e a b o1 o2 low high f t.0 j p r, parts_upto ps t.1 j p r)
 
-  upto_parts : (ps : List Formula) → Upto b (λ i. All cs m (e ++ whole i ∷ []) ps) a → All cs m e (over_range ps)
+  pub upto_parts : (ps : List Formula) → Upto b (λ i. All cs m (e ++ whole i ∷ []) ps) a → All cs m e (over_range ps)
   upto_parts [] h = tt
   upto_parts (f ∷ ps) h = (upto_forall cs m e a b o1 o2 low high f (λ j p r. (h j p r).0), upto_parts ps (λ j p r. (h j p r).1))
 

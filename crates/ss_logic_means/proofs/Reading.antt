@@ -77,11 +77,11 @@ module _ (cs : List ClassTree) (m : Structure) (e : List Value) (h : Heap) where
   abbrev pub never_null : Bool → Meant → List Formula
   never_null non_null x = if non_null then not_null x ∷ [] else []
 
-  object_cast : (k : ℕ) (x : Meant) (o : ℕ) → nat_lt o h.next ≡ true → D cs m e x (thing (reference o)) → M cs m e (over x (cast_part k)) (sub cs (object_at Store o).class k)
+  pub object_cast : (k : ℕ) (x : Meant) (o : ℕ) → nat_lt o h.next ≡ true → D cs m e x (thing (reference o)) → M cs m e (over x (cast_part k)) (sub cs (object_at Store o).class k)
   object_cast k x o l d = over_means cs m e x (cast_part k) (thing (reference o)) (sub cs (object_at Store o).class k) d (λ t p.
       or_means cs m e (equal t null_term) (sub_atom (shape.type_of t) (class_term k)) false (sub cs (object_at Store o).class k) (null_means cs m e h t (value.Obj o) l p) (sub_means cs m e h t k o l p))
 
-  null_cast : (k : ℕ) (x : Meant) → D cs m e x (thing null) → M cs m e (over x (cast_part k)) true
+  pub null_cast : (k : ℕ) (x : Meant) → D cs m e x (thing null) → M cs m e (over x (cast_part k)) true
   null_cast k x d = over_means cs m e x (cast_part k) (thing null) true d (λ t p. (λ _. refl, λ _ n. n.0 p))
 
   cast_rest : (p : Place) (k : ℕ) (non_null : Bool) (x : Meant) (u : ObjectValue) → IsReferenceOf h u → D cs m e x (standing u) → R cs m e (never_null non_null x ++ over x (cast_part k) ∷ []) x (cast_value p k non_null u)

@@ -14,7 +14,7 @@ use Rattle.ss_logic_stores.specs.Formulas.{Sub, Allocated, Committed, IsGroup, n
 use Rattle.ss_logic_rules.specs.Shapes.{class_term, level_of, owner_of, pair_of, equal, sub_atom, allocated, committed, group}
 use Rattle.ss_logic_rules.specs.Shapes as shape
 use Rattle.ss_logic_express.specs.Express.{and_of, Meant, One, choices, over, Scene, state, at_entry, with_bound, meant_or_null, local_meant, element_sort, is_full, readable}
-use Rattle.ss_logic_means.specs.Sorts.{HasSort, AreWellFormed, HaveSort, IsSorted}
+use Rattle.ss_logic_means.specs.Sorts.{HasSort, AreWellFormed, HaveSort, IsSorted, IsSortedAmong}
 use Rattle.ss_logic_means.proofs.Standing.{get_old, get_at, get_either, get_found, length_more}
 use Rattle.ss_logic_means.proofs.Sorting.{sorted_one, sorted_two, formed_one, formed_two, equal_formed, sort_more}
 use Rattle.ss_logic_means.proofs.Forming.{F, S, C, and_two, negation, over_formed, one_sorted}
@@ -75,19 +75,23 @@ if_sorted : (cs : List ClassTree) (bound : List Sort) (s : Sort) (b : Bool) (x y
 if_sorted cs bound s true x y h k = h
 if_sorted cs bound s false x y h k = k
 
-module _ (c : Scene) (bound : List Sort) (st : IsSorted c bound) where
+-- a scene that is sorted on all its locals is on these
+pub sorted_among : (among : ℕ → Bool) (c : Scene) (bound : List Sort) → IsSorted c bound → IsSortedAmong among c bound
+sorted_among among c bound st = record { now = st.now; entry = st.entry; count = st.count; locals = λ x t asked is more. st.locals x t is more }
+
+module _ (among : ℕ → Bool) (c : Scene) (bound : List Sort) (st : IsSortedAmong among c bound) where
   pub state_sorted : S c.classes bound sort.Store (state c)
   state_sorted = if_sorted c.classes bound sort.Store c.inside_old c.entry c.now st.entry st.now
 
-  pub local_sorted : (x : ℕ) (t : Ty) → slice_get c.types x ≡ Some t → C c.classes bound (sort_of_type t) (local_meant c x)
-  local_sorted x t is = subst (λ w. HaveSort c.classes w (sort_of_type t) (choices (local_meant c x))) (append-nil bound) (st.locals x t is [])
+  pub local_sorted : (x : ℕ) (t : Ty) → among x ≡ true → slice_get c.types x ≡ Some t → C c.classes bound (sort_of_type t) (local_meant c x)
+  local_sorted x t asked is = subst (λ w. HaveSort c.classes w (sort_of_type t) (choices (local_meant c x))) (append-nil bound) (st.locals x t asked is [])
 
-  pub local_expressed : (x : ℕ) → is_some (option_map plain (slice_get c.types x)) ≡ true → C c.classes bound (element_sort (option_map plain (slice_get c.types x))) (local_meant c x)
-  local_expressed x h = typed (slice_get c.types x) refl h
+  pub local_expressed : (x : ℕ) → among x ≡ true → is_some (option_map plain (slice_get c.types x)) ≡ true → C c.classes bound (element_sort (option_map plain (slice_get c.types x))) (local_meant c x)
+  local_expressed x asked h = typed (slice_get c.types x) refl h
     where
       typed : (a : Option Ty) → slice_get c.types x ≡ a → is_some (option_map plain a) ≡ true → C c.classes bound (element_sort (option_map plain a)) (local_meant c x)
       typed None is h = absurd (false≢true h)
-      typed (Some t) is h = subst (λ s. C c.classes bound s (local_meant c x)) (sym (plain_sort t)) (local_sorted x t is)
+      typed (Some t) is h = subst (λ s. C c.classes bound s (local_meant c x)) (sym (plain_sort t)) (local_sorted x t asked is)
 
   pub readable_formed : (m : Meant) → C c.classes bound sort.Rest m → AreWellFormed c.classes bound (readable c m)
   readable_formed m h = (not_null_formed c.classes bound m h, looked c.inside_old)
@@ -96,35 +100,35 @@ module _ (c : Scene) (bound : List Sort) (st : IsSorted c bound) where
       looked true = (over_formed c.classes bound sort.Rest (allocated c.entry) (λ x k. allocated_formed c.classes bound c.entry st.entry x k) m h, tt)
       looked false = tt
 
-  pub old_sorted : IsSorted (at_entry c) bound
+  pub old_sorted : IsSortedAmong among (at_entry c) bound
   old_sorted = record { now = st.now; entry = st.entry; count = st.count; locals = st.locals }
 
-  pub longer_sorted : (more : List Sort) → IsSorted c (bound ++ more)
+  pub longer_sorted : (more : List Sort) → IsSortedAmong among c (bound ++ more)
   longer_sorted more = record {
     now = sort_more c.classes bound more sort.Store c.now st.now;
     entry = sort_more c.classes bound more sort.Store c.entry st.entry;
     count = st.count;
-    locals = λ x t is rest. subst (λ w. HaveSort c.classes w (sort_of_type t) (choices (local_meant c x))) (sym (append_assoc bound more rest)) (st.locals x t is (more ++ rest));
+    locals = λ x t asked is rest. subst (λ w. HaveSort c.classes w (sort_of_type t) (choices (local_meant c x))) (sym (append_assoc bound more rest)) (st.locals x t asked is (more ++ rest));
   }
 
-  pub with_bound_sorted : length bound ≡ c.bound → IsSorted (with_bound c) (bound ++ sort.Whole ∷ [])
+  pub with_bound_sorted : length bound ≡ c.bound → IsSortedAmong among (with_bound c) (bound ++ sort.Whole ∷ [])
   with_bound_sorted at = record {
     now = (longer_sorted (sort.Whole ∷ [])).now;
     entry = (longer_sorted (sort.Whole ∷ [])).entry;
     count = length_more c.locals (One (Bound c.bound)) ∙ ap suc st.count ∙ sym (length_more c.types ty.Int);
-    locals = λ x t is more. ⊎_elim
-        (λ old. old_local x t old more)
+    locals = λ x t asked is more. ⊎_elim
+        (λ old. old_local x t asked old more)
         (λ new. subst (λ u. HaveSort c.classes ((bound ++ sort.Whole ∷ []) ++ more) (sort_of_type u) (choices (local_meant (with_bound c) x))) new.1 (new_local x new.0 more))
         (get_either c.types ty.Int x t is);
   }
     where
-      old_local : (x : ℕ) (t : Ty) → slice_get c.types x ≡ Some t → (more : List Sort) → HaveSort c.classes ((bound ++ sort.Whole ∷ []) ++ more) (sort_of_type t) (choices (local_meant (with_bound c) x))
-      old_local x t is more =
+      old_local : (x : ℕ) (t : Ty) → among x ≡ true → slice_get c.types x ≡ Some t → (more : List Sort) → HaveSort c.classes ((bound ++ sort.Whole ∷ []) ++ more) (sort_of_type t) (choices (local_meant (with_bound c) x))
+      old_local x t asked is more =
           let within = slice_get_within c.types x t is in
           let count = st.count in
           let y = get_found c.locals x (omega (arith, within, count)) in
           let same : local_meant c x ≡ local_meant (with_bound c) x = ap meant_or_null (y.1 ∙ sym (get_old c.locals (One (Bound c.bound) ∷ []) x y.0 y.1)) in
-          subst (λ z. HaveSort c.classes ((bound ++ sort.Whole ∷ []) ++ more) (sort_of_type t) (choices z)) same ((longer_sorted (sort.Whole ∷ [])).locals x t is more)
+          subst (λ z. HaveSort c.classes ((bound ++ sort.Whole ∷ []) ++ more) (sort_of_type t) (choices z)) same ((longer_sorted (sort.Whole ∷ [])).locals x t asked is more)
 
       new_local : (x : ℕ) → x ≡ length c.types → (more : List Sort) → HaveSort c.classes ((bound ++ sort.Whole ∷ []) ++ more) sort.Whole (choices (local_meant (with_bound c) x))
       new_local x new more =

@@ -18,7 +18,7 @@ use Rattle.ss_logic_express.specs.Express.{One, Scene, at_entry, with_bound, mea
 use Rattle.ss_logic_rules.proofs.Numbers.{fits_low, fits_high}
 use Rattle.ss_machine_typed.specs.Settings.{IsGoodSetting}
 use Rattle.ss_logic_means.specs.Means.{standing, Denotes}
-use Rattle.ss_logic_means.specs.Scenes.{Stands}
+use Rattle.ss_logic_means.specs.Scenes.{Stands, StandsAmong}
 use Rattle.ss_logic_means.proofs.Denoting.{one_denotes}
 use Rattle.ss_logic_means.proofs.Operations.{fits_between}
 
@@ -69,40 +69,44 @@ range_fits a b i fa fb low high =
 
 -- ---- settings
 
-module _ (m : Structure) (now entry : Heap) where
-  pub old_stands : (c : Scene) (locals : List ObjectValue) (e : List Value) → Stands m c now entry locals e → Stands m (at_entry c) now entry locals e
+-- a scene that stands for all its locals stands for these
+pub stands_among : (among : ℕ → Bool) (m : Structure) (c : Scene) (now entry : Heap) (locals : List ObjectValue) (e : List Value) → Stands m c now entry locals e → StandsAmong among m c now entry locals e
+stands_among among m c now entry locals e st = record { now = st.now; entry = st.entry; count = st.count; locals = λ x v asked there vs. st.locals x v there vs }
+
+module _ (among : ℕ → Bool) (m : Structure) (now entry : Heap) where
+  pub old_stands : (c : Scene) (locals : List ObjectValue) (e : List Value) → StandsAmong among m c now entry locals e → StandsAmong among m (at_entry c) now entry locals e
   old_stands c locals e st = record { now = st.now; entry = st.entry; count = st.count; locals = st.locals }
 
-  longer : (c : Scene) (locals : List ObjectValue) (e : List Value) → Stands m c now entry locals e → (more : List Value) → Stands m c now entry locals (e ++ more)
+  longer : (c : Scene) (locals : List ObjectValue) (e : List Value) → StandsAmong among m c now entry locals e → (more : List Value) → StandsAmong among m c now entry locals (e ++ more)
   longer c locals e st more = record {
     now = λ vs. subst (λ w. value_of c.classes m w c.now ≡ store now) (sym (append_assoc e more vs)) (st.now (more ++ vs));
     entry = λ vs. subst (λ w. value_of c.classes m w c.entry ≡ store entry) (sym (append_assoc e more vs)) (st.entry (more ++ vs));
     count = st.count;
-    locals = λ x v there vs. subst (λ w. Denotes c.classes m w (local_meant c x) (standing v)) (sym (append_assoc e more vs)) (st.locals x v there (more ++ vs));
+    locals = λ x v asked there vs. subst (λ w. Denotes c.classes m w (local_meant c x) (standing v)) (sym (append_assoc e more vs)) (st.locals x v asked there (more ++ vs));
   }
 
-  module _ (c : Scene) (locals : List ObjectValue) (e : List Value) (st : Stands m c now entry locals e) (i : ℤ) where
-    pub more_stands : Stands m c now entry locals (e ++ whole i ∷ [])
+  module _ (c : Scene) (locals : List ObjectValue) (e : List Value) (st : StandsAmong among m c now entry locals e) (i : ℤ) where
+    pub more_stands : StandsAmong among m c now entry locals (e ++ whole i ∷ [])
     more_stands = longer c locals e st (whole i ∷ [])
 
-    pub bound_stands : length e ≡ c.bound → Stands m (with_bound c) now entry (locals ++ value.Int i ∷ []) (e ++ whole i ∷ [])
+    pub bound_stands : length e ≡ c.bound → StandsAmong among m (with_bound c) now entry (locals ++ value.Int i ∷ []) (e ++ whole i ∷ [])
     bound_stands at = record {
       now = more_stands.now;
       entry = more_stands.entry;
       count = length_more c.locals (One (Bound c.bound)) ∙ ap suc st.count ∙ sym (length_more locals (value.Int i));
-      locals = λ x v there vs. ⊎_elim
-          (λ old. old_local x v old vs)
+      locals = λ x v asked there vs. ⊎_elim
+          (λ old. old_local x v asked old vs)
           (λ new. subst (λ w. Denotes c.classes m ((e ++ whole i ∷ []) ++ vs) (local_meant (with_bound c) x) (standing w)) new.1 (new_local x new.0 vs))
           (get_either locals (value.Int i) x v there);
     }
       where
-        old_local : (x : ℕ) (v : ObjectValue) → slice_get locals x ≡ Some v → (vs : List Value) → Denotes c.classes m ((e ++ whole i ∷ []) ++ vs) (local_meant (with_bound c) x) (standing v)
-        old_local x v old vs =
+        old_local : (x : ℕ) (v : ObjectValue) → among x ≡ true → slice_get locals x ≡ Some v → (vs : List Value) → Denotes c.classes m ((e ++ whole i ∷ []) ++ vs) (local_meant (with_bound c) x) (standing v)
+        old_local x v asked old vs =
             let within = slice_get_within locals x v old in
             let count = st.count in
             let y = get_found c.locals x (omega (arith, within, count)) in
             let same : local_meant c x ≡ local_meant (with_bound c) x = ap meant_or_null (y.1 ∙ sym (get_old c.locals (One (Bound c.bound) ∷ []) x y.0 y.1)) in
-            subst (λ z. Denotes c.classes m ((e ++ whole i ∷ []) ++ vs) z (standing v)) same (more_stands.locals x v old vs)
+            subst (λ z. Denotes c.classes m ((e ++ whole i ∷ []) ++ vs) z (standing v)) same (more_stands.locals x v asked old vs)
 
         new_local : (x : ℕ) → x ≡ length locals → (vs : List Value) → Denotes c.classes m ((e ++ whole i ∷ []) ++ vs) (local_meant (with_bound c) x) (whole i)
         new_local x new vs =

@@ -7,6 +7,7 @@ use Rattle.ss_core.specs.declared.names.Ty.{Ty}
 use Rattle.ss_core.specs.declared.names.Ty.TheVariants as ty
 use Rattle.ss_core.specs.Tree.{ClassTree, DefaultTree, AtLevel, Unpacked, ThisUnowned, Defaults, OwnedFull, Full, ConsistentArgument, FullArgument, Captured, ExprTree, DefaultExpr}
 use Rattle.ss_core.specs.Chain.{sub, below, levels, DeclaredField, all_fields}
+use Rattle.ss_store_rules.specs.Locals.{reads_only}
 use Rattle.ss_store_rules.specs.Types.{is_bool, is_reference, type_of}
 use Rattle.ss_store_rules.specs.Typed.{invariant_types, is_invariant}
 use Rattle.ss_store_rules.specs.Admissible.{is_admissible, invariants}
@@ -18,14 +19,15 @@ use Rattle.ss_logic_stores.proofs.Truth.{equal_sorts}
 use Rattle.ss_logic_rules.specs.Shapes.{null_term, class_term, level_of, owner_of, pair_of, equal, differ, sub_atom, allocated, committed, class_of_term}
 use Rattle.ss_logic_express.specs.Express.{and_of, or_of, One, choices, over, said, Scene, meant_or_null, local_meant, is_full, default_of_sort, defaults_from, owned_full, may_be_captured, met_by, subject, default_said, meant, defined, holds_formula}
 use Rattle.ss_logic_express.specs.Invariants.{invariant_scene, invariants_said, packed_invariants, invariants_at, invariants_of}
-use Rattle.ss_logic_means.specs.Scenes.{has_subject, has_no_default, is_stated, AreInvariants}
-use Rattle.ss_logic_means.specs.Sorts.{HasSort, AreWellFormed, HaveSort, IsWellExpressed, IsSorted}
+use Rattle.ss_logic_means.specs.Scenes.{has_subject, has_no_default, speaks_of, speaks_only, is_stated, AreInvariants}
+use Rattle.ss_logic_means.specs.Sorts.{HasSort, AreWellFormed, HaveSort, IsWellExpressed, IsSorted, IsSortedAmong}
 use Rattle.ss_logic_means.proofs.Operands.{bool_some, class_reference}
 use Rattle.ss_logic_means.proofs.Invariants.{admissible_no_default}
+use Rattle.ss_logic_means.proofs.Everywhere.{all_locals, plainly_from, speaks_all}
 use Rattle.ss_logic_means.proofs.Sorting.{equal_formed, all_formed, more_formed, sort_more}
 use Rattle.ss_logic_means.proofs.Forming.{F, S, C, and_two, or_two, negation, one_sorted, says_sorted, over_formed, said_formed}
 use Rattle.ss_logic_means.proofs.Operating.{bool_sort, reference_sort, null_sorted, as_sort}
-use Rattle.ss_logic_means.proofs.Scening.{bound_sorted, class_sorted, pair_sorted, sub_formed, group_formed, level_sorted, owner_sorted, allocated_formed, committed_formed, full_formed, consistent_formed, local_sorted}
+use Rattle.ss_logic_means.proofs.Scening.{bound_sorted, class_sorted, pair_sorted, sub_formed, group_formed, level_sorted, owner_sorted, allocated_formed, committed_formed, full_formed, consistent_formed, sorted_among, local_sorted}
 use Rattle.ss_logic_means.proofs.Expressed.{field_sorted, expressed}
 
 -- ---- default conditions
@@ -37,7 +39,7 @@ default_sorted cs bound ty.Null = (refl, refl)
 default_sorted cs bound (ty.Ref t n) = (refl, refl)
 
 -- with one more object bound behind
-module _ (c : Scene) (bound : List Sort) (st : IsSorted c bound) (at : length bound ≡ c.bound) where
+module _ (among : ℕ → Bool) (c : Scene) (bound : List Sort) (st : IsSortedAmong among c bound) (at : length bound ≡ c.bound) where
   abbrev More : List Sort
   More = bound ++ sort.Rest ∷ []
 
@@ -59,12 +61,12 @@ module _ (c : Scene) (bound : List Sort) (st : IsSorted c bound) (at : length bo
   name_owner : S c.classes More sort.Rest (owner_of c.now name)
   name_owner = owner_sorted c.classes More c.now now name name_sorted
 
-  reference_local : (x : ℕ) → is_reference (slice_get c.types x) ≡ true → C c.classes bound sort.Rest (local_meant c x)
-  reference_local x h = typed (slice_get c.types x) refl h
+  reference_local : (x : ℕ) → among x ≡ true → is_reference (slice_get c.types x) ≡ true → C c.classes bound sort.Rest (local_meant c x)
+  reference_local x asked h = typed (slice_get c.types x) refl h
     where
       typed : (a : Option Ty) → slice_get c.types x ≡ a → is_reference a ≡ true → C c.classes bound sort.Rest (local_meant c x)
       typed None is h = absurd (false≢true h)
-      typed (Some t) is h = as_sort c.classes bound (sort_of_type t) sort.Rest (local_meant c x) (reference_sort (Some t) h) (local_sorted c bound st x t is)
+      typed (Some t) is h = as_sort c.classes bound (sort_of_type t) sort.Rest (local_meant c x) (reference_sort (Some t) h) (local_sorted among c bound st x t asked is)
 
   module _ (x : Term) (h : S c.classes bound sort.Rest x) where
     behind : S c.classes More sort.Rest x
@@ -126,57 +128,61 @@ module _ (c : Scene) (bound : List Sort) (st : IsSorted c bound) (at : length bo
         or_two c.classes bound (equal y null_term) (differ (owner_of c.now y) (owner_of c.now x)) (equal_formed c.classes bound true sort.Rest y null_term k (null_sorted c.classes bound))
         (equal_formed c.classes bound false sort.Rest (owner_of c.now y) (owner_of c.now x) (owner_sorted c.classes bound c.now st.now y k) owner)
 
-    captured_formed : (apart : Bool) → (not apart || is_reference (slice_get c.types 0)) ≡ true → F c.classes bound (and_of (may_be_captured c apart x))
-    captured_formed apart asked = all_formed c.classes bound (may_be_captured c apart x) (group_formed c.classes bound (owner_of c.now x) owner, (members_formed, this_apart apart asked))
+    captured_formed : (apart : Bool) → (not apart || among 0) ≡ true → (not apart || is_reference (slice_get c.types 0)) ≡ true → F c.classes bound (and_of (may_be_captured c apart x))
+    captured_formed apart speaks asked = all_formed c.classes bound (may_be_captured c apart x) (group_formed c.classes bound (owner_of c.now x) owner, (members_formed, this_apart apart speaks asked))
       where
-        this_apart : (b : Bool) → (not b || is_reference (slice_get c.types 0)) ≡ true →
+        this_apart : (b : Bool) → (not b || among 0) ≡ true → (not b || is_reference (slice_get c.types 0)) ≡ true →
             AreWellFormed c.classes bound (if b then over (local_meant c 0) (λ y. or_of (equal y null_term ∷ differ (owner_of c.now y) (owner_of c.now x) ∷ [])) ∷ [] else [])
-        this_apart true asked = (over_formed c.classes bound sort.Rest (λ y. or_of (equal y null_term ∷ differ (owner_of c.now y) (owner_of c.now x) ∷ [])) apart_formed (local_meant c 0) (reference_local 0 asked), tt)
-        this_apart false asked = tt
+        this_apart true speaks asked = (over_formed c.classes bound sort.Rest (λ y. or_of (equal y null_term ∷ differ (owner_of c.now y) (owner_of c.now x) ∷ [])) apart_formed (local_meant c 0) (reference_local 0 speaks asked), tt)
+        this_apart false speaks asked = tt
 
     level : S c.classes bound sort.Rest (level_of c.now x)
     level = level_sorted c.classes bound c.now st.now x h
 
-    met_formed : (d : DefaultTree) → has_subject c.classes c.types d ≡ true → F c.classes bound (met_by c d x)
-    met_formed (AtLevel t) asked =
+    met_formed : (d : DefaultTree) → speaks_of among d ≡ true → has_subject c.classes c.types d ≡ true → F c.classes bound (met_by c d x)
+    met_formed (AtLevel t) speaks asked =
         and_two c.classes bound (equal (level_of c.now x) (class_term t)) (neg (committed c.now x)) (equal_formed c.classes bound true sort.Rest (level_of c.now x) (class_term t) level (class_sorted c.classes bound t))
         (negation c.classes bound (committed c.now x) (committed_formed c.classes bound c.now st.now x h))
-    met_formed Unpacked asked = equal_formed c.classes bound true sort.Rest (level_of c.now x) (class_term 0) level (class_sorted c.classes bound 0)
-    met_formed ThisUnowned asked = group_formed c.classes bound (owner_of c.now x) owner
-    met_formed (Defaults t) asked = defaults_formed t
-    met_formed (OwnedFull t) asked = owned_formed t
-    met_formed Full asked = full_formed c.classes bound c.now st.now x h
-    met_formed (ConsistentArgument i) asked = consistent_formed c.classes bound c.now st.now x h
-    met_formed (FullArgument i) asked = full_formed c.classes bound c.now st.now x h
-    met_formed (Captured i apart) asked = captured_formed apart (and_parts (is_reference (slice_get c.types i)) (not apart || is_reference (slice_get c.types 0)) asked).1
+    met_formed Unpacked speaks asked = equal_formed c.classes bound true sort.Rest (level_of c.now x) (class_term 0) level (class_sorted c.classes bound 0)
+    met_formed ThisUnowned speaks asked = group_formed c.classes bound (owner_of c.now x) owner
+    met_formed (Defaults t) speaks asked = defaults_formed t
+    met_formed (OwnedFull t) speaks asked = owned_formed t
+    met_formed Full speaks asked = full_formed c.classes bound c.now st.now x h
+    met_formed (ConsistentArgument i) speaks asked = consistent_formed c.classes bound c.now st.now x h
+    met_formed (FullArgument i) speaks asked = full_formed c.classes bound c.now st.now x h
+    met_formed (Captured i apart) speaks asked = captured_formed apart (and_parts (among i) (not apart || among 0) speaks).1 (and_parts (is_reference (slice_get c.types i)) (not apart || is_reference (slice_get c.types 0)) asked).1
 
-    met_or_null : (d : DefaultTree) → has_subject c.classes c.types d ≡ true → F c.classes bound (or_of (equal x null_term ∷ met_by c d x ∷ []))
-    met_or_null d asked = or_two c.classes bound (equal x null_term) (met_by c d x) (equal_formed c.classes bound true sort.Rest x null_term h (null_sorted c.classes bound)) (met_formed d asked)
+    met_or_null : (d : DefaultTree) → speaks_of among d ≡ true → has_subject c.classes c.types d ≡ true → F c.classes bound (or_of (equal x null_term ∷ met_by c d x ∷ []))
+    met_or_null d speaks asked = or_two c.classes bound (equal x null_term) (met_by c d x) (equal_formed c.classes bound true sort.Rest x null_term h (null_sorted c.classes bound)) (met_formed d speaks asked)
 
   subject_reference : (d : DefaultTree) → has_subject c.classes c.types d ≡ true → is_reference (slice_get c.types (subject d)) ≡ true
   subject_reference (Defaults t) asked = class_reference (λ u. below c.classes u t) (slice_get c.types 0) asked
   subject_reference (Captured x apart) asked = (and_parts (is_reference (slice_get c.types x)) (not apart || is_reference (slice_get c.types 0)) asked).0
   subject_reference d asked = asked
 
-  pub default_formed : (d : DefaultTree) → has_subject c.classes c.types d ≡ true → F c.classes bound (default_said c d)
-  default_formed d asked =
-      over_formed c.classes bound sort.Rest (λ x. or_of (equal x null_term ∷ met_by c d x ∷ [])) (λ x h. met_or_null x h d asked) (local_meant c (subject d)) (reference_local (subject d) (subject_reference d asked))
+  subject_among : (d : DefaultTree) → speaks_of among d ≡ true → among (subject d) ≡ true
+  subject_among (Captured x apart) speaks = (and_parts (among x) (not apart || among 0) speaks).0
+  subject_among d speaks = speaks
+
+  pub default_formed : (d : DefaultTree) → speaks_of among d ≡ true → has_subject c.classes c.types d ≡ true → F c.classes bound (default_said c d)
+  default_formed d speaks asked =
+      over_formed c.classes bound sort.Rest (λ x. or_of (equal x null_term ∷ met_by c d x ∷ [])) (λ x h. met_or_null x h d speaks asked) (local_meant c (subject d)) (reference_local (subject d) (subject_among d speaks) (subject_reference d asked))
 
   -- ---- conditions
 
-  plainly_expressed : (x : ExprTree) → (has_no_default x && is_bool (type_of c.classes c.types x)) ≡ true → IsWellExpressed c.classes bound sort.Truth (defined x c) (meant x c)
-  plainly_expressed x h =
+  plainly_expressed : (x : ExprTree) → reads_only among x ≡ true → (has_no_default x && is_bool (type_of c.classes c.types x)) ≡ true → IsWellExpressed c.classes bound sort.Truth (defined x c) (meant x c)
+  plainly_expressed x reads h =
       let p = and_parts (has_no_default x) (is_bool (type_of c.classes c.types x)) h in
-      let is = expressed x c bound st p.0 (bool_some (type_of c.classes c.types x) p.1) (λ _. at) in
+      let is = expressed among x c bound st (plainly_from among x reads p.0) (bool_some (type_of c.classes c.types x) p.1) (λ _. at) in
       (is.0, as_sort c.classes bound _ sort.Truth (meant x c) (bool_sort (type_of c.classes c.types x) p.1) is.1)
 
-  pub stated_expressed : (x : ExprTree) → is_stated c.classes c.types x ≡ true → IsWellExpressed c.classes bound sort.Truth (defined x c) (meant x c)
-  stated_expressed (DefaultExpr p d) h = (tt, says_sorted c.classes bound (default_said c d) (default_formed d h))
-  stated_expressed x h = plainly_expressed x h
+  pub stated_expressed : (x : ExprTree) → speaks_only among x ≡ true → is_stated c.classes c.types x ≡ true → IsWellExpressed c.classes bound sort.Truth (defined x c) (meant x c)
+  stated_expressed (DefaultExpr p d) speaks h = (tt, says_sorted c.classes bound (default_said c d) (default_formed d speaks h))
+  stated_expressed x speaks h = plainly_expressed x speaks h
 
-  pub condition_formed : (x : ExprTree) → is_stated c.classes c.types x ≡ true → is_well_formed c.classes bound (holds_formula x c) ≡ true
-  condition_formed x h =
-      let is = stated_expressed x h in
+  pub condition_formed : (x : ExprTree) → speaks_only among x ≡ true → is_stated c.classes c.types x ≡ true → is_well_formed c.classes bound (holds_formula x c) ≡ true
+  condition_formed x speaks h =
+      let is = stated_expressed x speaks h in
       all_formed c.classes bound (defined x c ++ said (meant x c) ∷ []) (more_formed c.classes bound (defined x c) (said (meant x c) ∷ []) is.0 (said_formed c.classes bound (meant x c) is.1, tt))
 
 -- ---- scenes of terms without bound names
@@ -238,7 +244,7 @@ module _ (cs : List ClassTree) (are : AreInvariants cs) (s o : Term) (sorts : ha
     all_invariants (x ∷ xs) a b =
         let p = and_parts (is_invariant cs t x) (list_all (is_invariant cs t) xs) a in
         let q = and_parts (is_admissible cs t x) (list_all (is_admissible cs t) xs) b in
-        (condition_formed (invariant_scene cs s o t) [] scene_sorted refl x (plain_stated cs (invariant_types t) x (admissible_no_default cs t x q.0) p.0), all_invariants xs p.1 q.1)
+        (condition_formed all_locals (invariant_scene cs s o t) [] (sorted_among all_locals (invariant_scene cs s o t) [] scene_sorted) refl x (speaks_all x) (plain_stated cs (invariant_types t) x (admissible_no_default cs t x q.0) p.0), all_invariants xs p.1 q.1)
 
     pub packed_formed : is_well_formed cs [] (packed_invariants cs s o t) ≡ true
     packed_formed =

@@ -24,7 +24,7 @@ use Rattle.ss_machine_typed.specs.Settings.{IsGoodSetting}
 use Rattle.ss_machine_typed.proofs.Outcomes.{int_typed}
 use Rattle.ss_machine_typed.proofs.Sound.{old_setting}
 use Rattle.ss_logic_means.specs.Means.{standing}
-use Rattle.ss_logic_means.specs.Scenes.{setting_of, Stands, has_no_default}
+use Rattle.ss_logic_means.specs.Scenes.{setting_of, StandsAmong}
 use Rattle.ss_logic_means.proofs.Denoting.{V, D, R, one_denotes}
 use Rattle.ss_logic_means.proofs.Operations.{not_reads, implies_reads}
 use Rattle.ss_logic_means.proofs.Arithmetic.{negate_reads, iff_reads}
@@ -35,12 +35,13 @@ use Rattle.ss_logic_means.proofs.Elements.{element_reads}
 use Rattle.ss_logic_means.proofs.Owners.{HasOwners}
 use Rattle.ss_logic_means.proofs.Typed as typed
 use Rattle.ss_logic_means.proofs.Operands.{three_parts, where_some, where_bool, int_some, bool_some, reference_some, class_reference, int_or_bool, reference_or_bool, field_from, elements_from, element_reference, are_operands, operation_reads}
+use Rattle.ss_logic_means.proofs.Everywhere.{reads_plainly}
 use Rattle.ss_logic_means.proofs.Standing.{old_stands, more_stands, bound_stands, bound_good, range_fits, get_found, length_more}
 use Rattle.ss_logic_means.proofs.Asking.{word_read, owners_word_read, quantifier_read}
 
-module _ (m : Structure) (now entry : Heap) where
+module _ (among : ℕ → Bool) (m : Structure) (now entry : Heap) where
   -- ---- what a scene gives
-  module _ (c : Scene) (locals : List ObjectValue) (k : Bool) (good : IsGoodSetting (setting_of m c now entry locals) c.types k) (e : List Value) (st : Stands m c now entry locals e) where
+  module _ (c : Scene) (locals : List ObjectValue) (k : Bool) (good : IsGoodSetting (setting_of m c now entry locals) c.types k) (e : List Value) (st : StandsAmong among m c now entry locals e) where
     is_now : V c.classes m e c.now ≡ store now
     is_now = subst (λ w. value_of c.classes m w c.now ≡ store now) (append-nil e) (st.now [])
 
@@ -66,13 +67,13 @@ module _ (m : Structure) (now entry : Heap) where
     typed_local None h = absurd (false≢true h)
     typed_local (Some t) h = (t, refl)
 
-    local_reads : (x : ℕ) → is_some (option_map plain (slice_get c.types x)) ≡ true → R c.classes m e [] (local_meant c x) (Ok (run.local_value (setting_of m c now entry locals) x))
-    local_reads x h =
+    local_reads : (x : ℕ) → among x ≡ true → is_some (option_map plain (slice_get c.types x)) ≡ true → R c.classes m e [] (local_meant c x) (Ok (run.local_value (setting_of m c now entry locals) x))
+    local_reads x asked h =
         let t = typed_local (slice_get c.types x) h in
         let within = slice_get_within c.types x t.0 t.1 in
         let count = good.count in
         let v = get_found locals x (omega (arith, within, count)) in
-        let there = subst (λ w. D c.classes m w (local_meant c x) (standing v.0)) (append-nil e) (st.locals x v.0 v.1 []) in
+        let there = subst (λ w. D c.classes m w (local_meant c x) (standing v.0)) (append-nil e) (st.locals x v.0 asked v.1 []) in
         (tt, subst (λ o. D c.classes m e (local_meant c x) (standing (unwrap_or o value.Null))) (sym v.1) there)
 
     -- a number of 32 bits
@@ -80,13 +81,13 @@ module _ (m : Structure) (now entry : Heap) where
     int_fits x h u is = int_typed c.classes (objects_of c.classes m.table now) u (typed.gives_int m (setting_of m c now entry locals) now refl c.types k good x h u is)
 
   -- The premise on the values of the bound names: an expression of another type than that of truth values may stand behind more of them.
-  pub translated : (x : ExprTree) (c : Scene) (locals : List ObjectValue) (k : Bool) → IsGoodSetting (setting_of m c now entry locals) c.types k → (e : List Value) → Stands m c now entry locals e →
-      has_no_default x ≡ true → is_some (type_of c.classes c.types x) ≡ true → (is_bool (type_of c.classes c.types x) ≡ true → length e ≡ c.bound) →
+  pub translated : (x : ExprTree) (c : Scene) (locals : List ObjectValue) (k : Bool) → IsGoodSetting (setting_of m c now entry locals) c.types k → (e : List Value) → StandsAmong among m c now entry locals e →
+      reads_plainly among x ≡ true → is_some (type_of c.classes c.types x) ≡ true → (is_bool (type_of c.classes c.types x) ≡ true → length e ≡ c.bound) →
       R c.classes m e (defined x c) (meant x c) (run.value_of x (setting_of m c now entry locals))
   translated (IntExpr p n) c locals k good e st none is at = (tt, one_denotes c.classes m e (number n) (whole n) refl)
   translated (BoolExpr p b) c locals k good e st none is at = (tt, one_denotes c.classes m e (truth_term b) (truth b) refl)
   translated (NullExpr p) c locals k good e st none is at = (tt, one_denotes c.classes m e null_term (thing null) refl)
-  translated (LocalExpr p x) c locals k good e st none is at = local_reads c locals k good e st x is
+  translated (LocalExpr p x) c locals k good e st none is at = local_reads c locals k good e st x none is
   translated (FieldExpr p x f) c locals k good e st none is at =
       let s = setting_of m c now entry locals in
       let a = type_of c.classes c.types x in
@@ -101,7 +102,7 @@ module _ (m : Structure) (now entry : Heap) where
       let n = type_of c.classes c.types i in
       let both = elements_from c.classes a n is in
       let r = element_reference c.classes a both.1 in
-      let parts = and_parts (has_no_default x) (has_no_default i) none in
+      let parts = and_parts (reads_plainly among x) (reads_plainly among i) none in
       element_reads c.classes m e now entry c.now c.entry (is_now c locals k good e st) (is_entry c locals k good e st) (values_now c locals k good e st) (values_then c locals k good e st) c.inside_old p (element_sort (element_of c.classes a))
       (defined x c) (defined i c) (meant x c) (meant i c) (run.value_of x s) (run.value_of i s) (typed.gives_elements m s now refl c.types k good x both.1) (typed.gives_whole m s now refl c.types k good i both.0)
       (translated x c locals k good e st parts.0 (reference_some a r) (λ b. absurd (reference_or_bool a r b)))
@@ -129,7 +130,7 @@ module _ (m : Structure) (now entry : Heap) where
       let s = setting_of m c now entry locals in
       let a = type_of c.classes c.types x in
       let b = type_of c.classes c.types y in
-      let parts = and_parts (has_no_default x) (has_no_default y) none in
+      let parts = and_parts (reads_plainly among x) (reads_plainly among y) none in
       let operands = are_operands o a b is in
       operation_reads c.classes m e p (defined x c) (defined y c) (meant x c) (meant y c) (run.value_of x s) (run.value_of y s)
       (translated x c locals k good e st parts.0 operands.left (λ h. at (operands.left_bool h)))
@@ -139,7 +140,7 @@ module _ (m : Structure) (now entry : Heap) where
       let s = setting_of m c now entry locals in
       let a = type_of c.classes c.types x in
       let b = type_of c.classes c.types y in
-      let parts = and_parts (has_no_default x) (has_no_default y) none in
+      let parts = and_parts (reads_plainly among x) (reads_plainly among y) none in
       let holds = where_some (is_bool a && is_bool b) ty.Bool is in
       let both = and_parts (is_bool a) (is_bool b) holds in
       implies_reads c.classes m e (defined x c) (defined y c) (meant x c) (meant y c) (run.value_of x s) (run.value_of y s) (typed.gives_bool m s now refl c.types k good x both.0) (typed.gives_bool m s now refl c.types k good y both.1)
@@ -149,7 +150,7 @@ module _ (m : Structure) (now entry : Heap) where
       let s = setting_of m c now entry locals in
       let a = type_of c.classes c.types x in
       let b = type_of c.classes c.types y in
-      let parts = and_parts (has_no_default x) (has_no_default y) none in
+      let parts = and_parts (reads_plainly among x) (reads_plainly among y) none in
       let holds = where_some (is_bool a && is_bool b) ty.Bool is in
       let both = and_parts (is_bool a) (is_bool b) holds in
       iff_reads c.classes m e (defined x c) (defined y c) (meant x c) (meant y c) (run.value_of x s) (run.value_of y s)
@@ -175,13 +176,13 @@ module _ (m : Structure) (now entry : Heap) where
       cast_reads c.classes m e now p t non_null (defined x c) (meant x c) (run.value_of x s) (typed.gives_reference m s now refl c.types k good x r)
       (translated x c locals k good e st none (reference_some a r) (λ b. absurd (reference_or_bool a r b)))
   translated (OldExpr p x) c locals k good e st none is at =
-      translated x (at_entry c) locals k (old_setting (setting_of m c now entry locals) c.types k good) e (old_stands m now entry c locals e st) none is at
+      translated x (at_entry c) locals k (old_setting (setting_of m c now entry locals) c.types k good) e (old_stands among m now entry c locals e st) none is at
   translated (QuantifiedExpr p q name low high x) c locals k good e st none is at =
       let s = setting_of m c now entry locals in
       let a = type_of c.classes c.types low in
       let b = type_of c.classes c.types high in
       let t = type_of c.classes (c.types ++ ty.Int ∷ []) x in
-      let parts = three_parts (has_no_default low) (has_no_default high) (has_no_default x) none in
+      let parts = three_parts (reads_plainly among low) (reads_plainly among high) (reads_plainly among x) none in
       let holds = where_some (is_int a && is_int b && is_bool t) ty.Bool is in
       let all = and_parts (is_int a && is_int b) (is_bool t) holds in
       let ints = and_parts (is_int a) (is_int b) all.0 in
@@ -191,12 +192,12 @@ module _ (m : Structure) (now entry : Heap) where
       quantifier_read m c e placed (defined low c) (defined high c) (meant low c) (meant high c) (run.value_of low s) (run.value_of high s) whole_low whole_high
       (translated low c locals k good e st parts.0 (int_some a ints.0) (λ h. absurd (int_or_bool a ints.0 h)))
       (translated high c locals k good e st parts.1 (int_some b ints.1) (λ h. absurd (int_or_bool b ints.1 h)))
-      (λ i. translated low c locals k good (e ++ whole i ∷ []) (more_stands m now entry c locals e st i) parts.0 (int_some a ints.0) (λ h. absurd (int_or_bool a ints.0 h)))
-      (λ i. translated high c locals k good (e ++ whole i ∷ []) (more_stands m now entry c locals e st i) parts.1 (int_some b ints.1) (λ h. absurd (int_or_bool b ints.1 h)))
+      (λ i. translated low c locals k good (e ++ whole i ∷ []) (more_stands among m now entry c locals e st i) parts.0 (int_some a ints.0) (λ h. absurd (int_or_bool a ints.0 h)))
+      (λ i. translated high c locals k good (e ++ whole i ∷ []) (more_stands among m now entry c locals e st i) parts.1 (int_some b ints.1) (λ h. absurd (int_or_bool b ints.1 h)))
       q (defined x (with_bound c)) (meant x (with_bound c)) (λ i. run.value_of x (run.with_bound s i)) (λ u w is_low is_high i from to.
       let fit = range_fits (as_int u) (as_int w) i (int_fits c locals k good e st low ints.0 u is_low) (int_fits c locals k good e st high ints.1 w is_high) from to in
       let inner = bound_good s c.types k good i fit in (
-        translated x (with_bound c) (locals ++ value.Int i ∷ []) k inner (e ++ whole i ∷ []) (bound_stands m now entry c locals e st i placed) parts.2 (bool_some t all.1) (λ _. let more = length_more e (whole i) in omega (arith, more, placed)),
+        translated x (with_bound c) (locals ++ value.Int i ∷ []) k inner (e ++ whole i ∷ []) (bound_stands among m now entry c locals e st i placed) parts.2 (bool_some t all.1) (λ _. let more = length_more e (whole i) in omega (arith, more, placed)),
         typed.gives_bool m (run.with_bound s i) now refl (c.types ++ ty.Int ∷ []) k inner x all.1,
       ))
   translated (StateExpr p w x) c locals k good e st none is at =
@@ -209,7 +210,7 @@ module _ (m : Structure) (now entry : Heap) where
       let s = setting_of m c now entry locals in
       let a = type_of c.classes c.types x in
       let b = type_of c.classes c.types y in
-      let parts = and_parts (has_no_default x) (has_no_default y) none in
+      let parts = and_parts (reads_plainly among x) (reads_plainly among y) none in
       let both = and_parts (is_reference a) (is_reference b) (and_parts (is_reference a && is_reference b) (is_owners_word c.classes w) (where_some (is_reference a && is_reference b && is_owners_word c.classes w) ty.Bool is)).0 in
       owners_word_read m now entry c locals e (is_now c locals k good e st) (is_entry c locals k good e st) (still c locals k good e st) (owners_now c locals k good e st) (owners_then c locals k good e st) p
       (defined x c) (defined y c) (meant x c) (meant y c) (run.value_of x s) (run.value_of y s) (typed.gives_reference m s now refl c.types k good x both.0) (typed.gives_reference m s now refl c.types k good y both.1)

@@ -6,7 +6,7 @@ use Rattle.ss_core.specs.Tree.{ClassTree, DefaultTree, Defaults, Captured, ExprT
 use Rattle.ss_core.specs.Chain.{below}
 use Rattle.ss_store_rules.specs.declared.Value.{Value as ObjectValue}
 use Rattle.ss_store_rules.specs.Values.{Setting}
-use Rattle.ss_store_rules.specs.Locals.{everywhere, is_default}
+use Rattle.ss_store_rules.specs.Locals.{everywhere, is_default, reads_only}
 use Rattle.ss_store_rules.specs.Types.{is_bool, is_reference, has_class, type_of}
 use Rattle.ss_store_rules.specs.Typed.{is_invariant}
 use Rattle.ss_store_rules.specs.Admissible.{invariants, AreAdmissible}
@@ -32,6 +32,13 @@ pub record Stands (m : Structure) (c : Scene) (current former : Heap) (values : 
   pub entry : (vs : List Value) → value_of c.classes m (e ++ vs) c.entry ≡ store former
   pub count : length c.locals ≡ length values
   pub locals : (x : ℕ) (v : ObjectValue) → slice_get values x ≡ Some v → (vs : List Value) → Denotes c.classes m (e ++ vs) (local_meant c x) (standing v)
+
+-- The same, where these locals alone are asked: what the others mean may be anything.
+pub record StandsAmong (among : ℕ → Bool) (m : Structure) (c : Scene) (current former : Heap) (values : List ObjectValue) (e : List Value) : Type 0 where
+  pub now : (vs : List Value) → value_of c.classes m (e ++ vs) c.now ≡ store current
+  pub entry : (vs : List Value) → value_of c.classes m (e ++ vs) c.entry ≡ store former
+  pub count : length c.locals ≡ length values
+  pub locals : (x : ℕ) (v : ObjectValue) → among x ≡ true → slice_get values x ≡ Some v → (vs : List Value) → Denotes c.classes m (e ++ vs) (local_meant c x) (standing v)
 
 -- terms without bound names, one for each value, which it has
 abbrev pub HaveValues : List ClassTree → Structure → List Term → List ObjectValue → Type 0
@@ -64,6 +71,16 @@ has_no_default x = everywhere (λ y. not (is_default y)) x
 abbrev pub is_stated : List ClassTree → List Ty → ExprTree → Bool
 is_stated cs tys (DefaultExpr p d) = has_subject cs tys d
 is_stated cs tys x = has_no_default x && is_bool (type_of cs tys x)
+
+-- a default condition speaks of these locals alone: of its own, and of `this` where that is to be apart
+abbrev pub speaks_of : (ℕ → Bool) → DefaultTree → Bool
+speaks_of among (Captured x apart) = among x && (not apart || among 0)
+speaks_of among d = among (subject d)
+
+-- a condition speaks of these locals alone
+abbrev pub speaks_only : (ℕ → Bool) → ExprTree → Bool
+speaks_only among (DefaultExpr p d) = speaks_of among d
+speaks_only among x = reads_only among x
 
 -- the terms of the local of which a default condition speaks stay what they are
 abbrev pub Settled : Structure → List Value → Scene → ExprTree → Type 0

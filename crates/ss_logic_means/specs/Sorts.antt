@@ -1,5 +1,5 @@
 -- When expressions are well formed as terms and formulas: each term has the sort of its type, and each name in it is bound.
-use Rattle.std.specs.Prelude.{◌≡◌, ℕ, List, [], ◌∷◌, ◌++◌, length, true, Some, slice_get}
+use Rattle.std.specs.Prelude.{◌≡◌, ℕ, List, [], ◌∷◌, ◌++◌, length, Bool, true, Some, slice_get}
 use Rattle.ss_core.specs.declared.names.Ty.{Ty}
 use Rattle.ss_core.specs.Tree.{ClassTree}
 use Rattle.ss_logic_stores.specs.declared.Sort.{Sort}
@@ -32,3 +32,10 @@ pub record IsSorted (c : Scene) (bound : List Sort) : Type 0 where
   pub entry : HasSort c.classes bound sort.Store c.entry
   pub count : length c.locals ≡ length c.types
   pub locals : (x : ℕ) (t : Ty) → slice_get c.types x ≡ Some t → (more : List Sort) → HaveSort c.classes (bound ++ more) (sort_of_type t) (choices (local_meant c x))
+
+-- The same, where these locals alone are asked: what the others mean may be anything.
+pub record IsSortedAmong (among : ℕ → Bool) (c : Scene) (bound : List Sort) : Type 0 where
+  pub now : HasSort c.classes bound sort.Store c.now
+  pub entry : HasSort c.classes bound sort.Store c.entry
+  pub count : length c.locals ≡ length c.types
+  pub locals : (x : ℕ) (t : Ty) → among x ≡ true → slice_get c.types x ≡ Some t → (more : List Sort) → HaveSort c.classes (bound ++ more) (sort_of_type t) (choices (local_meant c x))

@@ -6,7 +6,7 @@ ghost use Rattle.ss_core.specs.Tree.{ClassTree, BodyTree, DefaultTree, ExprTree}
 ghost use Rattle.ss_core.specs.Chain.{IsChain, NoAlso};
 ghost use Rattle.ss_store_rules.specs.declared.Value.{Value as ObjectValue};
 ghost use Rattle.ss_store_rules.specs.Types.{type_of, Words, typed, is_condition};
-ghost use Rattle.ss_store_rules.specs.Locals.{local_types};
+ghost use Rattle.ss_store_rules.specs.Locals.{local_types, is_argument, reads_only};
 ghost use Rattle.ss_store_rules.specs.Typed.{is_contract};
 ghost use Rattle.ss_store_rules.specs.Values.{Setting};
 ghost use Rattle.ss_store_rules.specs.Values as run;
@@ -17,11 +17,11 @@ ghost use Rattle.ss_logic_express.specs.Express.{One, Scene, choices, local_mean
 ghost use Rattle.ss_logic_express.specs.Invariants.{packed_invariants, invariants_of};
 ghost use Rattle.ss_machine_typed.specs.Settings.{IsGoodSetting};
 ghost use Rattle.ss_logic_means.specs.Means.{standing, Means, Reads};
-ghost use Rattle.ss_logic_means.specs.Scenes.{setting_of, Stands, HaveValues, IsStoreTerm, Stay, has_subject, has_no_default, is_stated, Settled, AreInvariants};
+ghost use Rattle.ss_logic_means.specs.Scenes.{setting_of, Stands, StandsAmong, HaveValues, IsStoreTerm, Stay, has_subject, has_no_default, speaks_only, is_stated, Settled, AreInvariants};
 ghost use Rattle.ss_logic_stores.specs.declared.Sort.{Sort};
 ghost use Rattle.ss_logic_stores.specs.declared.Sort.TheVariants as sort;
 ghost use Rattle.ss_logic_means.specs.Bodies.{body_scene, GivesFrom};
-ghost use Rattle.ss_logic_means.specs.Sorts.{IsWellExpressed, IsSorted};
+ghost use Rattle.ss_logic_means.specs.Sorts.{IsWellExpressed, IsSorted, IsSortedAmong};
 ghost use Rattle.ss_logic_means.specs.Sentences.{IsOfGood, AllFollowFromGood};
 
 /// The translation law: the parts of a typed expression are true exactly where it has a value, and what it means then has that value.
@@ -147,4 +147,29 @@ pub fn conditions_of_bodies_are_well_formed()
 /// The formula of a condition of a body is true exactly where the condition holds, for the values that a structure gives the constants of the locals.
 pub fn conditions_of_bodies_are_true_where_they_hold()
     ensures { (cs : List ClassTree) (b : BodyTree) (x : ExprTree) → is_stated cs (local_types b) x ≡ true → (m : Structure) (now entry : Term) (current former : Heap) (locals : List ObjectValue) (k : Bool) → IsGoodSetting (setting_of m (body_scene cs b now entry) current former locals) (local_types b) k → IsStoreTerm cs m now current → IsStoreTerm cs m entry former → GivesFrom m 0 (local_types b) locals → Means cs m [] (holds_formula x (body_scene cs b now entry)) (run.holds x (setting_of m (body_scene cs b now entry) current former locals)) }
+{}
+
+/// Of the locals of a scene those alone count that an expression reads: where these have their values, its parts are true exactly where it has a value, which is then what it means.
+pub fn expressions_mean_their_values_where_read()
+    ensures { (among : ℕ → Bool) (m : Structure) (now entry : Heap) (x : ExprTree) (c : Scene) (locals : List ObjectValue) (k : Bool) → IsGoodSetting (setting_of m c now entry locals) c.types k → (e : List Value) → StandsAmong among m c now entry locals e → length e ≡ c.bound → reads_only among x ≡ true → has_no_default x ≡ true → is_some (type_of c.classes c.types x) ≡ true → Reads c.classes m e (defined x c) (meant x c) (run.value_of x (setting_of m c now entry locals)) }
+{}
+
+/// The formulas of a typed expression are well formed where what the locals mean that it reads has the sorts of their types.
+pub fn expressions_are_well_formed_where_read()
+    ensures { (among : ℕ → Bool) (x : ExprTree) (c : Scene) (bound : List Sort) → IsSortedAmong among c bound → length bound ≡ c.bound → reads_only among x ≡ true → has_no_default x ≡ true → is_some (type_of c.classes c.types x) ≡ true → IsWellExpressed c.classes bound (element_sort (type_of c.classes c.types x)) (defined x c) (meant x c) }
+{}
+
+/// The formula of a condition is true exactly where it holds, if the locals of which it speaks have their values.
+pub fn conditions_are_true_where_they_hold_where_read()
+    ensures { (among : ℕ → Bool) (m : Structure) (now entry : Heap) (x : ExprTree) (c : Scene) (locals : List ObjectValue) (k : Bool) → IsGoodSetting (setting_of m c now entry locals) c.types k → (e : List Value) → StandsAmong among m c now entry locals e → length e ≡ c.bound → speaks_only among x ≡ true → is_stated c.classes c.types x ≡ true → Settled m e c x → Means c.classes m e (holds_formula x c) (run.holds x (setting_of m c now entry locals)) }
+{}
+
+/// The formula of a condition is well formed where what the locals mean of which it speaks has the sorts of their types.
+pub fn conditions_are_well_formed_where_read()
+    ensures { (among : ℕ → Bool) (x : ExprTree) (c : Scene) (bound : List Sort) → IsSortedAmong among c bound → length bound ≡ c.bound → speaks_only among x ≡ true → is_stated c.classes c.types x ≡ true → is_well_formed c.classes bound (holds_formula x c) ≡ true }
+{}
+
+/// A condition of a contract speaks of no other locals than those that it may read, if the arguments are among these.
+pub fn contracts_speak_of_their_locals()
+    ensures { (cs : List ClassTree) (b : BodyTree) (w : Words) (among : ℕ → Bool) (x : ExprTree) → is_contract cs b w among x ≡ true → ((y : ℕ) → is_argument b y ≡ true → among y ≡ true) → speaks_only among x ≡ true }
 {}

@@ -1,5 +1,5 @@
-use Rattle.ss_logic_means.proofs.Contracts.{stated_means}
+use Rattle.ss_logic_means.proofs.Contracts.{all_stated_mean}
 use Rattle.ss_logic_means.proofs.laws.conditions_are_true_where_they_hold.Goals as goal
 
 pub returns : goal.returns
-returns c = stated_means
+returns c = all_stated_mean

@@ -1,5 +1,7 @@
+use Rattle.ss_logic_means.proofs.Everywhere.{all_locals, plainly_all}
+use Rattle.ss_logic_means.proofs.Scening.{sorted_among}
 use Rattle.ss_logic_means.proofs.Expressed.{expressed}
 use Rattle.ss_logic_means.proofs.laws.expressions_are_well_formed.Goals as goal
 
 pub returns : goal.returns
-returns c = λ x s bound st at none is. expressed x s bound st none is (λ _. at)
+returns c = λ x s bound st at none is. expressed all_locals x s bound (sorted_among all_locals s bound st) (plainly_all x none) is (λ _. at)
