@@ -1,0 +1,5 @@
+pub mod Among
+pub mod Values
+pub mod Known
+pub mod Enough
+pub mod Read

@@ -1,0 +1,47 @@
+// Laws over the parts of expressions of code.
+
+ghost use Rattle.std.specs.Prelude.{◌≡◌, ℕ, List, ◌∷◌, length, map, Bool, true, Ok, is_some};
+ghost use Rattle.std.specs.List.{list_all};
+ghost use Rattle.ss_core.specs.Tree.{BodyTree, ExprTree};
+ghost use Rattle.ss_store_rules.specs.declared.Value.{Value as ObjectValue};
+ghost use Rattle.ss_store_rules.specs.Assigned.{reads_assigned};
+ghost use Rattle.ss_store_rules.specs.Locals.{local_types, reads_only};
+ghost use Rattle.ss_store_rules.specs.NonNull.{Known, Site};
+ghost use Rattle.ss_store_rules.specs.Types.{type_of};
+ghost use Rattle.ss_store_rules.specs.Values as run;
+ghost use Rattle.ss_machine_rules.specs.Steps.{values_of};
+ghost use Rattle.ss_machine_typed.specs.Settings.{IsGoodSetting};
+ghost use Rattle.ss_logic_stores.specs.declared.Sort.{Sort};
+ghost use Rattle.ss_logic_stores.specs.Values.{Heap, Value, Structure};
+ghost use Rattle.ss_logic_stores.specs.Formulas.{AllTrue, formulas_from};
+ghost use Rattle.ss_logic_express.specs.Express.{Scene, meant, defined};
+ghost use Rattle.ss_logic_means.specs.Means.{standing, Denotes};
+ghost use Rattle.ss_logic_means.specs.Scenes.{setting_of, StandsAmong, has_no_default};
+ghost use Rattle.ss_logic_means.specs.Sorts.{AreWellFormed, IsSortedAmong};
+ghost use Rattle.ss_vcgen_heaps.specs.Parts.{parts};
+ghost use Rattle.ss_vcgen_parts.specs.Reading.{formulas_of, HasTrueParts, IsRead, AllDenote, AllHaveTrueParts};
+
+/// Where the parts of a typed expression that are checked are true, it has a value, and what it means has that value.
+pub fn true_parts_are_enough()
+    ensures { (b : BodyTree) (assigned : ℕ → Bool) (k : Known) (m : Structure) (c : Scene) (now entry : Heap) (locals : List ObjectValue) (e : List Value) → IsRead b assigned k m c now entry locals e → (x : ExprTree) → reads_assigned b assigned x ≡ true → has_no_default x ≡ true → is_some (type_of c.classes c.types x) ≡ true → HasTrueParts b k m e c x → (v : ObjectValue) × (run.value_of x (setting_of m c now entry locals) ≡ Ok v) × Denotes c.classes m e (meant x c) (standing v) }
+{}
+
+/// Where the parts of a typed expression that are checked are true, all of its parts are: those that aren't checked follow from its types, and from what is known of null.
+pub fn unchecked_parts_are_true()
+    ensures { (b : BodyTree) (assigned : ℕ → Bool) (k : Known) (m : Structure) (c : Scene) (now entry : Heap) (locals : List ObjectValue) (e : List Value) → IsRead b assigned k m c now entry locals e → (x : ExprTree) → reads_assigned b assigned x ≡ true → has_no_default x ≡ true → is_some (type_of c.classes c.types x) ≡ true → HasTrueParts b k m e c x → AllTrue c.classes m e (formulas_from (defined x c)) }
+{}
+
+/// Where a typed expression has a value, its parts are true, whatever is known of null.
+pub fn parts_of_values_are_true()
+    ensures { (among : ℕ → Bool) (m : Structure) (now entry : Heap) (x : ExprTree) (c : Scene) (locals : List ObjectValue) (constructs : Bool) → IsGoodSetting (setting_of m c now entry locals) c.types constructs → (e : List Value) → StandsAmong among m c now entry locals e → length e ≡ c.bound → reads_only among x ≡ true → has_no_default x ≡ true → is_some (type_of c.classes c.types x) ≡ true → (s : Site) (k : Known) (v : ObjectValue) → run.value_of x (setting_of m c now entry locals) ≡ Ok v → AllTrue c.classes m e (formulas_from (formulas_of (parts x s k c))) }
+{}
+
+/// The parts of a typed expression are well formed formulas.
+pub fn parts_are_well_formed()
+    ensures { (among : ℕ → Bool) (x : ExprTree) (c : Scene) (bound : List Sort) → IsSortedAmong among c bound → length bound ≡ c.bound → reads_only among x ≡ true → has_no_default x ≡ true → is_some (type_of c.classes c.types x) ≡ true → (s : Site) (k : Known) → AreWellFormed c.classes bound (formulas_of (parts x s k c)) }
+{}
+
+/// Where the parts of each of these expressions are true, they have values, which are what they mean.
+pub fn true_parts_are_enough_for_all()
+    ensures { (b : BodyTree) (assigned : ℕ → Bool) (k : Known) (m : Structure) (c : Scene) (now entry : Heap) (locals : List ObjectValue) (e : List Value) → IsRead b assigned k m c now entry locals e → (xs : List ExprTree) → list_all (reads_assigned b assigned) xs ≡ true → list_all has_no_default xs ≡ true → list_all (λ x. is_some (type_of c.classes c.types x)) xs ≡ true → AllHaveTrueParts b k m e c xs → (vs : List ObjectValue) × (values_of xs (setting_of m c now entry locals) ≡ Ok vs) × AllDenote c.classes m e (map (λ x. meant x c) xs) vs }
+{}
