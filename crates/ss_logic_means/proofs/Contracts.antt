@@ -151,6 +151,10 @@ module _ (cs : List ClassTree) (b : BodyTree) where
         let parts = typed_parts (everywhere (is_allowed b w) x) (type_of cs (local_types b) x) h in
         and_from (has_no_default x) (is_bool (type_of cs (local_types b) x)) (allowed_no_default x parts.0) parts.1
 
+    -- a condition is a truth value without a default condition
+    pub condition_typed : (x : ExprTree) → is_condition cs b w x ≡ true → (has_no_default x ≡ true) × (is_bool (type_of cs (local_types b) x) ≡ true)
+    condition_typed x h = and_parts (has_no_default x) (is_bool (type_of cs (local_types b) x)) (condition_stated x h)
+
     some_parts : (c : Bool) (o : Option Ty) → is_some (if c then o else None) ≡ true → (c ≡ true) × (is_some o ≡ true)
     some_parts true o h = (refl, h)
     some_parts false o h = absurd (false≢true h)

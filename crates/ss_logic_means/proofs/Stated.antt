@@ -180,10 +180,15 @@ module _ (among : ℕ → Bool) (c : Scene) (bound : List Sort) (st : IsSortedAm
   stated_expressed (DefaultExpr p d) speaks h = (tt, says_sorted c.classes bound (default_said c d) (default_formed d speaks h))
   stated_expressed x speaks h = plainly_expressed x speaks h
 
-  pub condition_formed : (x : ExprTree) → speaks_only among x ≡ true → is_stated c.classes c.types x ≡ true → is_well_formed c.classes bound (holds_formula x c) ≡ true
-  condition_formed x speaks h =
-      let is = stated_expressed x speaks h in
+  holds_formed : (x : ExprTree) → IsWellExpressed c.classes bound sort.Truth (defined x c) (meant x c) → F c.classes bound (holds_formula x c)
+  holds_formed x is =
       all_formed c.classes bound (defined x c ++ said (meant x c) ∷ []) (more_formed c.classes bound (defined x c) (said (meant x c) ∷ []) is.0 (said_formed c.classes bound (meant x c) is.1, tt))
+
+  pub condition_formed : (x : ExprTree) → speaks_only among x ≡ true → is_stated c.classes c.types x ≡ true → is_well_formed c.classes bound (holds_formula x c) ≡ true
+  condition_formed x speaks h = holds_formed x (stated_expressed x speaks h)
+
+  pub plain_condition_formed : (x : ExprTree) → reads_only among x ≡ true → has_no_default x ≡ true → is_bool (type_of c.classes c.types x) ≡ true → is_well_formed c.classes bound (holds_formula x c) ≡ true
+  plain_condition_formed x reads none typed = holds_formed x (plainly_expressed x reads (and_from (has_no_default x) (is_bool (type_of c.classes c.types x)) none typed))
 
 -- ---- scenes of terms without bound names
 
