@@ -1,5 +1,5 @@
 -- Each part that is checked is one of the formulas that say when the expression is defined.
-use Rattle.std.proofs.Common.{◌≡◌, ℕ, pos, List, [], ◌∷◌, ◌++◌, map, Bool, true, false, refl, sym, ◌∙◌, ap, subst}
+use Rattle.std.proofs.Common.{◌≡◌, ℕ, pos, List, [], ◌∷◌, ◌++◌, map, Bool, true, false, refl, sym, ap, subst}
 use Rattle.std.specs.Prelude.{if◌then◌else◌}
 use Rattle.std.proofs.lemmas.List.{map-append}
 use Rattle.ss_core.specs.declared.names.Kind.{Kind}
@@ -7,7 +7,7 @@ use Rattle.ss_core.specs.declared.names.Kind.TheVariants as kind
 use Rattle.ss_core.specs.declared.names.Place.{Place}
 use Rattle.ss_core.specs.declared.expr.Operator.{Operator}
 use Rattle.ss_core.specs.declared.expr.Operator.TheVariants as op
-use Rattle.ss_core.specs.Tree.{WordTree, Consistent, Committed, New, Level, Packed, Unowned, ExprTree, IntExpr, BoolExpr, NullExpr, LocalExpr, FieldExpr, ElementExpr, LengthExpr, NegateExpr, NotExpr, BinaryExpr, ImpliesExpr, IffExpr, IsExpr, AsExpr, CastExpr, OldExpr, QuantifiedExpr, StateExpr, OwnersExpr, DefaultExpr}
+use Rattle.ss_core.specs.Tree.{WordTree, New, ExprTree, IntExpr, BoolExpr, NullExpr, LocalExpr, FieldExpr, ElementExpr, LengthExpr, NegateExpr, NotExpr, BinaryExpr, ImpliesExpr, IffExpr, IsExpr, AsExpr, CastExpr, OldExpr, QuantifiedExpr, StateExpr, OwnersExpr, DefaultExpr}
 use Rattle.ss_store_rules.specs.Types.{type_of}
 use Rattle.ss_store_rules.specs.NonNull.{Known, Site, is_never_null, known_right}
 use Rattle.ss_logic_stores.specs.declared.Sort.TheVariants as sort

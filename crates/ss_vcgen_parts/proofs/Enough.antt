@@ -1,6 +1,6 @@
 -- Where the parts that are checked are true, all parts are: the others follow from types, and from what is known of null.
-use Rattle.std.proofs.Common.{◌≡◌, ℕ, suc, ◌+◌, ℤ, pos, ◌+ℤ◌, List, [], ◌∷◌, ◌++◌, map, length, Bool, true, false, not, ◌&&◌, Option, Some, None, Ok, Err, refl, sym, ◌∙◌, ap, subst, arith}
-use Rattle.std.specs.Prelude.{is_some, slice_get, nat_lt, int_le, if◌then◌else◌}
+use Rattle.std.proofs.Common.{◌≡◌, ℕ, ℤ, pos, List, [], ◌∷◌, ◌++◌, map, length, Bool, true, false, not, ◌&&◌, Option, Some, None, Ok, refl, sym, ◌∙◌, ap, subst, arith}
+use Rattle.std.specs.Prelude.{is_some, slice_get, if◌then◌else◌}
 use Rattle.std.proofs.lemmas.Bool.{false≢true, and_parts}
 use Rattle.ss_core.specs.declared.names.Kind.TheVariants as kind
 use Rattle.ss_core.specs.declared.names.Place.{Place}
@@ -8,29 +8,28 @@ use Rattle.ss_core.specs.declared.names.Ty.{Ty}
 use Rattle.ss_core.specs.declared.names.Ty.TheVariants as ty
 use Rattle.ss_core.specs.declared.expr.Operator.{Operator}
 use Rattle.ss_core.specs.declared.expr.Operator.TheVariants as op
-use Rattle.ss_core.specs.Tree.{ClassTree, WordTree, Consistent, Committed, New, Level, Packed, Unowned, ExprTree, IntExpr, BoolExpr, NullExpr, LocalExpr, FieldExpr, ElementExpr, LengthExpr, NegateExpr, NotExpr, BinaryExpr, ImpliesExpr, IffExpr, IsExpr, AsExpr, CastExpr, OldExpr, QuantifiedExpr, StateExpr, OwnersExpr, DefaultExpr, BodyTree}
+use Rattle.ss_core.specs.Tree.{ClassTree, WordTree, New, ExprTree, IntExpr, BoolExpr, NullExpr, LocalExpr, FieldExpr, ElementExpr, LengthExpr, NegateExpr, NotExpr, BinaryExpr, ImpliesExpr, IffExpr, IsExpr, AsExpr, CastExpr, OldExpr, QuantifiedExpr, StateExpr, OwnersExpr, DefaultExpr, BodyTree}
 use Rattle.ss_core.specs.Chain.{sub, below, is_class, all_fields}
 use Rattle.ss_core.proofs.Chains.{sub-below, sub_trans}
 use Rattle.ss_store_rules.specs.declared.Value.{Value as ObjectValue}
 use Rattle.ss_store_rules.specs.declared.Value.TheVariants as value
-use Rattle.ss_store_rules.specs.Numbers.{Outcome, fits}
+use Rattle.ss_store_rules.specs.Numbers.{fits}
 use Rattle.ss_store_rules.specs.Changes.{is_array}
 use Rattle.ss_store_rules.specs.Good.{has_type}
 use Rattle.ss_store_rules.specs.Locals.{is_default, is_local_among, reads_only}
 use Rattle.ss_store_rules.specs.Reads.{as_bool, as_int}
-use Rattle.ss_store_rules.specs.Types.{is_int, is_bool, is_reference, has_class, class_type, is_word, is_owners_word, element_of, operation_type, type_of}
+use Rattle.ss_store_rules.specs.Types.{is_int, is_bool, is_reference, has_class, class_type, is_word, is_owners_word, operation_type, type_of}
 use Rattle.ss_store_rules.specs.NonNull.{Known, Site, is_never_null, known_tested, known_right}
 use Rattle.ss_store_rules.specs.Values as run
-use Rattle.ss_machine_typed.specs.Settings.{IsGoodSetting}
 use Rattle.ss_machine_typed.proofs.Outcomes.{int_typed}
 use Rattle.ss_machine_typed.proofs.Sound.{value_sound}
-use Rattle.ss_machine_good.specs.Known.{IsNotNull, IsTrueOf}
+use Rattle.ss_machine_good.specs.Known.{IsNotNull}
 use Rattle.ss_machine_good.proofs.Tests.{tested_true}
 use Rattle.ss_logic_stores.specs.declared.Sort.TheVariants as sort
-use Rattle.ss_logic_stores.specs.Values.{null, reference, Heap, Value, whole, thing, Structure}
+use Rattle.ss_logic_stores.specs.Values.{reference, Heap, Value, whole, Structure}
 use Rattle.ss_logic_stores.specs.Terms.{Term, Bound, app}
 use Rattle.ss_logic_stores.specs.Terms as term
-use Rattle.ss_logic_stores.specs.Formulas.{Formula, Forall, True, neg}
+use Rattle.ss_logic_stores.specs.Formulas.{Formula, Forall, neg}
 use Rattle.ss_logic_stores.specs.Objects.{objects_of}
 use Rattle.ss_logic_rules.specs.Shapes.{number, at_most, allocated}
 use Rattle.ss_logic_express.specs.Express.{or_of, Meant, over, said, Scene, at_entry, with_bound, fits_int, out_of_range, meant, not_null, readable, under, index_fits, operation_parts, defined}
@@ -38,12 +37,12 @@ use Rattle.ss_logic_express.specs.Express as express
 use Rattle.ss_logic_means.specs.Means.{standing}
 use Rattle.ss_logic_means.specs.Scenes.{setting_of, StandsAmong}
 use Rattle.ss_logic_means.proofs.Denoting.{T, M, D, R, All, neg_means, All-append, All-parts, under_all, under_back, under_off}
-use Rattle.ss_logic_means.proofs.Operations.{IsBool, Gives, truth_denotes}
+use Rattle.ss_logic_means.proofs.Operations.{truth_denotes}
 use Rattle.ss_logic_means.proofs.Classes.{IsReferenceOf, is_null, object_known, not_null_means}
 use Rattle.ss_logic_means.proofs.Reading.{object_cast, null_cast}
-use Rattle.ss_logic_means.proofs.Quantified.{over_range, parts_upto, upto_parts}
+use Rattle.ss_logic_means.proofs.Quantified.{parts_upto, upto_parts}
 use Rattle.ss_logic_means.proofs.Typed as typed
-use Rattle.ss_logic_means.proofs.Operands.{three_parts, where_some, where_bool, int_some, bool_some, reference_some, class_reference, int_or_bool, field_from, elements_from, element_reference, are_operands}
+use Rattle.ss_logic_means.proofs.Operands.{three_parts, where_some, int_some, bool_some, reference_some, class_reference, int_or_bool, field_from, elements_from, element_reference, are_operands}
 use Rattle.ss_logic_means.proofs.Everywhere.{everywhere_both, reads_plainly}
 use Rattle.ss_logic_means.proofs.Standing.{old_stands, more_stands, bound_stands, range_fits, length_more}
 use Rattle.ss_logic_means.proofs.Asking.{low_means, high_means}

@@ -1,21 +1,20 @@
 -- What is known of null where an expression is read, under bound names and inside `old` too.
-use Rattle.std.proofs.Common.{◌≡◌, ℕ, zero, suc, ℤ, List, [], ◌∷◌, ◌++◌, map, Bool, true, false, not, ◌&&◌, ◌||◌, Option, Some, None, Ok, refl, sym, ◌∙◌, ap, subst, append-nil, inl, inr, ◌⊎◌, ⊎_elim}
+use Rattle.std.proofs.Common.{◌≡◌, ℕ, zero, suc, ℤ, List, [], ◌∷◌, ◌++◌, map, Bool, true, false, ◌||◌, Some, None, Ok, refl, sym, ◌∙◌, ap, subst, append-nil, inl, inr, ◌⊎◌, ⊎_elim}
 use Rattle.std.specs.Prelude.{slice_get, unwrap_or}
 use Rattle.std.proofs.lemmas.Bool.{false≢true, or_cases, or_left, or_right}
 use Rattle.ss_core.specs.declared.names.Ty.{Ty}
 use Rattle.ss_core.specs.declared.names.Ty.TheVariants as ty
-use Rattle.ss_core.specs.Tree.{ExprTree, IntExpr, BoolExpr, NullExpr, LocalExpr, FieldExpr, ElementExpr, LengthExpr, NegateExpr, NotExpr, BinaryExpr, ImpliesExpr, IffExpr, IsExpr, AsExpr, CastExpr, OldExpr, QuantifiedExpr, StateExpr, OwnersExpr, DefaultExpr, LocalTree, BodyTree}
+use Rattle.ss_core.specs.Tree.{ExprTree, LocalExpr, FieldExpr, CastExpr, OldExpr, BodyTree}
 use Rattle.ss_store_rules.specs.declared.Value.{Value}
 use Rattle.ss_store_rules.specs.declared.Value.TheVariants as value
-use Rattle.ss_store_rules.specs.Store.{Object}
 use Rattle.ss_store_rules.specs.Numbers.{fits}
-use Rattle.ss_store_rules.specs.Locals.{types_of, local_types, is_bound, is_local_among, reads_only}
+use Rattle.ss_store_rules.specs.Locals.{types_of, local_types, is_bound, reads_only}
 use Rattle.ss_store_rules.specs.Types.{type_of}
 use Rattle.ss_store_rules.specs.Values.{Setting, local_value, at_entry, with_bound, value_of}
 use Rattle.ss_store_rules.specs.NonNull.{Known, Facts, is_non_null_type, is_never_null}
 use Rattle.ss_machine_typed.specs.Settings.{IsGoodSetting}
 use Rattle.ss_machine_typed.proofs.Sound.{old_setting}
-use Rattle.ss_machine_good.specs.Known.{IsNotNull, AreNotNull, IsSide, HasItsField, IsTrueOf, AreAssigned, WasReady}
+use Rattle.ss_machine_good.specs.Known.{IsNotNull, AreNotNull, IsTrueOf, WasReady}
 use Rattle.ss_machine_good.proofs.NonNull.{never_null}
 use Rattle.ss_logic_means.proofs.Everywhere.{reads_fewer}
 use Rattle.ss_logic_means.proofs.Standing.{bound_good}

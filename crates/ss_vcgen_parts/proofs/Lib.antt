@@ -3,3 +3,4 @@ pub mod Values
 pub mod Known
 pub mod Enough
 pub mod Read
+pub mod Placed

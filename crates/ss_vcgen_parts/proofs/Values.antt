@@ -6,7 +6,7 @@ use Rattle.ss_store_rules.specs.declared.Value.{Value as ObjectValue}
 use Rattle.ss_store_rules.specs.Numbers.{Outcome}
 use Rattle.ss_store_rules.specs.Locals.{reads_only}
 use Rattle.ss_store_rules.specs.NonNull.{Known, Site}
-use Rattle.ss_store_rules.specs.Types.{is_bool, type_of}
+use Rattle.ss_store_rules.specs.Types.{type_of}
 use Rattle.ss_store_rules.specs.Values as run
 use Rattle.ss_machine_typed.specs.Settings.{IsGoodSetting}
 use Rattle.ss_logic_stores.specs.declared.Sort.{Sort}

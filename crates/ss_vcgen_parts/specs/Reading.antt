@@ -8,7 +8,7 @@ use Rattle.ss_machine_typed.specs.Settings.{IsGoodSetting}
 use Rattle.ss_machine_good.specs.Known.{IsTrueOf, AreAssigned, WasReady}
 use Rattle.ss_logic_stores.specs.Values.{Heap, Value, Structure}
 use Rattle.ss_logic_stores.specs.Formulas.{Formula, AllTrue, formulas_from}
-use Rattle.ss_logic_express.specs.Express.{Meant, Scene, meant}
+use Rattle.ss_logic_express.specs.Express.{Meant, Scene}
 use Rattle.ss_logic_means.specs.Means.{standing, Denotes}
 use Rattle.ss_logic_means.specs.Scenes.{setting_of, StandsAmong}
 use Rattle.ss_vcgen_heaps.specs.Parts.{Part, parts}

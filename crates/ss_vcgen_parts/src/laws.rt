@@ -1,24 +1,28 @@
 // Laws over the parts of expressions of code.
 
-ghost use Rattle.std.specs.Prelude.{◌≡◌, ℕ, List, ◌∷◌, length, map, Bool, true, Ok, is_some};
+ghost use Rattle.std.specs.Prelude.{◌≡◌, ℕ, List, [], ◌∷◌, length, map, Bool, true, ◌||◌, Ok, is_some};
 ghost use Rattle.std.specs.List.{list_all};
 ghost use Rattle.ss_core.specs.Tree.{BodyTree, ExprTree};
 ghost use Rattle.ss_store_rules.specs.declared.Value.{Value as ObjectValue};
 ghost use Rattle.ss_store_rules.specs.Assigned.{reads_assigned};
-ghost use Rattle.ss_store_rules.specs.Locals.{local_types, reads_only};
+ghost use Rattle.ss_store_rules.specs.Locals.{local_types, is_bound, reads_only};
 ghost use Rattle.ss_store_rules.specs.NonNull.{Known, Site};
-ghost use Rattle.ss_store_rules.specs.Types.{type_of};
+ghost use Rattle.ss_store_rules.specs.Types.{type_of, Words, is_condition};
 ghost use Rattle.ss_store_rules.specs.Values as run;
 ghost use Rattle.ss_machine_rules.specs.Steps.{values_of};
 ghost use Rattle.ss_machine_typed.specs.Settings.{IsGoodSetting};
 ghost use Rattle.ss_logic_stores.specs.declared.Sort.{Sort};
-ghost use Rattle.ss_logic_stores.specs.Values.{Heap, Value, Structure};
-ghost use Rattle.ss_logic_stores.specs.Formulas.{AllTrue, formulas_from};
-ghost use Rattle.ss_logic_express.specs.Express.{Scene, meant, defined};
-ghost use Rattle.ss_logic_means.specs.Means.{standing, Denotes};
+ghost use Rattle.ss_logic_stores.specs.declared.Sort.TheVariants as sort;
+ghost use Rattle.ss_logic_stores.specs.Values.{Heap, Value, store, Structure};
+ghost use Rattle.ss_logic_stores.specs.Terms.{value_of};
+ghost use Rattle.ss_logic_stores.specs.Formulas.{is_well_formed, AllTrue, formulas_from};
+ghost use Rattle.ss_logic_express.specs.Express.{Scene, meant, defined, holds_formula};
+ghost use Rattle.ss_logic_means.specs.Means.{standing, Means, Denotes};
 ghost use Rattle.ss_logic_means.specs.Scenes.{setting_of, StandsAmong, has_no_default};
-ghost use Rattle.ss_logic_means.specs.Sorts.{AreWellFormed, IsSortedAmong};
+ghost use Rattle.ss_logic_means.specs.Sorts.{HasSort, AreWellFormed, IsSortedAmong};
 ghost use Rattle.ss_vcgen_heaps.specs.Parts.{parts};
+ghost use Rattle.ss_vcgen_heaps.specs.Positions.{Position, Walk, scene_at};
+ghost use Rattle.ss_vcgen_parts.specs.Placed.{HaveValues, HaveSorts};
 ghost use Rattle.ss_vcgen_parts.specs.Reading.{formulas_of, HasTrueParts, IsRead, AllDenote, AllHaveTrueParts};
 
 /// Where the parts of a typed expression that are checked are true, it has a value, and what it means has that value.
@@ -44,4 +48,29 @@ pub fn parts_are_well_formed()
 /// Where the parts of each of these expressions are true, they have values, which are what they mean.
 pub fn true_parts_are_enough_for_all()
     ensures { (b : BodyTree) (assigned : ℕ → Bool) (k : Known) (m : Structure) (c : Scene) (now entry : Heap) (locals : List ObjectValue) (e : List Value) → IsRead b assigned k m c now entry locals e → (xs : List ExprTree) → list_all (reads_assigned b assigned) xs ≡ true → list_all has_no_default xs ≡ true → list_all (λ x. is_some (type_of c.classes c.types x)) xs ≡ true → AllHaveTrueParts b k m e c xs → (vs : List ObjectValue) × (values_of xs (setting_of m c now entry locals) ≡ Ok vs) × AllDenote c.classes m e (map (λ x. meant x c) xs) vs }
+{}
+
+/// Where each of these expressions has a value, their parts are true, and what they mean are the values.
+pub fn parts_of_all_values_are_true()
+    ensures { (b : BodyTree) (assigned : ℕ → Bool) (k : Known) (m : Structure) (c : Scene) (now entry : Heap) (locals : List ObjectValue) (e : List Value) → IsRead b assigned k m c now entry locals e → (xs : List ExprTree) → list_all (reads_assigned b assigned) xs ≡ true → list_all has_no_default xs ≡ true → list_all (λ x. is_some (type_of c.classes c.types x)) xs ≡ true → (vs : List ObjectValue) → values_of xs (setting_of m c now entry locals) ≡ Ok vs → AllHaveTrueParts b k m e c xs × AllDenote c.classes m e (map (λ x. meant x c) xs) vs }
+{}
+
+/// The formula of a condition of code is true exactly where the condition holds.
+pub fn conditions_of_code_are_true_where_they_hold()
+    ensures { (b : BodyTree) (assigned : ℕ → Bool) (k : Known) (m : Structure) (c : Scene) (now entry : Heap) (locals : List ObjectValue) (e : List Value) → IsRead b assigned k m c now entry locals e → (w : Words) (x : ExprTree) → is_condition c.classes b w x ≡ true → reads_assigned b assigned x ≡ true → Means c.classes m e (holds_formula x c) (run.holds x (setting_of m c now entry locals)) }
+{}
+
+/// The formula of a condition of code is well formed where what the assigned locals mean has the sorts of their types.
+pub fn conditions_of_code_are_well_formed()
+    ensures { (b : BodyTree) (assigned : ℕ → Bool) (c : Scene) (bound : List Sort) → c.types ≡ local_types b → IsSortedAmong (λ x. assigned x || is_bound b x) c bound → length bound ≡ c.bound → (w : Words) (x : ExprTree) → is_condition c.classes b w x ≡ true → reads_assigned b assigned x ≡ true → is_well_formed c.classes bound (holds_formula x c) ≡ true }
+{}
+
+/// The scene of a position stands for the stores of its terms, and for the values of the locals that have terms.
+pub fn scenes_of_positions_stand()
+    ensures { (w : Walk) (k : Position) (among : ℕ → Bool) (m : Structure) (now entry : Heap) (values : List ObjectValue) → ((e : List Value) → value_of w.program.classes m e k.store ≡ store now) → ((e : List Value) → value_of w.program.classes m e w.entry ≡ store entry) → length k.locals ≡ length values → HaveValues w.program.classes m among k.locals values → StandsAmong among m (scene_at w k) now entry values [] }
+{}
+
+/// The scene of a position is sorted on the locals that have terms of the sorts of their types.
+pub fn scenes_of_positions_are_sorted()
+    ensures { (w : Walk) (k : Position) (among : ℕ → Bool) → HasSort w.program.classes [] sort.Store k.store → HasSort w.program.classes [] sort.Store w.entry → length k.locals ≡ length (local_types w.body) → HaveSorts w.program.classes among k.locals (local_types w.body) → IsSortedAmong among (scene_at w k) [] }
 {}
