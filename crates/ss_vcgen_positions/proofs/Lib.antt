@@ -1,0 +1,11 @@
+pub mod Alike
+pub mod Guards
+pub mod Leads
+pub mod Keeps
+pub mod Terms
+pub mod Sides
+pub mod Joins
+pub mod Ends
+pub mod Branches
+pub mod Statements
+pub mod Same

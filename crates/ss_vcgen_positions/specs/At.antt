@@ -106,10 +106,15 @@ pub record IsAt (w : Walk) (before : List Object) (table : Table) (xs : ℕ → 
 
 -- ---- from a position to one behind it
 
--- The counters only rise, and what is listed stays so. Where k isn't reached, k' isn't either and has only true premises, if the truth
--- values that are new on the way are false.
-pub record Leads (cs : List ClassTree) (k k' : Position) : Type 0 where
-  pub rises : (s : Sort) → number_of s k.next ≤ number_of s k'.next
-  pub listed : AreValid cs k'.listed → AreValid cs k.listed
+-- the counters only rise
+abbrev pub Rises : Counters → Counters → Type 0
+Rises next later = (s : Sort) → number_of s next ≤ number_of s later
+
+-- The counters only rise, what is listed stays listed, and there is a place for each local still. Where k isn't reached, k' isn't either
+-- and has only true premises, if the truth values that are new on the way are false.
+pub record Leads (w : Walk) (k k' : Position) : Type 0 where
+  pub rises : Rises k.next k'.next
+  pub listed : AreValid w.program.classes k'.listed → AreValid w.program.classes k.listed
+  pub count : length k.locals ≡ length (local_types w.body) → length k'.locals ≡ length (local_types w.body)
   pub off : (m : Structure) → IsQuiet k.next.truths k'.next.truths m → IsOff k.guard m → IsOff k'.guard m
-  pub hold : (m : Structure) → IsQuiet k.next.truths k'.next.truths m → IsOff k.guard m → HoldIn cs k.premises m → HoldIn cs k'.premises m
+  pub hold : (m : Structure) → IsQuiet k.next.truths k'.next.truths m → IsOff k.guard m → HoldIn w.program.classes k.premises m → HoldIn w.program.classes k'.premises m
