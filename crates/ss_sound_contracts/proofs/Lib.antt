@@ -1,0 +1,11 @@
+pub mod Reading
+pub mod Locals
+pub mod Conditions
+pub mod Passed
+pub mod Exits
+pub mod Follows
+pub mod Naming
+pub mod Spans
+pub mod Serving
+pub mod Overriding
+pub mod Served
