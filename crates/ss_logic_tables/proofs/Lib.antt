@@ -1,0 +1,4 @@
+pub mod Slots
+pub mod Listing
+pub mod Staying
+pub mod Tabling
