@@ -47,10 +47,10 @@ objects_same cs table h o (x ∷ s) each =
     ap (λ y. y ∷ objects_from cs table h (o + 1) (length s)) (subst (λ i. object_in cs table h i ≡ x) first (each 0 x refl))
     ∙ ap (λ ys. x ∷ ys) (objects_same cs table h (o + 1) s (λ k y e. let next : o + suc k ≡ o + 1 + k = omega arith in subst (λ i. object_in cs table h i ≡ y) next (each (suc k) y e)))
 
-object_with : Object → ℕ → List Slot → List ObjectValue → Owner → Object
+unfoldable pub object_with : Object → ℕ → List Slot → List ObjectValue → Owner → Object
 object_with x c fs vs w = record x { class = c; fields = fs; elements = vs; owner = w }
 
-same_object : (x : Object) (c : ℕ) (fs : List Slot) (vs : List ObjectValue) (w : Owner) → c ≡ x.class → fs ≡ x.fields → vs ≡ x.elements → w ≡ x.owner → object_with x c fs vs w ≡ x
+pub same_object : (x : Object) (c : ℕ) (fs : List Slot) (vs : List ObjectValue) (w : Owner) → c ≡ x.class → fs ≡ x.fields → vs ≡ x.elements → w ≡ x.owner → object_with x c fs vs w ≡ x
 unfolding object_with
 same_object x c fs vs w ec ef ev ew =
     ap (λ i. object_with x i fs vs w) ec ∙ ap (λ i. object_with x x.class i vs w) ef ∙ ap (λ i. object_with x x.class x.fields i w) ev ∙ ap (λ i. object_with x x.class x.fields x.elements i) ew

@@ -22,7 +22,7 @@ use Rattle.ss_logic_stores.specs.declared.Sort.TheVariants as sort
 use Rattle.ss_logic_stores.specs.Values.{Thing, null, reference, class_name, group_number, owner_pair, Cells, Entry, Heap, Table, no_entry, no_heap, is_allocated, IsNumbered}
 use Rattle.ss_logic_stores.specs.Terms.{field_sort, sort_of_type, same_sort, cell}
 use Rattle.ss_logic_stores.specs.Objects.{object_from, object_in, objects_of, is_element_of, IsGoodStore}
-use Rattle.ss_logic_stores.proofs.Tabled.{there, count}
+use Rattle.ss_logic_stores.proofs.Tabled.{there, not_there}
 use Rattle.ss_sound_outcomes.specs.Points.{Fits}
 use Rattle.ss_logic_tables.specs.Tabled.{IsStoreOf, whole_or, truth_or, thing_or, overlaid, thing_of_owner, element_value, entry_of, entry_or_none, entry_before, entry_in, tabled}
 use Rattle.ss_logic_tables.specs.Elsewhere.{is_index, has_element, SameElsewhere}
@@ -232,3 +232,19 @@ module _ (cs : List ClassTree) (chain : IsChain cs) (table : Table) (h : Heap) (
 
     pub heap_is_as_before : SameElsewhere cs table h (tabled h s)
     heap_is_as_before = record { fields = fields_elsewhere; elements = elements_elsewhere }
+
+-- ---- over the heap without objects
+
+none_there : (cs : List ClassTree) (table : Table) (o : ℕ) (x : Object) → slice_get (objects_of cs table no_heap) o ≡ Some x → ⊥
+none_there cs table o x e = some_none x (sym e ∙ not_there cs table no_heap o (omega arith))
+
+no_objects_good : (cs : List ClassTree) (table : Table) → IsGoodStore cs table no_heap
+no_objects_good cs table = record {
+  objects = λ o x e. absurd (none_there cs table o x e);
+  whole_elements = λ o i l. refl;
+  elements = λ o i l. refl;
+}
+
+pub list_has_a_heap : (cs : List ClassTree) → IsChain cs → (table : Table) (s : List Object) → IsGoodList cs table s → Fits cs table s → IsStoreOf cs table (tabled no_heap s) s
+list_has_a_heap cs chain table s good fit =
+    list_has_its_heap cs chain table no_heap s good fit (λ o x e. absurd (none_there cs table o x e)) (no_objects_good cs table)

@@ -1,2 +1,4 @@
 pub mod Tabled
 pub mod Elsewhere
+pub mod Owned
+pub mod Read
