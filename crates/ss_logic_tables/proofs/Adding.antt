@@ -1,15 +1,13 @@
 -- A new object of a heap is one more object of its list.
-use Rattle.std.proofs.Common.{◌≡◌, ◌≢◌, ℕ, zero, suc, ◌+◌, ◌<◌, ◌≤◌, ℤ, pos, negsuc, List, [], ◌∷◌, ◌++◌, length, map, replicate, Bool, true, false, not, ◌&&◌, eqb, Option, Some, None, inl, inr, ◌⊎◌, ⊎_elim, refl, sym, ◌∙◌, ap, subst, arith}
-use Rattle.std.specs.Prelude.{if◌then◌else◌, slice_get, nat_lt, flat_map, reverse, Result, Ok, Err}
-use Rattle.std.proofs.lemmas.Bool.{false≢true, true≢false, cases_eq, eq-eqb, ne_eqb, eqb-true, ltb-true, lt-ltb}
+use Rattle.std.proofs.Common.{◌≡◌, ◌≢◌, ℕ, zero, suc, ◌+◌, ◌<◌, ℤ, pos, negsuc, List, [], ◌∷◌, ◌++◌, length, map, replicate, true, false, eqb, Some, ⊎_elim, refl, sym, ◌∙◌, ap, subst, arith}
+use Rattle.std.specs.Prelude.{if◌then◌else◌, slice_get, nat_lt, flat_map, reverse, Ok}
+use Rattle.std.proofs.lemmas.Bool.{cases_eq, eq-eqb, ne_eqb, ltb-true, lt-ltb}
 use Rattle.std.proofs.lemmas.List.{length-replicate, map-append}
-use Rattle.std.proofs.lemmas.Option.{slice_get_within}
 use Rattle.ss_core.specs.declared.names.Ty.{Ty}
 use Rattle.ss_core.specs.declared.names.Ty.TheVariants as ty
 use Rattle.ss_core.specs.Tree.{ClassTree}
 use Rattle.ss_core.specs.Chain.{levels, DeclaredField, all_fields}
 use Rattle.ss_store_rules.specs.declared.Value.{Value as ObjectValue}
-use Rattle.ss_store_rules.specs.declared.Value.TheVariants as value
 use Rattle.ss_store_rules.specs.declared.Owner.{Owner}
 use Rattle.ss_store_rules.specs.declared.Owner.TheVariants as owner
 use Rattle.ss_store_rules.specs.Store.{Slot, Object, default_value}
@@ -17,10 +15,10 @@ use Rattle.ss_store_rules.specs.Numbers.{fits}
 use Rattle.ss_store_rules.specs.Changes.{is_array, element_type, field_type, type_of_field, owned_by, slots_from, new_fields, new_object_of, new_array_of}
 use Rattle.ss_store_rules.specs.Changes as store
 use Rattle.ss_store_rules.specs.Good.{numbers}
-use Rattle.ss_store_rules.proofs.Objects.{old_get, new_get, either_get, length-pushed}
-use Rattle.ss_logic_stores.specs.Values.{Thing, null, reference, class_name, group_number, owner_pair, same_thing, Cells, Entry, Heap, Table, no_cells, IsNumbered}
+use Rattle.ss_store_rules.proofs.Objects.{new_get, either_get, length-pushed}
+use Rattle.ss_logic_stores.specs.Values.{Thing, reference, class_name, group_number, owner_pair, Entry, Heap, Table, no_cells, IsNumbered}
 use Rattle.ss_logic_stores.specs.Changes.{with_new, new_object, new_array}
-use Rattle.ss_logic_stores.specs.Objects.{content, owner_of_thing, filled, elements_from, element_count, object_from, object_in, objects_from, objects_of, is_element_of, IsGoodStore}
+use Rattle.ss_logic_stores.specs.Objects.{content, owner_of_thing, filled, elements_from, element_count, object_from, object_in, objects_from, objects_of, is_element_of}
 use Rattle.ss_logic_stores.proofs.Tabled.{count}
 use Rattle.ss_sound_outcomes.specs.Points.{Fits}
 use Rattle.ss_logic_tables.specs.Tabled.{IsStoreOf}

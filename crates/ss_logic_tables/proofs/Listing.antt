@@ -1,5 +1,5 @@
 -- Lists of objects, one object at a time.
-use Rattle.std.proofs.Common.{◌≡◌, ◌≢◌, ℕ, zero, suc, ◌+◌, ◌<◌, ℤ, pos, negsuc, List, [], ◌∷◌, length, map, Bool, true, false, Option, Some, None, eqb, refl, sym, ◌∙◌, ap, subst, arith}
+use Rattle.std.proofs.Common.{◌≡◌, ℕ, zero, suc, ◌+◌, ◌<◌, ℤ, pos, List, [], ◌∷◌, length, map, Bool, true, false, Option, Some, None, refl, sym, ◌∙◌, ap, subst, arith}
 use Rattle.std.specs.Prelude.{slice_get, if◌then◌else◌}
 use Rattle.std.proofs.lemmas.Bool.{eq-eqb, ne_eqb, false≢true, true≢false}
 use Rattle.ss_core.specs.declared.names.Ty.{Ty}
@@ -10,14 +10,14 @@ use Rattle.ss_store_rules.specs.declared.Value.{Value as ObjectValue}
 use Rattle.ss_store_rules.specs.declared.Value.TheVariants as value
 use Rattle.ss_store_rules.specs.declared.Owner.{Owner}
 use Rattle.ss_store_rules.specs.declared.Owner.TheVariants as owner
-use Rattle.ss_store_rules.specs.Store.{Slot, Object, slot_value, field_value}
+use Rattle.ss_store_rules.specs.Store.{Slot, Object, slot_value}
 use Rattle.ss_store_rules.specs.Changes.{is_array, element_type, field_type, new_fields}
 use Rattle.ss_store_rules.specs.Good.{has_type, numbers, AreValues}
 use Rattle.ss_logic_stores.specs.Values.{reference, Cells, Entry, Heap, Table}
 use Rattle.ss_logic_stores.specs.Objects.{value_of_thing, content, owner_of_thing, filled, elements_from, element_count, object_from, object_in, objects_from}
 use Rattle.ss_sound_outcomes.specs.Points.{Fits}
 use Rattle.ss_logic_tables.specs.Tabled.{whole_or, truth_or, thing_or, overlaid, thing_of_owner, element_value, entry_of}
-use Rattle.ss_logic_tables.proofs.Slots.{AreApart, heads, tails, some_none, some_same, fields_apart}
+use Rattle.ss_logic_tables.proofs.Slots.{AreApart, heads, tails, some_none, fields_apart}
 
 -- the object at a position below the length
 pub found : (s : List Object) (o : ℕ) → o < length s → (x : Object) × (slice_get s o ≡ Some x)

@@ -1,6 +1,6 @@
 -- What a capture or a join of a heap does to its objects, and that groups stay numbered.
-use Rattle.std.proofs.Common.{◌≡◌, ◌≢◌, ℕ, zero, suc, ◌+◌, ◌<◌, ◌≤◌, ℤ, pos, List, [], ◌∷◌, length, Bool, true, false, not, ◌&&◌, eqb, Option, Some, None, refl, sym, ◌∙◌, ap, subst, arith}
-use Rattle.std.specs.Prelude.{if◌then◌else◌, slice_get, Result, Ok, Err}
+use Rattle.std.proofs.Common.{◌≡◌, ℕ, ◌+◌, pos, List, [], ◌∷◌, Bool, true, false, not, ◌&&◌, eqb, refl, sym, ◌∙◌, ap}
+use Rattle.std.specs.Prelude.{if◌then◌else◌, Result, Ok, Err}
 use Rattle.std.proofs.lemmas.Bool.{false≢true, true≢false, and_parts, eqb-true}
 use Rattle.ss_core.specs.declared.names.Kind.{Kind}
 use Rattle.ss_core.specs.declared.names.Kind.TheVariants as kind
@@ -17,9 +17,9 @@ use Rattle.ss_store_rules.specs.Reads as reads
 use Rattle.ss_store_rules.specs.Changes as store
 use Rattle.ss_store_rules.proofs.Owners.{check_ok, at_object_ok}
 use Rattle.ss_logic_stores.specs.declared.Sort.TheVariants as sort
-use Rattle.ss_logic_stores.specs.Values.{Thing, null, reference, class_name, group_number, owner_pair, is_group, same_thing, Entry, Heap, Table, thing, as_thing, IsNumbered, Structure}
+use Rattle.ss_logic_stores.specs.Values.{Thing, null, reference, class_name, group_number, owner_pair, is_group, same_thing, Entry, Heap, Table, as_thing, IsNumbered, Structure}
 use Rattle.ss_logic_stores.specs.Changes.{changed, moved, regrouped, rejoined, joined, captured, with_new, new_object, new_array}
-use Rattle.ss_logic_stores.specs.Terms.{Symbol, Constant, Capture, Join, New, NewArray, Term, app}
+use Rattle.ss_logic_stores.specs.Terms.{Constant, Capture, Join, New, NewArray, Term, app}
 use Rattle.ss_logic_stores.specs.Objects.{owner_of_thing, object_from, objects_of}
 use Rattle.ss_logic_stores.proofs.Changing.{objects_changed, regrouped_same}
 use Rattle.ss_logic_stores.proofs.Numbered.{store_numbered}

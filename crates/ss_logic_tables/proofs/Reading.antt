@@ -1,18 +1,16 @@
 -- What is read of a heap is what its objects have.
-use Rattle.std.proofs.Common.{◌≡◌, ◌≢◌, ℕ, zero, suc, ◌+◌, ◌-◌, ◌<◌, pos, List, [], ◌∷◌, length, map, Bool, true, false, eqb, Some, None, ⊎_elim, refl, sym, ◌∙◌, ap, subst, arith}
-use Rattle.std.specs.Prelude.{if◌then◌else◌, slice_get, nat_lt}
+use Rattle.std.proofs.Common.{◌≡◌, ℕ, zero, suc, ◌+◌, ◌-◌, ◌<◌, pos, List, [], ◌∷◌, length, map, Bool, true, false, eqb, Some, ⊎_elim, refl, sym, ◌∙◌, ap, subst, arith}
+use Rattle.std.specs.Prelude.{if◌then◌else◌, slice_get}
 use Rattle.std.proofs.lemmas.Bool.{cases_eq, eq-eqb, ne_eqb}
 use Rattle.ss_core.specs.declared.names.Ty.{Ty}
 use Rattle.ss_core.specs.declared.names.Ty.TheVariants as ty
 use Rattle.ss_core.specs.Tree.{ClassTree}
 use Rattle.ss_store_rules.specs.declared.Value.{Value as ObjectValue}
-use Rattle.ss_store_rules.specs.declared.Owner.TheVariants as owner
 use Rattle.ss_store_rules.specs.Store.{Slot, Object, slot_value, field_value}
 use Rattle.ss_store_rules.specs.Changes.{is_array, element_type, field_type, owned_by, new_fields}
 use Rattle.ss_store_rules.specs.Good.{has_type}
-use Rattle.ss_logic_stores.specs.Values.{Thing, null, reference, class_name, group_number, owner_pair, Entry, Heap, Table}
-use Rattle.ss_logic_stores.specs.Terms.{field_sort, sort_of_type, cell}
-use Rattle.ss_logic_stores.specs.Objects.{content, owner_of_thing, filled, elements_from, element_count, object_in, objects_of}
+use Rattle.ss_logic_stores.specs.Values.{Thing, reference, class_name, group_number, owner_pair, Entry, Heap, Table}
+use Rattle.ss_logic_stores.specs.Objects.{content, owner_of_thing, filled, elements_from, element_count, object_in}
 use Rattle.ss_logic_stores.proofs.Tabled.{count}
 use Rattle.ss_logic_means.specs.Means.{standing}
 use Rattle.ss_logic_means.proofs.Reading.{content_stands}

@@ -1,10 +1,10 @@
 -- The slots of an object: one for each field of its class.
-use Rattle.std.proofs.Common.{◌≡◌, ◌≢◌, ℕ, zero, suc, ◌+◌, ◌<◌, List, [], ◌∷◌, ◌++◌, true, false, Option, Some, None, eqb, refl, sym, ◌∙◌, ap, subst, arith, inl, inr, ◌⊎◌, ⊎_elim}
+use Rattle.std.proofs.Common.{◌≡◌, ◌≢◌, ℕ, suc, ◌+◌, ◌<◌, List, [], ◌∷◌, ◌++◌, true, Option, Some, None, eqb, refl, sym, ◌∙◌, ap, subst, arith, inl, inr, ◌⊎◌, ⊎_elim}
 use Rattle.std.specs.Prelude.{slice_get, flat_map, reverse}
 use Rattle.std.proofs.lemmas.Bool.{cases_eq, eq-eqb, ne_eqb, false≢true, or_left, or_right}
 use Rattle.std.proofs.lemmas.List.{append-nil}
 use Rattle.ss_core.specs.Tree.{ClassTree}
-use Rattle.ss_core.specs.Chain.{above, below, levels, DeclaredField, all_fields, IsChain}
+use Rattle.ss_core.specs.Chain.{above, below, DeclaredField, all_fields, IsChain}
 use Rattle.ss_core.proofs.Chains.{levels_object, below_self, below_up, below_acyclic, induct_up}
 use Rattle.ss_store_rules.specs.declared.Value.{Value}
 use Rattle.ss_store_rules.specs.Store.{Slot, slot_value}

@@ -1,25 +1,23 @@
 -- Elements of a good heap stay good where another heap has grown out of it.
-use Rattle.std.proofs.Common.{◌≡◌, ◌≢◌, ℕ, zero, suc, ◌+◌, ◌-◌, ◌<◌, ◌≤◌, ℤ, pos, negsuc, List, [], ◌∷◌, length, Bool, true, false, not, ◌&&◌, ◌||◌, Option, Some, None, eqb, refl, sym, ◌∙◌, ap, subst, arith}
+use Rattle.std.proofs.Common.{◌≡◌, ℕ, ◌-◌, ◌<◌, ◌≤◌, ℤ, List, length, Bool, true, false, not, ◌&&◌, ◌||◌, Option, Some, None, eqb, refl, sym, ◌∙◌, ap, subst, arith}
 use Rattle.std.specs.Prelude.{slice_get, nat_lt, if◌then◌else◌}
-use Rattle.std.proofs.lemmas.Bool.{false≢true, and_parts, and_from, or_left, or_right, ltb-true, lt-ltb}
+use Rattle.std.proofs.lemmas.Bool.{false≢true, and_parts, and_from, ltb-true, lt-ltb}
 use Rattle.std.proofs.lemmas.Option.{slice_get_within}
 use Rattle.ss_core.specs.declared.names.Ty.{Ty}
 use Rattle.ss_core.specs.declared.names.Ty.TheVariants as ty
 use Rattle.ss_core.specs.Tree.{ClassTree}
 use Rattle.ss_core.specs.Chain.{sub}
-use Rattle.ss_store_rules.specs.declared.Value.{Value as ObjectValue}
 use Rattle.ss_store_rules.specs.declared.Value.TheVariants as value
 use Rattle.ss_store_rules.specs.Store.{Object}
 use Rattle.ss_store_rules.specs.Numbers.{fits}
 use Rattle.ss_store_rules.specs.Changes.{is_array, element_type}
 use Rattle.ss_store_rules.specs.Good.{is_of_class, has_type, IsGood}
 use Rattle.ss_store_rules.specs.Admissible.{invariants_hold}
-use Rattle.ss_logic_stores.specs.Values.{Thing, null, reference, class_name, group_number, owner_pair, Entry, Heap, Table, is_allocated, IsNumbered, Structure}
+use Rattle.ss_logic_stores.specs.Values.{Thing, null, reference, class_name, group_number, owner_pair, Entry, Heap, Table, is_allocated, IsNumbered}
 use Rattle.ss_logic_stores.specs.Changes.{changed}
 use Rattle.ss_logic_stores.specs.Objects.{object_in, objects_of, is_array_of_references, element_class, is_element_of, IsGoodStore}
-use Rattle.ss_logic_stores.proofs.Tabled.{there, not_there, count}
+use Rattle.ss_logic_stores.proofs.Tabled.{there, count}
 use Rattle.ss_logic_tables.proofs.Slots.{some_same}
-use Rattle.ss_logic_tables.proofs.Listing.{found}
 
 pub and_front : (a b : Bool) → (a && b) ≡ true → a ≡ true
 and_front a b e = (and_parts a b e).0

@@ -1,7 +1,7 @@
 -- The heap of a list has its objects, is good, and is like the heap of before elsewhere.
-use Rattle.std.proofs.Common.{◌≡◌, ◌≢◌, ℕ, zero, suc, ◌+◌, ◌<◌, ◌≤◌, ℤ, pos, negsuc, List, [], ◌∷◌, length, Bool, true, false, not, ◌&&◌, ◌||◌, Option, Some, None, eqb, refl, sym, ◌∙◌, ap, subst, arith}
-use Rattle.std.specs.Prelude.{slice_get, nat_lt, if◌then◌else◌}
-use Rattle.std.proofs.lemmas.Bool.{false≢true, true≢false, and_parts, and_from, ltb-true, lt-ltb}
+use Rattle.std.proofs.Common.{◌≡◌, ℕ, zero, suc, ◌+◌, ◌<◌, ◌≤◌, ℤ, pos, negsuc, List, length, true, false, ◌&&◌, Option, Some, None, refl, sym, ◌∙◌, ap, subst, arith}
+use Rattle.std.specs.Prelude.{slice_get, nat_lt}
+use Rattle.std.proofs.lemmas.Bool.{false≢true, and_from, ltb-true, lt-ltb}
 use Rattle.std.proofs.lemmas.Option.{slice_get_within}
 use Rattle.ss_core.specs.declared.names.Ty.{Ty}
 use Rattle.ss_core.specs.declared.names.Ty.TheVariants as ty
@@ -14,8 +14,7 @@ use Rattle.ss_store_rules.specs.declared.Owner.TheVariants as owner
 use Rattle.ss_store_rules.specs.Store.{Object, field_value}
 use Rattle.ss_store_rules.specs.Numbers.{fits}
 use Rattle.ss_store_rules.specs.Changes.{is_array, element_type, field_class}
-use Rattle.ss_store_rules.specs.Good.{has_type, IsGood}
-use Rattle.ss_store_rules.specs.Admissible.{invariants_hold}
+use Rattle.ss_store_rules.specs.Good.{has_type}
 use Rattle.ss_machine_typed.specs.Older.{IsOlder}
 use Rattle.ss_logic_stores.specs.declared.Sort.{Sort}
 use Rattle.ss_logic_stores.specs.declared.Sort.TheVariants as sort
@@ -24,11 +23,11 @@ use Rattle.ss_logic_stores.specs.Terms.{field_sort, sort_of_type, same_sort, cel
 use Rattle.ss_logic_stores.specs.Objects.{object_from, object_in, objects_of, is_element_of, IsGoodStore}
 use Rattle.ss_logic_stores.proofs.Tabled.{there, not_there}
 use Rattle.ss_sound_outcomes.specs.Points.{Fits}
-use Rattle.ss_logic_tables.specs.Tabled.{IsStoreOf, whole_or, truth_or, thing_or, overlaid, thing_of_owner, element_value, entry_of, entry_or_none, entry_before, entry_in, tabled}
+use Rattle.ss_logic_tables.specs.Tabled.{IsStoreOf, whole_or, thing_or, overlaid, thing_of_owner, element_value, entry_of, entry_or_none, entry_before, tabled}
 use Rattle.ss_logic_tables.specs.Elsewhere.{is_index, has_element, SameElsewhere}
-use Rattle.ss_logic_tables.proofs.Slots.{some_none, some_same, field_of_class}
+use Rattle.ss_logic_tables.proofs.Slots.{some_none, field_of_class}
 use Rattle.ss_logic_tables.proofs.Listing.{found, by_test, if_yes, if_no, objects_same, object_back}
-use Rattle.ss_logic_tables.proofs.Staying.{whole_fits, IsGoodList, allocated_at, reference_good, whole_good, Grows, element_stays}
+use Rattle.ss_logic_tables.proofs.Staying.{IsGoodList, reference_good, whole_good, Grows, element_stays}
 
 -- the element at an index is one of the list
 pub element_listed : (x : Object) (i : ℤ) (v : ObjectValue) → element_value x i ≡ Some v → (k : ℕ) × (i ≡ pos k) × (slice_get x.elements k ≡ Some v)

@@ -1,9 +1,9 @@
 -- Each change of a heap is that change of its objects, and what it leaves is a good heap.
-use Rattle.std.proofs.Common.{◌≡◌, ◌≢◌, ℕ, zero, suc, ◌+◌, ◌<◌, ◌≤◌, ℤ, pos, negsuc, List, [], ◌∷◌, length, Bool, true, false, not, ◌&&◌, ◌||◌, ◌==◌, eqb, Option, Some, None, refl, sym, ◌∙◌, ap, subst, arith}
-use Rattle.std.specs.Prelude.{if◌then◌else◌, slice_get, slice_set, nat_lt, Result, Ok, Err}
+use Rattle.std.proofs.Common.{◌≡◌, ℕ, zero, suc, ◌<◌, ℤ, pos, negsuc, List, [], ◌∷◌, length, Bool, true, false, not, ◌&&◌, ◌||◌, ◌==◌, eqb, Some, refl, sym, ◌∙◌, ap, subst, arith}
+use Rattle.std.specs.Prelude.{slice_get, slice_set, nat_lt, Result, Ok, Err}
 use Rattle.std.specs.List.{list_all}
 use Rattle.std.specs.Ordering.{int_eq}
-use Rattle.std.proofs.lemmas.Bool.{false≢true, true≢false, and_parts, eqb-true, eq-eqb, ltb-true, or_left}
+use Rattle.std.proofs.lemmas.Bool.{false≢true, and_parts, eqb-true, eq-eqb, ltb-true, or_left}
 use Rattle.ss_core.specs.declared.names.Kind.{Kind}
 use Rattle.ss_core.specs.declared.names.Kind.TheVariants as kind
 use Rattle.ss_core.specs.declared.names.Mark.{Mark}
@@ -22,12 +22,10 @@ use Rattle.ss_store_rules.specs.Good.{has_type, Invariants}
 use Rattle.ss_store_rules.proofs.Owners.{check_ok, on_object_ok}
 use Rattle.ss_store_rules.proofs.Objects.{becomes}
 use Rattle.ss_machine_rules.specs.Steps.{with_ready}
-use Rattle.ss_logic_stores.specs.declared.Sort.{Sort}
-use Rattle.ss_logic_stores.specs.declared.Sort.TheVariants as sort
-use Rattle.ss_logic_stores.specs.Values.{Thing, null, reference, same_thing, Cells, Entry, Heap, Table, Value, whole, truth, thing, as_thing, sort_of_value, IsNumbered}
+use Rattle.ss_logic_stores.specs.Values.{Thing, null, reference, same_thing, Entry, Heap, Table, Value, as_thing, sort_of_value}
 use Rattle.ss_logic_stores.specs.Changes.{put_cell, changed, field_set, element_put, unpacked, packed, made_ready}
-use Rattle.ss_logic_stores.specs.Terms.{field_sort, sort_of_type}
-use Rattle.ss_logic_stores.specs.Objects.{object_value, objects_of, is_element_of, IsGoodStore}
+use Rattle.ss_logic_stores.specs.Terms.{sort_of_type}
+use Rattle.ss_logic_stores.specs.Objects.{object_value, objects_of, is_element_of}
 use Rattle.ss_logic_stores.proofs.Changing.{unpacked_same, packed_same, ready_same}
 use Rattle.ss_logic_stores.proofs.Writing.{written_same}
 use Rattle.ss_logic_stores.proofs.Elements.{put_same}
