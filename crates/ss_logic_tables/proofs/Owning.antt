@@ -50,7 +50,7 @@ objects_unchanged cs table h change same =
 
 -- ---- owners
 
-owner_is_group : (next : ℕ) (v : Thing) → reads.is_group (owner_of_thing next v) ≡ is_group v
+pub owner_is_group : (next : ℕ) (v : Thing) → reads.is_group (owner_of_thing next v) ≡ is_group v
 owner_is_group next (group_number g) = refl
 owner_is_group next (owner_pair (reference o) (class_name t)) = refl
 owner_is_group next v = refl
