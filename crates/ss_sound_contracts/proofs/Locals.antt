@@ -24,7 +24,7 @@ get_right (x ∷ xs) ys i = let z : suc (length xs) + i ≡ suc (length xs + i) 
 get_past : {X : Type 0} (xs ys : List X) (k i : ℕ) → k ≡ length xs + i → slice_get (xs ++ ys) k ≡ slice_get ys i
 get_past xs ys k i e = ap (slice_get (xs ++ ys)) e ∙ get_right xs ys i
 
-one_result : (o : Option Ty) → is_some o ≡ true → length (option_to_list o) ≡ 1
+pub one_result : (o : Option Ty) → is_some o ≡ true → length (option_to_list o) ≡ 1
 one_result None h = absurd (false≢true h)
 one_result (Some t) h = refl
 

@@ -1,7 +1,7 @@
 -- The arguments stand in the first locals of a body, from its entry to where it is left.
 use Rattle.std.proofs.Common.{◌≡◌, ◌≢◌, ℕ, zero, suc, ◌<◌, List, [], ◌∷◌, ◌++◌, map, length, Bool, true, false, Option, Some, None, set, refl, sym, ◌∙◌, ap, arith}
 use Rattle.std.specs.Prelude.{slice_get, nat_le, nat_lt, if◌then◌else◌, is_some, option_to_list}
-use Rattle.std.proofs.lemmas.Bool.{false≢true, and_parts, ltb-true, leb-true, le-leb}
+use Rattle.std.proofs.lemmas.Bool.{and_parts, ltb-true, leb-true, le-leb}
 use Rattle.std.proofs.lemmas.List.{length-append, length-map, length-set}
 use Rattle.ss_core.specs.declared.names.Ty.{Ty}
 use Rattle.ss_core.specs.Tree.{LocalTree, BodyTree}
@@ -11,7 +11,7 @@ use Rattle.ss_store_rules.specs.Locals.{types_of, argument_count, result_number,
 use Rattle.ss_machine_rules.specs.States.{locals_at_entry, put}
 use Rattle.ss_machine_rules.specs.Steps.{result_local}
 use Rattle.ss_sound_contracts.specs.Served.{HasArguments}
-use Rattle.ss_sound_contracts.proofs.Locals.{get_left, count_locals, AreRead}
+use Rattle.ss_sound_contracts.proofs.Locals.{get_left, one_result, count_locals, AreRead}
 
 set_here : (xs : List Value) (x : ℕ) (v : Value) → x < length xs → slice_get (set xs x v) x ≡ Some v
 set_here [] x v h = absurd (omega (arith, h))
@@ -90,14 +90,10 @@ read_with b arguments locals v has = record { passed = has.passed; count = has.c
 pub read_at_exit : (b : BodyTree) (arguments locals : List Value) (v : Value) → HasArguments b arguments locals → AreRead b arguments (result_rest b v) (put (result_local b) v locals)
 read_at_exit b arguments locals v has = read_with b arguments (put (result_local b) v locals) v (passed_at_exit b arguments locals v has)
 
-one_more : (o : Option Ty) → is_some o ≡ true → length (option_to_list o) ≡ 1
-one_more None h = absurd (false≢true h)
-one_more (Some t) h = refl
-
 pub result_given : (b : BodyTree) (arguments locals : List Value) (v : Value) → HasArguments b arguments locals → is_some b.result ≡ true → slice_get (put (result_local b) v locals) (result_number b) ≡ slice_get (result_rest b v) 0
 result_given b arguments locals v has h =
     let all = count_locals b in
-    let one = one_more b.result h in
+    let one = one_result b.result h in
     ap (λ t. slice_get (put (if t then Some (result_number b) else None) v locals) (result_number b)) h
     ∙ set_here locals (result_number b) v (omega (arith, has.count, all, one))
     ∙ ap (λ t. slice_get (if t then v ∷ [] else []) 0) (sym h)
