@@ -1,19 +1,17 @@
 -- The run at the sides of a test, and behind both.
-use Rattle.std.proofs.Common.{◌≡◌, ℕ, ◌+◌, List, [], ◌∷◌, length, Bool, true, false, ◌&&◌, ◌⊎◌, inl, inr, refl, sym, ◌∙◌, ap, subst, arith}
-use Rattle.std.specs.Prelude.{Option, Some, None, slice_get}
-use Rattle.ss_core.specs.Tree.{ClassTree}
+use Rattle.std.proofs.Common.{◌≡◌, ℕ, ◌+◌, List, length, Bool, true, false, inl, inr, sym, ◌∙◌, subst}
 use Rattle.ss_store_rules.specs.Store.{Object}
 use Rattle.ss_store_rules.specs.Locals.{local_types}
 use Rattle.ss_store_rules.specs.NonNull.{Known, known_met}
 use Rattle.ss_store_rules.specs.Values.{Setting}
-use Rattle.ss_machine_good.specs.Known.{IsTrueOf, AreAssigned}
+use Rattle.ss_machine_good.specs.Known.{IsTrueOf}
 use Rattle.ss_machine_good.proofs.Meets.{met_one, met_other}
 use Rattle.ss_logic_stores.specs.Values.{Table, Structure}
 use Rattle.ss_logic_stores.specs.Formulas.{Formula, neg}
 use Rattle.ss_vcgen_heaps.specs.Positions.{Guard, Always, When, Never, Position, Walk, first_side, second_side, join_from, join}
-use Rattle.ss_sound_outcomes.specs.Points.{Activation, Point, scene, IsSound}
+use Rattle.ss_sound_outcomes.specs.Points.{Point, scene}
 use Rattle.ss_vcgen_positions.specs.At.{IsAlike, Stays, IsTrueIn, HoldIn, IsOn, IsOff, Rises, activation, Agrees, HaveTerms, IsAt, Leads}
-use Rattle.ss_vcgen_positions.proofs.Alike.{rises_self, rises_twice, alike_self, alike_twice, alike_lower, stays_on, store_on, local_on}
+use Rattle.ss_vcgen_positions.proofs.Alike.{alike_self, alike_twice, alike_lower, stays_on, store_on, local_on}
 use Rattle.ss_vcgen_positions.proofs.Sides.{skipped, first_taken, second_taken}
 use Rattle.ss_vcgen_positions.proofs.Ends.{first_end, join_agrees}
 

@@ -1,14 +1,12 @@
 -- Behind an `if`: the position agrees where the side that was run does at its end.
-use Rattle.std.proofs.Common.{◌≡◌, ℕ, zero, suc, ◌+◌, List, [], ◌∷◌, ◌++◌, length, Bool, true, false, ◌&&◌, ◌⊎◌, inl, inr, ⊎_elim, eqb, refl, sym, ◌∙◌, ap, subst, arith}
-use Rattle.std.specs.Prelude.{Option, Some, None, slice_get}
-use Rattle.std.proofs.lemmas.Bool.{true≢false, and_parts, eq-eqb}
-use Rattle.ss_core.specs.declared.names.Ty.{Ty}
+use Rattle.std.proofs.Common.{◌≡◌, ℕ, List, [], ◌∷◌, length, true, ◌⊎◌, inl, inr, ⊎_elim, eqb, refl, sym, ◌∙◌, subst, arith}
+use Rattle.std.specs.Prelude.{slice_get}
+use Rattle.std.proofs.lemmas.Bool.{true≢false, eq-eqb}
 use Rattle.ss_core.specs.Tree.{ClassTree}
 use Rattle.ss_store_rules.specs.Store.{Object}
 use Rattle.ss_store_rules.specs.Locals.{local_types}
-use Rattle.ss_store_rules.specs.NonNull.{Known, known_met}
+use Rattle.ss_store_rules.specs.NonNull.{Known}
 use Rattle.ss_store_rules.specs.Values.{local_value}
-use Rattle.ss_machine_good.proofs.Meets.{met_one, met_other}
 use Rattle.ss_logic_stores.specs.declared.Sort.TheVariants as sort
 use Rattle.ss_logic_stores.specs.Values.{Heap, IsNumbered, Table, Value, store, as_store, Structure}
 use Rattle.ss_logic_stores.specs.Terms.{Term, value_of}
@@ -16,10 +14,10 @@ use Rattle.ss_logic_stores.specs.Objects.{IsGoodStore, objects_of}
 use Rattle.ss_logic_stores.proofs.Numbered.{store_numbered}
 use Rattle.ss_logic_express.specs.Express.{element_sort}
 use Rattle.ss_logic_means.specs.Means.{standing}
-use Rattle.ss_vcgen_heaps.specs.Positions.{Guard, Always, When, Never, Counters, Position, Walk, join_term, joined_term, join_locals, join_guard, join_both, join_from, join}
-use Rattle.ss_sound_outcomes.specs.Points.{Activation, Point, scene, IsSound}
-use Rattle.ss_vcgen_positions.specs.At.{IsAlike, Stays, HasValue, HoldIn, IsOn, IsOff, Rises, IsStore, activation, IsLocal, AreLocals, Agrees, HaveTerms, IsAt}
-use Rattle.ss_vcgen_positions.proofs.Alike.{rises_self, rises_twice, alike_self, alike_twice, alike_lower, stays_on, table_on, with_truths, truths_new, truths_alike, store_on, local_on}
+use Rattle.ss_vcgen_heaps.specs.Positions.{Guard, Always, When, Never, Counters, Position, Walk, join_term, join_locals, join_guard, join_both, join_from, join}
+use Rattle.ss_sound_outcomes.specs.Points.{Point, scene, IsSound}
+use Rattle.ss_vcgen_positions.specs.At.{IsAlike, Stays, HoldIn, IsOn, IsOff, Rises, IsStore, activation, Agrees}
+use Rattle.ss_vcgen_positions.proofs.Alike.{rises_self, rises_twice, alike_self, alike_twice, alike_lower, table_on, with_truths, truths_new, truths_alike, store_on}
 use Rattle.ss_vcgen_positions.proofs.Guards.{hold_more, either_guard, join_first_on, join_second_on}
 use Rattle.ss_vcgen_positions.proofs.Leads.{leads_join_term, leads_join_locals, joined_count}
 use Rattle.ss_vcgen_positions.proofs.Terms.{standing_numbered}

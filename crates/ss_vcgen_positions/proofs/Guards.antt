@@ -1,5 +1,5 @@
 -- The formulas of guards, where a guard is true and where it is false.
-use Rattle.std.proofs.Common.{◌≡◌, ℕ, List, [], ◌∷◌, ◌++◌, true, false, refl, sym, ◌∙◌, ap}
+use Rattle.std.proofs.Common.{◌≡◌, ℕ, List, [], ◌∷◌, ◌++◌, true, false, sym, ◌∙◌, ap}
 use Rattle.std.proofs.lemmas.Bool.{false≢true}
 use Rattle.ss_core.specs.Tree.{ClassTree}
 use Rattle.ss_logic_stores.specs.Values.{truth, as_truth, Structure}

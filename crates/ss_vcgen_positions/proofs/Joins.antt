@@ -1,7 +1,7 @@
 -- Where two sides meet: the constants of the join get the values of the side that was run.
-use Rattle.std.proofs.Common.{◌≡◌, ℕ, zero, suc, ◌<◌, ◌+◌, List, [], ◌∷◌, ◌++◌, length, Bool, true, false, ◌&&◌, ◌⊎◌, inl, inr, ⊎_elim, eqb, refl, sym, ◌∙◌, ap, subst, arith}
+use Rattle.std.proofs.Common.{◌≡◌, ℕ, zero, suc, ◌<◌, List, [], ◌∷◌, ◌++◌, length, Bool, true, false, ◌⊎◌, inl, inr, refl, sym, ◌∙◌, ap, subst, arith}
 use Rattle.std.specs.Prelude.{Option, Some, None, slice_get, unwrap_or, if◌then◌else◌}
-use Rattle.std.proofs.lemmas.Bool.{false≢true, and_parts, eq-eqb}
+use Rattle.std.proofs.lemmas.Bool.{false≢true}
 use Rattle.ss_core.specs.declared.names.Ty.{Ty}
 use Rattle.ss_core.specs.declared.names.Ty.TheVariants as ty
 use Rattle.ss_core.specs.Tree.{ClassTree}
@@ -10,30 +10,23 @@ use Rattle.ss_store_rules.specs.declared.Value.TheVariants as value
 use Rattle.ss_store_rules.specs.Store.{Object}
 use Rattle.ss_store_rules.specs.Good.{has_type}
 use Rattle.ss_store_rules.specs.Locals.{local_types}
-use Rattle.ss_store_rules.specs.NonNull.{Known, known_met}
 use Rattle.ss_store_rules.specs.Values.{local_value}
-use Rattle.ss_machine_good.proofs.Meets.{met_one, met_other}
 use Rattle.ss_logic_stores.specs.declared.Sort.{Sort}
-use Rattle.ss_logic_stores.specs.declared.Sort.TheVariants as sort
-use Rattle.ss_logic_stores.specs.Values.{Heap, IsNumbered, Table, Value, store, as_store, sort_of_value, Structure}
-use Rattle.ss_logic_stores.specs.Terms.{Term, sort_of_type, value_of}
-use Rattle.ss_logic_stores.specs.Formulas.{Formula, Hold}
-use Rattle.ss_logic_stores.specs.Objects.{IsGoodStore, objects_of}
+use Rattle.ss_logic_stores.specs.Values.{IsNumbered, Table, Value, as_store, sort_of_value, Structure}
+use Rattle.ss_logic_stores.specs.Terms.{Term, sort_of_type}
+use Rattle.ss_logic_stores.specs.Formulas.{Hold}
 use Rattle.ss_logic_stores.specs.Equal.{same_term, equal_terms}
-use Rattle.ss_logic_stores.proofs.Numbered.{store_numbered}
 use Rattle.ss_logic_rules.specs.Shapes.{equal}
 use Rattle.ss_logic_express.specs.Express.{element_sort}
 use Rattle.ss_logic_means.specs.Means.{standing}
 use Rattle.ss_logic_means.specs.Sorts.{HasSort}
 use Rattle.ss_logic_means.proofs.Standing.{get_found}
-use Rattle.ss_vcgen_heaps.specs.Positions.{Guard, Always, When, Never, Counters, Position, Walk, raised, under, new_term, with_new, join_term, joined_term, join_locals, join_guard, join_both, join_from, join}
-use Rattle.ss_sound_outcomes.specs.Points.{Activation, Point, scene, IsSound}
-use Rattle.ss_vcgen_positions.specs.At.{IsAlike, Stays, HasValue, HoldIn, IsOn, IsOff, Rises, IsStore, activation, IsLocal, AreLocals, Agrees, HaveTerms, IsAt}
-use Rattle.ss_vcgen_positions.proofs.Alike.{rises_self, rises_twice, rises_new, alike_self, alike_twice, alike_lower, stays_on, with_truths, truths_new, truths_alike, new_constant, store_on}
-use Rattle.ss_vcgen_positions.proofs.Guards.{hold_more, under_on, under_off, either_guard, join_first_on, join_second_on}
-use Rattle.ss_vcgen_positions.proofs.Leads.{leads_join_term, leads_join_locals, joined_count}
-use Rattle.ss_vcgen_positions.proofs.Terms.{standing_numbered}
-use Rattle.ss_vcgen_positions.proofs.Sides.{truth_stays}
+use Rattle.ss_vcgen_heaps.specs.Positions.{Guard, Counters, Position, Walk, raised, under, new_term, with_new, join_term, joined_term, join_locals}
+use Rattle.ss_sound_outcomes.specs.Points.{Point, scene, IsSound}
+use Rattle.ss_vcgen_positions.specs.At.{IsAlike, Stays, HasValue, HoldIn, IsOn, IsOff, Rises, activation}
+use Rattle.ss_vcgen_positions.proofs.Alike.{rises_new, alike_self, alike_twice, alike_lower, stays_on, new_constant}
+use Rattle.ss_vcgen_positions.proofs.Guards.{hold_more, under_on, under_off}
+use Rattle.ss_vcgen_positions.proofs.Leads.{leads_join_term, leads_join_locals}
 
 -- ---- values of locals
 

@@ -1,23 +1,22 @@
 -- Premises and checks: what is assumed is true, and what is checked is so where its obligation is valid.
-use Rattle.std.proofs.Common.{◌≡◌, ℕ, List, [], ◌∷◌, ◌++◌, length, map, Bool, true, false, ◌&&◌, refl, sym, ◌∙◌, ap, subst, arith}
+use Rattle.std.proofs.Common.{◌≡◌, List, [], ◌∷◌, map, Bool, true, false, refl}
 use Rattle.std.proofs.lemmas.Bool.{and_parts, and_from}
 use Rattle.ss_core.specs.declared.names.Kind.{Kind}
 use Rattle.ss_core.specs.declared.names.Place.{Place}
 use Rattle.ss_core.specs.Tree.{ClassTree, ExprTree}
 use Rattle.ss_store_rules.specs.Store.{Object}
-use Rattle.ss_store_rules.specs.NonNull.{Known}
 use Rattle.ss_store_rules.specs.Values.{Setting, holds}
 use Rattle.ss_machine_rules.specs.Steps.{all_hold}
 use Rattle.ss_logic_stores.specs.Values.{Table, Structure}
-use Rattle.ss_logic_stores.specs.Formulas.{Formula, True, Hold, IsValid}
+use Rattle.ss_logic_stores.specs.Formulas.{Formula, Hold}
 use Rattle.ss_logic_express.specs.Express.{Scene, holds_formula}
 use Rattle.ss_logic_means.specs.Means.{Means}
 use Rattle.ss_vcgen_heaps.specs.Parts.{Part}
-use Rattle.ss_vcgen_heaps.specs.Positions.{Obligation, Guard, Position, Walk, under, assume, assume_all, check, check_all, check_unless, check_parts}
+use Rattle.ss_vcgen_heaps.specs.Positions.{Position, Walk, under, assume, assume_all, check, check_all, check_unless, check_parts}
 use Rattle.ss_vcgen_heaps.specs.Obligations.{AreValid}
 use Rattle.ss_vcgen_heaps.specs.Contracts.{conditions}
 use Rattle.ss_sound_outcomes.specs.Points.{Point}
-use Rattle.ss_vcgen_positions.specs.At.{IsAlike, Stays, IsTrueIn, HoldIn, Agrees, Leads}
+use Rattle.ss_vcgen_positions.specs.At.{IsAlike, Stays, IsTrueIn, HoldIn, Agrees}
 use Rattle.ss_vcgen_positions.proofs.Guards.{hold_more, under_on, from_under}
 use Rattle.ss_vcgen_positions.proofs.Leads.{valid_last, leads_check_all, leads_check_parts}
 

@@ -16,9 +16,9 @@ use Rattle.ss_logic_stores.specs.Equal.{same_term}
 use Rattle.ss_logic_rules.specs.Shapes.{equal}
 use Rattle.ss_logic_express.specs.Express.{Meant, One, Either, Says, element_sort}
 use Rattle.ss_vcgen_heaps.specs.Parts.{Part, parts}
-use Rattle.ss_vcgen_heaps.specs.Positions.{Obligation, Guard, Always, When, Never, Counters, Position, Walk, number_of, raised, guard_term, under, side, good, with_premise, assume, assume_all, check, check_all, check_unless, check_parts, new_term, with_new, set_local, set_store, with_store, ended, site, scene_at, meant_at, evaluate, evaluate_all, has_value, define, is_one, with_term, settled, first_side, second_side, join_term, joined_term, join_locals, join_guard, join_both, join_from, join, if_reached}
+use Rattle.ss_vcgen_heaps.specs.Positions.{Obligation, Guard, Always, When, Never, Position, Walk, under, side, good, assume, assume_all, check, check_all, check_unless, check_parts, new_term, with_new, set_local, set_store, with_store, ended, site, scene_at, evaluate, evaluate_all, has_value, define, with_term, settled, first_side, second_side, join_term, join_locals, join_guard, join_both, join_from, join, if_reached}
 use Rattle.ss_vcgen_heaps.specs.Obligations.{AreValid}
-use Rattle.ss_vcgen_positions.specs.At.{IsOn, IsOff, IsQuiet, HoldIn, Rises, Leads}
+use Rattle.ss_vcgen_positions.specs.At.{IsOff, IsQuiet, HoldIn, Rises, Leads}
 use Rattle.ss_vcgen_positions.proofs.Alike.{rises_self, rises_twice, rises_new}
 use Rattle.ss_vcgen_positions.proofs.Guards.{hold_more, under_off, side_off, either_guard, join_off}
 

@@ -9,3 +9,6 @@ pub mod Ends
 pub mod Branches
 pub mod Statements
 pub mod Same
+pub mod Arguments
+pub mod Paths
+pub mod Renewed

@@ -1,6 +1,6 @@
 -- What checks and premises leave as it was: the locals, the store, the guard, what is known of null, and the counters.
-use Rattle.std.proofs.Common.{◌≡◌, ℕ, List, [], ◌∷◌, Bool, true, false, refl, sym, ◌∙◌, ap, subst}
-use Rattle.std.specs.Prelude.{Option, Some, None, slice_get}
+use Rattle.std.proofs.Common.{◌≡◌, ℕ, List, [], ◌∷◌, Bool, true, false, refl, sym, ◌∙◌, subst}
+use Rattle.std.specs.Prelude.{Option, Some, None}
 use Rattle.ss_core.specs.declared.names.Kind.{Kind}
 use Rattle.ss_core.specs.declared.names.Mark.{Mark}
 use Rattle.ss_core.specs.declared.names.Mark.TheVariants as mark
@@ -18,7 +18,7 @@ use Rattle.ss_logic_stores.specs.Formulas.{Formula}
 use Rattle.ss_logic_rules.specs.Shapes.{null_term, differ}
 use Rattle.ss_logic_express.specs.Express.{Meant, One, Either, Says, element_sort}
 use Rattle.ss_vcgen_heaps.specs.Parts.{Part, parts}
-use Rattle.ss_vcgen_heaps.specs.Positions.{Guard, Counters, Position, Walk, assume, assume_all, check, check_all, check_unless, check_parts, local_term, site, scene_at, meant_at, evaluate, evaluate_all, with_term, settled}
+use Rattle.ss_vcgen_heaps.specs.Positions.{Position, Walk, assume, assume_all, check, check_all, check_unless, check_parts, local_term, site, scene_at, meant_at, evaluate, evaluate_all, with_term, settled}
 use Rattle.ss_vcgen_heaps.specs.Contracts.{contract_scene, no_result, conditions}
 use Rattle.ss_vcgen_heaps.specs.Obligations.{classes_of, check_not_null, is_known_local, check_local, may_be_owned, may_be_joined, check_owners, settle_all, check_entry, check_receiver, settle_result, evaluate_result}
 use Rattle.ss_sound_outcomes.specs.Points.{Point, scene}

@@ -1,18 +1,17 @@
 -- At a test the guard of the side that is taken is made true, and code on the other side adds only true premises.
-use Rattle.std.proofs.Common.{◌≡◌, ℕ, ◌<◌, ◌≤◌, ◌+◌, List, [], ◌∷◌, Bool, true, false, eqb, refl, sym, ◌∙◌, ap, arith}
+use Rattle.std.proofs.Common.{◌≡◌, ℕ, ◌<◌, ◌≤◌, ◌+◌, List, [], ◌∷◌, Bool, true, false, eqb, refl, ◌∙◌, ap, arith}
 use Rattle.std.proofs.lemmas.Bool.{eq-eqb, ne_eqb}
-use Rattle.ss_core.specs.Tree.{ClassTree}
 use Rattle.ss_store_rules.specs.Store.{Object}
 use Rattle.ss_store_rules.specs.NonNull.{Known}
 use Rattle.ss_logic_stores.specs.declared.Sort.TheVariants as sort
-use Rattle.ss_logic_stores.specs.Values.{Table, Structure, truth, as_truth}
+use Rattle.ss_logic_stores.specs.Values.{Table, Structure, as_truth}
 use Rattle.ss_logic_stores.specs.Formulas.{Formula, neg}
-use Rattle.ss_vcgen_heaps.specs.Positions.{Guard, Always, When, Never, Counters, Position, Walk, side, first_side, second_side}
+use Rattle.ss_vcgen_heaps.specs.Positions.{Guard, Counters, Position, Walk, side, first_side, second_side}
 use Rattle.ss_sound_outcomes.specs.Points.{Point}
-use Rattle.ss_vcgen_positions.specs.At.{IsAlike, Stays, IsTrueIn, HoldIn, IsOn, IsOff, IsQuiet, Rises, Agrees, Leads}
-use Rattle.ss_vcgen_positions.proofs.Alike.{rises_self, rises_twice, alike_self, alike_twice, alike_lower, stays_on, with_truths, truths_new, truths_alike, store_on, local_on, agrees_on}
+use Rattle.ss_vcgen_positions.specs.At.{IsAlike, Stays, IsTrueIn, HoldIn, IsOn, IsOff, IsQuiet, Agrees, Leads}
+use Rattle.ss_vcgen_positions.proofs.Alike.{rises_twice, alike_twice, alike_lower, with_truths, truths_new, truths_alike, agrees_on}
 use Rattle.ss_vcgen_positions.proofs.Guards.{hold_more, side_on, side_off}
-use Rattle.ss_vcgen_positions.proofs.Leads.{rises_first, leads_first}
+use Rattle.ss_vcgen_positions.proofs.Leads.{rises_first}
 
 -- a truth value below the counters is the same in each structure that is alike
 pub truth_stays : (n : Counters) (m : Structure) (i : ℕ) (b : Bool) → i < n.truths → m.truths i ≡ b → Stays n m (λ m'. m'.truths i ≡ b)

@@ -1,12 +1,12 @@
 -- Each statement leads from the position before it to the one behind it.
-use Rattle.std.proofs.Common.{◌≡◌, ℕ, pos, ◌+◌, List, [], ◌∷◌, ◌++◌, map, Bool, true, false, arith}
+use Rattle.std.proofs.Common.{◌≡◌, ℕ, pos, ◌+◌, List, [], ◌∷◌, ◌++◌, map, Bool, true, false}
 use Rattle.std.specs.Prelude.{Option, Some, None, if◌then◌else◌}
 use Rattle.ss_core.specs.declared.names.Kind.TheVariants as kind
 use Rattle.ss_core.specs.declared.names.Mark.{Mark}
 use Rattle.ss_core.specs.declared.names.Mark.TheVariants as mark
 use Rattle.ss_core.specs.declared.names.Place.{Place}
 use Rattle.ss_core.specs.declared.names.Ty.{Ty}
-use Rattle.ss_core.specs.Tree.{ClassTree, ExprTree, CalleeTree, Dispatched, Static, Base, BaseConstructor, ExposedTree, StmtTree, AssignStmt, WriteStmt, WriteElementStmt, NewStmt, NewArrayStmt, CallStmt, ReadyStmt, IfStmt, LoopStmt, UnpackStmt, PackStmt, AssertStmt, AssumeStmt, PrintStmt, PrintTextStmt, ReturnStmt, CodeTree, NoCode, Then, BodyTree}
+use Rattle.ss_core.specs.Tree.{ExprTree, CalleeTree, Dispatched, Static, Base, BaseConstructor, StmtTree, AssignStmt, WriteStmt, WriteElementStmt, NewStmt, NewArrayStmt, CallStmt, ReadyStmt, IfStmt, LoopStmt, UnpackStmt, PackStmt, AssertStmt, AssumeStmt, PrintStmt, PrintTextStmt, ReturnStmt, CodeTree, NoCode, Then, BodyTree}
 use Rattle.ss_core.specs.Chain.{above}
 use Rattle.ss_store_rules.specs.Locals.{local_types, receiver, assigns}
 use Rattle.ss_store_rules.specs.NonNull.{Known, is_never_null, known_tested, known_after, known_met, known_head}
@@ -16,12 +16,12 @@ use Rattle.ss_store_rules.specs.Typed.{constructor_of}
 use Rattle.ss_logic_stores.specs.declared.Sort.TheVariants as sort
 use Rattle.ss_logic_stores.specs.Values.{Structure}
 use Rattle.ss_logic_stores.specs.Terms.{Set, Put, Unpack, Pack, New, NewArray, MakeReady, Length, Term, app, field_sort}
-use Rattle.ss_logic_stores.specs.Formulas.{Formula, neg}
+use Rattle.ss_logic_stores.specs.Formulas.{neg}
 use Rattle.ss_logic_rules.specs.Shapes.{number, null_term, class_term, level_of, next_of, equal, differ, at_most, sub_atom, committed}
 use Rattle.ss_logic_rules.specs.Shapes as shape
 use Rattle.ss_logic_express.specs.Express.{Meant, One, Either, Says, said, element_sort}
 use Rattle.ss_logic_frames.specs.Frames.{kept, grown}
-use Rattle.ss_vcgen_heaps.specs.Positions.{Guard, Always, When, Never, Position, Walk, good, assume, assume_all, check, check_all, check_unless, new_term, with_new, set_local, set_store, with_store, ended, local_term, site, meant_at, evaluate, evaluate_all, holds_at, define, with_term, term_for, settled, meant_settled, first_side, second_side, join, if_reached}
+use Rattle.ss_vcgen_heaps.specs.Positions.{When, Never, Position, Walk, good, assume, assume_all, check, check_all, new_term, with_new, set_local, set_store, with_store, ended, local_term, site, meant_at, evaluate, evaluate_all, holds_at, define, with_term, term_for, settled, first_side, second_side, if_reached}
 use Rattle.ss_vcgen_heaps.specs.Contracts.{is_of_type, contract_scene, no_result, conditions, frame_terms, called}
 use Rattle.ss_vcgen_heaps.specs.Obligations.{classes_of, local_sort, check_not_null, is_known_local, check_local, may_be_owned, may_be_joined, check_owners, owned_store, write, is_index, write_element, unpack, invariants_said, owned_are_full, pack, settle_all, arguments_settled, check_entry, result_term, with_result, assume_result, returned, keep, call, check_receiver, with_this, call_with, with_ready, constructed, construct, new_array, arguments_at, result_settled, settle_result, frame_formula, evaluate_result, return_with, Loop, loop_of, frame_at_head, levels_at_head, check_head, renew_from, renewed, types_from, at_head, exit_guard, into_body, behind_loop, with_known, behind, behind_all}
 use Rattle.ss_vcgen_positions.specs.At.{IsOff, Leads}
@@ -242,7 +242,7 @@ module _ (w : Walk) where
       leads_twice w k a (check_head w l k) (leads_check_all w kind.LoopInvariant l.place fs k)
       (leads_twice w a b (check_head w l k) (leads_check w kind.LoopFrame l.place (frame_at_head w l k) a) (leads_check w kind.LoopLevel l.place (levels_at_head w l k) b))
 
-  leads_renew_one : (x : ℕ) (t : Ty) (k : Position) (b : Bool) → Leads w k (if b then set_local x (new_term (element_sort (Some t)) k) (with_new (element_sort (Some t)) k) else k)
+  pub leads_renew_one : (x : ℕ) (t : Ty) (k : Position) (b : Bool) → Leads w k (if b then set_local x (new_term (element_sort (Some t)) k) (with_new (element_sort (Some t)) k) else k)
   leads_renew_one x t k true =
       let n = with_new (element_sort (Some t)) k in
       leads_twice w k n (set_local x (new_term (element_sort (Some t)) k) n) (leads_new w (element_sort (Some t)) k) (leads_set_local w x (new_term (element_sort (Some t)) k) n)

@@ -1,7 +1,7 @@
 -- A position of the obligations, a point of a run, and a structure in which they agree.
 --
 -- What is said of a structure is said of each that is like it below the next new constants. So a new constant may be given any value.
-use Rattle.std.specs.Prelude.{◌≡◌, ℕ, ◌<◌, ◌≤◌, List, [], length, Bool, true, false, Option, Some, None, slice_get}
+use Rattle.std.specs.Prelude.{◌≡◌, ℕ, ◌<◌, ◌≤◌, List, [], length, Bool, true, false, Option, Some, slice_get}
 use Rattle.ss_core.specs.Tree.{ClassTree}
 use Rattle.ss_store_rules.specs.Store.{Object}
 use Rattle.ss_store_rules.specs.Locals.{local_types}
