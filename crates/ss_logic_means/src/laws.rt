@@ -44,7 +44,7 @@ pub fn conditions_are_true_where_they_hold()
     ensures { (m : Structure) (now entry : Heap) (x : ExprTree) (c : Scene) (locals : List ObjectValue) (k : Bool) → IsGoodSetting (setting_of m c now entry locals) c.types k → (e : List Value) → Stands m c now entry locals e → length e ≡ c.bound → is_stated c.classes c.types x ≡ true → Settled m e c x → Means c.classes m e (holds_formula x c) (run.holds x (setting_of m c now entry locals)) }
 {}
 
-/// Each condition at entry or at exit of a body is a default condition of a local that fits it, or a truth value without one.
+/// Each condition of a contract is a default condition of a local that fits it, or a truth value without one.
 pub fn contracts_are_stated()
     ensures { (cs : List ClassTree) (b : BodyTree) (w : Words) (among : ℕ → Bool) (x : ExprTree) → is_contract cs b w among x ≡ true → is_stated cs (local_types b) x ≡ true }
 {}
@@ -74,7 +74,7 @@ pub fn a_good_store_meets_every_sentence()
     ensures { (cs : List ClassTree) → IsChain cs → NoAlso cs → AreInvariants cs → (m : Structure) (s : Term) (f : Formula) → IsOfGood cs s f → True cs m [] (atom Good (s ∷ [])) → True cs m [] f }
 {}
 
-/// An obligation is valid where it is valid with sentences on good stores among its premises, of stores that its own premises say are good.
+/// An obligation is valid where it is with more premises: sentences on stores that its own premises say are good.
 pub fn sentences_on_good_stores_may_be_premises()
     ensures { (cs : List ClassTree) → IsChain cs → NoAlso cs → AreInvariants cs → (premises sentences : List Formula) (goal : Formula) → AllFollowFromGood cs premises sentences → IsValid cs (premises ++ sentences) goal → IsValid cs premises goal }
 {}
@@ -99,7 +99,7 @@ pub fn conditions_are_well_formed()
     ensures { (x : ExprTree) (c : Scene) (bound : List Sort) → IsSorted c bound → length bound ≡ c.bound → is_stated c.classes c.types x ≡ true → is_well_formed c.classes bound (holds_formula x c) ≡ true }
 {}
 
-/// A scene of terms without bound names, two stores and for each local a term of the sort of its type, meets what the laws on well formed formulas ask of a scene.
+/// A scene of two stores, and for each local a term of the sort of its type, none with bound names, is sorted.
 pub fn closed_terms_are_sorted()
     ensures { (c : Scene) (terms : List Term) → have_sorts c.classes (sort.Store ∷ sort.Store ∷ []) (c.now ∷ c.entry ∷ []) ≡ true → c.locals ≡ map One terms → have_sorts c.classes (map sort_of_type c.types) terms ≡ true → IsSorted c [] }
 {}
@@ -119,7 +119,7 @@ pub fn scenes_of_bodies_are_sorted()
     ensures { (cs : List ClassTree) (b : BodyTree) (now entry : Term) → have_sorts cs (sort.Store ∷ sort.Store ∷ []) (now ∷ entry ∷ []) ≡ true → IsSorted (body_scene cs b now entry) [] }
 {}
 
-/// The scene of a body whose locals are constants stands for the stores between which it is, and for the values that a structure gives the constants.
+/// The scene of a body stands for its two stores, and for the values that a structure gives the constants of its locals.
 pub fn scenes_of_bodies_stand()
     ensures { (m : Structure) (cs : List ClassTree) (b : BodyTree) (now entry : Term) (current former : Heap) (locals : List ObjectValue) → IsStoreTerm cs m now current → IsStoreTerm cs m entry former → GivesFrom m 0 (local_types b) locals → Stands m (body_scene cs b now entry) current former locals [] }
 {}
@@ -144,12 +144,12 @@ pub fn conditions_of_bodies_are_well_formed()
     ensures { (cs : List ClassTree) (b : BodyTree) (x : ExprTree) → is_stated cs (local_types b) x ≡ true → (now entry : Term) → have_sorts cs (sort.Store ∷ sort.Store ∷ []) (now ∷ entry ∷ []) ≡ true → is_well_formed cs [] (holds_formula x (body_scene cs b now entry)) ≡ true }
 {}
 
-/// The formula of a condition of a body is true exactly where the condition holds, for the values that a structure gives the constants of the locals.
+/// The formula of a condition of a body is true exactly where it holds, for the values of the constants of its locals.
 pub fn conditions_of_bodies_are_true_where_they_hold()
     ensures { (cs : List ClassTree) (b : BodyTree) (x : ExprTree) → is_stated cs (local_types b) x ≡ true → (m : Structure) (now entry : Term) (current former : Heap) (locals : List ObjectValue) (k : Bool) → IsGoodSetting (setting_of m (body_scene cs b now entry) current former locals) (local_types b) k → IsStoreTerm cs m now current → IsStoreTerm cs m entry former → GivesFrom m 0 (local_types b) locals → Means cs m [] (holds_formula x (body_scene cs b now entry)) (run.holds x (setting_of m (body_scene cs b now entry) current former locals)) }
 {}
 
-/// Of the locals of a scene those alone count that an expression reads: where these have their values, its parts are true exactly where it has a value, which is then what it means.
+/// An expression means its value where the locals that it reads have theirs. Its parts are true exactly where it has a value.
 pub fn expressions_mean_their_values_where_read()
     ensures { (among : ℕ → Bool) (m : Structure) (now entry : Heap) (x : ExprTree) (c : Scene) (locals : List ObjectValue) (k : Bool) → IsGoodSetting (setting_of m c now entry locals) c.types k → (e : List Value) → StandsAmong among m c now entry locals e → length e ≡ c.bound → reads_only among x ≡ true → has_no_default x ≡ true → is_some (type_of c.classes c.types x) ≡ true → Reads c.classes m e (defined x c) (meant x c) (run.value_of x (setting_of m c now entry locals)) }
 {}

@@ -24,7 +24,7 @@ site_in cs b = record { classes = cs; locals = local_types b; constructs = b.fla
 abbrev pub HasTrueParts : BodyTree → Known → Structure → List Value → Scene → ExprTree → Type 0
 HasTrueParts b k m e c x = AllTrue c.classes m e (formulas_from (formulas_of (parts x (site_in c.classes b) k c)))
 
--- What holds where expressions of the body are read, whose assigned locals are these: what is known of null is so, and the assigned
+-- What holds where expressions of the body are read, whose assigned locals are these. What is known of null is so, and the assigned
 -- locals have their values in the scene.
 pub record IsRead (b : BodyTree) (assigned : ℕ → Bool) (k : Known) (m : Structure) (c : Scene) (now entry : Heap) (locals : List ObjectValue) (e : List Value) : Type 0 where
   pub types : c.types ≡ local_types b

@@ -30,7 +30,7 @@ pub fn true_parts_are_enough()
     ensures { (b : BodyTree) (assigned : ℕ → Bool) (k : Known) (m : Structure) (c : Scene) (now entry : Heap) (locals : List ObjectValue) (e : List Value) → IsRead b assigned k m c now entry locals e → (x : ExprTree) → reads_assigned b assigned x ≡ true → has_no_default x ≡ true → is_some (type_of c.classes c.types x) ≡ true → HasTrueParts b k m e c x → (v : ObjectValue) × (run.value_of x (setting_of m c now entry locals) ≡ Ok v) × Denotes c.classes m e (meant x c) (standing v) }
 {}
 
-/// Where the parts of a typed expression that are checked are true, all of its parts are: those that aren't checked follow from its types, and from what is known of null.
+/// Where the parts of a typed expression that are checked are true, so are the others. Those follow from its types, and from what is known of null.
 pub fn unchecked_parts_are_true()
     ensures { (b : BodyTree) (assigned : ℕ → Bool) (k : Known) (m : Structure) (c : Scene) (now entry : Heap) (locals : List ObjectValue) (e : List Value) → IsRead b assigned k m c now entry locals e → (x : ExprTree) → reads_assigned b assigned x ≡ true → has_no_default x ≡ true → is_some (type_of c.classes c.types x) ≡ true → HasTrueParts b k m e c x → AllTrue c.classes m e (formulas_from (defined x c)) }
 {}
