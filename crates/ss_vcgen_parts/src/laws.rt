@@ -11,6 +11,7 @@ ghost use Rattle.ss_store_rules.specs.Types.{type_of, Words, is_condition};
 ghost use Rattle.ss_store_rules.specs.Values as run;
 ghost use Rattle.ss_machine_rules.specs.Steps.{values_of};
 ghost use Rattle.ss_machine_typed.specs.Settings.{IsGoodSetting};
+ghost use Rattle.ss_machine_good.specs.Known.{IsTrueOf, AreAssigned, WasReady};
 ghost use Rattle.ss_logic_stores.specs.declared.Sort.{Sort};
 ghost use Rattle.ss_logic_stores.specs.declared.Sort.TheVariants as sort;
 ghost use Rattle.ss_logic_stores.specs.Values.{Heap, Value, store, Structure};
@@ -73,4 +74,14 @@ pub fn scenes_of_positions_stand()
 /// The scene of a position is sorted on the locals that have terms of the sorts of their types.
 pub fn scenes_of_positions_are_sorted()
     ensures { (w : Walk) (k : Position) (among : ℕ → Bool) → HasSort w.program.classes [] sort.Store k.store → HasSort w.program.classes [] sort.Store w.entry → length k.locals ≡ length (local_types w.body) → HaveSorts w.program.classes among k.locals (local_types w.body) → IsSortedAmong among (scene_at w k) [] }
+{}
+
+/// At a position the expressions are read that read assigned locals alone, where these have terms with their values.
+pub fn positions_are_read()
+    ensures { (w : Walk) (k : Position) (assigned : ℕ → Bool) → length k.locals ≡ length (local_types w.body) → (m : Structure) (now entry : Heap) (values : List ObjectValue) → IsGoodSetting (setting_of m (scene_at w k) now entry values) (local_types w.body) w.body.flags.ctor → WasReady w.body.flags.ctor (setting_of m (scene_at w k) now entry values) → AreAssigned w.body assigned (setting_of m (scene_at w k) now entry values) → IsTrueOf w.body.flags.ctor k.known (setting_of m (scene_at w k) now entry values) → ((e : List Value) → value_of w.program.classes m e k.store ≡ store now) → ((e : List Value) → value_of w.program.classes m e w.entry ≡ store entry) → HaveValues w.program.classes m assigned k.locals values → IsRead w.body assigned k.known m (scene_at w k) now entry values [] }
+{}
+
+/// The scene of a position is sorted as the laws on expressions ask that read assigned locals alone, where these have terms.
+pub fn scenes_are_sorted_where_locals_are_assigned()
+    ensures { (w : Walk) (k : Position) (assigned : ℕ → Bool) → length k.locals ≡ length (local_types w.body) → HasSort w.program.classes [] sort.Store k.store → HasSort w.program.classes [] sort.Store w.entry → HaveSorts w.program.classes assigned k.locals (local_types w.body) → IsSortedAmong (λ x. assigned x || is_bound w.body x) (scene_at w k) [] }
 {}

@@ -7,6 +7,7 @@ mod laws;
 pub use laws::{
     conditions_of_code_are_true_where_they_hold, conditions_of_code_are_well_formed,
     parts_are_well_formed, parts_of_all_values_are_true, parts_of_values_are_true,
+    positions_are_read, scenes_are_sorted_where_locals_are_assigned,
     scenes_of_positions_are_sorted, scenes_of_positions_stand, true_parts_are_enough,
     true_parts_are_enough_for_all, unchecked_parts_are_true,
 };
