@@ -1,11 +1,13 @@
 -- Points of a body that runs: the values of its locals and the store; and what holds of them in every run.
 use Rattle.std.specs.Prelude.{◌≡◌, ℕ, List, [], length, true, false, if◌then◌else◌, Some, None, slice_get}
+use Rattle.ss_core.specs.Chain.{below}
 use Rattle.ss_core.specs.Tree.{ClassTree, StmtTree, BodyTree, CoreTree}
 use Rattle.ss_store_rules.specs.declared.Value.{Value}
 use Rattle.ss_store_rules.specs.Store.{Object}
 use Rattle.ss_store_rules.specs.Reads.{is_group}
-use Rattle.ss_store_rules.specs.Changes.{is_array}
+use Rattle.ss_store_rules.specs.Changes.{is_array, field_class}
 use Rattle.ss_store_rules.specs.States.{AreGoodLocals}
+use Rattle.ss_machine_rules.specs.Frame.{this_of}
 use Rattle.ss_machine_rules.specs.States.{ToCall, Frame, locals_at_entry}
 use Rattle.ss_machine_rules.specs.States as states
 use Rattle.ss_machine_rules.specs.Good.{IsGoodStore}
@@ -16,6 +18,7 @@ use Rattle.ss_machine_typed.specs.Older.{IsOlder}
 use Rattle.ss_machine_typed.specs.Settings.{AreGoodArguments}
 use Rattle.ss_machine_good.specs.Known.{IsNotNull, WasReady, AreAssigned}
 use Rattle.ss_machine_good_frames.specs.Later.{IsLater}
+use Rattle.ss_machine_good_frames.specs.Frames.{HasGiven}
 use Rattle.ss_logic_stores.specs.Values.{reference, Table}
 
 -- A body that runs: the program, the body, the store at its entry, and the class and the length of each reference.
@@ -58,6 +61,8 @@ pub record IsSound (a : Activation) (p : Point) : Type 0 where
   pub grown : HasGrown a.entry p.store
   pub was_ready : WasReady a.body.flags.ctor (scene a p)
   pub locals : AreGoodLocals a.program.classes p.store a.body p.locals
+  -- the fields of the classes below have their values before a constructor that isn't delayed runs
+  pub given : a.body.flags.ctor ≡ true → a.body.flags.delayed ≡ false → (g : ℕ) → below a.program.classes a.body.class (field_class a.program.classes g) ≡ false → HasGiven a.program p.store (this_of p.locals) g
 
 -- the position from which on an object may have become ready
 abbrev pub entry_size : Activation → ℕ

@@ -9,4 +9,4 @@ use Rattle.ss_sound_outcomes.specs.Points.{HasGrown, Fits, IsSound}
 use Rattle.ss_sound_steps.specs.Frames.{activation_of, point_of}
 
 pub sound_point : (c : CoreTree) (f : Frame) (s : List Object) (table : Table) → IsGoodFrame c f s → HasGrown f.entry s → Fits c.classes table s → IsSound (activation_of c f table) (point_of f s)
-sound_point c f s table is grown fits = record { store = is.sound.store; fits = fits; grown = grown; was_ready = is.sound.was_ready; locals = is.sound.locals }
+sound_point c f s table is grown fits = record { store = is.sound.store; fits = fits; grown = grown; was_ready = is.sound.was_ready; locals = is.sound.locals; given = λ ctor. (is.constructs ctor).given }
