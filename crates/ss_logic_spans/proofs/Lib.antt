@@ -1,0 +1,5 @@
+pub mod Facts
+pub mod Objects
+pub mod Old
+pub mod Standing
+pub mod Naming
