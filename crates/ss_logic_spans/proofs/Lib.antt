@@ -3,3 +3,5 @@ pub mod Objects
 pub mod Old
 pub mod Standing
 pub mod Naming
+pub mod Freeing
+pub mod Keeping
