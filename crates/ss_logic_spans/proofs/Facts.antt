@@ -1,5 +1,5 @@
 -- The frame condition as facts over objects.
-use Rattle.std.proofs.Common.{◌≡◌, ℕ, zero, suc, ◌+◌, List, [], ◌∷◌, ◌++◌, Bool, true, false, not, ◌&&◌, ◌||◌, Some, refl, sym, ◌∙◌, ap, subst, arith}
+use Rattle.std.proofs.Common.{◌≡◌, ℕ, zero, suc, ◌+◌, List, [], ◌∷◌, ◌++◌, Bool, true, false, ◌||◌, Some, refl, sym, ◌∙◌, subst, arith}
 use Rattle.std.specs.Prelude.{◌==◌, flat_map, if◌then◌else◌, slice_get}
 use Rattle.std.specs.Bool.{beq}
 use Rattle.std.specs.List.{list_any}
@@ -9,7 +9,7 @@ use Rattle.ss_store_rules.specs.Store.{Slot, Object}
 use Rattle.ss_store_rules.specs.Reads.{same_value, same_owner, object_at, field_read, element_read, is_full}
 use Rattle.ss_machine_rules.specs.declared.Location.{Location}
 use Rattle.ss_machine_rules.specs.declared.Location.TheVariants as location
-use Rattle.ss_machine_rules.specs.Frame.{Span, all_named, names_field, names_elements, names_level, is_outside, unless, unkept_field, unkept_elements_from, unkept_elements, unkept_level, unkept_committed, unkept_owner, unkept_of_old, unkept_of_new, is_old, unkept_at, unkept_from, unkept, is_empty, is_kept}
+use Rattle.ss_machine_rules.specs.Frame.{Span, all_named, names_field, names_elements, names_level, is_outside, unless, unkept_field, unkept_elements_from, unkept_elements, unkept_level, unkept_committed, unkept_owner, unkept_of_old, unkept_of_new, is_old, unkept_at, unkept_from, is_empty, is_kept}
 
 empty_parts : (xs ys : List Location) → is_empty (xs ++ ys) ≡ true → (is_empty xs ≡ true) × (is_empty ys ≡ true)
 empty_parts [] ys e = (refl, e)

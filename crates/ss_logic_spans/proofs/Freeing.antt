@@ -1,6 +1,6 @@
 -- What is bound, as terms say, is what isn't free.
-use Rattle.std.proofs.Common.{◌≡◌, ℕ, zero, suc, ◌<◌, List, [], ◌∷◌, ◌++◌, length, drop, map, Bool, true, false, not, ◌&&◌, ◌||◌, eqb, Some, refl, sym, ◌∙◌, ap, subst, arith}
-use Rattle.std.specs.Prelude.{flat_map, ◌==◌, if◌then◌else◌, slice_get, unwrap_or, nat_lt}
+use Rattle.std.proofs.Common.{◌≡◌, ℕ, suc, List, [], ◌∷◌, ◌++◌, length, drop, map, Bool, true, false, not, ◌&&◌, ◌||◌, eqb, Some, refl, sym, ◌∙◌, ap, subst, arith}
+use Rattle.std.specs.Prelude.{flat_map, if◌then◌else◌, slice_get, unwrap_or, nat_lt}
 use Rattle.std.specs.List.{list_any, list_all}
 use Rattle.std.proofs.lemmas.Bool.{false≢true, true≢false, and_parts, and_from, eqb-true, eq-eqb, ltb-true}
 use Rattle.ss_core.specs.declared.names.Ty.{Ty}
@@ -17,12 +17,12 @@ use Rattle.ss_store_rules.specs.Reads as reads
 use Rattle.ss_store_rules.specs.Reads.{is_object_with, same_owner, is_pair, is_pair_upto, object_at, is_allocated}
 use Rattle.ss_store_rules.specs.Changes.{owned_by}
 use Rattle.ss_store_rules.specs.Good.{has_type}
-use Rattle.ss_store_rules.specs.Locals.{types_of, this_types, argument_types}
+use Rattle.ss_store_rules.specs.Locals.{types_of, argument_types}
 use Rattle.ss_store_rules.specs.Typed.{is_class_type, is_local}
 use Rattle.ss_machine_rules.specs.Frame as frame
 use Rattle.ss_machine_rules.specs.Frame.{Span, captured_among, captured_values, is_in_group_with, local_at, this_of, is_owned_by_new, refers_to, is_outside}
 use Rattle.ss_logic_stores.specs.declared.Sort.TheVariants as sort
-use Rattle.ss_logic_stores.specs.Values.{Thing, null, reference, class_name, group_number, owner_pair, is_group, Entry, Heap, Value, thing, as_thing, as_store, IsNumbered, Structure}
+use Rattle.ss_logic_stores.specs.Values.{Thing, null, reference, class_name, group_number, owner_pair, is_group, Heap, as_thing, as_store, IsNumbered, Structure}
 use Rattle.ss_logic_stores.specs.Terms.{Term, value_of}
 use Rattle.ss_logic_stores.specs.Objects.{owner_of_thing, object_in, objects_of}
 use Rattle.ss_logic_stores.proofs.Tabled.{count}
@@ -39,7 +39,7 @@ use Rattle.ss_logic_means.proofs.Owners.{pair_back}
 use Rattle.ss_vcgen_heaps.specs.Contracts.{term_of_one, captured_terms, pairs_of, owned_terms}
 use Rattle.ss_logic_spans.specs.Spans.{IsArgument, AreArguments, AreReferences, SpanTerms, SpanValues, IsSpan, span_of, terms_of}
 use Rattle.ss_logic_spans.proofs.Objects.{IsLow, same_back, same_owner_self, group_owner}
-use Rattle.ss_logic_spans.proofs.Standing.{SceneOf, Locals, Values}
+use Rattle.ss_logic_spans.proofs.Standing.{SceneOf, Values}
 
 -- ---- tests
 
@@ -87,6 +87,13 @@ class_reference cs m h ty.Bool u c e = absurd (false≢true c)
 class_reference cs m h ty.Null u c e = absurd (false≢true c)
 class_reference cs m h (ty.Ref k n) u c e = reference_value cs m.table h (ty.Ref k n) refl u e
 
+pub class_if_captured : (cs : List ClassTree) (p : LocalTree) → is_local cs p ≡ true → p.captured ≡ true → is_class_type p.ty ≡ true
+class_if_captured cs p is c = later p.captured c (and_parts (is_type cs p.ty) (not p.captured || is_class_type p.ty) is).1
+  where
+    later : (c : Bool) → c ≡ true → (not c || is_class_type p.ty) ≡ true → is_class_type p.ty ≡ true
+    later true c e = e
+    later false c e = absurd (false≢true c)
+
 abbrev pub AllTyped : List ClassTree → List Object → List Ty → List ObjectValue → Type 0
 AllTyped cs s [] vs = Unit {0}
 AllTyped cs s (a ∷ ts) [] = Unit {0}
@@ -100,7 +107,6 @@ all_typed cs s (a ∷ ts) (u ∷ vs) h = (h 0 a u refl refl, all_typed cs s ts v
 -- ---- outside
 
 module _ (cs : List ClassTree) (m : Structure) (o : ℕ) where
-
   pub outside_to : (us : List Term) (ys : List ObjectValue) → AreReferences cs m us ys → Each (λ u. reference o ≡ thing_of cs m u → ⊥) us → list_any (refers_to o) ys ≡ false
   outside_to [] [] a all = refl
   outside_to (u ∷ us) (value.Obj q ∷ ys) a all =
@@ -203,19 +209,12 @@ module _ (cs : List ClassTree) (m : Structure) (h : Heap) (low : (q : ℕ) → n
       let p = neither_parts (is_with u) (list_any is_with us) f in
       subst (λ z. Each Apart (term_of_one z ++ ts)) (sym y.1) (apart_from y.0 u y.3 (class_reference cs m h a u (k refl) e) p.0, rest p.1)
 
-  class_if_captured : (p : LocalTree) → is_local cs p ≡ true → p.captured ≡ true → is_class_type p.ty ≡ true
-  class_if_captured p is c = later p.captured c (and_parts (is_type cs p.ty) (not p.captured || is_class_type p.ty) is).1
-    where
-      later : (c : Bool) → c ≡ true → (not c || is_class_type p.ty) ≡ true → is_class_type p.ty ≡ true
-      later true c e = e
-      later false c e = absurd (false≢true c)
-
   captured_to : (ps : List LocalTree) (xs : List Meant) (vs rest : List ObjectValue) → AreArguments cs m (types_of ps) xs vs → AllTyped cs Here (types_of ps) vs → list_all (is_local cs) ps ≡ true →
       Each Apart (captured_terms ps xs) → list_any is_with (captured_among ps (vs ++ rest)) ≡ false
   captured_to [] xs vs rest a k is all = refl
   captured_to (p ∷ ps) (x ∷ xs) (u ∷ vs) rest a k is all =
       let both = and_parts (is_local cs p) (list_all (is_local cs) ps) is in
-      captured_one_to p.captured p.ty x u (captured_terms ps xs) (captured_among ps (vs ++ rest)) (class_if_captured p both.0) a.0 k.0 (captured_to ps xs vs rest a.1 k.1 both.1) all
+      captured_one_to p.captured p.ty x u (captured_terms ps xs) (captured_among ps (vs ++ rest)) (class_if_captured cs p both.0) a.0 k.0 (captured_to ps xs vs rest a.1 k.1 both.1) all
   captured_to (p ∷ ps) [] vs rest a k is all = absurd a
   captured_to (p ∷ ps) (x ∷ xs) [] rest a k is all = absurd a
 
@@ -224,7 +223,7 @@ module _ (cs : List ClassTree) (m : Structure) (h : Heap) (low : (q : ℕ) → n
   captured_from [] xs vs rest a k is f = tt
   captured_from (p ∷ ps) (x ∷ xs) (u ∷ vs) rest a k is f =
       let both = and_parts (is_local cs p) (list_all (is_local cs) ps) is in
-      captured_one_from p.captured p.ty x u (captured_terms ps xs) (captured_among ps (vs ++ rest)) (class_if_captured p both.0) a.0 k.0 (captured_from ps xs vs rest a.1 k.1 both.1) f
+      captured_one_from p.captured p.ty x u (captured_terms ps xs) (captured_among ps (vs ++ rest)) (class_if_captured cs p both.0) a.0 k.0 (captured_from ps xs vs rest a.1 k.1 both.1) f
   captured_from (p ∷ ps) [] vs rest a k is f = absurd a
   captured_from (p ∷ ps) (x ∷ xs) [] rest a k is f = absurd a
 

@@ -1,16 +1,13 @@
 -- Heaps keep to a frame condition where their objects do.
-use Rattle.std.proofs.Common.{◌≡◌, ℕ, zero, suc, ◌+◌, ◌<◌, ℤ, pos, negsuc, List, [], ◌∷◌, ◌++◌, length, map, Bool, true, false, not, ◌&&◌, ◌||◌, eqb, Some, refl, sym, ◌∙◌, ap, subst, arith}
-use Rattle.std.specs.Prelude.{◌==◌, if◌then◌else◌, slice_get, unwrap_or, nat_lt}
+use Rattle.std.proofs.Common.{◌≡◌, ℕ, ◌+◌, ◌<◌, ℤ, pos, negsuc, List, [], length, Bool, true, false, not, ◌&&◌, ◌||◌, eqb, Some, refl, sym, ◌∙◌, ap, subst, arith}
+use Rattle.std.specs.Prelude.{if◌then◌else◌, slice_get, unwrap_or, nat_lt}
 use Rattle.std.specs.List.{list_any}
 use Rattle.std.proofs.lemmas.Bool.{false≢true, true≢false, and_parts, and_from, eqb-true, eq-eqb, ltb-true, lt-ltb}
 use Rattle.std.proofs.lemmas.Option.{slice_get_within}
-use Rattle.ss_core.specs.declared.names.Ty.{Ty}
-use Rattle.ss_core.specs.declared.names.Ty.TheVariants as ty
 use Rattle.ss_core.specs.Tree.{ClassTree, BodyTree}
 use Rattle.ss_core.specs.Chain.{below, all_fields}
-use Rattle.ss_store_rules.specs.declared.Value.{Value as ObjectValue}
 use Rattle.ss_store_rules.specs.declared.Value.TheVariants as value
-use Rattle.ss_store_rules.specs.Store.{Slot, Object, slot_value}
+use Rattle.ss_store_rules.specs.Store.{Slot, Object}
 use Rattle.ss_store_rules.specs.Reads.{same_value, same_owner, object_at, field_read, element_read, is_full}
 use Rattle.ss_store_rules.specs.Reads as reads
 use Rattle.ss_store_rules.specs.Changes.{is_array, element_type, field_class, field_type, new_fields}
@@ -18,9 +15,9 @@ use Rattle.ss_machine_rules.specs.Frame as frame
 use Rattle.ss_machine_rules.specs.Frame.{Span, is_outside, is_old, is_kept}
 use Rattle.ss_logic_stores.specs.declared.Sort.{Sort}
 use Rattle.ss_logic_stores.specs.declared.Sort.TheVariants as sort
-use Rattle.ss_logic_stores.specs.Values.{Thing, null, reference, class_name, group_number, owner_pair, Cells, Entry, Heap, Value, whole, truth, thing, as_thing, as_whole, as_truth, as_store, is_allocated, Structure}
+use Rattle.ss_logic_stores.specs.Values.{Thing, null, reference, class_name, group_number, owner_pair, Cells, Entry, Heap, whole, truth, thing, as_thing, as_whole, as_truth, as_store, is_allocated, Structure}
 use Rattle.ss_logic_stores.specs.Terms.{sort_of_type, field_sort, has_field, same_sort, cell}
-use Rattle.ss_logic_stores.specs.Objects.{content, filled, elements_from, element_count, owner_of_thing, object_in, objects_of}
+use Rattle.ss_logic_stores.specs.Objects.{content, element_count, owner_of_thing, object_in, objects_of}
 use Rattle.ss_logic_stores.proofs.Tabled.{there, count, field_there}
 use Rattle.ss_logic_stores.proofs.Truth.{equal_sorts}
 use Rattle.ss_logic_frames.specs.Frames.{CallTerms}

@@ -5,3 +5,5 @@ pub mod Standing
 pub mod Naming
 pub mod Freeing
 pub mod Keeping
+pub mod Sorting
+pub mod Growing

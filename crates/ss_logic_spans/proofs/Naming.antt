@@ -1,12 +1,11 @@
 -- What is named by terms is what is named by values.
-use Rattle.std.proofs.Common.{◌≡◌, ℕ, List, [], ◌∷◌, ◌++◌, map, Bool, true, false, not, ◌&&◌, ◌||◌, eqb, Ok, Err, refl, sym, ◌∙◌, ap, subst}
-use Rattle.std.specs.Prelude.{flat_map, ◌==◌}
+use Rattle.std.proofs.Common.{◌≡◌, ℕ, List, [], ◌∷◌, ◌++◌, map, Bool, true, false, ◌&&◌, ◌||◌, eqb, Ok, Err, refl, sym, ◌∙◌, ap, subst}
+use Rattle.std.specs.Prelude.{flat_map}
 use Rattle.std.specs.List.{list_any, list_all}
 use Rattle.std.proofs.lemmas.Bool.{false≢true, true≢false, and_parts, eqb-true, eq-eqb}
 use Rattle.ss_core.specs.Tree.{ClassTree, NamedTree, FieldOf, AllOf, ElementsOf, UptoOf, BodyTree}
 use Rattle.ss_core.specs.Chain.{sub, NoAlso}
 use Rattle.ss_core.proofs.Chains.{sub-below}
-use Rattle.ss_store_rules.specs.declared.Value.{Value as ObjectValue}
 use Rattle.ss_store_rules.specs.declared.Value.TheVariants as value
 use Rattle.ss_store_rules.specs.Numbers.{Outcome}
 use Rattle.ss_store_rules.specs.Changes.{field_class}
@@ -15,13 +14,13 @@ use Rattle.ss_store_rules.specs.Types.{is_reference, type_of}
 use Rattle.ss_machine_rules.specs.declared.Named.{Named}
 use Rattle.ss_machine_rules.specs.Frame as frame
 use Rattle.ss_machine_rules.specs.Frame.{defined_value, named_of, subject_of, named_by}
-use Rattle.ss_logic_stores.specs.Values.{reference, Heap, Value, truth, thing, as_thing, Structure}
+use Rattle.ss_logic_stores.specs.Values.{reference, Heap, truth, thing, as_thing, Structure}
 use Rattle.ss_logic_stores.specs.Terms.{Term, value_of}
 use Rattle.ss_logic_stores.specs.Formulas.{Formula, True, AllTrue, formulas_from}
 use Rattle.ss_logic_express.specs.Express.{and_of, Choice, Meant, One, Either, Says, not_null, Scene, meant, defined}
 use Rattle.ss_logic_frames.specs.Frames.{NamedTerm}
 use Rattle.ss_logic_frames.specs.Means.{Each, IsNamed, NamesNoField, NamesNoLevel, NamesNoElement}
-use Rattle.ss_logic_means.specs.Means.{standing, Agree, NoneOf, Denotes, Reads}
+use Rattle.ss_logic_means.specs.Means.{Agree, NoneOf, Denotes, Reads}
 use Rattle.ss_logic_means.specs.Scenes.{has_no_default}
 use Rattle.ss_logic_means.proofs.Denoting.{All-append, All-parts}
 use Rattle.ss_logic_means.proofs.Operations.{Gives}

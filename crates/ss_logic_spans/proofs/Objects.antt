@@ -1,9 +1,9 @@
 -- What the objects of two heaps share, and what their entries do.
-use Rattle.std.proofs.Common.{◌≡◌, ◌≢◌, ℕ, zero, suc, ◌+◌, ◌<◌, ℤ, pos, negsuc, List, [], ◌∷◌, ◌++◌, length, map, Bool, true, false, not, ◌&&◌, ◌||◌, eqb, Some, None, refl, sym, ◌∙◌, ap, subst, arith, ⊎_elim, inl, inr, ◌⊎◌}
-use Rattle.std.specs.Prelude.{slice_get, unwrap_or, nat_lt, flat_map, reverse, if◌then◌else◌, ◌==◌, ◌-◌}
+use Rattle.std.proofs.Common.{◌≡◌, ◌≢◌, ℕ, zero, suc, ◌+◌, ◌<◌, ℤ, pos, List, [], ◌∷◌, ◌++◌, length, map, Bool, true, false, eqb, Some, refl, sym, ◌∙◌, ap, arith, ⊎_elim, inl, inr, ◌⊎◌}
+use Rattle.std.specs.Prelude.{slice_get, unwrap_or, flat_map, reverse, if◌then◌else◌, ◌==◌, ◌-◌}
 use Rattle.std.specs.Bool.{beq}
 use Rattle.std.specs.Ordering.{int_eq}
-use Rattle.std.proofs.lemmas.Bool.{false≢true, cases_eq, eq-eqb, ne_eqb, eqb-true, and_parts, and_from, lt-ltb, ltb-true, or_cases}
+use Rattle.std.proofs.lemmas.Bool.{false≢true, cases_eq, eq-eqb, ne_eqb, eqb-true, and_from, lt-ltb}
 use Rattle.ss_core.specs.declared.names.Ty.{Ty}
 use Rattle.ss_core.specs.declared.names.Ty.TheVariants as ty
 use Rattle.ss_core.specs.Tree.{ClassTree}
@@ -12,18 +12,14 @@ use Rattle.ss_store_rules.specs.declared.Value.{Value as ObjectValue}
 use Rattle.ss_store_rules.specs.declared.Value.TheVariants as value
 use Rattle.ss_store_rules.specs.declared.Owner.{Owner}
 use Rattle.ss_store_rules.specs.declared.Owner.TheVariants as owner
-use Rattle.ss_store_rules.specs.Store.{Slot, Object, slot_value, default_value}
+use Rattle.ss_store_rules.specs.Store.{Slot, slot_value, default_value}
 use Rattle.ss_store_rules.specs.Reads as reads
 use Rattle.ss_store_rules.specs.Reads.{same_value, same_owner, is_pair}
 use Rattle.ss_store_rules.specs.Changes.{slots_from, new_fields, field_type, element_type, owned_by}
-use Rattle.ss_store_rules.specs.Good.{has_type}
-use Rattle.ss_logic_stores.specs.declared.Sort.{Sort}
-use Rattle.ss_logic_stores.specs.declared.Sort.TheVariants as sort
-use Rattle.ss_logic_stores.specs.Values.{Thing, null, reference, class_name, group_number, owner_pair, is_group, Cells, Entry, Heap, Value, whole, truth, thing, as_thing, as_whole, as_truth}
+use Rattle.ss_logic_stores.specs.Values.{Thing, reference, class_name, group_number, owner_pair, is_group, Cells, Entry, as_thing, as_whole, as_truth}
 use Rattle.ss_logic_stores.specs.Terms.{sort_of_type, has_field, cell}
 use Rattle.ss_logic_stores.specs.Objects.{content, filled, elements_from, owner_of_thing}
-use Rattle.ss_logic_means.specs.Means.{standing}
-use Rattle.ss_logic_means.proofs.Owners.{pair_back, pair_self}
+use Rattle.ss_logic_means.proofs.Owners.{pair_back}
 
 -- ---- values
 

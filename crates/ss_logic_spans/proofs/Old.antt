@@ -1,5 +1,5 @@
 -- Inside `old` no formula of an expression rests on the store now.
-use Rattle.std.proofs.Common.{◌≡◌, ℕ, ◌+◌, pos, List, [], ◌∷◌, ◌++◌, Bool, true, false, ◌&&◌, map, refl, sym, ◌∙◌, ap}
+use Rattle.std.proofs.Common.{◌≡◌, ℕ, ◌+◌, pos, List, [], ◌∷◌, ◌++◌, true, ◌&&◌, map, refl, ◌∙◌, ap}
 use Rattle.std.specs.Prelude.{flat_map, if◌then◌else◌}
 use Rattle.std.proofs.lemmas.Bool.{false≢true, and_parts}
 use Rattle.ss_core.specs.declared.names.Ty.{Ty}
@@ -14,7 +14,7 @@ use Rattle.ss_logic_stores.specs.Terms as term
 use Rattle.ss_logic_stores.specs.Formulas.{Formula, Forall, neg}
 use Rattle.ss_logic_rules.specs.Shapes.{number, null_term, class_term, equal, sub_atom}
 use Rattle.ss_logic_rules.specs.Shapes as shape
-use Rattle.ss_logic_express.specs.Express.{or_of, Choice, Meant, One, Either, Says, choices, over, over_two, mapped, paired, said, Scene, element_sort, is_of, fits_int, word_said, owners_said, same_truths, operated, as_class, out_of_range, quantified_said, meant, not_null, readable, under, index_fits, operation_parts, word_parts, defined}
+use Rattle.ss_logic_express.specs.Express.{or_of, Meant, One, Either, Says, choices, over, over_two, mapped, paired, said, Scene, element_sort, is_of, fits_int, word_said, owners_said, same_truths, operated, as_class, out_of_range, quantified_said, meant, not_null, readable, under, index_fits, operation_parts, word_parts, defined}
 use Rattle.ss_logic_means.specs.Scenes.{has_no_default}
 
 -- ---- equal arguments

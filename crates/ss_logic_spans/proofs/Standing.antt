@@ -1,13 +1,12 @@
 -- The scene of a frame condition stands for its stores and for the locals of the body at its entry.
-use Rattle.std.proofs.Common.{◌≡◌, ℕ, zero, suc, List, [], ◌∷◌, ◌++◌, length, map, Bool, true, false, ◌&&◌, Some, refl, sym, ◌∙◌, ap, subst, append_assoc}
-use Rattle.std.specs.Prelude.{slice_get, option_to_list, ◌==◌, Option, None, is_some}
+use Rattle.std.proofs.Common.{◌≡◌, ℕ, zero, suc, List, [], ◌∷◌, ◌++◌, length, map, true, Some, refl, sym, ◌∙◌, ap, subst, append_assoc}
+use Rattle.std.specs.Prelude.{slice_get, option_to_list, Option, None, is_some}
 use Rattle.std.proofs.lemmas.Bool.{false≢true}
 use Rattle.ss_core.specs.declared.names.Ty.{Ty}
 use Rattle.ss_core.specs.declared.names.Ty.TheVariants as ty
 use Rattle.ss_core.specs.Tree.{ClassTree, ExprTree, BodyTree}
 use Rattle.ss_store_rules.specs.declared.Value.{Value as ObjectValue}
 use Rattle.ss_store_rules.specs.Store.{Object, default_value}
-use Rattle.ss_store_rules.specs.Good.{IsReady}
 use Rattle.ss_store_rules.specs.States.{AreGoodLocals}
 use Rattle.ss_store_rules.specs.Types.{is_reference, type_of}
 use Rattle.ss_store_rules.specs.Values as run
@@ -19,11 +18,11 @@ use Rattle.ss_machine_typed.proofs.Older.{locals-older}
 use Rattle.ss_machine_typed.proofs.First.{entered_locals}
 use Rattle.ss_logic_stores.specs.declared.Sort.{Sort}
 use Rattle.ss_logic_stores.specs.declared.Sort.TheVariants as sort
-use Rattle.ss_logic_stores.specs.Values.{Heap, Value, Structure, store, sort_of_value}
-use Rattle.ss_logic_stores.specs.Terms.{Term, sort_of_type, have_sorts, value_of}
+use Rattle.ss_logic_stores.specs.Values.{Heap, Value, Structure, sort_of_value}
+use Rattle.ss_logic_stores.specs.Terms.{Term, sort_of_type}
 use Rattle.ss_logic_stores.specs.Objects.{objects_of}
 use Rattle.ss_logic_stores.proofs.Truth.{closed_value, value_sorted}
-use Rattle.ss_logic_express.specs.Express.{Meant, One, choices, Scene, default_of_sort, element_sort, meant_or_null, local_meant, meant, defined}
+use Rattle.ss_logic_express.specs.Express.{Meant, One, choices, Scene, default_of_sort, element_sort, meant_or_null, meant, defined}
 use Rattle.ss_logic_means.specs.Means.{standing, Denotes, Reads}
 use Rattle.ss_logic_means.specs.Scenes.{setting_of, Stands, IsStoreTerm, has_no_default}
 use Rattle.ss_logic_means.specs.Sorts.{HasSort, HaveSort, IsWellExpressed, IsSorted}
@@ -155,10 +154,10 @@ module _ (cs : List ClassTree) (m : Structure) (b : BodyTree) (t : SpanTerms) (v
     pub entry_refers : Gives (IsReferenceOf v.after) Outcome_of
     entry_refers = gives_reference m (setting_of m (SceneOf t.after) v.after v.before Values) v.after refl (local_types b) b.flags.ctor span_setting x is
 
-  sorted_store : (s : Term) (h : Heap) → IsStoreTerm cs m s h → HasSort cs [] sort.Store s
+  pub sorted_store : (s : Term) (h : Heap) → IsStoreTerm cs m s h → HasSort cs [] sort.Store s
   sorted_store s h i = (sym (value_sorted cs m s i.0) ∙ ap sort_of_value i.1, i.0)
 
-  scene_sorted : IsSorted (SceneOf t.before) []
+  pub scene_sorted : IsSorted (SceneOf t.before) []
   scene_sorted = record {
     now = sorted_store t.before v.before sp.before;
     entry = sorted_store t.before v.before sp.before;
