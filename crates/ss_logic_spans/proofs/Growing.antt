@@ -11,18 +11,17 @@ use Rattle.ss_store_rules.specs.Changes.{element_type}
 use Rattle.ss_store_rules.specs.Good.{IsGood}
 use Rattle.ss_store_rules.specs.Admissible.{invariants_hold}
 use Rattle.ss_logic_stores.specs.declared.Sort.TheVariants as sort
-use Rattle.ss_logic_stores.specs.Values.{Thing, null, reference, class_name, group_number, owner_pair, is_group, Entry, Heap, Table, sort_of_value, as_store, is_allocated, Structure}
+use Rattle.ss_logic_stores.specs.Values.{Thing, null, reference, class_name, group_number, owner_pair, is_group, Entry, Heap, Table, as_store, is_allocated, Structure}
 use Rattle.ss_logic_stores.specs.Terms.{Term, have_sorts}
 use Rattle.ss_logic_stores.specs.Objects.{elements_from, element_count, owner_of_thing, object_in, objects_of}
 use Rattle.ss_logic_stores.proofs.Tabled.{there, count}
-use Rattle.ss_logic_stores.proofs.Truth.{value_sorted}
 use Rattle.ss_logic_frames.specs.Means.{IsGrown, store_of}
 use Rattle.ss_logic_means.specs.Scenes.{IsStoreTerm}
-use Rattle.ss_logic_means.specs.Sorts.{HasSort}
 use Rattle.ss_logic_means.proofs.Typed.{good_owners, still_allocated}
 use Rattle.ss_sound_outcomes.specs.Points.{HasGrown}
 use Rattle.ss_logic_spans.proofs.Objects.{owner_steady, same_back, same_owner_self, group_owner}
 use Rattle.ss_logic_spans.proofs.Freeing.{not_true}
+use Rattle.ss_logic_spans.proofs.Standing.{sorted_store}
 use Rattle.ss_logic_spans.proofs.Sorting.{one_more}
 
 element_length : (t : Ty) (x : Entry) (i n : ℕ) → length (elements_from t x i n) ≡ n
@@ -98,8 +97,5 @@ module _ (cs : List ClassTree) (m : Structure) (s r : Term) (h z : Heap) (is_bef
   pub heaps_of_terms : IsGrown h z → IsGrown (store_of cs m s) (store_of cs m r)
   heaps_of_terms g = subst (λ k. IsGrown (store_of cs m s) k) (sym after_is) (subst (λ k. IsGrown k z) (sym before_is) g)
 
-  store_sorted : (u : Term) (k : Heap) → IsStoreTerm cs m u k → HasSort cs [] sort.Store u
-  store_sorted u k i = (sym (value_sorted cs m u i.0) ∙ ap sort_of_value i.1, i.0)
-
   pub two_stores : have_sorts cs (sort.Store ∷ sort.Store ∷ []) (s ∷ r ∷ []) ≡ true
-  two_stores = one_more cs sort.Store (sort.Store ∷ []) s (r ∷ []) (store_sorted s h is_before) (one_more cs sort.Store [] r [] (store_sorted r z is_after) refl)
+  two_stores = one_more cs sort.Store (sort.Store ∷ []) s (r ∷ []) (sorted_store cs m s h is_before) (one_more cs sort.Store [] r [] (sorted_store cs m r z is_after) refl)

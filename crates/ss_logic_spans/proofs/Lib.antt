@@ -7,3 +7,5 @@ pub mod Freeing
 pub mod Keeping
 pub mod Sorting
 pub mod Growing
+pub mod Bodies
+pub mod Scenes

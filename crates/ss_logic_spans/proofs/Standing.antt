@@ -27,6 +27,9 @@ use Rattle.ss_logic_means.specs.Means.{standing, Denotes, Reads}
 use Rattle.ss_logic_means.specs.Scenes.{setting_of, Stands, IsStoreTerm, has_no_default}
 use Rattle.ss_logic_means.specs.Sorts.{HasSort, HaveSort, IsWellExpressed, IsSorted}
 use Rattle.ss_logic_means.proofs.Denoting.{one_denotes}
+use Rattle.ss_logic_means.proofs.Everywhere.{all_locals, plainly_all}
+use Rattle.ss_logic_means.proofs.Standing.{stands_among}
+use Rattle.ss_logic_means.proofs.Scening.{sorted_among}
 use Rattle.ss_logic_means.proofs.Translating.{translated}
 use Rattle.ss_logic_means.proofs.Expressed.{expressed}
 use Rattle.ss_logic_means.proofs.Typed.{gives_reference}
@@ -61,7 +64,10 @@ module _ (cs : List ClassTree) (m : Structure) where
   as_many_types (t ∷ ts) (x ∷ xs) (v ∷ vs) a = ap suc (as_many_types ts xs vs a.1)
   as_many_types ts xs vs a = absurd a
 
-  more_arguments : (ts us : List Ty) (xs ys : List Meant) (vs ws : List ObjectValue) → AreArguments cs m ts xs vs → AreArguments cs m us ys ws → AreArguments cs m (ts ++ us) (xs ++ ys) (vs ++ ws)
+  pub sorted_store : (s : Term) (h : Heap) → IsStoreTerm cs m s h → HasSort cs [] sort.Store s
+  sorted_store s h i = (sym (value_sorted cs m s i.0) ∙ ap sort_of_value i.1, i.0)
+
+  pub more_arguments : (ts us : List Ty) (xs ys : List Meant) (vs ws : List ObjectValue) → AreArguments cs m ts xs vs → AreArguments cs m us ys ws → AreArguments cs m (ts ++ us) (xs ++ ys) (vs ++ ws)
   more_arguments [] us [] ys [] ws a b = b
   more_arguments (t ∷ ts) us (x ∷ xs) ys (v ∷ vs) ws a b = (a.0, more_arguments ts us xs ys vs ws a.1 b)
   more_arguments ts us xs ys vs ws a b = absurd a
@@ -72,13 +78,27 @@ module _ (cs : List ClassTree) (m : Structure) where
   default_argument ty.Null = record { settled = tt; sorted = λ bound. (refl, (refl, refl), tt); denotes = λ e. one_denotes cs m e _ _ refl }
   default_argument (ty.Ref t n) = record { settled = tt; sorted = λ bound. (refl, (refl, refl), tt); denotes = λ e. one_denotes cs m e _ _ refl }
 
-  default_arguments : (ts : List Ty) → AreArguments cs m ts (defaults_meant ts) (map default_value ts)
+  pub default_arguments : (ts : List Ty) → AreArguments cs m ts (defaults_meant ts) (map default_value ts)
   default_arguments [] = tt
   default_arguments (t ∷ ts) = (default_argument t, default_arguments ts)
 
-map_more : (ts us : List Ty) → map default_value (ts ++ us) ≡ map default_value ts ++ map default_value us
+pub map_more : (ts us : List Ty) → map default_value (ts ++ us) ≡ map default_value ts ++ map default_value us
 map_more [] us = refl
 map_more (t ∷ ts) us = ap (λ vs. default_value t ∷ vs) (map_more ts us)
+
+module _ (cs : List ClassTree) (m : Structure) (b : BodyTree) (xs : List Meant) (vs : List ObjectValue) (a : AreArguments cs m (argument_types b) xs vs) where
+  -- the arguments, and the locals at their defaults
+  pub front_arguments : AreArguments cs m (argument_types b ++ types_of b.locals) (xs ++ defaults_meant (types_of b.locals)) (vs ++ map default_value (types_of b.locals))
+  front_arguments = more_arguments cs m (argument_types b) (types_of b.locals) xs (defaults_meant (types_of b.locals)) vs (map default_value (types_of b.locals)) a (default_arguments cs m (types_of b.locals))
+
+  pub entry_arguments : AreArguments cs m (local_types b) (xs ++ defaults_meant (types_of b.locals) ++ no_result b) (locals_at_entry b vs)
+  entry_arguments =
+      let L = types_of b.locals in
+      let R = option_to_list b.result in
+      let apart : (vs ++ map default_value L) ++ map default_value R ≡ locals_at_entry b vs =
+      append_assoc vs (map default_value L) (map default_value R) ∙ ap (λ ys. vs ++ ys) (sym (map_more L R)) in
+      subst (λ ys. AreArguments cs m (local_types b) (xs ++ defaults_meant L ++ no_result b) ys) apart
+      (more_arguments cs m (argument_types b ++ L) R (xs ++ defaults_meant L) (no_result b) (vs ++ map default_value L) (map default_value R) front_arguments (default_arguments cs m R))
 
 module _ (cs : List ClassTree) (m : Structure) (b : BodyTree) (t : SpanTerms) (v : SpanValues) (sp : IsSpan cs m b t v) where
   abbrev pub Locals : List Meant
@@ -91,14 +111,8 @@ module _ (cs : List ClassTree) (m : Structure) (b : BodyTree) (t : SpanTerms) (v
   abbrev pub SceneOf : Term → Scene
   SceneOf now = Inside cs t.before now (local_types b) Locals 0
 
-  pub all_arguments : AreArguments cs m (local_types b) Locals Values
-  all_arguments =
-      let apart : (v.arguments ++ map default_value (types_of b.locals)) ++ map default_value (option_to_list b.result) ≡ Values =
-      append_assoc v.arguments (map default_value (types_of b.locals)) (map default_value (option_to_list b.result)) ∙ ap (λ vs. v.arguments ++ vs) (sym (map_more (types_of b.locals) (option_to_list b.result))) in
-      subst (λ vs. AreArguments cs m (local_types b) Locals vs) apart
-      (more_arguments cs m (argument_types b ++ types_of b.locals) (option_to_list b.result) (t.arguments ++ defaults_meant (types_of b.locals)) (no_result b) (v.arguments ++ map default_value (types_of b.locals)) (map default_value (option_to_list b.result))
-      (more_arguments cs m (argument_types b) (types_of b.locals) t.arguments (defaults_meant (types_of b.locals)) v.arguments (map default_value (types_of b.locals)) sp.arguments (default_arguments cs m (types_of b.locals)))
-      (default_arguments cs m (option_to_list b.result)))
+  all_arguments : AreArguments cs m (local_types b) Locals Values
+  all_arguments = entry_arguments cs m b t.arguments v.arguments sp.arguments
 
   pub scene_stands : Stands m (SceneOf t.after) v.after v.before Values []
   scene_stands = record {
@@ -148,28 +162,25 @@ module _ (cs : List ClassTree) (m : Structure) (b : BodyTree) (t : SpanTerms) (v
     pub entry_reads : Reads cs m [] (defined x (SceneOf t.before)) (meant x (SceneOf t.before)) Outcome_of
     entry_reads =
         let same = old_same cs t.before t.after t.before x (local_types b) Locals 0 none in
-        let read = translated m v.after v.before x (SceneOf t.after) Values b.flags.ctor span_setting [] scene_stands none (some_reference (type_of cs (local_types b) x) is) (λ _. refl) in
+        let read = translated all_locals m v.after v.before x (SceneOf t.after) Values b.flags.ctor span_setting [] (stands_among all_locals m (SceneOf t.after) v.after v.before Values [] scene_stands) (plainly_all x none) (some_reference (type_of cs (local_types b) x) is) (λ _. refl) in
         subst (λ ps. Reads cs m [] ps (meant x (SceneOf t.before)) Outcome_of) same.1 (subst (λ y. Reads cs m [] (defined x (SceneOf t.after)) y Outcome_of) same.0 read)
 
     pub entry_refers : Gives (IsReferenceOf v.after) Outcome_of
     entry_refers = gives_reference m (setting_of m (SceneOf t.after) v.after v.before Values) v.after refl (local_types b) b.flags.ctor span_setting x is
 
-  pub sorted_store : (s : Term) (h : Heap) → IsStoreTerm cs m s h → HasSort cs [] sort.Store s
-  sorted_store s h i = (sym (value_sorted cs m s i.0) ∙ ap sort_of_value i.1, i.0)
-
   pub scene_sorted : IsSorted (SceneOf t.before) []
   scene_sorted = record {
-    now = sorted_store t.before v.before sp.before;
-    entry = sorted_store t.before v.before sp.before;
+    now = sorted_store cs m t.before v.before sp.before;
+    entry = sorted_store cs m t.before v.before sp.before;
     count = as_many_types cs m (local_types b) Locals Values all_arguments;
     locals = λ x a there more. argument_sort cs m (local_types b) Locals Values all_arguments x a there more;
   }
 
   pub stores_sorted : (HasSort cs [] sort.Store t.before) × HasSort cs [] sort.Store t.after
-  stores_sorted = (sorted_store t.before v.before sp.before, sorted_store t.after v.after sp.after)
+  stores_sorted = (sorted_store cs m t.before v.before sp.before, sorted_store cs m t.after v.after sp.after)
 
   -- its formulas are well formed, and it means objects
   pub entry_expressed : (x : ExprTree) → has_no_default x ≡ true → is_reference (type_of cs (local_types b) x) ≡ true → IsWellExpressed cs [] sort.Rest (defined x (SceneOf t.before)) (meant x (SceneOf t.before))
   entry_expressed x none is =
       subst (λ s. IsWellExpressed cs [] s (defined x (SceneOf t.before)) (meant x (SceneOf t.before))) (reference_sort (type_of cs (local_types b) x) is)
-      (expressed x (SceneOf t.before) [] scene_sorted none (some_reference (type_of cs (local_types b) x) is) (λ _. refl))
+      (expressed all_locals x (SceneOf t.before) [] (sorted_among all_locals (SceneOf t.before) [] scene_sorted) (plainly_all x none) (some_reference (type_of cs (local_types b) x) is) (λ _. refl))

@@ -1,0 +1,5 @@
+use Rattle.ss_logic_spans.proofs.Scenes.{contract_means}
+use Rattle.ss_logic_spans.proofs.laws.contracts_are_true_where_they_hold.Goals as goal
+
+pub returns : goal.returns
+returns c = contract_means

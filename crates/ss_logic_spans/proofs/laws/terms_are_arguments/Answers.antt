@@ -1,0 +1,5 @@
+use Rattle.ss_logic_spans.proofs.Scenes.{terms_arguments}
+use Rattle.ss_logic_spans.proofs.laws.terms_are_arguments.Goals as goal
+
+pub returns : goal.returns
+returns c = terms_arguments
