@@ -39,6 +39,7 @@ use Rattle.ss_logic_means.proofs.Owners.{pair_back}
 use Rattle.ss_vcgen_heaps.specs.Contracts.{term_of_one, captured_terms, pairs_of, owned_terms}
 use Rattle.ss_logic_spans.specs.Spans.{IsArgument, AreArguments, AreReferences, SpanTerms, SpanValues, IsSpan, span_of, terms_of}
 use Rattle.ss_logic_spans.proofs.Objects.{IsLow, same_back, same_owner_self, group_owner}
+use Rattle.ss_logic_spans.proofs.Naming.{neither_parts, neither_from}
 use Rattle.ss_logic_spans.proofs.Standing.{SceneOf, Values}
 
 -- ---- tests
@@ -46,14 +47,6 @@ use Rattle.ss_logic_spans.proofs.Standing.{SceneOf, Values}
 pub not_true : (b : Bool) → (b ≡ true → ⊥) → b ≡ false
 not_true true h = absurd (h refl)
 not_true false h = refl
-
-pub neither_parts : (a b : Bool) → (a || b) ≡ false → (a ≡ false) × (b ≡ false)
-neither_parts true b h = absurd (true≢false h)
-neither_parts false b h = (refl, h)
-
-pub neither_from : (a b : Bool) → a ≡ false → b ≡ false → (a || b) ≡ false
-neither_from true b h k = absurd (true≢false h)
-neither_from false b h k = k
 
 group_of : (w : Thing) → is_group w ≡ true → (g : ℕ) × (w ≡ group_number g)
 group_of (group_number g) h = (g, refl)

@@ -47,11 +47,11 @@ any_append p (x ∷ xs) ys = head (p x) (any_append p xs ys)
     head true e = refl
     head false e = e
 
-neither_parts : (a b : Bool) → (a || b) ≡ false → (a ≡ false) × (b ≡ false)
+pub neither_parts : (a b : Bool) → (a || b) ≡ false → (a ≡ false) × (b ≡ false)
 neither_parts true b h = absurd (true≢false h)
 neither_parts false b h = (refl, h)
 
-neither_from : (a b : Bool) → a ≡ false → b ≡ false → (a || b) ≡ false
+pub neither_from : (a b : Bool) → a ≡ false → b ≡ false → (a || b) ≡ false
 neither_from true b h k = absurd (true≢false h)
 neither_from false b h k = k
 
