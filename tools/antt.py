@@ -331,6 +331,9 @@ def parse_clause(ls):
     where = parse_defs(wh) if wh else None
     return name, (pats, e, where)
 
+# constructors that begin with a small letter
+SMALL = {'no_terms', 'term_then', 'no_formulas', 'formula_then'}
+
 def pattern_atom(p):
     t = p.next()
     if t == '(':
@@ -344,7 +347,7 @@ def pattern_atom(p):
     if t in ('true', 'false'): return ('plit', t == 'true')
     if t == 'zero': return ('pnum', 0)
     if t == '_': return ('pany',)
-    if '.' in t or t[0].isupper(): return ('pcon', t.split('.')[-1], [])
+    if '.' in t or t[0].isupper() or t in SMALL: return ('pcon', t.split('.')[-1], [])
     return ('pvar', t)
 
 def pattern(p):
@@ -353,7 +356,7 @@ def pattern(p):
         p.next(); x = ('psuc', pattern_atom(p))
     elif first in ('pos', 'negsuc'):
         x = ('pcon', p.next(), [pattern_atom(p)])
-    elif first not in ('(', '[]') and first is not None and ('.' in first or first[0].isupper()):
+    elif first not in ('(', '[]') and first is not None and ('.' in first or first[0].isupper() or first in SMALL):
         c = p.next().split('.')[-1]; args = []
         while p.peek() not in (')', ',', '∷'): args.append(pattern_atom(p))
         x = ('pcon', c, args)
@@ -373,6 +376,25 @@ def is_signature(ls):
         if d == 0 and t == '=': return False
     return False
 
+def passed(tree, parameters, defined):
+    """the expression, in which the definitions of a module get the module's parameters"""
+    if isinstance(tree, dict):
+        return {n: passed(part, parameters, defined) for n, part in tree.items()}
+    if isinstance(tree, list):
+        return [passed(part, parameters, defined) for part in tree]
+    if not isinstance(tree, tuple):
+        return tree
+    if len(tree) == 2 and tree[0] == 'name' and tree[1] in defined:
+        return ('app', tree, [('name', n) for n in parameters])
+    if len(tree) == 3 and tree[0] == 'app' and isinstance(tree[1], tuple) and tree[1][0] == 'name' and tree[1][1] in defined:
+        return ('app', tree[1], [('name', n) for n in parameters] + passed(tree[2], parameters, defined))
+    return tuple(passed(part, parameters, defined) for part in tree)
+
+def with_parameters(parameters, defs):
+    """what a module defines, for those outside it"""
+    front = [('pvar', n) for n in parameters]
+    return {n: [(front + patterns, passed(e, parameters, defs), passed(where, parameters, defs)) for patterns, e, where in clauses] for n, clauses in defs.items()}
+
 def parse_defs(lines):
     defs = {}
     for ls in items(lines):
@@ -383,7 +405,7 @@ def parse_defs(lines):
         if words[0] == 'mutual':
             defs.update(parse_defs(ls[1:])); continue
         if words[0] == 'module':
-            defs.update(parse_defs(ls[1:])); continue
+            defs.update(with_parameters(re.findall(r'\((\w+) :', first), parse_defs(ls[1:]))); continue
         if words[0] in ('use', 'mod', 'record', 'data'): continue
         head = first[first.index(words[0]):] if words[0] in first else first
         # drop the marks in front

@@ -13,6 +13,9 @@ from antt import Con, Fun, Rec
 KEPT = {('ss_core', 'levels'), ('ss_core', 'all_fields'), ('ss_machine_rules', 'all_named'), ('ss_machine_rules', 'captured_values')}
 MOST_KEPT = 2000
 
+# definitions by proofs, which say that two terms are one
+GIVEN = {('Rattle.ss_logic_stores.specs.Equal', 'same_term'): Fun(2, lambda a, b: a == b, (), 'same_term')}
+
 
 def apply1(f, x):
     if type(f) is Fun and f.arity == len(f.args) + 1:
@@ -238,6 +241,8 @@ class World(antt.World):
         return self.meant_in(module, name)
 
     def meant_in(self, module, name):
+        if (module.path, name) in GIVEN:
+            return 'word', GIVEN[module.path, name]
         if name in module.defs:
             return 'definition', self.definition(module, name)
         if name in module.cons:
