@@ -37,7 +37,7 @@ pub record IsEntered (w : Walk) (before : List Object) (arguments : List Value) 
 pub record IsHere (w : Walk) (before : List Object) (table : Table) (arguments : List Value) (xs : ℕ → Bool) (m : Structure) (k : Position) (p : Point) : Type 0 where
   pub at : IsAt w before table xs m k p
   pub assigned : (x : ℕ) → is_argument w.body x ≡ true → xs x ≡ true
-  pub arguments : (x : ℕ) → is_argument w.body x ≡ true → slice_get p.locals x ≡ slice_get arguments x
+  pub same : (x : ℕ) → is_argument w.body x ≡ true → slice_get p.locals x ≡ slice_get arguments x
 
 module _ (w : Walk) (before : List Object) (table : Table) (arguments : List Value) where
   -- `Q` holds of each point at which the run is at the position k', where k is the position before it.
