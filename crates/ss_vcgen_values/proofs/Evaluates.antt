@@ -1,16 +1,16 @@
 -- Expressions at a position at which the run is: where their obligations are valid, they have values.
-use Rattle.std.proofs.Common.{◌≡◌, ℕ, List, [], ◌∷◌, map, length, Bool, true, ◌&&◌, ◌||◌, Ok, refl, sym, ◌∙◌, ap, subst, ⊎_elim, arith}
-use Rattle.std.specs.Prelude.{Option, Some, None, is_some, slice_get, unwrap_or, if◌then◌else◌}
+use Rattle.std.proofs.Common.{◌≡◌, ℕ, List, [], ◌∷◌, length, Bool, true, ◌||◌, Ok, refl, sym, ◌∙◌, ap, subst, ⊎_elim, arith}
+use Rattle.std.specs.Prelude.{Option, Some, None, is_some, slice_get, unwrap_or}
 use Rattle.std.specs.List.{list_all}
 use Rattle.std.proofs.lemmas.Bool.{false≢true, and_parts, or_cases, leb-true}
 use Rattle.std.proofs.lemmas.Option.{slice_get_past}
 use Rattle.ss_core.specs.declared.names.Ty.{Ty}
-use Rattle.ss_core.specs.Tree.{ClassTree, ExprTree, BodyTree}
+use Rattle.ss_core.specs.Tree.{ClassTree, ExprTree}
 use Rattle.ss_store_rules.specs.declared.Value.{Value as ObjectValue}
 use Rattle.ss_store_rules.specs.declared.Value.TheVariants as value
 use Rattle.ss_store_rules.specs.Numbers.{Outcome}
 use Rattle.ss_store_rules.specs.Store.{Object}
-use Rattle.ss_store_rules.specs.Good.{has_type, IsGood}
+use Rattle.ss_store_rules.specs.Good.{IsGood}
 use Rattle.ss_store_rules.specs.Admissible.{invariants_hold}
 use Rattle.ss_store_rules.specs.Assigned.{reads_assigned}
 use Rattle.ss_store_rules.specs.Formed.{IsFormed}
@@ -23,31 +23,31 @@ use Rattle.ss_machine_typed.specs.Settings.{IsGoodSetting}
 use Rattle.ss_machine_typed.proofs.Sound.{value_sound}
 use Rattle.ss_machine_good.specs.Known.{IsTrueOf, AreAssigned, WasReady}
 use Rattle.ss_machine_good.proofs.Steps.{code_typed}
-use Rattle.ss_logic_stores.specs.Values.{Heap, Table, Value, sort_of_value, Structure}
-use Rattle.ss_logic_stores.specs.Terms.{sort_of_type}
-use Rattle.ss_logic_stores.specs.Formulas.{Formula, True, Hold, AllTrue, formulas_from}
+use Rattle.ss_logic_stores.specs.Values.{Heap, Table, Structure}
+use Rattle.ss_logic_stores.specs.Formulas.{Formula, Hold, AllTrue, formulas_from}
 use Rattle.ss_logic_stores.specs.Objects.{objects_of}
-use Rattle.ss_logic_express.specs.Express.{Meant, Scene, meant, choices, element_sort, holds_formula}
+use Rattle.ss_logic_express.specs.Express.{meant, choices, element_sort}
 use Rattle.ss_logic_means.specs.Means.{standing, Denotes, Means}
-use Rattle.ss_logic_means.specs.Scenes.{setting_of, has_no_default}
+use Rattle.ss_logic_means.specs.Scenes.{setting_of}
 use Rattle.ss_logic_means.specs.Sorts.{HasSort, HaveSort, IsSortedAmong}
 use Rattle.ss_logic_means.proofs.Contracts.{typed_without}
 use Rattle.ss_logic_means.proofs.Everywhere.{plainly_from}
 use Rattle.ss_logic_means.proofs.Expressed.{expressed}
-use Rattle.ss_vcgen_heaps.specs.Parts.{Part, parts}
-use Rattle.ss_vcgen_heaps.specs.Positions.{Position, Walk, site, scene_at, meant_at, evaluate, evaluate_all, check_parts, holds_at}
-use Rattle.ss_vcgen_heaps.specs.Obligations.{AreValid, local_sort}
-use Rattle.ss_vcgen_parts.specs.Reading.{formulas_of, HasTrueParts, IsRead}
+use Rattle.ss_vcgen_heaps.specs.Parts.{parts}
+use Rattle.ss_vcgen_heaps.specs.Positions.{Position, Walk, site, scene_at, meant_at, evaluate, evaluate_all, holds_at}
+use Rattle.ss_vcgen_heaps.specs.Obligations.{AreValid}
+use Rattle.ss_vcgen_parts.specs.Reading.{formulas_of, IsRead}
 use Rattle.ss_vcgen_parts.specs.Placed.{HaveValues, HaveSorts}
 use Rattle.ss_vcgen_parts.proofs.Placed.{position_stands, position_sorted}
 use Rattle.ss_vcgen_parts.proofs.Read.{read_value, condition_means}
-use Rattle.ss_sound_outcomes.specs.Points.{Activation, Point, scene, IsSound}
-use Rattle.ss_vcgen_positions.specs.At.{IsAlike, Stays, HoldIn, activation, Agrees, IsAt, Rises}
-use Rattle.ss_vcgen_positions.proofs.Alike.{rises_self, alike_self, alike_twice, alike_lower}
+use Rattle.ss_sound_outcomes.specs.Points.{Activation, Point, scene}
+use Rattle.ss_vcgen_positions.specs.At.{IsAlike, Stays, activation, IsAt, Rises}
+use Rattle.ss_vcgen_positions.proofs.Alike.{rises_self, rises_twice, alike_self, alike_twice, alike_lower}
+use Rattle.ss_vcgen_positions.proofs.Arguments.{scene_like}
 use Rattle.ss_vcgen_positions.proofs.Keeps.{checked_parts}
-use Rattle.ss_vcgen_positions.proofs.Leads.{leads_evaluate_all}
+use Rattle.ss_vcgen_positions.proofs.Leads.{leads_evaluate, leads_evaluate_all}
 use Rattle.ss_vcgen_positions.proofs.Joins.{typed_sort}
-use Rattle.ss_vcgen_positions.proofs.Same.{IsLike, IsSame, same_evaluate, at_like}
+use Rattle.ss_vcgen_positions.proofs.Same.{IsLike, like_twice, same_evaluate, same_evaluate_all, at_like}
 use Rattle.ss_vcgen_values.specs.Values.{HasMeaning, HaveMeanings, IsEvaluated, AreEvaluated}
 
 -- ---- small things
@@ -64,9 +64,6 @@ same_value_of : (o : Outcome) (u v : ObjectValue) → o ≡ Ok u → o ≡ Ok v 
 same_value_of o u v e f = cc
 
 -- ---- the same scene
-
-pub scene_like : (w : Walk) (k k' : Position) → IsLike k k' → scene_at w k' ≡ scene_at w k
-scene_like w k k' l = let e = l.locals in let f = l.store in cc
 
 -- a meaning goes on at a position of the same scene
 pub meaning_on : (w : Walk) (m m' : Structure) (k k' : Position) (e : ExprTree) (v : ObjectValue) → IsLike k k' → Rises k.next k'.next → IsAlike k.next m m' → HasMeaning w m k e v → HasMeaning w m' k' e v
@@ -195,7 +192,7 @@ module _ (w : Walk) (before : List Object) (table : Table) (formed : IsFormed w.
   -- expressions, one after the other
   pub evaluated_all : (es : List ExprTree) (k : Position) (p : Point) → IsAt w before table xs m k p → list_all (reads_assigned w.body xs) es ≡ true → list_all (λ e. is_some (code_type cs w.body e)) es ≡ true → AreValid cs (evaluate_all w es k).listed →
       AreEvaluated w before table xs m k p es
-  evaluated_all [] k p is reads typed valid = record { values = []; are = refl; at = is; mean = tt }
+  evaluated_all [] k p is reads typed valid = record { values = []; are = refl; at = is; mean = tt; still = tt }
   evaluated_all (e ∷ es) k p is reads typed valid =
       let r = and_parts (reads_assigned w.body xs e) (list_all (reads_assigned w.body xs) es) reads in
       let t = and_parts (is_some (code_type cs w.body e)) (list_all (λ e. is_some (code_type cs w.body e)) es) typed in
@@ -203,12 +200,15 @@ module _ (w : Walk) (before : List Object) (table : Table) (formed : IsFormed w.
       let first = evaluated k p is e r.0 t.0 ((leads_evaluate_all w es k').listed valid) in
       let rest = evaluated_all es k' p first.at r.1 t.1 valid in
       let same = same_evaluate w e k in
+      let over = same_evaluate_all w es k' in
+      let end = evaluate_all w es k' in
       let back : IsLike k' k = record { locals = sym same.like.locals; store = sym same.like.store; guard = sym same.like.guard; known = sym same.like.known } in
       record {
         values = first.value ∷ rest.values;
         are = ap (λ o. run.and_then o (λ v. run.and_then (values_of es (scene a p)) (λ vs. Ok (v ∷ vs)))) first.is ∙ ap (λ o. run.and_then o (λ vs. Ok (first.value ∷ vs))) rest.are;
         at = rest.at;
         mean = (first.means, meanings_on w m m k' k es rest.values back (subst (λ n. Rises n k.next) (sym same.next) (rises_self k.next)) (alike_self k'.next m) rest.mean);
+        still = (meaning_on w m m k end e first.value (like_twice k k' end same.like over.like) (rises_twice k.next k'.next end.next (leads_evaluate w e k).rises (leads_evaluate_all w es k').rises) (alike_self k.next m) first.means, rest.still);
       }
 
   -- a condition of code is true exactly where it holds

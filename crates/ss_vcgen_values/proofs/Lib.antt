@@ -1,1 +1,5 @@
 pub mod Evaluates
+pub mod Settles
+pub mod Puts
+pub mod Behind
+pub mod Plain

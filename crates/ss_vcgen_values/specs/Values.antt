@@ -1,5 +1,5 @@
--- What the expressions of code have where their parts were checked: values, meanings of them, and terms.
-use Rattle.std.specs.Prelude.{◌≡◌, ℕ, List, [], ◌∷◌, map, Bool, Ok}
+-- What the expressions of code have where their parts were checked: values, and meanings that have these.
+use Rattle.std.specs.Prelude.{◌≡◌, ℕ, List, [], ◌∷◌, Bool, Ok}
 use Rattle.ss_core.specs.Tree.{ExprTree}
 use Rattle.ss_store_rules.specs.declared.Value.{Value as ObjectValue}
 use Rattle.ss_store_rules.specs.Store.{Object}
@@ -7,14 +7,12 @@ use Rattle.ss_store_rules.specs.Types.{code_type}
 use Rattle.ss_store_rules.specs.Values as run
 use Rattle.ss_machine_rules.specs.Steps.{values_of}
 use Rattle.ss_logic_stores.specs.Values.{Table, sort_of_value, Structure}
-use Rattle.ss_logic_stores.specs.Terms.{Term}
-use Rattle.ss_logic_express.specs.Express.{One, choices, element_sort}
+use Rattle.ss_logic_express.specs.Express.{choices, element_sort}
 use Rattle.ss_logic_means.specs.Means.{standing, Denotes}
-use Rattle.ss_logic_means.specs.Sorts.{HasSort, HaveSort}
-use Rattle.ss_vcgen_heaps.specs.Positions.{Counters, Position, Walk, meant_at, evaluate, evaluate_all}
-use Rattle.ss_vcgen_heaps.specs.Obligations.{settle_all, arguments_settled}
+use Rattle.ss_logic_means.specs.Sorts.{HaveSort}
+use Rattle.ss_vcgen_heaps.specs.Positions.{Position, Walk, meant_at, evaluate, evaluate_all}
 use Rattle.ss_sound_outcomes.specs.Points.{Point, scene}
-use Rattle.ss_vcgen_positions.specs.At.{IsAlike, Stays, HasValue, activation, IsAt}
+use Rattle.ss_vcgen_positions.specs.At.{Stays, activation, IsAt}
 
 -- What the expression means at the position has the value, which is of the sort of the expression's type.
 pub record HasMeaning (w : Walk) (m : Structure) (k : Position) (e : ExprTree) (v : ObjectValue) : Type 0 where
@@ -42,24 +40,5 @@ pub record AreEvaluated (w : Walk) (before : List Object) (table : Table) (xs : 
   pub are : values_of es (scene (activation w before table) p) ≡ Ok values
   pub at : IsAt w before table xs m (evaluate_all w es k) p
   pub mean : HaveMeanings w m k es values
-
--- ---- terms
-
--- the term has the value in each structure that is alike, and is of the sort
-pub record IsTerm (w : Walk) (m : Structure) (next : Counters) (e : ExprTree) (t : Term) (v : ObjectValue) : Type 0 where
-  pub is : Stays next m (HasValue w.program.classes t (standing v))
-  pub sorted : HasSort w.program.classes [] (element_sort (code_type w.program.classes w.body e)) t
-
-abbrev pub AreTerms : Walk → Structure → Counters → List ExprTree → List Term → List ObjectValue → Type 0
-AreTerms w m next [] [] [] = Unit {0}
-AreTerms w m next (e ∷ es) (t ∷ ts) (v ∷ vs) = IsTerm w m next e t v × AreTerms w m next es ts vs
-AreTerms w m next es ts vs = ⊥
-
--- In some structure that is alike each of these expressions has a term with its value.
-pub record AreSettled (w : Walk) (before : List Object) (table : Table) (xs : ℕ → Bool) (m : Structure) (k : Position) (p : Point) (es : List ExprTree) (vs : List ObjectValue) : Type 0 where
-  pub m' : Structure
-  pub alike : IsAlike k.next m m'
-  pub at : IsAt w before table xs m' (settle_all w es k) p
-  pub terms : List Term
-  pub settled : arguments_settled w es k ≡ map One terms
-  pub are : AreTerms w m' (settle_all w es k).next es terms vs
+  -- and there still
+  pub still : HaveMeanings w m (evaluate_all w es k) es values
