@@ -3,3 +3,5 @@ pub mod Settles
 pub mod Puts
 pub mod Behind
 pub mod Plain
+pub mod Arguments
+pub mod Returns

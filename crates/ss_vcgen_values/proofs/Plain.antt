@@ -51,11 +51,11 @@ use Rattle.ss_vcgen_values.proofs.Behind.{here_behind}
 pub has_value : (o : Outcome) (v : ObjectValue) (P : ObjectValue → Type 0) → o ≡ Ok v → P v → Has o P
 has_value o v P is h = subst (λ r. Has r P) (sym is) h
 
-fitting_is_some : (cs : List ClassTree) (o : Option Ty) (t : Ty) → has_fitting cs o t ≡ true → is_some o ≡ true
+pub fitting_is_some : (cs : List ClassTree) (o : Option Ty) (t : Ty) → has_fitting cs o t ≡ true → is_some o ≡ true
 fitting_is_some cs None t h = absurd (false≢true h)
 fitting_is_some cs (Some a) t h = refl
 
-printed_is_some : (o : Option Ty) → (is_int o || is_bool o) ≡ true → is_some o ≡ true
+pub printed_is_some : (o : Option Ty) → (is_int o || is_bool o) ≡ true → is_some o ≡ true
 printed_is_some None h = absurd (false≢true h)
 printed_is_some (Some t) h = refl
 
