@@ -297,9 +297,14 @@ renewed w s k =
 abbrev pub is_asked_ready : Walk → ℕ → Bool
 is_asked_ready w x = not (w.body.flags.ctor && x == 0)
 
--- each local from the number x on that had a value before the loop has one of its type
+-- The value now is of the type. Where null isn't of the type, it isn't null if the value before wasn't.
+abbrev pub stays_of_type : Bool → Term → Ty → Term → Term → List Formula
+stays_of_type asks_ready s (ty.Ref t non_null) before now = is_of_type asks_ready s (ty.Ref t false) now ++ (if non_null then or_of (equal before null_term ∷ differ now null_term ∷ []) ∷ [] else [])
+stays_of_type asks_ready s t before now = is_of_type asks_ready s t now
+
+-- each local from the number x on that had a term before the loop has a value of its type
 abbrev pub types_from : Walk → Term → ℕ → List Ty → List (Option Term) → List (Option Term) → List Formula
-types_from w s x (t ∷ ts) (Some before ∷ olds) (Some now ∷ news) = is_of_type (is_asked_ready w x) s t now ++ types_from w s (x + 1) ts olds news
+types_from w s x (t ∷ ts) (Some before ∷ olds) (Some now ∷ news) = stays_of_type (is_asked_ready w x) s t before now ++ types_from w s (x + 1) ts olds news
 types_from w s x (t ∷ ts) (old ∷ olds) (new ∷ news) = types_from w s (x + 1) ts olds news
 types_from w s x ts olds news = []
 
