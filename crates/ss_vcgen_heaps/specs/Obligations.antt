@@ -308,6 +308,12 @@ types_from w s x (t ∷ ts) (Some before ∷ olds) (Some now ∷ news) = stays_o
 types_from w s x (t ∷ ts) (old ∷ olds) (new ∷ news) = types_from w s (x + 1) ts olds news
 types_from w s x ts olds news = []
 
+-- each of the arguments from the number x on has a value of its type
+abbrev pub argument_types_from : Walk → Term → ℕ → List Ty → List (Option Term) → List Formula
+argument_types_from w s x (t ∷ ts) (Some u ∷ us) = is_of_type (is_asked_ready w x) s t u ++ argument_types_from w s (x + 1) ts us
+argument_types_from w s x (t ∷ ts) (None ∷ us) = argument_types_from w s (x + 1) ts us
+argument_types_from w s x ts us = []
+
 -- at the head, each time: k is where the loop begins
 abbrev pub at_head : Walk → Loop → Position → Position
 at_head w l k =
@@ -414,7 +420,7 @@ abbrev pub at_entry : Walk → Counters → Position
 at_entry w next =
     let entered = enter_arguments (argument_types w.body) (first_position w.body next) in
     let k = record entered { locals = entered.locals ++ map (λ l. None) w.body.locals ++ (if is_some w.body.result then None ∷ [] else []) } in
-    assume_all (good k.store ∷ types_from w k.store 0 (argument_types w.body) k.locals k.locals ++ conditions w.body.entry (contract_scene (classes_of w) w.body k.store k.store (arguments_at w k) (no_result w.body))) k
+    assume_all (good k.store ∷ argument_types_from w k.store 0 (argument_types w.body) k.locals ++ conditions w.body.entry (contract_scene (classes_of w) w.body k.store k.store (arguments_at w k) (no_result w.body))) k
 
 -- behind the code of a body
 abbrev pub at_end : Walk → Counters → Position
