@@ -117,14 +117,15 @@ module _ (w : Walk) (before : List Object) (table : Table) (s : StmtTree) (q : P
         is = subst (λ i. IsRenewed k''.next z.m' i k'') (omega arith) z.is;
       }
 
-  pub record HeadAgrees (m : Structure) (k : Position) : Type 0 where
+  pub record HeadAgrees (m : Structure) (k : Position) (h : Heap) : Type 0 where
     pub m' : Structure
     pub alike : IsAlike k.next m m'
     pub agrees : Agrees w before table m' (renewed w s k) q
+    pub heap : agrees.store_is.heap ≡ h
 
   -- The locals that the statement doesn't assign are as they were, and the store is that of this heap.
   pub renewed_agrees : (m : Structure) (k : Position) (p : Point) (h : Heap) → IsNumbered h → IsGoodStore w.program.classes table h → objects_of w.program.classes table h ≡ q.store →
-      ((x : ℕ) → assigns s x ≡ false → local_value (scene (activation w before table) q) x ≡ local_value (scene (activation w before table) p) x) → Agrees w before table m k p → HeadAgrees m k
+      ((x : ℕ) → assigns s x ≡ false → local_value (scene (activation w before table) q) x ≡ local_value (scene (activation w before table) p) x) → Agrees w before table m k p → HeadAgrees m k h
   renewed_agrees m k p h numbered good objects same g =
       let cs = w.program.classes in
       let ts = local_types w.body in
@@ -154,6 +155,7 @@ module _ (w : Walk) (before : List Object) (table : Table) (s : StmtTree) (q : P
           guard = stays_on (IsOn k'.guard) k'.next n' a.m' z.m' rises z.alike a.is.guard;
           premises = stays_on (HoldIn cs k'.premises) k'.next n' a.m' z.m' rises z.alike a.is.premises;
         };
+        heap = refl;
       }
     where
       unassigned : (y : ℕ) (t : Term) → assigns s y ≡ false → IsLocal w before table k.next m p y t → IsLocal w before table k.next m q y t
