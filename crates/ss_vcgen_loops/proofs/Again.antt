@@ -1,19 +1,18 @@
 -- What stays so from where a loop begins to where a turn begins.
 use Rattle.std.proofs.Common.{◌≡◌, ℕ, zero, suc, ◌<◌, List, [], ◌∷◌, length, Bool, true, false, not, ◌&&◌, refl, sym, ◌∙◌, ap, subst, ⊎_elim, arith}
-use Rattle.std.specs.Prelude.{Option, Some, None, option_map, unwrap_or, slice_get, nat_lt, nat_le, if◌then◌else◌}
+use Rattle.std.specs.Prelude.{Option, Some, None, option_map, unwrap_or, slice_get, nat_le, if◌then◌else◌}
 use Rattle.std.proofs.lemmas.Bool.{false≢true, true≢false, and_parts, and_from, cases_Bool, ltb-true, leb-true, eqb-true}
 use Rattle.ss_core.specs.declared.names.Ty.{Ty}
 use Rattle.ss_core.specs.declared.names.Ty.TheVariants as ty
-use Rattle.ss_core.specs.Tree.{ClassTree, StmtTree, AssignStmt, WriteStmt, WriteElementStmt, NewStmt, NewArrayStmt, CallStmt, ReadyStmt, IfStmt, LoopStmt, UnpackStmt, PackStmt, AssertStmt, AssumeStmt, PrintStmt, PrintTextStmt, ReturnStmt, CodeTree, NoCode, Then, BodyTree, CoreTree}
+use Rattle.ss_core.specs.Tree.{ClassTree, StmtTree, AssignStmt, NewStmt, NewArrayStmt, CallStmt, IfStmt, LoopStmt, CodeTree, NoCode, Then, BodyTree}
 use Rattle.ss_store_rules.specs.declared.Value.{Value}
 use Rattle.ss_store_rules.specs.declared.Value.TheVariants as value
-use Rattle.ss_store_rules.specs.Store.{Object, field_value}
-use Rattle.ss_store_rules.specs.Changes.{field_type}
-use Rattle.ss_store_rules.specs.Good.{has_type, is_of_class, is_non_null}
+use Rattle.ss_store_rules.specs.Store.{Object}
+use Rattle.ss_store_rules.specs.Good.{has_type, is_of_class}
 use Rattle.ss_store_rules.specs.Locals.{local_types, argument_count, is_argument, is_variable, each, each_inside, is_kept_in, is_kept_among, is_target, assigns, targets_only}
 use Rattle.ss_store_rules.specs.NonNull.{Facts, no_facts, Known, known_head}
 use Rattle.ss_store_rules.specs.Values.{Setting, local_value}
-use Rattle.ss_machine_good.specs.Known.{IsNotNull, AreNotNull, IsSide, HasItsField, IsTrueOf}
+use Rattle.ss_machine_good.specs.Known.{AreNotNull, IsSide, IsTrueOf}
 use Rattle.ss_machine_good_frames.proofs.Behind.{later_given}
 use Rattle.ss_sound_outcomes.specs.Points.{Activation, Point, scene, entry_size, IsSound}
 use Rattle.ss_sound_outcomes.specs.Outcomes.{IsTurn}
@@ -60,7 +59,7 @@ argument_unassigned b s x h is = ap not (none_inside (is_variable b) x (not_vari
 
 -- ---- what is known of null
 
-not_true : (b : Bool) → not b ≡ true → b ≡ false
+pub not_true : (b : Bool) → not b ≡ true → b ≡ false
 not_true true h = absurd (false≢true h)
 not_true false h = refl
 

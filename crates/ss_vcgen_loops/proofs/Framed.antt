@@ -1,6 +1,6 @@
 -- The frame condition at a position at which the run is: its formula is true exactly where the stores keep to it.
-use Rattle.std.proofs.Common.{◌≡◌, ℕ, zero, suc, ◌<◌, ◌+◌, List, [], ◌∷◌, ◌++◌, map, length, take, Bool, true, false, ◌&&◌, refl, sym, ◌∙◌, ap, subst, length-append, arith}
-use Rattle.std.specs.Prelude.{Option, Some, None, unwrap_or, slice_get, slice_set, nat_lt, option_to_list}
+use Rattle.std.proofs.Common.{◌≡◌, ℕ, zero, suc, ◌<◌, List, [], ◌∷◌, ◌++◌, map, length, take, Bool, true, refl, sym, ◌∙◌, ap, subst, length-append, arith}
+use Rattle.std.specs.Prelude.{Option, Some, None, unwrap_or, slice_get, slice_set, option_to_list}
 use Rattle.std.specs.List.{list_all}
 use Rattle.std.proofs.lemmas.Bool.{false≢true, and_parts, lt-ltb}
 use Rattle.ss_core.specs.declared.names.Ty.{Ty}
@@ -26,7 +26,7 @@ use Rattle.ss_logic_stores.specs.Values.{Heap, Table, Structure}
 use Rattle.ss_logic_stores.specs.Terms.{Term, sort_of_type, value_of}
 use Rattle.ss_logic_stores.specs.Formulas.{True}
 use Rattle.ss_logic_stores.specs.Objects.{objects_of}
-use Rattle.ss_logic_express.specs.Express.{Meant, One, element_sort}
+use Rattle.ss_logic_express.specs.Express.{One, element_sort}
 use Rattle.ss_logic_frames.specs.Frames.{grown}
 use Rattle.ss_logic_frames.proofs.Kept.{kept_from, kept_to, grown_to}
 use Rattle.ss_logic_means.specs.Means.{standing}
@@ -42,11 +42,10 @@ use Rattle.ss_logic_spans.proofs.Keeping.{objects_kept, heaps_kept}
 use Rattle.ss_logic_spans.proofs.Growing.{heaps_grown, heaps_of_terms, two_stores}
 use Rattle.ss_vcgen_heaps.specs.Positions.{Position, Walk, meant_of, term_or_null, local_term}
 use Rattle.ss_vcgen_heaps.specs.Obligations.{local_sort, arguments_at, frame_formula, exposed_terms}
-use Rattle.ss_sound_contracts.specs.Served.{HasArguments}
 use Rattle.ss_sound_contracts.proofs.Locals.{get_left}
 use Rattle.ss_sound_contracts.proofs.Spans.{frames_read}
 use Rattle.ss_sound_outcomes.specs.Points.{Activation, Point, frame_at, scene, HasGrown}
-use Rattle.ss_vcgen_positions.specs.At.{IsAlike, activation, IsLocal}
+use Rattle.ss_vcgen_positions.specs.At.{IsAlike, activation}
 use Rattle.ss_vcgen_positions.proofs.Joins.{get_below}
 use Rattle.ss_vcgen_values.specs.Goes.{IsEntered, IsHere}
 use Rattle.ss_vcgen_loops.proofs.Levels.{AllHeld}

@@ -1,47 +1,44 @@
 -- At the head of a loop: what is checked there is so, and where a turn begins what is assumed there is true.
-use Rattle.std.proofs.Common.{◌≡◌, ℕ, ◌+◌, List, [], ◌∷◌, ◌++◌, map, length, Bool, true, false, not, ◌&&◌, refl, sym, ◌∙◌, ap, subst, arith}
-use Rattle.std.specs.Prelude.{Option, Some, None, ◌==◌, unwrap_or, slice_get, if◌then◌else◌, nat_lt}
+use Rattle.std.proofs.Common.{◌≡◌, ℕ, ◌+◌, List, [], ◌∷◌, ◌++◌, map, length, Bool, true, false, ◌&&◌, sym, ◌∙◌, ap, subst, arith}
+use Rattle.std.specs.Prelude.{Some, ◌==◌, unwrap_or, slice_get, if◌then◌else◌, nat_lt}
 use Rattle.std.specs.List.{list_all}
-use Rattle.std.proofs.lemmas.Bool.{false≢true, true≢false, and_parts, lt-ltb}
+use Rattle.std.proofs.lemmas.Bool.{true≢false, and_parts, lt-ltb}
 use Rattle.ss_core.specs.declared.names.Kind.TheVariants as kind
 use Rattle.ss_core.specs.declared.names.Ty.{Ty}
 use Rattle.ss_core.specs.declared.names.Ty.TheVariants as ty
-use Rattle.ss_core.specs.Tree.{ClassTree, ExprTree, ExposedTree, StmtTree, BodyTree}
+use Rattle.ss_core.specs.Tree.{ClassTree, ExprTree, BodyTree}
 use Rattle.ss_store_rules.specs.declared.Value.{Value as ObjectValue}
 use Rattle.ss_store_rules.specs.declared.Value.TheVariants as value
 use Rattle.ss_store_rules.specs.Store.{Object}
-use Rattle.ss_store_rules.specs.Good.{has_type, is_non_null, IsReady}
+use Rattle.ss_store_rules.specs.Good.{has_type, IsReady}
 use Rattle.ss_store_rules.specs.Assigned.{reads_assigned}
-use Rattle.ss_store_rules.specs.Locals.{types_of, this_types, argument_types, local_types, argument_count, is_argument, is_variable, each_inside, assigns, targets_only}
-use Rattle.ss_store_rules.specs.NonNull.{Known, known_head, is_non_null_type}
+use Rattle.ss_store_rules.specs.Locals.{types_of, local_types, is_argument, is_variable, each_inside, assigns, targets_only}
+use Rattle.ss_store_rules.specs.NonNull.{known_head, is_non_null_type}
 use Rattle.ss_store_rules.specs.Types.{is_condition, in_assert}
 use Rattle.ss_store_rules.specs.Values.{local_value}
 use Rattle.ss_machine_rules.specs.Steps.{held_by, are_exposed}
 use Rattle.ss_machine_typed.specs.Older.{IsOlder}
-use Rattle.ss_machine_good.specs.Known.{IsNotNull, IsTrueOf}
-use Rattle.ss_logic_stores.specs.Values.{Heap, Table, store, as_store, Structure}
-use Rattle.ss_logic_stores.specs.Terms.{Term, value_of}
-use Rattle.ss_logic_stores.specs.Formulas.{Formula, True, Hold}
+use Rattle.ss_logic_stores.specs.Values.{Heap, Table, as_store, Structure}
+use Rattle.ss_logic_stores.specs.Terms.{Term}
+use Rattle.ss_logic_stores.specs.Formulas.{Formula, Hold}
 use Rattle.ss_logic_stores.specs.Objects.{objects_of, IsGoodStore}
-use Rattle.ss_logic_express.specs.Express.{holds_formula}
 use Rattle.ss_logic_frames.specs.Frames.{grown}
 use Rattle.ss_logic_means.specs.Means.{standing}
 use Rattle.ss_logic_tables.specs.Tabled.{IsStoreOf, tabled}
 use Rattle.ss_logic_tables.specs.Elsewhere.{SameElsewhere}
 use Rattle.ss_logic_tables.proofs.Tabling.{list_has_its_heap, heap_is_as_before}
 use Rattle.ss_logic_spans.proofs.Bodies.{formed_typed}
-use Rattle.ss_vcgen_heaps.specs.Positions.{Position, Walk, good, check, check_all, scene_at, holds_at, assume_all}
-use Rattle.ss_vcgen_heaps.specs.Contracts.{conditions}
-use Rattle.ss_vcgen_heaps.specs.Obligations.{Loop, exposed_terms, frame_at_head, levels_at_head, check_head, is_asked_ready, stays_of_type, types_from, renewed, at_head, AreValid}
+use Rattle.ss_vcgen_heaps.specs.Positions.{Position, Walk, good, check, check_all, scene_at, holds_at}
+use Rattle.ss_vcgen_heaps.specs.Obligations.{Loop, exposed_terms, frame_at_head, levels_at_head, is_asked_ready, stays_of_type, types_from, renewed, at_head, AreValid}
 use Rattle.ss_sound_outcomes.specs.Points.{Activation, Point, frame_at, scene, IsSound}
 use Rattle.ss_sound_outcomes.specs.Outcomes.{HoldsAtHead, IsTurn, head_of}
-use Rattle.ss_vcgen_positions.specs.At.{IsAlike, Stays, IsOn, HoldIn, IsTrueIn, activation, Agrees, HaveTerms, IsAt}
+use Rattle.ss_vcgen_positions.specs.At.{IsAlike, Stays, HoldIn, activation, Agrees, HaveTerms, IsAt}
 use Rattle.ss_vcgen_positions.proofs.Alike.{alike_self, alike_twice, alike_lower}
 use Rattle.ss_vcgen_positions.proofs.Guards.{hold_more}
 use Rattle.ss_vcgen_positions.proofs.Joins.{get_below}
 use Rattle.ss_vcgen_positions.proofs.Keeps.{AllMean, conditions_true, conditions_checked, checked, assumed_all}
 use Rattle.ss_vcgen_positions.proofs.Leads.{leads_check}
-use Rattle.ss_vcgen_positions.proofs.Paths.{IsReachable, placed_head}
+use Rattle.ss_vcgen_positions.proofs.Paths.{placed_head}
 use Rattle.ss_vcgen_positions.proofs.Renewed.{HeadAgrees, renewed_agrees}
 use Rattle.ss_vcgen_positions.proofs.Same.{same_assume_all, at_like}
 use Rattle.ss_vcgen_positions.proofs.Statements.{leads_renewed}
@@ -49,15 +46,11 @@ use Rattle.ss_vcgen_values.specs.Goes.{IsEntered, IsHere}
 use Rattle.ss_vcgen_values.proofs.Evaluates.{condition_at}
 use Rattle.ss_vcgen_loops.specs.Heads.{IsAsked}
 use Rattle.ss_vcgen_loops.proofs.Known.{on_reachable}
-use Rattle.ss_vcgen_loops.proofs.Again.{argument_unassigned, get_there, known_again}
+use Rattle.ss_vcgen_loops.proofs.Again.{not_true, argument_unassigned, get_there, known_again}
 use Rattle.ss_vcgen_loops.proofs.Levels.{levels_mean}
 use Rattle.ss_vcgen_loops.proofs.Framed.{now_is, all_held, all_references, frame_kept, frame_true, growth_true}
 use Rattle.ss_vcgen_loops.proofs.Typed.{stays_true, types_true}
 use Rattle.ss_vcgen_loops.proofs.Loops.{HeadChecks, HeadTaken, HeadsAreTaken}
-
-not_true : (b : Bool) → not b ≡ true → b ≡ false
-not_true true h = absurd (false≢true h)
-not_true false h = refl
 
 -- the `this` of a constructor is an argument
 this_argument : (b : BodyTree) → b.flags.is_static ≡ false → is_argument b 0 ≡ true
@@ -98,8 +91,7 @@ module _ (w : Walk) (before : List Object) (table : Table) (arguments : List Obj
       let self = alike_self k.next m in
       let now = here.at.agrees.store_is.heap in
       let refs = all_references w before table arguments entered xs m k p here m self l.exposes asked.operands asked.exposed in
-      let held = all_held w before table arguments entered xs m k p here m self l.exposes asked.operands asked.exposed in
-      (
+      let held = all_held w before table arguments entered xs m k p here m self l.exposes asked.operands asked.exposed in (
         record {
           invariants = met.0;
           kept = frame_kept w before table arguments entered xs m k p here m self (exposed_terms l.exposes k) (map (held_by (frame_at a p)) l.exposes) refs (framed.0 m (alike_self k1.next m));
@@ -208,8 +200,7 @@ module _ (w : Walk) (before : List Object) (table : Table) (arguments : List Obj
           let apart_here : SameElsewhere cs m2.table head_here.at.agrees.entry.heap now = subst (λ z. SameElsewhere cs m2.table z now) (sym former_is) apart in
           let is_good : IsGoodStore cs m2.table now = subst (λ t. IsGoodStore cs t now) (sym table_is) head_here.at.agrees.store_is.good in
           hold_more cs m2 (map (holds_at w h) l.invariants) (frame_at_head w l h ∷ levels_at_head w l h ∷ grown w.entry h.store ∷ good h.store ∷ types_from w h.store 0 (local_types w.body) k.locals h.locals)
-          (conditions_true cs m2 l.invariants (scene_at w h) (scene a q) (all_mean xs m1 h q head_here.at l.invariants asked.typed asked.reads m2 alike) holds.invariants)
-          (
+          (conditions_true cs m2 l.invariants (scene_at w h) (scene a q) (all_mean xs m1 h q head_here.at l.invariants asked.typed asked.reads m2 alike) holds.invariants) (
             frame_true w before table arguments entered xs m1 h q head_here m2 alike (exposed_terms l.exposes h) (map (held_by (frame_at a q)) l.exposes) refs apart_here holds.kept,
             (
               (levels_mean cs m2 h (frame_at a q) now (head_here.at.agrees.store_is.is m2 alike []) l.exposes held).1 (subst (λ s. are_exposed cs s (frame_at a q) l.exposes ≡ true) (sym store_here) holds.levels),

@@ -133,10 +133,10 @@ abbrev pub IsKnown : Option Known → Position → Type 0
 IsKnown None k = k.guard ≡ Never
 IsKnown (Some known) k = IsReachable k.guard × (k.known ≡ known)
 
-no_locals : ℕ → Bool
+pub no_locals : ℕ → Bool
 no_locals x = false
 
-no_terms : (ls : List (Option Term)) → HaveTerms no_locals ls
+pub no_terms : (ls : List (Option Term)) → HaveTerms no_locals ls
 unfolding no_locals
 no_terms ls x e = absurd (false≢true e)
 

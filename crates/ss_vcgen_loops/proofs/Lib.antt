@@ -1,8 +1,10 @@
 pub mod Known
 pub mod Types
+pub mod Tests
 pub mod Levels
 pub mod Again
 pub mod Framed
 pub mod Typed
 pub mod Loops
 pub mod Heads
+pub mod Goes

@@ -22,14 +22,13 @@ use Rattle.ss_store_rules.specs.Typed.{is_typed, has_exposable}
 use Rattle.ss_machine_good.specs.Known.{IsTrueOf}
 use Rattle.ss_machine_good_constructors.specs.Checks.{fields_check}
 use Rattle.ss_logic_stores.specs.Values.{Table, Structure}
-use Rattle.ss_logic_stores.specs.Terms.{Term}
 use Rattle.ss_logic_stores.specs.Formulas.{Formula}
 use Rattle.ss_logic_express.specs.Express.{said}
 use Rattle.ss_vcgen_heaps.specs.Positions.{Never, When, Position, Walk, check, check_all, holds_at, meant_at, evaluate, if_reached}
 use Rattle.ss_vcgen_heaps.specs.Obligations.{Loop, loop_of, frame_at_head, levels_at_head, check_head, at_head, exit_guard, into_body, behind_loop, behind, behind_all, AreValid}
 use Rattle.ss_sound_outcomes.specs.Points.{Activation, Point, scene, IsSound}
 use Rattle.ss_sound_outcomes.specs.Outcomes.{Has, Head, HoldsAtHead, IsTurn, head_of, AllSafely}
-use Rattle.ss_vcgen_positions.specs.At.{IsAlike, IsOn, activation, Agrees, IsAt, HaveTerms, Rises, Leads}
+use Rattle.ss_vcgen_positions.specs.At.{IsAlike, IsOn, activation, Agrees, IsAt, Rises, Leads}
 use Rattle.ss_vcgen_positions.proofs.Alike.{alike_self, alike_twice, alike_lower}
 use Rattle.ss_vcgen_positions.proofs.Branches.{into_first, into_second}
 use Rattle.ss_vcgen_positions.proofs.Leads.{leads_self, leads_twice, leads_evaluate, leads_if_reached}
@@ -39,7 +38,7 @@ use Rattle.ss_vcgen_positions.proofs.Statements.{leads_all, leads_at_head, leads
 use Rattle.ss_vcgen_values.specs.Goes.{IsCoded, IsHere, EndsIn, Goes}
 use Rattle.ss_vcgen_loops.specs.Forms.{AreCoded, IsTested, TestsGo, AllGoes}
 use Rattle.ss_vcgen_loops.specs.Heads.{IsAsked}
-use Rattle.ss_vcgen_loops.proofs.Known.{on_reachable, where_reached, IsKnown, at_head_known, all_known_placed}
+use Rattle.ss_vcgen_loops.proofs.Known.{on_reachable, where_reached, IsKnown, no_locals, no_terms, at_head_known, all_known_placed}
 
 -- ---- what is checked of a loop
 
@@ -76,13 +75,6 @@ exit_on false n m h on = on
 left_some : (b : Bool) (o : Option (ℕ → Bool)) (ys : ℕ → Bool) → b ≡ false → o ≡ Some ys → (if b then None else option_map (λ (xs : ℕ → Bool). xs) o) ≡ Some ys
 left_some true o ys h e = absurd (false≢true (sym h))
 left_some false o ys h e = ap (option_map (λ (xs : ℕ → Bool). xs)) e
-
-no_locals : ℕ → Bool
-no_locals x = false
-
-no_terms : (ls : List (Option Term)) → HaveTerms no_locals ls
-unfolding no_locals
-no_terms ls x e = absurd (false≢true e)
 
 -- where the position is reached, what is known there is known
 known_is : (o : Option Known) (k : Position) → IsReachable k.guard → IsKnown o k → o ≡ Some k.known
@@ -308,7 +300,7 @@ module _ (w : Walk) (before : List Object) (table : Table) (arguments : List Val
             let plain : is_literal_true e ≡ false = not_literal (is_literal_true e) (λ t. false≢true (sym fails ∙ ok_bools is_tested.v true (sym is_tested.is ∙ literal_value e t (scene a r)))) in
             let n = evaluated.next.truths + 1 in
             let z = into_second w before table ys m2 evaluated r (said (meant_at w e tested)) yes_known is_tested.at (exit_guard e n) no_known first (λ m'' on. exit_on (is_literal_true e) n m'' plain on) leads_first
-                (subst (λ v. IsTrueOf w.body.flags.ctor (known_tested e v tested.known) (scene a r)) fails is_tested.known) (is_tested.false_so fails) in
+            (subst (λ v. IsTrueOf w.body.flags.ctor (known_tested e v tested.known) (scene a r)) fails is_tested.known) (is_tested.false_so fails) in
             let same = where_reached tested.guard end tested reached in
             ends ys z.to.m' r (left_some (is_literal_true e) at_test ys plain is) (alike_twice k.next m m2 z.to.m' alike2 (alike_lower k.next evaluated.next m2 z.to.m' rises_evaluated z.to.alike))
             (record { at = subst (λ (u : Position). IsAt w before table ys z.to.m' u r) (sym same) z.to.at; assigned = there.assigned; same = there.same })
@@ -323,12 +315,11 @@ module _ (w : Walk) (before : List Object) (table : Table) (arguments : List Val
         let head = at_head w l c in
         let loop_asked = asked_at xs m k p coded here valid xs (loop_assigned xs m k p coded here valid).0 in
         let z = checks l xs m k p loop_asked here (valid_checked xs m k p coded here valid) in
-        let checked_at = checked_here xs m k p coded here valid z.1 in
-        (
+        let checked_at = checked_here xs m k p coded here valid z.1 in (
           z.0,
           λ q turn holds sound.
-            let t = takes l xs m c p q loop_asked coded.targets checked_at turn holds sound in
-            let alike1 = alike_lower k.next c.next m t.m' (leads_check_head w l k).rises t.alike in
-            prelude_goes _ xs t.m' head q (prelude_coded xs m k p coded here valid) t.here (valid_tested xs m k p coded here valid)
-            (λ ys m2 r is alike2 there. test_goes xs m k p coded here valid Q body_goes ends ys m2 r (alike_twice k.next m t.m' m2 alike1 (alike_lower k.next head.next t.m' m2 (rises_head xs m k p coded here valid) alike2)) is there),
+              let t = takes l xs m c p q loop_asked coded.targets checked_at turn holds sound in
+              let alike1 = alike_lower k.next c.next m t.m' (leads_check_head w l k).rises t.alike in
+              prelude_goes _ xs t.m' head q (prelude_coded xs m k p coded here valid) t.here (valid_tested xs m k p coded here valid)
+              (λ ys m2 r is alike2 there. test_goes xs m k p coded here valid Q body_goes ends ys m2 r (alike_twice k.next m t.m' m2 alike1 (alike_lower k.next head.next t.m' m2 (rises_head xs m k p coded here valid) alike2)) is there),
         )

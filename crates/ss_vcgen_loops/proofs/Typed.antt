@@ -1,6 +1,6 @@
 -- What is assumed at the head of a loop of the types of the locals.
-use Rattle.std.proofs.Common.{◌≡◌, ℕ, zero, suc, ◌+◌, List, [], ◌∷◌, ◌++◌, Bool, true, false, not, refl, sym, ap, subst, arith}
-use Rattle.std.specs.Prelude.{Option, Some, None, slice_get, if◌then◌else◌}
+use Rattle.std.proofs.Common.{◌≡◌, ℕ, suc, ◌+◌, List, [], ◌∷◌, Bool, true, false, refl, subst, arith}
+use Rattle.std.specs.Prelude.{Option, Some, None, slice_get}
 use Rattle.std.proofs.lemmas.Bool.{false≢true}
 use Rattle.ss_core.specs.declared.names.Ty.{Ty}
 use Rattle.ss_core.specs.declared.names.Ty.TheVariants as ty
@@ -9,9 +9,9 @@ use Rattle.ss_store_rules.specs.declared.Value.{Value as ObjectValue}
 use Rattle.ss_store_rules.specs.declared.Value.TheVariants as value
 use Rattle.ss_store_rules.specs.Good.{has_type, is_non_null, IsReady}
 use Rattle.ss_machine_good.specs.Known.{IsNotNull}
-use Rattle.ss_logic_stores.specs.Values.{Heap, Structure, store, thing, reference}
+use Rattle.ss_logic_stores.specs.Values.{Heap, Structure, store}
 use Rattle.ss_logic_stores.specs.Terms.{Term, value_of}
-use Rattle.ss_logic_stores.specs.Formulas.{Formula, True, Hold}
+use Rattle.ss_logic_stores.specs.Formulas.{True, Hold}
 use Rattle.ss_logic_stores.specs.Objects.{objects_of}
 use Rattle.ss_logic_rules.specs.Shapes.{null_term, equal, differ}
 use Rattle.ss_logic_express.specs.Express.{or_of}

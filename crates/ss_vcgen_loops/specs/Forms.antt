@@ -1,7 +1,7 @@
 -- Code of a formed body whose obligations are valid, from a position at which the run is.
 use Rattle.std.specs.Prelude.{◌≡◌, ℕ, List, [], Bool, true, false, Option, Some, Ok}
 use Rattle.ss_core.specs.declared.names.Place.{Place}
-use Rattle.ss_core.specs.Tree.{ExprTree, StmtTree, ReturnStmt, CodeTree}
+use Rattle.ss_core.specs.Tree.{ExprTree, ExposedTree, StmtTree, LoopStmt, ReturnStmt, CodeTree}
 use Rattle.ss_store_rules.specs.declared.Value.TheVariants as value
 use Rattle.ss_store_rules.specs.declared.Value.{Value}
 use Rattle.ss_store_rules.specs.Store.{Object}
@@ -62,3 +62,9 @@ module _ (w : Walk) (before : List Object) (table : Table) (arguments : List Val
 
   abbrev pub ReturnGoes : Type 1
   ReturnGoes = (at : Place) (e : Option ExprTree) (Q : Point → Type 0) → Goes w before table arguments (ReturnStmt at e) Q
+
+  -- a loop does where its prelude and its body do
+  abbrev pub LoopsGo : Type 1
+  LoopsGo =
+      (at : Place) (asked : List ExprTree) (prelude : CodeTree) (e : ExprTree) (body : CodeTree) (exposes : List ExposedTree) → ((Q : Point → Type 0) → AllGoes prelude Q) → ((Q : Point → Type 0) → AllGoes body Q) → (Q : Point → Type 0) →
+      Goes w before table arguments (LoopStmt at asked prelude e body exposes) Q

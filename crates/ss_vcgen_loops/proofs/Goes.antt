@@ -1,0 +1,14 @@
+-- A loop of a formed body goes on safely where its obligations are valid, if its prelude and its body do.
+use Rattle.std.proofs.Common.{List}
+use Rattle.ss_store_rules.specs.declared.Value.{Value}
+use Rattle.ss_store_rules.specs.Store.{Object}
+use Rattle.ss_logic_stores.specs.Values.{Table}
+use Rattle.ss_vcgen_heaps.specs.Positions.{Walk}
+use Rattle.ss_vcgen_values.specs.Goes.{IsEntered}
+use Rattle.ss_vcgen_loops.specs.Forms.{LoopsGo}
+use Rattle.ss_vcgen_loops.proofs.Tests.{tests_go}
+use Rattle.ss_vcgen_loops.proofs.Loops.{goes}
+use Rattle.ss_vcgen_loops.proofs.Heads.{head_checks, heads_are_taken}
+
+pub loop_goes : (w : Walk) (before : List Object) (table : Table) (arguments : List Value) → IsEntered w before arguments → LoopsGo w before table arguments
+loop_goes w before table arguments entered = goes w before table arguments (tests_go w before table entered.program) (head_checks w before table arguments entered) (heads_are_taken w before table arguments entered)
