@@ -1,3 +1,5 @@
 pub mod Typed
 pub mod Stated
 pub mod Returned
+pub mod Called
+pub mod Known
