@@ -1,5 +1,5 @@
 -- A call at a position: the conditions at entry hold, and behind it the position agrees, with the result in its local.
-use Rattle.std.proofs.Common.{◌≡◌, ℕ, List, [], ◌∷◌, length, map, true, Some, refl, sym, ◌∙◌, ap, subst}
+use Rattle.std.proofs.Common.{◌≡◌, ℕ, List, [], ◌∷◌, length, map, true, Some, sym, ◌∙◌, ap, subst}
 use Rattle.std.specs.Prelude.{Option, None, slice_get}
 use Rattle.std.proofs.lemmas.Bool.{false≢true}
 use Rattle.std.proofs.lemmas.Option.{slice_get_within}
@@ -21,9 +21,9 @@ use Rattle.ss_logic_stores.specs.Terms.{Term}
 use Rattle.ss_logic_express.specs.Express.{Meant, One, element_sort}
 use Rattle.ss_logic_means.specs.Sorts.{HasSort}
 use Rattle.ss_vcgen_heaps.specs.Positions.{Counters, Position, Walk, with_new}
-use Rattle.ss_vcgen_heaps.specs.Obligations.{local_sort, check_entry, result_term, returned, keep, call, AreValid}
+use Rattle.ss_vcgen_heaps.specs.Obligations.{check_entry, result_term, returned, keep, call, AreValid}
 use Rattle.ss_sound_outcomes.specs.Points.{Activation, Point, Fits, IsSound, IsBehind, ArePassed}
-use Rattle.ss_sound_outcomes.specs.Outcomes.{GoesOn, with_local, with_store, IsReturn, Enters, CallsSafely}
+use Rattle.ss_sound_outcomes.specs.Outcomes.{with_local, with_store, IsReturn, Enters, CallsSafely}
 use Rattle.ss_vcgen_positions.specs.At.{IsAlike, activation, Agrees}
 use Rattle.ss_vcgen_positions.proofs.Statements.{leads_returned, leads_keep}
 use Rattle.ss_vcgen_positions.proofs.Same.{same_entry}
@@ -58,7 +58,7 @@ module _ (w : Walk) (before : List Object) (table : Table) where
     pub agrees : Agrees w before table m' k' q
 
   module _ (chain : IsChain cs) (beside : NoAlso cs) (p : Point) (good : machine.IsGoodStore w.program p.store) (count : length p.locals ≡ length (local_types w.body)) (b : BodyTree) (stated : IsStatedBody cs b) (ts : List Term) (vs : List ObjectValue)
-    (at : Place) (x : Option ℕ) (k : Position) (m : Structure) (g : Agrees w before table m k p) (are : AreTermsFor cs k.next m ts vs) where
+      (at : Place) (x : Option ℕ) (k : Position) (m : Structure) (g : Agrees w before table m k p) (are : AreTermsFor cs k.next m ts vs) where
     abbrev ms : List Meant
     ms = map One ts
 
@@ -74,10 +74,12 @@ module _ (w : Walk) (before : List Object) (table : Table) where
         × ((z : List Object) (v : ObjectValue) → Fits cs table z → IsReturn a b (ToCall x) vs p.store z v →
         (m' : Structure) × IsAlike k.next m m' × Agrees w before table m' (returned w b ms there) (with_store z p) × IsResult cs (returned w b ms there).next m' b.result (result_term b.result (with_new sort.Store there)) v)
     called_at valid passed =
-        let e = entered w before table chain beside p good b stated ts vs passed k m g are at ((leads_returned w b ms there).listed valid) in
-        (e.0, λ z v fits r.
-        let h = call_returned w before table chain beside p good b stated ts vs passed there m e.1 terms_there x z v fits r in
-        (h.m', subst (λ (n : Counters). IsAlike n m h.m') (same_entry w at b ms k).next h.alike, h.agrees, h.result))
+        let e = entered w before table chain beside p good b stated ts vs passed k m g are at ((leads_returned w b ms there).listed valid) in (
+          e.0,
+          λ z v fits r.
+              let h = call_returned w before table chain beside p good b stated ts vs passed there m e.1 terms_there x z v fits r in
+              (h.m', subst (λ (n : Counters). IsAlike n m h.m') (same_entry w at b ms k).next h.alike, h.agrees, h.result),
+        )
 
     -- The call goes on safely.
     pub calls_safely : (u : StmtTree) (Q : Point → Type 0) → fits_kept cs w.body x b.result ≡ true → (o : Option BodyTree) → o ≡ Some b → AreValid cs (call w at x o ms k).listed →
@@ -91,7 +93,9 @@ module _ (w : Walk) (before : List Object) (table : Table) where
         CallsSafely a u Q p x c vs) (sym is)
         (λ valid ends passed.
         let rs = result_term b.result (with_new sort.Store there) in
-        let c = called_at ((leads_keep w x rs (returned w b ms there)).listed valid) passed in
-        (c.0, λ z v r sound behind.
-        let h = c.1 z v sound.fits r in
-        ends z v h.0 r sound behind h.1 (kept_agrees h.0 (returned w b ms there) (with_store z p) x v b.result fits count rs h.3 h.2)))
+        let c = called_at ((leads_keep w x rs (returned w b ms there)).listed valid) passed in (
+          c.0,
+          λ z v r sound behind.
+              let h = c.1 z v sound.fits r in
+              ends z v h.0 r sound behind h.1 (kept_agrees h.0 (returned w b ms there) (with_store z p) x v b.result fits count rs h.3 h.2),
+        ))

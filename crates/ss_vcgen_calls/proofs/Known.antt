@@ -1,22 +1,22 @@
 -- What is known of null behind a call.
-use Rattle.std.proofs.Common.{◌≡◌, ℕ, List, ◌∷◌, length, Bool, true, false, Some, refl, sym, ◌∙◌, ap, subst, arith, inl, inr, ◌⊎◌, ⊎_elim}
-use Rattle.std.specs.Prelude.{Option, None, slice_get, not, ◌&&◌, ◌||◌, ◌==◌, if◌then◌else◌}
+use Rattle.std.proofs.Common.{◌≡◌, ℕ, List, length, Bool, true, false, Some, refl, sym, ◌∙◌, ap, subst, arith, inl, inr, ◌⊎◌, ⊎_elim}
+use Rattle.std.specs.Prelude.{Option, None, slice_get, not, ◌||◌, ◌==◌, if◌then◌else◌}
 use Rattle.std.proofs.lemmas.Bool.{false≢true, true≢false, and_parts, or_cases, cases_Bool, eqb-true, eq-eqb}
 use Rattle.std.proofs.lemmas.Option.{slice_get_within}
 use Rattle.ss_core.specs.declared.names.Place.{Place}
 use Rattle.ss_core.specs.declared.names.Ty.{Ty}
-use Rattle.ss_core.specs.Tree.{ClassTree, ExprTree, CalleeTree, Dispatched, Static, Base, BaseConstructor, CallStmt, BodyTree, CoreTree}
+use Rattle.ss_core.specs.Tree.{ExprTree, BaseConstructor, CallStmt, BodyTree, CoreTree}
 use Rattle.ss_core.specs.Chain.{above, below}
 use Rattle.ss_core.proofs.Chains.{below_up}
 use Rattle.ss_store_rules.proofs.Arrays.{declared_not_object}
 use Rattle.ss_store_rules.specs.declared.Value.{Value}
 use Rattle.ss_store_rules.specs.Store.{Object}
 use Rattle.ss_store_rules.specs.Changes.{field_class}
-use Rattle.ss_store_rules.specs.Construction.{is_below_object, is_delayed_constructor, has_delayed_base, has_own_fields}
+use Rattle.ss_store_rules.specs.Construction.{has_own_fields}
 use Rattle.ss_store_rules.specs.Formed.{has_flags, IsFormedBody, IsFormed}
 use Rattle.ss_store_rules.specs.Locals.{local_types, is_variable, is_kept_among}
 use Rattle.ss_store_rules.specs.NonNull.{Known, no_facts, is_non_null_type, says_nothing, with_kept, result_of, is_field_above, known_after}
-use Rattle.ss_store_rules.specs.Typed.{fits_kept, callee_of, constructor_of, is_typed}
+use Rattle.ss_store_rules.specs.Typed.{fits_kept, callee_of, is_typed}
 use Rattle.ss_machine_rules.specs.Frame.{this_of}
 use Rattle.ss_machine_rules.specs.States.{ToCall, put}
 use Rattle.ss_machine_good.specs.Known.{IsNotNull, HasItsField, IsTrueOf}
@@ -72,8 +72,8 @@ module _ (a : Activation) (formed : IsFormed a.program) (fb : IsFormedBody a.pro
   -- ---- `base(..)`
 
   module _ (at : Place) (x : Option ℕ) (n : ℕ) (es : List ExprTree) (k : Known) (typed : is_typed c b (CallStmt at x (BaseConstructor n) es) ≡ true) (checked : (fields_check c b).statement (CallStmt at x (BaseConstructor n) es) k ≡ true)
-    (so : IsTrueOf b.flags.ctor k (scene a p)) where
-    pub base_is : IsBase c b n
+      (so : IsTrueOf b.flags.ctor k (scene a p)) where
+    abbrev pub base_is : IsBase c b n
     base_is = base_of c formed b at x n es typed
 
     -- in a constructor alone it stands

@@ -3,3 +3,5 @@ pub mod Stated
 pub mod Returned
 pub mod Called
 pub mod Known
+pub mod Operands
+pub mod Calls
