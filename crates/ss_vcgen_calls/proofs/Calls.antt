@@ -63,13 +63,13 @@ use Rattle.ss_vcgen_calls.proofs.Operands.{have_some, split_values, operands_giv
 -- ---- small things
 
 -- what holds of the values holds where they are the outcome
-has_values : (o : Result (List ObjectValue) Undefined) (vs : List ObjectValue) (P : List ObjectValue → Type 0) → o ≡ Ok vs → P vs → Has o P
+pub has_values : (o : Result (List ObjectValue) Undefined) (vs : List ObjectValue) (P : List ObjectValue → Type 0) → o ≡ Ok vs → P vs → Has o P
 has_values o vs P is h = subst (λ r. Has r P) (sym is) h
 
-call_fits : (cs : List ClassTree) (b : BodyTree) (x : Option ℕ) (es : List ExprTree) (o : Option BodyTree) (k : BodyTree) → o ≡ Some k → is_call_of cs b x es o ≡ true → (have_types_in cs b es (types_of k.params) ≡ true) × (fits_kept cs b x k.result ≡ true)
+pub call_fits : (cs : List ClassTree) (b : BodyTree) (x : Option ℕ) (es : List ExprTree) (o : Option BodyTree) (k : BodyTree) → o ≡ Some k → is_call_of cs b x es o ≡ true → (have_types_in cs b es (types_of k.params) ≡ true) × (fits_kept cs b x k.result ≡ true)
 call_fits cs b x es o k is h = and_parts (have_types_in cs b es (types_of k.params)) (fits_kept cs b x k.result) (subst (λ c. is_call_of cs b x es c ≡ true) is h)
 
-callee_there : (cs : List ClassTree) (b : BodyTree) (x : Option ℕ) (es : List ExprTree) (o : Option BodyTree) → is_call_of cs b x es o ≡ true → (k : BodyTree) × (o ≡ Some k)
+pub callee_there : (cs : List ClassTree) (b : BodyTree) (x : Option ℕ) (es : List ExprTree) (o : Option BodyTree) → is_call_of cs b x es o ≡ true → (k : BodyTree) × (o ≡ Some k)
 callee_there cs b x es None h = absurd (false≢true h)
 callee_there cs b x es (Some k) h = (k, refl)
 

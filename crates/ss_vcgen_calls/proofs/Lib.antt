@@ -5,3 +5,4 @@ pub mod Called
 pub mod Known
 pub mod Operands
 pub mod Calls
+pub mod News
