@@ -1,0 +1,4 @@
+pub mod Later
+pub mod Levels
+pub mod Operands
+pub mod Stored
