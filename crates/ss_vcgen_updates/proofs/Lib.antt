@@ -1,4 +1,5 @@
 pub mod Later
 pub mod Levels
 pub mod Operands
+pub mod Ready
 pub mod Stored
