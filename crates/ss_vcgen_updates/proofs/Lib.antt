@@ -1,3 +1,4 @@
+pub mod Invariants
 pub mod Later
 pub mod Levels
 pub mod Operands
