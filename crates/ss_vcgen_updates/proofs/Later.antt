@@ -1,4 +1,4 @@
--- What is known at a point of a run, in a later store.
+-- What the locals of a sound point refer to.
 use Rattle.std.proofs.Common.{◌≡◌, ℕ, ◌<◌, List, length, Bool, true, false, refl, sym, ◌∙◌, ap, subst, arith}
 use Rattle.std.specs.Prelude.{Option, Some, None, slice_get, unwrap_or}
 use Rattle.std.proofs.lemmas.Bool.{false≢true}
@@ -10,18 +10,15 @@ use Rattle.ss_store_rules.specs.declared.Value.TheVariants as value
 use Rattle.ss_store_rules.specs.Store.{Object}
 use Rattle.ss_store_rules.specs.Good.{has_type}
 use Rattle.ss_store_rules.specs.Locals.{local_types}
-use Rattle.ss_store_rules.specs.NonNull.{Known}
 use Rattle.ss_store_rules.specs.Values.{local_value}
 use Rattle.ss_machine_rules.specs.Frame.{this_of}
 use Rattle.ss_machine_typed.proofs.Older.{there_is}
 use Rattle.ss_machine_typed.proofs.Sound.{object_typed}
-use Rattle.ss_machine_good.specs.Known.{IsTrueOf}
 use Rattle.ss_machine_good_frames.specs.Frames.{HasGiven}
 use Rattle.ss_machine_good_frames.specs.Later.{IsLater}
 use Rattle.ss_machine_good_frames.proofs.Behind.{later_given}
 use Rattle.ss_vcgen_positions.proofs.Joins.{get_below}
 use Rattle.ss_sound_outcomes.specs.Points.{Activation, Point, scene, IsSound}
-use Rattle.ss_sound_outcomes.specs.Outcomes.{with_store}
 
 -- a reference of a type is allocated
 pub typed_there : (cs : List ClassTree) (s : List Object) (t : Ty) (o : ℕ) → has_type cs s t (value.Obj o) ≡ true → (x : Object) × (slice_get s o ≡ Some x)
@@ -48,11 +45,3 @@ module _ (a : Activation) (p : Point) (sound : IsSound a p) where
   given_later n z later g given o x is there null =
       let y = local_there 0 o is in
       later_given a.program n p.store z later (this_of p.locals) o y.0 is y.1 g given o x is there null
-
-  -- what is known is so in a later store
-  pub known_later : (n : ℕ) (z : List Object) → IsLater a.program.classes n p.store z → (k : Known) → IsTrueOf a.body.flags.ctor k (scene a p) → IsTrueOf a.body.flags.ctor k (scene a (with_store z p))
-  known_later n z later k so = record {
-    facts = so.facts;
-    sides = λ x v e. let side = so.sides x v e in record { facts = side.facts; there = side.there; so = side.so };
-    fields = λ ctor g h. given_later n z later g (so.fields ctor g h);
-  }

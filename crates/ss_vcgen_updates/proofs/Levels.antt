@@ -44,10 +44,10 @@ use Rattle.ss_vcgen_positions.proofs.Keeps.{AllMean, checked, conditions_checked
 use Rattle.ss_vcgen_positions.proofs.Leads.{leads_check, leads_check_all}
 use Rattle.ss_vcgen_positions.proofs.Same.{same_twice, same_check, same_check_all, same_local}
 use Rattle.ss_vcgen_values.specs.Goes.{IsEntered, Goes}
-use Rattle.ss_vcgen_updates.proofs.Later.{known_later}
+use Rattle.ss_vcgen_values.proofs.Behind.{later_known}
 use Rattle.ss_vcgen_updates.proofs.Invariants.{invariants_mean}
 use Rattle.ss_vcgen_updates.proofs.Operands.{operand, local_typed, local_checked}
-use Rattle.ss_vcgen_updates.proofs.Stored.{steady_value, steady_two, store_there, store_goes}
+use Rattle.ss_vcgen_updates.proofs.Stored.{IsSteady, steady_value, steady_two, store_there, store_goes}
 
 -- a change at an object is a store
 unpack_sorted : (cs : List ClassTree) (t : ℕ) (s o : Term) → HasSort cs [] sort.Store s → HasSort cs [] sort.Rest o → HasSort cs [] sort.Store (app (Unpack t) (s ∷ o ∷ []))
@@ -84,16 +84,16 @@ module _ (w : Walk) (before : List Object) (table : Table) (arguments : List Obj
       let done : IsDone (unpack_of cs p.store v t) =
       subst (λ u. IsDone (unpack_of cs p.store u t)) (sym there.is)
       (unpack_done cs m k.store p.store has o there.position there.object there.there (λ e. stands e ∙ ap standing there.is) t (c2.0 m (alike_self k1.next m)) (c3.0 m (alike_self k2.next m))) in
-      store_goes w before table arguments xs m k p (UnpackStmt at x t) k3 (unpack w at x t k) (app (Unpack t) (k.store ∷ o ∷ [])) (unpack_of cs p.store v t) Q here (same_twice k k1 k3 (same_local w at x k) (same_twice k1 k2 k3 (same_check w kind.UnpackLevel at level k1) (same_check w kind.UnpackCommitted at free k2)))
-      c3.1
-      (steady_two cs k.next m (Unpack t) k.store o (λ m m' vs. refl) (steady_value cs k.next m k.store _ is.agrees.store_is.is) (steady_value cs k.next m o (standing v) term.is))
+      let same = same_twice k k1 k3 (same_local w at x k) (same_twice k1 k2 k3 (same_check w kind.UnpackLevel at level k1) (same_check w kind.UnpackCommitted at free k2)) in
+      let t' = app (Unpack t) (k.store ∷ o ∷ []) in
+      store_goes w before table arguments xs m k p (UnpackStmt at x t) refl coded here m k3 t' (unpack_of cs p.store v t) Q self c3.1
+      (subst (λ n. IsSteady cs n m t') (sym same.next) (steady_two cs k.next m (Unpack t) k.store o (λ m m' vs. refl) (steady_value cs k.next m k.store _ is.agrees.store_is.is) (steady_value cs k.next m o (standing v) term.is)))
       (unpack_sorted cs t k.store o is.agrees.store_is.sorted (subst (λ u. HasSort cs [] (element_sort u) o) class.2 term.sorted))
       done
       (λ z e sound. unpack_behind cs m k.store p.store has o v t z stands e sound.store)
       (λ z g. g)
-      refl
-      (λ z e sound behind. subst (λ u. IsTrueOf w.body.flags.ctor u (scene a (with_store z p))) (sym (same_local w at x k).like.known) (known_later a p is.sound (entry_size a) z behind.reached.later k.known is.known))
-      (λ q h. ends xs m q refl self h)
+      (λ z e sound b. subst (λ u. IsTrueOf w.body.flags.ctor u (scene a (with_store z p))) (sym same.like.known) (later_known a (entry_size a) p z entered.body.flags is.sound b.reached.later k.known is.known))
+      ends
 
   pub pack_goes : (at : Place) (x t : ℕ) (Q : Point → Type 0) → Goes w before table arguments (PackStmt at x t) Q
   pack_goes at x t Q xs m k p coded here valid ends =
@@ -139,13 +139,12 @@ module _ (w : Walk) (before : List Object) (table : Table) (arguments : List Obj
       subst (λ u. IsDone (pack_of cs (invariants_hold cs) p.store u t)) (sym there.is)
       (pack_done cs m k.store p.store has o q there.object there.there (λ e. stands e ∙ ap standing there.is) t (c2.0 m (alike_self k1.next m)) c3.0 (c4.0 m (alike_self k3.next m))) in
       let same = same_twice k k1 k4 (same_local w at x k) (same_twice k1 k2 k4 (same_check w kind.PackLevel at level k1) (same_twice k2 k3 k4 (same_check_all w kind.Invariant at (conditions es c) k2) (same_check w kind.PackOwned at owned k3))) in
-      store_goes w before table arguments xs m k p (PackStmt at x t) k4 (pack w at x t k) (app (Pack t) (k.store ∷ o ∷ [])) (pack_of cs (invariants_hold cs) p.store v t) Q here same
-      c4.1
-      (steady_two cs k.next m (Pack t) k.store o (λ m m' vs. refl) (steady_value cs k.next m k.store _ is.agrees.store_is.is) (steady_value cs k.next m o (standing v) term.is))
+      let t' = app (Pack t) (k.store ∷ o ∷ []) in
+      store_goes w before table arguments xs m k p (PackStmt at x t) refl coded here m k4 t' (pack_of cs (invariants_hold cs) p.store v t) Q self c4.1
+      (subst (λ n. IsSteady cs n m t') (sym same.next) (steady_two cs k.next m (Pack t) k.store o (λ m m' vs. refl) (steady_value cs k.next m k.store _ is.agrees.store_is.is) (steady_value cs k.next m o (standing v) term.is)))
       (pack_sorted cs t k.store o is.agrees.store_is.sorted (subst (λ u. HasSort cs [] (element_sort u) o) class.2 term.sorted))
       done
       (λ z e sound. pack_behind cs m k.store p.store has (invariants_hold cs) o v t z stands e sound.store)
       (λ z g. g)
-      refl
-      (λ z e sound behind. subst (λ u. IsTrueOf w.body.flags.ctor u (scene a (with_store z p))) (sym same.like.known) (known_later a p is.sound (entry_size a) z behind.reached.later k.known is.known))
-      (λ q h. ends xs m q refl self h)
+      (λ z e sound b. subst (λ u. IsTrueOf w.body.flags.ctor u (scene a (with_store z p))) (sym same.like.known) (later_known a (entry_size a) p z entered.body.flags is.sound b.reached.later k.known is.known))
+      ends

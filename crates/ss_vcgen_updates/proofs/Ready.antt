@@ -31,17 +31,18 @@ use Rattle.ss_logic_stores.specs.Terms.{MakeReady, Term, app}
 use Rattle.ss_logic_express.specs.Express.{element_sort}
 use Rattle.ss_logic_means.specs.Means.{standing}
 use Rattle.ss_logic_means.specs.Sorts.{HasSort}
-use Rattle.ss_vcgen_heaps.specs.Positions.{Position, Walk, local_term}
+use Rattle.ss_vcgen_heaps.specs.Positions.{Position, Walk, with_store, local_term}
 use Rattle.ss_vcgen_heaps.specs.Obligations.{behind}
 use Rattle.ss_vcgen_changes.specs.Done.{HasStore}
 use Rattle.ss_vcgen_changes.proofs.Behind.{ready_behind}
 use Rattle.ss_sound_outcomes.specs.Points.{Activation, Point, scene, IsSound, entry_size}
-use Rattle.ss_sound_outcomes.specs.Outcomes.{with_store}
+use Rattle.ss_sound_outcomes.specs.Outcomes as outcomes
 use Rattle.ss_vcgen_positions.specs.At.{activation}
 use Rattle.ss_vcgen_positions.proofs.Alike.{alike_self}
-use Rattle.ss_vcgen_positions.proofs.Same.{same_self}
 use Rattle.ss_vcgen_values.specs.Goes.{IsEntered, Goes}
-use Rattle.ss_vcgen_updates.proofs.Later.{given_later, known_later}
+use Rattle.ss_vcgen_values.proofs.Behind.{later_known}
+use Rattle.ss_vcgen_values.proofs.Puts.{known_agrees}
+use Rattle.ss_vcgen_updates.proofs.Later.{given_later}
 use Rattle.ss_vcgen_updates.proofs.Operands.{operand}
 use Rattle.ss_vcgen_updates.proofs.Stored.{steady_value, steady_two, store_there, store_goes}
 
@@ -89,17 +90,15 @@ module _ (w : Walk) (before : List Object) (table : Table) (arguments : List Obj
       let has = store_there cs table k.next m k.store p.store is.agrees.table_is is.agrees.store_is m self in
       let z = with_ready p.store v in
       let r : Result (List Object) Kind = Ok z in
-      store_goes w before table arguments xs m k p (ReadyStmt at) k (behind w (ReadyStmt at) k) (app MakeReady (k.store ∷ o ∷ [])) r Q here (same_self k)
-      is.agrees
+      store_goes w before table arguments xs m k p (ReadyStmt at) refl coded here m k (app MakeReady (k.store ∷ o ∷ [])) r Q self is.agrees
       (steady_two cs k.next m MakeReady k.store o (λ m m' vs. refl) (steady_value cs k.next m k.store _ is.agrees.store_is.is) (steady_value cs k.next m o (standing v) term.is))
       (ready_sorted cs k.store o is.agrees.store_is.sorted (subst (λ u. HasSort cs [] (element_sort u) o) (this_type w.body instance_) term.sorted))
       (z, refl)
       (λ y e sound. let same : z ≡ y = cc in subst (λ u. HasStore cs m (app MakeReady (k.store ∷ o ∷ [])) u) same (ready_behind cs m k.store p.store has o v (term.is m self) (subst (λ u. IsGood cs (invariants_hold cs) u) (sym same) sound.store)))
-      (λ y g. record { table_is = g.table_is; entry = g.entry; store_is = g.store_is; count = g.count; locals = g.locals; guard = g.guard; premises = g.premises })
-      refl
-      (λ y e sound behind.
+      (λ y g. known_agrees w before table m (with_store (app MakeReady (k.store ∷ o ∷ [])) k) (outcomes.with_store y p) (behind w (ReadyStmt at) k).known g)
+      (λ y e sound b.
       let n = entry_size a in
-      let later = behind.reached.later in
-      let known = known_later a p is.sound n y later k.known is.known in
+      let later = b.reached.later in
+      let known = later_known a n p y entered.body.flags is.sound later k.known is.known in
       record { facts = known.facts; sides = λ x u eu. let side = known.sides x u eu in record { facts = side.facts; there = side.there; so = side.so }; fields = λ ctor g h. given_later a p is.sound n y later g (given.1 g) })
-      (λ q h. ends xs m q refl self h)
+      ends

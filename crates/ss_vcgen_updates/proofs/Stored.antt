@@ -1,10 +1,12 @@
 -- A position behind a change of the store, where the term of the change stands for the store of the point behind.
-use Rattle.std.proofs.Common.{◌≡◌, ℕ, List, [], ◌∷◌, length, Bool, true, refl, sym, ◌∙◌, ap, subst}
+use Rattle.std.proofs.Common.{◌≡◌, ℕ, List, [], ◌∷◌, length, Bool, true, ◌||◌, refl, sym, ◌∙◌, ap, subst}
 use Rattle.std.specs.Prelude.{Option, Some, None, Result, Ok, Err, slice_get}
 use Rattle.ss_core.specs.declared.names.Kind.{Kind}
 use Rattle.ss_core.specs.Tree.{ClassTree, StmtTree}
 use Rattle.ss_store_rules.specs.declared.Value.{Value as ObjectValue}
 use Rattle.ss_store_rules.specs.Store.{Object}
+use Rattle.ss_store_rules.specs.Locals.{is_target}
+use Rattle.ss_machine_good.specs.Flows.{is_simple}
 use Rattle.ss_machine_good.specs.Known.{IsTrueOf}
 use Rattle.ss_logic_stores.specs.declared.Sort.TheVariants as sort
 use Rattle.ss_logic_stores.specs.Values.{Heap, Table, Value, store, Structure}
@@ -13,15 +15,16 @@ use Rattle.ss_logic_stores.specs.Objects.{IsGoodStore, objects_of}
 use Rattle.ss_logic_means.specs.Sorts.{HasSort}
 use Rattle.ss_vcgen_heaps.specs.Positions.{Counters, Position, Walk, good, assume, set_store}
 use Rattle.ss_vcgen_heaps.specs.Positions as positions
+use Rattle.ss_vcgen_heaps.specs.Obligations.{behind}
 use Rattle.ss_vcgen_changes.specs.Done.{HasStore, IsDone}
 use Rattle.ss_vcgen_changes.proofs.Standing.{has_objects, is_good}
 use Rattle.ss_sound_outcomes.specs.Points.{Point, scene, IsSound, IsBehind}
 use Rattle.ss_sound_outcomes.specs.Outcomes.{Has, GoesOn, Changes, with_store}
-use Rattle.ss_vcgen_positions.specs.At.{IsAlike, Stays, HasValue, IsStore, activation, Agrees, HaveTerms}
+use Rattle.ss_vcgen_positions.specs.At.{IsAlike, Stays, HasValue, IsStore, activation, Agrees}
 use Rattle.ss_vcgen_positions.proofs.Alike.{alike_self}
 use Rattle.ss_vcgen_positions.proofs.Keeps.{assumed}
-use Rattle.ss_vcgen_positions.proofs.Same.{IsSame}
-use Rattle.ss_vcgen_values.specs.Goes.{IsHere}
+use Rattle.ss_vcgen_values.specs.Goes.{IsCoded, IsHere, EndsIn}
+use Rattle.ss_vcgen_values.proofs.Behind.{here_behind}
 
 -- ---- outcomes
 
@@ -106,33 +109,17 @@ module _ (w : Walk) (before : List Object) (table : Table) (m : Structure) (k : 
 
 -- ---- where the run is
 
-module _ (w : Walk) (before : List Object) (table : Table) (arguments : List ObjectValue) (xs : ℕ → Bool) (m : Structure) (k : Position) (p : Point) where
-  -- The locals are as they were.
-  pub here_behind : (k' : Position) (z : List Object) → k'.locals ≡ k.locals → Agrees w before table m k' (with_store z p) → IsTrueOf w.body.flags.ctor k'.known (scene (activation w before table) (with_store z p)) → IsSound (activation w before table) (with_store z p) →
-      IsHere w before table arguments xs m k p → IsHere w before table arguments xs m k' (with_store z p)
-  here_behind k' z same agrees known sound here = record {
-    at = record {
-      agrees = agrees;
-      known = known;
-      assigned = here.at.assigned;
-      terms = subst (HaveTerms xs) (sym same) here.at.terms;
-      sound = sound;
-    };
-    assigned = here.assigned;
-    same = here.same;
-  }
-
-  -- A statement that changes the store, and assigns nothing: from k the checks lead to checked, and behind is the position behind it all.
-  pub store_goes : (s : StmtTree) (checked behind : Position) (t : Term) (r : Result (List Object) Kind) (Q : Point → Type 0) → IsHere w before table arguments xs m k p → IsSame k checked → Agrees w before table m checked p →
-      IsSteady w.program.classes k.next m t → HasSort w.program.classes [] sort.Store t → IsDone r → ((z : List Object) → r ≡ Ok z → IsSound (activation w before table) (with_store z p) → HasStore w.program.classes m t z) →
-      ((z : List Object) → Agrees w before table m (positions.with_store t checked) (with_store z p) → Agrees w before table m behind (with_store z p)) → behind.locals ≡ checked.locals →
-      ((z : List Object) → r ≡ Ok z → IsSound (activation w before table) (with_store z p) → IsBehind (activation w before table) s p (with_store z p) → IsTrueOf w.body.flags.ctor behind.known (scene (activation w before table) (with_store z p))) →
-      ((q : Point) → IsHere w before table arguments xs m behind q → Q q) → Changes (activation w before table) s Q p r
-  store_goes s checked behind t r Q here same agrees steady sorted done has rebuilt locals known ends =
-      let a = activation w before table in
-      has_done r (λ z. GoesOn a s Q p (with_store z p)) done.0 done.1
-      (λ sound is_behind.
+module _ (w : Walk) (before : List Object) (table : Table) (arguments : List ObjectValue) (xs : ℕ → Bool) (m : Structure) (k : Position) (p : Point) (s : StmtTree) (simple : is_simple s ≡ true) (coded : IsCoded w xs k.known s)
+    (here : IsHere w before table arguments xs m k p) where
+  -- A statement that changes the store, and assigns nothing: k' is behind its checks.
+  pub store_goes : (m' : Structure) (k' : Position) (t : Term) (r : Result (List Object) Kind) (Q : Point → Type 0) → IsAlike k.next m m' → Agrees w before table m' k' p → IsSteady w.program.classes k'.next m' t → HasSort w.program.classes [] sort.Store t → IsDone r →
+      ((z : List Object) → r ≡ Ok z → IsSound (activation w before table) (with_store z p) → HasStore w.program.classes m' t z) →
+      ((z : List Object) → Agrees w before table m' (positions.with_store t k') (with_store z p) → Agrees w before table m' (behind w s k) (with_store z p)) →
+      ((z : List Object) → r ≡ Ok z → IsSound (activation w before table) (with_store z p) → IsBehind (activation w before table) s p (with_store z p) → IsTrueOf w.body.flags.ctor (behind w s k).known (scene (activation w before table) (with_store z p))) →
+      EndsIn w before table arguments (Some (λ x. is_target s x || xs x)) m k (behind w s k) Q → Changes (activation w before table) s Q p r
+  store_goes m' k' t r Q alike agrees steady sorted done has rebuilt known ends =
+      has_done r (λ z. GoesOn (activation w before table) s Q p (with_store z p)) done.0 done.1
+      (λ sound b.
       let z = done.0 in
-      let steady' = subst (λ n. IsSteady w.program.classes n m t) (sym same.next) steady in
-      ends (with_store z p)
-      (here_behind behind z (locals ∙ same.like.locals) (rebuilt z (stored w before table m checked p t z steady' sorted (has z done.1 sound) agrees)) (known z done.1 sound is_behind) sound here))
+      let g = rebuilt z (stored w before table m' k' p t z steady sorted (has z done.1 sound) agrees) in
+      ends (λ x. is_target s x || xs x) m' (with_store z p) refl alike (here_behind w before table arguments xs m k p s simple coded here m' (with_store z p) sound b (λ x h. refl) g (known z done.1 sound b)))
