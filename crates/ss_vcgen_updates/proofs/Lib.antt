@@ -1,3 +1,4 @@
+pub mod Arrays
 pub mod Invariants
 pub mod Later
 pub mod Levels
