@@ -1,7 +1,9 @@
 pub mod Arrays
+pub mod Elements
 pub mod Invariants
 pub mod Later
 pub mod Levels
 pub mod Operands
 pub mod Ready
 pub mod Stored
+pub mod Terms
