@@ -1,6 +1,6 @@
 -- Writes of elements, from a position at which the run is.
 use Rattle.std.proofs.Common.{◌≡◌, ℕ, List, [], ◌∷◌, Bool, true, false, ◌&&◌, ◌||◌, refl, sym, ◌∙◌, ap, subst}
-use Rattle.std.specs.Prelude.{Option, Some, None, is_some, Ok, slice_get, if◌then◌else◌, ◌==◌, ◌-◌}
+use Rattle.std.specs.Prelude.{Option, Some, None, slice_get}
 use Rattle.std.specs.List.{list_all}
 use Rattle.std.proofs.lemmas.Bool.{false≢true, and_parts}
 use Rattle.ss_core.specs.declared.names.Kind.TheVariants as kind
@@ -46,7 +46,7 @@ use Rattle.ss_vcgen_positions.specs.At.{IsAlike, Stays, HasValue, Rises, activat
 use Rattle.ss_vcgen_positions.proofs.Alike.{rises_self, rises_twice, alike_self, alike_twice, alike_lower, stays_on}
 use Rattle.ss_vcgen_positions.proofs.Keeps.{checked}
 use Rattle.ss_vcgen_positions.proofs.Leads.{leads_check, leads_evaluate, leads_with_term}
-use Rattle.ss_vcgen_positions.proofs.Same.{IsLike, like_twice, same_evaluate, same_not_null}
+use Rattle.ss_vcgen_positions.proofs.Same.{like_twice, same_evaluate, same_not_null}
 use Rattle.ss_vcgen_positions.proofs.Statements.{leads_not_null}
 use Rattle.ss_vcgen_values.specs.Goes.{IsEntered, Goes}
 use Rattle.ss_vcgen_values.proofs.Behind.{later_known}
@@ -56,7 +56,7 @@ use Rattle.ss_vcgen_values.proofs.Puts.{known_agrees}
 use Rattle.ss_vcgen_values.proofs.Settles.{fitting_sort}
 use Rattle.ss_vcgen_updates.proofs.Arrays.{int_is, int_some}
 use Rattle.ss_vcgen_updates.proofs.Stored.{IsSteady, steady_value, steady_four, store_there, store_goes}
-use Rattle.ss_vcgen_updates.proofs.Terms.{settled_later, object_checked}
+use Rattle.ss_vcgen_updates.proofs.Terms.{like_back, typed_some, settled_later, object_checked}
 
 -- what the elements of an array expression are
 record IsArrayOf (cs : List ClassTree) (o : Option Ty) (t : Ty) : Type 0 where
@@ -78,17 +78,11 @@ element_is : (cs : List ClassTree) (b : BodyTree) (e : ExprTree) (o : Option Ty)
 element_is cs b e None h = absurd (false≢true h)
 element_is cs b e (Some t) h = (t, refl, h)
 
-typed_some : (o : Option Ty) (t : Ty) → o ≡ Some t → is_some o ≡ true
-typed_some o t e = ap (λ u. is_some u) e
-
 put_sorted : (cs : List ClassTree) (t : Ty) (s a i v : Term) → HasSort cs [] sort.Store s → HasSort cs [] sort.Rest a → HasSort cs [] sort.Whole i → HasSort cs [] (sort_of_type t) v → HasSort cs [] sort.Store (app Put (s ∷ a ∷ i ∷ v ∷ []))
 put_sorted cs ty.Int s a i v x y z u = (refl, rw (x.0, x.1, y.0, y.1, z.0, z.1, u.0, u.1) refl)
 put_sorted cs ty.Bool s a i v x y z u = (refl, rw (x.0, x.1, y.0, y.1, z.0, z.1, u.0, u.1) refl)
 put_sorted cs ty.Null s a i v x y z u = (refl, rw (x.0, x.1, y.0, y.1, z.0, z.1, u.0, u.1) refl)
 put_sorted cs (ty.Ref t n) s a i v x y z u = (refl, rw (x.0, x.1, y.0, y.1, z.0, z.1, u.0, u.1) refl)
-
-like_back : (k k' : Position) → IsLike k k' → IsLike k' k
-like_back k k' l = record { locals = sym l.locals; store = sym l.store; guard = sym l.guard; known = sym l.known }
 
 module _ (w : Walk) (before : List Object) (table : Table) (arguments : List ObjectValue) (entered : IsEntered w before arguments) where
   pub element_goes : (at : Place) (e i u : ExprTree) (Q : Point → Type 0) → Goes w before table arguments (WriteElementStmt at e i u) Q

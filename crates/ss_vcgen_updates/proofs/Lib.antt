@@ -1,5 +1,6 @@
 pub mod Arrays
 pub mod Elements
+pub mod Fields
 pub mod Invariants
 pub mod Later
 pub mod Levels
@@ -7,3 +8,4 @@ pub mod Operands
 pub mod Ready
 pub mod Stored
 pub mod Terms
+pub mod Writes

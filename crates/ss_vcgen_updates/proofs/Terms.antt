@@ -33,11 +33,17 @@ use Rattle.ss_vcgen_positions.specs.At.{IsAlike, Stays, HasValue, activation, Ag
 use Rattle.ss_vcgen_positions.proofs.Alike.{alike_self, alike_twice, alike_lower, stays_on}
 use Rattle.ss_vcgen_positions.proofs.Keeps.{checked_unless}
 use Rattle.ss_vcgen_positions.proofs.Leads.{leads_with_term}
-use Rattle.ss_vcgen_positions.proofs.Same.{at_like, like_with_term}
+use Rattle.ss_vcgen_positions.proofs.Same.{IsLike, at_like, like_with_term}
 use Rattle.ss_vcgen_positions.proofs.Terms.{HasTerm, standing_numbered, term_at}
 use Rattle.ss_vcgen_values.specs.Values.{HasMeaning}
 use Rattle.ss_vcgen_values.proofs.Evaluates.{good_at}
 use Rattle.ss_vcgen_updates.proofs.Operands.{IsThere, object_there, differ_true, not_null}
+
+pub typed_some : (o : Option Ty) (t : Ty) → o ≡ Some t → is_some o ≡ true
+typed_some o t e = ap (λ u. is_some u) e
+
+pub like_back : (k k' : Position) → IsLike k k' → IsLike k' k
+like_back k k' l = record { locals = sym l.locals; store = sym l.store; guard = sym l.guard; known = sym l.known }
 
 -- What the expression means at k gets a term at the later position k'.
 pub record IsSettled (w : Walk) (before : List Object) (table : Table) (xs : ℕ → Bool) (m : Structure) (k' : Position) (p : Point) (k : Position) (e : ExprTree) (s : Sort) (v : ObjectValue) : Type 0 where
