@@ -1,11 +1,10 @@
 -- New arrays, from a position at which the run is.
-use Rattle.std.proofs.Common.{◌≡◌, ℕ, ◌<◌, ℤ, pos, negsuc, List, [], ◌∷◌, ◌++◌, length, Bool, true, false, ◌&&◌, ◌||◌, refl, sym, ◌∙◌, ap, subst, arith}
-use Rattle.std.specs.Prelude.{Option, Some, None, is_some, Result, Ok, slice_get, replicate}
+use Rattle.std.proofs.Common.{◌≡◌, ℕ, ℤ, pos, negsuc, List, [], ◌∷◌, ◌++◌, length, Bool, true, ◌&&◌, ◌||◌, refl, sym, ◌∙◌, ap, subst, arith}
+use Rattle.std.specs.Prelude.{Option, Some, None, is_some, Ok, slice_get}
 use Rattle.std.specs.List.{list_all}
 use Rattle.std.proofs.lemmas.Bool.{false≢true, and_parts}
 use Rattle.std.proofs.lemmas.List.{length-replicate}
 use Rattle.std.proofs.lemmas.Option.{slice_get_within}
-use Rattle.ss_core.specs.declared.names.Kind.{Kind}
 use Rattle.ss_core.specs.declared.names.Kind.TheVariants as kind
 use Rattle.ss_core.specs.declared.names.Place.{Place}
 use Rattle.ss_core.specs.declared.names.Ty.{Ty}
@@ -34,9 +33,8 @@ use Rattle.ss_machine_good.proofs.Puts.{put_true}
 use Rattle.ss_machine_good.proofs.Steps.{code_typed}
 use Rattle.ss_machine_good_frames.proofs.Behind.{variable_apart}
 use Rattle.ss_logic_stores.specs.declared.Sort.TheVariants as sort
-use Rattle.ss_logic_stores.specs.Values.{reference, class_name, Table, Value, whole, thing, as_thing, Structure}
-use Rattle.ss_logic_stores.specs.Terms.{NewArray, Length, Term, app, value_of}
-use Rattle.ss_logic_stores.specs.Formulas.{Formula}
+use Rattle.ss_logic_stores.specs.Values.{reference, class_name, Table, whole, thing, as_thing, Structure}
+use Rattle.ss_logic_stores.specs.Terms.{NewArray, Length, Term, app}
 use Rattle.ss_logic_rules.specs.Shapes.{number, class_term, next_of, equal, at_most}
 use Rattle.ss_logic_rules.specs.Shapes as shape
 use Rattle.ss_logic_express.specs.Express.{element_sort}
@@ -45,7 +43,7 @@ use Rattle.ss_logic_means.specs.Sorts.{HasSort}
 use Rattle.ss_vcgen_heaps.specs.Positions.{Position, Walk, assume_all, check, meant_at, evaluate, with_term, term_for}
 use Rattle.ss_vcgen_heaps.specs.Positions as positions
 use Rattle.ss_vcgen_heaps.specs.Obligations.{local_sort, keep, behind}
-use Rattle.ss_vcgen_changes.specs.Done.{StandsFor, HasStore}
+use Rattle.ss_vcgen_changes.specs.Done.{StandsFor}
 use Rattle.ss_vcgen_changes.proofs.Behind.{next_stands, array_behind}
 use Rattle.ss_vcgen_changes.proofs.Checked.{array_done}
 use Rattle.ss_sound_outcomes.specs.Points.{Activation, Point, scene, Fits, entry_size}

@@ -1,6 +1,6 @@
 -- Writes of elements, from a position at which the run is.
-use Rattle.std.proofs.Common.{◌≡◌, ℕ, List, [], ◌∷◌, Bool, true, false, ◌&&◌, ◌||◌, refl, sym, ◌∙◌, ap, subst}
-use Rattle.std.specs.Prelude.{Option, Some, None, slice_get}
+use Rattle.std.proofs.Common.{◌≡◌, ℕ, List, [], ◌∷◌, Bool, true, refl, sym, ◌∙◌, ap, subst}
+use Rattle.std.specs.Prelude.{Option, Some, None}
 use Rattle.std.specs.List.{list_all}
 use Rattle.std.proofs.lemmas.Bool.{false≢true, and_parts}
 use Rattle.ss_core.specs.declared.names.Kind.TheVariants as kind
@@ -10,7 +10,6 @@ use Rattle.ss_core.specs.declared.names.Ty.TheVariants as ty
 use Rattle.ss_core.specs.Tree.{ClassTree, ExprTree, WriteElementStmt, BodyTree}
 use Rattle.ss_core.proofs.Chains.{sub-below}
 use Rattle.ss_store_rules.specs.declared.Value.{Value as ObjectValue}
-use Rattle.ss_store_rules.specs.declared.Value.TheVariants as value
 use Rattle.ss_store_rules.specs.Store.{Object}
 use Rattle.ss_store_rules.specs.Reads.{as_int}
 use Rattle.ss_store_rules.specs.Assigned.{reads_assigned}
@@ -24,10 +23,9 @@ use Rattle.ss_store_rules.proofs.Objects.{same_object}
 use Rattle.ss_machine_typed.proofs.Outcomes.{where_typed_some, is_int_type}
 use Rattle.ss_machine_typed.proofs.Slots.{of_array}
 use Rattle.ss_machine_typed.proofs.Sound.{object_typed, value_sound}
-use Rattle.ss_machine_good.proofs.Steps.{value_fits, code_typed, fitting_some}
-use Rattle.ss_logic_stores.specs.declared.Sort.{Sort}
+use Rattle.ss_machine_good.proofs.Steps.{code_typed, fitting_some}
 use Rattle.ss_logic_stores.specs.declared.Sort.TheVariants as sort
-use Rattle.ss_logic_stores.specs.Values.{Table, Value, whole, Structure}
+use Rattle.ss_logic_stores.specs.Values.{Table}
 use Rattle.ss_logic_stores.specs.Terms.{Put, Term, app, sort_of_type}
 use Rattle.ss_logic_stores.specs.Formulas.{neg}
 use Rattle.ss_logic_rules.specs.Shapes.{committed}

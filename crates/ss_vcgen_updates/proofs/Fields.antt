@@ -10,7 +10,7 @@ use Rattle.ss_core.specs.declared.names.Mark.TheVariants as mark
 use Rattle.ss_core.specs.declared.names.Place.{Place}
 use Rattle.ss_core.specs.declared.names.Ty.{Ty}
 use Rattle.ss_core.specs.declared.names.Ty.TheVariants as ty
-use Rattle.ss_core.specs.Tree.{ClassTree, ExprTree, LocalExpr, WriteStmt, BodyTree}
+use Rattle.ss_core.specs.Tree.{ClassTree, ExprTree, LocalExpr, BodyTree}
 use Rattle.ss_core.specs.Chain.{is_type, DeclaredField, all_fields}
 use Rattle.ss_core.proofs.Declared.{declared_place}
 use Rattle.ss_core.proofs.Fields.{field_declared}
@@ -56,7 +56,7 @@ mark_is mark.Rep mark.Rep h = refl
 mark_is mark.Peer mark.Peer h = refl
 mark_is m n h = absurd (false≢true h)
 
--- The write has the field's own mark and the class that declares it, the object is of that class or below, and the value of the field's type.
+-- The write has the field's own mark, and the class that declares it. Its object is of a class, and its value fits the field's type.
 pub record IsFieldWrite (cs : List ClassTree) (b : BodyTree) (e : ExprTree) (m : Mark) (t : ℕ) (u : ExprTree) (f : ℕ) : Type 0 where
   pub field : DeclaredField
   pub there : slice_get (all_fields cs) f ≡ Some field

@@ -1,5 +1,5 @@
 -- The invariants of an object at a position.
-use Rattle.std.proofs.Common.{◌≡◌, ℕ, zero, suc, List, [], ◌∷◌, Bool, true, false, ◌&&◌, refl, sym, ◌∙◌, ap, subst}
+use Rattle.std.proofs.Common.{◌≡◌, ℕ, zero, suc, List, [], ◌∷◌, true, false, ◌&&◌, refl, sym, ap, subst}
 use Rattle.std.specs.Prelude.{Some, slice_get, ◌==◌}
 use Rattle.std.specs.List.{list_all}
 use Rattle.std.proofs.lemmas.Bool.{true≢false, and_parts}
@@ -10,13 +10,13 @@ use Rattle.ss_core.specs.Chain.{IsChain, NoAlso}
 use Rattle.ss_store_rules.specs.declared.Value.{Value as ObjectValue}
 use Rattle.ss_store_rules.specs.declared.Value.TheVariants as value
 use Rattle.ss_store_rules.specs.Store.{Object}
-use Rattle.ss_store_rules.specs.Admissible.{is_admissible, AreAdmissible, invariants, invariants_hold}
+use Rattle.ss_store_rules.specs.Admissible.{is_admissible, invariants, invariants_hold}
 use Rattle.ss_store_rules.specs.Good.{has_type, IsReady, IsGood}
 use Rattle.ss_store_rules.specs.Typed.{invariant_types, is_invariant}
 use Rattle.ss_store_rules.specs.Values as run
 use Rattle.ss_machine_typed.specs.Settings.{IsGoodSetting}
 use Rattle.ss_machine_typed.proofs.Older.{older_self}
-use Rattle.ss_logic_stores.specs.Values.{reference, thing, Heap, Value, Structure}
+use Rattle.ss_logic_stores.specs.Values.{reference, thing, Value, Structure}
 use Rattle.ss_logic_stores.specs.Terms.{Term}
 use Rattle.ss_logic_express.specs.Express.{One, Scene, local_meant, holds_formula}
 use Rattle.ss_logic_express.specs.Invariants.{invariant_scene}

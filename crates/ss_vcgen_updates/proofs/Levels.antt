@@ -1,6 +1,6 @@
 -- Unpack and pack, from a position at which the run is.
-use Rattle.std.proofs.Common.{◌≡◌, ℕ, List, [], ◌∷◌, Bool, true, refl, sym, ◌∙◌, ap, subst}
-use Rattle.std.specs.Prelude.{Some, Ok, slice_get}
+use Rattle.std.proofs.Common.{◌≡◌, ℕ, List, [], ◌∷◌, true, refl, sym, ◌∙◌, ap, subst}
+use Rattle.std.specs.Prelude.{slice_get}
 use Rattle.std.proofs.lemmas.Bool.{and_parts}
 use Rattle.ss_core.specs.declared.names.Kind.TheVariants as kind
 use Rattle.ss_core.specs.declared.names.Place.{Place}
@@ -21,19 +21,18 @@ use Rattle.ss_machine_typed.proofs.Sound.{class_of_type}
 use Rattle.ss_machine_good.specs.Known.{IsTrueOf}
 use Rattle.ss_machine_good.proofs.Steps.{fits_typed}
 use Rattle.ss_logic_stores.specs.declared.Sort.TheVariants as sort
-use Rattle.ss_logic_stores.specs.Values.{Table, Structure}
-use Rattle.ss_logic_stores.specs.Terms.{Unpack, Pack, Symbol, Term, app}
+use Rattle.ss_logic_stores.specs.Values.{Table}
+use Rattle.ss_logic_stores.specs.Terms.{Unpack, Pack, Term, app}
 use Rattle.ss_logic_stores.specs.Formulas.{neg}
 use Rattle.ss_logic_rules.specs.Shapes.{class_term, level_of, equal, committed}
 use Rattle.ss_logic_express.specs.Express.{element_sort}
 use Rattle.ss_logic_express.specs.Invariants.{invariant_scene}
 use Rattle.ss_logic_means.specs.Means.{standing}
 use Rattle.ss_logic_means.specs.Sorts.{HasSort}
-use Rattle.ss_vcgen_heaps.specs.Positions.{Position, Walk, check, check_all, local_term}
-use Rattle.ss_vcgen_heaps.specs.Positions as positions
+use Rattle.ss_vcgen_heaps.specs.Positions.{Walk, check, check_all, local_term}
 use Rattle.ss_vcgen_heaps.specs.Contracts.{conditions}
-use Rattle.ss_vcgen_heaps.specs.Obligations.{local_sort, check_local, owned_are_full, unpack, pack}
-use Rattle.ss_vcgen_changes.specs.Done.{HasStore, IsDone}
+use Rattle.ss_vcgen_heaps.specs.Obligations.{check_local, owned_are_full}
+use Rattle.ss_vcgen_changes.specs.Done.{IsDone}
 use Rattle.ss_vcgen_changes.proofs.Behind.{unpack_behind, pack_behind}
 use Rattle.ss_vcgen_changes.proofs.Checked.{unpack_done, pack_done}
 use Rattle.ss_sound_outcomes.specs.Points.{Point, scene, entry_size}

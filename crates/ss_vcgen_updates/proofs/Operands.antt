@@ -1,7 +1,7 @@
 -- The objects that a change concerns: what terms and checks say of them.
-use Rattle.std.proofs.Common.{◌≡◌, ℕ, List, [], ◌∷◌, length, Bool, true, false, ◌||◌, ◌⊎◌, inl, inr, ⊎_elim, refl, sym, ◌∙◌, ap, subst, arith}
-use Rattle.std.specs.Prelude.{Option, Some, None, slice_get, unwrap_or}
-use Rattle.std.proofs.lemmas.Bool.{false≢true, and_parts, or_cases}
+use Rattle.std.proofs.Common.{◌≡◌, ℕ, List, [], Bool, true, ⊎_elim, refl, sym, ◌∙◌, ap, subst, arith}
+use Rattle.std.specs.Prelude.{Some, slice_get, unwrap_or}
+use Rattle.std.proofs.lemmas.Bool.{false≢true, or_cases}
 use Rattle.ss_core.specs.declared.names.Kind.TheVariants as kind
 use Rattle.ss_core.specs.declared.names.Place.{Place}
 use Rattle.ss_core.specs.declared.names.Ty.{Ty}
@@ -16,16 +16,15 @@ use Rattle.ss_store_rules.specs.NonNull.{is_non_null_type}
 use Rattle.ss_store_rules.specs.Values.{local_value}
 use Rattle.ss_machine_typed.proofs.Sound.{object_typed}
 use Rattle.ss_machine_good.specs.Known.{IsNotNull}
-use Rattle.ss_logic_stores.specs.declared.Sort.TheVariants as sort
-use Rattle.ss_logic_stores.specs.Values.{null, reference, Table, Value, whole, truth, thing, Structure}
-use Rattle.ss_logic_stores.specs.Terms.{Term, value_of}
+use Rattle.ss_logic_stores.specs.Values.{null, Table, thing, Structure}
+use Rattle.ss_logic_stores.specs.Terms.{Term}
 use Rattle.ss_logic_rules.specs.Shapes.{null_term, differ}
 use Rattle.ss_logic_means.specs.Means.{standing}
 use Rattle.ss_logic_means.specs.Sorts.{HasSort}
 use Rattle.ss_logic_means.proofs.Standing.{get_found}
 use Rattle.ss_vcgen_heaps.specs.Positions.{Position, Walk, term_or_null, local_term}
 use Rattle.ss_vcgen_heaps.specs.Obligations.{AreValid, local_type, local_sort, is_known_local, check_local}
-use Rattle.ss_sound_outcomes.specs.Points.{Activation, Point, scene, IsSound}
+use Rattle.ss_sound_outcomes.specs.Points.{Activation, Point, scene}
 use Rattle.ss_vcgen_positions.specs.At.{Stays, HasValue, IsTrueIn, activation, Agrees, IsAt}
 use Rattle.ss_vcgen_positions.proofs.Alike.{alike_self}
 use Rattle.ss_vcgen_positions.proofs.Joins.{get_below}

@@ -1,10 +1,9 @@
 -- `ready this`, from a position at which the run is.
-use Rattle.std.proofs.Common.{◌≡◌, ℕ, zero, List, [], ◌∷◌, length, Bool, true, false, not, ◌&&◌, ⊎_elim, refl, sym, ◌∙◌, ap, subst}
+use Rattle.std.proofs.Common.{◌≡◌, ℕ, List, [], ◌∷◌, Bool, true, false, not, ◌&&◌, ⊎_elim, refl, sym, subst}
 use Rattle.std.specs.Prelude.{if◌then◌else◌, Some, Result, Ok, slice_get}
 use Rattle.std.proofs.lemmas.Bool.{false≢true, true≢false, and_parts, cases_Bool, lt-ltb}
 use Rattle.ss_core.specs.declared.names.Kind.{Kind}
 use Rattle.ss_core.specs.declared.names.Place.{Place}
-use Rattle.ss_core.specs.declared.names.Ty.{Ty}
 use Rattle.ss_core.specs.declared.names.Ty.TheVariants as ty
 use Rattle.ss_core.specs.Tree.{ClassTree, ReadyStmt, BodyTree}
 use Rattle.ss_core.specs.Chain.{below}
@@ -14,7 +13,7 @@ use Rattle.ss_store_rules.specs.Admissible.{invariants_hold}
 use Rattle.ss_store_rules.specs.Changes.{field_class}
 use Rattle.ss_store_rules.specs.Construction.{has_all_fields}
 use Rattle.ss_store_rules.specs.Good.{IsGood}
-use Rattle.ss_store_rules.specs.Locals.{argument_count, local_types, is_argument}
+use Rattle.ss_store_rules.specs.Locals.{argument_count, local_types}
 use Rattle.ss_store_rules.specs.NonNull.{Known}
 use Rattle.ss_store_rules.proofs.Owners.{not_true}
 use Rattle.ss_machine_rules.specs.Frame.{this_of}
@@ -26,12 +25,12 @@ use Rattle.ss_machine_good_frames.specs.Frames.{HasGiven}
 use Rattle.ss_machine_good_frames.proofs.Behind.{constructor_instance}
 use Rattle.ss_machine_good_frames.proofs.Statements.{if_true, given_known}
 use Rattle.ss_logic_stores.specs.declared.Sort.TheVariants as sort
-use Rattle.ss_logic_stores.specs.Values.{Table, Structure}
+use Rattle.ss_logic_stores.specs.Values.{Table}
 use Rattle.ss_logic_stores.specs.Terms.{MakeReady, Term, app}
 use Rattle.ss_logic_express.specs.Express.{element_sort}
 use Rattle.ss_logic_means.specs.Means.{standing}
 use Rattle.ss_logic_means.specs.Sorts.{HasSort}
-use Rattle.ss_vcgen_heaps.specs.Positions.{Position, Walk, with_store, local_term}
+use Rattle.ss_vcgen_heaps.specs.Positions.{Walk, with_store, local_term}
 use Rattle.ss_vcgen_heaps.specs.Obligations.{behind}
 use Rattle.ss_vcgen_changes.specs.Done.{HasStore}
 use Rattle.ss_vcgen_changes.proofs.Behind.{ready_behind}

@@ -1,6 +1,6 @@
 -- A position behind a change of the store, where the term of the change stands for the store of the point behind.
-use Rattle.std.proofs.Common.{◌≡◌, ℕ, List, [], ◌∷◌, length, Bool, true, ◌||◌, refl, sym, ◌∙◌, ap, subst}
-use Rattle.std.specs.Prelude.{Option, Some, None, Result, Ok, Err, slice_get}
+use Rattle.std.proofs.Common.{◌≡◌, ℕ, List, [], ◌∷◌, Bool, true, ◌||◌, refl, sym, ◌∙◌, ap, subst}
+use Rattle.std.specs.Prelude.{Some, Result, Ok, Err}
 use Rattle.ss_core.specs.declared.names.Kind.{Kind}
 use Rattle.ss_core.specs.Tree.{ClassTree, StmtTree}
 use Rattle.ss_store_rules.specs.declared.Value.{Value as ObjectValue}
@@ -9,7 +9,7 @@ use Rattle.ss_store_rules.specs.Locals.{is_target}
 use Rattle.ss_machine_good.specs.Flows.{is_simple}
 use Rattle.ss_machine_good.specs.Known.{IsTrueOf}
 use Rattle.ss_logic_stores.specs.declared.Sort.TheVariants as sort
-use Rattle.ss_logic_stores.specs.Values.{Heap, Table, Value, store, Structure}
+use Rattle.ss_logic_stores.specs.Values.{Table, Value, Structure}
 use Rattle.ss_logic_stores.specs.Terms.{Symbol, Term, app, applied, value_of}
 use Rattle.ss_logic_stores.specs.Objects.{IsGoodStore, objects_of}
 use Rattle.ss_logic_means.specs.Sorts.{HasSort}

@@ -1,22 +1,20 @@
 -- Operands of a change: each gets a term, at positions one behind the other.
 use Rattle.std.proofs.Common.{◌≡◌, ℕ, List, [], Bool, true, false, Ok, refl, sym, ◌∙◌, ap, subst}
-use Rattle.std.specs.Prelude.{Option, Some, is_some, slice_get}
+use Rattle.std.specs.Prelude.{Option, Some, is_some}
 use Rattle.ss_core.specs.declared.names.Kind.TheVariants as kind
 use Rattle.ss_core.specs.declared.names.Place.{Place}
 use Rattle.ss_core.specs.declared.names.Ty.{Ty}
 use Rattle.ss_core.specs.declared.names.Ty.TheVariants as ty
-use Rattle.ss_core.specs.Tree.{ClassTree, ExprTree}
+use Rattle.ss_core.specs.Tree.{ExprTree}
 use Rattle.ss_store_rules.specs.declared.Value.{Value as ObjectValue}
 use Rattle.ss_store_rules.specs.Store.{Object}
 use Rattle.ss_store_rules.specs.Assigned.{reads_assigned}
 use Rattle.ss_store_rules.specs.Formed.{IsFormed}
-use Rattle.ss_store_rules.specs.Good.{has_type}
 use Rattle.ss_store_rules.specs.Locals.{local_types}
 use Rattle.ss_store_rules.specs.NonNull.{is_never_null}
 use Rattle.ss_store_rules.specs.Types.{code_type}
 use Rattle.ss_store_rules.specs.Values as run
 use Rattle.ss_machine_typed.proofs.Sound.{value_sound}
-use Rattle.ss_machine_good.specs.Known.{IsNotNull}
 use Rattle.ss_machine_good.proofs.NonNull.{never_null}
 use Rattle.ss_machine_good.proofs.Steps.{code_typed}
 use Rattle.ss_logic_stores.specs.declared.Sort.{Sort}
@@ -28,11 +26,10 @@ use Rattle.ss_logic_means.specs.Means.{standing, Denotes}
 use Rattle.ss_logic_means.specs.Sorts.{HaveSort}
 use Rattle.ss_vcgen_heaps.specs.Positions.{Position, Walk, site, meant_at, with_term, term_for}
 use Rattle.ss_vcgen_heaps.specs.Obligations.{AreValid, check_not_null}
-use Rattle.ss_sound_outcomes.specs.Points.{Activation, Point, scene}
+use Rattle.ss_sound_outcomes.specs.Points.{Point, scene}
 use Rattle.ss_vcgen_positions.specs.At.{IsAlike, Stays, HasValue, activation, Agrees, IsAt, Rises}
-use Rattle.ss_vcgen_positions.proofs.Alike.{alike_self, alike_twice, alike_lower, stays_on}
+use Rattle.ss_vcgen_positions.proofs.Alike.{alike_self, stays_on}
 use Rattle.ss_vcgen_positions.proofs.Keeps.{checked_unless}
-use Rattle.ss_vcgen_positions.proofs.Leads.{leads_with_term}
 use Rattle.ss_vcgen_positions.proofs.Same.{IsLike, at_like, like_with_term}
 use Rattle.ss_vcgen_positions.proofs.Terms.{HasTerm, standing_numbered, term_at}
 use Rattle.ss_vcgen_values.specs.Values.{HasMeaning}

@@ -1,32 +1,29 @@
 -- Writes of fields, from a position at which the run is.
-use Rattle.std.proofs.Common.{◌≡◌, ℕ, List, [], ◌∷◌, Bool, true, false, ◌&&◌, ◌||◌, not, ⊎_elim, refl, sym, ◌∙◌, ap, subst}
-use Rattle.std.specs.Prelude.{Option, Some, is_some, Ok, slice_get}
+use Rattle.std.proofs.Common.{◌≡◌, ℕ, List, [], ◌∷◌, true, false, not, ⊎_elim, refl, sym, ◌∙◌, ap, subst}
 use Rattle.std.specs.List.{list_all}
 use Rattle.std.proofs.lemmas.Bool.{true≢false, and_parts, or_cases}
 use Rattle.ss_core.specs.declared.names.Kind.TheVariants as kind
 use Rattle.ss_core.specs.declared.names.Mark.{Mark}
 use Rattle.ss_core.specs.declared.names.Place.{Place}
 use Rattle.ss_core.specs.declared.names.Ty.TheVariants as ty
-use Rattle.ss_core.specs.Tree.{ClassTree, ExprTree, WriteStmt}
-use Rattle.ss_core.specs.Chain.{all_fields}
+use Rattle.ss_core.specs.Tree.{ExprTree, WriteStmt}
 use Rattle.ss_store_rules.specs.declared.Value.{Value as ObjectValue}
 use Rattle.ss_store_rules.specs.declared.Value.TheVariants as value
 use Rattle.ss_store_rules.specs.Store.{Object}
 use Rattle.ss_store_rules.specs.Assigned.{reads_assigned}
 use Rattle.ss_store_rules.specs.Changes.{field_class, field_mark, field_type, with_owners, write_of}
 use Rattle.ss_store_rules.specs.Good.{has_type, is_non_null}
-use Rattle.ss_store_rules.specs.Locals.{local_types}
 use Rattle.ss_store_rules.specs.NonNull.{site_of, is_never_null}
 use Rattle.ss_store_rules.specs.Typed.{is_plain}
 use Rattle.ss_store_rules.specs.Types.{code_type}
 use Rattle.ss_store_rules.specs.Values as run
 use Rattle.ss_store_rules.proofs.Owners.{not_true}
-use Rattle.ss_machine_good.specs.Known.{IsNotNull, IsTrueOf}
+use Rattle.ss_machine_good.specs.Known.{IsNotNull}
 use Rattle.ss_machine_good.proofs.NonNull.{never_null}
 use Rattle.ss_machine_good.proofs.Steps.{value_fits, code_typed, fitting_some}
 use Rattle.ss_logic_stores.specs.declared.Sort.TheVariants as sort
-use Rattle.ss_logic_stores.specs.Values.{Table, Structure}
-use Rattle.ss_logic_stores.specs.Terms.{Set, Term, app, field_sort}
+use Rattle.ss_logic_stores.specs.Values.{Table}
+use Rattle.ss_logic_stores.specs.Terms.{Set, app, field_sort}
 use Rattle.ss_logic_stores.specs.Formulas.{neg}
 use Rattle.ss_logic_rules.specs.Shapes.{class_term, level_of, sub_atom}
 use Rattle.ss_logic_express.specs.Express.{element_sort}
