@@ -39,7 +39,7 @@ use Rattle.ss_logic_express.specs.Express.{Meant, One}
 use Rattle.ss_logic_means.specs.Means.{standing}
 use Rattle.ss_vcgen_heaps.specs.Contracts.{seen, called}
 use Rattle.ss_vcgen_heaps.specs.Positions.{Counters, Position, Walk, term_or_null, local_term, evaluate_all}
-use Rattle.ss_vcgen_heaps.specs.Obligations.{settle_all, arguments_settled, check_receiver, with_this, call, behind, AreValid}
+use Rattle.ss_vcgen_heaps.specs.Obligations.{settle_all, arguments_settled, check_receiver, with_this, call, check_not_null, behind, AreValid}
 use Rattle.ss_sound_outcomes.specs.Points.{Activation, Point, scene, entry_size}
 use Rattle.ss_sound_outcomes.specs.Outcomes.{Has, IsObject, with_local, with_store, IsReturn, CallsSafely}
 use Rattle.ss_sound_contracts.proofs.Conditions.{this_argument}
@@ -58,7 +58,7 @@ use Rattle.ss_vcgen_calls.specs.Stated.{IsStatedBody, IsTermFor, AreTermsFor}
 use Rattle.ss_vcgen_calls.proofs.Stated.{formed_stated, seen_stated}
 use Rattle.ss_vcgen_calls.proofs.Called.{calls_safely}
 use Rattle.ss_vcgen_calls.proofs.Known.{kept_true, base_known}
-use Rattle.ss_vcgen_calls.proofs.Operands.{have_some, split_values, operands_given}
+use Rattle.ss_vcgen_calls.proofs.Operands.{have_some, split_values, HaveTermsFor, operands_given}
 
 -- ---- small things
 
@@ -240,9 +240,37 @@ module _ (w : Walk) (before : List Object) (table : Table) (arguments : List Obj
 
   -- ---- a dispatched one
 
-  terms_split : (n : Counters) (m : Structure) (ts : List Term) (v : ObjectValue) (vs : List ObjectValue) → AreTermsFor cs n m ts (v ∷ vs) → (t : Term) × (us : List Term) × (ts ≡ t ∷ us) × IsTermFor cs n m t v × AreTermsFor cs n m us vs
-  terms_split n m [] v vs h = absurd h
-  terms_split n m (t ∷ us) v vs h = (t, us, refl, h.0, h.1)
+  -- The first of some operands has a term with its value, and so have the others.
+  record StartsWith (n : Counters) (m : Structure) (ms : List Meant) (v : ObjectValue) (vs : List ObjectValue) : Type 0 where
+    first : Term
+    others : List Term
+    are : ms ≡ One first ∷ map One others
+    stand : AreTermsFor cs n m (first ∷ others) (v ∷ vs)
+
+  starts_with : (n : Counters) (m : Structure) (ms : List Meant) (us : List ObjectValue) (v : ObjectValue) (vs : List ObjectValue) → HaveTermsFor w before table n m ms us → us ≡ v ∷ vs → StartsWith n m ms v vs
+  starts_with n m ms us v vs have is = split have.terms have.are (subst (λ ys. AreTermsFor cs n m have.terms ys) is have.stand)
+    where
+      split : (ts : List Term) → ms ≡ map One ts → AreTermsFor cs n m ts (v ∷ vs) → StartsWith n m ms v vs
+      split [] are h = absurd h
+      split (t ∷ ts) are h = record { first = t; others = ts; are = are; stand = h }
+
+  -- the check of the receiver makes no new constant
+  still_terms : (at : Place) (callee : CalleeTree) (ms : List Meant) (j : Position) (m : Structure) (ts : List Term) (vs : List ObjectValue) → AreTermsFor cs j.next m ts vs → AreTermsFor cs (check_receiver w at callee ms j).next m ts vs
+  still_terms at callee ms j m ts vs h = subst (λ (n : Counters). AreTermsFor cs n m ts vs) (sym (same_receiver w at callee ms j).next) h
+
+  -- a receiver is an object, where it is known not to be null or that is checked
+  receiver_checked : (at : Place) (xs : ℕ → Bool) (m : Structure) (j : Position) (p : Point) → IsAt w before table xs m j p → (e : ExprTree) (t : ℕ) (n : Bool) → code_type cs w.body e ≡ Some (ty.Ref (record { 0 = t }) n) → reads_assigned w.body xs e ≡ true →
+      (v : ObjectValue) → run.value_of e (scene a p) ≡ Ok v → (o : Term) → IsTermFor cs j.next m o v → AreValid cs (check_not_null w at e o j).listed → IsObject v × Agrees w before table m (check_not_null w at e o j) p
+  receiver_checked at xs m j p is e t n typed read v has o o_is valid =
+      let good = good_at w before table entry.program xs m j p is in
+      let ref = ty.Ref (record { 0 = t }) n in
+      let is_typed = code_typed cs w.body e ref typed in
+      let known = is_never_null (site_of w.program w.body) j.known false e in
+      let never = λ (h : known ≡ true) (m' : Structure) (alike : IsAlike j.next m m') (is_null : value_of cs m' [] o ≡ thing null).
+      never_null w.body xs j.known e (scene a p) good is.sound.was_ready is.assigned is.known false refl read ref is_typed h v has (null_alone v (sym (o_is.is m' alike []) ∙ is_null)) in
+      let check = checked_unless w before table m p known kind.Null at (differ o null_term) j never valid is.agrees in
+      let self = alike_self j.next m in
+      (object_of cs p.store t n v (value_sound e (scene a p) (local_types w.body) w.body.flags.ctor good ref v is_typed has) (λ is_null. check.0 m self (o_is.is m self [] ∙ ap standing is_null)), check.1)
 
   pub dispatched_goes : (at : Place) (x : Option ℕ) (e : ExprTree) (t n : ℕ) (es : List ExprTree) (Q : Point → Type 0) → Goes w before table arguments (CallStmt at x (Dispatched e t n) es) Q
   dispatched_goes at x e t n es Q xs m k p coded here valid ends =
@@ -256,7 +284,6 @@ module _ (w : Walk) (before : List Object) (table : Table) (arguments : List Obj
       let number = method_number w.program t n b body_is.0 in
       let stated = seen_stated cs b (formed_stated w.program b (entry.program.bodies number.0 b number.1)) in
       let class = class_of_type (λ c. c == t) (code_type cs w.body e) typing.0 in
-      let e_typed = code_typed cs w.body e (ty.Ref (record { 0 = class.0 }) class.1) class.2 in
       let read = reads at x callee es xs m k p coded here valid in
       let e_read = (and_parts (reads_assigned w.body xs e) (list_all (reads_assigned w.body xs) es) read).0 in
       let types = and_from (is_some (code_type cs w.body e)) (list_all (λ z. is_some (code_type cs w.body z)) es) (class_is_some (λ c. c == t) (code_type cs w.body e) typing.0) (have_some cs w.body es (types_of b.params) fits.0) in
@@ -266,22 +293,15 @@ module _ (w : Walk) (before : List Object) (table : Table) (arguments : List Obj
       let values = split_values e es s given.values given.are in
       let v = values.0 in
       let vs = values.1 in
-      let term = terms_split j.next given.m' given.have.terms v vs (subst (λ us. AreTermsFor cs j.next given.m' given.have.terms us) values.4 given.have.stand) in
-      let o = term.0 in
-      let ms = One o ∷ map One term.1 in
-      let are = given.have.are ∙ ap (map One) term.2 in
-      let good = good_at w before table entry.program xs given.m' j p given.at in
-      let v_typed = value_sound e s (local_types w.body) w.body.flags.ctor good (ty.Ref (record { 0 = class.0 }) class.1) v e_typed values.2 in
-      let known = is_never_null (site_of w.program w.body) j.known false e in
-      let never = λ (h : known ≡ true) (m' : Structure) (alike : IsAlike j.next given.m' m') (is_null : value_of cs m' [] o ≡ thing null).
-      never_null w.body xs j.known e s good given.at.sound.was_ready given.at.assigned given.at.known false refl e_read (ty.Ref (record { 0 = class.0 }) class.1) e_typed h v values.2 (null_alone v (sym (term.3.is m' alike []) ∙ is_null)) in
-      let check = checked_unless w before table given.m' p known kind.Null at (differ o null_term) j never (valid_checked at x callee es xs m k p coded here valid ms are) given.at.agrees in
-      let not_null : IsNotNull v = λ is_null. check.0 given.m' (alike_self j.next given.m') (term.3.is given.m' (alike_self j.next given.m') [] ∙ ap standing is_null) in
-      let stand = subst (λ (c : Counters). AreTermsFor cs c given.m' (o ∷ term.1) (v ∷ vs)) (sym (same_receiver w at callee ms j).next) (term.3, term.4) in
+      let term = starts_with j.next given.m' (arguments_settled w (e ∷ es) ev) given.values v vs given.have values.4 in
+      let o = term.first in
+      let ms = One o ∷ map One term.others in
+      let check = receiver_checked at xs given.m' j p given.at e class.0 class.1 class.2 e_read v values.2 o term.stand.0 (valid_checked at x callee es xs m k p coded here valid ms term.are) in
+      let stand = still_terms at callee ms j given.m' (o ∷ term.others) (v ∷ vs) term.stand in
       has_value (run.value_of e s) v (λ u. Has (values_of es s) (λ us. IsObject u × CallsSafely a (CallStmt at x callee es) Q p x (called w.program w.body callee) (u ∷ us))) values.2
       (has_values (values_of es s) vs (λ us. IsObject v × CallsSafely a (CallStmt at x callee es) Q p x (called w.program w.body callee) (v ∷ us)) values.3 (
-        object_of cs p.store class.0 class.1 v v_typed not_null,
-        call_goes_on at x callee es xs m k p coded here valid ms are (seen b) stated (ap (option_map seen) found.1) fits.1 (o ∷ term.1) (v ∷ vs) refl given.m' given.alike check.1 stand
+        check.0,
+        call_goes_on at x callee es xs m k p coded here valid ms term.are (seen b) stated (ap (option_map seen) found.1) fits.1 (o ∷ term.others) (v ∷ vs) (refl {a = ms}) given.m' given.alike check.1 stand
             (λ z u r. method_known at x callee es xs m k p coded here valid (seen b) (ap (λ c. is_non_null_type (result_of c)) found.1) fits.1 (v ∷ vs) z u r) Q ends,
       ))
 
