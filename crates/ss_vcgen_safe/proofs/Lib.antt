@@ -1,0 +1,4 @@
+pub mod Branches
+pub mod Entries
+pub mod All
+pub mod Safe
