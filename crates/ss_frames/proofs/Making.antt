@@ -29,10 +29,6 @@ call_made X a b c m f g h made = (made.0, made.1 ∙ ap X (call_at-grown a b g m
 pub calls_made : (X : logic.CallTerms → List Formula) (a b c : Forms) (m : CallTerms) (fs : List FormulaId) → IsGrown a b → HasCall a m → AreMade c fs (X (call_at b m)) → AreMade c fs (X (call_at a m))
 calls_made X a b c m fs g h made = (made.0, made.1 ∙ ap X (call_at-grown a b g m h))
 
--- and where it is larger
-pub calls_later : (X : logic.CallTerms → List Formula) (a b : Forms) (m : CallTerms) (fs : List FormulaId) → IsGrown a b → HasCall a m → AreMade a fs (X (call_at a m)) → AreMade b fs (X (call_at b m))
-calls_later X a b m fs g h made = let later = AreMade-grown a b g fs _ made in (later.0, later.1 ∙ ap X (sym (call_at-grown a b g m h)))
-
 pub atom_says : (a b : Forms) → IsGrown a b → (holds : Bool) (p : Predicate) (store object : TermId) → HasTerm a store → IsTerm a object the_object →
     Literal holds p (terms_from (terms_at b (store ∷ object ∷ []))) ≡ Literal holds p (terms_from (term_at a store ∷ the_object ∷ []))
 atom_says a b g holds p store object h k =

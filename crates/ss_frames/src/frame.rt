@@ -140,8 +140,8 @@ fn all_kept(
     b.and(&[objects, elements, others])
 }
 
-/// The frame condition: between the two stores only what is named, free or new has changed, and what is new or free is at its full level
-/// again, but for the objects of enclosing exposes. An error is want of memory; what the bank had before stays.
+/// The frame condition: what was allocated and is neither free nor named is the same in both stores. What is new or free is at its full
+/// level, but for the objects of enclosing exposes. An error is want of memory; what the bank had before stays.
 pub fn kept(
     alloc: Global,
     b: &mut Bank,
