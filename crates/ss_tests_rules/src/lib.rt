@@ -1,11 +1,17 @@
 //! Tests of the instances of rules: each rule at arguments that fit it, with the sentence that docs/OBLIGATIONS.md gives, and at others;
-//! and of the constants that a `choose` may take.
+//! of the constants that a `choose` may take; and of the check of derivations, each line once and faulty ones.
 #![tactic(auto)]
 
 #[cfg(test)]
 mod classes;
 #[cfg(test)]
 mod constants;
+#[cfg(test)]
+mod derivations;
+#[cfg(test)]
+mod derived;
+#[cfg(test)]
+mod lines;
 #[cfg(test)]
 mod reader;
 #[cfg(test)]

@@ -1,10 +1,11 @@
 // Terms and formulas of a bank, read from texts.
 
 ghost use Rattle.std.specs.Prelude.{◌≡◌, IsTrue};
-ghost use Rattle.ss_terms_stores.specs.Forms.{HasTerms, HasFormulas};
+ghost use Rattle.ss_terms_stores.specs.Forms.{HasTerms, HasFormula, HasFormulas};
 
-use crate::words::{Head, head_of, leaf, with_word};
-use ss_terms_stores::{Bank, FormulaId, Predicate, Symbol, TermId};
+use crate::words::{Head, bound_name, bound_sort, head_of, leaf, with_word};
+use ss_logic_stores::Sort;
+use ss_terms_stores::{Bank, FormulaId, Predicate, Symbol, Term, TermId};
 use std::alloc::{AllocError, Global};
 
 /// Whether each number stands for a term of the bank.
@@ -35,12 +36,39 @@ fn joined(bank: &mut Bank, is_and: bool, fs: &[FormulaId]) -> Result<FormulaId, 
     if is_and { bank.and(fs) } else { bank.or(fs) }
 }
 
-// What stands behind a parenthesis that is open, and how many terms and formulas stand before it.
+// The formula for all values of bound names of these sorts, or for some.
+fn quantified(
+    bank: &mut Bank,
+    is_all: bool,
+    sorts: &[Sort],
+    f: FormulaId,
+) -> Result<FormulaId, AllocError>
+    requires { HasFormula bank.old f }
+    ensures { bank.new.fields ≡ bank.old.fields }
+{
+    if is_all {
+        return bank.forall(sorts, f);
+    }
+    let none = bank.forall(sorts, bank.negation(f))?;
+    Ok(other(bank, none))
+}
+
+// The negation, where the formula is there.
+fn other(bank: &Bank, f: FormulaId) -> FormulaId {
+    if bank.has_formula(f) {
+        bank.negation(f)
+    } else {
+        f
+    }
+}
+
+// What stands behind a parenthesis that is open, and how many terms, formulas and sorts stand before it.
 #[derive(Clone, Copy)]
 struct Open {
     head: Head,
     terms: usize,
     formulas: usize,
+    sorts: usize,
 }
 
 /// The terms and formulas of a text, one behind the other.
@@ -53,6 +81,7 @@ pub struct Reader {
     /// Whether each word was one, and each parenthesis fitted.
     pub is_read: bool,
     opens: Vec<Open>,
+    sorts: Vec<Sort>,
     is_head: bool,
 }
 
@@ -64,6 +93,7 @@ impl Reader {
             store,
             is_read: true,
             opens: Vec::new(alloc),
+            sorts: Vec::new(alloc),
             is_head: false,
         }
     }
@@ -103,6 +133,11 @@ impl Reader {
         Ok(())
     }
 
+    fn add_sort(&mut self, sort: Sort) -> Result<(), AllocError> {
+        self.sorts.push(sort)?;
+        Ok(())
+    }
+
     fn add_formula(&mut self, f: FormulaId) -> Result<(), AllocError> {
         self.formulas.push(f)?;
         Ok(())
@@ -121,7 +156,22 @@ impl Reader {
         }
         match self.store {
             Some(store) if word == "S" => self.add_term(store),
-            _ => self.add_leaf(bank, word),
+            _ => self.add_word(bank, word),
+        }
+    }
+
+    fn add_word(&mut self, bank: &mut Bank, word: &str) -> Result<(), AllocError>
+        ensures { bank.new.fields ≡ bank.old.fields }
+    {
+        if let Some(sort) = bound_sort(word) {
+            return self.add_sort(sort);
+        }
+        match bound_name(word) {
+            Some(k) => {
+                let t = bank.term(Term::Bound(k))?;
+                self.add_term(t)
+            }
+            None => self.add_leaf(bank, word),
         }
     }
 
@@ -150,6 +200,7 @@ impl Reader {
                     head,
                     terms: self.terms.len(),
                     formulas: self.formulas.len(),
+                    sorts: self.sorts.len(),
                 })?;
                 Ok(())
             }
@@ -182,6 +233,8 @@ impl Reader {
             Head::Not => self.negate(bank),
             Head::And => self.join(bank, true, open.formulas),
             Head::Or => self.join(bank, false, open.formulas),
+            Head::Forall => self.quantify(bank, true, open.sorts),
+            Head::Exists => self.quantify(bank, false, open.sorts),
         }
     }
 
@@ -235,6 +288,21 @@ impl Reader {
         }
         let f = joined(bank, is_and, fs)?;
         self.formulas.truncate(from);
+        self.add_formula(f)
+    }
+
+    // The last formula, for bound names of the sorts from this place on.
+    fn quantify(&mut self, bank: &mut Bank, is_all: bool, from: usize) -> Result<(), AllocError>
+        ensures { bank.new.fields ≡ bank.old.fields }
+    {
+        let Some(f) = self.formulas.pop() else {
+            return self.fail();
+        };
+        if from > self.sorts.len() || !bank.has_formula(f) {
+            return self.fail();
+        }
+        let f = quantified(bank, is_all, &self.sorts[from..], f)?;
+        self.sorts.truncate(from);
         self.add_formula(f)
     }
 }

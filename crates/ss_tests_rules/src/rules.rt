@@ -8,36 +8,12 @@ ghost use Rattle.ss_terms_stores.specs.Forms.{HasTerms, IsBankOf};
 use crate::classes::{are_few, program};
 use crate::reader::{Reader, has_terms};
 use crate::rows::{FITTING, OTHERS, WRONG};
+use crate::words::{free_rule, good_rule};
 use ss_core::Classes;
-use ss_logic_rules::{GoodRule, RuleName};
 use ss_rules::{good_instance, instance};
 use ss_terms_stores::{Bank, FormulaId, TermId, field_sorts};
 use std::alloc::{AllocError, Global};
 use std::test::Fail;
-
-fn free_rule(word: &str) -> Option<RuleName> {
-    match word {
-        "read" => Some(RuleName::Read),
-        "fresh" => Some(RuleName::Fresh),
-        "class" => Some(RuleName::Class),
-        "split" => Some(RuleName::Split),
-        "apart" => Some(RuleName::Apart),
-        "quorem" => Some(RuleName::Quorem),
-        "bool" => Some(RuleName::Bool),
-        _ => None,
-    }
-}
-
-fn good_rule(word: &str) -> Option<GoodRule> {
-    match word {
-        "g2" => Some(GoodRule::Full),
-        "g3" => Some(GoodRule::Owned),
-        "g4" => Some(GoodRule::Marks),
-        "g5" => Some(GoodRule::Typed),
-        "g6" => Some(GoodRule::Ready),
-        _ => None,
-    }
-}
 
 // What the rule says of these arguments. A rule on good stores has the store first.
 fn said(

@@ -1,5 +1,6 @@
-// The words of terms and formulas, as docs/OBLIGATIONS.md has them.
+// The words of terms, formulas and rules, as docs/OBLIGATIONS.md has them.
 
+use ss_logic_rules::{GoodRule, RuleName};
 use ss_logic_stores::Sort;
 use ss_terms_stores::{Predicate, Symbol};
 
@@ -11,6 +12,8 @@ pub enum Head {
     Not,
     And,
     Or,
+    Forall,
+    Exists,
 }
 
 /// The head of this word. A class or a field that it takes is still 0.
@@ -21,6 +24,8 @@ pub fn head_of(word: &str) -> Option<Head> {
             "not" => Some(Head::Not),
             "and" => Some(Head::And),
             "or" => Some(Head::Or),
+            "forall" => Some(Head::Forall),
+            "exists" => Some(Head::Exists),
             _ => match predicate(word) {
                 Some(predicate) => Some(Head::Atom(predicate)),
                 None => None,
@@ -38,6 +43,7 @@ fn predicate(word: &str) -> Option<Predicate> {
         "com" => Some(Predicate::Committed),
         "ready" => Some(Predicate::Ready),
         "isgroup" => Some(Predicate::IsGroup),
+        "good" => Some(Predicate::Good),
         _ => None,
     }
 }
@@ -45,6 +51,7 @@ fn predicate(word: &str) -> Option<Predicate> {
 fn function(word: &str) -> Option<Symbol> {
     match word {
         "+" => Some(Symbol::Add),
+        "-" => Some(Symbol::Subtract),
         "*" => Some(Symbol::Multiply),
         "quo" => Some(Symbol::Quotient),
         "rem" => Some(Symbol::Remainder),
@@ -88,6 +95,46 @@ fn class(word: &str) -> Option<u16> {
 
 fn constant(word: &str, letter: &str) -> Option<usize> {
     word.strip_prefix(letter)?.parse::<usize>().ok()
+}
+
+/// The sort that this word binds.
+pub fn bound_sort(word: &str) -> Option<Sort> {
+    match word {
+        "object" => Some(Sort::Rest),
+        "int" => Some(Sort::Whole),
+        _ => None,
+    }
+}
+
+/// The number of the bound name that this word is.
+pub fn bound_name(word: &str) -> Option<usize> {
+    constant(word, "v")
+}
+
+/// The rule of this name.
+pub fn free_rule(word: &str) -> Option<RuleName> {
+    match word {
+        "read" => Some(RuleName::Read),
+        "fresh" => Some(RuleName::Fresh),
+        "class" => Some(RuleName::Class),
+        "split" => Some(RuleName::Split),
+        "apart" => Some(RuleName::Apart),
+        "quorem" => Some(RuleName::Quorem),
+        "bool" => Some(RuleName::Bool),
+        _ => None,
+    }
+}
+
+/// The rule on good stores of this name.
+pub fn good_rule(word: &str) -> Option<GoodRule> {
+    match word {
+        "g2" => Some(GoodRule::Full),
+        "g3" => Some(GoodRule::Owned),
+        "g4" => Some(GoodRule::Marks),
+        "g5" => Some(GoodRule::Typed),
+        "g6" => Some(GoodRule::Ready),
+        _ => None,
+    }
 }
 
 /// The function with the class or the field that this word is, where it takes such.

@@ -1,0 +1,216 @@
+// Each derivation of the texts is checked.
+
+ghost use Rattle.std.specs.Prelude.{◌≡◌};
+ghost use Rattle.ss_core.specs.View as view;
+ghost use Rattle.ss_core.specs.Chain.{IsWithinLimits};
+ghost use Rattle.ss_terms_stores.specs.Forms.{IsBankOf};
+
+use crate::classes::{are_few, program};
+use crate::derived::{ACCEPTED, REFUSED, UNFINISHED};
+use crate::lines::{first_word, read_line};
+use crate::reader::{Reader, has_formulas};
+use ss_check_stores::{CheckStop, check};
+use ss_core::Classes;
+use ss_deriv::{Draft, Line};
+use ss_terms_stores::{Bank, FormulaId, field_sorts};
+use std::alloc::{AllocError, Global};
+use std::test::Fail;
+
+// What is said of the lines of an obligation.
+#[derive(Clone, Copy, PartialEq, Eq)]
+enum Answer {
+    Accepted,
+    // The line with this number, from 1, is no step.
+    Refused { at: usize },
+    // The lines don't end each case, or one stands where none is open.
+    Unfinished,
+    // The texts can't be read.
+    Unread,
+}
+
+// The answer that a line names.
+fn named_answer(line: &str) -> Option<Answer> {
+    let (word, rest) = first_word(line);
+    match word {
+        "accepted" => Some(Answer::Accepted),
+        "refused" => Some(Answer::Refused {
+            at: rest.parse::<usize>().ok()?,
+        }),
+        "unfinished" => Some(Answer::Unfinished),
+        _ => None,
+    }
+}
+
+// Adds the line, where it may come next.
+fn add(draft: &mut Draft, line: Line) -> Result<bool, AllocError> {
+    if !draft.allows(&line) {
+        return Ok(false);
+    }
+    draft.add(line)?;
+    Ok(true)
+}
+
+// An obligation and its lines, as far as they are read.
+#[derive(Drop)]
+struct Row {
+    premises: Vec<FormulaId>,
+    goals: Vec<FormulaId>,
+    draft: Draft,
+    is_read: bool,
+    is_shaped: bool,
+}
+
+impl Row {
+    fn new(alloc: Global) -> Self {
+        Row {
+            premises: Vec::new(alloc),
+            goals: Vec::new(alloc),
+            draft: Draft::new(alloc),
+            is_read: true,
+            is_shaped: true,
+        }
+    }
+
+    // Takes a line of the text: a premise, the goal, or a line of the derivation between `obligation` and `end`.
+    fn take(&mut self, alloc: Global, bank: &mut Bank, text: &str) -> Result<(), AllocError>
+        ensures { bank.new.fields ≡ bank.old.fields }
+    {
+        let (word, rest) = first_word(text);
+        match word {
+            "given" => {
+                let f = read_formula(alloc, bank, rest)?;
+                self.premises.extend_from_slice(&f)?;
+            }
+            "goal" => {
+                let f = read_formula(alloc, bank, rest)?;
+                self.goals.extend_from_slice(&f)?;
+            }
+            "#" => {}
+            "obligation" => {}
+            "end" => {}
+            _ => self.take_line(alloc, bank, text)?,
+        }
+        Ok(())
+    }
+
+    fn take_line(&mut self, alloc: Global, bank: &mut Bank, text: &str) -> Result<(), AllocError>
+        ensures { bank.new.fields ≡ bank.old.fields }
+    {
+        match read_line(alloc, bank, text)? {
+            Some(line) => self.add(line),
+            None => self.fail(),
+        }
+    }
+
+    fn fail(&mut self) -> Result<(), AllocError> {
+        self.is_read = false;
+        Ok(())
+    }
+
+    fn add(&mut self, line: Line) -> Result<(), AllocError> {
+        if !add(&mut self.draft, line)? {
+            self.is_shaped = false;
+        }
+        Ok(())
+    }
+}
+
+// The formulas of a text, or none where it can't be read.
+fn read_formula(alloc: Global, bank: &mut Bank, text: &str) -> Result<Vec<FormulaId>, AllocError>
+    ensures { bank.new.fields ≡ bank.old.fields }
+{
+    let mut seen = Reader::new(alloc, None);
+    seen.read(alloc, bank, text)?;
+    if !seen.is_read || !seen.terms.is_empty() {
+        return Ok(Vec::new(alloc));
+    }
+    Ok(seen.formulas)
+}
+
+// What is said of the row.
+fn answer_to(
+    alloc: Global,
+    bank: &mut Bank,
+    classes: &Classes,
+    row: Row,
+) -> Result<Answer, AllocError>
+    requires bank { IsBankOf (view.classes classes.now) bank.old }
+    requires limits { IsWithinLimits (view.classes classes.now) }
+    ensures { bank.new.fields ≡ bank.old.fields }
+{
+    let Row {
+        premises,
+        goals,
+        draft,
+        is_read,
+        is_shaped,
+    } = row;
+    let [goal] = goals.as_slice() else {
+        return Ok(Answer::Unread);
+    };
+    if !is_read || !has_formulas(bank, &premises) || !bank.has_formula(*goal) {
+        return Ok(Answer::Unread);
+    }
+    if !is_shaped || !draft.is_finished() {
+        return Ok(Answer::Unfinished);
+    }
+    match check(alloc, bank, classes, &premises, *goal, &draft.finish()) {
+        Ok(()) => Ok(Answer::Accepted),
+        Err(CheckStop::BadStep { at }) => Ok(Answer::Refused { at }),
+        Err(CheckStop::Memory) => Err(AllocError),
+    }
+}
+
+// The line of the first answer that isn't the one that is given, from 0.
+fn first_other(
+    alloc: Global,
+    bank: &mut Bank,
+    classes: &Classes,
+    text: &str,
+) -> Result<Option<usize>, AllocError>
+    requires bank { IsBankOf (view.classes classes.now) bank.old }
+    requires limits { IsWithinLimits (view.classes classes.now) }
+    ensures { bank.new.fields ≡ bank.old.fields }
+{
+    let mut row = Row::new(alloc);
+    for (number, line) in text.lines().enumerate() {
+        if line.is_empty() {
+            continue;
+        }
+        match named_answer(line) {
+            Some(wanted) => {
+                if answer_to(alloc, bank, classes, row)? != wanted {
+                    return Ok(Some(number));
+                }
+                row = Row::new(alloc);
+            }
+            None => row.take(alloc, bank, line)?,
+        }
+    }
+    Ok(None)
+}
+
+fn first_others(
+    alloc: Global,
+    bank: &mut Bank,
+    classes: &Classes,
+) -> Result<[Option<usize>; 3], AllocError>
+    requires bank { IsBankOf (view.classes classes.now) bank.old }
+    requires limits { IsWithinLimits (view.classes classes.now) }
+{
+    let accepted = first_other(alloc, bank, classes, ACCEPTED)?;
+    let refused = first_other(alloc, bank, classes, REFUSED)?;
+    let unfinished = first_other(alloc, bank, classes, UNFINISHED)?;
+    Ok([accepted, refused, unfinished])
+}
+
+#[test]
+fn derivations_have_their_answers(rt: HostRuntime) -> Result<(), Fail> {
+    let alloc = rt.alloc();
+    let classes = program(alloc)?;
+    assert!(rt; are_few(&classes));
+    let mut bank = Bank::new(alloc, field_sorts(alloc, &classes)?);
+    let others = first_others(alloc, &mut bank, &classes)?;
+    assert_eq!(rt; others, [None, None, None]);
+    Ok(())
+}
