@@ -1,4 +1,3 @@
-pub mod Typed
 pub mod Stated
 pub mod Returned
 pub mod Called

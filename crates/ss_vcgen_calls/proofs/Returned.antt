@@ -61,7 +61,7 @@ use Rattle.ss_vcgen_positions.proofs.Keeps.{AllMean, assumed, assumed_all, condi
 use Rattle.ss_vcgen_positions.proofs.Same.{same_assume_all}
 use Rattle.ss_vcgen_positions.proofs.Terms.{standing_numbered}
 use Rattle.ss_vcgen_calls.specs.Stated.{IsStatedBody, IsTermFor, AreTermsFor, IsResult}
-use Rattle.ss_vcgen_calls.proofs.Typed.{type_true}
+use Rattle.ss_vcgen_values.proofs.Types.{type_true}
 
 -- ---- arguments
 
@@ -236,7 +236,8 @@ module _ (w : Walk) (before : List Object) (table : Table) (chain : IsChain w.pr
 
         type_is_true : (t : Ty) → b.result ≡ Some t → (x : Term) → value_of cs m' [] x ≡ standing v → Hold cs m' (is_of_type true zt t x)
         type_is_true t e x there =
-            type_true cs m' zt hz z (is []) (subst (λ u. IsStoreOf cs u hz z) (sym table_same) store_of) x true t v there (r.answer.types t e) (λ _. r.answer.ready) (λ nn. r.answer.non_null (ap is_non_null_type e ∙ nn))
+            type_true cs m' zt x hz (is []) true t v there (subst (λ s. has_type cs s t v ≡ true) (sym objects_new) (r.answer.types t e)) (λ _. subst (λ s. IsReady s v) (sym objects_new) r.answer.ready)
+            (λ nn. r.answer.non_null (ap is_non_null_type e ∙ nn))
 
         abbrev ExitTerms : List Term → ContractTerms
         ExitTerms rs = record { now = zt; entry = k.store; arguments = ms; result = map One rs }

@@ -1,5 +1,4 @@
 pub mod Known
-pub mod Types
 pub mod Tests
 pub mod Levels
 pub mod Again

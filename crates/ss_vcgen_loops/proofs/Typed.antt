@@ -20,7 +20,7 @@ use Rattle.ss_vcgen_heaps.specs.Positions.{Walk}
 use Rattle.ss_vcgen_heaps.specs.Contracts.{is_of_type}
 use Rattle.ss_vcgen_heaps.specs.Obligations.{is_asked_ready, stays_of_type, types_from}
 use Rattle.ss_vcgen_positions.proofs.Guards.{hold_more}
-use Rattle.ss_vcgen_loops.proofs.Types.{type_true}
+use Rattle.ss_vcgen_values.proofs.Types.{type_true}
 
 module _ (cs : List ClassTree) (m : Structure) (s b n : Term) (h : Heap) (s_is : value_of cs m [] s ≡ store h) where
   not_null_true : (v : ObjectValue) → value_of cs m [] n ≡ standing v → IsNotNull v → True cs m [] (differ n null_term)

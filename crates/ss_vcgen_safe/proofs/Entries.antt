@@ -51,7 +51,7 @@ use Rattle.ss_vcgen_positions.proofs.Keeps.{AllMean, conditions_true, assumed_al
 use Rattle.ss_vcgen_positions.proofs.Same.{same_assume_all}
 use Rattle.ss_vcgen_positions.proofs.Terms.{standing_numbered}
 use Rattle.ss_vcgen_values.specs.Goes.{IsHere}
-use Rattle.ss_vcgen_loops.proofs.Types.{type_true}
+use Rattle.ss_vcgen_values.proofs.Types.{type_true}
 
 -- ---- lists
 

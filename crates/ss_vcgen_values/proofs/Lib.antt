@@ -5,3 +5,4 @@ pub mod Behind
 pub mod Plain
 pub mod Arguments
 pub mod Returns
+pub mod Types
