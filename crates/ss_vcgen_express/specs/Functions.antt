@@ -1,0 +1,25 @@
+-- Functions by their symbols, at the terms of a bank.
+use Rattle.std.specs.Prelude.{List, [], ◌∷◌, ◌++◌, Option, Some, None}
+use Rattle.ss_logic_stores.specs.Terms.{Term, app}
+use Rattle.ss_terms_stores.specs.declared.forms.TermId.{TermId}
+use Rattle.ss_terms_stores.specs.Forms.{Forms, symbol_of, HasTerm}
+use Rattle.ss_vcgen_express.specs.declared.functions.Function.{Function}
+
+abbrev pub first_term : (TermId → Term) → Option TermId → List Term
+first_term look None = []
+first_term look (Some t) = look t ∷ []
+
+-- at one value
+abbrev pub applied : (TermId → Term) → Function → Term → Term
+applied look f x = app (symbol_of f.symbol) (first_term look f.first ++ x ∷ [])
+
+-- at two
+abbrev pub applied_two : (TermId → Term) → Function → Term → Term → Term
+applied_two look f x y = app (symbol_of f.symbol) (first_term look f.first ++ x ∷ y ∷ [])
+
+abbrev pub HasFirst : Forms → Option TermId → Type 0
+HasFirst b None = Unit {0}
+HasFirst b (Some t) = HasTerm b t
+
+abbrev pub HasFunction : Forms → Function → Type 0
+HasFunction b f = HasFirst b f.first

@@ -1,0 +1,4 @@
+pub mod Functions
+pub mod Marked
+pub mod Numbers
+pub mod Sayings
