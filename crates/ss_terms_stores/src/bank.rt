@@ -9,6 +9,7 @@ ghost use Rattle.ss_logic_stores.specs.Formulas.{neg, formulas_from};
 ghost use Rattle.ss_logic_stores.specs.Equal.{same_term, same_formula};
 ghost use Rattle.ss_terms_stores.specs.Forms.{Forms, LiteralShape, term_shape, shape_of, term_of, term_at, terms_at, formula_of, formula_at, pair_at, HasTerm, HasTerms, HasFormula, HasFormulas, HasArguments, HasParts, IsTermForm, IsFormulaForm, IsGrown, IsBankOf, opposite_shape, other, is_plain};
 ghost use Rattle.ss_terms_stores.specs.Bank.{IsBesideTerm};
+ghost use Rattle.ss_terms_stores.specs.Apart.{AreApart};
 
 use crate::forms::{Formula, FormulaId, Predicate, Term, TermId};
 use crate::index::{add_formula, add_term, place_of_formula, place_of_term};
@@ -146,6 +147,13 @@ impl Bank {
     {
         let _formulas = &self.formulas;
         x.0 == y.0
+    }
+
+    /// Equal terms have equal numbers, and so have equal formulas.
+    pub fn numbers_are_apart(&self)
+        ensures { AreApart self.now }
+    {
+        let _terms = &self.terms;
     }
 
     // What stands beside a term.
