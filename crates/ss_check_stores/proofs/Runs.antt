@@ -5,11 +5,11 @@ use Rattle.std.proofs.lemmas.Bool.{and_parts, ltb-true}
 use Rattle.std.specs.Prelude.{if◌then◌else◌}
 use Rattle.ss_core.specs.Tree.{ClassTree}
 use Rattle.ss_logic_stores.specs.Formulas.{Formula}
-use Rattle.ss_logic_derivations.specs.Steps.{State, Open, Between, add_fact, fact_of, step_open, step, bad_from, at_end, Nowhere, Case as TreeCase, Cut as TreeCut, Inst as TreeInst, Rule as TreeRule, GoodLine as TreeGood, Swap as TreeSwap}
+use Rattle.ss_logic_derivations.specs.Steps.{State, Open, Between, add_fact, fact_of, step_open, step, bad_from, at_end, Nowhere, Case as TreeCase, Cut as TreeCut, Inst as TreeInst, Rule as TreeRule, GoodLine as TreeGood, InvariantsLine as TreeInvariants, Swap as TreeSwap}
 use Rattle.ss_terms_stores.specs.declared.forms.TermId.{TermId}
 use Rattle.ss_terms_stores.specs.declared.forms.FormulaId.{FormulaId}
 use Rattle.ss_deriv.specs.declared.line.Line.{Line}
-use Rattle.ss_deriv.specs.declared.line.Line.TheVariants.{Premise, Denied, Part, Split, Cut, Inst, Choose, Rule, Good, Chain, Cong, Swap, Clash, Case}
+use Rattle.ss_deriv.specs.declared.line.Line.TheVariants.{Premise, Denied, Part, Split, Cut, Inst, Choose, Rule, Good, Invariants, Chain, Cong, Swap, Clash, Case}
 use Rattle.ss_terms_stores.specs.Forms.{Forms, formula_at, formulas_at, HasTerms, HasFormula, HasFormulas, IsGrown}
 use Rattle.ss_deriv.specs.Lines.{all_below, is_within, line_in, line_of}
 use Rattle.ss_terms_stores.proofs.Grown.{HasTerm-grown, HasTerms-grown, HasFormula-grown, terms_at-grown, formulas_at-grown}
@@ -53,6 +53,7 @@ module _ (a b : Forms) (g : IsGrown a b) where
   line_in-grown (Inst i ts) h = ap (TreeInst i) (terms_at-grown a b g ts.items h)
   line_in-grown (Choose f ts) h = let l = g.same_formulas f h.0 in let r = terms_at-grown a b g ts.items h.1 in cc
   line_in-grown (Good name i ts) h = ap (TreeGood name i) (terms_at-grown a b g ts.items h)
+  line_in-grown (Invariants i ts) h = ap (TreeInvariants i) (terms_at-grown a b g ts.items h)
   line_in-grown (Chain x y path) h = let l = g.same_terms x h.0 in let r = g.same_terms y h.1 in cc
   line_in-grown (Cong x y path) h = let l = g.same_terms x h.0 in let r = g.same_terms y h.1 in cc
   line_in-grown (Swap i f js) h = ap (λ x. TreeSwap i x js.items) (g.same_formulas f h)
@@ -69,6 +70,7 @@ module _ (a b : Forms) (g : IsGrown a b) where
   LineWithin-grown (Inst i ts) h = HasTerms-grown a b g ts.items h
   LineWithin-grown (Choose f ts) h = (HasFormula-grown a b g f h.0, HasTerms-grown a b g ts.items h.1)
   LineWithin-grown (Good name i ts) h = HasTerms-grown a b g ts.items h
+  LineWithin-grown (Invariants i ts) h = HasTerms-grown a b g ts.items h
   LineWithin-grown (Chain x y path) h = (HasTerm-grown a b g x h.0, HasTerm-grown a b g y h.1)
   LineWithin-grown (Cong x y path) h = (HasTerm-grown a b g x h.0, HasTerm-grown a b g y h.1)
   LineWithin-grown (Swap i f js) h = HasFormula-grown a b g f h
@@ -89,6 +91,7 @@ LineWithin-tested b (Cut f) h = ltb-true _ _ h
 LineWithin-tested b (Inst i ts) h = HasTerms-below b ts.items h
 LineWithin-tested b (Choose f ts) h = let p = and_parts (nat_lt f.0 (length b.formulas * 2)) (all_below (length b.terms) ts.items) h in (ltb-true _ _ p.0, HasTerms-below b ts.items p.1)
 LineWithin-tested b (Good name i ts) h = HasTerms-below b ts.items h
+LineWithin-tested b (Invariants i ts) h = HasTerms-below b ts.items h
 LineWithin-tested b (Cong x y path) h = let p = and_parts (nat_lt x.0 (length b.terms)) (nat_lt y.0 (length b.terms)) h in (ltb-true _ _ p.0, ltb-true _ _ p.1)
 LineWithin-tested b (Chain x y path) h = let p = and_parts (nat_lt x.0 (length b.terms)) (nat_lt y.0 (length b.terms)) h in (ltb-true _ _ p.0, ltb-true _ _ p.1)
 LineWithin-tested b (Swap i f js) h = ltb-true _ _ h
@@ -114,6 +117,7 @@ step_adds cs b ps g known waiting (Cut f) s c x = absurd (c f refl)
 step_adds cs b ps g known waiting (Inst i ts) s c x = refl
 step_adds cs b ps g known waiting (Choose f ts) s c x = refl
 step_adds cs b ps g known waiting (Good name i ts) s c x = refl
+step_adds cs b ps g known waiting (Invariants i ts) s c x = refl
 step_adds cs b ps g known waiting (Chain a d path) s c x = refl
 step_adds cs b ps g known waiting (Cong a d path) s c x = refl
 step_adds cs b ps g known waiting (Swap i f js) s c x = refl

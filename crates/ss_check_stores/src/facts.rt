@@ -10,7 +10,7 @@ ghost use Rattle.ss_check_steps.specs.Numbered.{IsNumberOf};
 ghost use Rattle.ss_check_stores.specs.Within.{LineWithin};
 
 use crate::choices::choose;
-use crate::instances::{good, rule};
+use crate::instances::{good, invariants, rule};
 use ss_check_steps::{chain, cong, inst, known_at, part, swap};
 use ss_core::Classes;
 use ss_deriv::Line;
@@ -50,6 +50,9 @@ pub(crate) fn fact(
             store,
             arguments,
         } => good(alloc, bank, classes, known, *name, *store, arguments),
+        Line::Invariants { store, arguments } => {
+            invariants(alloc, bank, classes, known, *store, arguments)
+        }
         Line::Chain { left, right, path } => chain(alloc, bank, known, *left, *right, path),
         Line::Cong {
             left,

@@ -4,6 +4,7 @@ ghost use Rattle.std.specs.Prelude.{◌≡◌, ℕ, [], Some, Err, true, false, 
 ghost use Rattle.ss_core.specs.View as view;
 ghost use Rattle.ss_core.specs.Chain.{IsChain, IsWithinLimits, NoAlso};
 ghost use Rattle.ss_logic_stores.specs.Formulas.{IsValid};
+ghost use Rattle.ss_logic_means.specs.Scenes.{AreInvariants};
 ghost use Rattle.ss_logic_derivations.specs.Steps.{add_fact, fact_of, step_open, step, Derives, first_bad};
 ghost use Rattle.ss_terms_stores.specs.Forms.{formula_at, formulas_at, HasFormula, HasFormulas, IsGrown, IsBankOf};
 ghost use Rattle.ss_deriv.specs.Lines.{line_in, lines_of, is_within, all_below};
@@ -143,6 +144,7 @@ fn is_line_within(line: &Line, terms: usize, formulas: usize) -> bool
         Line::Choose { formula, constants } => formula.0 < formulas && are_below(constants, terms),
         Line::Rule { arguments, .. } => are_below(arguments, terms),
         Line::Good { arguments, .. } => are_below(arguments, terms),
+        Line::Invariants { arguments, .. } => are_below(arguments, terms),
         Line::Chain { left, right, .. } => left.0 < terms && right.0 < terms,
         Line::Cong { left, right, .. } => left.0 < terms && right.0 < terms,
         Line::Swap { formula, .. } => formula.0 < formulas,
@@ -150,8 +152,8 @@ fn is_line_within(line: &Line, terms: usize, formulas: usize) -> bool
     }
 }
 
-/// Checks that a derivation derives the goal from the premises, and so that the goal is true in every structure in which the
-/// premises are. The first line that is no step is refused, also one that names a term or a formula that the bank doesn't
+/// Checks that a derivation derives the goal from the premises, and so, in a program whose invariants are admissible, that the goal is true
+/// in every structure in which the premises are. The first line that is no step is refused, also one that names a term or a formula that the bank doesn't
 /// have.
 pub fn check(
     alloc: Global,
@@ -166,7 +168,7 @@ pub fn check(
     requires premises { HasFormulas bank.old premises.now }
     requires goal { HasFormula bank.old goal }
     ensures derives { OnOk result (Derives (view.classes classes.now) (formulas_at bank.old premises.now) (formula_at bank.old goal) (lines_of bank.old derivation.now)) }
-    ensures valid { OnOk result (IsChain (view.classes classes.now) → NoAlso (view.classes classes.now) → IsValid (view.classes classes.now) (formulas_at bank.old premises.now) (formula_at bank.old goal)) }
+    ensures valid { OnOk result (IsChain (view.classes classes.now) → NoAlso (view.classes classes.now) → AreInvariants (view.classes classes.now) → IsValid (view.classes classes.now) (formulas_at bank.old premises.now) (formula_at bank.old goal)) }
     ensures refused { (n : ℕ) → result ≡ Err (CheckStop.BadStep n) → Derives (view.classes classes.now) (formulas_at bank.old premises.now) (formula_at bank.old goal) (lines_of bank.old derivation.now) → ⊥ }
     ensures first { (n : ℕ) → result ≡ Err (CheckStop.BadStep n) → first_bad (view.classes classes.now) (formulas_at bank.old premises.now) (formula_at bank.old goal) (lines_of bank.old derivation.now) ≡ Some n }
     ensures grown { IsGrown bank.old bank.new }
@@ -187,7 +189,7 @@ fn check_lines(
     requires premises { HasFormulas bank.old premises.now }
     requires goal { HasFormula bank.old goal }
     ensures derives { OnOk result (Derives (view.classes classes.now) (formulas_at bank.old premises.now) (formula_at bank.old goal) (lines_of bank.old lines.now)) }
-    ensures valid { OnOk result (IsChain (view.classes classes.now) → NoAlso (view.classes classes.now) → IsValid (view.classes classes.now) (formulas_at bank.old premises.now) (formula_at bank.old goal)) }
+    ensures valid { OnOk result (IsChain (view.classes classes.now) → NoAlso (view.classes classes.now) → AreInvariants (view.classes classes.now) → IsValid (view.classes classes.now) (formulas_at bank.old premises.now) (formula_at bank.old goal)) }
     ensures first { (n : ℕ) → result ≡ Err (CheckStop.BadStep n) → first_bad (view.classes classes.now) (formulas_at bank.old premises.now) (formula_at bank.old goal) (lines_of bank.old lines.now) ≡ Some n }
     ensures grown { IsGrown bank.old bank.new }
 {

@@ -65,6 +65,7 @@ module _ (cs : List ClassTree) where
     in_case known waiting (tree.Choose f ts) next e = added known waiting (fact_of cs premises goal known (tree.Choose f ts)) next e
     in_case known waiting (tree.Rule name ts) next e = added known waiting (fact_of cs premises goal known (tree.Rule name ts)) next e
     in_case known waiting (tree.GoodLine name i ts) next e = added known waiting (fact_of cs premises goal known (tree.GoodLine name i ts)) next e
+    in_case known waiting (tree.InvariantsLine i ts) next e = added known waiting (fact_of cs premises goal known (tree.InvariantsLine i ts)) next e
     in_case known waiting (tree.Chain x y is) next e = added known waiting (fact_of cs premises goal known (tree.Chain x y is)) next e
     in_case known waiting (tree.Cong x y is) next e = added known waiting (fact_of cs premises goal known (tree.Cong x y is)) next e
     in_case known waiting (tree.Swap i f js) next e = added known waiting (fact_of cs premises goal known (tree.Swap i f js)) next e

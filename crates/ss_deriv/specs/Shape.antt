@@ -1,7 +1,7 @@
 -- The shape of derivations: which lines end a case, and where a case goes on.
 use Rattle.std.specs.Prelude.{◌≡◌, ℕ, suc, ◌+◌, List, [], ◌∷◌, map, Option, Some, None, IsSome, option_and_then}
 use Rattle.ss_deriv.specs.declared.line.Line.{Line}
-use Rattle.ss_deriv.specs.declared.line.Line.TheVariants.{Premise, Denied, Part, Split, Cut, Inst, Choose, Rule, Good, Chain, Cong, Swap, Clash, Case}
+use Rattle.ss_deriv.specs.declared.line.Line.TheVariants.{Premise, Denied, Part, Split, Cut, Inst, Choose, Rule, Good, Invariants, Chain, Cong, Swap, Clash, Case}
 
 -- what a line does to the cases
 pub data Turn : Type 0 where
@@ -22,6 +22,7 @@ turn_of (Inst i ts) = Stay
 turn_of (Choose f ts) = Stay
 turn_of (Rule name ts) = Stay
 turn_of (Good name i ts) = Stay
+turn_of (Invariants i ts) = Stay
 turn_of (Chain x y is) = Stay
 turn_of (Cong x y is) = Stay
 turn_of (Swap i f js) = Stay

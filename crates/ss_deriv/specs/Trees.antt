@@ -1,6 +1,6 @@
 -- The shape of derivations over formulas.
 use Rattle.std.specs.Prelude.{◌≡◌, List, map, Some}
-use Rattle.ss_logic_derivations.specs.Steps.{Line, Premise, Denied, Part, Split, Cut, Inst, Choose, Rule, GoodLine, Chain, Cong, Swap, Clash, Case, Nowhere}
+use Rattle.ss_logic_derivations.specs.Steps.{Line, Premise, Denied, Part, Split, Cut, Inst, Choose, Rule, GoodLine, InvariantsLine, Chain, Cong, Swap, Clash, Case, Nowhere}
 use Rattle.ss_deriv.specs.Shape.{Turn, Stay, Branch, Resume, InCase, BetweenCases, after_all}
 
 -- what a line over formulas does to the cases
@@ -14,6 +14,7 @@ turn (Inst i ts) = Stay
 turn (Choose f ts) = Stay
 turn (Rule name ts) = Stay
 turn (GoodLine name i ts) = Stay
+turn (InvariantsLine i ts) = Stay
 turn (Chain x y is) = Stay
 turn (Cong x y is) = Stay
 turn (Swap i f js) = Stay

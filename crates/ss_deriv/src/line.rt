@@ -50,6 +50,11 @@ pub enum Line {
         store: usize,
         arguments: Vec<TermId>,
     },
+    /// What the rule on invariants says of the store of a known `good`, of an object and of a class.
+    Invariants {
+        store: usize,
+        arguments: Vec<TermId>,
+    },
     /// The two terms are equal, by known equalities that lead from the first to the second.
     Chain {
         left: TermId,

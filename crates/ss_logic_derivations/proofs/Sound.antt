@@ -14,7 +14,8 @@ use Rattle.ss_logic_rules.specs.declared.GoodRule.{GoodRule}
 use Rattle.ss_logic_rules.specs.Shapes.{when, equal}
 use Rattle.ss_logic_rules.specs.Rules.{instance_of}
 use Rattle.ss_logic_rules.specs.GoodRules.{good_instance_of}
-use Rattle.ss_logic_derivations.specs.Steps.{Line, Premise, Denied, Part, Split, Cut, Inst, Choose, Rule, GoodLine, Chain, Cong, Swap, Clash, Case, part_at, count_of, part_of, cases_of, is_literal, is_quantified, is_cut, other_side, walk, joins, is_joined, are_exchanged, is_congruent, is_swapped, body_at, good_store, fact_of, is_value, is_false_bound, is_absurd, is_opposed, is_clash, State, Open, Between, open_cases, add_fact, step_open, step_between, step, run, Derives}
+use Rattle.ss_logic_express.specs.Invariants.{invariants_of}
+use Rattle.ss_logic_derivations.specs.Steps.{Line, Premise, Denied, Part, Split, Cut, Inst, Choose, Rule, GoodLine, InvariantsLine, Chain, Cong, Swap, Clash, Case, part_at, count_of, part_of, cases_of, is_literal, is_quantified, is_cut, other_side, walk, joins, is_joined, are_exchanged, is_congruent, is_swapped, body_at, good_store, fact_of, is_value, is_false_bound, is_absurd, is_opposed, is_clash, State, Open, Between, open_cases, add_fact, step_open, step_between, step, run, Derives}
 use Rattle.ss_logic_derivations.proofs.Chosen.{IsChoice, is_choice, choice_refutes}
 
 pub and_then_some : {A B : Type 0} (k : A → Option B) (o : Option A) (y : B) → option_and_then k o ≡ Some y → (x : A) × (o ≡ Some x) × (k x ≡ Some y)
@@ -29,6 +30,7 @@ when_some false a y h = cc
 pub record AreRules (cs : List ClassTree) : Type 0 where
   pub every : (m : Structure) (name : RuleName) (ts : List Term) (f : Formula) → instance_of cs name ts ≡ Some f → True cs m [] f
   pub good : (m : Structure) (name : GoodRule) (s : Term) (ts : List Term) (f : Formula) → good_instance_of cs name s ts ≡ Some f → True cs m [] (Literal true Good (term_then s no_terms)) → True cs m [] f
+  pub invariants : (m : Structure) (s : Term) (ts : List Term) (f : Formula) → invariants_of cs s ts ≡ Some f → True cs m [] (Literal true Good (term_then s no_terms)) → True cs m [] f
 
 module _ (cs : List ClassTree) (m : Structure) where
   Hold-get : (fs : List Formula) (i : ℕ) (f : Formula) → Hold cs m fs → slice_get fs i ≡ Some f → True cs m [] f
@@ -149,6 +151,12 @@ module _ (cs : List ClassTree) (m : Structure) where
       subst (λ x. True cs m [] x) w.1 (instance_true cs m ss g ts w.0 t)
   body_true ts g f t e = cc
 
+  -- ---- good stores
+
+  good_of : (g : Formula) (s : Term) → True cs m [] g → good_store g ≡ Some s → True cs m [] (Literal true Good (term_then s no_terms))
+  good_of (Literal true Good (term_then r no_terms)) s t e = let same : r ≡ s = cc in subst (λ x. True cs m [] (Literal true Good (term_then x no_terms))) same t
+  good_of g s t e = cc
+
   -- ---- what is false
 
   differs : (b : Bool) → not b ≡ true → b ≡ true → ⊥
@@ -227,11 +235,11 @@ module _ (cs : List ClassTree) (rules : AreRules cs) (premises : List Formula) (
   fact_true m given denied known (GoodLine name i ts) f h e =
       let p = and_then_some _ (option_and_then good_store (slice_get known i)) f e in
       let q = and_then_some good_store (slice_get known i) p.0 p.1 in
-      inl (rules.good m name p.0 ts f p.2 (good_of q.0 p.0 (Hold-get cs m known i q.0 h q.1) q.2))
-    where
-      good_of : (g : Formula) (s : Term) → True cs m [] g → good_store g ≡ Some s → True cs m [] (Literal true Good (term_then s no_terms))
-      good_of (Literal true Good (term_then r no_terms)) s t e = let same : r ≡ s = cc in subst (λ x. True cs m [] (Literal true Good (term_then x no_terms))) same t
-      good_of g s t e = cc
+      inl (rules.good m name p.0 ts f p.2 (good_of cs m q.0 p.0 (Hold-get cs m known i q.0 h q.1) q.2))
+  fact_true m given denied known (InvariantsLine i ts) f h e =
+      let p = and_then_some _ (option_and_then good_store (slice_get known i)) f e in
+      let q = and_then_some good_store (slice_get known i) p.0 p.1 in
+      inl (rules.invariants m p.0 ts f p.2 (good_of cs m q.0 p.0 (Hold-get cs m known i q.0 h q.1) q.2))
   fact_true m given denied known (Chain x y is) f h e =
       let p = and_then_some _ (walk known x is) f e in
       let w = when_some (same_term p.0 y) (equal x y) f p.2 in

@@ -12,6 +12,7 @@ use Rattle.ss_logic_rules.specs.declared.GoodRule.{GoodRule}
 use Rattle.ss_logic_rules.specs.Shapes.{when, equal}
 use Rattle.ss_logic_rules.specs.Rules.{instance_of}
 use Rattle.ss_logic_rules.specs.GoodRules.{good_instance_of}
+use Rattle.ss_logic_express.specs.Invariants.{invariants_of}
 
 -- `Nowhere` is a line that names a term or a formula that isn't there
 pub data Line : Type 0 where
@@ -24,6 +25,7 @@ pub data Line : Type 0 where
   Choose : Formula → List Term → Line
   Rule : RuleName → List Term → Line
   GoodLine : GoodRule → ℕ → List Term → Line
+  InvariantsLine : ℕ → List Term → Line
   Chain : Term → Term → List ℕ → Line
   Cong : Term → Term → List ℕ → Line
   Swap : ℕ → Formula → List ℕ → Line
@@ -156,6 +158,7 @@ fact_of cs premises goal known (Inst i ts) = option_and_then (body_at cs ts) (sl
 fact_of cs premises goal known (Choose f ts) = choice (goal ∷ premises ++ known) f ts
 fact_of cs premises goal known (Rule name ts) = instance_of cs name ts
 fact_of cs premises goal known (GoodLine name i ts) = option_and_then (λ s. good_instance_of cs name s ts) (option_and_then good_store (slice_get known i))
+fact_of cs premises goal known (InvariantsLine i ts) = option_and_then (λ s. invariants_of cs s ts) (option_and_then good_store (slice_get known i))
 fact_of cs premises goal known (Chain x y is) = option_and_then (λ z. when (same_term z y) (equal x y)) (walk known x is)
 fact_of cs premises goal known (Cong x y is) = when (is_congruent known is x y) (equal x y)
 fact_of cs premises goal known (Swap i f js) = option_and_then (λ g. when (is_swapped known js g f) f) (slice_get known i)

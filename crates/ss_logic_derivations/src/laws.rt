@@ -4,11 +4,12 @@ ghost use Rattle.std.specs.Prelude.{◌≡◌, ℕ, List, Some, None};
 ghost use Rattle.ss_core.specs.Tree.{ClassTree};
 ghost use Rattle.ss_core.specs.Chain.{IsChain, NoAlso};
 ghost use Rattle.ss_logic_stores.specs.Formulas.{Formula, IsValid};
+ghost use Rattle.ss_logic_means.specs.Scenes.{AreInvariants};
 ghost use Rattle.ss_logic_derivations.specs.Steps.{Line, Derives, first_bad};
 
 /// What is derived is valid: in every structure in which the premises are true the goal is.
 pub fn what_is_derived_is_valid()
-    ensures { (cs : List ClassTree) → IsChain cs → NoAlso cs → (premises : List Formula) (goal : Formula) (lines : List Line) → Derives cs premises goal lines → IsValid cs premises goal }
+    ensures { (cs : List ClassTree) → IsChain cs → NoAlso cs → AreInvariants cs → (premises : List Formula) (goal : Formula) (lines : List Line) → Derives cs premises goal lines → IsValid cs premises goal }
 {}
 
 /// Lines of which none is bad are a derivation.

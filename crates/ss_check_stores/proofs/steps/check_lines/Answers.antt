@@ -84,4 +84,4 @@ returns-clause-derives c =
     (sym c.loop-i.invariant.goes_on ∙ rw last (done_end c.loop-i.bank c.loop-i.cases.is_open c.loop-i.cases.known.items c.loop-i.cases.waiting.items (c.loop-i.i + 1) done.0 done.1))
 
 pub returns-clause-valid : goal.returns-clause-valid
-returns-clause-valid c = λ chain alone. derived_valid (classes c.args.classes.now) chain alone _ _ (map (line_of c.args.bank.now) c.args.lines.now) (returns-clause-derives c)
+returns-clause-valid c = λ chain alone are. derived_valid (classes c.args.classes.now) chain alone are _ _ (map (line_of c.args.bank.now) c.args.lines.now) (returns-clause-derives c)
