@@ -47,14 +47,13 @@ fn body(
     ensures fact { IfOk result (λ o. IsNumberOf bank.new o (body_at (view.classes classes.now) (terms_at bank.old ts.now) (formula_at bank.old f))) }
     ensures grown { IsGrown bank.old bank.new }
 {
-    let _ = classes;
     match bank.formula_node(f) {
         Formula::Forall(sorts, body) => {
             if !bank.have_sorts(sorts, ts) {
                 return Ok(None);
             }
             let body = *body;
-            let g = put(alloc, bank, ts, body)?;
+            let g = put(alloc, bank, classes, ts, body)?;
             Ok(Some(g))
         }
         _ => Ok(None),

@@ -1,13 +1,15 @@
 // New constants for what there is.
 
 ghost use Rattle.std.specs.Prelude.{◌≡◌, [], ◌∷◌, ◌++◌, ◌&&◌, IfOk};
+ghost use Rattle.ss_core.specs.View as view;
 ghost use Rattle.ss_logic_stores.specs.Formulas as logic;
 ghost use Rattle.ss_logic_stores.specs.Formulas.{neg, formulas_from};
 ghost use Rattle.ss_logic_derivations.specs.Steps as steps;
 ghost use Rattle.ss_logic_derivations.specs.Steps.{choice};
-ghost use Rattle.ss_terms_stores.specs.Forms.{formula_at, formulas_at, terms_at, HasTerms, HasFormula, HasFormulas, IsGrown};
+ghost use Rattle.ss_terms_stores.specs.Forms.{formula_at, formulas_at, terms_at, HasTerms, HasFormula, HasFormulas, IsGrown, IsBankOf};
 ghost use Rattle.ss_check_steps.specs.Numbered.{IsNumberOf};
 
+use ss_core::Classes;
 use ss_logic_stores::Sort;
 use ss_terms_avoids::{are_constants, are_new};
 use ss_terms_puts::put;
@@ -59,10 +61,12 @@ fn are_choices(
 fn chosen(
     alloc: Global,
     bank: &mut Bank,
+    classes: &Classes,
     f: FormulaId,
     body: FormulaId,
     ts: &[TermId],
 ) -> Result<Option<FormulaId>, AllocError>
+    requires bank { IsBankOf (view.classes classes.now) bank.old }
     requires formula { HasFormula bank.old f }
     requires body { HasFormula bank.old body }
     requires terms { HasTerms bank.old ts.now }
@@ -70,7 +74,7 @@ fn chosen(
     ensures grown { IsGrown bank.old bank.new }
 {
     let none = bank.negation(f);
-    let such = put(alloc, bank, ts, body)?;
+    let such = put(alloc, bank, classes, ts, body)?;
     let either = bank.or(&[none, such])?;
     Ok(Some(either))
 }
@@ -79,12 +83,14 @@ fn chosen(
 pub(crate) fn choose(
     alloc: Global,
     bank: &mut Bank,
+    classes: &Classes,
     premises: &[FormulaId],
     goal: FormulaId,
     known: &[FormulaId],
     f: FormulaId,
     ts: &[TermId],
 ) -> Result<Option<FormulaId>, AllocError>
+    requires bank { IsBankOf (view.classes classes.now) bank.old }
     requires premises { HasFormulas bank.old premises.now }
     requires goal { HasFormula bank.old goal }
     requires known { HasFormulas bank.old known.now }
@@ -99,7 +105,7 @@ pub(crate) fn choose(
             if !are_choices(alloc, bank, premises, goal, known, sorts, body, ts)? {
                 return Ok(None);
             }
-            chosen(alloc, bank, f, body, ts)
+            chosen(alloc, bank, classes, f, body, ts)
         }
         _ => Ok(None),
     }

@@ -1,8 +1,10 @@
 -- Terms put for bound names, number by number.
-use Rattle.std.proofs.Common.{◌≡◌, ℕ, zero, suc, ◌+◌, ◌-◌, ◌*◌, ◌<◌, ◌≤◌, List, [], ◌∷◌, ◌++◌, length, map, take, refl, sym, ◌∙◌, ap, arith, get_or, Result, Ok, Err, Vec, Global}
+use Rattle.std.proofs.Common.{◌≡◌, ℕ, zero, suc, ◌+◌, ◌-◌, ◌*◌, ◌<◌, ◌≤◌, List, [], ◌∷◌, ◌++◌, length, map, take, true, refl, sym, ◌∙◌, ap, arith, get_or, Result, Ok, Err, Vec, Global}
 use Rattle.std.specs.Prelude.{IfOk}
 use Rattle.std.proofs.lemmas.List.{map_push, take_more}
-use Rattle.ss_logic_stores.specs.Terms.{Term, Bound, App, terms_from, term_then}
+use Rattle.std.proofs.lemmas.Bool.{ltb-true, and_parts}
+use Rattle.ss_core.specs.Tree.{ClassTree}
+use Rattle.ss_logic_stores.specs.Terms.{Term, Bound, App, Terms, no_terms, terms_from, term_then, takes, sorts_of, is_well_sorted, are_well_sorted}
 use Rattle.ss_logic_stores.specs.Formulas.{Formula, And, Or, formulas_from, formula_then, bound_in, put_term, put_terms, put, put_all}
 use Rattle.ss_terms_stores.specs.declared.forms.TermId.{TermId}
 use Rattle.ss_terms_stores.specs.declared.forms.FormulaId.{FormulaId}
@@ -43,6 +45,20 @@ pub bound_in_past : (b : Forms) (ts : List TermId) (k : ℕ) → length ts ≤ k
 bound_in_past b [] k l = let e : k - 0 ≡ k = omega arith in ap Bound (sym e)
 bound_in_past b (t ∷ ts) zero l = absurd (omega arith)
 bound_in_past b (t ∷ ts) (suc k) l = let e : suc k - suc (length ts) ≡ k - length ts = omega arith in bound_in_past b ts k (omega arith) ∙ ap Bound (sym e)
+
+-- ---- a term without bound names
+
+module _ (cs : List ClassTree) (us : List Term) where
+  mutual
+    pub closed_put : (t : Term) → is_well_sorted cs [] t ≡ true → put_term us t ≡ t
+    closed_put (Bound k) h = let small : k < 0 = ltb-true k 0 h in absurd (omega arith)
+    closed_put (App f ts) h = ap (App f) (closed_puts ts (and_parts (takes cs f (sorts_of cs [] ts)) (are_well_sorted cs [] ts) h).1)
+
+    closed_puts : (ts : Terms) → are_well_sorted cs [] ts ≡ true → put_terms us ts ≡ ts
+    closed_puts no_terms h = refl
+    closed_puts (term_then t ts) h =
+        let p = and_parts (is_well_sorted cs [] t) (are_well_sorted cs [] ts) h in
+        ap (λ x. term_then x (put_terms us ts)) (closed_put t p.0) ∙ ap (term_then t) (closed_puts ts p.1)
 
 -- ---- one more is done
 

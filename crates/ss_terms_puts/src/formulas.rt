@@ -1,11 +1,13 @@
 // Terms in place of the bound names of formulas.
 
 ghost use Rattle.std.specs.Prelude.{◌≡◌, ◌≤◌, ◌*◌, List, [], ◌∷◌, length, map, IfOk};
+ghost use Rattle.ss_core.specs.View as view;
 ghost use Rattle.ss_logic_stores.specs.Formulas as logic;
 ghost use Rattle.ss_logic_stores.specs.Terms.{terms_from};
-ghost use Rattle.ss_terms_stores.specs.Forms.{formula_at, formulas_at, terms_at, HasTerms, HasFormula, HasFormulas, AreBelow, IsGrown, predicate_of};
+ghost use Rattle.ss_terms_stores.specs.Forms.{formula_at, formulas_at, terms_at, HasTerms, HasFormula, HasFormulas, AreBelow, IsGrown, IsBankOf, predicate_of};
 
 use crate::terms::put_arguments;
+use ss_core::Classes;
 use ss_terms_stores::{Bank, Formula, FormulaId, Predicate, TermId};
 use std::alloc::{AllocError, Global};
 
@@ -13,17 +15,19 @@ use std::alloc::{AllocError, Global};
 fn put_literal(
     alloc: Global,
     bank: &mut Bank,
+    classes: &Classes,
     ts: &[TermId],
     holds: bool,
     predicate: Predicate,
     xs: &[TermId],
 ) -> Result<FormulaId, AllocError>
+    requires bank { IsBankOf (view.classes classes.now) bank.old }
     requires terms { HasTerms bank.old ts.now }
     requires arguments { HasTerms bank.old xs.now }
     ensures at { IfOk result (λ g. HasFormula bank.new g × (formula_at bank.new g ≡ logic.put (terms_at bank.old ts.now) (logic.Literal holds (predicate_of predicate) (terms_from (terms_at bank.old xs.now))))) }
     ensures grown { IsGrown bank.old bank.new }
 {
-    let arguments = put_arguments(alloc, bank, ts, xs)?;
+    let arguments = put_arguments(alloc, bank, classes, ts, xs)?;
     bank.formula(Formula::Literal {
         holds,
         predicate,
@@ -36,9 +40,11 @@ fn put_literal(
 pub fn put(
     alloc: Global,
     bank: &mut Bank,
+    classes: &Classes,
     ts: &[TermId],
     f: FormulaId,
 ) -> Result<FormulaId, AllocError>
+    requires bank { IsBankOf (view.classes classes.now) bank.old }
     requires terms { HasTerms bank.old ts.now }
     requires formula { HasFormula bank.old f }
     ensures at { IfOk result (λ g. HasFormula bank.new g × (formula_at bank.new g ≡ logic.put (terms_at bank.old ts.now) (formula_at bank.old f))) }
@@ -52,28 +58,28 @@ pub fn put(
         } => {
             let (holds, predicate) = (*holds, *predicate);
             let arguments = Vec::from_slice(alloc, arguments)?;
-            put_literal(alloc, bank, ts, holds, predicate, &arguments)
+            put_literal(alloc, bank, classes, ts, holds, predicate, &arguments)
         }
         Formula::And(parts) => {
             let parts = Vec::from_slice(alloc, parts)?;
-            let parts = put_all(alloc, bank, ts, &parts, f.0)?;
+            let parts = put_all(alloc, bank, classes, ts, &parts, f.0)?;
             bank.formula(Formula::And(parts))
         }
         Formula::Or(parts) => {
             let parts = Vec::from_slice(alloc, parts)?;
-            let parts = put_all(alloc, bank, ts, &parts, f.0)?;
+            let parts = put_all(alloc, bank, classes, ts, &parts, f.0)?;
             bank.formula(Formula::Or(parts))
         }
         Formula::Forall(sorts, body) => {
             let body = *body;
             let sorts = Vec::from_slice(alloc, sorts)?;
-            let body = put(alloc, bank, ts, body)?;
+            let body = put(alloc, bank, classes, ts, body)?;
             bank.formula(Formula::Forall(sorts, body))
         }
         Formula::Exists(sorts, body) => {
             let body = *body;
             let sorts = Vec::from_slice(alloc, sorts)?;
-            let body = put(alloc, bank, ts, body)?;
+            let body = put(alloc, bank, classes, ts, body)?;
             bank.formula(Formula::Exists(sorts, body))
         }
     }
@@ -84,10 +90,12 @@ pub fn put(
 fn put_all(
     alloc: Global,
     bank: &mut Bank,
+    classes: &Classes,
     ts: &[TermId],
     fs: &[FormulaId],
     bound: usize,
 ) -> Result<Vec<FormulaId>, AllocError>
+    requires bank { IsBankOf (view.classes classes.now) bank.old }
     requires terms { HasTerms bank.old ts.now }
     requires below { AreBelow bound fs.now }
     requires in_bank { bound ≤ length bank.old.formulas * 2 }
@@ -97,7 +105,7 @@ fn put_all(
 {
     let mut made = Vec::new(alloc);
     for f in fs {
-        let g = put(alloc, bank, ts, *f)?;
+        let g = put(alloc, bank, classes, ts, *f)?;
         made.push(g)?;
     }
     Ok(made)

@@ -1,10 +1,12 @@
 // Terms in place of the bound names of terms.
 
 ghost use Rattle.std.specs.Prelude.{◌≡◌, ◌≤◌, List, [], ◌∷◌, length, map, IfOk};
+ghost use Rattle.ss_core.specs.View as view;
 ghost use Rattle.ss_logic_stores.specs.Formulas as logic;
 ghost use Rattle.ss_logic_stores.specs.Formulas.{bound_in};
-ghost use Rattle.ss_terms_stores.specs.Forms.{term_at, terms_at, HasTerm, HasTerms, AreTermsBelow, IsGrown};
+ghost use Rattle.ss_terms_stores.specs.Forms.{term_at, terms_at, HasTerm, HasTerms, AreTermsBelow, IsGrown, IsBankOf};
 
+use ss_core::Classes;
 use ss_terms_stores::{Bank, Term, TermId};
 use std::alloc::{AllocError, Global};
 
@@ -21,19 +23,24 @@ fn bound_at(bank: &mut Bank, ts: &[TermId], k: usize) -> Result<TermId, AllocErr
     bank.term(Term::Bound(k - ts.len()))
 }
 
-/// The term with terms in place of the first bound names. An error is want of memory.
+/// The term with terms in place of the first bound names; one without bound names isn't walked. An error is want of memory.
 #[cycle(putting)]
 pub fn put_term(
     alloc: Global,
     bank: &mut Bank,
+    classes: &Classes,
     ts: &[TermId],
     t: TermId,
 ) -> Result<TermId, AllocError>
+    requires bank { IsBankOf (view.classes classes.now) bank.old }
     requires terms { HasTerms bank.old ts.now }
     requires term { HasTerm bank.old t }
     ensures at { IfOk result (λ u. HasTerm bank.new u × (term_at bank.new u ≡ logic.put_term (terms_at bank.old ts.now) (term_at bank.old t))) }
     ensures grown { IsGrown bank.old bank.new }
 {
+    if bank.is_well_sorted(t) {
+        return Ok(t);
+    }
     match bank.term_node(t) {
         Term::Bound(k) => {
             let k = *k;
@@ -42,7 +49,7 @@ pub fn put_term(
         Term::App(symbol, arguments) => {
             let symbol = *symbol;
             let arguments = Vec::from_slice(alloc, arguments)?;
-            let arguments = put_terms(alloc, bank, ts, &arguments, t.0)?;
+            let arguments = put_terms(alloc, bank, classes, ts, &arguments, t.0)?;
             bank.term(Term::App(symbol, arguments))
         }
     }
@@ -53,10 +60,12 @@ pub fn put_term(
 fn put_terms(
     alloc: Global,
     bank: &mut Bank,
+    classes: &Classes,
     ts: &[TermId],
     xs: &[TermId],
     bound: usize,
 ) -> Result<Vec<TermId>, AllocError>
+    requires bank { IsBankOf (view.classes classes.now) bank.old }
     requires terms { HasTerms bank.old ts.now }
     requires below { AreTermsBelow bound xs.now }
     requires in_bank { bound ≤ length bank.old.terms }
@@ -66,7 +75,7 @@ fn put_terms(
 {
     let mut made = Vec::new(alloc);
     for x in xs {
-        let y = put_term(alloc, bank, ts, *x)?;
+        let y = put_term(alloc, bank, classes, ts, *x)?;
         made.push(y)?;
     }
     Ok(made)
@@ -76,9 +85,11 @@ fn put_terms(
 pub(crate) fn put_arguments(
     alloc: Global,
     bank: &mut Bank,
+    classes: &Classes,
     ts: &[TermId],
     xs: &[TermId],
 ) -> Result<Vec<TermId>, AllocError>
+    requires bank { IsBankOf (view.classes classes.now) bank.old }
     requires terms { HasTerms bank.old ts.now }
     requires arguments { HasTerms bank.old xs.now }
     ensures below { IfOk result (λ v. HasTerms bank.new v.items) }
@@ -86,5 +97,5 @@ pub(crate) fn put_arguments(
     ensures grown { IsGrown bank.old bank.new }
 {
     let count = bank.term_count();
-    put_terms(alloc, bank, ts, xs, count)
+    put_terms(alloc, bank, classes, ts, xs, count)
 }

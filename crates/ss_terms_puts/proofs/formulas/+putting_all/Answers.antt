@@ -1,7 +1,8 @@
 use Rattle.std.proofs.Common.{map, ap, arith, ◌∙◌}
+use Rattle.ss_core.specs.View as view
 use Rattle.ss_logic_stores.specs.Formulas.{put}
 use Rattle.ss_terms_stores.specs.Forms.{terms_at, formulas_at}
-use Rattle.ss_terms_stores.proofs.Grown.{IsGrown-then, HasTerms-grown, HasFormulas-grown, terms_at-grown}
+use Rattle.ss_terms_stores.proofs.Grown.{IsGrown-then, HasTerms-grown, HasFormulas-grown, terms_at-grown, IsBankOf-grown}
 use Rattle.ss_terms_puts.proofs.Putting.{AreBelow-get, AreBelow-push, formulas_more, put_and, put_or, formula_equal}
 use Rattle.ss_terms_puts.proofs.formulas.+putting_all.Goals as goal
 
@@ -24,7 +25,7 @@ put_all-put-requires t c =
     let small = AreBelow-get c.args.bound c.args.fs.now c.loop-f.f-index (record { 0 = 0 }) c.requires.below c.loop-f-test.true in
     let room = c.loop-f.invariant.grown.more_formulas in
     let d = c.decreases in
-    (omega arith, (HasTerms-grown c.args.bank.now c.loop-f.bank c.loop-f.invariant.grown c.args.ts.now c.requires.terms, omega arith))
+    (omega arith, (IsBankOf-grown (view.classes c.args.classes.now) c.args.bank.now c.loop-f.bank c.loop-f.invariant.grown c.requires.bank, (HasTerms-grown c.args.bank.now c.loop-f.bank c.loop-f.invariant.grown c.args.ts.now c.requires.terms, omega arith)))
 
 pub put_all-loop-f-preserved : goal.put_all-loop-f-preserved
 put_all-loop-f-preserved t c =

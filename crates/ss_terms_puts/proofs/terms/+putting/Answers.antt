@@ -1,9 +1,13 @@
-use Rattle.std.proofs.Common.{map, ap, arith, ◌∙◌}
+use Rattle.std.proofs.Common.{map, ap, arith, ◌∙◌, sym}
+use Rattle.ss_core.specs.View as view
 use Rattle.ss_logic_stores.specs.Formulas.{put_term}
-use Rattle.ss_terms_stores.specs.Forms.{terms_at}
-use Rattle.ss_terms_stores.proofs.Grown.{IsGrown-then, HasTerms-grown, terms_at-grown}
-use Rattle.ss_terms_puts.proofs.Putting.{AreTermsBelow-get, AreTermsBelow-push, terms_more, put_app, term_equal}
+use Rattle.ss_terms_stores.specs.Forms.{term_at, terms_at}
+use Rattle.ss_terms_stores.proofs.Grown.{IsGrown-then, HasTerms-grown, terms_at-grown, IsBankOf-grown}
+use Rattle.ss_terms_puts.proofs.Putting.{AreTermsBelow-get, AreTermsBelow-push, terms_more, put_app, term_equal, closed_put}
 use Rattle.ss_terms_puts.proofs.terms.+putting.Goals as goal
+
+pub put_term-returns-then-is_well_sorted-clause-at : goal.put_term-returns-then-is_well_sorted-clause-at
+put_term-returns-then-is_well_sorted-clause-at t c = (c.requires.term, sym (closed_put (view.classes c.args.classes.now) (terms_at c.args.bank.now c.args.ts.now) (term_at c.args.bank.now c.args.t) (sym (c.is_well_sorted.ensures (view.classes c.args.classes.now) c.requires.bank) ∙ c.if-is_well_sorted.true)))
 
 pub put_term-returns-in_ok-arguments-in-App-2-clause-at : goal.put_term-returns-in_ok-arguments-in-App-2-clause-at
 put_term-returns-in_ok-arguments-in-App-2-clause-at t c =
@@ -17,7 +21,7 @@ put_terms-put_term-requires t c =
     let small = AreTermsBelow-get c.args.bound c.args.xs.now c.loop-x.x-index (record { 0 = 0 }) c.requires.below c.loop-x-test.true in
     let room = c.loop-x.invariant.grown.more_terms in
     let d = c.decreases in
-    (omega arith, (HasTerms-grown c.args.bank.now c.loop-x.bank c.loop-x.invariant.grown c.args.ts.now c.requires.terms, omega arith))
+    (omega arith, (IsBankOf-grown (view.classes c.args.classes.now) c.args.bank.now c.loop-x.bank c.loop-x.invariant.grown c.requires.bank, (HasTerms-grown c.args.bank.now c.loop-x.bank c.loop-x.invariant.grown c.args.ts.now c.requires.terms, omega arith)))
 
 pub put_terms-loop-x-preserved : goal.put_terms-loop-x-preserved
 put_terms-loop-x-preserved t c =
