@@ -1,14 +1,30 @@
 //! Expressions of core programs as terms and formulas of a bank, and what has to be so for them to have a value.
 #![tactic(auto)]
 
+mod chains;
+mod classes;
+mod decided;
+mod defaults;
 mod functions;
 mod meant;
 mod operations;
+mod operators;
+mod quantifiers;
 mod sayings;
+mod scene;
 mod truths;
+mod words;
 
+pub use chains::{all_with, and_more, any_with, or_more};
+pub use classes::as_class;
+pub use decided::has_truth_of;
+pub use defaults::default_said;
 pub use functions::{Function, mapped, paired};
 pub use meant::{Choice, Meant};
 pub use operations::{iff, implies, same_truths};
-pub use sayings::{Relation, Saying};
-pub use truths::{over, over_two, said};
+pub use operators::operated;
+pub use quantifiers::{for_each, out_of_range, quantified};
+pub use sayings::{Relation, Saying, related, said_so};
+pub use scene::{Scene, local_term};
+pub use truths::{all, any, over, over_two, said};
+pub use words::{owners_said, word_said};

@@ -12,7 +12,12 @@ use ss_terms_stores::{Bank, FormulaId, TermId};
 use std::alloc::{AllocError, Global};
 
 // What is said of a term.
-fn say(alloc: Global, bank: &mut Bank, saying: Saying, x: TermId) -> Result<FormulaId, AllocError>
+pub(crate) fn say(
+    alloc: Global,
+    bank: &mut Bank,
+    saying: Saying,
+    x: TermId,
+) -> Result<FormulaId, AllocError>
     requires saying { HasSaying bank.old saying }
     requires value { HasTerm bank.old x }
     ensures at { IfOk result (λ f. IsFormula bank.new f (λ b. said_so (term_at b) saying (term_at b x))) }
@@ -31,8 +36,8 @@ pub(crate) fn both(bank: &mut Bank, f: FormulaId, g: FormulaId) -> Result<Formul
     bank.and(&[f, g])
 }
 
-// One of these.
-fn any(bank: &mut Bank, fs: &[FormulaId]) -> Result<FormulaId, AllocError>
+/// One of these.
+pub fn any(bank: &mut Bank, fs: &[FormulaId]) -> Result<FormulaId, AllocError>
     requires { HasFormulas bank.old fs.now }
     ensures at { IfOk result (λ h. IsFormula bank.new h (λ b. spec.or_of (formulas_at b fs.now))) }
     ensures grown { IsGrown bank.old bank.new }
@@ -40,8 +45,17 @@ fn any(bank: &mut Bank, fs: &[FormulaId]) -> Result<FormulaId, AllocError>
     bank.or(fs)
 }
 
+/// All of these.
+pub fn all(bank: &mut Bank, fs: &[FormulaId]) -> Result<FormulaId, AllocError>
+    requires { HasFormulas bank.old fs.now }
+    ensures at { IfOk result (λ h. IsFormula bank.new h (λ b. spec.and_of (formulas_at b fs.now))) }
+    ensures grown { IsGrown bank.old bank.new }
+{
+    bank.and(fs)
+}
+
 // It is this one, of which something is so.
-fn chosen(
+pub(crate) fn chosen(
     alloc: Global,
     bank: &mut Bank,
     c: Choice,

@@ -1,0 +1,11 @@
+use Rattle.std.proofs.Common.{ap}
+use Rattle.ss_logic_express.specs.Express.{and_of}
+use Rattle.ss_terms_stores.specs.Forms.{formulas_at}
+use Rattle.ss_terms_stores.proofs.Grown.{formulas_at-grown}
+use Rattle.ss_vcgen_express.proofs.Grown.{is_formula}
+use Rattle.ss_vcgen_express.proofs.truths.all.Goals as goal
+
+pub returns-clause-at : goal.returns-clause-at
+returns-clause-at c =
+    is_formula c.and.result c.args.bank.now c.and.new.self (λ b. and_of (formulas_at b c.args.fs.now)) c.and.ensures.grown
+    (λ b g. ap (λ fs. and_of fs) (formulas_at-grown c.args.bank.now b g c.args.fs.now c.requires)) c.and.ensures.at
