@@ -1,3 +1,5 @@
+pub mod Chaining
 pub mod Grown
 pub mod Listing
 pub mod Marking
+pub mod Scenes

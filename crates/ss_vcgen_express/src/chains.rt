@@ -3,10 +3,21 @@
 ghost use Rattle.std.specs.Prelude.{◌≡◌, [], ◌∷◌, ◌++◌, IfOk};
 ghost use Rattle.ss_logic_express.specs.Express as spec;
 ghost use Rattle.ss_terms_stores.specs.Forms.{formula_at, formulas_at, HasFormula, HasFormulas, IsGrown};
+ghost use Rattle.ss_vcgen_express.specs.Chains.{conjuncts, disjuncts};
 ghost use Rattle.ss_vcgen_express.specs.Numbers.{IsFormula};
 
-use ss_terms_stores::{Bank, FormulaId};
+use crate::truths::{all, any};
+use ss_terms_stores::{Bank, Formula, FormulaId};
 use std::alloc::{AllocError, Global};
+
+// One more formula.
+fn joined(alloc: Global, fs: &[FormulaId], last: FormulaId) -> Result<Vec<FormulaId>, AllocError>
+    ensures { IfOk result (λ v. v.items ≡ fs.now ++ last ∷ []) }
+{
+    let mut parts = Vec::from_slice(alloc, fs)?;
+    parts.push(last)?;
+    Ok(parts)
+}
 
 /// All of these, and the last.
 pub fn all_with(
@@ -20,7 +31,8 @@ pub fn all_with(
     ensures at { IfOk result (λ h. IsFormula bank.new h (λ b. spec.and_of (formulas_at b fs.now ++ formula_at b last ∷ []))) }
     ensures grown { IsGrown bank.old bank.new }
 {
-    Err(AllocError)
+    let parts = joined(alloc, fs, last)?;
+    all(bank, &parts)
 }
 
 /// One of these, or the last.
@@ -35,7 +47,32 @@ pub fn any_with(
     ensures at { IfOk result (λ h. IsFormula bank.new h (λ b. spec.or_of (formulas_at b fs.now ++ formula_at b last ∷ []))) }
     ensures grown { IsGrown bank.old bank.new }
 {
-    Err(AllocError)
+    let parts = joined(alloc, fs, last)?;
+    any(bank, &parts)
+}
+
+// The parts of a conjunction; any other is its own part.
+fn conjuncts(bank: &Bank, alloc: Global, f: FormulaId) -> Result<Vec<FormulaId>, AllocError>
+    requires { HasFormula bank.now f }
+    ensures in_bank { IfOk result (λ v. HasFormulas bank.now v.items) }
+    ensures at { IfOk result (λ v. formulas_at bank.now v.items ≡ conjuncts (formula_at bank.now f)) }
+{
+    match bank.formula_node(f) {
+        Formula::And(parts) => Vec::from_slice(alloc, parts),
+        _ => Vec::from_slice(alloc, &[f]),
+    }
+}
+
+// The parts of a disjunction; any other is its own part.
+fn disjuncts(bank: &Bank, alloc: Global, f: FormulaId) -> Result<Vec<FormulaId>, AllocError>
+    requires { HasFormula bank.now f }
+    ensures in_bank { IfOk result (λ v. HasFormulas bank.now v.items) }
+    ensures at { IfOk result (λ v. formulas_at bank.now v.items ≡ disjuncts (formula_at bank.now f)) }
+{
+    match bank.formula_node(f) {
+        Formula::Or(parts) => Vec::from_slice(alloc, parts),
+        _ => Vec::from_slice(alloc, &[f]),
+    }
 }
 
 /// Both; a chain is one formula.
@@ -50,7 +87,8 @@ pub fn and_more(
     ensures at { IfOk result (λ h. IsFormula bank.new h (λ b. spec.and_more (formula_at b f) (formula_at b g))) }
     ensures grown { IsGrown bank.old bank.new }
 {
-    Err(AllocError)
+    let parts = conjuncts(bank, alloc, f)?;
+    all_with(alloc, bank, &parts, g)
 }
 
 /// Either; a chain is one formula.
@@ -65,5 +103,6 @@ pub fn or_more(
     ensures at { IfOk result (λ h. IsFormula bank.new h (λ b. spec.or_more (formula_at b f) (formula_at b g))) }
     ensures grown { IsGrown bank.old bank.new }
 {
-    Err(AllocError)
+    let parts = disjuncts(bank, alloc, f)?;
+    any_with(alloc, bank, &parts, g)
 }

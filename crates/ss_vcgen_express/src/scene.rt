@@ -43,5 +43,8 @@ pub fn local_term(bank: &mut Bank, scene: &Scene<'_>, x: usize) -> Result<TermId
     ensures at { IfOk result (λ t. IsMeant bank.new (meant.One t) (λ b. spec.local_meant (scene_at b scene.entry.now) x)) }
     ensures grown { IsGrown bank.old bank.new }
 {
-    Err(AllocError)
+    match scene.locals.get(x) {
+        Some(t) => Ok(*t),
+        None => bank.null(),
+    }
 }
