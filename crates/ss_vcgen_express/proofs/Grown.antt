@@ -145,3 +145,37 @@ formulas_next say a c cs i d made after f g at e before is = record {
       ∙ ap (map (say b)) (sym (map_push (choice_at b) (take i cs) (get_or cs i d)))
       ∙ ap (λ xs. map (say b) (choices_at b xs)) (sym (take_more cs i d at));
 }
+
+-- one more formula, for one more of a list
+pub formulas_each : {T U : Type 0} (view : T → U) (say : Forms → U → logic.Formula) (a c : Forms) (xs : List T) (i : ℕ) (d : T) (made after : List FormulaId) (f : FormulaId) → IsGrown a c → i < length xs →
+    after ≡ made ++ f ∷ [] → AreFormulas a made (λ b. map (say b) (map view (take i xs))) → IsFormula c f (λ b. say b (view (get_or xs i d))) →
+    AreFormulas c after (λ b. map (say b) (map view (take (i + 1) xs)))
+formulas_each view say a c xs i d made after f g at e before is = record {
+  has = rw e (HasFormulas-push c made f (HasFormulas-grown a c g made before.has) is.has);
+  are = λ b k.
+      ap (formulas_at b) e
+      ∙ map_push (formula_at b) made f
+      ∙ ap (λ fs. fs ++ formula_at b f ∷ []) (before.are b (IsGrown-then a c b g k))
+      ∙ ap (λ x. map (say b) (map view (take i xs)) ++ x ∷ []) (is.is b k)
+      ∙ sym (map_push (say b) (map view (take i xs)) (view (get_or xs i d)))
+      ∙ ap (map (say b)) (sym (map_push view (take i xs) (get_or xs i d)))
+      ∙ ap (λ l. map (say b) (map view l)) (sym (take_more xs i d at));
+}
+
+-- ---- negations
+
+pub HasFormulas-get : (b : Forms) (fs : List FormulaId) (i : ℕ) (d : FormulaId) → HasFormulas b fs → i < length fs → HasFormula b (get_or fs i d)
+HasFormulas-get b [] i d h at = absurd (omega arith)
+HasFormulas-get b (f ∷ fs) zero d h at = h.0
+HasFormulas-get b (f ∷ fs) (suc i) d h at = HasFormulas-get b fs i d h.1 (omega arith)
+
+pub negated_next : (b : Forms) (fs : List FormulaId) (i : ℕ) (d : FormulaId) (made after : List FormulaId) (r : FormulaId) → i < length fs → after ≡ made ++ r ∷ [] →
+    formula_at b r ≡ logic.neg (formula_at b (get_or fs i d)) → formulas_at b made ≡ map logic.neg (formulas_at b (take i fs)) → formulas_at b after ≡ map logic.neg (formulas_at b (take (i + 1) fs))
+negated_next b fs i d made after r at e is was =
+    ap (formulas_at b) e
+    ∙ map_push (formula_at b) made r
+    ∙ ap (λ l. l ++ formula_at b r ∷ []) was
+    ∙ ap (λ x. map logic.neg (formulas_at b (take i fs)) ++ x ∷ []) is
+    ∙ sym (map_push logic.neg (formulas_at b (take i fs)) (formula_at b (get_or fs i d)))
+    ∙ ap (map logic.neg) (sym (map_push (formula_at b) (take i fs) (get_or fs i d)))
+    ∙ ap (λ l. map logic.neg (formulas_at b l)) (sym (take_more fs i d at))

@@ -9,7 +9,7 @@ use Rattle.ss_terms_stores.specs.Forms.{Forms, term_at, formula_at, HasTerm, IsG
 use Rattle.ss_terms_stores.proofs.Grown.{IsGrown-then, HasFormula-grown}
 use Rattle.ss_vcgen_express.specs.declared.meant.Choice.{Choice}
 use Rattle.ss_vcgen_express.specs.Numbers.{choice_at, choices_at, HasChoice, HasChoices, IsTerm, IsChoice, AreChoices}
-use Rattle.ss_vcgen_express.proofs.Grown.{HasChoices-grown}
+use Rattle.ss_vcgen_express.proofs.Grown.{HasChoice-grown, HasChoices-grown}
 
 pub HasChoices-push : (c : Forms) (xs : List Choice) (x : Choice) → HasChoices c xs → HasChoice c x → HasChoices c (xs ++ x ∷ [])
 HasChoices-push c [] x h at = (at, tt)
@@ -44,6 +44,20 @@ choices_flat say a c cs i d made after g at was is = record {
       ∙ flat_map_more (say b) [] (choices_at b (take i cs)) (choice_at b (get_or cs i d))
       ∙ ap (flat_map (say b)) (sym (map_push (choice_at b) (take i cs) (get_or cs i d)))
       ∙ ap (λ xs. flat_map (say b) (choices_at b xs)) (sym (take_more cs i d at));
+}
+
+-- two more choices behind those of before
+pub choices_two : (first second : Forms → spec.Choice) (a d c : Forms) (made after : List Choice) (x y : Choice) → IsGrown a d → IsGrown d c → after ≡ (made ++ x ∷ []) ++ y ∷ [] → HasChoices a made → IsChoice d x first → IsChoice c y second →
+    AreChoices c after (λ b. choices_at b made ++ first b ∷ second b ∷ [])
+choices_two first second a d c made after x y g h e there is other = record {
+  has = rw e (HasChoices-push c (made ++ x ∷ []) y (HasChoices-push c made x (HasChoices-grown (IsGrown-then a d c g h) made there) (HasChoice-grown h x is.has)) other.has);
+  are = λ b k.
+      ap (choices_at b) e
+      ∙ map_push (choice_at b) (made ++ x ∷ []) y
+      ∙ ap (λ xs. xs ++ choice_at b y ∷ []) (map_push (choice_at b) made x)
+      ∙ append_assoc (choices_at b made) (choice_at b x ∷ []) (choice_at b y ∷ [])
+      ∙ ap (λ z. choices_at b made ++ z ∷ choice_at b y ∷ []) (is.is b (IsGrown-then d c b h k))
+      ∙ ap (λ z. choices_at b made ++ first b ∷ z ∷ []) (other.is b k);
 }
 
 -- ---- a term that was made

@@ -1,6 +1,6 @@
 -- Functions by their symbols, at the terms of a bank.
 use Rattle.std.specs.Prelude.{List, [], ◌∷◌, ◌++◌, Option, Some, None}
-use Rattle.ss_logic_stores.specs.Terms.{Term, app}
+use Rattle.ss_logic_stores.specs.Terms.{Symbol, Term, app}
 use Rattle.ss_terms_stores.specs.declared.forms.TermId.{TermId}
 use Rattle.ss_terms_stores.specs.Forms.{Forms, symbol_of, HasTerm}
 use Rattle.ss_vcgen_express.specs.declared.functions.Function.{Function}
@@ -16,6 +16,10 @@ applied look f x = app (symbol_of f.symbol) (first_term look f.first ++ x ∷ []
 -- at two
 abbrev pub applied_two : (TermId → Term) → Function → Term → Term → Term
 applied_two look f x y = app (symbol_of f.symbol) (first_term look f.first ++ x ∷ y ∷ [])
+
+-- at two, behind no first term
+abbrev pub of_two : Symbol → Term → Term → Term
+of_two f x y = app f (x ∷ y ∷ [])
 
 abbrev pub HasFirst : Forms → Option TermId → Type 0
 HasFirst b None = Unit {0}

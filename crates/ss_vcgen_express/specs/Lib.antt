@@ -1,4 +1,5 @@
 pub mod Chains
+pub mod Defaults
 pub mod Functions
 pub mod Marked
 pub mod Numbers

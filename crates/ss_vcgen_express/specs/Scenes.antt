@@ -43,7 +43,10 @@ pub record HasScene (b : Forms) (c : Scene) : Type 0 where
 abbrev pub for_each : List Formula → Formula → Formula
 for_each out f = Forall (sort.Whole ∷ []) (or_of (out ++ f ∷ []))
 
--- the same, or for some value of which none of these is so
+-- for some value of the bound name, of which none of these is so
+abbrev pub for_some : List Formula → Formula → Formula
+for_some out f = Exists (sort.Whole ∷ []) (and_of (map neg out ++ f ∷ []))
+
 abbrev pub quantified_over : Quantifier → List Formula → Formula → Formula
 quantified_over quantifier.Forall out f = for_each out f
-quantified_over quantifier.Exists out f = Exists (sort.Whole ∷ []) (and_of (map neg out ++ f ∷ []))
+quantified_over quantifier.Exists out f = for_some out f

@@ -3,15 +3,33 @@
 ghost use Rattle.std.specs.Prelude.{◌≡◌, IfOk};
 ghost use Rattle.ss_core.specs.View.{word_tree, owners_tree};
 ghost use Rattle.ss_logic_express.specs.Express as spec;
-ghost use Rattle.ss_terms_stores.specs.Forms.{IsGrown};
+ghost use Rattle.ss_terms_stores.specs.Forms.{term_at, Forms, IsGrown};
 ghost use Rattle.ss_vcgen_express.specs.Numbers.{meant_at, HasMeant, IsFormula};
+ghost use Rattle.ss_vcgen_express.specs.Sayings.{related, said_so, HasRelation, HasSaying};
 ghost use Rattle.ss_vcgen_express.specs.Scenes.{scene_at, HasScene};
 
 use crate::meant::Meant;
+use crate::sayings::{Relation, Saying};
 use crate::scene::Scene;
+use crate::truths::{over, over_two};
 use ss_core::{OwnerTest, StateWord};
 use ss_terms_stores::{Bank, FormulaId};
 use std::alloc::{AllocError, Global};
+
+// What a question about one object asks for.
+fn asked(scene: &Scene<'_>, word: StateWord) -> Saying
+    ensures in_bank { (b : Forms) → HasScene b scene.entry.now → HasSaying b result }
+    ensures says { (b : Forms) → said_so (term_at b) result ≡ spec.word_said (scene_at b scene.entry.now) (word_tree word) }
+{
+    match word {
+        StateWord::Consistent => Saying::Consistent(scene.state()),
+        StateWord::Committed => Saying::Committed(scene.state()),
+        StateWord::New => Saying::New(scene.entry),
+        StateWord::Level(class) => Saying::AtLevel(scene.state(), class.0),
+        StateWord::Packed(class) => Saying::Packed(scene.state(), class.0),
+        StateWord::Unowned => Saying::Unowned(scene.state()),
+    }
+}
 
 /// That the answer is yes for one object.
 pub fn word_said(
@@ -26,7 +44,19 @@ pub fn word_said(
     ensures at { IfOk result (λ f. IsFormula bank.new f (λ b. spec.over (meant_at b m.now) (spec.word_said (scene_at b scene.entry.now) (word_tree word)))) }
     ensures grown { IsGrown bank.old bank.new }
 {
-    Err(AllocError)
+    let saying = asked(scene, word);
+    over(alloc, bank, m, saying)
+}
+
+// What a question about two objects asks for.
+fn asked_of_two(scene: &Scene<'_>, test: OwnerTest) -> Relation
+    ensures in_bank { (b : Forms) → HasScene b scene.entry.now → HasRelation b result }
+    ensures says { (b : Forms) → related (term_at b) result ≡ spec.owners_said (scene_at b scene.entry.now) (owners_tree test) }
+{
+    match test {
+        OwnerTest::Same => Relation::SameOwner(scene.state()),
+        OwnerTest::Is(class) => Relation::OwnedAt(scene.state(), class.0),
+    }
 }
 
 /// That the answer is yes for two objects.
@@ -44,5 +74,6 @@ pub fn owners_said(
     ensures at { IfOk result (λ f. IsFormula bank.new f (λ b. spec.over_two (meant_at b x.now) (meant_at b y.now) (spec.owners_said (scene_at b scene.entry.now) (owners_tree test)))) }
     ensures grown { IsGrown bank.old bank.new }
 {
-    Err(AllocError)
+    let relation = asked_of_two(scene, test);
+    over_two(alloc, bank, x, y, relation)
 }

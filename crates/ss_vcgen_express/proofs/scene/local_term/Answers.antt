@@ -15,7 +15,7 @@ pub returns-in-Some-clause-at : goal.returns-in-Some-clause-at
 returns-in-Some-clause-at c =
     let h = c.in-Some.ensures.lookup in
     let e : slice_get c.args.scene.now.locals.items c.args.x ≡ Some c.in-Some.t.now =
-        ap (λ l. slice_get l c.args.x) (sym c.deref.ensures.value) ∙ slice_get-get_or c.deref.result.now c.args.x c.in-Some.t.now h.3.0 ∙ ap (λ t. Some t) (sym h.1) in
+    ap (λ l. slice_get l c.args.x) (sym c.deref.ensures.value) ∙ slice_get-get_or c.deref.result.now c.args.x c.in-Some.t.now h.3.0 ∙ ap (λ t. Some t) (sym h.1) in
     record {
       has = HasTerms-get c.args.bank.now c.args.scene.now.locals.items c.args.x c.in-Some.t.now c.requires.locals e;
       is = λ b k. local_found b c.args.scene.now c.args.x c.in-Some.t.now e;
