@@ -1,0 +1,29 @@
+-- Types by their numbers.
+use Rattle.std.proofs.Common.{◌≡◌, ℕ, ℤ, zero, suc, ◌-◌, ◌<◌, ◌≤◌, length, arith, List, [], ◌∷◌, ◌++◌, refl, sym, ap, ◌∙◌, slice_index_or, Bor}
+use Rattle.std.specs.Prelude.{Ok, Err, Option, Some, slice_get, Result}
+use Rattle.ss_core.specs.declared.names.Ty.{Ty}
+use Rattle.ss_core.specs.declared.names.Ty.TheVariants as ty
+use Rattle.ss_vcgen_known.specs.declared.names.Names.{Names}
+use Rattle.ss_vcgen_known.specs.declared.names.Names.TheFolds.{fold-roll-Names}
+use Rattle.ss_vcgen_known.specs.declared.names.Names.TheOpen as shape
+use Rattle.ss_vcgen_known.specs.declared.names.Names.TheVariants.{Bound, rolls-Bound, Locals, rolls-Locals}
+use Rattle.ss_vcgen_known.specs.Names.{names_step, types_of_names, look_up, or_bound}
+
+pub look_up_more : (ts : List Ty) (x : ℕ) → look_up (ts ++ ty.Int ∷ []) x ≡ or_bound (look_up ts x)
+look_up_more [] zero = refl
+look_up_more [] (suc x) = refl
+look_up_more (w ∷ ts) zero = refl
+look_up_more (w ∷ ts) (suc x) = look_up_more ts x
+
+pub look_up_at : (ts : List Ty) (x : ℕ) (d : Ty) → x < length ts → look_up ts x ≡ Ok (slice_index_or ts x d)
+look_up_at [] x d h = absurd (omega arith)
+look_up_at (w ∷ ts) zero d h = refl
+look_up_at (w ∷ ts) (suc x) d h = look_up_at ts x d (omega arith)
+
+pub look_up_past : (ts : List Ty) (x : ℕ) → length ts ≤ x → look_up ts x ≡ Err (x - length ts)
+look_up_past [] x h = ap (λ n. Err n) (omega arith)
+look_up_past (w ∷ ts) zero h = absurd (omega arith)
+look_up_past (w ∷ ts) (suc x) h = look_up_past ts x (omega arith) ∙ ap (λ n. Err n) (omega arith)
+
+pub types_of_bound : (outer : Bor Names) → types_of_names (Bound outer) ≡ types_of_names outer.now ++ ty.Int ∷ []
+types_of_bound outer = ap types_of_names (sym (rolls-Bound outer)) ∙ fold-roll-Names (List Ty) names_step (shape.Bound outer)

@@ -1,0 +1,138 @@
+// Bodies by number and by class, and the types of their locals.
+
+ghost use Rattle.std.specs.Prelude.{◌≡◌, ◌≤◌, length, IfOk, option_map};
+ghost use Rattle.ss_core.specs.Tree as tree;
+ghost use Rattle.ss_core.specs.View as view;
+ghost use Rattle.ss_store_rules.specs.Locals.{argument_types, local_types};
+ghost use Rattle.ss_store_rules.specs.Typed as typed;
+
+use ss_core::{Body, BodyId, Callee, ClassId, Core, Ty};
+use std::alloc::{AllocError, Global};
+
+fn body_at(core: &Core, number: BodyId) -> Option<&Body>
+    ensures { option_map (λ b. view.body b.now) result ≡ typed.body_at (view.core core.now) number.0 }
+{
+    core.bodies.get(number.0 as usize)
+}
+
+// The body at this place of the table of the class.
+fn method_at(core: &Core, class: ClassId, m: usize) -> Option<&Body>
+    ensures { option_map (λ b. view.body b.now) result ≡ typed.method_at (view.core core.now) class.0 m }
+{
+    let entry = core.classes.declared(class)?.table.get(m)?;
+    body_at(core, entry.body)
+}
+
+/// The first constructor of the class.
+pub fn constructor_of(core: &Core, class: ClassId) -> Option<&Body>
+    ensures { option_map (λ b. view.body b.now) result ≡ typed.constructor_of (view.core core.now) class.0 }
+{
+    for body in &core.bodies {
+        if body.flags.ctor && body.class == class {
+            return Some(body);
+        }
+    }
+    None
+}
+
+fn is_instance_method(body: &Body) -> bool
+    ensures { result ≡ typed.is_instance_method (view.body body.now) }
+{
+    !body.flags.is_static && !body.flags.ctor
+}
+
+// Whether the body stands in the table of the class.
+fn stands_in_table(core: &Core, class: ClassId, number: BodyId) -> bool
+    ensures { result ≡ typed.stands_in_table (view.core core.now) class.0 number.0 }
+{
+    match core.classes.declared(class) {
+        Some(class) => class
+            .table
+            .iter()
+            .map(|entry| entry.body.0)
+            .any(|body| body == number.0),
+        None => false,
+    }
+}
+
+/// The body that a call names in the text of a body.
+pub fn callee_of<'c>(core: &'c Core, body: &Body, callee: &Callee) -> Option<&'c Body>
+    ensures { option_map (λ b. view.body b.now) result ≡ typed.callee_of (view.core core.now) (view.body body.now) (view.callee_tree callee.now) }
+{
+    match callee {
+        Callee::Dispatched(_, class, m) => instance_method(method_at(core, *class, *m)),
+        Callee::Static(number) => static_method(body_at(core, *number)),
+        Callee::Base(number) => base_method(core, body, *number),
+        Callee::Constructor(number) => base_constructor(core, body, *number),
+    }
+}
+
+fn instance_method(body: Option<&Body>) -> Option<&Body>
+    ensures { option_map (λ b. view.body b.now) result ≡ typed.where_body typed.is_instance_method (option_map (λ b. view.body b.now) body.entry) }
+{
+    match body {
+        Some(body) => {
+            if is_instance_method(body) {
+                Some(body)
+            } else {
+                None
+            }
+        }
+        None => None,
+    }
+}
+
+fn static_method(body: Option<&Body>) -> Option<&Body>
+    ensures { option_map (λ b. view.body b.now) result ≡ typed.where_body (λ callee. callee.flags.is_static) (option_map (λ b. view.body b.now) body.entry) }
+{
+    match body {
+        Some(body) => {
+            if body.flags.is_static {
+                Some(body)
+            } else {
+                None
+            }
+        }
+        None => None,
+    }
+}
+
+// A method of the class above, in the text of a body that isn't static.
+fn base_method<'c>(core: &'c Core, body: &Body, number: BodyId) -> Option<&'c Body>
+    ensures { option_map (λ b. view.body b.now) result ≡ typed.callee_of (view.core core.now) (view.body body.now) (tree.Base number.0) }
+{
+    let found = body_at(core, number)?;
+    let above = core.classes.above(body.class);
+    if is_instance_method(found) && !body.flags.is_static && stands_in_table(core, above, number) {
+        Some(found)
+    } else {
+        None
+    }
+}
+
+// The constructor of the class above, in the text of a constructor.
+fn base_constructor<'c>(core: &'c Core, body: &Body, number: BodyId) -> Option<&'c Body>
+    ensures { option_map (λ b. view.body b.now) result ≡ typed.callee_of (view.core core.now) (view.body body.now) (tree.BaseConstructor number.0) }
+{
+    let found = body_at(core, number)?;
+    let above = core.classes.above(body.class);
+    if found.flags.ctor && found.class == above && body.flags.ctor {
+        Some(found)
+    } else {
+        None
+    }
+}
+
+/// The types of the arguments of a body, its `this` included.
+pub fn argument_types(alloc: Global, body: &Body) -> Result<Vec<Ty>, AllocError>
+    ensures { IfOk result (λ v. v.items ≡ argument_types (view.body body.now)) }
+{
+    Err(AllocError)
+}
+
+/// The types of the locals of a body.
+pub fn local_types(alloc: Global, body: &Body) -> Result<Vec<Ty>, AllocError>
+    ensures { IfOk result (λ v. v.items ≡ local_types (view.body body.now)) }
+{
+    Err(AllocError)
+}

@@ -1,0 +1,105 @@
+// What is known at a place of a body.
+
+ghost use Rattle.std.specs.Prelude.{◌≡◌, ◌≤◌, length, IfOk};
+ghost use Rattle.ss_core.specs.Chain.{most_classes};
+ghost use Rattle.ss_core.specs.View as view;
+ghost use Rattle.ss_store_rules.specs.Locals.{local_types};
+ghost use Rattle.ss_store_rules.specs.NonNull as spec;
+ghost use Rattle.ss_vcgen_known.specs.Views.{known_of};
+
+use crate::fields::Fields;
+use crate::sides::Sides;
+use ss_bit_set::BitSet;
+use ss_core::{Body, Core, Expr, Stmt, Ty};
+use std::alloc::{AllocError, Global};
+
+/// What is known at a place of a body: the locals that aren't null, what follows where a local is true or false, and the fields of the
+/// `this` of a constructor that have their values.
+#[derive(Drop)]
+pub struct Known {
+    pub facts: BitSet,
+    pub sides: Vec<Sides>,
+    /// What is known of each local past the end of the list, on both sides.
+    pub beyond: BitSet,
+    pub fields: Fields,
+}
+
+impl Known {
+    /// What is known at the entry of a body.
+    pub fn at_entry(alloc: Global, body: &Body) -> Known
+        ensures { known_of result ≡ spec.known_at_entry (view.body body.now) }
+    {
+        Known {
+            facts: BitSet::new(alloc),
+            sides: Vec::new(alloc),
+            beyond: BitSet::new(alloc),
+            fields: Fields::new(alloc, !body.flags.ctor),
+        }
+    }
+
+    /// The same once more.
+    pub fn copy(&self, alloc: Global) -> Result<Known, AllocError>
+        ensures { IfOk result (λ k. known_of k ≡ known_of self.now) }
+    {
+        Err(AllocError)
+    }
+
+    // Whether the local y isn't null where the local x has the truth value.
+    pub(crate) fn side_has(&self, x: usize, outcome: bool, y: usize) -> bool
+        ensures { result ≡ spec.side_facts ((known_of self.now).sides x outcome) y }
+    {
+        if x >= self.sides.len() {
+            return self.beyond.has(y);
+        }
+        let sides = &self.sides[x];
+        let side = if outcome { &sides.holds } else { &sides.fails };
+        match side {
+            Some(facts) => facts.has(y),
+            None => false,
+        }
+    }
+
+    /// Whether the local is known not to be null.
+    pub fn knows(&self, local: usize) -> bool
+        ensures { result ≡ (known_of self.now).facts local }
+    {
+        self.facts.has(local)
+    }
+
+    /// A test has come out so.
+    pub fn test(&mut self, alloc: Global, e: &Expr, outcome: bool) -> Result<(), AllocError>
+        ensures { IfOk result (λ u. known_of self.new ≡ spec.known_tested (view.expr e.now) outcome (known_of self.old)) }
+    {
+        Err(AllocError)
+    }
+
+    /// Behind a statement that is neither an `if`, a loop nor a return.
+    pub fn step(
+        &mut self,
+        alloc: Global,
+        core: &Core,
+        body: &Body,
+        types: &[Ty],
+        stmt: &Stmt,
+    ) -> Result<(), AllocError>
+        requires limit { length (view.classes core.now.classes) ≤ most_classes }
+        requires types { types.now ≡ local_types (view.body body.now) }
+        ensures { IfOk result (λ u. known_of self.new ≡ spec.known_after (view.core core.now) (view.body body.now) (view.stmt_of stmt.now) (known_of self.old)) }
+    {
+        Err(AllocError)
+    }
+
+    /// Where two paths meet.
+    pub fn meet(&mut self, alloc: Global, other: &Known) -> Result<(), AllocError>
+        ensures { IfOk result (λ u. known_of self.new ≡ spec.known_met (known_of self.old) (known_of other.now)) }
+    {
+        Err(AllocError)
+    }
+
+    /// At the head of the loop: nothing is known of the locals that it assigns.
+    pub fn head(&mut self, alloc: Global, stmt: &Stmt) -> Result<(), AllocError>
+        ensures { IfOk result (λ u. known_of self.new ≡ spec.known_head (view.stmt_of stmt.now) (known_of self.old)) }
+    {
+        Err(AllocError)
+    }
+}
