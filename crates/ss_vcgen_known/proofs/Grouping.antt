@@ -1,7 +1,8 @@
 -- Chains and paths by their parts.
-use Rattle.std.proofs.Common.{◌≡◌, ℕ, length, List, [], ◌∷◌, ◌++◌, map, true, false, Vec, Box, refl, sym, ap, ◌∙◌, arith, suc, true≢false, ⊎_elim, take, get_or, ◌<◌}
+use Rattle.std.proofs.Common.{◌≡◌, ℕ, length, List, [], ◌∷◌, ◌++◌, map, true, false, Vec, Box, refl, sym, ap, ◌∙◌, arith, suc, true≢false, ⊎_elim, take, get_or, ◌<◌, ◌≤◌, ◌+◌}
 use Rattle.std.specs.Prelude.{◌==◌}
 use Rattle.std.proofs.lemmas.Bool.Decides.{eqb_tells}
+use Rattle.std.proofs.lemmas.List.{take_more, take_all}
 use Rattle.ss_core.specs.declared.names.Place.{Place}
 use Rattle.ss_core.specs.declared.names.ClassId.{ClassId}
 use Rattle.ss_core.specs.declared.names.FieldId.{FieldId}
@@ -109,3 +110,15 @@ front_more p e ls l = ap (grouped p e) (map_more link_behind ls l) ∙ grouped_m
 
 pub path_more : (p : Place) (e : ExprTree) (ls : List Step) (l : Step) → path_front p e (ls ++ l ∷ []) ≡ step_behind l p (path_front p e ls)
 path_more p e ls l = ap (grouped p e) (map_more step_behind ls l) ∙ grouped_more p e (map step_behind ls) (step_behind l)
+
+pub front_next : (p : Place) (e : ExprTree) (ls : List Link) (i : ℕ) (l : Link) → i < length ls → l ≡ get_or ls i l → chain_front p e (take (i + 1) ls) ≡ link_behind l p (chain_front p e (take i ls))
+front_next p e ls i l lt is = ap (chain_front p e) (take_more ls i l lt ∙ ap (λ x. take i ls ++ x ∷ []) (sym is)) ∙ front_more p e (take i ls) l
+
+pub path_next : (p : Place) (e : ExprTree) (ls : List Step) (i : ℕ) (l : Step) → i < length ls → l ≡ get_or ls i l → path_front p e (take (i + 1) ls) ≡ step_behind l p (path_front p e (take i ls))
+path_next p e ls i l lt is = ap (path_front p e) (take_more ls i l lt ∙ ap (λ x. take i ls ++ x ∷ []) (sym is)) ∙ path_more p e (take i ls) l
+
+pub front_whole : (p : Place) (e : ExprTree) (ls : List Link) (i : ℕ) → length ls ≤ i → chain_front p e (take i ls) ≡ chain_front p e ls
+front_whole p e ls i le = ap (chain_front p e) (take_all i ls le)
+
+pub path_whole : (p : Place) (e : ExprTree) (ls : List Step) (i : ℕ) → length ls ≤ i → path_front p e (take i ls) ≡ path_front p e ls
+path_whole p e ls i le = ap (path_front p e) (take_all i ls le)

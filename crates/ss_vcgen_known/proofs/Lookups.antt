@@ -1,6 +1,6 @@
 -- Types by their numbers.
 use Rattle.std.proofs.Common.{◌≡◌, ℕ, ℤ, zero, suc, ◌-◌, ◌<◌, ◌≤◌, length, arith, List, [], ◌∷◌, ◌++◌, refl, sym, ap, ◌∙◌, slice_index_or, Bor}
-use Rattle.std.specs.Prelude.{Ok, Err, Option, Some, slice_get, Result}
+use Rattle.std.specs.Prelude.{Ok, Err, Option, Some, None, slice_get, Result}
 use Rattle.ss_core.specs.declared.names.Ty.{Ty}
 use Rattle.ss_core.specs.declared.names.Ty.TheVariants as ty
 use Rattle.ss_vcgen_known.specs.declared.names.Names.{Names}
@@ -27,3 +27,19 @@ look_up_past (w ∷ ts) (suc x) h = look_up_past ts x (omega arith) ∙ ap (λ n
 
 pub types_of_bound : (outer : Bor Names) → types_of_names (Bound outer) ≡ types_of_names outer.now ++ ty.Int ∷ []
 types_of_bound outer = ap types_of_names (sym (rolls-Bound outer)) ∙ fold-roll-Names (List Ty) names_step (shape.Bound outer)
+
+-- what was found, if it is there
+abbrev pub found : Result Ty ℕ → Option Ty
+found (Ok t) = Some t
+found (Err n) = None
+
+pub found_is : (ts : List Ty) (x : ℕ) → found (look_up ts x) ≡ slice_get ts x
+found_is [] x = refl
+found_is (t ∷ ts) zero = refl
+found_is (t ∷ ts) (suc x) = found_is ts x
+
+pub found_at : (ts : List Ty) (x : ℕ) (r : Result Ty ℕ) (t : Ty) → r ≡ look_up ts x → r ≡ Ok t → slice_get ts x ≡ Some t
+found_at ts x r t e k = sym (found_is ts x) ∙ ap found (sym e ∙ k)
+
+pub found_past : (ts : List Ty) (x : ℕ) (r : Result Ty ℕ) (n : ℕ) → r ≡ look_up ts x → r ≡ Err n → slice_get ts x ≡ None
+found_past ts x r n e k = sym (found_is ts x) ∙ ap found (sym e ∙ k)

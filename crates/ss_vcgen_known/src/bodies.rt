@@ -1,12 +1,12 @@
 // Bodies by number and by class, and the types of their locals.
 
-ghost use Rattle.std.specs.Prelude.{◌≡◌, ◌≤◌, length, IfOk, option_map};
+ghost use Rattle.std.specs.Prelude.{◌≡◌, ◌++◌, map, IfOk, OnOk, option_map, option_to_list};
 ghost use Rattle.ss_core.specs.Tree as tree;
 ghost use Rattle.ss_core.specs.View as view;
-ghost use Rattle.ss_store_rules.specs.Locals.{argument_types, local_types};
+ghost use Rattle.ss_store_rules.specs.Locals.{types_of, this_types, argument_types, local_types};
 ghost use Rattle.ss_store_rules.specs.Typed as typed;
 
-use ss_core::{Body, BodyId, Callee, ClassId, Core, Ty};
+use ss_core::{Body, BodyId, Callee, ClassId, Core, Local, Ty};
 use std::alloc::{AllocError, Global};
 
 fn body_at(core: &Core, number: BodyId) -> Option<&Body>
@@ -123,16 +123,52 @@ fn base_constructor<'c>(core: &'c Core, body: &Body, number: BodyId) -> Option<&
     }
 }
 
+fn add_types(found: &mut Vec<Ty>, locals: &[Local]) -> Result<(), AllocError>
+    ensures { OnOk result (found.new.items ≡ found.old.items ++ types_of (map view.local_of locals.now)) }
+{
+    for local in locals {
+        found.push(local.ty)?;
+    }
+    Ok(())
+}
+
+fn add_this(found: &mut Vec<Ty>, body: &Body) -> Result<(), AllocError>
+    ensures { OnOk result (found.new.items ≡ found.old.items ++ this_types (view.body body.now)) }
+{
+    if !body.flags.is_static {
+        found.push(Ty::Ref {
+            class: body.class,
+            non_null: true,
+        })?;
+    }
+    Ok(())
+}
+
+fn add_result(found: &mut Vec<Ty>, given: Option<Ty>) -> Result<(), AllocError>
+    ensures { OnOk result (found.new.items ≡ found.old.items ++ option_to_list given) }
+{
+    if let Some(ty) = given {
+        found.push(ty)?;
+    }
+    Ok(())
+}
+
 /// The types of the arguments of a body, its `this` included.
 pub fn argument_types(alloc: Global, body: &Body) -> Result<Vec<Ty>, AllocError>
     ensures { IfOk result (λ v. v.items ≡ argument_types (view.body body.now)) }
 {
-    Err(AllocError)
+    let mut found = Vec::new(alloc);
+    add_this(&mut found, body)?;
+    add_types(&mut found, &body.params)?;
+    Ok(found)
 }
 
 /// The types of the locals of a body.
 pub fn local_types(alloc: Global, body: &Body) -> Result<Vec<Ty>, AllocError>
     ensures { IfOk result (λ v. v.items ≡ local_types (view.body body.now)) }
 {
-    Err(AllocError)
+    let mut found = argument_types(alloc, body)?;
+    add_types(&mut found, &body.locals)?;
+    add_result(&mut found, body.result)?;
+    Ok(found)
 }

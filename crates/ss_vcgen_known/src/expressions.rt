@@ -86,7 +86,7 @@ fn is_condition_within(list: &Classes, names: &Names<'_>, member: &Expr) -> bool
     requires { length (classes list.now) ≤ most_classes }
     ensures { result ≡ is_bool (type_of (classes list.now) (types_of_names names.now ++ ty.Int ∷ []) (expr member.now)) }
 {
-    let inner = Names::Bound(names);
+    let inner = Names::Bound(&*names);
     is_bool(type_in(list, &inner, member))
 }
 

@@ -47,9 +47,13 @@ impl<'t> Names<'t> {
     }
 
     /// The type of this number, where there is one.
+    #[tactic(auto, using(crate::proofs::Lookups::found_at, crate::proofs::Lookups::found_past))]
     pub(crate) fn type_at(&self, x: usize) -> Option<Ty>
         ensures { result ≡ slice_get (types_of_names self.now) x }
     {
-        self.look_up(x).ok()
+        match self.look_up(x) {
+            Ok(ty) => Some(ty),
+            Err(_) => None,
+        }
     }
 }

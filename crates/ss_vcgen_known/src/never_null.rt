@@ -86,7 +86,7 @@ fn field_never_null(
     of_this: bool,
     field: FieldId,
 ) -> bool
-    requires { length (classes site.entry.classes.now) ≤ most_classes }
+    requires { length (classes site.classes.now) ≤ most_classes }
     ensures { (p : PlaceValue) (e : ExprTree) → of_this ≡ is_this_object e → result ≡ is_never_null (site_of site.entry) (tested tests.now (known_of known.now)) old (FieldExpr p e field.0) }
 {
     let is_typed = is_non_null(field_type(site.classes, field));
@@ -102,7 +102,7 @@ fn step_never_null(
     of_this: bool,
     step: &Step,
 ) -> bool
-    requires { length (classes site.entry.classes.now) ≤ most_classes }
+    requires { length (classes site.classes.now) ≤ most_classes }
     ensures { (p : PlaceValue) (e : ExprTree) → of_this ≡ is_this_object e → result ≡ is_never_null (site_of site.entry) (tested tests.now (known_of known.now)) old (step_behind step.now p e) }
 {
     match step {
@@ -120,7 +120,7 @@ fn steps_never_null(
     first: &Expr,
     steps: &[Step],
 ) -> bool
-    requires limit { length (classes site.entry.classes.now) ≤ most_classes }
+    requires limit { length (classes site.classes.now) ≤ most_classes }
     requires some { 0 < length steps.now }
     ensures { (p : PlaceValue) → result ≡ is_never_null (site_of site.entry) (tested tests.now (known_of known.now)) old (path_front p (expr first.now) steps.now) }
 {
@@ -133,7 +133,7 @@ fn steps_never_null(
 /// `old`.
 #[cycle(never)]
 pub fn is_never_null(site: Site<'_>, known: &Known, tests: &Tests<'_>, old: bool, e: &Expr) -> bool
-    requires { length (classes site.entry.classes.now) ≤ most_classes }
+    requires { length (classes site.classes.now) ≤ most_classes }
     ensures { result ≡ is_never_null (site_of site.entry) (tested tests.now (known_of known.now)) old (expr e.now) }
 {
     match e {
@@ -166,7 +166,7 @@ pub fn path_never_null(
     first: &Expr,
     steps: &[Step],
 ) -> bool
-    requires { length (classes site.entry.classes.now) ≤ most_classes }
+    requires { length (classes site.classes.now) ≤ most_classes }
     ensures { (p : PlaceValue) → result ≡ is_never_null (site_of site.entry) (tested tests.now (known_of known.now)) old (path_front p (expr first.now) steps.now) }
 {
     if steps.is_empty() {
@@ -186,7 +186,7 @@ pub fn chain_never_null(
     first: &Expr,
     links: &[Link],
 ) -> bool
-    requires { length (classes site.entry.classes.now) ≤ most_classes }
+    requires { length (classes site.classes.now) ≤ most_classes }
     ensures { (p : PlaceValue) → result ≡ is_never_null (site_of site.entry) (tested tests.now (known_of known.now)) old (chain_front p (expr first.now) links.now) }
 {
     if links.is_empty() {
