@@ -1,7 +1,8 @@
 -- Chains and paths by their parts.
-use Rattle.std.proofs.Common.{◌≡◌, ℕ, length, List, [], ◌∷◌, ◌++◌, map, true, false, Vec, Box, refl, sym, ap, ◌∙◌, arith, suc, true≢false, ⊎_elim, take, get_or, ◌<◌, ◌≤◌, ◌+◌}
+use Rattle.std.proofs.Common.{◌≡◌, ℕ, length, List, [], ◌∷◌, ◌++◌, map, true, false, refl, sym, ap, ◌∙◌, arith, suc, true≢false, ⊎_elim, take, get_or, ◌<◌, ◌≤◌, ◌+◌}
 use Rattle.std.specs.Prelude.{◌==◌}
 use Rattle.std.proofs.lemmas.Bool.Decides.{eqb_tells}
+use Rattle.std.specs.Global.{Vec, Box}
 use Rattle.std.proofs.lemmas.List.{take_more, take_all}
 use Rattle.ss_core.specs.declared.names.Place.{Place}
 use Rattle.ss_core.specs.declared.names.ClassId.{ClassId}

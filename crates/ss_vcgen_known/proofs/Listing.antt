@@ -1,10 +1,15 @@
 -- Functions that lists say.
 use Rattle.std.proofs.Common.{◌≡◌, ◌≢◌, ℕ, zero, suc, ◌+◌, ◌<◌, ◌≤◌, Bool, true, false, List, [], ◌∷◌, ◌++◌, map, length, get_or, arith, set, refl, sym, ap, subst, ◌∙◌, ⊎_elim}
-use Rattle.std.specs.Prelude.{◌==◌, ◌||◌, ◌&&◌, not, if◌then◌else◌, Option, Some, None, option_map, nat_lt}
+use Rattle.std.specs.Prelude.{◌==◌, ◌||◌, ◌&&◌, not, if◌then◌else◌, Option, Some, None, option_map, slice_get, nat_lt}
 use Rattle.std.proofs.lemmas.Bool.{cases_eq, cases_lt, eq-eqb, ne_eqb, lt-ltb, le-ltb}
 use Rattle.std.proofs.lemmas.List.{get_or-set_same, get_or-set_other, get_or_append_left}
 use Rattle.std.proofs.Math.ListN.{get_or-map}
 use Rattle.ss_paths.specs.Sets.{Set, put, none}
+use Rattle.ss_paths.specs.Sets as sets
+use Rattle.ss_core.specs.Chain as chain
+use Rattle.ss_core.specs.Chain.{all_fields}
+use Rattle.ss_core.specs.Tree.{ClassTree}
+use Rattle.ss_store_rules.specs.Changes.{class_of_field, field_class}
 use Rattle.ss_bit_set.specs.Marked.{listed}
 use Rattle.ss_bit_set.proofs.Lists.{listed_past}
 use Rattle.ss_store_rules.specs.NonNull.{Facts, both, no_facts}
@@ -125,7 +130,7 @@ and_true : (b : Bool) → (b && true) ≡ b
 and_true true = refl
 and_true false = refl
 
-or_assoc : (a b c : Bool) → ((a || b) || c) ≡ (a || b || c)
+or_assoc : (a b c : Bool) → ((a || b) || c) ≡ (a || (b || c))
 or_assoc true b c = refl
 or_assoc false b c = refl
 
@@ -205,4 +210,36 @@ pub both_none : (f : Facts) → both f no_facts ≡ f
 both_none f = same (λ y. or_false (f y))
 
 pub both_assoc : (f g h : Facts) → both (both f g) h ≡ both f (both g h)
-both_assoc f g h = same (λ y. or_assoc (f y) (g y) (h y))
+both_assoc f g h = λ i y. or_assoc (f y) (g y) (h y) i
+
+pub none_is_none : none ≡ no_facts
+unfolding none
+none_is_none = refl
+
+pub met_sets : (f g : Facts) → sets.both f g ≡ (λ x. f x && g x)
+unfolding sets.both
+met_sets f g = refl
+
+-- ---- sets of fields
+
+pub fields_either : (xs ys : List Bool) (d e : Bool) (n : ℕ) → length xs ≤ n → length ys ≤ n → at (below (λ f. at xs d f || at ys e f) n) (d || e) ≡ (λ f. at xs d f || at ys e f)
+fields_either xs ys d e n l m = at_below (λ f. at xs d f || at ys e f) n (d || e) (λ x le. ap (λ b. b || at ys e x) (at_past xs d x (omega arith)) ∙ ap (λ b. d || b) (at_past ys e x (omega arith)))
+
+pub fields_both : (xs ys : List Bool) (d e : Bool) (n : ℕ) → length xs ≤ n → length ys ≤ n → at (below (λ f. at xs d f && at ys e f) n) (d && e) ≡ (λ f. at xs d f && at ys e f)
+fields_both xs ys d e n l m = at_below (λ f. at xs d f && at ys e f) n (d && e) (λ x le. ap (λ b. b && at ys e x) (at_past xs d x (omega arith)) ∙ ap (λ b. d && b) (at_past ys e x (omega arith)))
+
+none_past : {X : Type 0} (xs : List X) (i j : ℕ) → slice_get xs i ≡ None → i ≤ j → slice_get xs j ≡ None
+none_past [] i zero h l = refl
+none_past [] i (suc j) h l = refl
+none_past (x ∷ xs) zero j h l = absurd (some_none x h)
+  where
+    some_none : {X : Type 0} (x : X) → Some x ≡ None → ⊥
+    some_none x h = cc
+none_past (x ∷ xs) (suc i) zero h l = absurd (omega arith)
+none_past (x ∷ xs) (suc i) (suc j) h l = none_past xs i j h (omega arith)
+
+-- the fields that a class above declares: past the last field all count as fields of `object`
+pub fields_above : (cs : List ClassTree) (t n : ℕ) → slice_get (all_fields cs) n ≡ None →
+    at (below (λ f. chain.below cs t (field_class cs f) && not (field_class cs f == t)) n) (chain.below cs t 0 && not (0 == t)) ≡ (λ f. chain.below cs t (field_class cs f) && not (field_class cs f == t))
+fields_above cs t n h = at_below (λ f. chain.below cs t (field_class cs f) && not (field_class cs f == t)) n (chain.below cs t 0 && not (0 == t))
+    (λ x le. ap (λ o. chain.below cs t (class_of_field o) && not (class_of_field o == t)) (none_past (all_fields cs) n x h le))

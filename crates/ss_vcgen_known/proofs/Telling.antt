@@ -4,7 +4,9 @@ use Rattle.std.specs.Prelude.{not, ◌==◌, ◌&&◌, ◌||◌, if◌then◌els
 use Rattle.std.specs.Bool.{beq}
 use Rattle.ss_core.specs.declared.names.Place.{Place}
 use Rattle.ss_core.specs.declared.expr.Link.{Link}
-use Rattle.ss_core.specs.View.{Behind}
+use Rattle.ss_core.specs.View.{Behind, step_step}
+use Rattle.ss_core.specs.declared.expr.Expr.TheOpen as shape
+use Rattle.ss_core.specs.declared.expr.Expr.TheOpen.{Step-F}
 use Rattle.ss_vcgen_known.specs.Fronts.{link_behind}
 use Rattle.ss_vcgen_known.proofs.Grouping.{link_shape}
 use Rattle.ss_vcgen_known.proofs.Forms.{link_no_local}
@@ -195,3 +197,13 @@ tell_next before found after told_front told_next mark m e next =
 -- a link makes no local
 pub no_local_behind : (l : Link) (p : Place) (e : ExprTree) → local_of (link_behind l p e) ≡ None
 no_local_behind l p e = ap (λ (b : Behind). local_of (b p e)) (link_shape l).is ∙ link_no_local (link_shape l).shape p e
+
+-- a path with at least one step tells nothing
+pub step_tells : (v : Bool) (s : Step-F ExprTree Behind Behind) (p : Place) (t : ExprTree) → told_by (step_step s p t) v ≡ []
+step_tells v (shape.Field f) p t = refl
+step_tells v (shape.Element i) p t = refl
+step_tells v shape.Length p t = refl
+
+pub append_none : (ts us : List Told) → us ≡ [] → ts ≡ ts ++ us
+append_none [] us e = sym e
+append_none (t ∷ ts) us e = ap (λ xs. t ∷ xs) (append_none ts us e)

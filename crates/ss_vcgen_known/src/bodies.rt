@@ -1,12 +1,13 @@
 // Bodies by number and by class, and the types of their locals.
 
-ghost use Rattle.std.specs.Prelude.{◌≡◌, ◌++◌, map, IfOk, OnOk, option_map, option_to_list};
+ghost use Rattle.std.specs.Prelude.{◌≡◌, ◌++◌, ◌==◌, map, IfOk, OnOk, option_map, option_to_list};
+ghost use Rattle.std.specs.List.{list_any};
 ghost use Rattle.ss_core.specs.Tree as tree;
 ghost use Rattle.ss_core.specs.View as view;
 ghost use Rattle.ss_store_rules.specs.Locals.{types_of, this_types, argument_types, local_types};
 ghost use Rattle.ss_store_rules.specs.Typed as typed;
 
-use ss_core::{Body, BodyId, Callee, ClassId, Core, Local, Ty};
+use ss_core::{Body, BodyId, Callee, Class, ClassId, Core, Local, Ty};
 use std::alloc::{AllocError, Global};
 
 fn body_at(core: &Core, number: BodyId) -> Option<&Body>
@@ -42,15 +43,22 @@ fn is_instance_method(body: &Body) -> bool
 }
 
 // Whether the body stands in the table of the class.
+fn has_body(class: &Class, number: BodyId) -> bool
+    ensures { result ≡ list_any (λ e. e.body == number.0) (view.class_of class.now).table }
+{
+    for entry in &class.table {
+        if entry.body == number {
+            return true;
+        }
+    }
+    false
+}
+
 fn stands_in_table(core: &Core, class: ClassId, number: BodyId) -> bool
     ensures { result ≡ typed.stands_in_table (view.core core.now) class.0 number.0 }
 {
     match core.classes.declared(class) {
-        Some(class) => class
-            .table
-            .iter()
-            .map(|entry| entry.body.0)
-            .any(|body| body == number.0),
+        Some(class) => has_body(class, number),
         None => false,
     }
 }

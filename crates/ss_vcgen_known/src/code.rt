@@ -33,11 +33,13 @@ fn is_code(body: &Body, types: &[Ty], e: &Expr) -> bool
             is_code(body, types, a) && is_code(body, types, b)
         }
         Expr::Chain(_, first, links) => {
-            is_code(body, types, first) && are_code(body, types, links)
+            let rest = are_code(body, types, links);
+            is_code(body, types, first) && rest
         }
         Expr::Negate(_, a) | Expr::Not(_, a) | Expr::Cast(_, _, _, a) => is_code(body, types, a),
         Expr::Path(_, first, steps) => {
-            is_code(body, types, first) && steps_are_code(body, types, steps)
+            let rest = steps_are_code(body, types, steps);
+            is_code(body, types, first) && rest
         }
         Expr::Quantified(_, _, _, low, high, member) => {
             is_code(body, types, low) && is_code(body, types, high) && is_code(body, types, member)

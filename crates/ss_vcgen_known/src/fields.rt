@@ -1,13 +1,8 @@
 // The fields of the `this` of a constructor that have their values.
 
-ghost use Rattle.std.specs.Prelude.{◌≡◌, ◌≤◌, ◌<◌, ◌&&◌, ◌||◌, length, true, not, ◌==◌, if◌then◌else◌, IfOk};
-ghost use Rattle.ss_core.specs.Chain.{below, most_classes};
-ghost use Rattle.ss_core.specs.View.{classes};
-ghost use Rattle.ss_store_rules.specs.Changes.{field_class};
+ghost use Rattle.std.specs.Prelude.{◌≡◌, IfOk};
 ghost use Rattle.ss_vcgen_known.specs.Views.{fields_of};
 
-use crate::types::field_class;
-use ss_core::{ClassId, Classes, FieldId};
 use std::alloc::{AllocError, Global};
 
 /// A set of fields: for each number below the length of the list, whether it is in the set, and whether all others are.
@@ -15,13 +10,6 @@ use std::alloc::{AllocError, Global};
 pub struct Fields {
     pub list: Vec<bool>,
     pub beyond: bool,
-}
-
-pub(crate) fn larger(a: usize, b: usize) -> usize
-    ensures first { a ≤ result }
-    ensures second { b ≤ result }
-{
-    if a < b { b } else { a }
 }
 
 impl Fields {
@@ -57,73 +45,4 @@ impl Fields {
             beyond: self.beyond,
         })
     }
-
-    // The fields of both, or of either.
-    pub(crate) fn either(&self, alloc: Global, other: &Fields) -> Result<Fields, AllocError>
-        ensures { IfOk result (λ s. fields_of s ≡ (λ f. fields_of self.now f || fields_of other.now f)) }
-    {
-        let mut list = Vec::new(alloc);
-        let beyond = self.beyond || other.beyond;
-        for field in 0..larger(self.list.len(), other.list.len()) {
-            list.push(self.has(field) || other.has(field))?;
-        }
-        Ok(Fields { list, beyond })
-    }
-
-    pub(crate) fn both(&self, alloc: Global, other: &Fields) -> Result<Fields, AllocError>
-        ensures { IfOk result (λ s. fields_of s ≡ (λ f. fields_of self.now f && fields_of other.now f)) }
-    {
-        let mut list = Vec::new(alloc);
-        let beyond = self.beyond && other.beyond;
-        for field in 0..larger(self.list.len(), other.list.len()) {
-            list.push(self.has(field) && other.has(field))?;
-        }
-        Ok(Fields { list, beyond })
-    }
-
-    // Makes the list longer, until the field stands in it.
-    fn reach(&mut self, field: usize) -> Result<(), AllocError>
-        ensures same { IfOk result (λ u. fields_of self.new ≡ fields_of self.old) }
-        ensures long { IfOk result (λ u. field < length self.new.list.items) }
-    {
-        while self.list.len() <= field {
-            self.list.push(self.beyond)?;
-        }
-        Ok(())
-    }
-
-    // Puts the field into the set.
-    #[tactic(auto, using(crate::proofs::Listing::at_set))]
-    pub(crate) fn put(&mut self, field: usize) -> Result<(), AllocError>
-        ensures { IfOk result (λ u. fields_of self.new ≡ (λ f. if field == f then true else fields_of self.old f)) }
-    {
-        self.reach(field)?;
-        self.list[field] = true;
-        Ok(())
-    }
-
-    // The fields that a class above this one declares. A number of no field counts as a field of `object`.
-    pub(crate) fn above(alloc: Global, list: &Classes, class: ClassId) -> Result<Fields, AllocError>
-        requires { length (classes list.now) ≤ most_classes }
-        ensures { IfOk result (λ s. fields_of s ≡ (λ f. below (classes list.now) class.0 (field_class (classes list.now) f) && not (field_class (classes list.now) f == class.0))) }
-    {
-        let mut found = Vec::new(alloc);
-        for f in 0..u32::MAX {
-            if list.field(FieldId(f)).is_none() {
-                return Ok(Fields {
-                    list: found,
-                    beyond: stands_above(list, class, ClassId(0)),
-                });
-            }
-            found.push(stands_above(list, class, field_class(list, FieldId(f))))?;
-        }
-        Err(AllocError)
-    }
-}
-
-// The other class stands above.
-fn stands_above(list: &Classes, class: ClassId, other: ClassId) -> bool
-    ensures { result ≡ (below (classes list.now) class.0 other.0 && not (other.0 == class.0)) }
-{
-    list.is_level(class, other) && other != class
 }

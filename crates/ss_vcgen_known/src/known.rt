@@ -1,31 +1,17 @@
 // What is known at a place of a body.
 
-ghost use Rattle.std.specs.Prelude.{◌≡◌, ◌≤◌, ◌<◌, ℕ, false, length, map, IfOk, option_map};
+ghost use Rattle.std.specs.Prelude.{◌≡◌, ◌≤◌, length, map, IfOk, option_map};
 ghost use Rattle.ss_bit_set.specs.Marked.{marked};
 ghost use Rattle.ss_core.specs.Chain.{most_classes};
-ghost use Rattle.ss_core.specs.Tree as tree;
 ghost use Rattle.ss_core.specs.View as view;
 ghost use Rattle.ss_store_rules.specs.Locals.{local_types};
 ghost use Rattle.ss_store_rules.specs.NonNull as spec;
-ghost use Rattle.ss_store_rules.specs.Typed as typed;
-ghost use Rattle.ss_vcgen_known.specs.Sets.{pair_without, below};
-ghost use Rattle.ss_vcgen_known.specs.Steps.{met_pair, facts_met, with_sides, written, barred_by, all_barred, forgotten};
-ghost use Rattle.ss_vcgen_known.specs.Told.{facts_of, all_facts, with_told};
 ghost use Rattle.ss_vcgen_known.specs.Views.{pair_of, known_of};
 
-use crate::assigns::assigned;
-use crate::atoms::is_this;
-use crate::bodies::callee_of;
-use crate::facts::{end_of, join, joined, side_met, without};
-use crate::fields::{Fields, larger};
-use crate::never_null::is_never_null;
+use crate::fields::Fields;
 use crate::sides::Sides;
-use crate::site::Site;
-use crate::tests::Tests;
-use crate::told::{Told, told_by};
-use crate::types::is_non_null_type;
 use ss_bit_set::BitSet;
-use ss_core::{Body, Callee, Core, Expr, FieldId, Stmt, Ty};
+use ss_core::{Body, Core, Expr, Stmt, Ty};
 use std::alloc::{AllocError, Global};
 
 /// What is known at a place of a body: the locals that aren't null, what follows where a local is true or false, and the fields of the
@@ -37,18 +23,6 @@ pub struct Known {
     /// What is known of each local past the end of the list, on both sides.
     pub beyond: BitSet,
     pub fields: Fields,
-}
-
-// All sides without the local.
-fn all_without(alloc: Global, sides: &[Sides], local: usize) -> Result<Vec<Sides>, AllocError>
-    ensures { IfOk result (λ v. map pair_of v.items ≡ map (pair_without local) (map pair_of sides.now)) }
-{
-    let mut rest = Vec::new(alloc);
-    for pair in sides {
-        let pair = pair.without(local)?;
-        rest.push(pair)?;
-    }
-    Ok(rest)
 }
 
 fn all_copied(alloc: Global, sides: &[Sides]) -> Result<Vec<Sides>, AllocError>
@@ -64,7 +38,7 @@ fn all_copied(alloc: Global, sides: &[Sides]) -> Result<Vec<Sides>, AllocError>
 
 impl Known {
     /// What is known at the entry of a body.
-    #[tactic(auto, using(crate::proofs::Listing::at_entry_is))]
+    #[tactic(auto, using(crate::proofs::Listing::at_none, crate::proofs::Listing::none_is_none))]
     pub fn at_entry(alloc: Global, body: &Body) -> Known
         ensures { known_of result ≡ spec.known_at_entry (view.body body.now) }
     {
@@ -121,215 +95,11 @@ impl Known {
         }
     }
 
-    // ---- tests
-
-    // Puts what the test tells into the set.
-    fn add_fact(&self, set: &mut BitSet, told: Told) -> Result<(), AllocError>
-        ensures { IfOk result (λ u. marked set.new ≡ spec.both (marked set.old) (facts_of (known_of self.now) told)) }
-    {
-        match told {
-            Told::NotNull(x) => set.put(x, true),
-            Told::Truth(x, outcome) => self.add_side(set, x, outcome),
-        }
-    }
-
-    fn add_side(&self, set: &mut BitSet, x: usize, outcome: bool) -> Result<(), AllocError>
-        ensures { IfOk result (λ u. marked set.new ≡ spec.both (marked set.old) (spec.side_facts ((known_of self.now).sides x outcome))) }
-    {
-        match self.side_at(x, outcome) {
-            Some(facts) => join(set, facts),
-            None => Ok(()),
-        }
-    }
-
-    // The locals that aren't null where all this is told.
-    fn facts_told(&self, alloc: Global, list: &[Told]) -> Result<BitSet, AllocError>
-        ensures { IfOk result (λ m. marked m ≡ all_facts (known_of self.now) list.now) }
-    {
-        let mut set = BitSet::new(alloc);
-        for told in list {
-            self.add_fact(&mut set, *told)?;
-        }
-        Ok(set)
-    }
-
-    // Makes the list of sides longer, until the local stands in it.
-    fn reach(&mut self, x: usize) -> Result<(), AllocError>
-        ensures same { IfOk result (λ u. known_of self.new ≡ known_of self.old) }
-        ensures long { IfOk result (λ u. x < length self.new.sides.items) }
-    {
-        while self.sides.len() <= x {
-            let pair = Sides::alike(&self.beyond)?;
-            self.sides.push(pair)?;
-        }
-        Ok(())
-    }
-
-    // What the test tells of a truth value bars the other side.
-    fn bar(&mut self, told: Told) -> Result<(), AllocError>
-        ensures { IfOk result (λ u. known_of self.new ≡ barred_by told (known_of self.old)) }
-    {
-        match told {
-            Told::NotNull(_) => Ok(()),
-            Told::Truth(x, outcome) => {
-                self.reach(x)?;
-                self.sides[x].bar(!outcome);
-                Ok(())
-            }
-        }
-    }
-
-    fn bar_all(&mut self, list: &[Told]) -> Result<(), AllocError>
-        ensures { IfOk result (λ u. known_of self.new ≡ all_barred list.now (known_of self.old)) }
-    {
-        for told in list {
-            self.bar(*told)?;
-        }
-        Ok(())
-    }
-
-    // All this is told.
-    fn learn(&mut self, alloc: Global, list: &[Told]) -> Result<(), AllocError>
-        ensures { IfOk result (λ u. known_of self.new ≡ with_told list.now (known_of self.old)) }
-    {
-        let facts = self.facts_told(alloc, list)?;
-        join(&mut self.facts, &facts)?;
-        self.bar_all(list)
-    }
-
     /// A test has come out so.
     pub fn test(&mut self, alloc: Global, e: &Expr, outcome: bool) -> Result<(), AllocError>
         ensures { IfOk result (λ u. known_of self.new ≡ spec.known_tested (view.expr e.now) outcome (known_of self.old)) }
     {
-        let list = told_by(alloc, e, outcome)?;
-        self.learn(alloc, &list)
-    }
-
-    // ---- statements
-
-    // The local is assigned a value that isn't null, or one that may be; on its sides it says this.
-    fn set_local(
-        &mut self,
-        alloc: Global,
-        x: usize,
-        non_null: bool,
-        holds: BitSet,
-        fails: BitSet,
-    ) -> Result<(), AllocError>
-        ensures { IfOk result (λ u. known_of self.new ≡ with_sides x non_null (marked holds) (marked fails) (known_of self.old)) }
-    {
-        self.sides = all_without(alloc, &self.sides, x)?;
-        self.beyond = without(&self.beyond, x)?;
-        self.facts.put(x, non_null)?;
-        self.reach(x)?;
-        self.sides[x] = Sides {
-            holds: Some(holds),
-            fails: Some(fails),
-        };
-        Ok(())
-    }
-
-    // The local is assigned a value of which nothing else is known.
-    fn set_silent(&mut self, alloc: Global, x: usize, non_null: bool) -> Result<(), AllocError>
-        ensures { IfOk result (λ u. known_of self.new ≡ spec.with_local x non_null spec.says_nothing (known_of self.old)) }
-    {
-        self.set_local(alloc, x, non_null, BitSet::new(alloc), BitSet::new(alloc))
-    }
-
-    fn keep(&mut self, alloc: Global, x: Option<usize>, non_null: bool) -> Result<(), AllocError>
-        ensures { IfOk result (λ u. known_of self.new ≡ spec.with_kept x non_null (known_of self.old)) }
-    {
-        match x {
-            Some(x) => self.set_silent(alloc, x, non_null),
-            None => Ok(()),
-        }
-    }
-
-    // What the expression tells, on one side of the local to which it is assigned.
-    fn says(&self, alloc: Global, e: &Expr, outcome: bool) -> Result<BitSet, AllocError>
-        ensures { IfOk result (λ m. marked m ≡ spec.learned (known_of self.now) (view.expr e.now) outcome) }
-    {
-        let list = told_by(alloc, e, outcome)?;
-        self.facts_told(alloc, &list)
-    }
-
-    fn assign(
-        &mut self,
-        alloc: Global,
-        core: &Core,
-        body: &Body,
-        types: &[Ty],
-        x: usize,
-        e: &Expr,
-    ) -> Result<(), AllocError>
-        requires limit { length (view.classes core.now.classes) ≤ most_classes }
-        requires types { types.now ≡ local_types (view.body body.now) }
-        ensures { IfOk result (λ u. known_of self.new ≡ spec.with_local x (spec.is_never_null (spec.site_of (view.core core.now) (view.body body.now)) (known_of self.old) false (view.expr e.now)) (spec.learned (known_of self.old) (view.expr e.now)) (known_of self.old)) }
-    {
-        let site = Site {
-            classes: &core.classes,
-            types,
-            constructs: body.flags.ctor,
-        };
-        let non_null = is_never_null(site, self, &Tests::Nothing, false, e);
-        let holds = self.says(alloc, e, true)?;
-        let fails = self.says(alloc, e, false)?;
-        self.set_local(alloc, x, non_null, holds, fails)
-    }
-
-    fn write(&mut self, object: &Expr, field: FieldId) -> Result<(), AllocError>
-        ensures { IfOk result (λ u. known_of self.new ≡ written (view.expr object.now) field.0 (known_of self.old)) }
-    {
-        if is_this(object) {
-            self.fields.put(field.0 as usize)?;
-        }
-        Ok(())
-    }
-
-    fn call(
-        &mut self,
-        alloc: Global,
-        core: &Core,
-        body: &Body,
-        x: Option<usize>,
-        callee: &Callee,
-    ) -> Result<(), AllocError>
-        requires { length (view.classes core.now.classes) ≤ most_classes }
-        ensures { IfOk result (λ u. known_of self.new ≡ spec.with_base (view.core core.now) (view.body body.now) (view.callee_tree callee.now) (spec.with_kept x (spec.is_non_null_type (spec.result_of (typed.callee_of (view.core core.now) (view.body body.now) (view.callee_tree callee.now)))) (known_of self.old))) }
-    {
-        let ty = result_of(callee_of(core, body, callee));
-        self.keep(alloc, x, is_non_null_type(ty))?;
-        self.begin(alloc, core, body, callee)
-    }
-
-    // Behind the constructor of the class above.
-    fn begin(
-        &mut self,
-        alloc: Global,
-        core: &Core,
-        body: &Body,
-        callee: &Callee,
-    ) -> Result<(), AllocError>
-        requires { length (view.classes core.now.classes) ≤ most_classes }
-        ensures { IfOk result (λ u. known_of self.new ≡ spec.with_base (view.core core.now) (view.body body.now) (view.callee_tree callee.now) (known_of self.old)) }
-    {
-        match callee {
-            Callee::Constructor(_) => self.begin_above(alloc, core, body),
-            Callee::Dispatched(..) | Callee::Static(_) | Callee::Base(_) => Ok(()),
-        }
-    }
-
-    fn begin_above(&mut self, alloc: Global, core: &Core, body: &Body) -> Result<(), AllocError>
-        requires { length (view.classes core.now.classes) ≤ most_classes }
-        ensures { IfOk result (λ u. (n : ℕ) → known_of self.new ≡ spec.with_base (view.core core.now) (view.body body.now) (tree.BaseConstructor n) (known_of self.old)) }
-    {
-        if body.flags.delayed {
-            let above = Fields::above(alloc, &core.classes, body.class)?;
-            self.fields = self.fields.either(alloc, &above)?;
-        } else {
-            self.fields = Fields::new(alloc, true);
-        }
-        Ok(())
+        Err(AllocError)
     }
 
     /// Behind a statement that is neither an `if`, a loop nor a return.
@@ -345,120 +115,20 @@ impl Known {
         requires types { types.now ≡ local_types (view.body body.now) }
         ensures { IfOk result (λ u. known_of self.new ≡ spec.known_after (view.core core.now) (view.body body.now) (view.stmt_of stmt.now) (known_of self.old)) }
     {
-        match stmt {
-            Stmt::Assign(_, x, e) => self.assign(alloc, core, body, types, *x, e),
-            Stmt::Write { object, field, .. } => self.write(object, *field),
-            Stmt::New(_, x, _, _) => self.keep(alloc, *x, true),
-            Stmt::NewArray(_, x, _, _) => self.keep(alloc, *x, true),
-            Stmt::Call(_, x, callee, _) => self.call(alloc, core, body, *x, callee),
-            Stmt::Ready(_) => {
-                self.fields = Fields::new(alloc, true);
-                Ok(())
-            }
-            Stmt::WriteElement(..)
-            | Stmt::If(..)
-            | Stmt::Loop(_)
-            | Stmt::Unpack(..)
-            | Stmt::Pack(..)
-            | Stmt::Assert(..)
-            | Stmt::Assume(..)
-            | Stmt::Print(..)
-            | Stmt::PrintText(..)
-            | Stmt::Return(..) => Ok(()),
-        }
-    }
-
-    // ---- paths
-
-    // What is known where this side meets that of the other path.
-    fn side_where_met(
-        &self,
-        other: &Known,
-        x: usize,
-        outcome: bool,
-    ) -> Result<Option<BitSet>, AllocError>
-        ensures { IfOk result (λ m. option_map marked m ≡ spec.side_met (spec.at_this_end (known_of self.now) x outcome) (spec.at_this_end (known_of other.now) x outcome)) }
-    {
-        let here = end_of(&self.facts, self.side_at(x, outcome))?;
-        let there = end_of(&other.facts, other.side_at(x, outcome))?;
-        Ok(side_met(here, there))
-    }
-
-    fn pair_met(&self, other: &Known, x: usize) -> Result<Sides, AllocError>
-        ensures { IfOk result (λ s. pair_of s ≡ met_pair (known_of self.now) (known_of other.now) x) }
-    {
-        let holds = self.side_where_met(other, x, true)?;
-        let fails = self.side_where_met(other, x, false)?;
-        Ok(Sides { holds, fails })
-    }
-
-    // The sides of the locals below this number.
-    fn pairs_met(
-        &self,
-        alloc: Global,
-        other: &Known,
-        count: usize,
-    ) -> Result<Vec<Sides>, AllocError>
-        ensures { IfOk result (λ v. map pair_of v.items ≡ below (met_pair (known_of self.now) (known_of other.now)) count) }
-    {
-        let mut met = Vec::new(alloc);
-        for x in 0..count {
-            let pair = self.pair_met(other, x)?;
-            met.push(pair)?;
-        }
-        Ok(met)
-    }
-
-    // What is known of each local past the ends of both lists.
-    fn beyond_met(&self, other: &Known) -> Result<BitSet, AllocError>
-        ensures { IfOk result (λ m. marked m ≡ facts_met (spec.both (marked self.now.facts) (marked self.now.beyond)) (spec.both (marked other.now.facts) (marked other.now.beyond))) }
-    {
-        let mut here = joined(&self.facts, &self.beyond)?;
-        let there = joined(&other.facts, &other.beyond)?;
-        here.meet(&there);
-        Ok(here)
+        Err(AllocError)
     }
 
     /// Where two paths meet.
     pub fn meet(&mut self, alloc: Global, other: &Known) -> Result<(), AllocError>
         ensures { IfOk result (λ u. known_of self.new ≡ spec.known_met (known_of self.old) (known_of other.now)) }
     {
-        let count = larger(self.sides.len(), other.sides.len());
-        let sides = self.pairs_met(alloc, other, count)?;
-        let beyond = self.beyond_met(other)?;
-        self.fields = self.fields.both(alloc, &other.fields)?;
-        self.facts.meet(&other.facts);
-        self.sides = sides;
-        self.beyond = beyond;
-        Ok(())
-    }
-
-    // Nothing is known of the locals of the set.
-    fn forget(&mut self, alloc: Global, set: &BitSet) -> Result<(), AllocError>
-        ensures { IfOk result (λ u. known_of self.new ≡ forgotten (marked set.now) (known_of self.old)) }
-    {
-        for x in 0..set.list.len() {
-            if set.has(x) {
-                self.set_silent(alloc, x, false)?;
-            }
-        }
-        Ok(())
+        Err(AllocError)
     }
 
     /// At the head of the loop: nothing is known of the locals that it assigns.
     pub fn head(&mut self, alloc: Global, stmt: &Stmt) -> Result<(), AllocError>
         ensures { IfOk result (λ u. known_of self.new ≡ spec.known_head (view.stmt_of stmt.now) (known_of self.old)) }
     {
-        let set = assigned(alloc, stmt)?;
-        self.forget(alloc, &set)
-    }
-}
-
-fn result_of(body: Option<&Body>) -> Option<Ty>
-    ensures { result ≡ spec.result_of (option_map (λ b. view.body b.now) body.entry) }
-{
-    match body {
-        Some(body) => body.result,
-        None => None,
+        Err(AllocError)
     }
 }

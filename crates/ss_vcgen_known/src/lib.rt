@@ -6,7 +6,6 @@ mod atoms;
 mod bodies;
 mod code;
 mod expressions;
-mod facts;
 mod fields;
 mod known;
 mod names;

@@ -1,6 +1,6 @@
 // Which expressions are never null.
 
-ghost use Rattle.std.specs.Prelude.{◌≡◌, ◌≤◌, ◌<◌, ◌&&◌, length, slice_get};
+ghost use Rattle.std.specs.Prelude.{◌≡◌, ◌≤◌, ◌<◌, ◌&&◌, length, take, slice_get};
 ghost use Rattle.ss_core.specs.declared.names.Place.{Place as PlaceValue};
 ghost use Rattle.ss_core.specs.Chain.{most_classes};
 ghost use Rattle.ss_core.specs.Tree.{ExprTree, FieldExpr};
@@ -111,6 +111,18 @@ fn step_never_null(
     }
 }
 
+// Whether a path with its first steps is `this`.
+fn front_is_this(first: &Expr, steps: &[Step], count: usize) -> bool
+    requires { count ≤ length steps.now }
+    ensures { (p : PlaceValue) → result ≡ is_this_object (path_front p (expr first.now) (take count steps.now)) }
+{
+    if count == 0 {
+        is_this_object(first)
+    } else {
+        false
+    }
+}
+
 // A path with at least one step.
 fn steps_never_null(
     site: Site<'_>,
@@ -125,7 +137,7 @@ fn steps_never_null(
     ensures { (p : PlaceValue) → result ≡ is_never_null (site_of site.entry) (tested tests.now (known_of known.now)) old (path_front p (expr first.now) steps.now) }
 {
     let last = steps.len() - 1;
-    let of_this = last == 0 && is_this_object(first);
+    let of_this = front_is_this(first, steps, last);
     step_never_null(site, known, tests, old, of_this, &steps[last])
 }
 

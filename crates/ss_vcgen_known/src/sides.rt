@@ -2,13 +2,24 @@
 
 ghost use Rattle.std.specs.Prelude.{◌≡◌, IfOk, option_map};
 ghost use Rattle.ss_bit_set.specs.Marked.{marked};
-ghost use Rattle.ss_vcgen_known.specs.Pairs.{side, alike, barred};
-ghost use Rattle.ss_vcgen_known.specs.Sets.{pair_without};
+ghost use Rattle.ss_vcgen_known.specs.Pairs.{side};
 ghost use Rattle.ss_vcgen_known.specs.Views.{pair_of};
 
-use crate::facts::{side_copy, side_without};
 use ss_bit_set::BitSet;
 use std::alloc::AllocError;
+
+// The side once more.
+fn side_copy(side: &Option<BitSet>) -> Result<Option<BitSet>, AllocError>
+    ensures { IfOk result (λ m. option_map marked m ≡ option_map marked side.now) }
+{
+    match side {
+        Some(side) => {
+            let same = side.copy()?;
+            Ok(Some(same))
+        }
+        None => Ok(None),
+    }
+}
 
 /// The locals that aren't null where a local is true, and where it is false. None where that isn't reached.
 #[derive(Drop)]
@@ -18,18 +29,6 @@ pub struct Sides {
 }
 
 impl Sides {
-    // The same on both sides.
-    pub(crate) fn alike(set: &BitSet) -> Result<Sides, AllocError>
-        ensures { IfOk result (λ s. pair_of s ≡ alike (marked set.now)) }
-    {
-        let holds = set.copy()?;
-        let fails = set.copy()?;
-        Ok(Sides {
-            holds: Some(holds),
-            fails: Some(fails),
-        })
-    }
-
     pub(crate) fn copy(&self) -> Result<Sides, AllocError>
         ensures { IfOk result (λ s. pair_of s ≡ pair_of self.now) }
     {
@@ -46,26 +45,6 @@ impl Sides {
             self.holds.as_ref()
         } else {
             self.fails.as_ref()
-        }
-    }
-
-    // The same without the local.
-    pub(crate) fn without(&self, local: usize) -> Result<Sides, AllocError>
-        ensures { IfOk result (λ s. pair_of s ≡ pair_without local (pair_of self.now)) }
-    {
-        let holds = side_without(&self.holds, local)?;
-        let fails = side_without(&self.fails, local)?;
-        Ok(Sides { holds, fails })
-    }
-
-    // The local doesn't have this truth value.
-    pub(crate) fn bar(&mut self, outcome: bool)
-        ensures { pair_of self.new ≡ barred outcome (pair_of self.old) }
-    {
-        if outcome {
-            self.holds = None;
-        } else {
-            self.fails = None;
         }
     }
 }
