@@ -7,7 +7,7 @@ use Rattle.ss_core.specs.declared.expr.Expr.TheOpen.{Link-F, Step-F}
 use Rattle.ss_core.specs.Tree.{ExprTree, IntExpr, BoolExpr, NullExpr, LocalExpr, FieldExpr, ElementExpr, LengthExpr, NegateExpr, NotExpr, BinaryExpr, ImpliesExpr, IffExpr, IsExpr, AsExpr, CastExpr, OldExpr, QuantifiedExpr, StateExpr, OwnersExpr, DefaultExpr}
 use Rattle.ss_core.specs.View.{Behind, link_step, step_step}
 use Rattle.ss_store_rules.specs.Admissible.{is_this}
-use Rattle.ss_store_rules.specs.NonNull.{is_null_literal, is_this_object}
+use Rattle.ss_store_rules.specs.NonNull.{Site, Known, is_null_literal, is_this_object, is_never_null}
 use Rattle.ss_store_rules.specs.Paths.{is_literal_true}
 use Rattle.ss_vcgen_known.specs.Told.{local_of}
 
@@ -73,3 +73,9 @@ this_is (QuantifiedExpr p q n l h e) = refl
 this_is (StateExpr p w e) = refl
 this_is (OwnersExpr p w a b) = refl
 this_is (DefaultExpr p d) = refl
+
+-- a chain with at least one link may be null
+pub link_may : (site : Site) (k : Known) (old : Bool) (s : Link-F ExprTree Behind Behind) (p : Place) (t : ExprTree) → is_never_null site k old (link_step s p t) ≡ false
+link_may site k old (shape.Operation o b) p t = refl
+link_may site k old (shape.Is c) p t = refl
+link_may site k old (shape.As c) p t = refl

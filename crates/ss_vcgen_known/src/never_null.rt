@@ -1,6 +1,6 @@
 // Which expressions are never null.
 
-ghost use Rattle.std.specs.Prelude.{◌≡◌, ◌≤◌, ◌<◌, ◌&&◌, length, take, slice_get};
+ghost use Rattle.std.specs.Prelude.{◌≡◌, ◌≤◌, ◌&&◌, ◌+◌, length, take, slice_get};
 ghost use Rattle.ss_core.specs.declared.names.Place.{Place as PlaceValue};
 ghost use Rattle.ss_core.specs.Chain.{most_classes};
 ghost use Rattle.ss_core.specs.Tree.{ExprTree, FieldExpr};
@@ -123,7 +123,7 @@ fn front_is_this(first: &Expr, steps: &[Step], count: usize) -> bool
     }
 }
 
-// A path with at least one step.
+// A path with this last step.
 fn steps_never_null(
     site: Site<'_>,
     known: &Known,
@@ -131,12 +131,12 @@ fn steps_never_null(
     old: bool,
     first: &Expr,
     steps: &[Step],
+    last: usize,
 ) -> bool
     requires limit { length (classes site.classes.now) ≤ most_classes }
-    requires some { 0 < length steps.now }
+    requires last { last + 1 ≡ length steps.now }
     ensures { (p : PlaceValue) → result ≡ is_never_null (site_of site.entry) (tested tests.now (known_of known.now)) old (path_front p (expr first.now) steps.now) }
 {
-    let last = steps.len() - 1;
     let of_this = front_is_this(first, steps, last);
     step_never_null(site, known, tests, old, of_this, &steps[last])
 }
@@ -184,7 +184,7 @@ pub fn path_never_null(
     if steps.is_empty() {
         is_never_null(site, known, tests, old, first)
     } else {
-        steps_never_null(site, known, tests, old, first, steps)
+        steps_never_null(site, known, tests, old, first, steps, steps.len() - 1)
     }
 }
 
