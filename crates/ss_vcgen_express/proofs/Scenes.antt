@@ -1,6 +1,6 @@
 -- Scenes stay as the bank grows; locals by their terms.
-use Rattle.std.proofs.Common.{◌≡◌, ℕ, zero, suc, subst, List, [], ◌∷◌, refl, sym, ◌∙◌, ap, Option, Some, None, Result, Ok, Err}
-use Rattle.std.specs.Prelude.{IfOk, option_map, slice_get}
+use Rattle.std.proofs.Common.{◌≡◌, ℕ, zero, suc, subst, List, [], ◌∷◌, refl, sym, ◌∙◌, ap, Some, None}
+use Rattle.std.specs.Prelude.{option_map, slice_get}
 use Rattle.std.proofs.lemmas.Option.{slice_get-map}
 use Rattle.ss_core.specs.declared.expr.Quantifier.{Quantifier}
 use Rattle.ss_core.specs.declared.expr.Quantifier.TheVariants as quantifier
@@ -12,7 +12,7 @@ use Rattle.ss_terms_stores.specs.Forms.{Forms, term_at, HasTerm, HasTerms, IsGro
 use Rattle.ss_terms_stores.proofs.Grown.{HasTerm-grown, HasTerms-grown}
 use Rattle.ss_vcgen_express.specs.declared.meant.Meant.TheVariants as meant
 use Rattle.ss_vcgen_express.specs.declared.scene.Scene.{Scene}
-use Rattle.ss_vcgen_express.specs.Numbers.{meant_at, IsMeant}
+use Rattle.ss_vcgen_express.specs.Numbers.{meant_at}
 use Rattle.ss_vcgen_express.specs.Scenes.{local_at, scene_at, HasScene, quantified_over}
 
 pub HasScene-grown : {a b : Forms} → IsGrown a b → (c : Scene) → HasScene a c → HasScene b c

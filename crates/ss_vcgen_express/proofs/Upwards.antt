@@ -1,5 +1,5 @@
 -- What default conditions speak of, a class or a field at a time.
-use Rattle.std.proofs.Common.{◌≡◌, ℕ, suc, ◌+◌, ◌-◌, ◌*◌, ◌<◌, ◌≤◌, List, [], ◌∷◌, ◌++◌, length, map, drop, get_or, Bool, true, false, eqb, refl, sym, ◌∙◌, ap, subst, append_assoc, drop-cons, add-one, arith, Some, None, ⊎_elim, ◌≢◌}
+use Rattle.std.proofs.Common.{◌≡◌, ℕ, suc, ◌+◌, ◌-◌, ◌*◌, ◌<◌, ◌≤◌, List, [], ◌∷◌, ◌++◌, length, map, drop, get_or, Bool, true, false, refl, sym, ◌∙◌, ap, subst, append_assoc, drop-cons, add-one, arith, Some, None, ⊎_elim, ◌≢◌}
 use Rattle.std.specs.Prelude.{if◌then◌else◌}
 use Rattle.std.proofs.lemmas.Bool.{cases_eq, eq-eqb, ne_eqb}
 use Rattle.std.proofs.lemmas.List.{append-nil, map_push, length-map}
@@ -8,12 +8,11 @@ use Rattle.ss_core.specs.declared.class.Class.{Class}
 use Rattle.ss_core.specs.declared.class.Classes.{Classes}
 use Rattle.ss_core.specs.declared.names.ClassId.{ClassId}
 use Rattle.ss_core.specs.Tree.{ClassTree, FieldTree}
-use Rattle.ss_core.specs.Chain.{above, level_above, levels_from, most_levels, levels, sub, DeclaredField, in_class, fields_of_class, fields_from, most_classes}
+use Rattle.ss_core.specs.Chain.{above, level_above, levels_from, most_levels, levels, sub, DeclaredField, fields_of_class, fields_from, most_classes}
 use Rattle.ss_core.specs.View.{classes, class_of, field_of}
-use Rattle.ss_logic_stores.specs.Terms.{Term, sort_of_type}
+use Rattle.ss_logic_stores.specs.Terms.{Term}
 use Rattle.ss_logic_stores.specs.Formulas.{Formula}
 use Rattle.ss_logic_express.specs.Express as spec
-use Rattle.ss_vcgen_express.specs.declared.fields.Held.{Held}
 use Rattle.ss_vcgen_express.specs.Defaults.{Slot, slot, with_slot, slots_if, slots_upto, at_default, number_of}
 
 -- ---- fields

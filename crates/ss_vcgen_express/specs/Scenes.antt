@@ -1,5 +1,5 @@
 -- Scenes over the numbers of a bank.
-use Rattle.std.specs.Prelude.{ℕ, ◌≤◌, List, [], ◌∷◌, ◌++◌, length, map, if◌then◌else◌}
+use Rattle.std.specs.Prelude.{◌≤◌, List, [], ◌∷◌, ◌++◌, length, map, if◌then◌else◌}
 use Rattle.ss_core.specs.declared.expr.Quantifier.{Quantifier}
 use Rattle.ss_core.specs.declared.expr.Quantifier.TheVariants as quantifier
 use Rattle.ss_core.specs.Chain.{most_classes}

@@ -1,4 +1,4 @@
-use Rattle.std.proofs.Common.{[], ◌∷◌, ap, ◌∙◌, sym, true, false}
+use Rattle.std.proofs.Common.{[], ◌∷◌, ap, ◌∙◌, sym}
 use Rattle.ss_logic_express.specs.Express as spec
 use Rattle.ss_logic_rules.specs.Shapes.{group, owner_of}
 use Rattle.ss_logic_stores.specs.Formulas.{Formula}
