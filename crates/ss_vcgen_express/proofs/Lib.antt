@@ -3,4 +3,3 @@ pub mod Grown
 pub mod Listing
 pub mod Marking
 pub mod Scenes
-pub mod Upwards

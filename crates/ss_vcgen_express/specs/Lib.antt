@@ -1,5 +1,4 @@
 pub mod Chains
-pub mod Defaults
 pub mod Functions
 pub mod Marked
 pub mod Numbers

@@ -12,8 +12,8 @@ use crate::truths::{both, over_two, said};
 use ss_terms_stores::{Bank, FormulaId};
 use std::alloc::{AllocError, Global};
 
-// One or the other.
-pub(crate) fn either(bank: &mut Bank, f: FormulaId, g: FormulaId) -> Result<FormulaId, AllocError>
+/// One or the other.
+pub fn either(bank: &mut Bank, f: FormulaId, g: FormulaId) -> Result<FormulaId, AllocError>
     requires first { HasFormula bank.old f }
     requires second { HasFormula bank.old g }
     ensures at { IfOk result (λ h. IsFormula bank.new h (λ b. spec.or_of (formula_at b f ∷ formula_at b g ∷ []))) }

@@ -20,8 +20,8 @@ use ss_logic_stores::Sort;
 use ss_terms_stores::{Bank, Formula, FormulaId, Symbol, Term, TermId};
 use std::alloc::{AllocError, Global};
 
-// The bound name of this number.
-pub(crate) fn bound_name(bank: &mut Bank, k: usize) -> Result<TermId, AllocError>
+/// The bound name of this number.
+pub fn bound_name(bank: &mut Bank, k: usize) -> Result<TermId, AllocError>
     ensures at { IfOk result (λ t. IsTerm bank.new t (λ b. Bound k)) }
     ensures grown { IsGrown bank.old bank.new }
 {
@@ -83,8 +83,8 @@ pub fn out_of_range(
     Vec::from_slice(alloc, &[f, g])
 }
 
-// The formula for each value of a bound name of this sort.
-pub(crate) fn for_all(bank: &mut Bank, sort: Sort, f: FormulaId) -> Result<FormulaId, AllocError>
+/// The formula for each value of a bound name of this sort.
+pub fn for_all(bank: &mut Bank, sort: Sort, f: FormulaId) -> Result<FormulaId, AllocError>
     requires { HasFormula bank.old f }
     ensures at { IfOk result (λ h. IsFormula bank.new h (λ b. logic.Forall (sort ∷ []) (formula_at b f))) }
     ensures grown { IsGrown bank.old bank.new }

@@ -11,8 +11,8 @@ use crate::sayings::{Relation, Saying, said_so};
 use ss_terms_stores::{Bank, FormulaId, TermId};
 use std::alloc::{AllocError, Global};
 
-// What is said of a term.
-pub(crate) fn say(
+/// What is said of a term.
+pub fn say(
     alloc: Global,
     bank: &mut Bank,
     saying: Saying,
@@ -26,8 +26,8 @@ pub(crate) fn say(
     said_so(alloc, bank, saying, x)
 }
 
-// Both of these.
-pub(crate) fn both(bank: &mut Bank, f: FormulaId, g: FormulaId) -> Result<FormulaId, AllocError>
+/// Both of these.
+pub fn both(bank: &mut Bank, f: FormulaId, g: FormulaId) -> Result<FormulaId, AllocError>
     requires first { HasFormula bank.old f }
     requires second { HasFormula bank.old g }
     ensures at { IfOk result (λ h. IsFormula bank.new h (λ b. spec.and_of (formula_at b f ∷ formula_at b g ∷ []))) }
