@@ -26,7 +26,9 @@ pub fn invariants(
     ensures at { IfOk result (λ o. IsFormulaNumber bank.new (invariants_of (view.classes classes.now) (term_at bank.old store) (terms_at bank.old arguments.now)) o) }
     ensures grown { IsGrown bank.old bank.new }
 {
-    let _ = (alloc, classes, store, arguments);
+    let _ = (alloc, store);
     let _ = bank;
+    let _ = classes;
+    let _ = arguments;
     Err(AllocError)
 }
