@@ -1,4 +1,5 @@
 pub mod Occurring
 pub mod Opened
+pub mod Asked
 pub mod Matching
 pub mod Ground

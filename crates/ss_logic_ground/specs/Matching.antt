@@ -6,7 +6,8 @@ use Rattle.ss_logic_stores.specs.declared.Sort.TheVariants as sort
 use Rattle.ss_logic_stores.specs.Terms.{Symbol, Number, Constant, Field, Element, Length, Level, Owner, Next, Term, Bound, App, Terms, no_terms, term_then, term_list, same_sort}
 use Rattle.ss_logic_stores.specs.Formulas.{Predicate, Allocated, Committed, Ready, Formula, Literal, Or, Forall, formulas_from, neg, put}
 use Rattle.ss_logic_stores.specs.Equal.{same_term, same_symbol, same_predicate}
-use Rattle.ss_logic_ground.specs.Occurring.{literals_in, terms_of, each_term_from, atoms, terms}
+use Rattle.ss_logic_ground.specs.Occurring.{atoms, terms, all_atoms, all_terms}
+use Rattle.ss_logic_ground.specs.Asked.{is_empty}
 
 -- ---- reads
 
@@ -45,15 +46,12 @@ is_trigger_atom n (Literal sign p ts) = is_read_atom p && has_bound n ts
 is_trigger_atom n f = false
 
 abbrev pub term_triggers : ℕ → Formula → List Term
-term_triggers n f = filter (is_trigger n) (flat_map terms_of (literals_in f))
+term_triggers n f = filter (is_trigger n) (all_terms (f ∷ []))
 
 abbrev pub atom_triggers : ℕ → Formula → List Formula
-atom_triggers n f = filter (is_trigger_atom n) (literals_in f)
+atom_triggers n f = filter (is_trigger_atom n) (all_atoms (f ∷ []))
 
 -- ---- matching by form: what stands for the bound names so far
-
-abbrev pub given_at : List (Option Term) → ℕ → Option (Option Term)
-given_at found k = slice_get found k
 
 -- the bound name stands for this term, if it stood for nothing or for the same
 abbrev pub with_found : List (Option Term) → ℕ → Term → Option (Option Term) → Option (List (Option Term))
@@ -98,10 +96,6 @@ is_plain_whole (App (Number n) ts) = true
 is_plain_whole (App (Constant r k) ts) = same_sort r sort.Whole
 is_plain_whole t = false
 
-abbrev pub is_empty : {X : Type 0} → List X → Bool
-is_empty [] = true
-is_empty (x ∷ xs) = false
-
 abbrev pub is_one_whole : List Sort → Bool
 is_one_whole (s ∷ []) = same_sort s sort.Whole
 is_one_whole ss = false
@@ -114,7 +108,7 @@ instances_at fs whole ss f =
     let for_terms = term_triggers n f in
     let for_atoms = atom_triggers n f in
     if is_empty for_terms && is_empty for_atoms && is_one_whole ss
-    then map (λ t. instance_at whole ss f (t ∷ [])) (each_term_from [] (filter is_plain_whole (flat_map terms_of (flat_map literals_in fs))))
+    then map (λ t. instance_at whole ss f (t ∷ [])) (filter is_plain_whole (all_terms fs))
     else map (instance_at whole ss f)
     (flat_map (λ t. filter_map (λ pattern. match_term n pattern t) for_terms) (terms fs) ++ flat_map (λ a. filter_map (λ pattern. match_atom n pattern a) for_atoms) (atoms fs))
 

@@ -5,17 +5,35 @@ use Rattle.ss_logic_stores.specs.Terms.{Term, Bound, App, Terms, no_terms, term_
 use Rattle.ss_logic_stores.specs.Formulas.{Formula, Formulas, Literal, And, Or, Forall, Exists, no_formulas, formula_then}
 use Rattle.ss_logic_stores.specs.Equal.{same_term, same_formula}
 
--- ---- outside quantified formulas
+-- ---- each once, at its first place
 
--- a term before its arguments
+abbrev pub with_formula : List Formula → Formula → List Formula
+with_formula found f = if list_any (same_formula f) found then found else found ++ f ∷ []
+
+-- the list with these, each once
+abbrev pub with_formulas : List Formula → List Formula → List Formula
+with_formulas found [] = found
+with_formulas found (f ∷ fs) = with_formulas (with_formula found f) fs
+
+-- The list with a term, and then with its arguments. Where the term is in the list, its arguments are there too.
 abbrev mutual
-  pub terms_in : Term → List Term
-  terms_in (Bound k) = []
-  terms_in (App f ts) = App f ts ∷ all_terms_in ts
+  pub with_term : List Term → Term → List Term
+  with_term found (Bound k) = found
+  with_term found (App f ts) = if list_any (same_term (App f ts)) found then found else with_arguments (found ++ App f ts ∷ []) ts
 
-  pub all_terms_in : Terms → List Term
-  all_terms_in no_terms = []
-  all_terms_in (term_then t ts) = terms_in t ++ all_terms_in ts
+  pub with_arguments : List Term → Terms → List Term
+  with_arguments found no_terms = found
+  with_arguments found (term_then t ts) = with_arguments (with_term found t) ts
+
+abbrev pub with_terms_of : List Term → Formula → List Term
+with_terms_of found (Literal sign p ts) = with_arguments found ts
+with_terms_of found f = found
+
+abbrev pub with_terms_of_all : List Term → List Formula → List Term
+with_terms_of_all found [] = found
+with_terms_of_all found (f ∷ fs) = with_terms_of_all (with_terms_of found f) fs
+
+-- ---- outside quantified formulas
 
 abbrev mutual
   pub atoms_in : Formula → List Formula
@@ -41,6 +59,16 @@ abbrev mutual
   all_quantified_in no_formulas = []
   all_quantified_in (formula_then f fs) = quantified_in f ++ all_quantified_in fs
 
+-- the atoms, the terms and the quantified formulas of a list
+abbrev pub atoms : List Formula → List Formula
+atoms fs = with_formulas [] (flat_map atoms_in fs)
+
+abbrev pub terms : List Formula → List Term
+terms fs = with_terms_of_all [] (atoms fs)
+
+abbrev pub quantified : List Formula → List Formula
+quantified fs = with_formulas [] (flat_map quantified_in fs)
+
 -- ---- inside them too
 
 abbrev mutual
@@ -55,31 +83,8 @@ abbrev mutual
   all_literals_in no_formulas = []
   all_literals_in (formula_then f fs) = literals_in f ++ all_literals_in fs
 
-abbrev pub terms_of : Formula → List Term
-terms_of (Literal sign p ts) = all_terms_in ts
-terms_of f = []
+abbrev pub all_atoms : List Formula → List Formula
+all_atoms fs = with_formulas [] (flat_map literals_in fs)
 
--- ---- each once, at its first place
-
-abbrev pub each_term_from : List Term → List Term → List Term
-each_term_from seen [] = []
-each_term_from seen (t ∷ ts) = if list_any (same_term t) seen then each_term_from seen ts else t ∷ each_term_from (t ∷ seen) ts
-
-abbrev pub each_formula_from : List Formula → List Formula → List Formula
-each_formula_from seen [] = []
-each_formula_from seen (f ∷ fs) = if list_any (same_formula f) seen then each_formula_from seen fs else f ∷ each_formula_from (f ∷ seen) fs
-
--- the atoms, the terms and the quantified formulas of a list
-abbrev pub atoms : List Formula → List Formula
-atoms fs = each_formula_from [] (flat_map atoms_in fs)
-
-abbrev pub terms : List Formula → List Term
-terms fs = each_term_from [] (flat_map terms_of (flat_map atoms_in fs))
-
-abbrev pub quantified : List Formula → List Formula
-quantified fs = each_formula_from [] (flat_map quantified_in fs)
-
--- each pair of two places, the first before the second
-abbrev pub pairs_with : {X : Type 0} → (X → X → List Formula) → List X → List Formula
-pairs_with f [] = []
-pairs_with f (x ∷ xs) = flat_map (f x) xs ++ pairs_with f xs
+abbrev pub all_terms : List Formula → List Term
+all_terms fs = with_terms_of_all [] (all_atoms fs)

@@ -1,12 +1,12 @@
 -- The formulas with which a ground form starts: the premises and the denied goal, where fresh constants stand for what an `exists` says
 -- that there is.
-use Rattle.std.specs.Prelude.{ℕ, zero, suc, ◌+◌, List, [], ◌∷◌, ◌++◌, map, flat_map, length, sum_by, Bool, true, false, ◌==◌, ◌&&◌, Option, Some, find, if◌then◌else◌}
+use Rattle.std.specs.Prelude.{ℕ, zero, suc, ◌+◌, List, [], ◌∷◌, ◌++◌, map, length, sum_by, Bool, true, false, ◌==◌, ◌&&◌, Option, Some, find, if◌then◌else◌}
 use Rattle.std.specs.List.{list_any}
 use Rattle.ss_logic_stores.specs.declared.Sort.{Sort}
 use Rattle.ss_logic_stores.specs.Terms.{Constant, Term, App, app, same_sort}
 use Rattle.ss_logic_stores.specs.Formulas.{Formula, Formulas, Literal, And, Or, Forall, Exists, no_formulas, formula_then, neg, put}
 use Rattle.ss_logic_stores.specs.Equal.{same_formula}
-use Rattle.ss_logic_ground.specs.Occurring.{literals_in, terms_of, quantified}
+use Rattle.ss_logic_ground.specs.Occurring.{quantified, all_terms}
 
 -- ---- fresh constants
 
@@ -73,4 +73,4 @@ opened_from (suc n) used fs = with_opened used fs (opened_from n) (find is_exist
 abbrev pub start : List Formula → Formula → List Formula
 start premises goal =
     let fs = premises ++ neg goal ∷ [] in
-    opened_from (sum_by exists_count fs) (flat_map terms_of (flat_map literals_in fs)) fs
+    opened_from (sum_by exists_count fs) (all_terms fs) fs
