@@ -1,5 +1,5 @@
 -- The instances of rules that are asked for at the terms and atoms of a list.
-use Rattle.std.specs.Prelude.{ℕ, pos, ◌+◌, List, [], ◌∷◌, ◌++◌, map, filter, filter_map, flat_map, Bool, true, false, not, ◌==◌, ◌&&◌, Option, Some, None, option_to_list, if◌then◌else◌}
+use Rattle.std.specs.Prelude.{ℕ, pos, ◌+◌, List, [], ◌∷◌, ◌++◌, map, filter, filter_map, flat_map, Bool, true, false, not, ◌==◌, ◌&&◌, Option, Some, None, option_map, if◌then◌else◌}
 use Rattle.ss_core.specs.Tree.{ClassTree}
 use Rattle.ss_logic_stores.specs.declared.Sort.{Sort}
 use Rattle.ss_logic_stores.specs.declared.Sort.TheVariants as sort
@@ -22,19 +22,18 @@ pub data Asked : Type 0 where
   OfGood : GoodRule → Term → List Term → Asked
   OfInvariants : Term → List Term → Asked
 
--- what it says where the store is good
-abbrev pub where_good : Term → Option Formula → List Formula
-where_good s None = []
-where_good s (Some f) = Or (formulas_from (no_atom Good (s ∷ []) ∷ f ∷ [])) ∷ []
+-- the formula, where the store is good
+abbrev pub if_good : Term → Formula → Formula
+if_good s f = Or (formulas_from (no_atom Good (s ∷ []) ∷ f ∷ []))
 
 -- what it says, where the arguments fit the rule
-abbrev pub said : List ClassTree → Asked → List Formula
-said cs (Rule name ts) = option_to_list (instance_of cs name ts)
-said cs (OfGood name s ts) = where_good s (good_instance_of cs name s ts)
-said cs (OfInvariants s ts) = where_good s (invariants_of cs s ts)
+abbrev pub said : List ClassTree → Asked → Option Formula
+said cs (Rule name ts) = instance_of cs name ts
+said cs (OfGood name s ts) = option_map (if_good s) (good_instance_of cs name s ts)
+said cs (OfInvariants s ts) = option_map (if_good s) (invariants_of cs s ts)
 
 abbrev pub all_said : List ClassTree → List Asked → List Formula
-all_said cs asked = flat_map (said cs) asked
+all_said cs asked = filter_map (said cs) asked
 
 abbrev pub numeral : ℕ → Term
 numeral n = number (pos n)
