@@ -108,9 +108,12 @@ asked_of_equal r (Some t) = Rule rule.Read (read_arguments r ++ t ∷ []) ∷ []
 abbrev pub asked_at_equal : Reading → Formula → List Asked
 asked_at_equal r f = asked_of_equal r (equals r.store f)
 
+abbrev pub asked_over : Reading → List Asked
+asked_over r = Rule rule.Read (read_arguments r) ∷ []
+
 -- over a constant at each store that the list says it equals
 abbrev pub asked_at_read : List Formula → Reading → List Asked
-asked_at_read atoms r = if is_constant_store r.store then flat_map (asked_at_equal r) atoms else Rule rule.Read (read_arguments r) ∷ []
+asked_at_read atoms r = if is_constant_store r.store then flat_map (asked_at_equal r) atoms else asked_over r
 
 -- ---- new references
 
@@ -210,18 +213,17 @@ asked_of_truth cs t = if is_unknown_truth cs t then Rule rule.Bool (t ∷ []) �
 
 -- ---- closing a list: what is asked for at its terms
 
+abbrev pub asked_about_stores : List Formula → List Term → List Asked
+asked_about_stores atoms terms = flat_map (asked_at_read atoms) (readings atoms terms) ++ flat_map asked_at_next terms ++ flat_map (asked_at_new terms) terms
+
+abbrev pub asked_about_classes : List Formula → List Term → List Asked
+asked_about_classes atoms terms = flat_map (asked_of_class terms) terms ++ flat_map asked_at_count atoms ++ asked_of_counts (filter_map counts atoms) ++ flat_map asked_of_term terms
+
+abbrev pub asked_about_values : List ClassTree → List Term → List Asked
+asked_about_values cs terms = flat_map asked_of_pair terms ++ asked_of_pairs (filter is_pair terms) ++ flat_map (asked_of_truth cs) terms
+
 abbrev pub asked_to_close : List ClassTree → List Formula → List Term → List Asked
-asked_to_close cs atoms terms =
-    flat_map (asked_at_read atoms) (readings atoms terms)
-    ++ flat_map asked_at_next terms
-    ++ flat_map (asked_at_new terms) terms
-    ++ flat_map (asked_of_class terms) terms
-    ++ flat_map asked_at_count atoms
-    ++ asked_of_counts (filter_map counts atoms)
-    ++ flat_map asked_of_term terms
-    ++ flat_map asked_of_pair terms
-    ++ asked_of_pairs (filter is_pair terms)
-    ++ flat_map (asked_of_truth cs) terms
+asked_to_close cs atoms terms = asked_about_stores atoms terms ++ asked_about_classes atoms terms ++ asked_about_values cs terms
 
 -- ---- the first step of a round: the rules on good stores and on numbers
 
