@@ -7,7 +7,7 @@ use Rattle.ss_logic_stores.specs.Terms.{Term, App, Terms, no_terms, term_then, t
 use Rattle.ss_logic_stores.specs.Formulas.{Equal, Formula, Formulas, Literal, And, Or, Forall, Exists, no_formulas, formula_then, neg}
 use Rattle.ss_logic_stores.specs.Equal.{same_term, same_symbol, same_predicate, same_formula}
 use Rattle.ss_logic_derivations.specs.Steps.{is_value}
-use Rattle.ss_logic_ground.specs.Occurring.{terms, each_formula_from}
+use Rattle.ss_logic_ground.specs.Occurring.{terms, with_formulas}
 use Rattle.ss_logic_ground.specs.Ground.{ground_form}
 use Rattle.ss_logic_countermodels.specs.declared.Countermodel.{Countermodel}
 use Rattle.ss_core.specs.Tree.{ClassTree}
@@ -51,7 +51,7 @@ abbrev mutual
 
 -- each once, at its first place
 abbrev pub told : List Formula → List Formula
-told fs = each_formula_from [] (flat_map told_in fs)
+told fs = with_formulas [] (flat_map told_in fs)
 
 -- ---- equality
 
