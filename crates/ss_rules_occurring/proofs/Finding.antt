@@ -1,5 +1,5 @@
 -- Lists without repetition, and their sets of numbers.
-use Rattle.std.proofs.Common.{◌≡◌, ℕ, ◌==◌, List, [], ◌∷◌, ◌++◌, length, map, Bool, true, false, ◌||◌, not, refl, sym, ◌∙◌, ap, subst, ⊎_elim, if◌then◌else◌, eqb, ◌≢◌}
+use Rattle.std.proofs.Common.{◌≡◌, ℕ, ◌==◌, List, [], ◌∷◌, ◌++◌, map, Bool, true, false, ◌||◌, refl, sym, ◌∙◌, ap, subst, ⊎_elim, if◌then◌else◌, ◌≢◌}
 use Rattle.std.specs.List.{list_any}
 use Rattle.std.proofs.lemmas.List.{map_push}
 use Rattle.std.proofs.lemmas.List.Folds.{list_any-append}
@@ -7,8 +7,6 @@ use Rattle.std.proofs.lemmas.Bool.{cases_eq, eq-eqb, ne_eqb}
 use Rattle.ss_bit_set.specs.declared.bit_set.BitSet.{BitSet}
 use Rattle.ss_bit_set.specs.Marked.{marked}
 use Rattle.ss_paths.specs.Sets.{put, none}
-use Rattle.ss_logic_stores.specs.Terms.{Term}
-use Rattle.ss_logic_stores.specs.Formulas.{Formula}
 use Rattle.ss_logic_stores.specs.Equal.{same_term, same_formula}
 use Rattle.ss_logic_ground.specs.Occurring.{with_formula}
 use Rattle.ss_terms_stores.specs.declared.forms.TermId.{TermId}

@@ -1,21 +1,21 @@
 -- What is looked for in formulas and in their parts.
-use Rattle.std.proofs.Common.{◌≡◌, ℕ, ◌+◌, ◌*◌, ◌<◌, ◌≤◌, List, [], ◌∷◌, ◌++◌, length, map, take, get_or, Bool, true, refl, sym, ◌∙◌, ap, subst, arith, Result, Ok, Err, Vec, Global}
+use Rattle.std.proofs.Common.{◌≡◌, ℕ, ◌+◌, ◌<◌, List, [], ◌∷◌, ◌++◌, length, take, get_or, Bool, refl, sym, ◌∙◌, ap, subst, Result, Ok, Err, Vec, Global}
 use Rattle.std.specs.Prelude.{OnOk, flat_map}
 use Rattle.std.proofs.lemmas.List.{map_push, take_more, flat_map_more}
 use Rattle.ss_logic_stores.specs.declared.Sort.{Sort}
 use Rattle.ss_logic_stores.specs.Terms.{Terms}
-use Rattle.ss_logic_stores.specs.Formulas.{Predicate, Formula, Formulas, Literal, And, Or, Forall, Exists, formulas_from, neg}
+use Rattle.ss_logic_stores.specs.Formulas.{Predicate, Formula, Literal, formulas_from}
 use Rattle.ss_logic_ground.specs.Occurring.{with_formula, with_formulas, atoms_in, all_atoms_in, quantified_in, all_quantified_in, literals_in, all_literals_in}
 use Rattle.ss_terms_stores.specs.declared.forms.FormulaId.{FormulaId}
 use Rattle.ss_terms_stores.specs.declared.forms.TermId.{TermId}
 use Rattle.ss_terms_stores.specs.declared.forms.Predicate as form
 use Rattle.ss_terms_stores.specs.declared.forms.Formula.TheVariants.{Literal as LiteralForm, And as AndForm, Or as OrForm, Forall as ForallForm, Exists as ExistsForm}
-use Rattle.ss_terms_stores.specs.Forms.{Forms, formula_at, formulas_at, HasFormula, HasFormulas, AreBelow, IsFormulaForm}
+use Rattle.ss_terms_stores.specs.Forms.{Forms, formula_at, formulas_at, IsFormulaForm}
 use Rattle.ss_rules_occurring.specs.declared.found.FormulaList.{FormulaList}
 use Rattle.ss_rules_occurring.specs.declared.seeking.Sought.{Sought}
 use Rattle.ss_rules_occurring.specs.declared.seeking.Sought.TheVariants as sought
 use Rattle.ss_rules_occurring.specs.Found.{formulas_of, Holds, HasFound}
-use Rattle.ss_rules_occurring.specs.Sought.{found_in, atom_of, with_literal, found_in_quantified}
+use Rattle.ss_rules_occurring.specs.Sought.{found_in, with_literal, found_in_quantified}
 
 pub holds_itself : (b : Forms) (s : FormulaList) (fs : List Formula) → Holds b s fs → HasFound b s
 holds_itself b s fs h = record { marked = h.marked; has = h.has; are = refl }

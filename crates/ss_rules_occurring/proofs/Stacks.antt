@@ -1,12 +1,11 @@
 -- Terms walked with a stack.
-use Rattle.std.proofs.Common.{◌≡◌, ℕ, suc, ◌+◌, ◌<◌, ◌≤◌, List, [], ◌∷◌, ◌++◌, length, map, take, drop, get_or, reverse, Bool, true, false, not, refl, sym, ◌∙◌, ap, subst, arith, Result, Ok, Err, Vec, Global, if◌then◌else◌}
-use Rattle.std.specs.Prelude.{OnOk}
+use Rattle.std.proofs.Common.{◌≡◌, ℕ, suc, ◌+◌, ◌<◌, List, [], ◌∷◌, ◌++◌, length, take, drop, get_or, reverse, Bool, true, false, not, refl, sym, ◌∙◌, ap, subst, arith, Vec, Global, if◌then◌else◌}
 use Rattle.std.specs.List.{list_any}
 use Rattle.std.proofs.Math.Seq.{drop-cons}
 use Rattle.std.proofs.lemmas.Bool.{not-true, not-false}
 use Rattle.std.proofs.lemmas.Grind.{reverse_onto}
 use Rattle.std.proofs.lemmas.List.{map_push, map-append, take_more, reverse-append, reverse-reverse}
-use Rattle.ss_logic_stores.specs.Terms.{Term, Bound, App, Terms, no_terms, term_then, terms_from}
+use Rattle.ss_logic_stores.specs.Terms.{Term, Bound, App, terms_from}
 use Rattle.ss_logic_stores.specs.Formulas.{Formula}
 use Rattle.ss_logic_stores.specs.Equal.{same_term}
 use Rattle.ss_logic_ground.specs.Occurring.{with_term, with_arguments, with_terms_of, with_terms_of_all}

@@ -1,7 +1,6 @@
 use Rattle.std.proofs.Common.{arith, ap, ◌∙◌}
 use Rattle.std.specs.Prelude.{flat_map}
 use Rattle.ss_logic_ground.specs.Occurring.{with_formulas}
-use Rattle.ss_terms_stores.specs.declared.forms.FormulaId.{FormulaId}
 use Rattle.ss_terms_stores.specs.Forms.{formulas_at}
 use Rattle.ss_terms_stores.proofs.Parts.{AreBelow-get}
 use Rattle.ss_rules_occurring.specs.Found.{formulas_of}

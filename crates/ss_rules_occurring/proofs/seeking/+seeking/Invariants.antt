@@ -1,4 +1,4 @@
-use Rattle.std.proofs.Common.{◌≡◌, ◌+◌, ◌*◌, take}
+use Rattle.std.proofs.Common.{◌+◌, ◌*◌, take}
 use Rattle.std.specs.Prelude.{flat_map}
 use Rattle.ss_logic_ground.specs.Occurring.{with_formulas}
 use Rattle.ss_terms_stores.specs.Forms.{formulas_at}

@@ -1,4 +1,4 @@
-use Rattle.std.proofs.Common.{true, false, refl, ◌∙◌, ◌++◌, ap, reverse}
+use Rattle.std.proofs.Common.{◌∙◌, ◌++◌, ap, reverse}
 use Rattle.ss_rules_occurring.proofs.Stacks.{step_bound, step_known, step_new}
 use Rattle.ss_rules_occurring.proofs.walking.take_one.Goals as goal
 

@@ -1,6 +1,5 @@
-use Rattle.ss_terms_stores.specs.declared.forms.FormulaId.{FormulaId}
 use Rattle.ss_terms_stores.proofs.Parts.{AreBelow-get}
-use Rattle.ss_rules_occurring.proofs.Stacks.{terms_next, holds_terms_itself}
+use Rattle.ss_rules_occurring.proofs.Stacks.{terms_next}
 use Rattle.ss_rules_occurring.proofs.walking.terms.Goals as goal
 
 pub add_terms_of-requires-clause-formula : goal.add_terms_of-requires-clause-formula

@@ -1,0 +1,5 @@
+pub mod Asking
+pub mod Grown
+pub mod Numbering
+pub mod Gathering
+pub mod Coupling

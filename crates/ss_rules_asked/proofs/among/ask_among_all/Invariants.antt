@@ -1,0 +1,9 @@
+use Rattle.std.proofs.Common.{◌++◌, take}
+use Rattle.std.specs.Prelude.{flat_map}
+use Rattle.ss_terms_stores.specs.Forms.{terms_at}
+use Rattle.ss_rules_asked.specs.Numbers.{asked_in, Asks}
+use Rattle.ss_rules_asked.specs.Sentences.{among}
+use Rattle.ss_rules_asked.proofs.among.ask_among_all.Given as goal
+
+abbrev pub invariant-loop-t : goal.invariant-loop-t
+invariant-loop-t l = Asks l.bank l.asked.items (asked_in l.bank l.initial.asked.items ++ flat_map (among l.sentence (terms_at l.bank l.terms)) (terms_at l.bank (take l.t-index l.terms)))

@@ -1,0 +1,10 @@
+use Rattle.std.proofs.Common.{sym, arith}
+use Rattle.ss_terms_stores.specs.Forms.{term_at}
+use Rattle.ss_rules_asked.proofs.Numbering.{second-long, second-short}
+use Rattle.ss_rules_asked.proofs.forms.second_where_first.Goals as goal
+
+pub returns-in-len1 : goal.returns-in-len1
+returns-in-len1 c = record { has = tt; is = sym (second-short c.args.bank.now (term_at c.args.bank.now c.args.s) c.args.ts.now (omega (arith, c.in-len1.len_below))) }
+
+pub returns-in-len3-up : goal.returns-in-len3-up
+returns-in-len3-up c = record { has = tt; is = sym (second-long c.args.bank.now (term_at c.args.bank.now c.args.s) c.args.ts.now (omega (arith, c.in-len3-up.len_at_least))) }

@@ -1,0 +1,9 @@
+use Rattle.std.proofs.Common.{◌++◌, take}
+use Rattle.std.specs.Prelude.{filter_map}
+use Rattle.ss_logic_ground.specs.Asked as spec
+use Rattle.ss_terms_stores.specs.Forms.{formulas_at}
+use Rattle.ss_rules_asked.specs.Readings.{readings_at, AreReadings}
+use Rattle.ss_rules_asked.proofs.gathered.add_readings_of_atoms.Given as goal
+
+abbrev pub invariant-loop-f : goal.invariant-loop-f
+invariant-loop-f l = AreReadings l.bank l.readings.items (readings_at l.bank l.initial.readings.items ++ filter_map spec.reading_of_atom (formulas_at l.bank (take l.f-index l.atoms)))

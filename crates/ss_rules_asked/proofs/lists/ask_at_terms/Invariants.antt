@@ -1,0 +1,10 @@
+use Rattle.std.proofs.Common.{◌++◌, take}
+use Rattle.std.specs.Prelude.{flat_map}
+use Rattle.ss_core.specs.View as view
+use Rattle.ss_terms_stores.specs.Forms.{terms_at}
+use Rattle.ss_rules_asked.specs.Numbers.{asked_in, Asks}
+use Rattle.ss_rules_asked.specs.Sentences.{at_term}
+use Rattle.ss_rules_asked.proofs.lists.ask_at_terms.Given as goal
+
+abbrev pub invariant-loop-t : goal.invariant-loop-t
+invariant-loop-t l = Asks l.bank l.asked.items (asked_in l.bank l.initial.asked.items ++ flat_map (at_term l.bank (view.classes l.classes) l.sentence) (terms_at l.bank (take l.t-index l.terms)))

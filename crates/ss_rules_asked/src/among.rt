@@ -1,0 +1,119 @@
+// What is asked for at a term, among the others.
+
+ghost use Rattle.std.specs.Prelude.{◌++◌, flat_map, OnOk};
+ghost use Rattle.ss_core.specs.View as view;
+ghost use Rattle.ss_logic_ground.specs.Asked as spec;
+ghost use Rattle.ss_terms_stores.specs.Forms.{term_at, terms_at, HasTerm, HasTerms, IsBankOf};
+ghost use Rattle.ss_rules_asked.specs.Numbers.{asked_in, HasAsked, Asks};
+ghost use Rattle.ss_rules_asked.specs.Sentences.{among};
+
+use crate::asked::{Argument, Asked, Rule, ask};
+use crate::forms::{is_class_name, store_before};
+use crate::lists::{AtTerm, ask_at_terms};
+use ss_core::Classes;
+use ss_logic_rules::RuleName;
+use ss_terms_stores::{Bank, TermId};
+use std::alloc::{AllocError, Global};
+
+/// Sentences at a term for which the other terms are needed: on the owner of a new object, and on two classes.
+#[derive(Clone, Copy)]
+pub(crate) enum Among {
+    New,
+    Class,
+}
+
+// The owner of the new object, where the store is one with a new object.
+#[tactic(auto, using(crate::proofs::Asking::nothing_asked, crate::proofs::Asking::asked_then))]
+fn ask_at_new(
+    alloc: Global,
+    bank: &Bank,
+    classes: &Classes,
+    asked: &mut Vec<Asked>,
+    terms: &[TermId],
+    t: TermId,
+) -> Result<(), AllocError>
+    requires bank { IsBankOf (view.classes classes.now) bank.now }
+    requires asked { HasAsked bank.now asked.old.items }
+    requires terms { HasTerms bank.now terms.now }
+    requires term { HasTerm bank.now t }
+    ensures { OnOk result (Asks bank.now asked.new.items (asked_in bank.now asked.old.items ++ spec.asked_at_new (terms_at bank.now terms.now) (term_at bank.now t))) }
+{
+    match store_before(bank, t) {
+        Some(s) => {
+            ask(
+                alloc,
+                bank,
+                asked,
+                Rule::True(RuleName::Fresh),
+                &[Argument::Number(1), Argument::Term(t)],
+            )?;
+            ask_at_terms(alloc, bank, classes, asked, AtTerm::Owner(t, s), terms)
+        }
+        None => Ok(()),
+    }
+}
+
+// A class name and each other one.
+#[tactic(auto, using(crate::proofs::Asking::nothing_asked))]
+fn ask_of_class(
+    alloc: Global,
+    bank: &Bank,
+    classes: &Classes,
+    asked: &mut Vec<Asked>,
+    terms: &[TermId],
+    c: TermId,
+) -> Result<(), AllocError>
+    requires bank { IsBankOf (view.classes classes.now) bank.now }
+    requires asked { HasAsked bank.now asked.old.items }
+    requires terms { HasTerms bank.now terms.now }
+    requires term { HasTerm bank.now c }
+    ensures { OnOk result (Asks bank.now asked.new.items (asked_in bank.now asked.old.items ++ spec.asked_of_class (terms_at bank.now terms.now) (term_at bank.now c))) }
+{
+    if is_class_name(bank, c) {
+        ask_at_terms(alloc, bank, classes, asked, AtTerm::OtherClass(c), terms)
+    } else {
+        Ok(())
+    }
+}
+
+// At one term.
+fn ask_among(
+    alloc: Global,
+    bank: &Bank,
+    classes: &Classes,
+    asked: &mut Vec<Asked>,
+    sentence: Among,
+    terms: &[TermId],
+    t: TermId,
+) -> Result<(), AllocError>
+    requires bank { IsBankOf (view.classes classes.now) bank.now }
+    requires asked { HasAsked bank.now asked.old.items }
+    requires terms { HasTerms bank.now terms.now }
+    requires term { HasTerm bank.now t }
+    ensures { OnOk result (Asks bank.now asked.new.items (asked_in bank.now asked.old.items ++ among sentence (terms_at bank.now terms.now) (term_at bank.now t))) }
+{
+    match sentence {
+        Among::New => ask_at_new(alloc, bank, classes, asked, terms, t),
+        Among::Class => ask_of_class(alloc, bank, classes, asked, terms, t),
+    }
+}
+
+/// At each term. An error is want of memory.
+pub(crate) fn ask_among_all(
+    alloc: Global,
+    bank: &Bank,
+    classes: &Classes,
+    asked: &mut Vec<Asked>,
+    sentence: Among,
+    terms: &[TermId],
+) -> Result<(), AllocError>
+    requires bank { IsBankOf (view.classes classes.now) bank.now }
+    requires asked { HasAsked bank.now asked.old.items }
+    requires terms { HasTerms bank.now terms.now }
+    ensures { OnOk result (Asks bank.now asked.new.items (asked_in bank.now asked.old.items ++ flat_map (among sentence (terms_at bank.now terms.now)) (terms_at bank.now terms.now))) }
+{
+    for t in terms {
+        ask_among(alloc, bank, classes, asked, sentence, terms, *t)?;
+    }
+    Ok(())
+}
