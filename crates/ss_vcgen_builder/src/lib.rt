@@ -1,0 +1,12 @@
+//! Lists of obligations under construction, in a bank: what is known at a position, one function for each word of the positions.
+#![tactic(auto)]
+
+mod branches;
+mod builder;
+mod guard;
+mod joins;
+mod terms;
+
+pub use branches::Spot;
+pub use builder::{Builder, Counters, Obligation, Walk};
+pub use guard::Guard;
