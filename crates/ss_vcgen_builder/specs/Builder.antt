@@ -1,9 +1,14 @@
 -- What a list of obligations under construction stands for, and what a step of the construction does.
 use Rattle.std.specs.Prelude.{◌≡◌, ◌≤◌, ℕ, List, [], ◌∷◌, ◌++◌, map, length, take, drop, Option, Some, None, option_map}
+use Rattle.ss_core.specs.declared.names.Kind.{Kind}
+use Rattle.ss_core.specs.declared.names.Place.{Place}
 use Rattle.ss_core.specs.Chain.{IsWithinLimits}
 use Rattle.ss_core.specs.View as view
 use Rattle.ss_store_rules.specs.Locals.{local_types}
+use Rattle.ss_logic_stores.specs.declared.Sort.{Sort}
 use Rattle.ss_logic_stores.specs.Terms as tree
+use Rattle.ss_logic_stores.specs.Formulas.{Formula}
+use Rattle.ss_logic_express.specs.Express.{and_of, or_of}
 use Rattle.ss_terms_stores.specs.declared.forms.TermId.{TermId}
 use Rattle.ss_terms_stores.specs.declared.forms.FormulaId.{FormulaId}
 use Rattle.ss_terms_stores.specs.Forms.{Forms, term_at, formula_at, formulas_at, HasTerm, HasFormula, HasFormulas, IsGrown, IsBankOf}
@@ -68,6 +73,15 @@ abbrev pub HasLocals : Forms → List (Option TermId) → Type 0
 HasLocals b [] = Unit {0}
 HasLocals b (l ∷ ls) = HasLocal b l × HasLocals b ls
 
+-- the bank has them, and in it and in each bank that it grows to they stand for these
+pub record IsLocal (a : Forms) (l : Option TermId) (says : Forms → Option tree.Term) : Type 0 where
+  pub has : HasLocal a l
+  pub is : (b : Forms) → IsGrown a b → local_at b l ≡ says b
+
+pub record AreLocals (a : Forms) (ls : List (Option TermId)) (say : Forms → List (Option tree.Term)) : Type 0 where
+  pub has : HasLocals a ls
+  pub are : (b : Forms) → IsGrown a b → locals_at b ls ≡ say b
+
 -- the goal is in the bank, and the premises are a part of a trail of this length
 pub record IsPlaced (b : Forms) (n : ℕ) (o : Obligation) : Type 0 where
   pub goal : HasFormula b o.goal
@@ -93,6 +107,23 @@ pub record Becomes (old new : Builder) (says : Forms → spec.Position) : Type 0
   pub is : (b : Forms) → IsGrown new.bank b → position_at b new ≡ says b
   pub first : new.first ≡ old.first
   pub before : take old.first new.trail.items ≡ take old.first old.trail.items
+
+-- ---- parts of the steps
+
+-- what holds where a side of a test is reached: the position with the guard is reached, and there the formula holds
+abbrev pub there : spec.Guard → Formula → Formula
+there spec.Always f = f
+there (spec.When n) f = and_of (spec.is_true (spec.guard_term n) ∷ f ∷ [])
+there spec.Never f = or_of []
+
+-- the goal is listed, with the premises so far
+abbrev pub listing : spec.Walk → Kind → Place → Formula → spec.Position → spec.Position
+listing w kind at goal k = record k { listed = k.listed ++ record { premises = k.premises; goal = goal; kind = kind; place = at; body = w.number } ∷ [] }
+
+-- one local of two sides, and behind it
+abbrev pub join_local : spec.Guard → spec.Guard → Sort → Option tree.Term → Option tree.Term → spec.Position → Option tree.Term × spec.Position
+join_local g h s (Some x) (Some y) k = (Some (spec.joined_term s x y k), spec.join_term g h s x y k)
+join_local g h s a b k = (None, k)
 
 -- ---- the body that is walked over
 

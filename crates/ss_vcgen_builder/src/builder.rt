@@ -1,13 +1,12 @@
 // A list of obligations under construction.
 
-ghost use Rattle.std.specs.Prelude.{◌≡◌, ◌+◌, ◌++◌, [], ◌∷◌, IfOk, OnOk};
-ghost use Rattle.ss_terms_stores.specs.Forms.{term_at, formula_at, formulas_at, HasTerm, HasFormula, HasFormulas};
+ghost use Rattle.std.specs.Prelude.{IfOk, OnOk};
+ghost use Rattle.ss_terms_stores.specs.Forms.{formula_at, formulas_at, HasFormula, HasFormulas};
 ghost use Rattle.ss_vcgen_heaps.specs.Positions as spec;
 ghost use Rattle.ss_vcgen_express.specs.Numbers.{IsFormula};
-ghost use Rattle.ss_vcgen_known.specs.Views.{known_of};
-ghost use Rattle.ss_vcgen_builder.specs.Builder.{guard_of, position_at, walk_at, IsFine, Becomes};
+ghost use Rattle.ss_vcgen_builder.specs.Builder.{guard_of, listing, position_at, walk_at, IsFine, Becomes};
 
-use crate::guard::Guard;
+use crate::guard::{Guard, under};
 use ss_core::{Body, BodyId, Core, Kind, Place, Ty};
 use ss_terms_stores::{Bank, FormulaId, TermId};
 use ss_vcgen_known::Known;
@@ -74,8 +73,8 @@ impl Builder {
         requires formula { HasFormula self.old.bank f }
         ensures { OnOk result (Becomes self.old self.new (λ b. spec.with_premise (formula_at b f) (position_at b self.old))) }
     {
-        let _f = f;
-        Err(AllocError)
+        self.trail.push(f)?;
+        Ok(())
     }
 
     // The formula, where the position with this guard is reached.
@@ -83,11 +82,9 @@ impl Builder {
         requires fine { IsFine self.old }
         requires formula { HasFormula self.old.bank f }
         ensures at { IfOk result (λ g. IsFormula self.new.bank g (λ b. spec.under (guard_of guard) (formula_at b f))) }
-        ensures stays { IfOk result (λ g. Becomes self.old self.new (λ b. position_at b self.old)) }
+        ensures stays { Becomes self.old self.new (λ b. position_at b self.old) }
     {
-        let _guard = guard;
-        let _f = f;
-        Err(AllocError)
+        under(&mut self.bank, guard, f)
     }
 
     /// The formula is a premise from here on, where the position is reached.
@@ -96,8 +93,8 @@ impl Builder {
         requires formula { HasFormula self.old.bank f }
         ensures { OnOk result (Becomes self.old self.new (λ b. spec.assume (formula_at b f) (position_at b self.old))) }
     {
-        let _f = f;
-        Err(AllocError)
+        let g = self.under(self.guard, f)?;
+        self.add_premise(g)
     }
 
     /// Each of these is.
@@ -106,66 +103,87 @@ impl Builder {
         requires formulas { HasFormulas self.old.bank fs.now }
         ensures { OnOk result (Becomes self.old self.new (λ b. spec.assume_all (formulas_at b fs.now) (position_at b self.old))) }
     {
-        let _fs = fs;
-        Err(AllocError)
+        for f in fs {
+            self.assume(*f)?;
+        }
+        Ok(())
+    }
+
+    // The goal is listed, with the premises so far.
+    fn list_goal(
+        &mut self,
+        walk: &Walk,
+        kind: Kind,
+        place: Place,
+        goal: FormulaId,
+    ) -> Result<(), AllocError>
+        requires fine { IsFine self.old }
+        requires goal { HasFormula self.old.bank goal }
+        ensures { OnOk result (Becomes self.old self.new (λ b. listing (walk_at b walk.now) kind place (formula_at b goal) (position_at b self.old))) }
+    {
+        self.list.push(Obligation {
+            first: self.first,
+            end: self.trail.len(),
+            goal,
+            kind,
+            place,
+            body: walk.number,
+        })?;
+        Ok(())
     }
 
     /// The check is listed; what it asks for is a premise from here on.
     pub fn check(
         &mut self,
-        walk: Walk,
+        walk: &Walk,
         kind: Kind,
         place: Place,
         f: FormulaId,
     ) -> Result<(), AllocError>
         requires fine { IsFine self.old }
         requires formula { HasFormula self.old.bank f }
-        ensures { OnOk result (Becomes self.old self.new (λ b. spec.check (walk_at b walk) kind place (formula_at b f) (position_at b self.old))) }
+        ensures { OnOk result (Becomes self.old self.new (λ b. spec.check (walk_at b walk.now) kind place (formula_at b f) (position_at b self.old))) }
     {
-        let _walk = walk;
-        let _kind = kind;
-        let _place = place;
-        let _f = f;
-        Err(AllocError)
+        let goal = self.under(self.guard, f)?;
+        self.list_goal(walk, kind, place, goal)?;
+        self.add_premise(goal)
     }
 
     /// Each of these is checked.
     pub fn check_all(
         &mut self,
-        walk: Walk,
+        walk: &Walk,
         kind: Kind,
         place: Place,
         fs: &[FormulaId],
     ) -> Result<(), AllocError>
         requires fine { IsFine self.old }
         requires formulas { HasFormulas self.old.bank fs.now }
-        ensures { OnOk result (Becomes self.old self.new (λ b. spec.check_all (walk_at b walk) kind place (formulas_at b fs.now) (position_at b self.old))) }
+        ensures { OnOk result (Becomes self.old self.new (λ b. spec.check_all (walk_at b walk.now) kind place (formulas_at b fs.now) (position_at b self.old))) }
     {
-        let _walk = walk;
-        let _kind = kind;
-        let _place = place;
-        let _fs = fs;
-        Err(AllocError)
+        for f in fs {
+            self.check(walk, kind, place, *f)?;
+        }
+        Ok(())
     }
 
     /// It is checked, unless it is known.
     pub fn check_unless(
         &mut self,
         known: bool,
-        walk: Walk,
+        walk: &Walk,
         kind: Kind,
         place: Place,
         f: FormulaId,
     ) -> Result<(), AllocError>
         requires fine { IsFine self.old }
         requires formula { HasFormula self.old.bank f }
-        ensures { OnOk result (Becomes self.old self.new (λ b. spec.check_unless known (walk_at b walk) kind place (formula_at b f) (position_at b self.old))) }
+        ensures { OnOk result (Becomes self.old self.new (λ b. spec.check_unless known (walk_at b walk.now) kind place (formula_at b f) (position_at b self.old))) }
     {
-        let _known = known;
-        let _walk = walk;
-        let _kind = kind;
-        let _place = place;
-        let _f = f;
-        Err(AllocError)
+        if known {
+            Ok(())
+        } else {
+            self.check(walk, kind, place, f)
+        }
     }
 }
