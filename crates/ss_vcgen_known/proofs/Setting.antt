@@ -1,5 +1,5 @@
 -- One entry of the list of sides is set.
-use Rattle.std.proofs.Common.{◌≡◌, ◌≢◌, ℕ, ◌<◌, ◌≤◌, Bool, true, false, List, [], ◌∷◌, map, length, set, get_or, Option, Some, None, refl, sym, ap, subst, ◌∙◌, ⊎_elim, zero, suc}
+use Rattle.std.proofs.Common.{◌≡◌, ◌≢◌, ℕ, ◌<◌, ◌≤◌, Bool, true, false, List, [], ◌∷◌, ◌++◌, map, length, set, get_or, Option, Some, None, refl, sym, ap, subst, ◌∙◌, ⊎_elim, zero, suc}
 use Rattle.std.specs.Prelude.{◌==◌, ◌&&◌, not, if◌then◌else◌, option_map}
 use Rattle.std.specs.Bool.{beq}
 use Rattle.std.proofs.lemmas.Bool.{cases_eq, eq-eqb, ne_eqb}
@@ -9,7 +9,8 @@ use Rattle.ss_vcgen_known.specs.declared.told.Told.TheVariants as told
 use Rattle.ss_vcgen_known.specs.Pairs.{Pair, side, alike, barred}
 use Rattle.ss_vcgen_known.specs.Sets.{without, pair_without, at}
 use Rattle.ss_vcgen_known.specs.Steps.{with_sides, barred_by}
-use Rattle.ss_vcgen_known.proofs.Listing.{at_set, at_past, at_without}
+use Rattle.ss_vcgen_known.proofs.Listing.{at_set, at_past, at_more, at_without}
+use Rattle.ss_vcgen_known.proofs.Grouping.{map_more}
 
 -- the sides of one local are these
 abbrev pub with_pair : ℕ → Pair → Known → Known
@@ -18,6 +19,9 @@ with_pair x p k = record k { sides = λ y v. if x == y then side p v else k.side
 -- what the parts say
 abbrev pub known_by : Facts → List Pair → Facts → (ℕ → Bool) → Known
 known_by f ps b fields = record { facts = f; sides = λ x v. side (at ps (alike b) x) v; fields = fields }
+
+abbrev known_as : Facts → (ℕ → Pair) → (ℕ → Bool) → Known
+known_as f g fields = record { facts = f; sides = λ x v. side (g x) v; fields = fields }
 
 side_where : (c : Bool) (p q : Pair) (v : Bool) → side (if c then p else q) v ≡ (if c then side p v else side q v)
 side_where true p q v = refl
@@ -45,6 +49,13 @@ pub set_entry : {X : Type 0} (view : X → Pair) (f : Facts) (xs : List X) (b : 
 set_entry view f xs b fields x y within =
     ap (λ ps. known_by f ps b fields) (mapped_set view xs x y)
     ∙ set_one f (map view xs) b fields x (view y) (subst (λ n. x < n) (sym (mapped_length view xs)) within)
+
+-- one entry more, which says what is past the end
+pub one_more : {X : Type 0} (view : X → Pair) (f : Facts) (xs : List X) (b : Facts) (fields : ℕ → Bool) (y : X) → view y ≡ alike b →
+    known_by f (map view (xs ++ y ∷ [])) b fields ≡ known_by f (map view xs) b fields
+one_more view f xs b fields y is =
+    ap (λ ps. known_by f ps b fields) (map_more view xs y ∙ ap (λ p. map view xs ++ p ∷ []) is)
+    ∙ ap (λ (g : ℕ → Pair). known_as f g fields) (at_more (map view xs) (alike b))
 
 -- ---- a local is assigned
 

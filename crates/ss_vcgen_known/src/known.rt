@@ -1,15 +1,19 @@
 // What is known at a place of a body.
 
-ghost use Rattle.std.specs.Prelude.{◌≡◌, ◌≤◌, length, map, IfOk, option_map};
+ghost use Rattle.std.specs.Prelude.{◌≡◌, ◌≤◌, ◌<◌, length, map, IfOk, option_map};
 ghost use Rattle.ss_bit_set.specs.Marked.{marked};
 ghost use Rattle.ss_core.specs.Chain.{most_classes};
 ghost use Rattle.ss_core.specs.View as view;
 ghost use Rattle.ss_store_rules.specs.Locals.{local_types};
 ghost use Rattle.ss_store_rules.specs.NonNull as spec;
+ghost use Rattle.ss_vcgen_known.specs.Steps.{barred_by, all_barred};
+ghost use Rattle.ss_vcgen_known.specs.Told.{facts_of, all_facts, with_told};
 ghost use Rattle.ss_vcgen_known.specs.Views.{pair_of, known_of};
 
+use crate::facts::join;
 use crate::fields::Fields;
 use crate::sides::Sides;
+use crate::told::{Told, told_by};
 use ss_bit_set::BitSet;
 use ss_core::{Body, Core, Expr, Stmt, Ty};
 use std::alloc::{AllocError, Global};
@@ -95,11 +99,90 @@ impl Known {
         }
     }
 
+    // ---- tests
+
+    // Puts what the test tells into the set.
+    fn add_fact(&self, set: &mut BitSet, told: Told) -> Result<(), AllocError>
+        ensures { IfOk result (λ u. marked set.new ≡ spec.both (marked set.old) (facts_of (known_of self.now) told)) }
+    {
+        match told {
+            Told::NotNull(x) => set.put(x, true),
+            Told::Truth(x, outcome) => self.add_side(set, x, outcome),
+        }
+    }
+
+    fn add_side(&self, set: &mut BitSet, x: usize, outcome: bool) -> Result<(), AllocError>
+        ensures { IfOk result (λ u. marked set.new ≡ spec.both (marked set.old) (spec.side_facts ((known_of self.now).sides x outcome))) }
+    {
+        match self.side_at(x, outcome) {
+            Some(facts) => join(set, facts),
+            None => Ok(()),
+        }
+    }
+
+    // The locals that aren't null where all this is told.
+    fn facts_told(&self, alloc: Global, list: &[Told]) -> Result<BitSet, AllocError>
+        ensures { IfOk result (λ m. marked m ≡ all_facts (known_of self.now) list.now) }
+    {
+        let mut set = BitSet::new(alloc);
+        for told in list {
+            self.add_fact(&mut set, *told)?;
+        }
+        Ok(set)
+    }
+
+    // Makes the list of sides longer, until the local stands in it.
+    fn reach(&mut self, x: usize) -> Result<(), AllocError>
+        ensures same { IfOk result (λ u. known_of self.new ≡ known_of self.old) }
+        ensures long { IfOk result (λ u. x < length self.new.sides.items) }
+    {
+        while self.sides.len() <= x {
+            let pair = Sides::alike(&self.beyond)?;
+            self.sides.push(pair)?;
+        }
+        Ok(())
+    }
+
+    // What the test tells of a truth value bars the other side.
+    fn bar(&mut self, told: Told) -> Result<(), AllocError>
+        ensures { IfOk result (λ u. known_of self.new ≡ barred_by told (known_of self.old)) }
+    {
+        match told {
+            Told::NotNull(_) => Ok(()),
+            Told::Truth(x, outcome) => {
+                self.reach(x)?;
+                self.sides[x].bar(!outcome);
+                Ok(())
+            }
+        }
+    }
+
+    fn bar_all(&mut self, list: &[Told]) -> Result<(), AllocError>
+        ensures { IfOk result (λ u. known_of self.new ≡ all_barred list.now (known_of self.old)) }
+    {
+        for told in list {
+            self.bar(*told)?;
+        }
+        Ok(())
+    }
+
+    // All this is told.
+    fn learn(&mut self, alloc: Global, list: &[Told]) -> Result<(), AllocError>
+        ensures { IfOk result (λ u. known_of self.new ≡ with_told list.now (known_of self.old)) }
+    {
+        let facts = self.facts_told(alloc, list)?;
+        join(&mut self.facts, &facts)?;
+        self.bar_all(list)?;
+        Ok(())
+    }
+
     /// A test has come out so.
     pub fn test(&mut self, alloc: Global, e: &Expr, outcome: bool) -> Result<(), AllocError>
         ensures { IfOk result (λ u. known_of self.new ≡ spec.known_tested (view.expr e.now) outcome (known_of self.old)) }
     {
-        Err(AllocError)
+        let list = told_by(alloc, e, outcome)?;
+        self.learn(alloc, &list)?;
+        Ok(())
     }
 
     /// Behind a statement that is neither an `if`, a loop nor a return.

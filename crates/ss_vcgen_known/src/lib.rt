@@ -6,6 +6,7 @@ mod atoms;
 mod bodies;
 mod code;
 mod expressions;
+mod facts;
 mod fields;
 mod known;
 mod names;

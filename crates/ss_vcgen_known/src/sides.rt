@@ -2,11 +2,18 @@
 
 ghost use Rattle.std.specs.Prelude.{◌≡◌, IfOk, option_map};
 ghost use Rattle.ss_bit_set.specs.Marked.{marked};
-ghost use Rattle.ss_vcgen_known.specs.Pairs.{side};
+ghost use Rattle.ss_vcgen_known.specs.Pairs.{side, alike, barred};
 ghost use Rattle.ss_vcgen_known.specs.Views.{pair_of};
 
 use ss_bit_set::BitSet;
 use std::alloc::AllocError;
+
+/// The locals that aren't null where a local is true, and where it is false. None where that isn't reached.
+#[derive(Drop)]
+pub struct Sides {
+    pub holds: Option<BitSet>,
+    pub fails: Option<BitSet>,
+}
 
 // The side once more.
 fn side_copy(side: &Option<BitSet>) -> Result<Option<BitSet>, AllocError>
@@ -21,14 +28,19 @@ fn side_copy(side: &Option<BitSet>) -> Result<Option<BitSet>, AllocError>
     }
 }
 
-/// The locals that aren't null where a local is true, and where it is false. None where that isn't reached.
-#[derive(Drop)]
-pub struct Sides {
-    pub holds: Option<BitSet>,
-    pub fails: Option<BitSet>,
-}
-
 impl Sides {
+    // The same on both sides.
+    pub(crate) fn alike(set: &BitSet) -> Result<Sides, AllocError>
+        ensures { IfOk result (λ s. pair_of s ≡ alike (marked set.now)) }
+    {
+        let holds = set.copy()?;
+        let fails = set.copy()?;
+        Ok(Sides {
+            holds: Some(holds),
+            fails: Some(fails),
+        })
+    }
+
     pub(crate) fn copy(&self) -> Result<Sides, AllocError>
         ensures { IfOk result (λ s. pair_of s ≡ pair_of self.now) }
     {
@@ -45,6 +57,17 @@ impl Sides {
             self.holds.as_ref()
         } else {
             self.fails.as_ref()
+        }
+    }
+
+    // The local doesn't have this truth value.
+    pub(crate) fn bar(&mut self, outcome: bool)
+        ensures { pair_of self.new ≡ barred outcome (pair_of self.old) }
+    {
+        if outcome {
+            self.holds = None;
+        } else {
+            self.fails = None;
         }
     }
 }
