@@ -37,3 +37,11 @@ met_is f b ps g c qs ff gf n l m =
       sides = λ x v. (ap (λ (h : ℕ → Pair). side (h x) v) here ∙ side_of_met k j x v) i;
       fields = λ x. ff x && gf x;
     }
+
+pub met_parts : (f b : Facts) (ps : List Pair) (g c : Facts) (qs : List Pair) (ff gf : ℕ → Bool) (n : ℕ) (h d : Facts) (rs : List Pair) (hf : ℕ → Bool) → length ps ≤ n → length qs ≤ n →
+    h ≡ facts_met f g → rs ≡ below (met_pair (known_by f ps b ff) (known_by g qs c gf)) n → d ≡ facts_met (both f b) (both g c) → hf ≡ (λ x. ff x && gf x) →
+    known_by h rs d hf ≡ known_met (known_by f ps b ff) (known_by g qs c gf)
+met_parts f b ps g c qs ff gf n h d rs hf l m facts_are sides_are beyond_is fields_are =
+    let all = below (met_pair (known_by f ps b ff) (known_by g qs c gf)) n in
+    let parts : known_by h rs d hf ≡ known_by (facts_met f g) all (facts_met (both f b) (both g c)) (λ x. ff x && gf x) = λ i. known_by (facts_are i) (sides_are i) (beyond_is i) (fields_are i) in
+    parts ∙ met_is f b ps g c qs ff gf n l m

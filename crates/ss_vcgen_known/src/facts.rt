@@ -1,8 +1,8 @@
 // Sets of locals that aren't null.
 
-ghost use Rattle.std.specs.Prelude.{◌≡◌, IfOk};
+ghost use Rattle.std.specs.Prelude.{◌≡◌, Some, IfOk, option_map};
 ghost use Rattle.ss_bit_set.specs.Marked.{marked};
-ghost use Rattle.ss_store_rules.specs.NonNull.{both};
+ghost use Rattle.ss_store_rules.specs.NonNull.{both, side_met};
 
 use ss_bit_set::BitSet;
 use std::alloc::AllocError;
@@ -18,4 +18,62 @@ pub(crate) fn join(set: &mut BitSet, other: &BitSet) -> Result<(), AllocError>
         }
     }
     Ok(())
+}
+
+// The same set, and the locals of the other one.
+pub(crate) fn joined(set: &BitSet, other: &BitSet) -> Result<BitSet, AllocError>
+    ensures { IfOk result (λ m. marked m ≡ both (marked set.now) (marked other.now)) }
+{
+    let mut all = set.copy()?;
+    join(&mut all, other)?;
+    Ok(all)
+}
+
+// What is known on a side, with what is known in any case.
+pub(crate) fn end_of(set: &BitSet, side: Option<&BitSet>) -> Result<Option<BitSet>, AllocError>
+    ensures { IfOk result (λ m. option_map marked m ≡ option_map (both (marked set.now)) (option_map (λ f. marked f.now) side.entry)) }
+{
+    match side {
+        Some(side) => {
+            let all = joined(set, side)?;
+            Ok(Some(all))
+        }
+        None => Ok(None),
+    }
+}
+
+// What is known where two sides meet.
+pub(crate) fn side_met(one: Option<BitSet>, other: Option<BitSet>) -> Option<BitSet>
+    ensures { option_map marked result ≡ side_met (option_map marked one) (option_map marked other) }
+{
+    match one {
+        Some(one) => Some(met_with(one, &other)),
+        None => other,
+    }
+}
+
+fn met_with(one: BitSet, other: &Option<BitSet>) -> BitSet
+    ensures { Some (marked result) ≡ side_met (Some (marked one)) (option_map marked other.now) }
+{
+    match other {
+        Some(other) => {
+            let mut met = one;
+            met.meet(other);
+            met
+        }
+        None => one,
+    }
+}
+
+// The side once more.
+pub(crate) fn side_copy(side: &Option<BitSet>) -> Result<Option<BitSet>, AllocError>
+    ensures { IfOk result (λ m. option_map marked m ≡ option_map marked side.now) }
+{
+    match side {
+        Some(side) => {
+            let same = side.copy()?;
+            Ok(Some(same))
+        }
+        None => Ok(None),
+    }
 }

@@ -1,6 +1,6 @@
 // The fields of the `this` of a constructor that have their values.
 
-ghost use Rattle.std.specs.Prelude.{◌≡◌, IfOk};
+ghost use Rattle.std.specs.Prelude.{◌≡◌, ◌≤◌, ◌&&◌, IfOk};
 ghost use Rattle.ss_vcgen_known.specs.Views.{fields_of};
 
 use std::alloc::{AllocError, Global};
@@ -10,6 +10,19 @@ use std::alloc::{AllocError, Global};
 pub struct Fields {
     pub list: Vec<bool>,
     pub beyond: bool,
+}
+
+pub(crate) fn larger(a: usize, b: usize) -> usize
+    ensures first { a ≤ result }
+    ensures second { b ≤ result }
+{
+    if a < b { b } else { a }
+}
+
+fn and(a: bool, b: bool) -> bool
+    ensures { result ≡ (a && b) }
+{
+    a && b
 }
 
 impl Fields {
@@ -44,5 +57,16 @@ impl Fields {
             list,
             beyond: self.beyond,
         })
+    }
+
+    pub(crate) fn both(&self, alloc: Global, other: &Fields) -> Result<Fields, AllocError>
+        ensures { IfOk result (λ s. fields_of s ≡ (λ f. fields_of self.now f && fields_of other.now f)) }
+    {
+        let mut list = Vec::new(alloc);
+        let beyond = and(self.beyond, other.beyond);
+        for field in 0..larger(self.list.len(), other.list.len()) {
+            list.push(and(self.has(field), other.has(field)))?;
+        }
+        Ok(Fields { list, beyond })
     }
 }

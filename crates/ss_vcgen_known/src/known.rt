@@ -6,12 +6,13 @@ ghost use Rattle.ss_core.specs.Chain.{most_classes};
 ghost use Rattle.ss_core.specs.View as view;
 ghost use Rattle.ss_store_rules.specs.Locals.{local_types};
 ghost use Rattle.ss_store_rules.specs.NonNull as spec;
-ghost use Rattle.ss_vcgen_known.specs.Steps.{barred_by, all_barred};
+ghost use Rattle.ss_vcgen_known.specs.Sets.{below};
+ghost use Rattle.ss_vcgen_known.specs.Steps.{met_pair, facts_met, barred_by, all_barred};
 ghost use Rattle.ss_vcgen_known.specs.Told.{facts_of, all_facts, with_told};
 ghost use Rattle.ss_vcgen_known.specs.Views.{pair_of, known_of};
 
-use crate::facts::join;
-use crate::fields::Fields;
+use crate::facts::{end_of, join, joined, side_met};
+use crate::fields::{Fields, larger};
 use crate::sides::Sides;
 use crate::told::{Told, told_by};
 use ss_bit_set::BitSet;
@@ -201,11 +202,70 @@ impl Known {
         Err(AllocError)
     }
 
+    // ---- paths
+
+    // What is known where this side meets that of the other path.
+    fn side_where_met(
+        &self,
+        other: &Known,
+        x: usize,
+        outcome: bool,
+    ) -> Result<Option<BitSet>, AllocError>
+        ensures { IfOk result (λ m. option_map marked m ≡ spec.side_met (spec.at_this_end (known_of self.now) x outcome) (spec.at_this_end (known_of other.now) x outcome)) }
+    {
+        let here = end_of(&self.facts, self.side_at(x, outcome))?;
+        let there = end_of(&other.facts, other.side_at(x, outcome))?;
+        Ok(side_met(here, there))
+    }
+
+    fn pair_met(&self, other: &Known, x: usize) -> Result<Sides, AllocError>
+        ensures { IfOk result (λ s. pair_of s ≡ met_pair (known_of self.now) (known_of other.now) x) }
+    {
+        let holds = self.side_where_met(other, x, true)?;
+        let fails = self.side_where_met(other, x, false)?;
+        Ok(Sides { holds, fails })
+    }
+
+    // The sides of the locals below this number.
+    fn pairs_met(
+        &self,
+        alloc: Global,
+        other: &Known,
+        count: usize,
+    ) -> Result<Vec<Sides>, AllocError>
+        ensures { IfOk result (λ v. map pair_of v.items ≡ below (met_pair (known_of self.now) (known_of other.now)) count) }
+    {
+        let mut met = Vec::new(alloc);
+        for x in 0..count {
+            let pair = self.pair_met(other, x)?;
+            met.push(pair)?;
+        }
+        Ok(met)
+    }
+
+    // What is known of each local past the ends of both lists.
+    fn beyond_met(&self, other: &Known) -> Result<BitSet, AllocError>
+        ensures { IfOk result (λ m. marked m ≡ facts_met (spec.both (marked self.now.facts) (marked self.now.beyond)) (spec.both (marked other.now.facts) (marked other.now.beyond))) }
+    {
+        let mut here = joined(&self.facts, &self.beyond)?;
+        let there = joined(&other.facts, &other.beyond)?;
+        here.meet(&there);
+        Ok(here)
+    }
+
     /// Where two paths meet.
     pub fn meet(&mut self, alloc: Global, other: &Known) -> Result<(), AllocError>
         ensures { IfOk result (λ u. known_of self.new ≡ spec.known_met (known_of self.old) (known_of other.now)) }
     {
-        Err(AllocError)
+        let count = larger(self.sides.len(), other.sides.len());
+        let sides = self.pairs_met(alloc, other, count)?;
+        let beyond = self.beyond_met(other)?;
+        let fields = self.fields.both(alloc, &other.fields)?;
+        self.facts.meet(&other.facts);
+        self.sides = sides;
+        self.beyond = beyond;
+        self.fields = fields;
+        Ok(())
     }
 
     /// At the head of the loop: nothing is known of the locals that it assigns.

@@ -5,6 +5,7 @@ ghost use Rattle.ss_bit_set.specs.Marked.{marked};
 ghost use Rattle.ss_vcgen_known.specs.Pairs.{side, alike, barred};
 ghost use Rattle.ss_vcgen_known.specs.Views.{pair_of};
 
+use crate::facts::side_copy;
 use ss_bit_set::BitSet;
 use std::alloc::AllocError;
 
@@ -13,19 +14,6 @@ use std::alloc::AllocError;
 pub struct Sides {
     pub holds: Option<BitSet>,
     pub fails: Option<BitSet>,
-}
-
-// The side once more.
-fn side_copy(side: &Option<BitSet>) -> Result<Option<BitSet>, AllocError>
-    ensures { IfOk result (λ m. option_map marked m ≡ option_map marked side.now) }
-{
-    match side {
-        Some(side) => {
-            let same = side.copy()?;
-            Ok(Some(same))
-        }
-        None => Ok(None),
-    }
 }
 
 impl Sides {
