@@ -1,0 +1,14 @@
+//! Expressions of core programs over a bank: what each means, and what has to be so for it to have a value.
+#![tactic(auto)]
+
+mod asks;
+mod contracts;
+mod guards;
+mod parts;
+mod scenes;
+mod singles;
+mod twos;
+
+pub use contracts::{conditions, holds, naming};
+pub use parts::Part;
+pub use ss_vcgen_express::Scene;

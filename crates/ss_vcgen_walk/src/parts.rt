@@ -1,0 +1,13 @@
+// What has to be so for an expression to have a value.
+
+use ss_core::{Kind, Place};
+use ss_terms_stores::FormulaId;
+
+/// What has to be so, and the check that fails where it isn't. One that isn't checked holds by the types.
+#[derive(Clone, Copy)]
+pub struct Part {
+    pub formula: FormulaId,
+    pub kind: Kind,
+    pub place: Place,
+    pub checked: bool,
+}
