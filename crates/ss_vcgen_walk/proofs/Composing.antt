@@ -186,3 +186,7 @@ second_behind (Ok v) form sc a c m n ps qs list other others g e h = record {
   };
 }
 second_behind (Err z) form sc a c m n ps qs list other others g e h = tt
+
+-- into a list that was empty
+pub fresh : (a : Forms) (m : Meant) (ps before : List Part) (says : Forms → spec.Meant) (more : Forms → List Marked) → before ≡ [] → Expressed a m ps says (λ b. parts_at b before ++ more b) → Expressed a m ps says more
+fresh a m ps before says more e h = record { meant = h.meant; parts = record { has = h.parts.has; are = λ b k. h.parts.are b k ∙ ap (λ l. parts_at b l ++ more b) e } }

@@ -2,3 +2,4 @@ pub mod Asked
 pub mod Forms
 pub mod Parts
 pub mod Reading
+pub mod Sights

@@ -1,17 +1,93 @@
 // Conditions of contracts.
 
-ghost use Rattle.std.specs.Prelude.{IfOk};
+ghost use Rattle.std.specs.Prelude.{◌≡◌, [], ◌∷◌, ◌++◌, map, IfOk};
 ghost use Rattle.ss_core.specs.View as core;
 ghost use Rattle.ss_logic_express.specs.Express as spec;
 ghost use Rattle.ss_terms_stores.specs.Forms.{IsGrown};
-ghost use Rattle.ss_vcgen_express.specs.Numbers.{IsFormula, AreFormulas, IsMeant};
+ghost use Rattle.ss_vcgen_express.specs.Marked.{formulas_of};
+ghost use Rattle.ss_vcgen_express.specs.Numbers.{meant_at, HasMeant, IsFormula, AreFormulas, IsMeant};
 ghost use Rattle.ss_vcgen_express.specs.Scenes.{scene_at, HasScene};
 ghost use Rattle.ss_vcgen_heaps.specs.Contracts as heaps;
+ghost use Rattle.ss_vcgen_walk.specs.Parts.{parts_at, HasParts};
+ghost use Rattle.ss_vcgen_walk.specs.Reading.{Defines};
 
+use crate::walk::express;
+use crate::parts::Part;
+use crate::sight::Sight;
+use ss_bit_set::BitSet;
 use ss_core::Expr;
 use ss_terms_stores::{Bank, FormulaId};
-use ss_vcgen_express::{Meant, Scene};
+use ss_vcgen_express::{Meant, Saying, Scene, all_with, over, said};
+use ss_vcgen_known::{Fields, Known, Site, Tests};
 use std::alloc::{AllocError, Global};
+
+// Nothing is known.
+fn nothing(alloc: Global) -> Known {
+    Known {
+        facts: BitSet::new(alloc),
+        sides: Vec::new(alloc),
+        beyond: BitSet::new(alloc),
+        fields: Fields {
+            list: Vec::new(alloc),
+            beyond: false,
+        },
+    }
+}
+
+// What a condition means, and all its parts.
+fn read(
+    alloc: Global,
+    bank: &mut Bank,
+    scene: &Scene<'_>,
+    parts: &mut Vec<Part>,
+    e: &Expr,
+) -> Result<Meant, AllocError>
+    requires scene { HasScene bank.old scene.now }
+    requires parts { HasParts bank.old parts.old.items }
+    ensures expressed { IfOk result (λ m. Defines bank.new m parts.new.items parts.old.items (core.expr e.now) scene.entry.now) }
+    ensures grown { IsGrown bank.old bank.new }
+{
+    let known = nothing(alloc);
+    let tests = Tests::Nothing;
+    let sight = Sight {
+        site: Site {
+            classes: scene.classes,
+            types: &[],
+            constructs: false,
+        },
+        known: &known,
+        tests: &tests,
+    };
+    express(alloc, bank, &sight, scene, parts, e)
+}
+
+// What the parts say.
+fn formulas(alloc: Global, parts: &[Part]) -> Result<Vec<FormulaId>, AllocError>
+    ensures { IfOk result (λ v. v.items ≡ map (λ p. p.formula) parts.now) }
+{
+    let mut list = Vec::new(alloc);
+    for part in parts {
+        list.push(part.formula)?;
+    }
+    Ok(list)
+}
+
+// All the parts, and that the condition is true.
+fn joined(
+    alloc: Global,
+    bank: &mut Bank,
+    parts: &[Part],
+    m: &Meant,
+) -> Result<FormulaId, AllocError>
+    requires parts { HasParts bank.old parts.now }
+    requires meant { HasMeant bank.old m.now }
+    ensures at { IfOk result (λ f. IsFormula bank.new f (λ b. spec.and_of (formulas_of (parts_at b parts.now) ++ spec.said (meant_at b m.now) ∷ []))) }
+    ensures grown { IsGrown bank.old bank.new }
+{
+    let list = formulas(alloc, parts)?;
+    let f = said(alloc, bank, m)?;
+    all_with(alloc, bank, &list, f)
+}
 
 /// That a condition has a value and is true.
 pub fn holds(
@@ -24,7 +100,9 @@ pub fn holds(
     ensures at { IfOk result (λ f. IsFormula bank.new f (λ b. spec.holds_formula (core.expr e.now) (scene_at b scene.entry.now))) }
     ensures grown { IsGrown bank.old bank.new }
 {
-    Err(AllocError)
+    let mut parts = Vec::new(alloc);
+    let m = read(alloc, bank, scene, &mut parts, e)?;
+    joined(alloc, bank, &parts, &m)
 }
 
 /// The same of each of a list.
@@ -38,7 +116,30 @@ pub fn conditions(
     ensures at { IfOk result (λ v. AreFormulas bank.new v.items (λ b. heaps.conditions (core.exprs es.now) (scene_at b scene.entry.now))) }
     ensures grown { IsGrown bank.old bank.new }
 {
-    Err(AllocError)
+    let mut list = Vec::new(alloc);
+    for e in es {
+        let f = holds(alloc, bank, scene, e)?;
+        list.push(f)?;
+    }
+    Ok(list)
+}
+
+// All the parts, and that the value isn't null.
+fn guards(
+    alloc: Global,
+    bank: &mut Bank,
+    parts: &[Part],
+    m: &Meant,
+) -> Result<Vec<FormulaId>, AllocError>
+    requires parts { HasParts bank.old parts.now }
+    requires meant { HasMeant bank.old m.now }
+    ensures at { IfOk result (λ v. AreFormulas bank.new v.items (λ b. formulas_of (parts_at b parts.now) ++ spec.not_null (meant_at b m.now) ∷ [])) }
+    ensures grown { IsGrown bank.old bank.new }
+{
+    let f = over(alloc, bank, m, Saying::NotNull)?;
+    let mut list = formulas(alloc, parts)?;
+    list.push(f)?;
+    Ok(list)
 }
 
 /// When an expression names an object, and which.
@@ -53,5 +154,8 @@ pub fn naming(
     ensures meant { IfOk result (λ r. IsMeant bank.new r.1 (λ b. spec.meant (core.expr e.now) (scene_at b scene.entry.now))) }
     ensures grown { IsGrown bank.old bank.new }
 {
-    Err(AllocError)
+    let mut parts = Vec::new(alloc);
+    let m = read(alloc, bank, scene, &mut parts, e)?;
+    let list = guards(alloc, bank, &parts, &m)?;
+    Ok((list, m))
 }

@@ -6,9 +6,13 @@ mod contracts;
 mod guards;
 mod parts;
 mod scenes;
+mod sight;
 mod singles;
 mod twos;
+mod walk;
 
 pub use contracts::{conditions, holds, naming};
 pub use parts::Part;
+pub use sight::Sight;
 pub use ss_vcgen_express::Scene;
+pub use walk::express;
