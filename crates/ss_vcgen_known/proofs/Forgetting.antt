@@ -123,6 +123,14 @@ forget_next n s j k l h e step = step ∙ ap (with_local n false says_nothing) e
 pub forget_not : (n : ℕ) (s : Facts) (j k : Known) → s n ≡ false → j ≡ forgotten (set_below n s) k → j ≡ forgotten (set_below (n + 1) s) k
 forget_not n s j k h e = e ∙ ap (λ f. forgotten f k) (sym (below_out n s h))
 
+forget_by : (n : ℕ) (s : Facts) (j k l : Known) (b : Bool) → s n ≡ b → j ≡ forgotten (set_below n s) k → l ≡ (if b then with_local n false says_nothing j else j) → l ≡ forgotten (set_below (n + 1) s) k
+forget_by n s j k l true h e step = forget_next n s j k l h e step
+forget_by n s j k l false h e step = step ∙ forget_not n s j k h e
+
+-- the local, if it is in the set
+pub forget_one : (n : ℕ) (s : Facts) (j k l : Known) → j ≡ forgotten (set_below n s) k → l ≡ (if s n then with_local n false says_nothing j else j) → l ≡ forgotten (set_below (n + 1) s) k
+forget_one n s j k l e step = forget_by n s j k l (s n) refl e step
+
 pub forget_end : (bs : List Bool) (n : ℕ) (j k : Known) → length bs ≤ n → j ≡ forgotten (set_below n (listed bs)) k → j ≡ forgotten (listed bs) k
 forget_end bs n j k l e = e ∙ ap (λ f. forgotten f k) (below_all bs n l)
 

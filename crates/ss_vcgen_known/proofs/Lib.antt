@@ -11,3 +11,4 @@ pub mod Meeting
 pub mod Assigning
 pub mod Ending
 pub mod Stepping
+pub mod Giving

@@ -59,7 +59,7 @@ one_more view f xs b fields y is =
 
 -- ---- a local is assigned
 
-abbrev saying : Facts → Facts → Pair
+abbrev pub saying : Facts → Facts → Pair
 saying g h = record { holds = Some g; fails = Some h }
 
 side_without : (x : ℕ) (p : Pair) (v : Bool) → side (pair_without x p) v ≡ option_map (without x) (side p v)

@@ -21,6 +21,10 @@ met_pair k l x = record {
 abbrev pub with_sides : ℕ → Bool → Facts → Facts → Known → Known
 with_sides x non_null f g k = with_local x non_null (λ v. if v then f else g) k
 
+-- these fields of `this` have their values
+abbrev pub with_fields : (ℕ → Bool) → Known → Known
+with_fields fs k = record k { fields = fs }
+
 -- a field of `this` has its value
 abbrev pub written : ExprTree → ℕ → Known → Known
 written o f k = record k { fields = λ g. k.fields g || is_this o && g == f }

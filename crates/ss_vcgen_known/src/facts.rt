@@ -3,6 +3,7 @@
 ghost use Rattle.std.specs.Prelude.{◌≡◌, Some, IfOk, option_map};
 ghost use Rattle.ss_bit_set.specs.Marked.{marked};
 ghost use Rattle.ss_store_rules.specs.NonNull.{both, side_met};
+ghost use Rattle.ss_vcgen_known.specs.Sets.{without};
 
 use ss_bit_set::BitSet;
 use std::alloc::AllocError;
@@ -27,6 +28,18 @@ pub(crate) fn joined(set: &BitSet, other: &BitSet) -> Result<BitSet, AllocError>
     let mut all = set.copy()?;
     join(&mut all, other)?;
     Ok(all)
+}
+
+// The same set without the local.
+#[tactic(auto, using(crate::proofs::Listing::put_less, crate::proofs::Listing::not_in))]
+pub(crate) fn without(set: &BitSet, local: usize) -> Result<BitSet, AllocError>
+    ensures { IfOk result (λ m. marked m ≡ without local (marked set.now)) }
+{
+    let mut rest = set.copy()?;
+    if rest.has(local) {
+        rest.put(local, false)?;
+    }
+    Ok(rest)
 }
 
 // What is known on a side, with what is known in any case.
@@ -62,6 +75,22 @@ fn met_with(one: BitSet, other: &Option<BitSet>) -> BitSet
             met
         }
         None => one,
+    }
+}
+
+// The side without the local.
+pub(crate) fn side_without(
+    side: &Option<BitSet>,
+    local: usize,
+) -> Result<Option<BitSet>, AllocError>
+    ensures { IfOk result (λ m. option_map marked m ≡ option_map (without local) (option_map marked side.now)) }
+{
+    match side {
+        Some(side) => {
+            let rest = without(side, local)?;
+            Ok(Some(rest))
+        }
+        None => Ok(None),
     }
 }
 

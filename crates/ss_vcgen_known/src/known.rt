@@ -1,17 +1,18 @@
 // What is known at a place of a body.
 
-ghost use Rattle.std.specs.Prelude.{◌≡◌, ◌≤◌, ◌<◌, length, map, IfOk, option_map};
+ghost use Rattle.std.specs.Prelude.{◌≡◌, ◌≤◌, ◌<◌, false, length, map, if◌then◌else◌, IfOk, option_map};
 ghost use Rattle.ss_bit_set.specs.Marked.{marked};
 ghost use Rattle.ss_core.specs.Chain.{most_classes};
 ghost use Rattle.ss_core.specs.View as view;
 ghost use Rattle.ss_store_rules.specs.Locals.{local_types};
 ghost use Rattle.ss_store_rules.specs.NonNull as spec;
-ghost use Rattle.ss_vcgen_known.specs.Sets.{below};
-ghost use Rattle.ss_vcgen_known.specs.Steps.{met_pair, facts_met, barred_by, all_barred};
+ghost use Rattle.ss_vcgen_known.specs.Sets.{pair_without, below};
+ghost use Rattle.ss_vcgen_known.specs.Steps.{met_pair, facts_met, with_sides, barred_by, all_barred, forgotten};
 ghost use Rattle.ss_vcgen_known.specs.Told.{facts_of, all_facts, with_told};
 ghost use Rattle.ss_vcgen_known.specs.Views.{pair_of, known_of};
 
-use crate::facts::{end_of, join, joined, side_met};
+use crate::assigns::assigned;
+use crate::facts::{end_of, join, joined, side_met, without};
 use crate::fields::{Fields, larger};
 use crate::sides::Sides;
 use crate::told::{Told, told_by};
@@ -28,6 +29,18 @@ pub struct Known {
     /// What is known of each local past the end of the list, on both sides.
     pub beyond: BitSet,
     pub fields: Fields,
+}
+
+// All sides without the local.
+fn all_without(alloc: Global, sides: &[Sides], local: usize) -> Result<Vec<Sides>, AllocError>
+    ensures { IfOk result (λ v. map pair_of v.items ≡ map (pair_without local) (map pair_of sides.now)) }
+{
+    let mut rest = Vec::new(alloc);
+    for pair in sides {
+        let pair = pair.without(local)?;
+        rest.push(pair)?;
+    }
+    Ok(rest)
 }
 
 fn all_copied(alloc: Global, sides: &[Sides]) -> Result<Vec<Sides>, AllocError>
@@ -186,6 +199,42 @@ impl Known {
         Ok(())
     }
 
+    // ---- statements
+
+    // The local is assigned a value that isn't null, or one that may be; on its sides it says this.
+    fn set_local(
+        &mut self,
+        alloc: Global,
+        x: usize,
+        non_null: bool,
+        holds: BitSet,
+        fails: BitSet,
+    ) -> Result<(), AllocError>
+        ensures { IfOk result (λ u. known_of self.new ≡ with_sides x non_null (marked holds) (marked fails) (known_of self.old)) }
+    {
+        let sides = all_without(alloc, &self.sides, x)?;
+        let beyond = without(&self.beyond, x)?;
+        self.facts.put(x, non_null)?;
+        self.sides = sides;
+        self.beyond = beyond;
+        self.reach(x)?;
+        self.sides[x] = Sides {
+            holds: Some(holds),
+            fails: Some(fails),
+        };
+        Ok(())
+    }
+
+    // The local is assigned a value of which nothing else is known.
+    fn set_silent(&mut self, alloc: Global, x: usize, non_null: bool) -> Result<(), AllocError>
+        ensures { IfOk result (λ u. known_of self.new ≡ spec.with_local x non_null spec.says_nothing (known_of self.old)) }
+    {
+        let holds = BitSet::new(alloc);
+        let fails = BitSet::new(alloc);
+        self.set_local(alloc, x, non_null, holds, fails)?;
+        Ok(())
+    }
+
     /// Behind a statement that is neither an `if`, a loop nor a return.
     pub fn step(
         &mut self,
@@ -268,10 +317,33 @@ impl Known {
         Ok(())
     }
 
+    // Nothing is known of the local, if it is in the set.
+    fn forget_one(&mut self, alloc: Global, set: &BitSet, x: usize) -> Result<(), AllocError>
+        ensures { IfOk result (λ u. known_of self.new ≡ (if marked set.now x then spec.with_local x false spec.says_nothing (known_of self.old) else known_of self.old)) }
+    {
+        if set.has(x) {
+            self.set_silent(alloc, x, false)
+        } else {
+            Ok(())
+        }
+    }
+
+    // Nothing is known of the locals of the set.
+    fn forget(&mut self, alloc: Global, set: &BitSet) -> Result<(), AllocError>
+        ensures { IfOk result (λ u. known_of self.new ≡ forgotten (marked set.now) (known_of self.old)) }
+    {
+        for x in 0..set.list.len() {
+            self.forget_one(alloc, set, x)?;
+        }
+        Ok(())
+    }
+
     /// At the head of the loop: nothing is known of the locals that it assigns.
     pub fn head(&mut self, alloc: Global, stmt: &Stmt) -> Result<(), AllocError>
         ensures { IfOk result (λ u. known_of self.new ≡ spec.known_head (view.stmt_of stmt.now) (known_of self.old)) }
     {
-        Err(AllocError)
+        let set = assigned(alloc, stmt)?;
+        self.forget(alloc, &set)?;
+        Ok(())
     }
 }

@@ -3,9 +3,10 @@
 ghost use Rattle.std.specs.Prelude.{◌≡◌, IfOk, option_map};
 ghost use Rattle.ss_bit_set.specs.Marked.{marked};
 ghost use Rattle.ss_vcgen_known.specs.Pairs.{side, alike, barred};
+ghost use Rattle.ss_vcgen_known.specs.Sets.{pair_without};
 ghost use Rattle.ss_vcgen_known.specs.Views.{pair_of};
 
-use crate::facts::side_copy;
+use crate::facts::{side_copy, side_without};
 use ss_bit_set::BitSet;
 use std::alloc::AllocError;
 
@@ -46,6 +47,15 @@ impl Sides {
         } else {
             self.fails.as_ref()
         }
+    }
+
+    // The same without the local.
+    pub(crate) fn without(&self, local: usize) -> Result<Sides, AllocError>
+        ensures { IfOk result (λ s. pair_of s ≡ pair_without local (pair_of self.now)) }
+    {
+        let holds = side_without(&self.holds, local)?;
+        let fails = side_without(&self.fails, local)?;
+        Ok(Sides { holds, fails })
     }
 
     // The local doesn't have this truth value.
