@@ -15,7 +15,7 @@ or_true true = refl
 or_true false = refl
 
 -- one field more
-pub put_field : (fs : ℕ → Bool) (f : ℕ) → (λ (g : ℕ). if f == g then true else fs g) ≡ (λ g. fs g || g == f)
+pub put_field : (fs : ℕ → Bool) (f : ℕ) → ◌≡◌ {A = ℕ → Bool} (λ g. if f == g then true else fs g) (λ g. fs g || g == f)
 put_field fs f =
     same
     (λ g. ⊎_elim
@@ -28,11 +28,11 @@ pub no_field_more : (k : Known) (f : ℕ) → k ≡ with_fields (λ g. k.fields 
 no_field_more k f = λ i. record k { fields = λ g. sym (or_false (k.fields g)) i }
 
 -- the fields above, where the constructor is delayed
-pub above_more : (fs above : ℕ → Bool) (delayed : Bool) → delayed ≡ true → (λ (f : ℕ). fs f || above f) ≡ (λ f. fs f || not delayed || above f)
+pub above_more : (fs above : ℕ → Bool) (delayed : Bool) → delayed ≡ true → ◌≡◌ {A = ℕ → Bool} (λ f. fs f || above f) (λ f. fs f || not delayed || above f)
 above_more fs above delayed h = same (λ f. ap (λ (b : Bool). b || above f) (sym (or_false (fs f))) ∙ ap (λ (d : Bool). fs f || not d || above f) (sym h))
 
 -- all fields, where it isn't
-pub all_more : (fs above : ℕ → Bool) (delayed : Bool) → delayed ≡ false → (λ (f : ℕ). true) ≡ (λ f. fs f || not delayed || above f)
+pub all_more : (fs above : ℕ → Bool) (delayed : Bool) → delayed ≡ false → ◌≡◌ {A = ℕ → Bool} (λ f. true) (λ f. fs f || not delayed || above f)
 all_more fs above delayed h = same (λ f. sym (ap (λ (b : Bool). b || above f) (or_true (fs f))) ∙ ap (λ (d : Bool). fs f || not d || above f) (sym h))
 
 pub none_there : {X : Type 0} (o : Option X) → is_some o ≡ false → o ≡ None

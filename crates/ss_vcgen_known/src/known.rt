@@ -1,23 +1,31 @@
 // What is known at a place of a body.
 
-ghost use Rattle.std.specs.Prelude.{◌≡◌, ◌≤◌, ◌<◌, false, length, map, if◌then◌else◌, IfOk, option_map};
+ghost use Rattle.std.specs.Prelude.{◌≡◌, ◌≤◌, ◌<◌, ◌||◌, ◌==◌, true, false, length, map, if◌then◌else◌, IfOk, option_map};
 ghost use Rattle.ss_bit_set.specs.Marked.{marked};
 ghost use Rattle.ss_core.specs.Chain.{most_classes};
+ghost use Rattle.ss_core.specs.Tree as tree;
 ghost use Rattle.ss_core.specs.View as view;
 ghost use Rattle.ss_store_rules.specs.Locals.{local_types};
 ghost use Rattle.ss_store_rules.specs.NonNull as spec;
+ghost use Rattle.ss_store_rules.specs.Typed as typed;
 ghost use Rattle.ss_vcgen_known.specs.Sets.{pair_without, below};
-ghost use Rattle.ss_vcgen_known.specs.Steps.{met_pair, facts_met, with_sides, barred_by, all_barred, forgotten};
+ghost use Rattle.ss_vcgen_known.specs.Steps.{met_pair, facts_met, with_sides, with_fields, written, barred_by, all_barred, forgotten};
 ghost use Rattle.ss_vcgen_known.specs.Told.{facts_of, all_facts, with_told};
 ghost use Rattle.ss_vcgen_known.specs.Views.{pair_of, known_of};
 
 use crate::assigns::assigned;
+use crate::atoms::is_this;
+use crate::bodies::callee_of;
 use crate::facts::{end_of, join, joined, side_met, without};
 use crate::fields::{Fields, larger};
+use crate::never_null::is_never_null;
 use crate::sides::Sides;
+use crate::site::Site;
+use crate::tests::Tests;
 use crate::told::{Told, told_by};
+use crate::types::is_non_null_type;
 use ss_bit_set::BitSet;
-use ss_core::{Body, Core, Expr, Stmt, Ty};
+use ss_core::{Body, Callee, Core, Expr, FieldId, Stmt, Ty};
 use std::alloc::{AllocError, Global};
 
 /// What is known at a place of a body: the locals that aren't null, what follows where a local is true or false, and the fields of the
@@ -235,6 +243,134 @@ impl Known {
         Ok(())
     }
 
+    fn keep(&mut self, alloc: Global, x: Option<usize>, non_null: bool) -> Result<(), AllocError>
+        ensures { IfOk result (λ u. known_of self.new ≡ spec.with_kept x non_null (known_of self.old)) }
+    {
+        match x {
+            Some(x) => self.set_silent(alloc, x, non_null),
+            None => Ok(()),
+        }
+    }
+
+    // What the expression tells, on one side of the local to which it is assigned.
+    fn says(&self, alloc: Global, e: &Expr, outcome: bool) -> Result<BitSet, AllocError>
+        ensures { IfOk result (λ m. marked m ≡ spec.learned (known_of self.now) (view.expr e.now) outcome) }
+    {
+        let list = told_by(alloc, e, outcome)?;
+        let set = self.facts_told(alloc, &list)?;
+        Ok(set)
+    }
+
+    fn assign(
+        &mut self,
+        alloc: Global,
+        core: &Core,
+        body: &Body,
+        types: &[Ty],
+        x: usize,
+        e: &Expr,
+    ) -> Result<(), AllocError>
+        requires limit { length (view.classes core.now.classes) ≤ most_classes }
+        requires types { types.now ≡ local_types (view.body body.now) }
+        ensures { IfOk result (λ u. known_of self.new ≡ spec.with_local x (spec.is_never_null (spec.site_of (view.core core.now) (view.body body.now)) (known_of self.old) false (view.expr e.now)) (spec.learned (known_of self.old) (view.expr e.now)) (known_of self.old)) }
+    {
+        let site = Site {
+            classes: &core.classes,
+            types,
+            constructs: body.flags.ctor,
+        };
+        let non_null = is_never_null(site, self, &Tests::Nothing, false, e);
+        let holds = self.says(alloc, e, true)?;
+        let fails = self.says(alloc, e, false)?;
+        self.set_local(alloc, x, non_null, holds, fails)?;
+        Ok(())
+    }
+
+    // The field of `this` has its value.
+    fn give(&mut self, field: usize) -> Result<(), AllocError>
+        ensures { IfOk result (λ u. known_of self.new ≡ with_fields (λ g. (known_of self.old).fields g || g == field) (known_of self.old)) }
+    {
+        self.fields.put(field)?;
+        Ok(())
+    }
+
+    // All fields of `this` have their values.
+    fn give_all(&mut self, alloc: Global)
+        ensures { known_of self.new ≡ with_fields (λ f. true) (known_of self.old) }
+    {
+        self.fields = Fields::new(alloc, true);
+    }
+
+    // The fields that a class above declares have their values.
+    fn give_above(&mut self, alloc: Global, core: &Core, body: &Body) -> Result<(), AllocError>
+        requires { length (view.classes core.now.classes) ≤ most_classes }
+        ensures { IfOk result (λ u. known_of self.new ≡ with_fields (λ f. (known_of self.old).fields f || spec.is_field_above (view.core core.now) (view.body body.now) f) (known_of self.old)) }
+    {
+        let above = Fields::above(alloc, &core.classes, body.class)?;
+        let all = self.fields.either(alloc, &above)?;
+        self.fields = all;
+        Ok(())
+    }
+
+    fn write(&mut self, object: &Expr, field: FieldId) -> Result<(), AllocError>
+        ensures { IfOk result (λ u. known_of self.new ≡ written (view.expr object.now) field.0 (known_of self.old)) }
+    {
+        if is_this(object) {
+            self.give(field.0 as usize)
+        } else {
+            Ok(())
+        }
+    }
+
+    fn call(
+        &mut self,
+        alloc: Global,
+        core: &Core,
+        body: &Body,
+        x: Option<usize>,
+        callee: &Callee,
+    ) -> Result<(), AllocError>
+        requires { length (view.classes core.now.classes) ≤ most_classes }
+        ensures { IfOk result (λ u. known_of self.new ≡ spec.with_base (view.core core.now) (view.body body.now) (view.callee_tree callee.now) (spec.with_kept x (spec.is_non_null_type (spec.result_of (typed.callee_of (view.core core.now) (view.body body.now) (view.callee_tree callee.now)))) (known_of self.old))) }
+    {
+        let entered = callee_of(core, body, callee);
+        let ty = result_of(entered);
+        let non_null = is_non_null_type(ty);
+        self.keep(alloc, x, non_null)?;
+        self.begin(alloc, core, body, callee)?;
+        Ok(())
+    }
+
+    // Behind the constructor of the class above.
+    fn begin(
+        &mut self,
+        alloc: Global,
+        core: &Core,
+        body: &Body,
+        callee: &Callee,
+    ) -> Result<(), AllocError>
+        requires { length (view.classes core.now.classes) ≤ most_classes }
+        ensures { IfOk result (λ u. known_of self.new ≡ spec.with_base (view.core core.now) (view.body body.now) (view.callee_tree callee.now) (known_of self.old)) }
+    {
+        match callee {
+            Callee::Constructor(_) => self.begin_above(alloc, core, body),
+            Callee::Dispatched(..) | Callee::Static(_) | Callee::Base(_) => Ok(()),
+        }
+    }
+
+    fn begin_above(&mut self, alloc: Global, core: &Core, body: &Body) -> Result<(), AllocError>
+        requires { length (view.classes core.now.classes) ≤ most_classes }
+        ensures { IfOk result (λ u. known_of self.new ≡ spec.with_base (view.core core.now) (view.body body.now) (tree.BaseConstructor 0) (known_of self.old)) }
+    {
+        let delayed = body.flags.delayed;
+        if delayed {
+            self.give_above(alloc, core, body)
+        } else {
+            self.give_all(alloc);
+            Ok(())
+        }
+    }
+
     /// Behind a statement that is neither an `if`, a loop nor a return.
     pub fn step(
         &mut self,
@@ -248,7 +384,27 @@ impl Known {
         requires types { types.now ≡ local_types (view.body body.now) }
         ensures { IfOk result (λ u. known_of self.new ≡ spec.known_after (view.core core.now) (view.body body.now) (view.stmt_of stmt.now) (known_of self.old)) }
     {
-        Err(AllocError)
+        match stmt {
+            Stmt::Assign(_, x, e) => self.assign(alloc, core, body, types, *x, e),
+            Stmt::Write { object, field, .. } => self.write(object, *field),
+            Stmt::New(_, x, _, _) => self.keep(alloc, *x, true),
+            Stmt::NewArray(_, x, _, _) => self.keep(alloc, *x, true),
+            Stmt::Call(_, x, callee, _) => self.call(alloc, core, body, *x, callee),
+            Stmt::Ready(_) => {
+                self.give_all(alloc);
+                Ok(())
+            }
+            Stmt::WriteElement(..)
+            | Stmt::If(..)
+            | Stmt::Loop(_)
+            | Stmt::Unpack(..)
+            | Stmt::Pack(..)
+            | Stmt::Assert(..)
+            | Stmt::Assume(..)
+            | Stmt::Print(..)
+            | Stmt::PrintText(..)
+            | Stmt::Return(..) => Ok(()),
+        }
     }
 
     // ---- paths
@@ -345,5 +501,14 @@ impl Known {
         let set = assigned(alloc, stmt)?;
         self.forget(alloc, &set)?;
         Ok(())
+    }
+}
+
+fn result_of(body: Option<&Body>) -> Option<Ty>
+    ensures { result ≡ spec.result_of (option_map (λ b. view.body b.now) body.entry) }
+{
+    match body {
+        Some(body) => body.result,
+        None => None,
     }
 }
