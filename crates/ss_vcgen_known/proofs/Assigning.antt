@@ -1,5 +1,5 @@
 -- The locals that parts of a statement assign.
-use Rattle.std.proofs.Common.{◌≡◌, ℕ, Bool, true, false, List, map, refl, sym, ap, ◌∙◌}
+use Rattle.std.proofs.Common.{◌≡◌, Bool, true, false, List, map, refl, sym, ap, ◌∙◌}
 use Rattle.std.specs.Prelude.{◌&&◌, ◌||◌, not}
 use Rattle.std.specs.Global.{Vec}
 use Rattle.ss_core.specs.declared.expr.Expr.{Expr}

@@ -1,6 +1,6 @@
 -- What is told bars sides, one after the other.
-use Rattle.std.proofs.Common.{◌≡◌, ℕ, Bool, true, false, List, [], ◌∷◌, map, Option, Some, None, refl, sym, ap, ◌∙◌}
-use Rattle.std.specs.Prelude.{◌==◌, ◌&&◌, ◌||◌, not, if◌then◌else◌}
+use Rattle.std.proofs.Common.{◌≡◌, Bool, true, false, List, [], ◌∷◌, Option, None, refl, ap, ◌∙◌}
+use Rattle.std.specs.Prelude.{◌||◌, not, if◌then◌else◌}
 use Rattle.ss_store_rules.specs.NonNull.{Facts, both, Known}
 use Rattle.ss_vcgen_known.specs.declared.told.Told.{Told}
 use Rattle.ss_vcgen_known.specs.Told.{all_facts, tells_of, all_tell, with_told}

@@ -1,5 +1,5 @@
 -- What is false of an operand, and of all with links or steps behind it.
-use Rattle.std.proofs.Common.{◌≡◌, ℕ, zero, suc, ◌+◌, ◌<◌, Bool, true, false, List, [], ◌∷◌, ◌++◌, length, take, drop, get_or, map, refl, sym, ap, ◌∙◌, arith}
+use Rattle.std.proofs.Common.{◌≡◌, ℕ, zero, suc, ◌+◌, ◌<◌, Bool, true, false, List, [], ◌∷◌, ◌++◌, length, take, drop, get_or, refl, sym, ap, ◌∙◌}
 use Rattle.std.specs.Prelude.{◌&&◌}
 use Rattle.ss_core.specs.declared.names.Place.{Place}
 use Rattle.ss_core.specs.declared.expr.Link.{Link}
@@ -7,7 +7,7 @@ use Rattle.ss_core.specs.declared.expr.Step.{Step}
 use Rattle.ss_core.specs.declared.expr.Expr.TheOpen as shape
 use Rattle.ss_core.specs.declared.expr.Expr.TheOpen.{Link-F, Step-F}
 use Rattle.ss_core.specs.Tree.{ExprTree, BodyTree}
-use Rattle.ss_core.specs.View.{Behind, grouped, link_step, step_step}
+use Rattle.ss_core.specs.View.{Behind, link_step, step_step}
 use Rattle.ss_store_rules.specs.Locals.{everywhere}
 use Rattle.ss_store_rules.specs.NonNull.{is_this_object}
 use Rattle.ss_store_rules.specs.Types.{is_allowed, in_code}

@@ -7,7 +7,6 @@ use Rattle.ss_bit_set.proofs.Lists.{listed_past}
 use Rattle.ss_core.specs.Tree.{StmtTree}
 use Rattle.ss_store_rules.specs.Locals.{assigns}
 use Rattle.ss_store_rules.specs.NonNull.{Facts, no_facts, both, Known, with_local, says_nothing, known_head}
-use Rattle.ss_vcgen_known.specs.Sets.{without}
 use Rattle.ss_vcgen_known.specs.Steps.{forgotten}
 use Rattle.ss_vcgen_known.proofs.Listing.{same}
 

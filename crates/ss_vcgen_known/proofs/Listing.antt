@@ -1,9 +1,8 @@
 -- Functions that lists say.
 use Rattle.std.proofs.Common.{◌≡◌, ◌≢◌, ℕ, zero, suc, ◌+◌, ◌<◌, ◌≤◌, Bool, true, false, List, [], ◌∷◌, ◌++◌, map, length, get_or, arith, set, refl, sym, ap, subst, ◌∙◌, ⊎_elim}
-use Rattle.std.specs.Prelude.{◌==◌, ◌||◌, ◌&&◌, not, if◌then◌else◌, Option, Some, None, option_map, slice_get, nat_lt}
+use Rattle.std.specs.Prelude.{◌==◌, ◌||◌, ◌&&◌, not, if◌then◌else◌, Some, None, slice_get}
 use Rattle.std.proofs.lemmas.Bool.{cases_eq, cases_lt, eq-eqb, ne_eqb, lt-ltb, le-ltb}
 use Rattle.std.proofs.lemmas.List.{get_or-set_same, get_or-set_other, get_or_append_left}
-use Rattle.std.proofs.Math.ListN.{get_or-map}
 use Rattle.ss_paths.specs.Sets.{Set, put, none}
 use Rattle.ss_paths.specs.Sets as sets
 use Rattle.ss_core.specs.Chain as chain
@@ -13,7 +12,7 @@ use Rattle.ss_store_rules.specs.Changes.{class_of_field, field_class}
 use Rattle.ss_bit_set.specs.Marked.{listed}
 use Rattle.ss_bit_set.proofs.Lists.{listed_past}
 use Rattle.ss_store_rules.specs.NonNull.{Facts, both, no_facts}
-use Rattle.ss_vcgen_known.specs.Pairs.{Pair, side, alike}
+use Rattle.ss_vcgen_known.specs.Pairs.{Pair, alike}
 use Rattle.ss_vcgen_known.specs.Sets.{without, pair_without, joined_below, below, at}
 
 pub same : {X : Type 0} {f g : ℕ → X} → ((x : ℕ) → f x ≡ g x) → f ≡ g

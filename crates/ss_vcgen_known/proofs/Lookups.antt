@@ -1,12 +1,12 @@
 -- Types by their numbers.
-use Rattle.std.proofs.Common.{◌≡◌, ℕ, ℤ, zero, suc, ◌-◌, ◌<◌, ◌≤◌, length, arith, List, [], ◌∷◌, ◌++◌, refl, sym, ap, ◌∙◌, slice_index_or, Bor}
+use Rattle.std.proofs.Common.{◌≡◌, ℕ, zero, suc, ◌-◌, ◌<◌, ◌≤◌, length, arith, List, [], ◌∷◌, ◌++◌, refl, sym, ap, ◌∙◌, slice_index_or, Bor}
 use Rattle.std.specs.Prelude.{Ok, Err, Option, Some, None, slice_get, Result}
 use Rattle.ss_core.specs.declared.names.Ty.{Ty}
 use Rattle.ss_core.specs.declared.names.Ty.TheVariants as ty
 use Rattle.ss_vcgen_known.specs.declared.names.Names.{Names}
 use Rattle.ss_vcgen_known.specs.declared.names.Names.TheFolds.{fold-roll-Names}
 use Rattle.ss_vcgen_known.specs.declared.names.Names.TheOpen as shape
-use Rattle.ss_vcgen_known.specs.declared.names.Names.TheVariants.{Bound, rolls-Bound, Locals, rolls-Locals}
+use Rattle.ss_vcgen_known.specs.declared.names.Names.TheVariants.{Bound, rolls-Bound}
 use Rattle.ss_vcgen_known.specs.Names.{names_step, types_of_names, look_up, or_bound}
 
 pub look_up_more : (ts : List Ty) (x : ℕ) → look_up (ts ++ ty.Int ∷ []) x ≡ or_bound (look_up ts x)

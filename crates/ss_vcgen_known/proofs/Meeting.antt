@@ -1,6 +1,6 @@
 -- Where two paths meet.
-use Rattle.std.proofs.Common.{◌≡◌, ℕ, ◌≤◌, Bool, true, false, List, map, length, Option, Some, None, refl, sym, ap, ◌∙◌, arith}
-use Rattle.std.specs.Prelude.{◌&&◌, ◌||◌, if◌then◌else◌, option_map}
+use Rattle.std.proofs.Common.{◌≡◌, ℕ, ◌≤◌, Bool, true, false, List, length, Some, refl, ap, ◌∙◌, arith}
+use Rattle.std.specs.Prelude.{◌&&◌, option_map}
 use Rattle.ss_store_rules.specs.NonNull.{Facts, both, Known, at_this_end, side_met, known_met}
 use Rattle.ss_vcgen_known.specs.Pairs.{Pair, side, alike}
 use Rattle.ss_vcgen_known.specs.Sets.{below, at}

@@ -1,10 +1,10 @@
 -- One entry of the list of sides is set.
-use Rattle.std.proofs.Common.{◌≡◌, ◌≢◌, ℕ, ◌<◌, ◌≤◌, Bool, true, false, List, [], ◌∷◌, ◌++◌, map, length, set, get_or, Option, Some, None, refl, sym, ap, subst, ◌∙◌, ⊎_elim, zero, suc}
+use Rattle.std.proofs.Common.{◌≡◌, ◌≢◌, ℕ, ◌<◌, ◌≤◌, Bool, true, false, List, [], ◌∷◌, ◌++◌, map, length, set, Option, Some, None, refl, sym, ap, subst, ◌∙◌, ⊎_elim, zero, suc}
 use Rattle.std.specs.Prelude.{◌==◌, ◌&&◌, not, if◌then◌else◌, option_map}
 use Rattle.std.specs.Bool.{beq}
 use Rattle.std.proofs.lemmas.Bool.{cases_eq, eq-eqb, ne_eqb}
 use Rattle.ss_paths.specs.Sets.{put}
-use Rattle.ss_store_rules.specs.NonNull.{Facts, Known, with_local, learned}
+use Rattle.ss_store_rules.specs.NonNull.{Facts, Known, with_local}
 use Rattle.ss_vcgen_known.specs.declared.told.Told.TheVariants as told
 use Rattle.ss_vcgen_known.specs.Pairs.{Pair, side, alike, barred}
 use Rattle.ss_vcgen_known.specs.Sets.{without, pair_without, at}

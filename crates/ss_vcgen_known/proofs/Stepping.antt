@@ -1,5 +1,5 @@
 -- Paths by their last step.
-use Rattle.std.proofs.Common.{◌≡◌, ℕ, zero, suc, ◌+◌, ◌<◌, ◌≤◌, false, List, [], ◌∷◌, length, take, get_or, sym, ap, ◌∙◌, arith}
+use Rattle.std.proofs.Common.{◌≡◌, ℕ, zero, suc, ◌+◌, ◌<◌, ◌≤◌, false, List, [], ◌∷◌, length, take, get_or, sym, ◌∙◌, arith}
 use Rattle.ss_core.specs.declared.names.Place.{Place}
 use Rattle.ss_core.specs.declared.expr.Step.{Step}
 use Rattle.ss_core.specs.Tree.{ExprTree}

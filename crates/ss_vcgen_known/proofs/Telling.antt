@@ -13,9 +13,8 @@ use Rattle.ss_vcgen_known.proofs.Forms.{link_no_local}
 use Rattle.ss_core.specs.declared.expr.Operator.{Operator}
 use Rattle.ss_core.specs.declared.expr.Operator.TheVariants as op
 use Rattle.ss_core.specs.Tree.{ExprTree, IntExpr, BoolExpr, NullExpr, LocalExpr, FieldExpr, ElementExpr, LengthExpr, NegateExpr, NotExpr, BinaryExpr, ImpliesExpr, IffExpr, IsExpr, AsExpr, CastExpr, OldExpr, QuantifiedExpr, StateExpr, OwnersExpr, DefaultExpr}
-use Rattle.ss_store_rules.specs.NonNull.{Facts, no_facts, both, Known, is_null_literal, is_local_number, compared, operation_facts, operation_tells, learned, tells, known_tested, known_right, side_facts}
+use Rattle.ss_store_rules.specs.NonNull.{Facts, both, Known, is_null_literal, is_local_number, operation_facts, operation_tells, learned, tells, known_tested, known_right, side_facts}
 use Rattle.ss_vcgen_known.specs.declared.told.Told.{Told}
-use Rattle.ss_vcgen_known.specs.declared.told.Told.TheVariants as told
 use Rattle.ss_vcgen_known.specs.Told.{local_of, not_null, told_where, told_by_operation, told_by, facts_of, all_facts, tells_of, all_tell, with_told}
 
 -- facts with the same locals are the same

@@ -1,8 +1,8 @@
 -- Lists of what is told, one by one.
-use Rattle.std.proofs.Common.{◌≡◌, ℕ, suc, ◌+◌, ◌<◌, Bool, true, false, List, [], ◌∷◌, ◌++◌, drop, length, get_or, refl, sym, ap, ◌∙◌, arith}
+use Rattle.std.proofs.Common.{◌≡◌, ℕ, suc, ◌+◌, ◌<◌, Bool, true, false, List, [], ◌∷◌, drop, length, get_or, sym, ap, ◌∙◌, arith}
 use Rattle.std.specs.Prelude.{◌||◌}
 use Rattle.std.proofs.Math.Seq.{drop-cons}
-use Rattle.ss_store_rules.specs.NonNull.{Known, both}
+use Rattle.ss_store_rules.specs.NonNull.{Known}
 use Rattle.ss_vcgen_known.specs.declared.told.Told.{Told}
 use Rattle.ss_vcgen_known.specs.declared.told.Told.TheVariants as told
 use Rattle.ss_vcgen_known.specs.Told.{facts_of, all_facts, tells_of, all_tell}

@@ -1,5 +1,5 @@
 -- Sets as functions, and lists that say a function at each number.
-use Rattle.std.specs.Prelude.{ℕ, zero, suc, List, [], ◌∷◌, ◌++◌, slice_index_or, Bool, not, nat_lt, ◌==◌, ◌&&◌, ◌||◌, if◌then◌else◌, Option, option_map}
+use Rattle.std.specs.Prelude.{ℕ, zero, suc, List, [], ◌∷◌, ◌++◌, slice_index_or, not, nat_lt, ◌==◌, ◌&&◌, ◌||◌, if◌then◌else◌, option_map}
 use Rattle.ss_store_rules.specs.NonNull.{Facts}
 use Rattle.ss_vcgen_known.specs.Pairs.{Pair}
 

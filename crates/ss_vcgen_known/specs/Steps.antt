@@ -1,5 +1,5 @@
 -- What is done to what is known, part by part.
-use Rattle.std.specs.Prelude.{ℕ, List, [], ◌∷◌, Bool, true, false, not, ◌==◌, ◌&&◌, ◌||◌, if◌then◌else◌, Option, Some, None, option_map}
+use Rattle.std.specs.Prelude.{ℕ, List, [], ◌∷◌, Bool, true, false, not, ◌==◌, ◌&&◌, ◌||◌, if◌then◌else◌, Some, None, option_map}
 use Rattle.ss_core.specs.Tree.{ExprTree}
 use Rattle.ss_store_rules.specs.Admissible.{is_this}
 use Rattle.ss_store_rules.specs.NonNull.{Facts, no_facts, Known, at_this_end, side_met, with_local}

@@ -1,7 +1,6 @@
 -- What the values of the code's types stand for.
 use Rattle.std.specs.Prelude.{ℕ, map, Bool, option_map}
 use Rattle.ss_bit_set.specs.Marked.{marked}
-use Rattle.ss_bit_set.specs.declared.bit_set.BitSet.{BitSet}
 use Rattle.ss_core.specs.View.{classes}
 use Rattle.ss_store_rules.specs.NonNull as spec
 use Rattle.ss_vcgen_known.specs.declared.site.Site.{Site}

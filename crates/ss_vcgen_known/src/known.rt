@@ -28,8 +28,8 @@ use ss_bit_set::BitSet;
 use ss_core::{Body, Callee, Core, Expr, FieldId, Stmt, Ty};
 use std::alloc::{AllocError, Global};
 
-/// What is known at a place of a body: the locals that aren't null, what follows where a local is true or false, and the fields of the
-/// `this` of a constructor that have their values.
+/// What is known at a place of a body: which locals aren't null, and what follows where a local is true or false. In a constructor also
+/// which fields of `this` have their values.
 #[derive(Drop)]
 pub struct Known {
     pub facts: BitSet,

@@ -81,8 +81,7 @@ fn tell(e: &Expr, outcome: bool, found: &mut Vec<Told>) -> Result<(), AllocError
     }
 }
 
-// The same of an operand with these links behind it: what the operand tells stands behind the mark, and the operand is this local, if it
-// is one.
+// The same of an operand with these links behind it. What the operand tells stands behind the mark. Where it is a local, it is this one.
 #[cycle(told)]
 fn tell_links(
     links: &[Link],
@@ -101,8 +100,7 @@ fn tell_links(
     Ok(())
 }
 
-// The same of an operand with one link behind it: what the operand tells stands behind the mark, and the operand is this local, if it is
-// one.
+// The same of an operand with one link behind it.
 #[cycle(told)]
 fn tell_link(
     link: &Link,

@@ -1,4 +1,4 @@
-use Rattle.std.proofs.Common.{◌≡◌, sym, ap, ◌∙◌, take}
+use Rattle.std.proofs.Common.{sym, ap, ◌∙◌, take}
 use Rattle.std.specs.Prelude.{◌&&◌}
 use Rattle.ss_core.specs.View as view
 use Rattle.ss_store_rules.specs.Locals.{everywhere}

@@ -1,4 +1,4 @@
-use Rattle.std.proofs.Common.{◌≡◌, sym, ap, ◌∙◌, take}
+use Rattle.std.proofs.Common.{sym, ap, ◌∙◌, take}
 use Rattle.std.specs.Prelude.{◌&&◌}
 use Rattle.ss_store_rules.specs.NonNull.{is_this_object}
 use Rattle.ss_vcgen_known.specs.Fronts.{chain_front}

@@ -1,4 +1,4 @@
-use Rattle.std.proofs.Common.{◌≡◌, ◌<◌, sym, ap, ◌∙◌, arith, take}
+use Rattle.std.proofs.Common.{sym, ap, ◌∙◌, arith, take}
 use Rattle.ss_core.specs.View.{expr}
 use Rattle.ss_store_rules.specs.NonNull.{is_this_object}
 use Rattle.ss_vcgen_known.specs.Fronts.{path_front}

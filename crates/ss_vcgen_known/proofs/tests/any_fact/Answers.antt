@@ -1,4 +1,4 @@
-use Rattle.std.proofs.Common.{◌≡◌, ◌+◌, ◌∙◌, sym, drop, get_or}
+use Rattle.std.proofs.Common.{◌+◌, ◌∙◌, sym, drop, get_or}
 use Rattle.std.proofs.lemmas.List.{drop_more}
 use Rattle.std.proofs.Math.ListN.{drop_of_length-le}
 use Rattle.ss_vcgen_known.specs.Views.{known_of, tested}

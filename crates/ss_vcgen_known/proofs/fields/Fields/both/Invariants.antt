@@ -1,4 +1,4 @@
-use Rattle.std.proofs.Common.{◌≡◌, Bool, ℕ}
+use Rattle.std.proofs.Common.{◌≡◌}
 use Rattle.std.specs.Prelude.{◌&&◌}
 use Rattle.ss_vcgen_known.specs.Sets.{below}
 use Rattle.ss_vcgen_known.specs.Views.{fields_of}

@@ -2,7 +2,7 @@ use Rattle.std.proofs.Common.{◌≡◌, Bool, true, false, List, sym, ap, ◌�
 use Rattle.ss_bit_set.specs.Marked.{marked}
 use Rattle.ss_core.specs.View as view
 use Rattle.ss_core.specs.declared.names.Ty.{Ty}
-use Rattle.ss_store_rules.specs.NonNull.{Facts, Known, Site, site_of, is_never_null, learned}
+use Rattle.ss_store_rules.specs.NonNull.{Facts, Known, site_of, is_never_null, learned}
 use Rattle.ss_vcgen_known.specs.declared.tests.Tests.{Tests}
 use Rattle.ss_vcgen_known.specs.declared.tests.Tests.TheFolds.{fold-roll-Tests}
 use Rattle.ss_vcgen_known.specs.declared.tests.Tests.TheOpen as shape

@@ -1,7 +1,6 @@
-use Rattle.std.proofs.Common.{Bool, ap, sym, ◌∙◌}
-use Rattle.std.specs.Prelude.{not}
+use Rattle.std.proofs.Common.{ap, sym, ◌∙◌}
 use Rattle.ss_bit_set.specs.Marked.{marked}
-use Rattle.ss_vcgen_known.specs.Pairs.{side, alike, barred}
+use Rattle.ss_vcgen_known.specs.Pairs.{side, alike}
 use Rattle.ss_vcgen_known.specs.Steps.{barred_by}
 use Rattle.ss_vcgen_known.specs.Views.{pair_of, fields_of, known_of}
 use Rattle.ss_vcgen_known.proofs.Listing.{at_pair}
