@@ -42,7 +42,9 @@ pub(crate) fn fact(
         Line::Part { of, part: j } => Ok(part(bank, known, *of, *j)),
         Line::Inst { of, terms } => inst(alloc, bank, classes, known, *of, terms),
         Line::Choose { formula, constants } => {
-            choose(alloc, bank, classes, premises, goal, known, *formula, constants)
+            choose(
+                alloc, bank, classes, premises, goal, known, *formula, constants,
+            )
         }
         Line::Rule { name, arguments } => rule(alloc, bank, classes, *name, arguments),
         Line::Good {
