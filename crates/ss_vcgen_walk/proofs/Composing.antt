@@ -10,7 +10,7 @@ use Rattle.ss_terms_stores.specs.Forms.{Forms, formula_at, IsGrown}
 use Rattle.ss_terms_stores.proofs.Grown.{IsGrown-then}
 use Rattle.ss_vcgen_express.specs.declared.meant.Meant.{Meant}
 use Rattle.ss_vcgen_express.specs.declared.scene.Scene.{Scene}
-use Rattle.ss_vcgen_express.specs.Marked.{Marked, marked_part, with_marked, marked_operation, formulas_of}
+use Rattle.ss_vcgen_express.specs.Marked.{Marked, marked_part, with_marked}
 use Rattle.ss_vcgen_express.specs.Numbers.{meant_at, IsFormula, IsMeant}
 use Rattle.ss_vcgen_express.specs.Scenes.{scene_at}
 use Rattle.ss_vcgen_walk.specs.declared.parts.Part.{Part}

@@ -6,7 +6,7 @@ use Rattle.ss_core.specs.declared.names.Kind.TheVariants as kind
 use Rattle.ss_logic_stores.specs.Terms.{Bound}
 use Rattle.ss_logic_express.specs.Express as spec
 use Rattle.ss_terms_stores.specs.declared.forms.TermId.{TermId}
-use Rattle.ss_terms_stores.specs.Forms.{Forms, term_at, formula_at, HasTerm, HasTerms, HasFormula, IsGrown}
+use Rattle.ss_terms_stores.specs.Forms.{Forms, term_at, HasTerm, HasTerms, HasFormula, IsGrown}
 use Rattle.ss_terms_stores.proofs.Grown.{HasFormula-grown}
 use Rattle.ss_vcgen_walk.specs.declared.parts.Part.{Part}
 use Rattle.ss_vcgen_express.specs.declared.scene.Scene.{Scene}

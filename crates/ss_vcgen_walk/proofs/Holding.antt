@@ -14,7 +14,7 @@ use Rattle.ss_terms_stores.proofs.Grown.{IsGrown-then, HasFormulas-grown}
 use Rattle.ss_vcgen_express.specs.declared.meant.Meant.{Meant}
 use Rattle.ss_vcgen_express.specs.declared.scene.Scene.{Scene}
 use Rattle.ss_vcgen_express.specs.Marked.{Marked, marked, formulas_of}
-use Rattle.ss_vcgen_express.specs.Numbers.{meant_at, IsFormula, AreFormulas}
+use Rattle.ss_vcgen_express.specs.Numbers.{IsFormula, AreFormulas}
 use Rattle.ss_vcgen_express.specs.Scenes.{scene_at}
 use Rattle.ss_vcgen_express.proofs.Grown.{HasFormulas-push}
 use Rattle.ss_vcgen_express.proofs.Marking.{marked_are_defined}

@@ -1,11 +1,10 @@
 -- Readings of expressions, form by form.
-use Rattle.std.proofs.Common.{◌≡◌, ℕ, List, [], ◌++◌, map, Bool, Bor, true, not, refl, sym, ◌∙◌, ap, subst, append_assoc, Result, Ok, Err}
+use Rattle.std.proofs.Common.{◌≡◌, ℕ, List, [], ◌++◌, map, Bool, Bor, not, refl, sym, ◌∙◌, ap, subst, append_assoc, Result, Ok, Err}
 use Rattle.std.specs.Prelude.{IfOk, if◌then◌else◌}
 use Rattle.std.proofs.lemmas.List.{append-nil}
 use Rattle.ss_core.specs.declared.names.ClassId.{ClassId}
 use Rattle.ss_core.specs.declared.names.FieldId.{FieldId}
 use Rattle.ss_core.specs.declared.names.Place.{Place}
-use Rattle.ss_core.specs.declared.names.Ty.{Ty}
 use Rattle.ss_core.specs.declared.names.Kind.TheVariants as kind
 use Rattle.ss_core.specs.declared.expr.Quantifier.{Quantifier}
 use Rattle.ss_core.specs.declared.expr.Operator.{Operator}
@@ -82,7 +81,7 @@ module _ {E : Type 0} (r : Result Meant E) (s : Sight) (sc : Scene) (a c : Forms
   -- a form with a second operand e, which is read where this is known
   abbrev Second : Two → ExprTree → rules.Known → Type 0
   Second form e k = IfOk r (λ n. Expressed c n qs (λ b. two_meant form (scene_at b sc) (meant_at b m) (spec.meant e (scene_at b sc)))
-    (λ b. two_asks form (parts_at b ps) (marked e (site_at s) k (scene_at b sc)) (scene_at b sc) (meant_at b m) (spec.meant e (scene_at b sc))))
+      (λ b. two_asks form (parts_at b ps) (marked e (site_at s) k (scene_at b sc)) (scene_at b sc) (meant_at b m) (spec.meant e (scene_at b sc))))
 
   pub two_behind : (form : Two) (e : ExprTree) (k : rules.Known) → Second form e k →
       IfOk r (λ n. Expressed c n qs (λ b. two_meant form (scene_at b sc) (spec.meant t (scene_at b sc)) (spec.meant e (scene_at b sc)))

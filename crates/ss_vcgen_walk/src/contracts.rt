@@ -11,9 +11,9 @@ ghost use Rattle.ss_vcgen_heaps.specs.Contracts as heaps;
 ghost use Rattle.ss_vcgen_walk.specs.Parts.{parts_at, HasParts};
 ghost use Rattle.ss_vcgen_walk.specs.Reading.{Defines};
 
-use crate::walk::express;
 use crate::parts::Part;
 use crate::sight::Sight;
+use crate::walk::express;
 use ss_bit_set::BitSet;
 use ss_core::Expr;
 use ss_terms_stores::{Bank, FormulaId};

@@ -44,8 +44,8 @@ use ss_vcgen_express::{
     Meant, Saying, Scene, local_term, out_of_range, quantified, said,
 };
 use ss_vcgen_known::{
-    Site, Tests, element_of, is_bool, is_never_null, link_type, path_never_null, step_type, told_on_right,
-    type_of,
+    Site, Tests, element_of, is_bool, is_never_null, link_type, path_never_null, step_type,
+    told_on_right, type_of,
 };
 use std::alloc::{AllocError, Global};
 
@@ -113,7 +113,14 @@ fn front_may_be_null(sight: &Sight<'_>, scene: &Scene<'_>, first: &Expr, steps: 
     requires { IsSight sight.now }
     ensures { (p : PlaceValue) → result ≡ not (rules.is_never_null (site_at sight.now) (known_at sight.now) scene.entry.now.inside_old (path_front p (expr first.now) steps.now)) }
 {
-    !path_never_null(sight.site, sight.known, sight.tests, scene.inside_old, first, steps)
+    !path_never_null(
+        sight.site,
+        sight.known,
+        sight.tests,
+        scene.inside_old,
+        first,
+        steps,
+    )
 }
 
 // A value of the type is one of the class without a check.
@@ -334,7 +341,9 @@ pub fn express(
         }
         Expr::Not(_, a) => one(alloc, bank, sight, scene, parts, a, Single::Not),
         Expr::Cast(place, class, non_null, a) => {
-            cast(alloc, bank, sight, scene, parts, a, *place, *class, *non_null)
+            cast(
+                alloc, bank, sight, scene, parts, a, *place, *class, *non_null,
+            )
         }
         Expr::Path(place, first, steps) => {
             let m = express(alloc, bank, sight, scene, parts, first)?;
@@ -621,7 +630,9 @@ fn cast(
     ensures grown { IsGrown bank.old bank.new }
 {
     let m = express(alloc, bank, sight, scene, parts, e)?;
-    ask_cast(alloc, bank, sight, scene, parts, place, class, non_null, e, &m)?;
+    ask_cast(
+        alloc, bank, sight, scene, parts, place, class, non_null, e, &m,
+    )?;
     Ok(m)
 }
 

@@ -1,4 +1,3 @@
-use Rattle.ss_core.specs.declared.expr.Expr.{Expr}
 use Rattle.ss_core.specs.Tree.{ExprTree}
 use Rattle.ss_logic_express.specs.Express as spec
 use Rattle.ss_terms_stores.specs.Forms.{Forms}

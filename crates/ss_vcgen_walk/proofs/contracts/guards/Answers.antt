@@ -1,4 +1,4 @@
-use Rattle.std.proofs.Common.{[], ◌∷◌, ◌++◌, ap, ◌∙◌}
+use Rattle.std.proofs.Common.{ap, ◌∙◌}
 use Rattle.std.proofs.lemmas.List.{map_push}
 use Rattle.ss_logic_express.specs.Express as spec
 use Rattle.ss_terms_stores.specs.Forms.{Forms, formula_at, formulas_at}

@@ -1,12 +1,11 @@
 use mir.Syntax.{w32}
 use mir.Val.{SFits}
 use Rattle.std.proofs.lemmas.Int.{to_z-of_z}
-use Rattle.std.proofs.Common.{◌≡◌, rules, refl, sym, ap, subst, ◌∙◌, ◌+◌, ◌∷◌, [], ◌++◌, map, take, List}
+use Rattle.std.proofs.Common.{◌≡◌, rules, refl, sym, ap, subst, ◌∙◌, ◌+◌, take, List}
 use Rattle.std.specs.Prelude.{IfOk}
 use Rattle.std.specs.Prelude.{string_bytes}
 use Rattle.ss_core.specs.declared.names.Ty.{Ty}
 use Rattle.ss_core.specs.declared.expr.Expr.{the_lemmas}
-use Rattle.ss_logic_rules.specs.Shapes.{number}
 use Rattle.ss_core.specs.Tree.{IntExpr, BoolExpr, NullExpr, LocalExpr, DefaultExpr, NegateExpr, NotExpr, ImpliesExpr, IffExpr, CastExpr, OldExpr, QuantifiedExpr, StateExpr, OwnersExpr, BinaryExpr, IsExpr, AsExpr, FieldExpr, ElementExpr, LengthExpr}
 use Rattle.ss_core.specs.View.{expr, classes, default_tree, owners_tree, word_tree}
 use Rattle.ss_store_rules.specs.NonNull.{Known, known_right}
@@ -14,19 +13,19 @@ use Rattle.ss_store_rules.specs.Types.{type_of, is_bool, element_of}
 use Rattle.ss_logic_express.specs.Express as spec
 use Rattle.ss_terms_stores.specs.declared.forms.FormulaId.{FormulaId}
 use Rattle.ss_terms_stores.specs.Forms.{Forms}
-use Rattle.ss_terms_stores.proofs.Grown.{IsGrown-refl, IsGrown-then, HasFormulas-grown}
+use Rattle.ss_terms_stores.proofs.Grown.{IsGrown-then, HasFormulas-grown}
 use Rattle.ss_vcgen_known.specs.Fronts.{chain_front, path_front, link_behind, step_behind}
 use Rattle.ss_vcgen_known.specs.Views.{known_of}
 use Rattle.ss_vcgen_known.proofs.Grouping.{operation_is, is_is, as_is, field_is, element_is, length_is, front_next, path_next, front_whole, path_whole}
 use Rattle.ss_vcgen_express.specs.Marked.{marked}
-use Rattle.ss_vcgen_express.specs.Numbers.{meant_at, AreFormulas, IsMeant}
+use Rattle.ss_vcgen_express.specs.Numbers.{meant_at, AreFormulas}
 use Rattle.ss_vcgen_express.specs.Scenes.{scene_at}
 use Rattle.ss_vcgen_express.proofs.Grown.{HasMeant-grown}
 use Rattle.ss_vcgen_express.proofs.Scenes.{HasScene-grown}
 use Rattle.ss_vcgen_walk.specs.declared.singles.Single.TheVariants as single
 use Rattle.ss_vcgen_walk.specs.declared.twos.Two.TheVariants as two
 use Rattle.ss_vcgen_walk.specs.declared.parts.Part.{Part}
-use Rattle.ss_vcgen_walk.specs.Forms.{single_meant, single_asks, two_meant, two_asks}
+use Rattle.ss_vcgen_walk.specs.Forms.{two_asks}
 use Rattle.ss_vcgen_walk.specs.Parts.{parts_at, HasParts}
 use Rattle.ss_vcgen_walk.specs.Reading.{Expressed}
 use Rattle.ss_vcgen_walk.specs.Sights.{site_at, known_at, Reads}
