@@ -1,5 +1,5 @@
 -- Scenes at positions, and the checks of parts, one after the other.
-use Rattle.std.proofs.Common.{◌≡◌, ℕ, zero, suc, ◌+◌, ◌<◌, List, [], ◌∷◌, length, map, drop, get_or, refl, sym, subst, ◌≤◌, ◌∙◌, ap, arith, Bool, true, false, Option, Some, None}
+use Rattle.std.proofs.Common.{◌≡◌, ℕ, zero, suc, ◌+◌, ◌<◌, List, [], ◌∷◌, length, map, drop, ◌++◌, get_or, refl, sym, subst, ◌≤◌, ◌∙◌, ap, arith, Bool, true, false, Option, Some, None}
 use Rattle.std.specs.Prelude.{if◌then◌else◌}
 use Rattle.std.proofs.lemmas.List.{drop_more}
 use Rattle.ss_core.specs.declared.class.Classes.{Classes}
@@ -9,12 +9,13 @@ use Rattle.ss_core.specs.Tree.{ClassTree, ExprTree}
 use Rattle.ss_core.specs.Chain.{most_classes}
 use Rattle.ss_core.specs.View as view
 use Rattle.ss_store_rules.specs.Locals.{local_types}
+use Rattle.ss_store_rules.specs.NonNull as rules
 use Rattle.ss_logic_stores.specs.Terms as tree
 use Rattle.ss_logic_rules.specs.Shapes.{null_term}
 use Rattle.ss_logic_express.specs.Express as spec
 use Rattle.ss_terms_stores.specs.declared.forms.TermId.{TermId}
 use Rattle.ss_terms_stores.specs.Forms.{Forms, term_at, HasTerm, HasTerms, HasFormula, IsGrown}
-use Rattle.ss_terms_stores.proofs.Grown.{HasTerm-grown, IsGrown-then}
+use Rattle.ss_terms_stores.proofs.Grown.{HasTerm-grown, IsGrown-refl, IsGrown-then}
 use Rattle.ss_vcgen_heaps.specs.Parts as heaps
 use Rattle.ss_vcgen_heaps.specs.Positions as positions
 use Rattle.ss_vcgen_heaps.specs.Positions.{Position}
@@ -26,7 +27,9 @@ use Rattle.ss_vcgen_express.specs.Scenes as scenes
 use Rattle.ss_vcgen_express.proofs.Grown.{HasMeant-grown}
 use Rattle.ss_vcgen_express.proofs.Marking.{checked_are_parts}
 use Rattle.ss_vcgen_walk.specs.declared.parts.Part.{Part}
+use Rattle.ss_vcgen_known.specs.Views.{known_of}
 use Rattle.ss_vcgen_walk.specs.Parts.{parts_at, HasParts, AreParts}
+use Rattle.ss_vcgen_walk.specs.Reading.{Expressed}
 use Rattle.ss_vcgen_builder.specs.declared.builder.Builder.{Builder}
 use Rattle.ss_vcgen_builder.specs.declared.builder.Walk.{Walk}
 use Rattle.ss_vcgen_builder.specs.Builder.{locals_at, position_at, walk_at, HasLocals, IsFine, IsWalk, Becomes}
@@ -70,6 +73,9 @@ scene_stands s w a c null fine walk g has is classes now entry inside types loca
       ∙ ap (λ x. scene_from (view.classes w.core.now.classes) (term_at b s.store) (term_at b w.entry) false (local_types (view.body w.body.now)) x c.bound) (or_else_meant b null s.locals.items (k.same_terms null has ∙ is))
       ∙ ap (λ x. scene_from (view.classes w.core.now.classes) (term_at b s.store) (term_at b w.entry) false (local_types (view.body w.body.now)) (map positions.meant_of (locals_at b s.locals.items)) x) bound;
 }
+
+abbrev pub site_from : List ClassTree → List Ty → Bool → rules.Site
+site_from cs ts f = record { classes = cs; locals = ts; constructs = f }
 
 -- ---- expressions, one after the other
 
@@ -123,3 +129,26 @@ evaluated_becomes s t u w e ps p is q =
     (λ b k.
     ap (λ ms. positions.check_parts (walk_at b w) (checked_of ms) (position_at b s)) (is.are b (IsGrown-then t.bank u.bank b q.grown k))
     ∙ ap (λ qs. positions.check_parts (walk_at b w) qs (position_at b s)) (checked_are_parts (positions.site (walk_at b w)) e (position_at b s).known (positions.scene_at (walk_at b w) (position_at b s))))
+
+-- ---- what the walk over an expression gives at a position
+
+-- what the walk gives in the scene, from where the builder is
+abbrev pub Walked : Builder → Walk → Forms → Scene → Meant → List Part → List Part → ExprTree → Type 0
+Walked t w d c m ps before e =
+    Expressed d m ps (λ b. spec.meant e (scenes.scene_at b c)) (λ b. parts_at b before ++ marked e (site_from (view.classes w.core.now.classes) w.types.now (view.body w.body.now).flags.ctor) (known_of t.known) (scenes.scene_at b c))
+
+module _ (s t : Builder) (w : Walk) (d : Forms) (c : Scene) (m : Meant) (ps before : List Part) (e : ExprTree) where
+  pub walked_meant : StandsFor t.bank c (λ b. positions.scene_at (walk_at b w) (position_at b s)) → IsGrown t.bank d → Walked t w d c m ps before e → IsMeant d m (λ b. positions.meant_at (walk_at b w) e (position_at b s))
+  walked_meant at g r = record { has = r.meant.has; is = λ b k. r.meant.is b k ∙ ap (spec.meant e) (at.is b (IsGrown-then t.bank d b g k)) }
+
+  pub walked_parts : w.types.now ≡ local_types (view.body w.body.now) → Becomes s t (λ b. position_at b s) → StandsFor t.bank c (λ b. positions.scene_at (walk_at b w) (position_at b s)) → IsGrown t.bank d → before ≡ [] →
+      Walked t w d c m ps before e → AreParts d ps (λ b. marked e (positions.site (walk_at b w)) (position_at b s).known (positions.scene_at (walk_at b w) (position_at b s)))
+  walked_parts types p at g none r = record {
+    has = r.parts.has;
+    are = λ b k.
+        r.parts.are b k
+        ∙ ap (λ (qs : List Part). parts_at b qs ++ marked e (site_from (view.classes w.core.now.classes) w.types.now (view.body w.body.now).flags.ctor) (known_of t.known) (scenes.scene_at b c)) none
+        ∙ ap (λ ts. marked e (site_from (view.classes w.core.now.classes) ts (view.body w.body.now).flags.ctor) (known_of t.known) (scenes.scene_at b c)) types
+        ∙ ap (λ (x : Position). marked e (positions.site (walk_at b w)) x.known (scenes.scene_at b c)) (p.is t.bank (IsGrown-refl t.bank))
+        ∙ ap (marked e (positions.site (walk_at b w)) (known_of s.known)) (at.is b (IsGrown-then t.bank d b g k));
+  }

@@ -14,7 +14,8 @@ use ss_core::Expr;
 use ss_terms_stores::FormulaId;
 use ss_vcgen_builder::{Builder, Walk};
 use ss_vcgen_express::Meant;
-use ss_vcgen_walk::{Part, holds};
+use ss_vcgen_known::{Site, Tests};
+use ss_vcgen_walk::{Part, Sight, express, holds};
 use std::alloc::AllocError;
 
 // A part is checked, unless it holds by the types.
@@ -56,11 +57,18 @@ fn expressed(
     ensures parts { IfOk result (λ m. AreParts builder.new.bank parts.new.items (λ b. marked (expr e.now) (positions.site (walk_at b walk.now)) (position_at b builder.old).known (positions.scene_at (walk_at b walk.now) (position_at b builder.old)))) }
     ensures stays { IfOk result (λ m. Becomes builder.old builder.new (λ b. position_at b builder.old)) }
 {
-    let _builder = builder;
-    let _walk = walk;
-    let _parts = parts;
-    let _e = e;
-    Err(AllocError)
+    let scene = scene(builder, walk)?;
+    let tests = Tests::Nothing;
+    let sight = Sight {
+        site: Site {
+            classes: &walk.core.classes,
+            types: walk.types,
+            constructs: walk.body.flags.ctor,
+        },
+        known: &builder.known,
+        tests: &tests,
+    };
+    express(builder.alloc, &mut builder.bank, &sight, &scene, parts, e)
 }
 
 /// What an expression means at the position; nothing is checked.
