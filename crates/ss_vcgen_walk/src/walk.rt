@@ -40,9 +40,7 @@ use ss_core::{
 use ss_logic_stores::Sort;
 use ss_terms_stores::{Bank, FormulaId, Symbol};
 use ss_vcgen_defaults::default_said;
-use ss_vcgen_express::{
-    Meant, Saying, Scene, local_term, out_of_range, quantified, said,
-};
+use ss_vcgen_express::{Meant, Saying, Scene, local_term, out_of_range, quantified, said};
 use ss_vcgen_known::{
     Site, Tests, element_of, is_bool, is_never_null, link_type, path_never_null, step_type,
     told_on_right, type_of,
