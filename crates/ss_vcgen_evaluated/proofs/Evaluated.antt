@@ -27,7 +27,10 @@ use Rattle.ss_vcgen_express.specs.Scenes as scenes
 use Rattle.ss_vcgen_express.proofs.Grown.{HasMeant-grown}
 use Rattle.ss_vcgen_express.proofs.Marking.{checked_are_parts}
 use Rattle.ss_vcgen_walk.specs.declared.parts.Part.{Part}
-use Rattle.ss_vcgen_known.specs.Views.{known_of}
+use Rattle.ss_vcgen_known.specs.declared.tests.Tests.TheVariants as tests
+use Rattle.ss_vcgen_known.specs.declared.tests.Tests.TheOpen as shape
+use Rattle.ss_vcgen_known.specs.declared.tests.Tests.TheFolds.{fold-roll-Tests}
+use Rattle.ss_vcgen_known.specs.Views.{known_of, tested, tests_step}
 use Rattle.ss_vcgen_walk.specs.Parts.{parts_at, HasParts, AreParts}
 use Rattle.ss_vcgen_walk.specs.Reading.{Expressed}
 use Rattle.ss_vcgen_builder.specs.declared.builder.Builder.{Builder}
@@ -135,7 +138,11 @@ evaluated_becomes s t u w e ps p is q =
 -- what the walk gives in the scene, from where the builder is
 abbrev pub Walked : Builder → Walk → Forms → Scene → Meant → List Part → List Part → ExprTree → Type 0
 Walked t w d c m ps before e =
-    Expressed d m ps (λ b. spec.meant e (scenes.scene_at b c)) (λ b. parts_at b before ++ marked e (site_from (view.classes w.core.now.classes) w.types.now (view.body w.body.now).flags.ctor) (known_of t.known) (scenes.scene_at b c))
+    Expressed d m ps (λ b. spec.meant e (scenes.scene_at b c)) (λ b. parts_at b before ++ marked e (site_from (view.classes w.core.now.classes) w.types.now (view.body w.body.now).flags.ctor) (tested tests.Nothing (known_of t.known)) (scenes.scene_at b c))
+
+-- with no tests it is what is known
+pub tested_nothing : (k : rules.Known) → tested tests.Nothing k ≡ k
+tested_nothing k = ap (λ x. tested x k) (sym tests.rolls-Nothing) ∙ ap (λ (f : rules.Known → rules.Known). f k) (fold-roll-Tests (rules.Known → rules.Known) tests_step shape.Nothing)
 
 module _ (s t : Builder) (w : Walk) (d : Forms) (c : Scene) (m : Meant) (ps before : List Part) (e : ExprTree) where
   pub walked_meant : StandsFor t.bank c (λ b. positions.scene_at (walk_at b w) (position_at b s)) → IsGrown t.bank d → Walked t w d c m ps before e → IsMeant d m (λ b. positions.meant_at (walk_at b w) e (position_at b s))
@@ -147,8 +154,9 @@ module _ (s t : Builder) (w : Walk) (d : Forms) (c : Scene) (m : Meant) (ps befo
     has = r.parts.has;
     are = λ b k.
         r.parts.are b k
-        ∙ ap (λ (qs : List Part). parts_at b qs ++ marked e (site_from (view.classes w.core.now.classes) w.types.now (view.body w.body.now).flags.ctor) (known_of t.known) (scenes.scene_at b c)) none
-        ∙ ap (λ ts. marked e (site_from (view.classes w.core.now.classes) ts (view.body w.body.now).flags.ctor) (known_of t.known) (scenes.scene_at b c)) types
+        ∙ ap (λ (qs : List Part). parts_at b qs ++ marked e (site_from (view.classes w.core.now.classes) w.types.now (view.body w.body.now).flags.ctor) (tested tests.Nothing (known_of t.known)) (scenes.scene_at b c)) none
+        ∙ ap (λ ts. marked e (site_from (view.classes w.core.now.classes) ts (view.body w.body.now).flags.ctor) (tested tests.Nothing (known_of t.known)) (scenes.scene_at b c)) types
+        ∙ ap (λ k. marked e (positions.site (walk_at b w)) k (scenes.scene_at b c)) (tested_nothing (known_of t.known))
         ∙ ap (λ (x : Position). marked e (positions.site (walk_at b w)) x.known (scenes.scene_at b c)) (p.is t.bank (IsGrown-refl t.bank))
         ∙ ap (marked e (positions.site (walk_at b w)) (known_of s.known)) (at.is b (IsGrown-then t.bank d b g k));
   }
