@@ -5,7 +5,9 @@ ghost use Rattle.std.specs.List.{list_all};
 ghost use Rattle.ss_core.specs.View as view;
 ghost use Rattle.ss_core.specs.Chain.{IsWithinLimits};
 
-use ss_core::{Class, ClassId, Classes, Field, Mark, Ty};
+use ss_core::{
+    Class, ClassId, Classes, Expr, Field, FieldId, Link, Mark, Operator, Place, Step, Ty,
+};
 use std::alloc::{AllocError, Global};
 
 fn reference(class: u16, non_null: bool) -> Ty {
@@ -22,6 +24,7 @@ fn add(
     above: u16,
     also: &[ClassId],
     fields: &[(Ty, Mark)],
+    invariants: Vec<Expr>,
 ) -> Result<(), AllocError> {
     let mut declared = Vec::new(alloc);
     for (ty, mark) in fields {
@@ -37,13 +40,24 @@ fn add(
         above: ClassId(above),
         also,
         fields: declared,
-        invariants: Vec::new(alloc),
+        invariants,
         table: Vec::new(alloc),
     })?;
     Ok(())
 }
 
-// Class 4, a node: 0 `int`, 1 `bool`, 2 `[Rep]` a node, 3 `[Peer]` a node that isn't null, 4 a leaf.
+// `0 <= this.f`, of field 0
+fn not_negative(alloc: Global) -> Result<Expr, AllocError> {
+    let place = Place { line: 1, column: 1 };
+    let zero = Box::new(alloc, Expr::Int(place, 0))?;
+    let this = Box::new(alloc, Expr::Local(place, 0))?;
+    let steps = vec![in alloc; Step::Field(FieldId(0))]?;
+    let field = Expr::Path(place, this, steps);
+    let links = vec![in alloc; Link::Operation(Operator::LessEqual, field)]?;
+    Ok(Expr::Chain(place, zero, links))
+}
+
+// Class 4, a node: 0 `int`, 1 `bool`, 2 `[Rep]` a node, 3 `[Peer]` a node that isn't null, 4 a leaf. Its number isn't negative.
 // Class 6, a leaf, below it: 5 `[Rep] object[]`, which isn't null. Class 8 has no field. An object of class 10 counts as 8 too.
 fn fill(alloc: Global, list: &mut Vec<Class>) -> Result<(), AllocError> {
     let node = [
@@ -53,10 +67,13 @@ fn fill(alloc: Global, list: &mut Vec<Class>) -> Result<(), AllocError> {
         (reference(4, true), Mark::Peer),
         (reference(6, false), Mark::Plain),
     ];
-    add(alloc, list, 0, &[], &node)?;
-    add(alloc, list, 4, &[], &[(reference(3, true), Mark::Rep)])?;
-    add(alloc, list, 0, &[], &[])?;
-    add(alloc, list, 0, &[ClassId(8)], &[])
+    let lowest = not_negative(alloc)?;
+    let invariants = vec![in alloc; lowest]?;
+    add(alloc, list, 0, &[], &node, invariants)?;
+    let array = [(reference(3, true), Mark::Rep)];
+    add(alloc, list, 4, &[], &array, Vec::new(alloc))?;
+    add(alloc, list, 0, &[], &[], Vec::new(alloc))?;
+    add(alloc, list, 0, &[ClassId(8)], &[], Vec::new(alloc))
 }
 
 /// The classes.

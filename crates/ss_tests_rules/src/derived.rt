@@ -441,6 +441,29 @@ clash 4 7
 end
 accepted
 
+# an invariant of an object that is packed at the class
+given (good s0)
+given (alloc s0 x0)
+given (sub (inv s0 x0) c4)
+goal (<= 0 (field s0 x0 f0))
+obligation 0
+premise 0
+premise 1
+premise 2
+denied
+good g1 0 x0 c4
+split 4 3
+case
+clash 1 5
+case
+clash 2 5
+case
+part 5 0
+part 6 1
+clash 7 3
+end
+accepted
+
 # equalities in either direction
 given (= x0 x1)
 given (= x2 x1)
@@ -601,6 +624,126 @@ denied
 clash 1 1
 end
 refused 1
+
+# an object that isn't known to be packed has no invariant
+given (good s0)
+given (alloc s0 x0)
+goal (<= 0 (field s0 x0 f0))
+obligation 0
+premise 0
+premise 1
+denied
+good g1 0 x0 c4
+split 3 3
+case
+clash 1 4
+case
+clash 4 2
+case
+clash 4 2
+end
+refused 9
+
+# nor has one at the level above
+given (good s0)
+given (alloc s0 x0)
+given (= (inv s0 x0) c0)
+goal (<= 0 (field s0 x0 f0))
+obligation 0
+premise 0
+premise 1
+premise 2
+denied
+good g1 0 x0 c4
+split 4 3
+case
+clash 1 5
+case
+clash 2 5
+case
+part 5 0
+part 6 1
+clash 7 3
+end
+refused 10
+
+# an invariant of the class above isn't one of the class
+given (good s0)
+given (alloc s0 x0)
+given (sub (inv s0 x0) c6)
+goal (<= 0 (field s0 x0 f0))
+obligation 0
+premise 0
+premise 1
+premise 2
+denied
+good g1 0 x0 c6
+split 4 3
+case
+clash 1 5
+case
+clash 2 5
+case
+part 5 0
+clash 6 3
+end
+refused 12
+
+# no store is known to be good
+given (good s0)
+given (alloc s0 x0)
+goal (= x0 x0)
+obligation 0
+premise 1
+good g1 0 x0 c4
+denied
+clash 2 2
+end
+refused 2
+
+# an object without a class
+given (good s0)
+goal (= x0 x0)
+obligation 0
+premise 0
+good g1 0 x0
+denied
+clash 2 2
+end
+refused 2
+
+# an object and two classes
+given (good s0)
+goal (= x0 x0)
+obligation 0
+premise 0
+good g1 0 x0 c4 c4
+denied
+clash 2 2
+end
+refused 2
+
+# a class that isn't a name
+given (good s0)
+goal (= x0 x0)
+obligation 0
+premise 0
+good g1 0 x0 (type x0)
+denied
+clash 2 2
+end
+refused 2
+
+# a number for an object
+given (good s0)
+goal (= x0 x0)
+obligation 0
+premise 0
+good g1 0 i0 c4
+denied
+clash 2 2
+end
+refused 2
 
 # one equality for two
 given (= x0 x1)

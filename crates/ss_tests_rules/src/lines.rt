@@ -192,14 +192,24 @@ fn good_of(
     let [i, rest @ ..] = ts else {
         return Ok(None);
     };
+    let Some(store) = number(bank, *i) else {
+        return Ok(None);
+    };
     let arguments = Vec::from_slice(alloc, rest)?;
-    match (good_rule(name), number(bank, *i)) {
-        (Some(name), Some(store)) => Ok(Some(Line::Good {
+    Ok(good_line(name, store, arguments))
+}
+
+fn good_line(name: &str, store: usize, arguments: Vec<TermId>) -> Option<Line> {
+    if name == "g1" {
+        return Some(Line::Invariants { store, arguments });
+    }
+    match good_rule(name) {
+        Some(name) => Some(Line::Good {
             name,
             store,
             arguments,
-        })),
-        _ => Ok(None),
+        }),
+        None => None,
     }
 }
 
