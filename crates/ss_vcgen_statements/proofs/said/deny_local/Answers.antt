@@ -1,0 +1,9 @@
+use Rattle.ss_terms_stores.specs.Forms.{term_at}
+use Rattle.ss_vcgen_builder.specs.Builder.{position_at}
+use Rattle.ss_vcgen_statements.proofs.Steps.{negated}
+use Rattle.ss_vcgen_express.specs.Sayings.{said_so}
+use Rattle.ss_vcgen_heaps.specs.Positions.{local_term}
+use Rattle.ss_vcgen_statements.proofs.said.deny_local.Goals as goal
+
+pub returns-clause-at : goal.returns-clause-at
+returns-clause-at c = negated c.say_local.new.builder.bank c.in_ok-f.f c.negation.result (λ b. said_so (term_at b) c.args.saying (local_term c.args.x (position_at b c.args.builder.now))) c.in_ok-f.ensures.at c.negation.ensures.in_bank c.negation.ensures.negation

@@ -1,0 +1,42 @@
+use Rattle.std.proofs.Common.{[], ◌∷◌}
+use Rattle.ss_terms_stores.specs.Forms.{Forms, term_at}
+use Rattle.ss_vcgen_builder.specs.Builder.{position_at, walk_at}
+use Rattle.ss_vcgen_builder.proofs.Builds.{IsWalk-grown}
+use Rattle.ss_vcgen_statements.proofs.Steps.{then, then_term, term_later}
+use Rattle.ss_core.specs.View.{expr}
+use Rattle.ss_logic_stores.specs.Terms.{Put, app}
+use Rattle.ss_vcgen_heaps.specs.Positions.{with_store}
+use Rattle.ss_vcgen_statements.specs.Words.{checked_element}
+use Rattle.ss_vcgen_statements.proofs.writes.write_element.Goals as goal
+
+pub check_element-requires-clause-walk : goal.check_element-requires-clause-walk
+check_element-requires-clause-walk c =
+    let s = c.args.builder.now in
+    let w = λ (b : Forms). walk_at b c.args.walk.now in
+    let F0 = λ (b : Forms). position_at b s in
+    let t1 = c.applied.new.builder in
+    let e1 = c.in_ok-written.ensures.stays in
+    let g1 = e1.grown in
+    let p1 = e1 in
+    IsWalk-grown s.bank t1.bank g1 c.args.walk.now c.requires.walk
+
+pub returns : goal.returns
+returns c =
+    let s = c.args.builder.now in
+    let w = λ (b : Forms). walk_at b c.args.walk.now in
+    let F0 = λ (b : Forms). position_at b s in
+    let t1 = c.applied.new.builder in
+    let e1 = c.in_ok-written.ensures.stays in
+    let g1 = e1.grown in
+    let p1 = e1 in
+    let t2 = c.check_element.new.builder in
+    let e2 = c.in_ok-check_element.ensures in
+    let g2 = e2.grown in
+    let F2 = λ (b : Forms). checked_element (w b) c.args.at (expr c.args.e.now) (term_at b c.args.a) (term_at b c.args.i) (F0 b) in
+    let p2 = then s t1 t2 F0 (λ b k. checked_element (w b) c.args.at (expr c.args.e.now) (term_at b c.args.a) (term_at b c.args.i) k) p1 e2 in
+    let t3 = c.with_store.new.self in
+    let e3 = c.in_ok-with_store.ensures in
+    let g3 = e3.grown in
+    let F3 = λ (b : Forms). with_store (app Put ((term_at b s.store) ∷ (term_at b c.args.a) ∷ (term_at b c.args.i) ∷ (term_at b c.args.v) ∷ [])) (F2 b) in
+    let p3 = then_term s t2 t3 F2 p2 c.in_ok-written.written (λ b. app Put ((term_at b s.store) ∷ (term_at b c.args.a) ∷ (term_at b c.args.i) ∷ (term_at b c.args.v) ∷ [])) (λ b f k. with_store f k) (term_later t1.bank t2.bank g2 c.in_ok-written.written (λ b. app Put ((term_at b s.store) ∷ (term_at b c.args.a) ∷ (term_at b c.args.i) ∷ (term_at b c.args.v) ∷ [])) c.in_ok-written.ensures.at) e3 in
+    p3
