@@ -1,0 +1,974 @@
+// Which nodes are equal, by equalities and by congruence, with the facts that say so. Everything can be taken back.
+
+use crate::question::{
+    NONE, argument, arity, first_of, is_term, is_value, node_head, of_pair, of_term, same_head,
+};
+use ss_terms_stores::Bank;
+use std::alloc::{AllocError, Global};
+use std::mem;
+
+/// In place of a fact: two nodes have one head and equal arguments.
+pub const CONGRUENT: usize = NONE - 1;
+
+/// What is kept of a node: its class, the next member of it in a ring, one step of the equalities that joined the class, and
+/// the last use, atom and inequality in which the term stands. What is kept of a class stands at the node that it is named by:
+/// its weight, how many inequalities its members stand in, and its literal.
+#[derive(Clone, Copy)]
+struct Node {
+    is_there: bool,
+    class: usize,
+    next: usize,
+    to: usize,
+    fact: usize,
+    uses: usize,
+    atoms: usize,
+    aparts: usize,
+    weight: usize,
+    apart_count: usize,
+    literal: usize,
+}
+
+/// An entry of a node's list: a number, the other side and whether this is the left one, and the entry before it.
+#[derive(Clone, Copy)]
+struct Entry {
+    number: usize,
+    other: usize,
+    is_left: bool,
+    before: usize,
+}
+
+/// A merge that stands.
+#[derive(Clone, Copy)]
+struct Merge {
+    lower: usize,
+    upper: usize,
+    literal: usize,
+    linked: usize,
+    to: usize,
+    fact: usize,
+}
+
+/// A merge that is to be made.
+#[derive(Clone, Copy)]
+struct Pending {
+    left: usize,
+    right: usize,
+    fact: usize,
+}
+
+/// What has to be taken back.
+#[derive(Clone, Copy)]
+enum Change {
+    Merge(Merge),
+    There(usize),
+    Use(usize),
+    Atom(usize),
+    Apart(usize),
+    Sign,
+}
+
+/// One equality of a path, by a fact or by congruence.
+#[derive(Clone, Copy)]
+pub struct Step {
+    pub from: usize,
+    pub to: usize,
+    pub fact: usize,
+}
+
+/// Two nodes of one class that can't be equal: two literals, or the sides of an inequality; or an `or` of which each part is
+/// refuted; or a fact and its negation.
+#[derive(Clone, Copy)]
+pub enum Conflict {
+    Literals(usize, usize),
+    Apart(usize),
+    Parts(usize),
+    Facts(usize, usize),
+}
+
+/// Why an atom has its value: its sides are in one class, or in the classes of these literals, or differ by the fact, with
+/// whether the fact names the sides the other way round; or it is in the class of this literal itself.
+#[derive(Clone, Copy)]
+pub enum Why {
+    Equal,
+    Literals(usize, usize),
+    Apart(usize, bool),
+    Marked(usize),
+}
+
+/// The atom of this pair got a value.
+#[derive(Clone, Copy)]
+pub struct Event {
+    pub pair: usize,
+    pub value: bool,
+    pub why: Why,
+}
+
+const LISTS: usize = 4096;
+
+/// The classes of equal nodes.
+#[derive(Drop)]
+pub struct Classes {
+    nodes: Vec<Node>,
+    uses: Vec<Entry>,
+    atoms: Vec<Entry>,
+    aparts: Vec<Entry>,
+    signs: Vec<Entry>,
+    lists: Vec<usize>,
+    trail: Vec<Change>,
+    events: Vec<Event>,
+    moved: Vec<usize>,
+    waiting: Vec<usize>,
+    pending: Vec<Pending>,
+    merges: usize,
+    yes: usize,
+    no: usize,
+}
+
+fn empty_node(number: usize) -> Node {
+    Node {
+        is_there: false,
+        class: number,
+        next: number,
+        to: NONE,
+        fact: NONE,
+        uses: NONE,
+        atoms: NONE,
+        aparts: NONE,
+        weight: 1,
+        apart_count: 0,
+        literal: NONE,
+    }
+}
+
+impl Classes {
+    /// No node. The terms `true` and `false` are these.
+    pub fn new(alloc: Global, yes: usize, no: usize) -> Self {
+        Classes {
+            nodes: Vec::new(alloc),
+            uses: Vec::new(alloc),
+            atoms: Vec::new(alloc),
+            aparts: Vec::new(alloc),
+            signs: Vec::new(alloc),
+            lists: Vec::new(alloc),
+            trail: Vec::new(alloc),
+            events: Vec::new(alloc),
+            moved: Vec::new(alloc),
+            waiting: Vec::new(alloc),
+            pending: Vec::new(alloc),
+            merges: 0,
+            yes: of_term(yes),
+            no: of_term(no),
+        }
+    }
+
+    fn node(&self, number: usize) -> Node {
+        match self.nodes.get(number) {
+            Some(node) => *node,
+            None => empty_node(number),
+        }
+    }
+
+    fn put(&mut self, number: usize, node: Node) {
+        if let Some(place) = self.nodes.get_mut(number) {
+            *place = node;
+        }
+    }
+
+    /// The node of `true`.
+    pub fn yes(&self) -> usize {
+        self.yes
+    }
+
+    /// The node of `false`.
+    pub fn no(&self) -> usize {
+        self.no
+    }
+
+    /// How many merges there were.
+    pub fn merges(&self) -> usize {
+        self.merges
+    }
+
+    /// How many changes stand.
+    pub fn mark(&self) -> usize {
+        self.trail.len()
+    }
+
+    /// Whether a node is there.
+    pub fn is_there(&self, number: usize) -> bool {
+        self.node(number).is_there
+    }
+
+    /// The name of a node's class.
+    pub fn class(&self, number: usize) -> usize {
+        self.node(number).class
+    }
+
+    /// The literal of a node's class, or NONE.
+    pub fn literal(&self, number: usize) -> usize {
+        self.node(self.class(number)).literal
+    }
+
+    /// The next member of a node's class.
+    pub fn next(&self, number: usize) -> usize {
+        self.node(number).next
+    }
+
+    /// How many nodes there may be.
+    pub fn len(&self) -> usize {
+        self.nodes.len()
+    }
+
+    /// Whether two nodes are known to be equal.
+    pub fn are_equal(&self, x: usize, y: usize) -> bool {
+        self.class(x) == self.class(y)
+    }
+
+    /// The last use of a node itself.
+    pub fn last_use(&self, number: usize) -> usize {
+        self.node(number).uses
+    }
+
+    /// The node of a use, and the use before it.
+    pub fn use_at(&self, place: usize) -> (usize, usize) {
+        match self.uses.get(place) {
+            Some(entry) => (entry.number, entry.before),
+            None => (NONE, NONE),
+        }
+    }
+
+    /// The next thing that follows and wasn't told yet.
+    pub fn next_event(&mut self) -> Option<Event> {
+        self.events.pop()
+    }
+
+    /// Whether there is nothing that has to be told or merged.
+    pub fn is_settled(&self) -> bool {
+        self.pending.is_empty() && self.events.is_empty()
+    }
+
+    /// Nothing is to be told or merged any more.
+    pub fn drop_pending(&mut self) {
+        self.events.truncate(0);
+        self.pending.truncate(0);
+        self.waiting.truncate(0);
+    }
+
+    fn load(&mut self, number: usize, aparts: usize) {
+        let class = self.class(number);
+        let mut node = self.node(class);
+        node.weight = node.weight.saturating_add(1);
+        node.apart_count = node.apart_count.saturating_add(aparts);
+        self.put(class, node);
+    }
+
+    fn unload(&mut self, number: usize, aparts: usize) {
+        let class = self.class(number);
+        let mut node = self.node(class);
+        node.weight = node.weight.saturating_sub(1);
+        node.apart_count = node.apart_count.saturating_sub(aparts);
+        self.put(class, node);
+    }
+
+    /// A node is there from now on, with its arguments.
+    pub fn add(&mut self, bank: &Bank, number: usize) -> Result<(), AllocError> {
+        if self.is_there(number) {
+            return Ok(());
+        }
+        let from = self.waiting.len();
+        self.waiting.push(number)?;
+        for _ in 0..u64::MAX {
+            let place = self.waiting.len();
+            if place <= from {
+                break;
+            }
+            let Some(last) = self.waiting.get(place.saturating_sub(1)).copied() else {
+                break;
+            };
+            if self.is_there(last) {
+                let _ = self.waiting.pop();
+                continue;
+            }
+            let missing = self.missing_argument(bank, last);
+            if missing == NONE {
+                let _ = self.waiting.pop();
+                self.enter(bank, last)?;
+            } else {
+                self.waiting.push(missing)?;
+            }
+        }
+        Ok(())
+    }
+
+    fn missing_argument(&self, bank: &Bank, number: usize) -> usize {
+        for place in 0..arity(bank, number) {
+            let node = of_term(argument(bank, number, place));
+            if !self.is_there(node) && node < CONGRUENT {
+                return node;
+            }
+        }
+        NONE
+    }
+
+    fn enter(&mut self, bank: &Bank, number: usize) -> Result<(), AllocError> {
+        for at in self.nodes.len()..number.saturating_add(1) {
+            self.nodes.push(empty_node(at))?;
+        }
+        let mut node = empty_node(number);
+        node.is_there = true;
+        if is_term(number) && is_value(bank, number / 2) {
+            node.literal = number;
+        }
+        self.put(number, node);
+        self.trail.push(Change::There(number))?;
+        let count = arity(bank, number);
+        for place in 0..count {
+            self.add_use(of_term(argument(bank, number, place)), number)?;
+        }
+        if count > 0 {
+            self.sign(bank, number)?;
+        }
+        Ok(())
+    }
+
+    fn add_use(&mut self, number: usize, user: usize) -> Result<(), AllocError> {
+        let at = self.uses.len();
+        let mut node = self.node(number);
+        self.uses.push(Entry {
+            number: user,
+            other: NONE,
+            is_left: true,
+            before: node.uses,
+        })?;
+        node.uses = at;
+        self.put(number, node);
+        self.trail.push(Change::Use(number))?;
+        self.load(number, 0);
+        Ok(())
+    }
+
+    // The list in which nodes with this head and arguments of these classes stand.
+    fn list_of(&self, bank: &Bank, number: usize) -> usize {
+        let found = node_head(bank, number);
+        let mut mixed = found
+            .kind
+            .wrapping_mul(0x9E3779B1)
+            .wrapping_add(found.number.wrapping_mul(0x85EBCA77));
+        for place in 0..arity(bank, number) {
+            let class = self.class(of_term(argument(bank, number, place)));
+            mixed = mixed
+                .wrapping_mul(31)
+                .wrapping_add(class.wrapping_mul(0xC2B2AE3D));
+        }
+        (mixed / 4096) % LISTS
+    }
+
+    /// Whether two nodes have one head and equal arguments.
+    pub fn are_congruent(&self, bank: &Bank, x: usize, y: usize) -> bool {
+        let count = arity(bank, x);
+        if count != arity(bank, y) || !same_head(node_head(bank, x), node_head(bank, y)) {
+            return false;
+        }
+        for place in 0..count {
+            let left = of_term(argument(bank, x, place));
+            let right = of_term(argument(bank, y, place));
+            if self.class(left) != self.class(right) {
+                return false;
+            }
+        }
+        true
+    }
+
+    fn find_congruent(&self, bank: &Bank, list: usize, number: usize) -> usize {
+        let mut at = match self.lists.get(list) {
+            Some(last) => *last,
+            None => NONE,
+        };
+        for _ in 0..self.signs.len() {
+            let Some(entry) = self.signs.get(at) else {
+                return NONE;
+            };
+            if self.are_congruent(bank, entry.number, number) {
+                return entry.number;
+            }
+            at = entry.before;
+        }
+        NONE
+    }
+
+    /// A node that is there and congruent to one that needn't be, or NONE.
+    pub fn congruent_to(&self, bank: &Bank, number: usize) -> usize {
+        self.find_congruent(bank, self.list_of(bank, number), number)
+    }
+
+    fn sign(&mut self, bank: &Bank, number: usize) -> Result<(), AllocError> {
+        for _ in self.lists.len()..LISTS {
+            self.lists.push(NONE)?;
+        }
+        let list = self.list_of(bank, number);
+        let found = self.find_congruent(bank, list, number);
+        if found != NONE {
+            return self.expect(number, found);
+        }
+        let at = self.signs.len();
+        let Some(last) = self.lists.get_mut(list) else {
+            return Ok(());
+        };
+        let before = mem::replace(last, at);
+        self.signs.push(Entry {
+            number,
+            other: list,
+            is_left: true,
+            before,
+        })?;
+        self.trail.push(Change::Sign)?;
+        Ok(())
+    }
+
+    fn expect(&mut self, left: usize, right: usize) -> Result<(), AllocError> {
+        if self.class(left) == self.class(right) {
+            return Ok(());
+        }
+        self.pending.push(Pending {
+            left,
+            right,
+            fact: CONGRUENT,
+        })?;
+        Ok(())
+    }
+
+    /// The atom of this pair, an equality, is watched. Tells its value, where it has one.
+    pub fn watch(
+        &mut self,
+        bank: &Bank,
+        pair: usize,
+        left: usize,
+        right: usize,
+    ) -> Result<(), AllocError> {
+        self.add(bank, of_term(left))?;
+        self.add(bank, of_term(right))?;
+        self.add_atom_at(of_term(left), new_entry(pair, of_term(right), true))?;
+        self.add_atom_at(of_term(right), new_entry(pair, of_term(left), false))?;
+        self.tell_relation(pair, of_term(left), of_term(right))
+    }
+
+    /// The atom of this pair, not an equality, is watched. Tells its value, where it has one.
+    pub fn watch_mark(&mut self, bank: &Bank, pair: usize) -> Result<(), AllocError> {
+        let node = of_pair(pair);
+        self.add(bank, node)?;
+        self.tell_mark(node)
+    }
+
+    // Tells the value of an atom that is no equality.
+    fn tell_mark(&mut self, node: usize) -> Result<(), AllocError> {
+        let literal = self.literal(node);
+        if is_term(node) || literal == NONE {
+            return Ok(());
+        }
+        self.events.push(Event {
+            pair: node / 2,
+            value: literal == self.yes,
+            why: Why::Marked(literal),
+        })?;
+        Ok(())
+    }
+
+    fn tell_relation(&mut self, pair: usize, left: usize, right: usize) -> Result<(), AllocError> {
+        let Some(why) = self.relation(left, right) else {
+            return Ok(());
+        };
+        let value = matches!(&why, Why::Equal);
+        self.events.push(Event { pair, value, why })?;
+        Ok(())
+    }
+
+    fn add_atom_at(&mut self, number: usize, mut entry: Entry) -> Result<(), AllocError> {
+        let at = self.atoms.len();
+        let mut node = self.node(number);
+        entry.before = node.atoms;
+        node.atoms = at;
+        self.put(number, node);
+        self.atoms.push(entry)?;
+        self.trail.push(Change::Atom(number))?;
+        self.load(number, 0);
+        Ok(())
+    }
+
+    fn add_apart_at(&mut self, number: usize, mut entry: Entry) -> Result<(), AllocError> {
+        let at = self.aparts.len();
+        let mut node = self.node(number);
+        entry.before = node.aparts;
+        node.aparts = at;
+        self.put(number, node);
+        self.aparts.push(entry)?;
+        self.trail.push(Change::Apart(number))?;
+        self.load(number, 1);
+        Ok(())
+    }
+
+    /// How two nodes stand to each other, where that is known.
+    pub fn relation(&self, left: usize, right: usize) -> Option<Why> {
+        if self.class(left) == self.class(right) {
+            return Some(Why::Equal);
+        }
+        let (first, second) = (self.literal(left), self.literal(right));
+        if first != NONE && second != NONE {
+            return Some(Why::Literals(first, second));
+        }
+        self.find_apart(left, right)
+    }
+
+    // The inequality of two classes, looked for at the lighter one.
+    fn find_apart(&self, left: usize, right: usize) -> Option<Why> {
+        let (a, b) = (self.class(left), self.class(right));
+        let (first, second) = (self.node(a), self.node(b));
+        if first.apart_count == 0 || second.apart_count == 0 {
+            return None;
+        }
+        let is_at_left = first.weight <= second.weight;
+        let (from, to) = if is_at_left { (a, b) } else { (b, a) };
+        let mut at = from;
+        for _ in 0..self.nodes.len() {
+            if let Some(entry) = self.apart_to(at, to) {
+                return Some(Why::Apart(entry.number, entry.is_left != is_at_left));
+            }
+            at = self.next(at);
+            if at == from {
+                break;
+            }
+        }
+        None
+    }
+
+    // An inequality at a node whose other side is in a class.
+    fn apart_to(&self, number: usize, class: usize) -> Option<Entry> {
+        let mut at = self.node(number).aparts;
+        for _ in 0..self.aparts.len() {
+            let entry = self.aparts.get(at)?;
+            if self.class(entry.other) == class {
+                return Some(*entry);
+            }
+            at = entry.before;
+        }
+        None
+    }
+
+    // Adds the members of a class to those that are looked at.
+    fn gather(&mut self, class: usize) -> Result<(), AllocError> {
+        let mut at = class;
+        for _ in 0..self.nodes.len() {
+            self.moved.push(at)?;
+            at = self.next(at);
+            if at == class {
+                break;
+            }
+        }
+        Ok(())
+    }
+
+    /// Two nodes are equal, by the fact with this number.
+    pub fn merge(
+        &mut self,
+        bank: &Bank,
+        x: usize,
+        y: usize,
+        fact: usize,
+    ) -> Result<Option<Conflict>, AllocError> {
+        self.pending.push(Pending {
+            left: x,
+            right: y,
+            fact,
+        })?;
+        self.settle(bank)
+    }
+
+    /// Makes the merges that wait.
+    pub fn settle(&mut self, bank: &Bank) -> Result<Option<Conflict>, AllocError> {
+        for _ in 0..u64::MAX {
+            let Some(pending) = self.pending.pop() else {
+                break;
+            };
+            if let Some(conflict) = self.merge_one(bank, pending)? {
+                self.pending.truncate(0);
+                return Ok(Some(conflict));
+            }
+        }
+        Ok(None)
+    }
+
+    // The merge of the classes of two nodes: the lighter one is put into the other.
+    fn merge_of(&self, pending: Pending) -> Merge {
+        let (x, y) = (pending.left, pending.right);
+        let (a, b) = (self.class(x), self.class(y));
+        let (lower, upper, linked, to) = if self.node(a).weight <= self.node(b).weight {
+            (a, b, x, y)
+        } else {
+            (b, a, y, x)
+        };
+        Merge {
+            lower,
+            upper,
+            literal: self.literal(upper),
+            linked,
+            to,
+            fact: pending.fact,
+        }
+    }
+
+    fn merge_one(&mut self, bank: &Bank, pending: Pending) -> Result<Option<Conflict>, AllocError> {
+        if self.class(pending.left) == self.class(pending.right) {
+            return Ok(None);
+        }
+        let merge = self.merge_of(pending);
+        self.merges = self.merges.saturating_add(1);
+        let moving = self.literal(merge.lower);
+        self.moved.truncate(0);
+        self.gather(merge.lower)?;
+        let count = self.moved.len();
+        if moving != NONE && merge.literal == NONE {
+            self.gather(merge.upper)?;
+        }
+        self.join(merge)?;
+        if moving != NONE && merge.literal != NONE {
+            return Ok(Some(Conflict::Literals(moving, merge.literal)));
+        }
+        self.sign_moved(bank, count)?;
+        self.look_at_moved()
+    }
+
+    fn join(&mut self, merge: Merge) -> Result<(), AllocError> {
+        self.trail.push(Change::Merge(merge))?;
+        self.turn(merge.linked);
+        self.set_link(merge.linked, merge.to, merge.fact);
+        self.name_members(merge.lower, merge.upper);
+        let below = self.node(merge.lower);
+        let mut node = self.node(merge.upper);
+        node.weight = node.weight.saturating_add(below.weight);
+        node.apart_count = node.apart_count.saturating_add(below.apart_count);
+        if node.literal == NONE {
+            node.literal = below.literal;
+        }
+        self.put(merge.upper, node);
+        self.swap_next(merge.lower, merge.upper);
+        Ok(())
+    }
+
+    fn set_link(&mut self, number: usize, to: usize, fact: usize) {
+        let mut node = self.node(number);
+        node.to = to;
+        node.fact = fact;
+        self.put(number, node);
+    }
+
+    // Each node of the ring of a class is put into the class of this name.
+    fn name_members(&mut self, ring: usize, class: usize) {
+        let mut at = ring;
+        for _ in 0..self.nodes.len() {
+            let mut node = self.node(at);
+            node.class = class;
+            self.put(at, node);
+            at = node.next;
+            if at == ring {
+                return;
+            }
+        }
+    }
+
+    // Joins two rings, or takes them apart.
+    fn swap_next(&mut self, a: usize, b: usize) {
+        let (mut first, mut second) = (self.node(a), self.node(b));
+        let next = mem::replace(&mut first.next, second.next);
+        second.next = next;
+        self.put(a, first);
+        self.put(b, second);
+    }
+
+    // Turns the links between a node and the root of its tree of links round, so that the node is the root.
+    fn turn(&mut self, number: usize) {
+        let mut at = number;
+        let (mut to, mut fact) = (NONE, NONE);
+        for _ in 0..self.nodes.len() {
+            let old = self.node(at);
+            self.set_link(at, to, fact);
+            if old.to == NONE {
+                return;
+            }
+            to = at;
+            fact = old.fact;
+            at = old.to;
+        }
+    }
+
+    // Finds the uses of the first moved nodes that are congruent now.
+    fn sign_moved(&mut self, bank: &Bank, count: usize) -> Result<(), AllocError> {
+        for place in 0..count {
+            let Some(number) = self.moved.get(place).copied() else {
+                break;
+            };
+            self.sign_uses(bank, number)?;
+        }
+        Ok(())
+    }
+
+    fn sign_uses(&mut self, bank: &Bank, number: usize) -> Result<(), AllocError> {
+        let mut at = self.node(number).uses;
+        for _ in 0..self.uses.len() {
+            let Some(entry) = self.uses.get(at).copied() else {
+                break;
+            };
+            self.sign(bank, entry.number)?;
+            at = entry.before;
+        }
+        Ok(())
+    }
+
+    fn look_at_moved(&mut self) -> Result<Option<Conflict>, AllocError> {
+        for place in 0..self.moved.len() {
+            let Some(number) = self.moved.get(place).copied() else {
+                break;
+            };
+            if let Some(conflict) = self.look_at_aparts(number) {
+                return Ok(Some(conflict));
+            }
+            self.look_at_atoms(number)?;
+            self.tell_mark(number)?;
+        }
+        Ok(None)
+    }
+
+    // Tells the atoms at a node that have a value.
+    fn look_at_atoms(&mut self, number: usize) -> Result<(), AllocError> {
+        let mut at = self.node(number).atoms;
+        for _ in 0..self.atoms.len() {
+            let Some(entry) = self.atoms.get(at).copied() else {
+                break;
+            };
+            at = entry.before;
+            let (left, right) = in_order(number, entry);
+            self.tell_relation(entry.number, left, right)?;
+        }
+        Ok(())
+    }
+
+    // Finds an inequality at a node that can't hold.
+    fn look_at_aparts(&self, number: usize) -> Option<Conflict> {
+        let mut at = self.node(number).aparts;
+        for _ in 0..self.aparts.len() {
+            let entry = self.aparts.get(at)?;
+            at = entry.before;
+            if self.class(number) == self.class(entry.other) {
+                return Some(Conflict::Apart(entry.number));
+            }
+        }
+        None
+    }
+
+    /// Two nodes differ, by the fact with this number.
+    pub fn separate(
+        &mut self,
+        left: usize,
+        right: usize,
+        fact: usize,
+    ) -> Result<Option<Conflict>, AllocError> {
+        match self.relation(left, right) {
+            Some(Why::Equal) => return Ok(Some(Conflict::Apart(fact))),
+            Some(_) => {}
+            None => {
+                self.add_apart_at(left, new_entry(fact, right, true))?;
+                self.add_apart_at(right, new_entry(fact, left, false))?;
+            }
+        }
+        self.tell_class(left)?;
+        self.tell_class(right)?;
+        Ok(None)
+    }
+
+    // Tells the atoms of a class.
+    fn tell_class(&mut self, number: usize) -> Result<(), AllocError> {
+        let mut at = number;
+        for _ in 0..self.nodes.len() {
+            self.look_at_atoms(at)?;
+            at = self.next(at);
+            if at == number {
+                break;
+            }
+        }
+        Ok(())
+    }
+
+    /// Takes back all but the first changes.
+    pub fn undo(&mut self, to: usize) {
+        for _ in to..self.trail.len() {
+            match self.trail.pop() {
+                Some(Change::Merge(merge)) => self.take_back(merge),
+                Some(Change::There(number)) => self.put(number, empty_node(number)),
+                Some(Change::Use(number)) => self.drop_use(number),
+                Some(Change::Atom(number)) => self.drop_atom(number),
+                Some(Change::Apart(number)) => self.drop_apart(number),
+                Some(Change::Sign) => self.drop_sign(),
+                None => break,
+            }
+        }
+    }
+
+    fn drop_sign(&mut self) {
+        let Some(entry) = self.signs.pop() else {
+            return;
+        };
+        if let Some(last) = self.lists.get_mut(entry.other) {
+            *last = entry.before;
+        }
+    }
+
+    fn drop_use(&mut self, number: usize) {
+        self.unload(number, 0);
+        let Some(entry) = self.uses.pop() else {
+            return;
+        };
+        let mut node = self.node(number);
+        node.uses = entry.before;
+        self.put(number, node);
+    }
+
+    fn drop_atom(&mut self, number: usize) {
+        self.unload(number, 0);
+        let Some(entry) = self.atoms.pop() else {
+            return;
+        };
+        let mut node = self.node(number);
+        node.atoms = entry.before;
+        self.put(number, node);
+    }
+
+    fn drop_apart(&mut self, number: usize) {
+        self.unload(number, 1);
+        let Some(entry) = self.aparts.pop() else {
+            return;
+        };
+        let mut node = self.node(number);
+        node.aparts = entry.before;
+        self.put(number, node);
+    }
+
+    fn take_back(&mut self, merge: Merge) {
+        self.swap_next(merge.lower, merge.upper);
+        self.name_members(merge.lower, merge.lower);
+        let below = self.node(merge.lower);
+        let mut node = self.node(merge.upper);
+        node.weight = node.weight.saturating_sub(below.weight);
+        node.apart_count = node.apart_count.saturating_sub(below.apart_count);
+        node.literal = merge.literal;
+        self.put(merge.upper, node);
+        self.cut(merge.linked, merge.to);
+        self.cut(merge.to, merge.linked);
+    }
+
+    // Links are turned round, so the link of a merge stands at either of its two nodes.
+    fn cut(&mut self, number: usize, to: usize) {
+        if self.node(number).to == to {
+            self.set_link(number, NONE, NONE);
+        }
+    }
+
+    // How many links lead from a node to the root of its tree of links.
+    fn depth(&self, number: usize) -> usize {
+        let mut at = number;
+        for depth in 0..self.nodes.len() {
+            let to = self.node(at).to;
+            if to == NONE {
+                return depth;
+            }
+            at = to;
+        }
+        0
+    }
+
+    // The node that so many links lead to.
+    fn skip(&self, number: usize, links: usize) -> usize {
+        let mut at = number;
+        for _ in 0..links {
+            at = self.node(at).to;
+        }
+        at
+    }
+
+    /// Adds the steps on the path from one node to another of its class.
+    pub fn path(&self, x: usize, y: usize, steps: &mut Vec<Step>) -> Result<(), AllocError> {
+        let (up, down) = (self.depth(x), self.depth(y));
+        let mut above = up.saturating_sub(down);
+        let mut below = down.saturating_sub(up);
+        let mut left = self.skip(x, above);
+        let mut right = self.skip(y, below);
+        for _ in 0..self.nodes.len() {
+            if left == right {
+                break;
+            }
+            left = self.node(left).to;
+            right = self.node(right).to;
+            above = above.saturating_add(1);
+            below = below.saturating_add(1);
+        }
+        self.climb(x, above, steps)?;
+        for place in 0..below {
+            let node = self.skip(y, below.saturating_sub(place.saturating_add(1)));
+            steps.push(Step {
+                from: self.node(node).to,
+                to: node,
+                fact: self.node(node).fact,
+            })?;
+        }
+        Ok(())
+    }
+
+    fn climb(&self, number: usize, links: usize, steps: &mut Vec<Step>) -> Result<(), AllocError> {
+        let mut at = number;
+        for _ in 0..links {
+            let node = self.node(at);
+            steps.push(Step {
+                from: at,
+                to: node.to,
+                fact: node.fact,
+            })?;
+            at = node.to;
+        }
+        Ok(())
+    }
+
+    /// Whether the first formula of a pair holds, where that is known of an atom that needn't be there.
+    pub fn mark_of(&self, bank: &Bank, pair: usize) -> Option<bool> {
+        let _ = first_of(pair);
+        let node = of_pair(pair);
+        let found = if self.is_there(node) {
+            node
+        } else {
+            self.congruent_to(bank, node)
+        };
+        if found == NONE {
+            return None;
+        }
+        let literal = self.literal(found);
+        if literal == NONE {
+            None
+        } else {
+            Some(literal == self.yes)
+        }
+    }
+}
+
+fn new_entry(number: usize, other: usize, is_left: bool) -> Entry {
+    Entry {
+        number,
+        other,
+        is_left,
+        before: NONE,
+    }
+}
+
+// The sides of an atom at a node.
+fn in_order(number: usize, entry: Entry) -> (usize, usize) {
+    if entry.is_left {
+        (number, entry.other)
+    } else {
+        (entry.other, number)
+    }
+}
