@@ -1,0 +1,4 @@
+pub mod Seen
+pub mod Names
+pub mod Owned
+pub mod Views

@@ -1,0 +1,181 @@
+// The conditions of a contract.
+
+ghost use Rattle.std.specs.Prelude.{◌≡◌, ◌≤◌, [], ◌∷◌, length, map, false, if◌then◌else◌, IfOk};
+ghost use Rattle.ss_core.specs.Chain.{most_classes};
+ghost use Rattle.ss_core.specs.Tree as tree;
+ghost use Rattle.ss_core.specs.View as view;
+ghost use Rattle.ss_logic_express.specs.Express.{and_of, default_said, holds_formula};
+ghost use Rattle.ss_terms_stores.specs.Forms.{term_at, HasTerm, HasTerms, IsGrown};
+ghost use Rattle.ss_vcgen_express.specs.Numbers.{IsFormula, AreFormulas};
+ghost use Rattle.ss_vcgen_express.specs.Scenes.{scene_at, HasScene};
+ghost use Rattle.ss_vcgen_heaps.specs.Contracts as heaps;
+ghost use Rattle.ss_vcgen_contracts.specs.Seen.{is_at_level, condition_of};
+ghost use Rattle.ss_vcgen_contracts.specs.Views.{contract_of, ones_at};
+
+use crate::contract::Contract;
+use crate::scenes::{contract_scene, no_result};
+use ss_core::{Classes, DefaultCondition, Expr};
+use ss_terms_stores::{Bank, FormulaId, TermId};
+use ss_vcgen_defaults::default_said;
+use ss_vcgen_express::Scene;
+use ss_vcgen_walk::holds;
+use std::alloc::{AllocError, Global};
+
+// Whether it is the condition that `this` is at a level.
+fn is_at_level(e: &Expr) -> bool
+    ensures { result ≡ is_at_level (view.expr e.now) }
+{
+    match e {
+        Expr::Default(_, condition) => match condition {
+            DefaultCondition::AtLevel(_) => true,
+            DefaultCondition::Unpacked
+            | DefaultCondition::Unowned
+            | DefaultCondition::Defaults(_)
+            | DefaultCondition::OwnedFull(_)
+            | DefaultCondition::Full
+            | DefaultCondition::ConsistentArgument(_)
+            | DefaultCondition::FullArgument(_)
+            | DefaultCondition::Captured { .. } => false,
+        },
+        Expr::Chain(_, first, links) => {
+            if links.is_empty() {
+                is_at_level(first)
+            } else {
+                false
+            }
+        }
+        Expr::Path(_, first, steps) => {
+            if steps.is_empty() {
+                is_at_level(first)
+            } else {
+                false
+            }
+        }
+        Expr::Int(..)
+        | Expr::Bool(..)
+        | Expr::Null(..)
+        | Expr::Local(..)
+        | Expr::Iff(..)
+        | Expr::Implies(..)
+        | Expr::Negate(..)
+        | Expr::Not(..)
+        | Expr::Cast(..)
+        | Expr::Old(..)
+        | Expr::Quantified(..)
+        | Expr::State(..)
+        | Expr::Owners(..) => false,
+    }
+}
+
+// `this` is consistent: a default condition is defined.
+fn consistent_this(
+    alloc: Global,
+    bank: &mut Bank,
+    scene: &Scene<'_>,
+) -> Result<FormulaId, AllocError>
+    requires { HasScene bank.old scene.now }
+    ensures at { IfOk result (λ f. IsFormula bank.new f (λ b. and_of (default_said (scene_at b scene.entry.now) (tree.ConsistentArgument 0) ∷ []))) }
+    ensures grown { IsGrown bank.old bank.new }
+{
+    let said = default_said(alloc, bank, scene, DefaultCondition::ConsistentArgument(0))?;
+    bank.and(&[said])
+}
+
+// Whether a caller sees another condition in its place.
+fn is_replaced(seen: bool, e: &Expr) -> bool
+    ensures { result ≡ (if seen then is_at_level (view.expr e.now) else false) }
+{
+    seen && is_at_level(e)
+}
+
+// The condition, as it is written or as a caller sees it.
+fn condition(
+    alloc: Global,
+    bank: &mut Bank,
+    scene: &Scene<'_>,
+    seen: bool,
+    e: &Expr,
+) -> Result<FormulaId, AllocError>
+    requires { HasScene bank.old scene.now }
+    ensures at { IfOk result (λ f. IsFormula bank.new f (λ b. holds_formula (condition_of seen (view.expr e.now)) (scene_at b scene.entry.now))) }
+    ensures grown { IsGrown bank.old bank.new }
+{
+    let replaced = is_replaced(seen, e);
+    if replaced {
+        consistent_this(alloc, bank, scene)
+    } else {
+        holds(alloc, bank, scene, e)
+    }
+}
+
+fn all_conditions(
+    alloc: Global,
+    bank: &mut Bank,
+    scene: &Scene<'_>,
+    seen: bool,
+    es: &[Expr],
+) -> Result<Vec<FormulaId>, AllocError>
+    requires { HasScene bank.old scene.now }
+    ensures at { IfOk result (λ v. AreFormulas bank.new v.items (λ b. heaps.conditions (map (condition_of seen) (view.exprs es.now)) (scene_at b scene.entry.now))) }
+    ensures grown { IsGrown bank.old bank.new }
+{
+    let mut made = Vec::new(alloc);
+    for e in es {
+        let f = condition(alloc, bank, scene, seen, e)?;
+        made.push(f)?;
+    }
+    Ok(made)
+}
+
+/// The conditions at entry, in this store and with these arguments.
+pub fn entry_conditions(
+    alloc: Global,
+    bank: &mut Bank,
+    classes: &Classes,
+    contract: Contract<'_>,
+    store: TermId,
+    arguments: &[TermId],
+) -> Result<Vec<FormulaId>, AllocError>
+    requires limit { length (view.classes classes.now) ≤ most_classes }
+    requires store { HasTerm bank.old store }
+    requires arguments { HasTerms bank.old arguments.now }
+    ensures at { IfOk result (λ v. AreFormulas bank.new v.items (λ b.
+        let callee = contract_of contract.entry in
+        heaps.conditions callee.entry (heaps.contract_scene (view.classes classes.now) callee (term_at b store) (term_at b store) (ones_at b arguments.now) (heaps.no_result callee)))) }
+    ensures grown { IsGrown bank.old bank.new }
+{
+    let results = no_result(alloc, bank, contract.body)?;
+    let scene = contract_scene(
+        alloc, bank, classes, contract, store, store, arguments, &results,
+    )?;
+    let made = all_conditions(alloc, bank, &scene, contract.seen, &contract.body.entry)?;
+    Ok(made)
+}
+
+/// The conditions at exit, in this store, where it was the other one at entry, with these arguments and this result.
+pub fn exit_conditions(
+    alloc: Global,
+    bank: &mut Bank,
+    classes: &Classes,
+    contract: Contract<'_>,
+    store: TermId,
+    entry: TermId,
+    arguments: &[TermId],
+    results: &[TermId],
+) -> Result<Vec<FormulaId>, AllocError>
+    requires limit { length (view.classes classes.now) ≤ most_classes }
+    requires store { HasTerm bank.old store }
+    requires entry { HasTerm bank.old entry }
+    requires arguments { HasTerms bank.old arguments.now }
+    requires results { HasTerms bank.old results.now }
+    ensures at { IfOk result (λ v. AreFormulas bank.new v.items (λ b.
+        let callee = contract_of contract.entry in
+        heaps.conditions callee.exit (heaps.contract_scene (view.classes classes.now) callee (term_at b store) (term_at b entry) (ones_at b arguments.now) (ones_at b results.now)))) }
+    ensures grown { IsGrown bank.old bank.new }
+{
+    let scene = contract_scene(
+        alloc, bank, classes, contract, store, entry, arguments, results,
+    )?;
+    let made = all_conditions(alloc, bank, &scene, contract.seen, &contract.body.exit)?;
+    Ok(made)
+}

@@ -1,0 +1,16 @@
+//! Contracts as formulas of a bank: of a body, at its entry and where it is left, and as its callers see it.
+#![tactic(auto)]
+
+mod captured;
+mod changes;
+mod conditions;
+mod contract;
+mod names;
+mod scenes;
+mod typed;
+
+pub use changes::{frame, frame_terms, grown};
+pub use conditions::{entry_conditions, exit_conditions};
+pub use contract::{Contract, called};
+pub use scenes::contract_scene;
+pub use typed::is_of_type;
