@@ -1,0 +1,3 @@
+pub mod Ones
+pub mod Returning
+pub mod Settling
