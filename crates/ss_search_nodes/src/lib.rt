@@ -1,0 +1,6 @@
+//! What the formulas inside known `or`s come to, on a trail.
+#![tactic(auto)]
+
+mod nodes;
+
+pub use nodes::{Ground, Nodes, is_held_kind, or_of};

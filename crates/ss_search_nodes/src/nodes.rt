@@ -1,0 +1,460 @@
+// What the formulas inside the known `or`s come to, counted from their atoms up.
+//
+// A formula and its negation are one pair with one node, which speaks of the first of the two: an atom, an `and` or a `forall`.
+
+use ss_search_classes::{
+    AND, Classes, EQUAL, FORALL, LITERAL, NONE, OR, Why, first_of, is_first, kind_of,
+    pair_argument, pair_head, pair_of, part_at, part_count, second_of,
+};
+use ss_terms_stores::Bank;
+use std::alloc::{AllocError, Global};
+
+/// Why a node has its value.
+#[derive(Clone, Copy)]
+pub enum Ground {
+    Atom(Why),
+    /// The part at this place is false, of an `and`; or each part is true.
+    Part(usize),
+    All,
+    /// This fact says so, of a quantified formula.
+    Known(usize),
+}
+
+/// Of a pair: whether it is looked at, what its first formula comes to and why, how many parts it has and how many of them
+/// are true, the last of the nodes that it is a part of, the facts by which its first and its second formula are known, and
+/// whether a part of its `or` was made known.
+#[derive(Clone, Copy)]
+struct Node {
+    is_open: bool,
+    value: Option<bool>,
+    ground: Ground,
+    length: usize,
+    count: usize,
+    parents: usize,
+    first: usize,
+    second: usize,
+    is_taken: bool,
+}
+
+/// A place at which a pair is a part: of which pair, whether as its first formula, at which place there, and the one before.
+#[derive(Clone, Copy)]
+struct Parent {
+    pair: usize,
+    is_first: bool,
+    place: usize,
+    before: usize,
+}
+
+/// A value that a node will have.
+#[derive(Clone, Copy)]
+struct Coming {
+    pair: usize,
+    value: bool,
+    ground: Ground,
+}
+
+/// What has to be taken back.
+#[derive(Clone, Copy)]
+enum Change {
+    Open(usize),
+    Value(usize),
+    Count(usize),
+    Parent(usize),
+    First(usize),
+    Second(usize),
+    Taken(usize),
+}
+
+/// The nodes.
+#[derive(Drop)]
+pub struct Nodes {
+    nodes: Vec<Node>,
+    parents: Vec<Parent>,
+    trail: Vec<Change>,
+    coming: Vec<Coming>,
+    units: Vec<usize>,
+    waiting: Vec<usize>,
+}
+
+fn empty_node() -> Node {
+    Node {
+        is_open: false,
+        value: None,
+        ground: Ground::All,
+        length: 0,
+        count: 0,
+        parents: NONE,
+        first: NONE,
+        second: NONE,
+        is_taken: false,
+    }
+}
+
+impl Nodes {
+    /// No node.
+    pub fn new(alloc: Global) -> Self {
+        Nodes {
+            nodes: Vec::new(alloc),
+            parents: Vec::new(alloc),
+            trail: Vec::new(alloc),
+            coming: Vec::new(alloc),
+            units: Vec::new(alloc),
+            waiting: Vec::new(alloc),
+        }
+    }
+
+    /// Each pair of the bank that is new, with nothing known of it.
+    pub fn grow(&mut self, bank: &Bank) -> Result<(), AllocError> {
+        for _ in self.nodes.len()..bank.formula_count() / 2 {
+            self.nodes.push(empty_node())?;
+        }
+        Ok(())
+    }
+
+    fn node(&self, pair: usize) -> Node {
+        match self.nodes.get(pair) {
+            Some(node) => *node,
+            None => empty_node(),
+        }
+    }
+
+    fn put(&mut self, pair: usize, node: Node) {
+        if let Some(place) = self.nodes.get_mut(pair) {
+            *place = node;
+        }
+    }
+
+    /// How many changes stand.
+    pub fn mark(&self) -> usize {
+        self.trail.len()
+    }
+
+    /// Takes back all but the first changes.
+    pub fn undo(&mut self, to: usize) {
+        for _ in to..self.trail.len() {
+            let Some(change) = self.trail.pop() else {
+                break;
+            };
+            self.take_back(change);
+        }
+    }
+
+    fn take_back(&mut self, change: Change) {
+        let pair = pair_in(change);
+        let mut node = self.node(pair);
+        match change {
+            Change::Open(_) => node.is_open = false,
+            Change::Value(_) => node.value = None,
+            Change::Count(_) => node.count = node.count.saturating_sub(1),
+            Change::First(_) => node.first = NONE,
+            Change::Second(_) => node.second = NONE,
+            Change::Taken(_) => node.is_taken = false,
+            Change::Parent(_) => {
+                if let Some(parent) = self.parents.pop() {
+                    node.parents = parent.before;
+                }
+            }
+        }
+        self.put(pair, node);
+    }
+
+    /// Nothing is to be done any more.
+    pub fn drop_pending(&mut self) {
+        self.coming.truncate(0);
+        self.units.truncate(0);
+        self.waiting.truncate(0);
+    }
+
+    /// What a formula comes to.
+    pub fn value(&self, f: usize) -> Option<bool> {
+        let value = self.node(pair_of(f)).value?;
+        Some(value == is_first(f))
+    }
+
+    /// Why a pair has its value.
+    pub fn ground(&self, pair: usize) -> Option<Ground> {
+        let node = self.node(pair);
+        match node.value {
+            Some(_) => Some(node.ground),
+            None => None,
+        }
+    }
+
+    /// Whether a pair is looked at.
+    pub fn is_open(&self, pair: usize) -> bool {
+        self.node(pair).is_open
+    }
+
+    /// The fact by which a formula is known, or NONE.
+    pub fn held(&self, f: usize) -> usize {
+        let node = self.node(pair_of(f));
+        if is_first(f) { node.first } else { node.second }
+    }
+
+    /// A formula is known by a fact.
+    pub fn hold(&mut self, f: usize, fact: usize) -> Result<(), AllocError> {
+        let pair = pair_of(f);
+        let mut node = self.node(pair);
+        if is_first(f) {
+            node.first = fact;
+            self.trail.push(Change::First(pair))?;
+        } else {
+            node.second = fact;
+            self.trail.push(Change::Second(pair))?;
+        }
+        self.put(pair, node);
+        Ok(())
+    }
+
+    /// Whether there is nothing to do for an `or`: it is true, or one of its parts was made known.
+    pub fn is_settled(&self, or: usize) -> bool {
+        let node = self.node(pair_of(or));
+        node.is_taken || node.value == Some(false)
+    }
+
+    /// Whether at most one part of the `or` of a pair isn't refuted.
+    pub fn is_unit(&self, pair: usize) -> bool {
+        let node = self.node(pair);
+        node.count.saturating_add(1) >= node.length
+    }
+
+    /// How many parts of an `or` aren't refuted.
+    pub fn open_count(&self, or: usize) -> usize {
+        let node = self.node(pair_of(or));
+        node.length.saturating_sub(node.count)
+    }
+
+    /// A part of the `or` of a pair was made known.
+    pub fn take(&mut self, pair: usize) -> Result<(), AllocError> {
+        let mut node = self.node(pair);
+        node.is_taken = true;
+        self.put(pair, node);
+        self.trail.push(Change::Taken(pair))?;
+        Ok(())
+    }
+
+    /// The next pair whose `or` may have one part left.
+    pub fn next_unit(&mut self) -> Option<usize> {
+        self.units.pop()
+    }
+
+    /// An `or` is known by a fact. It is looked at from now on.
+    pub fn reach(
+        &mut self,
+        bank: &Bank,
+        classes: &mut Classes,
+        or: usize,
+        fact: usize,
+    ) -> Result<(), AllocError> {
+        self.hold(or, fact)?;
+        self.units.push(pair_of(or))?;
+        self.open_all(bank, classes, pair_of(or))
+    }
+
+    /// A quantified formula is known by a fact.
+    pub fn know(&mut self, f: usize, fact: usize) -> Result<(), AllocError> {
+        self.hold(f, fact)?;
+        self.come(pair_of(f), is_first(f), Ground::Known(fact))
+    }
+
+    /// Looks at a pair and at all pairs inside it.
+    pub fn open_all(
+        &mut self,
+        bank: &Bank,
+        classes: &mut Classes,
+        pair: usize,
+    ) -> Result<(), AllocError> {
+        self.waiting.push(pair)?;
+        for _ in 0..u64::MAX {
+            let Some(next) = self.waiting.pop() else {
+                break;
+            };
+            if next < self.nodes.len() && !self.node(next).is_open {
+                self.open(bank, classes, next)?;
+            }
+        }
+        Ok(())
+    }
+
+    fn open(&mut self, bank: &Bank, classes: &mut Classes, pair: usize) -> Result<(), AllocError> {
+        self.trail.push(Change::Open(pair))?;
+        let mut node = self.node(pair);
+        node.is_open = true;
+        node.count = 0;
+        node.length = 0;
+        self.put(pair, node);
+        let kind = kind_of(bank, first_of(pair));
+        if kind == LITERAL {
+            self.open_atom(bank, classes, pair)
+        } else if kind == AND {
+            self.open_parts(bank, pair)
+        } else {
+            Ok(())
+        }
+    }
+
+    fn open_atom(
+        &mut self,
+        bank: &Bank,
+        classes: &mut Classes,
+        pair: usize,
+    ) -> Result<(), AllocError> {
+        if pair_head(bank, pair).kind == EQUAL {
+            classes.watch(
+                bank,
+                pair,
+                pair_argument(bank, pair, 0),
+                pair_argument(bank, pair, 1),
+            )
+        } else {
+            classes.watch_mark(bank, pair)
+        }
+    }
+
+    fn open_parts(&mut self, bank: &Bank, pair: usize) -> Result<(), AllocError> {
+        let length = part_count(bank, first_of(pair));
+        let mut node = self.node(pair);
+        node.length = length;
+        self.put(pair, node);
+        if length == 0 {
+            self.come(pair, true, Ground::All)?;
+        }
+        for place in 0..length {
+            let part = part_at(bank, first_of(pair), place);
+            self.add_parent(
+                pair_of(part),
+                Parent {
+                    pair,
+                    is_first: is_first(part),
+                    place,
+                    before: NONE,
+                },
+            )?;
+        }
+        Ok(())
+    }
+
+    // The pair is a part at this place. Where it has a value, that counts at once.
+    fn add_parent(&mut self, pair: usize, mut parent: Parent) -> Result<(), AllocError> {
+        let at = self.parents.len();
+        let mut node = self.node(pair);
+        parent.before = node.parents;
+        node.parents = at;
+        self.put(pair, node);
+        self.parents.push(parent)?;
+        self.trail.push(Change::Parent(pair))?;
+        self.waiting.push(pair)?;
+        match node.value {
+            Some(value) => self.count(parent, value),
+            None => Ok(()),
+        }
+    }
+
+    /// A node will have this value.
+    pub fn come(&mut self, pair: usize, value: bool, ground: Ground) -> Result<(), AllocError> {
+        self.coming.push(Coming {
+            pair,
+            value,
+            ground,
+        })?;
+        Ok(())
+    }
+
+    /// Gives the next node its value, and counts it where it is a part. Whether there was one.
+    pub fn spread(&mut self) -> Result<bool, AllocError> {
+        let Some(coming) = self.coming.pop() else {
+            return Ok(false);
+        };
+        let mut node = self.node(coming.pair);
+        match node.value {
+            Some(_) => Ok(true),
+            None => {
+                node.value = Some(coming.value);
+                node.ground = coming.ground;
+                self.put(coming.pair, node);
+                self.trail.push(Change::Value(coming.pair))?;
+                self.count_all(node.parents, coming.value)?;
+                Ok(true)
+            }
+        }
+    }
+
+    fn count_all(&mut self, last: usize, value: bool) -> Result<(), AllocError> {
+        let mut at = last;
+        for _ in 0..self.parents.len() {
+            let Some(parent) = self.parents.get(at).copied() else {
+                break;
+            };
+            at = parent.before;
+            self.count(parent, value)?;
+        }
+        Ok(())
+    }
+
+    // Counts a part whose pair has this value.
+    fn count(&mut self, parent: Parent, value: bool) -> Result<(), AllocError> {
+        if value != parent.is_first {
+            return self.come(parent.pair, false, Ground::Part(parent.place));
+        }
+        let mut node = self.node(parent.pair);
+        node.count = node.count.saturating_add(1);
+        self.put(parent.pair, node);
+        self.trail.push(Change::Count(parent.pair))?;
+        if node.second != NONE && node.count.saturating_add(1) >= node.length {
+            self.units.push(parent.pair)?;
+        }
+        if node.count >= node.length {
+            self.come(parent.pair, true, Ground::All)
+        } else {
+            Ok(())
+        }
+    }
+
+    /// The place of the first part of an `and` or `or` that comes to nothing yet, from a place on. NONE where there is none.
+    pub fn first_open(&self, bank: &Bank, f: usize, from: usize) -> usize {
+        for place in from..part_count(bank, f) {
+            if self.value(part_at(bank, f, place)).is_none() {
+                return place;
+            }
+        }
+        NONE
+    }
+
+    /// Whether a part of an `or` is known by a fact.
+    pub fn has_held_part(&self, bank: &Bank, or: usize) -> bool {
+        for place in 0..part_count(bank, or) {
+            let part = part_at(bank, or, place);
+            if self.held(part) != NONE && self.value(part) != Some(false) {
+                return true;
+            }
+        }
+        false
+    }
+
+    /// Whether a formula is an open literal, quantified formula, or has an open part.
+    pub fn is_undecided(&self, f: usize) -> bool {
+        self.value(f).is_none()
+    }
+}
+
+/// Whether a formula is an `or`, or quantified: such as are held by facts.
+pub fn is_held_kind(kind: usize) -> bool {
+    kind == OR || kind >= FORALL
+}
+
+/// The `or` of a pair.
+pub fn or_of(pair: usize) -> usize {
+    second_of(pair)
+}
+
+fn pair_in(change: Change) -> usize {
+    match change {
+        Change::Open(pair) => pair,
+        Change::Value(pair) => pair,
+        Change::Count(pair) => pair,
+        Change::Parent(pair) => pair,
+        Change::First(pair) => pair,
+        Change::Second(pair) => pair,
+        Change::Taken(pair) => pair,
+    }
+}
