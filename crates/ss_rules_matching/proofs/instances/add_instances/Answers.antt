@@ -1,0 +1,19 @@
+use Rattle.std.proofs.Common.{subst, sym, ap, ◌∙◌}
+use Rattle.ss_terms_stores.specs.Forms.{formula_at, HasTerms}
+use Rattle.ss_terms_stores.proofs.Grown.{IsGrown-then, HasTerms-grown}
+use Rattle.ss_rules_occurring.specs.Found.{formulas_of}
+use Rattle.ss_rules_matching.specs.declared.places.Tuple.{Tuple}
+use Rattle.ss_rules_matching.proofs.Adding.{HasTuples-get, instance_next}
+use Rattle.ss_rules_matching.proofs.instances.add_instances.Goals as goal
+
+pub loop-place-preserved : goal.loop-place-preserved
+loop-place-preserved c = record {
+  grown = IsGrown-then c.args.bank.now c.loop-place.bank c.add_instance.new.bank c.loop-place.invariant.grown c.add_instance.ensures.grown;
+  added = instance_next c.args.bank.now c.loop-place.bank c.add_instance.new.bank (formula_at c.args.bank.now c.args.whole) (formula_at c.args.bank.now c.args.body) (formula_at c.loop-place.bank c.args.whole) (formula_at c.loop-place.bank c.args.body)
+      (formulas_of c.args.bank.now c.args.list.now) c.loop-place.list c.add_instance.new.list c.args.places.now c.loop-place.place-index c.place-item.result c.deref.result.now (c.deref.ensures.value ∙ ap (λ (t : Tuple). t.terms.items) c.place-item.is) c.loop-place.invariant.grown c.requires.places c.loop-place-test.true
+      (c.loop-place.invariant.grown.same_formulas c.args.whole c.requires.whole) (c.loop-place.invariant.grown.same_formulas c.args.body c.requires.body) c.loop-place.invariant.added c.in_ok-add_instance.ensures.added;
+}
+
+pub add_instance-requires-clause-terms : goal.add_instance-requires-clause-terms
+add_instance-requires-clause-terms c =
+    subst (HasTerms c.loop-place.bank) (sym (c.deref.ensures.value ∙ ap (λ (t : Tuple). t.terms.items) c.place-item.is)) (HasTerms-grown c.args.bank.now c.loop-place.bank c.loop-place.invariant.grown _ (HasTuples-get c.args.bank.now c.args.places.now c.loop-place.place-index c.place-item.result c.requires.places c.loop-place-test.true))

@@ -1,0 +1,130 @@
+// The instances of a `forall`.
+
+ghost use Rattle.std.specs.Prelude.{◌≡◌, map, IfOk, OnOk};
+ghost use Rattle.ss_core.specs.View as view;
+ghost use Rattle.ss_logic_stores.specs.Formulas.{Forall};
+ghost use Rattle.ss_logic_ground.specs.Matching.{forall_instances};
+ghost use Rattle.ss_logic_ground.specs.Occurring.{with_formula, with_formulas};
+ghost use Rattle.ss_terms_stores.specs.Forms.{terms_at, formula_at, HasTerms, HasFormula, IsGrown, IsBankOf};
+ghost use Rattle.ss_rules_occurring.specs.Found.{formulas_of, HasFound, Holds};
+ghost use Rattle.ss_rules_matching.specs.Matches.{tuples_at, HasTuples, places, instance_there};
+
+use crate::places::{Tuple, places};
+use ss_core::Classes;
+use ss_logic_stores::Sort;
+use ss_rules_occurring::FormulaList;
+use ss_terms_puts::put;
+use ss_terms_stores::{Bank, Formula, FormulaId, TermId};
+use std::alloc::{AllocError, Global};
+
+// The instance at these terms.
+fn instance(
+    alloc: Global,
+    bank: &mut Bank,
+    classes: &Classes,
+    whole: FormulaId,
+    body: FormulaId,
+    ts: &[TermId],
+) -> Result<FormulaId, AllocError>
+    requires bank { IsBankOf (view.classes classes.now) bank.old }
+    requires whole { HasFormula bank.old whole }
+    requires body { HasFormula bank.old body }
+    requires terms { HasTerms bank.old ts.now }
+    ensures at { IfOk result (λ g. HasFormula bank.new g × (formula_at bank.new g ≡ instance_there (formula_at bank.old whole) (formula_at bank.old body) (terms_at bank.old ts.now))) }
+    ensures grown { IsGrown bank.old bank.new }
+{
+    let denied = bank.negation(whole);
+    let there = put(alloc, bank, classes, ts, body)?;
+    bank.or(&[denied, there])
+}
+
+// Adds it.
+fn add_instance(
+    alloc: Global,
+    bank: &mut Bank,
+    classes: &Classes,
+    list: &mut FormulaList,
+    whole: FormulaId,
+    body: FormulaId,
+    ts: &[TermId],
+) -> Result<(), AllocError>
+    requires bank { IsBankOf (view.classes classes.now) bank.old }
+    requires list { HasFound bank.old list.old }
+    requires whole { HasFormula bank.old whole }
+    requires body { HasFormula bank.old body }
+    requires terms { HasTerms bank.old ts.now }
+    ensures added { OnOk result (Holds bank.new list.new (with_formula (formulas_of bank.old list.old) (instance_there (formula_at bank.old whole) (formula_at bank.old body) (terms_at bank.old ts.now)))) }
+    ensures grown { IsGrown bank.old bank.new }
+{
+    let f = instance(alloc, bank, classes, whole, body, ts)?;
+    list.add(bank, f)
+}
+
+// Adds those at each place.
+fn add_instances(
+    alloc: Global,
+    bank: &mut Bank,
+    classes: &Classes,
+    list: &mut FormulaList,
+    whole: FormulaId,
+    body: FormulaId,
+    places: &[Tuple],
+) -> Result<(), AllocError>
+    requires bank { IsBankOf (view.classes classes.now) bank.old }
+    requires list { HasFound bank.old list.old }
+    requires whole { HasFormula bank.old whole }
+    requires body { HasFormula bank.old body }
+    requires places { HasTuples bank.old places.now }
+    ensures added { OnOk result (Holds bank.new list.new (with_formulas (formulas_of bank.old list.old) (map (instance_there (formula_at bank.old whole) (formula_at bank.old body)) (tuples_at bank.old places.now)))) }
+    ensures grown { IsGrown bank.old bank.new }
+{
+    for place in places {
+        add_instance(alloc, bank, classes, list, whole, body, &place.terms)?;
+    }
+    Ok(())
+}
+
+// Adds those of a `forall` of these sorts.
+fn add_at_places(
+    alloc: Global,
+    bank: &mut Bank,
+    classes: &Classes,
+    list: &mut FormulaList,
+    whole: FormulaId,
+    sorts: &[Sort],
+    body: FormulaId,
+) -> Result<(), AllocError>
+    requires bank { IsBankOf (view.classes classes.now) bank.old }
+    requires list { HasFound bank.old list.old }
+    requires whole { HasFormula bank.old whole }
+    requires body { HasFormula bank.old body }
+    ensures added { OnOk result (Holds bank.new list.new (with_formulas (formulas_of bank.old list.old) (map (instance_there (formula_at bank.old whole) (formula_at bank.old body)) (places (formulas_of bank.old list.old) sorts.now (formula_at bank.old body))))) }
+    ensures grown { IsGrown bank.old bank.new }
+{
+    let found = places(alloc, bank, classes, &list.list, sorts, body)?;
+    add_instances(alloc, bank, classes, list, whole, body, &found)
+}
+
+/// Adds the instances of a formula at the terms of the list, where it is a `forall`. An error is want of memory.
+pub fn add_forall_instances(
+    alloc: Global,
+    bank: &mut Bank,
+    classes: &Classes,
+    list: &mut FormulaList,
+    f: FormulaId,
+) -> Result<(), AllocError>
+    requires bank { IsBankOf (view.classes classes.now) bank.old }
+    requires list { HasFound bank.old list.old }
+    requires formula { HasFormula bank.old f }
+    ensures added { OnOk result (Holds bank.new list.new (with_formulas (formulas_of bank.old list.old) (forall_instances (formulas_of bank.old list.old) (formula_at bank.old f)))) }
+    ensures grown { IsGrown bank.old bank.new }
+{
+    match bank.formula_node(f) {
+        Formula::Forall(sorts, body) => {
+            let body = *body;
+            let sorts = Vec::from_slice(alloc, sorts)?;
+            add_at_places(alloc, bank, classes, list, f, &sorts, body)
+        }
+        _ => Ok(()),
+    }
+}

@@ -1,0 +1,303 @@
+// The places of a `forall`.
+
+ghost use Rattle.std.specs.Prelude.{◌≡◌, ◌&&◌, [], ◌∷◌, ◌++◌, map, flat_map, filter_map, option_map, option_to_list, IfOk, IfSome, OnOk};
+ghost use Rattle.ss_core.specs.View as view;
+ghost use Rattle.ss_logic_ground.specs.Asked as ask;
+ghost use Rattle.ss_logic_ground.specs.Matching as spec;
+ghost use Rattle.ss_terms_stores.specs.Forms.{term_at, terms_at, formula_at, formulas_at, HasTerm, HasTerms, HasFormula, HasFormulas, IsBankOf};
+ghost use Rattle.ss_rules_matching.specs.Matches as words;
+ghost use Rattle.ss_rules_matching.specs.Matches.{tuples_at, HasTuples, AreTuples};
+
+use crate::matching::{match_atom, match_term};
+use crate::triggers::{Wanted, atom_triggers, wanted_everywhere};
+use ss_core::Classes;
+use ss_logic_stores::Sort;
+use ss_rules_occurring::{atoms, terms};
+use ss_terms_stores::{Bank, FormulaId, TermId};
+use std::alloc::{AllocError, Global};
+
+/// Terms in place of bound names.
+#[derive(Drop)]
+pub(crate) struct Tuple {
+    pub(crate) terms: Vec<TermId>,
+}
+
+// Adds terms, if there are any.
+fn add_tuple(
+    bank: &Bank,
+    tuples: &mut Vec<Tuple>,
+    found: Option<Vec<TermId>>,
+) -> Result<(), AllocError>
+    requires tuples { HasTuples bank.now tuples.old.items }
+    requires found { IfSome found (λ v. HasTerms bank.now v.items) }
+    ensures { OnOk result (AreTuples bank.now tuples.new.items (tuples_at bank.now tuples.old.items ++ option_to_list (option_map (λ v. terms_at bank.now v.items) found))) }
+{
+    let _ = bank;
+    match found {
+        Some(terms) => {
+            tuples.push(Tuple { terms })?;
+            Ok(())
+        }
+        None => Ok(()),
+    }
+}
+
+// ---- at the terms and atoms that match
+
+fn add_at_term(
+    alloc: Global,
+    bank: &Bank,
+    classes: &Classes,
+    count: usize,
+    tuples: &mut Vec<Tuple>,
+    patterns: &[TermId],
+    t: TermId,
+) -> Result<(), AllocError>
+    requires bank { IsBankOf (view.classes classes.now) bank.now }
+    requires tuples { HasTuples bank.now tuples.old.items }
+    requires patterns { HasTerms bank.now patterns.now }
+    requires term { HasTerm bank.now t }
+    ensures { OnOk result (AreTuples bank.now tuples.new.items (tuples_at bank.now tuples.old.items ++ filter_map (λ p. spec.match_term count p (term_at bank.now t)) (terms_at bank.now patterns.now))) }
+{
+    for p in patterns {
+        let found = match_term(alloc, bank, classes, count, *p, t)?;
+        add_tuple(bank, tuples, found)?;
+    }
+    Ok(())
+}
+
+fn add_at_terms(
+    alloc: Global,
+    bank: &Bank,
+    classes: &Classes,
+    count: usize,
+    tuples: &mut Vec<Tuple>,
+    patterns: &[TermId],
+    ts: &[TermId],
+) -> Result<(), AllocError>
+    requires bank { IsBankOf (view.classes classes.now) bank.now }
+    requires tuples { HasTuples bank.now tuples.old.items }
+    requires patterns { HasTerms bank.now patterns.now }
+    requires terms { HasTerms bank.now ts.now }
+    ensures { OnOk result (AreTuples bank.now tuples.new.items (tuples_at bank.now tuples.old.items ++ flat_map (λ t. filter_map (λ p. spec.match_term count p t) (terms_at bank.now patterns.now)) (terms_at bank.now ts.now))) }
+{
+    for t in ts {
+        add_at_term(alloc, bank, classes, count, tuples, patterns, *t)?;
+    }
+    Ok(())
+}
+
+fn add_at_atom(
+    alloc: Global,
+    bank: &Bank,
+    classes: &Classes,
+    count: usize,
+    tuples: &mut Vec<Tuple>,
+    patterns: &[FormulaId],
+    f: FormulaId,
+) -> Result<(), AllocError>
+    requires bank { IsBankOf (view.classes classes.now) bank.now }
+    requires tuples { HasTuples bank.now tuples.old.items }
+    requires patterns { HasFormulas bank.now patterns.now }
+    requires formula { HasFormula bank.now f }
+    ensures { OnOk result (AreTuples bank.now tuples.new.items (tuples_at bank.now tuples.old.items ++ filter_map (λ p. spec.match_atom count p (formula_at bank.now f)) (formulas_at bank.now patterns.now))) }
+{
+    for p in patterns {
+        let found = match_atom(alloc, bank, classes, count, *p, f)?;
+        add_tuple(bank, tuples, found)?;
+    }
+    Ok(())
+}
+
+fn add_at_atoms(
+    alloc: Global,
+    bank: &Bank,
+    classes: &Classes,
+    count: usize,
+    tuples: &mut Vec<Tuple>,
+    patterns: &[FormulaId],
+    fs: &[FormulaId],
+) -> Result<(), AllocError>
+    requires bank { IsBankOf (view.classes classes.now) bank.now }
+    requires tuples { HasTuples bank.now tuples.old.items }
+    requires patterns { HasFormulas bank.now patterns.now }
+    requires formulas { HasFormulas bank.now fs.now }
+    ensures { OnOk result (AreTuples bank.now tuples.new.items (tuples_at bank.now tuples.old.items ++ flat_map (λ f. filter_map (λ p. spec.match_atom count p f) (formulas_at bank.now patterns.now)) (formulas_at bank.now fs.now))) }
+{
+    for f in fs {
+        add_at_atom(alloc, bank, classes, count, tuples, patterns, *f)?;
+    }
+    Ok(())
+}
+
+// Of these terms and atoms.
+fn matches(
+    alloc: Global,
+    bank: &Bank,
+    classes: &Classes,
+    count: usize,
+    for_terms: &[TermId],
+    for_atoms: &[FormulaId],
+    ts: &[TermId],
+    fs: &[FormulaId],
+) -> Result<Vec<Tuple>, AllocError>
+    requires bank { IsBankOf (view.classes classes.now) bank.now }
+    requires for_terms { HasTerms bank.now for_terms.now }
+    requires for_atoms { HasFormulas bank.now for_atoms.now }
+    requires terms { HasTerms bank.now ts.now }
+    requires formulas { HasFormulas bank.now fs.now }
+    ensures { IfOk result (λ v. AreTuples bank.now v.items (flat_map (λ t. filter_map (λ p. spec.match_term count p t) (terms_at bank.now for_terms.now)) (terms_at bank.now ts.now) ++ flat_map (λ f. filter_map (λ p. spec.match_atom count p f) (formulas_at bank.now for_atoms.now)) (formulas_at bank.now fs.now))) }
+{
+    let mut tuples = Vec::new(alloc);
+    add_at_terms(alloc, bank, classes, count, &mut tuples, for_terms, ts)?;
+    add_at_atoms(alloc, bank, classes, count, &mut tuples, for_atoms, fs)?;
+    Ok(tuples)
+}
+
+// Of those of a list.
+fn match_places(
+    alloc: Global,
+    bank: &Bank,
+    classes: &Classes,
+    count: usize,
+    for_terms: &[TermId],
+    for_atoms: &[FormulaId],
+    fs: &[FormulaId],
+) -> Result<Vec<Tuple>, AllocError>
+    requires bank { IsBankOf (view.classes classes.now) bank.now }
+    requires for_terms { HasTerms bank.now for_terms.now }
+    requires for_atoms { HasFormulas bank.now for_atoms.now }
+    requires formulas { HasFormulas bank.now fs.now }
+    ensures { IfOk result (λ v. AreTuples bank.now v.items (words.match_places count (terms_at bank.now for_terms.now) (formulas_at bank.now for_atoms.now) (formulas_at bank.now fs.now))) }
+{
+    let atoms = atoms(alloc, bank, fs)?;
+    let terms = terms(alloc, bank, &atoms.list)?;
+    matches(
+        alloc,
+        bank,
+        classes,
+        count,
+        for_terms,
+        for_atoms,
+        &terms.list,
+        &atoms.list,
+    )
+}
+
+// ---- at whole numbers
+
+// Adds a term alone.
+fn add_alone(
+    alloc: Global,
+    bank: &Bank,
+    tuples: &mut Vec<Tuple>,
+    t: TermId,
+) -> Result<(), AllocError>
+    requires tuples { HasTuples bank.now tuples.old.items }
+    requires term { HasTerm bank.now t }
+    ensures { OnOk result (AreTuples bank.now tuples.new.items (tuples_at bank.now tuples.old.items ++ (term_at bank.now t ∷ []) ∷ [])) }
+{
+    let alone = Vec::from_slice(alloc, &[t])?;
+    add_tuple(bank, tuples, Some(alone))
+}
+
+// Each term alone.
+fn each_alone(alloc: Global, bank: &Bank, ts: &[TermId]) -> Result<Vec<Tuple>, AllocError>
+    requires { HasTerms bank.now ts.now }
+    ensures { IfOk result (λ v. AreTuples bank.now v.items (map (λ t. t ∷ []) (terms_at bank.now ts.now))) }
+{
+    let mut tuples = Vec::new(alloc);
+    for t in ts {
+        add_alone(alloc, bank, &mut tuples, *t)?;
+    }
+    Ok(tuples)
+}
+
+fn number_places(alloc: Global, bank: &Bank, fs: &[FormulaId]) -> Result<Vec<Tuple>, AllocError>
+    requires { HasFormulas bank.now fs.now }
+    ensures { IfOk result (λ v. AreTuples bank.now v.items (words.number_places (formulas_at bank.now fs.now))) }
+{
+    let wholes = wanted_everywhere(alloc, bank, Wanted::PlainWhole, fs)?;
+    each_alone(alloc, bank, &wholes)
+}
+
+// ---- one or the other
+
+fn is_one_whole(sorts: &[Sort]) -> bool
+    ensures { result ≡ spec.is_one_whole sorts.now }
+{
+    match sorts {
+        [s] => *s == Sort::Whole,
+        [] => false,
+        [_, _, ..] => false,
+    }
+}
+
+fn no_term(bank: &Bank, ts: &[TermId]) -> bool
+    ensures { result ≡ ask.is_empty (terms_at bank.now ts.now) }
+{
+    let _ = bank;
+    match ts {
+        [] => true,
+        [_, ..] => false,
+    }
+}
+
+fn no_formula(bank: &Bank, fs: &[FormulaId]) -> bool
+    ensures { result ≡ ask.is_empty (formulas_at bank.now fs.now) }
+{
+    let _ = bank;
+    match fs {
+        [] => true,
+        [_, ..] => false,
+    }
+}
+
+// Whether there is no trigger for the one whole number.
+fn is_counted(bank: &Bank, sorts: &[Sort], for_terms: &[TermId], for_atoms: &[FormulaId]) -> bool
+    ensures { result ≡ (ask.is_empty (terms_at bank.now for_terms.now) && ask.is_empty (formulas_at bank.now for_atoms.now) && spec.is_one_whole sorts.now) }
+{
+    no_term(bank, for_terms) && no_formula(bank, for_atoms) && is_one_whole(sorts)
+}
+
+// By these triggers.
+fn places_by(
+    alloc: Global,
+    bank: &Bank,
+    classes: &Classes,
+    fs: &[FormulaId],
+    sorts: &[Sort],
+    for_terms: &[TermId],
+    for_atoms: &[FormulaId],
+) -> Result<Vec<Tuple>, AllocError>
+    requires bank { IsBankOf (view.classes classes.now) bank.now }
+    requires for_terms { HasTerms bank.now for_terms.now }
+    requires for_atoms { HasFormulas bank.now for_atoms.now }
+    requires formulas { HasFormulas bank.now fs.now }
+    ensures { IfOk result (λ v. AreTuples bank.now v.items (words.places_by (formulas_at bank.now fs.now) sorts.now (terms_at bank.now for_terms.now) (formulas_at bank.now for_atoms.now))) }
+{
+    if is_counted(bank, sorts, for_terms, for_atoms) {
+        return number_places(alloc, bank, fs);
+    }
+    match_places(alloc, bank, classes, sorts.len(), for_terms, for_atoms, fs)
+}
+
+/// The terms of a list that stand in place of the bound names of a `forall`. An error is want of memory.
+pub(crate) fn places(
+    alloc: Global,
+    bank: &Bank,
+    classes: &Classes,
+    fs: &[FormulaId],
+    sorts: &[Sort],
+    body: FormulaId,
+) -> Result<Vec<Tuple>, AllocError>
+    requires bank { IsBankOf (view.classes classes.now) bank.now }
+    requires body { HasFormula bank.now body }
+    requires formulas { HasFormulas bank.now fs.now }
+    ensures { IfOk result (λ v. AreTuples bank.now v.items (words.places (formulas_at bank.now fs.now) sorts.now (formula_at bank.now body))) }
+{
+    let count = sorts.len();
+    let for_terms = wanted_everywhere(alloc, bank, Wanted::Trigger(count), &[body])?;
+    let for_atoms = atom_triggers(alloc, bank, count, body)?;
+    places_by(alloc, bank, classes, fs, sorts, &for_terms, &for_atoms)
+}
