@@ -1,0 +1,85 @@
+-- The model of a candidate refutes, and values have no arguments.
+use Rattle.std.proofs.Common.{◌≡◌, ℕ, ◌≤◌, List, [], ◌∷◌, length, map, Bool, true, false, refl, sym, ◌∙◌, ap, subst, arith}
+use Rattle.std.specs.List.{list_all, slice_index_or}
+use Rattle.ss_logic_stores.specs.Terms.{Symbol, Number, Fixed, Null, ClassName, Constant, Add, Subtract, Multiply, Quotient, Remainder, Field, Element, Length, TypeOf, Level, Owner, Pair, Next, Set, Put, Unpack, Pack, Capture, Join, New, NewArray, MakeReady, Term, App, Terms, term_then, terms_from}
+use Rattle.ss_logic_stores.specs.Formulas.{Formula}
+use Rattle.ss_logic_stores.specs.Equal.{same_term, same_formula}
+use Rattle.ss_logic_derivations.specs.Steps.{is_value}
+use Rattle.ss_logic_ground.specs.Occurring.{terms, with_terms_of_all}
+use Rattle.ss_logic_countermodels.specs.Refuting.{Model, Refutes, comes_out, model_of, place_among, told, is_equal_inside}
+use Rattle.ss_terms_stores.specs.declared.forms.TermId.{TermId}
+use Rattle.ss_terms_stores.specs.declared.forms.FormulaId.{FormulaId}
+use Rattle.ss_terms_stores.specs.Forms.{Forms, term_at, terms_at, formulas_at}
+use Rattle.ss_rules_occurring.specs.Found.{terms_of, formulas_of, Holds, HoldsTerms}
+use Rattle.ss_rules_occurring.proofs.Sought.{holds_itself}
+use Rattle.ss_rules_occurring.proofs.Stacks.{holds_terms_itself}
+use Rattle.ss_search_models.specs.declared.candidate.Candidate.{Candidate}
+use Rattle.ss_search_models.specs.Candidates.{class_number, truth_number, class_at, truth_at, model_at, IsFor}
+use Rattle.ss_search_models.proofs.Terms.{terms_told}
+use Rattle.ss_search_models.specs.Said.{are_functions_of_classes, are_atoms_of_classes, are_values_apart}
+
+applied : (f : Symbol) (t : Term) (ts : Terms) → false ≡ is_value (App f (term_then t ts))
+applied (Number n) t ts = refl
+applied (Fixed v) t ts = refl
+applied Null t ts = refl
+applied (ClassName c) t ts = refl
+applied (Constant s k) t ts = refl
+applied Add t ts = refl
+applied Subtract t ts = refl
+applied Multiply t ts = refl
+applied Quotient t ts = refl
+applied Remainder t ts = refl
+applied (Field k) t ts = refl
+applied (Element s) t ts = refl
+applied Length t ts = refl
+applied TypeOf t ts = refl
+applied Level t ts = refl
+applied Owner t ts = refl
+applied Pair t ts = refl
+applied Next t ts = refl
+applied (Set k) t ts = refl
+applied Put t ts = refl
+applied (Unpack c) t ts = refl
+applied (Pack c) t ts = refl
+applied (Capture c) t ts = refl
+applied Join t ts = refl
+applied (New c) t ts = refl
+applied (NewArray c) t ts = refl
+applied MakeReady t ts = refl
+
+pub no_value : (b : Forms) (f : Symbol) (ts : List TermId) → 1 ≤ length ts → false ≡ is_value (App f (terms_from (terms_at b ts)))
+no_value b f [] h = absurd (omega arith)
+no_value b f (t ∷ ts) h = applied f (term_at b t) (terms_from (terms_at b ts))
+
+module _ (b : Forms) (c : Candidate) (fs : List Formula) (h : IsFor b c fs) where
+  pub refuting : (r : Bool) →
+      true ≡ list_all (comes_out (model_at b c)) fs →
+      are_functions_of_classes (model_at b c) (terms_of b c.terms.now) ≡ true →
+      are_atoms_of_classes (model_at b c) (formulas_of b c.told.now) ≡ true →
+      are_values_apart (model_at b c) (terms_of b c.terms.now) ≡ true →
+      r ≡ list_all (is_equal_inside (model_at b c)) (formulas_of b c.told.now) → r ≡ true → Refutes (model_at b c) fs
+  refuting r true_ones congruent alike apart equal e = record {
+    true_ones = sym true_ones;
+    congruent = ap (are_functions_of_classes (model_at b c)) (sym h.terms) ∙ congruent;
+    alike = ap (are_atoms_of_classes (model_at b c)) (sym h.told) ∙ alike;
+    equal = ap (list_all (is_equal_inside (model_at b c))) (sym h.told) ∙ sym equal ∙ e;
+    apart = ap (are_values_apart (model_at b c)) (sym h.terms) ∙ apart;
+  }
+
+  pub same_model : (classes : List ℕ) (truths : List Bool) → classes ≡ map (class_number c) c.terms.now.list.items → truths ≡ map (truth_number c) c.told.now.list.items → model_at b c ≡ model_of fs classes truths
+  unfolding class_at truth_at
+  same_model classes truths cs ts =
+      ap (λ (ts : List Term). let m : Model = record { class = λ t. slice_index_or (map (class_number c) c.terms.now.list.items) (place_among (same_term t) ts) 0; truth = truth_at b c } in m) h.terms
+      ∙ ap (λ (gs : List Formula). let m : Model = record { class = λ t. slice_index_or (map (class_number c) c.terms.now.list.items) (place_among (same_term t) (terms fs)) 0; truth = λ f. slice_index_or (map (truth_number c) c.told.now.list.items) (place_among (same_formula f) gs) false } in m) h.told
+      ∙ ap (λ ns. model_of fs ns (map (truth_number c) c.told.now.list.items)) (sym cs)
+      ∙ ap (λ vs. model_of fs classes vs) (sym ts)
+
+  pub refuting_model : (classes : List ℕ) (truths : List Bool) → classes ≡ map (class_number c) c.terms.now.list.items → truths ≡ map (truth_number c) c.told.now.list.items → Refutes (model_at b c) fs → Refutes (model_of fs classes truths) fs
+  refuting_model classes truths cs ts r = subst (λ m. Refutes m fs) (same_model classes truths cs ts) r
+
+pub for_formulas : (b : Forms) (c : Candidate) (fs : List Formula) (gs : List FormulaId) → Holds b c.told.now (told fs) → gs ≡ c.told.now.list.items → HoldsTerms b c.terms.now (with_terms_of_all [] (formulas_at b gs)) → IsFor b c fs
+for_formulas b c fs gs k e h = record {
+  has = record { terms = holds_terms_itself b c.terms.now _ h; told = holds_itself b c.told.now _ k };
+  terms = h.are ∙ ap (λ xs. with_terms_of_all [] (formulas_at b xs)) e ∙ ap (with_terms_of_all []) k.are ∙ terms_told fs;
+  told = k.are;
+}

@@ -1,0 +1,5 @@
+pub mod Candidates
+pub mod Tellings
+pub mod Found
+pub mod Keys
+pub mod Said

@@ -1,0 +1,84 @@
+// Whether a candidate is a model that refutes.
+
+ghost use Rattle.std.specs.Prelude.{◌≡◌, true, IfOk, IfSome};
+ghost use Rattle.ss_logic_countermodels.specs.Refuting.{Refutes, model_of};
+ghost use Rattle.ss_terms_stores.specs.Forms.{formulas_at, HasFormulas};
+ghost use Rattle.ss_search_models.specs.Candidates.{model_at, IsFor};
+
+use crate::agreeing::{atoms_agree, equalities_are_inside, functions_agree};
+use crate::candidate::Candidate;
+use crate::outcomes::come_true;
+use crate::telling::told;
+use crate::values::values_differ;
+use ss_logic_countermodels::Countermodel;
+use ss_rules_occurring::terms;
+use ss_terms_stores::{Bank, FormulaId};
+use std::alloc::{AllocError, Global};
+
+// Whether the model of the candidate refutes the formulas.
+fn refutes(
+    alloc: Global,
+    bank: &Bank,
+    candidate: &Candidate<'_>,
+    formulas: &[FormulaId],
+) -> Result<bool, AllocError>
+    requires candidate { IsFor bank.now candidate.now (formulas_at bank.now formulas.now) }
+    requires formulas { HasFormulas bank.now formulas.now }
+    ensures { IfOk result (λ r. r ≡ true → Refutes (model_at bank.now candidate.now) (formulas_at bank.now formulas.now)) }
+{
+    if !come_true(alloc, bank, candidate, formulas)? {
+        return Ok(false);
+    }
+    if !functions_agree(alloc, bank, candidate)? {
+        return Ok(false);
+    }
+    if !atoms_agree(alloc, bank, candidate)? {
+        return Ok(false);
+    }
+    if !values_differ(alloc, bank, candidate)? {
+        return Ok(false);
+    }
+    Ok(equalities_are_inside(bank, candidate))
+}
+
+// The model of the candidate, where it refutes the formulas.
+fn model(
+    alloc: Global,
+    bank: &Bank,
+    candidate: &Candidate<'_>,
+    formulas: &[FormulaId],
+) -> Result<Option<Countermodel>, AllocError>
+    requires candidate { IsFor bank.now candidate.now (formulas_at bank.now formulas.now) }
+    requires formulas { HasFormulas bank.now formulas.now }
+    ensures { IfOk result (λ o. IfSome o (λ m. Refutes (model_of (formulas_at bank.now formulas.now) m.classes.items m.truths.items) (formulas_at bank.now formulas.now))) }
+{
+    if refutes(alloc, bank, candidate, formulas)? {
+        Ok(Some(candidate.model(alloc)?))
+    } else {
+        Ok(None)
+    }
+}
+
+/// The model that a candidate is, where it refutes the formulas. `classes` is a class for each term, by the terms' numbers, and 0 past
+/// its end. `truths` is a truth value for each pair of a formula and its negation, by half of their numbers, and false past its end: that of
+/// the atom or the `forall`. An error is want of memory.
+pub fn countermodel(
+    alloc: Global,
+    bank: &Bank,
+    formulas: &[FormulaId],
+    classes: &[usize],
+    truths: &[bool],
+) -> Result<Option<Countermodel>, AllocError>
+    requires { HasFormulas bank.now formulas.now }
+    ensures { IfOk result (λ o. IfSome o (λ m. Refutes (model_of (formulas_at bank.now formulas.now) m.classes.items m.truths.items) (formulas_at bank.now formulas.now))) }
+{
+    let told = told(alloc, bank, formulas)?;
+    let terms = terms(alloc, bank, &told.list)?;
+    let candidate = Candidate {
+        terms: &terms,
+        told: &told,
+        classes,
+        truths,
+    };
+    model(alloc, bank, &candidate, formulas)
+}
