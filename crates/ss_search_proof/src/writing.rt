@@ -1,0 +1,501 @@
+// The lines of a proof. Each fact is written once, in the lowest case that sees all its uses.
+
+use crate::facts::{Fact, Facts, GoodName, Range, Reason, RuleKind, Said};
+use crate::proof::{End, Proof};
+use crate::reasons::Reasons;
+use ss_deriv::{Derivation, Draft, Line};
+use ss_logic_rules::{GoodRule, RuleName};
+use ss_search_classes::NONE;
+use ss_terms_stores::{FormulaId, TermId};
+use std::alloc::{AllocError, Global};
+use std::collections::BinaryHeap;
+
+/// The derivation of the proof whose outermost block this is.
+pub fn write_lines(
+    alloc: Global,
+    reasons: &mut Reasons,
+    root: usize,
+) -> Result<Option<Derivation>, AllocError> {
+    let Reasons { facts, proof, .. } = reasons;
+    number_blocks(alloc, proof, root)?;
+    place_facts(alloc, facts, proof, root)?;
+    let mut writer = Writer {
+        alloc,
+        lines: Draft::new(alloc),
+        known: 0,
+    };
+    writer.write_blocks(facts, proof, root)?;
+    let Writer { lines, .. } = writer;
+    if lines.is_finished() {
+        Ok(Some(lines.finish()))
+    } else {
+        Ok(None)
+    }
+}
+
+// Numbers the blocks in the order of the text, and finds the last number inside each of them.
+fn number_blocks(alloc: Global, proof: &mut Proof, root: usize) -> Result<(), AllocError> {
+    let mut order = Vec::new(alloc);
+    let mut at = root;
+    for number in 0..proof.len() {
+        if at == NONE {
+            break;
+        }
+        let mut block = proof.block(at);
+        block.enter = number;
+        block.leave = number;
+        proof.put(at, block);
+        order.push(at)?;
+        at = proof.after(at, root);
+    }
+    for number in order.iter().rev() {
+        if *number != root {
+            raise_leave(proof, *number);
+        }
+    }
+    Ok(())
+}
+
+fn raise_leave(proof: &mut Proof, number: usize) {
+    let block = proof.block(number);
+    let mut above = proof.block(block.above);
+    above.leave = above.leave.max(block.leave);
+    proof.put(block.above, above);
+}
+
+// Finds the block of each fact that is used, from the newest fact to the oldest.
+fn place_facts(
+    alloc: Global,
+    facts: &mut Facts,
+    proof: &mut Proof,
+    root: usize,
+) -> Result<(), AllocError> {
+    let mut places = Places {
+        used: BinaryHeap::new(alloc),
+        root,
+    };
+    let mut at = root;
+    for _ in 0..proof.len() {
+        if at == NONE {
+            break;
+        }
+        let block = proof.block(at);
+        places.use_end(facts, proof, at, block.end)?;
+        at = proof.after(at, root);
+    }
+    for _ in 0..u64::MAX {
+        let Some(fact) = places.used.pop() else {
+            break;
+        };
+        places.place(facts, proof, fact)?;
+    }
+    Ok(())
+}
+
+/// The facts that are used, and whose own uses aren't looked at yet.
+#[derive(Drop)]
+struct Places {
+    used: BinaryHeap<usize>,
+    root: usize,
+}
+
+impl Places {
+    fn use_end(
+        &mut self,
+        facts: &mut Facts,
+        proof: &Proof,
+        block: usize,
+        end: End,
+    ) -> Result<(), AllocError> {
+        match end {
+            End::Nothing | End::Cut(_) => Ok(()),
+            End::Split(fact) => self.use_in(facts, proof, fact, block),
+            End::Clash(first, second) => {
+                self.use_in(facts, proof, first, block)?;
+                self.use_in(facts, proof, second, block)
+            }
+        }
+    }
+
+    // A fact is used in a block. A hypothesis is known there already.
+    fn use_in(
+        &mut self,
+        facts: &mut Facts,
+        proof: &Proof,
+        number: usize,
+        block: usize,
+    ) -> Result<(), AllocError> {
+        let Some(fact) = facts.fact_mut(number) else {
+            return Ok(());
+        };
+        if is_hypothesis(fact.reason) {
+            return Ok(());
+        }
+        let block = if is_choice(fact.reason) {
+            self.root
+        } else {
+            block
+        };
+        if fact.block != NONE {
+            fact.block = meet(proof, fact.block, block);
+            return Ok(());
+        }
+        fact.block = block;
+        self.used.push(number)?;
+        Ok(())
+    }
+
+    // All uses of a fact are known, so its block is. What it is made of is used there.
+    fn place(
+        &mut self,
+        facts: &mut Facts,
+        proof: &mut Proof,
+        number: usize,
+    ) -> Result<(), AllocError> {
+        let Some(fact) = facts.fact_mut(number) else {
+            return Ok(());
+        };
+        let mut block = proof.block(fact.block);
+        fact.next = block.facts;
+        block.facts = number;
+        proof.put(fact.block, block);
+        let (block, reason) = (fact.block, fact.reason);
+        match reason {
+            Reason::Part(whole, _) => self.use_in(facts, proof, whole, block),
+            Reason::Inst(whole, _) => self.use_in(facts, proof, whole, block),
+            Reason::Good(_, whole, _) => self.use_in(facts, proof, whole, block),
+            Reason::Chain(range) => self.use_path(facts, proof, range, block),
+            Reason::Cong(range) => self.use_path(facts, proof, range, block),
+            Reason::Swap(whole, range) => {
+                self.use_in(facts, proof, whole, block)?;
+                self.use_path(facts, proof, range, block)
+            }
+            _ => Ok(()),
+        }
+    }
+
+    fn use_path(
+        &mut self,
+        facts: &mut Facts,
+        proof: &Proof,
+        range: Range,
+        block: usize,
+    ) -> Result<(), AllocError> {
+        for place in range.from..range.to {
+            let fact = facts.path_at(place);
+            self.use_in(facts, proof, fact, block)?;
+        }
+        Ok(())
+    }
+}
+
+fn is_hypothesis(reason: Reason) -> bool {
+    matches!(
+        &reason,
+        Reason::Unit(_, _) | Reason::Cut(_, _) | Reason::Case | Reason::Own
+    )
+}
+
+fn is_choice(reason: Reason) -> bool {
+    matches!(&reason, Reason::Choose(_, _))
+}
+
+// The lowest block that has two blocks inside it.
+fn meet(proof: &Proof, first: usize, second: usize) -> usize {
+    let inner = proof.block(second);
+    let mut at = first;
+    for _ in 0..proof.len() {
+        let block = proof.block(at);
+        if block.enter <= inner.enter && inner.enter <= block.leave {
+            break;
+        }
+        at = block.above;
+    }
+    at
+}
+
+/// The lines so far, and how many facts are known behind them.
+#[derive(Drop)]
+struct Writer {
+    alloc: Global,
+    lines: Draft,
+    known: usize,
+}
+
+impl Writer {
+    fn add(&mut self, line: Line) -> Result<(), AllocError> {
+        if self.lines.allows(&line) {
+            self.lines.add(line)
+        } else {
+            Ok(())
+        }
+    }
+
+    // A line that makes a fact known, which is let go of by its block.
+    fn learn(&mut self, facts: &mut Facts, number: usize) {
+        if let Some(fact) = facts.fact_mut(number) {
+            fact.known = self.known;
+            fact.block = NONE;
+            fact.next = NONE;
+        }
+        self.known = self.known.saturating_add(1);
+    }
+
+    fn write_blocks(
+        &mut self,
+        facts: &mut Facts,
+        proof: &mut Proof,
+        root: usize,
+    ) -> Result<(), AllocError> {
+        let mut at = root;
+        for _ in 0..proof.len() {
+            if at == NONE {
+                break;
+            }
+            self.write_block(facts, proof, at, at == root)?;
+            at = proof.after(at, root);
+        }
+        Ok(())
+    }
+
+    fn write_block(
+        &mut self,
+        facts: &mut Facts,
+        proof: &mut Proof,
+        number: usize,
+        is_root: bool,
+    ) -> Result<(), AllocError> {
+        let mut block = proof.block(number);
+        if is_root {
+            self.write_facts(facts, block.facts, true)?;
+        } else {
+            self.known = proof.block(block.above).known;
+            self.add(Line::Case)?;
+            self.learn(facts, block.own);
+        }
+        self.write_facts(facts, block.facts, false)?;
+        block.known = self.known;
+        proof.put(number, block);
+        self.write_end(facts, block.end, block.cases)
+    }
+
+    // The facts of a block, the oldest first: those that choose, or the others.
+    fn write_facts(
+        &mut self,
+        facts: &mut Facts,
+        first: usize,
+        choices: bool,
+    ) -> Result<(), AllocError> {
+        let mut at = first;
+        for _ in 0..facts.len() {
+            let Some(fact) = facts.fact(at) else {
+                break;
+            };
+            if is_choice(fact.reason) == choices {
+                self.write_fact(facts, fact)?;
+                let next = fact.next;
+                self.learn_choice(facts, at, choices);
+                at = next;
+            } else {
+                at = fact.next;
+            }
+        }
+        Ok(())
+    }
+
+    // The list of a block is kept while its choices are written.
+    fn learn_choice(&mut self, facts: &mut Facts, number: usize, choices: bool) {
+        if choices {
+            if let Some(fact) = facts.fact_mut(number) {
+                fact.known = self.known;
+            }
+            self.known = self.known.saturating_add(1);
+        } else {
+            self.learn(facts, number);
+        }
+    }
+
+    fn write_fact(&mut self, facts: &Facts, fact: Fact) -> Result<(), AllocError> {
+        match fact.reason {
+            Reason::Premise(number) => self.add(Line::Premise { number }),
+            Reason::Denied => self.add(Line::Denied),
+            Reason::Part(whole, part) => self.add(Line::Part {
+                of: known_at(facts, whole),
+                part,
+            }),
+            Reason::Chain(range) => self.write_chain(facts, range, fact.said),
+            Reason::Cong(range) => self.write_cong(facts, range, fact.said),
+            Reason::Swap(whole, range) => self.write_swap(facts, (whole, range), fact.said),
+            Reason::Inst(whole, range) => self.write_inst(facts, whole, range),
+            Reason::Choose(formula, range) => self.write_choice(facts, formula, range),
+            Reason::Rule(rule, range) => self.write_rule(facts, rule, range),
+            Reason::Good(rule, whole, range) => self.write_good(facts, rule, (whole, range)),
+            _ => Ok(()),
+        }
+    }
+
+    fn write_chain(&mut self, facts: &Facts, range: Range, said: Said) -> Result<(), AllocError> {
+        let path = known_path(self.alloc, facts, range)?;
+        let Said::Equal(left, right) = said else {
+            return Ok(());
+        };
+        self.add(Line::Chain {
+            left: TermId(left),
+            right: TermId(right),
+            path,
+        })
+    }
+
+    fn write_cong(&mut self, facts: &Facts, range: Range, said: Said) -> Result<(), AllocError> {
+        let equalities = known_path(self.alloc, facts, range)?;
+        let Said::Equal(left, right) = said else {
+            return Ok(());
+        };
+        self.add(Line::Cong {
+            left: TermId(left),
+            right: TermId(right),
+            equalities,
+        })
+    }
+
+    fn write_swap(
+        &mut self,
+        facts: &Facts,
+        from: (usize, Range),
+        said: Said,
+    ) -> Result<(), AllocError> {
+        let equalities = known_path(self.alloc, facts, from.1)?;
+        let Said::Formula(formula) = said else {
+            return Ok(());
+        };
+        self.add(Line::Swap {
+            of: known_at(facts, from.0),
+            formula: FormulaId(formula),
+            equalities,
+        })
+    }
+
+    fn write_inst(&mut self, facts: &Facts, whole: usize, range: Range) -> Result<(), AllocError> {
+        let terms = terms_in(self.alloc, facts, range)?;
+        self.add(Line::Inst {
+            of: known_at(facts, whole),
+            terms,
+        })
+    }
+
+    fn write_choice(
+        &mut self,
+        facts: &Facts,
+        formula: usize,
+        range: Range,
+    ) -> Result<(), AllocError> {
+        let constants = terms_in(self.alloc, facts, range)?;
+        self.add(Line::Choose {
+            formula: FormulaId(formula),
+            constants,
+        })
+    }
+
+    fn write_rule(
+        &mut self,
+        facts: &Facts,
+        rule: RuleKind,
+        range: Range,
+    ) -> Result<(), AllocError> {
+        let arguments = terms_in(self.alloc, facts, range)?;
+        self.add(Line::Rule {
+            name: name_of(rule),
+            arguments,
+        })
+    }
+
+    fn write_good(
+        &mut self,
+        facts: &Facts,
+        rule: GoodName,
+        from: (usize, Range),
+    ) -> Result<(), AllocError> {
+        let arguments = terms_in(self.alloc, facts, from.1)?;
+        let store = known_at(facts, from.0);
+        match good_of(rule) {
+            Some(name) => self.add(Line::Good {
+                name,
+                store,
+                arguments,
+            }),
+            None => self.add_invariants(store, arguments),
+        }
+    }
+
+    // The line of the rule on invariants.
+    fn add_invariants(&mut self, store: usize, arguments: Vec<TermId>) -> Result<(), AllocError> {
+        self.add(Line::Invariants { store, arguments })
+    }
+
+    fn write_end(&mut self, facts: &Facts, end: End, cases: usize) -> Result<(), AllocError> {
+        match end {
+            End::Nothing => Ok(()),
+            End::Clash(first, second) => {
+                let left = known_at(facts, first);
+                let right = known_at(facts, second);
+                self.add(Line::Clash { left, right })
+            }
+            End::Split(fact) => self.add(Line::Split {
+                of: known_at(facts, fact),
+                cases,
+            }),
+            End::Cut(formula) => self.add(Line::Cut {
+                formula: FormulaId(formula),
+            }),
+        }
+    }
+}
+
+/// The name of a rule.
+pub fn name_of(rule: RuleKind) -> RuleName {
+    match rule {
+        RuleKind::Read => RuleName::Read,
+        RuleKind::Fresh => RuleName::Fresh,
+        RuleKind::Class => RuleName::Class,
+        RuleKind::Split => RuleName::Split,
+        RuleKind::Apart => RuleName::Apart,
+        RuleKind::Quorem => RuleName::Quorem,
+        RuleKind::Bool => RuleName::Bool,
+    }
+}
+
+/// The name of a rule on good stores, but for that on invariants.
+pub fn good_of(rule: GoodName) -> Option<GoodRule> {
+    match rule {
+        GoodName::Full => Some(GoodRule::Full),
+        GoodName::Owned => Some(GoodRule::Owned),
+        GoodName::Marks => Some(GoodRule::Marks),
+        GoodName::Typed => Some(GoodRule::Typed),
+        GoodName::Ready => Some(GoodRule::Ready),
+        GoodName::Invariants => None,
+    }
+}
+
+fn known_at(facts: &Facts, number: usize) -> usize {
+    match facts.fact(number) {
+        Some(fact) => fact.known,
+        None => NONE,
+    }
+}
+
+// The numbers, among what is known, of the facts of a path.
+fn known_path(alloc: Global, facts: &Facts, range: Range) -> Result<Vec<usize>, AllocError> {
+    let mut numbers = Vec::new(alloc);
+    for place in range.from..range.to {
+        numbers.push(known_at(facts, facts.path_at(place)))?;
+    }
+    Ok(numbers)
+}
+
+fn terms_in(alloc: Global, facts: &Facts, range: Range) -> Result<Vec<TermId>, AllocError> {
+    let mut terms = Vec::new(alloc);
+    for place in range.from..range.to {
+        terms.push(TermId(facts.path_at(place)))?;
+    }
+    Ok(terms)
+}
