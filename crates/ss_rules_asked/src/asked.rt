@@ -39,7 +39,7 @@ pub struct Asked {
 }
 
 /// Asks for the instance of a rule at these arguments. An error is want of memory.
-pub(crate) fn ask(
+pub fn ask(
     alloc: Global,
     bank: &Bank,
     asked: &mut Vec<Asked>,

@@ -16,19 +16,26 @@ use ss_terms_stores::{Bank, Formula, FormulaId, Predicate, Symbol, Term, TermId}
 
 /// What a read takes beside its store.
 #[derive(Clone, Copy)]
-pub(crate) enum Others {
+pub enum Others {
+    /// Nothing.
     Nothing,
+    /// An object.
     Object(TermId),
+    /// An object and the number of a field.
     Field(TermId, u32),
+    /// An array and a position.
     Element(TermId, TermId),
 }
 
 /// A read: its number, its store, and what else it takes.
 #[derive(Clone, Copy)]
-pub(crate) struct Reading {
-    pub(crate) kind: u32,
-    pub(crate) store: TermId,
-    pub(crate) others: Others,
+pub struct Reading {
+    /// Its number.
+    pub kind: u32,
+    /// Its store.
+    pub store: TermId,
+    /// What else it takes.
+    pub others: Others,
 }
 
 /// That a term counts as a class.
@@ -217,7 +224,7 @@ pub(crate) fn owned_in(bank: &Bank, s: TermId, t: TermId) -> Option<TermId>
 }
 
 /// The store of which an atom says that it is good.
-pub(crate) fn good_of(bank: &Bank, f: FormulaId) -> Option<TermId>
+pub fn good_of(bank: &Bank, f: FormulaId) -> Option<TermId>
     requires { HasFormula bank.now f }
     ensures { IsOne bank.now result (spec.good_of (formula_at bank.now f)) }
 {
@@ -232,7 +239,7 @@ pub(crate) fn good_of(bank: &Bank, f: FormulaId) -> Option<TermId>
 }
 
 /// The array whose length a term is.
-pub(crate) fn length_of(bank: &Bank, t: TermId) -> Option<TermId>
+pub fn length_of(bank: &Bank, t: TermId) -> Option<TermId>
     requires { HasTerm bank.now t }
     ensures { IsOne bank.now result (spec.length_of (term_at bank.now t)) }
 {

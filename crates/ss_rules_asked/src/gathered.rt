@@ -65,7 +65,7 @@ fn add_readings_of_atoms(
 }
 
 /// The reads of terms and atoms. An error is want of memory.
-pub(crate) fn readings(
+pub fn readings(
     alloc: Global,
     bank: &Bank,
     atoms: &[FormulaId],

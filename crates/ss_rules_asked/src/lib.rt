@@ -11,5 +11,8 @@ mod lists;
 mod reads;
 mod sentences;
 
-pub use asked::{Argument, Asked, Rule};
+pub use asked::{Argument, Asked, Rule, ask};
 pub use closing::asked_to_close;
+pub use forms::{Others, Reading, good_of, length_of};
+pub use gathered::readings;
+pub use lists::{AtAtom, AtTerm, ask_at_atoms, ask_at_terms};

@@ -20,7 +20,7 @@ use std::alloc::{AllocError, Global};
 
 /// A sentence that is asked for at terms.
 #[derive(Clone, Copy)]
-pub(crate) enum AtTerm {
+pub enum AtTerm {
     /// A next reference is new.
     Next,
     /// In this store, the new object over the other one has another owner.
@@ -41,7 +41,7 @@ pub(crate) enum AtTerm {
 
 /// A sentence that is asked for at atoms.
 #[derive(Clone, Copy)]
-pub(crate) enum AtAtom {
+pub enum AtAtom {
     /// What counts as a class counts as the one above it.
     Count,
     /// Two numbers are equal, or one is below the other.
@@ -78,7 +78,7 @@ fn ask_at_term(
 }
 
 /// At each term. An error is want of memory.
-pub(crate) fn ask_at_terms(
+pub fn ask_at_terms(
     alloc: Global,
     bank: &Bank,
     classes: &Classes,
@@ -119,7 +119,7 @@ fn ask_at_atom(
 }
 
 /// At each atom. An error is want of memory.
-pub(crate) fn ask_at_atoms(
+pub fn ask_at_atoms(
     alloc: Global,
     bank: &Bank,
     asked: &mut Vec<Asked>,

@@ -1,0 +1,4 @@
+pub mod Declaring
+pub mod Gathering
+pub mod Instances
+pub mod Joining

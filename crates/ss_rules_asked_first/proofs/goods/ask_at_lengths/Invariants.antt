@@ -1,0 +1,9 @@
+use Rattle.std.proofs.Common.{[], ◌∷◌, ◌++◌, map, take}
+use Rattle.ss_logic_rules.specs.declared.GoodRule.TheVariants as good_rule
+use Rattle.ss_logic_ground.specs.Asked.{OfGood, numeral}
+use Rattle.ss_terms_stores.specs.Forms.{term_at, terms_at}
+use Rattle.ss_rules_asked.specs.Numbers.{asked_in, Asks}
+use Rattle.ss_rules_asked_first.proofs.goods.ask_at_lengths.Given as goal
+
+abbrev pub invariant-loop-array : goal.invariant-loop-array
+invariant-loop-array l = Asks l.bank l.asked.items (asked_in l.bank l.initial.asked.items ++ map (λ a. OfGood good_rule.Typed (term_at l.bank l.s) (numeral 8 ∷ a ∷ [])) (terms_at l.bank (take l.array-index l.near.arrays.items)))

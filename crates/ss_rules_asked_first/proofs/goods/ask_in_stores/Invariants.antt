@@ -1,0 +1,9 @@
+use Rattle.std.proofs.Common.{◌++◌, take}
+use Rattle.std.specs.Prelude.{flat_map}
+use Rattle.ss_terms_stores.specs.Forms.{terms_at}
+use Rattle.ss_rules_asked.specs.Numbers.{asked_in, Asks}
+use Rattle.ss_rules_asked_first.specs.Good.{nearby_at, in_store}
+use Rattle.ss_rules_asked_first.proofs.goods.ask_in_stores.Given as goal
+
+abbrev pub invariant-loop-s : goal.invariant-loop-s
+invariant-loop-s l = Asks l.bank l.asked.items (asked_in l.bank l.initial.asked.items ++ flat_map (in_store (nearby_at l.bank l.near) l.sentence) (terms_at l.bank (take l.s-index l.stores)))
