@@ -1,0 +1,11 @@
+//! What a search knows on its trail: what follows of it without instances and cases, and what is asked for.
+#![tactic(auto)]
+
+mod asking;
+mod closing;
+mod requests;
+mod state;
+
+pub use asking::reads_store;
+pub use requests::{Request, Wanted, new_request};
+pub use state::{Limits, Mark, State, Step, first_mark};

@@ -1,0 +1,389 @@
+// What is known on the trail, and what follows of it without an instance and a case.
+
+use crate::requests::{Request, Wanted, new_request};
+use ss_search_classes::{
+    AND, Classes as Equal, Conflict, EQUAL, EXISTS, Event, FORALL, GOOD, Keys, LITERAL, NONE, OR,
+    SUB, is_first, is_truth, is_value, kind_of, of_pair, of_term, opposite, pair_argument,
+    pair_head, pair_of, part_at, part_count,
+};
+use ss_search_instances::{Asked, Clause, Heads, Marks};
+use ss_search_nodes::{Ground, Nodes, or_of};
+use ss_search_proof::{Reason, Reasons, RuleKind, Said};
+use ss_terms_stores::Bank;
+use std::alloc::{AllocError, Global};
+
+/// How much a search may do for an obligation.
+#[derive(Clone, Copy)]
+pub struct Limits {
+    /// How many instances it may make.
+    pub instances: usize,
+    /// How many cases it may open.
+    pub splits: usize,
+    /// How many literals it may try.
+    pub trials: usize,
+}
+
+/// How much of each part stands.
+#[derive(Clone, Copy)]
+pub struct Mark {
+    pub equal: usize,
+    pub nodes: usize,
+    pub asked: Marks,
+    pub seen: usize,
+    pub facts: usize,
+    pub paths: usize,
+}
+
+/// What a step of the search came to.
+#[derive(Clone, Copy)]
+pub enum Step {
+    Goes,
+    /// There is nothing to do.
+    Rests,
+    Conflict(Conflict),
+}
+
+/// What is known, what it was known by, and what waits to be done.
+#[derive(Drop)]
+pub struct State {
+    pub alloc: Global,
+    pub equal: Equal,
+    pub nodes: Nodes,
+    pub reasons: Reasons,
+    pub asked: Asked,
+    pub heads: Heads,
+    pub seen: Keys,
+    /// The facts that are taken apart, and how many of them have been.
+    pub queue: Vec<usize>,
+    pub done: usize,
+    pub(crate) waiting: Vec<usize>,
+    /// What is to be made in the bank, and how much of it is.
+    pub requests: Vec<Request>,
+    pub made: usize,
+    /// The next constant that is new.
+    pub fresh: usize,
+    /// The depth beyond which nothing is asked for, and how deep reads of fields nest in each term.
+    pub deepest: usize,
+    pub(crate) depths: Vec<usize>,
+    pub left: Limits,
+    /// How many facts were learned outside of trials.
+    pub progress: usize,
+    pub is_trial: bool,
+}
+
+/// Nothing stands.
+pub fn first_mark() -> Mark {
+    Mark {
+        equal: 0,
+        nodes: 0,
+        asked: Marks::none(),
+        seen: 0,
+        facts: 0,
+        paths: 0,
+    }
+}
+
+fn no_limits() -> Limits {
+    Limits {
+        instances: 0,
+        splits: 0,
+        trials: 0,
+    }
+}
+
+impl State {
+    /// Nothing is known. The terms `true` and `false` are these, and constants from a number on are new.
+    pub fn new(alloc: Global, yes: usize, no: usize, fresh: usize) -> Self {
+        State {
+            alloc,
+            equal: Equal::new(alloc, yes, no),
+            nodes: Nodes::new(alloc),
+            reasons: Reasons::new(alloc),
+            asked: Asked::new(alloc),
+            heads: Heads::new(alloc),
+            seen: Keys::new(alloc),
+            queue: Vec::new(alloc),
+            done: 0,
+            waiting: Vec::new(alloc),
+            requests: Vec::new(alloc),
+            made: 0,
+            fresh,
+            deepest: 0,
+            depths: Vec::new(alloc),
+            left: no_limits(),
+            progress: 0,
+            is_trial: false,
+        }
+    }
+
+    /// How much of each part stands.
+    pub fn mark(&self) -> Mark {
+        Mark {
+            equal: self.equal.mark(),
+            nodes: self.nodes.mark(),
+            asked: self.asked.mark(),
+            seen: self.seen.len(),
+            facts: self.reasons.facts.len(),
+            paths: self.reasons.facts.paths_len(),
+        }
+    }
+
+    /// Takes back what came after a mark, but for the facts.
+    pub fn undo(&mut self, mark: Mark) {
+        self.equal.undo(mark.equal);
+        self.nodes.undo(mark.nodes);
+        self.asked.undo(mark.asked);
+        self.seen.undo(mark.seen);
+    }
+
+    /// Takes back what came after a mark, facts too, and forgets all blocks.
+    pub fn forget(&mut self, mark: Mark) {
+        self.drop_pending();
+        self.undo(mark);
+        self.reasons.facts.forget(mark.facts, mark.paths);
+        self.reasons.proof.forget();
+        self.reasons.begin();
+        self.is_trial = false;
+    }
+
+    /// One more fact, which waits to be taken apart. Gives its number.
+    pub fn learn(
+        &mut self,
+        said: Said,
+        reason: Reason,
+        origin: usize,
+    ) -> Result<usize, AllocError> {
+        let fact = self.reasons.facts.add(said, reason, origin)?;
+        self.queue.push(fact)?;
+        if !self.is_trial {
+            self.progress = self.progress.saturating_add(1);
+        }
+        Ok(fact)
+    }
+
+    /// Finds what follows without an instance and a split.
+    pub fn settle(&mut self, bank: &Bank) -> Result<Step, AllocError> {
+        for _ in 0..u64::MAX {
+            let step = self.step(bank)?;
+            match step {
+                Step::Goes => {}
+                _ => return Ok(step),
+            }
+        }
+        Ok(Step::Rests)
+    }
+
+    // Does the next thing: makes a merge, tells a value, counts it, makes the last part of an `or` known, or takes a fact apart.
+    fn step(&mut self, bank: &Bank) -> Result<Step, AllocError> {
+        if let Some(conflict) = self.equal.settle(bank)? {
+            return Ok(Step::Conflict(conflict));
+        }
+        if let Some(event) = self.equal.next_event() {
+            return self.hear(event);
+        }
+        if self.nodes.spread()? {
+            return Ok(Step::Goes);
+        }
+        if let Some(pair) = self.nodes.next_unit() {
+            return self.look_at_unit(bank, pair);
+        }
+        let Some(fact) = self.queue.get(self.done).copied() else {
+            return Ok(Step::Rests);
+        };
+        self.done = self.done.saturating_add(1);
+        self.take_apart(bank, fact)
+    }
+
+    fn hear(&mut self, event: Event) -> Result<Step, AllocError> {
+        self.nodes
+            .come(event.pair, event.value, Ground::Atom(event.why))?;
+        Ok(Step::Goes)
+    }
+
+    // Makes the last part of an `or` known, where the others are refuted.
+    fn look_at_unit(&mut self, bank: &Bank, pair: usize) -> Result<Step, AllocError> {
+        let or = or_of(pair);
+        let fact = self.nodes.held(or);
+        if fact == NONE || self.nodes.is_settled(or) || !self.nodes.is_unit(pair) {
+            return Ok(Step::Goes);
+        }
+        let place = self.nodes.first_open(bank, or, 0);
+        if place == NONE {
+            return Ok(Step::Conflict(Conflict::Parts(fact)));
+        }
+        self.nodes.take(pair)?;
+        let mut origin = self.reasons.facts.origin(fact);
+        if origin == 0 && self.asked.is_relevant(pair) {
+            origin = 1;
+        }
+        self.learn(
+            Said::Formula(part_at(bank, or, place)),
+            Reason::Unit(fact, place),
+            origin,
+        )?;
+        Ok(Step::Goes)
+    }
+
+    fn take_apart(&mut self, bank: &Bank, fact: usize) -> Result<Step, AllocError> {
+        let formula = self.reasons.facts.formula(fact);
+        self.nodes.grow(bank)?;
+        let kind = kind_of(bank, formula);
+        if kind == LITERAL {
+            self.take_literal(bank, formula, fact)
+        } else if kind == AND {
+            self.take_and(bank, formula, fact)
+        } else if kind == OR {
+            self.take_or(bank, formula, fact)
+        } else if kind == FORALL || kind == EXISTS {
+            self.take_quantified(bank, formula, fact)
+        } else {
+            Ok(Step::Goes)
+        }
+    }
+
+    fn take_and(&mut self, bank: &Bank, formula: usize, fact: usize) -> Result<Step, AllocError> {
+        if self.nodes.held(formula) != NONE {
+            return Ok(Step::Goes);
+        }
+        self.nodes.hold(formula, fact)?;
+        let origin = self.reasons.facts.origin(fact);
+        for place in 0..part_count(bank, formula) {
+            let part = part_at(bank, formula, place);
+            let origin = if origin == 1 && !self.touches_part(bank, part) {
+                0
+            } else {
+                origin
+            };
+            self.learn(Said::Formula(part), Reason::Part(fact, place), origin)?;
+        }
+        Ok(Step::Goes)
+    }
+
+    fn take_or(&mut self, bank: &Bank, formula: usize, fact: usize) -> Result<Step, AllocError> {
+        if self.nodes.held(formula) != NONE {
+            return Ok(Step::Goes);
+        }
+        let origin = self.reasons.facts.origin(fact);
+        self.asked.add_clause(Clause {
+            formula,
+            fact,
+            origin,
+        })?;
+        self.nodes.reach(bank, &mut self.equal, formula, fact)?;
+        Ok(Step::Goes)
+    }
+
+    fn take_quantified(
+        &mut self,
+        bank: &Bank,
+        formula: usize,
+        fact: usize,
+    ) -> Result<Step, AllocError> {
+        if self.nodes.held(formula) != NONE {
+            return Ok(Step::Goes);
+        }
+        let other = self.nodes.held(opposite(formula));
+        if other != NONE {
+            return Ok(Step::Conflict(Conflict::Facts(fact, other)));
+        }
+        self.nodes.know(formula, fact)?;
+        if kind_of(bank, formula) == FORALL {
+            self.asked.add_forall(formula, fact)?;
+            self.heads.make(bank, formula)?;
+        } else {
+            self.requests.push(new_request(Wanted::Choose(formula, fact), NONE, NONE, NONE))?;
+        }
+        Ok(Step::Goes)
+    }
+
+    fn take_literal(
+        &mut self,
+        bank: &Bank,
+        formula: usize,
+        fact: usize,
+    ) -> Result<Step, AllocError> {
+        let pair = pair_of(formula);
+        let holds = is_first(formula);
+        let origin = self.reasons.facts.origin(fact);
+        if origin > 0 {
+            self.ask_atom(bank, pair)?;
+        }
+        if origin > 1 {
+            self.asked.set_relevant(pair)?;
+        }
+        let head = pair_head(bank, pair);
+        if head.kind == EQUAL {
+            return self.take_equality(bank, formula, fact);
+        }
+        self.equal.add(bank, of_pair(pair))?;
+        if head.kind == GOOD && holds {
+            self.asked.add_good(pair_argument(bank, pair, 0), fact)?;
+        }
+        if head.kind == SUB {
+            self.asked.add_sub(pair)?;
+        }
+        let side = if holds {
+            self.equal.yes()
+        } else {
+            self.equal.no()
+        };
+        self.equal.add(bank, side)?;
+        step_of(self.equal.merge(bank, of_pair(pair), side, fact)?)
+    }
+
+    fn take_equality(
+        &mut self,
+        bank: &Bank,
+        formula: usize,
+        fact: usize,
+    ) -> Result<Step, AllocError> {
+        let pair = pair_of(formula);
+        let (left, right) = (pair_argument(bank, pair, 0), pair_argument(bank, pair, 1));
+        self.equal.add(bank, of_term(left))?;
+        self.equal.add(bank, of_term(right))?;
+        if is_first(formula) {
+            return step_of(self.equal.merge(bank, of_term(left), of_term(right), fact)?);
+        }
+        let step = step_of(self.equal.separate(of_term(left), of_term(right), fact)?)?;
+        if is_truth(bank, left) {
+            self.two_values(bank, left)?;
+            self.two_values(bank, right)?;
+        }
+        Ok(step)
+    }
+
+    /// A truth value is true or false.
+    pub fn two_values(&mut self, bank: &Bank, term: usize) -> Result<(), AllocError> {
+        if is_value(bank, term) || self.equal.literal(of_term(term)) != NONE {
+            return Ok(());
+        }
+        self.want(new_request(Wanted::Rule(RuleKind::Bool), term, NONE, NONE))
+    }
+
+    /// Nothing waits to be done.
+    pub fn drop_pending(&mut self) {
+        self.equal.drop_pending();
+        self.nodes.drop_pending();
+        self.queue.truncate(0);
+        self.done = 0;
+        self.requests.truncate(0);
+        self.made = 0;
+    }
+
+    /// Something is wanted, where one more instance may be made.
+    pub fn want(&mut self, wanted: Request) -> Result<(), AllocError> {
+        if self.left.instances > 0 {
+            self.left.instances = self.left.instances.saturating_sub(1);
+            self.requests.push(wanted)?;
+        }
+        Ok(())
+    }
+}
+
+// A conflict, or nothing.
+fn step_of(conflict: Option<Conflict>) -> Result<Step, AllocError> {
+    Ok(match conflict {
+        Some(conflict) => Step::Conflict(conflict),
+        None => Step::Goes,
+    })
+}
