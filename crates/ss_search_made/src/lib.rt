@@ -1,0 +1,10 @@
+//! What the search makes in the bank: instances, new constants, and terms and atoms that are asked for. Numbers are looked up
+//! before they are used, so nothing is asked of them.
+#![tactic(auto)]
+
+mod made;
+
+pub use made::{
+    Arguments, arguments_of, atom_made, choice_made, constants_of, good_made, inst_made, rule_made,
+    term_made, terms_alone,
+};

@@ -1,0 +1,333 @@
+// What is made in the bank.
+
+ghost use Rattle.std.specs.Prelude.{IfOk, IfSome, IsTrue};
+ghost use Rattle.ss_core.specs.Chain.{IsWithinLimits};
+ghost use Rattle.ss_core.specs.View as view;
+ghost use Rattle.ss_terms_stores.specs.Forms.{HasTerms, IsGrown, IsBankOf};
+
+use ss_core::Classes;
+use ss_rules::{good_instance, instance};
+use ss_rules_invariants::invariants;
+use ss_search_classes::{
+    FORALL, NONE, body_of, bound_count, bound_sort, code_of_sort, is_closed, kind_of, opposite,
+    sort_at,
+};
+use ss_search_proof::{GoodName, RuleKind, good_of, name_of};
+use ss_terms_puts::put;
+use ss_terms_stores::{Bank, FormulaId, Predicate, Symbol, TermId};
+use std::alloc::{AllocError, Global};
+
+/// The arguments of an instance: the number of a sentence first, then terms, then the number of a field or a class. NONE stands
+/// where there is none.
+#[derive(Clone, Copy)]
+pub struct Arguments {
+    pub sentence: usize,
+    pub first: usize,
+    pub second: usize,
+    pub third: usize,
+    pub field: usize,
+    pub class: usize,
+}
+
+/// The numbers of the terms alone.
+pub fn terms_alone(alloc: Global, arguments: Arguments) -> Result<Vec<usize>, AllocError> {
+    let mut numbers = Vec::new(alloc);
+    add_terms(&mut numbers, arguments)?;
+    Ok(numbers)
+}
+
+// Whether the bank has each term.
+fn has_terms(bank: &Bank, ts: &[TermId]) -> bool
+    ensures { IsTrue result → HasTerms bank.now ts.now }
+{
+    match ts {
+        [] => true,
+        [t, ts @ ..] => bank.has_term(*t) && has_terms(bank, ts),
+    }
+}
+
+// Whether there are terms with these numbers, and none has a bound name.
+fn are_closed(bank: &Bank, numbers: &[usize]) -> bool {
+    for number in numbers {
+        if !is_closed(bank, *number) {
+            return false;
+        }
+    }
+    true
+}
+
+// The terms with these numbers, where the bank has each and none has a bound name.
+fn terms_of(
+    alloc: Global,
+    bank: &Bank,
+    numbers: &[usize],
+) -> Result<Option<Vec<TermId>>, AllocError>
+    ensures { IfOk result (λ o. IfSome o (λ v. HasTerms bank.now v.items)) }
+{
+    if !are_closed(bank, numbers) {
+        return Ok(None);
+    }
+    let mut terms = Vec::new(alloc);
+    for number in numbers {
+        terms.push(TermId(*number))?;
+    }
+    if !has_terms(bank, &terms) {
+        return Ok(None);
+    }
+    Ok(Some(terms))
+}
+
+// The term of a small number, or NONE.
+fn number_term(bank: &mut Bank, number: usize) -> Result<usize, AllocError>
+    ensures grown { IsGrown bank.old bank.new }
+{
+    if number >= 4_294_967_296 {
+        return Ok(NONE);
+    }
+    let term = bank.number(number as i128)?;
+    Ok(term.0)
+}
+
+// The term of a class, or NONE.
+fn class_term(bank: &mut Bank, class: usize) -> Result<usize, AllocError>
+    ensures grown { IsGrown bank.old bank.new }
+{
+    if class >= 65_536 {
+        return Ok(NONE);
+    }
+    let term = bank.class_name(class as u16)?;
+    Ok(term.0)
+}
+
+// Adds a number that is there.
+fn add_number(numbers: &mut Vec<usize>, number: usize) -> Result<(), AllocError> {
+    if number != NONE {
+        numbers.push(number)?;
+    }
+    Ok(())
+}
+
+/// The numbers of the terms of arguments, in their order.
+pub fn arguments_of(
+    alloc: Global,
+    bank: &mut Bank,
+    arguments: Arguments,
+) -> Result<Vec<usize>, AllocError>
+    ensures grown { IsGrown bank.old bank.new }
+{
+    let (sentence, field) = numbers_of(bank, arguments)?;
+    let class = class_term(bank, arguments.class)?;
+    listed(alloc, arguments, (sentence, field, class))
+}
+
+// The terms of the number of a sentence and of that of a field.
+fn numbers_of(bank: &mut Bank, arguments: Arguments) -> Result<(usize, usize), AllocError>
+    ensures grown { IsGrown bank.old bank.new }
+{
+    let sentence = number_term(bank, arguments.sentence)?;
+    let field = number_term(bank, arguments.field)?;
+    Ok((sentence, field))
+}
+
+fn listed(
+    alloc: Global,
+    arguments: Arguments,
+    made: (usize, usize, usize),
+) -> Result<Vec<usize>, AllocError> {
+    let mut numbers = Vec::new(alloc);
+    add_number(&mut numbers, made.0)?;
+    add_terms(&mut numbers, arguments)?;
+    add_number(&mut numbers, made.1)?;
+    add_number(&mut numbers, made.2)?;
+    Ok(numbers)
+}
+
+fn add_terms(numbers: &mut Vec<usize>, arguments: Arguments) -> Result<(), AllocError> {
+    add_number(numbers, arguments.first)?;
+    add_number(numbers, arguments.second)?;
+    add_number(numbers, arguments.third)
+}
+
+/// The instance of a rule, or NONE.
+pub fn rule_made(
+    alloc: Global,
+    bank: &mut Bank,
+    program: &Classes,
+    rule: RuleKind,
+    numbers: &[usize],
+) -> Result<usize, AllocError>
+    requires bank { IsBankOf (view.classes program.now) bank.old }
+    requires limits { IsWithinLimits (view.classes program.now) }
+    ensures grown { IsGrown bank.old bank.new }
+{
+    let Some(terms) = terms_of(alloc, bank, numbers)? else {
+        return Ok(NONE);
+    };
+    let made = instance(alloc, bank, program, name_of(rule), &terms)?;
+    Ok(number_of(made))
+}
+
+fn number_of(made: Option<FormulaId>) -> usize {
+    match made {
+        Some(formula) => formula.0,
+        None => NONE,
+    }
+}
+
+/// The instance of a rule on a good store, or NONE.
+pub fn good_made(
+    alloc: Global,
+    bank: &mut Bank,
+    program: &Classes,
+    rule: (GoodName, usize),
+    numbers: &[usize],
+) -> Result<usize, AllocError>
+    requires bank { IsBankOf (view.classes program.now) bank.old }
+    requires limits { IsWithinLimits (view.classes program.now) }
+    ensures grown { IsGrown bank.old bank.new }
+{
+    let Some(terms) = terms_of(alloc, bank, numbers)? else {
+        return Ok(NONE);
+    };
+    let store = TermId(rule.1);
+    if !bank.has_term(store) || !is_closed(bank, rule.1) {
+        return Ok(NONE);
+    }
+    let made = match good_of(rule.0) {
+        Some(name) => good_instance(alloc, bank, program, name, store, &terms)?,
+        None => invariants(alloc, bank, program, store, &terms)?,
+    };
+    Ok(number_of(made))
+}
+
+// Whether a `forall` binds names of the sorts of these terms.
+fn fits(bank: &Bank, formula: usize, numbers: &[usize]) -> bool {
+    if kind_of(bank, formula) != FORALL || bound_count(bank, formula) != numbers.len() {
+        return false;
+    }
+    for (place, number) in numbers.iter().enumerate() {
+        if code_of_sort(sort_at(bank, *number)) != code_of_sort(bound_sort(bank, formula, place)) {
+            return false;
+        }
+    }
+    true
+}
+
+/// The body of a `forall` at terms, or NONE.
+pub fn inst_made(
+    alloc: Global,
+    bank: &mut Bank,
+    program: &Classes,
+    formula: usize,
+    numbers: &[usize],
+) -> Result<usize, AllocError>
+    requires bank { IsBankOf (view.classes program.now) bank.old }
+    requires limits { IsWithinLimits (view.classes program.now) }
+    ensures grown { IsGrown bank.old bank.new }
+{
+    let body = FormulaId(body_of(bank, formula));
+    if !fits(bank, formula, numbers) || !bank.has_formula(body) {
+        return Ok(NONE);
+    }
+    let Some(terms) = terms_of(alloc, bank, numbers)? else {
+        return Ok(NONE);
+    };
+    let made = put(alloc, bank, program, &terms, body)?;
+    Ok(made.0)
+}
+
+/// New constants for the names that an `exists` binds.
+pub fn constants_of(
+    alloc: Global,
+    bank: &mut Bank,
+    formula: usize,
+    first: usize,
+) -> Result<Vec<usize>, AllocError>
+    ensures grown { IsGrown bank.old bank.new }
+{
+    let mut numbers = Vec::new(alloc);
+    for place in 0..bound_count(bank, formula) {
+        let sort = bound_sort(bank, formula, place);
+        let constant = bank.apply(Symbol::Constant(sort, first.saturating_add(place)), &[])?;
+        numbers.push(constant.0)?;
+    }
+    Ok(numbers)
+}
+
+/// Either there is nothing of the kind, or the body of an `exists` holds at these constants. NONE where there is no such formula.
+pub fn choice_made(
+    alloc: Global,
+    bank: &mut Bank,
+    program: &Classes,
+    formula: usize,
+    numbers: &[usize],
+) -> Result<usize, AllocError>
+    requires bank { IsBankOf (view.classes program.now) bank.old }
+    requires limits { IsWithinLimits (view.classes program.now) }
+    ensures grown { IsGrown bank.old bank.new }
+{
+    let such = such_made(alloc, bank, program, formula, numbers)?;
+    either_made(bank, opposite(formula), such)
+}
+
+// The body of an `exists` at these constants, or NONE.
+fn such_made(
+    alloc: Global,
+    bank: &mut Bank,
+    program: &Classes,
+    formula: usize,
+    numbers: &[usize],
+) -> Result<usize, AllocError>
+    requires bank { IsBankOf (view.classes program.now) bank.old }
+    requires limits { IsWithinLimits (view.classes program.now) }
+    ensures grown { IsGrown bank.old bank.new }
+{
+    let Some(constants) = terms_of(alloc, bank, numbers)? else {
+        return Ok(NONE);
+    };
+    let body = FormulaId(body_of(bank, formula));
+    if !bank.has_formula(body) {
+        return Ok(NONE);
+    }
+    let such = put(alloc, bank, program, &constants, body)?;
+    Ok(such.0)
+}
+
+// One of two formulas holds. NONE where they aren't there.
+fn either_made(bank: &mut Bank, none: usize, such: usize) -> Result<usize, AllocError>
+    ensures grown { IsGrown bank.old bank.new }
+{
+    let (first, second) = (FormulaId(none), FormulaId(such));
+    if !bank.has_formula(first) || !bank.has_formula(second) {
+        return Ok(NONE);
+    }
+    let either = bank.or(&[first, second])?;
+    Ok(either.0)
+}
+
+/// The function at these terms, or NONE.
+pub fn term_made(
+    alloc: Global,
+    bank: &mut Bank,
+    symbol: Symbol,
+    numbers: &[usize],
+) -> Result<usize, AllocError>
+    ensures grown { IsGrown bank.old bank.new }
+{
+    let Some(terms) = terms_of(alloc, bank, numbers)? else {
+        return Ok(NONE);
+    };
+    let made = bank.apply(symbol, &terms)?;
+    Ok(made.0)
+}
+
+/// That a store has an object, or NONE.
+pub fn atom_made(alloc: Global, bank: &mut Bank, numbers: &[usize]) -> Result<usize, AllocError>
+    ensures grown { IsGrown bank.old bank.new }
+{
+    let Some(terms) = terms_of(alloc, bank, numbers)? else {
+        return Ok(NONE);
+    };
+    let made = bank.atom(true, Predicate::Allocated, &terms)?;
+    Ok(made.0)
+}
