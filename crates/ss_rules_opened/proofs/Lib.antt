@@ -1,0 +1,4 @@
+pub mod Counting
+pub mod Fresh
+pub mod Going
+pub mod Replaced

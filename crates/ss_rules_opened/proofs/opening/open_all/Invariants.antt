@@ -1,0 +1,17 @@
+use Rattle.std.proofs.Common.{◌≡◌}
+use Rattle.std.specs.Prelude.{sum_by}
+use Rattle.ss_logic_ground.specs.Opened.{exists_count}
+use Rattle.ss_terms_stores.specs.Forms.{terms_at, formulas_at, IsGrown}
+use Rattle.ss_rules_opened.specs.Opening.{HasOpening}
+use Rattle.ss_rules_opened.proofs.Counting.{all_opened}
+use Rattle.ss_rules_opened.proofs.opening.open_all.Given as goal
+
+abbrev pub invariant-loop-f : goal.invariant-loop-f
+invariant-loop-f l = record {
+  grown : IsGrown l.initial.bank l.bank;
+  has : HasOpening l.bank l.state;
+  left : all_opened (terms_at l.bank l.state.used.items) (formulas_at l.bank l.state.list.items) ≡ all_opened (terms_at l.initial.bank l.initial.state.used.items) (formulas_at l.initial.bank l.initial.state.list.items);
+}
+
+abbrev pub decreases-loop-f : goal.decreases-loop-f
+decreases-loop-f l = sum_by exists_count (formulas_at l.bank l.state.list.items)

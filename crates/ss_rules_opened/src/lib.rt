@@ -1,0 +1,10 @@
+//! The formulas with which a ground form starts: premises and the denied goal, where fresh constants stand for what an `exists` says
+//! that there is.
+#![tactic(auto)]
+
+mod constants;
+mod opening;
+mod replacing;
+mod starting;
+
+pub use starting::start;

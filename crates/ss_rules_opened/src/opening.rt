@@ -1,0 +1,172 @@
+// Opening each `exists`.
+
+ghost use Rattle.std.specs.Prelude.{◌≡◌, ◌++◌, find, map, sum_by, IfOk, OnOk};
+ghost use Rattle.ss_core.specs.View as view;
+ghost use Rattle.ss_logic_stores.specs.Formulas as logic;
+ghost use Rattle.ss_logic_ground.specs.Occurring as occurring;
+ghost use Rattle.ss_logic_ground.specs.Opened as spec;
+ghost use Rattle.ss_terms_stores.specs.Forms.{terms_at, formula_at, formulas_at, HasTerms, HasFormula, HasFormulas, IsFormulaNumber, IsGrown, IsBankOf};
+ghost use Rattle.ss_rules_opened.specs.Opening.{used_after, list_after, IsOpened, IsOpening, HasOpening};
+
+use crate::constants::{fresh_constants, joined};
+use crate::replacing::all_replaced;
+use ss_core::Classes;
+use ss_logic_stores::Sort;
+use ss_rules_occurring::quantified;
+use ss_terms_puts::put;
+use ss_terms_stores::{Bank, Formula, FormulaId, TermId};
+use std::alloc::{AllocError, Global};
+
+/// The terms that are in use, and the list so far.
+#[derive(Drop)]
+pub(crate) struct Opening {
+    pub(crate) used: Vec<TermId>,
+    pub(crate) list: Vec<FormulaId>,
+}
+
+/// Fresh constants, and a body at them.
+#[derive(Drop)]
+pub(crate) struct Opened {
+    pub(crate) constants: Vec<TermId>,
+    pub(crate) body: FormulaId,
+}
+
+fn is_exists(bank: &Bank, f: FormulaId) -> bool
+    requires { HasFormula bank.now f }
+    ensures { result ≡ spec.is_exists (formula_at bank.now f) }
+{
+    match bank.formula_node(f) {
+        Formula::Exists(_, _) => true,
+        _ => false,
+    }
+}
+
+// The first `exists` among formulas.
+fn found_exists(bank: &Bank, fs: &[FormulaId]) -> Option<FormulaId>
+    requires { HasFormulas bank.now fs.now }
+    ensures { IsFormulaNumber bank.now (find spec.is_exists (formulas_at bank.now fs.now)) result }
+{
+    for f in fs {
+        if is_exists(bank, *f) {
+            return Some(*f);
+        }
+    }
+    None
+}
+
+// The first `exists` in formulas, outside quantified ones.
+fn first_exists(
+    alloc: Global,
+    bank: &Bank,
+    fs: &[FormulaId],
+) -> Result<Option<FormulaId>, AllocError>
+    requires { HasFormulas bank.now fs.now }
+    ensures { IfOk result (λ o. IsFormulaNumber bank.now (find spec.is_exists (occurring.quantified (formulas_at bank.now fs.now))) o) }
+{
+    let found = quantified(alloc, bank, fs)?;
+    Ok(found_exists(bank, &found.list))
+}
+
+// A body at fresh constants of these sorts.
+fn at_fresh(
+    alloc: Global,
+    bank: &mut Bank,
+    classes: &Classes,
+    used: &[TermId],
+    sorts: &[Sort],
+    body: FormulaId,
+) -> Result<Opened, AllocError>
+    requires bank { IsBankOf (view.classes classes.now) bank.old }
+    requires used { HasTerms bank.old used.now }
+    requires body { HasFormula bank.old body }
+    ensures at { IfOk result (λ r. IsOpened bank.new r (spec.fresh_constants sorts.now (terms_at bank.old used.now)) (logic.put (spec.fresh_constants sorts.now (terms_at bank.old used.now)) (formula_at bank.old body))) }
+    ensures grown { IsGrown bank.old bank.new }
+{
+    let constants = fresh_constants(alloc, bank, sorts, used)?;
+    let body = put(alloc, bank, classes, &constants, body)?;
+    Ok(Opened { constants, body })
+}
+
+// Puts what was opened in place of the formula.
+fn put_in_place(
+    alloc: Global,
+    bank: &mut Bank,
+    state: &mut Opening,
+    f: FormulaId,
+    opened: &Opened,
+) -> Result<(), AllocError>
+    requires state { HasOpening bank.old state.old }
+    requires formula { HasFormula bank.old f }
+    requires constants { HasTerms bank.old opened.now.constants.items }
+    requires body { HasFormula bank.old opened.now.body }
+    ensures is { OnOk result (IsOpening bank.new state.new (terms_at bank.old opened.now.constants.items ++ terms_at bank.old state.old.used.items) (map (spec.replaced (formula_at bank.old f) (formula_at bank.old opened.now.body)) (formulas_at bank.old state.old.list.items))) }
+    ensures grown { IsGrown bank.old bank.new }
+{
+    state.list = all_replaced(alloc, bank, f, opened.body, &state.list)?;
+    state.used = joined(alloc, &opened.constants, &state.used)?;
+    Ok(())
+}
+
+// Opens an `exists` with these sorts and this body.
+fn open_with(
+    alloc: Global,
+    bank: &mut Bank,
+    classes: &Classes,
+    state: &mut Opening,
+    f: FormulaId,
+    sorts: &[Sort],
+    body: FormulaId,
+) -> Result<(), AllocError>
+    requires bank { IsBankOf (view.classes classes.now) bank.old }
+    requires state { HasOpening bank.old state.old }
+    requires formula { HasFormula bank.old f }
+    requires body { HasFormula bank.old body }
+    ensures is { OnOk result (IsOpening bank.new state.new (spec.fresh_constants sorts.now (terms_at bank.old state.old.used.items) ++ terms_at bank.old state.old.used.items) (map (spec.replaced (formula_at bank.old f) (logic.put (spec.fresh_constants sorts.now (terms_at bank.old state.old.used.items)) (formula_at bank.old body))) (formulas_at bank.old state.old.list.items))) }
+    ensures grown { IsGrown bank.old bank.new }
+{
+    let found = at_fresh(alloc, bank, classes, &state.used, sorts, body)?;
+    put_in_place(alloc, bank, state, f, &found)
+}
+
+// Opens a formula, where it is an `exists`.
+fn open_at(
+    alloc: Global,
+    bank: &mut Bank,
+    classes: &Classes,
+    state: &mut Opening,
+    f: FormulaId,
+) -> Result<(), AllocError>
+    requires bank { IsBankOf (view.classes classes.now) bank.old }
+    requires state { HasOpening bank.old state.old }
+    requires formula { HasFormula bank.old f }
+    ensures is { OnOk result (IsOpening bank.new state.new (used_after (formula_at bank.old f) (terms_at bank.old state.old.used.items)) (list_after (formula_at bank.old f) (terms_at bank.old state.old.used.items) (formulas_at bank.old state.old.list.items))) }
+    ensures grown { IsGrown bank.old bank.new }
+{
+    match bank.formula_node(f) {
+        Formula::Exists(sorts, body) => {
+            let body = *body;
+            let sorts = Vec::from_slice(alloc, sorts)?;
+            open_with(alloc, bank, classes, state, f, &sorts, body)
+        }
+        _ => Ok(()),
+    }
+}
+
+/// Opens the first `exists` of the list, until there is none. An error is want of memory.
+pub(crate) fn open_all(
+    alloc: Global,
+    bank: &mut Bank,
+    classes: &Classes,
+    state: &mut Opening,
+) -> Result<(), AllocError>
+    requires bank { IsBankOf (view.classes classes.now) bank.old }
+    requires state { HasOpening bank.old state.old }
+    ensures has { OnOk result (HasFormulas bank.new state.new.list.items) }
+    ensures is { OnOk result (formulas_at bank.new state.new.list.items ≡ spec.opened_from (sum_by spec.exists_count (formulas_at bank.old state.old.list.items)) (terms_at bank.old state.old.used.items) (formulas_at bank.old state.old.list.items)) }
+    ensures grown { IsGrown bank.old bank.new }
+{
+    while let Some(f) = first_exists(alloc, bank, &state.list)? {
+        open_at(alloc, bank, classes, state, f)?;
+    }
+    Ok(())
+}
