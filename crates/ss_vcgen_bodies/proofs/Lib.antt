@@ -1,0 +1,5 @@
+pub mod Arms
+pub mod Keeping
+pub mod Leaving
+pub mod Making
+pub mod Spots

@@ -1,0 +1,11 @@
+use Rattle.std.proofs.Common.{drop}
+use Rattle.ss_terms_stores.specs.Forms.{term_at}
+use Rattle.ss_vcgen_heaps.specs.Obligations as spec
+use Rattle.ss_vcgen_builder.specs.Builder.{locals_at, position_at, walk_at}
+use Rattle.ss_vcgen_bodies.proofs.Making.{FormulasMade}
+use Rattle.ss_vcgen_bodies.proofs.types.kept_types.Given as goal
+
+abbrev pub invariant-loop-x : goal.invariant-loop-x
+invariant-loop-x l =
+    FormulasMade l.fn.builder l.builder l.made.items (λ b. spec.types_from (walk_at b l.walk) (term_at b l.fn.builder.store) l.x (drop l.x l.types) (drop l.x (locals_at b l.before)) (drop l.x (position_at b l.fn.builder).locals))
+    (λ b. spec.types_from (walk_at b l.walk) (term_at b l.fn.builder.store) 0 l.types (locals_at b l.before) (position_at b l.fn.builder).locals)
