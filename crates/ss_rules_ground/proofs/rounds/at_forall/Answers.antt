@@ -1,0 +1,22 @@
+use Rattle.std.proofs.Common.{◌≡◌, ◌∙◌, length, sym, ap}
+use Rattle.ss_core.specs.View as view
+use Rattle.ss_logic_ground.specs.Ground.{closed}
+use Rattle.ss_logic_ground.specs.Matching.{forall_instances}
+use Rattle.ss_terms_stores.specs.Forms.{formula_at}
+use Rattle.ss_rules_occurring.specs.Found.{formulas_of}
+use Rattle.ss_rules_occurring.proofs.Sought.{holds_itself}
+use Rattle.ss_rules_ground.proofs.Coming.{still_closed, ok_comes}
+use Rattle.ss_rules_ground.proofs.rounds.at_forall.Goals as goal
+
+pub returns-then-after-before-clause-closed : goal.returns-then-after-before-clause-closed
+returns-then-after-before-clause-closed c =
+    let after : c.len-after.result ≡ length c.add_forall_instances.new.list.list.items = c.len-after.ensures ∙ c.add_forall_instances.new.list.list.ok.0 in
+    let before : c.len-before.result ≡ length c.args.list.now.list.items = c.len-before.ensures ∙ c.args.list.now.list.ok.0 in
+    still_closed (view.classes c.args.classes.now) c.args.limit c.args.bank.now c.add_forall_instances.new.bank c.args.list.now c.add_forall_instances.new.list (forall_instances (formulas_of c.args.bank.now c.args.list.now) (formula_at c.args.bank.now c.args.f)) c.requires.was_closed c.in_ok-add_forall_instances.ensures.added (sym after ∙ c.if-after-before.true ∙ before)
+
+pub close-requires-clause-list : goal.close-requires-clause-list
+close-requires-clause-list c = holds_itself c.add_forall_instances.new.bank c.add_forall_instances.new.list _ c.in_ok-add_forall_instances.ensures.added
+
+pub returns-clause-closed : goal.returns-clause-closed
+returns-clause-closed c =
+    ok_comes c.close.result c.close.new.bank c.close.new.list _ _ (ap (closed (view.classes c.args.classes.now) c.args.limit) c.in_ok-add_forall_instances.ensures.added.are) c.close.ensures.closed

@@ -1,0 +1,34 @@
+use Rattle.std.proofs.Common.{◌≡◌, ◌+◌, ◌-◌, ◌<◌, length, arith, true, false, refl}
+use Rattle.ss_core.specs.View as view
+use Rattle.ss_terms_stores.proofs.Grown.{IsGrown-then, HasFormula-grown}
+use Rattle.ss_terms_stores.proofs.Parts.{AreBelow-get}
+use Rattle.ss_rules_ground.proofs.Coming.{forall_stops, forall_goes_on, foralls_done, closed_now}
+use Rattle.ss_rules_ground.proofs.rounds.at_foralls.Goals as goal
+
+pub at_forall-requires-clause-formula : goal.at_forall-requires-clause-formula
+at_forall-requires-clause-formula c =
+    let within : c.loop-i.i - 1 < length c.args.fs.now = omega (arith, c.loop-i.invariant.within, c.loop-i-test.true) in
+    HasFormula-grown c.args.bank.now c.loop-i.bank c.loop-i.invariant.grown _ (AreBelow-get _ c.args.fs.now (c.loop-i.i - 1) (record { 0 = 0 }) c.requires.formulas within)
+
+pub loop-i-preserved : goal.loop-i-preserved
+loop-i-preserved c =
+    let within : c.loop-i.i - 1 < length c.args.fs.now = omega (arith, c.loop-i.invariant.within, c.loop-i-test.true) in
+    let next : c.loop-i.i ≡ c.loop-i.i - 1 + 1 = omega (arith, c.loop-i-test.true) in
+    record {
+      within = omega (arith, within);
+      grown = IsGrown-then c.args.bank.now c.loop-i.bank c.at_forall.new.bank c.loop-i.invariant.grown c.at_forall.ensures.grown;
+      has = c.in_ok-few.ensures.closed.has;
+      still = closed_now (view.classes c.args.classes.now) c.args.limit c.at_forall.new.bank c.at_forall.new.list c.in_ok-few.few _ c.in_ok-few.ensures.closed c.if-not-few.false;
+      left = forall_goes_on (view.classes c.args.classes.now) c.args.limit c.args.bank.now c.loop-i.bank c.at_forall.new.bank c.args.fs.now (c.loop-i.i - 1) c.loop-i.i next (record { 0 = 0 }) c.loop-i.list c.at_forall.new.list _ within c.requires.formulas c.loop-i.invariant.grown
+          c.in_ok-few.few c.loop-i.invariant.left c.in_ok-few.ensures.closed c.if-not-few.false;
+    }
+
+pub returns-then-not-few-clause-closed : goal.returns-then-not-few-clause-closed
+returns-then-not-few-clause-closed c =
+    let within : c.loop-i.i - 1 < length c.args.fs.now = omega (arith, c.loop-i.invariant.within, c.loop-i-test.true) in
+    let next : c.loop-i.i ≡ c.loop-i.i - 1 + 1 = omega (arith, c.loop-i-test.true) in
+    forall_stops (view.classes c.args.classes.now) c.args.limit c.args.bank.now c.loop-i.bank c.at_forall.new.bank c.args.fs.now (c.loop-i.i - 1) c.loop-i.i next (record { 0 = 0 }) c.loop-i.list c.at_forall.new.list _ within c.requires.formulas c.loop-i.invariant.grown
+    c.in_ok-few.few c.loop-i.invariant.left c.in_ok-few.ensures.closed c.if-not-few.true
+
+pub returns-clause-closed : goal.returns-clause-closed
+returns-clause-closed c = foralls_done (view.classes c.args.classes.now) c.args.limit c.args.bank.now c.loop-i.bank c.args.fs.now c.loop-i.i c.loop-i.list _ c.loop-i.invariant.has (omega (arith, c.loop-i-test.false)) c.loop-i.invariant.left

@@ -1,0 +1,12 @@
+use Rattle.std.proofs.Common.{ap}
+use Rattle.ss_core.specs.View as view
+use Rattle.ss_logic_ground.specs.Ground.{closed}
+use Rattle.ss_rules_occurring.proofs.Sought.{holds_itself}
+use Rattle.ss_rules_ground.proofs.Coming.{ok_comes}
+use Rattle.ss_rules_ground.proofs.rounds.first.Goals as goal
+
+pub close-requires-clause-list : goal.close-requires-clause-list
+close-requires-clause-list c = holds_itself c.add_first.new.bank c.add_first.new.list _ c.in_ok-add_first.ensures.added
+
+pub returns-clause-closed : goal.returns-clause-closed
+returns-clause-closed c = ok_comes c.close.result c.close.new.bank c.close.new.list _ _ (ap (closed (view.classes c.args.classes.now) c.args.limit) c.in_ok-add_first.ensures.added.are) c.close.ensures.closed

@@ -1,0 +1,7 @@
+//! The ground form of an obligation over the bank of terms and formulas over stores.
+#![tactic(auto)]
+
+mod form;
+mod rounds;
+
+pub use form::{GroundForm, ground};

@@ -1,0 +1,279 @@
+// Closing a list, and rounds.
+
+ghost use Rattle.std.specs.Prelude.{option_and_then, reverse, IfOk, OnOk};
+ghost use Rattle.ss_core.specs.Chain.{IsWithinLimits};
+ghost use Rattle.ss_core.specs.View as view;
+ghost use Rattle.ss_logic_ground.specs.Asked as asking;
+ghost use Rattle.ss_logic_ground.specs.Ground as spec;
+ghost use Rattle.ss_logic_ground.specs.Matching.{forall_instances};
+ghost use Rattle.ss_logic_ground.specs.Occurring as occurring;
+ghost use Rattle.ss_logic_ground.specs.Occurring.{with_formulas};
+ghost use Rattle.ss_rules_asked.specs.Numbers.{Asks};
+ghost use Rattle.ss_terms_stores.specs.Forms.{formula_at, formulas_at, HasFormula, HasFormulas, IsGrown, IsBankOf};
+ghost use Rattle.ss_rules_occurring.specs.Found.{formulas_of, HasFound, Holds};
+ghost use Rattle.ss_rules_ground.specs.Comes.{Comes, IsClosed};
+
+use ss_core::Classes;
+use ss_rules_asked::{Asked, asked_to_close};
+use ss_rules_asked_first::asked_first;
+use ss_rules_matching::add_forall_instances;
+use ss_rules_occurring::{FormulaList, atoms, quantified, terms};
+use ss_rules_said::add_said;
+use ss_terms_stores::{Bank, FormulaId};
+use std::alloc::{AllocError, Global};
+
+// What is asked for to close the list.
+fn due(
+    alloc: Global,
+    bank: &Bank,
+    classes: &Classes,
+    list: &FormulaList,
+) -> Result<Vec<Asked>, AllocError>
+    requires bank { IsBankOf (view.classes classes.now) bank.now }
+    requires list { HasFound bank.now list.now }
+    ensures { IfOk result (λ v. Asks bank.now v.items (asking.asked_to_close (view.classes classes.now) (occurring.atoms (formulas_of bank.now list.now)) (occurring.terms (formulas_of bank.now list.now)))) }
+{
+    let atoms = atoms(alloc, bank, &list.list)?;
+    let terms = terms(alloc, bank, &atoms.list)?;
+    asked_to_close(alloc, bank, classes, &atoms.list, &terms.list)
+}
+
+// Adds what is due.
+fn add_due(
+    alloc: Global,
+    bank: &mut Bank,
+    classes: &Classes,
+    list: &mut FormulaList,
+) -> Result<(), AllocError>
+    requires bank { IsBankOf (view.classes classes.now) bank.old }
+    requires limits { IsWithinLimits (view.classes classes.now) }
+    requires list { HasFound bank.old list.old }
+    ensures added { OnOk result (Holds bank.new list.new (with_formulas (formulas_of bank.old list.old) (spec.due (view.classes classes.now) (formulas_of bank.old list.old)))) }
+    ensures grown { IsGrown bank.old bank.new }
+{
+    let asked = due(alloc, bank, classes, list)?;
+    add_said(alloc, bank, classes, list, &asked)
+}
+
+/// Adds what is due again until nothing is new. Answers whether there are at most `limit` formulas.
+pub(crate) fn close(
+    alloc: Global,
+    bank: &mut Bank,
+    classes: &Classes,
+    list: &mut FormulaList,
+    limit: usize,
+) -> Result<bool, AllocError>
+    requires bank { IsBankOf (view.classes classes.now) bank.old }
+    requires limits { IsWithinLimits (view.classes classes.now) }
+    requires list { HasFound bank.old list.old }
+    ensures closed { IfOk result (λ few. Comes bank.new few list.new (spec.closed (view.classes classes.now) limit (formulas_of bank.old list.old))) }
+    ensures grown { IsGrown bank.old bank.new }
+{
+    for step in 0..limit {
+        let _ = step;
+        let before = list.list.len();
+        add_due(alloc, bank, classes, list)?;
+        let after = list.list.len();
+        if after > limit {
+            return Ok(false);
+        }
+        if after == before {
+            return Ok(true);
+        }
+    }
+    Ok(false)
+}
+
+// What is asked for first in a round.
+fn due_first(
+    alloc: Global,
+    bank: &Bank,
+    classes: &Classes,
+    list: &FormulaList,
+) -> Result<Vec<Asked>, AllocError>
+    requires bank { IsBankOf (view.classes classes.now) bank.now }
+    requires limits { IsWithinLimits (view.classes classes.now) }
+    requires list { HasFound bank.now list.now }
+    ensures { IfOk result (λ v. Asks bank.now v.items (asking.asked_first (view.classes classes.now) (occurring.atoms (formulas_of bank.now list.now)) (occurring.terms (formulas_of bank.now list.now)))) }
+{
+    let atoms = atoms(alloc, bank, &list.list)?;
+    let terms = terms(alloc, bank, &atoms.list)?;
+    asked_first(alloc, bank, classes, &atoms.list, &terms.list)
+}
+
+// Adds the first instances of a round.
+fn add_first(
+    alloc: Global,
+    bank: &mut Bank,
+    classes: &Classes,
+    list: &mut FormulaList,
+) -> Result<(), AllocError>
+    requires bank { IsBankOf (view.classes classes.now) bank.old }
+    requires limits { IsWithinLimits (view.classes classes.now) }
+    requires list { HasFound bank.old list.old }
+    ensures added { OnOk result (Holds bank.new list.new (with_formulas (formulas_of bank.old list.old) (spec.first_step (view.classes classes.now) (formulas_of bank.old list.old)))) }
+    ensures grown { IsGrown bank.old bank.new }
+{
+    let asked = due_first(alloc, bank, classes, list)?;
+    add_said(alloc, bank, classes, list, &asked)
+}
+
+// Adds the instances of a quantified formula, and closes the list, which stays closed where nothing is new.
+fn at_forall(
+    alloc: Global,
+    bank: &mut Bank,
+    classes: &Classes,
+    list: &mut FormulaList,
+    f: FormulaId,
+    limit: usize,
+) -> Result<bool, AllocError>
+    requires bank { IsBankOf (view.classes classes.now) bank.old }
+    requires limits { IsWithinLimits (view.classes classes.now) }
+    requires list { HasFound bank.old list.old }
+    requires was_closed { IsClosed (view.classes classes.now) limit (formulas_of bank.old list.old) }
+    requires formula { HasFormula bank.old f }
+    ensures closed { IfOk result (λ few. Comes bank.new few list.new (spec.closed (view.classes classes.now) limit (with_formulas (formulas_of bank.old list.old) (forall_instances (formulas_of bank.old list.old) (formula_at bank.old f))))) }
+    ensures grown { IsGrown bank.old bank.new }
+{
+    let before = list.list.len();
+    add_forall_instances(alloc, bank, classes, list, f)?;
+    let after = list.list.len();
+    if after == before {
+        return Ok(true);
+    }
+    close(alloc, bank, classes, list, limit)
+}
+
+// Does so with each of them, from the last to the first.
+fn at_foralls(
+    alloc: Global,
+    bank: &mut Bank,
+    classes: &Classes,
+    list: &mut FormulaList,
+    fs: &[FormulaId],
+    limit: usize,
+) -> Result<bool, AllocError>
+    requires bank { IsBankOf (view.classes classes.now) bank.old }
+    requires limits { IsWithinLimits (view.classes classes.now) }
+    requires list { HasFound bank.old list.old }
+    requires was_closed { IsClosed (view.classes classes.now) limit (formulas_of bank.old list.old) }
+    requires formulas { HasFormulas bank.old fs.now }
+    ensures closed { IfOk result (λ few. Comes bank.new few list.new (spec.foralls_step (view.classes classes.now) limit (reverse (formulas_at bank.old fs.now)) (formulas_of bank.old list.old))) }
+    ensures grown { IsGrown bank.old bank.new }
+{
+    let mut i = fs.len();
+    while i > 0 {
+        i -= 1;
+        let few = at_forall(alloc, bank, classes, list, fs[i], limit)?;
+        if !few {
+            return Ok(false);
+        }
+    }
+    Ok(true)
+}
+
+// Adds the first instances of a round and closes the list.
+fn first(
+    alloc: Global,
+    bank: &mut Bank,
+    classes: &Classes,
+    list: &mut FormulaList,
+    limit: usize,
+) -> Result<bool, AllocError>
+    requires bank { IsBankOf (view.classes classes.now) bank.old }
+    requires limits { IsWithinLimits (view.classes classes.now) }
+    requires list { HasFound bank.old list.old }
+    ensures closed { IfOk result (λ few. Comes bank.new few list.new (spec.closed (view.classes classes.now) limit (with_formulas (formulas_of bank.old list.old) (spec.first_step (view.classes classes.now) (formulas_of bank.old list.old))))) }
+    ensures grown { IsGrown bank.old bank.new }
+{
+    add_first(alloc, bank, classes, list)?;
+    close(alloc, bank, classes, list, limit)
+}
+
+// Does a round, of which these are the quantified formulas.
+fn round_with(
+    alloc: Global,
+    bank: &mut Bank,
+    classes: &Classes,
+    list: &mut FormulaList,
+    fs: &[FormulaId],
+    limit: usize,
+) -> Result<bool, AllocError>
+    requires bank { IsBankOf (view.classes classes.now) bank.old }
+    requires limits { IsWithinLimits (view.classes classes.now) }
+    requires list { HasFound bank.old list.old }
+    requires formulas { HasFormulas bank.old fs.now }
+    ensures done { IfOk result (λ few. Comes bank.new few list.new (option_and_then (spec.foralls_step (view.classes classes.now) limit (reverse (formulas_at bank.old fs.now))) (spec.closed (view.classes classes.now) limit (with_formulas (formulas_of bank.old list.old) (spec.first_step (view.classes classes.now) (formulas_of bank.old list.old)))))) }
+    ensures grown { IsGrown bank.old bank.new }
+{
+    let few = first(alloc, bank, classes, list, limit)?;
+    if !few {
+        return Ok(false);
+    }
+    at_foralls(alloc, bank, classes, list, fs, limit)
+}
+
+// Does a round.
+fn round(
+    alloc: Global,
+    bank: &mut Bank,
+    classes: &Classes,
+    list: &mut FormulaList,
+    limit: usize,
+) -> Result<bool, AllocError>
+    requires bank { IsBankOf (view.classes classes.now) bank.old }
+    requires limits { IsWithinLimits (view.classes classes.now) }
+    requires list { HasFound bank.old list.old }
+    ensures done { IfOk result (λ few. Comes bank.new few list.new (spec.round (view.classes classes.now) limit (formulas_of bank.old list.old))) }
+    ensures grown { IsGrown bank.old bank.new }
+{
+    let found = quantified(alloc, bank, &list.list)?;
+    round_with(alloc, bank, classes, list, &found.list, limit)
+}
+
+// Does so many rounds.
+fn rounds(
+    alloc: Global,
+    bank: &mut Bank,
+    classes: &Classes,
+    list: &mut FormulaList,
+    count: usize,
+    limit: usize,
+) -> Result<bool, AllocError>
+    requires bank { IsBankOf (view.classes classes.now) bank.old }
+    requires limits { IsWithinLimits (view.classes classes.now) }
+    requires list { HasFound bank.old list.old }
+    ensures done { IfOk result (λ few. Comes bank.new few list.new (spec.rounds_of (view.classes classes.now) limit count (formulas_of bank.old list.old))) }
+    ensures grown { IsGrown bank.old bank.new }
+{
+    for number in 0..count {
+        let _ = number;
+        let few = round(alloc, bank, classes, list, limit)?;
+        if !few {
+            return Ok(false);
+        }
+    }
+    Ok(true)
+}
+
+/// Closes a list and does so many rounds. Answers whether there were never more than `limit` formulas.
+pub(crate) fn closed_rounds(
+    alloc: Global,
+    bank: &mut Bank,
+    classes: &Classes,
+    list: &mut FormulaList,
+    count: usize,
+    limit: usize,
+) -> Result<bool, AllocError>
+    requires bank { IsBankOf (view.classes classes.now) bank.old }
+    requires limits { IsWithinLimits (view.classes classes.now) }
+    requires list { HasFound bank.old list.old }
+    ensures done { IfOk result (λ few. Comes bank.new few list.new (option_and_then (spec.rounds_of (view.classes classes.now) limit count) (spec.closed (view.classes classes.now) limit (formulas_of bank.old list.old)))) }
+    ensures grown { IsGrown bank.old bank.new }
+{
+    let few = close(alloc, bank, classes, list, limit)?;
+    if !few {
+        return Ok(false);
+    }
+    rounds(alloc, bank, classes, list, count, limit)
+}
