@@ -1,0 +1,13 @@
+//! The obligations of core programs, over a bank of terms and formulas.
+#![tactic(auto)]
+
+mod behind;
+mod bodies;
+mod changes;
+mod list;
+mod programs;
+mod statements;
+
+pub use list::Obligations;
+pub use programs::obligations;
+pub use ss_vcgen_builder::Obligation;

@@ -1,0 +1,15 @@
+// Lists of obligations.
+
+use ss_terms_stores::{Bank, FormulaId};
+use ss_vcgen_builder::Obligation;
+
+/// The obligations of a program, in their order, body by body. Each has for its premises a part of the one trail.
+#[derive(Drop)]
+pub struct Obligations {
+    /// The terms and formulas.
+    pub bank: Bank,
+    /// What is known, in the order of the bodies.
+    pub trail: Vec<FormulaId>,
+    /// The obligations.
+    pub list: Vec<Obligation>,
+}
