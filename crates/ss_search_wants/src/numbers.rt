@@ -1,0 +1,160 @@
+// What invariants say, and the ranges of numbers.
+
+use crate::looks::{
+    KEY_RULE, class_id, class_literal, class_numbered, good_once, good_store, has_invariants,
+    member, terms_at,
+};
+use crate::typed::good_field;
+use ss_core::{ClassId, Classes};
+use ss_search_classes::{
+    ELEMENT, FIELD, LENGTH, LEVEL, NONE, TYPE, argument, is_term, is_whole, node_head, of_term,
+    pair_argument,
+};
+use ss_search_proof::GoodName;
+use ss_search_state::{State, Wanted, new_request};
+use ss_terms_stores::Bank;
+use std::alloc::AllocError;
+
+// What invariants say, and numbers.
+pub(crate) fn use_numbers(
+    state: &mut State,
+    bank: &Bank,
+    program: &Classes,
+    node: usize,
+) -> Result<(), AllocError> {
+    let head = node_head(bank, node);
+    if head.kind == FIELD {
+        return invariants_at(state, bank, program, node);
+    }
+    if head.kind == ELEMENT && is_whole(bank, node / 2) {
+        return element_range(state, bank, node);
+    }
+    if head.kind == LENGTH {
+        return length(state, bank, node);
+    }
+    Ok(())
+}
+
+// A whole number in an array is in its range.
+fn element_range(state: &mut State, bank: &Bank, node: usize) -> Result<(), AllocError> {
+    let store = good_store(state, argument(bank, node, 0));
+    if store == NONE {
+        return Ok(());
+    }
+    let at = terms_at(argument(bank, node, 1), argument(bank, node, 2), NONE);
+    good_once(state, (GoodName::Typed, 9), store, at)
+}
+
+// The invariants of classes at which an object may be packed whose field is asked for.
+fn invariants_at(
+    state: &mut State,
+    bank: &Bank,
+    program: &Classes,
+    node: usize,
+) -> Result<(), AllocError> {
+    let store = good_store(state, argument(bank, node, 0));
+    if store == NONE {
+        return Ok(());
+    }
+    let object = argument(bank, node, 1);
+    if state
+        .seen
+        .is_new(KEY_RULE.saturating_add(8), store, object)?
+    {
+        state.want(new_request(Wanted::Level, store, object, NONE))?;
+    }
+    if is_whole(bank, node / 2) {
+        good_field(state, bank, (GoodName::Typed, store), node / 2)?;
+    }
+    let level = level_of(state, bank, store, object);
+    if level == NONE {
+        return Ok(());
+    }
+    for place in 0..program.list.len() {
+        invariant_at(state, bank, program, (store, object, level), place)?;
+    }
+    Ok(())
+}
+
+fn invariant_at(
+    state: &mut State,
+    bank: &Bank,
+    program: &Classes,
+    at: (usize, usize, usize),
+    place: usize,
+) -> Result<(), AllocError> {
+    let (store, object, level) = at;
+    let number = place.saturating_mul(2).saturating_add(4);
+    if has_invariants(program, place)
+        && may_be_packed(state, bank, program, level, class_numbered(number))
+    {
+        let wanted = terms_at(object, NONE, NONE).of_class(number);
+        good_once(state, (GoodName::Invariants, NONE), store, wanted)?;
+    }
+    Ok(())
+}
+
+// The level of an object in a store, where it is asked for, or NONE.
+fn level_of(state: &State, bank: &Bank, store: usize, object: usize) -> usize {
+    let mut at = state.equal.last_use(of_term(object));
+    for _ in 0..10_000usize {
+        let (node, before) = state.equal.use_at(at);
+        if node == NONE {
+            break;
+        }
+        if is_term(node)
+            && node_head(bank, node).kind == LEVEL
+            && argument(bank, node, 0) == store
+            && argument(bank, node, 1) == object
+        {
+            return node / 2;
+        }
+        at = before;
+    }
+    NONE
+}
+
+// Whether a bound of a level is known by which an object may be packed at a class.
+fn may_be_packed(
+    state: &State,
+    bank: &Bank,
+    program: &Classes,
+    level: usize,
+    class: ClassId,
+) -> bool {
+    let literal = class_literal(state, bank, level);
+    if literal != NONE {
+        return program.is_subclass(class_id(bank, literal), class);
+    }
+    for place in 0..state.asked.sub_count() {
+        let pair = state.asked.sub(place);
+        let known = class_literal(state, bank, pair_argument(bank, pair, 1));
+        if known != NONE
+            && state.equal.mark_of(bank, pair) == Some(true)
+            && state
+                .equal
+                .are_equal(of_term(pair_argument(bank, pair, 0)), of_term(level))
+            && program.is_subclass(class_id(bank, known), class)
+        {
+            return true;
+        }
+    }
+    member(state, bank, of_term(level), TYPE, 0) != NONE
+}
+
+fn length(state: &mut State, bank: &Bank, node: usize) -> Result<(), AllocError> {
+    let array = argument(bank, node, 0);
+    if state.asked.good_count() > 0 {
+        let store = state
+            .asked
+            .good_at(state.asked.good_count().saturating_sub(1))
+            .number;
+        good_once(
+            state,
+            (GoodName::Typed, 8),
+            store,
+            terms_at(array, NONE, NONE),
+        )?;
+    }
+    Ok(())
+}

@@ -1,0 +1,65 @@
+// The instances of a stage.
+
+use crate::good::use_good;
+use crate::levels::reduce_class;
+use crate::numbers::use_numbers;
+use crate::reads::{not_allocated_next, reduce_equality, reduce_read, split_pairs, use_foralls};
+use ss_core::Classes;
+use ss_search_classes::{ALLOCATED, EQUAL, NONE, OWNER, SUB, node_head};
+use ss_search_instances::is_read;
+use ss_search_state::{State, reads_store};
+use ss_terms_stores::Bank;
+use std::alloc::AllocError;
+
+/// Makes the instances of a stage that what is asked for asks for. Whether there was one.
+pub fn work(
+    state: &mut State,
+    bank: &Bank,
+    program: &Classes,
+    stage: usize,
+) -> Result<bool, AllocError> {
+    state.find_relevant(bank)?;
+    state.ask_members(bank)?;
+    state.find_relevant(bank)?;
+    let before = state.requests.len();
+    for place in 0..usize::MAX {
+        let node = state.asked.node(place);
+        if node == NONE || state.left.instances == 0 {
+            break;
+        }
+        if stage == 1 {
+            reduce(state, bank, program, node)?;
+        } else if stage == 2 {
+            use_good(state, bank, program, node)?;
+        } else {
+            use_numbers(state, bank, program, node)?;
+        }
+    }
+    Ok(state.requests.len() > before)
+}
+
+// What reads come to, and what is said of all objects.
+fn reduce(
+    state: &mut State,
+    bank: &Bank,
+    program: &Classes,
+    node: usize,
+) -> Result<(), AllocError> {
+    let head = node_head(bank, node);
+    if reads_store(head.kind) {
+        reduce_read(state, bank, node)?;
+        if is_read(head.kind) {
+            use_foralls(state, bank, node)?;
+        }
+    }
+    if head.kind == OWNER {
+        split_pairs(state, bank, node)?;
+    } else if head.kind == ALLOCATED {
+        not_allocated_next(state, bank, node)?;
+    } else if head.kind == EQUAL {
+        reduce_equality(state, bank, node)?;
+    } else if head.kind == SUB {
+        reduce_class(state, bank, program, node)?;
+    }
+    Ok(())
+}
