@@ -50,3 +50,7 @@ asked_and b xs ys zs first second before h = record {
   has = h.has;
   are = h.are ∙ ap (λ vs. vs ++ second) before.are ∙ append_assoc (asked_in b xs) first second;
 }
+
+pub ok_asks : {E : Type 0} (r : Result (Unit {0}) E) (b : Forms) (ys : List Asked) (these those : List spec.Asked) → these ≡ those → OnOk r (Asks b ys these) → OnOk r (Asks b ys those)
+ok_asks (Ok u) b ys these those e h = record { has = h.has; are = h.are ∙ e }
+ok_asks (Err z) b ys these those e h = tt

@@ -1,6 +1,8 @@
 -- What reads and counts of terms in code stand for.
 use Rattle.std.specs.Prelude.{◌≡◌, List, [], ◌∷◌, map, Bool, true, false, Option, Some, None, option_map, IfSome}
 use Rattle.ss_logic_stores.specs.Terms.{Term, Terms, no_terms, term_then}
+use Rattle.ss_logic_stores.specs.Formulas.{Equal, Formula, Literal}
+use Rattle.ss_logic_rules.specs.Reads.{is_constant_store}
 use Rattle.ss_logic_ground.specs.Asked as spec
 use Rattle.ss_logic_ground.specs.Asked.{numeral}
 use Rattle.ss_terms_stores.specs.declared.forms.TermId.{TermId}
@@ -9,6 +11,15 @@ use Rattle.ss_rules_asked.specs.declared.forms.Others.{Others}
 use Rattle.ss_rules_asked.specs.declared.forms.Others.TheVariants as others
 use Rattle.ss_rules_asked.specs.declared.forms.Reading.{Reading}
 use Rattle.ss_rules_asked.specs.declared.forms.Counts.{Counts}
+
+-- what an equation of a constant for stores is
+abbrev pub first_is_constant : Terms → Bool
+first_is_constant (term_then x (term_then y no_terms)) = is_constant_store x
+first_is_constant ts = false
+
+abbrev pub is_store_equation : Formula → Bool
+is_store_equation (Literal sign Equal ts) = first_is_constant ts
+is_store_equation f = false
 
 -- there is no term
 abbrev pub nothing : List TermId → Bool

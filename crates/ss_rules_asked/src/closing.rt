@@ -11,7 +11,7 @@ use crate::among::{Among, ask_among_all};
 use crate::asked::Asked;
 use crate::couples::{ask_of_counts, ask_of_pairs};
 use crate::forms::{Reading, is_constant_store};
-use crate::gathered::{all_counts, pairs, readings};
+use crate::gathered::{all_counts, pairs, readings, store_equations};
 use crate::lists::{AtAtom, AtTerm, ask_at_atoms, ask_at_terms};
 use crate::reads::ask_over;
 use ss_core::Classes;
@@ -57,6 +57,23 @@ fn ask_at_reads(
     Ok(())
 }
 
+// The same, where of the atoms only those are tried that say what a constant equals.
+fn ask_at_all_reads(
+    alloc: Global,
+    bank: &Bank,
+    asked: &mut Vec<Asked>,
+    atoms: &[FormulaId],
+    reads: &[Reading],
+) -> Result<(), AllocError>
+    requires asked { HasAsked bank.now asked.old.items }
+    requires atoms { HasFormulas bank.now atoms.now }
+    requires reads { HasReadings bank.now reads.now }
+    ensures { OnOk result (Asks bank.now asked.new.items (asked_in bank.now asked.old.items ++ flat_map (spec.asked_at_read (formulas_at bank.now atoms.now)) (readings_at bank.now reads.now))) }
+{
+    let equations = store_equations(alloc, bank, atoms)?;
+    ask_at_reads(alloc, bank, asked, &equations, reads)
+}
+
 // About reads and new references.
 fn ask_about_stores(
     alloc: Global,
@@ -73,7 +90,7 @@ fn ask_about_stores(
     ensures { OnOk result (Asks bank.now asked.new.items (asked_in bank.now asked.old.items ++ spec.asked_about_stores (formulas_at bank.now atoms.now) (terms_at bank.now terms.now))) }
 {
     let reads = readings(alloc, bank, atoms, terms)?;
-    ask_at_reads(alloc, bank, asked, atoms, &reads)?;
+    ask_at_all_reads(alloc, bank, asked, atoms, &reads)?;
     ask_at_terms(alloc, bank, classes, asked, AtTerm::Next, terms)?;
     ask_among_all(alloc, bank, classes, asked, Among::New, terms)
 }

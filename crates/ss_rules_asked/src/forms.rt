@@ -9,7 +9,7 @@ ghost use Rattle.ss_logic_rules.specs.Reads as reads;
 ghost use Rattle.ss_logic_rules.specs.Rules as rules;
 ghost use Rattle.ss_logic_ground.specs.Asked as spec;
 ghost use Rattle.ss_terms_stores.specs.Forms.{term_at, terms_at, formula_at, HasTerm, HasTerms, HasFormula, IsBankOf};
-ghost use Rattle.ss_rules_asked.specs.Readings.{nothing, first_of_two, IsReading, IsOne, IsCount};
+ghost use Rattle.ss_rules_asked.specs.Readings.{nothing, first_of_two, first_is_constant, is_store_equation, IsReading, IsOne, IsCount};
 
 use ss_logic_stores::Sort;
 use ss_terms_stores::{Bank, Formula, FormulaId, Predicate, Symbol, Term, TermId};
@@ -335,6 +335,37 @@ pub(crate) fn is_constant_store(bank: &Bank, t: TermId) -> bool
 {
     match bank.term_node(t) {
         Term::App(Symbol::Constant(Sort::Store, number), ts) => store_alone(bank, *number, ts),
+        _ => false,
+    }
+}
+
+// Whether the first of two is a constant for stores.
+fn first_is_constant(bank: &Bank, ts: &[TermId]) -> bool
+    requires { HasTerms bank.now ts.now }
+    ensures { result ≡ first_is_constant (terms_from (terms_at bank.now ts.now)) }
+{
+    match ts {
+        [] => false,
+        [_] => false,
+        [x, y] => {
+            let _ = y;
+            is_constant_store(bank, *x)
+        }
+        [_, _, _, ..] => false,
+    }
+}
+
+/// Whether an atom says what a constant for stores equals.
+pub(crate) fn is_store_equation(bank: &Bank, f: FormulaId) -> bool
+    requires { HasFormula bank.now f }
+    ensures { result ≡ is_store_equation (formula_at bank.now f) }
+{
+    match bank.formula_node(f) {
+        Formula::Literal {
+            predicate: Predicate::Equal,
+            arguments,
+            ..
+        } => first_is_constant(bank, arguments),
         _ => false,
     }
 }

@@ -1,11 +1,13 @@
 // Reads, counts and pairs, gathered.
 
-ghost use Rattle.std.specs.Prelude.{◌∷◌, [], ◌++◌, filter, filter_map, option_map, option_to_list, IfOk, IfSome, OnOk};
+ghost use Rattle.std.specs.Prelude.{◌≡◌, ◌∷◌, [], ◌++◌, filter, filter_map, option_map, option_to_list, IfOk, IfSome, OnOk};
 ghost use Rattle.ss_logic_ground.specs.Asked as spec;
-ghost use Rattle.ss_terms_stores.specs.Forms.{term_at, terms_at, formulas_at, HasTerm, HasTerms, HasFormulas};
-ghost use Rattle.ss_rules_asked.specs.Readings.{reading_at, readings_at, counts_at, all_counts_at, HasReading, HasReadings, HasCount, HasCounts, AreReadings, AreCounts, AreTerms};
+ghost use Rattle.ss_terms_stores.specs.Forms.{term_at, terms_at, formula_at, formulas_at, HasTerm, HasTerms, HasFormula, HasFormulas};
+ghost use Rattle.ss_rules_asked.specs.Readings.{is_store_equation, reading_at, readings_at, counts_at, all_counts_at, HasReading, HasReadings, HasCount, HasCounts, AreReadings, AreCounts, AreTerms};
 
-use crate::forms::{Counts, Reading, counted, is_pair, reading_of_atom, reading_of_term};
+use crate::forms::{
+    Counts, Reading, counted, is_pair, is_store_equation, reading_of_atom, reading_of_term,
+};
 use ss_terms_stores::{Bank, FormulaId, TermId};
 use std::alloc::{AllocError, Global};
 
@@ -79,6 +81,37 @@ pub fn readings(
     add_readings_of_terms(bank, &mut readings, terms)?;
     add_readings_of_atoms(bank, &mut readings, atoms)?;
     Ok(readings)
+}
+
+// Adds an atom, if it says what a constant for stores equals.
+fn add_equation(bank: &Bank, equations: &mut Vec<FormulaId>, f: FormulaId) -> Result<(), AllocError>
+    requires equations { HasFormulas bank.now equations.old.items }
+    requires formula { HasFormula bank.now f }
+    ensures has { OnOk result (HasFormulas bank.now equations.new.items) }
+    ensures are { OnOk result (formulas_at bank.now equations.new.items ≡ formulas_at bank.now equations.old.items ++ filter is_store_equation (formula_at bank.now f ∷ [])) }
+{
+    if !is_store_equation(bank, f) {
+        return Ok(());
+    }
+    equations.push(f)?;
+    Ok(())
+}
+
+/// The atoms that say what a constant for stores equals. An error is want of memory.
+pub(crate) fn store_equations(
+    alloc: Global,
+    bank: &Bank,
+    atoms: &[FormulaId],
+) -> Result<Vec<FormulaId>, AllocError>
+    requires { HasFormulas bank.now atoms.now }
+    ensures has { IfOk result (λ v. HasFormulas bank.now v.items) }
+    ensures are { IfOk result (λ v. formulas_at bank.now v.items ≡ filter is_store_equation (formulas_at bank.now atoms.now)) }
+{
+    let mut equations = Vec::new(alloc);
+    for f in atoms {
+        add_equation(bank, &mut equations, *f)?;
+    }
+    Ok(equations)
 }
 
 // Adds what is counted, if anything is.
