@@ -12,7 +12,8 @@ use Rattle.ss_vcgen_heaps.specs.Positions.{Position}
 use Rattle.ss_vcgen_express.specs.Numbers.{IsTerm, IsFormula, AreFormulas}
 use Rattle.ss_vcgen_builder.specs.declared.builder.Builder.{Builder}
 use Rattle.ss_vcgen_builder.specs.Builder.{position_at, IsFine, Becomes}
-use Rattle.ss_vcgen_statements.specs.Words.{Stays, AreTerms, AreOnes}
+use Rattle.ss_vcgen_statements.specs.Words.{Stays, AreTerms}
+use Rattle.ss_vcgen_contracts.specs.Views.{AreOnes}
 use Rattle.ss_vcgen_statements.proofs.Steps.{stays, stays_then, no_formulas, formula_more}
 
 -- ---- lists of numbers

@@ -5,9 +5,9 @@ ghost use Rattle.ss_core.specs.View.{exposed_tree};
 ghost use Rattle.ss_terms_stores.specs.Forms.{terms_at, HasTerms};
 ghost use Rattle.ss_vcgen_heaps.specs.Obligations as spec;
 ghost use Rattle.ss_vcgen_express.specs.Numbers.{IsFormula, AreFormulas};
-ghost use Rattle.ss_vcgen_contracts.specs.Views.{ones_at};
+ghost use Rattle.ss_vcgen_contracts.specs.Views.{ones_at, AreOnes};
 ghost use Rattle.ss_vcgen_builder.specs.Builder.{position_at, walk_at, IsFine, IsWalk};
-ghost use Rattle.ss_vcgen_statements.specs.Words.{Stays, AreOnes};
+ghost use Rattle.ss_vcgen_statements.specs.Words.{Stays};
 ghost use Rattle.ss_vcgen_bodies.specs.Words.{entries_said, exits_said};
 
 use crate::levels::exposed_terms;

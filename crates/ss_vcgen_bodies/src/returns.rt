@@ -4,9 +4,8 @@ ghost use Rattle.std.specs.Prelude.{[], option_map, Some, IfOk, OnOk};
 ghost use Rattle.ss_core.specs.View.{expr};
 ghost use Rattle.ss_terms_stores.specs.Forms.{HasTerms};
 ghost use Rattle.ss_vcgen_heaps.specs.Obligations as spec;
-ghost use Rattle.ss_vcgen_contracts.specs.Views.{ones_at};
+ghost use Rattle.ss_vcgen_contracts.specs.Views.{ones_at, AreOnes};
 ghost use Rattle.ss_vcgen_builder.specs.Builder.{position_at, walk_at, IsFine, IsWalk, Becomes};
-ghost use Rattle.ss_vcgen_statements.specs.Words.{AreOnes};
 ghost use Rattle.ss_vcgen_bodies.specs.Words.{left, reached_result, result_reached};
 
 use crate::frames::{exits_said, frame_formula};
