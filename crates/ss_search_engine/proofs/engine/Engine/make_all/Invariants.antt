@@ -1,0 +1,5 @@
+use Rattle.ss_terms_stores.specs.Forms.{IsGrown}
+use Rattle.ss_search_engine.proofs.engine.Engine.make_all.Given as goal
+
+abbrev pub invariant-loop-turn : goal.invariant-loop-turn
+invariant-loop-turn l = IsGrown l.initial.bank l.bank

@@ -1,0 +1,260 @@
+// The search on a trail.
+
+ghost use Rattle.ss_core.specs.Chain.{IsWithinLimits};
+ghost use Rattle.ss_core.specs.View as view;
+ghost use Rattle.ss_terms_stores.specs.Forms.{IsGrown, IsBankOf};
+
+use ss_core::Classes;
+use ss_deriv::Derivation;
+use ss_search_classes::{CONSTANT, NONE, opposite, term_head};
+use ss_search_proof::{Reason, Said, write_lines};
+use ss_search_state::{Limits, Mark, State, Step, first_mark};
+use ss_terms_stores::{Bank, FormulaId, Symbol};
+use std::alloc::{AllocError, Global};
+
+/// What a search found.
+#[derive(Drop)]
+pub enum Answer {
+    /// Lines, of which a checker decides.
+    Proved(Derivation),
+    /// Nothing.
+    Stuck,
+}
+
+/// A split of which a case is open: its block, the fact and the formula of its `or`, the place and the fact of the open case,
+/// what stood when it was opened, and how many hypotheses had been handed over before.
+#[derive(Clone, Copy)]
+pub(crate) struct Split {
+    pub(crate) block: usize,
+    pub(crate) fact: usize,
+    pub(crate) formula: usize,
+    pub(crate) place: usize,
+    pub(crate) case: usize,
+    pub(crate) start: Mark,
+    pub(crate) handed: usize,
+}
+
+/// A search that serves all obligations of a program. What the premises of the last obligation made known stays, and is used
+/// where the next obligation is of the same body.
+#[derive(Drop)]
+pub struct Engine {
+    pub(crate) state: State,
+    pub(crate) splits: Vec<Split>,
+    // The hypotheses that closed cases of the splits stand on.
+    pub(crate) handed: Vec<usize>,
+    // The premises that are known, and what stands by them alone.
+    front: Vec<usize>,
+    base: Mark,
+    // Whether nothing else stands.
+    is_clean: bool,
+    // The first constant that is new.
+    base_fresh: usize,
+    // How many facts had been learned when a look ahead found nothing, and the clause at which the last one found something.
+    pub(crate) quiet: usize,
+    pub(crate) look_from: usize,
+    // A block that closes more than the literal that was tried.
+    pub(crate) pending_block: Option<usize>,
+}
+
+// A number above those of all constants that the bank has.
+fn first_fresh(bank: &Bank) -> usize {
+    let mut fresh = 0usize;
+    for term in 0..bank.term_count() {
+        let head = term_head(bank, term);
+        if head.kind == CONSTANT {
+            fresh = fresh.max(head.number.saturating_add(1));
+        }
+    }
+    fresh
+}
+
+// Whether the known premises are in front of these.
+fn is_front(front: &[usize], premises: &[FormulaId]) -> bool {
+    for (place, number) in front.iter().enumerate() {
+        match premises.get(place) {
+            Some(premise) => {
+                if premise.0 != *number {
+                    return false;
+                }
+            }
+            None => return false,
+        }
+    }
+    true
+}
+
+impl Engine {
+    /// Nothing is known. The bank has all obligations of the program.
+    pub fn new(alloc: Global, bank: &mut Bank) -> Result<Self, AllocError>
+        ensures grown { IsGrown bank.old bank.new }
+    {
+        let yes = bank.apply(Symbol::Fixed(true), &[])?;
+        let no = bank.apply(Symbol::Fixed(false), &[])?;
+        let fresh = first_fresh(bank);
+        Ok(Engine {
+            state: State::new(alloc, yes.0, no.0, fresh),
+            splits: Vec::new(alloc),
+            handed: Vec::new(alloc),
+            front: Vec::new(alloc),
+            base: first_mark(),
+            is_clean: true,
+            base_fresh: fresh,
+            quiet: NONE,
+            look_from: 0,
+            pending_block: None,
+        })
+    }
+
+    /// Searches for lines that refute the premises with the denied goal. It costs least where each obligation has the premises
+    /// of the one before it in front of its own.
+    pub fn search(
+        &mut self,
+        bank: &mut Bank,
+        program: &Classes,
+        premises: &[FormulaId],
+        goal: FormulaId,
+        limits: Limits,
+    ) -> Result<Answer, AllocError>
+        requires bank { IsBankOf (view.classes program.now) bank.old }
+        requires limits { IsWithinLimits (view.classes program.now) }
+        ensures grown { IsGrown bank.old bank.new }
+    {
+        self.state.left = limits;
+        self.state.nodes.grow(bank)?;
+        self.state.find_deepest(bank)?;
+        let step = self.begin(bank, program, premises, goal)?;
+        self.finish(bank, program, step)
+    }
+
+    // Makes the premises and the denied goal known.
+    fn begin(
+        &mut self,
+        bank: &mut Bank,
+        program: &Classes,
+        premises: &[FormulaId],
+        goal: FormulaId,
+    ) -> Result<Step, AllocError>
+        requires bank { IsBankOf (view.classes program.now) bank.old }
+        requires limits { IsWithinLimits (view.classes program.now) }
+        ensures grown { IsGrown bank.old bank.new }
+    {
+        self.restart_for(premises);
+        let step = self.learn_front(bank, program, premises)?;
+        if let Step::Conflict(_) = &step {
+            return Ok(step);
+        }
+        self.state
+            .learn(Said::Formula(opposite(goal.0)), Reason::Denied, 2)?;
+        self.state.settle(bank)
+    }
+
+    // Goes through the cases, and takes back what the goal made known.
+    fn finish(
+        &mut self,
+        bank: &mut Bank,
+        program: &Classes,
+        step: Step,
+    ) -> Result<Answer, AllocError>
+        requires bank { IsBankOf (view.classes program.now) bank.old }
+        requires limits { IsWithinLimits (view.classes program.now) }
+        ensures grown { IsGrown bank.old bank.new }
+    {
+        let root = self.run(bank, program, step)?;
+        let answer = match root {
+            Some(root) => write_lines(self.state.alloc, &mut self.state.reasons, root)?,
+            None => None,
+        };
+        self.forget();
+        match answer {
+            Some(derivation) => Ok(Answer::Proved(derivation)),
+            None => Ok(Answer::Stuck),
+        }
+    }
+
+    // What was known by the premises alone is known again, and nothing else.
+    fn forget(&mut self) {
+        self.state.forget(self.base);
+        self.splits.truncate(0);
+        self.handed.truncate(0);
+        self.quiet = NONE;
+        self.look_from = 0;
+        self.pending_block = None;
+        self.is_clean = true;
+    }
+
+    // Where the known premises aren't in front of these, all are made known anew.
+    fn restart_for(&mut self, premises: &[FormulaId]) {
+        if !self.is_clean || !is_front(&self.front, premises) {
+            self.restart();
+        }
+        self.is_clean = false;
+    }
+
+    // Makes those premises known that aren't yet.
+    fn learn_front(
+        &mut self,
+        bank: &mut Bank,
+        program: &Classes,
+        premises: &[FormulaId],
+    ) -> Result<Step, AllocError>
+        requires bank { IsBankOf (view.classes program.now) bank.old }
+        requires limits { IsWithinLimits (view.classes program.now) }
+        ensures grown { IsGrown bank.old bank.new }
+    {
+        for number in self.front.len()..premises.len() {
+            let step = self.learn_premise(bank, premises, number)?;
+            if let Step::Conflict(_) = &step {
+                return Ok(step);
+            }
+            self.make_all(bank, program)?;
+            let step = self.keep_premise(bank, premises, number)?;
+            if let Step::Conflict(_) = &step {
+                return Ok(step);
+            }
+        }
+        Ok(Step::Rests)
+    }
+
+    fn learn_premise(
+        &mut self,
+        bank: &Bank,
+        premises: &[FormulaId],
+        number: usize,
+    ) -> Result<Step, AllocError> {
+        let Some(premise) = premises.get(number) else {
+            return Ok(Step::Rests);
+        };
+        self.state
+            .learn(Said::Formula(premise.0), Reason::Premise(number), 0)?;
+        self.state.settle(bank)
+    }
+
+    fn keep_premise(
+        &mut self,
+        bank: &Bank,
+        premises: &[FormulaId],
+        number: usize,
+    ) -> Result<Step, AllocError> {
+        let step = self.state.settle(bank)?;
+        if let Step::Conflict(_) = &step {
+            return Ok(step);
+        }
+        if let Some(premise) = premises.get(number) {
+            self.front.push(premise.0)?;
+        }
+        self.base = self.state.mark();
+        Ok(step)
+    }
+
+    fn restart(&mut self) {
+        self.base = first_mark();
+        self.forget();
+        self.front.truncate(0);
+        self.state.fresh = self.base_fresh;
+    }
+
+    /// What is left of the limits of the last search.
+    pub fn left(&self) -> Limits {
+        self.state.left
+    }
+}

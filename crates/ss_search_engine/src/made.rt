@@ -1,0 +1,236 @@
+// What is made in the bank is learned.
+
+ghost use Rattle.ss_core.specs.Chain.{IsWithinLimits};
+ghost use Rattle.ss_core.specs.View as view;
+ghost use Rattle.ss_terms_stores.specs.Forms.{IsGrown, IsBankOf};
+
+use crate::engine::Engine;
+use ss_core::Classes;
+use ss_search_classes::{EXISTS, NONE, kind_of, pair_of};
+use ss_search_made::{
+    Arguments, arguments_of, atom_made, choice_made, constants_of, good_made, inst_made, rule_made,
+    term_made, terms_alone,
+};
+use ss_search_proof::{GoodName, Reason, RuleKind, Said};
+use ss_search_state::{Request, Wanted};
+use ss_terms_stores::{Bank, Symbol};
+use std::alloc::AllocError;
+
+fn arguments_in(request: Request) -> Arguments {
+    Arguments {
+        sentence: request.sentence,
+        first: request.first,
+        second: request.second,
+        third: request.third,
+        field: request.field,
+        class: request.class,
+    }
+}
+
+impl Engine {
+    // Makes all that is wanted, and learns it.
+    pub(crate) fn make_all(&mut self, bank: &mut Bank, program: &Classes) -> Result<(), AllocError>
+        requires bank { IsBankOf (view.classes program.now) bank.old }
+        requires limits { IsWithinLimits (view.classes program.now) }
+        ensures grown { IsGrown bank.old bank.new }
+    {
+        for _turn in 0..u64::MAX {
+            let Some(request) = self.next_request() else {
+                break;
+            };
+            self.make(bank, program, request)?;
+        }
+        self.state.nodes.grow(bank)
+    }
+
+    // The next thing that is wanted, in the order in which it was.
+    fn next_request(&mut self) -> Option<Request> {
+        let request = self.state.requests.get(self.state.made).copied();
+        match request {
+            Some(_) => self.state.made = self.state.made.saturating_add(1),
+            None => {
+                self.state.requests.truncate(0);
+                self.state.made = 0;
+            }
+        }
+        request
+    }
+
+    fn make(
+        &mut self,
+        bank: &mut Bank,
+        program: &Classes,
+        request: Request,
+    ) -> Result<(), AllocError>
+        requires bank { IsBankOf (view.classes program.now) bank.old }
+        requires limits { IsWithinLimits (view.classes program.now) }
+        ensures grown { IsGrown bank.old bank.new }
+    {
+        match request.wanted {
+            Wanted::Choose(formula, fact) => self.make_choice(bank, program, formula, fact),
+            Wanted::Inst(formula, fact) => self.make_inst(bank, program, request, (formula, fact)),
+            Wanted::Rule(rule) => self.make_rule(bank, program, request, rule),
+            Wanted::Good(rule, store, fact) => self.make_good(
+                bank,
+                program,
+                request,
+                (rule, store, fact),
+            ),
+            Wanted::Owner => self.make_read(bank, Symbol::Owner, request),
+            Wanted::Level => self.make_read(bank, Symbol::Level, request),
+            Wanted::Allocated => self.make_atom(bank, request),
+        }
+    }
+
+    fn make_rule(
+        &mut self,
+        bank: &mut Bank,
+        program: &Classes,
+        request: Request,
+        rule: RuleKind,
+    ) -> Result<(), AllocError>
+        requires bank { IsBankOf (view.classes program.now) bank.old }
+        requires limits { IsWithinLimits (view.classes program.now) }
+        ensures grown { IsGrown bank.old bank.new }
+    {
+        let numbers = arguments_of(self.state.alloc, bank, arguments_in(request))?;
+        let made = rule_made(self.state.alloc, bank, program, rule, &numbers)?;
+        self.learn_rule(made, rule, &numbers)
+    }
+
+    fn learn_rule(
+        &mut self,
+        made: usize,
+        rule: RuleKind,
+        numbers: &[usize],
+    ) -> Result<(), AllocError> {
+        let range = self.state.keep(numbers)?;
+        self.learn_made(made, Reason::Rule(rule, range))
+    }
+
+    // A formula that was made is learned.
+    fn learn_made(&mut self, made: usize, reason: Reason) -> Result<(), AllocError> {
+        if made != NONE {
+            self.state.learn(Said::Formula(made), reason, 1)?;
+        }
+        Ok(())
+    }
+
+    fn make_good(
+        &mut self,
+        bank: &mut Bank,
+        program: &Classes,
+        request: Request,
+        rule: (GoodName, usize, usize),
+    ) -> Result<(), AllocError>
+        requires bank { IsBankOf (view.classes program.now) bank.old }
+        requires limits { IsWithinLimits (view.classes program.now) }
+        ensures grown { IsGrown bank.old bank.new }
+    {
+        let numbers = arguments_of(self.state.alloc, bank, arguments_in(request))?;
+        let made = good_made(self.state.alloc, bank, program, (rule.0, rule.1), &numbers)?;
+        self.learn_good(made, rule, &numbers)
+    }
+
+    fn learn_good(
+        &mut self,
+        made: usize,
+        rule: (GoodName, usize, usize),
+        numbers: &[usize],
+    ) -> Result<(), AllocError> {
+        let range = self.state.keep(numbers)?;
+        self.learn_made(made, Reason::Good(rule.0, rule.2, range))
+    }
+
+    fn make_inst(
+        &mut self,
+        bank: &mut Bank,
+        program: &Classes,
+        request: Request,
+        forall: (usize, usize),
+    ) -> Result<(), AllocError>
+        requires bank { IsBankOf (view.classes program.now) bank.old }
+        requires limits { IsWithinLimits (view.classes program.now) }
+        ensures grown { IsGrown bank.old bank.new }
+    {
+        let numbers = terms_alone(self.state.alloc, arguments_in(request))?;
+        let made = inst_made(self.state.alloc, bank, program, forall.0, &numbers)?;
+        self.learn_inst(made, forall.1, &numbers)
+    }
+
+    fn learn_inst(
+        &mut self,
+        made: usize,
+        fact: usize,
+        numbers: &[usize],
+    ) -> Result<(), AllocError> {
+        let range = self.state.keep(numbers)?;
+        self.learn_made(made, Reason::Inst(fact, range))
+    }
+
+    fn make_choice(
+        &mut self,
+        bank: &mut Bank,
+        program: &Classes,
+        formula: usize,
+        fact: usize,
+    ) -> Result<(), AllocError>
+        requires bank { IsBankOf (view.classes program.now) bank.old }
+        requires limits { IsWithinLimits (view.classes program.now) }
+        ensures grown { IsGrown bank.old bank.new }
+    {
+        if kind_of(bank, formula) != EXISTS {
+            return Ok(());
+        }
+        let first = self.state.fresh;
+        let constants = constants_of(self.state.alloc, bank, formula, first)?;
+        self.state.fresh = first.saturating_add(constants.len());
+        let made = choice_made(self.state.alloc, bank, program, formula, &constants)?;
+        self.learn_choice(made, formula, fact, &constants)
+    }
+
+    fn learn_choice(
+        &mut self,
+        made: usize,
+        formula: usize,
+        fact: usize,
+        numbers: &[usize],
+    ) -> Result<(), AllocError> {
+        let range = self.state.keep(numbers)?;
+        let origin = self.state.origin(fact);
+        if made != NONE {
+            self.state.learn(Said::Formula(made), Reason::Choose(formula, range), origin)?;
+        }
+        Ok(())
+    }
+
+    // A read that is made is asked for.
+    fn make_read(
+        &mut self,
+        bank: &mut Bank,
+        symbol: Symbol,
+        request: Request,
+    ) -> Result<(), AllocError>
+        ensures grown { IsGrown bank.old bank.new }
+    {
+        let made = term_made(
+            self.state.alloc,
+            bank,
+            symbol,
+            &[request.first, request.second],
+        )?;
+        self.state.ask_term(bank, made)
+    }
+
+    // An atom that is made is asked for.
+    fn make_atom(&mut self, bank: &mut Bank, request: Request) -> Result<(), AllocError>
+        ensures grown { IsGrown bank.old bank.new }
+    {
+        let made = atom_made(self.state.alloc, bank, &[request.first, request.second])?;
+        self.state.nodes.grow(bank)?;
+        if made == NONE {
+            return Ok(());
+        }
+        self.state.ask_atom(bank, pair_of(made))
+    }
+}
