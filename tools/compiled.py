@@ -14,7 +14,7 @@ KEPT = {('ss_core', 'levels'), ('ss_core', 'all_fields'), ('ss_machine_rules', '
 MOST_KEPT = 2000
 
 # definitions by proofs, which say that two terms are one
-GIVEN = {('Rattle.ss_logic_stores.specs.Equal', 'same_term'): Fun(2, lambda a, b: a == b, (), 'same_term')}
+GIVEN = {('Rattle.ss_logic.specs.Equal', 'same_term'): Fun(2, lambda a, b: a == b, (), 'same_term')}
 
 
 def apply1(f, x):

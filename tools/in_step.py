@@ -169,7 +169,7 @@ class Structure:
     def __init__(self, world, core, last, defined):
         self.classes, self.last, self.defined, self.heaps = core['classes'], last, defined, {}
         self.sub, self.above = world.get('Rattle.ss_core.specs.Chain', 'sub'), world.get('Rattle.ss_core.specs.Chain', 'above')
-        self.field_sort = world.get('Rattle.ss_logic_stores.specs.Terms', 'field_sort')
+        self.field_sort = world.get('Rattle.ss_logic.specs.Terms', 'field_sort')
         self.numbers = list(range(SMALLEST, max([MOST] + [len(x['elements']) for x in last]) + 3)) + [2 ** 31 - 1]
         self.things = [NULL] + [('ref', o) for o in range(len(last) + 1)]
         self.use({})

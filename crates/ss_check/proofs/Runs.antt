@@ -3,19 +3,21 @@ use Rattle.std.proofs.Common.{◌≡◌, ℕ, ◌+◌, ◌*◌, ◌<◌, List, [
 use Rattle.std.proofs.lemmas.List.{drop_more, drop-map, reverse-append, reverse-reverse, map_push, length_push, length-take-le}
 use Rattle.std.proofs.lemmas.Bool.{and_parts, ltb-true}
 use Rattle.std.specs.Prelude.{if◌then◌else◌}
-use Rattle.ss_logic.specs.Logic.{Formula}
-use Rattle.ss_logic.specs.Steps.{State, Open, Between, add_fact, fact_of, step_open, step, bad_from, at_end, Nowhere, Case as TreeCase, Cut as TreeCut, Swap as TreeSwap, Rule as TreeRule}
+use Rattle.ss_core.specs.Tree.{ClassTree}
+use Rattle.ss_logic.specs.Formulas.{Formula}
+use Rattle.ss_logic_derivations.specs.Steps.{State, Open, Between, add_fact, fact_of, step_open, step, bad_from, at_end, Nowhere, Case as TreeCase, Cut as TreeCut, Inst as TreeInst, Rule as TreeRule, GoodLine as TreeGood, InvariantsLine as TreeInvariants, Swap as TreeSwap}
 use Rattle.ss_terms.specs.declared.forms.TermId.{TermId}
 use Rattle.ss_terms.specs.declared.forms.FormulaId.{FormulaId}
-use Rattle.ss_terms.specs.declared.derivation.Line.{Line}
-use Rattle.ss_terms.specs.declared.derivation.Line.TheVariants.{Premise, Denied, Part, Split, Cut, Chain, Swap, Rule, Clash, Case}
+use Rattle.ss_deriv.specs.declared.line.Line.{Line}
+use Rattle.ss_deriv.specs.declared.line.Line.TheVariants.{Premise, Denied, Part, Split, Cut, Inst, Choose, Rule, Good, Invariants, Chain, Cong, Swap, Clash, Case}
 use Rattle.ss_terms.specs.Forms.{Forms, formula_at, formulas_at, HasTerms, HasFormula, HasFormulas, IsGrown}
-use Rattle.ss_terms.specs.Lines.{all_below, is_within, line_in, line_of}
-use Rattle.ss_terms.proofs.Banks.{HasTerm-grown, HasFormula-grown, formulas_at-grown}
-use Rattle.ss_check.specs.Numbered.{LineWithin, IsStepped}
-use Rattle.ss_check.specs.Stack.{cases_from, IsStack, state_of, AreCases, IsReopened}
-use Rattle.ss_check.proofs.Numbers.{HasFormulas-take, HasFormulas-push, HasTerms-grown, terms_at-grown}
-use Rattle.ss_check.proofs.Stacks.{cases_from-longer, cases_from-cut, IsStack-longer}
+use Rattle.ss_deriv.specs.Lines.{all_below, is_within, line_in, line_of}
+use Rattle.ss_terms.proofs.Grown.{HasTerm-grown, HasTerms-grown, HasFormula-grown, terms_at-grown, formulas_at-grown}
+use Rattle.ss_check_steps.specs.Numbered.{IsStepped}
+use Rattle.ss_check.specs.Within.{LineWithin}
+use Rattle.ss_check_steps.specs.Stack.{cases_from, IsStack, state_of, AreCases, IsReopened}
+use Rattle.ss_check_steps.proofs.Numbers.{HasFormulas-take, HasFormulas-push}
+use Rattle.ss_check_steps.proofs.Stacks.{cases_from-longer, cases_from-cut, IsStack-longer}
 
 module _ (b : Forms) (known known' : List FormulaId) (w w' : List (ℕ × FormulaId)) (o : Bool) where
   pub AreCases-reopened : (r : Bool) → IsReopened r known w o known' w' → AreCases b known w → AreCases b known' w'
@@ -29,10 +31,10 @@ module _ (b : Forms) (known known' : List FormulaId) (w w' : List (ℕ × Formul
         waiting = IsStack-longer b h.0.0 (length (take h.0.0 known ++ h.0.1 ∷ [])) (omega (arith, length_push (take h.0.0 known) h.0.1)) (reverse w') s.2;
       })
 
-  pub reopened_stepped : (premises : List Formula) (goal : Formula) (was : Bool) → was ≡ false → (r : Bool) → IsReopened r known w o known' w' → AreCases b known w →
-      IsStepped r (step premises goal (state_of b was known w) TreeCase) (state_of b o known' w')
-  reopened_stepped premises goal was is false h c = rw (is, h.0) refl
-  reopened_stepped premises goal was is true h c =
+  pub reopened_stepped : (cs : List ClassTree) (premises : List Formula) (goal : Formula) (was : Bool) → was ≡ false → (r : Bool) → IsReopened r known w o known' w' → AreCases b known w →
+      IsStepped r (step cs premises goal (state_of b was known w) TreeCase) (state_of b o known' w')
+  reopened_stepped cs premises goal was is false h c = rw (is, h.0) refl
+  reopened_stepped cs premises goal was is true h c =
       let rev : reverse w ≡ h.0 ∷ reverse w' = ap reverse h.1 ∙ reverse-append w' (h.0 ∷ []) in
       let s : IsStack b (length known) (h.0 ∷ reverse w') = rw rev at c.waiting in
       let l = length-take-le h.0.0 known s.0 in
@@ -48,7 +50,12 @@ module _ (a b : Forms) (g : IsGrown a b) where
   line_in-grown (Part i j) h = refl
   line_in-grown (Split i k) h = refl
   line_in-grown (Cut f) h = ap TreeCut (g.same_formulas f h)
+  line_in-grown (Inst i ts) h = ap (TreeInst i) (terms_at-grown a b g ts.items h)
+  line_in-grown (Choose f ts) h = let l = g.same_formulas f h.0 in let r = terms_at-grown a b g ts.items h.1 in cc
+  line_in-grown (Good name i ts) h = ap (TreeGood name i) (terms_at-grown a b g ts.items h)
+  line_in-grown (Invariants i ts) h = ap (TreeInvariants i) (terms_at-grown a b g ts.items h)
   line_in-grown (Chain x y path) h = let l = g.same_terms x h.0 in let r = g.same_terms y h.1 in cc
+  line_in-grown (Cong x y path) h = let l = g.same_terms x h.0 in let r = g.same_terms y h.1 in cc
   line_in-grown (Swap i f js) h = ap (λ x. TreeSwap i x js.items) (g.same_formulas f h)
   line_in-grown (Rule name ts) h = ap (TreeRule name) (terms_at-grown a b g ts.items h)
   line_in-grown (Clash i j) h = refl
@@ -60,7 +67,12 @@ module _ (a b : Forms) (g : IsGrown a b) where
   LineWithin-grown (Part i j) h = tt
   LineWithin-grown (Split i k) h = tt
   LineWithin-grown (Cut f) h = HasFormula-grown a b g f h
+  LineWithin-grown (Inst i ts) h = HasTerms-grown a b g ts.items h
+  LineWithin-grown (Choose f ts) h = (HasFormula-grown a b g f h.0, HasTerms-grown a b g ts.items h.1)
+  LineWithin-grown (Good name i ts) h = HasTerms-grown a b g ts.items h
+  LineWithin-grown (Invariants i ts) h = HasTerms-grown a b g ts.items h
   LineWithin-grown (Chain x y path) h = (HasTerm-grown a b g x h.0, HasTerm-grown a b g y h.1)
+  LineWithin-grown (Cong x y path) h = (HasTerm-grown a b g x h.0, HasTerm-grown a b g y h.1)
   LineWithin-grown (Swap i f js) h = HasFormula-grown a b g f h
   LineWithin-grown (Rule name ts) h = HasTerms-grown a b g ts.items h
   LineWithin-grown (Clash i j) h = tt
@@ -76,6 +88,11 @@ LineWithin-tested b Denied h = tt
 LineWithin-tested b (Part i j) h = tt
 LineWithin-tested b (Split i k) h = tt
 LineWithin-tested b (Cut f) h = ltb-true _ _ h
+LineWithin-tested b (Inst i ts) h = HasTerms-below b ts.items h
+LineWithin-tested b (Choose f ts) h = let p = and_parts (nat_lt f.0 (length b.formulas * 2)) (all_below (length b.terms) ts.items) h in (ltb-true _ _ p.0, HasTerms-below b ts.items p.1)
+LineWithin-tested b (Good name i ts) h = HasTerms-below b ts.items h
+LineWithin-tested b (Invariants i ts) h = HasTerms-below b ts.items h
+LineWithin-tested b (Cong x y path) h = let p = and_parts (nat_lt x.0 (length b.terms)) (nat_lt y.0 (length b.terms)) h in (ltb-true _ _ p.0, ltb-true _ _ p.1)
 LineWithin-tested b (Chain x y path) h = let p = and_parts (nat_lt x.0 (length b.terms)) (nat_lt y.0 (length b.terms)) h in (ltb-true _ _ p.0, ltb-true _ _ p.1)
 LineWithin-tested b (Swap i f js) h = ltb-true _ _ h
 LineWithin-tested b (Rule name ts) h = HasTerms-below b ts.items h
@@ -83,50 +100,55 @@ LineWithin-tested b (Clash i j) h = tt
 LineWithin-tested b Case h = tt
 
 -- a line that is nowhere is no step
-nowhere : (premises : List Formula) (goal : Formula) (state : State) → step premises goal state Nowhere ≡ None
-nowhere premises goal (Open known waiting) = refl
-nowhere premises goal (Between []) = refl
-nowhere premises goal (Between (c ∷ waiting)) = refl
+nowhere : (cs : List ClassTree) (premises : List Formula) (goal : Formula) (state : State) → step cs premises goal state Nowhere ≡ None
+nowhere cs premises goal (Open known waiting) = refl
+nowhere cs premises goal (Between []) = refl
+nowhere cs premises goal (Between (c ∷ waiting)) = refl
 
 -- the lines that only make a formula known
-pub step_adds : (b : Forms) (premises : List Formula) (goal : Formula) (known : List Formula) (waiting : List (List Formula)) (line : Line) →
+pub step_adds : (cs : List ClassTree) (b : Forms) (premises : List Formula) (goal : Formula) (known : List Formula) (waiting : List (List Formula)) (line : Line) →
     ((i k : ℕ) → line ≡ Split i k → ⊥) → ((f : FormulaId) → line ≡ Cut f → ⊥) → ((i j : ℕ) → line ≡ Clash i j → ⊥) →
-    step_open premises goal known waiting (line_in b line) ≡ add_fact known waiting (fact_of premises goal known (line_in b line))
-step_adds b ps g known waiting (Premise i) s c x = refl
-step_adds b ps g known waiting Denied s c x = refl
-step_adds b ps g known waiting (Part i j) s c x = refl
-step_adds b ps g known waiting (Split i k) s c x = absurd (s i k refl)
-step_adds b ps g known waiting (Cut f) s c x = absurd (c f refl)
-step_adds b ps g known waiting (Chain a d path) s c x = refl
-step_adds b ps g known waiting (Swap i f js) s c x = refl
-step_adds b ps g known waiting (Rule name ts) s c x = refl
-step_adds b ps g known waiting (Clash i j) s c x = absurd (x i j refl)
-step_adds b ps g known waiting Case s c x = refl
+    step_open cs premises goal known waiting (line_in b line) ≡ add_fact cs known waiting (fact_of cs premises goal known (line_in b line))
+step_adds cs b ps g known waiting (Premise i) s c x = refl
+step_adds cs b ps g known waiting Denied s c x = refl
+step_adds cs b ps g known waiting (Part i j) s c x = refl
+step_adds cs b ps g known waiting (Split i k) s c x = absurd (s i k refl)
+step_adds cs b ps g known waiting (Cut f) s c x = absurd (c f refl)
+step_adds cs b ps g known waiting (Inst i ts) s c x = refl
+step_adds cs b ps g known waiting (Choose f ts) s c x = refl
+step_adds cs b ps g known waiting (Good name i ts) s c x = refl
+step_adds cs b ps g known waiting (Invariants i ts) s c x = refl
+step_adds cs b ps g known waiting (Chain a d path) s c x = refl
+step_adds cs b ps g known waiting (Cong a d path) s c x = refl
+step_adds cs b ps g known waiting (Swap i f js) s c x = refl
+step_adds cs b ps g known waiting (Rule name ts) s c x = refl
+step_adds cs b ps g known waiting (Clash i j) s c x = absurd (x i j refl)
+step_adds cs b ps g known waiting Case s c x = refl
 
-module _ (a b : Forms) (grown : IsGrown a b) (premises : List FormulaId) (below : HasFormulas a premises) (goal : FormulaId) (in_bank : HasFormula a goal)
+module _ (cs : List ClassTree) (a b : Forms) (grown : IsGrown a b) (premises : List FormulaId) (below : HasFormulas a premises) (goal : FormulaId) (in_bank : HasFormula a goal)
     (lines : List Line) (i : ℕ) (line : Line) (in_lines : i < length lines) (here : line ≡ get_or lines i line) (state : State) where
   front : drop i (map (line_of a) lines) ≡ line_of a line ∷ drop (i + 1) (map (line_of a) lines)
   front = drop-map (line_of a) i lines ∙ ap (map (line_of a)) (drop_more lines i line in_lines) ∙ ap (λ l. line_of a l ∷ map (line_of a) (drop (i + 1) lines)) (sym here) ∙ ap (λ xs. line_of a line ∷ xs) (sym (drop-map (line_of a) (i + 1) lines))
 
   module _ (within : is_within (length a.terms) (length a.formulas * 2) line ≡ true) where
-    same_step : step (formulas_at b premises) (formula_at b goal) state (line_in b line) ≡ step (formulas_at a premises) (formula_at a goal) state (line_of a line)
+    same_step : step cs (formulas_at b premises) (formula_at b goal) state (line_in b line) ≡ step cs (formulas_at a premises) (formula_at a goal) state (line_of a line)
     same_step =
-        ap (λ ps. step ps (formula_at b goal) state (line_in b line)) (formulas_at-grown a b grown premises below)
-        ∙ ap (λ g. step (formulas_at a premises) g state (line_in b line)) (grown.same_formulas goal in_bank)
-        ∙ ap (λ l. step (formulas_at a premises) (formula_at a goal) state l) (line_in-grown a b grown line (LineWithin-tested a line within) ∙ sym (ap (λ t. if t then line_in a line else Nowhere) within))
+        ap (λ ps. step cs ps (formula_at b goal) state (line_in b line)) (formulas_at-grown a b grown premises below)
+        ∙ ap (λ g. step cs (formulas_at a premises) g state (line_in b line)) (grown.same_formulas goal in_bank)
+        ∙ ap (λ l. step cs (formulas_at a premises) (formula_at a goal) state l) (line_in-grown a b grown line (LineWithin-tested a line within) ∙ sym (ap (λ t. if t then line_in a line else Nowhere) within))
 
-    pub bad_more : (n : ℕ) (next : State) → step (formulas_at b premises) (formula_at b goal) state (line_in b line) ≡ Some next →
-        bad_from (formulas_at a premises) (formula_at a goal) state (drop i (map (line_of a) lines)) n ≡ bad_from (formulas_at a premises) (formula_at a goal) next (drop (i + 1) (map (line_of a) lines)) (n + 1)
+    pub bad_more : (n : ℕ) (next : State) → step cs (formulas_at b premises) (formula_at b goal) state (line_in b line) ≡ Some next →
+        bad_from cs (formulas_at a premises) (formula_at a goal) state (drop i (map (line_of a) lines)) n ≡ bad_from cs (formulas_at a premises) (formula_at a goal) next (drop (i + 1) (map (line_of a) lines)) (n + 1)
     bad_more n next e = rw (front, sym same_step ∙ e) refl
 
-    pub bad_here : (n : ℕ) → step (formulas_at b premises) (formula_at b goal) state (line_in b line) ≡ None →
-        bad_from (formulas_at a premises) (formula_at a goal) state (drop i (map (line_of a) lines)) n ≡ Some n
+    pub bad_here : (n : ℕ) → step cs (formulas_at b premises) (formula_at b goal) state (line_in b line) ≡ None →
+        bad_from cs (formulas_at a premises) (formula_at a goal) state (drop i (map (line_of a) lines)) n ≡ Some n
     bad_here n e = rw (front, sym same_step ∙ e) refl
 
-  pub bad_line : (n : ℕ) → is_within (length a.terms) (length a.formulas * 2) line ≡ false → bad_from (formulas_at a premises) (formula_at a goal) state (drop i (map (line_of a) lines)) n ≡ Some n
+  pub bad_line : (n : ℕ) → is_within (length a.terms) (length a.formulas * 2) line ≡ false → bad_from cs (formulas_at a premises) (formula_at a goal) state (drop i (map (line_of a) lines)) n ≡ Some n
   bad_line n h =
-      let e : step (formulas_at a premises) (formula_at a goal) state (line_of a line) ≡ None =
-      ap (λ t. step (formulas_at a premises) (formula_at a goal) state (if t then line_in a line else Nowhere)) h ∙ nowhere (formulas_at a premises) (formula_at a goal) state in
+      let e : step cs (formulas_at a premises) (formula_at a goal) state (line_of a line) ≡ None =
+      ap (λ t. step cs (formulas_at a premises) (formula_at a goal) state (if t then line_in a line else Nowhere)) h ∙ nowhere cs (formulas_at a premises) (formula_at a goal) state in
       rw (front, e) refl
 
 -- the end of the lines

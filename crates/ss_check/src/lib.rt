@@ -1,9 +1,9 @@
-//! The checker of derivations.
+//! The checker of derivations over stores.
 #![tactic(auto)]
 
-mod cases;
+mod choices;
 mod facts;
-mod reads;
+mod instances;
 mod steps;
 
 pub use steps::{CheckStop, check};

@@ -1,12 +1,12 @@
 -- Congruence of applications, and exchange in literals, over lists of arguments.
 use Rattle.std.proofs.Common.{◌≡◌, ℕ, ◌≤◌, List, [], ◌∷◌, length, Bool, true, false, not, ◌&&◌, refl, ap, arith}
 use Rattle.std.specs.Bool.{beq}
-use Rattle.ss_logic_stores.specs.Terms.{Symbol, Term, App, terms_from, term_list}
-use Rattle.ss_logic_stores.specs.Formulas.{Predicate, Formula, Literal}
-use Rattle.ss_logic_stores.specs.Equal.{same_symbol, same_predicate}
+use Rattle.ss_logic.specs.Terms.{Symbol, Term, App, terms_from, term_list}
+use Rattle.ss_logic.specs.Formulas.{Predicate, Formula, Literal}
+use Rattle.ss_logic.specs.Equal.{same_symbol, same_predicate}
 use Rattle.ss_logic_derivations.specs.Steps.{are_exchanged, is_congruent, is_swapped}
-use Rattle.ss_terms_stores.specs.declared.forms.TermId.{TermId}
-use Rattle.ss_terms_stores.specs.Forms.{Forms, terms_at}
+use Rattle.ss_terms.specs.declared.forms.TermId.{TermId}
+use Rattle.ss_terms.specs.Forms.{Forms, terms_at}
 
 listed : (ts : List Term) → term_list (terms_from ts) ≡ ts
 listed [] = refl

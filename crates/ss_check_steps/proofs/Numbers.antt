@@ -5,13 +5,13 @@ use Rattle.std.specs.Prelude.{option_map, IfOk}
 use Rattle.std.proofs.lemmas.List.{drop_more}
 use Rattle.std.proofs.lemmas.Option.{slice_get-map}
 use Rattle.std.proofs.lemmas.Bool.{ne_eqb, eq-eqb}
-use Rattle.ss_logic_stores.specs.Terms.{Term}
-use Rattle.ss_logic_stores.specs.Formulas.{Formula, formulas_from, formula_list}
+use Rattle.ss_logic.specs.Terms.{Term}
+use Rattle.ss_logic.specs.Formulas.{Formula, formulas_from, formula_list}
 use Rattle.ss_logic_derivations.specs.Steps.{part_at, part_of, other_side, walk, count_of, cases_of}
-use Rattle.ss_terms_stores.specs.declared.forms.FormulaId.{FormulaId}
-use Rattle.ss_terms_stores.specs.declared.forms.Formula.TheVariants.{And as AndForm, Or as OrForm}
-use Rattle.ss_terms_stores.specs.Forms.{Forms, formula_at, formulas_at, HasFormula, HasFormulas, IsFormulaForm, IsFormulaNumber}
-use Rattle.ss_terms_stores.proofs.Trees.{AreBelow-more}
+use Rattle.ss_terms.specs.declared.forms.FormulaId.{FormulaId}
+use Rattle.ss_terms.specs.declared.forms.Formula.TheVariants.{And as AndForm, Or as OrForm}
+use Rattle.ss_terms.specs.Forms.{Forms, formula_at, formulas_at, HasFormula, HasFormulas, IsFormulaForm, IsFormulaNumber}
+use Rattle.ss_terms.proofs.Trees.{AreBelow-more}
 use Rattle.ss_check_steps.specs.Numbered.{IsNumberOf, AreNumbersOf}
 
 pub HasFormulas-get : (b : Forms) (fs : List FormulaId) (i : ℕ) (f : FormulaId) → HasFormulas b fs → slice_get fs i ≡ Some f → HasFormula b f

@@ -3,16 +3,16 @@ use Rattle.std.proofs.Common.{◌≡◌, Bool, true, false, eqb, ℤ, refl, sym,
 use Rattle.std.proofs.lemmas.Bool.{and_parts, eqb-true, eq-eqb, false≢true}
 use Rattle.std.specs.Bool.{Decides, beq}
 use Rattle.std.specs.Ordering.{int_eq}
-use Rattle.ss_logic_stores.specs.declared.Sort.{Sort}
-use Rattle.ss_logic_stores.specs.contracts.SortPartialEq.TheImpl as sort_eq
-use Rattle.ss_logic_stores.specs.Equal.{same_symbol, same_predicate, equal_symbols, equal_predicates, answer_from}
-use Rattle.ss_terms_stores.specs.declared.forms.Symbol.{Symbol}
-use Rattle.ss_terms_stores.specs.declared.forms.Symbol.TheVariants as symbol
-use Rattle.ss_terms_stores.specs.declared.forms.Predicate.{Predicate}
-use Rattle.ss_terms_stores.specs.contracts.forms.SymbolPartialEq.TheImpl as symbol_eq
-use Rattle.ss_terms_stores.specs.contracts.forms.PredicatePartialEq.TheImpl as predicate_eq
-use Rattle.ss_terms_stores.specs.Forms.{symbol_of, predicate_of}
-use Rattle.ss_terms_stores.proofs.Symbols.{symbols_differ, predicates_differ}
+use Rattle.ss_logic.specs.declared.Sort.{Sort}
+use Rattle.ss_logic.specs.contracts.SortPartialEq.TheImpl as sort_eq
+use Rattle.ss_logic.specs.Equal.{same_symbol, same_predicate, equal_symbols, equal_predicates, answer_from}
+use Rattle.ss_terms.specs.declared.forms.Symbol.{Symbol}
+use Rattle.ss_terms.specs.declared.forms.Symbol.TheVariants as symbol
+use Rattle.ss_terms.specs.declared.forms.Predicate.{Predicate}
+use Rattle.ss_terms.specs.contracts.forms.SymbolPartialEq.TheImpl as symbol_eq
+use Rattle.ss_terms.specs.contracts.forms.PredicatePartialEq.TheImpl as predicate_eq
+use Rattle.ss_terms.specs.Forms.{symbol_of, predicate_of}
+use Rattle.ss_terms.proofs.Symbols.{symbols_differ, predicates_differ}
 
 beq_Decides : (a b : Bool) → Decides (beq a b) (a ≡ b)
 beq_Decides a b = search rules

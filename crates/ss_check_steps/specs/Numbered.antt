@@ -1,12 +1,12 @@
 -- What numbers of a bank say about formulas and terms.
 use Rattle.std.specs.Prelude.{◌≡◌, List, [], ◌∷◌, Option, Some, None, Bool, true, false, Vec}
 use Rattle.std.specs.declared.alloc.Global.{Global}
-use Rattle.ss_logic_stores.specs.Terms.{Term, no_terms, term_then}
-use Rattle.ss_logic_stores.specs.Formulas.{Equal, Formula, Literal}
+use Rattle.ss_logic.specs.Terms.{Term, no_terms, term_then}
+use Rattle.ss_logic.specs.Formulas.{Equal, Formula, Literal}
 use Rattle.ss_logic_derivations.specs.Steps.{State}
-use Rattle.ss_terms_stores.specs.declared.forms.TermId.{TermId}
-use Rattle.ss_terms_stores.specs.declared.forms.FormulaId.{FormulaId}
-use Rattle.ss_terms_stores.specs.Forms.{Forms, formula_at, formulas_at, term_at, HasTerm, HasFormula, HasFormulas}
+use Rattle.ss_terms.specs.declared.forms.TermId.{TermId}
+use Rattle.ss_terms.specs.declared.forms.FormulaId.{FormulaId}
+use Rattle.ss_terms.specs.Forms.{Forms, formula_at, formulas_at, term_at, HasTerm, HasFormula, HasFormulas}
 
 -- the option holds the number of the formula, or neither is there
 abbrev pub IsNumberOf : Forms → Option FormulaId → Option Formula → Type 0

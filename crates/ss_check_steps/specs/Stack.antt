@@ -1,9 +1,9 @@
 -- The cases that wait, as the code keeps them: each is a front of what is known on the path, and one formula more.
 use Rattle.std.specs.Prelude.{◌≡◌, ℕ, ◌≤◌, List, [], ◌∷◌, ◌++◌, length, take, reverse, Bool, true, false}
-use Rattle.ss_logic_stores.specs.Formulas.{Formula}
+use Rattle.ss_logic.specs.Formulas.{Formula}
 use Rattle.ss_logic_derivations.specs.Steps.{State, Open, Between}
-use Rattle.ss_terms_stores.specs.declared.forms.FormulaId.{FormulaId}
-use Rattle.ss_terms_stores.specs.Forms.{Forms, formula_at, formulas_at, HasFormula, HasFormulas}
+use Rattle.ss_terms.specs.declared.forms.FormulaId.{FormulaId}
+use Rattle.ss_terms.specs.Forms.{Forms, formula_at, formulas_at, HasFormula, HasFormulas}
 
 -- the cases of a stack, the next one first
 abbrev pub cases_from : Forms → List FormulaId → List (ℕ × FormulaId) → List (List Formula)

@@ -3,7 +3,7 @@
 ghost use Rattle.std.specs.Prelude.{◌≡◌, ℕ, List, [], ◌∷◌, ◌++◌, length, map, IfOk, true, false, reverse};
 ghost use Rattle.ss_check_steps.specs.Stack.{IsReopened};
 
-use ss_terms_stores::FormulaId;
+use ss_terms::FormulaId;
 use std::alloc::{AllocError, Global};
 
 /// What is known on the path, the cases that wait, and whether a case is open. A case that waits is a front of the path, by

@@ -1,14 +1,14 @@
 // The formulas that lines make known.
 
 ghost use Rattle.std.specs.Prelude.{◌≡◌, ℕ, List, [], ◌∷◌, ◌++◌, Some, None, true, option_and_then, slice_get, IfOk};
-ghost use Rattle.ss_logic_stores.specs.Equal.{same_term};
+ghost use Rattle.ss_logic.specs.Equal.{same_term};
 ghost use Rattle.ss_logic_rules.specs.Shapes.{when, equal};
 ghost use Rattle.ss_logic_derivations.specs.Steps.{part_of, walk, is_congruent, is_swapped};
-ghost use Rattle.ss_terms_stores.specs.Forms.{formula_at, formulas_at, term_at, HasTerm, HasFormula, HasFormulas, IsGrown};
+ghost use Rattle.ss_terms.specs.Forms.{formula_at, formulas_at, term_at, HasTerm, HasFormula, HasFormulas, IsGrown};
 ghost use Rattle.ss_check_steps.specs.Numbered.{IsNumberOf};
 
 use crate::reads::{is_congruent_at, is_swapped_at, known_at, part_at, walk_at};
-use ss_terms_stores::{Bank, Formula, FormulaId, Predicate, TermId};
+use ss_terms::{Bank, Formula, FormulaId, Predicate, TermId};
 use std::alloc::{AllocError, Global};
 
 /// A part of a known `and`.

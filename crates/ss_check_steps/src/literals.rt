@@ -1,13 +1,13 @@
 // What single formulas and terms are.
 
 ghost use Rattle.std.specs.Prelude.{◌≡◌, List, [], ◌∷◌, Some, None, Bool, true, false, ◌&&◌, not};
-ghost use Rattle.ss_logic_stores.specs.Formulas as logic;
+ghost use Rattle.ss_logic.specs.Formulas as logic;
 ghost use Rattle.ss_logic_rules.specs.Shapes.{literal_of};
 ghost use Rattle.ss_logic_derivations.specs.Steps.{is_literal, is_quantified, is_cut, is_value, is_absurd, is_false_bound, good_store};
-ghost use Rattle.ss_terms_stores.specs.Forms.{formula_at, term_at, HasTerm, HasFormula};
+ghost use Rattle.ss_terms.specs.Forms.{formula_at, term_at, HasTerm, HasFormula};
 ghost use Rattle.ss_check_steps.specs.Numbered.{IsTermOf, AreSidesOf, sides_of};
 
-use ss_terms_stores::{Bank, Formula, FormulaId, Predicate, Symbol, Term, TermId};
+use ss_terms::{Bank, Formula, FormulaId, Predicate, Symbol, Term, TermId};
 
 /// The sides of an equality.
 pub(crate) fn sides(bank: &Bank, f: FormulaId) -> Option<(TermId, TermId)>
@@ -103,8 +103,8 @@ fn is_value_symbol(symbol: Symbol) -> bool
     }
 }
 
-ghost use Rattle.ss_logic_stores.specs.Terms.{App, Number, no_terms};
-ghost use Rattle.ss_terms_stores.specs.Forms.{symbol_of};
+ghost use Rattle.ss_logic.specs.Terms.{App, Number, no_terms};
+ghost use Rattle.ss_terms.specs.Forms.{symbol_of};
 ghost use Rattle.ss_check_steps.specs.Numbered.{one_of, two_of};
 
 /// The number that a literal is.
@@ -179,9 +179,9 @@ fn are_different_values(bank: &Bank, x: TermId, y: TermId) -> bool
     is_value_at(bank, x) && is_value_at(bank, y) && !bank.is_same_term(x, y)
 }
 
-ghost use Rattle.ss_logic_stores.specs.Terms.{terms_from};
-ghost use Rattle.ss_logic_stores.specs.Equal.{same_term};
-ghost use Rattle.ss_terms_stores.specs.Forms.{predicate_of, terms_at, HasTerms};
+ghost use Rattle.ss_logic.specs.Terms.{terms_from};
+ghost use Rattle.ss_logic.specs.Equal.{same_term};
+ghost use Rattle.ss_terms.specs.Forms.{predicate_of, terms_at, HasTerms};
 
 /// The store of a `good`.
 pub fn good_store_at(bank: &Bank, f: FormulaId) -> Option<TermId>

@@ -1,15 +1,15 @@
 // What lines read from the formulas that are known.
 
 ghost use Rattle.std.specs.Prelude.{◌≡◌, ℕ, List, [], ◌∷◌, Some, None, Bool, true, false, option_and_then, slice_get};
-ghost use Rattle.ss_logic_stores.specs.Formulas as logic;
+ghost use Rattle.ss_logic.specs.Formulas as logic;
 ghost use Rattle.ss_logic_derivations.specs.Steps.{part_of, other_side, walk, joins, is_joined, are_exchanged, is_congruent, is_swapped, is_opposed, is_clash};
-ghost use Rattle.ss_terms_stores.specs.Forms.{formula_at, formulas_at, term_at, terms_at, HasTerm, HasTerms, HasFormula, HasFormulas, Forms, symbol_of, predicate_of};
-ghost use Rattle.ss_logic_stores.specs.Terms.{App, terms_from};
-ghost use Rattle.ss_logic_stores.specs.Equal.{same_symbol, same_predicate};
+ghost use Rattle.ss_terms.specs.Forms.{formula_at, formulas_at, term_at, terms_at, HasTerm, HasTerms, HasFormula, HasFormulas, Forms, symbol_of, predicate_of};
+ghost use Rattle.ss_logic.specs.Terms.{App, terms_from};
+ghost use Rattle.ss_logic.specs.Equal.{same_symbol, same_predicate};
 ghost use Rattle.ss_check_steps.specs.Numbered.{IsNumberOf, IsTermOf};
 
 use crate::literals::{is_absurd_at, is_literal_at, is_quantified_at, sides};
-use ss_terms_stores::{Bank, Formula, FormulaId, Predicate, Symbol, Term, TermId};
+use ss_terms::{Bank, Formula, FormulaId, Predicate, Symbol, Term, TermId};
 
 /// The number at a place.
 fn read(list: &[FormulaId], i: usize) -> Option<FormulaId>

@@ -3,7 +3,7 @@
 ghost use Rattle.std.specs.Prelude.{◌≡◌, ℕ, List, [], ◌∷◌, ◌++◌, Some, None, true, false, slice_get, IfOk};
 ghost use Rattle.ss_core.specs.View as view;
 ghost use Rattle.ss_logic_derivations.specs.Steps.{State, Open, Between, cases_of, open_cases, split_case, cut_case, close_case};
-ghost use Rattle.ss_terms_stores.specs.Forms.{formula_at, formulas_at, HasFormula, HasFormulas, IsBankOf};
+ghost use Rattle.ss_terms.specs.Forms.{formula_at, formulas_at, HasFormula, HasFormulas, IsBankOf};
 ghost use Rattle.ss_check_steps.specs.Numbered.{AreNumbersOf, IsStepped};
 ghost use Rattle.ss_check_steps.specs.Stack.{AreCases, state_of, waiting_of};
 
@@ -11,7 +11,7 @@ use crate::cases::{Cases, open_all};
 use crate::literals::is_cut_at;
 use crate::reads::{is_clash_at, known_at};
 use ss_core::Classes;
-use ss_terms_stores::{Bank, Formula, FormulaId};
+use ss_terms::{Bank, Formula, FormulaId};
 use std::alloc::{AllocError, Global};
 
 /// The cases of an `or` with this many parts.

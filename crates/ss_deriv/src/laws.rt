@@ -2,7 +2,7 @@
 
 ghost use Rattle.std.specs.Prelude.{◌≡◌, List, Some};
 ghost use Rattle.ss_core.specs.Tree.{ClassTree};
-ghost use Rattle.ss_logic_stores.specs.Formulas.{Formula};
+ghost use Rattle.ss_logic.specs.Formulas.{Formula};
 ghost use Rattle.ss_logic_derivations.specs.Steps as tree;
 ghost use Rattle.ss_logic_derivations.specs.Steps.{Derives};
 ghost use Rattle.ss_deriv.specs.Trees.{EndsEachCase};

@@ -3,7 +3,7 @@
 ghost use Rattle.std.specs.Prelude.{◌≡◌};
 
 use ss_logic_rules::{GoodRule, RuleName};
-use ss_terms_stores::{FormulaId, TermId};
+use ss_terms::{FormulaId, TermId};
 use std::marker::Model;
 
 /// A line of a derivation. The formulas that are known are numbered from 0 along the path to it.

@@ -4,15 +4,15 @@ use Rattle.std.specs.Prelude.{IfOk}
 use Rattle.ss_core.specs.declared.names.ClassId.{ClassId}
 use Rattle.ss_core.specs.Tree.{ClassTree}
 use Rattle.ss_core.specs.Chain.{all_fields}
-use Rattle.ss_logic_stores.specs.Terms.{terms_from}
-use Rattle.ss_logic_stores.specs.Formulas.{Predicate, Allocated, Committed, Formula, Literal, And, Or, neg, formulas_from}
+use Rattle.ss_logic.specs.Terms.{terms_from}
+use Rattle.ss_logic.specs.Formulas.{Predicate, Allocated, Committed, Formula, Literal, And, Or, neg, formulas_from}
 use Rattle.ss_logic_rules.specs.Shapes.{equal, allocated, committed, owner_of}
 use Rattle.ss_logic_frames.specs.Frames as logic
 use Rattle.ss_logic_frames.specs.Frames.{the_object, in_group_of, owned_by, is_free, is_outside, lifted, is_named, names_level, names_elements, all_named, and_of, iff, unless, level_kept, fields_kept, object_kept, objects_kept, array_kept, elements_kept, others_full, kept}
-use Rattle.ss_terms_stores.specs.declared.forms.TermId.{TermId}
-use Rattle.ss_terms_stores.specs.declared.forms.FormulaId.{FormulaId}
-use Rattle.ss_terms_stores.specs.Forms.{Forms, term_at, terms_at, formula_at, formulas_at, HasTerm, HasTerms, IsGrown}
-use Rattle.ss_terms_stores.proofs.Grown.{IsGrown-refl, IsGrown-then}
+use Rattle.ss_terms.specs.declared.forms.TermId.{TermId}
+use Rattle.ss_terms.specs.declared.forms.FormulaId.{FormulaId}
+use Rattle.ss_terms.specs.Forms.{Forms, term_at, terms_at, formula_at, formulas_at, HasTerm, HasTerms, IsGrown}
+use Rattle.ss_terms.proofs.Grown.{IsGrown-refl, IsGrown-then}
 use Rattle.ss_frames.specs.declared.calls.NamedTerm.{NamedTerm}
 use Rattle.ss_frames.specs.declared.calls.CallTerms.{CallTerms}
 use Rattle.ss_frames.specs.Calls.{owner_at, call_at, guard_of, object_of, HasNamed, HasOwned, HasCall, IsTerm, IsMade, AreMade, group_at, owned_at}

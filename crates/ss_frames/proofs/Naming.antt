@@ -2,11 +2,11 @@
 use Rattle.std.proofs.Common.{◌≡◌, ℕ, zero, suc, ◌+◌, ◌<◌, List, [], ◌∷◌, ◌++◌, length, map, take, get_or, Bool, true, false, if◌then◌else◌, refl, sym, ◌∙◌, ap, subst, arith}
 use Rattle.std.proofs.lemmas.List.{take_more}
 use Rattle.ss_core.specs.Tree.{ClassTree}
-use Rattle.ss_logic_stores.specs.Formulas.{Formula}
+use Rattle.ss_logic.specs.Formulas.{Formula}
 use Rattle.ss_logic_frames.specs.Frames as logic
 use Rattle.ss_logic_frames.specs.Frames.{names_field, names_level, names_elements, all_named, field_kept, fields_kept}
-use Rattle.ss_terms_stores.specs.declared.forms.FormulaId.{FormulaId}
-use Rattle.ss_terms_stores.specs.Forms.{Forms, IsGrown}
+use Rattle.ss_terms.specs.declared.forms.FormulaId.{FormulaId}
+use Rattle.ss_terms.specs.Forms.{Forms, IsGrown}
 use Rattle.ss_frames.specs.declared.calls.NamedTerm.{NamedTerm}
 use Rattle.ss_frames.specs.declared.calls.NamedTerm.TheVariants.{At, All, Upto, Elements}
 use Rattle.ss_frames.specs.declared.calls.CallTerms.{CallTerms}

@@ -1,7 +1,7 @@
 // What a call or a body may change, over the numbers of a bank.
 
 use ss_core::{ClassId, FieldId};
-use ss_terms_stores::{FormulaId, TermId};
+use ss_terms::{FormulaId, TermId};
 
 /// What may change, where the formula is true.
 #[derive(Clone, Copy)]

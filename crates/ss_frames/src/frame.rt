@@ -3,10 +3,10 @@
 ghost use Rattle.std.specs.Prelude.{◌≡◌, ◌≤◌, [], ◌∷◌, length, map, IfOk};
 ghost use Rattle.ss_core.specs.Chain.{most_classes, IsWithinLimits};
 ghost use Rattle.ss_core.specs.View as view;
-ghost use Rattle.ss_logic_stores.specs.Formulas.{neg};
+ghost use Rattle.ss_logic.specs.Formulas.{neg};
 ghost use Rattle.ss_logic_rules.specs.Shapes.{allocated};
 ghost use Rattle.ss_logic_frames.specs.Frames.{and_of, the_object, the_index, is_free, is_outside, objects_kept, elements_kept, others_full, kept};
-ghost use Rattle.ss_terms_stores.specs.Forms.{term_at, formula_at, HasFormula, IsGrown, IsBankOf};
+ghost use Rattle.ss_terms.specs.Forms.{term_at, formula_at, HasFormula, IsGrown, IsBankOf};
 ghost use Rattle.ss_frames.specs.Calls.{call_at, HasCall, IsTerm, IsMade, AreMade, AreNamed};
 
 use crate::bound::{not_bound, outside};
@@ -16,8 +16,8 @@ use crate::objects::object_kept;
 use crate::parts::{joined, unless};
 use crate::same::{is_full, same_elements};
 use ss_core::Classes;
-use ss_logic_stores::Sort;
-use ss_terms_stores::{Bank, FormulaId, Predicate, Term, TermId};
+use ss_logic::Sort;
+use ss_terms::{Bank, FormulaId, Predicate, Term, TermId};
 use std::alloc::{AllocError, Global};
 
 // An object that was allocated and isn't free keeps all that isn't named.

@@ -2,13 +2,13 @@
 
 ghost use Rattle.std.specs.Prelude.{◌≡◌, IfOk};
 ghost use Rattle.ss_logic_frames.specs.Frames.{the_object, object_grown, grown};
-ghost use Rattle.ss_terms_stores.specs.Forms.{term_at, formula_at, HasTerm, HasFormula, IsGrown};
+ghost use Rattle.ss_terms.specs.Forms.{term_at, formula_at, HasTerm, HasFormula, IsGrown};
 ghost use Rattle.ss_frames.specs.Calls.{IsTerm, IsMade};
 
 use crate::parts::unless;
-use ss_logic_stores::Sort;
+use ss_logic::Sort;
 use ss_rules_plans::{Claim, Clause, Plan, Slot, fill};
-use ss_terms_stores::{Bank, FormulaId, Predicate, Symbol, Term, TermId};
+use ss_terms::{Bank, FormulaId, Predicate, Symbol, Term, TermId};
 use std::alloc::{AllocError, Global};
 
 // The object is allocated, is ready where it was, and keeps an owner that is no group.

@@ -2,16 +2,16 @@
 
 ghost use Rattle.std.specs.Prelude.{◌≡◌, ◌↔◌, List, [], ◌∷◌, true};
 ghost use Rattle.ss_core.specs.Tree.{ClassTree};
-ghost use Rattle.ss_logic_stores.specs.declared.Sort.TheVariants as sort;
-ghost use Rattle.ss_logic_stores.specs.Values.{Structure};
-ghost use Rattle.ss_logic_stores.specs.Terms.{Term, have_sorts};
-ghost use Rattle.ss_logic_stores.specs.Formulas.{True};
+ghost use Rattle.ss_logic.specs.declared.Sort.TheVariants as sort;
+ghost use Rattle.ss_logic.specs.Values.{Structure};
+ghost use Rattle.ss_logic.specs.Terms.{Term, have_sorts};
+ghost use Rattle.ss_logic.specs.Formulas.{True};
 ghost use Rattle.ss_logic_frames.specs.Frames.{CallTerms, kept, grown};
 ghost use Rattle.ss_logic_frames.specs.Means.{IsKept, store_of};
 ghost use Rattle.ss_logic_frames.specs.Means as means;
 ghost use Rattle.ss_logic_frames.specs.Sorted.{AreSorted};
-ghost use Rattle.ss_terms_stores.specs.declared.forms.FormulaId.{FormulaId};
-ghost use Rattle.ss_terms_stores.specs.Forms.{Forms, formula_at};
+ghost use Rattle.ss_terms.specs.declared.forms.FormulaId.{FormulaId};
+ghost use Rattle.ss_terms.specs.Forms.{Forms, formula_at};
 
 /// What `kept` makes is true exactly where the stores keep to the frame condition.
 pub fn kept_is_true_where_stores_are_kept()

@@ -4,7 +4,7 @@ ghost use Rattle.std.specs.Prelude.{◌≡◌, ◌≤◌, length, IfOk};
 ghost use Rattle.ss_core.specs.Chain.{most_classes, all_fields};
 ghost use Rattle.ss_core.specs.View as view;
 ghost use Rattle.ss_logic_frames.specs.Frames.{the_object, is_outside, field_kept, fields_kept, level_kept, object_kept};
-ghost use Rattle.ss_terms_stores.specs.Forms.{IsGrown};
+ghost use Rattle.ss_terms.specs.Forms.{IsGrown};
 ghost use Rattle.ss_frames.specs.Calls.{call_at, HasCall, IsTerm, IsMade, AreMade, AreNamed};
 
 use crate::calls::CallTerms;
@@ -12,7 +12,7 @@ use crate::marks::{Mark, Part, pick};
 use crate::parts::{joined, unless};
 use crate::same::{same_committed, same_reads};
 use ss_core::Classes;
-use ss_terms_stores::{Bank, FormulaId, Symbol, TermId, field_sorts};
+use ss_terms::{Bank, FormulaId, Symbol, TermId, field_sorts};
 use std::alloc::{AllocError, Global};
 
 // The field is kept, unless it is named.

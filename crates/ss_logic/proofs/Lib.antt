@@ -1,3 +1,8 @@
+pub mod Stable
 pub mod Truth
-pub mod Sound
-pub mod Bad
+pub mod Constants
+pub mod Numbered
+pub mod Tabled
+pub mod Changing
+pub mod Writing
+pub mod Elements

@@ -1,3 +1,6 @@
-pub mod Logic
+pub mod Values
+pub mod Changes
+pub mod Terms
+pub mod Objects
+pub mod Formulas
 pub mod Equal
-pub mod Steps

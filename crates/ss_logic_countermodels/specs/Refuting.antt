@@ -3,9 +3,9 @@
 use Rattle.std.specs.Prelude.{◌≡◌, ℕ, suc, List, [], ◌∷◌, ◌++◌, map, flat_map, Bool, true, false, not, ◌&&◌, ◌||◌, ◌==◌, if◌then◌else◌, Some}
 use Rattle.std.specs.List.{slice_index_or, list_all}
 use Rattle.std.specs.Bool.{beq}
-use Rattle.ss_logic_stores.specs.Terms.{Term, App, Terms, no_terms, term_then, term_list}
-use Rattle.ss_logic_stores.specs.Formulas.{Equal, Formula, Formulas, Literal, And, Or, Forall, Exists, no_formulas, formula_then, neg}
-use Rattle.ss_logic_stores.specs.Equal.{same_term, same_symbol, same_predicate, same_formula}
+use Rattle.ss_logic.specs.Terms.{Term, App, Terms, no_terms, term_then, term_list}
+use Rattle.ss_logic.specs.Formulas.{Equal, Formula, Formulas, Literal, And, Or, Forall, Exists, no_formulas, formula_then, neg}
+use Rattle.ss_logic.specs.Equal.{same_term, same_symbol, same_predicate, same_formula}
 use Rattle.ss_logic_derivations.specs.Steps.{is_value}
 use Rattle.ss_logic_ground.specs.Occurring.{terms, with_formulas}
 use Rattle.ss_logic_ground.specs.Ground.{ground_form}

@@ -1,7 +1,7 @@
 -- Lines derive the goal exactly where none of them is bad.
 use Rattle.std.proofs.Common.{◌≡◌, ℕ, ◌+◌, List, [], ◌∷◌, Option, Some, None, refl, option_and_then}
 use Rattle.ss_core.specs.Tree.{ClassTree}
-use Rattle.ss_logic_stores.specs.Formulas.{Formula}
+use Rattle.ss_logic.specs.Formulas.{Formula}
 use Rattle.ss_logic_derivations.specs.Steps.{State, Open, Between, Line, step, run, Derives, bad_from, first_bad, either_way}
 
 run-from_none : (cs : List ClassTree) (premises : List Formula) (goal : Formula) (state : State) (lines : List Line) (n : ℕ) → bad_from cs premises goal state lines n ≡ None → run cs premises goal state lines ≡ Some (Between [])

@@ -3,12 +3,12 @@ use Rattle.std.proofs.Common.{◌≡◌, ℕ, List, [], ◌∷◌, ◌++◌, Boo
 use Rattle.std.specs.List.{list_all}
 use Rattle.std.proofs.lemmas.Bool.{false≢true, and_parts}
 use Rattle.ss_core.specs.Tree.{ClassTree}
-use Rattle.ss_logic_stores.specs.declared.Sort.{Sort}
-use Rattle.ss_logic_stores.specs.Values.{Value, Structure}
-use Rattle.ss_logic_stores.specs.Terms.{Constant, Term, App, no_terms, same_sort, value_of}
-use Rattle.ss_logic_stores.specs.Formulas.{Formula, Exists, is_bound_sort, AreOf, True, Hold, put, term_avoids, avoids}
-use Rattle.ss_logic_stores.proofs.Truth.{neg_true, values, AllClosed, True-put, equal_sorts}
-use Rattle.ss_logic_stores.proofs.Constants.{with_constant, new_constant, value_kept, True-kept}
+use Rattle.ss_logic.specs.declared.Sort.{Sort}
+use Rattle.ss_logic.specs.Values.{Value, Structure}
+use Rattle.ss_logic.specs.Terms.{Constant, Term, App, no_terms, same_sort, value_of}
+use Rattle.ss_logic.specs.Formulas.{Formula, Exists, is_bound_sort, AreOf, True, Hold, put, term_avoids, avoids}
+use Rattle.ss_logic.proofs.Truth.{neg_true, values, AllClosed, True-put, equal_sorts}
+use Rattle.ss_logic.proofs.Constants.{with_constant, new_constant, value_kept, True-kept}
 use Rattle.ss_logic_rules.specs.Shapes.{when}
 use Rattle.ss_logic_derivations.specs.Steps.{are_constants, are_new, chosen, choice}
 

@@ -4,11 +4,11 @@ use Rattle.std.proofs.lemmas.Bool.{false≢true, and_parts, or_cases}
 use Rattle.std.specs.Prelude.{option_and_then, if◌then◌else◌, slice_get}
 use Rattle.std.specs.Bool.{beq}
 use Rattle.ss_core.specs.Tree.{ClassTree}
-use Rattle.ss_logic_stores.specs.Values.{Value, Structure}
-use Rattle.ss_logic_stores.specs.Terms.{Number, Fixed, Null, ClassName, Term, App, Terms, no_terms, term_then, term_list, have_sorts, applied, value_of, values_of}
-use Rattle.ss_logic_stores.specs.Formulas.{Equal, AtMost, Good, Formula, Formulas, Literal, And, Or, Forall, no_formulas, formula_then, formula_list, Holds, Signed, True, AllTrue, NoneTrue, Hold, IsValid, neg, put, is_well_formed}
-use Rattle.ss_logic_stores.specs.Equal.{same_term, same_symbol, same_predicate, same_formula, equal_terms, equal_symbols, equal_predicates, equal_formulas, same_term_equal}
-use Rattle.ss_logic_stores.proofs.Truth.{not_both, neg_true, not_neg_true, instance_true}
+use Rattle.ss_logic.specs.Values.{Value, Structure}
+use Rattle.ss_logic.specs.Terms.{Number, Fixed, Null, ClassName, Term, App, Terms, no_terms, term_then, term_list, have_sorts, applied, value_of, values_of}
+use Rattle.ss_logic.specs.Formulas.{Equal, AtMost, Good, Formula, Formulas, Literal, And, Or, Forall, no_formulas, formula_then, formula_list, Holds, Signed, True, AllTrue, NoneTrue, Hold, IsValid, neg, put, is_well_formed}
+use Rattle.ss_logic.specs.Equal.{same_term, same_symbol, same_predicate, same_formula, equal_terms, equal_symbols, equal_predicates, equal_formulas, same_term_equal}
+use Rattle.ss_logic.proofs.Truth.{not_both, neg_true, not_neg_true, instance_true}
 use Rattle.ss_logic_rules.specs.declared.RuleName.{RuleName}
 use Rattle.ss_logic_rules.specs.declared.GoodRule.{GoodRule}
 use Rattle.ss_logic_rules.specs.Shapes.{when, equal}

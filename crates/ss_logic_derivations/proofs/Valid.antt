@@ -2,7 +2,7 @@
 use Rattle.std.proofs.Common.{List}
 use Rattle.ss_core.specs.Tree.{ClassTree}
 use Rattle.ss_core.specs.Chain.{IsChain, NoAlso}
-use Rattle.ss_logic_stores.specs.Formulas.{Formula, IsValid}
+use Rattle.ss_logic.specs.Formulas.{Formula, IsValid}
 use Rattle.ss_logic_rules.proofs.Ruling.{instance_of_true}
 use Rattle.ss_logic_rules.proofs.Goods.{good_instance_true}
 use Rattle.ss_logic_means.specs.Scenes.{AreInvariants}

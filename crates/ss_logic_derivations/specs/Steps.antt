@@ -3,10 +3,10 @@ use Rattle.std.specs.Prelude.{◌≡◌, ℕ, pos, negsuc, zero, suc, ◌+◌, L
 use Rattle.std.specs.List.{list_all}
 use Rattle.std.specs.Bool.{beq}
 use Rattle.ss_core.specs.Tree.{ClassTree}
-use Rattle.ss_logic_stores.specs.declared.Sort.{Sort}
-use Rattle.ss_logic_stores.specs.Terms.{Number, Fixed, Null, ClassName, Constant, Term, App, no_terms, term_then, term_list, same_sort, have_sorts}
-use Rattle.ss_logic_stores.specs.Formulas.{Equal, AtMost, Good, Formula, Formulas, Literal, And, Or, Forall, Exists, no_formulas, formula_then, formulas_from, formula_list, is_bound_sort, is_well_formed, neg, put, term_avoids, avoids}
-use Rattle.ss_logic_stores.specs.Equal.{same_term, same_symbol, same_predicate, same_formula}
+use Rattle.ss_logic.specs.declared.Sort.{Sort}
+use Rattle.ss_logic.specs.Terms.{Number, Fixed, Null, ClassName, Constant, Term, App, no_terms, term_then, term_list, same_sort, have_sorts}
+use Rattle.ss_logic.specs.Formulas.{Equal, AtMost, Good, Formula, Formulas, Literal, And, Or, Forall, Exists, no_formulas, formula_then, formulas_from, formula_list, is_bound_sort, is_well_formed, neg, put, term_avoids, avoids}
+use Rattle.ss_logic.specs.Equal.{same_term, same_symbol, same_predicate, same_formula}
 use Rattle.ss_logic_rules.specs.declared.RuleName.{RuleName}
 use Rattle.ss_logic_rules.specs.declared.GoodRule.{GoodRule}
 use Rattle.ss_logic_rules.specs.Shapes.{when, equal}

@@ -3,7 +3,7 @@
 ghost use Rattle.std.specs.Prelude.{◌≡◌, ℕ, List, Some, None};
 ghost use Rattle.ss_core.specs.Tree.{ClassTree};
 ghost use Rattle.ss_core.specs.Chain.{IsChain, NoAlso};
-ghost use Rattle.ss_logic_stores.specs.Formulas.{Formula, IsValid};
+ghost use Rattle.ss_logic.specs.Formulas.{Formula, IsValid};
 ghost use Rattle.ss_logic_means.specs.Scenes.{AreInvariants};
 ghost use Rattle.ss_logic_derivations.specs.Steps.{Line, Derives, first_bad};
 

@@ -6,13 +6,13 @@ use Rattle.std.proofs.lemmas.Bool.{false≢true, and_parts, eqb-true, eq-eqb, lt
 use Rattle.ss_core.specs.Tree.{ClassTree}
 use Rattle.ss_core.specs.Chain.{sub, all_fields}
 use Rattle.ss_store_rules.specs.Changes.{field_class}
-use Rattle.ss_logic_stores.specs.declared.Sort.{Sort}
-use Rattle.ss_logic_stores.specs.declared.Sort.TheVariants as sort
-use Rattle.ss_logic_stores.specs.Values.{Thing, class_name, owner_pair, is_group, Heap, Value, whole, truth, thing, store, sort_of_value, as_thing, as_whole, as_truth, as_store, is_allocated, Structure}
-use Rattle.ss_logic_stores.specs.Terms.{Field, Element, Term, app, field_sort, have_sorts, cell, value_of}
-use Rattle.ss_logic_stores.specs.Formulas.{Formula, formulas_from, is_well_formed, AreOf, True, AllTrue, NoneTrue, neg}
-use Rattle.ss_logic_stores.proofs.Stable.{bool_stable}
-use Rattle.ss_logic_stores.proofs.Truth.{not_both, neg_true, formula_stable, closed_value, AllClosed-sorts, AreOf-values}
+use Rattle.ss_logic.specs.declared.Sort.{Sort}
+use Rattle.ss_logic.specs.declared.Sort.TheVariants as sort
+use Rattle.ss_logic.specs.Values.{Thing, class_name, owner_pair, is_group, Heap, Value, whole, truth, thing, store, sort_of_value, as_thing, as_whole, as_truth, as_store, is_allocated, Structure}
+use Rattle.ss_logic.specs.Terms.{Field, Element, Term, app, field_sort, have_sorts, cell, value_of}
+use Rattle.ss_logic.specs.Formulas.{Formula, formulas_from, is_well_formed, AreOf, True, AllTrue, NoneTrue, neg}
+use Rattle.ss_logic.proofs.Stable.{bool_stable}
+use Rattle.ss_logic.proofs.Truth.{not_both, neg_true, formula_stable, closed_value, AllClosed-sorts, AreOf-values}
 use Rattle.ss_logic_rules.specs.Shapes.{level_of, owner_of, type_of, equal, allocated, committed, ready, group}
 use Rattle.ss_logic_frames.specs.Frames.{NamedTerm, NamesField, NamesAll, NamesUpto, NamesElements, OwnerTerm, CallTerms, and_of, unless, iff, the_object, in_group_of, owned_by, is_free, is_outside, is_named, names_field, names_level, names_elements, all_named, field_kept, fields_kept, element_kept, object_kept, array_kept, kept, object_grown, grown}
 use Rattle.ss_logic_frames.specs.Means.{IsGrown, Each, thing_of, store_of, IsNamed, NamesNoField, NamesNoLevel, NamesNoElement, IsBound, IsKept}

@@ -3,9 +3,9 @@ use Rattle.std.proofs.Common.{◌≡◌, ℕ, suc, ◌+◌, List, [], ◌∷◌,
 use Rattle.std.specs.Prelude.{slice_get, unwrap_or}
 use Rattle.std.proofs.Math.Path.{fun_ext}
 use Rattle.ss_core.specs.Tree.{ClassTree}
-use Rattle.ss_logic_stores.specs.Values.{null, Value, thing, Structure}
-use Rattle.ss_logic_stores.specs.Terms.{Term, Bound, App, Terms, no_terms, term_then, applied, value_of, values_of}
-use Rattle.ss_logic_stores.specs.Formulas.{Formula, Formulas, Literal, And, Or, Forall, Exists, no_formulas, formula_then, Holds, Signed, AreOf, True, AllTrue, NoneTrue}
+use Rattle.ss_logic.specs.Values.{null, Value, thing, Structure}
+use Rattle.ss_logic.specs.Terms.{Term, Bound, App, Terms, no_terms, term_then, applied, value_of, values_of}
+use Rattle.ss_logic.specs.Formulas.{Formula, Formulas, Literal, And, Or, Forall, Exists, no_formulas, formula_then, Holds, Signed, AreOf, True, AllTrue, NoneTrue}
 use Rattle.ss_logic_frames.specs.Frames.{lifted_term, lifted_terms, lifted, all_lifted}
 
 past : (vs e : List Value) (k : ℕ) → slice_get (vs ++ e) (length vs + k) ≡ slice_get e k

@@ -3,9 +3,9 @@ use Rattle.std.specs.Prelude.{ℕ, zero, suc, ◌+◌, List, [], ◌∷◌, ◌+
 use Rattle.ss_core.specs.Tree.{ClassTree}
 use Rattle.ss_core.specs.Chain.{sub, all_fields}
 use Rattle.ss_store_rules.specs.Changes.{field_class}
-use Rattle.ss_logic_stores.specs.declared.Sort.TheVariants as sort
-use Rattle.ss_logic_stores.specs.Terms.{Symbol, Field, Element, Term, Bound, App, Terms, no_terms, term_then, app}
-use Rattle.ss_logic_stores.specs.Formulas.{Formula, Formulas, Literal, And, Or, Forall, Exists, no_formulas, formula_then, formulas_from, neg}
+use Rattle.ss_logic.specs.declared.Sort.TheVariants as sort
+use Rattle.ss_logic.specs.Terms.{Symbol, Field, Element, Term, Bound, App, Terms, no_terms, term_then, app}
+use Rattle.ss_logic.specs.Formulas.{Formula, Formulas, Literal, And, Or, Forall, Exists, no_formulas, formula_then, formulas_from, neg}
 use Rattle.ss_logic_rules.specs.Shapes.{class_term, level_of, owner_of, type_of, pair_of, equal, allocated, committed, ready, group}
 
 -- What a body may change: a field of an object, all of an object, what its class and those above it declare, or the elements of an array;

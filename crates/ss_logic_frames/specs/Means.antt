@@ -3,9 +3,9 @@ use Rattle.std.specs.Prelude.{◌≡◌, ℕ, ℤ, List, [], ◌∷◌, true}
 use Rattle.ss_core.specs.Tree.{ClassTree}
 use Rattle.ss_core.specs.Chain.{sub}
 use Rattle.ss_store_rules.specs.Changes.{field_class}
-use Rattle.ss_logic_stores.specs.Values.{Thing, class_name, owner_pair, is_group, Heap, as_thing, as_store, is_allocated, Structure}
-use Rattle.ss_logic_stores.specs.Terms.{Term, field_sort, has_field, cell, value_of}
-use Rattle.ss_logic_stores.specs.Formulas.{Formula, True}
+use Rattle.ss_logic.specs.Values.{Thing, class_name, owner_pair, is_group, Heap, as_thing, as_store, is_allocated, Structure}
+use Rattle.ss_logic.specs.Terms.{Term, field_sort, has_field, cell, value_of}
+use Rattle.ss_logic.specs.Formulas.{Formula, True}
 use Rattle.ss_logic_frames.specs.Frames.{NamedTerm, NamesField, NamesAll, NamesUpto, NamesElements, CallTerms}
 
 -- the later store has grown out of the earlier one

@@ -2,9 +2,9 @@
 use Rattle.std.specs.Prelude.{◌≡◌, List, [], ◌∷◌, Bool, true, ◌&&◌}
 use Rattle.std.specs.List.{list_all}
 use Rattle.ss_core.specs.Tree.{ClassTree}
-use Rattle.ss_logic_stores.specs.declared.Sort.TheVariants as sort
-use Rattle.ss_logic_stores.specs.Terms.{Term, have_sorts}
-use Rattle.ss_logic_stores.specs.Formulas.{is_well_formed}
+use Rattle.ss_logic.specs.declared.Sort.TheVariants as sort
+use Rattle.ss_logic.specs.Terms.{Term, have_sorts}
+use Rattle.ss_logic.specs.Formulas.{is_well_formed}
 use Rattle.ss_logic_frames.specs.Frames.{NamedTerm, NamesField, NamesAll, NamesUpto, NamesElements, CallTerms}
 
 abbrev pub is_object : List ClassTree → Term → Bool

@@ -2,10 +2,10 @@
 
 ghost use Rattle.std.specs.Prelude.{◌≡◌, List, [], ◌∷◌, true};
 ghost use Rattle.ss_core.specs.Tree.{ClassTree};
-ghost use Rattle.ss_logic_stores.specs.declared.Sort.TheVariants as sort;
-ghost use Rattle.ss_logic_stores.specs.Values.{Structure};
-ghost use Rattle.ss_logic_stores.specs.Terms.{Term, have_sorts};
-ghost use Rattle.ss_logic_stores.specs.Formulas.{True};
+ghost use Rattle.ss_logic.specs.declared.Sort.TheVariants as sort;
+ghost use Rattle.ss_logic.specs.Values.{Structure};
+ghost use Rattle.ss_logic.specs.Terms.{Term, have_sorts};
+ghost use Rattle.ss_logic.specs.Formulas.{True};
 ghost use Rattle.ss_logic_frames.specs.Frames.{CallTerms, kept, grown};
 ghost use Rattle.ss_logic_frames.specs.Means.{IsKept, IsGrown, store_of};
 ghost use Rattle.ss_logic_frames.specs.Sorted.{AreSorted};

@@ -1,11 +1,11 @@
 -- The instances of rules that are asked for at the terms and atoms of a list.
 use Rattle.std.specs.Prelude.{ℕ, pos, ◌+◌, List, [], ◌∷◌, ◌++◌, map, filter, filter_map, flat_map, Bool, true, false, not, ◌==◌, ◌&&◌, Option, Some, None, option_map, if◌then◌else◌}
 use Rattle.ss_core.specs.Tree.{ClassTree}
-use Rattle.ss_logic_stores.specs.declared.Sort.{Sort}
-use Rattle.ss_logic_stores.specs.declared.Sort.TheVariants as sort
-use Rattle.ss_logic_stores.specs.Terms.{Fixed, ClassName, Quotient, Remainder, Field, Element, Length, Level, Owner, Pair, Next, Term, App, Terms, no_terms, term_then, same_sort, sort_of}
-use Rattle.ss_logic_stores.specs.Formulas.{Equal, Sub, Allocated, Committed, Ready, Good, Formula, Literal, Or, formulas_from, no_atom}
-use Rattle.ss_logic_stores.specs.Equal.{same_term}
+use Rattle.ss_logic.specs.declared.Sort.{Sort}
+use Rattle.ss_logic.specs.declared.Sort.TheVariants as sort
+use Rattle.ss_logic.specs.Terms.{Fixed, ClassName, Quotient, Remainder, Field, Element, Length, Level, Owner, Pair, Next, Term, App, Terms, no_terms, term_then, same_sort, sort_of}
+use Rattle.ss_logic.specs.Formulas.{Equal, Sub, Allocated, Committed, Ready, Good, Formula, Literal, Or, formulas_from, no_atom}
+use Rattle.ss_logic.specs.Equal.{same_term}
 use Rattle.ss_logic_rules.specs.declared.RuleName.{RuleName}
 use Rattle.ss_logic_rules.specs.declared.RuleName.TheVariants as rule
 use Rattle.ss_logic_rules.specs.declared.GoodRule.{GoodRule}

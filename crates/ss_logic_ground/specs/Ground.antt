@@ -1,7 +1,7 @@
 -- The ground form: a list of instances by rounds.
 use Rattle.std.specs.Prelude.{ℕ, zero, suc, List, [], ◌∷◌, length, reverse, not, ◌==◌, nat_le, Option, Some, None, option_and_then, if◌then◌else◌}
 use Rattle.ss_core.specs.Tree.{ClassTree}
-use Rattle.ss_logic_stores.specs.Formulas.{Formula}
+use Rattle.ss_logic.specs.Formulas.{Formula}
 use Rattle.ss_logic_ground.specs.Occurring.{atoms, terms, quantified, with_formulas}
 use Rattle.ss_logic_ground.specs.Opened.{start}
 use Rattle.ss_logic_ground.specs.Asked.{all_said, asked_to_close, asked_first}

@@ -1,11 +1,11 @@
 -- The terms at which a `forall` has instances.
 use Rattle.std.specs.Prelude.{ℕ, zero, suc, List, [], ◌∷◌, ◌++◌, map, filter, flat_map, filter_map, length, replicate, Bool, true, false, ◌==◌, ◌&&◌, Option, Some, None, option_and_then, option_map, slice_get, slice_set, if◌then◌else◌}
 use Rattle.std.specs.List.{list_any}
-use Rattle.ss_logic_stores.specs.declared.Sort.{Sort}
-use Rattle.ss_logic_stores.specs.declared.Sort.TheVariants as sort
-use Rattle.ss_logic_stores.specs.Terms.{Symbol, Number, Constant, Field, Element, Length, Level, Owner, Next, Term, Bound, App, Terms, no_terms, term_then, term_list, same_sort}
-use Rattle.ss_logic_stores.specs.Formulas.{Predicate, Allocated, Committed, Ready, Formula, Literal, Or, Forall, formulas_from, neg, put}
-use Rattle.ss_logic_stores.specs.Equal.{same_term, same_symbol, same_predicate}
+use Rattle.ss_logic.specs.declared.Sort.{Sort}
+use Rattle.ss_logic.specs.declared.Sort.TheVariants as sort
+use Rattle.ss_logic.specs.Terms.{Symbol, Number, Constant, Field, Element, Length, Level, Owner, Next, Term, Bound, App, Terms, no_terms, term_then, term_list, same_sort}
+use Rattle.ss_logic.specs.Formulas.{Predicate, Allocated, Committed, Ready, Formula, Literal, Or, Forall, formulas_from, neg, put}
+use Rattle.ss_logic.specs.Equal.{same_term, same_symbol, same_predicate}
 use Rattle.ss_logic_ground.specs.Occurring.{atoms, terms, all_atoms, all_terms}
 use Rattle.ss_logic_ground.specs.Asked.{is_empty}
 

@@ -1,9 +1,9 @@
 -- What occurs in a list of formulas.
 use Rattle.std.specs.Prelude.{List, [], ◌∷◌, ◌++◌, flat_map, true, if◌then◌else◌}
 use Rattle.std.specs.List.{list_any}
-use Rattle.ss_logic_stores.specs.Terms.{Term, Bound, App, Terms, no_terms, term_then}
-use Rattle.ss_logic_stores.specs.Formulas.{Formula, Formulas, Literal, And, Or, Forall, Exists, no_formulas, formula_then}
-use Rattle.ss_logic_stores.specs.Equal.{same_term, same_formula}
+use Rattle.ss_logic.specs.Terms.{Term, Bound, App, Terms, no_terms, term_then}
+use Rattle.ss_logic.specs.Formulas.{Formula, Formulas, Literal, And, Or, Forall, Exists, no_formulas, formula_then}
+use Rattle.ss_logic.specs.Equal.{same_term, same_formula}
 
 -- ---- each once, at its first place
 

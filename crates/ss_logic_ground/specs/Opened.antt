@@ -2,10 +2,10 @@
 -- that there is.
 use Rattle.std.specs.Prelude.{ℕ, zero, suc, ◌+◌, List, [], ◌∷◌, ◌++◌, map, length, sum_by, Bool, true, false, ◌==◌, ◌&&◌, Option, Some, find, if◌then◌else◌}
 use Rattle.std.specs.List.{list_any}
-use Rattle.ss_logic_stores.specs.declared.Sort.{Sort}
-use Rattle.ss_logic_stores.specs.Terms.{Constant, Term, App, app, same_sort}
-use Rattle.ss_logic_stores.specs.Formulas.{Formula, Formulas, Literal, And, Or, Forall, Exists, no_formulas, formula_then, neg, put}
-use Rattle.ss_logic_stores.specs.Equal.{same_formula}
+use Rattle.ss_logic.specs.declared.Sort.{Sort}
+use Rattle.ss_logic.specs.Terms.{Constant, Term, App, app, same_sort}
+use Rattle.ss_logic.specs.Formulas.{Formula, Formulas, Literal, And, Or, Forall, Exists, no_formulas, formula_then, neg, put}
+use Rattle.ss_logic.specs.Equal.{same_formula}
 use Rattle.ss_logic_ground.specs.Occurring.{quantified, all_terms}
 
 -- ---- fresh constants

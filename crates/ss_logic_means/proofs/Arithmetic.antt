@@ -15,10 +15,10 @@ use Rattle.ss_store_rules.specs.Numbers.{Outcome, fits, is_zero}
 use Rattle.ss_store_rules.specs.Numbers as numbers
 use Rattle.ss_store_rules.specs.Reads.{as_int, as_bool, same_value}
 use Rattle.ss_store_rules.specs.Values as run
-use Rattle.ss_logic_stores.specs.Values.{Value, whole, truth, as_whole, Structure}
-use Rattle.ss_logic_stores.specs.Terms.{Term, app}
-use Rattle.ss_logic_stores.specs.Terms as term
-use Rattle.ss_logic_stores.specs.Formulas.{Formula, neg}
+use Rattle.ss_logic.specs.Values.{Value, whole, truth, as_whole, Structure}
+use Rattle.ss_logic.specs.Terms.{Term, app}
+use Rattle.ss_logic.specs.Terms as term
+use Rattle.ss_logic.specs.Formulas.{Formula, neg}
 use Rattle.ss_logic_rules.specs.Shapes.{number, equal, differ, at_most}
 use Rattle.ss_logic_express.specs.Express.{Meant, One, Either, Says, over, over_two, paired, mapped, said, same_truths, equal_meant, less, fits_int, not_zero}
 use Rattle.ss_logic_means.specs.Means.{standing}

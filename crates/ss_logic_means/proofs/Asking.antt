@@ -13,12 +13,12 @@ use Rattle.ss_store_rules.specs.Numbers.{Outcome}
 use Rattle.ss_store_rules.specs.Reads as reads
 use Rattle.ss_store_rules.specs.Reads.{as_int, object_at}
 use Rattle.ss_store_rules.specs.Values as run
-use Rattle.ss_logic_stores.specs.declared.Sort.TheVariants as sort
-use Rattle.ss_logic_stores.specs.Values.{reference, Heap, Value, whole, thing, store, as_whole, Structure}
-use Rattle.ss_logic_stores.specs.Terms.{Term, Bound, app}
-use Rattle.ss_logic_stores.specs.Terms as term
-use Rattle.ss_logic_stores.specs.Formulas.{Formula, Forall, neg}
-use Rattle.ss_logic_stores.specs.Objects.{objects_of}
+use Rattle.ss_logic.specs.declared.Sort.TheVariants as sort
+use Rattle.ss_logic.specs.Values.{reference, Heap, Value, whole, thing, store, as_whole, Structure}
+use Rattle.ss_logic.specs.Terms.{Term, Bound, app}
+use Rattle.ss_logic.specs.Terms as term
+use Rattle.ss_logic.specs.Formulas.{Formula, Forall, neg}
+use Rattle.ss_logic.specs.Objects.{objects_of}
 use Rattle.ss_logic_rules.specs.Shapes.{number, class_term, level_of, owner_of, pair_of, equal, at_most, sub_atom, committed, group}
 use Rattle.ss_logic_express.specs.Express.{and_of, or_of, Meant, Says, over, over_two, said, Scene, is_full, word_said, owners_said, word_parts, readable, out_of_range, quantified_said}
 use Rattle.ss_logic_means.specs.Means.{standing}

@@ -10,12 +10,12 @@ use Rattle.ss_store_rules.specs.Store.{Object}
 use Rattle.ss_store_rules.specs.Numbers.{Outcome}
 use Rattle.ss_store_rules.specs.Reads.{object_at, no_object, is_object_with}
 use Rattle.ss_store_rules.specs.Values as run
-use Rattle.ss_logic_stores.specs.Values.{null, reference, Heap, Value, thing, as_thing, Structure}
-use Rattle.ss_logic_stores.specs.Terms.{Term}
-use Rattle.ss_logic_stores.specs.Formulas.{Formula, neg}
-use Rattle.ss_logic_stores.specs.Objects.{object_in, objects_of}
-use Rattle.ss_logic_stores.proofs.Tabled.{there}
-use Rattle.ss_logic_stores.proofs.Truth.{neg_true, not_both}
+use Rattle.ss_logic.specs.Values.{null, reference, Heap, Value, thing, as_thing, Structure}
+use Rattle.ss_logic.specs.Terms.{Term}
+use Rattle.ss_logic.specs.Formulas.{Formula, neg}
+use Rattle.ss_logic.specs.Objects.{object_in, objects_of}
+use Rattle.ss_logic.proofs.Tabled.{there}
+use Rattle.ss_logic.proofs.Truth.{neg_true, not_both}
 use Rattle.ss_logic_rules.specs.Shapes.{null_term, class_term, equal, differ, sub_atom}
 use Rattle.ss_logic_rules.specs.Shapes as shape
 use Rattle.ss_logic_express.specs.Express.{Choice, Meant, Either, Says, choices, over, is_of, as_class, not_null}

@@ -3,9 +3,9 @@ use Rattle.std.proofs.Common.{◌≡◌, ℕ, zero, suc, List, [], ◌∷◌, �
 use Rattle.std.specs.Prelude.{slice_get}
 use Rattle.ss_core.specs.Tree.{ClassTree}
 use Rattle.ss_store_rules.specs.declared.Value.{Value as ObjectValue}
-use Rattle.ss_logic_stores.specs.Values.{Heap, Value, Structure}
-use Rattle.ss_logic_stores.specs.Terms.{Term}
-use Rattle.ss_logic_stores.proofs.Truth.{closed_value}
+use Rattle.ss_logic.specs.Values.{Heap, Value, Structure}
+use Rattle.ss_logic.specs.Terms.{Term}
+use Rattle.ss_logic.proofs.Truth.{closed_value}
 use Rattle.ss_logic_express.specs.Express.{One, Scene, choices, meant_or_null, local_meant}
 use Rattle.ss_logic_means.specs.Means.{standing}
 use Rattle.ss_logic_means.specs.Scenes.{HaveValues, IsStoreTerm, Stands, Stay}

@@ -12,7 +12,7 @@ use Rattle.ss_store_rules.specs.Locals.{types_of, local_types, everywhere, is_ar
 use Rattle.ss_store_rules.specs.Types.{is_bool, is_reference, has_class, type_of, Words, is_allowed, typed, is_condition}
 use Rattle.ss_store_rules.specs.Typed.{is_reference_argument, is_default_of, is_contract}
 use Rattle.ss_store_rules.specs.Values as run
-use Rattle.ss_logic_stores.specs.Values.{Heap, Value, Structure}
+use Rattle.ss_logic.specs.Values.{Heap, Value, Structure}
 use Rattle.ss_logic_express.specs.Express.{Scene, default_said, holds_formula}
 use Rattle.ss_machine_typed.specs.Settings.{IsGoodSetting}
 use Rattle.ss_logic_means.specs.Means.{Means}

@@ -20,13 +20,13 @@ use Rattle.ss_store_rules.specs.Changes.{class_of_field, field_type, new_fields}
 use Rattle.ss_store_rules.specs.Good.{has_type, AreValues}
 use Rattle.ss_store_rules.specs.Types.{is_reference, has_class}
 use Rattle.ss_store_rules.specs.Values as run
-use Rattle.ss_logic_stores.specs.declared.Sort.TheVariants as sort
-use Rattle.ss_logic_stores.specs.Values.{null, reference, class_name, group_number, owner_pair, Thing, Entry, Heap, Value, thing, store, as_thing, as_store, Structure}
-use Rattle.ss_logic_stores.specs.Terms.{Term, Bound, app, sort_of_type, field_sort, cell, value_of}
-use Rattle.ss_logic_stores.specs.Terms as term
-use Rattle.ss_logic_stores.specs.Formulas.{Formula, Forall, neg}
-use Rattle.ss_logic_stores.specs.Objects.{content, owner_of_thing, filled, object_in, objects_of}
-use Rattle.ss_logic_stores.proofs.Tabled.{field_there}
+use Rattle.ss_logic.specs.declared.Sort.TheVariants as sort
+use Rattle.ss_logic.specs.Values.{null, reference, class_name, group_number, owner_pair, Thing, Entry, Heap, Value, thing, store, as_thing, as_store, Structure}
+use Rattle.ss_logic.specs.Terms.{Term, Bound, app, sort_of_type, field_sort, cell, value_of}
+use Rattle.ss_logic.specs.Terms as term
+use Rattle.ss_logic.specs.Formulas.{Formula, Forall, neg}
+use Rattle.ss_logic.specs.Objects.{content, owner_of_thing, filled, object_in, objects_of}
+use Rattle.ss_logic.proofs.Tabled.{field_there}
 use Rattle.ss_logic_rules.specs.Shapes.{null_term, class_term, level_of, owner_of, pair_of, equal, differ, allocated, committed, group}
 use Rattle.ss_logic_express.specs.Express.{and_of, or_of, choices, over, Scene, local_meant, is_full, default_of_sort, defaults_from, owned_full, may_be_captured, met_by, subject, default_said}
 use Rattle.ss_machine_typed.specs.Settings.{IsGoodSetting}

@@ -15,12 +15,12 @@ use Rattle.ss_store_rules.specs.Reads.{as_int, object_at, element_read}
 use Rattle.ss_store_rules.specs.Changes.{is_array, element_type}
 use Rattle.ss_store_rules.specs.Good.{AreValues}
 use Rattle.ss_store_rules.specs.Values as run
-use Rattle.ss_logic_stores.specs.declared.Sort.{Sort}
-use Rattle.ss_logic_stores.specs.Values.{reference, Entry, Heap, Value, whole, thing, store, as_thing, as_whole, as_store, Structure}
-use Rattle.ss_logic_stores.specs.Terms.{Term, app, sort_of_type, cell}
-use Rattle.ss_logic_stores.specs.Terms as term
-use Rattle.ss_logic_stores.specs.Formulas.{Formula}
-use Rattle.ss_logic_stores.specs.Objects.{content, elements_from, element_count, object_in, objects_of}
+use Rattle.ss_logic.specs.declared.Sort.{Sort}
+use Rattle.ss_logic.specs.Values.{reference, Entry, Heap, Value, whole, thing, store, as_thing, as_whole, as_store, Structure}
+use Rattle.ss_logic.specs.Terms.{Term, app, sort_of_type, cell}
+use Rattle.ss_logic.specs.Terms as term
+use Rattle.ss_logic.specs.Formulas.{Formula}
+use Rattle.ss_logic.specs.Objects.{content, elements_from, element_count, object_in, objects_of}
 use Rattle.ss_logic_rules.specs.Shapes.{number, at_most}
 use Rattle.ss_logic_express.specs.Express.{and_of, Meant, paired, less, index_fits}
 use Rattle.ss_logic_means.specs.Means.{standing}

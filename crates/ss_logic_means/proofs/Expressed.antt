@@ -12,11 +12,11 @@ use Rattle.ss_core.specs.Chain.{below, is_class, DeclaredField, all_fields}
 use Rattle.ss_store_rules.specs.Numbers.{fits}
 use Rattle.ss_store_rules.specs.Changes.{is_array, type_of_field}
 use Rattle.ss_store_rules.specs.Types.{plain, class_type, is_int, is_bool, is_reference, has_class, where_typed, field_read_type, is_word, is_owners_word, element_of, type_of}
-use Rattle.ss_logic_stores.specs.declared.Sort.{Sort}
-use Rattle.ss_logic_stores.specs.declared.Sort.TheVariants as sort
-use Rattle.ss_logic_stores.specs.Terms.{Add, Subtract, Field, Element, Length, Term, Bound, app, sort_of_type, field_sort, has_field, is_store_sort, takes}
-use Rattle.ss_logic_stores.specs.Formulas.{Formula, Forall, neg}
-use Rattle.ss_logic_stores.proofs.Truth.{type_sort}
+use Rattle.ss_logic.specs.declared.Sort.{Sort}
+use Rattle.ss_logic.specs.declared.Sort.TheVariants as sort
+use Rattle.ss_logic.specs.Terms.{Add, Subtract, Field, Element, Length, Term, Bound, app, sort_of_type, field_sort, has_field, is_store_sort, takes}
+use Rattle.ss_logic.specs.Formulas.{Formula, Forall, neg}
+use Rattle.ss_logic.proofs.Truth.{type_sort}
 use Rattle.ss_logic_rules.specs.Shapes.{number, null_term, class_term, level_of, owner_of, pair_of, equal, differ, at_most, sub_atom, allocated, committed, group}
 use Rattle.ss_logic_rules.specs.Shapes as shape
 use Rattle.ss_logic_express.specs.Express.{and_of, or_of, Choice, Meant, Says, choices, over, over_two, said, same_truths, Scene, state, at_entry, with_bound, element_sort, is_of, fits_int, less, word_said, owners_said, as_class, out_of_range, quantified_said, meant, not_null, readable, under, index_fits, word_parts, defined}

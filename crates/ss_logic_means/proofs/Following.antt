@@ -3,9 +3,9 @@ use Rattle.std.proofs.Common.{◌≡◌, ℕ, zero, suc, List, [], ◌∷◌, �
 use Rattle.std.specs.Prelude.{slice_get}
 use Rattle.ss_core.specs.Tree.{ClassTree}
 use Rattle.ss_core.specs.Chain.{IsChain, NoAlso}
-use Rattle.ss_logic_stores.specs.Values.{Structure}
-use Rattle.ss_logic_stores.specs.Terms.{Term}
-use Rattle.ss_logic_stores.specs.Formulas.{Good, Formula, True, Hold, IsValid, atom}
+use Rattle.ss_logic.specs.Values.{Structure}
+use Rattle.ss_logic.specs.Terms.{Term}
+use Rattle.ss_logic.specs.Formulas.{Good, Formula, True, Hold, IsValid, atom}
 use Rattle.ss_logic_rules.proofs.Goods.{good_instance_true}
 use Rattle.ss_logic_rules.proofs.Sentences.{Hold-append}
 use Rattle.ss_logic_means.specs.Scenes.{AreInvariants}

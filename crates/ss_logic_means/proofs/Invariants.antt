@@ -18,13 +18,13 @@ use Rattle.ss_store_rules.specs.Typed.{invariant_types, is_invariant}
 use Rattle.ss_store_rules.specs.Good.{has_type, is_of_class, IsReady}
 use Rattle.ss_store_rules.specs.Admissible.{is_this, is_rep, is_rep_or_peer, is_own_field, is_owned_path, is_admissible, invariants}
 use Rattle.ss_store_rules.specs.Values as run
-use Rattle.ss_logic_stores.specs.declared.Sort.TheVariants as sort
-use Rattle.ss_logic_stores.specs.Values.{reference, class_name, Thing, Heap, Value, whole, truth, thing, store, sort_of_value, as_thing, as_store, is_allocated, Structure}
-use Rattle.ss_logic_stores.specs.Terms.{Term, sort_of, is_well_sorted, same_sort, have_sorts, value_of}
-use Rattle.ss_logic_stores.specs.Formulas.{Formula, Good, atom, True, AllTrue, formulas_from, is_below}
-use Rattle.ss_logic_stores.specs.Objects.{objects_of, IsGoodStore}
-use Rattle.ss_logic_stores.proofs.Tabled.{there}
-use Rattle.ss_logic_stores.proofs.Truth.{AreOf-values, closed_value, formula_stable}
+use Rattle.ss_logic.specs.declared.Sort.TheVariants as sort
+use Rattle.ss_logic.specs.Values.{reference, class_name, Thing, Heap, Value, whole, truth, thing, store, sort_of_value, as_thing, as_store, is_allocated, Structure}
+use Rattle.ss_logic.specs.Terms.{Term, sort_of, is_well_sorted, same_sort, have_sorts, value_of}
+use Rattle.ss_logic.specs.Formulas.{Formula, Good, atom, True, AllTrue, formulas_from, is_below}
+use Rattle.ss_logic.specs.Objects.{objects_of, IsGoodStore}
+use Rattle.ss_logic.proofs.Tabled.{there}
+use Rattle.ss_logic.proofs.Truth.{AreOf-values, closed_value, formula_stable}
 use Rattle.ss_logic_rules.specs.Shapes.{class_term, level_of, sub_atom, allocated, class_of_term}
 use Rattle.ss_logic_rules.proofs.Sentences.{given_true}
 use Rattle.ss_logic_express.specs.Express.{and_of, Meant, One, said, Scene, local_meant, meant, defined, holds_formula}

@@ -5,13 +5,13 @@ use Rattle.std.specs.List.{list_all}
 use Rattle.std.proofs.lemmas.Bool.{false≢true, and_from, lt-ltb}
 use Rattle.ss_core.specs.Tree.{ClassTree}
 use Rattle.ss_store_rules.specs.Store.{Object}
-use Rattle.ss_logic_stores.specs.declared.Sort.TheVariants as sort
-use Rattle.ss_logic_stores.specs.Values.{null, reference, class_name, group_number, owner_pair, Thing, Heap, Table, Value, whole, truth, thing, store, as_thing, as_store, is_allocated, Structure}
-use Rattle.ss_logic_stores.specs.Terms.{Term, Bound}
-use Rattle.ss_logic_stores.specs.Formulas.{Formula, Forall, NoneTrue, formulas_from, neg}
-use Rattle.ss_logic_stores.specs.Objects.{object_in, objects_from, objects_of}
-use Rattle.ss_logic_stores.proofs.Stable.{bool_stable}
-use Rattle.ss_logic_stores.proofs.Tabled.{there}
+use Rattle.ss_logic.specs.declared.Sort.TheVariants as sort
+use Rattle.ss_logic.specs.Values.{null, reference, class_name, group_number, owner_pair, Thing, Heap, Table, Value, whole, truth, thing, store, as_thing, as_store, is_allocated, Structure}
+use Rattle.ss_logic.specs.Terms.{Term, Bound}
+use Rattle.ss_logic.specs.Formulas.{Formula, Forall, NoneTrue, formulas_from, neg}
+use Rattle.ss_logic.specs.Objects.{object_in, objects_from, objects_of}
+use Rattle.ss_logic.proofs.Stable.{bool_stable}
+use Rattle.ss_logic.proofs.Tabled.{there}
 use Rattle.ss_logic_rules.specs.Shapes.{allocated}
 use Rattle.ss_logic_express.specs.Express.{and_of, or_of, Choice, Meant, One, Either, Says, choices, over}
 use Rattle.ss_machine_typed.proofs.Slots.{all_at}

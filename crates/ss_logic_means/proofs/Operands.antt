@@ -12,8 +12,8 @@ use Rattle.ss_core.specs.Chain.{below, DeclaredField}
 use Rattle.ss_store_rules.specs.Numbers.{Outcome}
 use Rattle.ss_store_rules.specs.Types.{is_int, is_bool, is_reference, has_class, where_typed, field_read_type, element_of, element_read_type, are_comparable, operation_type}
 use Rattle.ss_store_rules.specs.Values as run
-use Rattle.ss_logic_stores.specs.Values.{Value, Structure}
-use Rattle.ss_logic_stores.specs.Formulas.{Formula}
+use Rattle.ss_logic.specs.Values.{Value, Structure}
+use Rattle.ss_logic.specs.Formulas.{Formula}
 use Rattle.ss_logic_express.specs.Express.{Meant, operated, operation_parts}
 use Rattle.ss_logic_means.proofs.Denoting.{R}
 use Rattle.ss_logic_means.proofs.Operations.{IsBool, IsWhole, Gives, and_reads, or_reads}

@@ -8,10 +8,10 @@ use Rattle.ss_core.specs.declared.expr.Operator.{Operator}
 use Rattle.ss_core.specs.declared.expr.Operator.TheVariants as op
 use Rattle.ss_core.specs.Tree.{ClassTree}
 use Rattle.ss_store_rules.specs.Types.{is_int, is_bool, is_reference, where_typed, are_comparable, operation_type}
-use Rattle.ss_logic_stores.specs.declared.Sort.{Sort}
-use Rattle.ss_logic_stores.specs.declared.Sort.TheVariants as sort
-use Rattle.ss_logic_stores.specs.Terms.{Symbol, Add, Subtract, Multiply, Quotient, Remainder, Term, app, result_sort, takes, sort_of_type}
-use Rattle.ss_logic_stores.specs.Formulas.{AtMost, Formula, neg}
+use Rattle.ss_logic.specs.declared.Sort.{Sort}
+use Rattle.ss_logic.specs.declared.Sort.TheVariants as sort
+use Rattle.ss_logic.specs.Terms.{Symbol, Add, Subtract, Multiply, Quotient, Remainder, Term, app, result_sort, takes, sort_of_type}
+use Rattle.ss_logic.specs.Formulas.{AtMost, Formula, neg}
 use Rattle.ss_logic_rules.specs.Shapes.{number, null_term, equal, differ, at_most}
 use Rattle.ss_logic_express.specs.Express.{and_of, or_of, and_more, or_more, Meant, Says, over_two, paired, said, element_sort, fits_int, less, equal_meant, operated, operation_parts, not_zero, not_null}
 use Rattle.ss_logic_means.specs.Sorts.{AreWellFormed, IsWellExpressed}

@@ -13,9 +13,9 @@ use Rattle.ss_store_rules.specs.declared.Value.TheVariants as value
 use Rattle.ss_store_rules.specs.Numbers.{Outcome, fits}
 use Rattle.ss_store_rules.specs.Reads.{as_int, as_bool, same_value}
 use Rattle.ss_store_rules.specs.Values as run
-use Rattle.ss_logic_stores.specs.Values.{Value, whole, truth, as_whole, as_truth, Structure}
-use Rattle.ss_logic_stores.specs.Terms.{Term}
-use Rattle.ss_logic_stores.specs.Formulas.{Formula, neg}
+use Rattle.ss_logic.specs.Values.{Value, whole, truth, as_whole, as_truth, Structure}
+use Rattle.ss_logic.specs.Terms.{Term}
+use Rattle.ss_logic.specs.Formulas.{Formula, neg}
 use Rattle.ss_logic_rules.specs.Shapes.{number, equal, at_most}
 use Rattle.ss_logic_express.specs.Express.{and_of, or_of, and_more, or_more, Meant, Says, said, less, fits_int, under}
 use Rattle.ss_logic_means.specs.Means.{standing}

@@ -11,10 +11,10 @@ use Rattle.ss_store_rules.specs.Numbers.{Outcome}
 use Rattle.ss_store_rules.specs.Changes.{owned_by}
 use Rattle.ss_store_rules.specs.Reads.{object_at, same_owner, is_pair}
 use Rattle.ss_store_rules.specs.Values as run
-use Rattle.ss_logic_stores.specs.Values.{reference, class_name, group_number, owner_pair, Thing, Heap, Value, thing, store, as_thing, as_store, Structure}
-use Rattle.ss_logic_stores.specs.Terms.{Term}
-use Rattle.ss_logic_stores.specs.Formulas.{Formula}
-use Rattle.ss_logic_stores.specs.Objects.{owner_of_thing, objects_of}
+use Rattle.ss_logic.specs.Values.{reference, class_name, group_number, owner_pair, Thing, Heap, Value, thing, store, as_thing, as_store, Structure}
+use Rattle.ss_logic.specs.Terms.{Term}
+use Rattle.ss_logic.specs.Formulas.{Formula}
+use Rattle.ss_logic.specs.Objects.{owner_of_thing, objects_of}
 use Rattle.ss_logic_rules.specs.Shapes.{class_term, owner_of, pair_of, equal}
 use Rattle.ss_logic_express.specs.Express.{Meant, Says, over_two}
 use Rattle.ss_logic_means.specs.Means.{standing}

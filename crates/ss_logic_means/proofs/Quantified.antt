@@ -12,10 +12,10 @@ use Rattle.ss_store_rules.specs.declared.Value.TheVariants as value
 use Rattle.ss_store_rules.specs.Numbers.{Outcome}
 use Rattle.ss_store_rules.specs.Reads.{as_bool}
 use Rattle.ss_store_rules.specs.Values as run
-use Rattle.ss_logic_stores.specs.declared.Sort.TheVariants as sort
-use Rattle.ss_logic_stores.specs.Values.{Value, whole, truth, thing, store, Structure}
-use Rattle.ss_logic_stores.specs.Formulas.{Formula, Forall, Exists, AreOf, neg}
-use Rattle.ss_logic_stores.proofs.Truth.{neg_true, not_both}
+use Rattle.ss_logic.specs.declared.Sort.TheVariants as sort
+use Rattle.ss_logic.specs.Values.{Value, whole, truth, thing, store, Structure}
+use Rattle.ss_logic.specs.Formulas.{Formula, Forall, Exists, AreOf, neg}
+use Rattle.ss_logic.proofs.Truth.{neg_true, not_both}
 use Rattle.ss_logic_express.specs.Express.{and_of, or_of, Meant, Says, said}
 use Rattle.ss_logic_means.proofs.Denoting.{T, M, D, All, R, says_denotes}
 use Rattle.ss_logic_means.proofs.Operations.{IsBool, Gives, bool_standing}

@@ -9,10 +9,10 @@ use Rattle.ss_core.specs.Tree.{ClassTree}
 use Rattle.ss_store_rules.specs.Numbers.{Outcome}
 use Rattle.ss_store_rules.specs.Reads.{as_bool}
 use Rattle.ss_store_rules.specs.Values as run
-use Rattle.ss_logic_stores.specs.declared.Sort.TheVariants as sort
-use Rattle.ss_logic_stores.specs.Values.{Value, whole, truth, thing, store, Structure}
-use Rattle.ss_logic_stores.specs.Formulas.{Formula, Forall}
-use Rattle.ss_logic_stores.proofs.Truth.{formula_stable}
+use Rattle.ss_logic.specs.declared.Sort.TheVariants as sort
+use Rattle.ss_logic.specs.Values.{Value, whole, truth, thing, store, Structure}
+use Rattle.ss_logic.specs.Formulas.{Formula, Forall}
+use Rattle.ss_logic.proofs.Truth.{formula_stable}
 use Rattle.ss_logic_rules.proofs.Numbers.{three_ways_true}
 use Rattle.ss_logic_express.specs.Express.{or_of, Meant, said}
 use Rattle.ss_logic_means.proofs.Denoting.{T, M, All, R}

@@ -16,12 +16,12 @@ use Rattle.ss_store_rules.specs.Reads.{object_at, field_read}
 use Rattle.ss_store_rules.specs.Changes.{is_array, element_type, field_class, field_type}
 use Rattle.ss_store_rules.specs.Good.{has_type, AreValues}
 use Rattle.ss_store_rules.specs.Values as run
-use Rattle.ss_logic_stores.specs.Values.{Thing, null, reference, class_name, group_number, owner_pair, Cells, Entry, Heap, Value, thing, whole, store, as_thing, as_store, Structure}
-use Rattle.ss_logic_stores.specs.Terms.{Term, app, sort_of_type, field_sort, has_field, cell}
-use Rattle.ss_logic_stores.specs.Terms as term
-use Rattle.ss_logic_stores.specs.Formulas.{Formula}
-use Rattle.ss_logic_stores.specs.Objects.{value_of_thing, content, elements_from, element_count, object_in, objects_of}
-use Rattle.ss_logic_stores.proofs.Tabled.{field_there}
+use Rattle.ss_logic.specs.Values.{Thing, null, reference, class_name, group_number, owner_pair, Cells, Entry, Heap, Value, thing, whole, store, as_thing, as_store, Structure}
+use Rattle.ss_logic.specs.Terms.{Term, app, sort_of_type, field_sort, has_field, cell}
+use Rattle.ss_logic.specs.Terms as term
+use Rattle.ss_logic.specs.Formulas.{Formula}
+use Rattle.ss_logic.specs.Objects.{value_of_thing, content, elements_from, element_count, object_in, objects_of}
+use Rattle.ss_logic.proofs.Tabled.{field_there}
 use Rattle.ss_logic_rules.specs.Shapes.{null_term, class_term, equal, sub_atom, allocated}
 use Rattle.ss_logic_rules.specs.Shapes as shape
 use Rattle.ss_logic_express.specs.Express.{or_of, Meant, over, mapped, not_null}

@@ -7,10 +7,10 @@ use Rattle.ss_core.specs.declared.names.Ty.{Ty}
 use Rattle.ss_core.specs.declared.names.Ty.TheVariants as ty
 use Rattle.ss_core.specs.Tree.{ClassTree}
 use Rattle.ss_store_rules.specs.Types.{plain}
-use Rattle.ss_logic_stores.specs.declared.Sort.{Sort}
-use Rattle.ss_logic_stores.specs.declared.Sort.TheVariants as sort
-use Rattle.ss_logic_stores.specs.Terms.{TypeOf, Level, Owner, Pair, Term, Bound, sort_of_type}
-use Rattle.ss_logic_stores.specs.Formulas.{Sub, Allocated, Committed, IsGroup, neg}
+use Rattle.ss_logic.specs.declared.Sort.{Sort}
+use Rattle.ss_logic.specs.declared.Sort.TheVariants as sort
+use Rattle.ss_logic.specs.Terms.{TypeOf, Level, Owner, Pair, Term, Bound, sort_of_type}
+use Rattle.ss_logic.specs.Formulas.{Sub, Allocated, Committed, IsGroup, neg}
 use Rattle.ss_logic_rules.specs.Shapes.{class_term, level_of, owner_of, pair_of, equal, sub_atom, allocated, committed, group}
 use Rattle.ss_logic_rules.specs.Shapes as shape
 use Rattle.ss_logic_express.specs.Express.{and_of, Meant, One, choices, over, Scene, state, at_entry, with_bound, meant_or_null, local_meant, element_sort, is_full, readable}

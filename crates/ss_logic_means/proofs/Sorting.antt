@@ -4,11 +4,11 @@ use Rattle.std.specs.Prelude.{unwrap_or, nat_lt}
 use Rattle.std.proofs.lemmas.Bool.{and_parts, and_from, ltb-true, lt-ltb}
 use Rattle.std.proofs.lemmas.Option.{slice_get_within}
 use Rattle.ss_core.specs.Tree.{ClassTree}
-use Rattle.ss_logic_stores.specs.declared.Sort.{Sort}
-use Rattle.ss_logic_stores.specs.declared.Sort.TheVariants as sort
-use Rattle.ss_logic_stores.specs.Terms.{Symbol, Term, Bound, App, Terms, no_terms, term_then, terms_from, app, result_sort, takes, sort_of, sorts_of, is_well_sorted, are_well_sorted}
-use Rattle.ss_logic_stores.specs.Formulas.{Predicate, Equal, Formula, Formulas, Literal, And, Or, Forall, Exists, no_formulas, formula_then, formulas_from, takes_sorts, are_bound_sorts, is_well_formed, are_well_formed, neg, neg_all}
-use Rattle.ss_logic_stores.proofs.Truth.{same_sort_refl}
+use Rattle.ss_logic.specs.declared.Sort.{Sort}
+use Rattle.ss_logic.specs.declared.Sort.TheVariants as sort
+use Rattle.ss_logic.specs.Terms.{Symbol, Term, Bound, App, Terms, no_terms, term_then, terms_from, app, result_sort, takes, sort_of, sorts_of, is_well_sorted, are_well_sorted}
+use Rattle.ss_logic.specs.Formulas.{Predicate, Equal, Formula, Formulas, Literal, And, Or, Forall, Exists, no_formulas, formula_then, formulas_from, takes_sorts, are_bound_sorts, is_well_formed, are_well_formed, neg, neg_all}
+use Rattle.ss_logic.proofs.Truth.{same_sort_refl}
 use Rattle.ss_logic_means.specs.Sorts.{HasSort, AreWellFormed}
 use Rattle.ss_logic_means.proofs.Standing.{get_old, get_found}
 

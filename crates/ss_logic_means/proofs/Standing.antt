@@ -12,8 +12,8 @@ use Rattle.ss_store_rules.specs.Numbers.{fits}
 use Rattle.ss_store_rules.specs.Good.{has_type, IsReady}
 use Rattle.ss_store_rules.specs.Values.{Setting}
 use Rattle.ss_store_rules.specs.Values as run
-use Rattle.ss_logic_stores.specs.Values.{null, Heap, Value, whole, thing, store, Structure}
-use Rattle.ss_logic_stores.specs.Terms.{Bound, argument, value_of}
+use Rattle.ss_logic.specs.Values.{null, Heap, Value, whole, thing, store, Structure}
+use Rattle.ss_logic.specs.Terms.{Bound, argument, value_of}
 use Rattle.ss_logic_express.specs.Express.{One, Scene, at_entry, with_bound, meant_or_null, local_meant}
 use Rattle.ss_logic_rules.proofs.Numbers.{fits_low, fits_high}
 use Rattle.ss_machine_typed.specs.Settings.{IsGoodSetting}

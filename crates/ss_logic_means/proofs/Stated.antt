@@ -11,11 +11,11 @@ use Rattle.ss_store_rules.specs.Locals.{reads_only}
 use Rattle.ss_store_rules.specs.Types.{is_bool, is_reference, type_of}
 use Rattle.ss_store_rules.specs.Typed.{invariant_types, is_invariant}
 use Rattle.ss_store_rules.specs.Admissible.{is_admissible, invariants}
-use Rattle.ss_logic_stores.specs.declared.Sort.{Sort}
-use Rattle.ss_logic_stores.specs.declared.Sort.TheVariants as sort
-use Rattle.ss_logic_stores.specs.Terms.{Field, Term, Bound, app, sort_of_type, same_sort, sort_of, is_well_sorted, have_sorts}
-use Rattle.ss_logic_stores.specs.Formulas.{Formula, is_well_formed, neg}
-use Rattle.ss_logic_stores.proofs.Truth.{equal_sorts}
+use Rattle.ss_logic.specs.declared.Sort.{Sort}
+use Rattle.ss_logic.specs.declared.Sort.TheVariants as sort
+use Rattle.ss_logic.specs.Terms.{Field, Term, Bound, app, sort_of_type, same_sort, sort_of, is_well_sorted, have_sorts}
+use Rattle.ss_logic.specs.Formulas.{Formula, is_well_formed, neg}
+use Rattle.ss_logic.proofs.Truth.{equal_sorts}
 use Rattle.ss_logic_rules.specs.Shapes.{null_term, class_term, level_of, owner_of, pair_of, equal, differ, sub_atom, allocated, committed, class_of_term}
 use Rattle.ss_logic_express.specs.Express.{and_of, or_of, One, choices, over, said, Scene, meant_or_null, local_meant, is_full, default_of_sort, defaults_from, owned_full, may_be_captured, met_by, subject, default_said, meant, defined, holds_formula}
 use Rattle.ss_logic_express.specs.Invariants.{invariant_scene, invariants_said, packed_invariants, invariants_at, invariants_of}

@@ -17,12 +17,12 @@ use Rattle.ss_store_rules.specs.Reads.{object_at, field_read}
 use Rattle.ss_store_rules.specs.Changes.{field_class, field_type}
 use Rattle.ss_store_rules.specs.Good.{AreValues}
 use Rattle.ss_store_rules.specs.Values as run
-use Rattle.ss_logic_stores.specs.Values.{reference, class_name, Thing, Heap, Value, thing, store, as_thing, as_store, is_allocated, Structure}
-use Rattle.ss_logic_stores.specs.Terms.{Term, app, has_field}
-use Rattle.ss_logic_stores.specs.Terms as term
-use Rattle.ss_logic_stores.specs.Formulas.{Formula, neg, is_below}
-use Rattle.ss_logic_stores.specs.Objects.{object_in, objects_of}
-use Rattle.ss_logic_stores.proofs.Tabled.{count}
+use Rattle.ss_logic.specs.Values.{reference, class_name, Thing, Heap, Value, thing, store, as_thing, as_store, is_allocated, Structure}
+use Rattle.ss_logic.specs.Terms.{Term, app, has_field}
+use Rattle.ss_logic.specs.Terms as term
+use Rattle.ss_logic.specs.Formulas.{Formula, neg, is_below}
+use Rattle.ss_logic.specs.Objects.{object_in, objects_of}
+use Rattle.ss_logic.proofs.Tabled.{count}
 use Rattle.ss_logic_rules.specs.Shapes.{class_term, level_of, equal, sub_atom, allocated, committed}
 use Rattle.ss_logic_rules.specs.Shapes as shape
 use Rattle.ss_logic_express.specs.Express.{and_of, Meant, Says, over, mapped, not_null, is_full}

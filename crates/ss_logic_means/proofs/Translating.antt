@@ -15,9 +15,9 @@ use Rattle.ss_store_rules.specs.Types.{plain, class_type, is_int, is_bool, is_re
 use Rattle.ss_store_rules.specs.Changes.{is_array}
 use Rattle.ss_store_rules.specs.Good.{AreValues}
 use Rattle.ss_store_rules.specs.Values as run
-use Rattle.ss_logic_stores.specs.Values.{Heap, Value, whole, truth, thing, store, null, Structure}
-use Rattle.ss_logic_stores.specs.Terms.{value_of}
-use Rattle.ss_logic_stores.specs.Objects.{object_in, objects_of}
+use Rattle.ss_logic.specs.Values.{Heap, Value, whole, truth, thing, store, null, Structure}
+use Rattle.ss_logic.specs.Terms.{value_of}
+use Rattle.ss_logic.specs.Objects.{object_in, objects_of}
 use Rattle.ss_logic_rules.specs.Shapes.{number, null_term}
 use Rattle.ss_logic_express.specs.Express.{truth_term, Scene, at_entry, with_bound, local_meant, element_sort, meant, defined}
 use Rattle.ss_machine_typed.specs.Settings.{IsGoodSetting}

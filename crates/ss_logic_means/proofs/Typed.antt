@@ -20,11 +20,11 @@ use Rattle.ss_store_rules.specs.Types.{is_int, is_bool, is_reference, has_class,
 use Rattle.ss_store_rules.specs.Good.{has_type, is_of_class, AreValues, IsFine, IsGood}
 use Rattle.ss_store_rules.specs.Admissible.{invariants_hold}
 use Rattle.ss_store_rules.specs.Values as run
-use Rattle.ss_logic_stores.specs.declared.Sort.{Sort}
-use Rattle.ss_logic_stores.specs.Values.{reference, Heap, Table, Structure}
-use Rattle.ss_logic_stores.specs.Terms.{sort_of_type, has_field}
-use Rattle.ss_logic_stores.specs.Objects.{object_in, objects_of}
-use Rattle.ss_logic_stores.proofs.Tabled.{there, not_there, count}
+use Rattle.ss_logic.specs.declared.Sort.{Sort}
+use Rattle.ss_logic.specs.Values.{reference, Heap, Table, Structure}
+use Rattle.ss_logic.specs.Terms.{sort_of_type, has_field}
+use Rattle.ss_logic.specs.Objects.{object_in, objects_of}
+use Rattle.ss_logic.proofs.Tabled.{there, not_there, count}
 use Rattle.ss_logic_express.specs.Express.{element_sort}
 use Rattle.ss_machine_typed.specs.Settings.{IsGoodSetting}
 use Rattle.ss_machine_typed.specs.Older.{IsOlder}

@@ -10,11 +10,11 @@ use Rattle.ss_store_rules.specs.Numbers.{Outcome}
 use Rattle.ss_store_rules.specs.Reads as reads
 use Rattle.ss_store_rules.specs.Reads.{object_at}
 use Rattle.ss_store_rules.specs.Values as run
-use Rattle.ss_logic_stores.specs.Values.{reference, class_name, group_number, owner_pair, Thing, Heap, Value, thing, store, is_group, as_thing, as_store, Structure}
-use Rattle.ss_logic_stores.specs.Terms.{Term}
-use Rattle.ss_logic_stores.specs.Formulas.{Formula, neg}
-use Rattle.ss_logic_stores.specs.Objects.{owner_of_thing, objects_of}
-use Rattle.ss_logic_stores.proofs.Tabled.{count}
+use Rattle.ss_logic.specs.Values.{reference, class_name, group_number, owner_pair, Thing, Heap, Value, thing, store, is_group, as_thing, as_store, Structure}
+use Rattle.ss_logic.specs.Terms.{Term}
+use Rattle.ss_logic.specs.Formulas.{Formula, neg}
+use Rattle.ss_logic.specs.Objects.{owner_of_thing, objects_of}
+use Rattle.ss_logic.proofs.Tabled.{count}
 use Rattle.ss_logic_rules.specs.Shapes.{owner_of, allocated, group}
 use Rattle.ss_logic_express.specs.Express.{Meant, Says, over, not_null}
 use Rattle.ss_logic_means.specs.Means.{standing}

@@ -4,8 +4,8 @@ use Rattle.ss_core.specs.declared.names.Ty.{Ty}
 use Rattle.ss_core.specs.Tree.{ClassTree, BodyTree}
 use Rattle.ss_store_rules.specs.declared.Value.{Value as ObjectValue}
 use Rattle.ss_store_rules.specs.Locals.{local_types}
-use Rattle.ss_logic_stores.specs.Values.{Structure}
-use Rattle.ss_logic_stores.specs.Terms.{Constant, Term, app, sort_of_type, constant_value}
+use Rattle.ss_logic.specs.Values.{Structure}
+use Rattle.ss_logic.specs.Terms.{Constant, Term, app, sort_of_type, constant_value}
 use Rattle.ss_logic_express.specs.Express.{One, Scene}
 use Rattle.ss_logic_means.specs.Means.{standing}
 

@@ -4,9 +4,9 @@ use Rattle.ss_core.specs.Tree.{ClassTree}
 use Rattle.ss_store_rules.specs.declared.Value.{Value as ObjectValue}
 use Rattle.ss_store_rules.specs.declared.Value.TheVariants as value
 use Rattle.ss_store_rules.specs.Numbers.{Outcome}
-use Rattle.ss_logic_stores.specs.Values.{null, reference, Value, whole, truth, thing, Structure}
-use Rattle.ss_logic_stores.specs.Terms.{value_of}
-use Rattle.ss_logic_stores.specs.Formulas.{Formula, True, AllTrue, formulas_from}
+use Rattle.ss_logic.specs.Values.{null, reference, Value, whole, truth, thing, Structure}
+use Rattle.ss_logic.specs.Terms.{value_of}
+use Rattle.ss_logic.specs.Formulas.{Formula, True, AllTrue, formulas_from}
 use Rattle.ss_logic_express.specs.Express.{Choice, Meant, choices}
 
 -- a value of a run as one of a term

@@ -10,9 +10,9 @@ use Rattle.ss_store_rules.specs.Locals.{everywhere, is_default, reads_only}
 use Rattle.ss_store_rules.specs.Types.{is_bool, is_reference, has_class, type_of}
 use Rattle.ss_store_rules.specs.Typed.{is_invariant}
 use Rattle.ss_store_rules.specs.Admissible.{invariants, AreAdmissible}
-use Rattle.ss_logic_stores.specs.Values.{Heap, Value, store, Structure}
-use Rattle.ss_logic_stores.specs.Terms.{Term, is_well_sorted, value_of}
-use Rattle.ss_logic_stores.specs.Objects.{objects_of}
+use Rattle.ss_logic.specs.Values.{Heap, Value, store, Structure}
+use Rattle.ss_logic.specs.Terms.{Term, is_well_sorted, value_of}
+use Rattle.ss_logic.specs.Objects.{objects_of}
 use Rattle.ss_logic_express.specs.Express.{Choice, choices, Scene, local_meant, subject}
 use Rattle.ss_logic_means.specs.Means.{standing, Denotes}
 

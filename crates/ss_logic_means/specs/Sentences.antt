@@ -1,8 +1,8 @@
 -- Sentences on good stores: the instances of the rules on good stores, with those of the rule on invariants.
 use Rattle.std.specs.Prelude.{◌≡◌, ℕ, List, [], ◌∷◌, Some, slice_get}
 use Rattle.ss_core.specs.Tree.{ClassTree}
-use Rattle.ss_logic_stores.specs.Terms.{Term}
-use Rattle.ss_logic_stores.specs.Formulas.{Good, Formula, atom}
+use Rattle.ss_logic.specs.Terms.{Term}
+use Rattle.ss_logic.specs.Formulas.{Good, Formula, atom}
 use Rattle.ss_logic_rules.specs.declared.GoodRule.{GoodRule}
 use Rattle.ss_logic_rules.specs.GoodRules.{good_instance_of}
 use Rattle.ss_logic_express.specs.Invariants.{invariants_of}

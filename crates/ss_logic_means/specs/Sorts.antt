@@ -2,10 +2,10 @@
 use Rattle.std.specs.Prelude.{◌≡◌, ℕ, List, [], ◌∷◌, ◌++◌, length, Bool, true, Some, slice_get}
 use Rattle.ss_core.specs.declared.names.Ty.{Ty}
 use Rattle.ss_core.specs.Tree.{ClassTree}
-use Rattle.ss_logic_stores.specs.declared.Sort.{Sort}
-use Rattle.ss_logic_stores.specs.declared.Sort.TheVariants as sort
-use Rattle.ss_logic_stores.specs.Terms.{Term, sort_of_type, sort_of, is_well_sorted}
-use Rattle.ss_logic_stores.specs.Formulas.{Formula, is_well_formed}
+use Rattle.ss_logic.specs.declared.Sort.{Sort}
+use Rattle.ss_logic.specs.declared.Sort.TheVariants as sort
+use Rattle.ss_logic.specs.Terms.{Term, sort_of_type, sort_of, is_well_sorted}
+use Rattle.ss_logic.specs.Formulas.{Formula, is_well_formed}
 use Rattle.ss_logic_express.specs.Express.{Choice, Meant, choices, Scene, local_meant}
 
 -- a well sorted term of this sort, where the bound names have these

@@ -11,13 +11,13 @@ use Rattle.ss_core.specs.declared.names.Ty.TheVariants as ty
 use Rattle.ss_core.specs.Tree.{ClassTree}
 use Rattle.ss_core.specs.Chain.{sub, NoAlso}
 use Rattle.ss_store_rules.specs.Changes.{field_class, field_mark, field_type}
-use Rattle.ss_logic_stores.specs.declared.Sort.{Sort}
-use Rattle.ss_logic_stores.specs.declared.Sort.TheVariants as sort
-use Rattle.ss_logic_stores.specs.Values.{Thing, null, reference, class_name, Heap, whole, thing, sort_of_value, as_thing, as_whole, as_store, is_allocated, Structure}
-use Rattle.ss_logic_stores.specs.Terms.{Element, Length, Term, no_terms, term_then, app, sort_of_type, has_field, have_sorts, cell}
-use Rattle.ss_logic_stores.specs.Formulas.{Good, Formula, Literal, is_below, True, Hold, neg}
-use Rattle.ss_logic_stores.specs.Objects.{is_array_of_references, element_class, IsGoodStore}
-use Rattle.ss_logic_stores.proofs.Truth.{AreOf-values, formula_stable}
+use Rattle.ss_logic.specs.declared.Sort.{Sort}
+use Rattle.ss_logic.specs.declared.Sort.TheVariants as sort
+use Rattle.ss_logic.specs.Values.{Thing, null, reference, class_name, Heap, whole, thing, sort_of_value, as_thing, as_whole, as_store, is_allocated, Structure}
+use Rattle.ss_logic.specs.Terms.{Element, Length, Term, no_terms, term_then, app, sort_of_type, has_field, have_sorts, cell}
+use Rattle.ss_logic.specs.Formulas.{Good, Formula, Literal, is_below, True, Hold, neg}
+use Rattle.ss_logic.specs.Objects.{is_array_of_references, element_class, IsGoodStore}
+use Rattle.ss_logic.proofs.Truth.{AreOf-values, formula_stable}
 use Rattle.ss_logic_rules.specs.declared.GoodRule.{GoodRule}
 use Rattle.ss_logic_rules.specs.declared.GoodRule.TheVariants as rule
 use Rattle.ss_logic_rules.specs.Shapes.{when, number, null_term, class_term, level_of, owner_of, type_of, pair_of, equal, differ, at_most, sub_atom, allocated, committed, ready, group, given, natural_of, class_of_term}

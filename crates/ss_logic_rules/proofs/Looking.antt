@@ -6,14 +6,14 @@ use Rattle.std.proofs.lemmas.Bool.Decides.{Decides-int_eq}
 use Rattle.std.proofs.lemmas.Bool.{false≢true, true≢false, and_parts, or_cases, eqb-true, eq-eqb, cases_eq, ltb-true, lt-ltb, false_from_ne_true}
 use Rattle.ss_core.specs.Tree.{ClassTree}
 use Rattle.ss_core.specs.Chain.{above}
-use Rattle.ss_logic_stores.specs.declared.Sort.{Sort}
-use Rattle.ss_logic_stores.specs.declared.Sort.TheVariants as sort
-use Rattle.ss_logic_stores.specs.Values.{Thing, null, reference, class_name, owner_pair, same_thing, is_group, Cells, Entry, Heap, Value, whole, truth, thing, store, sort_of_value, as_thing, as_whole, as_store, no_cells, is_allocated, Structure}
-use Rattle.ss_logic_stores.specs.Changes.{put_cell, with_new, new_object, new_array, moved, shared_owner, joined_owner}
-use Rattle.ss_logic_stores.specs.Terms.{Symbol, Field, Element, Set, Put, Unpack, Pack, Capture, Join, New, NewArray, MakeReady, Term, Bound, App, Terms, no_terms, term_then, term_list, app, field_sort, has_field, same_sort, same_sorts, is_store_sort, takes, sort_of, is_well_sorted, are_well_sorted, have_sorts, cell}
-use Rattle.ss_logic_stores.specs.Formulas.{Formula, AreOf, Hold, neg}
-use Rattle.ss_logic_stores.proofs.Stable.{equal_things, same_thing_refl}
-use Rattle.ss_logic_stores.proofs.Truth.{value_sorted, values, AllClosed, AreOf-values, equal_sorts, type_sort}
+use Rattle.ss_logic.specs.declared.Sort.{Sort}
+use Rattle.ss_logic.specs.declared.Sort.TheVariants as sort
+use Rattle.ss_logic.specs.Values.{Thing, null, reference, class_name, owner_pair, same_thing, is_group, Cells, Entry, Heap, Value, whole, truth, thing, store, sort_of_value, as_thing, as_whole, as_store, no_cells, is_allocated, Structure}
+use Rattle.ss_logic.specs.Changes.{put_cell, with_new, new_object, new_array, moved, shared_owner, joined_owner}
+use Rattle.ss_logic.specs.Terms.{Symbol, Field, Element, Set, Put, Unpack, Pack, Capture, Join, New, NewArray, MakeReady, Term, Bound, App, Terms, no_terms, term_then, term_list, app, field_sort, has_field, same_sort, same_sorts, is_store_sort, takes, sort_of, is_well_sorted, are_well_sorted, have_sorts, cell}
+use Rattle.ss_logic.specs.Formulas.{Formula, AreOf, Hold, neg}
+use Rattle.ss_logic.proofs.Stable.{equal_things, same_thing_refl}
+use Rattle.ss_logic.proofs.Truth.{value_sorted, values, AllClosed, AreOf-values, equal_sorts, type_sort}
 use Rattle.ss_logic_rules.specs.Shapes.{null_term, class_term, level_of, owner_of, pair_of, next_of, equal, differ, allocated, committed, ready, group, given, all_of, where_equal, where_different}
 use Rattle.ss_logic_rules.specs.Reads.{Look, FieldLook, ElementLook, LevelLook, OwnerLook, NextLook, AllocatedLook, CommittedLook, ReadyLook, LengthLook, is_look, look_at, same_over, over_set, over_put, leveled, owned_at, over_unpack, over_pack, captured_owners, over_capture, joined_owners, kept_owners, over_join, default_term, over_new, over_ready, over_change, reads_a_store, read_over, read_moved, is_constant_store, without_last, last_of, look_from, read_instance}
 use Rattle.ss_logic_rules.proofs.Options.{mapped_some, if_some, when_some, and_then_some}

@@ -5,13 +5,13 @@ use Rattle.std.proofs.lemmas.Bool.{false≢true, true≢false, and_parts, ltb-tr
 use Rattle.ss_core.specs.Tree.{ClassTree}
 use Rattle.ss_core.specs.Chain.{above, sub, below, IsChain, NoAlso}
 use Rattle.ss_core.proofs.Chains.{sub_self, below_self, sub-below, sub_if_below, below_trans, below_up, below_fork}
-use Rattle.ss_logic_stores.specs.declared.Sort.TheVariants as sort
-use Rattle.ss_logic_stores.specs.Values.{Thing, reference, class_name, group_number, owner_pair, is_group, Entry, Value, whole, truth, thing, store, sort_of_value, as_thing, as_whole, as_store, as_truth, Structure}
-use Rattle.ss_logic_stores.specs.Terms.{ClassName, Add, Multiply, Quotient, Remainder, TypeOf, Level, Pair, New, NewArray, Term, App, no_terms, term_then, app, same_sorts, takes, sort_of, is_well_sorted, are_well_sorted, have_sorts}
-use Rattle.ss_logic_stores.specs.Formulas.{Formula, AreOf, is_below, neg}
-use Rattle.ss_logic_stores.proofs.Stable.{same_thing_refl}
-use Rattle.ss_logic_stores.proofs.Truth.{AreOf-values, AllClosed-sorts, values}
-use Rattle.ss_logic_stores.proofs.Numbered.{store_numbered}
+use Rattle.ss_logic.specs.declared.Sort.TheVariants as sort
+use Rattle.ss_logic.specs.Values.{Thing, reference, class_name, group_number, owner_pair, is_group, Entry, Value, whole, truth, thing, store, sort_of_value, as_thing, as_whole, as_store, as_truth, Structure}
+use Rattle.ss_logic.specs.Terms.{ClassName, Add, Multiply, Quotient, Remainder, TypeOf, Level, Pair, New, NewArray, Term, App, no_terms, term_then, app, same_sorts, takes, sort_of, is_well_sorted, are_well_sorted, have_sorts}
+use Rattle.ss_logic.specs.Formulas.{Formula, AreOf, is_below, neg}
+use Rattle.ss_logic.proofs.Stable.{same_thing_refl}
+use Rattle.ss_logic.proofs.Truth.{AreOf-values, AllClosed-sorts, values}
+use Rattle.ss_logic.proofs.Numbered.{store_numbered}
 use Rattle.ss_logic_rules.specs.declared.RuleName.{RuleName}
 use Rattle.ss_logic_rules.specs.declared.RuleName.TheVariants as rule
 use Rattle.ss_logic_rules.specs.Shapes.{when, number, null_term, class_term, owner_of, next_of, equal, differ, at_most, sub_atom, allocated, given, where_equal, literal_of, natural_of, class_of_term}

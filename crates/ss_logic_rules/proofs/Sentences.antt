@@ -2,11 +2,11 @@
 use Rattle.std.proofs.Common.{◌≡◌, List, [], ◌∷◌, ◌++◌, Bool, true, false, map, refl, ap}
 use Rattle.std.specs.Prelude.{if◌then◌else◌}
 use Rattle.ss_core.specs.Tree.{ClassTree}
-use Rattle.ss_logic_stores.specs.Values.{Value, Structure}
-use Rattle.ss_logic_stores.specs.Terms.{Term, value_of}
-use Rattle.ss_logic_stores.specs.Formulas.{Formula, formulas_from, True, AllTrue, NoneTrue, Hold, neg}
-use Rattle.ss_logic_stores.specs.Equal.{same_term, equal_terms}
-use Rattle.ss_logic_stores.proofs.Truth.{not_both, neg_true, not_neg_true}
+use Rattle.ss_logic.specs.Values.{Value, Structure}
+use Rattle.ss_logic.specs.Terms.{Term, value_of}
+use Rattle.ss_logic.specs.Formulas.{Formula, formulas_from, True, AllTrue, NoneTrue, Hold, neg}
+use Rattle.ss_logic.specs.Equal.{same_term, equal_terms}
+use Rattle.ss_logic.proofs.Truth.{not_both, neg_true, not_neg_true}
 use Rattle.ss_logic_rules.specs.Shapes.{equal, differ, given, all_of, where_equal, where_different}
 use Rattle.ss_logic_rules.specs.Reads.{Look, Looked, TermLooked, AtomLooked, look_at, agreeing, same_over}
 

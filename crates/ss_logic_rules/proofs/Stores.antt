@@ -19,11 +19,11 @@ use Rattle.ss_store_rules.specs.Numbers.{fits}
 use Rattle.ss_store_rules.specs.Changes.{is_array, field_class, field_mark, field_type, owned_by}
 use Rattle.ss_store_rules.specs.Good.{has_type, is_of_class, is_non_null, IsFine}
 use Rattle.ss_store_rules.specs.Admissible.{invariants_hold}
-use Rattle.ss_logic_stores.specs.Values.{Thing, null, reference, class_name, group_number, owner_pair, is_group, Heap, Table, is_allocated}
-use Rattle.ss_logic_stores.specs.Terms.{has_field}
-use Rattle.ss_logic_stores.specs.Objects.{value_of_thing, content, owner_of_thing, object_in, objects_of, is_array_of_references, element_class, is_element_of, IsGoodStore}
-use Rattle.ss_logic_stores.specs.Formulas.{is_below}
-use Rattle.ss_logic_stores.proofs.Tabled.{there, not_there, count, field_there}
+use Rattle.ss_logic.specs.Values.{Thing, null, reference, class_name, group_number, owner_pair, is_group, Heap, Table, is_allocated}
+use Rattle.ss_logic.specs.Terms.{has_field}
+use Rattle.ss_logic.specs.Objects.{value_of_thing, content, owner_of_thing, object_in, objects_of, is_array_of_references, element_class, is_element_of, IsGoodStore}
+use Rattle.ss_logic.specs.Formulas.{is_below}
+use Rattle.ss_logic.proofs.Tabled.{there, not_there, count, field_there}
 use Rattle.ss_logic_rules.specs.Good.{arrays_from, arrays_of_references}
 
 -- ---- owners

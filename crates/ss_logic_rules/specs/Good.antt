@@ -6,11 +6,11 @@ use Rattle.ss_core.specs.declared.names.Ty.{Ty}
 use Rattle.ss_core.specs.declared.names.Ty.TheVariants as ty
 use Rattle.ss_core.specs.Tree.{ClassTree}
 use Rattle.ss_store_rules.specs.Changes.{field_class, field_mark, field_type}
-use Rattle.ss_logic_stores.specs.declared.Sort.{Sort}
-use Rattle.ss_logic_stores.specs.declared.Sort.TheVariants as sort
-use Rattle.ss_logic_stores.specs.Terms.{Field, Element, Length, Term, app, has_field, have_sorts}
-use Rattle.ss_logic_stores.specs.Formulas.{Formula, neg}
-use Rattle.ss_logic_stores.specs.Objects.{element_class}
+use Rattle.ss_logic.specs.declared.Sort.{Sort}
+use Rattle.ss_logic.specs.declared.Sort.TheVariants as sort
+use Rattle.ss_logic.specs.Terms.{Field, Element, Length, Term, app, has_field, have_sorts}
+use Rattle.ss_logic.specs.Formulas.{Formula, neg}
+use Rattle.ss_logic.specs.Objects.{element_class}
 use Rattle.ss_logic_rules.specs.Shapes.{when, number, null_term, class_term, level_of, owner_of, type_of, pair_of, equal, differ, at_most, sub_atom, allocated, committed, ready, group, given, all_of, natural_of, class_of_term}
 use Rattle.ss_logic_rules.specs.Reads.{Look, FieldLook, ElementLook, LevelLook, LengthLook, is_look, look_from}
 

@@ -1,9 +1,9 @@
 -- The instances of the rules on good stores.
 use Rattle.std.specs.Prelude.{List, [], ◌∷◌, Option, None, if◌then◌else◌}
 use Rattle.ss_core.specs.Tree.{ClassTree}
-use Rattle.ss_logic_stores.specs.declared.Sort.TheVariants as sort
-use Rattle.ss_logic_stores.specs.Terms.{Term, have_sorts}
-use Rattle.ss_logic_stores.specs.Formulas.{Formula}
+use Rattle.ss_logic.specs.declared.Sort.TheVariants as sort
+use Rattle.ss_logic.specs.Terms.{Term, have_sorts}
+use Rattle.ss_logic.specs.Formulas.{Formula}
 use Rattle.ss_logic_rules.specs.declared.GoodRule.{GoodRule}
 use Rattle.ss_logic_rules.specs.declared.GoodRule.TheVariants as rule
 use Rattle.ss_logic_rules.specs.Good.{full_of, owned_of, marks_of, typed_of, ready_of}

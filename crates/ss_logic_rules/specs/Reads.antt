@@ -2,10 +2,10 @@
 use Rattle.std.specs.Prelude.{ℕ, pos, List, [], ◌∷◌, ◌++◌, Bool, true, false, ◌==◌, ◌&&◌, not, Option, Some, None, option_map, option_and_then, if◌then◌else◌}
 use Rattle.ss_core.specs.Tree.{ClassTree}
 use Rattle.ss_core.specs.Chain.{above}
-use Rattle.ss_logic_stores.specs.declared.Sort.{Sort}
-use Rattle.ss_logic_stores.specs.declared.Sort.TheVariants as sort
-use Rattle.ss_logic_stores.specs.Terms.{Symbol, Fixed, Constant, Field, Element, Set, Put, Unpack, Pack, Capture, Join, New, NewArray, MakeReady, Term, App, no_terms, term_list, app, field_sort, has_field, same_sort, sort_of, is_well_sorted, have_sorts}
-use Rattle.ss_logic_stores.specs.Formulas.{Formula, neg}
+use Rattle.ss_logic.specs.declared.Sort.{Sort}
+use Rattle.ss_logic.specs.declared.Sort.TheVariants as sort
+use Rattle.ss_logic.specs.Terms.{Symbol, Fixed, Constant, Field, Element, Set, Put, Unpack, Pack, Capture, Join, New, NewArray, MakeReady, Term, App, no_terms, term_list, app, field_sort, has_field, same_sort, sort_of, is_well_sorted, have_sorts}
+use Rattle.ss_logic.specs.Formulas.{Formula, neg}
 use Rattle.ss_logic_rules.specs.Shapes.{when, number, null_term, class_term, level_of, owner_of, pair_of, next_of, equal, differ, allocated, committed, ready, group, given, all_of, where_equal, where_different, natural_of}
 
 -- A read, without its store: of a field, an element, the level or the owner of an object, of the next reference, of whether an object is

@@ -3,9 +3,9 @@ use Rattle.std.specs.Prelude.{ℕ, ℤ, pos, negsuc, ◌-◌, neg_ℤ, List, [],
 use Rattle.std.specs.List.{list_any}
 use Rattle.ss_core.specs.Tree.{ClassTree}
 use Rattle.ss_core.specs.Chain.{above, sub}
-use Rattle.ss_logic_stores.specs.declared.Sort.TheVariants as sort
-use Rattle.ss_logic_stores.specs.Terms.{Fixed, ClassName, Add, Multiply, Quotient, Remainder, TypeOf, Level, Pair, New, NewArray, Term, App, no_terms, term_then, app, have_sorts}
-use Rattle.ss_logic_stores.specs.Formulas.{Formula, Or, formulas_from, neg}
+use Rattle.ss_logic.specs.declared.Sort.TheVariants as sort
+use Rattle.ss_logic.specs.Terms.{Fixed, ClassName, Add, Multiply, Quotient, Remainder, TypeOf, Level, Pair, New, NewArray, Term, App, no_terms, term_then, app, have_sorts}
+use Rattle.ss_logic.specs.Formulas.{Formula, Or, formulas_from, neg}
 use Rattle.ss_logic_rules.specs.declared.RuleName.{RuleName}
 use Rattle.ss_logic_rules.specs.declared.RuleName.TheVariants as rule
 use Rattle.ss_logic_rules.specs.Shapes.{when, number, null_term, class_term, owner_of, next_of, equal, differ, at_most, sub_atom, allocated, group, given, all_of, where_equal, literal_of, natural_of, class_of_term}

@@ -1,8 +1,8 @@
 -- The shapes of instances: sentences with premises, and all of several sentences.
 use Rattle.std.specs.Prelude.{ℕ, ℤ, pos, List, [], ◌∷◌, ◌++◌, map, Bool, true, false, Option, Some, None, if◌then◌else◌}
-use Rattle.ss_logic_stores.specs.Terms.{Number, Null, ClassName, TypeOf, Level, Owner, Pair, Next, Term, App, no_terms, app}
-use Rattle.ss_logic_stores.specs.Formulas.{Equal, AtMost, Sub, Allocated, Committed, Ready, IsGroup, Formula, And, Or, formulas_from, atom, no_atom, neg}
-use Rattle.ss_logic_stores.specs.Equal.{same_term}
+use Rattle.ss_logic.specs.Terms.{Number, Null, ClassName, TypeOf, Level, Owner, Pair, Next, Term, App, no_terms, app}
+use Rattle.ss_logic.specs.Formulas.{Equal, AtMost, Sub, Allocated, Committed, Ready, IsGroup, Formula, And, Or, formulas_from, atom, no_atom, neg}
+use Rattle.ss_logic.specs.Equal.{same_term}
 
 -- the value where the test holds
 abbrev pub when : {A : Type 0} → Bool → A → Option A

@@ -3,9 +3,9 @@
 ghost use Rattle.std.specs.Prelude.{◌≡◌, List, [], ◌∷◌, Some};
 ghost use Rattle.ss_core.specs.Tree.{ClassTree};
 ghost use Rattle.ss_core.specs.Chain.{IsChain, NoAlso};
-ghost use Rattle.ss_logic_stores.specs.Values.{Structure};
-ghost use Rattle.ss_logic_stores.specs.Terms.{Term};
-ghost use Rattle.ss_logic_stores.specs.Formulas.{Good, Formula, True, atom};
+ghost use Rattle.ss_logic.specs.Values.{Structure};
+ghost use Rattle.ss_logic.specs.Terms.{Term};
+ghost use Rattle.ss_logic.specs.Formulas.{Good, Formula, True, atom};
 ghost use Rattle.ss_logic_rules.specs.declared.RuleName.{RuleName};
 ghost use Rattle.ss_logic_rules.specs.declared.GoodRule.{GoodRule};
 ghost use Rattle.ss_logic_rules.specs.Rules.{instance_of};

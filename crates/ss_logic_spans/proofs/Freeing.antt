@@ -21,12 +21,12 @@ use Rattle.ss_store_rules.specs.Locals.{types_of, argument_types}
 use Rattle.ss_store_rules.specs.Typed.{is_class_type, is_local}
 use Rattle.ss_machine_rules.specs.Frame as frame
 use Rattle.ss_machine_rules.specs.Frame.{Span, captured_among, captured_values, is_in_group_with, local_at, this_of, is_owned_by_new, refers_to, is_outside}
-use Rattle.ss_logic_stores.specs.declared.Sort.TheVariants as sort
-use Rattle.ss_logic_stores.specs.Values.{Thing, null, reference, class_name, group_number, owner_pair, is_group, Heap, as_thing, as_store, IsNumbered, Structure}
-use Rattle.ss_logic_stores.specs.Terms.{Term, value_of}
-use Rattle.ss_logic_stores.specs.Objects.{owner_of_thing, object_in, objects_of}
-use Rattle.ss_logic_stores.proofs.Tabled.{count}
-use Rattle.ss_logic_stores.proofs.Numbered.{store_numbered}
+use Rattle.ss_logic.specs.declared.Sort.TheVariants as sort
+use Rattle.ss_logic.specs.Values.{Thing, null, reference, class_name, group_number, owner_pair, is_group, Heap, as_thing, as_store, IsNumbered, Structure}
+use Rattle.ss_logic.specs.Terms.{Term, value_of}
+use Rattle.ss_logic.specs.Objects.{owner_of_thing, object_in, objects_of}
+use Rattle.ss_logic.proofs.Tabled.{count}
+use Rattle.ss_logic.proofs.Numbered.{store_numbered}
 use Rattle.ss_logic_express.specs.Express.{Meant, One, Either, Says, meant_or_null, local_meant}
 use Rattle.ss_logic_frames.specs.Frames.{OwnerTerm}
 use Rattle.ss_logic_frames.specs.Means.{Each, thing_of, store_of, IsBound, IsInside}

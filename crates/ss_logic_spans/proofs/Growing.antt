@@ -10,11 +10,11 @@ use Rattle.ss_store_rules.specs.Reads as reads
 use Rattle.ss_store_rules.specs.Changes.{element_type}
 use Rattle.ss_store_rules.specs.Good.{IsGood}
 use Rattle.ss_store_rules.specs.Admissible.{invariants_hold}
-use Rattle.ss_logic_stores.specs.declared.Sort.TheVariants as sort
-use Rattle.ss_logic_stores.specs.Values.{Thing, null, reference, class_name, group_number, owner_pair, is_group, Entry, Heap, Table, as_store, is_allocated, Structure}
-use Rattle.ss_logic_stores.specs.Terms.{Term, have_sorts}
-use Rattle.ss_logic_stores.specs.Objects.{elements_from, element_count, owner_of_thing, object_in, objects_of}
-use Rattle.ss_logic_stores.proofs.Tabled.{there, count}
+use Rattle.ss_logic.specs.declared.Sort.TheVariants as sort
+use Rattle.ss_logic.specs.Values.{Thing, null, reference, class_name, group_number, owner_pair, is_group, Entry, Heap, Table, as_store, is_allocated, Structure}
+use Rattle.ss_logic.specs.Terms.{Term, have_sorts}
+use Rattle.ss_logic.specs.Objects.{elements_from, element_count, owner_of_thing, object_in, objects_of}
+use Rattle.ss_logic.proofs.Tabled.{there, count}
 use Rattle.ss_logic_frames.specs.Means.{IsGrown, store_of}
 use Rattle.ss_logic_means.specs.Scenes.{IsStoreTerm}
 use Rattle.ss_logic_means.proofs.Typed.{good_owners, still_allocated}

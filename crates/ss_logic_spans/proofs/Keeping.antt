@@ -13,13 +13,13 @@ use Rattle.ss_store_rules.specs.Reads as reads
 use Rattle.ss_store_rules.specs.Changes.{is_array, element_type, field_class, field_type, new_fields}
 use Rattle.ss_machine_rules.specs.Frame as frame
 use Rattle.ss_machine_rules.specs.Frame.{Span, is_outside, is_old, is_kept}
-use Rattle.ss_logic_stores.specs.declared.Sort.{Sort}
-use Rattle.ss_logic_stores.specs.declared.Sort.TheVariants as sort
-use Rattle.ss_logic_stores.specs.Values.{Thing, null, reference, class_name, group_number, owner_pair, Cells, Entry, Heap, whole, truth, thing, as_thing, as_whole, as_truth, as_store, is_allocated, Structure}
-use Rattle.ss_logic_stores.specs.Terms.{sort_of_type, field_sort, has_field, same_sort, cell}
-use Rattle.ss_logic_stores.specs.Objects.{content, element_count, owner_of_thing, object_in, objects_of}
-use Rattle.ss_logic_stores.proofs.Tabled.{there, count, field_there}
-use Rattle.ss_logic_stores.proofs.Truth.{equal_sorts}
+use Rattle.ss_logic.specs.declared.Sort.{Sort}
+use Rattle.ss_logic.specs.declared.Sort.TheVariants as sort
+use Rattle.ss_logic.specs.Values.{Thing, null, reference, class_name, group_number, owner_pair, Cells, Entry, Heap, whole, truth, thing, as_thing, as_whole, as_truth, as_store, is_allocated, Structure}
+use Rattle.ss_logic.specs.Terms.{sort_of_type, field_sort, has_field, same_sort, cell}
+use Rattle.ss_logic.specs.Objects.{content, element_count, owner_of_thing, object_in, objects_of}
+use Rattle.ss_logic.proofs.Tabled.{there, count, field_there}
+use Rattle.ss_logic.proofs.Truth.{equal_sorts}
 use Rattle.ss_logic_frames.specs.Frames.{CallTerms}
 use Rattle.ss_logic_frames.specs.Means.{Each, store_of, NamesNoField, NamesNoLevel, NamesNoElement, IsBound, IsInside, IsKept}
 use Rattle.ss_logic_means.specs.Means.{standing}

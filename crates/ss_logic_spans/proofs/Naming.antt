@@ -14,9 +14,9 @@ use Rattle.ss_store_rules.specs.Types.{is_reference, type_of}
 use Rattle.ss_machine_rules.specs.declared.Named.{Named}
 use Rattle.ss_machine_rules.specs.Frame as frame
 use Rattle.ss_machine_rules.specs.Frame.{defined_value, named_of, subject_of, named_by}
-use Rattle.ss_logic_stores.specs.Values.{reference, Heap, truth, thing, as_thing, Structure}
-use Rattle.ss_logic_stores.specs.Terms.{Term, value_of}
-use Rattle.ss_logic_stores.specs.Formulas.{Formula, True, AllTrue, formulas_from}
+use Rattle.ss_logic.specs.Values.{reference, Heap, truth, thing, as_thing, Structure}
+use Rattle.ss_logic.specs.Terms.{Term, value_of}
+use Rattle.ss_logic.specs.Formulas.{Formula, True, AllTrue, formulas_from}
 use Rattle.ss_logic_express.specs.Express.{and_of, Choice, Meant, One, Either, Says, not_null, Scene, meant, defined}
 use Rattle.ss_logic_frames.specs.Frames.{NamedTerm}
 use Rattle.ss_logic_frames.specs.Means.{Each, IsNamed, NamesNoField, NamesNoLevel, NamesNoElement}

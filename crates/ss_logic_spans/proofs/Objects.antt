@@ -16,9 +16,9 @@ use Rattle.ss_store_rules.specs.Store.{Slot, slot_value, default_value}
 use Rattle.ss_store_rules.specs.Reads as reads
 use Rattle.ss_store_rules.specs.Reads.{same_value, same_owner, is_pair}
 use Rattle.ss_store_rules.specs.Changes.{slots_from, new_fields, field_type, element_type, owned_by}
-use Rattle.ss_logic_stores.specs.Values.{Thing, reference, class_name, group_number, owner_pair, is_group, Cells, Entry, as_thing, as_whole, as_truth}
-use Rattle.ss_logic_stores.specs.Terms.{sort_of_type, has_field, cell}
-use Rattle.ss_logic_stores.specs.Objects.{content, filled, elements_from, owner_of_thing}
+use Rattle.ss_logic.specs.Values.{Thing, reference, class_name, group_number, owner_pair, is_group, Cells, Entry, as_thing, as_whole, as_truth}
+use Rattle.ss_logic.specs.Terms.{sort_of_type, has_field, cell}
+use Rattle.ss_logic.specs.Objects.{content, filled, elements_from, owner_of_thing}
 use Rattle.ss_logic_means.proofs.Owners.{pair_back}
 
 -- ---- values

@@ -10,10 +10,10 @@ use Rattle.ss_store_rules.specs.Values as run
 use Rattle.ss_store_rules.specs.Locals.{types_of, argument_types, local_types, result_number}
 use Rattle.ss_machine_rules.specs.States.{put}
 use Rattle.ss_machine_typed.specs.Settings.{IsGoodSetting}
-use Rattle.ss_logic_stores.specs.Values.{Structure}
-use Rattle.ss_logic_stores.specs.Terms.{Term, sort_of_type, same_sort, sort_of, is_well_sorted, have_sorts, value_of}
-use Rattle.ss_logic_stores.specs.Formulas.{is_well_formed}
-use Rattle.ss_logic_stores.proofs.Truth.{closed_value, equal_sorts}
+use Rattle.ss_logic.specs.Values.{Structure}
+use Rattle.ss_logic.specs.Terms.{Term, sort_of_type, same_sort, sort_of, is_well_sorted, have_sorts, value_of}
+use Rattle.ss_logic.specs.Formulas.{is_well_formed}
+use Rattle.ss_logic.proofs.Truth.{closed_value, equal_sorts}
 use Rattle.ss_logic_express.specs.Express.{Meant, One, Either, Says, choices, Scene, meant_or_null, subject, holds_formula}
 use Rattle.ss_logic_means.specs.Means.{standing, Means}
 use Rattle.ss_logic_means.specs.Scenes.{setting_of, Stands, HaveValues, Stay, is_stated, Settled}

@@ -12,12 +12,12 @@ use Rattle.ss_store_rules.specs.Locals.{types_of, local_types}
 use Rattle.ss_store_rules.specs.Types.{is_reference, type_of}
 use Rattle.ss_store_rules.specs.Typed.{is_class_type, is_local}
 use Rattle.ss_machine_rules.specs.Frame.{subject_of}
-use Rattle.ss_logic_stores.specs.declared.Sort.{Sort}
-use Rattle.ss_logic_stores.specs.declared.Sort.TheVariants as sort
-use Rattle.ss_logic_stores.specs.Values.{Structure}
-use Rattle.ss_logic_stores.specs.Terms.{Term, same_sort, sort_of, is_well_sorted, have_sorts}
-use Rattle.ss_logic_stores.specs.Formulas.{Formula, is_well_formed}
-use Rattle.ss_logic_stores.proofs.Truth.{same_sort_refl}
+use Rattle.ss_logic.specs.declared.Sort.{Sort}
+use Rattle.ss_logic.specs.declared.Sort.TheVariants as sort
+use Rattle.ss_logic.specs.Values.{Structure}
+use Rattle.ss_logic.specs.Terms.{Term, same_sort, sort_of, is_well_sorted, have_sorts}
+use Rattle.ss_logic.specs.Formulas.{Formula, is_well_formed}
+use Rattle.ss_logic.proofs.Truth.{same_sort_refl}
 use Rattle.ss_logic_express.specs.Express.{and_of, Choice, Meant, One, Either, Says, choices, Scene, local_meant, meant, defined, not_null}
 use Rattle.ss_logic_frames.specs.Frames.{OwnerTerm}
 use Rattle.ss_logic_frames.specs.Sorted.{is_object, is_name, AreSorted}

@@ -16,12 +16,12 @@ use Rattle.ss_machine_rules.specs.States.{locals_at_entry}
 use Rattle.ss_machine_typed.specs.Settings.{IsGoodSetting}
 use Rattle.ss_machine_typed.proofs.Older.{locals-older}
 use Rattle.ss_machine_typed.proofs.First.{entered_locals}
-use Rattle.ss_logic_stores.specs.declared.Sort.{Sort}
-use Rattle.ss_logic_stores.specs.declared.Sort.TheVariants as sort
-use Rattle.ss_logic_stores.specs.Values.{Heap, Value, Structure, sort_of_value}
-use Rattle.ss_logic_stores.specs.Terms.{Term, sort_of_type}
-use Rattle.ss_logic_stores.specs.Objects.{objects_of}
-use Rattle.ss_logic_stores.proofs.Truth.{closed_value, value_sorted}
+use Rattle.ss_logic.specs.declared.Sort.{Sort}
+use Rattle.ss_logic.specs.declared.Sort.TheVariants as sort
+use Rattle.ss_logic.specs.Values.{Heap, Value, Structure, sort_of_value}
+use Rattle.ss_logic.specs.Terms.{Term, sort_of_type}
+use Rattle.ss_logic.specs.Objects.{objects_of}
+use Rattle.ss_logic.proofs.Truth.{closed_value, value_sorted}
 use Rattle.ss_logic_express.specs.Express.{Meant, One, choices, Scene, default_of_sort, element_sort, meant_or_null, meant, defined}
 use Rattle.ss_logic_means.specs.Means.{standing, Denotes, Reads}
 use Rattle.ss_logic_means.specs.Scenes.{setting_of, Stands, IsStoreTerm, has_no_default}

@@ -9,9 +9,9 @@ use Rattle.ss_store_rules.specs.States.{AreGoodLocals}
 use Rattle.ss_store_rules.specs.Values.{Setting, setting}
 use Rattle.ss_store_rules.specs.Locals.{types_of, local_types}
 use Rattle.ss_machine_typed.specs.Older.{IsOlder}
-use Rattle.ss_logic_stores.specs.Values.{Heap, Structure}
-use Rattle.ss_logic_stores.specs.Terms.{Term}
-use Rattle.ss_logic_stores.specs.Objects.{objects_of}
+use Rattle.ss_logic.specs.Values.{Heap, Structure}
+use Rattle.ss_logic.specs.Terms.{Term}
+use Rattle.ss_logic.specs.Objects.{objects_of}
 use Rattle.ss_logic_express.specs.Express.{Meant, Scene}
 use Rattle.ss_logic_means.specs.Scenes.{IsStoreTerm}
 use Rattle.ss_vcgen_heaps.specs.Contracts.{defaults_meant, contract_scene}

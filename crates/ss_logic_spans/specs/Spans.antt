@@ -14,11 +14,11 @@ use Rattle.ss_machine_rules.specs.Frame.{Span, subject_of}
 use Rattle.ss_machine_rules.specs.States.{locals_at_entry}
 use Rattle.ss_machine_typed.specs.Older.{IsOlder}
 use Rattle.ss_machine_typed.specs.Settings.{AreGoodArguments}
-use Rattle.ss_logic_stores.specs.declared.Sort.{Sort}
-use Rattle.ss_logic_stores.specs.declared.Sort.TheVariants as sort
-use Rattle.ss_logic_stores.specs.Values.{Heap, Value, Structure}
-use Rattle.ss_logic_stores.specs.Terms.{Term, sort_of_type, value_of}
-use Rattle.ss_logic_stores.specs.Objects.{objects_of}
+use Rattle.ss_logic.specs.declared.Sort.{Sort}
+use Rattle.ss_logic.specs.declared.Sort.TheVariants as sort
+use Rattle.ss_logic.specs.Values.{Heap, Value, Structure}
+use Rattle.ss_logic.specs.Terms.{Term, sort_of_type, value_of}
+use Rattle.ss_logic.specs.Objects.{objects_of}
 use Rattle.ss_logic_express.specs.Express.{Meant, One, Either, Says, choices}
 use Rattle.ss_logic_frames.specs.Frames.{CallTerms}
 use Rattle.ss_logic_means.specs.Means.{standing, Denotes}

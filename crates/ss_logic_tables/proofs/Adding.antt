@@ -16,10 +16,10 @@ use Rattle.ss_store_rules.specs.Changes.{is_array, element_type, field_type, typ
 use Rattle.ss_store_rules.specs.Changes as store
 use Rattle.ss_store_rules.specs.Good.{numbers}
 use Rattle.ss_store_rules.proofs.Objects.{new_get, either_get, length-pushed}
-use Rattle.ss_logic_stores.specs.Values.{Thing, reference, class_name, group_number, owner_pair, Entry, Heap, Table, no_cells, IsNumbered}
-use Rattle.ss_logic_stores.specs.Changes.{with_new, new_object, new_array}
-use Rattle.ss_logic_stores.specs.Objects.{content, owner_of_thing, filled, elements_from, element_count, object_from, object_in, objects_from, objects_of, is_element_of}
-use Rattle.ss_logic_stores.proofs.Tabled.{count}
+use Rattle.ss_logic.specs.Values.{Thing, reference, class_name, group_number, owner_pair, Entry, Heap, Table, no_cells, IsNumbered}
+use Rattle.ss_logic.specs.Changes.{with_new, new_object, new_array}
+use Rattle.ss_logic.specs.Objects.{content, owner_of_thing, filled, elements_from, element_count, object_from, object_in, objects_from, objects_of, is_element_of}
+use Rattle.ss_logic.proofs.Tabled.{count}
 use Rattle.ss_sound_outcomes.specs.Points.{Fits}
 use Rattle.ss_logic_tables.specs.Tabled.{IsStoreOf}
 use Rattle.ss_logic_tables.proofs.Listing.{by_test, if_yes, if_no, objects_same, same_object, object_with}

@@ -13,8 +13,8 @@ use Rattle.ss_store_rules.specs.declared.Owner.TheVariants as owner
 use Rattle.ss_store_rules.specs.Store.{Slot, Object, slot_value}
 use Rattle.ss_store_rules.specs.Changes.{is_array, element_type, field_type, new_fields}
 use Rattle.ss_store_rules.specs.Good.{has_type, numbers, AreValues}
-use Rattle.ss_logic_stores.specs.Values.{reference, Cells, Entry, Heap, Table}
-use Rattle.ss_logic_stores.specs.Objects.{value_of_thing, content, owner_of_thing, filled, elements_from, element_count, object_from, object_in, objects_from}
+use Rattle.ss_logic.specs.Values.{reference, Cells, Entry, Heap, Table}
+use Rattle.ss_logic.specs.Objects.{value_of_thing, content, owner_of_thing, filled, elements_from, element_count, object_from, object_in, objects_from}
 use Rattle.ss_sound_outcomes.specs.Points.{Fits}
 use Rattle.ss_logic_tables.specs.Tabled.{whole_or, truth_or, thing_or, overlaid, thing_of_owner, element_value, entry_of}
 use Rattle.ss_logic_tables.proofs.Slots.{AreApart, heads, tails, some_none, fields_apart}

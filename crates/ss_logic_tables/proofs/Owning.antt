@@ -16,13 +16,13 @@ use Rattle.ss_store_rules.specs.Reads.{is_pair, is_in_group, same_owner}
 use Rattle.ss_store_rules.specs.Reads as reads
 use Rattle.ss_store_rules.specs.Changes as store
 use Rattle.ss_store_rules.proofs.Owners.{check_ok, at_object_ok}
-use Rattle.ss_logic_stores.specs.declared.Sort.TheVariants as sort
-use Rattle.ss_logic_stores.specs.Values.{Thing, null, reference, class_name, group_number, owner_pair, is_group, same_thing, Entry, Heap, Table, as_thing, IsNumbered, Structure}
-use Rattle.ss_logic_stores.specs.Changes.{changed, moved, regrouped, rejoined, joined, captured, with_new, new_object, new_array}
-use Rattle.ss_logic_stores.specs.Terms.{Constant, Capture, Join, New, NewArray, Term, app}
-use Rattle.ss_logic_stores.specs.Objects.{owner_of_thing, object_from, objects_of}
-use Rattle.ss_logic_stores.proofs.Changing.{objects_changed, regrouped_same}
-use Rattle.ss_logic_stores.proofs.Numbered.{store_numbered}
+use Rattle.ss_logic.specs.declared.Sort.TheVariants as sort
+use Rattle.ss_logic.specs.Values.{Thing, null, reference, class_name, group_number, owner_pair, is_group, same_thing, Entry, Heap, Table, as_thing, IsNumbered, Structure}
+use Rattle.ss_logic.specs.Changes.{changed, moved, regrouped, rejoined, joined, captured, with_new, new_object, new_array}
+use Rattle.ss_logic.specs.Terms.{Constant, Capture, Join, New, NewArray, Term, app}
+use Rattle.ss_logic.specs.Objects.{owner_of_thing, object_from, objects_of}
+use Rattle.ss_logic.proofs.Changing.{objects_changed, regrouped_same}
+use Rattle.ss_logic.proofs.Numbered.{store_numbered}
 use Rattle.ss_logic_means.specs.Means.{standing}
 use Rattle.ss_logic_tables.specs.Owned.{owned_heap}
 use Rattle.ss_logic_tables.proofs.Listing.{by_test, if_yes, if_no}

@@ -9,9 +9,9 @@ use Rattle.ss_store_rules.specs.declared.Value.{Value as ObjectValue}
 use Rattle.ss_store_rules.specs.Store.{Slot, Object, slot_value, field_value}
 use Rattle.ss_store_rules.specs.Changes.{is_array, element_type, field_type, owned_by, new_fields}
 use Rattle.ss_store_rules.specs.Good.{has_type}
-use Rattle.ss_logic_stores.specs.Values.{Thing, reference, class_name, group_number, owner_pair, Entry, Heap, Table}
-use Rattle.ss_logic_stores.specs.Objects.{content, owner_of_thing, filled, elements_from, element_count, object_in}
-use Rattle.ss_logic_stores.proofs.Tabled.{count}
+use Rattle.ss_logic.specs.Values.{Thing, reference, class_name, group_number, owner_pair, Entry, Heap, Table}
+use Rattle.ss_logic.specs.Objects.{content, owner_of_thing, filled, elements_from, element_count, object_in}
+use Rattle.ss_logic.proofs.Tabled.{count}
 use Rattle.ss_logic_means.specs.Means.{standing}
 use Rattle.ss_logic_means.proofs.Reading.{content_stands}
 use Rattle.ss_sound_outcomes.specs.Points.{Fits}

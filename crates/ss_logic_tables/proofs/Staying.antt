@@ -13,10 +13,10 @@ use Rattle.ss_store_rules.specs.Numbers.{fits}
 use Rattle.ss_store_rules.specs.Changes.{is_array, element_type}
 use Rattle.ss_store_rules.specs.Good.{is_of_class, has_type, IsGood}
 use Rattle.ss_store_rules.specs.Admissible.{invariants_hold}
-use Rattle.ss_logic_stores.specs.Values.{Thing, null, reference, class_name, group_number, owner_pair, Entry, Heap, Table, is_allocated, IsNumbered}
-use Rattle.ss_logic_stores.specs.Changes.{changed}
-use Rattle.ss_logic_stores.specs.Objects.{object_in, objects_of, is_array_of_references, element_class, is_element_of, IsGoodStore}
-use Rattle.ss_logic_stores.proofs.Tabled.{there, count}
+use Rattle.ss_logic.specs.Values.{Thing, null, reference, class_name, group_number, owner_pair, Entry, Heap, Table, is_allocated, IsNumbered}
+use Rattle.ss_logic.specs.Changes.{changed}
+use Rattle.ss_logic.specs.Objects.{object_in, objects_of, is_array_of_references, element_class, is_element_of, IsGoodStore}
+use Rattle.ss_logic.proofs.Tabled.{there, count}
 use Rattle.ss_logic_tables.proofs.Slots.{some_same}
 
 pub and_front : (a b : Bool) → (a && b) ≡ true → a ≡ true

@@ -16,12 +16,12 @@ use Rattle.ss_store_rules.specs.Numbers.{fits}
 use Rattle.ss_store_rules.specs.Changes.{is_array, element_type, field_class}
 use Rattle.ss_store_rules.specs.Good.{has_type}
 use Rattle.ss_machine_typed.specs.Older.{IsOlder}
-use Rattle.ss_logic_stores.specs.declared.Sort.{Sort}
-use Rattle.ss_logic_stores.specs.declared.Sort.TheVariants as sort
-use Rattle.ss_logic_stores.specs.Values.{Thing, null, reference, class_name, group_number, owner_pair, Cells, Entry, Heap, Table, no_entry, no_heap, is_allocated, IsNumbered}
-use Rattle.ss_logic_stores.specs.Terms.{field_sort, sort_of_type, same_sort, cell}
-use Rattle.ss_logic_stores.specs.Objects.{object_from, object_in, objects_of, is_element_of, IsGoodStore}
-use Rattle.ss_logic_stores.proofs.Tabled.{there, not_there}
+use Rattle.ss_logic.specs.declared.Sort.{Sort}
+use Rattle.ss_logic.specs.declared.Sort.TheVariants as sort
+use Rattle.ss_logic.specs.Values.{Thing, null, reference, class_name, group_number, owner_pair, Cells, Entry, Heap, Table, no_entry, no_heap, is_allocated, IsNumbered}
+use Rattle.ss_logic.specs.Terms.{field_sort, sort_of_type, same_sort, cell}
+use Rattle.ss_logic.specs.Objects.{object_from, object_in, objects_of, is_element_of, IsGoodStore}
+use Rattle.ss_logic.proofs.Tabled.{there, not_there}
 use Rattle.ss_sound_outcomes.specs.Points.{Fits}
 use Rattle.ss_logic_tables.specs.Tabled.{IsStoreOf, whole_or, thing_or, overlaid, thing_of_owner, element_value, entry_of, entry_or_none, entry_before, tabled}
 use Rattle.ss_logic_tables.specs.Elsewhere.{is_index, has_element, SameElsewhere}

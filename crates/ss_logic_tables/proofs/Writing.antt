@@ -22,13 +22,13 @@ use Rattle.ss_store_rules.specs.Good.{has_type, Invariants}
 use Rattle.ss_store_rules.proofs.Owners.{check_ok, on_object_ok}
 use Rattle.ss_store_rules.proofs.Objects.{becomes}
 use Rattle.ss_machine_rules.specs.Steps.{with_ready}
-use Rattle.ss_logic_stores.specs.Values.{Thing, null, reference, same_thing, Entry, Heap, Table, Value, as_thing, sort_of_value}
-use Rattle.ss_logic_stores.specs.Changes.{put_cell, changed, field_set, element_put, unpacked, packed, made_ready}
-use Rattle.ss_logic_stores.specs.Terms.{sort_of_type}
-use Rattle.ss_logic_stores.specs.Objects.{object_value, objects_of, is_element_of}
-use Rattle.ss_logic_stores.proofs.Changing.{unpacked_same, packed_same, ready_same}
-use Rattle.ss_logic_stores.proofs.Writing.{written_same}
-use Rattle.ss_logic_stores.proofs.Elements.{put_same}
+use Rattle.ss_logic.specs.Values.{Thing, null, reference, same_thing, Entry, Heap, Table, Value, as_thing, sort_of_value}
+use Rattle.ss_logic.specs.Changes.{put_cell, changed, field_set, element_put, unpacked, packed, made_ready}
+use Rattle.ss_logic.specs.Terms.{sort_of_type}
+use Rattle.ss_logic.specs.Objects.{object_value, objects_of, is_element_of}
+use Rattle.ss_logic.proofs.Changing.{unpacked_same, packed_same, ready_same}
+use Rattle.ss_logic.proofs.Writing.{written_same}
+use Rattle.ss_logic.proofs.Elements.{put_same}
 use Rattle.ss_logic_means.specs.Means.{standing}
 use Rattle.ss_logic_tables.specs.Tabled.{IsStoreOf}
 use Rattle.ss_logic_tables.specs.Owned.{owned_heap}

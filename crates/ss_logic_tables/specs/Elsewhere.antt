@@ -3,9 +3,9 @@ use Rattle.std.specs.Prelude.{◌≡◌, ℕ, ℤ, pos, negsuc, List, Bool, true
 use Rattle.ss_core.specs.Tree.{ClassTree}
 use Rattle.ss_core.specs.Chain.{below}
 use Rattle.ss_store_rules.specs.Changes.{is_array, element_type, field_class}
-use Rattle.ss_logic_stores.specs.declared.Sort.{Sort}
-use Rattle.ss_logic_stores.specs.Values.{Thing, Heap, Table, is_allocated}
-use Rattle.ss_logic_stores.specs.Terms.{field_sort, sort_of_type, same_sort, cell}
+use Rattle.ss_logic.specs.declared.Sort.{Sort}
+use Rattle.ss_logic.specs.Values.{Thing, Heap, Table, is_allocated}
+use Rattle.ss_logic.specs.Terms.{field_sort, sort_of_type, same_sort, cell}
 
 -- an index below n
 abbrev pub is_index : ℕ → ℤ → Bool

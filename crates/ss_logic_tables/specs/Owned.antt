@@ -2,8 +2,8 @@
 use Rattle.std.specs.Prelude.{ℕ}
 use Rattle.ss_core.specs.declared.names.Mark.{Mark}
 use Rattle.ss_core.specs.declared.names.Mark.TheVariants as mark
-use Rattle.ss_logic_stores.specs.Values.{Thing, Heap}
-use Rattle.ss_logic_stores.specs.Changes.{captured, joined}
+use Rattle.ss_logic.specs.Values.{Thing, Heap}
+use Rattle.ss_logic.specs.Changes.{captured, joined}
 
 -- where a field with this mark, which the class t declares, is to refer from o to e
 abbrev pub owned_heap : Mark → Heap → Thing → ℕ → Thing → Heap

@@ -5,8 +5,8 @@ use Rattle.ss_core.specs.Tree.{ClassTree}
 use Rattle.ss_store_rules.specs.declared.Value.{Value as ObjectValue}
 use Rattle.ss_store_rules.specs.Store.{Object, field_value}
 use Rattle.ss_store_rules.specs.Changes.{is_array, element_type, field_type}
-use Rattle.ss_logic_stores.specs.Values.{reference, Heap, Table}
-use Rattle.ss_logic_stores.specs.Terms.{field_sort, sort_of_type, cell}
+use Rattle.ss_logic.specs.Values.{reference, Heap, Table}
+use Rattle.ss_logic.specs.Terms.{field_sort, sort_of_type, cell}
 use Rattle.ss_logic_means.specs.Means.{standing}
 use Rattle.ss_logic_tables.specs.Tabled.{thing_of_owner}
 

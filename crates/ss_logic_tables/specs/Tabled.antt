@@ -6,8 +6,8 @@ use Rattle.ss_store_rules.specs.declared.Value.TheVariants as value
 use Rattle.ss_store_rules.specs.declared.Owner.{Owner}
 use Rattle.ss_store_rules.specs.declared.Owner.TheVariants as owner
 use Rattle.ss_store_rules.specs.Store.{Object, field_value}
-use Rattle.ss_logic_stores.specs.Values.{Thing, null, reference, class_name, group_number, owner_pair, Cells, Entry, Heap, Table, no_entry, is_allocated, IsNumbered}
-use Rattle.ss_logic_stores.specs.Objects.{objects_of, IsGoodStore}
+use Rattle.ss_logic.specs.Values.{Thing, null, reference, class_name, group_number, owner_pair, Cells, Entry, Heap, Table, no_entry, is_allocated, IsNumbered}
+use Rattle.ss_logic.specs.Objects.{objects_of, IsGoodStore}
 
 -- The heap is good, it is numbered, and these are its objects.
 pub record IsStoreOf (cs : List ClassTree) (table : Table) (h : Heap) (s : List Object) : Type 0 where

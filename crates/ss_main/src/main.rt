@@ -49,9 +49,13 @@ fn of_source(
         }
         Status::Failed { kind, place } => failed_message(alloc, file, source, *place, *kind),
         Status::Stopped { place } => stopped_message(alloc, file, source, *place),
-        Status::Unproved { countered } => {
+        Status::Unproved { countered, .. } => {
             let verdict = str::from_utf8(verdict).unwrap_or("");
             verdict_messages(alloc, file, source, verdict, countered)
+        }
+        Status::Undecided { .. } => {
+            let verdict = str::from_utf8(verdict).unwrap_or("");
+            verdict_messages(alloc, file, source, verdict, &[])
         }
         _ => Ok(String::new(alloc)),
     }

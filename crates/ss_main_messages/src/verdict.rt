@@ -7,11 +7,12 @@ use ss_main_values::model_texts;
 use ss_search::Countered;
 use std::alloc::{AllocError, Global};
 
-// A line of a verdict: the kind of a check that isn't shown to hold, and where it stands.
+// A line of a verdict: the kind of a check that isn't shown to hold, where it stands, and what is said behind it.
 #[derive(Clone, Copy, Debug, PartialEq, Eq)]
 struct Unproved<'a> {
     kind: &'a str,
     place: Place,
+    behind: &'a str,
 }
 
 // The place of a line and a column with a colon between them.
@@ -23,12 +24,28 @@ fn read_place(text: &str) -> Option<Place> {
     })
 }
 
-// The line `not proved: KIND at LINE:COLUMN in CLASS.NAME`.
-fn read_unproved(line: &str) -> Option<Unproved<'_>> {
-    let (kind, behind) = line.strip_prefix("not proved: ")?.split_once(" at ")?;
-    let (place, _) = behind.split_once(" in ")?;
+// The line `PREFIX: KIND at LINE:COLUMN in CLASS.NAME`, with what is said behind it.
+fn read_line<'a>(line: &'a str, prefix: &str) -> Option<Unproved<'a>> {
+    let (kind, behind) = line.strip_prefix(prefix)?.split_once(" at ")?;
+    let (place, behind) = behind.split_once(" in ")?;
     let place = read_place(place)?;
-    Some(Unproved { kind, place })
+    Some(Unproved {
+        kind,
+        place,
+        behind,
+    })
+}
+
+// Adds which limit the obligation passed.
+fn push_limit(text: &mut String, behind: &str) -> Result<(), AllocError> {
+    match behind.split_once(", ") {
+        Some((_, limit)) => {
+            text.push_str("    this isn't decided: ")?;
+            text.push_str(limit)?;
+            text.push_str("\n")
+        }
+        None => Ok(()),
+    }
 }
 
 // The message of a check that isn't shown to hold.
@@ -65,11 +82,15 @@ fn with_values(
     let mut text = String::new(alloc);
     let mut number: usize = 0;
     for line in verdict.lines() {
-        if let Some(unproved) = read_unproved(line) {
+        if let Some(unproved) = read_line(line, "not proved: ") {
             let message = unproved_message(alloc, file, source, &unproved)?;
             text.push_str(message.as_str())?;
             push_values(&mut text, values.get(number))?;
             number = number.saturating_add(1);
+        } else if let Some(undecided) = read_line(line, "undecided: ") {
+            let message = unproved_message(alloc, file, source, &undecided)?;
+            text.push_str(message.as_str())?;
+            push_limit(&mut text, undecided.behind)?;
         }
     }
     Ok(text)

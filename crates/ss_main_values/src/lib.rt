@@ -1,7 +1,6 @@
 //! The values that models give to the locals of a program, as texts for a person.
 #![tactic(auto)]
 
-mod program;
 mod texts;
 
 pub use texts::model_texts;

@@ -32,6 +32,18 @@ kind_name kind.PeerOwner = codes "PeerOwner"
 abbrev pub place_text : Place → List ℕ
 place_text at = decimal at.line ++ codes ":" ++ decimal at.column
 
--- the line of an obligation that wasn't proved
+-- a check, by its kind, its place, its class and its body
+abbrev pub check_text : Kind → Place → List ℕ → List ℕ → List ℕ
+check_text k at class body = kind_name k ++ codes " at " ++ place_text at ++ codes " in " ++ class ++ codes "." ++ body
+
+-- the line of an obligation that a model refutes
 abbrev pub not_proved_line : Kind → Place → List ℕ → List ℕ → List ℕ
-not_proved_line k at class body = codes "not proved: " ++ kind_name k ++ codes " at " ++ place_text at ++ codes " in " ++ class ++ codes "." ++ body ++ 10 ∷ []
+not_proved_line k at class body = codes "not proved: " ++ check_text k at class body ++ 10 ∷ []
+
+-- which limit was passed, and a line end
+abbrev pub limit_text : ℕ → List ℕ
+limit_text limit = codes ", more than " ++ decimal limit ++ codes " instances" ++ 10 ∷ []
+
+-- the line of an obligation whose ground form has more formulas than the limit
+abbrev pub undecided_line : Kind → Place → List ℕ → List ℕ → ℕ → List ℕ
+undecided_line k at class body limit = codes "undecided: " ++ check_text k at class body ++ limit_text limit

@@ -1,32 +1,45 @@
 -- The text of a verdict.
-use Rattle.std.specs.Prelude.{ℕ, List, [], ◌∷◌, ◌++◌, Option, Some, None, slice_get}
-use Rattle.ss_second_core.specs.Tree.{BodyTree, CoreTree, class_name}
-use Rattle.ss_vcgen_rules.specs.Obligations.{Obligation}
-use Rattle.ss_search.specs.declared.model.Countered.{Countered}
-use Rattle.ss_report.specs.Texts.{not_proved_line}
+use Rattle.std.specs.Prelude.{ℕ, ◌+◌, List, [], ◌∷◌, ◌++◌, Bool, true, false, ◌==◌, Option, Some, None, slice_get, if◌then◌else◌}
+use Rattle.std.specs.List.{list_any}
+use Rattle.ss_core.specs.Tree.{BodyTree, CoreTree}
+use Rattle.ss_report_core.specs.Names.{declared_name}
+use Rattle.ss_vcgen_heaps.specs.Positions.{Obligation}
+use Rattle.ss_search.specs.declared.answers.Countered.{Countered}
+use Rattle.ss_search.specs.declared.answers.Undecided.{Undecided}
+use Rattle.ss_search.specs.declared.answers.Budget.{Budget}
+use Rattle.ss_search.specs.declared.answers.Budget.TheVariants.{Instances}
+use Rattle.ss_report.specs.Texts.{not_proved_line, undecided_line}
 
--- a text, or nothing
-abbrev pub or_nothing : Option (List ℕ) → List ℕ
-or_nothing None = []
-or_nothing (Some text) = text
+-- ---- what is listed, by the number of the obligation
+
+abbrev pub is_countered : List Countered → ℕ → Bool
+is_countered cs k = list_any (λ c. c.obligation == k) cs
+
+abbrev pub budget_of : List Undecided → ℕ → Option Budget
+budget_of [] k = None
+budget_of (u ∷ us) k = if u.obligation == k then Some u.cause else budget_of us k
+
+-- ---- lines
 
 abbrev pub class_of_body : CoreTree → Option BodyTree → List ℕ
 class_of_body c None = []
-class_of_body c (Some b) = or_nothing (class_name c b.class)
+class_of_body c (Some b) = declared_name c.classes b.class
 
 abbrev pub name_of_body : Option BodyTree → List ℕ
 name_of_body None = []
 name_of_body (Some b) = b.name
 
--- the line of an obligation
-abbrev pub line_of : CoreTree → Obligation → List ℕ
-line_of c o = not_proved_line o.kind o.place (class_of_body c (slice_get c.bodies o.body)) (name_of_body (slice_get c.bodies o.body))
+-- the line of an obligation that a model refutes, or that passed a budget; nothing of another
+abbrev pub line_of : CoreTree → Obligation → Bool → Option Budget → List ℕ
+line_of c o true over = not_proved_line o.kind o.place (class_of_body c (slice_get c.bodies o.body)) (name_of_body (slice_get c.bodies o.body))
+line_of c o false (Some (Instances limit)) = undecided_line o.kind o.place (class_of_body c (slice_get c.bodies o.body)) (name_of_body (slice_get c.bodies o.body)) limit
+line_of c o false None = []
 
-abbrev pub line_at : CoreTree → Option Obligation → List ℕ
-line_at c None = []
-line_at c (Some o) = line_of c o
+-- the lines of obligations that are numbered from k
+abbrev pub lines_from : CoreTree → List Countered → List Undecided → ℕ → List Obligation → List ℕ
+lines_from c cs us k [] = []
+lines_from c cs us k (o ∷ os) = line_of c o (is_countered cs k) (budget_of us k) ++ lines_from c cs us (k + 1) os
 
--- a line for each listed obligation, in their order
-abbrev pub verdict_text : CoreTree → List Obligation → List Countered → List ℕ
-verdict_text c os [] = []
-verdict_text c os (listed ∷ others) = line_at c (slice_get os listed.obligation) ++ verdict_text c os others
+-- a line for each listed obligation, in order of number
+abbrev pub verdict_text : CoreTree → List Obligation → List Countered → List Undecided → List ℕ
+verdict_text c os cs us = lines_from c cs us 0 os

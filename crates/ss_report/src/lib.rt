@@ -6,5 +6,5 @@ mod texts;
 mod verdict;
 
 pub use status::{Status, status_line};
-pub use texts::{kind_name, not_proved};
+pub use texts::kind_name;
 pub use verdict::verdict_text;

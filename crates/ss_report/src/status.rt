@@ -5,7 +5,7 @@ ghost use Rattle.ss_report.specs.Status.{failed_text, refused_text, stopped_text
 
 use crate::texts::{kind_name, place_text};
 use ss_core::{Kind, Place};
-use ss_search::Countered;
+use ss_search::{Countered, Undecided};
 use std::alloc::{AllocError, Global};
 
 /// How a run of the program ends.
@@ -13,25 +13,40 @@ use std::alloc::{AllocError, Global};
 pub enum Status {
     /// The command did its work: the program was verified, and where it was run, its run is done.
     Ended,
-    /// These obligations aren't proved, each with a model that refutes its ground form.
-    Unproved { countered: Vec<Countered> },
+    /// A model refutes the ground form of each of the first obligations, of which there is one at least; the second passed a budget.
+    Unproved {
+        countered: Vec<Countered>,
+        undecided: Vec<Undecided>,
+    },
     /// The words aren't those of a command.
     BadWords,
     /// The file couldn't be read.
     ReadFault,
     /// The source breaks a rule at a place.
-    SourceRefused { rule: u16, place: Place },
+    SourceRefused {
+        rule: u16,
+        place: Place,
+    },
     /// The output failed.
     WriteFault,
     Memory,
+    /// No obligation is known to be refuted, but these passed a budget.
+    Undecided {
+        undecided: Vec<Undecided>,
+    },
     /// The program doesn't admit the input: the conditions at the entry of its Main don't hold of it.
     NotAdmitted,
     /// The run isn't done within the steps that it has.
     StepsSpent,
     /// A check of the run of a program that wasn't verified failed.
-    Failed { kind: Kind, place: Place },
+    Failed {
+        kind: Kind,
+        place: Place,
+    },
     /// The run stopped at an assumption that is false.
-    Stopped { place: Place },
+    Stopped {
+        place: Place,
+    },
 }
 
 impl Status {
@@ -49,6 +64,7 @@ impl Status {
             Status::SourceRefused { .. } => 4,
             Status::WriteFault => 5,
             Status::Memory => 6,
+            Status::Undecided { .. } => 7,
             Status::NotAdmitted => 8,
             Status::StepsSpent => 9,
             Status::Failed { .. } => 10,
@@ -97,6 +113,7 @@ pub fn status_line(alloc: Global, status: &Status) -> Result<String, AllocError>
         Status::SourceRefused { rule, place } => refused_line(alloc, *rule, *place),
         Status::WriteFault => String::from_str(alloc, "write fault"),
         Status::Memory => String::from_str(alloc, "out of memory"),
+        Status::Undecided { .. } => String::from_str(alloc, "undecided"),
         Status::NotAdmitted => String::from_str(alloc, "input not admitted"),
         Status::StepsSpent => String::from_str(alloc, "steps spent"),
         Status::Failed { kind, place } => failed_line(alloc, *kind, *place),

@@ -1,7 +1,7 @@
 // The text of a verdict.
 
-ghost use Rattle.std.specs.Prelude.{◌≡◌, IfOk, string_bytes};
-ghost use Rattle.ss_report.specs.Texts.{kind_name as kind_words, not_proved_line, place_text as place_words};
+ghost use Rattle.std.specs.Prelude.{◌≡◌, ◌++◌, IfOk, OnOk, string_bytes};
+ghost use Rattle.ss_report.specs.Texts.{kind_name as kind_words, check_text, limit_text as limit_words, not_proved_line, undecided_line, place_text as place_words};
 
 use ss_core::{Kind, Place};
 use std::alloc::{AllocError, Global};
@@ -36,26 +36,72 @@ pub fn kind_name(kind: Kind) -> &'static str
     }
 }
 
-/// The line of an obligation that wasn't proved: `not proved: KIND at LINE:COLUMN in CLASS.NAME` and a line end.
-pub fn not_proved(
+// Adds a check: `KIND at LINE:COLUMN in CLASS.NAME`.
+fn push_check(
     alloc: Global,
+    text: &mut String,
     kind: Kind,
     place: Place,
     class: &str,
     body: &str,
-) -> Result<String, AllocError>
-    ensures { IfOk result (λ line. string_bytes line ≡ not_proved_line kind place class.now body.now) }
+) -> Result<(), AllocError>
+    ensures { OnOk result (string_bytes text.new ≡ string_bytes text.old ++ check_text kind place class.now body.now) }
 {
-    let mut line = String::from_str(alloc, "not proved: ")?;
-    line.push_str(kind_name(kind))?;
-    line.push_str(" at ")?;
-    line.push_str(&place_text(alloc, place)?)?;
-    line.push_str(" in ")?;
-    line.push_str(class)?;
-    line.push_str(".")?;
-    line.push_str(body)?;
-    line.push_str("\n")?;
-    Ok(line)
+    text.push_str(kind_name(kind))?;
+    text.push_str(" at ")?;
+    text.push_str(&place_text(alloc, place)?)?;
+    text.push_str(" in ")?;
+    text.push_str(class)?;
+    text.push_str(".")?;
+    text.push_str(body)?;
+    Ok(())
+}
+
+/// Adds the line of an obligation that a model refutes: `not proved: KIND at LINE:COLUMN in CLASS.NAME` and a line end.
+pub(crate) fn push_not_proved(
+    alloc: Global,
+    text: &mut String,
+    kind: Kind,
+    place: Place,
+    class: &str,
+    body: &str,
+) -> Result<(), AllocError>
+    ensures { OnOk result (string_bytes text.new ≡ string_bytes text.old ++ not_proved_line kind place class.now body.now) }
+{
+    text.push_str("not proved: ")?;
+    push_check(alloc, text, kind, place, class, body)?;
+    text.push_str("\n")?;
+    Ok(())
+}
+
+// Which limit was passed, and a line end.
+fn limit_text(alloc: Global, limit: u32) -> Result<String, AllocError>
+    ensures { IfOk result (λ text. string_bytes text ≡ limit_words limit) }
+{
+    let mut text = String::from_str(alloc, ", more than ")?;
+    text.push_str(&limit.to_string(alloc)?)?;
+    text.push_str(" instances")?;
+    text.push_str("\n")?;
+    Ok(text)
+}
+
+/// Adds the line of an obligation whose ground form has more formulas than the limit: `undecided: KIND at LINE:COLUMN in CLASS.NAME, more than
+/// LIMIT instances` and a line end.
+pub(crate) fn push_undecided(
+    alloc: Global,
+    text: &mut String,
+    kind: Kind,
+    place: Place,
+    class: &str,
+    body: &str,
+    limit: u32,
+) -> Result<(), AllocError>
+    ensures { OnOk result (string_bytes text.new ≡ string_bytes text.old ++ undecided_line kind place class.now body.now limit) }
+{
+    text.push_str("undecided: ")?;
+    push_check(alloc, text, kind, place, class, body)?;
+    text.push_str(&limit_text(alloc, limit)?)?;
+    Ok(())
 }
 
 /// The line and the column of a place, with a colon between them.

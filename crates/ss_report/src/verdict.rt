@@ -1,53 +1,36 @@
 // The text of a verdict.
 
-ghost use Rattle.std.specs.Prelude.{◌≡◌, ◌++◌, ◌-◌, ◌/◌, List, None, if◌then◌else◌, IfOk, map, slice_get, string_bytes};
+ghost use Rattle.std.specs.Prelude.{◌≡◌, ◌+◌, ◌<◌, ◌++◌, ℕ, List, IfOk, OnOk, string_bytes, slice_get};
+ghost use Rattle.ss_core.specs.View as view;
 ghost use Rattle.ss_terms.specs.declared.forms.FormulaId.{FormulaId};
 ghost use Rattle.ss_terms.specs.Forms.{Forms};
-ghost use Rattle.ss_second_core.specs.View.{core, body};
-ghost use Rattle.ss_second_core.specs.Tree.{CoreTree, is_class_number};
-ghost use Rattle.ss_vcgen.specs.Built.{trees, obligation_in};
-ghost use Rattle.ss_report.specs.Verdict.{verdict_text as verdict_of, line_of, line_at, or_nothing, class_of_body, name_of_body};
+ghost use Rattle.ss_vcgen_builder.specs.Builder.{obligation_at, obligations_at};
+ghost use Rattle.ss_vcgen.specs.Built.{trees};
+ghost use Rattle.ss_search.specs.Listed.{countered_numbers, undecided_numbers, AreRisingFrom};
+ghost use Rattle.ss_report.specs.Verdict.{verdict_text as verdict_of, line_of, is_countered, budget_of, class_of_body, name_of_body};
 
-use crate::texts::not_proved;
-use ss_core::BodyId;
-use ss_search::Countered;
-use ss_second_core::{Body, Core};
+use crate::texts::{push_not_proved, push_undecided};
+use ss_core::{BodyId, Core};
+use ss_search::{Budget, Countered, Undecided};
 use ss_vcgen::{Obligation, Obligations};
 use std::alloc::{AllocError, Global};
 
-// Whether a number is that of a declared class.
-fn is_class_number(class: u16) -> bool
-    ensures { result ≡ is_class_number class }
-{
-    class >= 4 && (class - 4) % 2 == 0
-}
-
-// The name of the declared class of this number, or nothing where there is none.
-fn declared_name(names: &[String], class: u16) -> &str
-    ensures { result.now ≡ or_nothing (if is_class_number class then slice_get (map string_bytes names.now) ((class - 4) / 2) else None) }
-{
-    if !is_class_number(class) {
-        return "";
-    }
-    match names.get((class as usize - 4) / 2) {
-        Some(name) => name.as_str(),
-        None => "",
-    }
-}
-
 // The name of a body's class, or nothing where there is none.
 fn class_name(program: &Core, id: BodyId) -> &str
-    ensures { result.now ≡ class_of_body (core program.now) (slice_get (core program.now).bodies id.0) }
+    ensures { result.now ≡ class_of_body (view.core program.now) (slice_get (view.core program.now).bodies id.0) }
 {
-    match program.bodies.get(id.0 as usize) {
-        Some(found) => declared_name(&program.classes.names, found.class.0),
+    let Some(found) = program.bodies.get(id.0 as usize) else {
+        return "";
+    };
+    match program.classes.declared(found.class) {
+        Some(class) => class.name.as_str(),
         None => "",
     }
 }
 
 // The name of a body, or nothing where there is none.
 fn body_name(program: &Core, id: BodyId) -> &str
-    ensures { result.now ≡ name_of_body (slice_get (core program.now).bodies id.0) }
+    ensures { result.now ≡ name_of_body (slice_get (view.core program.now).bodies id.0) }
 {
     match program.bodies.get(id.0 as usize) {
         Some(found) => found.name.as_str(),
@@ -55,53 +38,106 @@ fn body_name(program: &Core, id: BodyId) -> &str
     }
 }
 
-// The line of an obligation.
-fn line(alloc: Global, program: &Core, obligation: &Obligation) -> Result<String, AllocError>
-    ensures { (b : Forms) (trail : List FormulaId) → IfOk result (λ line. string_bytes line ≡ line_of (core program.now) (obligation_in b trail obligation.now)) }
+// Adds the line of an obligation: whether a model refutes it, and which budget it passed.
+fn push_line(
+    alloc: Global,
+    text: &mut String,
+    program: &Core,
+    obligation: &Obligation,
+    refuted: bool,
+    over: Option<Budget>,
+) -> Result<(), AllocError>
+    ensures { (b : Forms) (trail : List FormulaId) → OnOk result (string_bytes text.new ≡ string_bytes text.old ++ line_of (view.core program.now) (obligation_at b trail obligation.now) refuted over) }
 {
     let class = class_name(program, obligation.body);
     let body = body_name(program, obligation.body);
-    not_proved(alloc, obligation.kind, obligation.place, class, body)
+    if refuted {
+        return push_not_proved(alloc, text, obligation.kind, obligation.place, class, body);
+    }
+    match over {
+        Some(Budget::Instances(limit)) => push_undecided(
+            alloc,
+            text,
+            obligation.kind,
+            obligation.place,
+            class,
+            body,
+            limit,
+        ),
+        None => Ok(()),
+    }
 }
 
-/// The text of a verdict: a line for each listed obligation, in their order. An error is want of memory.
+// Whether a model refutes the obligation of this number, which none that is listed comes before; and those behind it.
+fn next_countered(rest: &[Countered], number: usize) -> (bool, &[Countered])
+    requires { AreRisingFrom number (countered_numbers rest.now) }
+    ensures refuted { result.0 ≡ is_countered rest.now number }
+    ensures rising { AreRisingFrom (number + 1) (countered_numbers result.1.now) }
+    ensures same { (k : ℕ) → number < k → is_countered result.1.now k ≡ is_countered rest.now k }
+{
+    let [first, others @ ..] = rest else {
+        return (false, rest);
+    };
+    if first.obligation == number {
+        (true, others)
+    } else {
+        (false, rest)
+    }
+}
+
+// Which budget the obligation of this number passed; and those behind it.
+fn next_undecided(rest: &[Undecided], number: usize) -> (Option<Budget>, &[Undecided])
+    requires { AreRisingFrom number (undecided_numbers rest.now) }
+    ensures over { result.0 ≡ budget_of rest.now number }
+    ensures rising { AreRisingFrom (number + 1) (undecided_numbers result.1.now) }
+    ensures same { (k : ℕ) → number < k → budget_of result.1.now k ≡ budget_of rest.now k }
+{
+    let [first, others @ ..] = rest else {
+        return (None, rest);
+    };
+    if first.obligation == number {
+        (Some(first.cause), others)
+    } else {
+        (None, rest)
+    }
+}
+
+// The lines of the listed obligations of a list.
+fn verdict_lines(
+    alloc: Global,
+    program: &Core,
+    list: &[Obligation],
+    countered: &[Countered],
+    undecided: &[Undecided],
+) -> Result<String, AllocError>
+    requires countered { AreRisingFrom 0 (countered_numbers countered.now) }
+    requires undecided { AreRisingFrom 0 (undecided_numbers undecided.now) }
+    ensures { (b : Forms) (trail : List FormulaId) → IfOk result (λ text. string_bytes text ≡ verdict_of (view.core program.now) (obligations_at b trail list.now) countered.now undecided.now) }
+{
+    let mut text = String::new(alloc);
+    let mut countered = countered;
+    let mut undecided = undecided;
+    for (number, obligation) in list.iter().enumerate() {
+        let (refuted, other_countered) = next_countered(countered, number);
+        let (over, other_undecided) = next_undecided(undecided, number);
+        push_line(alloc, &mut text, program, obligation, refuted, over)?;
+        countered = other_countered;
+        undecided = other_undecided;
+    }
+    Ok(text)
+}
+
+/// The text of a verdict: a line for each listed obligation, in order of number. An error is want of memory.
 pub fn verdict_text(
     alloc: Global,
     program: &Core,
     obligations: &Obligations,
     countered: &[Countered],
+    undecided: &[Undecided],
 ) -> Result<String, AllocError>
-    ensures { IfOk result (λ text. string_bytes text ≡ verdict_of (core program.now) (trees obligations.now) countered.now) }
+    requires countered { AreRisingFrom 0 (countered_numbers countered.now) }
+    requires undecided { AreRisingFrom 0 (undecided_numbers undecided.now) }
+    ensures { IfOk result (λ text. string_bytes text ≡ verdict_of (view.core program.now) (trees obligations.now) countered.now undecided.now) }
 {
-    let mut text = String::new(alloc);
-    let mut rest = countered;
-    while let [listed, others @ ..] = rest {
-        push_line(alloc, &mut text, program, obligations, listed.obligation)?;
-        rest = others;
-    }
-    Ok(text)
-}
-
-// Adds the line of the obligation of this number, where there is one.
-fn push_line(
-    alloc: Global,
-    text: &mut String,
-    program: &Core,
-    obligations: &Obligations,
-    number: usize,
-) -> Result<(), AllocError>
-    ensures { IfOk result (λ _. string_bytes text.new ≡ string_bytes text.old ++ line_at (core program.now) (slice_get (trees obligations.now) number)) }
-{
-    let Some(obligation) = obligation_at(&obligations.list, number) else {
-        return Ok(());
-    };
-    let line = line(alloc, program, &obligation)?;
-    text.push_str(&line)?;
-    Ok(())
-}
-
-fn obligation_at(list: &[Obligation], number: usize) -> Option<Obligation>
-    ensures { result ≡ slice_get list.now number }
-{
-    list.get(number).copied()
+    verdict_lines(alloc, program, &obligations.list, countered, undecided)
 }

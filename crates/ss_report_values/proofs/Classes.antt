@@ -1,11 +1,11 @@
 -- What stands in a class, and where a term stands.
 use Rattle.std.proofs.Common.{◌≡◌, ℕ, zero, suc, ◌==◌, ◌+◌, ◌<◌, ◌≤◌, List, [], ◌∷◌, length, drop, get_or, Bool, true, false, Option, Some, None, refl, sym, ◌∙◌, ap, arith, if◌then◌else◌}
 use Rattle.std.proofs.lemmas.List.{drop_more}
-use Rattle.ss_logic_stores.specs.Terms.{Symbol, Number, Fixed, Null, ClassName, Constant, Add, Subtract, Multiply, Quotient, Remainder, Field, Element, Length, TypeOf, Level, Owner, Pair, Next, Set, Put, Unpack, Pack, Capture, Join, New, NewArray, MakeReady, Term, App, Terms, term_then, terms_from}
-use Rattle.ss_logic_stores.specs.Equal.{same_term}
+use Rattle.ss_logic.specs.Terms.{Symbol, Number, Fixed, Null, ClassName, Constant, Add, Subtract, Multiply, Quotient, Remainder, Field, Element, Length, TypeOf, Level, Owner, Pair, Next, Set, Put, Unpack, Pack, Capture, Join, New, NewArray, MakeReady, Term, App, Terms, term_then, terms_from}
+use Rattle.ss_logic.specs.Equal.{same_term}
 use Rattle.ss_logic_countermodels.specs.Refuting.{place_among}
-use Rattle.ss_terms_stores.specs.declared.forms.TermId.{TermId}
-use Rattle.ss_terms_stores.specs.Forms.{Forms, term_at, terms_at}
+use Rattle.ss_terms.specs.declared.forms.TermId.{TermId}
+use Rattle.ss_terms.specs.Forms.{Forms, term_at, terms_at}
 use Rattle.ss_report_values.specs.declared.literals.Value.{Value}
 use Rattle.ss_report_values.specs.Literals.{value_of, value_or, value_where, value_in}
 

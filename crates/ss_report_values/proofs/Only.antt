@@ -2,9 +2,9 @@
 use Rattle.std.proofs.Common.{◌≡◌, ℕ, zero, suc, ◌==◌, List, [], ◌∷◌, Bool, true, false, not, ◌||◌, ◌&&◌, Option, Some, None, option_and_then, slice_get, refl, sym, ◌∙◌, ap, if◌then◌else◌}
 use Rattle.std.specs.List.{list_any, list_all, slice_index_or}
 use Rattle.std.proofs.lemmas.Bool.{false≢true, and_parts, eqb-true, eq-eqb}
-use Rattle.ss_logic_stores.specs.Terms.{Term, App, Number, Fixed, Null, no_terms}
-use Rattle.ss_logic_stores.specs.Formulas.{Formula}
-use Rattle.ss_logic_stores.specs.Equal.{same_term, equal_terms, same_term_equal}
+use Rattle.ss_logic.specs.Terms.{Term, App, Number, Fixed, Null, no_terms}
+use Rattle.ss_logic.specs.Formulas.{Formula}
+use Rattle.ss_logic.specs.Equal.{same_term, equal_terms, same_term_equal}
 use Rattle.ss_logic_derivations.specs.Steps.{is_value}
 use Rattle.ss_logic_ground.specs.Occurring.{terms}
 use Rattle.ss_logic_countermodels.specs.Refuting.{Model, Refutes, model_of, place_among, are_apart}

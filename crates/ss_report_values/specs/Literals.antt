@@ -1,7 +1,7 @@
 -- What a model says that a term is: the literal in its class.
 use Rattle.std.specs.Prelude.{ℕ, ◌==◌, List, [], ◌∷◌, Bool, Option, Some, None, option_and_then, slice_get, if◌then◌else◌}
-use Rattle.ss_logic_stores.specs.Terms.{Number, Fixed, Null, Term, App, no_terms}
-use Rattle.ss_logic_stores.specs.Equal.{same_term}
+use Rattle.ss_logic.specs.Terms.{Number, Fixed, Null, Term, App, no_terms}
+use Rattle.ss_logic.specs.Equal.{same_term}
 use Rattle.ss_logic_countermodels.specs.Refuting.{place_among}
 use Rattle.ss_report_values.specs.declared.literals.Value.{Value}
 use Rattle.ss_report_values.specs.declared.literals.Value.TheVariants as value

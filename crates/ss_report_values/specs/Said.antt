@@ -1,9 +1,9 @@
 -- What a model that refutes says of a value that is told.
 use Rattle.std.specs.Prelude.{◌≡◌, List, true, Some}
 use Rattle.std.specs.List.{list_any}
-use Rattle.ss_logic_stores.specs.Terms.{Term}
-use Rattle.ss_logic_stores.specs.Formulas.{Formula}
-use Rattle.ss_logic_stores.specs.Equal.{same_term}
+use Rattle.ss_logic.specs.Terms.{Term}
+use Rattle.ss_logic.specs.Formulas.{Formula}
+use Rattle.ss_logic.specs.Equal.{same_term}
 use Rattle.ss_logic_derivations.specs.Steps.{is_value}
 use Rattle.ss_logic_ground.specs.Occurring.{terms}
 use Rattle.ss_logic_countermodels.specs.Refuting.{Model}

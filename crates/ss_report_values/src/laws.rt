@@ -1,8 +1,8 @@
 //! Laws: what is told of a term is so in the model.
 
 ghost use Rattle.std.specs.Prelude.{◌≡◌, ℕ, List, Bool, Some};
-ghost use Rattle.ss_logic_stores.specs.Terms.{Term};
-ghost use Rattle.ss_logic_stores.specs.Formulas.{Formula};
+ghost use Rattle.ss_logic.specs.Terms.{Term};
+ghost use Rattle.ss_logic.specs.Formulas.{Formula};
 ghost use Rattle.ss_logic_ground.specs.Occurring.{terms};
 ghost use Rattle.ss_logic_countermodels.specs.Refuting.{Refutes, model_of};
 ghost use Rattle.ss_report_values.specs.declared.literals.Value.{Value};

@@ -1,13 +1,13 @@
 // What a model says that terms are.
 
 ghost use Rattle.std.specs.Prelude.{◌≡◌};
-ghost use Rattle.ss_logic_stores.specs.Terms.{App, no_terms, terms_from};
-ghost use Rattle.ss_logic_stores.specs.Equal.{same_term};
+ghost use Rattle.ss_logic.specs.Terms.{App, no_terms, terms_from};
+ghost use Rattle.ss_logic.specs.Equal.{same_term};
 ghost use Rattle.ss_logic_countermodels.specs.Refuting.{place_among};
-ghost use Rattle.ss_terms_stores.specs.Forms.{symbol_of, term_at, terms_at, HasTerm, HasTerms};
+ghost use Rattle.ss_terms.specs.Forms.{symbol_of, term_at, terms_at, HasTerm, HasTerms};
 ghost use Rattle.ss_report_values.specs.Literals as spec;
 
-use ss_terms_stores::{Bank, Symbol, Term, TermId};
+use ss_terms::{Bank, Symbol, Term, TermId};
 
 /// What a term is.
 #[derive(Clone, Copy, PartialEq, Eq)]

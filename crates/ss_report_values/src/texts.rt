@@ -1,10 +1,10 @@
 // Values of locals as a text.
 
-ghost use Rattle.ss_terms_stores.specs.Forms.{HasTerms};
+ghost use Rattle.ss_terms.specs.Forms.{HasTerms};
 
 use crate::literals::{Reading, Value};
 use ss_core::{Body, Local};
-use ss_terms_stores::{Bank, TermId};
+use ss_terms::{Bank, TermId};
 use std::alloc::{AllocError, Global};
 
 // How many values are told.

@@ -6,9 +6,9 @@ use Rattle.std.proofs.lemmas.List.{length-append}
 use Rattle.ss_core.specs.Tree.{ClassTree, FieldTree}
 use Rattle.ss_core.specs.Chain.{declared, above, levels, levels_from, most_levels, fields_of, field_count, all_fields, fields_from, fields_of_class, IsWithinLimits}
 use Rattle.ss_core.proofs.Declared.{declared_at}
-use Rattle.ss_logic_stores.specs.Formulas.{Formula}
-use Rattle.ss_terms_stores.specs.declared.forms.FormulaId.{FormulaId}
-use Rattle.ss_terms_stores.specs.Forms.{Forms, IsFormulaNumber}
+use Rattle.ss_logic.specs.Formulas.{Formula}
+use Rattle.ss_terms.specs.declared.forms.FormulaId.{FormulaId}
+use Rattle.ss_terms.specs.Forms.{Forms, IsFormulaNumber}
 use Rattle.ss_rules_basic.specs.Arguments.{IsInstance}
 
 first_fields : (f : ℕ → ℕ) (t : ℕ) (ts : List ℕ) → f t ≤ sum_by f (t ∷ ts)

@@ -5,7 +5,7 @@ ghost use Rattle.ss_core.specs.Tree.{ClassTree};
 ghost use Rattle.ss_core.specs.Chain.{IsWithinLimits};
 ghost use Rattle.ss_core.specs.View as view;
 ghost use Rattle.ss_logic_rules.specs.Rules.{numbered, fresh_of, class_of, split_of, instance_of};
-ghost use Rattle.ss_terms_stores.specs.Forms.{term_at, terms_at, HasTerm, HasTerms, IsFormulaNumber, IsGrown, IsBankOf};
+ghost use Rattle.ss_terms.specs.Forms.{term_at, terms_at, HasTerm, HasTerms, IsFormulaNumber, IsGrown, IsBankOf};
 ghost use Rattle.ss_rules_basic.specs.Arguments.{IsInstance};
 
 use ss_core::Classes;
@@ -14,7 +14,7 @@ use ss_rules_basic::{
     apart_rule, bool_rule, class_rule, fresh_rule, natural, quorem_rule, split_rule,
 };
 use ss_rules_reads::read_rule;
-use ss_terms_stores::{Bank, FormulaId, TermId};
+use ss_terms::{Bank, FormulaId, TermId};
 use std::alloc::{AllocError, Global};
 
 // The rule on new references: the first argument is the sentence's number.

@@ -3,8 +3,8 @@ use Rattle.std.proofs.Common.{◌≡◌, ℕ, zero, suc, ◌+◌, ◌<◌, ◌�
 use Rattle.std.specs.Prelude.{flat_map}
 use Rattle.std.proofs.Math.Seq.{drop-cons}
 use Rattle.ss_logic_ground.specs.Asked as spec
-use Rattle.ss_terms_stores.specs.declared.forms.TermId.{TermId}
-use Rattle.ss_terms_stores.specs.Forms.{Forms, term_at, terms_at, HasTerms, AreTermsBelow}
+use Rattle.ss_terms.specs.declared.forms.TermId.{TermId}
+use Rattle.ss_terms.specs.Forms.{Forms, term_at, terms_at, HasTerms, AreTermsBelow}
 use Rattle.ss_rules_asked.specs.declared.asked.Asked.{Asked}
 use Rattle.ss_rules_asked.specs.declared.forms.Counts.{Counts}
 use Rattle.ss_rules_asked.specs.Numbers.{asked_in, Asks}

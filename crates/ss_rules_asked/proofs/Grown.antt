@@ -1,8 +1,8 @@
 -- Instances that are asked for stay so as the bank grows.
 use Rattle.std.proofs.Common.{◌≡◌, ℕ, zero, suc, ◌<◌, List, [], ◌∷◌, ◌++◌, length, map, get_or, refl, ap, ◌∙◌, arith}
-use Rattle.ss_logic_stores.specs.Terms.{Term}
-use Rattle.ss_terms_stores.specs.Forms.{Forms, IsGrown}
-use Rattle.ss_terms_stores.proofs.Grown.{HasTerm-grown}
+use Rattle.ss_logic.specs.Terms.{Term}
+use Rattle.ss_terms.specs.Forms.{Forms, IsGrown}
+use Rattle.ss_terms.proofs.Grown.{HasTerm-grown}
 use Rattle.ss_rules_asked.specs.declared.asked.Argument.{Argument}
 use Rattle.ss_rules_asked.specs.declared.asked.Argument.TheVariants as argument
 use Rattle.ss_rules_asked.specs.declared.asked.Rule.{Rule}

@@ -1,18 +1,18 @@
 -- Arguments of another number say nothing.
 use Rattle.std.proofs.Common.{◌≡◌, ℕ, ◌<◌, ◌≤◌, List, [], ◌∷◌, length, Bool, refl, sym, ◌∙◌, ap, subst, arith, get_or, Option, Some, None, Vec, Global}
-use Rattle.ss_logic_stores.specs.declared.Sort.{Sort}
-use Rattle.ss_logic_stores.specs.declared.Sort.TheVariants as sort
-use Rattle.ss_logic_stores.specs.Terms as tree
-use Rattle.ss_logic_stores.specs.Terms.{Term, Terms, no_terms, term_then, App, terms_from}
+use Rattle.ss_logic.specs.declared.Sort.{Sort}
+use Rattle.ss_logic.specs.declared.Sort.TheVariants as sort
+use Rattle.ss_logic.specs.Terms as tree
+use Rattle.ss_logic.specs.Terms.{Term, Terms, no_terms, term_then, App, terms_from}
 use Rattle.ss_logic_rules.specs.declared.RuleName.{RuleName}
 use Rattle.ss_logic_rules.specs.Reads as reads
 use Rattle.ss_logic_rules.specs.Rules as rules
 use Rattle.ss_logic_ground.specs.Asked as spec
-use Rattle.ss_terms_stores.specs.declared.forms.TermId.{TermId}
-use Rattle.ss_terms_stores.specs.declared.forms.Symbol.{Symbol}
-use Rattle.ss_terms_stores.specs.declared.forms.Term.TheVariants.{App as AppForm}
-use Rattle.ss_terms_stores.specs.Forms.{Forms, symbol_of, term_at, terms_at, HasTerm, HasTerms, IsTermForm}
-use Rattle.ss_terms_stores.proofs.Trees.{AreTermsBelow-more}
+use Rattle.ss_terms.specs.declared.forms.TermId.{TermId}
+use Rattle.ss_terms.specs.declared.forms.Symbol.{Symbol}
+use Rattle.ss_terms.specs.declared.forms.Term.TheVariants.{App as AppForm}
+use Rattle.ss_terms.specs.Forms.{Forms, symbol_of, term_at, terms_at, HasTerm, HasTerms, IsTermForm}
+use Rattle.ss_terms.proofs.Trees.{AreTermsBelow-more}
 use Rattle.ss_rules_asked.specs.Readings.{nothing, first_of_two, IsOne}
 
 pub object-short : (b : Forms) (n : ℕ) (ts : List TermId) → length ts < 2 → spec.object_reading n (terms_from (terms_at b ts)) ≡ None

@@ -3,7 +3,7 @@
 ghost use Rattle.std.specs.Prelude.{◌++◌, flat_map, OnOk};
 ghost use Rattle.ss_core.specs.View as view;
 ghost use Rattle.ss_logic_ground.specs.Asked as spec;
-ghost use Rattle.ss_terms_stores.specs.Forms.{term_at, terms_at, HasTerm, HasTerms, IsBankOf};
+ghost use Rattle.ss_terms.specs.Forms.{term_at, terms_at, HasTerm, HasTerms, IsBankOf};
 ghost use Rattle.ss_rules_asked.specs.Numbers.{asked_in, HasAsked, Asks};
 ghost use Rattle.ss_rules_asked.specs.Sentences.{among};
 
@@ -12,7 +12,7 @@ use crate::forms::{is_class_name, store_before};
 use crate::lists::{AtTerm, ask_at_terms};
 use ss_core::Classes;
 use ss_logic_rules::RuleName;
-use ss_terms_stores::{Bank, TermId};
+use ss_terms::{Bank, TermId};
 use std::alloc::{AllocError, Global};
 
 /// Sentences at a term for which the other terms are needed: on the owner of a new object, and on two classes.

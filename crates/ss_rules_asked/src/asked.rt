@@ -4,7 +4,7 @@ ghost use Rattle.std.specs.Prelude.{◌≡◌, [], ◌∷◌, ◌++◌, OnOk};
 ghost use Rattle.ss_rules_asked.specs.Numbers.{rule_at, arguments_at, asked_in, asked_with, HasRule, HasArguments, HasAsked, Asks};
 
 use ss_logic_rules::{GoodRule, RuleName};
-use ss_terms_stores::{Bank, TermId};
+use ss_terms::{Bank, TermId};
 use std::alloc::{AllocError, Global};
 
 /// An argument of a rule: a term of a bank, a number or a class.

@@ -3,7 +3,7 @@
 ghost use Rattle.std.specs.Prelude.{◌++◌, flat_map, IfOk, OnOk};
 ghost use Rattle.ss_core.specs.View as view;
 ghost use Rattle.ss_logic_ground.specs.Asked as spec;
-ghost use Rattle.ss_terms_stores.specs.Forms.{terms_at, formulas_at, HasTerms, HasFormulas, IsBankOf};
+ghost use Rattle.ss_terms.specs.Forms.{terms_at, formulas_at, HasTerms, HasFormulas, IsBankOf};
 ghost use Rattle.ss_rules_asked.specs.Numbers.{asked_in, HasAsked, Asks};
 ghost use Rattle.ss_rules_asked.specs.Readings.{reading_at, readings_at, HasReading, HasReadings};
 
@@ -15,7 +15,7 @@ use crate::gathered::{all_counts, pairs, readings, store_equations};
 use crate::lists::{AtAtom, AtTerm, ask_at_atoms, ask_at_terms};
 use crate::reads::ask_over;
 use ss_core::Classes;
-use ss_terms_stores::{Bank, FormulaId, TermId};
+use ss_terms::{Bank, FormulaId, TermId};
 use std::alloc::{AllocError, Global};
 
 // At a read: over the changed store, or over each store that the constant equals.

@@ -3,7 +3,7 @@
 ghost use Rattle.std.specs.Prelude.{◌++◌, flat_map, OnOk};
 ghost use Rattle.ss_core.specs.View as view;
 ghost use Rattle.ss_logic_ground.specs.Asked as spec;
-ghost use Rattle.ss_terms_stores.specs.Forms.{term_at, terms_at, formula_at, formulas_at, HasTerm, HasTerms, HasFormula, HasFormulas, IsBankOf};
+ghost use Rattle.ss_terms.specs.Forms.{term_at, terms_at, formula_at, formulas_at, HasTerm, HasTerms, HasFormula, HasFormulas, IsBankOf};
 ghost use Rattle.ss_rules_asked.specs.Numbers.{asked_in, HasAsked, Asks};
 ghost use Rattle.ss_rules_asked.specs.Sentences.{at_term, at_atom, HasAtTerm, HasAtAtom};
 
@@ -15,7 +15,7 @@ use crate::sentences::{
     ask_of_pair, ask_of_term, ask_of_truth, ask_of_two_pairs,
 };
 use ss_core::Classes;
-use ss_terms_stores::{Bank, FormulaId, TermId};
+use ss_terms::{Bank, FormulaId, TermId};
 use std::alloc::{AllocError, Global};
 
 /// A sentence that is asked for at terms.

@@ -2,9 +2,9 @@
 use Rattle.std.proofs.Common.{◌≡◌, ℕ, ◌+◌, ◌<◌, List, [], ◌∷◌, ◌++◌, length, map, take, get_or, refl, sym, ◌∙◌, ap, subst, append_assoc, Result, Ok, Err}
 use Rattle.std.specs.Prelude.{flat_map, OnOk}
 use Rattle.std.proofs.lemmas.List.{append-nil, map_push, map-append, take_more, flat_map_more}
-use Rattle.ss_logic_stores.specs.Terms.{Term}
+use Rattle.ss_logic.specs.Terms.{Term}
 use Rattle.ss_logic_ground.specs.Asked as spec
-use Rattle.ss_terms_stores.specs.Forms.{Forms}
+use Rattle.ss_terms.specs.Forms.{Forms}
 use Rattle.ss_rules_asked.specs.declared.asked.Argument.{Argument}
 use Rattle.ss_rules_asked.specs.declared.asked.Asked.{Asked}
 use Rattle.ss_rules_asked.proofs.Asking.{asked_next}

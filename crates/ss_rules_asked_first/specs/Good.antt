@@ -1,14 +1,14 @@
 -- What is asked for at reads in good stores, from what was gathered for it.
 use Rattle.std.specs.Prelude.{◌≡◌, ℕ, List, [], ◌∷◌, ◌++◌, map, flat_map, filter_map, Option, option_map, IfSome}
 use Rattle.ss_core.specs.Tree.{ClassTree}
-use Rattle.ss_logic_stores.specs.Terms.{Term}
-use Rattle.ss_logic_stores.specs.Formulas.{Formula}
+use Rattle.ss_logic.specs.Terms.{Term}
+use Rattle.ss_logic.specs.Formulas.{Formula}
 use Rattle.ss_logic_rules.specs.declared.GoodRule.{GoodRule}
 use Rattle.ss_logic_rules.specs.declared.GoodRule.TheVariants as good_rule
 use Rattle.ss_logic_ground.specs.Asked as spec
 use Rattle.ss_logic_ground.specs.Asked.{numeral}
-use Rattle.ss_terms_stores.specs.declared.forms.TermId.{TermId}
-use Rattle.ss_terms_stores.specs.Forms.{Forms, term_at, terms_at, HasTerm, HasTerms}
+use Rattle.ss_terms.specs.declared.forms.TermId.{TermId}
+use Rattle.ss_terms.specs.Forms.{Forms, term_at, terms_at, HasTerm, HasTerms}
 use Rattle.ss_rules_asked.specs.Numbers.{arguments_at, HasArguments}
 use Rattle.ss_rules_asked.specs.Readings.{readings_at, HasReadings}
 use Rattle.ss_rules_asked_first.specs.declared.owners.Owner.{Owner}

@@ -1,7 +1,7 @@
 -- Arguments that a bank has, and what they stand for.
 use Rattle.std.specs.Prelude.{◌≡◌, List}
-use Rattle.ss_logic_stores.specs.Terms.{Term}
-use Rattle.ss_terms_stores.specs.Forms.{Forms}
+use Rattle.ss_logic.specs.Terms.{Term}
+use Rattle.ss_terms.specs.Forms.{Forms}
 use Rattle.ss_rules_asked.specs.declared.asked.Argument.{Argument}
 use Rattle.ss_rules_asked.specs.Numbers.{arguments_at, HasArguments}
 

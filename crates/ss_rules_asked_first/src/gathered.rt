@@ -2,11 +2,11 @@
 
 ghost use Rattle.std.specs.Prelude.{◌++◌, filter_map, option_map, option_to_list, IfOk, IfSome, OnOk};
 ghost use Rattle.ss_logic_ground.specs.Asked as spec;
-ghost use Rattle.ss_terms_stores.specs.Forms.{term_at, terms_at, formulas_at, HasTerm, HasTerms, HasFormulas};
+ghost use Rattle.ss_terms.specs.Forms.{term_at, terms_at, formulas_at, HasTerm, HasTerms, HasFormulas};
 ghost use Rattle.ss_rules_asked.specs.Readings.{AreTerms};
 
 use ss_rules_asked::{good_of, length_of};
-use ss_terms_stores::{Bank, FormulaId, TermId};
+use ss_terms::{Bank, FormulaId, TermId};
 use std::alloc::{AllocError, Global};
 
 // Adds a term, if there is one.

@@ -10,7 +10,7 @@ ghost use Rattle.ss_rules_asked_first.specs.Named.{AreArguments};
 
 use ss_core::{Class, Classes, Expr};
 use ss_rules_asked::Argument;
-use ss_terms_stores::Bank;
+use ss_terms::Bank;
 use std::alloc::{AllocError, Global};
 
 /// The names of the declared classes. An error is want of memory.

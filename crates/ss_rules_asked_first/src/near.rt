@@ -3,7 +3,7 @@
 ghost use Rattle.std.specs.Prelude.{◌≡◌, IfOk};
 ghost use Rattle.ss_core.specs.Chain.{IsWithinLimits};
 ghost use Rattle.ss_core.specs.View as view;
-ghost use Rattle.ss_terms_stores.specs.Forms.{terms_at, formulas_at, HasTerms, HasFormulas};
+ghost use Rattle.ss_terms.specs.Forms.{terms_at, formulas_at, HasTerms, HasFormulas};
 ghost use Rattle.ss_rules_asked_first.specs.Good as words;
 ghost use Rattle.ss_rules_asked_first.specs.Good.{nearby_at, HasNear};
 
@@ -12,7 +12,7 @@ use crate::names::{class_names, with_invariants};
 use crate::owners::{Owner, owners};
 use ss_core::Classes;
 use ss_rules_asked::{Argument, Reading, readings};
-use ss_terms_stores::{Bank, FormulaId, TermId};
+use ss_terms::{Bank, FormulaId, TermId};
 use std::alloc::{AllocError, Global};
 
 /// What is asked about in good stores: classes, those with invariants, owners, arrays with a length, and reads.

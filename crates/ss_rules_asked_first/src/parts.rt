@@ -1,7 +1,7 @@
 // Instances with arguments from several places.
 
 ghost use Rattle.std.specs.Prelude.{◌≡◌, ◌==◌, [], ◌∷◌, ◌++◌, map, IfOk, OnOk};
-ghost use Rattle.ss_terms_stores.specs.Forms.{term_at};
+ghost use Rattle.ss_terms.specs.Forms.{term_at};
 ghost use Rattle.ss_rules_asked.specs.Numbers.{rule_at, arguments_at, asked_in, asked_with, HasRule, HasArguments, HasAsked, Asks};
 ghost use Rattle.ss_rules_asked.specs.Readings.{others_at, HasOthers};
 ghost use Rattle.ss_rules_asked_first.specs.Named.{AreArguments};
@@ -9,7 +9,7 @@ ghost use Rattle.ss_rules_asked_first.specs.Good.{owner_at, owners_at, HasOwner,
 
 use crate::owners::Owner;
 use ss_rules_asked::{Argument, Asked, Others, Rule, ask};
-use ss_terms_stores::Bank;
+use ss_terms::Bank;
 use std::alloc::{AllocError, Global};
 
 /// Whether a read is of this kind.

@@ -7,14 +7,14 @@ use Rattle.std.proofs.lemmas.Bool.{ne_eqb, false≢true, false_from_ne_true}
 use Rattle.ss_core.specs.Tree.{ClassTree}
 use Rattle.ss_core.specs.View.{class_of}
 use Rattle.ss_core.specs.declared.class.Class.{Class}
-use Rattle.ss_logic_stores.specs.declared.Sort.TheVariants as sort
-use Rattle.ss_logic_stores.specs.Terms.{Number, Null, ClassName, Next, Add, Multiply, Quotient, Remainder, Pair, Term, App, no_terms, term_then, app, terms_from, have_sorts}
-use Rattle.ss_logic_stores.specs.Formulas.{Formula}
-use Rattle.ss_logic_stores.specs.Equal.{same_term, equal_terms, same_term_equal}
+use Rattle.ss_logic.specs.declared.Sort.TheVariants as sort
+use Rattle.ss_logic.specs.Terms.{Number, Null, ClassName, Next, Add, Multiply, Quotient, Remainder, Pair, Term, App, no_terms, term_then, app, terms_from, have_sorts}
+use Rattle.ss_logic.specs.Formulas.{Formula}
+use Rattle.ss_logic.specs.Equal.{same_term, equal_terms, same_term_equal}
 use Rattle.ss_logic_rules.specs.Shapes.{when, number, null_term, next_of, owner_of, equal, at_most, given, all_of, literal_of, class_of_term}
 use Rattle.ss_logic_rules.specs.Rules.{split_of, pairs_agree, stands_beside, division}
-use Rattle.ss_terms_stores.specs.declared.forms.TermId.{TermId}
-use Rattle.ss_terms_stores.specs.Forms.{Forms, terms_at, term_at}
+use Rattle.ss_terms.specs.declared.forms.TermId.{TermId}
+use Rattle.ss_terms.specs.Forms.{Forms, terms_at, term_at}
 use Rattle.ss_rules_basic.specs.Arguments.{is_null_term, store_of_next, parts_of}
 
 pub no_number : (b : Forms) (n : ℤ) (ts : List TermId) → 1 ≤ length ts → None ≡ literal_of (App (Number n) (terms_from (terms_at b ts)))

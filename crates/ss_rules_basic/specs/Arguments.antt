@@ -1,10 +1,10 @@
 -- What numbers of a bank say about the terms and formulas of a rule.
 use Rattle.std.specs.Prelude.{◌≡◌, List, [], ◌∷◌, Option, Some, None, Bool, true, false}
-use Rattle.ss_logic_stores.specs.Terms.{Null, Pair, Next, Term, App, no_terms, term_then}
-use Rattle.ss_logic_stores.specs.Formulas.{Formula}
-use Rattle.ss_terms_stores.specs.declared.forms.TermId.{TermId}
-use Rattle.ss_terms_stores.specs.declared.forms.FormulaId.{FormulaId}
-use Rattle.ss_terms_stores.specs.Forms.{Forms, formula_at, term_at, HasTerm, HasFormula}
+use Rattle.ss_logic.specs.Terms.{Null, Pair, Next, Term, App, no_terms, term_then}
+use Rattle.ss_logic.specs.Formulas.{Formula}
+use Rattle.ss_terms.specs.declared.forms.TermId.{TermId}
+use Rattle.ss_terms.specs.declared.forms.FormulaId.{FormulaId}
+use Rattle.ss_terms.specs.Forms.{Forms, formula_at, term_at, HasTerm, HasFormula}
 
 -- the option holds the number of the formula, or neither is there
 abbrev pub IsInstance : Forms → Option FormulaId → Option Formula → Type 0

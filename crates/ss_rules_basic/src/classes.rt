@@ -5,14 +5,14 @@ ghost use Rattle.std.specs.List.{list_any};
 ghost use Rattle.ss_core.specs.View as view;
 ghost use Rattle.ss_logic_rules.specs.Shapes.{sub_atom};
 ghost use Rattle.ss_logic_rules.specs.Rules.{class_fact, class_above, class_apart, class_pair, class_up, class_two, stands_beside, are_unrelated, class_of};
-ghost use Rattle.ss_terms_stores.specs.Forms.{term_at, terms_at, formula_at, HasTerm, HasTerms, HasFormula, IsGrown, IsBankOf};
+ghost use Rattle.ss_terms.specs.Forms.{term_at, terms_at, formula_at, HasTerm, HasTerms, HasFormula, IsGrown, IsBankOf};
 ghost use Rattle.ss_rules_basic.specs.Arguments.{IsInstance};
 
 use crate::arguments::{class_name, is_class};
 use ss_core::{Class, ClassId, Classes};
-use ss_logic_stores::Sort;
+use ss_logic::Sort;
 use ss_rules_plans::{Claim, Clause, Plan, Slot, fill};
-use ss_terms_stores::{Bank, FormulaId, Predicate, Symbol, TermId};
+use ss_terms::{Bank, FormulaId, Predicate, Symbol, TermId};
 use std::alloc::{AllocError, Global};
 
 // Whether the class stands beside this one's levels.

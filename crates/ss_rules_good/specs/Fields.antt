@@ -1,8 +1,8 @@
 -- What is known of a field, by the class that declares it.
 use Rattle.std.specs.Prelude.{ℕ, List, [], ◌∷◌, ◌++◌}
-use Rattle.ss_logic_stores.specs.declared.Sort.TheVariants as sort
-use Rattle.ss_logic_stores.specs.Terms.{Element, Term, app}
-use Rattle.ss_logic_stores.specs.Formulas.{Formula}
+use Rattle.ss_logic.specs.declared.Sort.TheVariants as sort
+use Rattle.ss_logic.specs.Terms.{Element, Term, app}
+use Rattle.ss_logic.specs.Formulas.{Formula}
 use Rattle.ss_logic_rules.specs.Shapes.{null_term, class_term, type_of, differ, sub_atom, allocated, ready, given}
 use Rattle.ss_logic_rules.specs.Good.{element_typed}
 

@@ -3,19 +3,19 @@
 ghost use Rattle.std.specs.Prelude.{◌≡◌, ◌<◌, ◌≤◌, ◌+◌, ◌*◌, List, [], ◌∷◌, Some, map, length, IfOk};
 ghost use Rattle.ss_core.specs.Chain.{most_classes};
 ghost use Rattle.ss_core.specs.View as view;
-ghost use Rattle.ss_logic_stores.specs.declared.Sort.TheVariants as sort;
-ghost use Rattle.ss_logic_stores.specs.Terms as tree;
-ghost use Rattle.ss_logic_stores.specs.Terms.{app};
+ghost use Rattle.ss_logic.specs.declared.Sort.TheVariants as sort;
+ghost use Rattle.ss_logic.specs.Terms as tree;
+ghost use Rattle.ss_logic.specs.Terms.{app};
 ghost use Rattle.ss_logic_rules.specs.Shapes.{all_of, allocated};
 ghost use Rattle.ss_logic_rules.specs.Good.{arrays_of_references, element_typed, in_range, typed_element};
-ghost use Rattle.ss_terms_stores.specs.Forms.{term_at, formula_at, formulas_at, HasTerm, HasFormula, HasFormulas, IsGrown};
+ghost use Rattle.ss_terms.specs.Forms.{term_at, formula_at, formulas_at, HasTerm, HasFormula, HasFormulas, IsGrown};
 ghost use Rattle.ss_rules_basic.specs.Arguments.{IsInstance};
 ghost use Rattle.ss_rules_good.specs.Fields.{element_of, element_allocated};
 
 use ss_core::Classes;
-use ss_logic_stores::Sort;
+use ss_logic::Sort;
 use ss_rules_plans::{Claim, Clause, Plan, Slot, fill};
-use ss_terms_stores::{Bank, FormulaId, Predicate, Symbol, TermId};
+use ss_terms::{Bank, FormulaId, Predicate, Symbol, TermId};
 use std::alloc::{AllocError, Global};
 
 // A whole number of an array is in range.
@@ -85,7 +85,7 @@ fn class_of_elements(t: u16) -> u16
     if t == 3 { 0 } else { t.saturating_sub(1) }
 }
 
-ghost use Rattle.ss_logic_stores.specs.Objects.{element_class};
+ghost use Rattle.ss_logic.specs.Objects.{element_class};
 
 // An element that isn't null is of the class that an array of this class asks for.
 fn element_of_class(

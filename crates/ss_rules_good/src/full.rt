@@ -3,12 +3,12 @@
 ghost use Rattle.std.specs.Prelude.{◌≡◌, List, IfOk};
 ghost use Rattle.ss_core.specs.Tree.{ClassTree};
 ghost use Rattle.ss_logic_rules.specs.Good.{full_level, full_of};
-ghost use Rattle.ss_terms_stores.specs.Forms.{term_at, terms_at, formula_at, HasTerm, HasTerms, HasFormula, IsGrown, IsBankOf};
+ghost use Rattle.ss_terms.specs.Forms.{term_at, terms_at, formula_at, HasTerm, HasTerms, HasFormula, IsGrown, IsBankOf};
 ghost use Rattle.ss_rules_basic.specs.Arguments.{IsInstance};
 
-use ss_logic_stores::Sort;
+use ss_logic::Sort;
 use ss_rules_plans::{Claim, Clause, Plan, Slot, fill};
-use ss_terms_stores::{Bank, FormulaId, Predicate, Symbol, TermId};
+use ss_terms::{Bank, FormulaId, Predicate, Symbol, TermId};
 use std::alloc::{AllocError, Global};
 
 // The level of the object is its class.

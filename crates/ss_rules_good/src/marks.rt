@@ -5,14 +5,14 @@ ghost use Rattle.ss_core.specs.Chain.{most_classes, all_fields};
 ghost use Rattle.ss_core.specs.View as view;
 ghost use Rattle.ss_store_rules.specs.Changes.{field_mark, field_type};
 ghost use Rattle.ss_logic_rules.specs.Good.{is_reference_type, marked, marks_of};
-ghost use Rattle.ss_terms_stores.specs.Forms.{term_at, terms_at, HasTerm, HasTerms, IsGrown, IsBankOf};
+ghost use Rattle.ss_terms.specs.Forms.{term_at, terms_at, HasTerm, HasTerms, IsGrown, IsBankOf};
 ghost use Rattle.ss_rules_basic.specs.Arguments.{IsInstance};
 
 use ss_core::{Classes, Mark, Ty};
-use ss_logic_stores::Sort;
+use ss_logic::Sort;
 use ss_rules_looks::{class_of_field, field_named, mark_of_field, type_of_field};
 use ss_rules_plans::{Claim, Clause, Plan, Slot, fill};
-use ss_terms_stores::{Bank, FormulaId, Predicate, Symbol, TermId};
+use ss_terms::{Bank, FormulaId, Predicate, Symbol, TermId};
 use std::alloc::{AllocError, Global};
 
 // The owner that the mark of the field says.

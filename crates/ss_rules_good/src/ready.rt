@@ -6,15 +6,15 @@ ghost use Rattle.ss_core.specs.View as view;
 ghost use Rattle.ss_logic_rules.specs.Reads.{is_look};
 ghost use Rattle.ss_logic_rules.specs.Good.{ready_look, ready_of, ready_field};
 ghost use Rattle.ss_store_rules.specs.Changes.{field_type};
-ghost use Rattle.ss_terms_stores.specs.Forms.{term_at, terms_at, HasTerm, HasTerms, IsGrown, IsBankOf};
+ghost use Rattle.ss_terms.specs.Forms.{term_at, terms_at, HasTerm, HasTerms, IsGrown, IsBankOf};
 ghost use Rattle.ss_rules_basic.specs.Arguments.{IsInstance};
 ghost use Rattle.ss_rules_looks.specs.Looks.{look_in, HasLook};
 
 use ss_core::{Classes, Ty};
-use ss_logic_stores::Sort;
+use ss_logic::Sort;
 use ss_rules_looks::{Look, class_of_field, read_named, type_of_field};
 use ss_rules_plans::{Claim, Clause, Plan, Slot, fill};
-use ss_terms_stores::{Bank, FormulaId, Predicate, Symbol, TermId};
+use ss_terms::{Bank, FormulaId, Predicate, Symbol, TermId};
 use std::alloc::{AllocError, Global};
 
 // A field refers to a ready object, and isn't null in a ready one where its type says so.

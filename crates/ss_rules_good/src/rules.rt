@@ -4,7 +4,7 @@ ghost use Rattle.std.specs.Prelude.{◌≡◌, ◌≤◌, ◌^◌, length, IfOk}
 ghost use Rattle.ss_core.specs.Chain.{most_classes, all_fields};
 ghost use Rattle.ss_core.specs.View as view;
 ghost use Rattle.ss_logic_rules.specs.GoodRules.{good_sentence, good_instance_of};
-ghost use Rattle.ss_terms_stores.specs.Forms.{term_at, terms_at, HasTerm, HasTerms, IsGrown, IsBankOf};
+ghost use Rattle.ss_terms.specs.Forms.{term_at, terms_at, HasTerm, HasTerms, IsGrown, IsBankOf};
 ghost use Rattle.ss_rules_basic.specs.Arguments.{IsInstance};
 
 use crate::full::full_rule;
@@ -13,9 +13,9 @@ use crate::owned::owned_rule;
 use crate::ready::ready_rule;
 use crate::typed::typed_rule;
 use ss_core::Classes;
+use ss_logic::Sort;
 use ss_logic_rules::GoodRule;
-use ss_logic_stores::Sort;
-use ss_terms_stores::{Bank, FormulaId, TermId};
+use ss_terms::{Bank, FormulaId, TermId};
 use std::alloc::{AllocError, Global};
 
 // What the rule says of these arguments.

@@ -4,24 +4,24 @@ ghost use Rattle.std.specs.Prelude.{◌≡◌, ◌≤◌, ◌^◌, Option, Some,
 ghost use Rattle.ss_core.specs.Tree.{ClassTree};
 ghost use Rattle.ss_core.specs.Chain.{most_classes, all_fields};
 ghost use Rattle.ss_core.specs.View as view;
-ghost use Rattle.ss_logic_stores.specs.declared.Sort.TheVariants as sort;
-ghost use Rattle.ss_logic_stores.specs.Terms as tree;
-ghost use Rattle.ss_logic_stores.specs.Terms.{app};
+ghost use Rattle.ss_logic.specs.declared.Sort.TheVariants as sort;
+ghost use Rattle.ss_logic.specs.Terms as tree;
+ghost use Rattle.ss_logic.specs.Terms.{app};
 ghost use Rattle.ss_logic_rules.specs.Shapes.{class_of_term};
 ghost use Rattle.ss_logic_rules.specs.Reads.{look_from, is_look};
 ghost use Rattle.ss_logic_rules.specs.Good.{arrays_of_references, element_typed, typed_field, typed_element, level_typed, length_typed, typed_look, typed_read, typed_level, owner_allocated, typed_of};
 ghost use Rattle.ss_store_rules.specs.Changes.{field_type};
-ghost use Rattle.ss_terms_stores.specs.Forms.{term_at, terms_at, formula_at, HasTerm, HasTerms, HasFormula, HasFormulas, formulas_at, IsGrown, IsBankOf};
+ghost use Rattle.ss_terms.specs.Forms.{term_at, terms_at, formula_at, HasTerm, HasTerms, HasFormula, HasFormulas, formulas_at, IsGrown, IsBankOf};
 ghost use Rattle.ss_rules_basic.specs.Arguments.{IsInstance};
 ghost use Rattle.ss_rules_looks.specs.Looks.{look_in, HasLook};
 
 use crate::elements::typed_element_at;
 use ss_core::{Classes, Ty};
-use ss_logic_stores::Sort;
+use ss_logic::Sort;
 use ss_rules_basic::{class_name, natural};
 use ss_rules_looks::{Look, class_of_field, read_named, type_of_field};
 use ss_rules_plans::{Claim, Clause, Plan, Slot, fill};
-use ss_terms_stores::{Bank, FormulaId, Predicate, Symbol, TermId};
+use ss_terms::{Bank, FormulaId, Predicate, Symbol, TermId};
 use std::alloc::{AllocError, Global};
 
 // A field holds a number in range, or refers to an allocated object of its class.

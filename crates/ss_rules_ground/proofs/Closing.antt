@@ -5,8 +5,8 @@ use Rattle.std.specs.List.{list_any}
 use Rattle.std.proofs.lemmas.List.{append-nil}
 use Rattle.std.proofs.lemmas.Bool.{lt-leb, le-leb, eq-eqb, eqb-true, ne_eqb}
 use Rattle.ss_core.specs.Tree.{ClassTree}
-use Rattle.ss_logic_stores.specs.Formulas.{Formula}
-use Rattle.ss_logic_stores.specs.Equal.{same_formula}
+use Rattle.ss_logic.specs.Formulas.{Formula}
+use Rattle.ss_logic.specs.Equal.{same_formula}
 use Rattle.ss_logic_ground.specs.Ground.{due, if_more, closed, closed_from}
 use Rattle.ss_rules_ground.specs.Comes.{IsClosed}
 use Rattle.ss_logic_ground.specs.Occurring.{with_formula, with_formulas}

@@ -3,16 +3,16 @@ use Rattle.std.proofs.Common.{◌≡◌, ℕ, zero, suc, ◌+◌, ◌-◌, ◌<�
 use Rattle.std.specs.Prelude.{option_and_then, IfOk, OnOk}
 use Rattle.std.proofs.lemmas.List.{map_push, take_more, reverse-append}
 use Rattle.ss_core.specs.Tree.{ClassTree}
-use Rattle.ss_logic_stores.specs.Formulas.{Formula}
+use Rattle.ss_logic.specs.Formulas.{Formula}
 use Rattle.ss_logic_ground.specs.Asked as spec
 use Rattle.ss_logic_ground.specs.Ground.{due, closed, closed_from, foralls_step, round, rounds_of, ground_form}
 use Rattle.ss_logic_ground.specs.Matching.{forall_instances}
 use Rattle.ss_logic_ground.specs.Occurring.{with_formula, with_formulas}
 use Rattle.ss_logic_ground.specs.Opened.{start}
-use Rattle.ss_terms_stores.specs.declared.forms.FormulaId.{FormulaId}
-use Rattle.ss_terms_stores.specs.Forms.{Forms, formula_at, formulas_at, HasFormulas, IsGrown}
-use Rattle.ss_terms_stores.proofs.Grown.{formulas_at-grown}
-use Rattle.ss_terms_stores.proofs.Parts.{AreBelow-get}
+use Rattle.ss_terms.specs.declared.forms.FormulaId.{FormulaId}
+use Rattle.ss_terms.specs.Forms.{Forms, formula_at, formulas_at, HasFormulas, IsGrown}
+use Rattle.ss_terms.proofs.Grown.{formulas_at-grown}
+use Rattle.ss_terms.proofs.Parts.{AreBelow-get}
 use Rattle.ss_rules_asked.specs.declared.asked.Asked.{Asked}
 use Rattle.ss_rules_asked.specs.Numbers.{Asks}
 use Rattle.ss_rules_occurring.specs.declared.found.FormulaList.{FormulaList}

@@ -1,7 +1,7 @@
 -- What the ground form in code stands for.
 use Rattle.std.specs.Prelude.{List, Option, Some, None}
-use Rattle.ss_logic_stores.specs.Formulas as logic
-use Rattle.ss_terms_stores.specs.Forms.{Forms, formulas_at, HasFormulas}
+use Rattle.ss_logic.specs.Formulas as logic
+use Rattle.ss_terms.specs.Forms.{Forms, formulas_at, HasFormulas}
 use Rattle.ss_rules_ground.specs.declared.form.GroundForm.{GroundForm}
 use Rattle.ss_rules_ground.specs.declared.form.GroundForm.TheVariants as ground
 

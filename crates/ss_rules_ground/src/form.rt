@@ -6,7 +6,7 @@ ghost use Rattle.ss_core.specs.View as view;
 ghost use Rattle.ss_logic_ground.specs.Ground.{ground_form};
 ghost use Rattle.ss_logic_ground.specs.Occurring.{with_formulas};
 ghost use Rattle.ss_logic_ground.specs.Opened as opened;
-ghost use Rattle.ss_terms_stores.specs.Forms.{formula_at, formulas_at, HasFormula, HasFormulas, IsGrown, IsBankOf};
+ghost use Rattle.ss_terms.specs.Forms.{formula_at, formulas_at, HasFormula, HasFormulas, IsGrown, IsBankOf};
 ghost use Rattle.ss_rules_occurring.specs.Found.{Holds};
 ghost use Rattle.ss_rules_ground.specs.Grounds.{ground_at, HasGround};
 
@@ -14,7 +14,7 @@ use crate::rounds::closed_rounds;
 use ss_core::Classes;
 use ss_rules_occurring::FormulaList;
 use ss_rules_opened::start;
-use ss_terms_stores::{Bank, FormulaId};
+use ss_terms::{Bank, FormulaId};
 use std::alloc::{AllocError, Global};
 
 /// The ground form of an obligation.

@@ -9,7 +9,7 @@ ghost use Rattle.ss_logic_ground.specs.Matching.{forall_instances};
 ghost use Rattle.ss_logic_ground.specs.Occurring as occurring;
 ghost use Rattle.ss_logic_ground.specs.Occurring.{with_formulas};
 ghost use Rattle.ss_rules_asked.specs.Numbers.{Asks};
-ghost use Rattle.ss_terms_stores.specs.Forms.{formula_at, formulas_at, HasFormula, HasFormulas, IsGrown, IsBankOf};
+ghost use Rattle.ss_terms.specs.Forms.{formula_at, formulas_at, HasFormula, HasFormulas, IsGrown, IsBankOf};
 ghost use Rattle.ss_rules_occurring.specs.Found.{formulas_of, HasFound, Holds};
 ghost use Rattle.ss_rules_ground.specs.Comes.{Comes, IsClosed};
 
@@ -19,7 +19,7 @@ use ss_rules_asked_first::asked_first;
 use ss_rules_matching::add_forall_instances;
 use ss_rules_occurring::{FormulaList, atoms, quantified, terms};
 use ss_rules_said::add_said;
-use ss_terms_stores::{Bank, FormulaId};
+use ss_terms::{Bank, FormulaId};
 use std::alloc::{AllocError, Global};
 
 // What is asked for to close the list.

@@ -4,16 +4,16 @@ use Rattle.std.specs.Prelude.{IfOk, Vec, if◌then◌else◌}
 use Rattle.std.specs.declared.alloc.Global.{Global}
 use Rattle.ss_core.specs.Tree.{ClassTree, ExprTree}
 use Rattle.ss_store_rules.specs.Admissible.{invariants}
-use Rattle.ss_logic_stores.specs.declared.Sort.TheVariants as sort
-use Rattle.ss_logic_stores.specs.Terms.{Term, have_sorts}
+use Rattle.ss_logic.specs.declared.Sort.TheVariants as sort
+use Rattle.ss_logic.specs.Terms.{Term, have_sorts}
 use Rattle.ss_logic_rules.specs.Shapes.{class_of_term}
 use Rattle.ss_logic_express.specs.Express.{holds_formula}
 use Rattle.ss_logic_express.specs.Express as spec
 use Rattle.ss_logic_express.specs.Invariants.{invariant_scene, packed_invariants, invariants_at, invariants_of}
-use Rattle.ss_terms_stores.specs.declared.forms.TermId.{TermId}
-use Rattle.ss_terms_stores.specs.declared.forms.FormulaId.{FormulaId}
-use Rattle.ss_terms_stores.specs.Forms.{Forms, term_at, HasTerm, IsFormulaNumber, IsGrown}
-use Rattle.ss_terms_stores.proofs.Grown.{IsGrown-refl}
+use Rattle.ss_terms.specs.declared.forms.TermId.{TermId}
+use Rattle.ss_terms.specs.declared.forms.FormulaId.{FormulaId}
+use Rattle.ss_terms.specs.Forms.{Forms, term_at, HasTerm, IsFormulaNumber, IsGrown}
+use Rattle.ss_terms.proofs.Grown.{IsGrown-refl}
 use Rattle.ss_vcgen_express.specs.Numbers.{IsFormula, AreFormulas}
 use Rattle.ss_vcgen_heaps.specs.Contracts.{conditions}
 

@@ -4,20 +4,20 @@ ghost use Rattle.std.specs.Prelude.{◌≡◌, ◌≤◌, [], ◌∷◌, map, le
 ghost use Rattle.ss_core.specs.Chain.{IsWithinLimits, most_classes};
 ghost use Rattle.ss_core.specs.View as view;
 ghost use Rattle.ss_store_rules.specs.Admissible as admissible;
-ghost use Rattle.ss_logic_stores.specs.Formulas.{neg};
+ghost use Rattle.ss_logic.specs.Formulas.{neg};
 ghost use Rattle.ss_logic_rules.specs.Shapes.{class_term, level_of, sub_atom, allocated, given};
 ghost use Rattle.ss_logic_express.specs.Express.{holds_formula};
 ghost use Rattle.ss_logic_express.specs.Invariants as rule;
 ghost use Rattle.ss_logic_express.specs.Invariants.{invariant_scene, invariants_said, packed_invariants, invariants_at};
-ghost use Rattle.ss_terms_stores.specs.Forms.{Forms, term_at, terms_at, formula_at, HasTerm, HasTerms, HasFormula, IsFormulaNumber, IsGrown, IsBankOf};
+ghost use Rattle.ss_terms.specs.Forms.{Forms, term_at, terms_at, formula_at, HasTerm, HasTerms, HasFormula, IsFormulaNumber, IsGrown, IsBankOf};
 ghost use Rattle.ss_vcgen_express.specs.Numbers.{IsFormula, AreFormulas};
 ghost use Rattle.ss_vcgen_express.specs.Sayings.{said_so, HasSaying};
 ghost use Rattle.ss_vcgen_express.specs.Scenes.{scene_at, HasScene};
 
 use ss_core::{ClassId, Classes, Expr, Ty};
-use ss_logic_stores::Sort;
+use ss_logic::Sort;
 use ss_rules_basic::class_name;
-use ss_terms_stores::{Bank, FormulaId, TermId};
+use ss_terms::{Bank, FormulaId, TermId};
 use ss_vcgen_express::{Meant, Saying, Scene, all, any, over};
 use ss_vcgen_walk::conditions;
 use std::alloc::{AllocError, Global};

@@ -1,13 +1,13 @@
 -- Reads over the numbers of a bank.
 use Rattle.std.specs.Prelude.{◌≡◌, ℕ, List, [], ◌∷◌, Bool, true, Option, Some, None, ◌==◌, option_and_then, if◌then◌else◌}
 use Rattle.ss_core.specs.Tree.{ClassTree}
-use Rattle.ss_logic_stores.specs.declared.Sort.TheVariants as sort
-use Rattle.ss_logic_stores.specs.Terms.{Term, terms_from, has_field, have_sorts}
-use Rattle.ss_logic_stores.specs.Formulas.{Predicate, Formula, Literal}
+use Rattle.ss_logic.specs.declared.Sort.TheVariants as sort
+use Rattle.ss_logic.specs.Terms.{Term, terms_from, has_field, have_sorts}
+use Rattle.ss_logic.specs.Formulas.{Predicate, Formula, Literal}
 use Rattle.ss_logic_rules.specs.Shapes.{when}
 use Rattle.ss_logic_rules.specs.Reads as read
 use Rattle.ss_logic_rules.specs.Reads.{is_look}
-use Rattle.ss_terms_stores.specs.Forms.{Forms, term_at, HasTerm}
+use Rattle.ss_terms.specs.Forms.{Forms, term_at, HasTerm}
 use Rattle.ss_rules_looks.specs.declared.looks.Look.{Look}
 use Rattle.ss_rules_looks.specs.declared.looks.Look.TheVariants as look
 

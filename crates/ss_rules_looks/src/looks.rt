@@ -4,15 +4,15 @@ ghost use Rattle.std.specs.Prelude.{◌≡◌, ◌≤◌, ◌^◌, [], ◌∷◌
 ghost use Rattle.ss_core.specs.Chain.{most_classes, all_fields};
 ghost use Rattle.ss_core.specs.View as view;
 ghost use Rattle.ss_store_rules.specs.Changes.{field_class, field_mark, field_type};
-ghost use Rattle.ss_logic_stores.specs.Terms.{has_field};
+ghost use Rattle.ss_logic.specs.Terms.{has_field};
 ghost use Rattle.ss_logic_rules.specs.Reads.{look_from, look_of, look_of_one, look_of_two, is_look};
-ghost use Rattle.ss_terms_stores.specs.Forms.{Forms, term_at, terms_at, HasTerm, HasTerms, IsBankOf};
+ghost use Rattle.ss_terms.specs.Forms.{Forms, term_at, terms_at, HasTerm, HasTerms, IsBankOf};
 ghost use Rattle.ss_rules_looks.specs.Looks.{look_in, HasLook, IsLookOf, fitting};
 
 use ss_core::{ClassId, Classes, FieldId, Mark, Ty};
-use ss_logic_stores::Sort;
+use ss_logic::Sort;
 use ss_rules_basic::natural;
-use ss_terms_stores::{Bank, TermId};
+use ss_terms::{Bank, TermId};
 
 /// A read, without its store.
 #[derive(Clone, Copy)]

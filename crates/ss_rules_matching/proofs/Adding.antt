@@ -2,17 +2,17 @@
 use Rattle.std.proofs.Common.{◌≡◌, ℕ, zero, suc, ◌+◌, ◌<◌, ◌≤◌, List, [], ◌∷◌, ◌++◌, length, map, take, get_or, Bool, true, false, refl, sym, ◌∙◌, ap, subst, arith, Option, Result, Ok, Err, Vec, Global, if◌then◌else◌}
 use Rattle.std.specs.Prelude.{OnOk, filter, ◌&&◌}
 use Rattle.std.proofs.lemmas.List.{map_push, take_more}
-use Rattle.ss_logic_stores.specs.declared.Sort.{Sort}
-use Rattle.ss_logic_stores.specs.Terms.{Term}
-use Rattle.ss_logic_stores.specs.Formulas.{Formula, Literal, And, Or, Forall, Exists}
+use Rattle.ss_logic.specs.declared.Sort.{Sort}
+use Rattle.ss_logic.specs.Terms.{Term}
+use Rattle.ss_logic.specs.Formulas.{Formula, Literal, And, Or, Forall, Exists}
 use Rattle.ss_logic_ground.specs.Asked.{is_empty}
 use Rattle.ss_logic_ground.specs.Matching.{is_one_whole, is_plain_whole, forall_instances, instances_at, term_triggers, atom_triggers}
 use Rattle.ss_logic_ground.specs.Occurring.{all_terms, with_formula, with_formulas}
-use Rattle.ss_terms_stores.specs.declared.forms.TermId.{TermId}
-use Rattle.ss_terms_stores.specs.declared.forms.FormulaId.{FormulaId}
-use Rattle.ss_terms_stores.specs.declared.forms.Formula.TheVariants.{Forall as ForallForm}
-use Rattle.ss_terms_stores.specs.Forms.{Forms, term_at, terms_at, formula_at, HasTerm, HasTerms, HasFormula, IsGrown, IsFormulaForm}
-use Rattle.ss_terms_stores.proofs.Grown.{HasTerms-grown, terms_at-grown}
+use Rattle.ss_terms.specs.declared.forms.TermId.{TermId}
+use Rattle.ss_terms.specs.declared.forms.FormulaId.{FormulaId}
+use Rattle.ss_terms.specs.declared.forms.Formula.TheVariants.{Forall as ForallForm}
+use Rattle.ss_terms.specs.Forms.{Forms, term_at, terms_at, formula_at, HasTerm, HasTerms, HasFormula, IsGrown, IsFormulaForm}
+use Rattle.ss_terms.proofs.Grown.{HasTerms-grown, terms_at-grown}
 use Rattle.ss_rules_occurring.specs.declared.found.FormulaList.{FormulaList}
 use Rattle.ss_rules_occurring.specs.Found.{formulas_of, Holds, HasFound}
 use Rattle.ss_rules_occurring.proofs.Growing.{formulas_of-grown}

@@ -6,14 +6,14 @@ use Rattle.std.proofs.lemmas.List.{map-set, map_push, append-nil}
 use Rattle.std.proofs.lemmas.Option.{slice_get-map, slice_get_past, slice_get-get_or}
 use Rattle.std.proofs.lemmas.Bool.{ltb-true, and_parts, false≢true}
 use Rattle.ss_core.specs.Tree.{ClassTree}
-use Rattle.ss_logic_stores.specs.Terms.{Symbol, Term, Bound, App, Terms, no_terms, term_then, terms_from, takes, sorts_of, is_well_sorted, are_well_sorted}
-use Rattle.ss_logic_stores.specs.Equal.{same_term, same_symbol, equal_terms, same_term_equal, equal_symbols, symbols_discrete, answer_from}
+use Rattle.ss_logic.specs.Terms.{Symbol, Term, Bound, App, Terms, no_terms, term_then, terms_from, takes, sorts_of, is_well_sorted, are_well_sorted}
+use Rattle.ss_logic.specs.Equal.{same_term, same_symbol, equal_terms, same_term_equal, equal_symbols, symbols_discrete, answer_from}
 use Rattle.ss_logic_ground.specs.Matching as spec
-use Rattle.ss_terms_stores.specs.declared.forms.TermId.{TermId}
-use Rattle.ss_terms_stores.specs.declared.forms.Symbol as form
-use Rattle.ss_terms_stores.specs.declared.forms.Term.TheVariants.{App as AppForm}
-use Rattle.ss_terms_stores.specs.Forms.{Forms, term_at, terms_at, HasTerm, HasTerms, IsTermForm}
-use Rattle.ss_terms_stores.proofs.Trees.{AreTermsBelow-more}
+use Rattle.ss_terms.specs.declared.forms.TermId.{TermId}
+use Rattle.ss_terms.specs.declared.forms.Symbol as form
+use Rattle.ss_terms.specs.declared.forms.Term.TheVariants.{App as AppForm}
+use Rattle.ss_terms.specs.Forms.{Forms, term_at, terms_at, HasTerm, HasTerms, IsTermForm}
+use Rattle.ss_terms.proofs.Trees.{AreTermsBelow-more}
 use Rattle.ss_rules_matching.specs.Matches.{found_at, all_found_at, HasAllFound, IsMatch, AreThese}
 
 -- ---- what stands for one bound name

@@ -6,11 +6,11 @@ use Rattle.std.proofs.lemmas.Bool.{cases_eq}
 use Rattle.std.proofs.lemmas.List.{append-nil, map_push, take_more}
 use Rattle.std.proofs.lemmas.List.Elements.{filter-append}
 use Rattle.std.proofs.lemmas.List.Folds.{list_any-append}
-use Rattle.ss_logic_stores.specs.Terms.{Term, Terms, term_list, terms_from}
+use Rattle.ss_logic.specs.Terms.{Term, Terms, term_list, terms_from}
 use Rattle.ss_logic_ground.specs.Matching as spec
-use Rattle.ss_terms_stores.specs.declared.forms.TermId.{TermId}
-use Rattle.ss_terms_stores.specs.Forms.{Forms, term_at, terms_at}
-use Rattle.ss_terms_stores.proofs.Sorted.{list_back}
+use Rattle.ss_terms.specs.declared.forms.TermId.{TermId}
+use Rattle.ss_terms.specs.Forms.{Forms, term_at, terms_at}
+use Rattle.ss_terms.proofs.Sorted.{list_back}
 
 -- ---- one more item of a list
 

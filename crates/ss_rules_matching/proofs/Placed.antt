@@ -3,13 +3,13 @@ use Rattle.std.proofs.Common.{◌≡◌, ℕ, zero, suc, ◌+◌, ◌<◌, ◌�
 use Rattle.std.specs.Prelude.{flat_map, filter_map, option_map, option_to_list, IfSome, IfOk, ◌&&◌}
 use Rattle.std.proofs.lemmas.List.{append-nil, map_push, take_more, flat_map_more}
 use Rattle.std.proofs.lemmas.List.Elements.{filter_map-append}
-use Rattle.ss_logic_stores.specs.declared.Sort.{Sort}
-use Rattle.ss_logic_stores.specs.Terms.{Term}
-use Rattle.ss_logic_stores.specs.Formulas.{Formula}
+use Rattle.ss_logic.specs.declared.Sort.{Sort}
+use Rattle.ss_logic.specs.Terms.{Term}
+use Rattle.ss_logic.specs.Formulas.{Formula}
 use Rattle.ss_logic_ground.specs.Asked.{is_empty}
 use Rattle.ss_logic_ground.specs.Matching.{is_one_whole}
-use Rattle.ss_terms_stores.specs.declared.forms.TermId.{TermId}
-use Rattle.ss_terms_stores.specs.Forms.{Forms, term_at, terms_at, HasTerm, HasTerms}
+use Rattle.ss_terms.specs.declared.forms.TermId.{TermId}
+use Rattle.ss_terms.specs.Forms.{Forms, term_at, terms_at, HasTerm, HasTerms}
 use Rattle.ss_rules_matching.specs.declared.places.Tuple.{Tuple}
 use Rattle.ss_rules_matching.specs.Matches.{tuple_at, tuples_at, HasTuples, AreTuples, AreThese, places_by, number_places, match_places}
 

@@ -1,14 +1,14 @@
 -- What stands for bound names, and lists of terms, in a bank.
 use Rattle.std.specs.Prelude.{◌≡◌, ℕ, List, [], ◌∷◌, ◌++◌, map, filter, filter_map, flat_map, length, Bool, ◌&&◌, Option, Some, None, option_map, IfSome, if◌then◌else◌, Vec}
 use Rattle.std.specs.Global.{Global}
-use Rattle.ss_logic_stores.specs.declared.Sort.{Sort}
-use Rattle.ss_logic_stores.specs.Terms.{Term}
-use Rattle.ss_logic_stores.specs.Formulas.{Formula, Or, formulas_from, neg, put}
+use Rattle.ss_logic.specs.declared.Sort.{Sort}
+use Rattle.ss_logic.specs.Terms.{Term}
+use Rattle.ss_logic.specs.Formulas.{Formula, Or, formulas_from, neg, put}
 use Rattle.ss_logic_ground.specs.Occurring.{atoms, terms, all_terms}
 use Rattle.ss_logic_ground.specs.Asked.{is_empty}
 use Rattle.ss_logic_ground.specs.Matching.{is_trigger, is_plain_whole, is_one_whole, term_triggers, atom_triggers, match_term, match_atom}
-use Rattle.ss_terms_stores.specs.declared.forms.TermId.{TermId}
-use Rattle.ss_terms_stores.specs.Forms.{Forms, term_at, terms_at, HasTerm, HasTerms}
+use Rattle.ss_terms.specs.declared.forms.TermId.{TermId}
+use Rattle.ss_terms.specs.Forms.{Forms, term_at, terms_at, HasTerm, HasTerms}
 use Rattle.ss_rules_matching.specs.declared.triggers.Wanted.{Wanted}
 use Rattle.ss_rules_matching.specs.declared.triggers.Wanted.TheVariants as wanted
 use Rattle.ss_rules_matching.specs.declared.places.Tuple.{Tuple}

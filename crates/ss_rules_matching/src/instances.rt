@@ -2,19 +2,19 @@
 
 ghost use Rattle.std.specs.Prelude.{◌≡◌, map, IfOk, OnOk};
 ghost use Rattle.ss_core.specs.View as view;
-ghost use Rattle.ss_logic_stores.specs.Formulas.{Forall};
+ghost use Rattle.ss_logic.specs.Formulas.{Forall};
 ghost use Rattle.ss_logic_ground.specs.Matching.{forall_instances};
 ghost use Rattle.ss_logic_ground.specs.Occurring.{with_formula, with_formulas};
-ghost use Rattle.ss_terms_stores.specs.Forms.{terms_at, formula_at, HasTerms, HasFormula, IsGrown, IsBankOf};
+ghost use Rattle.ss_terms.specs.Forms.{terms_at, formula_at, HasTerms, HasFormula, IsGrown, IsBankOf};
 ghost use Rattle.ss_rules_occurring.specs.Found.{formulas_of, HasFound, Holds};
 ghost use Rattle.ss_rules_matching.specs.Matches.{tuples_at, HasTuples, places, instance_there};
 
 use crate::places::{Tuple, places};
 use ss_core::Classes;
-use ss_logic_stores::Sort;
+use ss_logic::Sort;
 use ss_rules_occurring::FormulaList;
+use ss_terms::{Bank, Formula, FormulaId, TermId};
 use ss_terms_puts::put;
-use ss_terms_stores::{Bank, Formula, FormulaId, TermId};
 use std::alloc::{AllocError, Global};
 
 // The instance at these terms.

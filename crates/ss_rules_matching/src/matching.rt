@@ -2,15 +2,15 @@
 
 ghost use Rattle.std.specs.Prelude.{◌≡◌, ◌≤◌, length, replicate, Option, None, option_and_then, slice_get, IfOk};
 ghost use Rattle.ss_core.specs.View as view;
-ghost use Rattle.ss_logic_stores.specs.Terms.{App, terms_from};
-ghost use Rattle.ss_logic_stores.specs.Formulas.{Literal};
-ghost use Rattle.ss_logic_stores.specs.Equal.{same_symbol, same_predicate};
+ghost use Rattle.ss_logic.specs.Terms.{App, terms_from};
+ghost use Rattle.ss_logic.specs.Formulas.{Literal};
+ghost use Rattle.ss_logic.specs.Equal.{same_symbol, same_predicate};
 ghost use Rattle.ss_logic_ground.specs.Matching as spec;
-ghost use Rattle.ss_terms_stores.specs.Forms.{symbol_of, predicate_of, term_at, terms_at, formula_at, HasTerm, HasTerms, HasFormula, AreTermsBelow, IsBankOf};
+ghost use Rattle.ss_terms.specs.Forms.{symbol_of, predicate_of, term_at, terms_at, formula_at, HasTerm, HasTerms, HasFormula, AreTermsBelow, IsBankOf};
 ghost use Rattle.ss_rules_matching.specs.Matches.{all_found_at, HasAllFound, IsMatch, AreThese};
 
 use ss_core::Classes;
-use ss_terms_stores::{Bank, Formula, FormulaId, Predicate, Symbol, Term, TermId};
+use ss_terms::{Bank, Formula, FormulaId, Predicate, Symbol, Term, TermId};
 use std::alloc::{AllocError, Global};
 
 fn is_same_function(f: Symbol, g: Symbol) -> bool

@@ -4,16 +4,16 @@ ghost use Rattle.std.specs.Prelude.{◌≡◌, ◌&&◌, [], ◌∷◌, ◌++◌
 ghost use Rattle.ss_core.specs.View as view;
 ghost use Rattle.ss_logic_ground.specs.Asked as ask;
 ghost use Rattle.ss_logic_ground.specs.Matching as spec;
-ghost use Rattle.ss_terms_stores.specs.Forms.{term_at, terms_at, formula_at, formulas_at, HasTerm, HasTerms, HasFormula, HasFormulas, IsBankOf};
+ghost use Rattle.ss_terms.specs.Forms.{term_at, terms_at, formula_at, formulas_at, HasTerm, HasTerms, HasFormula, HasFormulas, IsBankOf};
 ghost use Rattle.ss_rules_matching.specs.Matches as words;
 ghost use Rattle.ss_rules_matching.specs.Matches.{tuples_at, HasTuples, AreTuples};
 
 use crate::matching::{match_atom, match_term};
 use crate::triggers::{Wanted, atom_triggers, wanted_everywhere};
 use ss_core::Classes;
-use ss_logic_stores::Sort;
+use ss_logic::Sort;
 use ss_rules_occurring::{atoms, terms};
-use ss_terms_stores::{Bank, FormulaId, TermId};
+use ss_terms::{Bank, FormulaId, TermId};
 use std::alloc::{AllocError, Global};
 
 /// Terms in place of bound names.

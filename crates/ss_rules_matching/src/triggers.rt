@@ -2,16 +2,16 @@
 
 ghost use Rattle.std.specs.Prelude.{◌≡◌, [], ◌∷◌, ◌++◌, filter, IfOk, OnOk};
 ghost use Rattle.std.specs.List.{list_any};
-ghost use Rattle.ss_logic_stores.specs.Terms.{terms_from};
+ghost use Rattle.ss_logic.specs.Terms.{terms_from};
 ghost use Rattle.ss_logic_ground.specs.Occurring.{all_terms};
 ghost use Rattle.ss_logic_ground.specs.Matching as spec;
-ghost use Rattle.ss_terms_stores.specs.Forms.{symbol_of, predicate_of, term_at, terms_at, formula_at, formulas_at, HasTerm, HasTerms, HasFormula, HasFormulas};
+ghost use Rattle.ss_terms.specs.Forms.{symbol_of, predicate_of, term_at, terms_at, formula_at, formulas_at, HasTerm, HasTerms, HasFormula, HasFormulas};
 ghost use Rattle.ss_rules_occurring.specs.Found.{HoldsTerms};
 ghost use Rattle.ss_rules_matching.specs.Matches.{is_wanted};
 
-use ss_logic_stores::Sort;
+use ss_logic::Sort;
 use ss_rules_occurring::{TermList, all_atoms, terms};
-use ss_terms_stores::{Bank, Formula, FormulaId, Predicate, Symbol, Term, TermId};
+use ss_terms::{Bank, Formula, FormulaId, Predicate, Symbol, Term, TermId};
 use std::alloc::{AllocError, Global};
 
 /// A form of terms that are looked for.

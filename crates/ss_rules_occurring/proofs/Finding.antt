@@ -7,12 +7,12 @@ use Rattle.std.proofs.lemmas.Bool.{cases_eq, eq-eqb, ne_eqb}
 use Rattle.ss_bit_set.specs.declared.bit_set.BitSet.{BitSet}
 use Rattle.ss_bit_set.specs.Marked.{marked}
 use Rattle.ss_paths.specs.Sets.{put, none}
-use Rattle.ss_logic_stores.specs.Equal.{same_term, same_formula}
+use Rattle.ss_logic.specs.Equal.{same_term, same_formula}
 use Rattle.ss_logic_ground.specs.Occurring.{with_formula}
-use Rattle.ss_terms_stores.specs.declared.forms.TermId.{TermId}
-use Rattle.ss_terms_stores.specs.declared.forms.FormulaId.{FormulaId}
-use Rattle.ss_terms_stores.specs.Forms.{Forms, term_at, terms_at, formula_at, formulas_at, HasTerm, HasTerms, HasFormula, HasFormulas}
-use Rattle.ss_terms_stores.specs.Apart.{AreApart}
+use Rattle.ss_terms.specs.declared.forms.TermId.{TermId}
+use Rattle.ss_terms.specs.declared.forms.FormulaId.{FormulaId}
+use Rattle.ss_terms.specs.Forms.{Forms, term_at, terms_at, formula_at, formulas_at, HasTerm, HasTerms, HasFormula, HasFormulas}
+use Rattle.ss_terms.specs.Apart.{AreApart}
 use Rattle.ss_rules_occurring.specs.declared.found.FormulaList.{FormulaList}
 use Rattle.ss_rules_occurring.specs.declared.found.TermList.{TermList}
 use Rattle.ss_rules_occurring.specs.Found.{AreMarked, formula_number, term_number, formulas_of, terms_of, Holds, HoldsTerms, HasFound, HasFoundTerms}

@@ -1,8 +1,8 @@
 -- Lists without repetition, as the bank grows.
 use Rattle.std.proofs.Common.{◌≡◌, refl, ◌∙◌, List}
-use Rattle.ss_logic_stores.specs.Formulas.{Formula}
-use Rattle.ss_terms_stores.specs.Forms.{Forms, IsGrown}
-use Rattle.ss_terms_stores.proofs.Grown.{HasFormulas-grown, formulas_at-grown}
+use Rattle.ss_logic.specs.Formulas.{Formula}
+use Rattle.ss_terms.specs.Forms.{Forms, IsGrown}
+use Rattle.ss_terms.proofs.Grown.{HasFormulas-grown, formulas_at-grown}
 use Rattle.ss_rules_occurring.specs.declared.found.FormulaList.{FormulaList}
 use Rattle.ss_rules_occurring.specs.Found.{formulas_of, Holds, HasFound}
 

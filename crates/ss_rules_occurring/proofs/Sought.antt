@@ -2,15 +2,15 @@
 use Rattle.std.proofs.Common.{◌≡◌, ℕ, ◌+◌, ◌<◌, List, [], ◌∷◌, ◌++◌, length, take, get_or, Bool, refl, sym, ◌∙◌, ap, subst, Result, Ok, Err, Vec, Global}
 use Rattle.std.specs.Prelude.{OnOk, flat_map}
 use Rattle.std.proofs.lemmas.List.{map_push, take_more, flat_map_more}
-use Rattle.ss_logic_stores.specs.declared.Sort.{Sort}
-use Rattle.ss_logic_stores.specs.Terms.{Terms}
-use Rattle.ss_logic_stores.specs.Formulas.{Predicate, Formula, Literal, formulas_from}
+use Rattle.ss_logic.specs.declared.Sort.{Sort}
+use Rattle.ss_logic.specs.Terms.{Terms}
+use Rattle.ss_logic.specs.Formulas.{Predicate, Formula, Literal, formulas_from}
 use Rattle.ss_logic_ground.specs.Occurring.{with_formula, with_formulas, atoms_in, all_atoms_in, quantified_in, all_quantified_in, literals_in, all_literals_in}
-use Rattle.ss_terms_stores.specs.declared.forms.FormulaId.{FormulaId}
-use Rattle.ss_terms_stores.specs.declared.forms.TermId.{TermId}
-use Rattle.ss_terms_stores.specs.declared.forms.Predicate as form
-use Rattle.ss_terms_stores.specs.declared.forms.Formula.TheVariants.{Literal as LiteralForm, And as AndForm, Or as OrForm, Forall as ForallForm, Exists as ExistsForm}
-use Rattle.ss_terms_stores.specs.Forms.{Forms, formula_at, formulas_at, IsFormulaForm}
+use Rattle.ss_terms.specs.declared.forms.FormulaId.{FormulaId}
+use Rattle.ss_terms.specs.declared.forms.TermId.{TermId}
+use Rattle.ss_terms.specs.declared.forms.Predicate as form
+use Rattle.ss_terms.specs.declared.forms.Formula.TheVariants.{Literal as LiteralForm, And as AndForm, Or as OrForm, Forall as ForallForm, Exists as ExistsForm}
+use Rattle.ss_terms.specs.Forms.{Forms, formula_at, formulas_at, IsFormulaForm}
 use Rattle.ss_rules_occurring.specs.declared.found.FormulaList.{FormulaList}
 use Rattle.ss_rules_occurring.specs.declared.seeking.Sought.{Sought}
 use Rattle.ss_rules_occurring.specs.declared.seeking.Sought.TheVariants as sought

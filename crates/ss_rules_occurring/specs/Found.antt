@@ -3,11 +3,11 @@ use Rattle.std.specs.Prelude.{◌≡◌, ℕ, ◌==◌, List, map}
 use Rattle.std.specs.List.{list_any}
 use Rattle.ss_bit_set.specs.declared.bit_set.BitSet.{BitSet}
 use Rattle.ss_bit_set.specs.Marked.{marked}
-use Rattle.ss_logic_stores.specs.Terms.{Term}
-use Rattle.ss_logic_stores.specs.Formulas.{Formula}
-use Rattle.ss_terms_stores.specs.declared.forms.TermId.{TermId}
-use Rattle.ss_terms_stores.specs.declared.forms.FormulaId.{FormulaId}
-use Rattle.ss_terms_stores.specs.Forms.{Forms, terms_at, formulas_at, HasTerms, HasFormulas}
+use Rattle.ss_logic.specs.Terms.{Term}
+use Rattle.ss_logic.specs.Formulas.{Formula}
+use Rattle.ss_terms.specs.declared.forms.TermId.{TermId}
+use Rattle.ss_terms.specs.declared.forms.FormulaId.{FormulaId}
+use Rattle.ss_terms.specs.Forms.{Forms, terms_at, formulas_at, HasTerms, HasFormulas}
 use Rattle.ss_rules_occurring.specs.declared.found.FormulaList.{FormulaList}
 use Rattle.ss_rules_occurring.specs.declared.found.TermList.{TermList}
 

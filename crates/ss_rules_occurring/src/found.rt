@@ -2,13 +2,13 @@
 
 ghost use Rattle.std.specs.Prelude.{◌≡◌, [], ◌∷◌, ◌++◌, not, if◌then◌else◌, IfOk, OnOk};
 ghost use Rattle.std.specs.List.{list_any};
-ghost use Rattle.ss_logic_stores.specs.Equal.{same_term};
+ghost use Rattle.ss_logic.specs.Equal.{same_term};
 ghost use Rattle.ss_logic_ground.specs.Occurring.{with_formula};
-ghost use Rattle.ss_terms_stores.specs.Forms.{formula_at, term_at, HasFormula, HasTerm};
+ghost use Rattle.ss_terms.specs.Forms.{formula_at, term_at, HasFormula, HasTerm};
 ghost use Rattle.ss_rules_occurring.specs.Found.{formulas_of, terms_of, HasFound, HasFoundTerms, Holds, HoldsTerms};
 
 use ss_bit_set::BitSet;
-use ss_terms_stores::{Bank, FormulaId, TermId};
+use ss_terms::{Bank, FormulaId, TermId};
 use std::alloc::{AllocError, Global};
 
 /// Formulas of a bank, each once.

@@ -3,13 +3,13 @@
 ghost use Rattle.std.specs.Prelude.{◌≡◌, ◌<◌, ◌≤◌, ◌*◌, length, flat_map, IfOk, OnOk};
 ghost use Rattle.ss_logic_ground.specs.Occurring as spec;
 ghost use Rattle.ss_logic_ground.specs.Occurring.{with_formulas};
-ghost use Rattle.ss_terms_stores.specs.Forms.{formula_at, formulas_at, HasFormula, HasFormulas, AreBelow};
+ghost use Rattle.ss_terms.specs.Forms.{formula_at, formulas_at, HasFormula, HasFormulas, AreBelow};
 ghost use Rattle.ss_rules_occurring.specs.Found.{formulas_of, HasFound, Holds};
 ghost use Rattle.ss_rules_occurring.specs.Sought as words;
 ghost use Rattle.ss_rules_occurring.specs.Sought.{found_in};
 
 use crate::found::FormulaList;
-use ss_terms_stores::{Bank, Formula, FormulaId};
+use ss_terms::{Bank, Formula, FormulaId};
 use std::alloc::{AllocError, Global};
 
 /// What is looked for: atoms or quantified formulas outside quantified formulas, or atoms inside them too.

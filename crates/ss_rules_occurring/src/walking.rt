@@ -1,15 +1,15 @@
 // The terms of atoms.
 
 ghost use Rattle.std.specs.Prelude.{◌≡◌, [], ◌++◌, reverse, IfOk, OnOk};
-ghost use Rattle.ss_logic_stores.specs.Terms.{terms_from};
+ghost use Rattle.ss_logic.specs.Terms.{terms_from};
 ghost use Rattle.ss_logic_ground.specs.Occurring as spec;
 ghost use Rattle.ss_logic_ground.specs.Occurring.{with_arguments, with_terms_of};
-ghost use Rattle.ss_terms_stores.specs.Forms.{formula_at, formulas_at, terms_at, HasFormula, HasFormulas, HasTerm, HasTerms};
+ghost use Rattle.ss_terms.specs.Forms.{formula_at, formulas_at, terms_at, HasFormula, HasFormulas, HasTerm, HasTerms};
 ghost use Rattle.ss_rules_occurring.specs.Stack.{IsStep};
 ghost use Rattle.ss_rules_occurring.specs.Found.{terms_of, HasFoundTerms, HoldsTerms};
 
 use crate::found::TermList;
-use ss_terms_stores::{Bank, Formula, FormulaId, Term, TermId};
+use ss_terms::{Bank, Formula, FormulaId, Term, TermId};
 use std::alloc::{AllocError, Global};
 
 // Puts the terms on the stack, so that the first comes off first.

@@ -4,10 +4,10 @@ use Rattle.std.specs.Prelude.{◌⊎◌, flat_map, sum_by, find}
 use Rattle.std.specs.List.{list_any}
 use Rattle.std.proofs.lemmas.Bool.{false≢true}
 use Rattle.std.proofs.lemmas.List.Sums.{sum_by-cons}
-use Rattle.ss_logic_stores.specs.declared.Sort.{Sort}
-use Rattle.ss_logic_stores.specs.Terms.{Term}
-use Rattle.ss_logic_stores.specs.Formulas.{Formula, Formulas, Literal, And, Or, Forall, Exists, no_formulas, formula_then, put, put_all}
-use Rattle.ss_logic_stores.specs.Equal.{same_formula, equal_formulas, same_formula_equal}
+use Rattle.ss_logic.specs.declared.Sort.{Sort}
+use Rattle.ss_logic.specs.Terms.{Term}
+use Rattle.ss_logic.specs.Formulas.{Formula, Formulas, Literal, And, Or, Forall, Exists, no_formulas, formula_then, put, put_all}
+use Rattle.ss_logic.specs.Equal.{same_formula, equal_formulas, same_formula_equal}
 use Rattle.ss_logic_ground.specs.Occurring.{quantified, quantified_in, all_quantified_in, with_formula, with_formulas}
 use Rattle.ss_logic_ground.specs.Opened.{is_exists, replaced, all_replaced, exists_count, all_exists_count, fresh_constants, opened_from, with_opened}
 use Rattle.ss_rules_opened.specs.Opening.{used_after, list_after}

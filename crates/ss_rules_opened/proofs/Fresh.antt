@@ -3,12 +3,12 @@ use Rattle.std.proofs.Common.{◌≡◌, ℕ, zero, suc, ◌+◌, ◌-◌, ◌<�
 use Rattle.std.specs.List.{list_any}
 use Rattle.std.proofs.Math.Seq.{drop-cons}
 use Rattle.std.proofs.lemmas.List.{append-nil, map_push, map-append}
-use Rattle.ss_logic_stores.specs.declared.Sort.{Sort}
-use Rattle.ss_logic_stores.specs.Terms.{Term}
+use Rattle.ss_logic.specs.declared.Sort.{Sort}
+use Rattle.ss_logic.specs.Terms.{Term}
 use Rattle.ss_logic_ground.specs.Opened.{is_numbered, least_from, fresh_constant, fresh_constants}
-use Rattle.ss_terms_stores.specs.declared.forms.TermId.{TermId}
-use Rattle.ss_terms_stores.specs.Forms.{Forms, term_at, terms_at, HasTerm, HasTerms, IsGrown}
-use Rattle.ss_terms_stores.proofs.Grown.{HasTerms-grown, terms_at-grown}
+use Rattle.ss_terms.specs.declared.forms.TermId.{TermId}
+use Rattle.ss_terms.specs.Forms.{Forms, term_at, terms_at, HasTerm, HasTerms, IsGrown}
+use Rattle.ss_terms.proofs.Grown.{HasTerms-grown, terms_at-grown}
 
 pub count-map : (b : Forms) (ts : List TermId) → length (terms_at b ts) ≡ length ts
 count-map b [] = refl

@@ -2,13 +2,13 @@
 use Rattle.std.proofs.Common.{◌≡◌, ℕ, zero, suc, ◌+◌, ◌<◌, ◌≤◌, List, [], ◌∷◌, ◌++◌, length, map, take, get_or, Bool, true, false, refl, sym, ◌∙◌, ap, subst, arith, Option, Some, None, cond, Result, Ok, Err}
 use Rattle.std.specs.Prelude.{find, sum_by, OnOk}
 use Rattle.std.proofs.lemmas.List.{map_push, take_more}
-use Rattle.ss_logic_stores.specs.declared.Sort.{Sort}
-use Rattle.ss_logic_stores.specs.Terms.{Term}
-use Rattle.ss_logic_stores.specs.Formulas.{Formula, Exists, put}
+use Rattle.ss_logic.specs.declared.Sort.{Sort}
+use Rattle.ss_logic.specs.Terms.{Term}
+use Rattle.ss_logic.specs.Formulas.{Formula, Exists, put}
 use Rattle.ss_logic_ground.specs.Occurring.{quantified}
 use Rattle.ss_logic_ground.specs.Opened.{is_exists, exists_count, fresh_constants, replaced}
-use Rattle.ss_terms_stores.specs.declared.forms.FormulaId.{FormulaId}
-use Rattle.ss_terms_stores.specs.Forms.{Forms, terms_at, formula_at, formulas_at, HasFormula, HasFormulas, IsFormulaNumber}
+use Rattle.ss_terms.specs.declared.forms.FormulaId.{FormulaId}
+use Rattle.ss_terms.specs.Forms.{Forms, terms_at, formula_at, formulas_at, HasFormula, HasFormulas, IsFormulaNumber}
 use Rattle.ss_rules_opened.specs.declared.opening.Opening.{Opening}
 use Rattle.ss_rules_opened.specs.Opening.{used_after, list_after, IsOpening, HasOpening}
 use Rattle.ss_rules_opened.proofs.Counting.{all_opened, opened_fewer, opened_one, opened_none}

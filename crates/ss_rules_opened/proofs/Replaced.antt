@@ -1,12 +1,12 @@
 -- A formula in place of another, number by number.
 use Rattle.std.proofs.Common.{◌≡◌, List, [], ◌∷◌, map, refl, sym, ◌∙◌, ap, if◌then◌else◌, Vec, Global}
-use Rattle.ss_logic_stores.specs.declared.Sort.{Sort}
-use Rattle.ss_logic_stores.specs.Formulas.{Formula, Literal, And, Or, Forall, Exists, formulas_from, formula_then}
-use Rattle.ss_logic_stores.specs.Equal.{same_formula}
+use Rattle.ss_logic.specs.declared.Sort.{Sort}
+use Rattle.ss_logic.specs.Formulas.{Formula, Literal, And, Or, Forall, Exists, formulas_from, formula_then}
+use Rattle.ss_logic.specs.Equal.{same_formula}
 use Rattle.ss_logic_ground.specs.Opened.{replaced, all_replaced}
-use Rattle.ss_terms_stores.specs.declared.forms.FormulaId.{FormulaId}
-use Rattle.ss_terms_stores.specs.declared.forms.Formula.TheVariants.{And as AndForm, Or as OrForm, Forall as ForallForm, Exists as ExistsForm}
-use Rattle.ss_terms_stores.specs.Forms.{Forms, formula_at, formulas_at, IsFormulaForm}
+use Rattle.ss_terms.specs.declared.forms.FormulaId.{FormulaId}
+use Rattle.ss_terms.specs.declared.forms.Formula.TheVariants.{And as AndForm, Or as OrForm, Forall as ForallForm, Exists as ExistsForm}
+use Rattle.ss_terms.specs.Forms.{Forms, formula_at, formulas_at, IsFormulaForm}
 
 all_replaced-map : (x y : Formula) (fs : List Formula) → all_replaced x y (formulas_from fs) ≡ formulas_from (map (replaced x y) fs)
 all_replaced-map x y [] = refl

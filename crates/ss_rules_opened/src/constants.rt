@@ -2,12 +2,12 @@
 
 ghost use Rattle.std.specs.Prelude.{◌≡◌, [], ◌∷◌, ◌++◌, length, IfOk, OnOk};
 ghost use Rattle.std.specs.List.{list_any};
-ghost use Rattle.ss_logic_stores.specs.Terms as tree;
+ghost use Rattle.ss_logic.specs.Terms as tree;
 ghost use Rattle.ss_logic_ground.specs.Opened as spec;
-ghost use Rattle.ss_terms_stores.specs.Forms.{term_at, terms_at, HasTerm, HasTerms, IsGrown};
+ghost use Rattle.ss_terms.specs.Forms.{term_at, terms_at, HasTerm, HasTerms, IsGrown};
 
-use ss_logic_stores::Sort;
-use ss_terms_stores::{Bank, Symbol, Term, TermId};
+use ss_logic::Sort;
+use ss_terms::{Bank, Symbol, Term, TermId};
 use std::alloc::{AllocError, Global};
 
 fn is_same_sort(r: Sort, s: Sort) -> bool

@@ -2,19 +2,19 @@
 
 ghost use Rattle.std.specs.Prelude.{◌≡◌, ◌++◌, find, map, sum_by, IfOk, OnOk};
 ghost use Rattle.ss_core.specs.View as view;
-ghost use Rattle.ss_logic_stores.specs.Formulas as logic;
+ghost use Rattle.ss_logic.specs.Formulas as logic;
 ghost use Rattle.ss_logic_ground.specs.Occurring as occurring;
 ghost use Rattle.ss_logic_ground.specs.Opened as spec;
-ghost use Rattle.ss_terms_stores.specs.Forms.{terms_at, formula_at, formulas_at, HasTerms, HasFormula, HasFormulas, IsFormulaNumber, IsGrown, IsBankOf};
+ghost use Rattle.ss_terms.specs.Forms.{terms_at, formula_at, formulas_at, HasTerms, HasFormula, HasFormulas, IsFormulaNumber, IsGrown, IsBankOf};
 ghost use Rattle.ss_rules_opened.specs.Opening.{used_after, list_after, IsOpened, IsOpening, HasOpening};
 
 use crate::constants::{fresh_constants, joined};
 use crate::replacing::all_replaced;
 use ss_core::Classes;
-use ss_logic_stores::Sort;
+use ss_logic::Sort;
 use ss_rules_occurring::quantified;
+use ss_terms::{Bank, Formula, FormulaId, TermId};
 use ss_terms_puts::put;
-use ss_terms_stores::{Bank, Formula, FormulaId, TermId};
 use std::alloc::{AllocError, Global};
 
 /// The terms that are in use, and the list so far.

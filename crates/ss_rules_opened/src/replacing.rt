@@ -1,11 +1,11 @@
 // A formula in place of another.
 
 ghost use Rattle.std.specs.Prelude.{◌≡◌, ◌≤◌, ◌*◌, length, map, if◌then◌else◌, IfOk};
-ghost use Rattle.ss_logic_stores.specs.Equal.{same_formula};
+ghost use Rattle.ss_logic.specs.Equal.{same_formula};
 ghost use Rattle.ss_logic_ground.specs.Opened as spec;
-ghost use Rattle.ss_terms_stores.specs.Forms.{formula_at, formulas_at, HasFormula, HasFormulas, AreBelow, IsGrown};
+ghost use Rattle.ss_terms.specs.Forms.{formula_at, formulas_at, HasFormula, HasFormulas, AreBelow, IsGrown};
 
-use ss_terms_stores::{Bank, Formula, FormulaId};
+use ss_terms::{Bank, Formula, FormulaId};
 use std::alloc::{AllocError, Global};
 
 // The other one in place of the formula itself.

@@ -2,16 +2,16 @@
 
 ghost use Rattle.std.specs.Prelude.{◌≡◌, [], ◌∷◌, ◌++◌, IfOk};
 ghost use Rattle.ss_core.specs.View as view;
-ghost use Rattle.ss_logic_stores.specs.Formulas.{neg};
+ghost use Rattle.ss_logic.specs.Formulas.{neg};
 ghost use Rattle.ss_logic_ground.specs.Occurring.{all_terms};
 ghost use Rattle.ss_logic_ground.specs.Opened as spec;
-ghost use Rattle.ss_terms_stores.specs.Forms.{terms_at, formula_at, formulas_at, HasTerms, HasFormula, HasFormulas, IsGrown, IsBankOf};
+ghost use Rattle.ss_terms.specs.Forms.{terms_at, formula_at, formulas_at, HasTerms, HasFormula, HasFormulas, IsGrown, IsBankOf};
 ghost use Rattle.ss_rules_opened.specs.Opening.{IsOpening};
 
 use crate::opening::{Opening, open_all};
 use ss_core::Classes;
 use ss_rules_occurring::{all_atoms, terms};
-use ss_terms_stores::{Bank, FormulaId, TermId};
+use ss_terms::{Bank, FormulaId, TermId};
 use std::alloc::{AllocError, Global};
 
 // The premises and the denied goal.

@@ -1,13 +1,13 @@
 -- What is made of plans and clauses, as the bank grows.
 use Rattle.std.proofs.Common.{◌≡◌, ℕ, zero, suc, ◌+◌, ◌<◌, List, [], ◌∷◌, ◌++◌, length, map, take, drop, get_or, true, false, refl, sym, ◌∙◌, ap, subst, arith}
 use Rattle.std.proofs.lemmas.List.{take_more, drop_more, map_push, length-append}
-use Rattle.ss_logic_stores.specs.Terms.{Term, app, terms_from}
-use Rattle.ss_logic_stores.specs.Formulas.{IsGroup, Formula, Literal}
+use Rattle.ss_logic.specs.Terms.{Term, app, terms_from}
+use Rattle.ss_logic.specs.Formulas.{IsGroup, Formula, Literal}
 use Rattle.ss_logic_rules.specs.Shapes.{given}
-use Rattle.ss_terms_stores.specs.declared.forms.TermId.{TermId}
-use Rattle.ss_terms_stores.specs.Forms.{Forms, no_term, symbol_of, predicate_of, term_at, terms_at, HasTerm, HasTerms, AreTermsBelow, IsGrown}
-use Rattle.ss_terms_stores.proofs.Grown.{HasTerms-grown, terms_at-grown, HasTerm-grown}
-use Rattle.ss_terms_stores.proofs.Parts.{AreTermsBelow-get}
+use Rattle.ss_terms.specs.declared.forms.TermId.{TermId}
+use Rattle.ss_terms.specs.Forms.{Forms, no_term, symbol_of, predicate_of, term_at, terms_at, HasTerm, HasTerms, AreTermsBelow, IsGrown}
+use Rattle.ss_terms.proofs.Grown.{HasTerms-grown, terms_at-grown, HasTerm-grown}
+use Rattle.ss_terms.proofs.Parts.{AreTermsBelow-get}
 use Rattle.ss_rules_sentences.specs.declared.facts.Fact.{Fact}
 use Rattle.ss_rules_sentences.specs.declared.sentences.Sentence.{Sentence}
 use Rattle.ss_rules_sentences.specs.Facts.{fact_at, sentence_at, HasFact, HasFacts, HasSentence, HasSentences}

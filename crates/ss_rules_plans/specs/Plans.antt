@@ -1,11 +1,11 @@
 -- What plans and clauses stand for.
 use Rattle.std.specs.Prelude.{ℕ, ◌<◌, ◌+◌, List, [], ◌∷◌, ◌++◌, length, map, get_or, Bool, true, false, Option, Some, None}
-use Rattle.ss_logic_stores.specs.Terms.{Term, app, terms_from}
-use Rattle.ss_logic_stores.specs.Formulas.{IsGroup, Formula, Literal}
+use Rattle.ss_logic.specs.Terms.{Term, app, terms_from}
+use Rattle.ss_logic.specs.Formulas.{IsGroup, Formula, Literal}
 use Rattle.ss_logic_rules.specs.Shapes.{given}
-use Rattle.ss_terms_stores.specs.declared.forms.TermId.{TermId}
-use Rattle.ss_terms_stores.specs.declared.forms.Predicate.TheVariants as predicate
-use Rattle.ss_terms_stores.specs.Forms.{Forms, no_term, symbol_of, predicate_of, HasTerm}
+use Rattle.ss_terms.specs.declared.forms.TermId.{TermId}
+use Rattle.ss_terms.specs.declared.forms.Predicate.TheVariants as predicate
+use Rattle.ss_terms.specs.Forms.{Forms, no_term, symbol_of, predicate_of, HasTerm}
 use Rattle.ss_rules_sentences.specs.declared.facts.Fact.{Fact}
 use Rattle.ss_rules_plans.specs.declared.plans.Slot.{Slot}
 use Rattle.ss_rules_plans.specs.declared.plans.Slot.TheVariants.{Known, Made}

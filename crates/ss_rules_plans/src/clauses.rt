@@ -2,13 +2,13 @@
 
 ghost use Rattle.std.specs.Prelude.{◌≡◌, [], length, map, IfOk};
 ghost use Rattle.ss_logic_rules.specs.Shapes.{all_of};
-ghost use Rattle.ss_terms_stores.specs.Forms.{term_at, terms_at, formula_at, Forms, HasTerms, HasFormula, IsGrown};
+ghost use Rattle.ss_terms.specs.Forms.{term_at, terms_at, formula_at, Forms, HasTerms, HasFormula, IsGrown};
 ghost use Rattle.ss_rules_sentences.specs.Facts.{sentence_at, HasSentences};
 ghost use Rattle.ss_rules_plans.specs.Plans.{slot_value, planned, HasClauses, HasPlans, fact_of, premises_of, conclusion_of, clause_at};
 
 use crate::plans::{Plan, Slot, make_terms};
 use ss_rules_sentences::{Fact, Sentence, make_all};
-use ss_terms_stores::{Bank, FormulaId, Predicate, TermId};
+use ss_terms::{Bank, FormulaId, Predicate, TermId};
 use std::alloc::{AllocError, Global};
 
 /// An atom of planned terms, or its negation.

@@ -1,10 +1,10 @@
 // Plans of terms, and the terms made of them.
 
 ghost use Rattle.std.specs.Prelude.{◌≡◌, [], length, IfOk};
-ghost use Rattle.ss_terms_stores.specs.Forms.{term_at, terms_at, HasTerm, HasTerms, IsGrown};
+ghost use Rattle.ss_terms.specs.Forms.{term_at, terms_at, HasTerm, HasTerms, IsGrown};
 ghost use Rattle.ss_rules_plans.specs.Plans.{slot_id, slot_value, plan_at, planned, HasPlan, HasPlans};
 
-use ss_terms_stores::{Bank, Symbol, TermId};
+use ss_terms::{Bank, Symbol, TermId};
 use std::alloc::{AllocError, Global};
 
 /// A term that is in the bank, or the result of a plan.

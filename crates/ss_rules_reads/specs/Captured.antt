@@ -1,6 +1,6 @@
 -- What is said of an owner where the group of an object was captured, by which terms are one.
 use Rattle.std.specs.Prelude.{List, [], ◌∷◌, ◌++◌, Bool, true, false}
-use Rattle.ss_terms_stores.specs.declared.forms.Predicate.TheVariants.{Equal}
+use Rattle.ss_terms.specs.declared.forms.Predicate.TheVariants.{Equal}
 use Rattle.ss_rules_plans.specs.declared.plans.Slot.{Slot}
 use Rattle.ss_rules_plans.specs.declared.plans.Slot.TheVariants.{Made}
 use Rattle.ss_rules_plans.specs.declared.clauses.Claim.TheVariants.{Is, Not, Group, NoGroup}

@@ -1,9 +1,9 @@
 -- What reads give over changed stores, by the store.
 use Rattle.std.specs.Prelude.{ℕ, List, [], ◌∷◌, ◌++◌, Option, Some, None}
 use Rattle.ss_core.specs.Tree.{ClassTree}
-use Rattle.ss_logic_stores.specs.declared.Sort.{Sort}
-use Rattle.ss_logic_stores.specs.Terms.{Symbol, Element, Set, Put, Unpack, Pack, Capture, Join, New, NewArray, MakeReady, Term, app}
-use Rattle.ss_logic_stores.specs.Formulas.{Formula, neg}
+use Rattle.ss_logic.specs.declared.Sort.{Sort}
+use Rattle.ss_logic.specs.Terms.{Symbol, Element, Set, Put, Unpack, Pack, Capture, Join, New, NewArray, MakeReady, Term, app}
+use Rattle.ss_logic.specs.Formulas.{Formula, neg}
 use Rattle.ss_logic_rules.specs.Shapes.{equal, committed, given, where_equal, where_different}
 use Rattle.ss_logic_rules.specs.Reads.{Look, ElementLook, owned_at, same_over, over_set, over_put, over_unpack, over_pack, over_capture, over_join, over_new, over_ready}
 

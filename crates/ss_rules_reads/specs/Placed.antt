@@ -1,11 +1,11 @@
 -- What is so at one place, and as before elsewhere, over planned terms.
 use Rattle.std.specs.Prelude.{List, [], ◌∷◌, ◌++◌, true}
-use Rattle.ss_logic_stores.specs.Terms.{Term, terms_from}
-use Rattle.ss_logic_stores.specs.Formulas.{Formula, Literal, neg}
+use Rattle.ss_logic.specs.Terms.{Term, terms_from}
+use Rattle.ss_logic.specs.Formulas.{Formula, Literal, neg}
 use Rattle.ss_logic_rules.specs.Shapes.{equal, given, where_equal, where_different}
 use Rattle.ss_logic_rules.specs.Reads.{TermLooked, AtomLooked, agreeing}
-use Rattle.ss_terms_stores.specs.declared.forms.Predicate.{Predicate}
-use Rattle.ss_terms_stores.specs.Forms.{predicate_of}
+use Rattle.ss_terms.specs.declared.forms.Predicate.{Predicate}
+use Rattle.ss_terms.specs.Forms.{predicate_of}
 use Rattle.ss_rules_plans.specs.declared.plans.Slot.{Slot}
 use Rattle.ss_rules_plans.specs.declared.plans.Slot.TheVariants.{Made}
 use Rattle.ss_rules_plans.specs.declared.clauses.Claim.{Claim}

@@ -4,20 +4,20 @@ ghost use Rattle.std.specs.Prelude.{◌≡◌, ℕ, List, [], ◌∷◌, IfOk};
 ghost use Rattle.ss_core.specs.Tree.{ClassTree};
 ghost use Rattle.ss_core.specs.Chain.{above};
 ghost use Rattle.ss_core.specs.View as view;
-ghost use Rattle.ss_logic_stores.specs.Terms as tree;
+ghost use Rattle.ss_logic.specs.Terms as tree;
 ghost use Rattle.ss_logic_rules.specs.Shapes.{all_of};
 ghost use Rattle.ss_logic_rules.specs.Reads.{FieldLook, ElementLook, CommittedLook, leveled, over_set, over_put, over_unpack, over_pack, over_ready};
-ghost use Rattle.ss_terms_stores.specs.Forms.{term_at, formula_at, HasTerm, HasFormula, IsGrown, IsBankOf};
+ghost use Rattle.ss_terms.specs.Forms.{term_at, formula_at, HasTerm, HasFormula, IsGrown, IsBankOf};
 ghost use Rattle.ss_rules_looks.specs.Looks.{look_in, HasLook};
 ghost use Rattle.ss_rules_reads.specs.Changes.{element_placed, cleared};
 
 use crate::placed::{added_atom, placed_term};
 use crate::same::same_read;
 use ss_core::{ClassId, Classes};
-use ss_logic_stores::Sort;
+use ss_logic::Sort;
 use ss_rules_looks::Look;
 use ss_rules_plans::{Claim, Clause, Plan, Slot, fill};
-use ss_terms_stores::{Bank, FormulaId, Predicate, Symbol, TermId};
+use ss_terms::{Bank, FormulaId, Predicate, Symbol, TermId};
 use std::alloc::{AllocError, Global};
 
 /// The stores after and before a change.

@@ -3,13 +3,13 @@
 ghost use Rattle.std.specs.Prelude.{◌≡◌, ◌≤◌, [], ◌∷◌, IfOk};
 ghost use Rattle.ss_core.specs.Chain.{most_classes};
 ghost use Rattle.ss_core.specs.View as view;
-ghost use Rattle.ss_logic_stores.specs.Equal.{same_term};
-ghost use Rattle.ss_logic_stores.specs.Terms as tree;
-ghost use Rattle.ss_logic_stores.specs.Terms.{app, field_sort, sort_of_type};
-ghost use Rattle.ss_logic_stores.specs.Formulas.{neg};
+ghost use Rattle.ss_logic.specs.Equal.{same_term};
+ghost use Rattle.ss_logic.specs.Terms as tree;
+ghost use Rattle.ss_logic.specs.Terms.{app, field_sort, sort_of_type};
+ghost use Rattle.ss_logic.specs.Formulas.{neg};
 ghost use Rattle.ss_logic_rules.specs.Shapes.{all_of, next_of, class_term, level_of, differ, committed, ready, where_different};
 ghost use Rattle.ss_logic_rules.specs.Reads.{default_term, same_over, new_at, new_atom, over_new};
-ghost use Rattle.ss_terms_stores.specs.Forms.{symbol_of, term_at, formula_at, HasTerm, HasFormula, IsGrown};
+ghost use Rattle.ss_terms.specs.Forms.{symbol_of, term_at, formula_at, HasTerm, HasFormula, IsGrown};
 ghost use Rattle.ss_rules_looks.specs.Looks.{look_in, HasLook};
 ghost use Rattle.ss_rules_reads.specs.New.{signed, newly_allocated};
 
@@ -17,11 +17,11 @@ use crate::changes::Stores;
 use crate::placed::{added_atom, placed_atom, placed_term};
 use crate::same::same_read;
 use ss_core::{Classes, Ty};
-use ss_logic_stores::Sort;
+use ss_logic::Sort;
 use ss_rules_basic::next_store;
 use ss_rules_looks::{Look, type_of_field};
 use ss_rules_plans::{Claim, Clause, Plan, Slot, fill};
-use ss_terms_stores::{Bank, FormulaId, Predicate, Symbol, TermId};
+use ss_terms::{Bank, FormulaId, Predicate, Symbol, TermId};
 use std::alloc::{AllocError, Global};
 
 // Whether the term is the reference that the store allocates next.

@@ -1,14 +1,14 @@
 // What is so at one place, and as before elsewhere.
 
 ghost use Rattle.std.specs.Prelude.{◌≡◌, ◌<◌, [], ◌∷◌, ◌++◌, length, IfOk};
-ghost use Rattle.ss_logic_stores.specs.Equal.{same_term};
+ghost use Rattle.ss_logic.specs.Equal.{same_term};
 ghost use Rattle.ss_logic_rules.specs.Shapes.{all_of};
 ghost use Rattle.ss_rules_reads.specs.Placed.{placed_by, atom_placed_by, added_by};
-ghost use Rattle.ss_terms_stores.specs.Forms.{term_at, formula_at, predicate_of, HasTerm, HasFormula, IsGrown};
+ghost use Rattle.ss_terms.specs.Forms.{term_at, formula_at, predicate_of, HasTerm, HasFormula, IsGrown};
 ghost use Rattle.ss_rules_plans.specs.Plans.{slot_value, planned, HasSlot, HasPlans, HasClaim};
 
 use ss_rules_plans::{Claim, Clause, Plan, Slot, fill};
-use ss_terms_stores::{Bank, FormulaId, Predicate};
+use ss_terms::{Bank, FormulaId, Predicate};
 use std::alloc::{AllocError, Global};
 
 // A read of a term, plan 0, is the new value where the two terms are equal, and else as before, plan 1.

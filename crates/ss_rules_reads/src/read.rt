@@ -3,10 +3,10 @@
 ghost use Rattle.std.specs.Prelude.{◌≡◌, ◌≤◌, ◌^◌, List, [], ◌∷◌, length, option_map, option_and_then, IfOk};
 ghost use Rattle.ss_core.specs.Chain.{most_classes, all_fields};
 ghost use Rattle.ss_core.specs.View as view;
-ghost use Rattle.ss_logic_stores.specs.Terms as tree;
+ghost use Rattle.ss_logic.specs.Terms as tree;
 ghost use Rattle.ss_logic_rules.specs.Shapes.{all_of};
 ghost use Rattle.ss_logic_rules.specs.Reads.{look_from, read_over, read_moved, read_instance, is_constant_store, reads_a_store, without_last, last_of};
-ghost use Rattle.ss_terms_stores.specs.Forms.{symbol_of, term_at, terms_at, HasTerm, HasTerms, IsGrown, IsBankOf};
+ghost use Rattle.ss_terms.specs.Forms.{symbol_of, term_at, terms_at, HasTerm, HasTerms, IsGrown, IsBankOf};
 ghost use Rattle.ss_rules_basic.specs.Arguments.{IsInstance};
 ghost use Rattle.ss_rules_looks.specs.Looks.{look_in, HasLook};
 ghost use Rattle.ss_rules_reads.specs.Changes.{over_changed};
@@ -16,9 +16,9 @@ use crate::new::new_read;
 use crate::owners::{captured_read, joined_read};
 use crate::same::{equal_read, same_read};
 use ss_core::Classes;
-use ss_logic_stores::Sort;
+use ss_logic::Sort;
 use ss_rules_looks::{Look, read_named};
-use ss_terms_stores::{Bank, FormulaId, Symbol, Term, TermId};
+use ss_terms::{Bank, FormulaId, Symbol, Term, TermId};
 use std::alloc::{AllocError, Global};
 
 // A read over a store with a new object.
@@ -240,7 +240,7 @@ fn looks_at_store(look: Look) -> bool
     }
 }
 
-ghost use Rattle.ss_terms_stores.specs.Forms.{Forms};
+ghost use Rattle.ss_terms.specs.Forms.{Forms};
 
 // Whether the term is a constant store.
 fn is_constant(b: &Bank, t: TermId) -> bool
@@ -265,7 +265,7 @@ fn is_bare(b: &Bank, k: usize, ts: &[TermId]) -> bool
     }
 }
 
-ghost use Rattle.ss_logic_stores.specs.declared.Sort.TheVariants as sort;
+ghost use Rattle.ss_logic.specs.declared.Sort.TheVariants as sort;
 
 // A read over a constant store and one that equals it.
 fn moved_read(

@@ -3,12 +3,12 @@
 ghost use Rattle.std.specs.Prelude.{◌≡◌, [], ◌∷◌, IfOk};
 ghost use Rattle.ss_logic_rules.specs.Shapes.{equal, all_of};
 ghost use Rattle.ss_logic_rules.specs.Reads.{AtomLooked, agreeing, same_over};
-ghost use Rattle.ss_terms_stores.specs.Forms.{term_at, formula_at, predicate_of, HasTerm, HasFormula, IsGrown};
+ghost use Rattle.ss_terms.specs.Forms.{term_at, formula_at, predicate_of, HasTerm, HasFormula, IsGrown};
 ghost use Rattle.ss_rules_looks.specs.Looks.{atom_of, look_in, HasLook};
 
 use ss_rules_looks::Look;
 use ss_rules_plans::{Claim, Clause, Plan, Slot, fill};
-use ss_terms_stores::{Bank, FormulaId, Predicate, Symbol, TermId};
+use ss_terms::{Bank, FormulaId, Predicate, Symbol, TermId};
 use std::alloc::{AllocError, Global};
 
 // The read gives the same over the second store as over the first.

@@ -1,6 +1,6 @@
 -- A list with what an instance says.
 use Rattle.std.specs.Prelude.{List, Option, Some, None}
-use Rattle.ss_logic_stores.specs.Formulas.{Formula}
+use Rattle.ss_logic.specs.Formulas.{Formula}
 use Rattle.ss_logic_ground.specs.Occurring.{with_formula}
 
 abbrev pub with_said : List Formula → Option Formula → List Formula

@@ -2,11 +2,11 @@
 
 ghost use Rattle.std.specs.Prelude.{◌≡◌, IfOk};
 ghost use Rattle.ss_logic_ground.specs.Asked.{numeral};
-ghost use Rattle.ss_terms_stores.specs.Forms.{term_at, terms_at, HasTerm, HasTerms, IsGrown};
+ghost use Rattle.ss_terms.specs.Forms.{term_at, terms_at, HasTerm, HasTerms, IsGrown};
 ghost use Rattle.ss_rules_asked.specs.Numbers.{argument_at, arguments_at, HasArgument, HasArguments};
 
 use ss_rules_asked::Argument;
-use ss_terms_stores::{Bank, TermId};
+use ss_terms::{Bank, TermId};
 use std::alloc::{AllocError, Global};
 
 // A literal.

@@ -7,7 +7,7 @@ ghost use Rattle.ss_logic_express.specs.Invariants.{invariants_of};
 ghost use Rattle.ss_logic_rules.specs.GoodRules.{good_instance_of};
 ghost use Rattle.ss_logic_ground.specs.Asked.{if_good, said, all_said};
 ghost use Rattle.ss_logic_ground.specs.Occurring.{with_formulas};
-ghost use Rattle.ss_terms_stores.specs.Forms.{term_at, terms_at, formula_at, HasTerm, HasTerms, HasFormula, IsFormulaNumber, IsGrown, IsBankOf};
+ghost use Rattle.ss_terms.specs.Forms.{term_at, terms_at, formula_at, HasTerm, HasTerms, HasFormula, IsFormulaNumber, IsGrown, IsBankOf};
 ghost use Rattle.ss_rules_asked.specs.Numbers.{rule_at, asked_at, asked_in, asked_with, HasRule, HasArguments, HasAsked};
 ghost use Rattle.ss_rules_occurring.specs.Found.{formulas_of, HasFound, Holds};
 ghost use Rattle.ss_rules_said.specs.Said.{with_said};
@@ -19,7 +19,7 @@ use ss_rules::{good_instance, instance};
 use ss_rules_asked::{Asked, Rule};
 use ss_rules_invariants::invariants;
 use ss_rules_occurring::FormulaList;
-use ss_terms_stores::{Bank, FormulaId, Predicate, TermId};
+use ss_terms::{Bank, FormulaId, Predicate, TermId};
 use std::alloc::{AllocError, Global};
 
 // The formula, where the store is good.

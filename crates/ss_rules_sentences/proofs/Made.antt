@@ -3,12 +3,12 @@ use Rattle.std.proofs.Common.{◌≡◌, ℕ, zero, suc, ◌+◌, ◌<◌, List,
 use Rattle.std.specs.Prelude.{◌==◌, ◌≢◌}
 use Rattle.std.proofs.lemmas.Bool.{false≢true, eq-eqb}
 use Rattle.std.proofs.lemmas.List.{take_more, map_push}
-use Rattle.ss_logic_stores.specs.Terms.{terms_from}
-use Rattle.ss_logic_stores.specs.Formulas.{Formula, Literal, Or, formulas_from, neg}
+use Rattle.ss_logic.specs.Terms.{terms_from}
+use Rattle.ss_logic.specs.Formulas.{Formula, Literal, Or, formulas_from, neg}
 use Rattle.ss_logic_rules.specs.Shapes.{given}
-use Rattle.ss_terms_stores.specs.declared.forms.FormulaId.{FormulaId}
-use Rattle.ss_terms_stores.specs.Forms.{Forms, formula_at, formulas_at, predicate_of, HasFormula, HasFormulas, AreBelow, IsGrown}
-use Rattle.ss_terms_stores.proofs.Grown.{HasTerms-grown, HasFormulas-grown, terms_at-grown, formulas_at-grown}
+use Rattle.ss_terms.specs.declared.forms.FormulaId.{FormulaId}
+use Rattle.ss_terms.specs.Forms.{Forms, formula_at, formulas_at, predicate_of, HasFormula, HasFormulas, AreBelow, IsGrown}
+use Rattle.ss_terms.proofs.Grown.{HasTerms-grown, HasFormulas-grown, terms_at-grown, formulas_at-grown}
 use Rattle.ss_rules_sentences.specs.declared.facts.Fact.{Fact}
 use Rattle.ss_rules_sentences.specs.declared.sentences.Sentence.{Sentence}
 use Rattle.ss_rules_sentences.specs.Facts.{terms_of, fact_at, denied, denied_at, sentence_at, HasFact, HasFacts, HasSentence, HasSentences}

@@ -1,10 +1,10 @@
 -- What literals and sentences over the numbers of a bank say.
 use Rattle.std.specs.Prelude.{List, [], ◌∷◌, map, not, Option, Some, None}
-use Rattle.ss_logic_stores.specs.Terms.{terms_from}
-use Rattle.ss_logic_stores.specs.Formulas.{Formula, Literal, neg}
+use Rattle.ss_logic.specs.Terms.{terms_from}
+use Rattle.ss_logic.specs.Formulas.{Formula, Literal, neg}
 use Rattle.ss_logic_rules.specs.Shapes.{given}
-use Rattle.ss_terms_stores.specs.declared.forms.TermId.{TermId}
-use Rattle.ss_terms_stores.specs.Forms.{Forms, terms_at, predicate_of, HasTerms}
+use Rattle.ss_terms.specs.declared.forms.TermId.{TermId}
+use Rattle.ss_terms.specs.Forms.{Forms, terms_at, predicate_of, HasTerms}
 use Rattle.ss_rules_sentences.specs.declared.facts.Fact.{Fact}
 use Rattle.ss_rules_sentences.specs.declared.sentences.Sentence.{Sentence}
 

@@ -2,10 +2,10 @@
 
 ghost use Rattle.std.specs.Prelude.{◌≡◌, IfOk};
 ghost use Rattle.ss_logic_rules.specs.Shapes as shape;
-ghost use Rattle.ss_terms_stores.specs.Forms.{Forms, HasTerm, HasFormula, term_at, formula_at, IsGrown};
+ghost use Rattle.ss_terms.specs.Forms.{Forms, HasTerm, HasFormula, term_at, formula_at, IsGrown};
 ghost use Rattle.ss_rules_sentences.specs.Facts.{denied, fact_at, HasFact};
 
-use ss_terms_stores::{Bank, FormulaId, Predicate, TermId};
+use ss_terms::{Bank, FormulaId, Predicate, TermId};
 use std::alloc::AllocError;
 
 /// An atom of one or two terms of a bank, or its negation.

@@ -2,11 +2,11 @@
 
 ghost use Rattle.std.specs.Prelude.{◌≡◌, map, IfOk};
 ghost use Rattle.ss_logic_rules.specs.Shapes.{all_of};
-ghost use Rattle.ss_terms_stores.specs.Forms.{HasFormula, HasFormulas, formula_at, formulas_at, IsGrown};
+ghost use Rattle.ss_terms.specs.Forms.{HasFormula, HasFormulas, formula_at, formulas_at, IsGrown};
 ghost use Rattle.ss_rules_sentences.specs.Facts.{denied_at, HasFacts, sentence_at, HasSentence, HasSentences};
 
 use crate::facts::Fact;
-use ss_terms_stores::{Bank, FormulaId};
+use ss_terms::{Bank, FormulaId};
 use std::alloc::{AllocError, Global};
 
 /// A literal that holds where others do.

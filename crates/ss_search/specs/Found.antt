@@ -1,11 +1,28 @@
 -- What a search found.
-use Rattle.ss_search.specs.declared.model.Countermodel.{Countermodel}
-use Rattle.ss_search.specs.declared.obligation.Found.{Found}
-use Rattle.ss_search.specs.declared.obligation.Found.TheVariants as found
+use Rattle.std.specs.Prelude.{◌≡◌, ℕ, List, None}
+use Rattle.ss_core.specs.Tree.{ClassTree}
+use Rattle.ss_logic.specs.Formulas.{Formula}
+use Rattle.ss_logic_ground.specs.Ground.{ground_form}
+use Rattle.ss_logic_countermodels.specs.declared.Countermodel.{Countermodel}
+use Rattle.ss_logic_countermodels.specs.Refuting.{RefutesGround}
+use Rattle.ss_search.specs.declared.answers.Options.{Options}
+use Rattle.ss_search.specs.declared.answers.Found.{Found}
+use Rattle.ss_search.specs.declared.answers.Found.TheVariants as found
+
+-- the model refutes the ground form, by the rounds and the limit of the options
+abbrev pub IsRefutedBy : List ClassTree → Options → List Formula → Formula → Countermodel → Type 0
+IsRefutedBy cs p premises goal m = RefutesGround cs premises goal p.rounds p.instances m
+
+-- the limit is that of the options, and the ground form has more formulas
+abbrev pub IsOver : List ClassTree → Options → List Formula → Formula → ℕ → Type 0
+IsOver cs p premises goal limit = (limit ≡ p.instances) × (ground_form cs premises goal p.rounds p.instances ≡ None)
 
 -- where a model was found, this holds of it
 abbrev pub IfCountered : Found → (Countermodel → Type 0) → Type 0
-IfCountered (found.Proved d) P = Unit {0}
 IfCountered (found.Countered m) P = P m
-IfCountered found.Lost P = Unit {0}
-IfCountered found.Memory P = Unit {0}
+IfCountered _ P = Unit {0}
+
+-- where the ground form has too many formulas, this holds of their limit
+abbrev pub IfTooMany : Found → (ℕ → Type 0) → Type 0
+IfTooMany (found.TooMany limit) P = P limit
+IfTooMany _ P = Unit {0}

@@ -1,2 +1,2 @@
-pub mod Countermodel
 pub mod Found
+pub mod Listed

@@ -1,19 +1,11 @@
-//! The search for a derivation of an obligation, or for a model that refutes it. Nothing trusts the derivation: it is
-//! checked elsewhere. A model is answered only where it was found to refute the ground form.
+//! The search for a derivation of an obligation, or for a model that refutes it. Nothing trusts the derivation: it is checked elsewhere. A model
+//! is answered only where it was found to refute the ground form.
 #![tactic(auto)]
 
-mod choices;
-mod congruence;
-mod evaluation;
-mod facts;
-mod known;
-mod lines;
-mod model;
-mod nearness;
-mod numbers;
-mod obligation;
-mod question;
-mod tableau;
+mod answers;
+mod refuting;
+mod search;
 
-pub use model::{Countered, Countermodel};
-pub use obligation::{Found, prove};
+pub use answers::{Budget, Countered, Found, Options, Undecided};
+pub use search::Search;
+pub use ss_logic_countermodels::Countermodel;

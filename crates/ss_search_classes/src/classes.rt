@@ -3,7 +3,7 @@
 use crate::question::{
     NONE, argument, arity, first_of, is_term, is_value, node_head, of_pair, of_term, same_head,
 };
-use ss_terms_stores::Bank;
+use ss_terms::Bank;
 use std::alloc::{AllocError, Global};
 use std::mem;
 
@@ -388,7 +388,7 @@ impl Classes {
             let Some(entry) = self.signs.get(at) else {
                 return NONE;
             };
-            if self.are_congruent(bank, entry.number, number) {
+            if entry.number != number && self.are_congruent(bank, entry.number, number) {
                 return entry.number;
             }
             at = entry.before;

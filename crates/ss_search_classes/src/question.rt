@@ -1,7 +1,7 @@
 // What is read of a bank. A node is a term or an atom: 2 t is the term t, and 2 p + 1 the atom of the pair p.
 
-use ss_logic_stores::Sort;
-use ss_terms_stores::{Bank, Formula, FormulaId, Predicate, Symbol, Term, TermId};
+use ss_logic::Sort;
+use ss_terms::{Bank, Formula, FormulaId, Predicate, Symbol, Term, TermId};
 
 /// No number.
 pub const NONE: usize = usize::MAX;

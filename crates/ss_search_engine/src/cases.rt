@@ -2,7 +2,7 @@
 
 ghost use Rattle.ss_core.specs.Chain.{IsWithinLimits};
 ghost use Rattle.ss_core.specs.View as view;
-ghost use Rattle.ss_terms_stores.specs.Forms.{IsGrown, IsBankOf};
+ghost use Rattle.ss_terms.specs.Forms.{IsGrown, IsBankOf};
 
 use crate::engine::{Engine, Split};
 use ss_core::Classes;
@@ -10,7 +10,7 @@ use ss_search_classes::{Conflict, NONE, part_at, part_count};
 use ss_search_proof::{Reason, Said};
 use ss_search_state::{Mark, Step};
 use ss_search_wants::work;
-use ss_terms_stores::Bank;
+use ss_terms::Bank;
 use std::alloc::AllocError;
 
 /// What the closing of a case came to.
@@ -136,7 +136,7 @@ impl Engine {
     }
 
     // Opens the cases of a clause, one for each part.
-    fn open_split(&mut self, bank: &Bank, place: usize) -> Result<Closed, AllocError> {
+    pub(crate) fn open_split(&mut self, bank: &Bank, place: usize) -> Result<Closed, AllocError> {
         if self.state.left.splits == 0 {
             return Ok(Closed::Next(Step::Rests));
         }
@@ -198,7 +198,7 @@ impl Engine {
     }
 
     // Closes the case in which there is a conflict, and those around it that have no case left.
-    fn close(&mut self, bank: &Bank, conflict: Conflict) -> Result<Closed, AllocError> {
+    pub(crate) fn close(&mut self, bank: &Bank, conflict: Conflict) -> Result<Closed, AllocError> {
         let block = self.state.close_conflict(bank, conflict)?;
         self.go_out_all(bank, block)
     }

@@ -4,7 +4,7 @@ use crate::engine::Engine;
 use ss_search_classes::{
     AND, LITERAL, NONE, OR, is_first, kind_of, opposite, pair_of, part_at, part_count,
 };
-use ss_terms_stores::Bank;
+use ss_terms::Bank;
 use std::alloc::AllocError;
 
 impl Engine {

@@ -2,14 +2,14 @@
 
 ghost use Rattle.ss_core.specs.Chain.{IsWithinLimits};
 ghost use Rattle.ss_core.specs.View as view;
-ghost use Rattle.ss_terms_stores.specs.Forms.{IsGrown, IsBankOf};
+ghost use Rattle.ss_terms.specs.Forms.{IsGrown, IsBankOf};
 
 use ss_core::Classes;
 use ss_deriv::Derivation;
 use ss_search_classes::{CONSTANT, NONE, opposite, term_head};
 use ss_search_proof::{Reason, Said, write_lines};
 use ss_search_state::{Limits, Mark, State, Step, first_mark};
-use ss_terms_stores::{Bank, FormulaId, Symbol};
+use ss_terms::{Bank, FormulaId, Symbol};
 use std::alloc::{AllocError, Global};
 
 /// What a search found.

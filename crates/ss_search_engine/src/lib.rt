@@ -6,6 +6,7 @@ mod cases;
 mod choices;
 mod engine;
 mod made;
+mod satisfying;
 
 pub use engine::{Answer, Engine};
 pub use ss_search_state::Limits;

@@ -2,7 +2,7 @@
 
 ghost use Rattle.ss_core.specs.Chain.{IsWithinLimits};
 ghost use Rattle.ss_core.specs.View as view;
-ghost use Rattle.ss_terms_stores.specs.Forms.{IsGrown, IsBankOf};
+ghost use Rattle.ss_terms.specs.Forms.{IsGrown, IsBankOf};
 
 use crate::engine::Engine;
 use ss_core::Classes;
@@ -13,7 +13,7 @@ use ss_search_made::{
 };
 use ss_search_proof::{GoodName, Reason, RuleKind, Said};
 use ss_search_state::{Request, Wanted};
-use ss_terms_stores::{Bank, Symbol};
+use ss_terms::{Bank, Symbol};
 use std::alloc::AllocError;
 
 fn arguments_in(request: Request) -> Arguments {

@@ -5,7 +5,7 @@ use ss_search_classes::{
     NONE, OR, OWNER, READY, argument, arity, body_of, bound_count, first_of, is_closed, kind_of,
     node_head, of_pair, of_term, pair_of, part_at, part_count, term_argument, term_head,
 };
-use ss_terms_stores::Bank;
+use ss_terms::Bank;
 use std::alloc::{AllocError, Global};
 
 /// A read of a kind over a store, at an object or array and an index; these are bound names or closed terms.

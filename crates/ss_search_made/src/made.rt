@@ -3,7 +3,7 @@
 ghost use Rattle.std.specs.Prelude.{IfOk, IfSome, IsTrue};
 ghost use Rattle.ss_core.specs.Chain.{IsWithinLimits};
 ghost use Rattle.ss_core.specs.View as view;
-ghost use Rattle.ss_terms_stores.specs.Forms.{HasTerms, IsGrown, IsBankOf};
+ghost use Rattle.ss_terms.specs.Forms.{HasTerms, IsGrown, IsBankOf};
 
 use ss_core::Classes;
 use ss_rules::{good_instance, instance};
@@ -13,8 +13,8 @@ use ss_search_classes::{
     sort_at,
 };
 use ss_search_proof::{GoodName, RuleKind, good_of, name_of};
+use ss_terms::{Bank, FormulaId, Predicate, Symbol, TermId};
 use ss_terms_puts::put;
-use ss_terms_stores::{Bank, FormulaId, Predicate, Symbol, TermId};
 use std::alloc::{AllocError, Global};
 
 /// The arguments of an instance: the number of a sentence first, then terms, then the number of a field or a class. NONE stands

@@ -5,12 +5,12 @@ use Rattle.std.proofs.lemmas.Slice.Eq.{slice_eq-Decides}
 use Rattle.std.specs.Bool.{Decides}
 use Rattle.std.specs.Cmp.Lexicographic.{pointwise}
 use Rattle.std.specs.Map.{lookup}
-use Rattle.ss_logic_stores.specs.Terms.{Symbol}
-use Rattle.ss_logic_stores.specs.Formulas.{Predicate}
-use Rattle.ss_logic_stores.specs.Equal.{same_symbol, same_predicate, equal_symbols, equal_predicates, answer_from}
+use Rattle.ss_logic.specs.Terms.{Symbol}
+use Rattle.ss_logic.specs.Formulas.{Predicate}
+use Rattle.ss_logic.specs.Equal.{same_symbol, same_predicate, equal_symbols, equal_predicates, answer_from}
 use Rattle.ss_logic_countermodels.specs.Refuting.{same_classes}
-use Rattle.ss_terms_stores.specs.Forms.{symbol_of, predicate_of}
-use Rattle.ss_terms_stores.proofs.Symbols.{symbols_differ, predicates_differ}
+use Rattle.ss_terms.specs.Forms.{symbol_of, predicate_of}
+use Rattle.ss_terms.proofs.Symbols.{symbols_differ, predicates_differ}
 use Rattle.ss_search_models.specs.declared.signatures.Signature.{Signature}
 use Rattle.ss_search_models.specs.declared.signatures.Signature.TheVariants as signature
 use Rattle.ss_search_models.specs.declared.signatures.Given.{Given}

@@ -1,15 +1,15 @@
 -- The model of a candidate refutes, and values have no arguments.
 use Rattle.std.proofs.Common.{◌≡◌, ℕ, ◌≤◌, List, [], ◌∷◌, length, map, Bool, true, false, refl, sym, ◌∙◌, ap, subst, arith}
 use Rattle.std.specs.List.{list_all, slice_index_or}
-use Rattle.ss_logic_stores.specs.Terms.{Symbol, Number, Fixed, Null, ClassName, Constant, Add, Subtract, Multiply, Quotient, Remainder, Field, Element, Length, TypeOf, Level, Owner, Pair, Next, Set, Put, Unpack, Pack, Capture, Join, New, NewArray, MakeReady, Term, App, Terms, term_then, terms_from}
-use Rattle.ss_logic_stores.specs.Formulas.{Formula}
-use Rattle.ss_logic_stores.specs.Equal.{same_term, same_formula}
+use Rattle.ss_logic.specs.Terms.{Symbol, Number, Fixed, Null, ClassName, Constant, Add, Subtract, Multiply, Quotient, Remainder, Field, Element, Length, TypeOf, Level, Owner, Pair, Next, Set, Put, Unpack, Pack, Capture, Join, New, NewArray, MakeReady, Term, App, Terms, term_then, terms_from}
+use Rattle.ss_logic.specs.Formulas.{Formula}
+use Rattle.ss_logic.specs.Equal.{same_term, same_formula}
 use Rattle.ss_logic_derivations.specs.Steps.{is_value}
 use Rattle.ss_logic_ground.specs.Occurring.{terms, with_terms_of_all}
 use Rattle.ss_logic_countermodels.specs.Refuting.{Model, Refutes, comes_out, model_of, place_among, told, is_equal_inside}
-use Rattle.ss_terms_stores.specs.declared.forms.TermId.{TermId}
-use Rattle.ss_terms_stores.specs.declared.forms.FormulaId.{FormulaId}
-use Rattle.ss_terms_stores.specs.Forms.{Forms, term_at, terms_at, formulas_at}
+use Rattle.ss_terms.specs.declared.forms.TermId.{TermId}
+use Rattle.ss_terms.specs.declared.forms.FormulaId.{FormulaId}
+use Rattle.ss_terms.specs.Forms.{Forms, term_at, terms_at, formulas_at}
 use Rattle.ss_rules_occurring.specs.Found.{terms_of, formulas_of, Holds, HoldsTerms}
 use Rattle.ss_rules_occurring.proofs.Sought.{holds_itself}
 use Rattle.ss_rules_occurring.proofs.Stacks.{holds_terms_itself}

@@ -3,13 +3,13 @@ use Rattle.std.proofs.Common.{◌≡◌, ℕ, suc, ◌==◌, List, [], ◌∷◌
 use Rattle.std.specs.List.{list_any, slice_index_or}
 use Rattle.std.proofs.lemmas.Bool.{eqb-true}
 use Rattle.ss_bit_set.specs.Marked.{marked}
-use Rattle.ss_logic_stores.specs.Equal.{same_term, same_formula}
+use Rattle.ss_logic.specs.Equal.{same_term, same_formula}
 use Rattle.ss_logic_countermodels.specs.Refuting.{place_among}
-use Rattle.ss_terms_stores.specs.declared.forms.TermId.{TermId}
-use Rattle.ss_terms_stores.specs.declared.forms.FormulaId.{FormulaId}
-use Rattle.ss_terms_stores.specs.Forms.{Forms, term_at, terms_at, formula_at, formulas_at, HasTerm, HasTerms, HasFormula, HasFormulas}
-use Rattle.ss_terms_stores.specs.Apart.{AreApart}
-use Rattle.ss_terms_stores.proofs.Same.{term_id, formula_id}
+use Rattle.ss_terms.specs.declared.forms.TermId.{TermId}
+use Rattle.ss_terms.specs.declared.forms.FormulaId.{FormulaId}
+use Rattle.ss_terms.specs.Forms.{Forms, term_at, terms_at, formula_at, formulas_at, HasTerm, HasTerms, HasFormula, HasFormulas}
+use Rattle.ss_terms.specs.Apart.{AreApart}
+use Rattle.ss_terms.proofs.Same.{term_id, formula_id}
 use Rattle.ss_rules_occurring.specs.Found.{term_number, formula_number}
 use Rattle.ss_search_models.specs.declared.candidate.Candidate.{Candidate}
 use Rattle.ss_search_models.specs.Candidates.{class_number, truth_number, class_at, truth_at, HasCandidate}

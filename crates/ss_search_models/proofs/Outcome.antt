@@ -9,15 +9,15 @@ use Rattle.std.proofs.lemmas.List.Folds.{list_any-append, list_all-append}
 use Rattle.ss_bit_set.specs.declared.bit_set.BitSet.{BitSet}
 use Rattle.ss_bit_set.specs.Marked.{marked}
 use Rattle.ss_paths.specs.Sets.{put, none}
-use Rattle.ss_logic_stores.specs.declared.Sort.{Sort}
-use Rattle.ss_logic_stores.specs.Formulas.{Formula, formulas_from}
+use Rattle.ss_logic.specs.declared.Sort.{Sort}
+use Rattle.ss_logic.specs.Formulas.{Formula, formulas_from}
 use Rattle.ss_logic_countermodels.specs.Refuting.{Model, comes_out, all_come_true, some_comes_true}
-use Rattle.ss_terms_stores.specs.declared.forms.TermId.{TermId}
-use Rattle.ss_terms_stores.specs.declared.forms.FormulaId.{FormulaId}
-use Rattle.ss_terms_stores.specs.declared.forms.Predicate as form
-use Rattle.ss_terms_stores.specs.declared.forms.Formula.TheVariants.{Literal as LiteralForm, And as AndForm, Or as OrForm, Forall as ForallForm, Exists as ExistsForm}
-use Rattle.ss_terms_stores.specs.Forms.{Forms, formula_at, formulas_at, IsFormulaForm}
-use Rattle.ss_terms_stores.proofs.Same.{formula_id}
+use Rattle.ss_terms.specs.declared.forms.TermId.{TermId}
+use Rattle.ss_terms.specs.declared.forms.FormulaId.{FormulaId}
+use Rattle.ss_terms.specs.declared.forms.Predicate as form
+use Rattle.ss_terms.specs.declared.forms.Formula.TheVariants.{Literal as LiteralForm, And as AndForm, Or as OrForm, Forall as ForallForm, Exists as ExistsForm}
+use Rattle.ss_terms.specs.Forms.{Forms, formula_at, formulas_at, IsFormulaForm}
+use Rattle.ss_terms.proofs.Same.{formula_id}
 use Rattle.ss_search_models.specs.declared.outcomes.Outcomes.{Outcomes}
 use Rattle.ss_search_models.specs.Tellings.{told_of}
 use Rattle.ss_search_models.specs.Found.{AreOutcomes, Finds}

@@ -5,21 +5,21 @@ use Rattle.std.specs.List.{list_all, AllByRecursion}
 use Rattle.std.specs.Bool.{beq}
 use Rattle.std.proofs.lemmas.Bool.{eqb-true, eq-eqb, false≢true}
 use Rattle.std.proofs.lemmas.List.{take_more}
-use Rattle.ss_logic_stores.specs.Terms.{Term, Bound, App, terms_from}
-use Rattle.ss_logic_stores.specs.Formulas.{Formula, Literal, And, Or, Forall, Exists}
-use Rattle.ss_logic_stores.specs.Equal.{same_symbol, same_term, same_predicate, same_term_equal}
+use Rattle.ss_logic.specs.Terms.{Term, Bound, App, terms_from}
+use Rattle.ss_logic.specs.Formulas.{Formula, Literal, And, Or, Forall, Exists}
+use Rattle.ss_logic.specs.Equal.{same_symbol, same_term, same_predicate, same_term_equal}
 use Rattle.ss_logic_derivations.specs.Steps.{is_value}
 use Rattle.ss_logic_countermodels.specs.Refuting.{Model, classes_of, same_classes, are_congruent, are_alike, are_apart, implies}
-use Rattle.ss_terms_stores.specs.declared.forms.TermId.{TermId}
-use Rattle.ss_terms_stores.specs.declared.forms.FormulaId.{FormulaId}
-use Rattle.ss_terms_stores.specs.declared.forms.Symbol as form
-use Rattle.ss_terms_stores.specs.declared.forms.Predicate as predicate
-use Rattle.ss_terms_stores.specs.declared.forms.Term.TheVariants.{Bound as BoundForm, App as AppForm}
-use Rattle.ss_terms_stores.specs.declared.forms.Formula.TheVariants.{Literal as LiteralForm, And as AndForm, Or as OrForm, Forall as ForallForm, Exists as ExistsForm}
-use Rattle.ss_logic_stores.specs.declared.Sort.{Sort}
-use Rattle.ss_terms_stores.specs.Forms.{Forms, term_at, terms_at, formula_at, formulas_at, symbol_of, predicate_of, HasTerm, HasTerms, IsTermForm, IsFormulaForm}
-use Rattle.ss_terms_stores.proofs.Sorted.{list_back}
-use Rattle.ss_terms_stores.proofs.Trees.{AreTermsBelow-more}
+use Rattle.ss_terms.specs.declared.forms.TermId.{TermId}
+use Rattle.ss_terms.specs.declared.forms.FormulaId.{FormulaId}
+use Rattle.ss_terms.specs.declared.forms.Symbol as form
+use Rattle.ss_terms.specs.declared.forms.Predicate as predicate
+use Rattle.ss_terms.specs.declared.forms.Term.TheVariants.{Bound as BoundForm, App as AppForm}
+use Rattle.ss_terms.specs.declared.forms.Formula.TheVariants.{Literal as LiteralForm, And as AndForm, Or as OrForm, Forall as ForallForm, Exists as ExistsForm}
+use Rattle.ss_logic.specs.declared.Sort.{Sort}
+use Rattle.ss_terms.specs.Forms.{Forms, term_at, terms_at, formula_at, formulas_at, symbol_of, predicate_of, HasTerm, HasTerms, IsTermForm, IsFormulaForm}
+use Rattle.ss_terms.proofs.Sorted.{list_back}
+use Rattle.ss_terms.proofs.Trees.{AreTermsBelow-more}
 use Rattle.ss_search_models.specs.declared.signatures.Given.{Given}
 use Rattle.ss_search_models.specs.declared.signatures.Given.TheVariants as given
 use Rattle.ss_search_models.specs.Keys.{Key, FunctionKey, AtomKey, ValueKey, same_key, Givens, given_to, Keeps}

@@ -3,13 +3,13 @@ use Rattle.std.proofs.Common.{◌≡◌, Bool, true, eqb, ℤ, refl, ap, subst, 
 use Rattle.std.proofs.lemmas.Bool.{and_parts, eqb-true, eq-eqb, false≢true}
 use Rattle.std.specs.Bool.{Decides, beq}
 use Rattle.std.specs.Ordering.{int_eq}
-use Rattle.ss_logic_stores.specs.contracts.SortPartialEq.TheImpl as sort_eq
-use Rattle.ss_terms_stores.specs.declared.forms.Symbol.{Symbol}
-use Rattle.ss_terms_stores.specs.declared.forms.Symbol.TheVariants as symbol
-use Rattle.ss_terms_stores.specs.declared.forms.Predicate.{Predicate}
-use Rattle.ss_terms_stores.specs.contracts.forms.SymbolPartialEq.TheImpl as symbol_eq
-use Rattle.ss_terms_stores.specs.contracts.forms.PredicatePartialEq.TheImpl as predicate_eq
-use Rattle.ss_terms_stores.proofs.Same.{sort_Decides}
+use Rattle.ss_logic.specs.contracts.SortPartialEq.TheImpl as sort_eq
+use Rattle.ss_terms.specs.declared.forms.Symbol.{Symbol}
+use Rattle.ss_terms.specs.declared.forms.Symbol.TheVariants as symbol
+use Rattle.ss_terms.specs.declared.forms.Predicate.{Predicate}
+use Rattle.ss_terms.specs.contracts.forms.SymbolPartialEq.TheImpl as symbol_eq
+use Rattle.ss_terms.specs.contracts.forms.PredicatePartialEq.TheImpl as predicate_eq
+use Rattle.ss_terms.proofs.Same.{sort_Decides}
 
 beq_Decides : (a b : Bool) → Decides (beq a b) (a ≡ b)
 beq_Decides a b = search rules

@@ -1,14 +1,14 @@
 -- What a candidate gives to the numbers of a bank, and the model that it is of what occurs.
 use Rattle.std.specs.Prelude.{◌≡◌, ℕ, ◌/◌, List, map, Bool, false, slice_get, unwrap_or}
 use Rattle.std.specs.List.{slice_index_or}
-use Rattle.ss_logic_stores.specs.Terms.{Term}
-use Rattle.ss_logic_stores.specs.Formulas.{Formula}
-use Rattle.ss_logic_stores.specs.Equal.{same_term, same_formula}
+use Rattle.ss_logic.specs.Terms.{Term}
+use Rattle.ss_logic.specs.Formulas.{Formula}
+use Rattle.ss_logic.specs.Equal.{same_term, same_formula}
 use Rattle.ss_logic_ground.specs.Occurring.{terms}
 use Rattle.ss_logic_countermodels.specs.Refuting.{Model, place_among, told}
-use Rattle.ss_terms_stores.specs.declared.forms.TermId.{TermId}
-use Rattle.ss_terms_stores.specs.declared.forms.FormulaId.{FormulaId}
-use Rattle.ss_terms_stores.specs.Forms.{Forms}
+use Rattle.ss_terms.specs.declared.forms.TermId.{TermId}
+use Rattle.ss_terms.specs.declared.forms.FormulaId.{FormulaId}
+use Rattle.ss_terms.specs.Forms.{Forms}
 use Rattle.ss_rules_occurring.specs.Found.{terms_of, formulas_of, HasFound, HasFoundTerms}
 use Rattle.ss_search_models.specs.declared.candidate.Candidate.{Candidate}
 

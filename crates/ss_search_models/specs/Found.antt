@@ -2,8 +2,8 @@
 use Rattle.std.specs.Prelude.{◌≡◌, Bool, true}
 use Rattle.ss_bit_set.specs.Marked.{marked}
 use Rattle.ss_logic_countermodels.specs.Refuting.{Model, comes_out}
-use Rattle.ss_terms_stores.specs.declared.forms.FormulaId.{FormulaId}
-use Rattle.ss_terms_stores.specs.Forms.{Forms, formula_at}
+use Rattle.ss_terms.specs.declared.forms.FormulaId.{FormulaId}
+use Rattle.ss_terms.specs.Forms.{Forms, formula_at}
 use Rattle.ss_search_models.specs.declared.outcomes.Outcomes.{Outcomes}
 
 pub record AreOutcomes (b : Forms) (m : Model) (o : Outcomes) : Type 0 where

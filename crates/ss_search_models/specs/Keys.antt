@@ -1,10 +1,10 @@
 -- What signatures stand for, and what was given to them.
 use Rattle.std.specs.Prelude.{◌≡◌, ℕ, ◌==◌, List, [], ◌∷◌, map, Bool, false, ◌&&◌, Option, Some, None, if◌then◌else◌}
-use Rattle.ss_logic_stores.specs.Terms.{Symbol}
-use Rattle.ss_logic_stores.specs.Formulas.{Predicate}
-use Rattle.ss_logic_stores.specs.Equal.{same_symbol, same_predicate}
+use Rattle.ss_logic.specs.Terms.{Symbol}
+use Rattle.ss_logic.specs.Formulas.{Predicate}
+use Rattle.ss_logic.specs.Equal.{same_symbol, same_predicate}
 use Rattle.ss_logic_countermodels.specs.Refuting.{same_classes}
-use Rattle.ss_terms_stores.specs.Forms.{symbol_of, predicate_of}
+use Rattle.ss_terms.specs.Forms.{symbol_of, predicate_of}
 use Rattle.ss_search_models.specs.declared.signatures.Signature.{Signature}
 use Rattle.ss_search_models.specs.declared.signatures.Signature.TheVariants as signature
 use Rattle.ss_search_models.specs.declared.signatures.Given.{Given}

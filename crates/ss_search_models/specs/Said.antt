@@ -2,12 +2,12 @@
 use Rattle.std.specs.Prelude.{◌≡◌, ◌==◌, List, Bool, true, Option, Some, None}
 use Rattle.std.specs.List.{list_all}
 use Rattle.std.specs.Bool.{beq}
-use Rattle.ss_logic_stores.specs.Terms.{Term, Bound, App, Terms, no_terms, term_then}
-use Rattle.ss_logic_stores.specs.Formulas.{Formula, Literal, And, Or, Forall, Exists}
+use Rattle.ss_logic.specs.Terms.{Term, Bound, App, Terms, no_terms, term_then}
+use Rattle.ss_logic.specs.Formulas.{Formula, Literal, And, Or, Forall, Exists}
 use Rattle.ss_logic_derivations.specs.Steps.{is_value}
 use Rattle.ss_logic_countermodels.specs.Refuting.{Model, classes_of, are_congruent, are_alike, are_apart, implies}
-use Rattle.ss_terms_stores.specs.declared.forms.TermId.{TermId}
-use Rattle.ss_terms_stores.specs.Forms.{Forms, term_at}
+use Rattle.ss_terms.specs.declared.forms.TermId.{TermId}
+use Rattle.ss_terms.specs.Forms.{Forms, term_at}
 use Rattle.ss_search_models.specs.declared.signatures.Given.TheVariants as given
 use Rattle.ss_search_models.specs.Keys.{FunctionKey, AtomKey, ValueKey, Givens, given_to}
 

@@ -2,11 +2,11 @@
 use Rattle.std.specs.Prelude.{◌≡◌, List, Bool, true}
 use Rattle.std.specs.List.{list_all, list_any}
 use Rattle.ss_bit_set.specs.Marked.{marked}
-use Rattle.ss_logic_stores.specs.Formulas.{Formula, Literal, Forall, Exists, neg}
-use Rattle.ss_logic_stores.specs.Equal.{same_formula}
+use Rattle.ss_logic.specs.Formulas.{Formula, Literal, Forall, Exists, neg}
+use Rattle.ss_logic.specs.Equal.{same_formula}
 use Rattle.ss_logic_countermodels.specs.Refuting.{told_in}
-use Rattle.ss_terms_stores.specs.declared.forms.FormulaId.{FormulaId}
-use Rattle.ss_terms_stores.specs.Forms.{Forms, formula_at}
+use Rattle.ss_terms.specs.declared.forms.FormulaId.{FormulaId}
+use Rattle.ss_terms.specs.Forms.{Forms, formula_at}
 use Rattle.ss_rules_occurring.specs.Found.{formulas_of, Holds}
 use Rattle.ss_search_models.specs.declared.telling.Telling.{Telling}
 

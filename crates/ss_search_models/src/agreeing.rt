@@ -2,9 +2,9 @@
 
 ghost use Rattle.std.specs.Prelude.{◌≡◌, true, IfOk, OnOk};
 ghost use Rattle.std.specs.List.{list_all};
-ghost use Rattle.ss_logic_stores.specs.Terms.{terms_from};
+ghost use Rattle.ss_logic.specs.Terms.{terms_from};
 ghost use Rattle.ss_logic_countermodels.specs.Refuting.{is_equal_inside};
-ghost use Rattle.ss_terms_stores.specs.Forms.{term_at, terms_at, formula_at, HasTerm, HasTerms, HasFormula};
+ghost use Rattle.ss_terms.specs.Forms.{term_at, terms_at, formula_at, HasTerm, HasTerms, HasFormula};
 ghost use Rattle.ss_rules_occurring.specs.Found.{terms_of, formulas_of};
 ghost use Rattle.ss_search_models.specs.Candidates.{model_at, HasCandidate};
 ghost use Rattle.ss_search_models.specs.Keys.{Keeps};
@@ -13,7 +13,7 @@ ghost use Rattle.ss_search_models.specs.Said.{IsFunctionSaid, IsAtomSaid, are_fu
 use crate::candidate::Candidate;
 use crate::signatures::{Given, Signature, Signatures};
 use crate::telling::told_of;
-use ss_terms_stores::{Bank, Formula, FormulaId, Predicate, Term, TermId};
+use ss_terms::{Bank, Formula, FormulaId, Predicate, Term, TermId};
 use std::alloc::{AllocError, Global};
 
 // ---- functions

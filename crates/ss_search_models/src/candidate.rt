@@ -1,12 +1,12 @@
 // What a candidate gives to the terms and the formulas that occur.
 
 ghost use Rattle.std.specs.Prelude.{◌≡◌, map, IfOk};
-ghost use Rattle.ss_terms_stores.specs.Forms.{term_at, terms_at, formula_at, HasTerm, HasTerms, HasFormula};
+ghost use Rattle.ss_terms.specs.Forms.{term_at, terms_at, formula_at, HasTerm, HasTerms, HasFormula};
 ghost use Rattle.ss_search_models.specs.Candidates.{class_number, truth_number, class_at, truth_at, HasCandidate};
 
 use ss_logic_countermodels::Countermodel;
 use ss_rules_occurring::{FormulaList, TermList};
-use ss_terms_stores::{Bank, FormulaId, TermId};
+use ss_terms::{Bank, FormulaId, TermId};
 use std::alloc::{AllocError, Global};
 
 /// Classes by the numbers of terms and truth values by the numbers of formulas, for these terms and formulas.

@@ -2,7 +2,7 @@
 
 ghost use Rattle.std.specs.Prelude.{◌≡◌, true, IfOk, IfSome};
 ghost use Rattle.ss_logic_countermodels.specs.Refuting.{Refutes, model_of};
-ghost use Rattle.ss_terms_stores.specs.Forms.{formulas_at, HasFormulas};
+ghost use Rattle.ss_terms.specs.Forms.{formulas_at, HasFormulas};
 ghost use Rattle.ss_search_models.specs.Candidates.{model_at, IsFor};
 
 use crate::agreeing::{atoms_agree, equalities_are_inside, functions_agree};
@@ -12,7 +12,7 @@ use crate::telling::told;
 use crate::values::values_differ;
 use ss_logic_countermodels::Countermodel;
 use ss_rules_occurring::terms;
-use ss_terms_stores::{Bank, FormulaId};
+use ss_terms::{Bank, FormulaId};
 use std::alloc::{AllocError, Global};
 
 // Whether the model of the candidate refutes the formulas.

@@ -3,14 +3,14 @@
 ghost use Rattle.std.specs.Prelude.{◌≡◌, ◌≤◌, ◌*◌, length, IfOk};
 ghost use Rattle.std.specs.List.{list_all, list_any};
 ghost use Rattle.ss_logic_countermodels.specs.Refuting.{comes_out};
-ghost use Rattle.ss_terms_stores.specs.Forms.{formula_at, formulas_at, HasFormula, HasFormulas, AreBelow};
+ghost use Rattle.ss_terms.specs.Forms.{formula_at, formulas_at, HasFormula, HasFormulas, AreBelow};
 ghost use Rattle.ss_search_models.specs.Candidates.{model_at, HasCandidate};
 ghost use Rattle.ss_search_models.specs.Found.{AreOutcomes, Finds};
 
 use crate::candidate::Candidate;
 use crate::telling::told_of;
 use ss_bit_set::BitSet;
-use ss_terms_stores::{Bank, Formula, FormulaId};
+use ss_terms::{Bank, Formula, FormulaId};
 use std::alloc::{AllocError, Global};
 
 /// The numbers of the formulas whose outcome is known, and of those of them that come out true.

@@ -4,7 +4,7 @@ ghost use Rattle.std.specs.Prelude.{◌≡◌, [], ◌∷◌, ◌++◌, true, So
 ghost use Rattle.ss_search_models.specs.Keys.{key_of, given_to, Keeps};
 
 use indexmap::IndexMap;
-use ss_terms_stores::{Predicate, Symbol, TermId};
+use ss_terms::{Predicate, Symbol, TermId};
 use std::alloc::{AllocError, Global};
 use std::marker::Model;
 

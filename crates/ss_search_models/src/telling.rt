@@ -4,14 +4,14 @@ ghost use Rattle.std.specs.Prelude.{◌≡◌, ◌≤◌, ◌*◌, [], length, f
 ghost use Rattle.ss_logic_ground.specs.Occurring.{with_formula, with_formulas};
 ghost use Rattle.ss_logic_countermodels.specs.Refuting as spec;
 ghost use Rattle.ss_logic_countermodels.specs.Refuting.{told_in};
-ghost use Rattle.ss_terms_stores.specs.Forms.{formula_at, formulas_at, HasFormula, HasFormulas, AreBelow};
+ghost use Rattle.ss_terms.specs.Forms.{formula_at, formulas_at, HasFormula, HasFormulas, AreBelow};
 ghost use Rattle.ss_rules_occurring.specs.Found.{formulas_of, Holds};
 ghost use Rattle.ss_search_models.specs.Tellings as words;
 ghost use Rattle.ss_search_models.specs.Tellings.{Tells, IsTelling};
 
 use ss_bit_set::BitSet;
 use ss_rules_occurring::FormulaList;
-use ss_terms_stores::{Bank, Formula, FormulaId};
+use ss_terms::{Bank, Formula, FormulaId};
 use std::alloc::{AllocError, Global};
 
 /// What was found, and the numbers of the formulas of which all is found.

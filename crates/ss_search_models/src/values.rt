@@ -1,9 +1,9 @@
 // Whether different values have different classes.
 
 ghost use Rattle.std.specs.Prelude.{◌≡◌, true, IfOk, OnOk};
-ghost use Rattle.ss_logic_stores.specs.Terms.{App, no_terms, terms_from};
+ghost use Rattle.ss_logic.specs.Terms.{App, no_terms, terms_from};
 ghost use Rattle.ss_logic_derivations.specs.Steps as spec;
-ghost use Rattle.ss_terms_stores.specs.Forms.{symbol_of, term_at, terms_at, HasTerm};
+ghost use Rattle.ss_terms.specs.Forms.{symbol_of, term_at, terms_at, HasTerm};
 ghost use Rattle.ss_rules_occurring.specs.Found.{terms_of};
 ghost use Rattle.ss_search_models.specs.Candidates.{model_at, HasCandidate};
 ghost use Rattle.ss_search_models.specs.Keys.{Keeps};
@@ -11,7 +11,7 @@ ghost use Rattle.ss_search_models.specs.Said.{IsValueSaid, are_values_apart};
 
 use crate::candidate::Candidate;
 use crate::signatures::{Given, Signature, Signatures};
-use ss_terms_stores::{Bank, Symbol, Term, TermId};
+use ss_terms::{Bank, Symbol, Term, TermId};
 use std::alloc::{AllocError, Global};
 
 fn is_value_symbol(symbol: Symbol) -> bool

@@ -6,7 +6,7 @@ use ss_search_classes::{
     AND, Classes, EQUAL, FORALL, LITERAL, NONE, OR, Why, first_of, is_first, kind_of,
     pair_argument, pair_head, pair_of, part_at, part_count, second_of,
 };
-use ss_terms_stores::Bank;
+use ss_terms::Bank;
 use std::alloc::{AllocError, Global};
 
 /// Why a node has its value.

@@ -3,7 +3,7 @@
 use ss_search_classes::{
     EQUAL, LITERAL, NONE, first_of, is_first, kind_of, pair_argument, pair_head, pair_of,
 };
-use ss_terms_stores::Bank;
+use ss_terms::Bank;
 use std::alloc::{AllocError, Global};
 
 /// What a fact says: a formula of the bank, or that two terms are equal.

@@ -8,7 +8,7 @@ use ss_search_classes::{
     part_at, part_count, second_of,
 };
 use ss_search_nodes::{Ground, Nodes};
-use ss_terms_stores::Bank;
+use ss_terms::Bank;
 use std::alloc::{AllocError, Global};
 
 /// How deep reasons of equalities may nest.

@@ -6,7 +6,7 @@ use crate::reasons::Reasons;
 use ss_deriv::{Derivation, Draft, Line};
 use ss_logic_rules::{GoodRule, RuleName};
 use ss_search_classes::NONE;
-use ss_terms_stores::{FormulaId, TermId};
+use ss_terms::{FormulaId, TermId};
 use std::alloc::{AllocError, Global};
 use std::collections::BinaryHeap;
 

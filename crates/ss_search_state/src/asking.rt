@@ -7,7 +7,7 @@ use ss_search_classes::{
     is_term, is_truth, is_value, kind_of, node_head, of_pair, of_term, pair_argument, pair_head,
     pair_of, part_at, part_count, sort_at, term_argument, term_head,
 };
-use ss_terms_stores::Bank;
+use ss_terms::Bank;
 use std::alloc::AllocError;
 
 impl State {

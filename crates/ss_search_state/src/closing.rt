@@ -3,7 +3,7 @@
 use crate::state::State;
 use ss_search_classes::{Conflict, opposite};
 use ss_search_proof::{End, Range, Reason, Said};
-use ss_terms_stores::Bank;
+use ss_terms::Bank;
 use std::alloc::AllocError;
 
 impl State {

@@ -9,7 +9,7 @@ use ss_search_classes::{
 use ss_search_instances::{Asked, Clause, Heads, Marks};
 use ss_search_nodes::{Ground, Nodes, or_of};
 use ss_search_proof::{Reason, Reasons, RuleKind, Said};
-use ss_terms_stores::Bank;
+use ss_terms::Bank;
 use std::alloc::{AllocError, Global};
 
 /// How much a search may do for an obligation.

@@ -10,7 +10,7 @@ use ss_search_classes::{
 };
 use ss_search_proof::GoodName;
 use ss_search_state::State;
-use ss_terms_stores::Bank;
+use ss_terms::Bank;
 use std::alloc::AllocError;
 
 pub(crate) fn good_equality(

@@ -4,7 +4,7 @@ use crate::looks::{KEY_RULE, member};
 use ss_search_classes::{ARRAY, NEW, NEXT, NONE, OWNER, of_term, term_argument};
 use ss_search_proof::RuleKind;
 use ss_search_state::{State, Wanted, new_request};
-use ss_terms_stores::Bank;
+use ss_terms::Bank;
 use std::alloc::AllocError;
 
 // The owner of what was allocated last is a group.

@@ -5,7 +5,7 @@ use ss_core::{ClassId, Classes};
 use ss_search_classes::{NONE, argument, of_term, pair_argument};
 use ss_search_proof::RuleKind;
 use ss_search_state::{Request, State, Wanted, new_request};
-use ss_terms_stores::Bank;
+use ss_terms::Bank;
 use std::alloc::AllocError;
 
 // Which class counts as another one.

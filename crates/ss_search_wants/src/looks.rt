@@ -4,7 +4,7 @@ use ss_core::{ClassId, Classes, Field, FieldId, Mark, Ty};
 use ss_search_classes::{CLASS, NONE, is_term, of_term, term_head};
 use ss_search_proof::GoodName;
 use ss_search_state::{Request, State, Wanted, new_request};
-use ss_terms_stores::Bank;
+use ss_terms::Bank;
 use std::alloc::AllocError;
 
 pub(crate) const KEY_READ: usize = 1000;

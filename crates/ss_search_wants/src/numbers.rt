@@ -12,7 +12,7 @@ use ss_search_classes::{
 };
 use ss_search_proof::GoodName;
 use ss_search_state::{State, Wanted, new_request};
-use ss_terms_stores::Bank;
+use ss_terms::Bank;
 use std::alloc::AllocError;
 
 // What invariants say, and numbers.

@@ -8,7 +8,7 @@ use ss_search_classes::{
 use ss_search_instances::Pattern;
 use ss_search_proof::RuleKind;
 use ss_search_state::{State, Wanted, new_request};
-use ss_terms_stores::Bank;
+use ss_terms::Bank;
 use std::alloc::AllocError;
 
 // The number of a kind of read in the rule on reads.

@@ -4,7 +4,7 @@ use crate::looks::{good_once, member, terms_at};
 use ss_search_classes::{ELEMENT, FIELD, NONE, of_term, term_argument, term_head};
 use ss_search_proof::GoodName;
 use ss_search_state::State;
-use ss_terms_stores::Bank;
+use ss_terms::Bank;
 use std::alloc::AllocError;
 
 // What is said of what a field or an element holds.

@@ -8,7 +8,7 @@ use ss_core::Classes;
 use ss_search_classes::{ALLOCATED, EQUAL, NONE, OWNER, SUB, node_head};
 use ss_search_instances::is_read;
 use ss_search_state::{State, reads_store};
-use ss_terms_stores::Bank;
+use ss_terms::Bank;
 use std::alloc::AllocError;
 
 /// Makes the instances of a stage that what is asked for asks for. Whether there was one.

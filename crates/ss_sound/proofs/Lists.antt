@@ -1,19 +1,32 @@
 -- Lists of obligations that are decided from the front.
-use Rattle.std.proofs.Common.{◌≡◌, ◌≢◌, ℕ, zero, suc, ◌+◌, ◌-◌, ◌*◌, ◌<◌, ◌≤◌, List, [], ◌∷◌, ◌++◌, take, drop, length, Some, refl, sym, ap, ◌∙◌, subst, arith}
+use Rattle.std.proofs.Common.{◌≡◌, ◌≢◌, ℕ, zero, suc, ◌+◌, ◌-◌, ◌*◌, ◌<◌, ◌≤◌, List, [], ◌∷◌, ◌++◌, map, take, drop, length, Some, refl, sym, ap, ◌∙◌, subst, arith}
+use Rattle.std.specs.Prelude.{Result, Ok, IfOk}
+use Rattle.ss_sound.specs.declared.decision.Decision.{Decision}
+use Rattle.ss_sound.specs.declared.decision.Decision.TheVariants as decision
+use Rattle.ss_sound.specs.declared.verdict.Decided.{Decided}
 use Rattle.std.specs.List.{slice_get, slice_index_or}
-use Rattle.ss_logic.proofs.Sound.{IsValid-Derives}
 use borrow.Author.Count.{below_more}
-use Rattle.std.proofs.lemmas.List.{drop-take}
-use Rattle.std.proofs.lemmas.Option.{slice_get_within}
+use Rattle.std.proofs.lemmas.List.{append-nil, drop-take, map_push, length-map}
+use Rattle.ss_core.specs.Tree.{ClassTree}
+use Rattle.ss_logic_derivations.specs.Steps as tree
 use Rattle.ss_terms.specs.declared.forms.FormulaId.{FormulaId}
 use Rattle.ss_terms.specs.Forms.{Forms, AreBelow, HasFormula, HasFormulas, IsGrown}
-use Rattle.ss_terms.proofs.Banks.{HasFormula-grown, formulas_at-grown}
-use Rattle.ss_vcgen_rules.specs.Obligations as oblig
-use Rattle.ss_vcgen.specs.declared.list.Obligation.{Obligation}
-use Rattle.ss_vcgen.specs.Built.{obligation_in, obligations_in, IsPlaced, AreWithin}
-use Rattle.ss_search.specs.Countermodel.{model_of}
-use Rattle.ss_search.specs.declared.model.Countered.{Countered}
-use Rattle.ss_sound.specs.Verdicts.{IsProved, AreProved, IsRefutedBy, IsRefuted, AreRefuted, AreRisingFrom, IsNoneOf, AreDecided, IsUnproved, numbers_of}
+use Rattle.ss_terms.proofs.Grown.{HasFormula-grown, formulas_at-grown}
+use Rattle.ss_vcgen_heaps.specs.Positions as oblig
+use Rattle.ss_vcgen_safe.specs.Derived.{AreDerived}
+use Rattle.ss_vcgen_builder.specs.declared.builder.Obligation.{Obligation}
+use Rattle.ss_vcgen_builder.specs.Builder.{obligation_at, obligations_at, IsPlaced, AreWithin}
+use Rattle.ss_deriv.specs.declared.line.Line.{Line}
+use Rattle.ss_deriv.specs.Lines.{lines_of}
+use Rattle.ss_search.specs.declared.answers.Options.{Options}
+use Rattle.ss_search.specs.declared.answers.Countered.{Countered}
+use Rattle.ss_search.specs.declared.answers.Undecided.{Undecided}
+use Rattle.ss_sound.specs.Decided.{IsDerivedBy, IsCountered, IsOverBudget, IfDerived, IfRefuted, IfOver}
+use Rattle.ss_sound.specs.Verdicts.{IsProved, IfThere, AreCountered, AreUndecided, IsNoneOf, AreDecided, derivations_of, derivations_in, countered_in, undecided_in}
+use Rattle.ss_search.specs.Listed.{countered_numbers, undecided_numbers, AreRisingFrom}
+use Rattle.ss_sound.proofs.Kept.{lines_kept}
+
+-- ---- parts of lists
 
 pub AreBelow-take : (n k : ℕ) (fs : List FormulaId) → AreBelow n fs → AreBelow n (take k fs)
 AreBelow-take n zero fs h = tt
@@ -31,17 +44,50 @@ part_is first end fs h =
     let whole : first + (end - first) ≡ end = omega arith in
     sym (subst (λ n. drop first (take n fs) ≡ take (end - first) (drop first fs)) whole (drop-take first (end - first) fs))
 
+-- ---- the obligation at a number
+
 -- the k-th obligation of a list within a bank
 pub within_at : (b : Forms) (n : ℕ) (os : List Obligation) (k : ℕ) (o : Obligation) → AreWithin b n os → slice_get os k ≡ Some o → IsPlaced b n o
 within_at b n [] k o h e = absurd (cc)
 within_at b n (x ∷ xs) zero o h e = let same : x ≡ o = cc in subst (λ y. IsPlaced b n y) same h.0
 within_at b n (x ∷ xs) (suc k) o h e = within_at b n xs k o h.1 e
 
-pub obligation_at : (b : Forms) (trail : List FormulaId) (os : List Obligation) (k : ℕ) (o : Obligation) → slice_get os k ≡ Some o
-    → slice_get (obligations_in b trail os) k ≡ Some (obligation_in b trail o)
-obligation_at b trail [] k o e = absurd (cc)
-obligation_at b trail (x ∷ xs) zero o e = let same : x ≡ o = cc in ap (λ y. Some (obligation_in b trail y)) same
-obligation_at b trail (x ∷ xs) (suc k) o e = obligation_at b trail xs k o e
+tree_at : (b : Forms) (trail : List FormulaId) (os : List Obligation) (k : ℕ) (o : Obligation) → slice_get os k ≡ Some o
+    → slice_get (obligations_at b trail os) k ≡ Some (obligation_at b trail o)
+tree_at b trail [] k o e = absurd (cc)
+tree_at b trail (x ∷ xs) zero o e = let same : x ≡ o = cc in ap (λ y. Some (obligation_at b trail y)) same
+tree_at b trail (x ∷ xs) (suc k) o e = tree_at b trail xs k o e
+
+-- the obligation that code reads at a number
+read_at : (os : List Obligation) (k : ℕ) (d : Obligation) → k < length os → slice_get os k ≡ Some (slice_index_or os k d)
+read_at [] k d h = absurd (omega arith)
+read_at (x ∷ xs) zero d h = refl
+read_at (x ∷ xs) (suc k) d h = read_at xs k d (omega arith)
+
+pub placed_at : (a b : Forms) (n : ℕ) (os : List Obligation) (k : ℕ) (d : Obligation) → IsGrown a b → AreWithin a n os → k < length os → IsPlaced b n (slice_index_or os k d)
+placed_at a b n os k d grown h small =
+    let here : IsPlaced a n (slice_index_or os k d) = within_at a n os k (slice_index_or os k d) h (read_at os k d small) in
+    record { goal = HasFormula-grown a b grown (slice_index_or os k d).goal here.goal; first = here.first; end = here.end }
+
+pub within_later : (a b : Forms) (n : ℕ) (os : List Obligation) → IsGrown a b → AreWithin a n os → AreWithin b n os
+within_later a b n [] grown h = tt
+within_later a b n (o ∷ os) grown h = (record { goal = HasFormula-grown a b grown o.goal h.0.goal; first = h.0.first; end = h.0.end }, within_later a b n os grown h.1)
+
+-- an obligation says the same in a bank that has grown
+obligation_grown : (a b : Forms) (trail : List FormulaId) (o : Obligation) → IsGrown a b → HasFormulas a trail → HasFormula a o.goal → obligation_at b trail o ≡ obligation_at a trail o
+obligation_grown a b trail o grown has goal =
+    let premises : HasFormulas a (drop o.first (take o.end trail)) = AreBelow-drop (length a.formulas * 2) o.first (take o.end trail) (AreBelow-take (length a.formulas * 2) o.end trail has) in
+    rw (formulas_at-grown a b grown (drop o.first (take o.end trail)) premises, grown.same_formulas o.goal goal) refl
+
+pub obligations_grown : (a b : Forms) (trail : List FormulaId) (n : ℕ) (os : List Obligation) → IsGrown a b → HasFormulas a trail → AreWithin a n os → obligations_at b trail os ≡ obligations_at a trail os
+obligations_grown a b trail n [] grown has within = refl
+obligations_grown a b trail n (x ∷ xs) grown has within =
+    let first = obligation_grown a b trail x grown has within.0.goal in let others = obligations_grown a b trail n xs grown has within.1 in cc
+
+length-obligations_at : (b : Forms) (trail : List FormulaId) (os : List Obligation) → length (obligations_at b trail os) ≡ length os
+length-obligations_at b trail os = length-map os (obligation_at b trail)
+
+-- ---- rising numbers
 
 -- all numbers are below
 abbrev pub AreNumbersBelow : ℕ → List ℕ → Type 0
@@ -68,124 +114,188 @@ none_last : (ks : List ℕ) (n k : ℕ) → IsNoneOf (ks ++ n ∷ []) k → n �
 none_last [] n k h = h.0
 none_last (x ∷ xs) n k h = none_last xs n k h.1
 
-refuted_push : (os : List oblig.Obligation) (cs : List Countered) (c : Countered) → AreRefuted os cs → IsRefuted (slice_get os c.obligation) c → AreRefuted os (cs ++ c ∷ [])
-refuted_push os [] c h r = (r, tt)
-refuted_push os (x ∷ xs) c h r = (h.0, refuted_push os xs c h.1 r)
+countered_more : (ls : List Countered) (l : Countered) (n : ℕ) → l.obligation ≡ n → countered_numbers (ls ++ l ∷ []) ≡ countered_numbers ls ++ n ∷ []
+countered_more ls l n e = map_push (λ x. x.obligation) ls l ∙ ap (λ k. countered_numbers ls ++ k ∷ []) e
 
-numbers_of-push : (cs : List Countered) (c : Countered) → numbers_of (cs ++ c ∷ []) ≡ numbers_of cs ++ c.obligation ∷ []
-numbers_of-push [] c = refl
-numbers_of-push (x ∷ xs) c = ap (λ ns. x.obligation ∷ ns) (numbers_of-push xs c)
+undecided_more : (ls : List Undecided) (l : Undecided) (n : ℕ) → l.obligation ≡ n → undecided_numbers (ls ++ l ∷ []) ≡ undecided_numbers ls ++ n ∷ []
+undecided_more ls l n e = map_push (λ x. x.obligation) ls l ∙ ap (λ k. undecided_numbers ls ++ k ∷ []) e
 
--- how far a list is decided
-pub record IsDecidedTo (os : List oblig.Obligation) (n : ℕ) (listed : List Countered) : Type 0 where
-  pub decided : AreDecided os n listed
-  pub below : AreNumbersBelow n (numbers_of listed)
+-- where the numbers are those before with n behind them
+module _ (low n : ℕ) (ks more : List ℕ) (e : more ≡ ks ++ n ∷ []) where
+  pushed_rise : low ≤ n → AreRisingFrom low ks → AreNumbersBelow n ks → AreRisingFrom low more
+  pushed_rise below h all = rw e (rising_push low n ks below h all)
 
-pub decided_none : (os : List oblig.Obligation) → IsDecidedTo os 0 []
-decided_none os = record {
-  decided = record { refuted = tt; rising = tt; others = λ k o small e none. absurd (omega arith) };
-  below = tt;
-}
+  pushed_below : AreNumbersBelow n ks → AreNumbersBelow (n + 1) more
+  pushed_below h = rw e (numbers_push n ks h)
 
-pub decided_valid : (os : List oblig.Obligation) (n : ℕ) (listed : List Countered) (o : oblig.Obligation) → IsDecidedTo os n listed → slice_get os n ≡ Some o → IsProved o → IsDecidedTo os (n + 1) listed
-decided_valid os n listed o h e valid =
-    let P : ℕ → Type 0 = λ k. (x : oblig.Obligation) → slice_get os k ≡ Some x → IsNoneOf (numbers_of listed) k → IsProved x in record {
-      decided = record {
-        refuted = h.decided.refuted;
-        rising = h.decided.rising;
-        others = λ k x small at none. below_more P n (λ j less y here free. h.decided.others j y less here free)
-            (λ y here free. let same : o ≡ y = cc in subst IsProved same valid) k small x at none;
-      };
-      below = numbers_more n (numbers_of listed) h.below;
-    }
+  pushed_front : (k : ℕ) → IsNoneOf more k → IsNoneOf ks k
+  pushed_front k h = none_front ks n k (subst (λ ns. IsNoneOf ns k) e h)
 
-pub decided_refuted : (os : List oblig.Obligation) (n : ℕ) (listed : List Countered) (c : Countered) (o : oblig.Obligation) → IsDecidedTo os n listed → c.obligation ≡ n → slice_get os n ≡ Some o
-    → IsRefutedBy (model_of c.model) o → IsDecidedTo os (n + 1) (listed ++ c ∷ [])
-decided_refuted os n listed c o h at e refuted =
-    let P : ℕ → Type 0 = λ k. (x : oblig.Obligation) → slice_get os k ≡ Some x → IsNoneOf (numbers_of (listed ++ c ∷ [])) k → IsProved x in
-    let numbers : numbers_of (listed ++ c ∷ []) ≡ numbers_of listed ++ n ∷ [] = numbers_of-push listed c ∙ ap (λ k. numbers_of listed ++ k ∷ []) at in record {
-      decided = record {
-        refuted = refuted_push os listed c h.decided.refuted (rw (at, e) refuted);
-        rising = rw numbers (rising_push 0 n (numbers_of listed) (omega arith) h.decided.rising h.below);
-        others = λ k x small here none. below_more P n
-            (λ j less y there free. h.decided.others j y less there (none_front (numbers_of listed) n j (subst (λ ns. IsNoneOf ns j) numbers free)))
-            (λ y there free. absurd (none_last (numbers_of listed) n n (subst (λ ns. IsNoneOf ns n) numbers free) refl)) k small x here none;
-      };
-      below = rw numbers (numbers_push n (numbers_of listed) h.below);
-    }
+  pushed_last : IsNoneOf more n → ⊥
+  pushed_last h = none_last ks n n (subst (λ ns. IsNoneOf ns n) e h) refl
 
--- the obligation that code reads at a number
-pub slice_get-at : (os : List Obligation) (k : ℕ) (d : Obligation) → k < length os → slice_get os k ≡ Some (slice_index_or os k d)
-slice_get-at [] k d h = absurd (omega arith)
-slice_get-at (x ∷ xs) zero d h = refl
-slice_get-at (x ∷ xs) (suc k) d h = slice_get-at xs k d (omega arith)
+no_push : {X : Type 0} (xs : List X) (x : X) → xs ++ x ∷ [] ≡ [] → ⊥
+no_push [] x e = absurd (cc)
+no_push (y ∷ ys) x e = absurd (cc)
 
-pub goal_at : (a b : Forms) (n : ℕ) (os : List Obligation) (k : ℕ) (d : Obligation) → IsGrown a b → AreWithin a n os → k < length os → HasFormula b (slice_index_or os k d).goal
-goal_at a b n os k d grown h small = HasFormula-grown a b grown (slice_index_or os k d).goal (within_at a n os k (slice_index_or os k d) h (slice_get-at os k d small)).goal
+-- ---- derivations
 
-pub placed_at : (a : Forms) (n : ℕ) (os : List Obligation) (k : ℕ) (d : Obligation) → AreWithin a n os → k < length os → IsPlaced a n (slice_index_or os k d)
-placed_at a n os k d h small = within_at a n os k (slice_index_or os k d) h (slice_get-at os k d small)
+first_more : (os : List oblig.Obligation) (k : ℕ) (o : oblig.Obligation) → slice_get os k ≡ Some o → take (k + 1) os ≡ take k os ++ o ∷ []
+first_more [] k o e = absurd (cc)
+first_more (x ∷ xs) zero o e = let same : x ≡ o = cc in ap (λ y. y ∷ []) same
+first_more (x ∷ xs) (suc k) o e =
+    let count : suc (k + 1) ≡ suc k + 1 = omega arith in
+    subst (λ n. take n (x ∷ xs) ≡ x ∷ (take k xs ++ o ∷ [])) count (ap (λ ys. x ∷ ys) (first_more xs k o e))
 
--- an obligation says the same in a bank that has grown
-pub obligation_in-grown : (a b : Forms) (trail : List FormulaId) (o : Obligation) → IsGrown a b → HasFormulas a trail → HasFormula a o.goal → obligation_in b trail o ≡ obligation_in a trail o
-obligation_in-grown a b trail o grown has goal =
-    let premises : HasFormulas a (drop o.first (take o.end trail)) = AreBelow-drop (length a.formulas * 2) o.first (take o.end trail) (AreBelow-take (length a.formulas * 2) o.end trail has) in
-    rw (formulas_at-grown a b grown (drop o.first (take o.end trail)) premises, grown.same_formulas o.goal goal) refl
+first_all : (os : List oblig.Obligation) (k : ℕ) → k ≡ length os → take k os ≡ os
+first_all [] k e = rw e refl
+first_all (x ∷ xs) zero e = absurd (cc)
+first_all (x ∷ xs) (suc k) e = ap (λ ys. x ∷ ys) (first_all xs k (omega arith))
 
-pub obligations_in-grown : (a b : Forms) (trail : List FormulaId) (n : ℕ) (os : List Obligation) → IsGrown a b → HasFormulas a trail → AreWithin a n os → obligations_in b trail os ≡ obligations_in a trail os
-obligations_in-grown a b trail n [] grown has within = refl
-obligations_in-grown a b trail n (x ∷ xs) grown has within =
-    let first = obligation_in-grown a b trail x grown has within.0.goal in let others = obligations_in-grown a b trail n xs grown has within.1 in cc
+module _ (cs : List ClassTree) where
+  derived_push : (os : List oblig.Obligation) (ds : List (List tree.Line)) (o : oblig.Obligation) (d : List tree.Line) → AreDerived cs os ds → IsDerivedBy cs o d → AreDerived cs (os ++ o ∷ []) (ds ++ d ∷ [])
+  derived_push [] [] o d h new = (new, tt)
+  derived_push [] (e ∷ es) o d h new = absurd h
+  derived_push (x ∷ xs) [] o d h new = absurd h
+  derived_push (x ∷ xs) (e ∷ es) o d h new = (h.0, derived_push xs es o d h.1 new)
 
--- the next obligation of the list was decided, in a bank that has grown
-pub step_valid : (a b : Forms) (trail : List FormulaId) (os : List Obligation) (k : ℕ) (d : Obligation) (listed : List Countered) → IsGrown a b → HasFormulas a trail → AreWithin a (length trail) os → k < length os
-    → IsDecidedTo (obligations_in a trail os) k listed → IsProved (obligation_in b trail (slice_index_or os k d)) → IsDecidedTo (obligations_in a trail os) (k + 1) listed
-step_valid a b trail os k d listed grown has within small h proved =
-    let o : Obligation = slice_index_or os k d in
-    let at : slice_get os k ≡ Some o = slice_get-at os k d small in
-    let goal : HasFormula a o.goal = (within_at a (length trail) os k o within at).goal in
-    decided_valid (obligations_in a trail os) k listed (obligation_in a trail o) h (obligation_at a trail os k o at) (subst IsProved (obligation_in-grown a b trail o grown has goal) proved)
+  derivations_kept : (a b : Forms) → IsGrown a b → (os : List oblig.Obligation) (ds : List (List Line)) → AreDerived cs os (derivations_of a ds) → derivations_of b ds ≡ derivations_of a ds
+  derivations_kept a b g os [] h = refl
+  derivations_kept a b g [] (d ∷ ds) h = absurd h
+  derivations_kept a b g (o ∷ os) (d ∷ ds) h =
+      let first = lines_kept cs o.premises o.goal a b g d h.0 in let others = derivations_kept a b g os ds h.1 in cc
 
-pub step_refuted : (a b : Forms) (trail : List FormulaId) (os : List Obligation) (k : ℕ) (d : Obligation) (listed : List Countered) (c : Countered) → IsGrown a b → HasFormulas a trail → AreWithin a (length trail) os → k < length os
-    → IsDecidedTo (obligations_in a trail os) k listed → c.obligation ≡ k → IsRefutedBy (model_of c.model) (obligation_in b trail (slice_index_or os k d)) → IsDecidedTo (obligations_in a trail os) (k + 1) (listed ++ c ∷ [])
-step_refuted a b trail os k d listed c grown has within small h number refuted =
-    let o : Obligation = slice_index_or os k d in
-    let at : slice_get os k ≡ Some o = slice_get-at os k d small in
-    let goal : HasFormula a o.goal = (within_at a (length trail) os k o within at).goal in
-    decided_refuted (obligations_in a trail os) k listed c (obligation_in a trail o) h number (obligation_at a trail os k o at)
-    (subst (λ x. IsRefutedBy (model_of c.model) x) (obligation_in-grown a b trail o grown has goal) refuted)
+-- ---- how far a list is decided
 
--- a list that is decided to its end with nothing listed has derivations
-all_proved : (os : List oblig.Obligation) → ((k : ℕ) (o : oblig.Obligation) → slice_get os k ≡ Some o → IsProved o) → AreProved os
-all_proved [] h = tt
-all_proved (o ∷ os) h = (h 0 o refl, all_proved os (λ k x e. h (suc k) x e))
+module _ (cs : List ClassTree) (p : Options) where
+  countered_push : (os : List oblig.Obligation) (ls : List Countered) (l : Countered) → AreCountered cs p os ls → IfThere (slice_get os l.obligation) (λ o. IsCountered cs p o l.model) → AreCountered cs p os (ls ++ l ∷ [])
+  countered_push os [] l h r = (r, tt)
+  countered_push os (x ∷ xs) l h r = (h.0, countered_push os xs l h.1 r)
 
-pub decided_all_proved : (os : List oblig.Obligation) (n : ℕ) (listed : List Countered) → length os ≡ n → listed ≡ [] → AreDecided os n listed → AreProved os
-decided_all_proved os n listed counted none h =
-    let h' : AreDecided os n [] = subst (λ l. AreDecided os n l) none h in
-    all_proved os (λ k o e. h'.others k o (let small : k < length os = slice_get_within os k o e in omega arith) e tt)
+  undecided_push : (os : List oblig.Obligation) (ls : List Undecided) (l : Undecided) → AreUndecided cs p os ls → IfThere (slice_get os l.obligation) (λ o. IsOverBudget cs p o l.cause) → AreUndecided cs p os (ls ++ l ∷ [])
+  undecided_push os [] l h r = (r, tt)
+  undecided_push os (x ∷ xs) l h r = (h.0, undecided_push os xs l h.1 r)
 
--- what has derivations is valid
-pub AreValid-proved : (os : List oblig.Obligation) → AreProved os → oblig.AreValid os
-AreValid-proved [] h = tt
-AreValid-proved (o ∷ os) h = (IsValid-Derives o.premises o.goal h.0.0 h.0.1, AreValid-proved os h.1)
+  pub record IsDecidedTo (os : List oblig.Obligation) (n : ℕ) (b : Forms) (ms : List Countered) (us : List Undecided) (ds : List (List Line)) : Type 0 where
+    pub decided : AreDecided cs p os n ms us
+    pub countered_below : AreNumbersBelow n (countered_numbers ms)
+    pub undecided_below : AreNumbersBelow n (undecided_numbers us)
+    pub derived : ms ≡ [] → us ≡ [] → AreDerived cs (take n os) (derivations_of b ds)
 
-pub decided_unproved : (os : List oblig.Obligation) (n : ℕ) (listed : List Countered) → length os ≡ n → listed ≢ [] → AreDecided os n listed → IsUnproved os listed
-decided_unproved os n listed counted some h = record {
-  some = some;
-  refuted = h.refuted;
-  rising = h.rising;
-  others = λ k o e none. h.others k o (let small : k < length os = slice_get_within os k o e in omega arith) e none;
-}
+  pub decided_none : (os : List oblig.Obligation) (b : Forms) → IsDecidedTo os 0 b [] [] []
+  decided_none os b = record {
+    decided = record { are_countered = tt; are_undecided = tt; countered_rise = tt; undecided_rise = tt; others = λ k o small e clean none. absurd (omega arith) };
+    countered_below = tt;
+    undecided_below = tt;
+    derived = λ e d. tt;
+  }
 
-pub length-obligations_in : (b : Forms) (trail : List FormulaId) (os : List Obligation) → length (obligations_in b trail os) ≡ length os
-length-obligations_in b trail [] = refl
-length-obligations_in b trail (o ∷ os) = ap suc (length-obligations_in b trail os)
+  module _ (os : List oblig.Obligation) (n : ℕ) (a b : Forms) (ms : List Countered) (us : List Undecided) (ds : List (List Line)) (o : oblig.Obligation) (h : IsDecidedTo os n a ms us ds) (e : slice_get os n ≡ Some o) where
+    decided_derived : (d : List Line) → IsGrown a b → IsDerivedBy cs o (lines_of b d) → IsDecidedTo os (n + 1) b ms us (ds ++ d ∷ [])
+    decided_derived d g new =
+        let P : ℕ → Type 0 = λ k. (x : oblig.Obligation) → slice_get os k ≡ Some x → IsNoneOf (countered_numbers ms) k → IsNoneOf (undecided_numbers us) k → IsProved cs x in record {
+          decided = record {
+            are_countered = h.decided.are_countered;
+            are_undecided = h.decided.are_undecided;
+            countered_rise = h.decided.countered_rise;
+            undecided_rise = h.decided.undecided_rise;
+            others = λ k x small at clean none. below_more P n (λ j less y here free clear. h.decided.others j y less here free clear)
+                (λ y here free clear. let same : o ≡ y = cc in subst (IsProved cs) same (lines_of b d, new)) k small x at clean none;
+          };
+          countered_below = numbers_more n (countered_numbers ms) h.countered_below;
+          undecided_below = numbers_more n (undecided_numbers us) h.undecided_below;
+          derived = λ clean none.
+              let before : AreDerived cs (take n os) (derivations_of a ds) = h.derived clean none in
+              let kept : derivations_of b ds ≡ derivations_of a ds = derivations_kept cs a b g (take n os) ds before in
+              let both : derivations_of b (ds ++ d ∷ []) ≡ derivations_of a ds ++ lines_of b d ∷ [] = map_push (lines_of b) ds d ∙ ap (λ es. es ++ lines_of b d ∷ []) kept in
+              rw (first_more os n o e, both) (derived_push cs (take n os) (derivations_of a ds) o (lines_of b d) before new);
+        }
 
-pub no_items : (cs : List Countered) → length cs ≡ 0 → cs ≡ []
-no_items [] h = refl
-no_items (c ∷ cs) h = absurd (omega arith)
+    decided_countered : (l : Countered) → l.obligation ≡ n → IsCountered cs p o l.model → IsDecidedTo os (n + 1) b (ms ++ l ∷ []) us ds
+    decided_countered l at why =
+        let P : ℕ → Type 0 = λ k. (x : oblig.Obligation) → slice_get os k ≡ Some x → IsNoneOf (countered_numbers (ms ++ l ∷ [])) k → IsNoneOf (undecided_numbers us) k → IsProved cs x in
+        let numbers : countered_numbers (ms ++ l ∷ []) ≡ countered_numbers ms ++ n ∷ [] = countered_more ms l n at in record {
+          decided = record {
+            are_countered = countered_push os ms l h.decided.are_countered (rw (at, e) why);
+            are_undecided = h.decided.are_undecided;
+            countered_rise = pushed_rise 0 n (countered_numbers ms) (countered_numbers (ms ++ l ∷ [])) numbers (omega arith) h.decided.countered_rise h.countered_below;
+            undecided_rise = h.decided.undecided_rise;
+            others = λ k x small here clean none. below_more P n
+                (λ j less y there free clear. h.decided.others j y less there (pushed_front 0 n (countered_numbers ms) (countered_numbers (ms ++ l ∷ [])) numbers j free) clear)
+                (λ y there free clear. absurd (pushed_last 0 n (countered_numbers ms) (countered_numbers (ms ++ l ∷ [])) numbers free)) k small x here clean none;
+          };
+          countered_below = pushed_below 0 n (countered_numbers ms) (countered_numbers (ms ++ l ∷ [])) numbers h.countered_below;
+          undecided_below = numbers_more n (undecided_numbers us) h.undecided_below;
+          derived = λ clean none. absurd (no_push ms l clean);
+        }
 
-pub some_items : (cs : List Countered) → length cs ≢ 0 → cs ≢ []
-some_items [] h e = h refl
-some_items (c ∷ cs) h e = absurd (cc)
+    decided_over : (l : Undecided) → l.obligation ≡ n → IsOverBudget cs p o l.cause → IsDecidedTo os (n + 1) b ms (us ++ l ∷ []) ds
+    decided_over l at why =
+        let P : ℕ → Type 0 = λ k. (x : oblig.Obligation) → slice_get os k ≡ Some x → IsNoneOf (countered_numbers ms) k → IsNoneOf (undecided_numbers (us ++ l ∷ [])) k → IsProved cs x in
+        let numbers : undecided_numbers (us ++ l ∷ []) ≡ undecided_numbers us ++ n ∷ [] = undecided_more us l n at in record {
+          decided = record {
+            are_countered = h.decided.are_countered;
+            are_undecided = undecided_push os us l h.decided.are_undecided (rw (at, e) why);
+            countered_rise = h.decided.countered_rise;
+            undecided_rise = pushed_rise 0 n (undecided_numbers us) (undecided_numbers (us ++ l ∷ [])) numbers (omega arith) h.decided.undecided_rise h.undecided_below;
+            others = λ k x small here clean none. below_more P n
+                (λ j less y there free clear. h.decided.others j y less there free (pushed_front 0 n (undecided_numbers us) (undecided_numbers (us ++ l ∷ [])) numbers j clear))
+                (λ y there free clear. absurd (pushed_last 0 n (undecided_numbers us) (undecided_numbers (us ++ l ∷ [])) numbers clear)) k small x here clean none;
+          };
+          countered_below = numbers_more n (countered_numbers ms) h.countered_below;
+          undecided_below = pushed_below 0 n (undecided_numbers us) (undecided_numbers (us ++ l ∷ [])) numbers h.undecided_below;
+          derived = λ clean none. absurd (no_push us l none);
+        }
+
+  -- the next obligation of the list was decided, in a bank that has grown
+  module _ (a : Forms) (trail : List FormulaId) (os : List Obligation) (has : HasFormulas a trail) (within : AreWithin a (length trail) os) (k : ℕ) (y : Obligation) (small : k < length os)
+      (b c : Forms) (grown : IsGrown a b) (ms : List Countered) (us : List Undecided) (ds : List (List Line)) (h : IsDecidedTo (obligations_at a trail os) k b ms us ds) where
+    there : slice_get (obligations_at a trail os) k ≡ Some (obligation_at a trail (slice_index_or os k y))
+    there = tree_at a trail os k (slice_index_or os k y) (read_at os k y small)
+
+    same : obligation_at b trail (slice_index_or os k y) ≡ obligation_at a trail (slice_index_or os k y)
+    same = obligation_grown a b trail (slice_index_or os k y) grown has (within_at a (length trail) os k (slice_index_or os k y) within (read_at os k y small)).goal
+
+    -- by what was found of it
+    step_decided : (E : Type 0) (x : Decision) (ms' : List Countered) (us' : List Undecided) (ds' : List (List Line)) → IsGrown b c → ds' ≡ ds ++ derivations_in x → ms' ≡ ms ++ countered_in k x → us' ≡ us ++ undecided_in k x
+        → IfDerived {E = E} (Ok x) (λ d. IsDerivedBy cs (obligation_at b trail (slice_index_or os k y)) (lines_of c d)) → IfRefuted {E = E} (Ok x) (IsCountered cs p (obligation_at b trail (slice_index_or os k y)))
+        → IfOver {E = E} (Ok x) (IsOverBudget cs p (obligation_at b trail (slice_index_or os k y))) → IsDecidedTo (obligations_at a trail os) (k + 1) c ms' us' ds'
+    step_decided E (decision.Derived d) ms' us' ds' more de me ue new refuted over =
+        rw (de, me ∙ append-nil ms, ue ∙ append-nil us) (decided_derived (obligations_at a trail os) k b c ms us ds (obligation_at a trail (slice_index_or os k y)) h there d more (subst (λ z. IsDerivedBy cs z (lines_of c d)) same new))
+    step_decided E (decision.Refuted m) ms' us' ds' more de me ue new refuted over =
+        rw (de ∙ append-nil ds, me, ue ∙ append-nil us)
+        (decided_countered (obligations_at a trail os) k b c ms us ds (obligation_at a trail (slice_index_or os k y)) h there (record { obligation = k; model = m }) refl (subst (λ z. IsCountered cs p z m) same refuted))
+    step_decided E (decision.Over o) ms' us' ds' more de me ue new refuted over =
+        rw (de ∙ append-nil ds, me ∙ append-nil ms, ue)
+        (decided_over (obligations_at a trail os) k b c ms us ds (obligation_at a trail (slice_index_or os k y)) h there (record { obligation = k; cause = o }) refl (subst (λ z. IsOverBudget cs p z o) same over))
+
+    -- the same, where the decision was the answer of a call
+    pub step_found : (E : Type 0) (r : Result Decision E) (x : Decision) (ms' : List Countered) (us' : List Undecided) (ds' : List (List Line)) → r ≡ Ok x → IsGrown b c → ds' ≡ ds ++ derivations_in x → ms' ≡ ms ++ countered_in k x
+        → us' ≡ us ++ undecided_in k x → IfDerived r (λ d. IsDerivedBy cs (obligation_at b trail (slice_index_or os k y)) (lines_of c d)) → IfRefuted r (IsCountered cs p (obligation_at b trail (slice_index_or os k y)))
+        → IfOver r (IsOverBudget cs p (obligation_at b trail (slice_index_or os k y))) → IsDecidedTo (obligations_at a trail os) (k + 1) c ms' us' ds'
+    step_found E r x ms' us' ds' was more de me ue new refuted over =
+        step_decided E x ms' us' ds' more de me ue (subst (λ q. IfDerived q (λ d. IsDerivedBy cs (obligation_at b trail (slice_index_or os k y)) (lines_of c d))) was new)
+        (subst (λ q. IfRefuted q (IsCountered cs p (obligation_at b trail (slice_index_or os k y)))) was refuted) (subst (λ q. IfOver q (IsOverBudget cs p (obligation_at b trail (slice_index_or os k y)))) was over)
+
+  -- where nothing is listed of a list that is decided to its end, each obligation has its derivation
+  pub derived_to_end : (a b : Forms) (trail : List FormulaId) (os : List Obligation) (n : ℕ) (ms : List Countered) (us : List Undecided) (ds : List (List Line)) → n ≡ length os
+      → IsDecidedTo (obligations_at a trail os) n b ms us ds → ms ≡ [] → us ≡ [] → AreDerived cs (obligations_at a trail os) (derivations_of b ds)
+  derived_to_end a b trail os n ms us ds e h clean none =
+      subst (λ xs. AreDerived cs xs (derivations_of b ds)) (first_all (obligations_at a trail os) n (e ∙ sym (length-obligations_at a trail os))) (h.derived clean none)
+
+  -- what is decided of a list of obligations
+  pub decided_whole : (a : Forms) (trail : List FormulaId) (os : List Obligation) (all : List oblig.Obligation) (ms : List Countered) (us : List Undecided) → obligations_at a trail os ≡ all
+      → AreDecided cs p (obligations_at a trail os) (length os) ms us → AreDecided cs p all (length all) ms us
+  decided_whole a trail os all ms us e h =
+      subst (λ xs. AreDecided cs p xs (length xs) ms us) e (subst (λ n. AreDecided cs p (obligations_at a trail os) n ms us) (sym (length-obligations_at a trail os)) h)
+
+  -- what is decided of obligations, where they are read in a bank that had grown
+  pub decided_before : {E : Type 0} (r : Result Decided E) (a b : Forms) (trail : List FormulaId) (os : List Obligation) (n : ℕ) → IsGrown a b → HasFormulas a trail → AreWithin a (length trail) os
+      → IfOk r (λ d. AreDecided cs p (obligations_at b trail os) n d.countered.items d.undecided.items) → IfOk r (λ d. AreDecided cs p (obligations_at a trail os) n d.countered.items d.undecided.items)
+  decided_before r a b trail os n grown has within h = subst (λ xs. IfOk r (λ d. AreDecided cs p xs n d.countered.items d.undecided.items)) (obligations_grown a b trail (length trail) os grown has within) h
+
+  pub derived_before : {E : Type 0} (r : Result Decided E) (a b c : Forms) (trail : List FormulaId) (os : List Obligation) → IsGrown a b → HasFormulas a trail → AreWithin a (length trail) os
+      → IfOk r (λ d. d.countered.items ≡ [] → d.undecided.items ≡ [] → AreDerived cs (obligations_at b trail os) (derivations_of c d.derivations.items))
+      → IfOk r (λ d. d.countered.items ≡ [] → d.undecided.items ≡ [] → AreDerived cs (obligations_at a trail os) (derivations_of c d.derivations.items))
+  derived_before r a b c trail os grown has within h =
+      subst (λ xs. IfOk r (λ d. d.countered.items ≡ [] → d.undecided.items ≡ [] → AreDerived cs xs (derivations_of c d.derivations.items))) (obligations_grown a b trail (length trail) os grown has within) h

@@ -1,71 +1,93 @@
 -- The answers of verification.
-use Rattle.std.specs.Prelude.{◌≡◌, ◌≢◌, ℕ, ◌+◌, ◌<◌, ◌≤◌, List, [], ◌∷◌, map, Option, Some, None, Vec, slice_get}
-use Rattle.std.specs.declared.alloc.Global.{Global}
-use Rattle.ss_logic_models.specs.Models.{Model, Refutes}
-use Rattle.ss_logic_models.specs.Ground.{ground}
-use Rattle.ss_vcgen_rules.specs.Obligations.{Obligation}
-use Rattle.ss_search.specs.Countermodel.{model_of}
-use Rattle.ss_search.specs.declared.model.Countered.{Countered}
-use Rattle.ss_sound.specs.Decided.{HasDerivation}
+use Rattle.std.specs.Prelude.{◌≡◌, ◌≢◌, ℕ, ◌+◌, ◌<◌, ◌≤◌, List, [], ◌∷◌, map, length, Option, Some, None, slice_get}
+use Rattle.ss_core.specs.Tree.{ClassTree}
+use Rattle.ss_logic_derivations.specs.Steps as tree
+use Rattle.ss_vcgen_heaps.specs.Positions.{Obligation}
+use Rattle.ss_terms.specs.Forms.{Forms}
+use Rattle.ss_deriv.specs.declared.line.Line.{Line}
+use Rattle.ss_deriv.specs.Lines.{lines_of}
+use Rattle.ss_search.specs.declared.answers.Options.{Options}
+use Rattle.ss_search.specs.declared.answers.Countered.{Countered}
+use Rattle.ss_search.specs.declared.answers.Undecided.{Undecided}
+use Rattle.ss_search.specs.Listed.{countered_numbers, undecided_numbers, AreRisingFrom}
+use Rattle.ss_sound.specs.Decided.{IsDerivedBy, IsCountered, IsOverBudget}
+use Rattle.ss_sound.specs.declared.decision.Decision.{Decision}
+use Rattle.ss_sound.specs.declared.decision.Decision.TheVariants as decision
 use Rattle.ss_sound.specs.declared.verdict.Verdict.{Verdict}
 use Rattle.ss_sound.specs.declared.verdict.Verdict.TheVariants as verdict
 
--- the numbers of the listed obligations
-abbrev pub numbers_of : List Countered → List ℕ
-numbers_of listed = map (λ c. c.obligation) listed
+-- the derivations that lines over numbers of the bank stand for
+abbrev pub derivations_of : Forms → List (List Line) → List (List tree.Line)
+derivations_of b ds = map (lines_of b) ds
 
--- the goal has a derivation from the premises, so that it is true in every structure in which they are
-abbrev pub IsProved : Obligation → Type 0
-IsProved o = HasDerivation o.premises o.goal
+-- the goal has a derivation from the premises
+abbrev pub IsProved : List ClassTree → Obligation → Type 0
+IsProved cs o = (lines : List tree.Line) × IsDerivedBy cs o lines
 
-abbrev pub AreProved : List Obligation → Type 0
-AreProved [] = Unit {0}
-AreProved (o ∷ os) = IsProved o × AreProved os
+-- ---- what one decision adds to the lists
 
--- the model makes each formula of the ground form true
-abbrev pub IsRefutedBy : Model → Obligation → Type 0
-IsRefutedBy m o = Refutes m (ground o.premises o.goal)
+abbrev pub derivations_in : Decision → List (List Line)
+derivations_in (decision.Derived d) = d ∷ []
+derivations_in _ = []
 
--- the number is that of an obligation, whose ground form the model refutes
-abbrev pub IsRefuted : Option Obligation → Countered → Type 0
-IsRefuted None c = ⊥
-IsRefuted (Some o) c = IsRefutedBy (model_of c.model) o
+abbrev pub countered_in : ℕ → Decision → List Countered
+countered_in n (decision.Refuted m) = record { obligation = n; model = m } ∷ []
+countered_in n _ = []
 
-abbrev pub AreRefuted : List Obligation → List Countered → Type 0
-AreRefuted os [] = Unit {0}
-AreRefuted os (c ∷ cs) = IsRefuted (slice_get os c.obligation) c × AreRefuted os cs
+abbrev pub undecided_in : ℕ → Decision → List Undecided
+undecided_in n (decision.Over c) = record { obligation = n; cause = c } ∷ []
+undecided_in n _ = []
 
--- each number is at least `low`, and above the one before it
-abbrev pub AreRisingFrom : ℕ → List ℕ → Type 0
-AreRisingFrom low [] = Unit {0}
-AreRisingFrom low (n ∷ ns) = (low ≤ n) × AreRisingFrom (n + 1) ns
+-- ---- obligations by their numbers
+
+-- where there is an obligation at the number, this holds of it; and there is one
+abbrev pub IfThere : Option Obligation → (Obligation → Type 0) → Type 0
+IfThere None P = ⊥
+IfThere (Some o) P = P o
+
+-- each model refutes the obligation of its number
+abbrev pub AreCountered : List ClassTree → Options → List Obligation → List Countered → Type 0
+AreCountered cs p os [] = Unit {0}
+AreCountered cs p os (l ∷ ls) = IfThere (slice_get os l.obligation) (λ o. IsCountered cs p o l.model) × AreCountered cs p os ls
+
+-- the obligation of each number passes its budget
+abbrev pub AreUndecided : List ClassTree → Options → List Obligation → List Undecided → Type 0
+AreUndecided cs p os [] = Unit {0}
+AreUndecided cs p os (l ∷ ls) = IfThere (slice_get os l.obligation) (λ o. IsOverBudget cs p o l.cause) × AreUndecided cs p os ls
 
 -- the number is none of these
 abbrev pub IsNoneOf : List ℕ → ℕ → Type 0
 IsNoneOf [] k = Unit {0}
 IsNoneOf (n ∷ ns) k = (n ≢ k) × IsNoneOf ns k
 
--- of the first `count` obligations the listed ones are refuted, each other one has a derivation, and the list is rising
-pub record AreDecided (os : List Obligation) (count : ℕ) (listed : List Countered) : Type 0 where
-  pub refuted : AreRefuted os listed
-  pub rising : AreRisingFrom 0 (numbers_of listed)
-  pub others : (k : ℕ) (o : Obligation) → k < count → slice_get os k ≡ Some o → IsNoneOf (numbers_of listed) k → IsProved o
+-- What is listed has its cause, in rising order; and each other one of the first `count` obligations has a derivation.
+pub record AreDecided (cs : List ClassTree) (p : Options) (os : List Obligation) (count : ℕ) (countered : List Countered) (undecided : List Undecided) : Type 0 where
+  pub are_countered : AreCountered cs p os countered
+  pub are_undecided : AreUndecided cs p os undecided
+  pub countered_rise : AreRisingFrom 0 (countered_numbers countered)
+  pub undecided_rise : AreRisingFrom 0 (undecided_numbers undecided)
+  pub others : (k : ℕ) (o : Obligation) → k < count → slice_get os k ≡ Some o → IsNoneOf (countered_numbers countered) k → IsNoneOf (undecided_numbers undecided) k → IsProved cs o
 
--- some obligations are listed, each with a model that refutes its ground form, in rising order; each other one has a derivation
-pub record IsUnproved (os : List Obligation) (listed : List Countered) : Type 0 where
-  pub some : listed ≢ []
-  pub refuted : AreRefuted os listed
-  pub rising : AreRisingFrom 0 (numbers_of listed)
-  pub others : (k : ℕ) (o : Obligation) → slice_get os k ≡ Some o → IsNoneOf (numbers_of listed) k → IsProved o
+-- a model refutes one obligation at least; each that is listed has its cause, and each other one has a derivation
+pub record IsUnproved (cs : List ClassTree) (p : Options) (os : List Obligation) (countered : List Countered) (undecided : List Undecided) : Type 0 where
+  pub some : countered ≢ []
+  pub decided : AreDecided cs p os (length os) countered undecided
 
-abbrev pub IfVerified : Verdict → Type 0 → Type 0
-IfVerified verdict.Verified P = P
-IfVerified (verdict.Unproved listed) P = Unit {0}
-IfVerified verdict.Lost P = Unit {0}
-IfVerified verdict.Memory P = Unit {0}
+-- no model is at hand, and one obligation at least isn't decided; each that is listed passes its budget, and each other one has a derivation
+pub record IsUndecided (cs : List ClassTree) (p : Options) (os : List Obligation) (undecided : List Undecided) : Type 0 where
+  pub some : undecided ≢ []
+  pub decided : AreDecided cs p os (length os) [] undecided
 
-abbrev pub IfUnproved : Verdict → (Vec Countered Global → Type 0) → Type 0
-IfUnproved verdict.Verified P = Unit {0}
-IfUnproved (verdict.Unproved listed) P = P listed
-IfUnproved verdict.Lost P = Unit {0}
-IfUnproved verdict.Memory P = Unit {0}
+-- ---- the answers
+
+abbrev pub IfVerified : Verdict → (List (List Line) → Type 0) → Type 0
+IfVerified (verdict.Verified ds) P = P ds.items
+IfVerified _ P = Unit {0}
+
+abbrev pub IfUnproved : Verdict → (List Countered → List Undecided → Type 0) → Type 0
+IfUnproved (verdict.Unproved countered undecided) P = P countered.items undecided.items
+IfUnproved _ P = Unit {0}
+
+abbrev pub IfUndecided : Verdict → (List Undecided → Type 0) → Type 0
+IfUndecided (verdict.Undecided undecided) P = P undecided.items
+IfUndecided _ P = Unit {0}

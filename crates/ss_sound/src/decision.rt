@@ -1,46 +1,128 @@
 // One obligation.
 
-ghost use Rattle.std.specs.Prelude.{◌≡◌, ℕ, ◌<◌, length, take};
-ghost use Rattle.ss_logic_models.specs.Models.{Refutes};
-ghost use Rattle.ss_logic_models.specs.Ground.{ground};
-ghost use Rattle.ss_search.specs.Countermodel.{model_of};
-ghost use Rattle.ss_terms.specs.Forms.{HasFormula, HasFormulas, IsGrown, formula_at, formulas_at};
-ghost use Rattle.ss_sound.specs.Decided.{HasDerivation, IfDerived, IfRefuted};
+ghost use Rattle.std.specs.Prelude.{◌≡◌, ◌≤◌, length};
+ghost use Rattle.ss_core.specs.View as view;
+ghost use Rattle.ss_core.specs.Chain.{IsWithinLimits};
+ghost use Rattle.ss_terms.specs.Forms.{formula_at, formulas_at, HasFormula, HasFormulas, IsBankOf, IsGrown};
+ghost use Rattle.ss_logic_derivations.specs.Steps.{Derives};
+ghost use Rattle.ss_deriv.specs.Lines.{lines_of};
+ghost use Rattle.ss_vcgen_builder.specs.Builder.{obligation_at, IsPlaced};
+ghost use Rattle.ss_search.specs.Found.{IsRefutedBy};
+ghost use Rattle.ss_sound.specs.Decided.{IsDerivedBy, IsCountered, IsOverBudget, IsSpentOn, IfDerived, IfRefuted, IfOver};
 
 use ss_check::{CheckStop, check};
-use ss_search::{Countermodel, Found, prove};
+use ss_core::Classes;
+use ss_deriv::Derivation;
+use ss_search::{Budget, Countermodel, Found, Options, Search};
 use ss_terms::{Bank, FormulaId};
-use std::alloc::Global;
+use ss_vcgen::Obligation;
+use std::alloc::{AllocFailed, Global};
 
 /// What was found of one obligation.
 #[derive(Drop)]
-pub enum Decision {
-    /// It has a derivation, which the checker accepted.
-    Derived,
+pub(crate) enum Decision {
+    /// It has this derivation, which the checker accepted.
+    Derived(Derivation),
     /// This model refutes its ground form.
     Refuted(Countermodel),
-    /// Neither was found, or the checker refused what was found. That this doesn't come is not proved; no obligation was
-    /// seen to bring it about.
+    /// Its ground form passes this budget.
+    Over(Budget),
+}
+
+/// Why an obligation wasn't decided.
+#[derive(Clone, Copy, Debug, PartialEq, Eq)]
+pub(crate) enum Stop {
+    /// Nothing was found, or the checker refused what was found. That this doesn't come is not proved.
     Lost,
     Memory,
 }
 
-/// Searches for a derivation of the goal from the premises, and has it checked.
-pub fn decide(alloc: Global, bank: &mut Bank, premises: &[FormulaId], goal: FormulaId) -> Decision
+impl<T: Drop> From<AllocFailed<T>> for Stop {
+    fn from(_failed: AllocFailed<T>) -> Stop {
+        Stop::Memory
+    }
+}
+
+// The derivation, where the checker accepts it.
+fn accepted(
+    alloc: Global,
+    bank: &mut Bank,
+    classes: &Classes,
+    premises: &[FormulaId],
+    goal: FormulaId,
+    derivation: Derivation,
+) -> Result<Decision, Stop>
+    requires bank { IsBankOf (view.classes classes.now) bank.old }
+    requires limits { IsWithinLimits (view.classes classes.now) }
     requires premises { HasFormulas bank.old premises.now }
     requires goal { HasFormula bank.old goal }
-    ensures derived { IfDerived result (HasDerivation (formulas_at bank.old premises.now) (formula_at bank.old goal)) }
-    ensures refuted { IfRefuted result (λ m. Refutes (model_of m) (ground (formulas_at bank.old premises.now) (formula_at bank.old goal))) }
+    ensures derived { IfDerived result (λ d. Derives (view.classes classes.now) (formulas_at bank.old premises.now) (formula_at bank.old goal) (lines_of bank.old d)) }
+    ensures not_refuted { IfRefuted result (λ m. ⊥) }
+    ensures not_over { IfOver result (λ budget. ⊥) }
     ensures grown { IsGrown bank.old bank.new }
 {
-    match prove(alloc, bank, premises, goal) {
-        Found::Memory => Decision::Memory,
-        Found::Lost => Decision::Lost,
-        Found::Countered(model) => Decision::Refuted(model),
-        Found::Proved(derivation) => match check(alloc, bank, premises, goal, &derivation) {
-            Ok(()) => Decision::Derived,
-            Err(CheckStop::BadStep { .. }) => Decision::Lost,
-            Err(CheckStop::Memory) => Decision::Memory,
-        },
+    match check(alloc, bank, classes, premises, goal, &derivation) {
+        Ok(()) => Ok(Decision::Derived(derivation)),
+        Err(CheckStop::BadStep { .. }) => Err(Stop::Lost),
+        Err(CheckStop::Memory) => Err(Stop::Memory),
     }
+}
+
+// Searches for a derivation of the goal from the premises, and has it checked.
+fn decide_goal(
+    alloc: Global,
+    search: &mut Search,
+    bank: &mut Bank,
+    classes: &Classes,
+    premises: &[FormulaId],
+    goal: FormulaId,
+    options: Options,
+) -> Result<Decision, Stop>
+    requires bank { IsBankOf (view.classes classes.now) bank.old }
+    requires limits { IsWithinLimits (view.classes classes.now) }
+    requires premises { HasFormulas bank.old premises.now }
+    requires goal { HasFormula bank.old goal }
+    ensures derived { IfDerived result (λ d. Derives (view.classes classes.now) (formulas_at bank.old premises.now) (formula_at bank.old goal) (lines_of bank.new d)) }
+    ensures refuted { IfRefuted result (IsRefutedBy (view.classes classes.now) options (formulas_at bank.old premises.now) (formula_at bank.old goal)) }
+    ensures over { IfOver result (IsSpentOn (view.classes classes.now) options (formulas_at bank.old premises.now) (formula_at bank.old goal)) }
+    ensures grown { IsGrown bank.old bank.new }
+{
+    match search.prove(bank, classes, premises, goal, options) {
+        Found::Memory => Err(Stop::Memory),
+        Found::Lost => Err(Stop::Lost),
+        Found::TooMany { limit } => Ok(Decision::Over(Budget::Instances(limit))),
+        Found::Countered(model) => Ok(Decision::Refuted(model)),
+        Found::Proved(derivation) => accepted(alloc, bank, classes, premises, goal, derivation),
+    }
+}
+
+/// Decides an obligation whose premises are a part of the trail.
+pub(crate) fn decide(
+    alloc: Global,
+    search: &mut Search,
+    bank: &mut Bank,
+    classes: &Classes,
+    trail: &[FormulaId],
+    obligation: &Obligation,
+    options: Options,
+) -> Result<Decision, Stop>
+    requires bank { IsBankOf (view.classes classes.now) bank.old }
+    requires limits { IsWithinLimits (view.classes classes.now) }
+    requires trail { HasFormulas bank.old trail.now }
+    requires placed { IsPlaced bank.old (length trail.now) obligation.now }
+    ensures derived { IfDerived result (λ d. IsDerivedBy (view.classes classes.now) (obligation_at bank.old trail.now obligation.now) (lines_of bank.new d)) }
+    ensures refuted { IfRefuted result (IsCountered (view.classes classes.now) options (obligation_at bank.old trail.now obligation.now)) }
+    ensures over { IfOver result (IsOverBudget (view.classes classes.now) options (obligation_at bank.old trail.now obligation.now)) }
+    ensures grown { IsGrown bank.old bank.new }
+{
+    let premises = &trail[obligation.first..obligation.end];
+    decide_goal(
+        alloc,
+        search,
+        bank,
+        classes,
+        premises,
+        obligation.goal,
+        options,
+    )
 }

@@ -1,116 +1,170 @@
 // A whole program.
 
-ghost use Rattle.std.specs.Prelude.{◌≡◌, ◌≤◌, length, IfOk};
-ghost use Rattle.ss_second_core.specs.View.{core};
-ghost use Rattle.ss_second_run.specs.Formed.{IsFormed};
-ghost use Rattle.ss_second_run.specs.Safe.{IsSafe};
-ghost use Rattle.ss_vcgen_rules.specs.Obligations as oblig;
-ghost use Rattle.ss_terms.specs.Forms.{HasFormula, HasFormulas, IsGrown};
-ghost use Rattle.ss_search.specs.Countermodel.{model_of};
-ghost use Rattle.ss_vcgen.specs.Built.{trees, obligation_in, obligations_in, IsWithin, AreWithin};
-ghost use Rattle.ss_sound.specs.Decided.{IfDerived, IfRefuted};
-ghost use Rattle.ss_sound.specs.Verdicts.{IsProved, AreProved, IsRefutedBy, AreDecided, IsUnproved, IfVerified, IfUnproved};
+ghost use Rattle.std.specs.Prelude.{◌≡◌, ◌≢◌, ◌++◌, [], length, IfOk, OnOk};
+ghost use Rattle.ss_core.specs.View as view;
+ghost use Rattle.ss_core.specs.Chain.{IsWithinLimits};
+ghost use Rattle.ss_store_rules.specs.Formed.{IsFormed};
+ghost use Rattle.ss_vcgen_heaps.specs.Obligations as oblig;
+ghost use Rattle.ss_vcgen_safe.specs.Derived.{AreDerived};
+ghost use Rattle.ss_vcgen_builder.specs.Builder.{obligations_at, AreWithin};
+ghost use Rattle.ss_vcgen.specs.Built.{trees, IsWithin};
+ghost use Rattle.ss_terms.specs.Forms.{IsBankOf, IsGrown, HasFormulas};
+ghost use Rattle.ss_sound.specs.Safe.{IsSafe};
+ghost use Rattle.ss_sound.specs.Verdicts.{AreDecided, IsUnproved, IsUndecided, IfVerified, IfUnproved, IfUndecided, derivations_of, derivations_in, countered_in, undecided_in};
 
-use crate::decision::{Decision, decide};
-use ss_search::Countered;
-use ss_second_core::Core;
+use crate::decision::{Decision, Stop, decide};
+use ss_core::{Classes, Core};
+use ss_deriv::Derivation;
+use ss_search::{Countered, Options, Search, Undecided};
 use ss_terms::{Bank, FormulaId};
 use ss_vcgen::{Obligation, Obligations};
-use std::alloc::{AllocFailed, Global};
+use std::alloc::Global;
 
 /// The answer of verification.
 #[derive(Drop)]
 pub enum Verdict {
-    /// Each obligation has a derivation that the checker accepted.
-    Verified,
-    /// These have none, and every other one has.
-    Unproved { countered: Vec<Countered> },
-    /// Of an obligation neither a derivation nor a model was found. That this doesn't come is not proved; no obligation was
-    /// seen to bring it about.
+    /// Each obligation has a derivation that the checker accepted. These are they, over the bank of the obligations.
+    Verified(Vec<Derivation>),
+    /// A model refutes each of the first of these, of which there is one at least; the second passed a budget. Every other one has a derivation.
+    Unproved {
+        countered: Vec<Countered>,
+        undecided: Vec<Undecided>,
+    },
+    /// These passed a budget, and every other one has a derivation.
+    Undecided(Vec<Undecided>),
+    /// Of an obligation neither a derivation nor a cause was found. That this doesn't come is not proved.
     Lost,
     Memory,
 }
 
-/// Why not every obligation was decided.
-#[derive(Clone, Copy, Debug, PartialEq, Eq)]
-enum Stop {
-    Lost,
-    Memory,
+/// What was found of the obligations so far.
+#[derive(Drop)]
+struct Decided {
+    derivations: Vec<Derivation>,
+    countered: Vec<Countered>,
+    undecided: Vec<Undecided>,
 }
 
-impl<T: Drop> From<AllocFailed<T>> for Stop {
-    fn from(_failed: AllocFailed<T>) -> Stop {
-        Stop::Memory
+impl Decided {
+    // Adds what was found of the obligation of this number.
+    fn add(&mut self, number: usize, decision: Decision) -> Result<(), Stop>
+        ensures derivations { OnOk result (self.new.derivations.items ≡ self.old.derivations.items ++ derivations_in decision) }
+        ensures countered { OnOk result (self.new.countered.items ≡ self.old.countered.items ++ countered_in number decision) }
+        ensures undecided { OnOk result (self.new.undecided.items ≡ self.old.undecided.items ++ undecided_in number decision) }
+    {
+        match decision {
+            Decision::Derived(derivation) => self.derivations.push(derivation)?,
+            Decision::Refuted(model) => self.countered.push(Countered {
+                obligation: number,
+                model,
+            })?,
+            Decision::Over(cause) => self.undecided.push(Undecided {
+                obligation: number,
+                cause,
+            })?,
+        }
+        Ok(())
+    }
+
+    // The verdict, where this was found of all obligations.
+    fn verdict(self) -> Verdict
+        ensures verified { IfVerified result (λ ds. (ds ≡ self.derivations.items) × (self.countered.items ≡ []) × (self.undecided.items ≡ [])) }
+        ensures unproved { IfUnproved result (λ cs us. (cs ≡ self.countered.items) × (us ≡ self.undecided.items) × (cs ≢ [])) }
+        ensures undecided { IfUndecided result (λ us. (us ≡ self.undecided.items) × (self.countered.items ≡ []) × (us ≢ [])) }
+    {
+        let Decided {
+            derivations,
+            countered,
+            undecided,
+        } = self;
+        if !countered.is_empty() {
+            return Verdict::Unproved {
+                countered,
+                undecided,
+            };
+        }
+        if !undecided.is_empty() {
+            return Verdict::Undecided(undecided);
+        }
+        Verdict::Verified(derivations)
     }
 }
 
-/// Decides each obligation of a program, in order.
-pub fn verify(alloc: Global, program: &Core, obligations: &mut Obligations) -> Verdict
-    requires formed { IsFormed (core program.now) }
-    requires obligations { trees obligations.old ≡ oblig.obligations (core program.now) }
+/// Decides each obligation of a program, in order. Nothing is assumed of the search: each derivation is checked.
+pub fn verify(
+    alloc: Global,
+    program: &Core,
+    obligations: &mut Obligations,
+    options: Options,
+) -> Verdict
+    requires formed { IsFormed (view.core program.now) }
+    requires limits { IsWithinLimits (view.classes program.now.classes) }
+    requires obligations { trees obligations.old ≡ oblig.obligations (view.core program.now) }
     requires within { IsWithin obligations.old }
-    ensures proved { IfVerified result (AreProved (oblig.obligations (core program.now))) }
-    ensures safe { IfVerified result (IsSafe (core program.now)) }
-    ensures unproved { IfUnproved result (λ listed. IsUnproved (oblig.obligations (core program.now)) listed.items) }
+    requires bank { IsBankOf (view.classes program.now.classes) obligations.old.bank }
+    ensures derived { IfVerified result (λ ds. AreDerived (view.classes program.now.classes) (oblig.obligations (view.core program.now)) (derivations_of obligations.new.bank ds)) }
+    ensures safe { IfVerified result (λ _. IsSafe (view.core program.now)) }
+    ensures unproved { IfUnproved result (IsUnproved (view.classes program.now.classes) options (oblig.obligations (view.core program.now))) }
+    ensures undecided { IfUndecided result (IsUndecided (view.classes program.now.classes) options (oblig.obligations (view.core program.now))) }
     ensures obligations { trees obligations.new ≡ trees obligations.old }
 {
-    let _program = program;
     let Obligations { bank, trail, list } = obligations;
-    match decide_all(alloc, bank, trail, list) {
-        Ok(countered) => {
-            if countered.is_empty() {
-                Verdict::Verified
-            } else {
-                Verdict::Unproved { countered }
-            }
-        }
+    match decide_all(alloc, bank, &program.classes, trail, list, options) {
+        Ok(decided) => decided.verdict(),
         Err(Stop::Lost) => Verdict::Lost,
         Err(Stop::Memory) => Verdict::Memory,
     }
 }
 
-// The obligations that have no derivation, each with its model.
+// What is found of each obligation.
 fn decide_all(
     alloc: Global,
     bank: &mut Bank,
+    classes: &Classes,
     trail: &[FormulaId],
     list: &[Obligation],
-) -> Result<Vec<Countered>, Stop>
+    options: Options,
+) -> Result<Decided, Stop>
+    requires bank { IsBankOf (view.classes classes.now) bank.old }
+    requires limits { IsWithinLimits (view.classes classes.now) }
     requires trail { HasFormulas bank.old trail.now }
     requires list { AreWithin bank.old (length trail.now) list.now }
-    ensures decided { IfOk result (λ listed. AreDecided (obligations_in bank.old trail.now list.now) (length list.now) listed.items) }
+    ensures decided { IfOk result (λ d. AreDecided (view.classes classes.now) options (obligations_at bank.old trail.now list.now) (length list.now) d.countered.items d.undecided.items) }
+    ensures derived { IfOk result (λ d. d.countered.items ≡ [] → d.undecided.items ≡ [] → AreDerived (view.classes classes.now) (obligations_at bank.old trail.now list.now) (derivations_of bank.new d.derivations.items)) }
     ensures grown { IsGrown bank.old bank.new }
 {
-    let mut listed = Vec::new(alloc);
-    for (number, obligation) in list.iter().enumerate() {
-        match decide_one(alloc, bank, trail, obligation) {
-            Decision::Derived => {}
-            Decision::Refuted(model) => listed.push(Countered {
-                obligation: number,
-                model,
-            })?,
-            Decision::Lost => return Err(Stop::Lost),
-            Decision::Memory => return Err(Stop::Memory),
-        }
-    }
-    Ok(listed)
+    let Ok(mut search) = Search::new(alloc, bank) else {
+        return Err(Stop::Memory);
+    };
+    decide_each(alloc, &mut search, bank, classes, trail, list, options)
 }
 
-// Decides an obligation whose premises are a part of the trail.
-fn decide_one(
+// The same, by a search over a bank that has all of them.
+fn decide_each(
     alloc: Global,
+    search: &mut Search,
     bank: &mut Bank,
+    classes: &Classes,
     trail: &[FormulaId],
-    obligation: &Obligation,
-) -> Decision
+    list: &[Obligation],
+    options: Options,
+) -> Result<Decided, Stop>
+    requires bank { IsBankOf (view.classes classes.now) bank.old }
+    requires limits { IsWithinLimits (view.classes classes.now) }
     requires trail { HasFormulas bank.old trail.now }
-    requires goal { HasFormula bank.old obligation.now.goal }
-    requires first { obligation.now.first ≤ obligation.now.end }
-    requires end { obligation.now.end ≤ length trail.now }
-    ensures derived { IfDerived result (IsProved (obligation_in bank.old trail.now obligation.now)) }
-    ensures refuted { IfRefuted result (λ m. IsRefutedBy (model_of m) (obligation_in bank.old trail.now obligation.now)) }
+    requires list { AreWithin bank.old (length trail.now) list.now }
+    ensures decided { IfOk result (λ d. AreDecided (view.classes classes.now) options (obligations_at bank.old trail.now list.now) (length list.now) d.countered.items d.undecided.items) }
+    ensures derived { IfOk result (λ d. d.countered.items ≡ [] → d.undecided.items ≡ [] → AreDerived (view.classes classes.now) (obligations_at bank.old trail.now list.now) (derivations_of bank.new d.derivations.items)) }
     ensures grown { IsGrown bank.old bank.new }
 {
-    let premises = &trail[obligation.first..obligation.end];
-    decide(alloc, bank, premises, obligation.goal)
+    let mut decided = Decided {
+        derivations: Vec::new(alloc),
+        countered: Vec::new(alloc),
+        undecided: Vec::new(alloc),
+    };
+    for (number, obligation) in list.iter().enumerate() {
+        let decision = decide(alloc, search, bank, classes, trail, obligation, options)?;
+        decided.add(number, decision)?;
+    }
+    Ok(decided)
 }

@@ -29,7 +29,7 @@ use Rattle.ss_machine_good_frames.proofs.Later.{later_self}
 use Rattle.ss_machine_good_frames.proofs.Statements.{typed_here}
 use Rattle.ss_machine_good_runs.proofs.Calls.{method_number}
 use Rattle.ss_machine_good_runs.specs.Stacks.{IsGoodStack}
-use Rattle.ss_logic_stores.specs.Values.{Table}
+use Rattle.ss_logic.specs.Values.{Table}
 use Rattle.ss_vcgen_heaps.specs.Contracts.{seen, called}
 use Rattle.ss_sound_outcomes.specs.Points.{HasGrown, Fits, IsSound, ArePassed}
 use Rattle.ss_sound_outcomes.specs.Outcomes.{IsReturn, CallsSafely, IsObject, ConstructsSafely, Safely, AllRunSafely}

@@ -21,7 +21,7 @@ use Rattle.ss_machine_good_frames.specs.Frames.{HasGiven, IsToNew, IsGoodFrame, 
 use Rattle.ss_machine_good_frames.proofs.Behind.{constructor_instance, put_this}
 use Rattle.ss_machine_good_runs.specs.Stacks.{IsGoodStack}
 use Rattle.ss_machine_good_runs.proofs.Calls.{constructs_this}
-use Rattle.ss_logic_stores.specs.Values.{Table}
+use Rattle.ss_logic.specs.Values.{Table}
 use Rattle.ss_sound_outcomes.specs.Points.{Fits}
 use Rattle.ss_sound_outcomes.specs.Outcomes.{IsReturn, Safely}
 use Rattle.ss_sound_steps.specs.Frames.{activation_of, point_of}

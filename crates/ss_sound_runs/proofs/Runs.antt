@@ -21,7 +21,7 @@ use Rattle.ss_machine_good.proofs.Start.{argument_not_null, static_arguments}
 use Rattle.ss_machine_good_runs.specs.Stacks.{IsGoodStack, HasGoodStack}
 use Rattle.ss_machine_good_runs.proofs.Entering.{first_get}
 use Rattle.ss_machine_good_runs.proofs.Runs.{step_good, start_stack, run_stack}
-use Rattle.ss_logic_stores.specs.Values.{Table}
+use Rattle.ss_logic.specs.Values.{Table}
 use Rattle.ss_sound_outcomes.specs.Points.{Fits, ArePassed}
 use Rattle.ss_sound_outcomes.specs.Outcomes.{AllRunSafely}
 use Rattle.ss_sound_steps.specs.Frames.{activation_of, point_of}

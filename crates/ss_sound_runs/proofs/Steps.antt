@@ -25,7 +25,7 @@ use Rattle.ss_machine_good.specs.Frames.{all_left}
 use Rattle.ss_machine_good_frames.proofs.Later.{later_trans}
 use Rattle.ss_machine_good_frames.specs.Frames.{IsGoodFrame, entry_size}
 use Rattle.ss_machine_good_runs.specs.Stacks.{IsGoodStack}
-use Rattle.ss_logic_stores.specs.Values.{Table}
+use Rattle.ss_logic.specs.Values.{Table}
 use Rattle.ss_sound_outcomes.specs.Points.{HasGrown, Fits, IsSound, IsBehind}
 use Rattle.ss_sound_outcomes.specs.Outcomes.{Has, GoesOn, with_local, with_store, Changes, HoldsAtHead, head_of, Safely, AllSafely}
 use Rattle.ss_sound_steps.specs.Frames.{activation_of, point_of, AreLater}

@@ -12,7 +12,7 @@ use Rattle.ss_machine_rules.specs.Steps.{with_ready}
 use Rattle.ss_machine_good_frames.specs.Later.{IsLater}
 use Rattle.ss_machine_good_frames.specs.Frames.{entry_size, kept_in}
 use Rattle.ss_machine_good_runs.specs.Stacks.{IsGoodStack}
-use Rattle.ss_logic_stores.specs.Values.{Table}
+use Rattle.ss_logic.specs.Values.{Table}
 use Rattle.ss_sound_outcomes.specs.Points.{Activation, Point, scene, HasGrown, Fits, IsSound}
 use Rattle.ss_sound_outcomes.specs.Outcomes.{Has, with_local, with_store, IsReturn, Safely, AllSafely}
 use Rattle.ss_sound_steps.specs.Frames.{activation_of, point_of, AreLater}

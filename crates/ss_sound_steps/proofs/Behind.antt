@@ -35,7 +35,7 @@ use Rattle.ss_machine_good_frames.proofs.Values.{before_assigned, before_known, 
 use Rattle.ss_machine_good_runs.proofs.Waiting.{older_size}
 use Rattle.ss_machine_good_runs.proofs.Calls as calls
 use Rattle.ss_machine_good_runs.proofs.Constructions.{low_size}
-use Rattle.ss_logic_stores.specs.Values.{Table}
+use Rattle.ss_logic.specs.Values.{Table}
 use Rattle.ss_vcgen_heaps.specs.Contracts.{seen, called}
 use Rattle.ss_sound_outcomes.specs.Points.{Activation, Point, IsReached, IsBehind}
 use Rattle.ss_sound_outcomes.specs.Points as points

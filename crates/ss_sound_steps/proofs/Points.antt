@@ -4,7 +4,7 @@ use Rattle.ss_core.specs.Tree.{CoreTree}
 use Rattle.ss_store_rules.specs.Store.{Object}
 use Rattle.ss_machine_rules.specs.States.{Frame}
 use Rattle.ss_machine_good_frames.specs.Frames.{IsGoodFrame}
-use Rattle.ss_logic_stores.specs.Values.{Table}
+use Rattle.ss_logic.specs.Values.{Table}
 use Rattle.ss_sound_outcomes.specs.Points.{HasGrown, Fits, IsSound}
 use Rattle.ss_sound_steps.specs.Frames.{activation_of, point_of}
 

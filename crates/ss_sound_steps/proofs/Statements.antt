@@ -20,7 +20,7 @@ use Rattle.ss_machine_rules.specs.Steps as steps
 use Rattle.ss_machine_good.specs.Flows.{is_simple}
 use Rattle.ss_machine_good_frames.specs.Frames.{IsGoodFrame, entry_size}
 use Rattle.ss_machine_good_frames.proofs.Later.{later_self}
-use Rattle.ss_logic_stores.specs.Values.{Table}
+use Rattle.ss_logic.specs.Values.{Table}
 use Rattle.ss_sound_outcomes.specs.Points.{IsBehind}
 use Rattle.ss_sound_steps.specs.Frames.{activation_of, point_of}
 use Rattle.ss_sound_steps.proofs.Goes.{GoesTo, goes_to, value_goes, values_goes, change_goes, array_goes, assume_goes, holds_goes, enter_goes, print_goes}

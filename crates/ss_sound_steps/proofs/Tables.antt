@@ -6,7 +6,7 @@ use Rattle.ss_store_rules.specs.Store.{Object}
 use Rattle.ss_store_rules.specs.Reads.{object_at, no_object}
 use Rattle.ss_store_rules.specs.Changes.{is_array}
 use Rattle.ss_machine_rules.specs.Good.{IsGoodStore}
-use Rattle.ss_logic_stores.specs.Values.{Thing, null, reference, class_name, group_number, owner_pair, Table}
+use Rattle.ss_logic.specs.Values.{Thing, null, reference, class_name, group_number, owner_pair, Table}
 use Rattle.ss_sound_outcomes.specs.Points.{HasGrown, Fits}
 
 pub fits_before : (cs : List ClassTree) (table : Table) (s z : List Object) → HasGrown s z → Fits cs table z → Fits cs table s

@@ -5,7 +5,7 @@ use Rattle.ss_store_rules.specs.Store.{Object}
 use Rattle.ss_machine_rules.specs.States.{Frame}
 use Rattle.ss_machine_good_frames.specs.Later.{IsLater}
 use Rattle.ss_machine_good_frames.specs.Frames.{entry_size}
-use Rattle.ss_logic_stores.specs.Values.{Table}
+use Rattle.ss_logic.specs.Values.{Table}
 use Rattle.ss_sound_outcomes.specs.Points.{Activation, Point}
 
 abbrev pub activation_of : CoreTree → Frame → Table → Activation

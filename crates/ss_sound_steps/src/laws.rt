@@ -20,7 +20,7 @@ ghost use Rattle.ss_machine_good.specs.Flows.{is_simple};
 ghost use Rattle.ss_machine_good_frames.specs.Later.{IsLater};
 ghost use Rattle.ss_machine_good_frames.specs.Frames.{IsGoodFrame, IsAnswer, entry_size, constructed};
 ghost use Rattle.ss_machine_good_runs.specs.Stacks.{IsGoodStack};
-ghost use Rattle.ss_logic_stores.specs.Values.{Table};
+ghost use Rattle.ss_logic.specs.Values.{Table};
 ghost use Rattle.ss_vcgen_heaps.specs.Contracts.{called};
 ghost use Rattle.ss_sound_outcomes.specs.Points.{Activation, Point, HasGrown, Fits, IsSound, IsReached, IsBehind, ArePassed};
 ghost use Rattle.ss_sound_outcomes.specs.Outcomes.{with_local, with_store};

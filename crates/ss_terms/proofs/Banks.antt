@@ -1,329 +1,264 @@
 -- What the numbers of a bank stand for, as it grows.
-use Rattle.std.proofs.Common.{◌≡◌, ℕ, pos, zero, suc, ◌+◌, ◌*◌, ◌/◌, ◌%◌, ◌<◌, ◌≤◌, List, [], ◌∷◌, ◌++◌, length, map, Option, Some, None, true, false, eqb, refl, sym, ◌∙◌, ap, subst, ⊎_elim, arith, get_or, drop, ◌&&◌}
-use Rattle.std.proofs.lemmas.List.{length_push, map_push, length-map, drop_more}
+use Rattle.std.proofs.Common.{◌≡◌, ℕ, zero, suc, ◌+◌, ◌*◌, ◌/◌, ◌%◌, ◌<◌, List, [], ◌∷◌, ◌++◌, length, map, Option, Some, None, true, eqb, refl, sym, ◌∙◌, ap, subst, ⊎_elim, arith}
+use Rattle.std.proofs.lemmas.List.{length_push, map_push, length-map}
 use Rattle.std.proofs.lemmas.Option.{slice_get_within, slice_get-map}
 use Rattle.std.proofs.lemmas.Bool.{cases_eq, eq-eqb, ne_eqb, false_from_ne_true}
+use Rattle.std.proofs.lemmas.Nat.{div-add-mod'}
 use Rattle.std.specs.List.{slice_get}
 use Rattle.std.specs.Map.{keys_of}
 use Rattle.std.specs.Prelude.{option_map}
-use Rattle.ss_logic.specs.Logic as tree
-use Rattle.ss_logic.specs.Logic.{formulas_from, neg, well_sorted, all_well_sorted}
+use Rattle.ss_core.specs.Tree.{ClassTree}
+use Rattle.ss_logic.specs.declared.Sort.{Sort}
+use Rattle.ss_logic.specs.Terms as tree
+use Rattle.ss_logic.specs.Terms.{sort_of, is_well_sorted}
+use Rattle.ss_logic.specs.Formulas as logic
+use Rattle.ss_logic.specs.Formulas.{neg, is_well_formed}
 use Rattle.ss_logic.specs.Equal.{same_term, equal_terms, same_term_equal, same_formula, equal_formulas, same_formula_equal}
-use Rattle.ss_logic.proofs.Truth.{well_sorted_neg, neg_neg}
+use Rattle.ss_logic.proofs.Truth.{neg_neg}
+use Rattle.ss_terms_interned.specs.Interned.{tree_at, AreInterned}
+use Rattle.ss_terms_interned.proofs.Halves.{half_below}
+use Rattle.ss_terms_interned.proofs.Trees.{tree_at-built, tree_at-push_old, tree_at-push_new, AreInterned-push, tree_at-same, slice_get-push_cases}
 use Rattle.ss_terms.specs.declared.forms.TermId.{TermId}
 use Rattle.ss_terms.specs.declared.forms.FormulaId.{FormulaId}
 use Rattle.ss_terms.specs.declared.forms.Term.{Term}
-use Rattle.ss_terms.specs.declared.forms.Term.TheVariants.{Number, Truth, Constant}
 use Rattle.ss_terms.specs.declared.forms.Formula.{Formula}
 use Rattle.ss_terms.specs.declared.bank.Beside.{Beside}
-use Rattle.ss_terms.specs.Interned.{tree_at, AreInterned}
-use Rattle.ss_terms.specs.Forms.{Shape, EqualShape, AndShape, OrShape, shape_of, Forms, term_of, formula_of, build_term, term_at, with_sign, signed, build_formula, nothing, pair_at, formula_at, formulas_at, HasTerm, HasFormula, AreBelow, HasFormulas, ShapeBelow, HasParts, IsTermForm, IsFormulaForm, IsGrown, other, opposite_shape, is_plain}
-use Rattle.ss_terms.specs.Bank.{forms_of, IsPlain, Anything, AnyTerm, PairBelow, IsBeside, IsBank}
+use Rattle.ss_terms.specs.declared.bank.BesideTerm.{BesideTerm}
+use Rattle.ss_terms.specs.Forms.{TermShape, Shape, LiteralShape, AndShape, OrShape, ForallShape, ExistsShape, term_shape, shape_of, Forms, term_of, formula_of, build_term, no_term, term_at, with_sign, build_formula, nothing, pair_at, formula_at, HasTerm, HasFormula, TermBelow, ShapeBelow, HasArguments, HasParts, IsTermForm, IsFormulaForm, IsGrown, opposite_shape, is_plain, IsBankOf, predicate_of}
+use Rattle.ss_terms.specs.Bank.{forms_of, IsPlain, AnyTerm, PairBelow, number, IsBesideTerm, IsBeside, IsBank}
 use Rattle.ss_terms.proofs.Same.{term_id, formula_id}
-use Rattle.std.proofs.lemmas.Nat.{div-add-mod'}
-use Rattle.ss_terms.proofs.Signs.{others_below, half_below, signed_plain, signed_negated, signed_apart, formula_of-opposite}
-use Rattle.ss_terms.proofs.Trees.{tree_at-built, tree_at-push_old, tree_at-push_new, AreInterned-push, tree_at-same, slice_get-push_cases}
+use Rattle.ss_terms.proofs.Signs.{others_below, other_below, signed_plain, signed_negated, signed_apart, formula_of-opposite}
+use Rattle.ss_terms.proofs.Parts.{neg_formed}
+use Rattle.ss_terms.proofs.Trees.{arguments_same, term_same, term_upward, term_equal, AreTermsBelow-more, shape_upward, form_same, form_upward, form_equal, plain_formula}
 
--- terms
-abbrev no_term : tree.Term
-no_term = tree.Num (pos 0)
+shape_get : {K X N : Type 0} (form : K → N) (es : List (K × X)) (k : ℕ) (e : K × X) → slice_get es k ≡ Some e → slice_get (map form (keys_of es)) k ≡ Some (form e.0)
+shape_get form es k e at = slice_get-map form (keys_of es) k ∙ ap (option_map form) (slice_get-map (λ x. x.0) es k ∙ ap (option_map (λ x. x.0)) at)
 
-term_same : (look look' : ℕ → tree.Term) (n : Term) → build_term look n ≡ build_term look' n
-term_same look look' (Number k) = refl
-term_same look look' (Truth b) = refl
-term_same look look' (Constant s k) = refl
+entry_get : {K X : Type 0} (es : List (K × X)) (k : ℕ) (v : X) → slice_get (map (λ e. e.1) es) k ≡ Some v → (e : K × X) × (slice_get es k ≡ Some e) × (e.1 ≡ v)
+entry_get {K} {X} es k v at = by (slice_get es k) refl (sym (slice_get-map (λ e. e.1) es k) ∙ at)
+  where
+    by : (o : Option (K × X)) → slice_get es k ≡ o → option_map (λ e. e.1) o ≡ Some v → (e : K × X) × (slice_get es k ≡ Some e) × (e.1 ≡ v)
+    by None g h = cc
+    by (Some e) g h = (e, g, cc)
 
-term_equal : (look : ℕ → tree.Term) (n m : Term) → build_term look n ≡ build_term look m → n ≡ m
-term_equal look (Number k) (Number l) e = let same : k ≡ l = cc in cc
-term_equal look (Truth b) (Truth c) e = let same : b ≡ c = cc in cc
-term_equal look (Constant s k) (Constant r l) e = let a : s ≡ r = cc in let b : k ≡ l = cc in cc
-term_equal look _ _ e = cc
+shapes_push : {K X N : Type 0} (form : K → N) (es : List (K × X)) (e : K × X) → map form (keys_of (es ++ e ∷ [])) ≡ map form (keys_of es) ++ form e.0 ∷ []
+shapes_push form es e = ap (map form) (map_push (λ x. x.0) es e) ∙ map_push form (keys_of es) e.0
 
-abbrev AreTerms : List Term → Type 0
-AreTerms ns = AreInterned no_term build_term Anything AnyTerm ns
-
-term_built : (ns : List Term) → AreTerms ns → (t : ℕ) (n : Term) → slice_get ns t ≡ Some n → tree_at no_term build_term ns t ≡ build_term (tree_at no_term build_term ns) n
-term_built ns a t n e = tree_at-built no_term build_term Anything AnyTerm (λ look look' b h n p. term_same look look' n) ns a t n e
-
-terms_pushed : (ns : List Term) → AreTerms ns → (n : Term) → ((k : ℕ) → slice_get ns k ≡ Some n → ⊥) → AreTerms (ns ++ n ∷ [])
-terms_pushed ns a n absent =
-    AreInterned-push no_term build_term Anything AnyTerm (λ look look' b h n p. term_same look look' n)
-    (λ look b apart fine n m p q e. term_equal look n m e) (λ i j h n p. tt) ns a n tt tt absent
-
--- formulas
-signed_same : (look look' : ℕ → tree.Formula) (b : ℕ) → ((t : ℕ) → t < b → look t ≡ look' t) → (f : FormulaId) → f.0 < b * 2 → signed look f ≡ signed look' f
-signed_same look look' b h f p = ap (with_sign (f.0 % 2)) (h (f.0 / 2) (half_below f.0 b p))
-
-formulas_same : (look look' : ℕ → tree.Formula) (b : ℕ) → ((t : ℕ) → t < b → look t ≡ look' t) → (fs : List FormulaId) → AreBelow (b * 2) fs →
-    formulas_from (map (signed look) fs) ≡ formulas_from (map (signed look') fs)
-formulas_same look look' b h [] p = refl
-formulas_same look look' b h (f ∷ fs) p = let e = signed_same look look' b h f p.0 in let es = formulas_same look look' b h fs p.1 in cc
-
-pub AreBelow-more : (i j : ℕ) → i ≤ j → (fs : List FormulaId) → AreBelow i fs → AreBelow j fs
-AreBelow-more i j h [] p = tt
-AreBelow-more i j h (f ∷ fs) p = (omega arith, AreBelow-more i j h fs p.1)
-
-module _ (terms : TermId → tree.Term) (count : ℕ) where
-  form_same : (look look' : ℕ → tree.Formula) (b : ℕ) → ((t : ℕ) → t < b → look t ≡ look' t) → (n : Shape) → PairBelow count b n → build_formula terms look n ≡ build_formula terms look' n
-  form_same look look' b h (EqualShape s x y) p = refl
-  form_same look look' b h (AndShape fs) p = ap tree.And (formulas_same look look' b h fs p)
-  form_same look look' b h (OrShape fs) p = ap tree.Or (formulas_same look look' b h fs p)
-
-  form_upward : (i j : ℕ) → i ≤ j → (n : Shape) → PairBelow count i n → PairBelow count j n
-  form_upward i j h (EqualShape s x y) p = p
-  form_upward i j h (AndShape fs) p = AreBelow-more (i * 2) (j * 2) (omega arith) fs p
-  form_upward i j h (OrShape fs) p = AreBelow-more (i * 2) (j * 2) (omega arith) fs p
-
-  module _ (apart : (x y : TermId) → x.0 < count → y.0 < count → terms x ≡ terms y → x ≡ y) where
-    module _ (look : ℕ → tree.Formula) (b : ℕ) (look_apart : (i j : ℕ) → i < b → j < b → look i ≡ look j → i ≡ j) (fine : (i : ℕ) → i < b → IsPlain (look i)) where
-      formulas_equal : (fs gs : List FormulaId) → AreBelow (b * 2) fs → AreBelow (b * 2) gs → formulas_from (map (signed look) fs) ≡ formulas_from (map (signed look) gs) → fs ≡ gs
-      formulas_equal [] [] p q e = refl
-      formulas_equal [] (g ∷ gs) p q e = cc
-      formulas_equal (f ∷ fs) [] p q e = cc
-      formulas_equal (f ∷ fs) (g ∷ gs) p q e =
-          let first : signed look f ≡ signed look g = cc in
-          let others : formulas_from (map (signed look) fs) ≡ formulas_from (map (signed look) gs) = cc in
-          let same = signed_apart look b look_apart fine f g p.0 q.0 first in
-          let sames = formulas_equal fs gs p.1 q.1 others in cc
-
-      form_equal : (n m : Shape) → PairBelow count b n → PairBelow count b m → build_formula terms look n ≡ build_formula terms look m → n ≡ m
-      form_equal (EqualShape s x y) (EqualShape t z w) p q e =
-          let sign : s ≡ t = cc in
-          let left : terms x ≡ terms z = cc in
-          let right : terms y ≡ terms w = cc in
-          let l = apart x z p.0 q.0 left in
-          let r = apart y w p.1 q.1 right in cc
-      form_equal (AndShape fs) (AndShape gs) p q e =
-          let es : formulas_from (map (signed look) fs) ≡ formulas_from (map (signed look) gs) = cc in
-          let same = formulas_equal fs gs p q es in cc
-      form_equal (OrShape fs) (OrShape gs) p q e =
-          let es : formulas_from (map (signed look) fs) ≡ formulas_from (map (signed look) gs) = cc in
-          let same = formulas_equal fs gs p q es in cc
-      form_equal _ _ p q e = cc
-
-plain_formula : (terms : TermId → tree.Term) (look : ℕ → tree.Formula) (n : Shape) → is_plain n ≡ true → IsPlain (build_formula terms look n)
-plain_formula terms look (EqualShape s x y) h = h
-plain_formula terms look (AndShape fs) h = tt
-plain_formula terms look (OrShape fs) h = cc
+length-shapes : {K X N : Type 0} (form : K → N) (es : List (K × X)) → length (map form (keys_of es)) ≡ length es
+length-shapes form es = length-map (keys_of es) form ∙ length-map es (λ x. x.0)
 
 -- a bank
-module _ (ts : List Term) (es : List (Formula × Beside)) (ok : IsBank ts es) where
-  pub same_term-numbers : (x y : TermId) → HasTerm (forms_of ts es) x → HasTerm (forms_of ts es) y → eqb x.0 y.0 ≡ same_term (term_at (forms_of ts es) x) (term_at (forms_of ts es) y)
+module _ (fs : List Sort) (ts : List (Term × BesideTerm)) (es : List (Formula × Beside)) (ok : IsBank fs ts es) where
+  abbrev Old : Forms
+  Old = forms_of fs ts es
+
+  abbrev term_shapes : List TermShape
+  term_shapes = map term_shape (keys_of ts)
+
+  abbrev shapes : List Shape
+  shapes = map shape_of (keys_of es)
+
+  pub same_term-numbers : (x y : TermId) → HasTerm Old x → HasTerm Old y → eqb x.0 y.0 ≡ same_term (term_at Old x) (term_at Old y)
   same_term-numbers x y hx hy =
       ⊎_elim
-      (λ e. eq-eqb x.0 y.0 e ∙ sym (same_term_equal _ _ (ap (term_at (forms_of ts es)) (term_id x y e))))
+      (λ e. eq-eqb x.0 y.0 e ∙ sym (same_term_equal _ _ (ap (term_at Old) (term_id x y e))))
       (λ n. ne_eqb x.0 y.0 n ∙ sym (false_from_ne_true _ (λ t. n (ok.terms_apart.apart x.0 y.0 hx hy (equal_terms _ _ t)))))
       (cases_eq x.0 y.0)
 
-  pub terms_differ : (x y : TermId) → HasTerm (forms_of ts es) x → HasTerm (forms_of ts es) y → term_at (forms_of ts es) x ≡ term_at (forms_of ts es) y → x ≡ y
+  terms_differ : (x y : TermId) → HasTerm Old x → HasTerm Old y → term_at Old x ≡ term_at Old y → x ≡ y
   terms_differ x y hx hy e = term_id x y (ok.terms_apart.apart x.0 y.0 hx hy e)
 
-  pub same_formula-numbers : (x y : FormulaId) → HasFormula (forms_of ts es) x → HasFormula (forms_of ts es) y → eqb x.0 y.0 ≡ same_formula (formula_at (forms_of ts es) x) (formula_at (forms_of ts es) y)
+  pub same_formula-numbers : (x y : FormulaId) → HasFormula Old x → HasFormula Old y → eqb x.0 y.0 ≡ same_formula (formula_at Old x) (formula_at Old y)
   same_formula-numbers x y hx hy =
       ⊎_elim
-      (λ e. eq-eqb x.0 y.0 e ∙ sym (same_formula_equal _ _ (ap (formula_at (forms_of ts es)) (formula_id x y e))))
-      (λ n. ne_eqb x.0 y.0 n ∙ sym (false_from_ne_true _ (λ t. n (ap (λ f. f.0) (signed_apart (pair_at (forms_of ts es)) (length (map shape_of (keys_of es))) ok.formulas_apart.apart ok.formulas_apart.fine x y hx hy (equal_formulas _ _ t))))))
+      (λ e. eq-eqb x.0 y.0 e ∙ sym (same_formula_equal _ _ (ap (formula_at Old) (formula_id x y e))))
+      (λ n. ne_eqb x.0 y.0 n ∙ sym (false_from_ne_true _ (λ t. n (ap (λ f. f.0) (signed_apart (pair_at Old) (length shapes) ok.formulas_apart.apart ok.formulas_apart.fine x y hx hy (equal_formulas _ _ t))))))
       (cases_eq x.0 y.0)
 
-  pub term_node : (t : TermId) (n : Term) → slice_get ts t.0 ≡ Some n → IsTermForm (forms_of ts es) t n
-  term_node t n e = record { built = term_built ts ok.terms_apart t.0 n e }
+  term_built : (k : ℕ) (n : TermShape) → slice_get term_shapes k ≡ Some n → term_at Old (number k) ≡ term_of (term_at Old) n
+  term_built k n e = tree_at-built no_term build_term TermBelow AnyTerm term_same term_shapes ok.terms_apart k n e
 
-  pub term_there : (t : TermId) (n : Term) → slice_get ts t.0 ≡ Some n → HasTerm (forms_of ts es) t × (term_at (forms_of ts es) t ≡ term_of (term_at (forms_of ts es)) n)
-  term_there t n e = (slice_get_within ts t.0 n e, term_built ts ok.terms_apart t.0 n e)
+  pub term_form : (t : TermId) (e : Term × BesideTerm) → slice_get ts t.0 ≡ Some e → IsTermForm Old t e.0
+  term_form t e at =
+      let there = shape_get term_shape ts t.0 e at in
+      record { built = term_built t.0 (term_shape e.0) there; below = ok.terms_apart.below t.0 (term_shape e.0) there }
 
-  pub pair_built : (k : ℕ) (n : Shape) → slice_get (map shape_of (keys_of es)) k ≡ Some n → pair_at (forms_of ts es) k ≡ build_formula (term_at (forms_of ts es)) (pair_at (forms_of ts es)) n
+  pub term_there : (t : TermId) (n : TermShape) → slice_get term_shapes t.0 ≡ Some n → HasTerm Old t × (term_at Old t ≡ term_of (term_at Old) n)
+  term_there t n e = (slice_get_within term_shapes t.0 n e, term_built t.0 n e)
+
+  pub beside_value : (t : TermId) (v : BesideTerm) → slice_get (map (λ e. e.1) ts) t.0 ≡ Some v → IsBesideTerm Old (term_at Old t) v
+  beside_value t v at = let p = entry_get ts t.0 v at in subst (λ x. IsBesideTerm Old (term_at Old t) x) p.2 (ok.terms_beside t.0 p.0 p.1)
+
+  pub pair_built : (k : ℕ) (n : Shape) → slice_get shapes k ≡ Some n → pair_at Old k ≡ build_formula (term_at Old) (pair_at Old) n
   pair_built k n e =
-      tree_at-built nothing (build_formula (term_at (forms_of ts es))) (PairBelow (length ts)) IsPlain (form_same (term_at (forms_of ts es)) (length ts)) (map shape_of (keys_of es)) ok.formulas_apart k n e
+      tree_at-built nothing (build_formula (term_at Old)) (PairBelow (length term_shapes)) IsPlain (form_same (term_at Old) (length term_shapes)) shapes ok.formulas_apart k n e
 
-  shape_get : (k : ℕ) (e : Formula × Beside) → slice_get es k ≡ Some e → slice_get (map shape_of (keys_of es)) k ≡ Some (shape_of e.0)
-  shape_get k e at = slice_get-map shape_of (keys_of es) k ∙ ap (option_map shape_of) (slice_get-map (λ x. x.0) es k ∙ ap (option_map (λ x. x.0)) at)
+  opposite_below : (k : ℕ) (n : Shape) → ShapeBelow (length term_shapes) (k * 2) n → ShapeBelow (length term_shapes) (k * 2) (opposite_shape n)
+  opposite_below k (LiteralShape s p xs) b = b
+  opposite_below k (AndShape gs) b = others_below k gs b
+  opposite_below k (OrShape gs) b = others_below k gs b
+  opposite_below k (ForallShape ss f) b = other_below k f b
+  opposite_below k (ExistsShape ss f) b = other_below k f b
 
-  entry_get : (k : ℕ) (v : Beside) → slice_get (map (λ e. e.1) es) k ≡ Some v → (e : Formula × Beside) × (slice_get es k ≡ Some e) × (e.1 ≡ v)
-  entry_get k v at = by (slice_get es k) refl (sym (slice_get-map (λ e. e.1) es k) ∙ at)
-    where
-      by : (o : Option (Formula × Beside)) → slice_get es k ≡ o → option_map (λ e. e.1) o ≡ Some v → (e : Formula × Beside) × (slice_get es k ≡ Some e) × (e.1 ≡ v)
-      by None g h = cc
-      by (Some e) g h = (e, g, cc)
-
-  form_upto : (i j : ℕ) → i ≤ j → (n : Shape) → ShapeBelow (length ts) i n → ShapeBelow (length ts) j n
-  form_upto i j h (EqualShape s x y) p = p
-  form_upto i j h (AndShape fs) p = AreBelow-more i j h fs p
-  form_upto i j h (OrShape fs) p = AreBelow-more i j h fs p
-
-  opposite_below : (k : ℕ) (n : Shape) → ShapeBelow (length ts) (k * 2) n → ShapeBelow (length ts) (k * 2) (opposite_shape n)
-  opposite_below k (EqualShape s x y) p = p
-  opposite_below k (AndShape fs) p = others_below k fs p
-  opposite_below k (OrShape fs) p = others_below k fs p
-
-  pub plain_node : (f : FormulaId) (e : Formula × Beside) → slice_get es (f.0 / 2) ≡ Some e → f.0 % 2 ≡ 0 → IsFormulaForm (forms_of ts es) f e.0
-  plain_node f e at s =
-      let there = shape_get (f.0 / 2) e at in
+  pub plain_form : (f : FormulaId) (e : Formula × Beside) → slice_get es (f.0 / 2) ≡ Some e → f.0 % 2 ≡ 0 → IsFormulaForm Old f e.0
+  plain_form f e at s =
+      let there = shape_get shape_of es (f.0 / 2) e at in
       record {
-        built = ap (λ n. with_sign n (pair_at (forms_of ts es) (f.0 / 2))) s ∙ pair_built (f.0 / 2) (shape_of e.0) there;
-        below = form_upto (f.0 / 2 * 2) f.0 (omega (arith, div-add-mod' f.0 2)) (shape_of e.0) (ok.formulas_apart.below (f.0 / 2) (shape_of e.0) there);
+        built = ap (λ n. with_sign n (pair_at Old (f.0 / 2))) s ∙ pair_built (f.0 / 2) (shape_of e.0) there;
+        below = shape_upward (length term_shapes) (f.0 / 2 * 2) f.0 (omega (arith, div-add-mod' f.0 2)) (shape_of e.0) (ok.formulas_apart.below (f.0 / 2) (shape_of e.0) there);
       }
 
-  pub negated_node : (f : FormulaId) (e : Formula × Beside) → slice_get es (f.0 / 2) ≡ Some e → f.0 % 2 ≡ 1 → IsFormulaForm (forms_of ts es) f e.1.negation
-  negated_node f e at s =
-      let there = shape_get (f.0 / 2) e at in
+  pub negated_form : (f : FormulaId) (e : Formula × Beside) → slice_get es (f.0 / 2) ≡ Some e → f.0 % 2 ≡ 1 → IsFormulaForm Old f e.1.negation
+  negated_form f e at s =
+      let there = shape_get shape_of es (f.0 / 2) e at in
       let form = (ok.beside (f.0 / 2) e at).negation in
-      let below : ShapeBelow (length ts) (f.0 / 2 * 2) (opposite_shape (shape_of e.0)) = opposite_below (f.0 / 2) (shape_of e.0) (ok.formulas_apart.below (f.0 / 2) (shape_of e.0) there) in
+      let below : ShapeBelow (length term_shapes) (f.0 / 2 * 2) (opposite_shape (shape_of e.0)) = opposite_below (f.0 / 2) (shape_of e.0) (ok.formulas_apart.below (f.0 / 2) (shape_of e.0) there) in
       record {
         built =
-            ap (λ n. with_sign n (pair_at (forms_of ts es) (f.0 / 2))) s
+            ap (λ n. with_sign n (pair_at Old (f.0 / 2))) s
             ∙ ap neg (pair_built (f.0 / 2) (shape_of e.0) there)
-            ∙ sym (formula_of-opposite (term_at (forms_of ts es)) (pair_at (forms_of ts es)) (shape_of e.0))
-            ∙ ap (formula_of (term_at (forms_of ts es)) (formula_at (forms_of ts es))) (sym form);
-        below = form_upto (f.0 / 2 * 2) f.0 (omega (arith, div-add-mod' f.0 2)) (shape_of e.1.negation) (subst (ShapeBelow (length ts) (f.0 / 2 * 2)) (sym form) below);
+            ∙ sym (formula_of-opposite (term_at Old) (pair_at Old) (shape_of e.0))
+            ∙ ap (formula_of (term_at Old) (formula_at Old)) (sym form);
+        below = shape_upward (length term_shapes) (f.0 / 2 * 2) f.0 (omega (arith, div-add-mod' f.0 2)) (shape_of e.1.negation) (subst (ShapeBelow (length term_shapes) (f.0 / 2 * 2)) (sym form) below);
       }
 
-  pub sorted_at : (f : FormulaId) (e : Formula × Beside) → slice_get es (f.0 / 2) ≡ Some e → e.1.is_well_sorted ≡ well_sorted (formula_at (forms_of ts es) f)
-  sorted_at f e at = (ok.beside (f.0 / 2) e at).sorted ∙ by (f.0 % 2)
+  pub formed_value : (f : FormulaId) (v : Beside) → slice_get (map (λ e. e.1) es) (f.0 / 2) ≡ Some v → (cs : List ClassTree) → IsBankOf cs Old → v.is_well_formed ≡ is_well_formed cs [] (formula_at Old f)
+  formed_value f v at cs is =
+      let p = entry_get es (f.0 / 2) v at in
+      ap (λ x. x.is_well_formed) (sym p.2) ∙ (ok.beside (f.0 / 2) p.0 p.1).formed cs is ∙ by (f.0 % 2)
     where
-      by : (r : ℕ) → well_sorted (pair_at (forms_of ts es) (f.0 / 2)) ≡ well_sorted (with_sign r (pair_at (forms_of ts es) (f.0 / 2)))
+      by : (r : ℕ) → is_well_formed cs [] (pair_at Old (f.0 / 2)) ≡ is_well_formed cs [] (with_sign r (pair_at Old (f.0 / 2)))
       by zero = refl
-      by (suc r) = sym (well_sorted_neg (pair_at (forms_of ts es) (f.0 / 2)))
-
-  pub sorted_value : (f : FormulaId) (v : Beside) → slice_get (map (λ e. e.1) es) (f.0 / 2) ≡ Some v → v.is_well_sorted ≡ well_sorted (formula_at (forms_of ts es) f)
-  sorted_value f v at = let p = entry_get (f.0 / 2) v at in ap (λ x. x.is_well_sorted) (sym p.2) ∙ sorted_at f p.0 p.1
+      by (suc r) = sym (neg_formed cs [] (pair_at Old (f.0 / 2)))
 
   -- one more term
-  module _ (n : Term) where
-    term_kept : (t : TermId) → t.0 < length ts → term_at (forms_of (ts ++ n ∷ []) es) t ≡ term_at (forms_of ts es) t
-    term_kept t h = tree_at-push_old no_term build_term ts n t.0 h
+  module _ (e : Term × BesideTerm) where
+    abbrev WithTerm : Forms
+    WithTerm = forms_of fs (ts ++ e ∷ []) es
 
-    form_kept : (look : ℕ → tree.Formula) (b : ℕ) (s : Shape) → PairBelow (length ts) b s → build_formula (term_at (forms_of ts es)) look s ≡ build_formula (term_at (forms_of (ts ++ n ∷ []) es)) look s
-    form_kept look b (EqualShape s x y) p = let x' = term_kept x p.0 in let y' = term_kept y p.1 in cc
-    form_kept look b (AndShape fs) p = refl
-    form_kept look b (OrShape fs) p = refl
+    longer_terms : length (map term_shape (keys_of (ts ++ e ∷ []))) ≡ length term_shapes + 1
+    longer_terms = ap length (shapes_push term_shape ts e) ∙ length_push term_shapes (term_shape e.0)
 
-    form_longer : (b : ℕ) (s : Shape) → PairBelow (length ts) b s → PairBelow (length (ts ++ n ∷ [])) b s
-    form_longer b (EqualShape s x y) p = let l = length_push ts n in (omega arith, omega arith)
-    form_longer b (AndShape fs) p = p
-    form_longer b (OrShape fs) p = p
+    term_kept : (t : TermId) → HasTerm Old t → term_at WithTerm t ≡ term_at Old t
+    term_kept t h = ap (λ ns. tree_at no_term build_term ns t.0) (shapes_push term_shape ts e) ∙ tree_at-push_old no_term build_term term_shapes (term_shape e.0) t.0 h
 
-    pairs_kept : (k : ℕ) → pair_at (forms_of (ts ++ n ∷ []) es) k ≡ pair_at (forms_of ts es) k
+    added_term : (t : TermId) → t.0 ≡ length ts → term_at WithTerm t ≡ term_of (term_at Old) (term_shape e.0)
+    added_term t h =
+        ap (λ ns. tree_at no_term build_term ns t.0) (shapes_push term_shape ts e)
+        ∙ ap (tree_at no_term build_term (term_shapes ++ term_shape e.0 ∷ [])) (h ∙ sym (length-shapes term_shape ts))
+        ∙ tree_at-push_new no_term build_term term_shapes (term_shape e.0)
+
+    form_kept : (look : ℕ → logic.Formula) (b : ℕ) (s : Shape) → PairBelow (length term_shapes) b s → build_formula (term_at Old) look s ≡ build_formula (term_at WithTerm) look s
+    form_kept look b (LiteralShape s p xs) h = ap (logic.Literal s (predicate_of p)) (arguments_same (term_at Old) (term_at WithTerm) (length term_shapes) (λ t at. sym (term_kept t at)) xs h)
+    form_kept look b (AndShape gs) h = refl
+    form_kept look b (OrShape gs) h = refl
+    form_kept look b (ForallShape ss f) h = refl
+    form_kept look b (ExistsShape ss f) h = refl
+
+    form_longer : (b : ℕ) (s : Shape) → PairBelow (length term_shapes) b s → PairBelow (length (map term_shape (keys_of (ts ++ e ∷ [])))) b s
+    form_longer b (LiteralShape s p xs) h = AreTermsBelow-more (length term_shapes) _ (omega (arith, longer_terms)) xs h
+    form_longer b (AndShape gs) h = h
+    form_longer b (OrShape gs) h = h
+    form_longer b (ForallShape ss f) h = h
+    form_longer b (ExistsShape ss f) h = h
+
+    pairs_kept : (k : ℕ) → pair_at WithTerm k ≡ pair_at Old k
     pairs_kept k =
-        sym (tree_at-same nothing (build_formula (term_at (forms_of ts es))) (build_formula (term_at (forms_of (ts ++ n ∷ []) es))) (map shape_of (keys_of es))
-        (λ look i s e. form_kept look i s (ok.formulas_apart.below i s e)) k)
+        sym (tree_at-same nothing (build_formula (term_at Old)) (build_formula (term_at WithTerm)) shapes
+        (λ look i s at. form_kept look i s (ok.formulas_apart.below i s at)) k)
 
-    pub IsBank-term : ((k : ℕ) → slice_get ts k ≡ Some n → ⊥) → IsBank (ts ++ n ∷ []) es
-    IsBank-term absent = record {
-      terms_apart = terms_pushed ts ok.terms_apart n absent;
+    pub IsBank-term : HasArguments Old (term_shape e.0) → ((k : ℕ) → slice_get term_shapes k ≡ Some (term_shape e.0) → ⊥) →
+        IsBesideTerm Old (term_of (term_at Old) (term_shape e.0)) e.1 → IsBank fs (ts ++ e ∷ []) es
+    IsBank-term there absent beside = record {
+      terms_apart =
+          subst (AreInterned no_term build_term TermBelow AnyTerm) (sym (shapes_push term_shape ts e))
+          (AreInterned-push no_term build_term TermBelow AnyTerm term_same (λ look b apart fine n m p q s. term_equal look b apart n m p q s) term_upward
+          term_shapes ok.terms_apart (term_shape e.0) there tt absent);
       formulas_apart = record {
-        below = λ t s e. form_longer t s (ok.formulas_apart.below t s e);
+        below = λ t s at. form_longer t s (ok.formulas_apart.below t s at);
         fine = λ t h. subst IsPlain (sym (pairs_kept t)) (ok.formulas_apart.fine t h);
-        apart = λ i j hi hj e. ok.formulas_apart.apart i j hi hj (sym (pairs_kept i) ∙ e ∙ pairs_kept j);
+        apart = λ i j hi hj s. ok.formulas_apart.apart i j hi hj (sym (pairs_kept i) ∙ s ∙ pairs_kept j);
       };
-      beside = λ k e at. record { negation = (ok.beside k e at).negation; sorted = (ok.beside k e at).sorted ∙ ap well_sorted (sym (pairs_kept k)) };
+      terms_beside = λ k x at. ⊎_elim (old k x) (new k x) (slice_get-push_cases ts e x k at);
+      beside = λ k x at. record {
+        negation = (ok.beside k x at).negation;
+        formed = λ cs is. (ok.beside k x at).formed cs is ∙ ap (is_well_formed cs []) (sym (pairs_kept k));
+      };
     }
+      where
+        moved : (x y : tree.Term) (v : BesideTerm) → y ≡ x → IsBesideTerm Old x v → IsBesideTerm WithTerm y v
+        moved x y v s b = record { sort = λ cs is. b.sort cs is ∙ ap (sort_of cs []) (sym s); sorted = λ cs is. b.sorted cs is ∙ ap (is_well_sorted cs []) (sym s) }
 
-    pub IsGrown-term : IsGrown (forms_of ts es) (forms_of (ts ++ n ∷ []) es)
+        old : (k : ℕ) (x : Term × BesideTerm) → slice_get ts k ≡ Some x → IsBesideTerm WithTerm (term_at WithTerm (number k)) x.1
+        old k x at =
+            let h : k < length term_shapes = omega (arith, slice_get_within ts k x at, length-shapes term_shape ts) in
+            moved _ _ x.1 (term_kept (number k) h) (ok.terms_beside k x at)
+
+        new : (k : ℕ) (x : Term × BesideTerm) → (k ≡ length ts) × (e ≡ x) → IsBesideTerm WithTerm (term_at WithTerm (number k)) x.1
+        new k x p = subst (λ y. IsBesideTerm WithTerm (term_at WithTerm (number k)) y.1) p.1 (moved _ _ e.1 (added_term (number k) p.0) beside)
+
+    pub IsGrown-term : IsGrown Old WithTerm
     IsGrown-term = record {
-      more_terms = omega (arith, length_push ts n);
+      same_fields = refl;
+      more_terms = omega (arith, longer_terms);
       more_formulas = omega arith;
       same_terms = term_kept;
       same_formulas = λ f h. ap (with_sign (f.0 % 2)) (pairs_kept (f.0 / 2));
     }
 
-    pub term_new : (t : TermId) → t.0 ≡ length ts → HasTerm (forms_of (ts ++ n ∷ []) es) t × (term_at (forms_of (ts ++ n ∷ []) es) t ≡ term_of (term_at (forms_of ts es)) n)
-    term_new t e = (omega (arith, length_push ts n, e), ap (tree_at no_term build_term (ts ++ n ∷ [])) e ∙ tree_at-push_new no_term build_term ts n ∙ term_same (tree_at no_term build_term ts) (λ k. tree_at no_term build_term ts k) n)
+    pub term_new : (t : TermId) → t.0 ≡ length ts → HasTerm WithTerm t × (term_at WithTerm t ≡ term_of (term_at Old) (term_shape e.0))
+    term_new t h = (omega (arith, longer_terms, length-shapes term_shape ts, h), added_term t h)
 
   -- one more formula with its negation
   module _ (e : Formula × Beside) where
-    abbrev shapes : List Shape
-    shapes = map shape_of (keys_of es)
+    abbrev WithPair : Forms
+    WithPair = forms_of fs ts (es ++ e ∷ [])
 
-    shapes_push : map shape_of (keys_of (es ++ e ∷ [])) ≡ shapes ++ shape_of e.0 ∷ []
-    shapes_push = ap (map shape_of) (map_push (λ x. x.0) es e) ∙ map_push shape_of (keys_of es) e.0
+    longer_formulas : length (map shape_of (keys_of (es ++ e ∷ []))) ≡ length shapes + 1
+    longer_formulas = ap length (shapes_push shape_of es e) ∙ length_push shapes (shape_of e.0)
 
-    length-shapes : length shapes ≡ length es
-    length-shapes = length-map (keys_of es) shape_of ∙ length-map es (λ x. x.0)
+    pair_kept : (k : ℕ) → k < length shapes → pair_at WithPair k ≡ pair_at Old k
+    pair_kept k h = ap (λ s. tree_at nothing (build_formula (term_at Old)) s k) (shapes_push shape_of es e) ∙ tree_at-push_old nothing (build_formula (term_at Old)) shapes (shape_of e.0) k h
 
-    pair_kept : (k : ℕ) → k < length shapes → pair_at (forms_of ts (es ++ e ∷ [])) k ≡ pair_at (forms_of ts es) k
-    pair_kept k h = ap (λ s. tree_at nothing (build_formula (term_at (forms_of ts es))) s k) shapes_push ∙ tree_at-push_old nothing (build_formula (term_at (forms_of ts es))) shapes (shape_of e.0) k h
-
-    pair_new : (k : ℕ) → k ≡ length es → pair_at (forms_of ts (es ++ e ∷ [])) k ≡ build_formula (term_at (forms_of ts es)) (pair_at (forms_of ts es)) (shape_of e.0)
+    pair_new : (k : ℕ) → k ≡ length es → pair_at WithPair k ≡ build_formula (term_at Old) (pair_at Old) (shape_of e.0)
     pair_new k h =
-        ap (λ s. tree_at nothing (build_formula (term_at (forms_of ts es))) s k) shapes_push
-        ∙ ap (tree_at nothing (build_formula (term_at (forms_of ts es))) (shapes ++ shape_of e.0 ∷ [])) (h ∙ sym length-shapes)
-        ∙ tree_at-push_new nothing (build_formula (term_at (forms_of ts es))) shapes (shape_of e.0)
+        ap (λ s. tree_at nothing (build_formula (term_at Old)) s k) (shapes_push shape_of es e)
+        ∙ ap (tree_at nothing (build_formula (term_at Old)) (shapes ++ shape_of e.0 ∷ [])) (h ∙ sym (length-shapes shape_of es))
+        ∙ tree_at-push_new nothing (build_formula (term_at Old)) shapes (shape_of e.0)
 
-    pub IsGrown-pair : IsGrown (forms_of ts es) (forms_of ts (es ++ e ∷ []))
+    pub IsGrown-pair : IsGrown Old WithPair
     IsGrown-pair = record {
+      same_fields = refl;
       more_terms = omega arith;
-      more_formulas = omega (arith, ap length shapes_push, length_push shapes (shape_of e.0));
+      more_formulas = omega (arith, longer_formulas);
       same_terms = λ t h. refl;
       same_formulas = λ f h. ap (with_sign (f.0 % 2)) (pair_kept (f.0 / 2) (half_below f.0 (length shapes) h));
     }
 
-    pub pair_added : (k : ℕ) → k ≡ length es →
-        (k < length (forms_of ts (es ++ e ∷ [])).formulas) × (pair_at (forms_of ts (es ++ e ∷ [])) k ≡ formula_of (term_at (forms_of ts es)) (formula_at (forms_of ts es)) (shape_of e.0))
-    pair_added k h = (omega (arith, ap length shapes_push, length_push shapes (shape_of e.0), length-shapes, h), pair_new k h)
+    pub pair_added : (k : ℕ) → k ≡ length es → (k < length WithPair.formulas) × (pair_at WithPair k ≡ formula_of (term_at Old) (formula_at Old) (shape_of e.0))
+    pair_added k h = (omega (arith, longer_formulas, length-shapes shape_of es, h), pair_new k h)
 
-    pub IsBank-pair : is_plain (shape_of e.0) ≡ true → HasParts (forms_of ts es) (shape_of e.0) → ((k : ℕ) → slice_get shapes k ≡ Some (shape_of e.0) → ⊥) →
+    pub IsBank-pair : is_plain (shape_of e.0) ≡ true → HasParts Old (shape_of e.0) → ((k : ℕ) → slice_get shapes k ≡ Some (shape_of e.0) → ⊥) →
         shape_of e.1.negation ≡ opposite_shape (shape_of e.0) →
-        e.1.is_well_sorted ≡ well_sorted (formula_of (term_at (forms_of ts es)) (formula_at (forms_of ts es)) (shape_of e.0)) → IsBank ts (es ++ e ∷ [])
-    IsBank-pair plain parts absent negation sorted = record {
+        ((cs : List ClassTree) → IsBankOf cs Old → e.1.is_well_formed ≡ is_well_formed cs [] (formula_of (term_at Old) (formula_at Old) (shape_of e.0))) → IsBank fs ts (es ++ e ∷ [])
+    IsBank-pair plain parts absent negation formed = record {
       terms_apart = ok.terms_apart;
       formulas_apart =
-          subst (AreInterned nothing (build_formula (term_at (forms_of ts es))) (PairBelow (length ts)) IsPlain) (sym shapes_push)
-          (AreInterned-push nothing (build_formula (term_at (forms_of ts es))) (PairBelow (length ts)) IsPlain
-          (form_same (term_at (forms_of ts es)) (length ts)) (form_equal (term_at (forms_of ts es)) (length ts) terms_differ) (form_upward (term_at (forms_of ts es)) (length ts))
-          shapes ok.formulas_apart (shape_of e.0) parts (plain_formula (term_at (forms_of ts es)) (pair_at (forms_of ts es)) (shape_of e.0) plain) absent);
+          subst (AreInterned nothing (build_formula (term_at Old)) (PairBelow (length term_shapes)) IsPlain) (sym (shapes_push shape_of es e))
+          (AreInterned-push nothing (build_formula (term_at Old)) (PairBelow (length term_shapes)) IsPlain
+          (form_same (term_at Old) (length term_shapes)) (form_equal (term_at Old) (length term_shapes) terms_differ) (form_upward (term_at Old) (length term_shapes))
+          shapes ok.formulas_apart (shape_of e.0) parts (plain_formula (term_at Old) (pair_at Old) (shape_of e.0) plain) absent);
+      terms_beside = λ k x at. record { sort = (ok.terms_beside k x at).sort; sorted = (ok.terms_beside k x at).sorted };
       beside = λ k x at. ⊎_elim (old k x) (new k x) (slice_get-push_cases es e x k at);
     }
       where
-        old : (k : ℕ) (x : Formula × Beside) → slice_get es k ≡ Some x → IsBeside (forms_of ts (es ++ e ∷ [])) k x
+        old : (k : ℕ) (x : Formula × Beside) → slice_get es k ≡ Some x → IsBeside WithPair k x
         old k x at =
-            let h : k < length shapes = omega (arith, slice_get_within es k x at, length-shapes) in
-            record { negation = (ok.beside k x at).negation; sorted = (ok.beside k x at).sorted ∙ ap well_sorted (sym (pair_kept k h)) }
+            let h : k < length shapes = omega (arith, slice_get_within es k x at, length-shapes shape_of es) in
+            record { negation = (ok.beside k x at).negation; formed = λ cs is. (ok.beside k x at).formed cs is ∙ ap (is_well_formed cs []) (sym (pair_kept k h)) }
 
-        new : (k : ℕ) (x : Formula × Beside) → (k ≡ length es) × (e ≡ x) → IsBeside (forms_of ts (es ++ e ∷ [])) k x
-        new k x p = subst (λ y. IsBeside (forms_of ts (es ++ e ∷ [])) k y) p.1 (record { negation = negation; sorted = sorted ∙ ap well_sorted (sym (pair_new k p.0)) })
-
--- growth
-pub IsGrown-refl : (b : Forms) → IsGrown b b
-IsGrown-refl b = record { more_terms = omega arith; more_formulas = omega arith; same_terms = λ t h. refl; same_formulas = λ f h. refl }
-
-pub IsGrown-then : (a b c : Forms) → IsGrown a b → IsGrown b c → IsGrown a c
-IsGrown-then a b c g h = record {
-  more_terms = omega (arith, g.more_terms, h.more_terms);
-  more_formulas = omega (arith, g.more_formulas, h.more_formulas);
-  same_terms = λ t at. h.same_terms t (omega (arith, g.more_terms, at)) ∙ g.same_terms t at;
-  same_formulas = λ f at. h.same_formulas f (omega (arith, g.more_formulas, at)) ∙ g.same_formulas f at;
-}
-
-pub HasTerm-grown : (a b : Forms) → IsGrown a b → (t : TermId) → HasTerm a t → HasTerm b t
-HasTerm-grown a b g t h = omega (arith, g.more_terms, h)
-
-pub HasFormula-grown : (a b : Forms) → IsGrown a b → (f : FormulaId) → HasFormula a f → HasFormula b f
-HasFormula-grown a b g f h = omega (arith, g.more_formulas, h)
-
-pub HasFormulas-grown : (a b : Forms) → IsGrown a b → (fs : List FormulaId) → HasFormulas a fs → HasFormulas b fs
-HasFormulas-grown a b g fs h = AreBelow-more (length a.formulas * 2) (length b.formulas * 2) (omega (arith, g.more_formulas)) fs h
-
-pub formulas_at-grown : (a b : Forms) → IsGrown a b → (fs : List FormulaId) → HasFormulas a fs → formulas_at b fs ≡ formulas_at a fs
-formulas_at-grown a b g [] h = refl
-formulas_at-grown a b g (f ∷ fs) h = ap (λ x. x ∷ formulas_at b fs) (g.same_formulas f h.0) ∙ ap (λ xs. formula_at a f ∷ xs) (formulas_at-grown a b g fs h.1)
-
--- one more part, in a loop over parts
-pub AreBelow-get : (n : ℕ) (fs : List FormulaId) (i : ℕ) (d : FormulaId) → AreBelow n fs → i < length fs → (get_or fs i d).0 < n
-AreBelow-get n [] i d h at = absurd (omega arith)
-AreBelow-get n (f ∷ fs) zero d h at = h.0
-AreBelow-get n (f ∷ fs) (suc i) d h at = AreBelow-get n fs i d h.1 (omega arith)
-
-pub sorted_more : (b : Forms) (fs : List FormulaId) (i : ℕ) (d : FormulaId) → i < length fs →
-    all_well_sorted (formulas_from (map (formula_at b) (drop i fs))) ≡ (well_sorted (formula_at b (get_or fs i d)) && all_well_sorted (formulas_from (map (formula_at b) (drop (i + 1) fs))))
-sorted_more b fs i d h = ap (λ gs. all_well_sorted (formulas_from (map (formula_at b) gs))) (drop_more fs i d h)
-
-pub sorted_step : (b : Forms) (fs : List FormulaId) (i : ℕ) (d : FormulaId) → i < length fs → true ≡ well_sorted (formula_at b (get_or fs i d)) →
-    all_well_sorted (formulas_from (map (formula_at b) (drop (i + 1) fs))) ≡ all_well_sorted (formulas_from (map (formula_at b) (drop i fs)))
-sorted_step b fs i d h e = ap (λ s. s && all_well_sorted (formulas_from (map (formula_at b) (drop (i + 1) fs)))) e ∙ sym (sorted_more b fs i d h)
-
-pub sorted_stop : (b : Forms) (fs : List FormulaId) (i : ℕ) (d : FormulaId) → i < length fs → false ≡ well_sorted (formula_at b (get_or fs i d)) →
-    false ≡ all_well_sorted (formulas_from (map (formula_at b) (drop i fs)))
-sorted_stop b fs i d h e = ap (λ s. s && all_well_sorted (formulas_from (map (formula_at b) (drop (i + 1) fs)))) e ∙ sym (sorted_more b fs i d h)
+        new : (k : ℕ) (x : Formula × Beside) → (k ≡ length es) × (e ≡ x) → IsBeside WithPair k x
+        new k x p = subst (λ y. IsBeside WithPair k y) p.1 (record { negation = negation; formed = λ cs is. formed cs is ∙ ap (is_well_formed cs []) (sym (pair_new k p.0)) })
 
 -- the number after that of a formula stands for the negation
 pub negated_at : (b : Forms) (k : ℕ) (f : FormulaId) → f.0 ≡ k * 2 + 1 → k < length b.formulas → HasFormula b f × (formula_at b f ≡ neg (pair_at b k))
@@ -332,5 +267,6 @@ negated_at b k f e h = (omega (arith, e, h), signed_negated (pair_at b) k f e)
 pub plain_at : (b : Forms) (k : ℕ) (f : FormulaId) → f.0 ≡ k * 2 → k < length b.formulas → HasFormula b f × (formula_at b f ≡ pair_at b k)
 plain_at b k f e h = (omega (arith, e, h), signed_plain (pair_at b) k f e)
 
-pub or_form : (b : Forms) (fs : List FormulaId) → neg (formula_of (term_at b) (formula_at b) (AndShape (map other fs))) ≡ formula_of (term_at b) (formula_at b) (OrShape fs)
-or_form b fs = ap neg (formula_of-opposite (term_at b) (pair_at b) (OrShape fs)) ∙ neg_neg _
+-- the negation of the opposite form is the formula of the form
+pub opposite_form : (b : Forms) (n : Shape) → neg (formula_of (term_at b) (formula_at b) (opposite_shape n)) ≡ formula_of (term_at b) (formula_at b) n
+opposite_form b n = ap neg (formula_of-opposite (term_at b) (pair_at b) n) ∙ neg_neg _

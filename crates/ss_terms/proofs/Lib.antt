@@ -1,5 +1,8 @@
-pub mod Places
+pub mod Symbols
 pub mod Same
-pub mod Trees
 pub mod Signs
+pub mod Sorted
+pub mod Parts
+pub mod Trees
 pub mod Banks
+pub mod Grown

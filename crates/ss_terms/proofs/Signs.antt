@@ -1,36 +1,16 @@
 -- A formula and its negation under one number each.
-use Rattle.std.proofs.Common.{◌≡◌, ℕ, zero, suc, ◌+◌, ◌*◌, ◌-◌, ◌/◌, ◌%◌, ◌<◌, List, [], ◌∷◌, map, not, refl, sym, ◌∙◌, ap, inl, inr, ◌⊎◌, ⊎_elim, arith}
-use Rattle.std.proofs.lemmas.Nat.{div-add-mod', div-mul-add, mod-mul-add, mod_below, div_below}
+use Rattle.std.proofs.Common.{◌≡◌, ℕ, ◌+◌, ◌*◌, ◌-◌, ◌/◌, ◌%◌, ◌<◌, List, [], ◌∷◌, map, not, refl, sym, ◌∙◌, ap, ⊎_elim, arith}
 use Rattle.std.proofs.lemmas.Bool.{true≢false}
-use Rattle.ss_logic.specs.Logic as tree
-use Rattle.ss_logic.specs.Logic.{Formula, neg, neg_all, formulas_from}
+use Rattle.ss_logic.specs.Terms as tree
+use Rattle.ss_logic.specs.Formulas as logic
+use Rattle.ss_logic.specs.Formulas.{Formula, neg, neg_all, formulas_from, formula_then}
 use Rattle.ss_logic.proofs.Truth.{neg_neg}
-use Rattle.ss_terms.specs.declared.forms.FormulaId.{FormulaId}
-use Rattle.ss_terms.specs.Forms.{Shape, EqualShape, AndShape, OrShape, with_sign, signed, formula_of, other, opposite_shape, AreBelow}
+use Rattle.ss_terms_interned.proofs.Halves.{split_number, half_of, sign_of, half_below}
 use Rattle.ss_terms.specs.declared.forms.TermId.{TermId}
+use Rattle.ss_terms.specs.declared.forms.FormulaId.{FormulaId}
+use Rattle.ss_terms.specs.Forms.{Shape, LiteralShape, AndShape, OrShape, ForallShape, ExistsShape, with_sign, signed, formula_of, other, opposite_shape, AreBelow}
 use Rattle.ss_terms.specs.Bank.{IsPlain}
 use Rattle.ss_terms.proofs.Same.{formula_id}
-
--- the two numbers of a pair
-pub split_number : (n : ℕ) → (n ≡ n / 2 * 2 + 0) × (n % 2 ≡ 0) ⊎ ((n ≡ n / 2 * 2 + 1) × (n % 2 ≡ 1))
-split_number n =
-    let whole = div-add-mod' n 2 in
-    let small : n % 2 < 2 = mod_below n 2 (omega arith) in
-    by (n % 2) whole small
-  where
-    by : (r : ℕ) → n / 2 * 2 + r ≡ n → r < 2 → (n ≡ n / 2 * 2 + 0) × (r ≡ 0) ⊎ ((n ≡ n / 2 * 2 + 1) × (r ≡ 1))
-    by zero w s = inl (sym w, refl)
-    by (suc zero) w s = inr (sym w, refl)
-    by (suc (suc r)) w s = absurd (omega arith)
-
-pub half_of : (k r : ℕ) → r < 2 → (k * 2 + r) / 2 ≡ k
-half_of k r h = div-mul-add k 2 r h
-
-pub sign_of : (k r : ℕ) → r < 2 → (k * 2 + r) % 2 ≡ r
-sign_of k r h = mod-mul-add k 2 r h
-
-pub half_below : (n k : ℕ) → n < k * 2 → n / 2 < k
-half_below n k h = div_below n 2 k (omega arith) h
 
 pub signed_plain : (look : ℕ → Formula) (k : ℕ) (f : FormulaId) → f.0 ≡ k * 2 → signed look f ≡ look k
 signed_plain look k f e =
@@ -68,7 +48,7 @@ pub others_below : (k : ℕ) (fs : List FormulaId) → AreBelow (k * 2) fs → A
 others_below k [] h = tt
 others_below k (f ∷ fs) h = (other_below k f h.0, others_below k fs h.1)
 
-other_other : (f : FormulaId) → other (other f) ≡ f
+pub other_other : (f : FormulaId) → other (other f) ≡ f
 other_other f = formula_id _ _ (⊎_elim even odd (split_number f.0))
   where
     even : (f.0 ≡ f.0 / 2 * 2 + 0) × (f.0 % 2 ≡ 0) → (other (other f)).0 ≡ f.0
@@ -94,22 +74,34 @@ module _ (terms : TermId → tree.Term) (look : ℕ → Formula) where
   pub formulas-others : (fs : List FormulaId) → formulas_from (map (signed look) (map other fs)) ≡ neg_all (formulas_from (map (signed look) fs))
   formulas-others [] = refl
   formulas-others (f ∷ fs) =
-      ap (λ g. tree.more g (formulas_from (map (signed look) (map other fs)))) (signed_other look f)
-      ∙ ap (λ gs. tree.more (neg (signed look f)) gs) (formulas-others fs)
+      ap (λ g. formula_then g (formulas_from (map (signed look) (map other fs)))) (signed_other look f)
+      ∙ ap (λ gs. formula_then (neg (signed look f)) gs) (formulas-others fs)
 
   pub formula_of-opposite : (n : Shape) → formula_of terms (signed look) (opposite_shape n) ≡ neg (formula_of terms (signed look) n)
-  formula_of-opposite (EqualShape s x y) = refl
-  formula_of-opposite (AndShape fs) = ap tree.Or (formulas-others fs)
-  formula_of-opposite (OrShape fs) = ap tree.And (formulas-others fs)
+  formula_of-opposite (LiteralShape s p ts) = refl
+  formula_of-opposite (AndShape fs) = ap logic.Or (formulas-others fs)
+  formula_of-opposite (OrShape fs) = ap logic.And (formulas-others fs)
+  formula_of-opposite (ForallShape ss f) = ap (logic.Exists ss) (signed_other look f)
+  formula_of-opposite (ExistsShape ss f) = ap (logic.Forall ss) (signed_other look f)
 
 plain_apart : (f g : Formula) → IsPlain f → IsPlain g → f ≡ neg g → ⊥
-plain_apart (tree.Same s x y) (tree.Same t z w) p q e = let same : s ≡ not t = cc in true≢false (sym p ∙ same ∙ ap not q)
-plain_apart (tree.And fs) (tree.And gs) p q e = cc
-plain_apart (tree.Same s x y) (tree.And gs) p q e = cc
-plain_apart (tree.And fs) (tree.Same t z w) p q e = cc
-plain_apart (tree.Or fs) g p q e = p
-plain_apart (tree.Same s x y) (tree.Or gs) p q e = q
-plain_apart (tree.And fs) (tree.Or gs) p q e = q
+plain_apart (logic.Literal s x xs) (logic.Literal t y ys) p q e = let same : s ≡ not t = cc in true≢false (sym p ∙ same ∙ ap not q)
+plain_apart (logic.Literal s x xs) (logic.And gs) p q e = cc
+plain_apart (logic.Literal s x xs) (logic.Forall rs g) p q e = cc
+plain_apart (logic.And fs) (logic.Literal t y ys) p q e = cc
+plain_apart (logic.And fs) (logic.And gs) p q e = cc
+plain_apart (logic.And fs) (logic.Forall rs g) p q e = cc
+plain_apart (logic.Forall ss f) (logic.Literal t y ys) p q e = cc
+plain_apart (logic.Forall ss f) (logic.And gs) p q e = cc
+plain_apart (logic.Forall ss f) (logic.Forall rs g) p q e = cc
+plain_apart (logic.Or fs) g p q e = p
+plain_apart (logic.Exists ss f) g p q e = p
+plain_apart (logic.Literal s x xs) (logic.Or gs) p q e = q
+plain_apart (logic.Literal s x xs) (logic.Exists rs g) p q e = q
+plain_apart (logic.And fs) (logic.Or gs) p q e = q
+plain_apart (logic.And fs) (logic.Exists rs g) p q e = q
+plain_apart (logic.Forall ss f) (logic.Or gs) p q e = q
+plain_apart (logic.Forall ss f) (logic.Exists rs g) p q e = q
 
 -- two numbers stand for two formulas, where those without sign do and are no negations
 module _ (look : ℕ → Formula) (b : ℕ) (apart : (i j : ℕ) → i < b → j < b → look i ≡ look j → i ≡ j) (fine : (i : ℕ) → i < b → IsPlain (look i)) where

@@ -1,125 +1,129 @@
--- What numbers stand for, for any kind of form.
-use Rattle.std.proofs.Common.{◌≡◌, ℕ, zero, suc, ◌+◌, ◌<◌, ◌≤◌, List, [], ◌∷◌, ◌++◌, length, Some, refl, sym, ◌∙◌, ap, subst, inl, inr, ◌⊎◌, ⊎_elim, arith, get_or, add-suc, add-zero, zero-add}
-use Rattle.std.proofs.lemmas.List.{get_or_append_left, get_or_at, length_push}
-use Rattle.std.proofs.lemmas.Option.{slice_get-get_or}
-use Rattle.std.proofs.lemmas.Bool.{cases_lt}
-use Rattle.std.specs.List.{slice_get}
-use Rattle.ss_terms.specs.Interned.{trees_from, tree_at, AreInterned}
+-- Forms are told apart by what they stand for, and stand for the same where their parts do.
+use Rattle.std.proofs.Common.{◌≡◌, ℕ, ◌*◌, ◌/◌, ◌%◌, ◌<◌, ◌≤◌, List, [], ◌∷◌, map, true, refl, ap, arith}
+use Rattle.ss_logic.specs.Terms as tree
+use Rattle.ss_logic.specs.Terms.{terms_from}
+use Rattle.ss_logic.specs.Formulas as logic
+use Rattle.ss_logic.specs.Formulas.{formulas_from}
+use Rattle.ss_terms_interned.proofs.Halves.{half_below}
+use Rattle.ss_terms.specs.declared.forms.TermId.{TermId}
+use Rattle.ss_terms.specs.declared.forms.FormulaId.{FormulaId}
+use Rattle.ss_terms.specs.Forms.{TermShape, BoundShape, AppShape, Shape, LiteralShape, AndShape, OrShape, ForallShape, ExistsShape, symbol_of, predicate_of, build_term, with_sign, signed, build_formula, AreTermsBelow, AreBelow, TermBelow, ShapeBelow, is_plain}
+use Rattle.ss_terms.specs.Bank.{IsPlain, PairBelow}
+use Rattle.ss_terms.proofs.Symbols.{symbols_differ, predicates_differ}
+use Rattle.ss_terms.proofs.Same.{term_id}
+use Rattle.ss_terms.proofs.Signs.{signed_apart}
 
-pub push_cases : {N : Type 0} (ns : List N) (n : N) (t : ℕ) → t < length (ns ++ n ∷ []) → (t < length ns) ⊎ (t ≡ length ns)
-push_cases ns n t h = let l = length_push ns n in ⊎_elim (λ a. inl a) (λ a. inr (omega arith)) (cases_lt t (length ns))
+-- ---- terms
 
-pub slice_get-push_cases : {N : Type 0} (ns : List N) (n m : N) (t : ℕ) → slice_get (ns ++ n ∷ []) t ≡ Some m → (slice_get ns t ≡ Some m) ⊎ ((t ≡ length ns) × (n ≡ m))
-slice_get-push_cases [] n m zero e = inr (refl, cc)
-slice_get-push_cases [] n m (suc t) e = cc
-slice_get-push_cases (x ∷ ns) n m zero e = inl e
-slice_get-push_cases (x ∷ ns) n m (suc t) e = ⊎_elim (λ a. inl a) (λ a. inr (ap suc a.0, a.1)) (slice_get-push_cases ns n m t e)
+pub arguments_same : (look look' : TermId → tree.Term) (b : ℕ) → ((t : TermId) → t.0 < b → look t ≡ look' t) → (ts : List TermId) → AreTermsBelow b ts →
+    terms_from (map look ts) ≡ terms_from (map look' ts)
+arguments_same look look' b h [] p = refl
+arguments_same look look' b h (t ∷ ts) p = let e = h t p.0 in let es = arguments_same look look' b h ts p.1 in cc
 
-module _ {N T : Type 0} (junk : T) (build : (ℕ → T) → N → T) where
-  length-trees_from : (ts : List T) (ns : List N) → length (trees_from junk build ts ns) ≡ length ts + length ns
-  length-trees_from ts [] = sym (add-zero (length ts))
-  length-trees_from ts (n ∷ ns) =
-      let e = length-trees_from (ts ++ build (λ t. get_or ts t junk) n ∷ []) ns in
-      let l = length_push ts (build (λ t. get_or ts t junk) n) in
-      omega arith
+pub term_same : (look look' : ℕ → tree.Term) (b : ℕ) → ((t : ℕ) → t < b → look t ≡ look' t) → (n : TermShape) → TermBelow b n → build_term look n ≡ build_term look' n
+term_same look look' b h (BoundShape k) p = refl
+term_same look look' b h (AppShape f ts) p = ap (tree.App (symbol_of f)) (arguments_same (λ t. look t.0) (λ t. look' t.0) b (λ t q. h t.0 q) ts p)
 
-  trees_from-kept : (ts : List T) (ns : List N) (t : ℕ) → t < length ts → get_or (trees_from junk build ts ns) t junk ≡ get_or ts t junk
-  trees_from-kept ts [] t h = refl
-  trees_from-kept ts (n ∷ ns) t h =
-      let x = build (λ t. get_or ts t junk) n in
-      let l = length_push ts x in
-      let h' : t < length (ts ++ x ∷ []) = omega arith in
-      trees_from-kept (ts ++ x ∷ []) ns t h' ∙ get_or_append_left ts (x ∷ []) junk t h
+pub AreTermsBelow-more : (i j : ℕ) → i ≤ j → (ts : List TermId) → AreTermsBelow i ts → AreTermsBelow j ts
+AreTermsBelow-more i j h [] p = tt
+AreTermsBelow-more i j h (t ∷ ts) p = (omega (arith, p.0), AreTermsBelow-more i j h ts p.1)
 
-  trees_from-push : (ts : List T) (ns : List N) (n : N) → trees_from junk build ts (ns ++ n ∷ []) ≡ trees_from junk build ts ns ++ build (λ t. get_or (trees_from junk build ts ns) t junk) n ∷ []
-  trees_from-push ts [] n = refl
-  trees_from-push ts (m ∷ ns) n = trees_from-push (ts ++ build (λ t. get_or ts t junk) m ∷ []) ns n
+pub term_upward : (i j : ℕ) → i ≤ j → (n : TermShape) → TermBelow i n → TermBelow j n
+term_upward i j h (BoundShape k) p = tt
+term_upward i j h (AppShape f ts) p = AreTermsBelow-more i j h ts p
 
-  pub tree_at-push_old : (ns : List N) (n : N) (t : ℕ) → t < length ns → tree_at junk build (ns ++ n ∷ []) t ≡ tree_at junk build ns t
-  unfolding tree_at
-  tree_at-push_old ns n t h =
-      let l = length-trees_from [] ns in
-      let h' : t < length (trees_from junk build [] ns) = omega arith in
-      rw trees_from-push (get_or_append_left (trees_from junk build [] ns) _ junk t h')
+pub arguments_equal : (look : TermId → tree.Term) (b : ℕ) → ((x y : TermId) → x.0 < b → y.0 < b → look x ≡ look y → x ≡ y) → (ts us : List TermId) →
+    AreTermsBelow b ts → AreTermsBelow b us → terms_from (map look ts) ≡ terms_from (map look us) → ts ≡ us
+arguments_equal look b apart [] [] p q e = refl
+arguments_equal look b apart [] (u ∷ us) p q e = cc
+arguments_equal look b apart (t ∷ ts) [] p q e = cc
+arguments_equal look b apart (t ∷ ts) (u ∷ us) p q e =
+    let first : look t ≡ look u = cc in
+    let others : terms_from (map look ts) ≡ terms_from (map look us) = cc in
+    let same = apart t u p.0 q.0 first in
+    let sames = arguments_equal look b apart ts us p.1 q.1 others in cc
 
-  pub tree_at-push_new : (ns : List N) (n : N) → tree_at junk build (ns ++ n ∷ []) (length ns) ≡ build (tree_at junk build ns) n
-  unfolding tree_at
-  tree_at-push_new ns n =
-      let l : length (trees_from junk build [] ns) ≡ length ns = omega (arith, length-trees_from [] ns) in
-      rw trees_from-push (get_or_at (trees_from junk build [] ns) _ [] junk (length ns) l)
+pub term_equal : (look : ℕ → tree.Term) (b : ℕ) → ((i j : ℕ) → i < b → j < b → look i ≡ look j → i ≡ j) → (n m : TermShape) → TermBelow b n → TermBelow b m →
+    build_term look n ≡ build_term look m → n ≡ m
+term_equal look b apart (BoundShape k) (BoundShape j) p q e = let same : k ≡ j = cc in cc
+term_equal look b apart (BoundShape k) (AppShape g us) p q e = cc
+term_equal look b apart (AppShape f ts) (BoundShape j) p q e = cc
+term_equal look b apart (AppShape f ts) (AppShape g us) p q e =
+    let function : symbol_of f ≡ symbol_of g = cc in
+    let arguments : terms_from (map (λ t. look t.0) ts) ≡ terms_from (map (λ t. look t.0) us) = cc in
+    let same = symbols_differ f g function in
+    let sames = arguments_equal (λ t. look t.0) b (λ x y hx hy s. term_id x y (apart x.0 y.0 hx hy s)) ts us p q arguments in cc
 
-  module _ (Below : ℕ → N → Type 0) (Fine : T → Type 0)
-      (same : (look look' : ℕ → T) (b : ℕ) → ((t : ℕ) → t < b → look t ≡ look' t) → (n : N) → Below b n → build look n ≡ build look' n) where
-    trees_from-built : (ts : List T) (ns : List N) (k : ℕ) (n : N) → slice_get ns k ≡ Some n → Below (length ts + k) n →
-        get_or (trees_from junk build ts ns) (length ts + k) junk ≡ build (λ t. get_or (trees_from junk build ts ns) t junk) n
-    trees_from-built ts [] k n e p = cc
-    trees_from-built ts (m ∷ ns) zero n e p =
-        let is_n : m ≡ n = cc in
-        let x = build (λ t. get_or ts t junk) m in
-        let l = length_push ts x in
-        let here : length ts + 0 < length (ts ++ x ∷ []) = omega arith in
-        let p' : Below (length ts) n = rw add-zero at p in
-        trees_from-kept (ts ++ x ∷ []) ns (length ts + 0) here
-        ∙ get_or_at ts x [] junk (length ts + 0) (sym (add-zero (length ts)))
-        ∙ ap (build (λ t. get_or ts t junk)) is_n
-        ∙ same (λ t. get_or ts t junk) (λ t. get_or (trees_from junk build (ts ++ x ∷ []) ns) t junk) (length ts) (λ t h. sym (trees_from-kept ts (m ∷ ns) t h)) n p'
-    trees_from-built ts (m ∷ ns) (suc k) n e p =
-        let x = build (λ t. get_or ts t junk) m in
-        let l = length_push ts x in
-        let sum : length (ts ++ x ∷ []) + k ≡ length ts + suc k = omega (arith, add-suc (length ts) k) in
-        let p' : Below (length (ts ++ x ∷ []) + k) n = rw sum p in
-        rw (← sum) (trees_from-built (ts ++ x ∷ []) ns k n e p')
+-- ---- formulas
 
-    pub tree_at-built : (ns : List N) → AreInterned junk build Below Fine ns → (t : ℕ) (n : N) → slice_get ns t ≡ Some n → tree_at junk build ns t ≡ build (tree_at junk build ns) n
-    unfolding tree_at
-    tree_at-built ns a t n e =
-        let p : Below (0 + t) n = rw zero-add (a.below t n e) in
-        let q = trees_from-built [] ns t n e p in
-        rw zero-add at q
+signed_same : (look look' : ℕ → logic.Formula) (b : ℕ) → ((t : ℕ) → t < b → look t ≡ look' t) → (f : FormulaId) → f.0 < b * 2 → signed look f ≡ signed look' f
+signed_same look look' b h f p = ap (with_sign (f.0 % 2)) (h (f.0 / 2) (half_below f.0 b p))
 
-    module _ (equal : (look : ℕ → T) (b : ℕ) → ((i j : ℕ) → i < b → j < b → look i ≡ look j → i ≡ j) → ((i : ℕ) → i < b → Fine (look i)) → (n n' : N) → Below b n → Below b n' → build look n ≡ build look n' → n ≡ n')
-        (upward : (i j : ℕ) → i ≤ j → (n : N) → Below i n → Below j n) where
-      -- a new form has a new tree
-      new_apart : (ns : List N) → AreInterned junk build Below Fine ns → (n : N) → Below (length ns) n → ((k : ℕ) → slice_get ns k ≡ Some n → ⊥) →
-          (i : ℕ) → i < length ns → tree_at junk build ns i ≡ build (tree_at junk build ns) n → ⊥
-      new_apart ns a n p absent i h e =
-          let there : slice_get ns i ≡ Some (get_or ns i n) = slice_get-get_or ns i n h in
-          let m = get_or ns i n in
-          let b = tree_at-built ns a i m there in
-          let small : Below (length ns) m = upward i (length ns) (omega arith) m (a.below i m there) in
-          absent i (there ∙ ap Some (equal (tree_at junk build ns) (length ns) a.apart a.fine m n small p (sym b ∙ e)))
+formulas_same : (look look' : ℕ → logic.Formula) (b : ℕ) → ((t : ℕ) → t < b → look t ≡ look' t) → (fs : List FormulaId) → AreBelow (b * 2) fs →
+    formulas_from (map (signed look) fs) ≡ formulas_from (map (signed look') fs)
+formulas_same look look' b h [] p = refl
+formulas_same look look' b h (f ∷ fs) p = let e = signed_same look look' b h f p.0 in let es = formulas_same look look' b h fs p.1 in cc
 
-      pub AreInterned-push : (ns : List N) → AreInterned junk build Below Fine ns → (n : N) → Below (length ns) n → Fine (build (tree_at junk build ns) n) → ((k : ℕ) → slice_get ns k ≡ Some n → ⊥) → AreInterned junk build Below Fine (ns ++ n ∷ [])
-      AreInterned-push ns a n p good absent = record {
-        below = λ t m e. ⊎_elim (λ old. a.below t m old) (λ new. subst (λ i. Below i m) (sym new.0) (subst (λ x. Below (length ns) x) new.1 p)) (slice_get-push_cases ns n m t e);
-        fine = λ t h. ⊎_elim
-            (λ old. subst Fine (sym (tree_at-push_old ns n t old)) (a.fine t old))
-            (λ new. subst Fine (sym (at_new t new)) good)
-            (push_cases ns n t h);
-        apart = λ i j hi hj e. ⊎_elim
-            (λ oi. ⊎_elim
-            (λ oj. a.apart i j oi oj (sym (tree_at-push_old ns n i oi) ∙ e ∙ tree_at-push_old ns n j oj))
-            (λ nj. absurd (new_apart ns a n p absent i oi (sym (tree_at-push_old ns n i oi) ∙ e ∙ at_new j nj)))
-            (push_cases ns n j hj))
-            (λ ni. ⊎_elim
-            (λ oj. absurd (new_apart ns a n p absent j oj (sym (tree_at-push_old ns n j oj) ∙ sym e ∙ at_new i ni)))
-            (λ nj. ni ∙ sym nj)
-            (push_cases ns n j hj))
-            (push_cases ns n i hi);
-      }
-        where
-          at_new : (j : ℕ) → j ≡ length ns → tree_at junk build (ns ++ n ∷ []) j ≡ build (tree_at junk build ns) n
-          at_new j e = ap (tree_at junk build (ns ++ n ∷ [])) e ∙ tree_at-push_new ns n
+pub AreBelow-more : (i j : ℕ) → i ≤ j → (fs : List FormulaId) → AreBelow i fs → AreBelow j fs
+AreBelow-more i j h [] p = tt
+AreBelow-more i j h (f ∷ fs) p = (omega (arith, p.0), AreBelow-more i j h fs p.1)
 
--- builds that agree on the forms make the same trees
-trees_from-same : {N T : Type 0} (junk : T) (build build' : (ℕ → T) → N → T) (ts : List T) (ns : List N) →
-    ((look : ℕ → T) (k : ℕ) (n : N) → slice_get ns k ≡ Some n → build look n ≡ build' look n) → trees_from junk build ts ns ≡ trees_from junk build' ts ns
-trees_from-same junk build build' ts [] h = refl
-trees_from-same junk build build' ts (n ∷ ns) h =
-    trees_from-same junk build build' (ts ++ build (λ t. get_or ts t junk) n ∷ []) ns (λ look k m e. h look (suc k) m e)
-    ∙ ap (λ x. trees_from junk build' (ts ++ x ∷ []) ns) (h (λ t. get_or ts t junk) 0 n refl)
+pub shape_upward : (terms i j : ℕ) → i ≤ j → (n : Shape) → ShapeBelow terms i n → ShapeBelow terms j n
+shape_upward terms i j h (LiteralShape s p ts) b = b
+shape_upward terms i j h (AndShape fs) b = AreBelow-more i j h fs b
+shape_upward terms i j h (OrShape fs) b = AreBelow-more i j h fs b
+shape_upward terms i j h (ForallShape ss f) b = omega (arith, b)
+shape_upward terms i j h (ExistsShape ss f) b = omega (arith, b)
 
-pub tree_at-same : {N T : Type 0} (junk : T) (build build' : (ℕ → T) → N → T) (ns : List N) →
-    ((look : ℕ → T) (k : ℕ) (n : N) → slice_get ns k ≡ Some n → build look n ≡ build' look n) → (t : ℕ) → tree_at junk build ns t ≡ tree_at junk build' ns t
-unfolding tree_at
-tree_at-same junk build build' ns h t = ap (λ ts. get_or ts t junk) (trees_from-same junk build build' [] ns h)
+module _ (terms : TermId → tree.Term) (count : ℕ) where
+  pub form_same : (look look' : ℕ → logic.Formula) (b : ℕ) → ((t : ℕ) → t < b → look t ≡ look' t) → (n : Shape) → PairBelow count b n → build_formula terms look n ≡ build_formula terms look' n
+  form_same look look' b h (LiteralShape s x ts) p = refl
+  form_same look look' b h (AndShape fs) p = ap logic.And (formulas_same look look' b h fs p)
+  form_same look look' b h (OrShape fs) p = ap logic.Or (formulas_same look look' b h fs p)
+  form_same look look' b h (ForallShape ss f) p = ap (logic.Forall ss) (signed_same look look' b h f p)
+  form_same look look' b h (ExistsShape ss f) p = ap (logic.Exists ss) (signed_same look look' b h f p)
+
+  pub form_upward : (i j : ℕ) → i ≤ j → (n : Shape) → PairBelow count i n → PairBelow count j n
+  form_upward i j h n p = shape_upward count (i * 2) (j * 2) (omega arith) n p
+
+  module _ (apart : (x y : TermId) → x.0 < count → y.0 < count → terms x ≡ terms y → x ≡ y) where
+    module _ (look : ℕ → logic.Formula) (b : ℕ) (look_apart : (i j : ℕ) → i < b → j < b → look i ≡ look j → i ≡ j) (fine : (i : ℕ) → i < b → IsPlain (look i)) where
+      formulas_equal : (fs gs : List FormulaId) → AreBelow (b * 2) fs → AreBelow (b * 2) gs → formulas_from (map (signed look) fs) ≡ formulas_from (map (signed look) gs) → fs ≡ gs
+      formulas_equal [] [] p q e = refl
+      formulas_equal [] (g ∷ gs) p q e = cc
+      formulas_equal (f ∷ fs) [] p q e = cc
+      formulas_equal (f ∷ fs) (g ∷ gs) p q e =
+          let first : signed look f ≡ signed look g = cc in
+          let others : formulas_from (map (signed look) fs) ≡ formulas_from (map (signed look) gs) = cc in
+          let same = signed_apart look b look_apart fine f g p.0 q.0 first in
+          let sames = formulas_equal fs gs p.1 q.1 others in cc
+
+      pub form_equal : (n m : Shape) → PairBelow count b n → PairBelow count b m → build_formula terms look n ≡ build_formula terms look m → n ≡ m
+      form_equal (LiteralShape s x ts) (LiteralShape t y us) p q e =
+          let sign : s ≡ t = cc in
+          let said : predicate_of x ≡ predicate_of y = cc in
+          let arguments : terms_from (map terms ts) ≡ terms_from (map terms us) = cc in
+          let same = predicates_differ x y said in
+          let sames = arguments_equal terms count apart ts us p q arguments in cc
+      form_equal (AndShape fs) (AndShape gs) p q e =
+          let es : formulas_from (map (signed look) fs) ≡ formulas_from (map (signed look) gs) = cc in
+          let same = formulas_equal fs gs p q es in cc
+      form_equal (OrShape fs) (OrShape gs) p q e =
+          let es : formulas_from (map (signed look) fs) ≡ formulas_from (map (signed look) gs) = cc in
+          let same = formulas_equal fs gs p q es in cc
+      form_equal (ForallShape ss f) (ForallShape rs g) p q e =
+          let sorts : ss ≡ rs = cc in
+          let body : signed look f ≡ signed look g = cc in
+          let same = signed_apart look b look_apart fine f g p q body in cc
+      form_equal (ExistsShape ss f) (ExistsShape rs g) p q e =
+          let sorts : ss ≡ rs = cc in
+          let body : signed look f ≡ signed look g = cc in
+          let same = signed_apart look b look_apart fine f g p q body in cc
+      form_equal _ _ p q e = cc
+
+pub plain_formula : (terms : TermId → tree.Term) (look : ℕ → logic.Formula) (n : Shape) → is_plain n ≡ true → IsPlain (build_formula terms look n)
+plain_formula terms look (LiteralShape s x ts) h = h
+plain_formula terms look (AndShape fs) h = tt
+plain_formula terms look (OrShape fs) h = cc
+plain_formula terms look (ForallShape ss f) h = tt
+plain_formula terms look (ExistsShape ss f) h = cc

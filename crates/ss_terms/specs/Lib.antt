@@ -1,4 +1,3 @@
-pub mod Interned
 pub mod Forms
 pub mod Bank
-pub mod Lines
+pub mod Apart

@@ -1,54 +1,70 @@
 // Terms and formulas, each with one number.
 
-ghost use Rattle.std.specs.Prelude.{◌≡◌, ℕ, ◌+◌, ◌*◌, ◌/◌, ◌%◌, ◌-◌, ◌<◌, ◌≤◌, List, [], length, map, IfOk, IfSome, true, IsTrue, ◌↔◌};
-ghost use Rattle.ss_logic.specs.Logic.{neg, well_sorted, sort_of, formulas_from, all_well_sorted};
+ghost use Rattle.std.specs.Prelude.{◌≡◌, ℕ, ◌*◌, ◌<◌, ◌^◌, List, [], length, map, IfOk, true, IsTrue, ◌↔◌, ◌&&◌};
+ghost use Rattle.ss_core.specs.Tree.{ClassTree};
+ghost use Rattle.ss_logic.specs.Terms as tree;
+ghost use Rattle.ss_logic.specs.Terms.{terms_from};
+ghost use Rattle.ss_logic.specs.Formulas as logic;
+ghost use Rattle.ss_logic.specs.Formulas.{neg, formulas_from};
 ghost use Rattle.ss_logic.specs.Equal.{same_term, same_formula};
-ghost use Rattle.ss_terms.specs.Forms.{Forms, shape_of, term_of, term_at, formula_of, formula_at, pair_at, HasTerm, HasFormula, HasFormulas, HasParts, IsTermForm, IsFormulaForm, IsGrown, opposite_shape, other, is_plain};
+ghost use Rattle.ss_terms.specs.Forms.{Forms, LiteralShape, term_shape, shape_of, term_of, term_at, terms_at, formula_of, formula_at, pair_at, HasTerm, HasTerms, HasFormula, HasFormulas, HasArguments, HasParts, IsTermForm, IsFormulaForm, IsGrown, IsBankOf, opposite_shape, other, is_plain};
+ghost use Rattle.ss_terms.specs.Bank.{IsBesideTerm};
+ghost use Rattle.ss_terms.specs.Apart.{AreApart};
 
-use crate::forms::{Formula, FormulaId, Term, TermId};
+use crate::forms::{Formula, FormulaId, Predicate, Term, TermId};
 use crate::index::{add_formula, add_term, place_of_formula, place_of_term};
-use indexmap::{IndexMap, IndexSet};
+use crate::sorts::{result_sort, same_sort};
+use indexmap::IndexMap;
 use ss_logic::Sort;
 use std::alloc::{AllocError, Global};
 use std::marker::Model;
 
-/// What stands beside a formula: the form of its negation, and whether both are well sorted.
-#[derive(Drop)]
-pub(crate) struct Beside {
-    pub(crate) negation: Formula,
+/// What stands beside a term: its sort, and whether it is well sorted and has no bound name.
+#[derive(Clone, Copy, Drop)]
+pub(crate) struct BesideTerm {
+    pub(crate) sort: Sort,
     pub(crate) is_well_sorted: bool,
 }
 
-/// Terms and formulas with numbers. Equal ones have equal numbers, a number keeps what it stands for, and each formula
-/// stands with its negation. No call takes longer in a larger bank.
+/// What stands beside a formula: the form of its negation, and whether both are well formed and no name in them is unbound.
+#[derive(Drop)]
+pub(crate) struct Beside {
+    pub(crate) negation: Formula,
+    pub(crate) is_well_formed: bool,
+}
+
+/// Terms and formulas with numbers, over the fields of a program. Equal ones have equal numbers, a number keeps what it
+/// stands for, and each formula stands with its negation. No call takes longer in a larger bank.
 #[derive(Drop)]
 pub struct Bank {
     alloc: Global,
-    terms: IndexSet<Term>,
+    fields: Vec<Sort>,
+    terms: IndexMap<Term, BesideTerm>,
     formulas: IndexMap<Formula, Beside>,
 }
 
 impl Model for Bank {
     ghost use Rattle.std.specs.Prelude.{map};
     ghost use Rattle.indexmap.specs.IndexMap.{keys};
-    ghost use Rattle.ss_terms.specs.Forms.{Forms, shape_of};
+    ghost use Rattle.ss_terms.specs.Forms.{Forms, term_shape, shape_of};
     ghost use Rattle.ss_terms.specs.Bank.{IsBank};
 
     ghost Value = { Forms };
 
-    ghost view = { λ b. record { terms = b.terms.keys; formulas = map shape_of (keys b.formulas) } };
+    ghost view = { λ b. record { fields = b.fields.items; terms = map term_shape (keys b.terms); formulas = map shape_of (keys b.formulas) } };
 
-    ghost invariant = { λ b. IsBank b.terms.keys b.formulas.entries };
+    ghost invariant = { λ b. IsBank b.fields.items b.terms.entries b.formulas.entries };
 }
 
 impl Bank {
-    /// A bank with no term and no formula.
-    pub fn new(alloc: Global) -> Self
-        ensures { result ≡ record { terms = []; formulas = [] } }
+    /// A bank with no term and no formula, over a program whose fields have these sorts.
+    pub fn new(alloc: Global, fields: Vec<Sort>) -> Self
+        ensures { result ≡ record { fields = fields.items; terms = []; formulas = [] } }
     {
         Bank {
             alloc,
-            terms: IndexSet::new(alloc),
+            fields,
+            terms: IndexMap::new(alloc),
             formulas: IndexMap::new(alloc),
         }
     }
@@ -82,11 +98,12 @@ impl Bank {
     }
 
     /// The form of a term.
-    pub fn term_node(&self, t: TermId) -> Term
+    pub fn term_node(&self, t: TermId) -> &Term
         requires { HasTerm self.now t }
-        ensures { IsTermForm self.now t result }
+        ensures { IsTermForm self.now t result.now }
     {
-        self.terms[t.0]
+        let (form, _beside) = self.terms.get_index(t.0).unwrap();
+        form
     }
 
     /// The form of a formula.
@@ -112,26 +129,6 @@ impl Bank {
         opposite(f)
     }
 
-    /// Whether both sides of each equality in a formula have one sort.
-    pub fn is_well_sorted(&self, f: FormulaId) -> bool
-        requires { HasFormula self.now f }
-        ensures { result ≡ well_sorted (formula_at self.now f) }
-    {
-        self.formulas[f.0 / 2].is_well_sorted
-    }
-
-    /// The sort of a term.
-    pub fn sort(&self, t: TermId) -> Sort
-        requires { HasTerm self.now t }
-        ensures { result ≡ sort_of (term_at self.now t) }
-    {
-        match self.term_node(t) {
-            Term::Number(_) => Sort::Whole,
-            Term::Truth(_) => Sort::Truth,
-            Term::Constant(sort, _) => sort,
-        }
-    }
-
     /// Whether two numbers stand for one term.
     pub fn is_same_term(&self, x: TermId, y: TermId) -> bool
         requires left { HasTerm self.now x }
@@ -152,17 +149,121 @@ impl Bank {
         x.0 == y.0
     }
 
+    /// Equal terms have equal numbers, and so have equal formulas.
+    pub fn numbers_are_apart(&self)
+        ensures { AreApart self.now }
+    {
+        let _terms = &self.terms;
+    }
+
+    // What stands beside a term.
+    fn beside_term(&self, t: TermId) -> BesideTerm
+        requires { HasTerm self.now t }
+        ensures { IsBesideTerm self.now (term_at self.now t) result }
+    {
+        self.terms[t.0]
+    }
+
+    /// The sort of a term, where no bound name has one.
+    pub fn sort(&self, t: TermId) -> Sort
+        requires { HasTerm self.now t }
+        ensures { (cs : List ClassTree) → IsBankOf cs self.now → result ≡ tree.sort_of cs [] (term_at self.now t) }
+    {
+        self.beside_term(t).sort
+    }
+
+    /// Whether each function in a term takes its arguments, and no name in it is unbound.
+    pub fn is_well_sorted(&self, t: TermId) -> bool
+        requires { HasTerm self.now t }
+        ensures { (cs : List ClassTree) → IsBankOf cs self.now → result ≡ tree.is_well_sorted cs [] (term_at self.now t) }
+    {
+        self.beside_term(t).is_well_sorted
+    }
+
+    /// Whether each part of a formula has the sort that its place asks for, and no name in it is unbound.
+    pub fn is_well_formed(&self, f: FormulaId) -> bool
+        requires { HasFormula self.now f }
+        ensures { (cs : List ClassTree) → IsBankOf cs self.now → result ≡ logic.is_well_formed cs [] (formula_at self.now f) }
+    {
+        self.formulas[f.0 / 2].is_well_formed
+    }
+
+    /// Whether the terms have these sorts, one by one, are well sorted, and have no unbound name.
+    pub fn have_sorts(&self, sorts: &[Sort], ts: &[TermId]) -> bool
+        requires { HasTerms self.now ts.now }
+        ensures { (cs : List ClassTree) → IsBankOf cs self.now → result ≡ tree.have_sorts cs sorts.now (terms_at self.now ts.now) }
+    {
+        match sorts {
+            [] => match ts {
+                [] => true,
+                [_, ..] => false,
+            },
+            [sort, sorts @ ..] => match ts {
+                [] => false,
+                [t, ts @ ..] => self.has_sort(*t, *sort) && self.have_sorts(sorts, ts),
+            },
+        }
+    }
+
+    // Whether the term is well sorted, of this sort.
+    fn has_sort(&self, t: TermId, sort: Sort) -> bool
+        requires { HasTerm self.now t }
+        ensures { (cs : List ClassTree) → IsBankOf cs self.now → result ≡ (tree.same_sort (tree.sort_of cs [] (term_at self.now t)) sort && tree.is_well_sorted cs [] (term_at self.now t)) }
+    {
+        let beside = self.beside_term(t);
+        same_sort(beside.sort, sort) && beside.is_well_sorted
+    }
+
+    // The sorts of the program's fields.
+    pub(crate) fn fields(&self) -> &[Sort]
+        ensures { result.now ≡ self.now.fields }
+    {
+        &self.fields
+    }
+
+    // The allocator.
+    pub(crate) fn allocator(&self) -> Global {
+        self.alloc
+    }
+
     /// The number of the term with this form, which is added where it is new. An error is want of memory; what the bank had
     /// before stays.
     pub fn term(&mut self, node: Term) -> Result<TermId, AllocError>
-        ensures at { IfOk result (λ t. HasTerm self.new t × (term_at self.new t ≡ term_of (term_at self.old) node)) }
+        requires { HasArguments self.old (term_shape node) }
+        ensures at { IfOk result (λ t. HasTerm self.new t × (term_at self.new t ≡ term_of (term_at self.old) (term_shape node))) }
         ensures grown { IsGrown self.old self.new }
     {
-        if let Some(number) = place_of_term(&self.terms, node) {
+        if let Some(number) = place_of_term(&self.terms, &node) {
             return Ok(TermId(number));
         }
-        let number = add_term(&mut self.terms, node)?;
+        let beside = self.beside_form(&node)?;
+        let number = add_term(&mut self.terms, node, beside)?;
         Ok(TermId(number))
+    }
+
+    // What stands beside the term of a form.
+    fn beside_form(&self, node: &Term) -> Result<BesideTerm, AllocError>
+        requires { HasArguments self.now (term_shape node.now) }
+        ensures { IfOk result (λ e. IsBesideTerm self.now (term_of (term_at self.now) (term_shape node.now)) e) }
+    {
+        match node {
+            Term::Bound(_) => Ok(BesideTerm {
+                sort: Sort::Rest,
+                is_well_sorted: false,
+            }),
+            Term::App(symbol, arguments) => {
+                let is_well_sorted = self.is_applied_under(
+                    &[],
+                    *symbol,
+                    arguments,
+                    self.term_count(),
+                )?;
+                Ok(BesideTerm {
+                    sort: result_sort(self.fields(), *symbol),
+                    is_well_sorted,
+                })
+            }
+        }
     }
 
     /// The number of the formula with this form, which is added where it is new, together with its negation. An error is
@@ -173,7 +274,11 @@ impl Bank {
         ensures grown { IsGrown self.old self.new }
     {
         match node {
-            Formula::Equal { holds, left, right } => self.equality(holds, left, right),
+            Formula::Literal {
+                holds,
+                predicate,
+                arguments,
+            } => self.literal(holds, predicate, arguments),
             Formula::And(parts) => {
                 let others = opposites(self.alloc, &parts)?;
                 let number = self.pair(Formula::And(parts), Formula::Or(others))?;
@@ -184,30 +289,46 @@ impl Bank {
                 let number = self.pair(Formula::And(others), Formula::Or(parts))?;
                 Ok(FormulaId(number * 2 + 1))
             }
+            Formula::Forall(sorts, body) => {
+                let same = Vec::from_slice(self.alloc, &sorts)?;
+                let number = self.pair(
+                    Formula::Forall(sorts, body),
+                    Formula::Exists(same, opposite(body)),
+                )?;
+                Ok(FormulaId(number * 2))
+            }
+            Formula::Exists(sorts, body) => {
+                let same = Vec::from_slice(self.alloc, &sorts)?;
+                let number = self.pair(
+                    Formula::Forall(same, opposite(body)),
+                    Formula::Exists(sorts, body),
+                )?;
+                Ok(FormulaId(number * 2 + 1))
+            }
         }
     }
 
-    // The number of an equality, or of its negation.
-    fn equality(
+    // The number of an atom, or of its negation.
+    fn literal(
         &mut self,
         holds: bool,
-        left: TermId,
-        right: TermId,
+        predicate: Predicate,
+        arguments: Vec<TermId>,
     ) -> Result<FormulaId, AllocError>
-        requires left { HasTerm self.old left }
-        requires right { HasTerm self.old right }
-        ensures at { IfOk result (λ f. HasFormula self.new f × (formula_at self.new f ≡ formula_of (term_at self.old) (formula_at self.old) (EqualShape holds left right))) }
+        requires { HasTerms self.old arguments.items }
+        ensures at { IfOk result (λ f. HasFormula self.new f × (formula_at self.new f ≡ formula_of (term_at self.old) (formula_at self.old) (LiteralShape holds predicate arguments.items))) }
         ensures grown { IsGrown self.old self.new }
     {
-        let plain = Formula::Equal {
+        let same = Vec::from_slice(self.alloc, &arguments)?;
+        let plain = Formula::Literal {
             holds: true,
-            left,
-            right,
+            predicate,
+            arguments,
         };
-        let negation = Formula::Equal {
+        let negation = Formula::Literal {
             holds: false,
-            left,
-            right,
+            predicate,
+            arguments: same,
         };
         let number = self.pair(plain, negation)?;
         if holds {
@@ -230,41 +351,15 @@ impl Bank {
         if let Some(number) = place_of_formula(&self.formulas, &plain) {
             return Ok(number);
         }
-        let is_well_sorted = self.is_form_sorted(&plain);
+        let is_well_formed = self.is_form_under(&[], &plain, self.formula_count())?;
         let beside = Beside {
             negation,
-            is_well_sorted,
+            is_well_formed,
         };
         let number = add_formula(&mut self.formulas, plain, beside)?;
         Ok(number)
     }
-
-    // Whether the formula of a form is well sorted.
-    fn is_form_sorted(&self, form: &Formula) -> bool
-        requires { HasParts self.now (shape_of form.now) }
-        ensures { result ≡ well_sorted (formula_of (term_at self.now) (formula_at self.now) (shape_of form.now)) }
-    {
-        match form {
-            Formula::Equal { left, right, .. } => self.sort(*left) == self.sort(*right),
-            Formula::And(parts) => self.are_well_sorted(parts),
-            Formula::Or(parts) => self.are_well_sorted(parts),
-        }
-    }
-
-    fn are_well_sorted(&self, parts: &[FormulaId]) -> bool
-        requires { HasFormulas self.now parts.now }
-        ensures { result ≡ all_well_sorted (formulas_from (map (formula_at self.now) parts.now)) }
-    {
-        for part in parts {
-            if !self.is_well_sorted(*part) {
-                return false;
-            }
-        }
-        true
-    }
 }
-
-ghost use Rattle.ss_terms.specs.Forms.{EqualShape};
 
 // The number beside.
 fn opposite(f: FormulaId) -> FormulaId
@@ -283,6 +378,3 @@ fn opposites(alloc: Global, fs: &[FormulaId]) -> Result<Vec<FormulaId>, AllocErr
     }
     Ok(others)
 }
-
-ghost use Rattle.std.specs.Prelude.{◌^◌};
-ghost use Rattle.ss_terms.specs.Forms.{AreBelow};

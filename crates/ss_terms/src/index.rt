@@ -2,28 +2,32 @@
 
 ghost use Rattle.std.specs.Prelude.{◌≡◌, ℕ, ◌<◌, ◌^◌, ◌≢◌, ◌∷◌, ◌++◌, [], Some, None, length, map, slice_get, IfOk, IfSome, OnOk, OnErr};
 ghost use Rattle.indexmap.specs.IndexMap.{keys};
-ghost use Rattle.ss_terms.specs.Forms.{shape_of};
+ghost use Rattle.ss_terms.specs.Forms.{shape_of, term_shape};
 
-use crate::bank::Beside;
+use crate::bank::{Beside, BesideTerm};
 use crate::forms::{Formula, Term};
-use indexmap::{IndexMap, IndexSet};
+use indexmap::IndexMap;
 use std::alloc::AllocError;
 
-pub(crate) fn place_of_term(terms: &IndexSet<Term>, term: Term) -> Option<usize>
-    ensures found { IfSome result (λ k. slice_get terms.now.keys k ≡ Some term) }
-    ensures absent { result ≡ None → (k : ℕ) → slice_get terms.now.keys k ≢ Some term }
+pub(crate) fn place_of_term(terms: &IndexMap<Term, BesideTerm>, term: &Term) -> Option<usize>
+    ensures found { IfSome result (λ k. slice_get (map term_shape (keys terms.now)) k ≡ Some (term_shape term.now)) }
+    ensures absent { result ≡ None → (k : ℕ) → slice_get (map term_shape (keys terms.now)) k ≢ Some (term_shape term.now) }
 {
-    terms.get_index_of(&term)
+    terms.get_index_of(term)
 }
 
-pub(crate) fn add_term(terms: &mut IndexSet<Term>, term: Term) -> Result<usize, AllocError>
-    requires { (k : ℕ) → slice_get terms.old.keys k ≢ Some term }
-    ensures number { IfOk result (λ k. k ≡ length terms.old.keys) }
-    ensures added { OnOk result (terms.new.keys ≡ terms.old.keys ++ term ∷ []) }
-    ensures same { OnErr result (terms.new.keys ≡ terms.old.keys) }
+pub(crate) fn add_term(
+    terms: &mut IndexMap<Term, BesideTerm>,
+    term: Term,
+    beside: BesideTerm,
+) -> Result<usize, AllocError>
+    requires { (k : ℕ) → slice_get (map term_shape (keys terms.old)) k ≢ Some (term_shape term) }
+    ensures number { IfOk result (λ k. k ≡ length terms.old.entries) }
+    ensures added { OnOk result (terms.new.entries ≡ terms.old.entries ++ (term, beside) ∷ []) }
+    ensures same { OnErr result (terms.new.entries ≡ terms.old.entries) }
 {
     let number = terms.len();
-    terms.insert(term)?;
+    terms.insert(term, beside)?;
     Ok(number)
 }
 

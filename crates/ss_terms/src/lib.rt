@@ -1,11 +1,13 @@
-//! A bank of terms and formulas, in which equal ones have one number, and derivations over the numbers of a bank.
+//! A bank of terms and formulas over stores of objects, in which equal ones have one number.
 #![tactic(auto)]
 
 mod bank;
-mod derivation;
+mod formed;
 mod forms;
 mod index;
+mod makers;
+mod sorts;
 
 pub use bank::Bank;
-pub use derivation::{Derivation, Line};
-pub use forms::{Formula, FormulaId, Term, TermId};
+pub use forms::{Formula, FormulaId, Predicate, Symbol, Term, TermId};
+pub use sorts::field_sorts;

@@ -3,18 +3,18 @@ use Rattle.std.proofs.Common.{◌≡◌, ℕ, ◌*◌, ◌<◌, ◌≤◌, List,
 use Rattle.std.specs.List.{list_all}
 use Rattle.std.proofs.lemmas.List.{length_push, get_or_push, get_or_append_left}
 use Rattle.std.proofs.lemmas.Bool.{cases_eq}
-use Rattle.ss_logic_stores.specs.declared.Sort.{Sort}
-use Rattle.ss_logic_stores.specs.Terms.{Constant, App, terms_from}
-use Rattle.ss_logic_stores.specs.Formulas.{formulas_from, is_constant, term_avoids, terms_avoid, avoids, all_avoid}
-use Rattle.ss_terms_stores.specs.declared.forms.TermId.{TermId}
-use Rattle.ss_terms_stores.specs.declared.forms.FormulaId.{FormulaId}
-use Rattle.ss_terms_stores.specs.declared.forms.Symbol.{Symbol}
-use Rattle.ss_terms_stores.specs.declared.forms.Predicate.{Predicate}
-use Rattle.ss_terms_stores.specs.declared.forms.Term.TheVariants.{App as AppForm}
-use Rattle.ss_terms_stores.specs.declared.forms.Formula.TheVariants.{Literal as LiteralForm, And as AndForm, Or as OrForm, Forall as ForallForm, Exists as ExistsForm}
-use Rattle.ss_terms_stores.specs.Forms.{Forms, symbol_of, term_at, terms_at, formula_at, formulas_at, IsTermForm, IsFormulaForm, AreTermsBelow, AreBelow, HasTerms, HasFormulas}
-use Rattle.ss_terms_stores.proofs.Trees.{AreTermsBelow-more, AreBelow-more}
-use Rattle.ss_terms_stores.proofs.Same.{term_id, formula_id}
+use Rattle.ss_logic.specs.declared.Sort.{Sort}
+use Rattle.ss_logic.specs.Terms.{Constant, App, terms_from}
+use Rattle.ss_logic.specs.Formulas.{formulas_from, is_constant, term_avoids, terms_avoid, avoids, all_avoid}
+use Rattle.ss_terms.specs.declared.forms.TermId.{TermId}
+use Rattle.ss_terms.specs.declared.forms.FormulaId.{FormulaId}
+use Rattle.ss_terms.specs.declared.forms.Symbol.{Symbol}
+use Rattle.ss_terms.specs.declared.forms.Predicate.{Predicate}
+use Rattle.ss_terms.specs.declared.forms.Term.TheVariants.{App as AppForm}
+use Rattle.ss_terms.specs.declared.forms.Formula.TheVariants.{Literal as LiteralForm, And as AndForm, Or as OrForm, Forall as ForallForm, Exists as ExistsForm}
+use Rattle.ss_terms.specs.Forms.{Forms, symbol_of, term_at, terms_at, formula_at, formulas_at, IsTermForm, IsFormulaForm, AreTermsBelow, AreBelow, HasTerms, HasFormulas}
+use Rattle.ss_terms.proofs.Trees.{AreTermsBelow-more, AreBelow-more}
+use Rattle.ss_terms.proofs.Same.{term_id, formula_id}
 use Rattle.ss_terms_avoids.specs.Entries.{term_entry, formula_entry, AreTermEntries, AreFormulaEntries, constant_of}
 
 module _ (b : Forms) (s : Sort) (k : ℕ) where

@@ -1,11 +1,11 @@
 -- Tables over the numbers of a bank, which say of each whether a constant is avoided.
 use Rattle.std.specs.Prelude.{◌≡◌, ℕ, ◌<◌, List, length, Bool, false, Option, Some, None, slice_index_or}
-use Rattle.ss_logic_stores.specs.declared.Sort.{Sort}
-use Rattle.ss_logic_stores.specs.Terms.{Constant, Term, App, no_terms}
-use Rattle.ss_logic_stores.specs.Formulas.{term_avoids, avoids}
-use Rattle.ss_terms_stores.specs.declared.forms.TermId.{TermId}
-use Rattle.ss_terms_stores.specs.declared.forms.FormulaId.{FormulaId}
-use Rattle.ss_terms_stores.specs.Forms.{Forms, term_at, formula_at}
+use Rattle.ss_logic.specs.declared.Sort.{Sort}
+use Rattle.ss_logic.specs.Terms.{Constant, Term, App, no_terms}
+use Rattle.ss_logic.specs.Formulas.{term_avoids, avoids}
+use Rattle.ss_terms.specs.declared.forms.TermId.{TermId}
+use Rattle.ss_terms.specs.declared.forms.FormulaId.{FormulaId}
+use Rattle.ss_terms.specs.Forms.{Forms, term_at, formula_at}
 
 -- what the table has at the number
 abbrev pub term_entry : List Bool → TermId → Bool

@@ -2,17 +2,17 @@
 
 ghost use Rattle.std.specs.Prelude.{◌≡◌, ◌&&◌, option_map, IfOk};
 ghost use Rattle.std.specs.List.{list_all};
-ghost use Rattle.ss_logic_stores.specs.Terms as tree;
-ghost use Rattle.ss_logic_stores.specs.Terms.{App, terms_from};
-ghost use Rattle.ss_logic_stores.specs.Formulas as logic;
+ghost use Rattle.ss_logic.specs.Terms as tree;
+ghost use Rattle.ss_logic.specs.Terms.{App, terms_from};
+ghost use Rattle.ss_logic.specs.Formulas as logic;
 ghost use Rattle.ss_logic_derivations.specs.Steps as steps;
-ghost use Rattle.ss_terms_stores.specs.Forms.{term_at, terms_at, formulas_at, HasTerm, HasTerms, HasFormulas};
+ghost use Rattle.ss_terms.specs.Forms.{term_at, terms_at, formulas_at, HasTerm, HasTerms, HasFormulas};
 ghost use Rattle.ss_terms_avoids.specs.Entries.{constant_of};
 
 use crate::formulas::{all_formulas, formula_entries};
 use crate::terms::{Constant, all_terms, same_sort, term_entries};
-use ss_logic_stores::Sort;
-use ss_terms_stores::{Bank, FormulaId, Symbol, Term, TermId};
+use ss_logic::Sort;
+use ss_terms::{Bank, FormulaId, Symbol, Term, TermId};
 use std::alloc::{AllocError, Global};
 
 // The constant that a term is.

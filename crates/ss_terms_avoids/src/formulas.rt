@@ -2,12 +2,12 @@
 
 ghost use Rattle.std.specs.Prelude.{◌≡◌, ◌≤◌, ◌*◌, length, IfOk};
 ghost use Rattle.std.specs.List.{list_all};
-ghost use Rattle.ss_logic_stores.specs.Formulas as logic;
-ghost use Rattle.ss_terms_stores.specs.Forms.{formula_at, HasFormula, AreBelow};
+ghost use Rattle.ss_logic.specs.Formulas as logic;
+ghost use Rattle.ss_terms.specs.Forms.{formula_at, HasFormula, AreBelow};
 ghost use Rattle.ss_terms_avoids.specs.Entries.{formula_entry, AreTermEntries, AreFormulaEntries};
 
 use crate::terms::{Constant, all_terms};
-use ss_terms_stores::{Bank, Formula, FormulaId};
+use ss_terms::{Bank, Formula, FormulaId};
 use std::alloc::{AllocError, Global};
 
 /// Whether each of the formulas has `true` in the table.

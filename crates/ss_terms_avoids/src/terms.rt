@@ -2,13 +2,13 @@
 
 ghost use Rattle.std.specs.Prelude.{◌≡◌, ◌≤◌, length, IfOk};
 ghost use Rattle.std.specs.List.{list_all};
-ghost use Rattle.ss_logic_stores.specs.Terms as tree;
-ghost use Rattle.ss_logic_stores.specs.Formulas as logic;
-ghost use Rattle.ss_terms_stores.specs.Forms.{symbol_of, term_at, HasTerm, AreTermsBelow};
+ghost use Rattle.ss_logic.specs.Terms as tree;
+ghost use Rattle.ss_logic.specs.Formulas as logic;
+ghost use Rattle.ss_terms.specs.Forms.{symbol_of, term_at, HasTerm, AreTermsBelow};
 ghost use Rattle.ss_terms_avoids.specs.Entries.{term_entry, AreTermEntries};
 
-use ss_logic_stores::Sort;
-use ss_terms_stores::{Bank, Symbol, Term, TermId};
+use ss_logic::Sort;
+use ss_terms::{Bank, Symbol, Term, TermId};
 use std::alloc::{AllocError, Global};
 
 /// A constant.

@@ -3,15 +3,15 @@ use Rattle.std.proofs.Common.{◌≡◌, ℕ, List, [], ◌∷◌, map, true, re
 use Rattle.std.specs.Prelude.{◌<◌}
 use Rattle.std.proofs.lemmas.Bool.{ltb-true, and_parts}
 use Rattle.ss_core.specs.Tree.{ClassTree}
-use Rattle.ss_logic_stores.specs.Terms.{Term, Bound, App, Terms, no_terms, term_then, terms_from, takes, sorts_of, is_well_sorted, are_well_sorted}
-use Rattle.ss_logic_stores.specs.Formulas.{Formula, And, Or, formulas_from, formula_then}
+use Rattle.ss_logic.specs.Terms.{Term, Bound, App, Terms, no_terms, term_then, terms_from, takes, sorts_of, is_well_sorted, are_well_sorted}
+use Rattle.ss_logic.specs.Formulas.{Formula, And, Or, formulas_from, formula_then}
 use Rattle.ss_logic_frames.specs.Frames.{lifted_term, lifted_terms, lifted, all_lifted}
-use Rattle.ss_terms_stores.specs.declared.forms.TermId.{TermId}
-use Rattle.ss_terms_stores.specs.declared.forms.FormulaId.{FormulaId}
-use Rattle.ss_terms_stores.specs.declared.forms.Symbol.{Symbol}
-use Rattle.ss_terms_stores.specs.declared.forms.Term.TheVariants.{App as AppForm}
-use Rattle.ss_terms_stores.specs.declared.forms.Formula.TheVariants.{And as AndForm, Or as OrForm}
-use Rattle.ss_terms_stores.specs.Forms.{Forms, symbol_of, IsTermForm, IsFormulaForm, term_at, terms_at, formula_at, formulas_at}
+use Rattle.ss_terms.specs.declared.forms.TermId.{TermId}
+use Rattle.ss_terms.specs.declared.forms.FormulaId.{FormulaId}
+use Rattle.ss_terms.specs.declared.forms.Symbol.{Symbol}
+use Rattle.ss_terms.specs.declared.forms.Term.TheVariants.{App as AppForm}
+use Rattle.ss_terms.specs.declared.forms.Formula.TheVariants.{And as AndForm, Or as OrForm}
+use Rattle.ss_terms.specs.Forms.{Forms, symbol_of, IsTermForm, IsFormulaForm, term_at, terms_at, formula_at, formulas_at}
 
 module _ (cs : List ClassTree) (n : ℕ) where
   mutual

@@ -2,12 +2,12 @@
 
 ghost use Rattle.std.specs.Prelude.{◌≡◌, ◌≤◌, ◌+◌, List, [], ◌∷◌, length, map, IfOk};
 ghost use Rattle.ss_core.specs.View as view;
-ghost use Rattle.ss_logic_stores.specs.Terms as tree;
+ghost use Rattle.ss_logic.specs.Terms as tree;
 ghost use Rattle.ss_logic_frames.specs.Frames.{lifted_term};
-ghost use Rattle.ss_terms_stores.specs.Forms.{term_at, terms_at, HasTerm, HasTerms, AreTermsBelow, IsGrown, IsBankOf};
+ghost use Rattle.ss_terms.specs.Forms.{term_at, terms_at, HasTerm, HasTerms, AreTermsBelow, IsGrown, IsBankOf};
 
 use ss_core::Classes;
-use ss_terms_stores::{Bank, Term, TermId};
+use ss_terms::{Bank, Term, TermId};
 use std::alloc::{AllocError, Global};
 
 /// The bound name behind n more; a number that is too large counts as want of memory.

@@ -4,15 +4,15 @@ use Rattle.std.specs.Prelude.{IfOk}
 use Rattle.std.proofs.lemmas.List.{map_push, take_more}
 use Rattle.std.proofs.lemmas.Bool.{ltb-true, and_parts}
 use Rattle.ss_core.specs.Tree.{ClassTree}
-use Rattle.ss_logic_stores.specs.Terms.{Term, Bound, App, Terms, no_terms, terms_from, term_then, takes, sorts_of, is_well_sorted, are_well_sorted}
-use Rattle.ss_logic_stores.specs.Formulas.{Formula, And, Or, formulas_from, formula_then, bound_in, put_term, put_terms, put, put_all}
-use Rattle.ss_terms_stores.specs.declared.forms.TermId.{TermId}
-use Rattle.ss_terms_stores.specs.declared.forms.FormulaId.{FormulaId}
-use Rattle.ss_terms_stores.specs.declared.forms.Symbol.{Symbol}
-use Rattle.ss_terms_stores.specs.declared.forms.Term.TheVariants.{App as AppForm}
-use Rattle.ss_terms_stores.specs.declared.forms.Formula.TheVariants.{And as AndForm, Or as OrForm}
-use Rattle.ss_terms_stores.specs.Forms.{Forms, symbol_of, IsTermForm, IsFormulaForm, term_at, terms_at, formula_at, formulas_at, HasTerm, HasTerms, HasFormula, HasFormulas, AreTermsBelow, AreBelow, IsGrown}
-use Rattle.ss_terms_stores.proofs.Grown.{terms_at-grown, formulas_at-grown}
+use Rattle.ss_logic.specs.Terms.{Term, Bound, App, Terms, no_terms, terms_from, term_then, takes, sorts_of, is_well_sorted, are_well_sorted}
+use Rattle.ss_logic.specs.Formulas.{Formula, And, Or, formulas_from, formula_then, bound_in, put_term, put_terms, put, put_all}
+use Rattle.ss_terms.specs.declared.forms.TermId.{TermId}
+use Rattle.ss_terms.specs.declared.forms.FormulaId.{FormulaId}
+use Rattle.ss_terms.specs.declared.forms.Symbol.{Symbol}
+use Rattle.ss_terms.specs.declared.forms.Term.TheVariants.{App as AppForm}
+use Rattle.ss_terms.specs.declared.forms.Formula.TheVariants.{And as AndForm, Or as OrForm}
+use Rattle.ss_terms.specs.Forms.{Forms, symbol_of, IsTermForm, IsFormulaForm, term_at, terms_at, formula_at, formulas_at, HasTerm, HasTerms, HasFormula, HasFormulas, AreTermsBelow, AreBelow, IsGrown}
+use Rattle.ss_terms.proofs.Grown.{terms_at-grown, formulas_at-grown}
 
 -- ---- lists of numbers
 

@@ -2,13 +2,13 @@
 
 ghost use Rattle.std.specs.Prelude.{◌≡◌, ◌≤◌, ◌*◌, List, [], ◌∷◌, length, map, IfOk};
 ghost use Rattle.ss_core.specs.View as view;
-ghost use Rattle.ss_logic_stores.specs.Formulas as logic;
-ghost use Rattle.ss_logic_stores.specs.Terms.{terms_from};
-ghost use Rattle.ss_terms_stores.specs.Forms.{formula_at, formulas_at, terms_at, HasTerms, HasFormula, HasFormulas, AreBelow, IsGrown, IsBankOf, predicate_of};
+ghost use Rattle.ss_logic.specs.Formulas as logic;
+ghost use Rattle.ss_logic.specs.Terms.{terms_from};
+ghost use Rattle.ss_terms.specs.Forms.{formula_at, formulas_at, terms_at, HasTerms, HasFormula, HasFormulas, AreBelow, IsGrown, IsBankOf, predicate_of};
 
 use crate::terms::put_arguments;
 use ss_core::Classes;
-use ss_terms_stores::{Bank, Formula, FormulaId, Predicate, TermId};
+use ss_terms::{Bank, Formula, FormulaId, Predicate, TermId};
 use std::alloc::{AllocError, Global};
 
 /// A literal with terms in place of the first bound names.

@@ -2,12 +2,12 @@
 
 ghost use Rattle.std.specs.Prelude.{◌≡◌, ◌≤◌, List, [], ◌∷◌, length, map, IfOk};
 ghost use Rattle.ss_core.specs.View as view;
-ghost use Rattle.ss_logic_stores.specs.Formulas as logic;
-ghost use Rattle.ss_logic_stores.specs.Formulas.{bound_in};
-ghost use Rattle.ss_terms_stores.specs.Forms.{term_at, terms_at, HasTerm, HasTerms, AreTermsBelow, IsGrown, IsBankOf};
+ghost use Rattle.ss_logic.specs.Formulas as logic;
+ghost use Rattle.ss_logic.specs.Formulas.{bound_in};
+ghost use Rattle.ss_terms.specs.Forms.{term_at, terms_at, HasTerm, HasTerms, AreTermsBelow, IsGrown, IsBankOf};
 
 use ss_core::Classes;
-use ss_terms_stores::{Bank, Term, TermId};
+use ss_terms::{Bank, Term, TermId};
 use std::alloc::{AllocError, Global};
 
 /// What stands for a bound name: one of the terms, or a name that is bound further in.

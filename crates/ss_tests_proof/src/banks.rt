@@ -1,35 +1,29 @@
 // Equal forms have equal numbers.
 
 use ss_logic::Sort;
-use ss_terms::{Bank, Formula, FormulaId, Term};
+use ss_terms::{Bank, FormulaId, Symbol};
 use std::alloc::{AllocError, Global};
 use std::test::Fail;
 
 /// The equality of a constant and a number.
 fn equality(bank: &mut Bank, constant: usize, number: i128) -> Result<FormulaId, AllocError> {
-    let left = bank.term(Term::Constant(Sort::Whole, constant))?;
-    let right = bank.term(Term::Number(number))?;
-    bank.formula(Formula::Equal {
-        holds: true,
-        left,
-        right,
-    })
+    let left = bank.apply(Symbol::Constant(Sort::Whole, constant), &[])?;
+    let right = bank.number(number)?;
+    if !bank.has_term(left) {
+        return Err(AllocError);
+    }
+    bank.equality(left, right)
 }
 
 /// A formula or its negation, as often as asked, each time of the one before.
-fn nest(
-    bank: &mut Bank,
-    alloc: Global,
-    first: FormulaId,
-    depth: u32,
-) -> Result<FormulaId, AllocError> {
+fn nest(bank: &mut Bank, first: FormulaId, depth: u32) -> Result<FormulaId, AllocError> {
     let mut f = first;
     for _ in 0..depth {
         if !bank.has_formula(f) {
             return Err(AllocError);
         }
-        let parts = Vec::from_slice(alloc, &[f, bank.negation(f)])?;
-        f = bank.formula(Formula::Or(parts))?;
+        let other = bank.negation(f);
+        f = bank.or(&[f, other])?;
     }
     Ok(f)
 }
@@ -43,15 +37,19 @@ fn three_equalities(bank: &mut Bank) -> Result<[FormulaId; 3], AllocError> {
 }
 
 /// A formula of depth 1000, and how many formulas the bank has then.
-fn nested(bank: &mut Bank, alloc: Global) -> Result<(FormulaId, usize), AllocError> {
+fn nested(bank: &mut Bank) -> Result<(FormulaId, usize), AllocError> {
     let first = equality(bank, 0, 1)?;
-    let deep = nest(bank, alloc, first, 1000)?;
+    let deep = nest(bank, first, 1000)?;
     Ok((deep, bank.formula_count()))
+}
+
+fn empty(alloc: Global) -> Bank {
+    Bank::new(alloc, Vec::new(alloc))
 }
 
 #[test]
 fn numbers_equal_forms_once(rt: HostRuntime) -> Result<(), Fail> {
-    let mut bank = Bank::new(rt.alloc());
+    let mut bank = empty(rt.alloc());
     let [first, second, again] = three_equalities(&mut bank)?;
     assert!(rt; again == first && first != second);
     assert!(rt; bank.term_count() == 3 && bank.formula_count() == 4);
@@ -60,9 +58,9 @@ fn numbers_equal_forms_once(rt: HostRuntime) -> Result<(), Fail> {
 
 #[test]
 fn shares_the_parts_of_nested_formulas(rt: HostRuntime) -> Result<(), Fail> {
-    let mut bank = Bank::new(rt.alloc());
-    let (deep, count) = nested(&mut bank, rt.alloc())?;
-    let (again, now) = nested(&mut bank, rt.alloc())?;
+    let mut bank = empty(rt.alloc());
+    let (deep, count) = nested(&mut bank)?;
+    let (again, now) = nested(&mut bank)?;
     assert!(rt; again == deep && count == 2002 && now == 2002);
     Ok(())
 }

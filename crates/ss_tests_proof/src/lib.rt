@@ -1,4 +1,4 @@
-//! Tests of the proof side over its public calls: the bank, the checker, the obligations, the search; and of the whole call.
+//! Tests of the proof side over its public calls: the bank and the obligations; and of the whole call.
 
 #![tactic(auto)]
 
@@ -7,8 +7,6 @@ mod banks;
 #[cfg(test)]
 mod commands;
 #[cfg(test)]
-mod derivations;
-#[cfg(test)]
 mod obligations;
 #[cfg(test)]
-mod searches;
+mod part;

@@ -1,8 +1,14 @@
 // The obligations of small programs, built by hand.
 
-use ss_core::{BodyId, ClassId, Kind, Place};
-use ss_second_core::{Body, Classes, Core, Expr, Local, Stmt, Ty};
-use ss_vcgen::obligations;
+ghost use Rattle.std.specs.Prelude.{◌≡◌, IfOk};
+ghost use Rattle.ss_core.specs.View.{classes};
+ghost use Rattle.ss_core.specs.Chain.{IsWithinLimits};
+
+use crate::part;
+use ss_core::{
+    Body, BodyFlags, BodyId, Callee, Core, Expr, Kind, Link, Local, Operator, Place, Stmt, Ty,
+};
+use ss_vcgen::{Obligation, obligations};
 use std::alloc::{AllocError, Global};
 use std::test::Fail;
 
@@ -10,51 +16,89 @@ fn at(line: u32) -> Place {
     Place { line, column: 5 }
 }
 
-fn local(alloc: Global, name: &str, ty: Ty) -> Result<Local, AllocError> {
+fn local_of(alloc: Global, name: &str, ty: Ty) -> Result<Local, AllocError> {
     Ok(Local {
         name: String::from_str(alloc, name)?,
         ty,
+        captured: false,
     })
 }
 
-// A program whose Main has the locals `int x` and `bool b`, and this code.
-fn program(alloc: Global, code: Vec<Stmt>) -> Result<Core, AllocError> {
-    let x = local(alloc, "x", Ty::Int)?;
-    let b = local(alloc, "b", Ty::Bool)?;
-    let locals = vec![in alloc; x, b]?;
-    let class = String::from_str(alloc, "Program")?;
-    let main = Body {
-        class: ClassId(4),
-        name: String::from_str(alloc, "Main")?,
+// A static method without parameters and conditions.
+fn body(alloc: Global, name: &str, code: Vec<Stmt>) -> Result<Body, AllocError> {
+    Ok(Body {
+        class: part::PART,
+        name: String::from_str(alloc, name)?,
         params: Vec::new(alloc),
-        locals,
+        locals: Vec::new(alloc),
         result: None,
         entry: Vec::new(alloc),
         exit: Vec::new(alloc),
+        named: Vec::new(alloc),
+        flags: BodyFlags {
+            is_static: true,
+            pure: false,
+            ctor: false,
+            delayed: false,
+            wrapper: false,
+        },
         code,
         place: at(1),
-    };
-    Ok(Core {
-        classes: Classes {
-            names: vec![in alloc; class]?,
-        },
-        bodies: vec![in alloc; main]?,
-        main: BodyId(0),
     })
+}
+
+// A Main with the locals `int x` and `bool b`, and this code.
+fn main_of(alloc: Global, code: Vec<Stmt>) -> Result<Body, AllocError> {
+    let mut main = body(alloc, "Main", code)?;
+    main.locals.push(local_of(alloc, "x", Ty::Int)?)?;
+    main.locals.push(local_of(alloc, "b", Ty::Bool)?)?;
+    Ok(main)
+}
+
+// A program of these bodies.
+fn of_bodies(alloc: Global, bodies: Vec<Body>, main: BodyId) -> Result<Core, AllocError>
+    ensures { IfOk result (λ c. IsWithinLimits (classes c.classes)) }
+{
+    let Core { classes, .. } = part::program(alloc)?;
+    Ok(Core {
+        classes,
+        bodies,
+        main,
+    })
+}
+
+fn program(alloc: Global, code: Vec<Stmt>) -> Result<Core, AllocError>
+    ensures { IfOk result (λ c. IsWithinLimits (classes c.classes)) }
+{
+    let main = main_of(alloc, code)?;
+    of_bodies(alloc, vec![in alloc; main]?, BodyId(0))
+}
+
+// Two expressions with this operator between them.
+fn chain(
+    alloc: Global,
+    line: u32,
+    operator: Operator,
+    left: Expr,
+    right: Expr,
+) -> Result<Expr, AllocError> {
+    let first = Box::new(alloc, left)?;
+    let links = vec![in alloc; Link::Operation(operator, right)]?;
+    Ok(Expr::Chain(at(line), first, links))
 }
 
 // `x == number`
 fn x_is(alloc: Global, number: i32) -> Result<Expr, AllocError> {
-    let x = Box::new(alloc, Expr::Local(at(1), 0))?;
-    let number = Box::new(alloc, Expr::Int(at(1), number))?;
-    Ok(Expr::Equal(at(1), x, number))
+    let x = Expr::Local(at(1), 0);
+    chain(alloc, 1, Operator::Equal, x, Expr::Int(at(1), number))
 }
 
 // `int x = 3; bool b = x == 3; assert b && !(x == 4); assert x == 4;`
-fn two_asserts(alloc: Global) -> Result<Core, AllocError> {
+fn two_asserts(alloc: Global) -> Result<Core, AllocError>
+    ensures { IfOk result (λ c. IsWithinLimits (classes c.classes)) }
+{
     let not_four = Expr::Not(at(4), Box::new(alloc, x_is(alloc, 4)?)?);
-    let b = Box::new(alloc, Expr::Local(at(4), 1))?;
-    let both = Expr::And(at(4), b, vec![in alloc; not_four]?);
+    let both = chain(alloc, 4, Operator::And, Expr::Local(at(4), 1), not_four)?;
     let three = x_is(alloc, 3)?;
     let four = x_is(alloc, 4)?;
     let code = vec![in alloc;
@@ -67,51 +111,56 @@ fn two_asserts(alloc: Global) -> Result<Core, AllocError> {
     program(alloc, code)
 }
 
+// Whether the obligations are of these kinds, at these lines and in these bodies.
+fn are(list: &[Obligation], expected: &[(Kind, u32, u32)]) -> bool {
+    for (i, (kind, line, body)) in expected.iter().enumerate() {
+        let Some(o) = list.get(i) else {
+            return false;
+        };
+        if o.kind != *kind || o.place != at(*line) || o.body != BodyId(*body) {
+            return false;
+        }
+    }
+    list.len() == expected.len()
+}
+
 #[test]
 fn asserts_are_obligations(rt: HostRuntime) -> Result<(), Fail> {
     let alloc = rt.alloc();
     let built = obligations(alloc, &two_asserts(alloc)?)?;
-    assert_eq!(rt; built.list.len(), 2);
-    for (i, premises, line) in [(0, 2, 4), (1, 3, 5)] {
-        let o = built.list.get(i).ok_or("missing")?;
-        assert_eq!(rt; (o.first, o.end), (0, premises), "at {i}");
-        assert_eq!(rt; o.place, at(line), "at {i}");
-        assert_eq!(rt; o.kind, Kind::Assert, "at {i}");
-        assert_eq!(rt; o.body, BodyId(0), "at {i}");
-    }
+    let expected = [
+        (Kind::Assert, 4, 0),
+        (Kind::Assert, 5, 0),
+        (Kind::Frame, 6, 0),
+    ];
+    assert!(rt; are(&built.list, &expected));
     let first = built.list.first().ok_or("missing")?;
-    let kept = built.trail.get(2).ok_or("missing")?;
-    assert_eq!(rt; *kept, first.goal);
+    let second = built.list.get(1).ok_or("missing")?;
+    assert!(rt;
+        first.first == 0 && second.first == 0 && second.end.checked_sub(1) == Some(first.end)
+    );
+    assert!(rt; built.trail.get(first.end).copied() == Some(first.goal));
     Ok(())
+}
+
+// An assert of 4,000 operands.
+fn long_chain(alloc: Global) -> Result<Core, AllocError>
+    ensures { IfOk result (λ c. IsWithinLimits (classes c.classes)) }
+{
+    let mut others = Vec::new(alloc);
+    for _ in 0..3_999 {
+        others.push(Link::Operation(Operator::And, x_is(alloc, 0)?))?;
+    }
+    let chain = Expr::Chain(at(2), Box::new(alloc, Expr::Local(at(2), 1))?, others);
+    let code = vec![in alloc; Stmt::Assert(at(2), chain), Stmt::Return(at(3), None)]?;
+    program(alloc, code)
 }
 
 #[test]
 fn long_chains_are_flat(rt: HostRuntime) -> Result<(), Fail> {
     let alloc = rt.alloc();
-    let mut others = Vec::new(alloc);
-    for _ in 0..99_999 {
-        others.push(x_is(alloc, 0)?)?;
-    }
-    let chain = Expr::And(at(2), Box::new(alloc, Expr::Local(at(2), 1))?, others);
-    let code = vec![in alloc; Stmt::Assert(at(2), chain), Stmt::Return(at(3), None)]?;
-    let built = obligations(alloc, &program(alloc, code)?)?;
-    assert_eq!(rt; built.list.len(), 1);
-    assert_eq!(rt; built.trail.len(), 1);
-    Ok(())
-}
-
-#[test]
-fn programs_without_main_have_none(rt: HostRuntime) -> Result<(), Fail> {
-    let alloc = rt.alloc();
-    let core = Core {
-        classes: Classes {
-            names: Vec::new(alloc),
-        },
-        bodies: Vec::new(alloc),
-        main: BodyId(0),
-    };
-    let built = obligations(alloc, &core)?;
-    assert!(rt; built.list.is_empty());
+    let built = obligations(alloc, &long_chain(alloc)?)?;
+    assert!(rt; are(&built.list, &[(Kind::Assert, 2, 0), (Kind::Frame, 3, 0)]));
     Ok(())
 }
 
@@ -121,54 +170,59 @@ fn parameter() -> Expr {
 
 // `static bool Same(bool p) requires p; ensures result == p; { if (p) { return true; } return false; }`
 fn same(alloc: Global) -> Result<Body, AllocError> {
-    let result = Box::new(alloc, Expr::Local(at(1), 1))?;
-    let is_same = Expr::Equal(at(1), result, Box::new(alloc, parameter())?);
     let yes = vec![in alloc; Stmt::Return(at(2), Some(Expr::Bool(at(2), true)))]?;
     let code = vec![in alloc;
         Stmt::If(at(2), parameter(), yes, Vec::new(alloc)),
         Stmt::Return(at(3), Some(Expr::Bool(at(3), false))),
     ]?;
-    let p = local(alloc, "p", Ty::Bool)?;
-    Ok(Body {
-        class: ClassId(4),
-        name: String::from_str(alloc, "Same")?,
-        params: vec![in alloc; p]?,
-        locals: Vec::new(alloc),
-        result: Some(Ty::Bool),
-        entry: vec![in alloc; parameter()]?,
-        exit: vec![in alloc; is_same]?,
-        code,
-        place: at(1),
-    })
+    let is_same = chain(
+        alloc,
+        1,
+        Operator::Equal,
+        Expr::Local(at(1), 1),
+        parameter(),
+    )?;
+    let mut same = body(alloc, "Same", code)?;
+    same.params.push(local_of(alloc, "p", Ty::Bool)?)?;
+    same.result = Some(Ty::Bool);
+    same.entry.push(parameter())?;
+    same.exit.push(is_same)?;
+    Ok(same)
+}
+
+// `bool b = Same(true); assert b;`
+fn call(alloc: Global) -> Result<Core, AllocError>
+    ensures { IfOk result (λ c. IsWithinLimits (classes c.classes)) }
+{
+    let args = vec![in alloc; Expr::Bool(at(7), true)]?;
+    let code = vec![in alloc;
+        Stmt::Call(at(7), Some(1), Callee::Static(BodyId(0)), args),
+        Stmt::Assert(at(8), Expr::Local(at(8), 1)),
+        Stmt::Return(at(9), None),
+    ]?;
+    let same = same(alloc)?;
+    let main = main_of(alloc, code)?;
+    of_bodies(alloc, vec![in alloc; same, main]?, BodyId(1))
 }
 
 #[test]
 fn calls_and_returns_have_obligations(rt: HostRuntime) -> Result<(), Fail> {
     let alloc = rt.alloc();
-    let args = vec![in alloc; Expr::Bool(at(7), true)]?;
-    let code = vec![in alloc;
-        Stmt::Call(at(7), Some(1), BodyId(0), args),
-        Stmt::Assert(at(8), Expr::Local(at(8), 1)),
-        Stmt::Return(at(9), None),
-    ]?;
-    let mut core = program(alloc, code)?;
-    core.bodies.insert(0, same(alloc)?)?;
-    core.main = BodyId(1);
-    let built = obligations(alloc, &core)?;
+    let none = of_bodies(alloc, Vec::new(alloc), BodyId(0))?;
+    assert!(rt; obligations(alloc, &none)?.list.is_empty());
+    let built = obligations(alloc, &call(alloc)?)?;
     let expected = [
         (Kind::Postcondition, 2, 0),
+        (Kind::Frame, 2, 0),
         (Kind::Postcondition, 3, 0),
+        (Kind::Frame, 3, 0),
         (Kind::Precondition, 7, 1),
         (Kind::Assert, 8, 1),
+        (Kind::Frame, 9, 1),
     ];
-    assert_eq!(rt; built.list.len(), expected.len());
-    for (i, (kind, line, body)) in expected.into_iter().enumerate() {
-        let o = built.list.get(i).ok_or("missing")?;
-        assert_eq!(rt; o.kind, kind, "at {i}");
-        assert_eq!(rt; o.place, at(line), "at {i}");
-        assert_eq!(rt; o.body, BodyId(body), "at {i}");
-    }
-    let third = built.list.get(2).ok_or("missing")?;
-    assert_eq!(rt; third.first, third.end);
+    assert!(rt; are(&built.list, &expected));
+    let last = built.list.get(3).ok_or("missing")?;
+    let next = built.list.get(4).ok_or("missing")?;
+    assert!(rt; last.first == 0 && last.end < next.first);
     Ok(())
 }

@@ -3,16 +3,16 @@
 ghost use Rattle.std.specs.Prelude.{◌≡◌};
 ghost use Rattle.ss_core.specs.View as view;
 ghost use Rattle.ss_core.specs.Chain.{IsWithinLimits};
-ghost use Rattle.ss_terms_stores.specs.Forms.{IsBankOf};
+ghost use Rattle.ss_terms.specs.Forms.{IsBankOf};
 
 use crate::classes::{are_few, program};
 use crate::derived::{ACCEPTED, REFUSED, UNFINISHED};
 use crate::lines::{first_word, read_line};
 use crate::reader::{Reader, has_formulas};
-use ss_check_stores::{CheckStop, check};
+use ss_check::{CheckStop, check};
 use ss_core::Classes;
 use ss_deriv::{Draft, Line};
-use ss_terms_stores::{Bank, FormulaId, field_sorts};
+use ss_terms::{Bank, FormulaId, field_sorts};
 use std::alloc::{AllocError, Global};
 use std::test::Fail;
 
@@ -115,8 +115,12 @@ impl Row {
     }
 }
 
-// The formulas of a text, or none where it can't be read.
-fn read_formula(alloc: Global, bank: &mut Bank, text: &str) -> Result<Vec<FormulaId>, AllocError>
+/// The formulas of a text, or none where it can't be read.
+pub fn read_formula(
+    alloc: Global,
+    bank: &mut Bank,
+    text: &str,
+) -> Result<Vec<FormulaId>, AllocError>
     ensures { bank.new.fields ≡ bank.old.fields }
 {
     let mut seen = Reader::new(alloc, None);

@@ -520,6 +520,34 @@ clash 3 2
 end
 accepted
 
+# a negated equality at equal arguments
+given (= x0 x1)
+given (not (= x0 x2))
+goal (not (= x1 x2))
+obligation 0
+premise 0
+premise 1
+swap 1 (not (= x1 x2)) 0
+denied
+clash 2 3
+end
+accepted
+
+# a truth value is one of two
+goal (or (= b0 true) (= b0 false))
+obligation 0
+rule bool b0
+denied
+part 1 0
+part 1 1
+split 0 2
+case
+clash 2 4
+case
+clash 4 3
+end
+accepted
+
 # different numbers that are equal
 given (= 3 -3)
 goal (= x0 x1)
@@ -1881,6 +1909,531 @@ case
 clash 1 1
 case
 clash 1 1
+end
+unfinished
+
+# the first 0 lines of a derivation of 25
+given (or (= b0 true) (= b1 true))
+given (or (= b0 true) (not (= b1 true)))
+given (or (not (= b0 true)) (= b1 true))
+goal (and (= b0 true) (= b1 true))
+obligation 0
+end
+unfinished
+
+# the first 1 lines of a derivation of 25
+given (or (= b0 true) (= b1 true))
+given (or (= b0 true) (not (= b1 true)))
+given (or (not (= b0 true)) (= b1 true))
+goal (and (= b0 true) (= b1 true))
+obligation 0
+premise 0
+end
+unfinished
+
+# the first 2 lines of a derivation of 25
+given (or (= b0 true) (= b1 true))
+given (or (= b0 true) (not (= b1 true)))
+given (or (not (= b0 true)) (= b1 true))
+goal (and (= b0 true) (= b1 true))
+obligation 0
+premise 0
+premise 1
+end
+unfinished
+
+# the first 3 lines of a derivation of 25
+given (or (= b0 true) (= b1 true))
+given (or (= b0 true) (not (= b1 true)))
+given (or (not (= b0 true)) (= b1 true))
+goal (and (= b0 true) (= b1 true))
+obligation 0
+premise 0
+premise 1
+premise 2
+end
+unfinished
+
+# the first 4 lines of a derivation of 25
+given (or (= b0 true) (= b1 true))
+given (or (= b0 true) (not (= b1 true)))
+given (or (not (= b0 true)) (= b1 true))
+goal (and (= b0 true) (= b1 true))
+obligation 0
+premise 0
+premise 1
+premise 2
+denied
+end
+unfinished
+
+# the first 5 lines of a derivation of 25
+given (or (= b0 true) (= b1 true))
+given (or (= b0 true) (not (= b1 true)))
+given (or (not (= b0 true)) (= b1 true))
+goal (and (= b0 true) (= b1 true))
+obligation 0
+premise 0
+premise 1
+premise 2
+denied
+split 0 2
+end
+unfinished
+
+# the first 6 lines of a derivation of 25
+given (or (= b0 true) (= b1 true))
+given (or (= b0 true) (not (= b1 true)))
+given (or (not (= b0 true)) (= b1 true))
+goal (and (= b0 true) (= b1 true))
+obligation 0
+premise 0
+premise 1
+premise 2
+denied
+split 0 2
+case
+end
+unfinished
+
+# the first 7 lines of a derivation of 25
+given (or (= b0 true) (= b1 true))
+given (or (= b0 true) (not (= b1 true)))
+given (or (not (= b0 true)) (= b1 true))
+goal (and (= b0 true) (= b1 true))
+obligation 0
+premise 0
+premise 1
+premise 2
+denied
+split 0 2
+case
+split 2 2
+end
+unfinished
+
+# the first 8 lines of a derivation of 25
+given (or (= b0 true) (= b1 true))
+given (or (= b0 true) (not (= b1 true)))
+given (or (not (= b0 true)) (= b1 true))
+goal (and (= b0 true) (= b1 true))
+obligation 0
+premise 0
+premise 1
+premise 2
+denied
+split 0 2
+case
+split 2 2
+case
+end
+unfinished
+
+# the first 9 lines of a derivation of 25
+given (or (= b0 true) (= b1 true))
+given (or (= b0 true) (not (= b1 true)))
+given (or (not (= b0 true)) (= b1 true))
+goal (and (= b0 true) (= b1 true))
+obligation 0
+premise 0
+premise 1
+premise 2
+denied
+split 0 2
+case
+split 2 2
+case
+clash 4 5
+end
+unfinished
+
+# the first 10 lines of a derivation of 25
+given (or (= b0 true) (= b1 true))
+given (or (= b0 true) (not (= b1 true)))
+given (or (not (= b0 true)) (= b1 true))
+goal (and (= b0 true) (= b1 true))
+obligation 0
+premise 0
+premise 1
+premise 2
+denied
+split 0 2
+case
+split 2 2
+case
+clash 4 5
+case
+end
+unfinished
+
+# the first 11 lines of a derivation of 25
+given (or (= b0 true) (= b1 true))
+given (or (= b0 true) (not (= b1 true)))
+given (or (not (= b0 true)) (= b1 true))
+goal (and (= b0 true) (= b1 true))
+obligation 0
+premise 0
+premise 1
+premise 2
+denied
+split 0 2
+case
+split 2 2
+case
+clash 4 5
+case
+split 3 2
+end
+unfinished
+
+# the first 12 lines of a derivation of 25
+given (or (= b0 true) (= b1 true))
+given (or (= b0 true) (not (= b1 true)))
+given (or (not (= b0 true)) (= b1 true))
+goal (and (= b0 true) (= b1 true))
+obligation 0
+premise 0
+premise 1
+premise 2
+denied
+split 0 2
+case
+split 2 2
+case
+clash 4 5
+case
+split 3 2
+case
+end
+unfinished
+
+# the first 13 lines of a derivation of 25
+given (or (= b0 true) (= b1 true))
+given (or (= b0 true) (not (= b1 true)))
+given (or (not (= b0 true)) (= b1 true))
+goal (and (= b0 true) (= b1 true))
+obligation 0
+premise 0
+premise 1
+premise 2
+denied
+split 0 2
+case
+split 2 2
+case
+clash 4 5
+case
+split 3 2
+case
+clash 4 6
+end
+unfinished
+
+# the first 14 lines of a derivation of 25
+given (or (= b0 true) (= b1 true))
+given (or (= b0 true) (not (= b1 true)))
+given (or (not (= b0 true)) (= b1 true))
+goal (and (= b0 true) (= b1 true))
+obligation 0
+premise 0
+premise 1
+premise 2
+denied
+split 0 2
+case
+split 2 2
+case
+clash 4 5
+case
+split 3 2
+case
+clash 4 6
+case
+end
+unfinished
+
+# the first 15 lines of a derivation of 25
+given (or (= b0 true) (= b1 true))
+given (or (= b0 true) (not (= b1 true)))
+given (or (not (= b0 true)) (= b1 true))
+goal (and (= b0 true) (= b1 true))
+obligation 0
+premise 0
+premise 1
+premise 2
+denied
+split 0 2
+case
+split 2 2
+case
+clash 4 5
+case
+split 3 2
+case
+clash 4 6
+case
+clash 5 6
+end
+unfinished
+
+# the first 16 lines of a derivation of 25
+given (or (= b0 true) (= b1 true))
+given (or (= b0 true) (not (= b1 true)))
+given (or (not (= b0 true)) (= b1 true))
+goal (and (= b0 true) (= b1 true))
+obligation 0
+premise 0
+premise 1
+premise 2
+denied
+split 0 2
+case
+split 2 2
+case
+clash 4 5
+case
+split 3 2
+case
+clash 4 6
+case
+clash 5 6
+case
+end
+unfinished
+
+# the first 17 lines of a derivation of 25
+given (or (= b0 true) (= b1 true))
+given (or (= b0 true) (not (= b1 true)))
+given (or (not (= b0 true)) (= b1 true))
+goal (and (= b0 true) (= b1 true))
+obligation 0
+premise 0
+premise 1
+premise 2
+denied
+split 0 2
+case
+split 2 2
+case
+clash 4 5
+case
+split 3 2
+case
+clash 4 6
+case
+clash 5 6
+case
+split 1 2
+end
+unfinished
+
+# the first 18 lines of a derivation of 25
+given (or (= b0 true) (= b1 true))
+given (or (= b0 true) (not (= b1 true)))
+given (or (not (= b0 true)) (= b1 true))
+goal (and (= b0 true) (= b1 true))
+obligation 0
+premise 0
+premise 1
+premise 2
+denied
+split 0 2
+case
+split 2 2
+case
+clash 4 5
+case
+split 3 2
+case
+clash 4 6
+case
+clash 5 6
+case
+split 1 2
+case
+end
+unfinished
+
+# the first 19 lines of a derivation of 25
+given (or (= b0 true) (= b1 true))
+given (or (= b0 true) (not (= b1 true)))
+given (or (not (= b0 true)) (= b1 true))
+goal (and (= b0 true) (= b1 true))
+obligation 0
+premise 0
+premise 1
+premise 2
+denied
+split 0 2
+case
+split 2 2
+case
+clash 4 5
+case
+split 3 2
+case
+clash 4 6
+case
+clash 5 6
+case
+split 1 2
+case
+split 3 2
+end
+unfinished
+
+# the first 20 lines of a derivation of 25
+given (or (= b0 true) (= b1 true))
+given (or (= b0 true) (not (= b1 true)))
+given (or (not (= b0 true)) (= b1 true))
+goal (and (= b0 true) (= b1 true))
+obligation 0
+premise 0
+premise 1
+premise 2
+denied
+split 0 2
+case
+split 2 2
+case
+clash 4 5
+case
+split 3 2
+case
+clash 4 6
+case
+clash 5 6
+case
+split 1 2
+case
+split 3 2
+case
+end
+unfinished
+
+# the first 21 lines of a derivation of 25
+given (or (= b0 true) (= b1 true))
+given (or (= b0 true) (not (= b1 true)))
+given (or (not (= b0 true)) (= b1 true))
+goal (and (= b0 true) (= b1 true))
+obligation 0
+premise 0
+premise 1
+premise 2
+denied
+split 0 2
+case
+split 2 2
+case
+clash 4 5
+case
+split 3 2
+case
+clash 4 6
+case
+clash 5 6
+case
+split 1 2
+case
+split 3 2
+case
+clash 5 6
+end
+unfinished
+
+# the first 22 lines of a derivation of 25
+given (or (= b0 true) (= b1 true))
+given (or (= b0 true) (not (= b1 true)))
+given (or (not (= b0 true)) (= b1 true))
+goal (and (= b0 true) (= b1 true))
+obligation 0
+premise 0
+premise 1
+premise 2
+denied
+split 0 2
+case
+split 2 2
+case
+clash 4 5
+case
+split 3 2
+case
+clash 4 6
+case
+clash 5 6
+case
+split 1 2
+case
+split 3 2
+case
+clash 5 6
+case
+end
+unfinished
+
+# the first 23 lines of a derivation of 25
+given (or (= b0 true) (= b1 true))
+given (or (= b0 true) (not (= b1 true)))
+given (or (not (= b0 true)) (= b1 true))
+goal (and (= b0 true) (= b1 true))
+obligation 0
+premise 0
+premise 1
+premise 2
+denied
+split 0 2
+case
+split 2 2
+case
+clash 4 5
+case
+split 3 2
+case
+clash 4 6
+case
+clash 5 6
+case
+split 1 2
+case
+split 3 2
+case
+clash 5 6
+case
+clash 4 6
+end
+unfinished
+
+# the first 24 lines of a derivation of 25
+given (or (= b0 true) (= b1 true))
+given (or (= b0 true) (not (= b1 true)))
+given (or (not (= b0 true)) (= b1 true))
+goal (and (= b0 true) (= b1 true))
+obligation 0
+premise 0
+premise 1
+premise 2
+denied
+split 0 2
+case
+split 2 2
+case
+clash 4 5
+case
+split 3 2
+case
+clash 4 6
+case
+clash 5 6
+case
+split 1 2
+case
+split 3 2
+case
+clash 5 6
+case
+clash 4 6
+case
 end
 unfinished
 ";

@@ -1,5 +1,6 @@
 //! Tests of the instances of rules: each rule at arguments that fit it, with the sentence that docs/OBLIGATIONS.md gives, and at others;
-//! of the constants that a `choose` may take; and of the check of derivations, each line once and faulty ones.
+//! of the constants that a `choose` may take; of the check of derivations, each line once and faulty ones; of ground forms that were counted
+//! by hand; and of what the search finds.
 #![tactic(auto)]
 
 #[cfg(test)]
@@ -11,6 +12,8 @@ mod derivations;
 #[cfg(test)]
 mod derived;
 #[cfg(test)]
+mod grounds;
+#[cfg(test)]
 mod lines;
 #[cfg(test)]
 mod reader;
@@ -18,5 +21,7 @@ mod reader;
 mod rows;
 #[cfg(test)]
 mod rules;
+#[cfg(test)]
+mod searches;
 #[cfg(test)]
 mod words;

@@ -5,7 +5,7 @@ ghost use Rattle.std.specs.Prelude.{◌≡◌};
 use crate::reader::Reader;
 use crate::words::{free_rule, good_rule};
 use ss_deriv::Line;
-use ss_terms_stores::{Bank, FormulaId, Symbol, Term, TermId};
+use ss_terms::{Bank, FormulaId, Symbol, Term, TermId};
 use std::alloc::{AllocError, Global};
 
 /// The first word of a text, and what stands behind its blank.

@@ -1,11 +1,11 @@
 // Terms and formulas of a bank, read from texts.
 
 ghost use Rattle.std.specs.Prelude.{◌≡◌, IsTrue};
-ghost use Rattle.ss_terms_stores.specs.Forms.{HasTerms, HasFormula, HasFormulas};
+ghost use Rattle.ss_terms.specs.Forms.{HasTerms, HasFormula, HasFormulas};
 
 use crate::words::{Head, bound_name, bound_sort, head_of, leaf, with_word};
-use ss_logic_stores::Sort;
-use ss_terms_stores::{Bank, FormulaId, Predicate, Symbol, Term, TermId};
+use ss_logic::Sort;
+use ss_terms::{Bank, FormulaId, Predicate, Symbol, Term, TermId};
 use std::alloc::{AllocError, Global};
 
 /// Whether each number stands for a term of the bank.

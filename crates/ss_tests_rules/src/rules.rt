@@ -3,7 +3,7 @@
 ghost use Rattle.std.specs.Prelude.{◌≡◌};
 ghost use Rattle.ss_core.specs.View as view;
 ghost use Rattle.ss_core.specs.Chain.{IsWithinLimits};
-ghost use Rattle.ss_terms_stores.specs.Forms.{HasTerms, IsBankOf};
+ghost use Rattle.ss_terms.specs.Forms.{HasTerms, IsBankOf};
 
 use crate::classes::{are_few, program};
 use crate::reader::{Reader, has_terms};
@@ -11,7 +11,7 @@ use crate::rows::{FITTING, OTHERS, WRONG};
 use crate::words::{free_rule, good_rule};
 use ss_core::Classes;
 use ss_rules::{good_instance, instance};
-use ss_terms_stores::{Bank, FormulaId, TermId, field_sorts};
+use ss_terms::{Bank, FormulaId, TermId, field_sorts};
 use std::alloc::{AllocError, Global};
 use std::test::Fail;
 

@@ -1,8 +1,8 @@
 // The words of terms, formulas and rules, as docs/OBLIGATIONS.md has them.
 
+use ss_logic::Sort;
 use ss_logic_rules::{GoodRule, RuleName};
-use ss_logic_stores::Sort;
-use ss_terms_stores::{Predicate, Symbol};
+use ss_terms::{Predicate, Symbol};
 
 /// What stands behind an opening parenthesis.
 #[derive(Clone, Copy)]

@@ -1,6 +1,6 @@
 pub mod Limits
 pub mod Meanings
-pub mod Says
-pub mod WholeRuns
+pub mod Ran
 pub mod Whole
+pub mod Says
 pub mod Inputs

@@ -1,48 +1,35 @@
 -- A source means one program, or it has one fault.
-use Rattle.std.proofs.Common.{◌≡◌, ⊎_elim, List, ℕ, Option, Some, None, sym, ap, ◌∙◌}
+use Rattle.std.proofs.Common.{◌≡◌, ⊎_elim, List, ℕ, Bool, true, false, sym, ap, ◌∙◌, subst}
 use Rattle.ss_core.specs.declared.names.Place.{Place}
-use Rattle.ss_second_core.specs.Tree.{CoreTree}
-use Rattle.ss_core.specs.Tree as whole
+use Rattle.ss_core.specs.Tree.{CoreTree}
+use Rattle.ss_core_built.specs.Built.{is_built}
 use Rattle.ss_expand_rules.specs.Elaborated.{elaborated}
-use Rattle.ss_second.specs.Second.{second_form}
 use Rattle.ss_top_sources.specs.Sources.{IsRefused}
 use Rattle.ss_top_sources.proofs.Meanings as front
 use Rattle.ss_top_words.specs.declared.Command.{Command}
 use Rattle.ss_top_words.specs.declared.Command.TheVariants as command
-use Rattle.ss_top.specs.Sources.{Expands, Means, IsNotOfForm, IsUnbuilt, IsStop}
+use Rattle.ss_top.specs.Sources.{Expands, Means, IsNotBuilt, IsUnbuilt, IsStop}
 
-same_form : {A B : Type 0} (f : A → Option B) (p q : A) (c d : B) → p ≡ q → f p ≡ Some c → f q ≡ Some d → c ≡ d
-same_form f p q c d same x y = let e : Some c ≡ Some d = sym x ∙ ap f same ∙ y in cc
-
-pub one_meaning : (source : List ℕ) (c d : CoreTree) → Means source c → Means source d → c ≡ d
-one_meaning source c d m n =
-    same_form second_form m.program n.program c d (front.one_meaning source m.tokens n.tokens m.program n.program m.accepted n.accepted).1 m.core n.core
-
-pub one_core : (source : List ℕ) (c d : whole.CoreTree) → Expands source c → Expands source d → c ≡ d
+pub one_core : (source : List ℕ) (c d : CoreTree) → Expands source c → Expands source d → c ≡ d
 one_core source c d m n =
     sym m.core ∙ ap elaborated (front.one_meaning source m.tokens n.tokens m.program n.program m.accepted n.accepted).1 ∙ n.core
 
 -- ---- faults
 
-no_form : {A B : Type 0} (f : A → Option B) (p q : A) (c : B) → p ≡ q → f p ≡ Some c → f q ≡ None → ⊥
-no_form f p q c same x y = let e : Some c ≡ None = sym x ∙ ap f same ∙ y in absurd (cc)
-
-of_form : (source : List ℕ) (c : CoreTree) → Means source c → IsNotOfForm source → ⊥
-of_form source c m n =
-    let same = front.one_meaning source m.tokens n.tokens m.program n.program m.accepted n.accepted in
-    no_form second_form m.program n.program c same.1 m.core n.differs
+is_there : (source : List ℕ) (c : CoreTree) → Means source c → IsNotBuilt source → ⊥
+is_there source c m n = let e : true ≡ false = sym m.built ∙ ap is_built (one_core source c n.program m.expands n.expands) ∙ n.differs in absurd (cc)
 
 not_refused : (source : List ℕ) (c : CoreTree) (rule : ℕ) (at : Place) → Means source c → IsRefused source rule at → ⊥
-not_refused source c rule at m h = front.no_fault source m.tokens m.program rule at m.accepted h
+not_refused source c rule at m h = front.no_fault source m.expands.tokens m.expands.program rule at m.expands.accepted h
 
 pub no_fault : (source : List ℕ) (c : CoreTree) (k : Command) (rule : ℕ) (at : Place) → Means source c → IsStop k source rule at → ⊥
-no_fault source c command.Verify rule at m h = ⊎_elim (λ x. not_refused source c rule at m x) (λ x. of_form source c m x.2) h
-no_fault source c command.Run rule at m h = ⊎_elim (λ x. not_refused source c rule at m x) (λ x. of_form source c m x.2) h
+no_fault source c command.Verify rule at m h = ⊎_elim (λ x. not_refused source c rule at m x) (λ x. is_there source c m x.2) h
+no_fault source c command.Run rule at m h = ⊎_elim (λ x. not_refused source c rule at m x) (λ x. is_there source c m x.2) h
 no_fault source c command.RunUnverified rule at m h = not_refused source c rule at m h
 no_fault source c command.Expand rule at m h = not_refused source c rule at m h
 
 built : (source : List ℕ) (r s : ℕ) (a b : Place) → IsRefused source r a → IsUnbuilt source s b → ⊥
-built source r s a b x y = let n = y.2 in front.no_fault source n.tokens n.program r a n.accepted x
+built source r s a b x y = let n = (y.2).expands in front.no_fault source n.tokens n.program r a n.accepted x
 
 same_stop : (source : List ℕ) (r s : ℕ) (a b : Place) → IsStop command.Verify source r a → IsStop command.Verify source s b → (r ≡ s) × (a ≡ b)
 same_stop source r s a b h k = ⊎_elim

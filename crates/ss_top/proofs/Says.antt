@@ -9,19 +9,20 @@ use Rattle.ss_core.specs.declared.names.FrontStop.{FrontStop}
 use Rattle.ss_core.specs.declared.names.FrontStop.TheVariants as front
 use Rattle.ss_core.specs.declared.names.Kind.{Kind}
 use Rattle.ss_core.specs.declared.names.Place.{Place}
-use Rattle.ss_second_core.specs.Tree.{CoreTree}
-use Rattle.ss_second_run.specs.Steps.{run, printed}
-use Rattle.ss_second_run.specs.Safe.{IsSafe, IsUnfailed}
-use Rattle.ss_second_machine.specs.Ends.{IsRunning, IsDoneAt, HasFailed, HasStopped}
-use Rattle.ss_vcgen_rules.specs.Obligations.{Obligation, obligations}
-use Rattle.ss_search.specs.declared.model.Countered.{Countered}
-use Rattle.ss_sound.specs.Verdicts.{IsUnproved}
+use Rattle.ss_core.specs.Tree.{CoreTree}
+use Rattle.ss_machine_rules.specs.Good.{IsUnfailed}
+use Rattle.ss_machine_typed.specs.Inputs.{IsInput}
+use Rattle.ss_vcgen_heaps.specs.Positions.{Obligation}
+use Rattle.ss_vcgen_heaps.specs.Obligations.{obligations}
+use Rattle.ss_search.specs.declared.answers.Countered.{Countered}
+use Rattle.ss_search.specs.declared.answers.Undecided.{Undecided}
+use Rattle.ss_sound.specs.Safe.{IsSafe}
+use Rattle.ss_sound.specs.Verdicts.{IsUnproved, IsUndecided}
 use Rattle.ss_report.specs.declared.status.Status.{Status}
 use Rattle.ss_report.specs.declared.status.Status.TheVariants as status
 use Rattle.ss_report.specs.Verdict.{verdict_text}
 use Rattle.ss_top_words.specs.declared.Command.{Command}
 use Rattle.ss_top_words.specs.declared.Command.TheVariants as command
-use Rattle.ss_core.specs.Tree as whole
 use Rattle.ss_typed.specs.Tree.{TypedTree}
 use Rattle.ss_ast.specs.Tokens.{Tok}
 use Rattle.ss_expand_rules.specs.Elaborated.{elaborated}
@@ -32,60 +33,55 @@ use Rattle.ss_top.specs.declared.source.Goal.{Goal}
 use Rattle.ss_top.specs.declared.source.Goal.TheVariants as asked_for
 use Rattle.ss_top.specs.Sources.{Means, Expands, IsStop, Gives}
 use Rattle.ss_top_words.specs.Words.{Asked}
-use Rattle.ss_top.specs.Unverified.{HasRunUnverified, FailsUnverified}
-use Rattle.ss_top.specs.Answers.{OfSource, OfFile, IsDone, verified_line, IsHeadline, IsToldVerified, HasRun, IsExpanded, RunsOn, StopsAt, TakesNoInput, IsToldUnproved, IsVerifiedInPart, IsRunInPart, IsToldInPart, IsExpandedInPart, IsWrittenInPart, IsVerify, IsRun, IsRunUnverified, IsExpand, Verifies, command_of_goal, IfRefused, IfUnproved, IfStopped, IfFailed, ReadsOnly, IsVerified, IsSilent, HasEnded, IsSpent, IsStopped, IsUnadmitted, Says, answer_to}
+use Rattle.ss_top.specs.Runs.{HasRun, FailsAt}
+use Rattle.ss_top.specs.Answers.{OfSource, OfFile, verified_line, options, IsHeadline, IsToldVerified, IsExpanded, IsToldUnproved, IsToldUndecided, AreListed, IsVerifiedInPart, IsToldInPart, IsExpandedInPart, IsWrittenInPart, IsVerify, IsRun, IsRunUnverified, IsExpand, Verifies, command_of_goal, IfRefused, IfUnproved, IfUndecided, IfStopped, IfFailed, ReadsOnly, IsVerified, IsSilent, HasEnded, IsSpent, IsStopped, IsUnadmitted, Says, answer_to}
 use Rattle.ss_store_rules.specs.Formed.{IsFormed}
 use Rattle.ss_top.proofs.Limits.{accepted_formed}
+use Rattle.ss_top.proofs.Meanings.{one_core}
 use Rattle.ss_top.proofs.Whole.{OfSource-map}
 
 pub told_verified : (c : CoreTree) (old new : Option (List ℕ)) (source : List ℕ) → Means source c → IsSafe c → Grew old new verified_line → IsToldVerified old new source
 told_verified c old new source means safe took = record { program = c; means = means; safe = safe; took = took }
 
-pub has_run : (c : CoreTree) (k steps : ℕ) (input : List ℤ) (old new : Option (List ℕ)) (source : List ℕ) → Means source c → IsSafe c → input ≡ [] → IsDoneAt c k steps → Grew old new (printed c steps) → HasRun steps input old new source
-has_run c k steps input old new source means safe empty done took = record { program = c; means = means; safe = safe; empty = empty; done = subst IsDone (sym done.stays) tt; took = took }
-
-pub runs_on : (c : CoreTree) (steps : ℕ) (input : List ℤ) (old new : Option (List ℕ)) (source : List ℕ) → Means source c → IsSafe c → input ≡ [] → IsRunning (run c steps) → Grew old new (printed c steps) → RunsOn steps input old new source
-runs_on c steps input old new source means safe empty running took = record { program = c; means = means; safe = safe; empty = empty; running = running; took = took }
-
-pub stops_at : (c : CoreTree) (at : Place) (steps : ℕ) (input : List ℤ) (old new : Option (List ℕ)) (source : List ℕ) → Means source c → IsSafe c → input ≡ [] → HasStopped c at steps → Grew old new (printed c steps) → StopsAt at steps input old new source
-stops_at c at steps input old new source means safe empty stopped took = record { program = c; means = means; safe = safe; empty = empty; stopped = stopped; took = took }
-
 pub verified_in_part : (c : CoreTree) (old new : Option (List ℕ)) (source : List ℕ) → Means source c → IsSafe c → GrewByFront old new verified_line → IsVerifiedInPart old new source
 verified_in_part c old new source means safe front = record { program = c; means = means; safe = safe; front = front }
 
-pub run_in_part : (c : CoreTree) (steps : ℕ) (input : List ℤ) (old new : Option (List ℕ)) (source : List ℕ) → Means source c → IsSafe c → input ≡ [] → GrewByFront old new (printed c steps) → IsRunInPart steps input old new source
-run_in_part c steps input old new source means safe empty front = record { program = c; means = means; safe = safe; empty = empty; front = front }
-
-pub expands : (source : List ℕ) (ts : List Tok) (p : TypedTree) (c : whole.CoreTree) → IsAccepted source ts p → c ≡ elaborated p → Expands source c
+pub expands : (source : List ℕ) (ts : List Tok) (p : TypedTree) (c : CoreTree) → IsAccepted source ts p → c ≡ elaborated p → Expands source c
 expands source ts p c a e = record { tokens = ts; program = p; accepted = a; core = sym e; formed = subst IsFormed (sym e) (accepted_formed source ts p a) }
 
-pub expanded : (source : List ℕ) (ts : List Tok) (p : TypedTree) (c : whole.CoreTree) (text : List ℕ) (old new : Option (List ℕ)) → IsAccepted source ts p → c ≡ elaborated p → text ≡ core_text c → Grew old new text → IsExpanded old new source
+pub expanded : (source : List ℕ) (ts : List Tok) (p : TypedTree) (c : CoreTree) (text : List ℕ) (old new : Option (List ℕ)) → IsAccepted source ts p → c ≡ elaborated p → text ≡ core_text c → Grew old new text → IsExpanded old new source
 expanded source ts p c text old new a e is took = record { program = c; expands = expands source ts p c a e; took = subst (λ t. Grew old new t) is took }
 
-pub expanded_in_part : (source : List ℕ) (ts : List Tok) (p : TypedTree) (c : whole.CoreTree) (text : List ℕ) (old new : Option (List ℕ)) → IsAccepted source ts p → c ≡ elaborated p → text ≡ core_text c → GrewByFront old new text → IsExpandedInPart old new source
+pub expanded_in_part : (source : List ℕ) (ts : List Tok) (p : TypedTree) (c : CoreTree) (text : List ℕ) (old new : Option (List ℕ)) → IsAccepted source ts p → c ≡ elaborated p → text ≡ core_text c → GrewByFront old new text → IsExpandedInPart old new source
 expanded_in_part source ts p c text old new a e is front = record { program = c; expands = expands source ts p c a e; front = subst (λ t. GrewByFront old new t) is front }
 
--- a safe program's run hasn't failed
-pub never_fails : (c : CoreTree) (kind : Kind) (at : Place) (steps : ℕ) → IsSafe c → HasFailed c kind at steps → ⊥
-never_fails c kind at steps safe failed = subst IsUnfailed failed (safe.unfailed steps)
-
-pub told : (c : CoreTree) (os : List Obligation) (listed : List Countered) (old new : Option (List ℕ)) (source text : List ℕ) → Means source c → os ≡ obligations c → IsUnproved (obligations c) listed
-    → text ≡ verdict_text c os listed → Grew old new text → IsToldUnproved listed old new source
-told c os listed old new source text means same unproved is took = record {
+pub told : (c : CoreTree) (os : List Obligation) (ms : List Countered) (us : List Undecided) (old new : Option (List ℕ)) (source text : List ℕ) → Means source c → os ≡ obligations c → IsUnproved c.classes options (obligations c) ms us
+    → text ≡ verdict_text c os ms us → Grew old new text → IsToldUnproved ms us old new source
+told c os ms us old new source text means same unproved is took = record {
   program = c;
   means = means;
   unproved = unproved;
-  took = subst (λ t. Grew old new t) (is ∙ ap (λ o. verdict_text c o listed) same) took;
+  took = subst (λ t. Grew old new t) (is ∙ ap (λ o. verdict_text c o ms us) same) took;
 }
 
-pub told_in_part : (c : CoreTree) (os : List Obligation) (listed : List Countered) (old new : Option (List ℕ)) (source text : List ℕ) → Means source c → os ≡ obligations c → IsUnproved (obligations c) listed
-    → text ≡ verdict_text c os listed → GrewByFront old new text → IsToldInPart old new source
-told_in_part c os listed old new source text means same unproved is front = record {
+pub told_undecided : (c : CoreTree) (os : List Obligation) (us : List Undecided) (old new : Option (List ℕ)) (source text : List ℕ) → Means source c → os ≡ obligations c → IsUndecided c.classes options (obligations c) us
+    → text ≡ verdict_text c os [] us → Grew old new text → IsToldUndecided us old new source
+told_undecided c os us old new source text means same undecided is took = record {
   program = c;
   means = means;
+  verdict = undecided;
+  took = subst (λ t. Grew old new t) (is ∙ ap (λ o. verdict_text c o [] us) same) took;
+}
+
+pub told_in_part : (c : CoreTree) (os : List Obligation) (ms : List Countered) (us : List Undecided) (old new : Option (List ℕ)) (source text : List ℕ) → Means source c → os ≡ obligations c → AreListed c ms us
+    → text ≡ verdict_text c os ms us → GrewByFront old new text → IsToldInPart old new source
+told_in_part c os ms us old new source text means same listed is front = record {
+  program = c;
+  means = means;
+  countered = ms;
+  undecided = us;
   listed = listed;
-  unproved = unproved;
-  front = subst (λ t. GrewByFront old new t) (is ∙ ap (λ o. verdict_text c o listed) same) front;
+  front = subst (λ t. GrewByFront old new t) (is ∙ ap (λ o. verdict_text c o ms us) same) front;
 }
 
 -- nothing was taken
@@ -93,10 +89,7 @@ pub grew_nothing : (taken : Option (List ℕ)) → Grew taken taken []
 grew_nothing None = refl
 grew_nothing (Some bytes) = ap Some (sym (append-nil bytes))
 
-pub takes_no_input : (c : CoreTree) (input : List ℤ) (taken : Option (List ℕ)) (source : List ℕ) → Means source c → IsSafe c → input ≢ [] → TakesNoInput input taken taken source
-takes_no_input c input taken source means safe given = record { program = c; means = means; safe = safe; given = given; nothing = grew_nothing taken }
-
--- the answer to a source that isn't read, or isn't of the form
+-- the answer to a source that isn't read, or that isn't verified yet
 pub refused_says : (steps : ℕ) (input : List ℤ) (taken : Option (List ℕ)) (g : Goal) (source : List ℕ) (stop : FrontStop) → Gives source (Err stop) → Says steps input taken taken (answer_to stop) (command_of_goal g) source
 refused_says steps input taken g source front.Memory h = inl (grew_nothing taken)
 refused_says steps input taken asked_for.Verdict source (front.Refused rule at) h = (h, grew_nothing taken)
@@ -124,6 +117,30 @@ pub goal_verifies : (g : Goal) → Verifies (command_of_goal g)
 goal_verifies asked_for.Verdict = tt
 goal_verifies asked_for.Run = tt
 
+-- ---- the run of a safe program
+
+-- no check of it fails
+never_fails : (c : CoreTree) (kind : Kind) (at : Place) (steps : ℕ) (input : List ℤ) (old new : Option (List ℕ)) (source : List ℕ) → Means source c → IsSafe c → IsInput input → FailsAt kind at steps input old new source → ⊥
+never_fails c kind at steps input old new source means safe given h =
+    let same : h.program ≡ c = one_core source h.program c h.expands means.expands in
+    let safe_one : IsSafe h.program = subst IsSafe (sym same) safe in
+    subst IsUnfailed h.failed (safe_one.unfailed input given h.admits steps)
+
+-- what is said of its run without verification is said of its run behind it
+pub safe_says : (c : CoreTree) (steps : ℕ) (input : List ℤ) (old new : Option (List ℕ)) (source : List ℕ) (st : Status) → Means source c → IsSafe c → IsInput input → Says steps input old new st command.RunUnverified source → Says steps input old new st command.Run source
+safe_says c steps input old new source status.Ended means safe given h = (record { program = c; means = means; safe = safe }, h)
+safe_says c steps input old new source status.StepsSpent means safe given h = (record { program = c; means = means; safe = safe }, h)
+safe_says c steps input old new source (status.Stopped at) means safe given h = (record { program = c; means = means; safe = safe }, h)
+safe_says c steps input old new source (status.Failed kind at) means safe given h = absurd (never_fails c kind at steps input old new source means safe given h.1)
+safe_says c steps input old new source status.NotAdmitted means safe given h = (record { program = c; means = means; safe = safe }, h)
+safe_says c steps input old new source (status.Unproved ms us) means safe given h = absurd h.0
+safe_says c steps input old new source (status.Undecided us) means safe given h = absurd h.0
+safe_says c steps input old new source (status.SourceRefused rule at) means safe given h = (inl h.0, h.1)
+safe_says c steps input old new source status.WriteFault means safe given h = inl (record { program = c; means = means; safe = safe }, h)
+safe_says c steps input old new source status.Memory means safe given h = ⊎_elim (λ nothing. inl nothing) (λ part. inr (inl (record { program = c; means = means; safe = safe }, part))) h
+safe_says c steps input old new source status.BadWords means safe given h = absurd h
+safe_says c steps input old new source status.ReadFault means safe given h = absurd h
+
 -- ---- from what an answer says to the single facts
 
 -- what is said where this was asked
@@ -137,7 +154,8 @@ Says-refused a old new status.StepsSpent told h = tt
 Says-refused a old new (status.Stopped at) told h = tt
 Says-refused a old new (status.Failed kind at) told h = tt
 Says-refused a old new status.NotAdmitted told h = tt
-Says-refused a old new (status.Unproved listed) told h = tt
+Says-refused a old new (status.Unproved countered undecided) told h = tt
+Says-refused a old new (status.Undecided undecided) told h = tt
 Says-refused a old new (status.SourceRefused rule at) told h = OfSource-map (told a.file) (SaysOf a old new (status.SourceRefused rule at)) (λ source. IsStop a.command source rule at) (λ source x. x.0) h
 Says-refused a old new status.WriteFault told h = tt
 Says-refused a old new status.Memory told h = tt
@@ -146,25 +164,25 @@ Says-refused a old new status.ReadFault told h = tt
 
 ended_headline : (c : Command) (steps : ℕ) (input : List ℤ) (old new : Option (List ℕ)) (source : List ℕ) → HasEnded c steps input old new source → Verifies c → IsHeadline source
 ended_headline command.Verify steps input old new source x v = record { program = x.program; means = x.means; safe = x.safe }
-ended_headline command.Run steps input old new source x v = record { program = x.program; means = x.means; safe = x.safe }
+ended_headline command.Run steps input old new source x v = x.0
 ended_headline command.RunUnverified steps input old new source x v = absurd v
 ended_headline command.Expand steps input old new source x v = absurd v
 
 spent_headline : (c : Command) (steps : ℕ) (input : List ℤ) (old new : Option (List ℕ)) (source : List ℕ) → IsSpent c steps input old new source → Verifies c → IsHeadline source
 spent_headline command.Verify steps input old new source x v = absurd x
-spent_headline command.Run steps input old new source x v = record { program = x.program; means = x.means; safe = x.safe }
+spent_headline command.Run steps input old new source x v = x.0
 spent_headline command.RunUnverified steps input old new source x v = absurd v
 spent_headline command.Expand steps input old new source x v = absurd v
 
 stopped_headline : (at : Place) (c : Command) (steps : ℕ) (input : List ℤ) (old new : Option (List ℕ)) (source : List ℕ) → IsStopped at c steps input old new source → Verifies c → IsHeadline source
 stopped_headline at command.Verify steps input old new source x v = absurd x
-stopped_headline at command.Run steps input old new source x v = record { program = x.program; means = x.means; safe = x.safe }
+stopped_headline at command.Run steps input old new source x v = x.0
 stopped_headline at command.RunUnverified steps input old new source x v = absurd v
 stopped_headline at command.Expand steps input old new source x v = absurd v
 
 unadmitted_headline : (c : Command) (input : List ℤ) (old new : Option (List ℕ)) (source : List ℕ) → IsUnadmitted c input old new source → Verifies c → IsHeadline source
 unadmitted_headline command.Verify input old new source x v = absurd x
-unadmitted_headline command.Run input old new source x v = record { program = x.program; means = x.means; safe = x.safe }
+unadmitted_headline command.Run input old new source x v = x.0
 unadmitted_headline command.RunUnverified input old new source x v = absurd v
 unadmitted_headline command.Expand input old new source x v = absurd v
 
@@ -175,7 +193,8 @@ Says-headline a old new status.StepsSpent told h v = OfSource-map (told a.file) 
 Says-headline a old new (status.Stopped at) told h v = OfSource-map (told a.file) (SaysOf a old new (status.Stopped at)) (λ source. Verifies a.command → IsHeadline source) (λ source x. stopped_headline at a.command a.steps a.input old new source x) h
 Says-headline a old new (status.Failed kind at) told h v = absurd v
 Says-headline a old new status.NotAdmitted told h v = OfSource-map (told a.file) (SaysOf a old new status.NotAdmitted) (λ source. Verifies a.command → IsHeadline source) (λ source x. unadmitted_headline a.command a.input old new source x) h
-Says-headline a old new (status.Unproved listed) told h v = absurd v
+Says-headline a old new (status.Unproved countered undecided) told h v = absurd v
+Says-headline a old new (status.Undecided undecided) told h v = absurd v
 Says-headline a old new (status.SourceRefused rule at) told h v = absurd v
 Says-headline a old new status.WriteFault told h v = absurd v
 Says-headline a old new status.Memory told h v = absurd v
@@ -188,13 +207,13 @@ ended_verify command.Run steps input old new source x v = absurd v
 ended_verify command.RunUnverified steps input old new source x v = absurd v
 ended_verify command.Expand steps input old new source x v = absurd v
 
-ended_run : (c : Command) (steps : ℕ) (input : List ℤ) (old new : Option (List ℕ)) (source : List ℕ) → HasEnded c steps input old new source → IsRun c → HasRun steps input old new source
+ended_run : (c : Command) (steps : ℕ) (input : List ℤ) (old new : Option (List ℕ)) (source : List ℕ) → HasEnded c steps input old new source → IsRun c → IsHeadline source × HasRun steps input old new source
 ended_run command.Verify steps input old new source x v = absurd v
 ended_run command.Run steps input old new source x v = x
 ended_run command.RunUnverified steps input old new source x v = absurd v
 ended_run command.Expand steps input old new source x v = absurd v
 
-ended_run_unverified : (c : Command) (steps : ℕ) (input : List ℤ) (old new : Option (List ℕ)) (source : List ℕ) → HasEnded c steps input old new source → IsRunUnverified c → HasRunUnverified steps input old new source
+ended_run_unverified : (c : Command) (steps : ℕ) (input : List ℤ) (old new : Option (List ℕ)) (source : List ℕ) → HasEnded c steps input old new source → IsRunUnverified c → HasRun steps input old new source
 ended_run_unverified command.Verify steps input old new source x v = absurd v
 ended_run_unverified command.Run steps input old new source x v = absurd v
 ended_run_unverified command.RunUnverified steps input old new source x v = x
@@ -212,14 +231,14 @@ Says-verified a old new st told h e =
     OfSource-map (told a.file) (HasEnded a.command a.steps a.input old new) (λ source. IsVerify a.command → IsToldVerified old new source) (λ source x. ended_verify a.command a.steps a.input old new source x) (subst (λ x. OfSource (told a.file) (SaysOf a old new x)) e h)
 
 pub Says-ended : (a : Asked) (old new : Option (List ℕ)) (st : Status) (told : List ℕ → Told) → OfSource (told a.file) (SaysOf a old new st) → st ≡ status.Ended
-    → OfFile (Some a) told (λ asked source. IsRun asked.command → HasRun asked.steps asked.input old new source)
+    → OfFile (Some a) told (λ asked source. IsRun asked.command → IsHeadline source × HasRun asked.steps asked.input old new source)
 Says-ended a old new st told h e =
-    OfSource-map (told a.file) (HasEnded a.command a.steps a.input old new) (λ source. IsRun a.command → HasRun a.steps a.input old new source) (λ source x. ended_run a.command a.steps a.input old new source x) (subst (λ x. OfSource (told a.file) (SaysOf a old new x)) e h)
+    OfSource-map (told a.file) (HasEnded a.command a.steps a.input old new) (λ source. IsRun a.command → IsHeadline source × HasRun a.steps a.input old new source) (λ source x. ended_run a.command a.steps a.input old new source x) (subst (λ x. OfSource (told a.file) (SaysOf a old new x)) e h)
 
 pub Says-ran : (a : Asked) (old new : Option (List ℕ)) (st : Status) (told : List ℕ → Told) → OfSource (told a.file) (SaysOf a old new st) → st ≡ status.Ended
-    → OfFile (Some a) told (λ asked source. IsRunUnverified asked.command → HasRunUnverified asked.steps asked.input old new source)
+    → OfFile (Some a) told (λ asked source. IsRunUnverified asked.command → HasRun asked.steps asked.input old new source)
 Says-ran a old new st told h e =
-    OfSource-map (told a.file) (HasEnded a.command a.steps a.input old new) (λ source. IsRunUnverified a.command → HasRunUnverified a.steps a.input old new source) (λ source x. ended_run_unverified a.command a.steps a.input old new source x) (subst (λ x. OfSource (told a.file) (SaysOf a old new x)) e h)
+    OfSource-map (told a.file) (HasEnded a.command a.steps a.input old new) (λ source. IsRunUnverified a.command → HasRun a.steps a.input old new source) (λ source x. ended_run_unverified a.command a.steps a.input old new source x) (subst (λ x. OfSource (told a.file) (SaysOf a old new x)) e h)
 
 pub Says-expanded : (a : Asked) (old new : Option (List ℕ)) (st : Status) (told : List ℕ → Told) → OfSource (told a.file) (SaysOf a old new st) → st ≡ status.Ended
     → OfFile (Some a) told (λ asked source. IsExpand asked.command → IsExpanded old new source)
@@ -241,7 +260,8 @@ Says-stopped a old new status.StepsSpent told h = tt
 Says-stopped a old new (status.Stopped at) told h = h
 Says-stopped a old new (status.Failed kind at) told h = tt
 Says-stopped a old new status.NotAdmitted told h = tt
-Says-stopped a old new (status.Unproved listed) told h = tt
+Says-stopped a old new (status.Unproved countered undecided) told h = tt
+Says-stopped a old new (status.Undecided undecided) told h = tt
 Says-stopped a old new (status.SourceRefused rule at) told h = tt
 Says-stopped a old new status.WriteFault told h = tt
 Says-stopped a old new status.Memory told h = tt
@@ -249,13 +269,14 @@ Says-stopped a old new status.BadWords told h = tt
 Says-stopped a old new status.ReadFault told h = tt
 
 pub Says-failed : (a : Asked) (old new : Option (List ℕ)) (st : Status) (told : List ℕ → Told) → OfSource (told a.file) (SaysOf a old new st)
-    → IfFailed st (λ kind at. OfFile (Some a) told (λ asked source. IsRunUnverified asked.command × FailsUnverified kind at asked.steps asked.input old new source))
+    → IfFailed st (λ kind at. OfFile (Some a) told (λ asked source. IsRunUnverified asked.command × FailsAt kind at asked.steps asked.input old new source))
 Says-failed a old new status.Ended told h = tt
 Says-failed a old new status.StepsSpent told h = tt
 Says-failed a old new (status.Stopped at) told h = tt
 Says-failed a old new (status.Failed kind at) told h = h
 Says-failed a old new status.NotAdmitted told h = tt
-Says-failed a old new (status.Unproved listed) told h = tt
+Says-failed a old new (status.Unproved countered undecided) told h = tt
+Says-failed a old new (status.Undecided undecided) told h = tt
 Says-failed a old new (status.SourceRefused rule at) told h = tt
 Says-failed a old new status.WriteFault told h = tt
 Says-failed a old new status.Memory told h = tt
@@ -263,18 +284,34 @@ Says-failed a old new status.BadWords told h = tt
 Says-failed a old new status.ReadFault told h = tt
 
 pub Says-unproved : (a : Asked) (old new : Option (List ℕ)) (st : Status) (told : List ℕ → Told) → OfSource (told a.file) (SaysOf a old new st)
-    → IfUnproved st (λ listed. OfFile (Some a) told (λ asked source. Verifies asked.command × IsToldUnproved listed old new source))
+    → IfUnproved st (λ countered undecided. OfFile (Some a) told (λ asked source. Verifies asked.command × IsToldUnproved countered undecided old new source))
 Says-unproved a old new status.Ended told h = tt
 Says-unproved a old new status.StepsSpent told h = tt
 Says-unproved a old new (status.Stopped at) told h = tt
 Says-unproved a old new (status.Failed kind at) told h = tt
 Says-unproved a old new status.NotAdmitted told h = tt
-Says-unproved a old new (status.Unproved listed) told h = h
+Says-unproved a old new (status.Unproved countered undecided) told h = h
+Says-unproved a old new (status.Undecided undecided) told h = tt
 Says-unproved a old new (status.SourceRefused rule at) told h = tt
 Says-unproved a old new status.WriteFault told h = tt
 Says-unproved a old new status.Memory told h = tt
 Says-unproved a old new status.BadWords told h = tt
 Says-unproved a old new status.ReadFault told h = tt
+
+pub Says-undecided : (a : Asked) (old new : Option (List ℕ)) (st : Status) (told : List ℕ → Told) → OfSource (told a.file) (SaysOf a old new st)
+    → IfUndecided st (λ undecided. OfFile (Some a) told (λ asked source. Verifies asked.command × IsToldUndecided undecided old new source))
+Says-undecided a old new status.Ended told h = tt
+Says-undecided a old new status.StepsSpent told h = tt
+Says-undecided a old new (status.Stopped at) told h = tt
+Says-undecided a old new (status.Failed kind at) told h = tt
+Says-undecided a old new status.NotAdmitted told h = tt
+Says-undecided a old new (status.Unproved countered undecided) told h = tt
+Says-undecided a old new (status.Undecided undecided) told h = h
+Says-undecided a old new (status.SourceRefused rule at) told h = tt
+Says-undecided a old new status.WriteFault told h = tt
+Says-undecided a old new status.Memory told h = tt
+Says-undecided a old new status.BadWords told h = tt
+Says-undecided a old new status.ReadFault told h = tt
 
 nothing_in : (told : Told) (P : List ℕ → Type 0) (Q : Type 0) → ((source : List ℕ) → P source → Q) → OfSource told P → Q
 nothing_in None P Q f h = f h.0 h.1
@@ -283,7 +320,7 @@ nothing_in (Some (Some source)) P Q f h = f source h
 
 unadmitted_nothing : (c : Command) (input : List ℤ) (old new : Option (List ℕ)) (source : List ℕ) → IsUnadmitted c input old new source → Grew old new []
 unadmitted_nothing command.Verify input old new source x = absurd x
-unadmitted_nothing command.Run input old new source x = x.nothing
+unadmitted_nothing command.Run input old new source x = (x.1).nothing
 unadmitted_nothing command.RunUnverified input old new source x = x.nothing
 unadmitted_nothing command.Expand input old new source x = absurd x
 
@@ -293,7 +330,8 @@ Says-silent a old new status.StepsSpent told h v = absurd v
 Says-silent a old new (status.Stopped at) told h v = absurd v
 Says-silent a old new (status.Failed kind at) told h v = absurd v
 Says-silent a old new status.NotAdmitted told h v = nothing_in (told a.file) (SaysOf a old new status.NotAdmitted) (Grew old new []) (λ source x. unadmitted_nothing a.command a.input old new source x) h
-Says-silent a old new (status.Unproved listed) told h v = absurd v
+Says-silent a old new (status.Unproved countered undecided) told h v = absurd v
+Says-silent a old new (status.Undecided undecided) told h v = absurd v
 Says-silent a old new (status.SourceRefused rule at) told h v = nothing_in (told a.file) (SaysOf a old new (status.SourceRefused rule at)) (Grew old new []) (λ source x. x.1) h
 Says-silent a old new status.WriteFault told h v = absurd v
 Says-silent a old new status.Memory told h v = absurd v

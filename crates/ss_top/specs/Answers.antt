@@ -6,25 +6,24 @@ use Rattle.ss_core.specs.declared.names.Kind.{Kind}
 use Rattle.ss_core.specs.declared.names.Place.{Place}
 use Rattle.ss_core.specs.declared.names.FrontStop.{FrontStop}
 use Rattle.ss_core.specs.declared.names.FrontStop.TheVariants as front
-use Rattle.ss_second_core.specs.Tree.{CoreTree}
-use Rattle.ss_second_run.specs.Steps.{State, Running, Done, Failed, Stopped, run, printed}
-use Rattle.ss_second_run.specs.Safe.{IsSafe}
-use Rattle.ss_second_machine.specs.Ends.{IsRunning, HasStopped}
-use Rattle.ss_vcgen_rules.specs.Obligations.{obligations}
-use Rattle.ss_search.specs.declared.model.Countered.{Countered}
-use Rattle.ss_sound.specs.Verdicts.{IsUnproved}
+use Rattle.ss_core.specs.Tree.{CoreTree}
+use Rattle.ss_vcgen_heaps.specs.Obligations.{obligations}
+use Rattle.ss_search.specs.declared.answers.Countered.{Countered}
+use Rattle.ss_search.specs.declared.answers.Undecided.{Undecided}
+use Rattle.ss_search.specs.declared.answers.Options.{Options}
+use Rattle.ss_sound.specs.Safe.{IsSafe}
+use Rattle.ss_sound.specs.Verdicts.{IsUnproved, IsUndecided}
 use Rattle.ss_report.specs.declared.status.Status.{Status}
 use Rattle.ss_report.specs.declared.status.Status.TheVariants as status
 use Rattle.ss_report.specs.Verdict.{verdict_text}
+use Rattle.ss_report_core.specs.Text.{core_text}
 use Rattle.ss_top_words.specs.Words.{Asked, asked}
-use Rattle.ss_top.specs.declared.source.Goal.{Goal}
-use Rattle.ss_top.specs.declared.source.Goal.TheVariants as goal
 use Rattle.ss_top_words.specs.declared.Command.{Command}
 use Rattle.ss_top_words.specs.declared.Command.TheVariants as command
-use Rattle.ss_core.specs.Tree as whole
-use Rattle.ss_report_core.specs.Text.{core_text}
+use Rattle.ss_top.specs.declared.source.Goal.{Goal}
+use Rattle.ss_top.specs.declared.source.Goal.TheVariants as goal
 use Rattle.ss_top.specs.Sources.{Means, Expands, IsStop}
-use Rattle.ss_top.specs.Unverified.{HasRunUnverified, RunsOnUnverified, StopsUnverified, FailsUnverified, IsNotAdmitted, RunsInPart}
+use Rattle.ss_top.specs.Runs.{HasRun, RunsOn, StopsAt, FailsAt, IsNotAdmitted, RunsInPart}
 
 -- what the words ask for
 abbrev pub asked_by : List (String Global) → Option Asked
@@ -49,17 +48,11 @@ abbrev pub OfFile : Option Asked → (List ℕ → Told) → (Asked → List ℕ
 OfFile None told P = ⊥
 OfFile (Some a) told P = OfSource (told a.file) (P a)
 
-abbrev pub IsDone : State → Type 0
-IsDone (Running fs before) = ⊥
-IsDone (Done before) = Unit {0}
-IsDone (Failed kind at before) = ⊥
-IsDone (Stopped at before) = ⊥
-
 abbrev pub verified_line : List ℕ
 verified_line = codes "verified" ++ 10 ∷ []
 
--- the headline: the source is accepted, and its program is safe, that is, after every number of steps no check of its run has failed
--- and its state is good
+-- The headline: the source is accepted, and its program is safe. For every admitted input and after every number of steps no check of its
+-- run has failed, and its state is good: each object meets the invariants of all class levels at which it is packed.
 pub record IsHeadline (source : List ℕ) : Type 0 where
   pub program : CoreTree
   pub means : Means source program
@@ -72,52 +65,28 @@ pub record IsToldVerified (old new : Option (List ℕ)) (source : List ℕ) : Ty
   pub safe : IsSafe program
   pub took : Grew old new verified_line
 
--- The program is safe, its run is done within these steps, and the sink took exactly what the run printed. The Main of a program of the
--- second form has no parameter, and so it is run on the empty input alone.
-pub record HasRun (steps : ℕ) (input : List ℤ) (old new : Option (List ℕ)) (source : List ℕ) : Type 0 where
-  pub program : CoreTree
-  pub means : Means source program
-  pub safe : IsSafe program
-  pub empty : input ≡ []
-  pub done : IsDone (run program steps)
-  pub took : Grew old new (printed program steps)
+-- how far obligations are searched
+abbrev pub options : Options
+options = record { rounds = 2; instances = 50000 }
 
--- the same, but after these steps the run isn't at its end
-pub record RunsOn (steps : ℕ) (input : List ℤ) (old new : Option (List ℕ)) (source : List ℕ) : Type 0 where
+-- The first of the listed obligations are refuted by their models, the others have too many instances, and all that aren't listed are
+-- valid. The sink took exactly the text of the verdict.
+pub record IsToldUnproved (countered : List Countered) (undecided : List Undecided) (old new : Option (List ℕ)) (source : List ℕ) : Type 0 where
   pub program : CoreTree
   pub means : Means source program
-  pub safe : IsSafe program
-  pub empty : input ≡ []
-  pub running : IsRunning (run program steps)
-  pub took : Grew old new (printed program steps)
+  pub unproved : IsUnproved program.classes options (obligations program) countered undecided
+  pub took : Grew old new (verdict_text program (obligations program) countered undecided)
 
--- the same, but within these steps the run stopped at an assumption that is false, which is at this place
-pub record StopsAt (at : Place) (steps : ℕ) (input : List ℤ) (old new : Option (List ℕ)) (source : List ℕ) : Type 0 where
+-- the listed obligations have too many instances, and all others are valid; the sink took exactly the text of the verdict
+pub record IsToldUndecided (undecided : List Undecided) (old new : Option (List ℕ)) (source : List ℕ) : Type 0 where
   pub program : CoreTree
   pub means : Means source program
-  pub safe : IsSafe program
-  pub empty : input ≡ []
-  pub stopped : HasStopped program at steps
-  pub took : Grew old new (printed program steps)
-
--- the program is safe, but its Main has no parameter and the input isn't empty; the sink took nothing
-pub record TakesNoInput (input : List ℤ) (old new : Option (List ℕ)) (source : List ℕ) : Type 0 where
-  pub program : CoreTree
-  pub means : Means source program
-  pub safe : IsSafe program
-  pub given : input ≢ []
-  pub nothing : Grew old new []
-
--- the listed obligations are refuted by their models and all others valid, and the sink took exactly the text of the verdict
-pub record IsToldUnproved (listed : List Countered) (old new : Option (List ℕ)) (source : List ℕ) : Type 0 where
-  pub program : CoreTree
-  pub means : Means source program
-  pub unproved : IsUnproved (obligations program) listed
-  pub took : Grew old new (verdict_text program (obligations program) listed)
+  pub verdict : IsUndecided program.classes options (obligations program) undecided
+  pub took : Grew old new (verdict_text program (obligations program) [] undecided)
 
 -- the sink took exactly the text of the core program
 pub record IsExpanded (old new : Option (List ℕ)) (source : List ℕ) : Type 0 where
-  pub program : whole.CoreTree
+  pub program : CoreTree
   pub expands : Expands source program
   pub took : Grew old new (core_text program)
 
@@ -128,32 +97,29 @@ pub record IsVerifiedInPart (old new : Option (List ℕ)) (source : List ℕ) : 
   pub safe : IsSafe program
   pub front : GrewByFront old new verified_line
 
--- the program is safe and is run on the empty input, and the sink took a front of what the run printed
-pub record IsRunInPart (steps : ℕ) (input : List ℤ) (old new : Option (List ℕ)) (source : List ℕ) : Type 0 where
-  pub program : CoreTree
-  pub means : Means source program
-  pub safe : IsSafe program
-  pub empty : input ≡ []
-  pub front : GrewByFront old new (printed program steps)
+-- these are lists of a verdict that isn't that all is proved
+abbrev pub AreListed : CoreTree → List Countered → List Undecided → Type 0
+AreListed c countered undecided = IsUnproved c.classes options (obligations c) countered undecided ⊎ (countered ≡ []) × IsUndecided c.classes options (obligations c) undecided
 
 -- the sink took a front of the text of a verdict that could be given
 pub record IsToldInPart (old new : Option (List ℕ)) (source : List ℕ) : Type 0 where
   pub program : CoreTree
   pub means : Means source program
-  pub listed : List Countered
-  pub unproved : IsUnproved (obligations program) listed
-  pub front : GrewByFront old new (verdict_text program (obligations program) listed)
+  pub countered : List Countered
+  pub undecided : List Undecided
+  pub listed : AreListed program countered undecided
+  pub front : GrewByFront old new (verdict_text program (obligations program) countered undecided)
 
 -- the sink took a front of the text of the core program
 pub record IsExpandedInPart (old new : Option (List ℕ)) (source : List ℕ) : Type 0 where
-  pub program : whole.CoreTree
+  pub program : CoreTree
   pub expands : Expands source program
   pub front : GrewByFront old new (core_text program)
 
 -- the sink took a front of what the answers above let be written
 abbrev pub IsWrittenInPart : ℕ → List ℤ → Option (List ℕ) → Option (List ℕ) → Command → List ℕ → Type 0
 IsWrittenInPart steps input old new command.Verify source = IsVerifiedInPart old new source ⊎ IsToldInPart old new source
-IsWrittenInPart steps input old new command.Run source = IsRunInPart steps input old new source ⊎ IsToldInPart old new source
+IsWrittenInPart steps input old new command.Run source = IsHeadline source × RunsInPart steps input old new source ⊎ IsToldInPart old new source
 IsWrittenInPart steps input old new command.RunUnverified source = RunsInPart steps input old new source
 IsWrittenInPart steps input old new command.Expand source = IsExpandedInPart old new source
 
@@ -201,9 +167,13 @@ abbrev pub IfRefused : Status → (ℕ → Place → Type 0) → Type 0
 IfRefused (status.SourceRefused rule at) P = P rule at
 IfRefused _ P = Unit {0}
 
-abbrev pub IfUnproved : Status → (List Countered → Type 0) → Type 0
-IfUnproved (status.Unproved listed) P = P listed.items
+abbrev pub IfUnproved : Status → (List Countered → List Undecided → Type 0) → Type 0
+IfUnproved (status.Unproved countered undecided) P = P countered.items undecided.items
 IfUnproved _ P = Unit {0}
+
+abbrev pub IfUndecided : Status → (List Undecided → Type 0) → Type 0
+IfUndecided (status.Undecided undecided) P = P undecided.items
+IfUndecided _ P = Unit {0}
 
 abbrev pub IfStopped : Status → (Place → Type 0) → Type 0
 IfStopped (status.Stopped at) P = P at
@@ -243,28 +213,28 @@ command_of_goal goal.Run = command.Run
 
 abbrev pub HasEnded : Command → ℕ → List ℤ → Option (List ℕ) → Option (List ℕ) → List ℕ → Type 0
 HasEnded command.Verify steps input old new source = IsToldVerified old new source
-HasEnded command.Run steps input old new source = HasRun steps input old new source
-HasEnded command.RunUnverified steps input old new source = HasRunUnverified steps input old new source
+HasEnded command.Run steps input old new source = IsHeadline source × HasRun steps input old new source
+HasEnded command.RunUnverified steps input old new source = HasRun steps input old new source
 HasEnded command.Expand steps input old new source = IsExpanded old new source
 
 -- after its steps the run isn't at its end
 abbrev pub IsSpent : Command → ℕ → List ℤ → Option (List ℕ) → Option (List ℕ) → List ℕ → Type 0
 IsSpent command.Verify steps input old new source = ⊥
-IsSpent command.Run steps input old new source = RunsOn steps input old new source
-IsSpent command.RunUnverified steps input old new source = RunsOnUnverified steps input old new source
+IsSpent command.Run steps input old new source = IsHeadline source × RunsOn steps input old new source
+IsSpent command.RunUnverified steps input old new source = RunsOn steps input old new source
 IsSpent command.Expand steps input old new source = ⊥
 
 -- within its steps the run stopped at an assumption that is false, which is at this place
 abbrev pub IsStopped : Place → Command → ℕ → List ℤ → Option (List ℕ) → Option (List ℕ) → List ℕ → Type 0
 IsStopped at command.Verify steps input old new source = ⊥
-IsStopped at command.Run steps input old new source = StopsAt at steps input old new source
-IsStopped at command.RunUnverified steps input old new source = StopsUnverified at steps input old new source
+IsStopped at command.Run steps input old new source = IsHeadline source × StopsAt at steps input old new source
+IsStopped at command.RunUnverified steps input old new source = StopsAt at steps input old new source
 IsStopped at command.Expand steps input old new source = ⊥
 
 -- the program doesn't admit the input
 abbrev pub IsUnadmitted : Command → List ℤ → Option (List ℕ) → Option (List ℕ) → List ℕ → Type 0
 IsUnadmitted command.Verify input old new source = ⊥
-IsUnadmitted command.Run input old new source = TakesNoInput input old new source
+IsUnadmitted command.Run input old new source = IsHeadline source × IsNotAdmitted input old new source
 IsUnadmitted command.RunUnverified input old new source = IsNotAdmitted input old new source
 IsUnadmitted command.Expand input old new source = ⊥
 
@@ -272,9 +242,10 @@ abbrev pub Says : ℕ → List ℤ → Option (List ℕ) → Option (List ℕ) �
 Says steps input old new status.Ended c source = HasEnded c steps input old new source
 Says steps input old new status.StepsSpent c source = IsSpent c steps input old new source
 Says steps input old new (status.Stopped at) c source = IsStopped at c steps input old new source
-Says steps input old new (status.Failed kind at) c source = IsRunUnverified c × FailsUnverified kind at steps input old new source
+Says steps input old new (status.Failed kind at) c source = IsRunUnverified c × FailsAt kind at steps input old new source
 Says steps input old new status.NotAdmitted c source = IsUnadmitted c input old new source
-Says steps input old new (status.Unproved listed) c source = Verifies c × IsToldUnproved listed.items old new source
+Says steps input old new (status.Unproved countered undecided) c source = Verifies c × IsToldUnproved countered.items undecided.items old new source
+Says steps input old new (status.Undecided undecided) c source = Verifies c × IsToldUndecided undecided.items old new source
 Says steps input old new (status.SourceRefused rule at) c source = IsStop c source rule at × Grew old new []
 Says steps input old new status.WriteFault c source = IsWrittenInPart steps input old new c source
 Says steps input old new status.Memory c source = Grew old new [] ⊎ IsWrittenInPart steps input old new c source

@@ -1,3 +1,3 @@
 pub mod Sources
-pub mod Unverified
+pub mod Runs
 pub mod Answers

@@ -2,22 +2,16 @@
 
 ghost use Rattle.std.specs.Prelude.{◌≡◌, ℕ, List};
 ghost use Rattle.ss_core.specs.declared.names.Place.{Place};
-ghost use Rattle.ss_second_core.specs.Tree.{CoreTree};
-ghost use Rattle.ss_core.specs.Tree as whole;
+ghost use Rattle.ss_core.specs.Tree.{CoreTree};
 ghost use Rattle.ss_top_words.specs.declared.Command.{Command as AnyCommand};
 ghost use Rattle.ss_top.specs.Sources.{Expands, Means, IsStop};
 
-/// A source means one program of the second form at most.
-pub fn one_meaning()
-    ensures { (source : List ℕ) (c d : CoreTree) → Means source c → Means source d → c ≡ d }
-{}
-
 /// A source has one core program at most.
 pub fn one_core()
-    ensures { (source : List ℕ) (c d : whole.CoreTree) → Expands source c → Expands source d → c ≡ d }
+    ensures { (source : List ℕ) (c d : CoreTree) → Expands source c → Expands source d → c ≡ d }
 {}
 
-/// A source that means a program of the second form has no fault.
+/// A source whose program can be verified has no fault.
 pub fn no_fault()
     ensures { (source : List ℕ) (c : CoreTree) (command : AnyCommand) (rule : ℕ) (place : Place) → Means source c → IsStop command source rule place → ⊥ }
 {}

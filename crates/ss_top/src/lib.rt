@@ -3,9 +3,10 @@
 
 mod front;
 mod laws;
+mod runs;
 mod source;
 mod top;
-mod unverified;
 
-pub use laws::{no_fault, one_core, one_fault, one_meaning};
+pub use front::read_program;
+pub use laws::{no_fault, one_core, one_fault};
 pub use top::specsharp;

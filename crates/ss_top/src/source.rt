@@ -2,34 +2,39 @@
 
 ghost use Rattle.std.specs.Prelude.{◌≡◌, ℕ, ℤ, List, ◌≤◌, ◌<◌, ◌^◌, length};
 ghost use Rattle.ss_io.specs.Outside.{Rose};
-ghost use Rattle.ss_second_core.specs.View.{core};
-ghost use Rattle.ss_second_run.specs.Formed.{IsFormed};
-ghost use Rattle.ss_second_run.specs.Safe.{IsSafe};
-ghost use Rattle.ss_vcgen_rules.specs.Obligations as oblig;
+ghost use Rattle.ss_core.specs.View.{core, classes};
+ghost use Rattle.ss_core.specs.Chain.{IsWithinLimits};
+ghost use Rattle.ss_vcgen_heaps.specs.Obligations as oblig;
 ghost use Rattle.ss_vcgen.specs.Built.{trees};
-ghost use Rattle.ss_sound.specs.Verdicts.{IsUnproved};
+ghost use Rattle.ss_sound.specs.Safe.{IsSafe};
+ghost use Rattle.ss_sound.specs.Verdicts.{IsUnproved, IsUndecided};
 ghost use Rattle.ss_top.specs.Sources.{Means};
 ghost use Rattle.ss_ast.specs.Tokens.{toks};
 ghost use Rattle.ss_typed.specs.View.{typed};
 ghost use Rattle.ss_machine_typed.specs.Inputs.{IsInput};
 ghost use Rattle.ss_top_sources.specs.Sources.{IsAccepted};
-ghost use Rattle.ss_top.specs.Answers.{Says, command_of_goal};
+ghost use Rattle.ss_top.specs.Answers.{Says, command_of_goal, options};
 ghost use Rattle.ss_top.specs.declared.source.Goal.{Goal as AnyGoal};
 ghost use Rattle.ss_top_words.specs.declared.Command.TheVariants as goals;
 
-use crate::front::{read_form, refuse};
-use crate::unverified::run_unverified;
+use crate::front::{read_program, refuse};
+use crate::runs::{run_unverified, run_whole};
+use ss_core::Core;
 use ss_io::{Sink, WriteStop};
 use ss_report::{Status, verdict_text};
 use ss_report_core::core_text;
-use ss_search::Countered;
-use ss_second_core::Core;
-use ss_second_machine::{CheckedEnd, run_checked};
+use ss_search::{Countered, Options, Undecided};
 use ss_sound::{Verdict, verify};
 use ss_top_sources::{Accepted, elaborate, read_source};
 use ss_top_words::{Asked, Command};
 use ss_vcgen::{Obligations, obligations};
 use std::alloc::Global;
+
+// How far obligations are searched.
+const OPTIONS: Options = Options {
+    rounds: 2,
+    instances: 50_000,
+};
 
 /// What is done with a program that is verified.
 #[derive(Clone, Copy, Debug, PartialEq, Eq)]
@@ -102,11 +107,13 @@ fn verify_source<S: Sink>(
     source: &[u8],
     out: &mut S,
 ) -> Status
+    requires short { length asked.now.input.items < 2 ^ 31 }
+    requires input { IsInput asked.now.input.items }
     ensures says { Says asked.now.steps asked.now.input.items (S.taken out.old) (S.taken out.new) result (command_of_goal goal) source.now }
     ensures faults { S.faults out.old ≤ S.faults out.new }
     ensures cause { result ≡ Status.WriteFault → Rose (S.faults out.old) (S.faults out.new) }
 {
-    match read_form(alloc, source) {
+    match read_program(alloc, source) {
         Ok(program) => answer_program(alloc, goal, asked, source, &program, out),
         Err(stop) => refuse(stop),
     }
@@ -121,8 +128,10 @@ fn answer_program<S: Sink>(
     program: &Core,
     out: &mut S,
 ) -> Status
+    requires short { length asked.now.input.items < 2 ^ 31 }
+    requires input { IsInput asked.now.input.items }
     requires means { Means source.now (core program.now) }
-    requires formed { IsFormed (core program.now) }
+    requires limits { IsWithinLimits (classes program.now.classes) }
     ensures says { Says asked.now.steps asked.now.input.items (S.taken out.old) (S.taken out.new) result (command_of_goal goal) source.now }
     ensures faults { S.faults out.old ≤ S.faults out.new }
     ensures cause { result ≡ Status.WriteFault → Rose (S.faults out.old) (S.faults out.new) }
@@ -130,10 +139,22 @@ fn answer_program<S: Sink>(
     let Ok(mut obligations) = obligations(alloc, program) else {
         return Status::Memory;
     };
-    match verify(alloc, program, &mut obligations) {
-        Verdict::Verified => answer_safe(alloc, goal, asked, source, program, out),
-        Verdict::Unproved { countered } => {
-            tell(alloc, source, program, &obligations, countered, out)
+    match verify(alloc, program, &mut obligations, OPTIONS) {
+        Verdict::Verified(_) => answer_safe(alloc, goal, asked, source, program, out),
+        Verdict::Unproved {
+            countered,
+            undecided,
+        } => tell_unproved(
+            alloc,
+            source,
+            program,
+            &obligations,
+            countered,
+            undecided,
+            out,
+        ),
+        Verdict::Undecided(undecided) => {
+            tell_undecided(alloc, source, program, &obligations, undecided, out)
         }
         // Lost was never seen, and there is no answer for it but the one that may always come.
         Verdict::Lost | Verdict::Memory => Status::Memory,
@@ -149,7 +170,10 @@ fn answer_safe<S: Sink>(
     program: &Core,
     out: &mut S,
 ) -> Status
+    requires short { length asked.now.input.items < 2 ^ 31 }
+    requires input { IsInput asked.now.input.items }
     requires means { Means source.now (core program.now) }
+    requires limits { IsWithinLimits (classes program.now.classes) }
     requires safe { IsSafe (core program.now) }
     ensures says { Says asked.now.steps asked.now.input.items (S.taken out.old) (S.taken out.new) result (command_of_goal goal) source.now }
     ensures faults { S.faults out.old ≤ S.faults out.new }
@@ -177,7 +201,7 @@ fn tell_verified<S: Sink>(source: &[u8], program: &Core, out: &mut S) -> Status
     }
 }
 
-// Runs a safe program. Its Main has no parameter, and so it admits the empty input alone.
+// Runs a safe program. No check of it fails.
 fn run_safe<S: Sink>(
     alloc: Global,
     asked: &Asked,
@@ -185,48 +209,71 @@ fn run_safe<S: Sink>(
     program: &Core,
     out: &mut S,
 ) -> Status
+    requires short { length asked.now.input.items < 2 ^ 31 }
+    requires input { IsInput asked.now.input.items }
     requires means { Means source.now (core program.now) }
+    requires limits { IsWithinLimits (classes program.now.classes) }
     requires safe { IsSafe (core program.now) }
     ensures says { Says asked.now.steps asked.now.input.items (S.taken out.old) (S.taken out.new) result goals.Run source.now }
     ensures faults { S.faults out.old ≤ S.faults out.new }
     ensures cause { result ≡ Status.WriteFault → Rose (S.faults out.old) (S.faults out.new) }
 {
-    let _source = source;
-    if !asked.input.is_empty() {
-        return Status::NotAdmitted;
-    }
-    match run_checked(alloc, program, asked.steps, out) {
-        CheckedEnd::Done { .. } => Status::Ended,
-        CheckedEnd::Stopped { place } => Status::Stopped { place },
-        CheckedEnd::Running => Status::StepsSpent,
-        CheckedEnd::WriteFault => Status::WriteFault,
-        CheckedEnd::Memory => Status::Memory,
-        CheckedEnd::Failed { .. } => unreachable!(),
-    }
+    run_whole(alloc, asked, source, program, out)
 }
 
-// Writes the text of a verdict.
-fn tell<S: Sink>(
+// Writes the text of a verdict where a model refutes an obligation.
+fn tell_unproved<S: Sink>(
     alloc: Global,
     source: &[u8],
     program: &Core,
     obligations: &Obligations,
     countered: Vec<Countered>,
+    undecided: Vec<Undecided>,
     out: &mut S,
 ) -> Status
     requires means { Means source.now (core program.now) }
     requires obligations { trees obligations.now ≡ oblig.obligations (core program.now) }
-    requires unproved { IsUnproved (oblig.obligations (core program.now)) countered.items }
+    requires unproved { IsUnproved (classes program.now.classes) options (oblig.obligations (core program.now)) countered.items undecided.items }
     ensures says { (steps : ℕ) (input : List ℤ) (goal : AnyGoal) → Says steps input (S.taken out.old) (S.taken out.new) result (command_of_goal goal) source.now }
     ensures faults { S.faults out.old ≤ S.faults out.new }
     ensures cause { result ≡ Status.WriteFault → Rose (S.faults out.old) (S.faults out.new) }
 {
     let _source = source;
-    let Ok(text) = verdict_text(alloc, program, obligations, &countered) else {
+    let Ok(text) = verdict_text(alloc, program, obligations, &countered, &undecided) else {
         return Status::Memory;
     };
     match out.write(text.as_bytes()) {
-        Ok(()) => Status::Unproved { countered },
+        Ok(()) => Status::Unproved {
+            countered,
+            undecided,
+        },
+        Err(WriteStop::Failed) => Status::WriteFault,
+        Err(WriteStop::Memory) => Status::Memory,
+    }
+}
+
+// Writes the text of a verdict where no model is at hand, but not all is proved.
+fn tell_undecided<S: Sink>(
+    alloc: Global,
+    source: &[u8],
+    program: &Core,
+    obligations: &Obligations,
+    undecided: Vec<Undecided>,
+    out: &mut S,
+) -> Status
+    requires means { Means source.now (core program.now) }
+    requires obligations { trees obligations.now ≡ oblig.obligations (core program.now) }
+    requires undecided { IsUndecided (classes program.now.classes) options (oblig.obligations (core program.now)) undecided.items }
+    ensures says { (steps : ℕ) (input : List ℤ) (goal : AnyGoal) → Says steps input (S.taken out.old) (S.taken out.new) result (command_of_goal goal) source.now }
+    ensures faults { S.faults out.old ≤ S.faults out.new }
+    ensures cause { result ≡ Status.WriteFault → Rose (S.faults out.old) (S.faults out.new) }
+{
+    let _source = source;
+    let Ok(text) = verdict_text(alloc, program, obligations, &[], &undecided) else {
+        return Status::Memory;
+    };
+    match out.write(text.as_bytes()) {
+        Ok(()) => Status::Undecided { undecided },
         Err(WriteStop::Failed) => Status::WriteFault,
         Err(WriteStop::Memory) => Status::Memory,
     }

@@ -3,8 +3,8 @@
 ghost use Rattle.std.specs.Prelude.{◌≡◌, ◌<◌, ◌≤◌, ◌⊎◌, ◌↔◌, [], None, IsSomeAnd};
 ghost use Rattle.ss_io.specs.Outside.{Rose, Grew};
 ghost use Rattle.ss_top.specs.Sources.{IsStop};
-ghost use Rattle.ss_top.specs.Unverified.{HasRunUnverified, FailsUnverified};
-ghost use Rattle.ss_top.specs.Answers.{asked_by, file_of, OfFile, IsHeadline, IsToldVerified, HasRun, IsExpanded, IsSpent, IsStopped, IsUnadmitted, IsToldUnproved, IsWrittenInPart, IsVerify, IsRun, IsRunUnverified, IsExpand, Verifies, IfRefused, IfUnproved, IfStopped, IfFailed, IsVerified, IsSilent, ReadsOnly};
+ghost use Rattle.ss_top.specs.Runs.{HasRun, FailsAt};
+ghost use Rattle.ss_top.specs.Answers.{asked_by, file_of, OfFile, IsHeadline, IsToldVerified, IsExpanded, IsSpent, IsStopped, IsUnadmitted, IsToldUnproved, IsToldUndecided, IsWrittenInPart, IsVerify, IsRun, IsRunUnverified, IsExpand, Verifies, IfRefused, IfUnproved, IfUndecided, IfStopped, IfFailed, IsVerified, IsSilent, ReadsOnly};
 
 use crate::source::answer_source;
 use ss_io::{Files, ReadStop, Sink};
@@ -30,14 +30,15 @@ pub fn specsharp<F: Files, S: Sink>(
 
     ensures headline { IsVerified result → OfFile (asked_by words.now) (F.told files.old) (λ asked source. Verifies asked.command → IsHeadline source) }
     ensures verified { result ≡ Status.Ended → OfFile (asked_by words.now) (F.told files.old) (λ asked source. IsVerify asked.command → IsToldVerified (S.taken out.old) (S.taken out.new) source) }
-    ensures ended { result ≡ Status.Ended → OfFile (asked_by words.now) (F.told files.old) (λ asked source. IsRun asked.command → HasRun asked.steps asked.input (S.taken out.old) (S.taken out.new) source) }
-    ensures ran { result ≡ Status.Ended → OfFile (asked_by words.now) (F.told files.old) (λ asked source. IsRunUnverified asked.command → HasRunUnverified asked.steps asked.input (S.taken out.old) (S.taken out.new) source) }
+    ensures ended { result ≡ Status.Ended → OfFile (asked_by words.now) (F.told files.old) (λ asked source. IsRun asked.command → IsHeadline source × HasRun asked.steps asked.input (S.taken out.old) (S.taken out.new) source) }
+    ensures ran { result ≡ Status.Ended → OfFile (asked_by words.now) (F.told files.old) (λ asked source. IsRunUnverified asked.command → HasRun asked.steps asked.input (S.taken out.old) (S.taken out.new) source) }
     ensures expanded { result ≡ Status.Ended → OfFile (asked_by words.now) (F.told files.old) (λ asked source. IsExpand asked.command → IsExpanded (S.taken out.old) (S.taken out.new) source) }
     ensures steps_spent { result ≡ Status.StepsSpent → OfFile (asked_by words.now) (F.told files.old) (λ asked source. IsSpent asked.command asked.steps asked.input (S.taken out.old) (S.taken out.new) source) }
     ensures stopped { IfStopped result (λ place. OfFile (asked_by words.now) (F.told files.old) (λ asked source. IsStopped place asked.command asked.steps asked.input (S.taken out.old) (S.taken out.new) source)) }
-    ensures failed { IfFailed result (λ kind place. OfFile (asked_by words.now) (F.told files.old) (λ asked source. IsRunUnverified asked.command × FailsUnverified kind place asked.steps asked.input (S.taken out.old) (S.taken out.new) source)) }
+    ensures failed { IfFailed result (λ kind place. OfFile (asked_by words.now) (F.told files.old) (λ asked source. IsRunUnverified asked.command × FailsAt kind place asked.steps asked.input (S.taken out.old) (S.taken out.new) source)) }
     ensures not_admitted { result ≡ Status.NotAdmitted → OfFile (asked_by words.now) (F.told files.old) (λ asked source. IsUnadmitted asked.command asked.input (S.taken out.old) (S.taken out.new) source) }
-    ensures unproved { IfUnproved result (λ listed. OfFile (asked_by words.now) (F.told files.old) (λ asked source. Verifies asked.command × IsToldUnproved listed (S.taken out.old) (S.taken out.new) source)) }
+    ensures unproved { IfUnproved result (λ countered undecided. OfFile (asked_by words.now) (F.told files.old) (λ asked source. Verifies asked.command × IsToldUnproved countered undecided (S.taken out.old) (S.taken out.new) source)) }
+    ensures undecided { IfUndecided result (λ undecided. OfFile (asked_by words.now) (F.told files.old) (λ asked source. Verifies asked.command × IsToldUndecided undecided (S.taken out.old) (S.taken out.new) source)) }
 
     ensures write_fault { result ≡ Status.WriteFault → Rose (S.faults out.old) (S.faults out.new) }
     ensures written { result ≡ Status.WriteFault → OfFile (asked_by words.now) (F.told files.old) (λ asked source. IsWrittenInPart asked.steps asked.input (S.taken out.old) (S.taken out.new) asked.command source) }

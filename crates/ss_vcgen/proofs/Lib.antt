@@ -1,11 +1,2 @@
-pub mod Meanings
-pub mod Shapes
-pub mod Grown
-pub mod Chains
-pub mod Builds
-pub mod Along
-pub mod Called
-pub mod Joining
-pub mod Sides
-pub mod Going
-pub mod Entering
+pub mod Building
+pub mod Trees

@@ -1,10 +1,3 @@
-pub mod Numbers
-pub mod Shapes
-pub mod Chain
-pub mod Guards
-pub mod Built
-pub mod Builder
-pub mod Conditions
-pub mod Calls
-pub mod Branches
+pub mod Behind
 pub mod Bodies
+pub mod Built

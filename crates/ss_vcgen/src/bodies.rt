@@ -1,155 +1,206 @@
-// Bodies, and whole programs.
+// Bodies: what is known at the entry, and the obligations of the code.
 
-ghost use Rattle.std.specs.Prelude.{◌≡◌, [], ◌++◌, map, IfOk, OnOk};
-ghost use Rattle.ss_second_core.specs.View as view;
-ghost use Rattle.ss_second_core.specs.View.{block};
-ghost use Rattle.ss_vcgen_rules.specs.Obligations as tree;
-ghost use Rattle.ss_vcgen.specs.Built.{trees, IsWithin};
-ghost use Rattle.ss_vcgen.specs.Numbers.{HasMeants, meants_in};
-ghost use Rattle.ss_vcgen.specs.Bodies.{fresh, with_param, with_locals};
-ghost use Rattle.ss_vcgen.specs.Builder.{known_of, listed, IsFine, Becomes, Asks};
+ghost use Rattle.std.specs.Prelude.{◌≡◌, ◌+◌, [], ◌∷◌, ◌++◌, map, None, IfOk, OnOk};
+ghost use Rattle.ss_core.specs.Chain.{IsWithinLimits};
+ghost use Rattle.ss_core.specs.View as view;
+ghost use Rattle.ss_store_rules.specs.Locals.{argument_types};
+ghost use Rattle.ss_logic.specs.declared.Sort.TheVariants as sort;
+ghost use Rattle.ss_logic.specs.Terms.{Constant, app};
+ghost use Rattle.ss_terms.specs.Forms.{Forms, term_at, IsBankOf};
+ghost use Rattle.ss_vcgen_heaps.specs.Obligations as spec;
+ghost use Rattle.ss_vcgen_express.specs.Numbers.{IsTerm, AreFormulas};
+ghost use Rattle.ss_vcgen_builder.specs.Builder.{counters_of, position_at, walk_at, IsFine, IsWalk, Becomes};
+ghost use Rattle.ss_vcgen_statements.specs.Words.{Stays};
+ghost use Rattle.ss_vcgen.specs.Bodies.{blank, Begins, argument_entered, locals_entered, result_entered, entered, entry_formulas, entry_known, filled};
 
-use crate::builder::Builder;
-use crate::conditions::condition_env;
-use crate::guard::Guard;
-use crate::list::{Obligations, Positions};
-use crate::meant::Meant;
-use crate::statements::Within;
-use ss_core::BodyId;
-use ss_second_core::{Body, Core, Local};
-use ss_terms::Bank;
-use std::alloc::{AllocError, Global};
+use crate::behind::behind_all;
+use crate::watch::Watch;
+use ss_core::{Body, BodyId, Core, Local, Ty};
+use ss_logic::Sort;
+use ss_terms::{FormulaId, TermId};
+use ss_vcgen_bodies::{argument_types_said, entries_said};
+use ss_vcgen_builder::{Builder, Guard, Walk};
+use ss_vcgen_calls_made::element_sort;
+use ss_vcgen_known::{Known, argument_types, local_types};
+use ss_vcgen_statements::good;
+use std::alloc::AllocError;
 
-impl Builder {
-    // Before the first body.
-    fn new(alloc: Global, watched: Vec<usize>) -> Self
-        ensures fine { IsFine result }
-        ensures known { known_of result ≡ fresh 0 0 }
-        ensures listed { listed result ≡ [] }
-    {
-        Builder {
-            alloc,
-            bank: Bank::new(alloc),
-            env: Vec::new(alloc),
-            guard: Guard::Always,
-            next_whole: 0,
-            next_truth: 0,
-            first: 0,
-            trail: Vec::new(alloc),
-            list: Vec::new(alloc),
-            watched,
-            seen: Vec::new(alloc),
-        }
-    }
-
-    // Nothing is known of the next body.
-    fn forget(&mut self)
-        requires { IsFine self.old }
-        ensures { Becomes self.old self.new (fresh self.old.next_whole self.old.next_truth) }
-    {
-        self.env = Vec::new(self.alloc);
-        self.guard = Guard::Always;
-        self.first = self.trail.len();
-    }
-
-    // A parameter stands for a new constant.
-    fn add_param(&mut self, param: &Local) -> Result<(), AllocError>
-        requires { IsFine self.old }
-        ensures { OnOk result (Becomes self.old self.new (with_param param.now.ty (known_of self.old))) }
-    {
-        let t = self.new_constant(param.ty)?;
-        self.env.push(Meant::Term(t))?;
-        Ok(())
-    }
-
-    // The parameters stand for new constants.
-    fn add_params(&mut self, params: &[Local]) -> Result<(), AllocError>
-        requires { IsFine self.old }
-        ensures { OnOk result (Becomes self.old self.new (tree.enter_params (map view.local_of params.now) (known_of self.old))) }
-    {
-        for param in params {
-            self.add_param(param)?;
-        }
-        Ok(())
-    }
-
-    // The other locals stand for nothing yet. The result is what they all stand for.
-    fn add_locals(&mut self, body: &Body) -> Result<Vec<Meant>, AllocError>
-        requires { IsFine self.old }
-        ensures within { IfOk result (λ v. HasMeants self.new.bank v.items) }
-        ensures env { IfOk result (λ v. meants_in self.new.bank v.items ≡ (known_of self.new).env) }
-        ensures becomes { IfOk result (λ _. Becomes self.old self.new (with_locals (view.body body.now) (known_of self.old))) }
-    {
-        let env = condition_env(self.alloc, body, &self.env, Meant::Nothing)?;
-        self.env = Vec::from_slice(self.alloc, &env)?;
-        Ok(env)
-    }
-
-    // Enters a body: its entry conditions are known.
-    fn enter(&mut self, body: &Body) -> Result<(), AllocError>
-        requires { IsFine self.old }
-        ensures { OnOk result (Becomes self.old self.new (tree.at_entry (view.body body.now) self.old.next_whole self.old.next_truth)) }
-    {
-        self.forget();
-        self.add_params(&body.params)?;
-        let env = self.add_locals(body)?;
-        self.assume_all(&env, &body.entry)?;
-        Ok(())
-    }
-
-    // A body.
-    fn add_body(&mut self, core: &Core, body: &Body, number: BodyId) -> Result<(), AllocError>
-        requires { IsFine self.old }
-        ensures { OnOk result (Asks self.old self.new
-            (tree.at_end (view.core core.now) (view.body body.now) self.old.next_whole self.old.next_truth)
-            (tree.ask_code (view.core core.now) (view.body body.now) number.0 (view.body body.now).code (tree.at_entry (view.body body.now) self.old.next_whole self.old.next_truth))) }
-    {
-        self.enter(body)?;
-        self.add_all(Within { core, body, number }, &body.code)?;
-        Ok(())
-    }
-
-    // All bodies, in order.
-    fn add_bodies(&mut self, core: &Core) -> Result<(), AllocError>
-        requires { IsFine self.old }
-        ensures fine { OnOk result (IsFine self.new) }
-        ensures listed { OnOk result (listed self.new ≡ listed self.old
-            ++ tree.obligations_from (view.core core.now) 0 self.old.next_whole self.old.next_truth (view.core core.now).bodies) }
-    {
-        let mut number: u32 = 0;
-        for body in &core.bodies {
-            self.add_body(core, body, BodyId(number))?;
-            number = number.checked_add(1).ok_or(AllocError)?;
-        }
-        Ok(())
-    }
-}
-
-/// The obligations of a program, in their order: body by body, and in each from the front. An error is want of memory.
-pub fn obligations(alloc: Global, core: &Core) -> Result<Obligations, AllocError>
-    ensures exact { IfOk result (λ o. trees o ≡ tree.obligations (view.core core.now)) }
-    ensures in_bank { IfOk result IsWithin }
+// Nothing is known of the body yet.
+fn clear(builder: &mut Builder, body: &Body)
+    requires { IsFine builder.old }
+    ensures { Begins builder.old builder.new (λ b. blank (view.body body.now) (term_at b builder.old.store) (counters_of builder.old.next)) }
 {
-    let mut builder = Builder::new(alloc, Vec::new(alloc));
-    builder.add_bodies(core)?;
-    let Builder {
-        bank,
-        trail,
-        list,
-        ..
-    } = builder;
-    Ok(Obligations { bank, trail, list })
+    builder.first = builder.trail.len();
+    builder.list = Vec::new(builder.alloc);
+    builder.locals = Vec::new(builder.alloc);
+    builder.guard = Guard::Always;
+    builder.known = Known::at_entry(builder.alloc, body);
 }
 
-/// What the locals stand for where the obligations of these numbers, which ascend, are listed. The constants are numbered as in the
-/// list of obligations. An error is want of memory.
-pub fn positions(
-    alloc: Global,
+// The next new store.
+fn new_store(builder: &mut Builder) -> Result<TermId, AllocError>
+    requires { IsFine builder.old }
+    ensures at { IfOk result (λ t. IsTerm builder.new.bank t (λ b. app (Constant sort.Store builder.old.next.stores) [])) }
+    ensures becomes { IfOk result (λ t. Becomes builder.old builder.new (λ b. record (position_at b builder.old) {
+      store = app (Constant sort.Store builder.old.next.stores) [];
+      next = record (counters_of builder.old.next) { stores = builder.old.next.stores + 1 };
+    })) }
+{
+    let store = builder.new_term(Sort::Store)?;
+    builder.set_store(store);
+    Ok(store)
+}
+
+// Begins a body. The result is the store at its entry.
+fn begin(builder: &mut Builder, body: &Body) -> Result<TermId, AllocError>
+    requires { IsFine builder.old }
+    ensures at { IfOk result (λ t. IsTerm builder.new.bank t (λ b. app (Constant sort.Store builder.old.next.stores) [])) }
+    ensures begins { IfOk result (λ t. Begins builder.old builder.new (λ b. spec.first_position (view.body body.now) (counters_of builder.old.next))) }
+{
+    clear(builder, body);
+    let store = new_store(builder)?;
+    Ok(store)
+}
+
+// An argument is a new constant.
+fn enter_argument(builder: &mut Builder, ty: Ty) -> Result<(), AllocError>
+    requires { IsFine builder.old }
+    ensures { OnOk result (Becomes builder.old builder.new (λ b. argument_entered ty (position_at b builder.old))) }
+{
+    let t = builder.new_term(element_sort(Some(ty)))?;
+    builder.add_local(Some(t))?;
+    Ok(())
+}
+
+// Each argument is.
+fn enter_arguments(builder: &mut Builder, types: &[Ty]) -> Result<(), AllocError>
+    requires { IsFine builder.old }
+    ensures { OnOk result (Becomes builder.old builder.new (λ b. spec.enter_arguments types.now (position_at b builder.old))) }
+{
+    for ty in types {
+        enter_argument(builder, *ty)?;
+    }
+    Ok(())
+}
+
+// A local has no value.
+fn enter_local(builder: &mut Builder, _local: &Local) -> Result<(), AllocError>
+    requires { IsFine builder.old }
+    ensures { OnOk result (Becomes builder.old builder.new (λ b. record (position_at b builder.old) { locals = (position_at b builder.old).locals ++ None ∷ [] })) }
+{
+    builder.add_local(None)
+}
+
+// The other locals have no values.
+fn enter_locals(builder: &mut Builder, body: &Body) -> Result<(), AllocError>
+    requires { IsFine builder.old }
+    ensures { OnOk result (Becomes builder.old builder.new (λ b. locals_entered (view.body body.now) (position_at b builder.old))) }
+{
+    enter_each(builder, &body.locals)
+}
+
+// Each of these has none.
+fn enter_each(builder: &mut Builder, locals: &[Local]) -> Result<(), AllocError>
+    requires { IsFine builder.old }
+    ensures { OnOk result (Becomes builder.old builder.new (λ b. record (position_at b builder.old) { locals = (position_at b builder.old).locals ++ map (λ l. None) (map view.local_of locals.now) })) }
+{
+    for local in locals {
+        enter_local(builder, local)?;
+    }
+    Ok(())
+}
+
+// The result, where there is one, has none.
+fn enter_result(builder: &mut Builder, result_type: Option<Ty>) -> Result<(), AllocError>
+    requires { IsFine builder.old }
+    ensures { OnOk result (Becomes builder.old builder.new (λ b. result_entered result_type (position_at b builder.old))) }
+{
+    match result_type {
+        Some(_) => builder.add_local(None),
+        None => Ok(()),
+    }
+}
+
+// The locals at the entry.
+fn enter(builder: &mut Builder, body: &Body, types: &[Ty]) -> Result<(), AllocError>
+    requires fine { IsFine builder.old }
+    requires types { types.now ≡ argument_types (view.body body.now) }
+    ensures { OnOk result (Becomes builder.old builder.new (λ b. entered (view.body body.now) (position_at b builder.old))) }
+{
+    enter_arguments(builder, types)?;
+    enter_locals(builder, body)?;
+    enter_result(builder, body.result)?;
+    Ok(())
+}
+
+// What is known at the entry: the store is good, the arguments have their types, and the conditions at entry hold.
+fn entry_formulas(
+    builder: &mut Builder,
+    walk: &Walk<'_>,
+    types: &[Ty],
+) -> Result<Vec<FormulaId>, AllocError>
+    requires fine { IsFine builder.old }
+    requires walk { IsWalk builder.old.bank walk.now }
+    ensures at { IfOk result (λ v. AreFormulas builder.new.bank v.items (λ b. entry_formulas (walk_at b walk.now) types.now (position_at b builder.old))) }
+    ensures stays { IfOk result (λ v. Stays builder.old builder.new) }
+{
+    let store = builder.store;
+    let is_good = good(builder, store)?;
+    let typed = argument_types_said(builder, walk, types)?;
+    let said = entries_said(builder, walk)?;
+    let mut all = Vec::from_slice(builder.alloc, &[is_good])?;
+    all.extend_from_slice(&typed)?;
+    all.extend_from_slice(&said)?;
+    Ok(all)
+}
+
+// It is known.
+fn know_entry(builder: &mut Builder, walk: &Walk<'_>, types: &[Ty]) -> Result<(), AllocError>
+    requires fine { IsFine builder.old }
+    requires walk { IsWalk builder.old.bank walk.now }
+    ensures { OnOk result (Becomes builder.old builder.new (λ b. entry_known (walk_at b walk.now) types.now (position_at b builder.old))) }
+{
+    let said = entry_formulas(builder, walk, types)?;
+    builder.assume_all(&said)?;
+    Ok(())
+}
+
+// Goes from a position of which nothing is known to behind the code.
+fn fill(builder: &mut Builder, walk: &Walk<'_>, watch: &mut Watch) -> Result<(), AllocError>
+    requires fine { IsFine builder.old }
+    requires walk { IsWalk builder.old.bank walk.now }
+    ensures { OnOk result (Becomes builder.old builder.new (λ b. filled (walk_at b walk.now) (position_at b builder.old))) }
+{
+    let types = argument_types(builder.alloc, walk.body)?;
+    enter(builder, walk.body, &types)?;
+    know_entry(builder, walk, &types)?;
+    behind_all(builder, walk, &walk.body.code, watch)?;
+    watch.see(builder)?;
+    Ok(())
+}
+
+/// The obligations of a body are listed; those of the body before are no longer.
+pub(crate) fn add_body(
+    builder: &mut Builder,
     core: &Core,
-    obligations: Vec<usize>,
-) -> Result<Positions, AllocError> {
-    let mut builder = Builder::new(alloc, obligations);
-    builder.add_bodies(core)?;
-    let Builder { bank, seen, .. } = builder;
-    Ok(Positions { bank, locals: seen })
+    body: &Body,
+    number: BodyId,
+    watch: &mut Watch,
+) -> Result<(), AllocError>
+    requires fine { IsFine builder.old }
+    requires bank { IsBankOf (view.classes core.now.classes) builder.old.bank }
+    requires limits { IsWithinLimits (view.classes core.now.classes) }
+    ensures { OnOk result (Begins builder.old builder.new (λ b. spec.at_end (spec.walk_of (view.core core.now) number.0 (view.body body.now) (counters_of builder.old.next)) (counters_of builder.old.next))) }
+{
+    let types = local_types(builder.alloc, body)?;
+    let entry = begin(builder, body)?;
+    let walk = Walk {
+        core,
+        body,
+        types: &types,
+        number,
+        entry,
+    };
+    fill(builder, &walk, watch)?;
+    Ok(())
 }

@@ -1,20 +1,14 @@
-//! The obligations of a core program, over a bank of terms and formulas.
+//! The obligations of core programs, over a bank of terms and formulas.
 #![tactic(auto)]
 
-mod assigns;
+mod behind;
 mod bodies;
-mod branches;
-mod builder;
-mod calls;
-mod conditions;
-mod express;
-mod formulas;
-mod guard;
+mod changes;
 mod list;
-mod meant;
-mod shape;
+mod programs;
 mod statements;
+mod watch;
 
-pub use bodies::{obligations, positions};
-pub use list::{Locals, Obligation, Obligations, Positions};
-pub use meant::Meant;
+pub use list::Obligations;
+pub use programs::{Positions, locate, obligations};
+pub use ss_vcgen_builder::Obligation;

@@ -1,104 +1,223 @@
-// Statements, one after the other.
+// Statements without others in them.
 
-ghost use Rattle.std.specs.Prelude.{◌≡◌, ◌+◌, [], ◌∷◌, IfOk, OnOk};
-ghost use Rattle.ss_second_core.specs.View as view;
-ghost use Rattle.ss_second_core.specs.View.{block};
-ghost use Rattle.ss_core.specs.declared.names.Kind.TheVariants.{Assert};
-ghost use Rattle.ss_vcgen_rules.specs.Obligations as tree;
-ghost use Rattle.ss_vcgen.specs.Builder.{known_of, formula_here, IsFine, Becomes, Asks};
-ghost use Rattle.ss_vcgen.specs.Guards.{guard_of};
+ghost use Rattle.std.specs.Prelude.{◌≡◌, ◌++◌, option_map, IfOk, OnOk};
+ghost use Rattle.ss_core.specs.Chain.{IsWithinLimits};
+ghost use Rattle.ss_core.specs.declared.names.Kind.TheVariants as kind;
+ghost use Rattle.ss_core.specs.View as view;
+ghost use Rattle.ss_core.specs.View.{expr, exprs, callee_tree, stmt_of};
+ghost use Rattle.ss_store_rules.specs.Locals.{local_types, receiver};
+ghost use Rattle.ss_store_rules.specs.NonNull.{known_after};
+ghost use Rattle.ss_vcgen_heaps.specs.Positions as position;
+ghost use Rattle.ss_vcgen_heaps.specs.Obligations as spec;
+ghost use Rattle.ss_vcgen_heaps.specs.Obligations.{with_known};
+ghost use Rattle.ss_vcgen_known.specs.Views.{known_of};
+ghost use Rattle.ss_vcgen_builder.specs.Builder.{position_at, walk_at, IsFine, IsWalk, Becomes};
+ghost use Rattle.ss_vcgen.specs.Behind.{assigned, written, element_written, made_ready};
 
-use crate::branches::Position;
-use crate::builder::Builder;
-use crate::guard::Guard;
-use ss_core::{BodyId, Kind, Place};
-use ss_second_core::{Body, Core, Expr, Stmt};
+use crate::changes;
+use ss_core::{Callee, ClassId, Expr, FieldId, Kind, Mark, Place, Stmt};
+use ss_vcgen_builder::{Builder, Walk};
+use ss_vcgen_calls_made::{call_with, construct, new_array};
+use ss_vcgen_evaluated::{evaluate, holds_at};
+use ss_vcgen_known::Known;
 use std::alloc::AllocError;
 
-/// A body of a program, with its number.
-#[derive(Clone, Copy)]
-pub(crate) struct Within<'a> {
-    pub(crate) core: &'a Core,
-    pub(crate) body: &'a Body,
-    pub(crate) number: BodyId,
+// What is known of null behind a statement that is neither an `if`, a loop nor a return.
+fn known_behind(builder: &Builder, walk: &Walk<'_>, stmt: &Stmt) -> Result<Known, AllocError>
+    requires limits { IsWithinLimits (view.classes walk.now.core.now.classes) }
+    requires types { walk.now.types.now ≡ local_types (view.body walk.now.body.now) }
+    ensures { IfOk result (λ k. known_of k ≡ known_after (view.core walk.now.core.now) (view.body walk.now.body.now) (stmt_of stmt.now) (known_of builder.now.known)) }
+{
+    let mut known = builder.known.copy(builder.alloc)?;
+    known.step(builder.alloc, walk.core, walk.body, walk.types, stmt)?;
+    Ok(known)
 }
 
-impl Builder {
-    // A check of an `assert`, which is known from then on.
-    fn add_assert(&mut self, body: BodyId, place: Place, e: &Expr) -> Result<(), AllocError>
-        requires { IsFine self.old }
-        ensures { OnOk result (Asks self.old self.new (tree.assume (known_of self.old) (formula_here self.old e.now))
-            (tree.asks body.0 Assert place (known_of self.old) (formula_here self.old e.now) ∷ [])) }
-    {
-        let f = self.formula_here(e)?;
-        self.ask(body, Kind::Assert, place, f)?;
-        self.assume(f)?;
-        Ok(())
-    }
+/// `x = e`
+pub(crate) fn assign(
+    builder: &mut Builder,
+    walk: &Walk<'_>,
+    stmt: &Stmt,
+    x: usize,
+    e: &Expr,
+) -> Result<(), AllocError>
+    requires fine { IsFine builder.old }
+    requires walk { IsWalk builder.old.bank walk.now }
+    ensures { OnOk result (Becomes builder.old builder.new (λ b. with_known (walk_at b walk.now) (stmt_of stmt.now) (position_at b builder.old).known (assigned (walk_at b walk.now) x (expr e.now) (position_at b builder.old)))) }
+{
+    let known = known_behind(builder, walk, stmt)?;
+    changes::assign(builder, walk, x, e)?;
+    builder.set_known(known);
+    Ok(())
+}
 
-    // An `assume`.
-    fn add_assume(&mut self, e: &Expr) -> Result<(), AllocError>
-        requires { IsFine self.old }
-        ensures { OnOk result (Becomes self.old self.new (tree.assume (known_of self.old) (formula_here self.old e.now))) }
-    {
-        let f = self.formula_here(e)?;
-        self.assume(f)?;
-        Ok(())
-    }
+/// `o.f = e`
+pub(crate) fn write(
+    builder: &mut Builder,
+    walk: &Walk<'_>,
+    stmt: &Stmt,
+    at: Place,
+    object: &Expr,
+    field: FieldId,
+    mark: Mark,
+    class: ClassId,
+    value: &Expr,
+) -> Result<(), AllocError>
+    requires fine { IsFine builder.old }
+    requires walk { IsWalk builder.old.bank walk.now }
+    ensures { OnOk result (Becomes builder.old builder.new (λ b. with_known (walk_at b walk.now) (stmt_of stmt.now) (position_at b builder.old).known (written (walk_at b walk.now) at (expr object.now) field.0 mark class.0 (expr value.now) (position_at b builder.old)))) }
+{
+    let known = known_behind(builder, walk, stmt)?;
+    changes::write_field(builder, walk, at, object, field, mark, class, value)?;
+    builder.set_known(known);
+    Ok(())
+}
 
-    // Goes to the side of an `if` where its test holds. The result is the position of the other side.
-    fn enter_if(&mut self, e: &Expr) -> Result<Position, AllocError>
-        requires { IsFine self.old }
-        ensures becomes { IfOk result (λ _. Becomes self.old self.new (tree.first_side (known_of self.old) (formula_here self.old e.now))) }
-        ensures env { IfOk result (λ p. p.env.items ≡ self.new.env.items) }
-        ensures guard { IfOk result (λ p. guard_of p.guard ≡ tree.When (self.old.next_truth + 1)) }
-    {
-        let f = self.formula_here(e)?;
-        self.enter_first(f)
-    }
+/// `a[i] = e`
+pub(crate) fn write_element(
+    builder: &mut Builder,
+    walk: &Walk<'_>,
+    stmt: &Stmt,
+    at: Place,
+    a: &Expr,
+    i: &Expr,
+    value: &Expr,
+) -> Result<(), AllocError>
+    requires fine { IsFine builder.old }
+    requires walk { IsWalk builder.old.bank walk.now }
+    ensures { OnOk result (Becomes builder.old builder.new (λ b. with_known (walk_at b walk.now) (stmt_of stmt.now) (position_at b builder.old).known (element_written (walk_at b walk.now) at (expr a.now) (expr i.now) (expr value.now) (position_at b builder.old)))) }
+{
+    let known = known_behind(builder, walk, stmt)?;
+    changes::write_at(builder, walk, at, a, i, value)?;
+    builder.set_known(known);
+    Ok(())
+}
 
-    // A statement.
-    #[cycle(statements)]
-    fn add(&mut self, within: Within<'_>, stmt: &Stmt) -> Result<(), AllocError>
-        requires { IsFine self.old }
-        ensures { OnOk result (Asks self.old self.new
-            (tree.behind (view.core within.entry.core.now) (view.body within.entry.body.now) (view.stmt_of stmt.now) (known_of self.old))
-            (tree.ask (view.core within.entry.core.now) (view.body within.entry.body.now) within.entry.number.0 (view.stmt_of stmt.now) (known_of self.old))) }
-    {
-        match stmt {
-            Stmt::Assign(_, x, e) => self.assign(*x, e),
-            Stmt::Assert(place, e) => self.add_assert(within.number, *place, e),
-            Stmt::Assume(_, e) => self.add_assume(e),
-            Stmt::Print(_, _) => Ok(()),
-            Stmt::If(_, e, first, second) => {
-                let other_side = self.enter_if(e)?;
-                self.add_all(within, first)?;
-                let first_end = self.go_to(other_side);
-                self.add_all(within, second)?;
-                self.join(first_end)?;
-                Ok(())
-            }
-            Stmt::Call(place, into, number, args) => {
-                self.add_call(within.core, within.number, *place, *into, *number, args)
-            }
-            Stmt::Return(place, e) => self.add_return(within.body, within.number, *place, e),
-        }
-    }
+/// `x = new C(..)`
+pub(crate) fn create(
+    builder: &mut Builder,
+    walk: &Walk<'_>,
+    stmt: &Stmt,
+    at: Place,
+    x: Option<usize>,
+    class: ClassId,
+    es: &[Expr],
+) -> Result<(), AllocError>
+    requires fine { IsFine builder.old }
+    requires walk { IsWalk builder.old.bank walk.now }
+    ensures { OnOk result (Becomes builder.old builder.new (λ b. with_known (walk_at b walk.now) (stmt_of stmt.now) (position_at b builder.old).known (spec.construct (walk_at b walk.now) at x class.0 (exprs es.now) (position_at b builder.old)))) }
+{
+    let known = known_behind(builder, walk, stmt)?;
+    construct(builder, walk, at, x, class, es)?;
+    builder.set_known(known);
+    Ok(())
+}
 
-    // These statements; those that can't be reached tell nothing.
-    #[cycle(statements)]
-    pub(crate) fn add_all(&mut self, within: Within<'_>, code: &[Stmt]) -> Result<(), AllocError>
-        requires { IsFine self.old }
-        ensures { OnOk result (Asks self.old self.new
-            (tree.behind_all (view.core within.entry.core.now) (view.body within.entry.body.now) (block code.now) (known_of self.old))
-            (tree.ask_code (view.core within.entry.core.now) (view.body within.entry.body.now) within.entry.number.0 (block code.now) (known_of self.old))) }
-    {
-        for stmt in code {
-            if matches!(self.guard, Guard::Never) {
-                return Ok(());
-            }
-            self.add(within, stmt)?;
-        }
-        Ok(())
+/// `x = new E[n]`
+pub(crate) fn create_array(
+    builder: &mut Builder,
+    walk: &Walk<'_>,
+    stmt: &Stmt,
+    at: Place,
+    x: Option<usize>,
+    class: ClassId,
+    e: &Expr,
+) -> Result<(), AllocError>
+    requires fine { IsFine builder.old }
+    requires walk { IsWalk builder.old.bank walk.now }
+    ensures { OnOk result (Becomes builder.old builder.new (λ b. with_known (walk_at b walk.now) (stmt_of stmt.now) (position_at b builder.old).known (spec.new_array (walk_at b walk.now) at x class.0 (expr e.now) (position_at b builder.old)))) }
+{
+    let known = known_behind(builder, walk, stmt)?;
+    new_array(builder, walk, at, x, class, e)?;
+    builder.set_known(known);
+    Ok(())
+}
+
+/// A call.
+pub(crate) fn call(
+    builder: &mut Builder,
+    walk: &Walk<'_>,
+    stmt: &Stmt,
+    at: Place,
+    x: Option<usize>,
+    callee: &Callee,
+    es: &[Expr],
+) -> Result<(), AllocError>
+    requires fine { IsFine builder.old }
+    requires walk { IsWalk builder.old.bank walk.now }
+    ensures { OnOk result (Becomes builder.old builder.new (λ b. with_known (walk_at b walk.now) (stmt_of stmt.now) (position_at b builder.old).known (spec.call_with (walk_at b walk.now) at x (callee_tree callee.now) (receiver (callee_tree callee.now) ++ exprs es.now) (position_at b builder.old)))) }
+{
+    let known = known_behind(builder, walk, stmt)?;
+    call_with(builder, walk, at, x, callee, es)?;
+    builder.set_known(known);
+    Ok(())
+}
+
+/// `this` of a constructor becomes ready.
+pub(crate) fn ready(builder: &mut Builder, walk: &Walk<'_>, stmt: &Stmt) -> Result<(), AllocError>
+    requires fine { IsFine builder.old }
+    requires walk { IsWalk builder.old.bank walk.now }
+    ensures { OnOk result (Becomes builder.old builder.new (λ b. with_known (walk_at b walk.now) (stmt_of stmt.now) (position_at b builder.old).known (made_ready (position_at b builder.old)))) }
+{
+    let known = known_behind(builder, walk, stmt)?;
+    changes::make_ready(builder)?;
+    builder.set_known(known);
+    Ok(())
+}
+
+/// `assert e`
+pub(crate) fn check_condition(
+    builder: &mut Builder,
+    walk: &Walk<'_>,
+    at: Place,
+    e: &Expr,
+) -> Result<(), AllocError>
+    requires fine { IsFine builder.old }
+    requires walk { IsWalk builder.old.bank walk.now }
+    ensures { OnOk result (Becomes builder.old builder.new (λ b. position.check (walk_at b walk.now) kind.Assert at (position.holds_at (walk_at b walk.now) (position_at b builder.old) (expr e.now)) (position_at b builder.old))) }
+{
+    let f = holds_at(builder, walk, e)?;
+    builder.check(walk, Kind::Assert, at, f)?;
+    Ok(())
+}
+
+/// `assume e`
+pub(crate) fn assume_condition(
+    builder: &mut Builder,
+    walk: &Walk<'_>,
+    e: &Expr,
+) -> Result<(), AllocError>
+    requires fine { IsFine builder.old }
+    requires walk { IsWalk builder.old.bank walk.now }
+    ensures { OnOk result (Becomes builder.old builder.new (λ b. position.assume (position.holds_at (walk_at b walk.now) (position_at b builder.old) (expr e.now)) (position_at b builder.old))) }
+{
+    let f = holds_at(builder, walk, e)?;
+    builder.assume(f)?;
+    Ok(())
+}
+
+// A value is printed.
+fn print_value(builder: &mut Builder, walk: &Walk<'_>, e: &Expr) -> Result<(), AllocError>
+    requires fine { IsFine builder.old }
+    requires walk { IsWalk builder.old.bank walk.now }
+    ensures { OnOk result (Becomes builder.old builder.new (λ b. position.evaluate (walk_at b walk.now) (expr e.now) (position_at b builder.old))) }
+{
+    evaluate(builder, walk, e)?;
+    Ok(())
+}
+
+/// A value is printed, where there is one.
+pub(crate) fn print(
+    builder: &mut Builder,
+    walk: &Walk<'_>,
+    e: &Option<Expr>,
+) -> Result<(), AllocError>
+    requires fine { IsFine builder.old }
+    requires walk { IsWalk builder.old.bank walk.now }
+    ensures { OnOk result (Becomes builder.old builder.new (λ b. spec.evaluate_result (walk_at b walk.now) (option_map expr e.now) (position_at b builder.old))) }
+{
+    match e {
+        Some(e) => print_value(builder, walk, e),
+        None => Ok(()),
     }
 }

@@ -1,7 +1,7 @@
 -- What one arm of a choice does.
 use Rattle.std.proofs.Common.{◌≡◌, true, false, refl, Result}
 use Rattle.std.specs.Prelude.{OnOk}
-use Rattle.ss_terms_stores.specs.Forms.{Forms}
+use Rattle.ss_terms.specs.Forms.{Forms}
 use Rattle.ss_vcgen_heaps.specs.Positions.{Position, Guard, Always, When, Never}
 use Rattle.ss_vcgen_builder.specs.declared.builder.Builder.{Builder}
 use Rattle.ss_vcgen_builder.specs.Builder.{Becomes}

@@ -5,9 +5,9 @@ use Rattle.std.proofs.lemmas.List.{append-nil}
 use Rattle.std.proofs.lemmas.Option.{slice_get-map}
 use Rattle.ss_core.specs.declared.names.Ty.{Ty}
 use Rattle.ss_core.specs.declared.names.Ty.TheVariants as ty
-use Rattle.ss_logic_stores.specs.Terms.{Term}
-use Rattle.ss_terms_stores.specs.declared.forms.TermId.{TermId}
-use Rattle.ss_terms_stores.specs.Forms.{Forms}
+use Rattle.ss_logic.specs.Terms.{Term}
+use Rattle.ss_terms.specs.declared.forms.TermId.{TermId}
+use Rattle.ss_terms.specs.Forms.{Forms}
 use Rattle.ss_vcgen_heaps.specs.Positions.{Walk}
 use Rattle.ss_vcgen_heaps.specs.Obligations.{stays_of_type, types_from, argument_types_from}
 use Rattle.ss_vcgen_heaps.specs.Contracts.{is_of_type}

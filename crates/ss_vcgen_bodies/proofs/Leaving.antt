@@ -1,6 +1,6 @@
 -- What the frame condition of a body reads of a position.
 use Rattle.std.proofs.Common.{◌≡◌, List, Option, ap, ◌∙◌}
-use Rattle.ss_logic_stores.specs.Terms.{Term}
+use Rattle.ss_logic.specs.Terms.{Term}
 use Rattle.ss_vcgen_heaps.specs.Positions.{Position, Walk}
 use Rattle.ss_vcgen_heaps.specs.Obligations.{frame_formula}
 use Rattle.ss_vcgen_statements.proofs.Scenes.{IsAlike}

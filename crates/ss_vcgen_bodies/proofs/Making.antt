@@ -1,13 +1,13 @@
 -- Terms and formulas that are made one after the other, while the position stays.
 use Rattle.std.proofs.Common.{◌≡◌, ℕ, zero, suc, List, [], ◌∷◌, ◌++◌, take, refl, sym, ap, ◌∙◌, append_assoc}
 use Rattle.std.proofs.lemmas.List.{append-nil, map-append}
-use Rattle.ss_logic_stores.specs.Terms.{Term}
-use Rattle.ss_logic_stores.specs.Formulas.{Formula}
+use Rattle.ss_logic.specs.Terms.{Term}
+use Rattle.ss_logic.specs.Formulas.{Formula}
 use Rattle.ss_logic_express.specs.Express.{Meant}
-use Rattle.ss_terms_stores.specs.declared.forms.TermId.{TermId}
-use Rattle.ss_terms_stores.specs.declared.forms.FormulaId.{FormulaId}
-use Rattle.ss_terms_stores.specs.Forms.{Forms, term_at, terms_at, formula_at, formulas_at, HasTerm, HasTerms, HasFormulas, IsGrown}
-use Rattle.ss_terms_stores.proofs.Grown.{IsGrown-refl, IsGrown-then, HasTerms-grown, HasFormulas-grown}
+use Rattle.ss_terms.specs.declared.forms.TermId.{TermId}
+use Rattle.ss_terms.specs.declared.forms.FormulaId.{FormulaId}
+use Rattle.ss_terms.specs.Forms.{Forms, term_at, terms_at, formula_at, formulas_at, HasTerm, HasTerms, HasFormulas, IsGrown}
+use Rattle.ss_terms.proofs.Grown.{IsGrown-refl, IsGrown-then, HasTerms-grown, HasFormulas-grown}
 use Rattle.ss_vcgen_heaps.specs.Positions.{Position}
 use Rattle.ss_vcgen_express.specs.Numbers.{IsTerm, IsFormula, AreFormulas}
 use Rattle.ss_vcgen_builder.specs.declared.builder.Builder.{Builder}

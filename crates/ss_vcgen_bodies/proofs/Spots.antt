@@ -4,7 +4,7 @@ use Rattle.std.specs.Prelude.{if◌then◌else◌}
 use Rattle.ss_core.specs.Tree.{ExprTree}
 use Rattle.ss_store_rules.specs.NonNull as rules
 use Rattle.ss_store_rules.specs.Paths.{is_literal_true}
-use Rattle.ss_terms_stores.specs.Forms.{Forms, IsGrown}
+use Rattle.ss_terms.specs.Forms.{Forms, IsGrown}
 use Rattle.ss_vcgen_heaps.specs.Positions.{Position}
 use Rattle.ss_vcgen_heaps.specs.Positions as spec
 use Rattle.ss_vcgen_known.specs.declared.known.Known.{Known}

@@ -9,8 +9,8 @@ use Rattle.ss_core.specs.Chain.{above}
 use Rattle.ss_store_rules.specs.Locals.{local_types}
 use Rattle.ss_store_rules.specs.NonNull.{known_tested, known_head}
 use Rattle.ss_store_rules.specs.Paths.{is_literal_true}
-use Rattle.ss_logic_stores.specs.Terms.{Term}
-use Rattle.ss_logic_stores.specs.Formulas.{Formula}
+use Rattle.ss_logic.specs.Terms.{Term}
+use Rattle.ss_logic.specs.Formulas.{Formula}
 use Rattle.ss_logic_rules.specs.Shapes.{null_term, class_term, level_of, equal, differ}
 use Rattle.ss_logic_express.specs.Express.{and_of, or_of, Meant, element_sort}
 use Rattle.ss_logic_frames.specs.Frames.{grown}

@@ -2,7 +2,7 @@
 
 ghost use Rattle.std.specs.Prelude.{IfOk, map};
 ghost use Rattle.ss_core.specs.View.{exposed_tree};
-ghost use Rattle.ss_terms_stores.specs.Forms.{terms_at, HasTerms};
+ghost use Rattle.ss_terms.specs.Forms.{terms_at, HasTerms};
 ghost use Rattle.ss_vcgen_heaps.specs.Obligations as spec;
 ghost use Rattle.ss_vcgen_express.specs.Numbers.{IsFormula, AreFormulas};
 ghost use Rattle.ss_vcgen_contracts.specs.Views.{ones_at, AreOnes};
@@ -13,7 +13,7 @@ ghost use Rattle.ss_vcgen_bodies.specs.Words.{entries_said, exits_said};
 use crate::levels::exposed_terms;
 use crate::lists::first_terms;
 use ss_core::Exposed;
-use ss_terms_stores::{FormulaId, TermId};
+use ss_terms::{FormulaId, TermId};
 use ss_vcgen_builder::{Builder, Walk};
 use ss_vcgen_calls_made::{entry_said, exit_said, frame_said};
 use ss_vcgen_contracts::Contract;

@@ -13,7 +13,7 @@ use crate::levels::levels_at_head;
 use crate::renewal::come_to_head;
 use crate::types::kept_types;
 use ss_core::{Exposed, Expr, Kind, Place, Stmt};
-use ss_terms_stores::{FormulaId, TermId};
+use ss_terms::{FormulaId, TermId};
 use ss_vcgen_builder::{Builder, Guard, Spot, Walk};
 use ss_vcgen_calls_made::grown_said;
 use ss_vcgen_evaluated::holds_at;

@@ -4,7 +4,7 @@ ghost use Rattle.std.specs.Prelude.{map, IfOk};
 ghost use Rattle.ss_core.specs.View.{classes, exposed_tree};
 ghost use Rattle.ss_logic_rules.specs.Shapes.{equal};
 ghost use Rattle.ss_logic_express.specs.Express.{and_of};
-ghost use Rattle.ss_terms_stores.specs.Forms.{term_at, terms_at, HasTerm, HasTerms};
+ghost use Rattle.ss_terms.specs.Forms.{term_at, terms_at, HasTerm, HasTerms};
 ghost use Rattle.ss_vcgen_heaps.specs.Obligations as spec;
 ghost use Rattle.ss_vcgen_express.specs.Numbers.{IsFormula, AreFormulas};
 ghost use Rattle.ss_vcgen_builder.specs.Builder.{position_at, IsFine};
@@ -13,7 +13,7 @@ ghost use Rattle.ss_vcgen_bodies.specs.Words.{exposed_formula, exposed_here};
 
 use crate::lists::{behind, between};
 use ss_core::{ClassId, Exposed};
-use ss_terms_stores::{FormulaId, TermId};
+use ss_terms::{FormulaId, TermId};
 use ss_vcgen_builder::{Builder, Walk};
 use ss_vcgen_express::{Relation, Saying};
 use ss_vcgen_statements::{each_of, is_null, one_of, say};

@@ -3,7 +3,7 @@
 ghost use Rattle.std.specs.Prelude.{◌≡◌, ◌<◌, ◌+◌, [], ◌∷◌, ◌++◌, length, drop, take, IfOk};
 
 use ss_core::Exposed;
-use ss_terms_stores::{FormulaId, TermId};
+use ss_terms::{FormulaId, TermId};
 use std::alloc::{AllocError, Global};
 
 // What stands behind the one with this number.

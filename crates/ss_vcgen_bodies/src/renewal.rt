@@ -9,7 +9,7 @@ ghost use Rattle.ss_vcgen_builder.specs.Builder.{position_at, walk_at, IsFine, I
 ghost use Rattle.ss_vcgen_bodies.specs.Words.{renewed_one, come_to_head};
 
 use ss_core::{Stmt, Ty};
-use ss_logic_stores::Sort;
+use ss_logic::Sort;
 use ss_vcgen_builder::{Builder, Walk};
 use ss_vcgen_calls_made::element_sort;
 use ss_vcgen_known::{Known, assigned};

@@ -2,7 +2,7 @@
 
 ghost use Rattle.std.specs.Prelude.{[], option_map, Some, IfOk, OnOk};
 ghost use Rattle.ss_core.specs.View.{expr};
-ghost use Rattle.ss_terms_stores.specs.Forms.{HasTerms};
+ghost use Rattle.ss_terms.specs.Forms.{HasTerms};
 ghost use Rattle.ss_vcgen_heaps.specs.Obligations as spec;
 ghost use Rattle.ss_vcgen_contracts.specs.Views.{ones_at, AreOnes};
 ghost use Rattle.ss_vcgen_builder.specs.Builder.{position_at, walk_at, IsFine, IsWalk, Becomes};
@@ -10,7 +10,7 @@ ghost use Rattle.ss_vcgen_bodies.specs.Words.{left, reached_result, result_reach
 
 use crate::frames::{exits_said, frame_formula};
 use ss_core::{Expr, Kind, Place};
-use ss_terms_stores::TermId;
+use ss_terms::TermId;
 use ss_vcgen_builder::{Builder, Walk};
 use ss_vcgen_calls_made::element_sort;
 use ss_vcgen_evaluated::evaluate;

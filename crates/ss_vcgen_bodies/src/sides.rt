@@ -4,7 +4,7 @@ ghost use Rattle.std.specs.Prelude.{false, IfOk};
 ghost use Rattle.ss_core.specs.View.{expr};
 ghost use Rattle.ss_store_rules.specs.NonNull.{known_tested};
 ghost use Rattle.ss_logic_express.specs.Express.{said};
-ghost use Rattle.ss_terms_stores.specs.Forms.{Forms};
+ghost use Rattle.ss_terms.specs.Forms.{Forms};
 ghost use Rattle.ss_vcgen_heaps.specs.Positions as position;
 ghost use Rattle.ss_vcgen_heaps.specs.Obligations as spec;
 ghost use Rattle.ss_vcgen_express.specs.Numbers.{meant_at, HasMeant, IsFormula};
@@ -13,7 +13,7 @@ ghost use Rattle.ss_vcgen_statements.specs.Words.{Stays};
 ghost use Rattle.ss_vcgen_bodies.specs.Words.{other_side, exit_side};
 
 use ss_core::Expr;
-use ss_terms_stores::FormulaId;
+use ss_terms::FormulaId;
 use ss_vcgen_builder::{Builder, Guard, Spot, Walk};
 use ss_vcgen_evaluated::evaluate;
 use ss_vcgen_express::{Meant, said};

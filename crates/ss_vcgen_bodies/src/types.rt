@@ -3,7 +3,7 @@
 ghost use Rattle.std.specs.Prelude.{◌≡◌, true, [], ◌∷◌, Some, slice_get, IfOk};
 ghost use Rattle.ss_logic_rules.specs.Shapes.{null_term, equal, differ};
 ghost use Rattle.ss_logic_express.specs.Express.{or_of};
-ghost use Rattle.ss_terms_stores.specs.Forms.{Forms, term_at, HasTerm};
+ghost use Rattle.ss_terms.specs.Forms.{Forms, term_at, HasTerm};
 ghost use Rattle.ss_vcgen_heaps.specs.Obligations as spec;
 ghost use Rattle.ss_vcgen_express.specs.Numbers.{IsFormula, AreFormulas};
 ghost use Rattle.ss_vcgen_builder.specs.Builder.{position_at, local_at, locals_at, walk_at, HasLocal, HasLocals, IsFine};
@@ -11,7 +11,7 @@ ghost use Rattle.ss_vcgen_statements.specs.Words.{Stays};
 ghost use Rattle.ss_vcgen_bodies.specs.Words.{flat, nullable, is_without_null, kept_type, entry_type, not_lost};
 
 use ss_core::Ty;
-use ss_terms_stores::{FormulaId, TermId};
+use ss_terms::{FormulaId, TermId};
 use ss_vcgen_builder::{Builder, Walk};
 use ss_vcgen_calls_made::type_said;
 use ss_vcgen_express::Saying;

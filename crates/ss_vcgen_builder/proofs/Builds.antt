@@ -6,15 +6,15 @@ use Rattle.ss_core.specs.declared.names.Kind.{Kind}
 use Rattle.ss_core.specs.declared.names.Place.{Place}
 use Rattle.ss_core.specs.View as view
 use Rattle.ss_store_rules.specs.NonNull as NonNull
-use Rattle.ss_logic_stores.specs.declared.Sort.{Sort}
-use Rattle.ss_logic_stores.specs.Terms as tree
-use Rattle.ss_logic_stores.specs.Formulas as logic
+use Rattle.ss_logic.specs.declared.Sort.{Sort}
+use Rattle.ss_logic.specs.Terms as tree
+use Rattle.ss_logic.specs.Formulas as logic
 use Rattle.ss_logic_rules.specs.Shapes.{equal}
 use Rattle.ss_logic_express.specs.Express as express
-use Rattle.ss_terms_stores.specs.declared.forms.TermId.{TermId}
-use Rattle.ss_terms_stores.specs.declared.forms.FormulaId.{FormulaId}
-use Rattle.ss_terms_stores.specs.Forms.{Forms, term_at, formula_at, formulas_at, HasTerm, HasFormula, IsGrown}
-use Rattle.ss_terms_stores.proofs.Grown.{IsGrown-refl, IsGrown-then, HasTerm-grown, HasFormula-grown, HasFormulas-grown, IsBankOf-grown}
+use Rattle.ss_terms.specs.declared.forms.TermId.{TermId}
+use Rattle.ss_terms.specs.declared.forms.FormulaId.{FormulaId}
+use Rattle.ss_terms.specs.Forms.{Forms, term_at, formula_at, formulas_at, HasTerm, HasFormula, IsGrown}
+use Rattle.ss_terms.proofs.Grown.{IsGrown-refl, IsGrown-then, HasTerm-grown, HasFormula-grown, HasFormulas-grown, IsBankOf-grown}
 use Rattle.ss_vcgen_express.specs.Numbers.{IsTerm, IsFormula}
 use Rattle.ss_vcgen_express.proofs.Grown.{HasFormulas-push}
 use Rattle.ss_vcgen_known.specs.declared.known.Known.{Known}

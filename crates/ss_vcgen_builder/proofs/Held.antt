@@ -1,10 +1,10 @@
 -- Numbers that a bank has stay so as it grows, and lists of them as they are changed.
 use Rattle.std.proofs.Common.{ℕ, zero, suc, ◌+◌, ◌<◌, List, [], ◌∷◌, ◌++◌, length, get_or, Option, Some, None, arith}
 use Rattle.std.specs.Prelude.{slice_get, slice_set, IfSome}
-use Rattle.ss_terms_stores.specs.declared.forms.TermId.{TermId}
-use Rattle.ss_terms_stores.specs.declared.forms.FormulaId.{FormulaId}
-use Rattle.ss_terms_stores.specs.Forms.{Forms, HasFormula, HasFormulas, IsGrown}
-use Rattle.ss_terms_stores.proofs.Grown.{HasTerm-grown, HasFormula-grown}
+use Rattle.ss_terms.specs.declared.forms.TermId.{TermId}
+use Rattle.ss_terms.specs.declared.forms.FormulaId.{FormulaId}
+use Rattle.ss_terms.specs.Forms.{Forms, HasFormula, HasFormulas, IsGrown}
+use Rattle.ss_terms.proofs.Grown.{HasTerm-grown, HasFormula-grown}
 use Rattle.ss_vcgen_builder.specs.declared.builder.Obligation.{Obligation}
 use Rattle.ss_vcgen_builder.specs.Builder.{HasLocal, HasLocals, IsPlaced, AreWithin}
 

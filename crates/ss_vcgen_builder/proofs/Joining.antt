@@ -7,14 +7,14 @@ use Rattle.ss_core.specs.declared.names.Ty.{Ty}
 use Rattle.ss_core.specs.declared.names.Ty.TheVariants as ty
 use Rattle.ss_store_rules.specs.Locals.{local_types}
 use Rattle.ss_store_rules.specs.NonNull as NonNull
-use Rattle.ss_logic_stores.specs.declared.Sort.{Sort}
-use Rattle.ss_logic_stores.specs.declared.Sort.TheVariants as sort
-use Rattle.ss_logic_stores.specs.Terms.{Term, sort_of_type}
-use Rattle.ss_logic_stores.specs.Equal.{same_term}
+use Rattle.ss_logic.specs.declared.Sort.{Sort}
+use Rattle.ss_logic.specs.declared.Sort.TheVariants as sort
+use Rattle.ss_logic.specs.Terms.{Term, sort_of_type}
+use Rattle.ss_logic.specs.Equal.{same_term}
 use Rattle.ss_logic_rules.specs.Shapes.{equal}
-use Rattle.ss_terms_stores.specs.declared.forms.TermId.{TermId}
-use Rattle.ss_terms_stores.specs.Forms.{Forms, term_at, IsGrown}
-use Rattle.ss_terms_stores.proofs.Grown.{IsGrown-refl, IsGrown-then}
+use Rattle.ss_terms.specs.declared.forms.TermId.{TermId}
+use Rattle.ss_terms.specs.Forms.{Forms, term_at, IsGrown}
+use Rattle.ss_terms.proofs.Grown.{IsGrown-refl, IsGrown-then}
 use Rattle.ss_vcgen_heaps.specs.Positions as spec
 use Rattle.ss_vcgen_heaps.specs.Positions.{Position}
 use Rattle.ss_vcgen_known.specs.Views.{known_of}

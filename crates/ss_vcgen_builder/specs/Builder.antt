@@ -5,13 +5,13 @@ use Rattle.ss_core.specs.declared.names.Place.{Place}
 use Rattle.ss_core.specs.Chain.{IsWithinLimits}
 use Rattle.ss_core.specs.View as view
 use Rattle.ss_store_rules.specs.Locals.{local_types}
-use Rattle.ss_logic_stores.specs.declared.Sort.{Sort}
-use Rattle.ss_logic_stores.specs.Terms as tree
-use Rattle.ss_logic_stores.specs.Formulas.{Formula}
+use Rattle.ss_logic.specs.declared.Sort.{Sort}
+use Rattle.ss_logic.specs.Terms as tree
+use Rattle.ss_logic.specs.Formulas.{Formula}
 use Rattle.ss_logic_express.specs.Express.{and_of, or_of}
-use Rattle.ss_terms_stores.specs.declared.forms.TermId.{TermId}
-use Rattle.ss_terms_stores.specs.declared.forms.FormulaId.{FormulaId}
-use Rattle.ss_terms_stores.specs.Forms.{Forms, term_at, formula_at, formulas_at, HasTerm, HasFormula, HasFormulas, IsGrown, IsBankOf}
+use Rattle.ss_terms.specs.declared.forms.TermId.{TermId}
+use Rattle.ss_terms.specs.declared.forms.FormulaId.{FormulaId}
+use Rattle.ss_terms.specs.Forms.{Forms, term_at, formula_at, formulas_at, HasTerm, HasFormula, HasFormulas, IsGrown, IsBankOf}
 use Rattle.ss_vcgen_heaps.specs.Positions as spec
 use Rattle.ss_vcgen_known.specs.Views.{known_of}
 use Rattle.ss_vcgen_builder.specs.declared.guard.Guard.{Guard}

@@ -3,8 +3,8 @@
 ghost use Rattle.std.specs.Prelude.{◌≡◌, ◌+◌, IfOk, OnOk};
 ghost use Rattle.ss_core.specs.View.{expr};
 ghost use Rattle.ss_store_rules.specs.NonNull.{known_tested};
-ghost use Rattle.ss_logic_stores.specs.Formulas.{neg};
-ghost use Rattle.ss_terms_stores.specs.Forms.{formula_at, HasFormula};
+ghost use Rattle.ss_logic.specs.Formulas.{neg};
+ghost use Rattle.ss_terms.specs.Forms.{formula_at, HasFormula};
 ghost use Rattle.ss_vcgen_heaps.specs.Positions as spec;
 ghost use Rattle.ss_vcgen_express.specs.Numbers.{IsFormula};
 ghost use Rattle.ss_vcgen_known.specs.Views.{known_of};
@@ -14,7 +14,7 @@ use crate::builder::Builder;
 use crate::guard::{Guard, side};
 use crate::terms::after;
 use ss_core::Expr;
-use ss_terms_stores::{FormulaId, TermId};
+use ss_terms::{FormulaId, TermId};
 use ss_vcgen_known::Known;
 use std::alloc::AllocError;
 

@@ -1,14 +1,14 @@
 // A list of obligations under construction.
 
 ghost use Rattle.std.specs.Prelude.{IfOk, OnOk};
-ghost use Rattle.ss_terms_stores.specs.Forms.{formula_at, formulas_at, HasFormula, HasFormulas};
+ghost use Rattle.ss_terms.specs.Forms.{formula_at, formulas_at, HasFormula, HasFormulas};
 ghost use Rattle.ss_vcgen_heaps.specs.Positions as spec;
 ghost use Rattle.ss_vcgen_express.specs.Numbers.{IsFormula};
 ghost use Rattle.ss_vcgen_builder.specs.Builder.{guard_of, listing, position_at, walk_at, IsFine, Becomes};
 
 use crate::guard::{Guard, under};
 use ss_core::{Body, BodyId, Core, Kind, Place, Ty};
-use ss_terms_stores::{Bank, FormulaId, TermId};
+use ss_terms::{Bank, FormulaId, TermId};
 use ss_vcgen_known::Known;
 use std::alloc::{AllocError, Global};
 

@@ -1,15 +1,15 @@
 // Guards of positions, and formulas under them.
 
 ghost use Rattle.std.specs.Prelude.{[], IfOk};
-ghost use Rattle.ss_logic_stores.specs.Formulas.{neg};
+ghost use Rattle.ss_logic.specs.Formulas.{neg};
 ghost use Rattle.ss_logic_rules.specs.Shapes.{equal};
-ghost use Rattle.ss_terms_stores.specs.Forms.{term_at, formula_at, HasTerm, HasFormula, IsGrown};
+ghost use Rattle.ss_terms.specs.Forms.{term_at, formula_at, HasTerm, HasFormula, IsGrown};
 ghost use Rattle.ss_vcgen_heaps.specs.Positions as spec;
 ghost use Rattle.ss_vcgen_express.specs.Numbers.{IsTerm, IsFormula};
 ghost use Rattle.ss_vcgen_builder.specs.Builder.{guard_of, there};
 
-use ss_logic_stores::Sort;
-use ss_terms_stores::{Bank, FormulaId, Predicate, Symbol, TermId};
+use ss_logic::Sort;
+use ss_terms::{Bank, FormulaId, Predicate, Symbol, TermId};
 use ss_vcgen_express::implies;
 use std::alloc::{AllocError, Global};
 

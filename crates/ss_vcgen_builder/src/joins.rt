@@ -2,11 +2,11 @@
 
 ghost use Rattle.std.specs.Prelude.{◌≡◌, [], ◌∷◌, IfOk, OnOk};
 ghost use Rattle.ss_store_rules.specs.NonNull.{known_met};
-ghost use Rattle.ss_logic_stores.specs.Terms.{sort_of_type};
-ghost use Rattle.ss_logic_stores.specs.Formulas.{neg};
+ghost use Rattle.ss_logic.specs.Terms.{sort_of_type};
+ghost use Rattle.ss_logic.specs.Formulas.{neg};
 ghost use Rattle.ss_logic_rules.specs.Shapes.{equal};
 ghost use Rattle.ss_logic_express.specs.Express.{or_of};
-ghost use Rattle.ss_terms_stores.specs.Forms.{term_at, formula_at, HasTerm, HasFormula, IsGrown};
+ghost use Rattle.ss_terms.specs.Forms.{term_at, formula_at, HasTerm, HasFormula, IsGrown};
 ghost use Rattle.ss_vcgen_heaps.specs.Positions as spec;
 ghost use Rattle.ss_vcgen_express.specs.Numbers.{IsTerm, IsFormula};
 ghost use Rattle.ss_vcgen_known.specs.Views.{known_of};
@@ -17,8 +17,8 @@ use crate::builder::{Builder, Walk};
 use crate::guard::{Guard, equation, guard_formula, unreached};
 use crate::terms::after;
 use ss_core::Ty;
-use ss_logic_stores::Sort;
-use ss_terms_stores::{Bank, FormulaId, TermId};
+use ss_logic::Sort;
+use ss_terms::{Bank, FormulaId, TermId};
 use ss_vcgen_known::Known;
 use std::alloc::AllocError;
 

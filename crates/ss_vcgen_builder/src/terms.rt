@@ -1,7 +1,7 @@
 // New constants, locals, the store, and terms for what is meant.
 
 ghost use Rattle.std.specs.Prelude.{◌≡◌, ◌+◌, ◌++◌, [], ◌∷◌, IfOk, OnOk, IfSome, slice_get, slice_set, option_map};
-ghost use Rattle.ss_terms_stores.specs.Forms.{term_at, HasTerm, IsGrown};
+ghost use Rattle.ss_terms.specs.Forms.{term_at, HasTerm, IsGrown};
 ghost use Rattle.ss_vcgen_heaps.specs.Positions as spec;
 ghost use Rattle.ss_vcgen_express.specs.Numbers.{meant_at, HasMeant, IsTerm, IsFormula};
 ghost use Rattle.ss_vcgen_known.specs.Views.{known_of};
@@ -9,8 +9,8 @@ ghost use Rattle.ss_vcgen_builder.specs.Builder.{counters_of, local_at, position
 
 use crate::builder::{Builder, Counters};
 use crate::guard::{Guard, good};
-use ss_logic_stores::Sort;
-use ss_terms_stores::{Bank, FormulaId, Symbol, TermId};
+use ss_logic::Sort;
+use ss_terms::{Bank, FormulaId, Symbol, TermId};
 use ss_vcgen_express::{Meant, Relation, Saying, has_truth_of, over, said};
 use ss_vcgen_known::Known;
 use std::alloc::{AllocError, Global};

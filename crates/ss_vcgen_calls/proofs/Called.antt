@@ -14,10 +14,10 @@ use Rattle.ss_store_rules.specs.Typed.{fits_kept}
 use Rattle.ss_machine_rules.specs.States.{ToCall}
 use Rattle.ss_machine_rules.specs.Good as machine
 use Rattle.ss_machine_good.proofs.Frames.{declared_some}
-use Rattle.ss_logic_stores.specs.declared.Sort.{Sort}
-use Rattle.ss_logic_stores.specs.declared.Sort.TheVariants as sort
-use Rattle.ss_logic_stores.specs.Values.{Table, Structure}
-use Rattle.ss_logic_stores.specs.Terms.{Term}
+use Rattle.ss_logic.specs.declared.Sort.{Sort}
+use Rattle.ss_logic.specs.declared.Sort.TheVariants as sort
+use Rattle.ss_logic.specs.Values.{Table, Structure}
+use Rattle.ss_logic.specs.Terms.{Term}
 use Rattle.ss_logic_express.specs.Express.{Meant, One, element_sort}
 use Rattle.ss_logic_means.specs.Sorts.{HasSort}
 use Rattle.ss_vcgen_heaps.specs.Positions.{Counters, Position, Walk, with_new}

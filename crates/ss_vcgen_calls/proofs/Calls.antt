@@ -32,8 +32,8 @@ use Rattle.ss_machine_good.proofs.Steps.{code_typed}
 use Rattle.ss_machine_good_constructors.proofs.Bases.{where_some, base_of}
 use Rattle.ss_machine_good_frames.proofs.Behind.{constructor_instance}
 use Rattle.ss_machine_good_runs.proofs.Calls.{method_number}
-use Rattle.ss_logic_stores.specs.Values.{null, Table, thing, Structure}
-use Rattle.ss_logic_stores.specs.Terms.{Term, value_of}
+use Rattle.ss_logic.specs.Values.{null, Table, thing, Structure}
+use Rattle.ss_logic.specs.Terms.{Term, value_of}
 use Rattle.ss_logic_rules.specs.Shapes.{null_term, differ}
 use Rattle.ss_logic_express.specs.Express.{Meant, One}
 use Rattle.ss_logic_means.specs.Means.{standing}

@@ -20,12 +20,12 @@ use Rattle.ss_store_rules.specs.Types.{class_type}
 use Rattle.ss_machine_rules.specs.Good as machine
 use Rattle.ss_machine_rules.specs.Steps.{values_of, with_ready}
 use Rattle.ss_machine_good_runs.proofs.Constructions.{found_passes}
-use Rattle.ss_logic_stores.specs.declared.Sort.TheVariants as sort
-use Rattle.ss_logic_stores.specs.Values.{reference, class_name, Table, thing, store, as_thing, as_store, IsNumbered, Structure}
-use Rattle.ss_logic_stores.specs.Changes as changes
-use Rattle.ss_logic_stores.specs.Terms.{New, Next, MakeReady, Term, app, applied, value_of}
-use Rattle.ss_logic_stores.specs.Objects.{IsGoodStore, objects_of}
-use Rattle.ss_logic_stores.proofs.Numbered.{store_numbered}
+use Rattle.ss_logic.specs.declared.Sort.TheVariants as sort
+use Rattle.ss_logic.specs.Values.{reference, class_name, Table, thing, store, as_thing, as_store, IsNumbered, Structure}
+use Rattle.ss_logic.specs.Changes as changes
+use Rattle.ss_logic.specs.Terms.{New, Next, MakeReady, Term, app, applied, value_of}
+use Rattle.ss_logic.specs.Objects.{IsGoodStore, objects_of}
+use Rattle.ss_logic.proofs.Numbered.{store_numbered}
 use Rattle.ss_logic_rules.specs.Shapes.{class_term, equal, next_of}
 use Rattle.ss_logic_rules.specs.Shapes as shape
 use Rattle.ss_logic_express.specs.Express.{Meant, One}

@@ -16,8 +16,8 @@ use Rattle.ss_store_rules.specs.Types.{has_fitting, code_type}
 use Rattle.ss_store_rules.specs.Values.{Setting}
 use Rattle.ss_store_rules.specs.Values as run
 use Rattle.ss_machine_rules.specs.Steps.{values_of}
-use Rattle.ss_logic_stores.specs.Values.{Table, Structure}
-use Rattle.ss_logic_stores.specs.Terms.{Term}
+use Rattle.ss_logic.specs.Values.{Table, Structure}
+use Rattle.ss_logic.specs.Terms.{Term}
 use Rattle.ss_logic_express.specs.Express.{Meant, One}
 use Rattle.ss_vcgen_heaps.specs.Positions.{Counters, Position, Walk, evaluate_all}
 use Rattle.ss_vcgen_heaps.specs.Obligations.{settle_all, arguments_settled, AreValid}

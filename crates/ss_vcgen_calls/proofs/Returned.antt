@@ -25,12 +25,12 @@ use Rattle.ss_machine_typed.specs.Older.{IsOlder}
 use Rattle.ss_machine_typed.specs.Settings.{AreGoodArguments}
 use Rattle.ss_machine_typed.proofs.Older.{older_self, locals-older}
 use Rattle.ss_machine_typed.proofs.First.{entered_locals, put_locals}
-use Rattle.ss_logic_stores.specs.declared.Sort.TheVariants as sort
-use Rattle.ss_logic_stores.specs.Values.{Heap, Table, Value, store, sort_of_value, Structure}
-use Rattle.ss_logic_stores.specs.Terms.{Term, sort_of_type, sort_of, value_of}
-use Rattle.ss_logic_stores.specs.Formulas.{True, Hold}
-use Rattle.ss_logic_stores.specs.Objects.{objects_of, IsGoodStore}
-use Rattle.ss_logic_stores.proofs.Truth.{value_sorted}
+use Rattle.ss_logic.specs.declared.Sort.TheVariants as sort
+use Rattle.ss_logic.specs.Values.{Heap, Table, Value, store, sort_of_value, Structure}
+use Rattle.ss_logic.specs.Terms.{Term, sort_of_type, sort_of, value_of}
+use Rattle.ss_logic.specs.Formulas.{True, Hold}
+use Rattle.ss_logic.specs.Objects.{objects_of, IsGoodStore}
+use Rattle.ss_logic.proofs.Truth.{value_sorted}
 use Rattle.ss_logic_express.specs.Express.{Meant, One, element_sort}
 use Rattle.ss_logic_frames.specs.Frames.{kept, grown}
 use Rattle.ss_logic_frames.proofs.Kept.{kept_to, grown_to}

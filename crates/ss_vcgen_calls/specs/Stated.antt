@@ -5,8 +5,8 @@ use Rattle.ss_core.specs.declared.names.Ty.{Ty}
 use Rattle.ss_core.specs.Tree.{ClassTree, BodyTree}
 use Rattle.ss_store_rules.specs.declared.Value.{Value as ObjectValue}
 use Rattle.ss_store_rules.specs.Locals.{local_types}
-use Rattle.ss_logic_stores.specs.Values.{Structure}
-use Rattle.ss_logic_stores.specs.Terms.{Term, sort_of_type, is_well_sorted}
+use Rattle.ss_logic.specs.Values.{Structure}
+use Rattle.ss_logic.specs.Terms.{Term, sort_of_type, is_well_sorted}
 use Rattle.ss_logic_means.specs.Means.{standing}
 use Rattle.ss_logic_means.specs.Scenes.{is_stated}
 use Rattle.ss_logic_means.specs.Sorts.{HasSort}

@@ -5,9 +5,9 @@ use Rattle.ss_core.specs.declared.expr.Expr.{Expr}
 use Rattle.ss_core.specs.View.{expr, exprs}
 use Rattle.ss_core.specs.Tree.{ExprTree}
 use Rattle.ss_logic_express.specs.Express.{One}
-use Rattle.ss_terms_stores.specs.declared.forms.TermId.{TermId}
-use Rattle.ss_terms_stores.specs.Forms.{Forms, term_at, HasTerm, HasTerms, IsGrown}
-use Rattle.ss_terms_stores.proofs.Grown.{IsGrown-then, HasTerms-grown}
+use Rattle.ss_terms.specs.declared.forms.TermId.{TermId}
+use Rattle.ss_terms.specs.Forms.{Forms, term_at, HasTerm, HasTerms, IsGrown}
+use Rattle.ss_terms.proofs.Grown.{IsGrown-then, HasTerms-grown}
 use Rattle.ss_vcgen_heaps.specs.Positions.{Walk, meant_at, settled, term_for}
 use Rattle.ss_vcgen_heaps.specs.Obligations.{settle_all, arguments_settled}
 use Rattle.ss_vcgen_express.specs.Numbers.{IsTerm}

@@ -14,8 +14,8 @@ ghost use Rattle.ss_vcgen_contracts.specs.Views.{AreOnes};
 ghost use Rattle.ss_vcgen_calls_made.specs.Words.{argument_sort, reached_arguments, arguments_reached};
 
 use ss_core::{Callee, Expr, Ty};
-use ss_logic_stores::Sort;
-use ss_terms_stores::TermId;
+use ss_logic::Sort;
+use ss_terms::TermId;
 use ss_vcgen_builder::{Builder, Walk};
 use ss_vcgen_evaluated::{evaluate, evaluate_all, meaning};
 use ss_vcgen_known::code_type;

@@ -4,11 +4,11 @@ ghost use Rattle.std.specs.Prelude.{◌≡◌, [], ◌∷◌, ◌++◌, option_m
 ghost use Rattle.ss_core.specs.View.{classes, expr, exprs, callee_tree};
 ghost use Rattle.ss_store_rules.specs.Locals.{receiver};
 ghost use Rattle.ss_core.specs.Tree as tree;
-ghost use Rattle.ss_logic_stores.specs.declared.Sort.TheVariants as sort;
-ghost use Rattle.ss_logic_stores.specs.Terms.{sort_of_type};
+ghost use Rattle.ss_logic.specs.declared.Sort.TheVariants as sort;
+ghost use Rattle.ss_logic.specs.Terms.{sort_of_type};
 ghost use Rattle.ss_logic_express.specs.Express.{One};
 ghost use Rattle.ss_logic_frames.specs.Frames.{kept, grown};
-ghost use Rattle.ss_terms_stores.specs.Forms.{term_at, terms_at, HasTerm, HasTerms};
+ghost use Rattle.ss_terms.specs.Forms.{term_at, terms_at, HasTerm, HasTerms};
 ghost use Rattle.ss_vcgen_heaps.specs.Positions as position;
 ghost use Rattle.ss_vcgen_heaps.specs.Contracts as contract;
 ghost use Rattle.ss_vcgen_heaps.specs.Obligations as spec;
@@ -20,8 +20,8 @@ ghost use Rattle.ss_vcgen_calls_made.specs.Words.{result_said, changes_assumed, 
 
 use crate::arguments::{behind, element_sort, settle_call};
 use ss_core::{Callee, Expr, Kind, Place, Ty};
-use ss_logic_stores::Sort;
-use ss_terms_stores::{FormulaId, TermId};
+use ss_logic::Sort;
+use ss_terms::{FormulaId, TermId};
 use ss_vcgen_builder::{Builder, Walk};
 use ss_vcgen_contracts::{
     Contract, called, entry_conditions, exit_conditions, frame, grown, is_of_type,

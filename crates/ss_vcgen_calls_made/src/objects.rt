@@ -2,10 +2,10 @@
 
 ghost use Rattle.std.specs.Prelude.{◌≡◌, [], ◌∷◌, option_map, pos, IfOk, OnOk};
 ghost use Rattle.ss_core.specs.View.{body, expr, exprs};
-ghost use Rattle.ss_logic_stores.specs.Terms.{Length, app};
+ghost use Rattle.ss_logic.specs.Terms.{Length, app};
 ghost use Rattle.ss_logic_rules.specs.Shapes as shape;
 ghost use Rattle.ss_logic_rules.specs.Shapes.{number, class_term, next_of, equal, at_most};
-ghost use Rattle.ss_terms_stores.specs.Forms.{term_at, HasTerm, HasTerms, IsGrown};
+ghost use Rattle.ss_terms.specs.Forms.{term_at, HasTerm, HasTerms, IsGrown};
 ghost use Rattle.ss_vcgen_heaps.specs.Obligations as spec;
 ghost use Rattle.ss_vcgen_express.specs.Numbers.{IsTerm, IsFormula};
 ghost use Rattle.ss_vcgen_builder.specs.Builder.{position_at, walk_at, IsFine, IsWalk, Becomes};
@@ -16,9 +16,9 @@ ghost use Rattle.ss_vcgen_calls_made.specs.Words.{object_there, array_there, len
 use crate::arguments::{behind, settle_list};
 use crate::calls::{check_entry, keep, returned};
 use ss_core::{Body, ClassId, Expr, Kind, Place};
-use ss_logic_stores::Sort;
+use ss_logic::Sort;
 use ss_rules_plans::{Claim, Clause, Plan, Slot, fill};
-use ss_terms_stores::{Bank, FormulaId, Predicate, Symbol, TermId};
+use ss_terms::{Bank, FormulaId, Predicate, Symbol, TermId};
 use ss_vcgen_builder::{Builder, Walk};
 use ss_vcgen_contracts::Contract;
 use ss_vcgen_evaluated::evaluate;

@@ -11,9 +11,9 @@ use Rattle.ss_store_rules.specs.Changes.{field_class, field_mark, field_type, un
 use Rattle.ss_store_rules.specs.Good.{has_type, Invariants, IsGood}
 use Rattle.ss_store_rules.specs.Admissible.{invariants_hold}
 use Rattle.ss_machine_rules.specs.Steps.{with_ready}
-use Rattle.ss_logic_stores.specs.Values.{reference, Heap, Value, whole, thing, store, as_thing, Structure}
-use Rattle.ss_logic_stores.specs.Changes.{changed, field_set, element_put, unpacked, packed, with_new, new_object, new_array, made_ready}
-use Rattle.ss_logic_stores.specs.Terms.{Symbol, Set, Put, Unpack, Pack, Capture, Join, New, NewArray, Next, MakeReady, Term, app, applied}
+use Rattle.ss_logic.specs.Values.{reference, Heap, Value, whole, thing, store, as_thing, Structure}
+use Rattle.ss_logic.specs.Changes.{changed, field_set, element_put, unpacked, packed, with_new, new_object, new_array, made_ready}
+use Rattle.ss_logic.specs.Terms.{Symbol, Set, Put, Unpack, Pack, Capture, Join, New, NewArray, Next, MakeReady, Term, app, applied}
 use Rattle.ss_logic_rules.specs.Shapes.{next_of}
 use Rattle.ss_logic_means.specs.Means.{standing}
 use Rattle.ss_logic_means.proofs.Denoting.{V}

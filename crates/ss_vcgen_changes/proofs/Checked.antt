@@ -19,11 +19,11 @@ use Rattle.ss_store_rules.specs.Reads as reads
 use Rattle.ss_store_rules.specs.Changes.{is_array, field_class, field_mark}
 use Rattle.ss_store_rules.specs.Changes as change
 use Rattle.ss_store_rules.specs.Admissible.{invariants_hold}
-use Rattle.ss_logic_stores.specs.Values.{reference, is_group, Heap, Value, whole, thing, store, as_thing, Structure}
-use Rattle.ss_logic_stores.specs.Terms.{Length, Term, Bound, app}
-use Rattle.ss_logic_stores.specs.Formulas.{Formula, neg}
-use Rattle.ss_logic_stores.specs.Objects.{objects_of}
-use Rattle.ss_logic_stores.proofs.Tabled.{there, count}
+use Rattle.ss_logic.specs.Values.{reference, is_group, Heap, Value, whole, thing, store, as_thing, Structure}
+use Rattle.ss_logic.specs.Terms.{Length, Term, Bound, app}
+use Rattle.ss_logic.specs.Formulas.{Formula, neg}
+use Rattle.ss_logic.specs.Objects.{objects_of}
+use Rattle.ss_logic.proofs.Tabled.{there, count}
 use Rattle.ss_logic_rules.specs.Shapes.{number, null_term, class_term, level_of, owner_of, pair_of, equal, differ, at_most, sub_atom, allocated, committed, group}
 use Rattle.ss_logic_express.specs.Express.{and_of, or_of, is_full, less}
 use Rattle.ss_logic_means.specs.Means.{standing}

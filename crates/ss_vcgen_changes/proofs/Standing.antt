@@ -2,11 +2,11 @@
 use Rattle.std.proofs.Common.{◌≡◌, List, [], ◌∷◌, ap, subst, sym}
 use Rattle.ss_core.specs.Tree.{ClassTree}
 use Rattle.ss_store_rules.specs.Store.{Object}
-use Rattle.ss_logic_stores.specs.Values.{Heap, store, as_store, IsNumbered, Structure}
-use Rattle.ss_logic_stores.specs.Terms.{Term}
-use Rattle.ss_logic_stores.specs.Formulas.{Good, True, atom}
-use Rattle.ss_logic_stores.specs.Objects.{objects_of, IsGoodStore}
-use Rattle.ss_logic_stores.proofs.Numbered.{store_numbered}
+use Rattle.ss_logic.specs.Values.{Heap, store, as_store, IsNumbered, Structure}
+use Rattle.ss_logic.specs.Terms.{Term}
+use Rattle.ss_logic.specs.Formulas.{Good, True, atom}
+use Rattle.ss_logic.specs.Objects.{objects_of, IsGoodStore}
+use Rattle.ss_logic.proofs.Numbered.{store_numbered}
 use Rattle.ss_vcgen_changes.specs.Done.{StandsFor, HasStore}
 
 pub has_objects : (cs : List ClassTree) (m : Structure) (t : Term) (h : Heap) (s : List Object) → StandsFor cs m t (store h) → IsGoodStore cs m.table h → objects_of cs m.table h ≡ s → HasStore cs m t s

@@ -3,8 +3,8 @@ use Rattle.std.specs.Prelude.{◌≡◌, List, Result, Ok}
 use Rattle.ss_core.specs.declared.names.Kind.{Kind}
 use Rattle.ss_core.specs.Tree.{ClassTree}
 use Rattle.ss_store_rules.specs.Store.{Object}
-use Rattle.ss_logic_stores.specs.Values.{Heap, Value, store, Structure}
-use Rattle.ss_logic_stores.specs.Terms.{Term, value_of}
+use Rattle.ss_logic.specs.Values.{Heap, Value, store, Structure}
+use Rattle.ss_logic.specs.Terms.{Term, value_of}
 use Rattle.ss_logic_tables.specs.Tabled.{IsStoreOf}
 
 -- the term has the value, whatever the bound names stand for

@@ -12,10 +12,10 @@ ghost use Rattle.ss_store_rules.specs.Changes.{is_array, field_class, field_mark
 ghost use Rattle.ss_store_rules.specs.Good.{has_type, Invariants, IsGood};
 ghost use Rattle.ss_store_rules.specs.Admissible.{invariants_hold};
 ghost use Rattle.ss_machine_rules.specs.Steps.{with_ready};
-ghost use Rattle.ss_logic_stores.specs.Values.{Heap, whole, store, Structure};
-ghost use Rattle.ss_logic_stores.specs.Terms.{Set, Put, Unpack, Pack, New, NewArray, MakeReady, Term, app};
-ghost use Rattle.ss_logic_stores.specs.Formulas.{Good, True, atom, neg};
-ghost use Rattle.ss_logic_stores.specs.Objects.{objects_of, IsGoodStore};
+ghost use Rattle.ss_logic.specs.Values.{Heap, whole, store, Structure};
+ghost use Rattle.ss_logic.specs.Terms.{Set, Put, Unpack, Pack, New, NewArray, MakeReady, Term, app};
+ghost use Rattle.ss_logic.specs.Formulas.{Good, True, atom, neg};
+ghost use Rattle.ss_logic.specs.Objects.{objects_of, IsGoodStore};
 ghost use Rattle.ss_logic_rules.specs.Shapes.{number, class_term, level_of, next_of, equal, at_most, sub_atom, committed};
 ghost use Rattle.ss_logic_means.specs.Means.{standing};
 ghost use Rattle.ss_sound_outcomes.specs.Points.{Fits};

@@ -6,15 +6,15 @@ use Rattle.ss_core.specs.declared.body.Local.{Local}
 use Rattle.ss_core.specs.declared.names.Ty.{Ty}
 use Rattle.ss_core.specs.View.{local_of}
 use Rattle.ss_store_rules.specs.Locals.{types_of}
-use Rattle.ss_logic_stores.specs.Terms.{Term, sort_of_type}
-use Rattle.ss_logic_stores.specs.Formulas.{Formula}
+use Rattle.ss_logic.specs.Terms.{Term, sort_of_type}
+use Rattle.ss_logic.specs.Formulas.{Formula}
 use Rattle.ss_logic_express.specs.Express as spec
 use Rattle.ss_logic_express.specs.Express.{One, Meant, default_of_sort}
 use Rattle.ss_logic_frames.specs.Frames as logic
-use Rattle.ss_terms_stores.specs.declared.forms.TermId.{TermId}
-use Rattle.ss_terms_stores.specs.declared.forms.FormulaId.{FormulaId}
-use Rattle.ss_terms_stores.specs.Forms.{Forms, formula_at, formulas_at, HasTerm, HasTerms, IsGrown}
-use Rattle.ss_terms_stores.proofs.Grown.{IsGrown-then, HasTerms-grown, HasFormulas-grown}
+use Rattle.ss_terms.specs.declared.forms.TermId.{TermId}
+use Rattle.ss_terms.specs.declared.forms.FormulaId.{FormulaId}
+use Rattle.ss_terms.specs.Forms.{Forms, formula_at, formulas_at, HasTerm, HasTerms, IsGrown}
+use Rattle.ss_terms.proofs.Grown.{IsGrown-then, HasTerms-grown, HasFormulas-grown}
 use Rattle.ss_frames.specs.declared.calls.NamedTerm.{NamedTerm}
 use Rattle.ss_frames.specs.Calls.{named_at, HasNamed, HasAllNamed}
 use Rattle.ss_frames.proofs.Growing.{HasNamed-grown}

@@ -2,13 +2,13 @@
 use Rattle.std.proofs.Common.{◌≡◌, Bool, true, false, List, [], ◌∷◌, ◌++◌, map, refl, sym, ap, ◌∙◌, subst}
 use Rattle.std.proofs.lemmas.List.{append-nil}
 use Rattle.ss_core.specs.Tree.{NamedTree, FieldOf, AllOf, ElementsOf, UptoOf}
-use Rattle.ss_logic_stores.specs.Formulas.{Formula}
+use Rattle.ss_logic.specs.Formulas.{Formula}
 use Rattle.ss_logic_express.specs.Express.{Meant, One, Either, Says, Scene, meant}
 use Rattle.ss_machine_rules.specs.Frame.{subject_of}
-use Rattle.ss_terms_stores.specs.declared.forms.TermId.{TermId}
-use Rattle.ss_terms_stores.specs.declared.forms.FormulaId.{FormulaId}
-use Rattle.ss_terms_stores.specs.Forms.{Forms, term_at, formula_at, HasTerm, HasFormula, IsGrown}
-use Rattle.ss_terms_stores.proofs.Grown.{HasTerm-grown}
+use Rattle.ss_terms.specs.declared.forms.TermId.{TermId}
+use Rattle.ss_terms.specs.declared.forms.FormulaId.{FormulaId}
+use Rattle.ss_terms.specs.Forms.{Forms, term_at, formula_at, HasTerm, HasFormula, IsGrown}
+use Rattle.ss_terms.proofs.Grown.{HasTerm-grown}
 use Rattle.ss_frames.specs.declared.calls.NamedTerm.{NamedTerm}
 use Rattle.ss_frames.specs.Calls.{named_at, HasNamed, HasAllNamed}
 use Rattle.ss_vcgen_express.specs.Numbers.{IsFormula}

@@ -7,10 +7,10 @@ use Rattle.ss_core.specs.declared.body.Local.{Local}
 use Rattle.ss_core.specs.Tree.{ClassTree, LocalTree, BodyTree}
 use Rattle.ss_core.specs.Chain.{level_above, levels_from, levels}
 use Rattle.ss_core.specs.View as view
-use Rattle.ss_logic_stores.specs.Terms.{Term}
+use Rattle.ss_logic.specs.Terms.{Term}
 use Rattle.ss_logic_express.specs.Express.{Meant, One, Scene, local_meant}
-use Rattle.ss_terms_stores.specs.declared.forms.TermId.{TermId}
-use Rattle.ss_terms_stores.specs.Forms.{Forms, term_at, terms_at, HasTerm, HasTerms}
+use Rattle.ss_terms.specs.declared.forms.TermId.{TermId}
+use Rattle.ss_terms.specs.Forms.{Forms, term_at, terms_at, HasTerm, HasTerms}
 use Rattle.ss_frames.specs.Calls.{owner_at, HasOwned}
 use Rattle.ss_vcgen_defaults.proofs.Upwards.{level_last, level_next, levels_all}
 use Rattle.ss_vcgen_heaps.specs.Contracts as heaps

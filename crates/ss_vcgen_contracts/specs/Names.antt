@@ -1,14 +1,14 @@
 -- What a `modifies` clause names, by its kind.
 use Rattle.std.specs.Prelude.{List, [], ◌∷◌, ◌++◌, map, Bool, if◌then◌else◌}
 use Rattle.ss_core.specs.Tree.{ClassTree, BodyTree, NamedTree, FieldOf, AllOf, ElementsOf, UptoOf}
-use Rattle.ss_logic_stores.specs.Terms.{Term}
-use Rattle.ss_logic_stores.specs.Formulas.{Formula}
+use Rattle.ss_logic.specs.Terms.{Term}
+use Rattle.ss_logic.specs.Formulas.{Formula}
 use Rattle.ss_logic_express.specs.Express.{and_of, Meant, One, Either, Says, Scene, meant, at_entry}
 use Rattle.ss_logic_frames.specs.Frames as logic
 use Rattle.ss_logic_frames.specs.Frames.{NamesField, NamesAll, NamesUpto, NamesElements}
 use Rattle.ss_machine_rules.specs.Frame.{subject_of}
-use Rattle.ss_terms_stores.specs.declared.forms.TermId.{TermId}
-use Rattle.ss_terms_stores.specs.declared.forms.FormulaId.{FormulaId}
+use Rattle.ss_terms.specs.declared.forms.TermId.{TermId}
+use Rattle.ss_terms.specs.declared.forms.FormulaId.{FormulaId}
 use Rattle.ss_frames.specs.declared.calls.NamedTerm.{NamedTerm}
 use Rattle.ss_frames.specs.declared.calls.NamedTerm.TheVariants as term
 use Rattle.ss_vcgen_heaps.specs.Contracts as heaps

@@ -3,7 +3,7 @@ use Rattle.std.specs.Prelude.{ℕ, List, [], ◌∷◌, map, if◌then◌else◌
 use Rattle.ss_core.specs.declared.names.ClassId.{ClassId}
 use Rattle.ss_core.specs.Tree.{ClassTree, LocalTree, BodyTree}
 use Rattle.ss_core.specs.Chain.{levels}
-use Rattle.ss_terms_stores.specs.declared.forms.TermId.{TermId}
+use Rattle.ss_terms.specs.declared.forms.TermId.{TermId}
 
 -- those of the arguments that stand for captured parameters
 abbrev pub captured_among : List LocalTree → List TermId → List TermId

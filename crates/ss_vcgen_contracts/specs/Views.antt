@@ -4,8 +4,8 @@ use Rattle.ss_core.specs.Tree.{CalleeTree, Dispatched, BodyTree}
 use Rattle.ss_core.specs.View.{body}
 use Rattle.ss_logic_express.specs.Express as spec
 use Rattle.ss_logic_frames.specs.Frames as logic
-use Rattle.ss_terms_stores.specs.declared.forms.TermId.{TermId}
-use Rattle.ss_terms_stores.specs.Forms.{Forms, HasTerms, IsGrown}
+use Rattle.ss_terms.specs.declared.forms.TermId.{TermId}
+use Rattle.ss_terms.specs.Forms.{Forms, HasTerms, IsGrown}
 use Rattle.ss_frames.specs.declared.calls.NamedTerm.{NamedTerm}
 use Rattle.ss_frames.specs.declared.calls.CallTerms.{CallTerms}
 use Rattle.ss_frames.specs.Calls.{named_at, call_at, HasNamed, HasAllNamed, HasCall}

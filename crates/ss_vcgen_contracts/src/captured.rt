@@ -7,7 +7,7 @@ ghost use Rattle.ss_store_rules.specs.Locals.{this_types};
 ghost use Rattle.ss_vcgen_contracts.specs.Owned.{captured_among, pairs_for, owned_for};
 
 use ss_core::{Body, ClassId, Classes, Local, MOST_LEVELS};
-use ss_terms_stores::TermId;
+use ss_terms::TermId;
 use std::alloc::{AllocError, Global};
 
 // How many arguments stand before those for the parameters.

@@ -5,7 +5,7 @@ ghost use Rattle.ss_core.specs.Chain.{most_classes, IsWithinLimits};
 ghost use Rattle.ss_core.specs.View as view;
 ghost use Rattle.ss_logic_express.specs.Express.{local_meant};
 ghost use Rattle.ss_logic_frames.specs.Frames as logic;
-ghost use Rattle.ss_terms_stores.specs.Forms.{term_at, terms_at, HasTerm, HasTerms, IsGrown, IsBankOf};
+ghost use Rattle.ss_terms.specs.Forms.{term_at, terms_at, HasTerm, HasTerms, IsGrown, IsBankOf};
 ghost use Rattle.ss_frames.specs.Calls.{call_at, HasCall};
 ghost use Rattle.ss_vcgen_express.specs.declared.meant.Meant.TheVariants as meant;
 ghost use Rattle.ss_vcgen_express.specs.Numbers.{IsFormula, IsMeant};
@@ -19,7 +19,7 @@ use crate::names::named_terms;
 use crate::scenes::{contract_scene, no_result};
 use ss_core::Classes;
 use ss_frames::{CallTerms, NamedTerm};
-use ss_terms_stores::{Bank, FormulaId, TermId};
+use ss_terms::{Bank, FormulaId, TermId};
 use ss_vcgen_express::{Scene, local_term};
 use std::alloc::{AllocError, Global};
 

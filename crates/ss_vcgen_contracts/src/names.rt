@@ -3,7 +3,7 @@
 ghost use Rattle.std.specs.Prelude.{◌≡◌, [], ◌∷◌, ◌++◌, map, IfOk};
 ghost use Rattle.ss_core.specs.View as view;
 ghost use Rattle.ss_logic_express.specs.Express.{and_of};
-ghost use Rattle.ss_terms_stores.specs.Forms.{term_at, formula_at, formulas_at, HasTerm, HasFormulas, IsGrown};
+ghost use Rattle.ss_terms.specs.Forms.{term_at, formula_at, formulas_at, HasTerm, HasFormulas, IsGrown};
 ghost use Rattle.ss_frames.specs.Calls.{named_at, HasAllNamed};
 ghost use Rattle.ss_vcgen_express.specs.Numbers.{choices_at, meant_at, HasChoice, HasChoices, HasMeant};
 ghost use Rattle.ss_vcgen_express.specs.Scenes.{scene_at, HasScene};
@@ -14,7 +14,7 @@ ghost use Rattle.ss_vcgen_contracts.specs.Views.{IsName, AreNames};
 
 use ss_core::{ClassId, Expr, FieldId, Modifies};
 use ss_frames::NamedTerm;
-use ss_terms_stores::{Bank, FormulaId, TermId};
+use ss_terms::{Bank, FormulaId, TermId};
 use ss_vcgen_express::{Choice, Meant, Scene, all, all_with};
 use ss_vcgen_walk::naming;
 use std::alloc::{AllocError, Global};

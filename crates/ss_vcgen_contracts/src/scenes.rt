@@ -3,17 +3,17 @@
 ghost use Rattle.std.specs.Prelude.{◌≤◌, [], ◌∷◌, ◌++◌, length, map, IfOk};
 ghost use Rattle.ss_core.specs.Chain.{most_classes};
 ghost use Rattle.ss_core.specs.View as view;
-ghost use Rattle.ss_logic_stores.specs.Terms.{sort_of_type};
+ghost use Rattle.ss_logic.specs.Terms.{sort_of_type};
 ghost use Rattle.ss_logic_express.specs.Express.{default_of_sort};
 ghost use Rattle.ss_store_rules.specs.Locals.{types_of};
-ghost use Rattle.ss_terms_stores.specs.Forms.{term_at, HasTerm, HasTerms, IsGrown};
+ghost use Rattle.ss_terms.specs.Forms.{term_at, HasTerm, HasTerms, IsGrown};
 ghost use Rattle.ss_vcgen_express.specs.Numbers.{IsTerm};
 ghost use Rattle.ss_vcgen_heaps.specs.Contracts as heaps;
 ghost use Rattle.ss_vcgen_contracts.specs.Views.{contract_of, ones_at, AreOnes, IsScene};
 
 use crate::contract::Contract;
 use ss_core::{Body, Classes, Local, Ty};
-use ss_terms_stores::{Bank, Symbol, TermId};
+use ss_terms::{Bank, Symbol, TermId};
 use ss_vcgen_express::Scene;
 use ss_vcgen_known::local_types;
 use std::alloc::{AllocError, Global};

@@ -5,10 +5,10 @@ ghost use Rattle.ss_core.specs.Chain.{all_fields};
 ghost use Rattle.ss_core.specs.View as view;
 ghost use Rattle.ss_core.specs.View.{default_tree};
 ghost use Rattle.ss_logic_express.specs.Express as spec;
-ghost use Rattle.ss_logic_stores.specs.declared.Sort.TheVariants as sort;
-ghost use Rattle.ss_logic_stores.specs.Terms.{Bound};
-ghost use Rattle.ss_logic_stores.specs.Formulas as logic;
-ghost use Rattle.ss_terms_stores.specs.Forms.{term_at, formula_at, HasTerm, HasFormula, IsGrown};
+ghost use Rattle.ss_logic.specs.declared.Sort.TheVariants as sort;
+ghost use Rattle.ss_logic.specs.Terms.{Bound};
+ghost use Rattle.ss_logic.specs.Formulas as logic;
+ghost use Rattle.ss_terms.specs.Forms.{term_at, formula_at, HasTerm, HasFormula, IsGrown};
 ghost use Rattle.ss_vcgen_defaults.specs.Defaults.{full_if_peer, no_peer, owned_is_full};
 ghost use Rattle.ss_vcgen_express.specs.Numbers.{IsFormula};
 ghost use Rattle.ss_vcgen_express.specs.Scenes.{scene_at, HasScene};
@@ -20,8 +20,8 @@ use crate::objects::{
     unless_null,
 };
 use ss_core::{ClassId, DefaultCondition};
-use ss_logic_stores::Sort;
-use ss_terms_stores::{Bank, FormulaId, TermId};
+use ss_logic::Sort;
+use ss_terms::{Bank, FormulaId, TermId};
 use ss_vcgen_express::{Saying, Scene, all, both, bound_name, for_all, local_term, say};
 use std::alloc::{AllocError, Global};
 

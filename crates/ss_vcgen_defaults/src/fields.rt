@@ -3,11 +3,11 @@
 ghost use Rattle.std.specs.Prelude.{◌≡◌, ◌≤◌, ◌+◌, ◌++◌, length, IfOk, OnOk, map, [], ◌∷◌};
 ghost use Rattle.ss_core.specs.Chain.{most_classes, all_fields};
 ghost use Rattle.ss_core.specs.View as view;
-ghost use Rattle.ss_logic_stores.specs.Terms as tree;
+ghost use Rattle.ss_logic.specs.Terms as tree;
 ghost use Rattle.ss_vcgen_defaults.specs.Defaults.{slot, slot_of, with_slot, slots_if, slots_upto};
 
 use ss_core::{Class, ClassId, Classes, Field, Ty};
-use ss_logic_stores::Sort;
+use ss_logic::Sort;
 use std::alloc::{AllocError, Global};
 
 // A field, and the sort of what it holds.

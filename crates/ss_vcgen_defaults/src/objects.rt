@@ -3,17 +3,17 @@
 ghost use Rattle.std.specs.Prelude.{◌≡◌, [], ◌∷◌, IfOk, map};
 ghost use Rattle.ss_logic_express.specs.Express as spec;
 ghost use Rattle.ss_logic_rules.specs.Shapes.{null_term, equal, allocated};
-ghost use Rattle.ss_logic_stores.specs.declared.Sort.TheVariants as sort;
-ghost use Rattle.ss_logic_stores.specs.Formulas as logic;
-ghost use Rattle.ss_terms_stores.specs.Forms.{term_at, formula_at, HasTerm, HasFormula, IsGrown};
+ghost use Rattle.ss_logic.specs.declared.Sort.TheVariants as sort;
+ghost use Rattle.ss_logic.specs.Formulas as logic;
+ghost use Rattle.ss_terms.specs.Forms.{term_at, formula_at, HasTerm, HasFormula, IsGrown};
 ghost use Rattle.ss_vcgen_defaults.specs.Defaults.{slot_of, at_default, at_level, full_if_owned, full_if_peer, no_peer, number_of};
 ghost use Rattle.ss_vcgen_express.specs.Numbers.{IsTerm, IsFormula, AreFormulas};
 
 use crate::fields::Held;
 use ss_core::ClassId;
-use ss_logic_stores::Sort;
+use ss_logic::Sort;
 use ss_rules_plans::{Claim, Clause, Plan, Slot, fill};
-use ss_terms_stores::{Bank, FormulaId, Predicate, Symbol, TermId};
+use ss_terms::{Bank, FormulaId, Predicate, Symbol, TermId};
 use ss_vcgen_express::{either, for_all};
 use std::alloc::{AllocError, Global};
 

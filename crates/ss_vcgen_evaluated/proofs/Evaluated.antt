@@ -10,12 +10,12 @@ use Rattle.ss_core.specs.Chain.{most_classes}
 use Rattle.ss_core.specs.View as view
 use Rattle.ss_store_rules.specs.Locals.{local_types}
 use Rattle.ss_store_rules.specs.NonNull as rules
-use Rattle.ss_logic_stores.specs.Terms as tree
+use Rattle.ss_logic.specs.Terms as tree
 use Rattle.ss_logic_rules.specs.Shapes.{null_term}
 use Rattle.ss_logic_express.specs.Express as spec
-use Rattle.ss_terms_stores.specs.declared.forms.TermId.{TermId}
-use Rattle.ss_terms_stores.specs.Forms.{Forms, term_at, HasTerm, HasTerms, HasFormula, IsGrown}
-use Rattle.ss_terms_stores.proofs.Grown.{HasTerm-grown, IsGrown-refl, IsGrown-then}
+use Rattle.ss_terms.specs.declared.forms.TermId.{TermId}
+use Rattle.ss_terms.specs.Forms.{Forms, term_at, HasTerm, HasTerms, HasFormula, IsGrown}
+use Rattle.ss_terms.proofs.Grown.{HasTerm-grown, IsGrown-refl, IsGrown-then}
 use Rattle.ss_vcgen_heaps.specs.Parts as heaps
 use Rattle.ss_vcgen_heaps.specs.Positions as positions
 use Rattle.ss_vcgen_heaps.specs.Positions.{Position}

@@ -1,8 +1,8 @@
 -- Scenes at the position of a builder.
 use Rattle.std.specs.Prelude.{◌≡◌, Option, Some, None}
 use Rattle.ss_logic_express.specs.Express as spec
-use Rattle.ss_terms_stores.specs.declared.forms.TermId.{TermId}
-use Rattle.ss_terms_stores.specs.Forms.{Forms, IsGrown}
+use Rattle.ss_terms.specs.declared.forms.TermId.{TermId}
+use Rattle.ss_terms.specs.Forms.{Forms, IsGrown}
 use Rattle.ss_vcgen_express.specs.declared.scene.Scene.{Scene}
 use Rattle.ss_vcgen_express.specs.Scenes.{scene_at, HasScene}
 

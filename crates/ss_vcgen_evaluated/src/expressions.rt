@@ -6,12 +6,12 @@ ghost use Rattle.ss_vcgen_heaps.specs.Positions as positions;
 ghost use Rattle.ss_vcgen_express.specs.Marked.{checked_of, marked};
 ghost use Rattle.ss_vcgen_express.specs.Numbers.{IsFormula, IsMeant};
 ghost use Rattle.ss_vcgen_walk.specs.Parts.{marked_at, parts_at, HasParts, AreParts};
-ghost use Rattle.ss_terms_stores.specs.Forms.{HasFormula};
+ghost use Rattle.ss_terms.specs.Forms.{HasFormula};
 ghost use Rattle.ss_vcgen_builder.specs.Builder.{position_at, walk_at, IsFine, IsWalk, Becomes};
 
 use crate::scenes::scene;
 use ss_core::Expr;
-use ss_terms_stores::FormulaId;
+use ss_terms::FormulaId;
 use ss_vcgen_builder::{Builder, Walk};
 use ss_vcgen_express::Meant;
 use ss_vcgen_known::{Site, Tests};

@@ -5,7 +5,7 @@ ghost use Rattle.ss_vcgen_heaps.specs.Positions as positions;
 ghost use Rattle.ss_vcgen_builder.specs.Builder.{position_at, walk_at, IsFine, IsWalk, Becomes};
 ghost use Rattle.ss_vcgen_evaluated.specs.Scenes.{or_else, StandsFor};
 
-use ss_terms_stores::{Symbol, TermId};
+use ss_terms::{Symbol, TermId};
 use ss_vcgen_builder::{Builder, Walk};
 use ss_vcgen_walk::Scene;
 use std::alloc::{AllocError, Global};

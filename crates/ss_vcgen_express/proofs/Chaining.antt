@@ -1,14 +1,14 @@
 -- Chains, by what they join.
 use Rattle.std.proofs.Common.{◌≡◌, ◌*◌, List, [], ◌∷◌, ◌++◌, length, refl, sym, ◌∙◌, ap, arith, Vec, Global, Result}
 use Rattle.std.specs.Prelude.{IfOk}
-use Rattle.ss_logic_stores.specs.Formulas.{Formula, Literal, And, Or, Forall, Exists, formulas_from, formula_list}
+use Rattle.ss_logic.specs.Formulas.{Formula, Literal, And, Or, Forall, Exists, formulas_from, formula_list}
 use Rattle.ss_logic_express.specs.Express as spec
-use Rattle.ss_terms_stores.specs.declared.forms.FormulaId.{FormulaId}
-use Rattle.ss_terms_stores.specs.declared.forms.Formula.TheVariants as form
-use Rattle.ss_terms_stores.specs.declared.forms.Formula.{Formula as Form}
-use Rattle.ss_terms_stores.specs.Forms.{Forms, formula_at, formulas_at, HasFormula, HasFormulas, IsFormulaForm, IsGrown}
-use Rattle.ss_terms_stores.proofs.Trees.{AreBelow-more}
-use Rattle.ss_terms_stores.proofs.Grown.{IsGrown-then, formulas_at-grown}
+use Rattle.ss_terms.specs.declared.forms.FormulaId.{FormulaId}
+use Rattle.ss_terms.specs.declared.forms.Formula.TheVariants as form
+use Rattle.ss_terms.specs.declared.forms.Formula.{Formula as Form}
+use Rattle.ss_terms.specs.Forms.{Forms, formula_at, formulas_at, HasFormula, HasFormulas, IsFormulaForm, IsGrown}
+use Rattle.ss_terms.proofs.Trees.{AreBelow-more}
+use Rattle.ss_terms.proofs.Grown.{IsGrown-then, formulas_at-grown}
 use Rattle.ss_vcgen_express.specs.Numbers.{IsFormula}
 use Rattle.ss_vcgen_express.specs.Chains.{conjuncts, disjuncts}
 use Rattle.ss_vcgen_express.proofs.Grown.{formula_so}

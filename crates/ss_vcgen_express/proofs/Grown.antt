@@ -2,13 +2,13 @@
 use Rattle.std.proofs.Common.{◌≡◌, ℕ, zero, suc, ◌+◌, ◌<◌, List, [], ◌∷◌, ◌++◌, length, map, take, get_or, refl, sym, ◌∙◌, ap, arith, Option, Some, None, Result, Ok, Err}
 use Rattle.std.specs.Prelude.{IfOk}
 use Rattle.std.proofs.lemmas.List.{take_more, map_push}
-use Rattle.ss_logic_stores.specs.Terms as tree
-use Rattle.ss_logic_stores.specs.Formulas as logic
+use Rattle.ss_logic.specs.Terms as tree
+use Rattle.ss_logic.specs.Formulas as logic
 use Rattle.ss_logic_express.specs.Express as spec
-use Rattle.ss_terms_stores.specs.declared.forms.TermId.{TermId}
-use Rattle.ss_terms_stores.specs.declared.forms.FormulaId.{FormulaId}
-use Rattle.ss_terms_stores.specs.Forms.{Forms, term_at, formula_at, formulas_at, HasTerm, HasFormula, HasFormulas, IsGrown}
-use Rattle.ss_terms_stores.proofs.Grown.{IsGrown-then, HasTerm-grown, HasFormula-grown, HasFormulas-grown}
+use Rattle.ss_terms.specs.declared.forms.TermId.{TermId}
+use Rattle.ss_terms.specs.declared.forms.FormulaId.{FormulaId}
+use Rattle.ss_terms.specs.Forms.{Forms, term_at, formula_at, formulas_at, HasTerm, HasFormula, HasFormulas, IsGrown}
+use Rattle.ss_terms.proofs.Grown.{IsGrown-then, HasTerm-grown, HasFormula-grown, HasFormulas-grown}
 use Rattle.ss_vcgen_express.specs.declared.meant.Choice.{Choice}
 use Rattle.ss_vcgen_express.specs.declared.meant.Meant.{Meant}
 use Rattle.ss_vcgen_express.specs.declared.meant.Meant.TheVariants as meant

@@ -2,11 +2,11 @@
 use Rattle.std.proofs.Common.{◌≡◌, ℕ, ◌+◌, ◌<◌, List, [], ◌∷◌, ◌++◌, length, map, take, get_or, sym, ◌∙◌, ap, append_assoc, Result, Ok, Err}
 use Rattle.std.specs.Prelude.{IfOk, flat_map}
 use Rattle.std.proofs.lemmas.List.{take_more, map_push, flat_map_more, append-nil}
-use Rattle.ss_logic_stores.specs.Terms as tree
+use Rattle.ss_logic.specs.Terms as tree
 use Rattle.ss_logic_express.specs.Express as spec
-use Rattle.ss_terms_stores.specs.declared.forms.TermId.{TermId}
-use Rattle.ss_terms_stores.specs.Forms.{Forms, term_at, formula_at, HasTerm, IsGrown}
-use Rattle.ss_terms_stores.proofs.Grown.{IsGrown-then, HasFormula-grown}
+use Rattle.ss_terms.specs.declared.forms.TermId.{TermId}
+use Rattle.ss_terms.specs.Forms.{Forms, term_at, formula_at, HasTerm, IsGrown}
+use Rattle.ss_terms.proofs.Grown.{IsGrown-then, HasFormula-grown}
 use Rattle.ss_vcgen_express.specs.declared.meant.Choice.{Choice}
 use Rattle.ss_vcgen_express.specs.Numbers.{choice_at, choices_at, HasChoice, HasChoices, IsTerm, IsChoice, AreChoices}
 use Rattle.ss_vcgen_express.proofs.Grown.{HasChoice-grown, HasChoices-grown}

@@ -1,6 +1,6 @@
 -- What a chain joins.
 use Rattle.std.specs.Prelude.{List, [], ◌∷◌}
-use Rattle.ss_logic_stores.specs.Formulas.{Formula, And, Or, formula_list}
+use Rattle.ss_logic.specs.Formulas.{Formula, And, Or, formula_list}
 
 -- the parts of an `and`; any other formula is its own part
 abbrev pub conjuncts : Formula → List Formula

@@ -1,8 +1,8 @@
 -- Functions by their symbols, at the terms of a bank.
 use Rattle.std.specs.Prelude.{List, [], ◌∷◌, ◌++◌, Option, Some, None}
-use Rattle.ss_logic_stores.specs.Terms.{Symbol, Term, app}
-use Rattle.ss_terms_stores.specs.declared.forms.TermId.{TermId}
-use Rattle.ss_terms_stores.specs.Forms.{Forms, symbol_of, HasTerm}
+use Rattle.ss_logic.specs.Terms.{Symbol, Term, app}
+use Rattle.ss_terms.specs.declared.forms.TermId.{TermId}
+use Rattle.ss_terms.specs.Forms.{Forms, symbol_of, HasTerm}
 use Rattle.ss_vcgen_express.specs.declared.functions.Function.{Function}
 
 abbrev pub first_term : (TermId → Term) → Option TermId → List Term

@@ -4,12 +4,12 @@ use Rattle.ss_core.specs.declared.expr.Quantifier.{Quantifier}
 use Rattle.ss_core.specs.declared.expr.Quantifier.TheVariants as quantifier
 use Rattle.ss_core.specs.Chain.{most_classes}
 use Rattle.ss_core.specs.View as view
-use Rattle.ss_logic_stores.specs.declared.Sort.TheVariants as sort
-use Rattle.ss_logic_stores.specs.Formulas.{Formula, Forall, Exists, neg}
+use Rattle.ss_logic.specs.declared.Sort.TheVariants as sort
+use Rattle.ss_logic.specs.Formulas.{Formula, Forall, Exists, neg}
 use Rattle.ss_logic_express.specs.Express as spec
 use Rattle.ss_logic_express.specs.Express.{and_of, or_of}
-use Rattle.ss_terms_stores.specs.declared.forms.TermId.{TermId}
-use Rattle.ss_terms_stores.specs.Forms.{Forms, term_at, HasTerm, HasTerms}
+use Rattle.ss_terms.specs.declared.forms.TermId.{TermId}
+use Rattle.ss_terms.specs.Forms.{Forms, term_at, HasTerm, HasTerms}
 use Rattle.ss_vcgen_express.specs.declared.scene.Scene.{Scene}
 
 abbrev pub local_at : Forms → TermId → spec.Meant

@@ -3,15 +3,15 @@
 ghost use Rattle.std.specs.Prelude.{◌≡◌, [], ◌∷◌, ◌++◌, IfOk, flat_map};
 ghost use Rattle.ss_logic_express.specs.Express as spec;
 ghost use Rattle.ss_logic_rules.specs.Shapes.{null_term};
-ghost use Rattle.ss_logic_stores.specs.Formulas.{neg};
-ghost use Rattle.ss_terms_stores.specs.Forms.{term_at, formula_at, IsGrown};
+ghost use Rattle.ss_logic.specs.Formulas.{neg};
+ghost use Rattle.ss_terms.specs.Forms.{term_at, formula_at, IsGrown};
 ghost use Rattle.ss_vcgen_express.specs.Numbers.{choice_at, choices_at, meant_at, HasChoice, HasChoices, HasMeant, IsFormula, IsChoice, AreChoices, IsMeant};
 ghost use Rattle.ss_vcgen_express.specs.Sayings.{said_so, HasSaying};
 
 use crate::meant::{Choice, Meant, choices};
 use crate::sayings::Saying;
 use crate::truths::{both, chosen, say};
-use ss_terms_stores::{Bank, FormulaId};
+use ss_terms::{Bank, FormulaId};
 use std::alloc::{AllocError, Global};
 
 // It is this one, of which something isn't so.

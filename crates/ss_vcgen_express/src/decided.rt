@@ -4,12 +4,12 @@ ghost use Rattle.std.specs.Prelude.{◌≡◌, [], ◌∷◌, IfOk};
 ghost use Rattle.ss_logic_express.specs.Express as spec;
 ghost use Rattle.ss_logic_rules.specs.Shapes.{equal};
 ghost use Rattle.ss_vcgen_heaps.specs.Positions as positions;
-ghost use Rattle.ss_terms_stores.specs.Forms.{term_at, formula_at, HasTerm, HasFormula, IsGrown};
+ghost use Rattle.ss_terms.specs.Forms.{term_at, formula_at, HasTerm, HasFormula, IsGrown};
 ghost use Rattle.ss_vcgen_express.specs.Numbers.{IsFormula};
 
 use crate::operations::either;
 use crate::truths::both;
-use ss_terms_stores::{Bank, FormulaId, Symbol, TermId};
+use ss_terms::{Bank, FormulaId, Symbol, TermId};
 use std::alloc::AllocError;
 
 // That the term is this truth value.

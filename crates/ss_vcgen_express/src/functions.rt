@@ -2,13 +2,13 @@
 
 ghost use Rattle.std.specs.Prelude.{◌≡◌, [], ◌∷◌, ◌++◌, IfOk, map, flat_map};
 ghost use Rattle.ss_logic_express.specs.Express as spec;
-ghost use Rattle.ss_terms_stores.specs.Forms.{term_at, formula_at, HasTerm, IsGrown};
+ghost use Rattle.ss_terms.specs.Forms.{term_at, formula_at, HasTerm, IsGrown};
 ghost use Rattle.ss_vcgen_express.specs.Numbers.{choice_at, choices_at, meant_at, HasChoice, HasChoices, HasMeant, IsTerm, IsChoice, AreChoices, IsMeant};
 ghost use Rattle.ss_vcgen_express.specs.Functions.{applied, applied_two, HasFunction};
 
 use crate::meant::{Choice, Meant, choices};
 use crate::truths::both;
-use ss_terms_stores::{Bank, Symbol, TermId};
+use ss_terms::{Bank, Symbol, TermId};
 use std::alloc::{AllocError, Global};
 
 /// A function of one value or of two, behind a first term where it has one, as a store is.

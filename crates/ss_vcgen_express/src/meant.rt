@@ -2,10 +2,10 @@
 
 ghost use Rattle.std.specs.Prelude.{◌≡◌, IfOk};
 ghost use Rattle.ss_logic_express.specs.Express as spec;
-ghost use Rattle.ss_terms_stores.specs.Forms.{term_at, formula_at, HasTerm, HasFormula, IsGrown};
+ghost use Rattle.ss_terms.specs.Forms.{term_at, formula_at, HasTerm, HasFormula, IsGrown};
 ghost use Rattle.ss_vcgen_express.specs.Numbers.{meant_at, HasMeant, AreChoices};
 
-use ss_terms_stores::{Bank, FormulaId, Symbol, TermId};
+use ss_terms::{Bank, FormulaId, Symbol, TermId};
 use std::alloc::{AllocError, Global};
 
 /// A term, under a condition.

@@ -2,14 +2,14 @@
 
 ghost use Rattle.std.specs.Prelude.{◌≡◌, [], ◌∷◌, IfOk};
 ghost use Rattle.ss_logic_express.specs.Express as spec;
-ghost use Rattle.ss_logic_stores.specs.Formulas.{neg};
-ghost use Rattle.ss_terms_stores.specs.Forms.{formula_at, HasFormula, IsGrown};
+ghost use Rattle.ss_logic.specs.Formulas.{neg};
+ghost use Rattle.ss_terms.specs.Forms.{formula_at, HasFormula, IsGrown};
 ghost use Rattle.ss_vcgen_express.specs.Numbers.{meant_at, HasMeant, IsFormula};
 
 use crate::meant::Meant;
 use crate::sayings::Relation;
 use crate::truths::{both, over_two, said};
-use ss_terms_stores::{Bank, FormulaId};
+use ss_terms::{Bank, FormulaId};
 use std::alloc::{AllocError, Global};
 
 /// One or the other.

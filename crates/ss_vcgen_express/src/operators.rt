@@ -2,8 +2,8 @@
 
 ghost use Rattle.std.specs.Prelude.{◌≡◌, IfOk};
 ghost use Rattle.ss_logic_express.specs.Express as spec;
-ghost use Rattle.ss_logic_stores.specs.Formulas.{neg};
-ghost use Rattle.ss_terms_stores.specs.Forms.{term_at, symbol_of, IsGrown};
+ghost use Rattle.ss_logic.specs.Formulas.{neg};
+ghost use Rattle.ss_terms.specs.Forms.{term_at, symbol_of, IsGrown};
 ghost use Rattle.ss_vcgen_express.specs.Functions.{of_two};
 ghost use Rattle.ss_vcgen_express.specs.Numbers.{meant_at, HasMeant, IsFormula, IsMeant};
 ghost use Rattle.ss_vcgen_express.specs.Sayings.{related, HasRelation};
@@ -15,7 +15,7 @@ use crate::operations::same_truths;
 use crate::sayings::Relation;
 use crate::truths::{over_two, said};
 use ss_core::Operator;
-use ss_terms_stores::{Bank, FormulaId, Symbol};
+use ss_terms::{Bank, FormulaId, Symbol};
 use std::alloc::{AllocError, Global};
 
 // That both are true.

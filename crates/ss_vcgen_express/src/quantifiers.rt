@@ -3,10 +3,10 @@
 ghost use Rattle.std.specs.Prelude.{◌≡◌, pos, [], ◌∷◌, IfOk, map};
 ghost use Rattle.ss_logic_express.specs.Express as spec;
 ghost use Rattle.ss_logic_rules.specs.Shapes.{number, at_most};
-ghost use Rattle.ss_logic_stores.specs.declared.Sort.TheVariants as sort;
-ghost use Rattle.ss_logic_stores.specs.Terms.{Bound, app, Add};
-ghost use Rattle.ss_logic_stores.specs.Formulas as logic;
-ghost use Rattle.ss_terms_stores.specs.Forms.{formula_at, formulas_at, HasFormula, HasFormulas, IsGrown};
+ghost use Rattle.ss_logic.specs.declared.Sort.TheVariants as sort;
+ghost use Rattle.ss_logic.specs.Terms.{Bound, app, Add};
+ghost use Rattle.ss_logic.specs.Formulas as logic;
+ghost use Rattle.ss_terms.specs.Forms.{formula_at, formulas_at, HasFormula, HasFormulas, IsGrown};
 ghost use Rattle.ss_vcgen_express.specs.Numbers.{meant_at, HasMeant, IsTerm, IsFormula, AreFormulas};
 ghost use Rattle.ss_vcgen_express.specs.Scenes.{scene_at, for_each, for_some, quantified_over};
 
@@ -16,8 +16,8 @@ use crate::sayings::{Relation, Saying};
 use crate::scene::Scene;
 use crate::truths::over;
 use ss_core::Quantifier;
-use ss_logic_stores::Sort;
-use ss_terms_stores::{Bank, Formula, FormulaId, Symbol, Term, TermId};
+use ss_logic::Sort;
+use ss_terms::{Bank, Formula, FormulaId, Symbol, Term, TermId};
 use std::alloc::{AllocError, Global};
 
 /// The bound name of this number.

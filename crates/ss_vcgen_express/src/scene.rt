@@ -2,13 +2,13 @@
 
 ghost use Rattle.std.specs.Prelude.{◌≡◌, IfOk};
 ghost use Rattle.ss_logic_express.specs.Express as spec;
-ghost use Rattle.ss_terms_stores.specs.Forms.{IsGrown};
+ghost use Rattle.ss_terms.specs.Forms.{IsGrown};
 ghost use Rattle.ss_vcgen_express.specs.declared.meant.Meant.TheVariants as meant;
 ghost use Rattle.ss_vcgen_express.specs.Numbers.{IsMeant};
 ghost use Rattle.ss_vcgen_express.specs.Scenes.{scene_at, state_of, HasScene};
 
 use ss_core::{Classes, Ty};
-use ss_terms_stores::{Bank, TermId};
+use ss_terms::{Bank, TermId};
 use std::alloc::AllocError;
 
 /// Where an expression stands: the classes, the stores now and at the entry of the body, whether it stands inside `old`, the types

@@ -3,7 +3,7 @@
 ghost use Rattle.std.specs.Prelude.{◌≡◌, IfOk};
 ghost use Rattle.ss_core.specs.View.{word_tree, owners_tree};
 ghost use Rattle.ss_logic_express.specs.Express as spec;
-ghost use Rattle.ss_terms_stores.specs.Forms.{term_at, Forms, IsGrown};
+ghost use Rattle.ss_terms.specs.Forms.{term_at, Forms, IsGrown};
 ghost use Rattle.ss_vcgen_express.specs.Numbers.{meant_at, HasMeant, IsFormula};
 ghost use Rattle.ss_vcgen_express.specs.Sayings.{related, said_so, HasRelation, HasSaying};
 ghost use Rattle.ss_vcgen_express.specs.Scenes.{scene_at, HasScene};
@@ -13,7 +13,7 @@ use crate::sayings::{Relation, Saying};
 use crate::scene::Scene;
 use crate::truths::{over, over_two};
 use ss_core::{OwnerTest, StateWord};
-use ss_terms_stores::{Bank, FormulaId};
+use ss_terms::{Bank, FormulaId};
 use std::alloc::{AllocError, Global};
 
 // What a question about one object asks for.

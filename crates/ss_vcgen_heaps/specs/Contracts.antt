@@ -6,8 +6,8 @@ use Rattle.ss_core.specs.Tree.{ClassTree, DefaultTree, AtLevel, ConsistentArgume
 use Rattle.ss_core.specs.Chain.{levels}
 use Rattle.ss_store_rules.specs.Locals.{types_of, this_types, local_types}
 use Rattle.ss_store_rules.specs.Typed.{callee_of}
-use Rattle.ss_logic_stores.specs.Terms.{Term, sort_of_type}
-use Rattle.ss_logic_stores.specs.Formulas.{Formula}
+use Rattle.ss_logic.specs.Terms.{Term, sort_of_type}
+use Rattle.ss_logic.specs.Formulas.{Formula}
 use Rattle.ss_logic_rules.specs.Shapes.{null_term, class_term, equal, differ, sub_atom, allocated, ready}
 use Rattle.ss_logic_rules.specs.Shapes as shape
 use Rattle.ss_logic_express.specs.Express.{and_of, or_of, Choice, Meant, One, Either, Says, Scene, meant, defined, not_null, default_of_sort, fits_int, holds_formula, local_meant}

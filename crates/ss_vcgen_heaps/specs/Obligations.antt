@@ -15,10 +15,10 @@ use Rattle.ss_store_rules.specs.NonNull.{Known, is_never_null, is_non_null_type,
 use Rattle.ss_store_rules.specs.Paths.{is_literal_true}
 use Rattle.ss_store_rules.specs.Types.{element_of, code_type}
 use Rattle.ss_store_rules.specs.Typed.{constructor_of}
-use Rattle.ss_logic_stores.specs.declared.Sort.{Sort}
-use Rattle.ss_logic_stores.specs.declared.Sort.TheVariants as sort
-use Rattle.ss_logic_stores.specs.Terms.{Set, Put, Unpack, Pack, Capture, Join, New, NewArray, MakeReady, Length, Field, Constant, Term, Bound, app, field_sort}
-use Rattle.ss_logic_stores.specs.Formulas.{Formula, Forall, neg, IsValid}
+use Rattle.ss_logic.specs.declared.Sort.{Sort}
+use Rattle.ss_logic.specs.declared.Sort.TheVariants as sort
+use Rattle.ss_logic.specs.Terms.{Set, Put, Unpack, Pack, Capture, Join, New, NewArray, MakeReady, Length, Field, Constant, Term, Bound, app, field_sort}
+use Rattle.ss_logic.specs.Formulas.{Formula, Forall, neg, IsValid}
 use Rattle.ss_logic_rules.specs.Shapes.{number, null_term, class_term, level_of, owner_of, pair_of, next_of, equal, differ, at_most, sub_atom, allocated, committed, group}
 use Rattle.ss_logic_rules.specs.Shapes as shape
 use Rattle.ss_logic_express.specs.Express.{and_of, or_of, Meant, One, said, Scene, element_sort, meant, is_full, less, holds_formula}

@@ -13,10 +13,10 @@ use Rattle.ss_core.specs.Tree.{ClassTree, WordTree, New, ExprTree, IntExpr, Bool
 use Rattle.ss_core.specs.Chain.{sub}
 use Rattle.ss_store_rules.specs.Types.{type_of}
 use Rattle.ss_store_rules.specs.NonNull.{Known, Site, is_never_null, known_right}
-use Rattle.ss_logic_stores.specs.declared.Sort.TheVariants as sort
-use Rattle.ss_logic_stores.specs.Terms.{Term, app}
-use Rattle.ss_logic_stores.specs.Terms as term
-use Rattle.ss_logic_stores.specs.Formulas.{Formula, Forall, neg}
+use Rattle.ss_logic.specs.declared.Sort.TheVariants as sort
+use Rattle.ss_logic.specs.Terms.{Term, app}
+use Rattle.ss_logic.specs.Terms as term
+use Rattle.ss_logic.specs.Formulas.{Formula, Forall, neg}
 use Rattle.ss_logic_rules.specs.Shapes.{number, null_term, class_term, equal, at_most, sub_atom, allocated}
 use Rattle.ss_logic_rules.specs.Shapes as shape
 use Rattle.ss_logic_express.specs.Express.{or_of, Meant, over, over_two, said, Scene, at_entry, with_bound, fits_int, out_of_range, meant, not_null, index_fits, not_zero}

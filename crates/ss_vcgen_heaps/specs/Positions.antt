@@ -10,11 +10,11 @@ use Rattle.ss_core.specs.declared.names.Ty.TheVariants as ty
 use Rattle.ss_core.specs.Tree.{ExprTree, BodyTree, CoreTree}
 use Rattle.ss_store_rules.specs.Locals.{local_types}
 use Rattle.ss_store_rules.specs.NonNull.{Known, Site, site_of}
-use Rattle.ss_logic_stores.specs.declared.Sort.{Sort}
-use Rattle.ss_logic_stores.specs.declared.Sort.TheVariants as sort
-use Rattle.ss_logic_stores.specs.Terms.{Constant, Term, app}
-use Rattle.ss_logic_stores.specs.Formulas.{Good, Formula, neg, atom}
-use Rattle.ss_logic_stores.specs.Equal.{same_term}
+use Rattle.ss_logic.specs.declared.Sort.{Sort}
+use Rattle.ss_logic.specs.declared.Sort.TheVariants as sort
+use Rattle.ss_logic.specs.Terms.{Constant, Term, app}
+use Rattle.ss_logic.specs.Formulas.{Good, Formula, neg, atom}
+use Rattle.ss_logic.specs.Equal.{same_term}
 use Rattle.ss_logic_rules.specs.Shapes.{null_term, equal}
 use Rattle.ss_logic_express.specs.Express.{and_of, or_of, truth_term, Meant, One, Either, Says, over, said, Scene, element_sort, meant, holds_formula}
 use Rattle.ss_vcgen_heaps.specs.Parts.{Part, parts}

@@ -21,11 +21,11 @@ use Rattle.ss_machine_rules.specs.States.{span, put, locals_at_entry}
 use Rattle.ss_machine_rules.specs.Steps.{held_by, result_local}
 use Rattle.ss_machine_typed.specs.Older.{IsOlder}
 use Rattle.ss_machine_typed.specs.Settings.{AreGoodArguments}
-use Rattle.ss_logic_stores.specs.declared.Sort.TheVariants as sort
-use Rattle.ss_logic_stores.specs.Values.{Heap, Table, Structure}
-use Rattle.ss_logic_stores.specs.Terms.{Term, sort_of_type, value_of}
-use Rattle.ss_logic_stores.specs.Formulas.{True}
-use Rattle.ss_logic_stores.specs.Objects.{objects_of}
+use Rattle.ss_logic.specs.declared.Sort.TheVariants as sort
+use Rattle.ss_logic.specs.Values.{Heap, Table, Structure}
+use Rattle.ss_logic.specs.Terms.{Term, sort_of_type, value_of}
+use Rattle.ss_logic.specs.Formulas.{True}
+use Rattle.ss_logic.specs.Objects.{objects_of}
 use Rattle.ss_logic_express.specs.Express.{One, element_sort}
 use Rattle.ss_logic_frames.specs.Frames.{grown}
 use Rattle.ss_logic_frames.proofs.Kept.{kept_from, kept_to, grown_to}

@@ -2,7 +2,7 @@
 use Rattle.std.proofs.Common.{List}
 use Rattle.ss_store_rules.specs.declared.Value.{Value}
 use Rattle.ss_store_rules.specs.Store.{Object}
-use Rattle.ss_logic_stores.specs.Values.{Table}
+use Rattle.ss_logic.specs.Values.{Table}
 use Rattle.ss_vcgen_heaps.specs.Positions.{Walk}
 use Rattle.ss_vcgen_values.specs.Goes.{IsEntered}
 use Rattle.ss_vcgen_loops.specs.Forms.{LoopsGo}

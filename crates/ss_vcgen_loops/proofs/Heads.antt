@@ -18,10 +18,10 @@ use Rattle.ss_store_rules.specs.Types.{is_condition, in_assert}
 use Rattle.ss_store_rules.specs.Values.{local_value}
 use Rattle.ss_machine_rules.specs.Steps.{held_by, are_exposed}
 use Rattle.ss_machine_typed.specs.Older.{IsOlder}
-use Rattle.ss_logic_stores.specs.Values.{Heap, Table, as_store, Structure}
-use Rattle.ss_logic_stores.specs.Terms.{Term}
-use Rattle.ss_logic_stores.specs.Formulas.{Formula, Hold}
-use Rattle.ss_logic_stores.specs.Objects.{objects_of, IsGoodStore}
+use Rattle.ss_logic.specs.Values.{Heap, Table, as_store, Structure}
+use Rattle.ss_logic.specs.Terms.{Term}
+use Rattle.ss_logic.specs.Formulas.{Formula, Hold}
+use Rattle.ss_logic.specs.Objects.{objects_of, IsGoodStore}
 use Rattle.ss_logic_frames.specs.Frames.{grown}
 use Rattle.ss_logic_means.specs.Means.{standing}
 use Rattle.ss_logic_tables.specs.Tabled.{IsStoreOf, tabled}

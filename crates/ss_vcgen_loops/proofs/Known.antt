@@ -16,8 +16,8 @@ use Rattle.ss_logic_frames.specs.Frames.{grown}
 use Rattle.ss_logic_express.specs.Express.{said}
 use Rattle.ss_vcgen_heaps.specs.Positions.{Guard, Always, When, Never, Position, Walk, good, check, holds_at, meant_at, local_term, evaluate, first_side, second_side, join_from, join, if_reached}
 use Rattle.ss_vcgen_heaps.specs.Obligations.{classes_of, check_local, invariants_said, Loop, loop_of, frame_at_head, levels_at_head, types_from, check_head, renewed, at_head, exit_guard, into_body, behind, behind_all}
-use Rattle.ss_logic_stores.specs.Values.{Structure}
-use Rattle.ss_logic_stores.specs.Terms.{Term}
+use Rattle.ss_logic.specs.Values.{Structure}
+use Rattle.ss_logic.specs.Terms.{Term}
 use Rattle.ss_vcgen_positions.specs.At.{IsOn, HaveTerms}
 use Rattle.ss_vcgen_positions.proofs.Paths.{IsReachable, IsPlaced, placed, placed_join, placed_head}
 use Rattle.ss_vcgen_positions.proofs.Same.{same_assume_all, same_check_all, same_evaluate, same_evaluate_result, same_local}

@@ -10,10 +10,10 @@ use Rattle.ss_store_rules.specs.Store.{Object}
 use Rattle.ss_store_rules.specs.Reads.{same_value}
 use Rattle.ss_machine_rules.specs.States.{Frame}
 use Rattle.ss_machine_rules.specs.Steps.{held_by, stands_above, are_exposed}
-use Rattle.ss_logic_stores.specs.Values.{Heap, store, Structure}
-use Rattle.ss_logic_stores.specs.Terms.{Term, value_of}
-use Rattle.ss_logic_stores.specs.Formulas.{Formula}
-use Rattle.ss_logic_stores.specs.Objects.{objects_of}
+use Rattle.ss_logic.specs.Values.{Heap, store, Structure}
+use Rattle.ss_logic.specs.Terms.{Term, value_of}
+use Rattle.ss_logic.specs.Formulas.{Formula}
+use Rattle.ss_logic.specs.Objects.{objects_of}
 use Rattle.ss_logic_rules.specs.Shapes.{null_term, class_term, level_of, equal}
 use Rattle.ss_logic_express.specs.Express.{and_of, or_of}
 use Rattle.ss_logic_means.specs.Means.{standing}

@@ -21,8 +21,8 @@ use Rattle.ss_store_rules.specs.Types.{is_condition, in_code, in_assert}
 use Rattle.ss_store_rules.specs.Typed.{is_typed, has_exposable}
 use Rattle.ss_machine_good.specs.Known.{IsTrueOf}
 use Rattle.ss_machine_good_constructors.specs.Checks.{fields_check}
-use Rattle.ss_logic_stores.specs.Values.{Table, Structure}
-use Rattle.ss_logic_stores.specs.Formulas.{Formula}
+use Rattle.ss_logic.specs.Values.{Table, Structure}
+use Rattle.ss_logic.specs.Formulas.{Formula}
 use Rattle.ss_logic_express.specs.Express.{said}
 use Rattle.ss_vcgen_heaps.specs.Positions.{Never, When, Position, Walk, check, check_all, holds_at, meant_at, evaluate, if_reached}
 use Rattle.ss_vcgen_heaps.specs.Obligations.{Loop, loop_of, frame_at_head, levels_at_head, check_head, at_head, exit_guard, into_body, behind_loop, behind, behind_all, AreValid}

@@ -15,8 +15,8 @@ use Rattle.ss_store_rules.specs.Values.{value_of}
 use Rattle.ss_machine_typed.proofs.Sound.{value_sound}
 use Rattle.ss_store_rules.specs.Good.{has_type}
 use Rattle.ss_machine_good.proofs.Tests.{tested_true}
-use Rattle.ss_logic_stores.specs.Values.{Table, Structure, truth}
-use Rattle.ss_logic_stores.proofs.Truth.{neg_true}
+use Rattle.ss_logic.specs.Values.{Table, Structure, truth}
+use Rattle.ss_logic.proofs.Truth.{neg_true}
 use Rattle.ss_logic_express.specs.Express.{said}
 use Rattle.ss_logic_means.specs.Means.{standing, Denotes}
 use Rattle.ss_logic_means.proofs.Contracts.{condition_typed}

@@ -15,8 +15,8 @@ use Rattle.ss_store_rules.specs.NonNull.{Known, known_flow, known_tested, null_c
 use Rattle.ss_machine_good.specs.Known.{IsTrueOf}
 use Rattle.ss_machine_good.specs.Flows.{is_simple}
 use Rattle.ss_machine_good_constructors.specs.Checks.{fields_check}
-use Rattle.ss_logic_stores.specs.Values.{Table, Structure}
-use Rattle.ss_logic_stores.specs.Formulas.{True, neg}
+use Rattle.ss_logic.specs.Values.{Table, Structure}
+use Rattle.ss_logic.specs.Formulas.{True, neg}
 use Rattle.ss_logic_express.specs.Express.{said}
 use Rattle.ss_vcgen_heaps.specs.Positions.{Position, Walk, meant_at, evaluate}
 use Rattle.ss_vcgen_heaps.specs.Obligations.{behind_all, AreValid}

@@ -25,12 +25,12 @@ use Rattle.ss_machine_typed.proofs.Outcomes.{int_typed}
 use Rattle.ss_machine_typed.proofs.Sound.{value_sound}
 use Rattle.ss_machine_good.specs.Known.{IsNotNull}
 use Rattle.ss_machine_good.proofs.Tests.{tested_true}
-use Rattle.ss_logic_stores.specs.declared.Sort.TheVariants as sort
-use Rattle.ss_logic_stores.specs.Values.{reference, Heap, Value, whole, Structure}
-use Rattle.ss_logic_stores.specs.Terms.{Term, Bound, app}
-use Rattle.ss_logic_stores.specs.Terms as term
-use Rattle.ss_logic_stores.specs.Formulas.{Formula, Forall, neg}
-use Rattle.ss_logic_stores.specs.Objects.{objects_of}
+use Rattle.ss_logic.specs.declared.Sort.TheVariants as sort
+use Rattle.ss_logic.specs.Values.{reference, Heap, Value, whole, Structure}
+use Rattle.ss_logic.specs.Terms.{Term, Bound, app}
+use Rattle.ss_logic.specs.Terms as term
+use Rattle.ss_logic.specs.Formulas.{Formula, Forall, neg}
+use Rattle.ss_logic.specs.Objects.{objects_of}
 use Rattle.ss_logic_rules.specs.Shapes.{number, at_most, allocated}
 use Rattle.ss_logic_express.specs.Express.{or_of, Meant, over, said, Scene, at_entry, with_bound, fits_int, out_of_range, meant, not_null, readable, under, index_fits, operation_parts, defined}
 use Rattle.ss_logic_express.specs.Express as express

@@ -8,9 +8,9 @@ use Rattle.ss_store_rules.specs.declared.Value.{Value as ObjectValue}
 use Rattle.ss_store_rules.specs.Locals.{local_types, is_bound}
 use Rattle.ss_machine_typed.specs.Settings.{IsGoodSetting}
 use Rattle.ss_machine_good.specs.Known.{IsTrueOf, AreAssigned, WasReady}
-use Rattle.ss_logic_stores.specs.declared.Sort.TheVariants as sort
-use Rattle.ss_logic_stores.specs.Values.{Heap, Value, store, Structure}
-use Rattle.ss_logic_stores.specs.Terms.{Term, sort_of_type, value_of}
+use Rattle.ss_logic.specs.declared.Sort.TheVariants as sort
+use Rattle.ss_logic.specs.Values.{Heap, Value, store, Structure}
+use Rattle.ss_logic.specs.Terms.{Term, sort_of_type, value_of}
 use Rattle.ss_logic_express.specs.Express.{One, choices, meant_or_null}
 use Rattle.ss_logic_means.specs.Means.{standing, Denotes}
 use Rattle.ss_logic_means.specs.Scenes.{setting_of, StandsAmong}

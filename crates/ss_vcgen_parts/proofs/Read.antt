@@ -16,9 +16,9 @@ use Rattle.ss_store_rules.specs.Values.{local_value}
 use Rattle.ss_store_rules.specs.Values as run
 use Rattle.ss_machine_rules.specs.Steps.{values_of}
 use Rattle.ss_machine_good.specs.Known.{IsNotNull}
-use Rattle.ss_logic_stores.specs.declared.Sort.{Sort}
-use Rattle.ss_logic_stores.specs.Values.{Heap, Value, Structure}
-use Rattle.ss_logic_stores.specs.Formulas.{True, is_well_formed}
+use Rattle.ss_logic.specs.declared.Sort.{Sort}
+use Rattle.ss_logic.specs.Values.{Heap, Value, Structure}
+use Rattle.ss_logic.specs.Formulas.{True, is_well_formed}
 use Rattle.ss_logic_express.specs.Express.{Scene, meant, defined, holds_formula}
 use Rattle.ss_logic_means.specs.Means.{standing, Means, Denotes}
 use Rattle.ss_logic_means.specs.Scenes.{setting_of, has_no_default}

@@ -9,9 +9,9 @@ use Rattle.ss_store_rules.specs.NonNull.{Known, Site}
 use Rattle.ss_store_rules.specs.Types.{type_of}
 use Rattle.ss_store_rules.specs.Values as run
 use Rattle.ss_machine_typed.specs.Settings.{IsGoodSetting}
-use Rattle.ss_logic_stores.specs.declared.Sort.{Sort}
-use Rattle.ss_logic_stores.specs.Values.{Heap, Value, Structure}
-use Rattle.ss_logic_stores.specs.Formulas.{Formula, True, AllTrue, formulas_from, is_well_formed}
+use Rattle.ss_logic.specs.declared.Sort.{Sort}
+use Rattle.ss_logic.specs.Values.{Heap, Value, Structure}
+use Rattle.ss_logic.specs.Formulas.{Formula, True, AllTrue, formulas_from, is_well_formed}
 use Rattle.ss_logic_express.specs.Express.{Meant, Scene, meant, defined}
 use Rattle.ss_logic_means.specs.Means.{standing}
 use Rattle.ss_logic_means.specs.Scenes.{setting_of, StandsAmong, has_no_default}

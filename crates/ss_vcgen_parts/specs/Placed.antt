@@ -3,8 +3,8 @@ use Rattle.std.specs.Prelude.{◌≡◌, ℕ, List, [], Bool, true, Option, Some
 use Rattle.ss_core.specs.declared.names.Ty.{Ty}
 use Rattle.ss_core.specs.Tree.{ClassTree}
 use Rattle.ss_store_rules.specs.declared.Value.{Value as ObjectValue}
-use Rattle.ss_logic_stores.specs.Values.{Value, Structure}
-use Rattle.ss_logic_stores.specs.Terms.{Term, sort_of_type, value_of}
+use Rattle.ss_logic.specs.Values.{Value, Structure}
+use Rattle.ss_logic.specs.Terms.{Term, sort_of_type, value_of}
 use Rattle.ss_logic_means.specs.Means.{standing}
 use Rattle.ss_logic_means.specs.Sorts.{HasSort}
 

@@ -6,8 +6,8 @@ use Rattle.ss_store_rules.specs.Locals.{local_types, is_bound}
 use Rattle.ss_store_rules.specs.NonNull.{Known, Site}
 use Rattle.ss_machine_typed.specs.Settings.{IsGoodSetting}
 use Rattle.ss_machine_good.specs.Known.{IsTrueOf, AreAssigned, WasReady}
-use Rattle.ss_logic_stores.specs.Values.{Heap, Value, Structure}
-use Rattle.ss_logic_stores.specs.Formulas.{Formula, AllTrue, formulas_from}
+use Rattle.ss_logic.specs.Values.{Heap, Value, Structure}
+use Rattle.ss_logic.specs.Formulas.{Formula, AllTrue, formulas_from}
 use Rattle.ss_logic_express.specs.Express.{Meant, Scene}
 use Rattle.ss_logic_means.specs.Means.{standing, Denotes}
 use Rattle.ss_logic_means.specs.Scenes.{setting_of, StandsAmong}

@@ -4,10 +4,10 @@ use Rattle.std.specs.Prelude.{if◌then◌else◌, nat_lt}
 use Rattle.std.proofs.lemmas.Bool.{false≢true, true≢false, eq-eqb, ne_eqb, lt-ltb, le-ltb}
 use Rattle.ss_core.specs.Tree.{ClassTree}
 use Rattle.ss_store_rules.specs.Store.{Object}
-use Rattle.ss_logic_stores.specs.declared.Sort.{Sort}
-use Rattle.ss_logic_stores.specs.declared.Sort.TheVariants as sort
-use Rattle.ss_logic_stores.specs.Values.{Heap, no_heap, IsNumbered, Table, Value, whole, truth, thing, store, as_whole, as_truth, as_thing, as_store, sort_of_value, Structure}
-use Rattle.ss_logic_stores.specs.Terms.{Term, same_sort, constant_value}
+use Rattle.ss_logic.specs.declared.Sort.{Sort}
+use Rattle.ss_logic.specs.declared.Sort.TheVariants as sort
+use Rattle.ss_logic.specs.Values.{Heap, no_heap, IsNumbered, Table, Value, whole, truth, thing, store, as_whole, as_truth, as_thing, as_store, sort_of_value, Structure}
+use Rattle.ss_logic.specs.Terms.{Term, same_sort, constant_value}
 use Rattle.ss_vcgen_heaps.specs.Positions.{Counters, Position, Walk, number_of, raised, new_term, with_new}
 use Rattle.ss_sound_outcomes.specs.Points.{Point}
 use Rattle.ss_vcgen_positions.specs.At.{IsAlike, Stays, HasValue, IsStore, IsLocal, Agrees, Rises}

@@ -6,8 +6,8 @@ use Rattle.ss_store_rules.specs.NonNull.{Known, known_met}
 use Rattle.ss_store_rules.specs.Values.{Setting}
 use Rattle.ss_machine_good.specs.Known.{IsTrueOf}
 use Rattle.ss_machine_good.proofs.Meets.{met_one, met_other}
-use Rattle.ss_logic_stores.specs.Values.{Table, Structure}
-use Rattle.ss_logic_stores.specs.Formulas.{Formula, neg}
+use Rattle.ss_logic.specs.Values.{Table, Structure}
+use Rattle.ss_logic.specs.Formulas.{Formula, neg}
 use Rattle.ss_vcgen_heaps.specs.Positions.{Guard, Always, When, Never, Position, Walk, first_side, second_side, join_from, join}
 use Rattle.ss_sound_outcomes.specs.Points.{Point, scene}
 use Rattle.ss_vcgen_positions.specs.At.{IsAlike, Stays, IsTrueIn, HoldIn, IsOn, IsOff, Rises, activation, Agrees, HaveTerms, IsAt, Leads}

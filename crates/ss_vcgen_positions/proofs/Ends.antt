@@ -7,11 +7,11 @@ use Rattle.ss_store_rules.specs.Store.{Object}
 use Rattle.ss_store_rules.specs.Locals.{local_types}
 use Rattle.ss_store_rules.specs.NonNull.{Known}
 use Rattle.ss_store_rules.specs.Values.{local_value}
-use Rattle.ss_logic_stores.specs.declared.Sort.TheVariants as sort
-use Rattle.ss_logic_stores.specs.Values.{Heap, IsNumbered, Table, Value, store, as_store, Structure}
-use Rattle.ss_logic_stores.specs.Terms.{Term, value_of}
-use Rattle.ss_logic_stores.specs.Objects.{IsGoodStore, objects_of}
-use Rattle.ss_logic_stores.proofs.Numbered.{store_numbered}
+use Rattle.ss_logic.specs.declared.Sort.TheVariants as sort
+use Rattle.ss_logic.specs.Values.{Heap, IsNumbered, Table, Value, store, as_store, Structure}
+use Rattle.ss_logic.specs.Terms.{Term, value_of}
+use Rattle.ss_logic.specs.Objects.{IsGoodStore, objects_of}
+use Rattle.ss_logic.proofs.Numbered.{store_numbered}
 use Rattle.ss_logic_express.specs.Express.{element_sort}
 use Rattle.ss_logic_means.specs.Means.{standing}
 use Rattle.ss_vcgen_heaps.specs.Positions.{Guard, Always, When, Never, Counters, Position, Walk, join_term, join_locals, join_guard, join_both, join_from, join}

@@ -2,9 +2,9 @@
 use Rattle.std.proofs.Common.{◌≡◌, ℕ, List, [], ◌∷◌, ◌++◌, true, false, sym, ◌∙◌, ap}
 use Rattle.std.proofs.lemmas.Bool.{false≢true}
 use Rattle.ss_core.specs.Tree.{ClassTree}
-use Rattle.ss_logic_stores.specs.Values.{truth, as_truth, Structure}
-use Rattle.ss_logic_stores.specs.Formulas.{Formula, True, Hold, neg}
-use Rattle.ss_logic_stores.proofs.Truth.{not_both, formula_stable}
+use Rattle.ss_logic.specs.Values.{truth, as_truth, Structure}
+use Rattle.ss_logic.specs.Formulas.{Formula, True, Hold, neg}
+use Rattle.ss_logic.proofs.Truth.{not_both, formula_stable}
 use Rattle.ss_logic_express.specs.Express.{or_of}
 use Rattle.ss_vcgen_heaps.specs.Positions.{Guard, Always, When, Never, is_true, guard_term, guard_formula, under, side}
 use Rattle.ss_vcgen_positions.specs.At.{IsOn, IsOff}

@@ -11,11 +11,11 @@ use Rattle.ss_store_rules.specs.Store.{Object}
 use Rattle.ss_store_rules.specs.Good.{has_type}
 use Rattle.ss_store_rules.specs.Locals.{local_types}
 use Rattle.ss_store_rules.specs.Values.{local_value}
-use Rattle.ss_logic_stores.specs.declared.Sort.{Sort}
-use Rattle.ss_logic_stores.specs.Values.{IsNumbered, Table, Value, as_store, sort_of_value, Structure}
-use Rattle.ss_logic_stores.specs.Terms.{Term, sort_of_type}
-use Rattle.ss_logic_stores.specs.Formulas.{Hold}
-use Rattle.ss_logic_stores.specs.Equal.{same_term, equal_terms}
+use Rattle.ss_logic.specs.declared.Sort.{Sort}
+use Rattle.ss_logic.specs.Values.{IsNumbered, Table, Value, as_store, sort_of_value, Structure}
+use Rattle.ss_logic.specs.Terms.{Term, sort_of_type}
+use Rattle.ss_logic.specs.Formulas.{Hold}
+use Rattle.ss_logic.specs.Equal.{same_term, equal_terms}
 use Rattle.ss_logic_rules.specs.Shapes.{equal}
 use Rattle.ss_logic_express.specs.Express.{element_sort}
 use Rattle.ss_logic_means.specs.Means.{standing}

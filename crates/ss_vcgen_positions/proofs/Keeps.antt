@@ -7,8 +7,8 @@ use Rattle.ss_core.specs.Tree.{ClassTree, ExprTree}
 use Rattle.ss_store_rules.specs.Store.{Object}
 use Rattle.ss_store_rules.specs.Values.{Setting, holds}
 use Rattle.ss_machine_rules.specs.Steps.{all_hold}
-use Rattle.ss_logic_stores.specs.Values.{Table, Structure}
-use Rattle.ss_logic_stores.specs.Formulas.{Formula, Hold}
+use Rattle.ss_logic.specs.Values.{Table, Structure}
+use Rattle.ss_logic.specs.Formulas.{Formula, Hold}
 use Rattle.ss_logic_express.specs.Express.{Scene, holds_formula}
 use Rattle.ss_logic_means.specs.Means.{Means}
 use Rattle.ss_vcgen_heaps.specs.Parts.{Part}

@@ -16,10 +16,10 @@ use Rattle.ss_store_rules.specs.Paths.{is_literal_true, met, left, at_end}
 use Rattle.ss_store_rules.specs.Types.{is_int, class_type, element_of, code_type}
 use Rattle.ss_store_rules.specs.Changes.{is_array}
 use Rattle.ss_store_rules.specs.Typed.{constructor_of, callee_of, fits_declared, fits_local, fits_kept, have_types_in, is_call_of, is_receiver, is_typed}
-use Rattle.ss_logic_stores.specs.declared.Sort.{Sort}
-use Rattle.ss_logic_stores.specs.declared.Sort.TheVariants as sort
-use Rattle.ss_logic_stores.specs.Terms.{New, NewArray, Length, Term, app, field_sort}
-use Rattle.ss_logic_stores.specs.Formulas.{Formula, neg}
+use Rattle.ss_logic.specs.declared.Sort.{Sort}
+use Rattle.ss_logic.specs.declared.Sort.TheVariants as sort
+use Rattle.ss_logic.specs.Terms.{New, NewArray, Length, Term, app, field_sort}
+use Rattle.ss_logic.specs.Formulas.{Formula, neg}
 use Rattle.ss_logic_rules.specs.Shapes.{number, class_term, level_of, equal, at_most, sub_atom, next_of}
 use Rattle.ss_logic_rules.specs.Shapes as shape
 use Rattle.ss_logic_frames.specs.Frames.{kept, grown}

@@ -7,10 +7,10 @@ use Rattle.ss_core.specs.Tree.{StmtTree}
 use Rattle.ss_store_rules.specs.Store.{Object}
 use Rattle.ss_store_rules.specs.Locals.{local_types, assigns}
 use Rattle.ss_store_rules.specs.Values.{local_value}
-use Rattle.ss_logic_stores.specs.declared.Sort.TheVariants as sort
-use Rattle.ss_logic_stores.specs.Values.{Heap, IsNumbered, Table, store, Structure}
-use Rattle.ss_logic_stores.specs.Terms.{Term, sort_of_type}
-use Rattle.ss_logic_stores.specs.Objects.{IsGoodStore, objects_of}
+use Rattle.ss_logic.specs.declared.Sort.TheVariants as sort
+use Rattle.ss_logic.specs.Values.{Heap, IsNumbered, Table, store, Structure}
+use Rattle.ss_logic.specs.Terms.{Term, sort_of_type}
+use Rattle.ss_logic.specs.Objects.{IsGoodStore, objects_of}
 use Rattle.ss_logic_express.specs.Express.{element_sort}
 use Rattle.ss_logic_means.specs.Means.{standing}
 use Rattle.ss_vcgen_heaps.specs.Positions.{Counters, Position, Walk, raised, new_term, with_new, set_local}

@@ -11,10 +11,10 @@ use Rattle.ss_store_rules.specs.NonNull.{Known, is_never_null}
 use Rattle.ss_store_rules.specs.Types.{code_type}
 use Rattle.ss_core.specs.declared.names.Kind.TheVariants as kind
 use Rattle.ss_machine_good.specs.Known.{IsTrueOf}
-use Rattle.ss_logic_stores.specs.declared.Sort.{Sort}
-use Rattle.ss_logic_stores.specs.Values.{Table, Structure}
-use Rattle.ss_logic_stores.specs.Terms.{Term}
-use Rattle.ss_logic_stores.specs.Formulas.{Formula}
+use Rattle.ss_logic.specs.declared.Sort.{Sort}
+use Rattle.ss_logic.specs.Values.{Table, Structure}
+use Rattle.ss_logic.specs.Terms.{Term}
+use Rattle.ss_logic.specs.Formulas.{Formula}
 use Rattle.ss_logic_rules.specs.Shapes.{null_term, differ}
 use Rattle.ss_logic_express.specs.Express.{Meant, One, Either, Says, element_sort}
 use Rattle.ss_vcgen_heaps.specs.Parts.{Part, parts}

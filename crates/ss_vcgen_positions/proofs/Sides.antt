@@ -3,9 +3,9 @@ use Rattle.std.proofs.Common.{◌≡◌, ℕ, ◌<◌, ◌≤◌, ◌+◌, List,
 use Rattle.std.proofs.lemmas.Bool.{eq-eqb, ne_eqb}
 use Rattle.ss_store_rules.specs.Store.{Object}
 use Rattle.ss_store_rules.specs.NonNull.{Known}
-use Rattle.ss_logic_stores.specs.declared.Sort.TheVariants as sort
-use Rattle.ss_logic_stores.specs.Values.{Table, Structure, as_truth}
-use Rattle.ss_logic_stores.specs.Formulas.{Formula, neg}
+use Rattle.ss_logic.specs.declared.Sort.TheVariants as sort
+use Rattle.ss_logic.specs.Values.{Table, Structure, as_truth}
+use Rattle.ss_logic.specs.Formulas.{Formula, neg}
 use Rattle.ss_vcgen_heaps.specs.Positions.{Guard, Counters, Position, Walk, side, first_side, second_side}
 use Rattle.ss_sound_outcomes.specs.Points.{Point}
 use Rattle.ss_vcgen_positions.specs.At.{IsAlike, Stays, IsTrueIn, HoldIn, IsOn, IsOff, IsQuiet, Agrees, Leads}

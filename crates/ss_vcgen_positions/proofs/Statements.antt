@@ -13,10 +13,10 @@ use Rattle.ss_store_rules.specs.NonNull.{Known, is_never_null, known_tested, kno
 use Rattle.ss_store_rules.specs.Paths.{is_literal_true}
 use Rattle.ss_store_rules.specs.Types.{element_of, code_type}
 use Rattle.ss_store_rules.specs.Typed.{constructor_of}
-use Rattle.ss_logic_stores.specs.declared.Sort.TheVariants as sort
-use Rattle.ss_logic_stores.specs.Values.{Structure}
-use Rattle.ss_logic_stores.specs.Terms.{Set, Put, Unpack, Pack, New, NewArray, MakeReady, Length, Term, app, field_sort}
-use Rattle.ss_logic_stores.specs.Formulas.{neg}
+use Rattle.ss_logic.specs.declared.Sort.TheVariants as sort
+use Rattle.ss_logic.specs.Values.{Structure}
+use Rattle.ss_logic.specs.Terms.{Set, Put, Unpack, Pack, New, NewArray, MakeReady, Length, Term, app, field_sort}
+use Rattle.ss_logic.specs.Formulas.{neg}
 use Rattle.ss_logic_rules.specs.Shapes.{number, null_term, class_term, level_of, next_of, equal, differ, at_most, sub_atom, committed}
 use Rattle.ss_logic_rules.specs.Shapes as shape
 use Rattle.ss_logic_express.specs.Express.{Meant, One, Either, Says, said, element_sort}

@@ -5,12 +5,12 @@ use Rattle.ss_core.specs.Tree.{ClassTree}
 use Rattle.ss_store_rules.specs.Store.{Object}
 use Rattle.ss_store_rules.specs.declared.Value.{Value as ObjectValue}
 use Rattle.ss_store_rules.specs.declared.Value.TheVariants as value
-use Rattle.ss_logic_stores.specs.declared.Sort.{Sort}
-use Rattle.ss_logic_stores.specs.declared.Sort.TheVariants as sort
-use Rattle.ss_logic_stores.specs.Values.{IsNumbered, Table, Value, whole, truth, thing, store, as_store, sort_of_value, Structure}
-use Rattle.ss_logic_stores.specs.Terms.{Term, value_of}
-use Rattle.ss_logic_stores.specs.Formulas.{True}
-use Rattle.ss_logic_stores.proofs.Truth.{neg_true, closed_value}
+use Rattle.ss_logic.specs.declared.Sort.{Sort}
+use Rattle.ss_logic.specs.declared.Sort.TheVariants as sort
+use Rattle.ss_logic.specs.Values.{IsNumbered, Table, Value, whole, truth, thing, store, as_store, sort_of_value, Structure}
+use Rattle.ss_logic.specs.Terms.{Term, value_of}
+use Rattle.ss_logic.specs.Formulas.{True}
+use Rattle.ss_logic.proofs.Truth.{neg_true, closed_value}
 use Rattle.ss_logic_rules.specs.Shapes.{equal}
 use Rattle.ss_logic_express.specs.Express.{Meant, One, Either, Says, choices, over, said}
 use Rattle.ss_logic_means.specs.Means.{standing, Denotes}

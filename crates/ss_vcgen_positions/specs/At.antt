@@ -7,12 +7,12 @@ use Rattle.ss_store_rules.specs.Store.{Object}
 use Rattle.ss_store_rules.specs.Locals.{local_types}
 use Rattle.ss_store_rules.specs.Values.{local_value}
 use Rattle.ss_machine_good.specs.Known.{IsTrueOf, AreAssigned}
-use Rattle.ss_logic_stores.specs.declared.Sort.{Sort}
-use Rattle.ss_logic_stores.specs.declared.Sort.TheVariants as sort
-use Rattle.ss_logic_stores.specs.Values.{Heap, Table, Value, store, Structure}
-use Rattle.ss_logic_stores.specs.Terms.{Term, constant_value, value_of}
-use Rattle.ss_logic_stores.specs.Formulas.{Formula, True, Hold}
-use Rattle.ss_logic_stores.specs.Objects.{IsGoodStore, objects_of}
+use Rattle.ss_logic.specs.declared.Sort.{Sort}
+use Rattle.ss_logic.specs.declared.Sort.TheVariants as sort
+use Rattle.ss_logic.specs.Values.{Heap, Table, Value, store, Structure}
+use Rattle.ss_logic.specs.Terms.{Term, constant_value, value_of}
+use Rattle.ss_logic.specs.Formulas.{Formula, True, Hold}
+use Rattle.ss_logic.specs.Objects.{IsGoodStore, objects_of}
 use Rattle.ss_logic_means.specs.Means.{standing}
 use Rattle.ss_logic_means.specs.Sorts.{HasSort}
 use Rattle.ss_vcgen_heaps.specs.Positions.{Guard, Always, When, Never, Counters, Position, Walk, number_of}

@@ -17,8 +17,8 @@ use Rattle.ss_store_rules.specs.Assigned.{assigned_flow, assigned_check, reads_a
 use Rattle.ss_store_rules.specs.NonNull.{Known, known_tested, known_met, known_flow, null_check}
 use Rattle.ss_machine_good_constructors.specs.Checks.{fields_check}
 use Rattle.ss_machine_good.specs.Known.{IsTrueOf}
-use Rattle.ss_logic_stores.specs.Values.{Table, Structure}
-use Rattle.ss_logic_stores.specs.Formulas.{Formula}
+use Rattle.ss_logic.specs.Values.{Table, Structure}
+use Rattle.ss_logic.specs.Formulas.{Formula}
 use Rattle.ss_logic_express.specs.Express.{said}
 use Rattle.ss_vcgen_heaps.specs.Positions.{When, Position, Walk, meant_at, evaluate, first_side, second_side, join}
 use Rattle.ss_vcgen_heaps.specs.Obligations.{behind, behind_all, AreValid}

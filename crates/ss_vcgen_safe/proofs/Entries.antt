@@ -25,11 +25,11 @@ use Rattle.ss_machine_typed.proofs.Older.{older_self}
 use Rattle.ss_machine_typed.proofs.First.{entered_locals}
 use Rattle.ss_machine_good.specs.Known.{IsNotNull, IsTrueOf}
 use Rattle.ss_machine_good.proofs.Frames.{entry_known}
-use Rattle.ss_logic_stores.specs.declared.Sort.TheVariants as sort
-use Rattle.ss_logic_stores.specs.Values.{Heap, IsNumbered, Table, null, as_store, sort_of_value, Structure}
-use Rattle.ss_logic_stores.specs.Terms.{Term, sort_of_type}
-use Rattle.ss_logic_stores.specs.Formulas.{Formula, True, Hold}
-use Rattle.ss_logic_stores.specs.Objects.{IsGoodStore, objects_of}
+use Rattle.ss_logic.specs.declared.Sort.TheVariants as sort
+use Rattle.ss_logic.specs.Values.{Heap, IsNumbered, Table, null, as_store, sort_of_value, Structure}
+use Rattle.ss_logic.specs.Terms.{Term, sort_of_type}
+use Rattle.ss_logic.specs.Formulas.{Formula, True, Hold}
+use Rattle.ss_logic.specs.Objects.{IsGoodStore, objects_of}
 use Rattle.ss_logic_express.specs.Express.{Scene, holds_formula, element_sort}
 use Rattle.ss_logic_means.specs.Means.{standing, Means}
 use Rattle.ss_logic_means.specs.Sorts.{HasSort}

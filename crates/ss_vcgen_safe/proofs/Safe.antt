@@ -11,7 +11,7 @@ use Rattle.ss_store_rules.specs.Assigned.{assigned_flow}
 use Rattle.ss_machine_rules.specs.States.{locals_at_entry}
 use Rattle.ss_machine_good_constructors.specs.Checks.{fields_check}
 use Rattle.ss_machine_good_constructors.proofs.Fields.{fields_along}
-use Rattle.ss_logic_stores.specs.Values.{no_heap}
+use Rattle.ss_logic.specs.Values.{no_heap}
 use Rattle.ss_logic_tables.specs.Tabled.{tabled}
 use Rattle.ss_logic_tables.proofs.Tabling.{list_has_a_heap}
 use Rattle.ss_vcgen_heaps.specs.Positions.{Obligation, Counters}

@@ -1,7 +1,7 @@
 -- Statements, one after the other.
 use Rattle.std.proofs.Common.{◌≡◌, ℕ, refl, sym, ap}
 use Rattle.ss_core.specs.Tree.{StmtTree, CodeTree, NoCode, Then}
-use Rattle.ss_terms_stores.specs.Forms.{Forms, IsGrown}
+use Rattle.ss_terms.specs.Forms.{Forms, IsGrown}
 use Rattle.ss_vcgen_heaps.specs.Positions.{Position, Walk, Guard, Always, When, Never, if_reached}
 use Rattle.ss_vcgen_heaps.specs.Obligations.{behind, behind_all}
 use Rattle.ss_vcgen_builder.specs.declared.builder.Builder.{Builder}

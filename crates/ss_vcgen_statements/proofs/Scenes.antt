@@ -5,14 +5,14 @@ use Rattle.ss_core.specs.declared.names.Place.{Place}
 use Rattle.ss_core.specs.declared.names.Mark.{Mark}
 use Rattle.ss_core.specs.declared.names.Mark.TheVariants as mark
 use Rattle.ss_core.specs.Tree.{ExprTree}
-use Rattle.ss_logic_stores.specs.declared.Sort.{Sort}
-use Rattle.ss_logic_stores.specs.Terms.{Term}
-use Rattle.ss_logic_stores.specs.Formulas.{Formula}
+use Rattle.ss_logic.specs.declared.Sort.{Sort}
+use Rattle.ss_logic.specs.Terms.{Term}
+use Rattle.ss_logic.specs.Formulas.{Formula}
 use Rattle.ss_logic_express.specs.Express.{Meant, One, Either, Says, meant}
 use Rattle.ss_vcgen_heaps.specs.Parts.{Part, parts}
 use Rattle.ss_core.specs.declared.names.Kind.TheVariants as kind
 use Rattle.std.specs.Prelude.{slice_get}
-use Rattle.ss_logic_stores.specs.Terms.{Pack, app}
+use Rattle.ss_logic.specs.Terms.{Pack, app}
 use Rattle.ss_logic_rules.specs.Shapes.{null_term, differ}
 use Rattle.ss_vcgen_heaps.specs.Positions.{Position, Walk, check, check_all, check_unless, check_parts, scene_at, site, evaluate, evaluate_all, meant_at, settled, local_term, term_or_null, with_store}
 use Rattle.ss_vcgen_heaps.specs.Obligations.{check_owners, check_local, is_known_local, pack, owned_are_full, invariants_said, classes_of}

@@ -1,12 +1,12 @@
 -- One step of a builder and then another.
 use Rattle.std.proofs.Common.{◌≡◌, ℕ, List, [], ◌∷◌, length, take, refl, sym, ap, ◌∙◌, Option, Some, None, Result, Ok, Err}
 use Rattle.std.specs.Prelude.{IfOk}
-use Rattle.ss_logic_stores.specs.Terms.{Term}
-use Rattle.ss_logic_stores.specs.Formulas.{Formula, neg}
-use Rattle.ss_terms_stores.specs.declared.forms.TermId.{TermId}
-use Rattle.ss_terms_stores.specs.declared.forms.FormulaId.{FormulaId}
-use Rattle.ss_terms_stores.specs.Forms.{Forms, term_at, terms_at, formula_at, formulas_at, HasTerm, HasFormula, IsGrown}
-use Rattle.ss_terms_stores.proofs.Grown.{IsGrown-refl, IsGrown-then, HasTerm-grown, HasTerms-grown, HasFormula-grown, HasFormulas-grown}
+use Rattle.ss_logic.specs.Terms.{Term}
+use Rattle.ss_logic.specs.Formulas.{Formula, neg}
+use Rattle.ss_terms.specs.declared.forms.TermId.{TermId}
+use Rattle.ss_terms.specs.declared.forms.FormulaId.{FormulaId}
+use Rattle.ss_terms.specs.Forms.{Forms, term_at, terms_at, formula_at, formulas_at, HasTerm, HasFormula, IsGrown}
+use Rattle.ss_terms.proofs.Grown.{IsGrown-refl, IsGrown-then, HasTerm-grown, HasTerms-grown, HasFormula-grown, HasFormulas-grown}
 use Rattle.ss_vcgen_heaps.specs.Positions.{Position}
 use Rattle.ss_vcgen_express.specs.Numbers.{IsTerm, IsFormula, AreFormulas}
 use Rattle.ss_vcgen_builder.specs.declared.builder.Builder.{Builder}

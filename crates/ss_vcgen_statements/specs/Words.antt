@@ -5,12 +5,12 @@ use Rattle.ss_core.specs.declared.names.Place.{Place}
 use Rattle.ss_core.specs.declared.names.Mark.{Mark}
 use Rattle.ss_core.specs.Tree.{ExprTree}
 use Rattle.ss_core.specs.Chain.{above}
-use Rattle.ss_logic_stores.specs.Terms.{Set, Term, app}
-use Rattle.ss_logic_stores.specs.Formulas.{Formula, neg}
+use Rattle.ss_logic.specs.Terms.{Set, Term, app}
+use Rattle.ss_logic.specs.Formulas.{Formula, neg}
 use Rattle.ss_logic_rules.specs.Shapes.{class_term, level_of, owner_of, pair_of, equal, differ, sub_atom, allocated, committed}
 use Rattle.ss_logic_express.specs.Express.{and_of, or_of, is_full}
-use Rattle.ss_terms_stores.specs.declared.forms.TermId.{TermId}
-use Rattle.ss_terms_stores.specs.Forms.{Forms, terms_at, HasTerms, IsGrown}
+use Rattle.ss_terms.specs.declared.forms.TermId.{TermId}
+use Rattle.ss_terms.specs.Forms.{Forms, terms_at, HasTerms, IsGrown}
 use Rattle.ss_vcgen_heaps.specs.Positions.{Position, Walk, check, check_all, local_term}
 use Rattle.ss_vcgen_heaps.specs.Obligations.{classes_of, check_not_null, check_local, check_owners, owned_store, is_index, invariants_said, owned_are_full}
 use Rattle.ss_vcgen_builder.specs.declared.builder.Builder.{Builder}

@@ -4,11 +4,11 @@ ghost use Rattle.std.specs.Prelude.{◌≡◌, [], ◌∷◌, ◌||◌, slice_ge
 ghost use Rattle.ss_core.specs.Chain.{IsWithinLimits};
 ghost use Rattle.ss_core.specs.View.{classes, exprs};
 ghost use Rattle.ss_store_rules.specs.NonNull.{is_non_null_type};
-ghost use Rattle.ss_logic_stores.specs.declared.Sort.TheVariants as sort;
-ghost use Rattle.ss_logic_stores.specs.Terms.{Bound};
-ghost use Rattle.ss_logic_stores.specs.Formulas.{Forall};
+ghost use Rattle.ss_logic.specs.declared.Sort.TheVariants as sort;
+ghost use Rattle.ss_logic.specs.Terms.{Bound};
+ghost use Rattle.ss_logic.specs.Formulas.{Forall};
 ghost use Rattle.ss_logic_express.specs.Invariants.{invariant_scene};
-ghost use Rattle.ss_terms_stores.specs.Forms.{Forms, term_at, formula_at, HasTerm, HasFormula};
+ghost use Rattle.ss_terms.specs.Forms.{Forms, term_at, formula_at, HasTerm, HasFormula};
 ghost use Rattle.ss_vcgen_heaps.specs.Contracts as contract;
 ghost use Rattle.ss_vcgen_heaps.specs.Obligations as spec;
 ghost use Rattle.ss_vcgen_express.specs.Numbers.{IsTerm, IsFormula, AreFormulas};
@@ -19,8 +19,8 @@ ghost use Rattle.ss_vcgen_statements.specs.Words.{Stays, checked_unpack, checked
 
 use crate::said::{applied_local, deny, deny_local, one_of, say, say_local};
 use ss_core::{ClassId, Expr, Kind, Place, Ty};
-use ss_logic_stores::Sort;
-use ss_terms_stores::{FormulaId, Symbol, Term, TermId};
+use ss_logic::Sort;
+use ss_terms::{FormulaId, Symbol, Term, TermId};
 use ss_vcgen_builder::{Builder, Walk};
 use ss_vcgen_express::{Relation, Saying, Scene};
 use ss_vcgen_known::is_non_null;

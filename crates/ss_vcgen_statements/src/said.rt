@@ -1,18 +1,18 @@
 // What is said of values at a position, and terms for stores.
 
 ghost use Rattle.std.specs.Prelude.{◌≡◌, [], ◌∷◌, IfOk, OnOk};
-ghost use Rattle.ss_logic_stores.specs.Terms.{app};
-ghost use Rattle.ss_logic_stores.specs.Formulas.{neg};
+ghost use Rattle.ss_logic.specs.Terms.{app};
+ghost use Rattle.ss_logic.specs.Formulas.{neg};
 ghost use Rattle.ss_logic_rules.specs.Shapes.{null_term, equal};
 ghost use Rattle.ss_logic_express.specs.Express.{and_of, or_of};
-ghost use Rattle.ss_terms_stores.specs.Forms.{term_at, terms_at, formula_at, formulas_at, symbol_of, HasTerm, HasTerms, HasFormulas};
+ghost use Rattle.ss_terms.specs.Forms.{term_at, terms_at, formula_at, formulas_at, symbol_of, HasTerm, HasTerms, HasFormulas};
 ghost use Rattle.ss_vcgen_heaps.specs.Positions.{good, local_term, with_store};
 ghost use Rattle.ss_vcgen_express.specs.Numbers.{IsTerm, IsFormula};
 ghost use Rattle.ss_vcgen_express.specs.Sayings.{said_so, HasSaying};
 ghost use Rattle.ss_vcgen_builder.specs.Builder.{position_at, IsFine, Becomes};
 ghost use Rattle.ss_vcgen_statements.specs.Words.{Stays};
 
-use ss_terms_stores::{FormulaId, Predicate, Symbol, TermId};
+use ss_terms::{FormulaId, Predicate, Symbol, TermId};
 use ss_vcgen_builder::Builder;
 use ss_vcgen_express::{Meant, Saying, all, any, over};
 use std::alloc::AllocError;

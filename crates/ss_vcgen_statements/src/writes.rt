@@ -2,10 +2,10 @@
 
 ghost use Rattle.std.specs.Prelude.{◌≡◌, [], ◌∷◌, IfOk, OnOk};
 ghost use Rattle.ss_core.specs.View.{expr};
-ghost use Rattle.ss_logic_stores.specs.Formulas.{neg};
+ghost use Rattle.ss_logic.specs.Formulas.{neg};
 ghost use Rattle.ss_logic_rules.specs.Shapes.{owner_of, committed, group};
 ghost use Rattle.ss_logic_express.specs.Express.{and_of};
-ghost use Rattle.ss_terms_stores.specs.Forms.{term_at, HasTerm};
+ghost use Rattle.ss_terms.specs.Forms.{term_at, HasTerm};
 ghost use Rattle.ss_vcgen_heaps.specs.Obligations as spec;
 ghost use Rattle.ss_vcgen_express.specs.Numbers.{IsTerm, IsFormula};
 ghost use Rattle.ss_vcgen_builder.specs.Builder.{position_at, walk_at, IsFine, IsWalk, Becomes};
@@ -13,7 +13,7 @@ ghost use Rattle.ss_vcgen_statements.specs.Words.{Stays, checked_write, written_
 
 use crate::said::{applied, deny, each_of, is_null, one_of, say};
 use ss_core::{ClassId, Expr, FieldId, Kind, Mark, Place};
-use ss_terms_stores::{FormulaId, Symbol, TermId};
+use ss_terms::{FormulaId, Symbol, TermId};
 use ss_vcgen_builder::{Builder, Walk};
 use ss_vcgen_express::{Relation, Saying};
 use ss_vcgen_known::{Site, Tests, is_never_null};

@@ -32,9 +32,9 @@ use Rattle.ss_machine_good.proofs.Frames.{declared_some}
 use Rattle.ss_machine_good.proofs.Puts.{put_true}
 use Rattle.ss_machine_good.proofs.Steps.{code_typed}
 use Rattle.ss_machine_good_frames.proofs.Behind.{variable_apart}
-use Rattle.ss_logic_stores.specs.declared.Sort.TheVariants as sort
-use Rattle.ss_logic_stores.specs.Values.{reference, class_name, Table, whole, thing, as_thing, Structure}
-use Rattle.ss_logic_stores.specs.Terms.{NewArray, Length, Term, app}
+use Rattle.ss_logic.specs.declared.Sort.TheVariants as sort
+use Rattle.ss_logic.specs.Values.{reference, class_name, Table, whole, thing, as_thing, Structure}
+use Rattle.ss_logic.specs.Terms.{NewArray, Length, Term, app}
 use Rattle.ss_logic_rules.specs.Shapes.{number, class_term, next_of, equal, at_most}
 use Rattle.ss_logic_rules.specs.Shapes as shape
 use Rattle.ss_logic_express.specs.Express.{element_sort}

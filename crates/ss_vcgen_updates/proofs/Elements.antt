@@ -24,10 +24,10 @@ use Rattle.ss_machine_typed.proofs.Outcomes.{where_typed_some, is_int_type}
 use Rattle.ss_machine_typed.proofs.Slots.{of_array}
 use Rattle.ss_machine_typed.proofs.Sound.{object_typed, value_sound}
 use Rattle.ss_machine_good.proofs.Steps.{code_typed, fitting_some}
-use Rattle.ss_logic_stores.specs.declared.Sort.TheVariants as sort
-use Rattle.ss_logic_stores.specs.Values.{Table}
-use Rattle.ss_logic_stores.specs.Terms.{Put, Term, app, sort_of_type}
-use Rattle.ss_logic_stores.specs.Formulas.{neg}
+use Rattle.ss_logic.specs.declared.Sort.TheVariants as sort
+use Rattle.ss_logic.specs.Values.{Table}
+use Rattle.ss_logic.specs.Terms.{Put, Term, app, sort_of_type}
+use Rattle.ss_logic.specs.Formulas.{neg}
 use Rattle.ss_logic_rules.specs.Shapes.{committed}
 use Rattle.ss_logic_express.specs.Express.{element_sort}
 use Rattle.ss_logic_means.specs.Means.{standing}

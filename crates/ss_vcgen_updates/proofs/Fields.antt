@@ -31,10 +31,10 @@ use Rattle.ss_machine_typed.proofs.Outcomes.{ok_same}
 use Rattle.ss_machine_typed.proofs.Slots.{all_at}
 use Rattle.ss_machine_typed.proofs.Sound.{class_of_type}
 use Rattle.ss_machine_good.specs.Known.{IsNotNull, IsTrueOf}
-use Rattle.ss_logic_stores.specs.declared.Sort.TheVariants as sort
-use Rattle.ss_logic_stores.specs.Values.{Table, Structure}
-use Rattle.ss_logic_stores.specs.Terms.{Set, Capture, Join, Term, app, sort_of_type, field_sort, has_field}
-use Rattle.ss_logic_stores.proofs.Truth.{same_sort_refl}
+use Rattle.ss_logic.specs.declared.Sort.TheVariants as sort
+use Rattle.ss_logic.specs.Values.{Table, Structure}
+use Rattle.ss_logic.specs.Terms.{Set, Capture, Join, Term, app, sort_of_type, field_sort, has_field}
+use Rattle.ss_logic.proofs.Truth.{same_sort_refl}
 use Rattle.ss_logic_means.specs.Means.{standing}
 use Rattle.ss_logic_means.specs.Sorts.{HasSort}
 use Rattle.ss_vcgen_heaps.specs.Positions.{Counters, Position, Walk}

@@ -16,8 +16,8 @@ use Rattle.ss_store_rules.specs.Typed.{invariant_types, is_invariant}
 use Rattle.ss_store_rules.specs.Values as run
 use Rattle.ss_machine_typed.specs.Settings.{IsGoodSetting}
 use Rattle.ss_machine_typed.proofs.Older.{older_self}
-use Rattle.ss_logic_stores.specs.Values.{reference, thing, Value, Structure}
-use Rattle.ss_logic_stores.specs.Terms.{Term}
+use Rattle.ss_logic.specs.Values.{reference, thing, Value, Structure}
+use Rattle.ss_logic.specs.Terms.{Term}
 use Rattle.ss_logic_express.specs.Express.{One, Scene, local_meant, holds_formula}
 use Rattle.ss_logic_express.specs.Invariants.{invariant_scene}
 use Rattle.ss_logic_means.specs.Means.{standing, Denotes, Means}

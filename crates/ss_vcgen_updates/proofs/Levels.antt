@@ -20,10 +20,10 @@ use Rattle.ss_store_rules.specs.Values.{setting, local_value}
 use Rattle.ss_machine_typed.proofs.Sound.{class_of_type}
 use Rattle.ss_machine_good.specs.Known.{IsTrueOf}
 use Rattle.ss_machine_good.proofs.Steps.{fits_typed}
-use Rattle.ss_logic_stores.specs.declared.Sort.TheVariants as sort
-use Rattle.ss_logic_stores.specs.Values.{Table}
-use Rattle.ss_logic_stores.specs.Terms.{Unpack, Pack, Term, app}
-use Rattle.ss_logic_stores.specs.Formulas.{neg}
+use Rattle.ss_logic.specs.declared.Sort.TheVariants as sort
+use Rattle.ss_logic.specs.Values.{Table}
+use Rattle.ss_logic.specs.Terms.{Unpack, Pack, Term, app}
+use Rattle.ss_logic.specs.Formulas.{neg}
 use Rattle.ss_logic_rules.specs.Shapes.{class_term, level_of, equal, committed}
 use Rattle.ss_logic_express.specs.Express.{element_sort}
 use Rattle.ss_logic_express.specs.Invariants.{invariant_scene}

@@ -16,8 +16,8 @@ use Rattle.ss_store_rules.specs.NonNull.{is_non_null_type}
 use Rattle.ss_store_rules.specs.Values.{local_value}
 use Rattle.ss_machine_typed.proofs.Sound.{object_typed}
 use Rattle.ss_machine_good.specs.Known.{IsNotNull}
-use Rattle.ss_logic_stores.specs.Values.{null, Table, thing, Structure}
-use Rattle.ss_logic_stores.specs.Terms.{Term}
+use Rattle.ss_logic.specs.Values.{null, Table, thing, Structure}
+use Rattle.ss_logic.specs.Terms.{Term}
 use Rattle.ss_logic_rules.specs.Shapes.{null_term, differ}
 use Rattle.ss_logic_means.specs.Means.{standing}
 use Rattle.ss_logic_means.specs.Sorts.{HasSort}

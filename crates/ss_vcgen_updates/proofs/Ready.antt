@@ -24,9 +24,9 @@ use Rattle.ss_machine_good_constructors.specs.Checks.{fields_check}
 use Rattle.ss_machine_good_frames.specs.Frames.{HasGiven}
 use Rattle.ss_machine_good_frames.proofs.Behind.{constructor_instance}
 use Rattle.ss_machine_good_frames.proofs.Statements.{if_true, given_known}
-use Rattle.ss_logic_stores.specs.declared.Sort.TheVariants as sort
-use Rattle.ss_logic_stores.specs.Values.{Table}
-use Rattle.ss_logic_stores.specs.Terms.{MakeReady, Term, app}
+use Rattle.ss_logic.specs.declared.Sort.TheVariants as sort
+use Rattle.ss_logic.specs.Values.{Table}
+use Rattle.ss_logic.specs.Terms.{MakeReady, Term, app}
 use Rattle.ss_logic_express.specs.Express.{element_sort}
 use Rattle.ss_logic_means.specs.Means.{standing}
 use Rattle.ss_logic_means.specs.Sorts.{HasSort}

@@ -8,10 +8,10 @@ use Rattle.ss_store_rules.specs.Store.{Object}
 use Rattle.ss_store_rules.specs.Locals.{is_target}
 use Rattle.ss_machine_good.specs.Flows.{is_simple}
 use Rattle.ss_machine_good.specs.Known.{IsTrueOf}
-use Rattle.ss_logic_stores.specs.declared.Sort.TheVariants as sort
-use Rattle.ss_logic_stores.specs.Values.{Table, Value, Structure}
-use Rattle.ss_logic_stores.specs.Terms.{Symbol, Term, app, applied, value_of}
-use Rattle.ss_logic_stores.specs.Objects.{IsGoodStore, objects_of}
+use Rattle.ss_logic.specs.declared.Sort.TheVariants as sort
+use Rattle.ss_logic.specs.Values.{Table, Value, Structure}
+use Rattle.ss_logic.specs.Terms.{Symbol, Term, app, applied, value_of}
+use Rattle.ss_logic.specs.Objects.{IsGoodStore, objects_of}
 use Rattle.ss_logic_means.specs.Sorts.{HasSort}
 use Rattle.ss_vcgen_heaps.specs.Positions.{Counters, Position, Walk, good, assume, set_store}
 use Rattle.ss_vcgen_heaps.specs.Positions as positions

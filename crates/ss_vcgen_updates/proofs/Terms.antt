@@ -17,9 +17,9 @@ use Rattle.ss_store_rules.specs.Values as run
 use Rattle.ss_machine_typed.proofs.Sound.{value_sound}
 use Rattle.ss_machine_good.proofs.NonNull.{never_null}
 use Rattle.ss_machine_good.proofs.Steps.{code_typed}
-use Rattle.ss_logic_stores.specs.declared.Sort.{Sort}
-use Rattle.ss_logic_stores.specs.Values.{Table, Structure}
-use Rattle.ss_logic_stores.specs.Terms.{Term}
+use Rattle.ss_logic.specs.declared.Sort.{Sort}
+use Rattle.ss_logic.specs.Values.{Table, Structure}
+use Rattle.ss_logic.specs.Terms.{Term}
 use Rattle.ss_logic_rules.specs.Shapes.{null_term, differ}
 use Rattle.ss_logic_express.specs.Express.{choices, element_sort}
 use Rattle.ss_logic_means.specs.Means.{standing, Denotes}

@@ -21,10 +21,10 @@ use Rattle.ss_store_rules.proofs.Owners.{not_true}
 use Rattle.ss_machine_good.specs.Known.{IsNotNull}
 use Rattle.ss_machine_good.proofs.NonNull.{never_null}
 use Rattle.ss_machine_good.proofs.Steps.{value_fits, code_typed, fitting_some}
-use Rattle.ss_logic_stores.specs.declared.Sort.TheVariants as sort
-use Rattle.ss_logic_stores.specs.Values.{Table}
-use Rattle.ss_logic_stores.specs.Terms.{Set, app, field_sort}
-use Rattle.ss_logic_stores.specs.Formulas.{neg}
+use Rattle.ss_logic.specs.declared.Sort.TheVariants as sort
+use Rattle.ss_logic.specs.Values.{Table}
+use Rattle.ss_logic.specs.Terms.{Set, app, field_sort}
+use Rattle.ss_logic.specs.Formulas.{neg}
 use Rattle.ss_logic_rules.specs.Shapes.{class_term, level_of, sub_atom}
 use Rattle.ss_logic_express.specs.Express.{element_sort}
 use Rattle.ss_logic_means.specs.Means.{standing}

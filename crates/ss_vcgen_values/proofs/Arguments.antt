@@ -19,10 +19,10 @@ use Rattle.ss_store_rules.specs.Values.{setting}
 use Rattle.ss_machine_rules.specs.Frame.{is_kept}
 use Rattle.ss_machine_rules.specs.States.{locals_at_entry}
 use Rattle.ss_machine_typed.specs.Settings.{AreGoodArguments}
-use Rattle.ss_logic_stores.specs.Values.{Heap, Table, Structure}
-use Rattle.ss_logic_stores.specs.Terms.{Term}
-use Rattle.ss_logic_stores.specs.Formulas.{True}
-use Rattle.ss_logic_stores.specs.Objects.{objects_of}
+use Rattle.ss_logic.specs.Values.{Heap, Table, Structure}
+use Rattle.ss_logic.specs.Terms.{Term}
+use Rattle.ss_logic.specs.Formulas.{True}
+use Rattle.ss_logic.specs.Objects.{objects_of}
 use Rattle.ss_logic_express.specs.Express.{Meant, One, element_sort}
 use Rattle.ss_logic_frames.proofs.Kept.{kept_from}
 use Rattle.ss_logic_means.specs.Means.{standing}

@@ -18,7 +18,7 @@ use Rattle.ss_machine_good.specs.Flows.{is_simple}
 use Rattle.ss_machine_good.specs.Known.{IsTrueOf, AreAssigned, HasItsField}
 use Rattle.ss_machine_good_frames.specs.Later.{IsLater}
 use Rattle.ss_machine_good_frames.proofs.Behind.{constructor_instance, later_given}
-use Rattle.ss_logic_stores.specs.Values.{Table, Structure}
+use Rattle.ss_logic.specs.Values.{Table, Structure}
 use Rattle.ss_vcgen_heaps.specs.Positions.{Guard, Always, When, Never, Position, Walk}
 use Rattle.ss_vcgen_heaps.specs.Obligations.{behind}
 use Rattle.ss_sound_outcomes.specs.Points.{Activation, Point, scene, IsSound, IsBehind}

@@ -23,9 +23,9 @@ use Rattle.ss_machine_typed.specs.Settings.{IsGoodSetting}
 use Rattle.ss_machine_typed.proofs.Sound.{value_sound}
 use Rattle.ss_machine_good.specs.Known.{IsTrueOf, AreAssigned, WasReady}
 use Rattle.ss_machine_good.proofs.Steps.{code_typed}
-use Rattle.ss_logic_stores.specs.Values.{Heap, Table, Structure}
-use Rattle.ss_logic_stores.specs.Formulas.{Formula, Hold, AllTrue, formulas_from}
-use Rattle.ss_logic_stores.specs.Objects.{objects_of}
+use Rattle.ss_logic.specs.Values.{Heap, Table, Structure}
+use Rattle.ss_logic.specs.Formulas.{Formula, Hold, AllTrue, formulas_from}
+use Rattle.ss_logic.specs.Objects.{objects_of}
 use Rattle.ss_logic_express.specs.Express.{meant, choices, element_sort}
 use Rattle.ss_logic_means.specs.Means.{standing, Denotes, Means}
 use Rattle.ss_logic_means.specs.Scenes.{setting_of}

@@ -28,7 +28,7 @@ use Rattle.ss_machine_good.proofs.Puts.{put_true}
 use Rattle.ss_machine_good.proofs.Steps.{value_fits, code_typed, fitting_some}
 use Rattle.ss_machine_good.proofs.Tests.{learned_true}
 use Rattle.ss_machine_good_frames.proofs.Behind.{variable_apart}
-use Rattle.ss_logic_stores.specs.Values.{Table, sort_of_value, Structure}
+use Rattle.ss_logic.specs.Values.{Table, sort_of_value, Structure}
 use Rattle.ss_logic_express.specs.Express.{element_sort}
 use Rattle.ss_logic_means.specs.Means.{standing, Denotes}
 use Rattle.ss_vcgen_heaps.specs.Positions.{Position, Walk, meant_at, evaluate, holds_at, define, new_term, set_local, check, assume}

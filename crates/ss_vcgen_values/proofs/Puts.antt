@@ -10,8 +10,8 @@ use Rattle.ss_store_rules.specs.Locals.{local_types, argument_count, is_argument
 use Rattle.ss_store_rules.specs.NonNull.{Known}
 use Rattle.ss_store_rules.specs.Values.{local_value}
 use Rattle.ss_machine_rules.specs.States.{put}
-use Rattle.ss_logic_stores.specs.Values.{Table, Structure}
-use Rattle.ss_logic_stores.specs.Terms.{Term}
+use Rattle.ss_logic.specs.Values.{Table, Structure}
+use Rattle.ss_logic.specs.Terms.{Term}
 use Rattle.ss_logic_means.specs.Means.{standing}
 use Rattle.ss_logic_means.specs.Sorts.{HasSort}
 use Rattle.ss_vcgen_heaps.specs.Positions.{Position, Walk, set_local}

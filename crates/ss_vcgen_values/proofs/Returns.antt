@@ -26,7 +26,7 @@ use Rattle.ss_machine_typed.specs.Settings.{AreGoodArguments}
 use Rattle.ss_machine_typed.proofs.First.{entered_locals, put_locals}
 use Rattle.ss_machine_good.proofs.Calls.{one_ready}
 use Rattle.ss_machine_good.proofs.Steps.{value_fits}
-use Rattle.ss_logic_stores.specs.Values.{Table, Structure}
+use Rattle.ss_logic.specs.Values.{Table, Structure}
 use Rattle.ss_logic_express.specs.Express.{Meant, element_sort}
 use Rattle.ss_logic_means.specs.Sorts.{HasSort}
 use Rattle.ss_logic_spans.specs.Spans.{AreArguments}

@@ -10,16 +10,16 @@ use Rattle.ss_store_rules.specs.declared.Value.{Value as ObjectValue}
 use Rattle.ss_store_rules.specs.declared.Value.TheVariants as value
 use Rattle.ss_store_rules.specs.Good.{has_type, is_of_class, is_non_null, IsReady}
 use Rattle.ss_machine_good.specs.Known.{IsNotNull}
-use Rattle.ss_logic_stores.specs.Values.{Heap, Structure, thing, reference, store, as_thing, as_store, is_allocated}
-use Rattle.ss_logic_stores.specs.Terms.{Term, value_of}
-use Rattle.ss_logic_stores.specs.Formulas.{True, Hold, AllTrue, formulas_from}
-use Rattle.ss_logic_stores.specs.Objects.{objects_of, object_in}
+use Rattle.ss_logic.specs.Values.{Heap, Structure, thing, reference, store, as_thing, as_store, is_allocated}
+use Rattle.ss_logic.specs.Terms.{Term, value_of}
+use Rattle.ss_logic.specs.Formulas.{True, Hold, AllTrue, formulas_from}
+use Rattle.ss_logic.specs.Objects.{objects_of, object_in}
 use Rattle.ss_logic_rules.specs.Shapes.{ready}
 use Rattle.ss_logic_express.specs.Express.{and_of}
 use Rattle.ss_logic_means.specs.Means.{standing}
 use Rattle.ss_logic_means.proofs.Operations.{fits_means}
 use Rattle.ss_logic_means.proofs.Typed.{class_held}
-use Rattle.ss_logic_stores.proofs.Tabled.{there}
+use Rattle.ss_logic.proofs.Tabled.{there}
 use Rattle.ss_vcgen_heaps.specs.Contracts.{is_object, is_of_type}
 
 module _ (cs : List ClassTree) (m : Structure) (s t : Term) (h : Heap) (s_is : value_of cs m [] s ≡ store h) where

@@ -11,7 +11,7 @@ use Rattle.ss_store_rules.specs.Assigned.{assigned_flow, assigned_check}
 use Rattle.ss_store_rules.specs.NonNull.{Known, known_flow, null_check}
 use Rattle.ss_store_rules.specs.Formed.{IsFormedBody, IsFormed}
 use Rattle.ss_machine_good_constructors.specs.Checks.{fields_check}
-use Rattle.ss_logic_stores.specs.Values.{Table, Structure}
+use Rattle.ss_logic.specs.Values.{Table, Structure}
 use Rattle.ss_vcgen_heaps.specs.Positions.{Position, Walk}
 use Rattle.ss_vcgen_heaps.specs.Obligations.{behind, AreValid}
 use Rattle.ss_sound_outcomes.specs.Points.{Point, ArePassed}

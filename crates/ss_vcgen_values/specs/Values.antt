@@ -6,7 +6,7 @@ use Rattle.ss_store_rules.specs.Store.{Object}
 use Rattle.ss_store_rules.specs.Types.{code_type}
 use Rattle.ss_store_rules.specs.Values as run
 use Rattle.ss_machine_rules.specs.Steps.{values_of}
-use Rattle.ss_logic_stores.specs.Values.{Table, sort_of_value, Structure}
+use Rattle.ss_logic.specs.Values.{Table, sort_of_value, Structure}
 use Rattle.ss_logic_express.specs.Express.{choices, element_sort}
 use Rattle.ss_logic_means.specs.Means.{standing, Denotes}
 use Rattle.ss_logic_means.specs.Sorts.{HaveSort}

@@ -3,11 +3,11 @@ use Rattle.std.proofs.Common.{◌≡◌, ℕ, zero, suc, ◌<◌, List, [], ◌�
 use Rattle.std.specs.Prelude.{if◌then◌else◌, IfOk}
 use Rattle.std.proofs.lemmas.List.{map_push}
 use Rattle.ss_core.specs.declared.names.Kind.TheVariants as kind
-use Rattle.ss_logic_stores.specs.Terms.{Bound}
+use Rattle.ss_logic.specs.Terms.{Bound}
 use Rattle.ss_logic_express.specs.Express as spec
-use Rattle.ss_terms_stores.specs.declared.forms.TermId.{TermId}
-use Rattle.ss_terms_stores.specs.Forms.{Forms, term_at, HasTerm, HasTerms, HasFormula, IsGrown}
-use Rattle.ss_terms_stores.proofs.Grown.{HasFormula-grown}
+use Rattle.ss_terms.specs.declared.forms.TermId.{TermId}
+use Rattle.ss_terms.specs.Forms.{Forms, term_at, HasTerm, HasTerms, HasFormula, IsGrown}
+use Rattle.ss_terms.proofs.Grown.{HasFormula-grown}
 use Rattle.ss_vcgen_walk.specs.declared.parts.Part.{Part}
 use Rattle.ss_vcgen_express.specs.declared.scene.Scene.{Scene}
 use Rattle.ss_vcgen_express.specs.Scenes.{local_at, scene_at, state_of, HasScene}

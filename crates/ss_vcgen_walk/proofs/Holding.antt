@@ -6,11 +6,11 @@ use Rattle.ss_core.specs.declared.expr.Expr.{Expr}
 use Rattle.ss_core.specs.Tree.{ExprTree}
 use Rattle.ss_core.specs.View.{expr, exprs}
 use Rattle.ss_store_rules.specs.NonNull.{Site, Known}
-use Rattle.ss_logic_stores.specs.Formulas.{Formula}
+use Rattle.ss_logic.specs.Formulas.{Formula}
 use Rattle.ss_logic_express.specs.Express as spec
-use Rattle.ss_terms_stores.specs.declared.forms.FormulaId.{FormulaId}
-use Rattle.ss_terms_stores.specs.Forms.{Forms, formula_at, formulas_at, HasFormulas, IsGrown}
-use Rattle.ss_terms_stores.proofs.Grown.{IsGrown-then, HasFormulas-grown}
+use Rattle.ss_terms.specs.declared.forms.FormulaId.{FormulaId}
+use Rattle.ss_terms.specs.Forms.{Forms, formula_at, formulas_at, HasFormulas, IsGrown}
+use Rattle.ss_terms.proofs.Grown.{IsGrown-then, HasFormulas-grown}
 use Rattle.ss_vcgen_express.specs.declared.meant.Meant.{Meant}
 use Rattle.ss_vcgen_express.specs.declared.scene.Scene.{Scene}
 use Rattle.ss_vcgen_express.specs.Marked.{Marked, marked, formulas_of}

@@ -16,11 +16,11 @@ use Rattle.ss_core.specs.View.{classes, word_tree, owners_tree}
 use Rattle.ss_store_rules.specs.NonNull.{is_never_null, known_right}
 use Rattle.ss_store_rules.specs.NonNull as rules
 use Rattle.ss_store_rules.specs.Types.{type_of, is_bool, element_of}
-use Rattle.ss_logic_stores.specs.declared.Sort.{Sort}
+use Rattle.ss_logic.specs.declared.Sort.{Sort}
 use Rattle.ss_logic_express.specs.Express as spec
-use Rattle.ss_terms_stores.specs.declared.forms.FormulaId.{FormulaId}
-use Rattle.ss_terms_stores.specs.Forms.{Forms, formulas_at, IsGrown}
-use Rattle.ss_terms_stores.proofs.Grown.{IsGrown-then}
+use Rattle.ss_terms.specs.declared.forms.FormulaId.{FormulaId}
+use Rattle.ss_terms.specs.Forms.{Forms, formulas_at, IsGrown}
+use Rattle.ss_terms.proofs.Grown.{IsGrown-then}
 use Rattle.ss_vcgen_known.specs.declared.tests.Tests.{Tests}
 use Rattle.ss_vcgen_known.specs.declared.tests.Tests.TheVariants as tests
 use Rattle.ss_vcgen_known.specs.declared.tests.Tests.TheFolds.{fold-roll-Tests}

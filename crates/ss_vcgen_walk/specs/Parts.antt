@@ -1,6 +1,6 @@
 -- What has to be so for an expression to have a value, by numbers of a bank.
 use Rattle.std.specs.Prelude.{◌≡◌, List, [], ◌∷◌, map}
-use Rattle.ss_terms_stores.specs.Forms.{Forms, formula_at, HasFormula, IsGrown}
+use Rattle.ss_terms.specs.Forms.{Forms, formula_at, HasFormula, IsGrown}
 use Rattle.ss_vcgen_express.specs.Marked.{Marked}
 use Rattle.ss_vcgen_walk.specs.declared.parts.Part.{Part}
 

@@ -4,8 +4,8 @@ use Rattle.ss_core.specs.Tree.{ExprTree}
 use Rattle.ss_core.specs.View as view
 use Rattle.ss_core.specs.declared.names.Ty.TheVariants as ty
 use Rattle.ss_logic_express.specs.Express as spec
-use Rattle.ss_terms_stores.specs.declared.forms.TermId.{TermId}
-use Rattle.ss_terms_stores.specs.Forms.{Forms, IsGrown}
+use Rattle.ss_terms.specs.declared.forms.TermId.{TermId}
+use Rattle.ss_terms.specs.Forms.{Forms, IsGrown}
 use Rattle.ss_vcgen_express.specs.declared.meant.Meant.{Meant}
 use Rattle.ss_vcgen_express.specs.declared.scene.Scene.{Scene}
 use Rattle.ss_vcgen_express.specs.Marked.{Marked, formulas_of}

@@ -2,7 +2,7 @@
 
 ghost use Rattle.std.specs.Prelude.{[], ◌∷◌, ◌++◌, ◌≡◌, OnOk};
 ghost use Rattle.ss_logic_express.specs.Express.{over, over_two};
-ghost use Rattle.ss_terms_stores.specs.Forms.{term_at, IsGrown};
+ghost use Rattle.ss_terms.specs.Forms.{term_at, IsGrown};
 ghost use Rattle.ss_vcgen_express.specs.Marked.{marked_part};
 ghost use Rattle.ss_vcgen_express.specs.Numbers.{meant_at, HasMeant};
 ghost use Rattle.ss_vcgen_express.specs.Sayings.{related, said_so, HasRelation, HasSaying};
@@ -12,7 +12,7 @@ ghost use Rattle.ss_vcgen_walk.specs.Parts.{parts_at, HasParts, AreParts};
 
 use crate::parts::Part;
 use ss_core::{Kind, Place};
-use ss_terms_stores::{Bank, FormulaId};
+use ss_terms::{Bank, FormulaId};
 use ss_vcgen_express::{Meant, Relation, Saying, Scene, over, over_two};
 use std::alloc::{AllocError, Global};
 

@@ -3,7 +3,7 @@
 ghost use Rattle.std.specs.Prelude.{◌≡◌, [], ◌∷◌, ◌++◌, map, IfOk};
 ghost use Rattle.ss_core.specs.View as core;
 ghost use Rattle.ss_logic_express.specs.Express as spec;
-ghost use Rattle.ss_terms_stores.specs.Forms.{IsGrown};
+ghost use Rattle.ss_terms.specs.Forms.{IsGrown};
 ghost use Rattle.ss_vcgen_express.specs.Marked.{formulas_of};
 ghost use Rattle.ss_vcgen_express.specs.Numbers.{meant_at, HasMeant, IsFormula, AreFormulas, IsMeant};
 ghost use Rattle.ss_vcgen_express.specs.Scenes.{scene_at, HasScene};
@@ -16,7 +16,7 @@ use crate::sight::Sight;
 use crate::walk::express;
 use ss_bit_set::BitSet;
 use ss_core::Expr;
-use ss_terms_stores::{Bank, FormulaId};
+use ss_terms::{Bank, FormulaId};
 use ss_vcgen_express::{Meant, Saying, Scene, all_with, over, said};
 use ss_vcgen_known::{Fields, Known, Site, Tests};
 use std::alloc::{AllocError, Global};

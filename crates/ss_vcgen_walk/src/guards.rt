@@ -1,9 +1,9 @@
 // Parts that are asked under a condition, or for each value of a bound name.
 
 ghost use Rattle.std.specs.Prelude.{[], ◌++◌, IfOk, OnOk, map};
-ghost use Rattle.ss_logic_stores.specs.Formulas.{neg};
+ghost use Rattle.ss_logic.specs.Formulas.{neg};
 ghost use Rattle.ss_logic_express.specs.Express.{said};
-ghost use Rattle.ss_terms_stores.specs.Forms.{formula_at, formulas_at, HasFormula, HasFormulas, IsGrown};
+ghost use Rattle.ss_terms.specs.Forms.{formula_at, formulas_at, HasFormula, HasFormulas, IsGrown};
 ghost use Rattle.ss_vcgen_express.specs.Marked.{marked_right, marked_under, with_marked};
 ghost use Rattle.ss_vcgen_express.specs.Numbers.{meant_at, HasMeant, IsFormula};
 ghost use Rattle.ss_vcgen_express.specs.Scenes as scenes;
@@ -11,7 +11,7 @@ ghost use Rattle.ss_vcgen_walk.specs.Parts.{parts_at, HasParts, AreParts};
 
 use crate::parts::Part;
 use ss_core::Operator;
-use ss_terms_stores::{Bank, FormulaId};
+use ss_terms::{Bank, FormulaId};
 use ss_vcgen_express::{Meant, for_each, implies, said};
 use std::alloc::{AllocError, Global};
 

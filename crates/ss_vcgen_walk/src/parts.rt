@@ -1,7 +1,7 @@
 // What has to be so for an expression to have a value.
 
 use ss_core::{Kind, Place};
-use ss_terms_stores::FormulaId;
+use ss_terms::FormulaId;
 
 /// What has to be so, and the check that fails where it isn't. One that isn't checked holds by the types.
 #[derive(Clone, Copy)]

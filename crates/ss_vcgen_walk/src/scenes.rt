@@ -2,12 +2,12 @@
 
 ghost use Rattle.std.specs.Prelude.{◌≡◌, ◌+◌, IfOk};
 ghost use Rattle.ss_logic_express.specs.Express as spec;
-ghost use Rattle.ss_terms_stores.specs.Forms.{Forms, IsGrown};
+ghost use Rattle.ss_terms.specs.Forms.{Forms, IsGrown};
 ghost use Rattle.ss_vcgen_express.specs.Scenes.{scene_at, HasScene};
 ghost use Rattle.ss_vcgen_walk.specs.Reading.{IsScene, IsWithName};
 
 use ss_core::Ty;
-use ss_terms_stores::{Bank, Term, TermId};
+use ss_terms::{Bank, Term, TermId};
 use ss_vcgen_express::Scene;
 use std::alloc::{AllocError, Global};
 

@@ -3,11 +3,11 @@
 ghost use Rattle.std.specs.Prelude.{pos, true, [], ◌∷◌, ◌++◌, IfOk, OnOk};
 ghost use Rattle.ss_core.specs.View.{word_tree};
 ghost use Rattle.ss_logic_rules.specs.Shapes.{number};
-ghost use Rattle.ss_logic_stores.specs.Formulas.{neg};
-ghost use Rattle.ss_logic_stores.specs.Terms.{app};
-ghost use Rattle.ss_logic_stores.specs.Terms as term;
+ghost use Rattle.ss_logic.specs.Formulas.{neg};
+ghost use Rattle.ss_logic.specs.Terms.{app};
+ghost use Rattle.ss_logic.specs.Terms as term;
 ghost use Rattle.ss_logic_express.specs.Express as spec;
-ghost use Rattle.ss_terms_stores.specs.Forms.{IsGrown};
+ghost use Rattle.ss_terms.specs.Forms.{IsGrown};
 ghost use Rattle.ss_vcgen_express.specs.Marked.{marked_part};
 ghost use Rattle.ss_core.specs.declared.names.Kind.TheVariants as kind;
 ghost use Rattle.ss_vcgen_express.specs.Numbers.{meant_at, HasMeant, IsMeant, IsTerm};
@@ -21,7 +21,7 @@ use crate::asks::{Check, ask, ask_not_null, ask_readable};
 use crate::guards::denied;
 use crate::parts::Part;
 use ss_core::{ClassId, FieldId, Kind, Place, StateWord};
-use ss_terms_stores::{Bank, Symbol, TermId};
+use ss_terms::{Bank, Symbol, TermId};
 use ss_vcgen_express::{
     Function, Meant, Relation, Saying, Scene, as_class, mapped, over, word_said,
 };

@@ -3,11 +3,11 @@
 ghost use Rattle.std.specs.Prelude.{true, [], ◌∷◌, ◌++◌, IfOk, OnOk};
 ghost use Rattle.ss_core.specs.View.{owners_tree};
 ghost use Rattle.ss_core.specs.declared.names.Kind.TheVariants as kind;
-ghost use Rattle.ss_logic_stores.specs.Formulas.{neg};
-ghost use Rattle.ss_logic_stores.specs.Terms.{app};
-ghost use Rattle.ss_logic_stores.specs.Terms as term;
+ghost use Rattle.ss_logic.specs.Formulas.{neg};
+ghost use Rattle.ss_logic.specs.Terms.{app};
+ghost use Rattle.ss_logic.specs.Terms as term;
 ghost use Rattle.ss_logic_express.specs.Express as spec;
-ghost use Rattle.ss_terms_stores.specs.Forms.{symbol_of, IsGrown};
+ghost use Rattle.ss_terms.specs.Forms.{symbol_of, IsGrown};
 ghost use Rattle.ss_vcgen_express.specs.Marked.{marked_part, marked_result, marked_operation};
 ghost use Rattle.ss_vcgen_express.specs.Numbers.{meant_at, HasMeant, IsMeant};
 ghost use Rattle.ss_vcgen_express.specs.Scenes.{scene_at, HasScene};
@@ -20,8 +20,8 @@ use crate::asks::{Check, ask, ask_readable, ask_two};
 use crate::guards::{add_all, add_right, add_where};
 use crate::parts::Part;
 use ss_core::{Kind, Operator, OwnerTest, Place};
-use ss_logic_stores::Sort;
-use ss_terms_stores::{Bank, Symbol};
+use ss_logic::Sort;
+use ss_terms::{Bank, Symbol};
 use ss_vcgen_express::{
     Function, Meant, Relation, Saying, Scene, implies, operated, owners_said, paired, said,
     same_truths,

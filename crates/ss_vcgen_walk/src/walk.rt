@@ -10,7 +10,7 @@ ghost use Rattle.ss_logic_rules.specs.Shapes.{number, null_term};
 ghost use Rattle.ss_logic_express.specs.Express as spec;
 ghost use Rattle.ss_store_rules.specs.NonNull as rules;
 ghost use Rattle.ss_store_rules.specs.Types as types;
-ghost use Rattle.ss_terms_stores.specs.Forms.{formulas_at, HasFormulas, IsGrown};
+ghost use Rattle.ss_terms.specs.Forms.{formulas_at, HasFormulas, IsGrown};
 ghost use Rattle.ss_vcgen_express.specs.Marked.{marked, marked_part, with_marked, in_range};
 ghost use Rattle.ss_vcgen_express.specs.Numbers.{meant_at, HasMeant, IsMeant};
 ghost use Rattle.ss_vcgen_express.specs.Scenes as scenes;
@@ -37,8 +37,8 @@ use ss_core::{
     ClassId, DefaultCondition, Expr, Kind, Link, Operator, OwnerTest, Place, Quantifier, StateWord,
     Step, Ty,
 };
-use ss_logic_stores::Sort;
-use ss_terms_stores::{Bank, FormulaId, Symbol};
+use ss_logic::Sort;
+use ss_terms::{Bank, FormulaId, Symbol};
 use ss_vcgen_defaults::default_said;
 use ss_vcgen_express::{Meant, Saying, Scene, local_term, out_of_range, quantified, said};
 use ss_vcgen_known::{

@@ -1,10 +1,10 @@
-use Rattle.std.proofs.Common.{map}
-use Rattle.ss_logic.proofs.Bad.{bad-not_derived}
+use Rattle.ss_core.specs.View.{classes}
+use Rattle.ss_logic_derivations.proofs.Bad.{bad-not_derived}
 use Rattle.ss_terms.specs.Forms.{formula_at, formulas_at}
-use Rattle.ss_terms.specs.Lines.{line_of}
+use Rattle.ss_deriv.specs.Lines.{lines_of}
 use Rattle.ss_check.proofs.steps.check.Goals as goal
 
 pub returns-clause-refused : goal.returns-clause-refused
 returns-clause-refused c = λ n e d.
-    bad-not_derived (formulas_at c.args.bank.now c.args.premises.now) (formula_at c.args.bank.now c.args.goal) (map (line_of c.args.bank.now) c.args.derivation.now.lines.items) n
-    (rw c.deref.ensures.value at (c.check_lines.ensures.first n e)) d
+    bad-not_derived (classes c.args.classes.now) (formulas_at c.args.bank.now c.args.premises.now) (formula_at c.args.bank.now c.args.goal) (lines_of c.args.bank.now c.args.derivation.now) n
+    (rw c.lines.ensures at (c.check_lines.ensures.first n e)) d

@@ -1,4 +1,4 @@
-use Rattle.ss_terms_stores.specs.Forms.{symbol_of}
+use Rattle.ss_terms.specs.Forms.{symbol_of}
 use Rattle.ss_check_steps.proofs.Nodes.{no_value}
 use Rattle.ss_check_steps.proofs.literals.is_value_form.Goals as goal
 

@@ -1,5 +1,5 @@
 use Rattle.std.proofs.Common.{arith}
-use Rattle.ss_terms_stores.specs.Forms.{formulas_at}
+use Rattle.ss_terms.specs.Forms.{formulas_at}
 use Rattle.ss_check_steps.proofs.Exchanged.{none_left}
 use Rattle.ss_check_steps.proofs.reads.+are_exchanged_at.Goals as goal
 

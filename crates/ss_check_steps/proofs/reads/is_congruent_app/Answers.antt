@@ -1,5 +1,5 @@
 use Rattle.std.proofs.Common.{arith, length}
-use Rattle.ss_terms_stores.proofs.Trees.{AreTermsBelow-more}
+use Rattle.ss_terms.proofs.Trees.{AreTermsBelow-more}
 use Rattle.ss_check_steps.proofs.reads.is_congruent_app.Goals as goal
 
 pub is_congruent_apps-requires-clause-right : goal.is_congruent_apps-requires-clause-right

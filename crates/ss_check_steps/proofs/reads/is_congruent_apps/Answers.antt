@@ -1,5 +1,5 @@
 use Rattle.std.proofs.Common.{sym, ◌∙◌}
-use Rattle.ss_terms_stores.specs.Forms.{formulas_at, symbol_of}
+use Rattle.ss_terms.specs.Forms.{formulas_at, symbol_of}
 use Rattle.ss_check_steps.proofs.Exchanged.{congruence}
 use Rattle.ss_check_steps.proofs.reads.is_congruent_apps.Goals as goal
 

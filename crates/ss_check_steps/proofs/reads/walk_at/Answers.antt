@@ -1,5 +1,5 @@
 use Rattle.std.proofs.Common.{sym, ◌∙◌}
-use Rattle.ss_terms_stores.specs.Forms.{term_at}
+use Rattle.ss_terms.specs.Forms.{term_at}
 use Rattle.ss_check_steps.proofs.Numbers.{walk_unknown, walk_stuck, walk_more, HasFormulas-get}
 use Rattle.ss_check_steps.proofs.reads.walk_at.Goals as goal
 

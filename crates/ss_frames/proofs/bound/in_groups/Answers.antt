@@ -1,5 +1,5 @@
 use Rattle.std.proofs.Common.{◌∙◌, refl, get_or}
-use Rattle.ss_terms_stores.proofs.Grown.{IsGrown-then, HasTerm-grown}
+use Rattle.ss_terms.proofs.Grown.{IsGrown-then, HasTerm-grown}
 use Rattle.ss_terms_puts.proofs.Putting.{AreTermsBelow-get}
 use Rattle.ss_logic_frames.specs.Frames.{the_object}
 use Rattle.ss_frames.specs.Calls.{group_at}

@@ -1,6 +1,6 @@
 use Rattle.std.proofs.Common.{[], ◌∷◌, ◌∙◌, true, false}
-use Rattle.ss_logic_stores.specs.Formulas.{Allocated, Committed}
-use Rattle.ss_terms_stores.proofs.Grown.{IsGrown-refl}
+use Rattle.ss_logic.specs.Formulas.{Allocated, Committed}
+use Rattle.ss_terms.proofs.Grown.{IsGrown-refl}
 use Rattle.ss_frames.proofs.Growing.{IsMade-grown, AreMade-then, AreMade-one}
 use Rattle.ss_frames.proofs.Making.{list_made, atom_says}
 use Rattle.ss_frames.proofs.bound.new_or_committed.Goals as goal

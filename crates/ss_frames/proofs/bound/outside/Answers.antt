@@ -2,9 +2,9 @@ use Rattle.std.proofs.Common.{◌<◌, ◌≤◌, ◌∙◌, length, get_or, ap,
 use Rattle.std.proofs.lemmas.List.{take_all}
 use Rattle.ss_logic_rules.specs.Shapes.{equal}
 use Rattle.ss_logic_frames.specs.Frames.{the_object}
-use Rattle.ss_terms_stores.specs.declared.forms.TermId.{TermId}
-use Rattle.ss_terms_stores.specs.Forms.{term_at, HasTerms}
-use Rattle.ss_terms_stores.proofs.Grown.{IsGrown-then, HasTerm-grown}
+use Rattle.ss_terms.specs.declared.forms.TermId.{TermId}
+use Rattle.ss_terms.specs.Forms.{term_at, HasTerms}
+use Rattle.ss_terms.proofs.Grown.{IsGrown-then, HasTerm-grown}
 use Rattle.ss_terms_puts.proofs.Putting.{AreTermsBelow-get}
 use Rattle.ss_frames.proofs.Growing.{IsTerm-grown, next_made, map-map}
 use Rattle.ss_frames.proofs.bound.outside.Goals as goal

@@ -1,4 +1,4 @@
-use Rattle.ss_terms_stores.proofs.Grown.{HasFormulas-grown}
+use Rattle.ss_terms.proofs.Grown.{HasFormulas-grown}
 use Rattle.ss_frames.proofs.Making.{list_made, changed_made}
 use Rattle.ss_frames.proofs.frame.not_changed.Goals as goal
 

@@ -1,6 +1,6 @@
 use Rattle.std.proofs.Common.{[], ◌∷◌, ◌∙◌, ◌++◌, ap}
-use Rattle.ss_logic_stores.specs.declared.Sort.TheVariants as sort
-use Rattle.ss_logic_stores.specs.Formulas.{Forall}
+use Rattle.ss_logic.specs.declared.Sort.TheVariants as sort
+use Rattle.ss_logic.specs.Formulas.{Forall}
 use Rattle.ss_logic_rules.specs.Shapes.{equal, level_of, type_of}
 use Rattle.ss_logic_frames.specs.Frames.{the_object}
 use Rattle.ss_terms_puts.proofs.Putting.{formula_equal}

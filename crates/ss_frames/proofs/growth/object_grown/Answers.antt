@@ -1,5 +1,5 @@
 use Rattle.std.proofs.Common.{ap}
-use Rattle.ss_terms_stores.specs.Forms.{term_at}
+use Rattle.ss_terms.specs.Forms.{term_at}
 use Rattle.ss_terms_puts.proofs.Putting.{formula_equal}
 use Rattle.ss_frames.proofs.Growing.{has_grown}
 use Rattle.ss_frames.proofs.growth.object_grown.Goals as goal

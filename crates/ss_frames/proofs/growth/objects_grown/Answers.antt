@@ -1,7 +1,7 @@
 use Rattle.std.proofs.Common.{[], ◌∷◌, ◌∙◌, ap, refl, false}
-use Rattle.ss_logic_stores.specs.declared.Sort.TheVariants as sort
-use Rattle.ss_logic_stores.specs.Formulas.{Forall, Allocated}
-use Rattle.ss_terms_stores.proofs.Grown.{HasTerm-grown, HasFormula-grown}
+use Rattle.ss_logic.specs.declared.Sort.TheVariants as sort
+use Rattle.ss_logic.specs.Formulas.{Forall, Allocated}
+use Rattle.ss_terms.proofs.Grown.{HasTerm-grown, HasFormula-grown}
 use Rattle.ss_terms_puts.proofs.Putting.{formula_equal}
 use Rattle.ss_frames.proofs.Growing.{IsMade-grown, AreMade-one, unless_says}
 use Rattle.ss_frames.proofs.Making.{atom_says}

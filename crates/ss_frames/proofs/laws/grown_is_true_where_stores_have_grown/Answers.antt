@@ -1,5 +1,5 @@
 use Rattle.std.proofs.Common.{[], sym, subst}
-use Rattle.ss_logic_stores.specs.Formulas.{True}
+use Rattle.ss_logic.specs.Formulas.{True}
 use Rattle.ss_logic_frames.proofs.Kept.{grown_from, grown_to}
 use Rattle.ss_frames.proofs.laws.grown_is_true_where_stores_have_grown.Goals as goal
 

@@ -1,5 +1,5 @@
 use Rattle.std.proofs.Common.{◌≡◌, map, take}
-use Rattle.ss_terms_stores.specs.Forms.{IsGrown}
+use Rattle.ss_terms.specs.Forms.{IsGrown}
 use Rattle.ss_frames.specs.Calls.{AreMarks, term_of_mark}
 use Rattle.ss_frames.proofs.marks.marks.Given as goal
 

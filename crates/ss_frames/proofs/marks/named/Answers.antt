@@ -1,7 +1,7 @@
 use Rattle.std.proofs.Common.{ap, sym, subst}
-use Rattle.ss_logic_stores.specs.Formulas.{And, formulas_from}
-use Rattle.ss_terms_stores.specs.Forms.{HasFormula, HasTerm}
-use Rattle.ss_terms_stores.proofs.Grown.{HasTerm-grown}
+use Rattle.ss_logic.specs.Formulas.{And, formulas_from}
+use Rattle.ss_terms.specs.Forms.{HasFormula, HasTerm}
+use Rattle.ss_terms.proofs.Grown.{HasTerm-grown}
 use Rattle.ss_terms_puts.proofs.Putting.{formula_equal}
 use Rattle.ss_frames.specs.Calls.{object_of}
 use Rattle.ss_frames.proofs.Making.{named_made}

@@ -1,8 +1,8 @@
 use Rattle.std.proofs.Common.{◌∙◌, [], ◌∷◌, ◌++◌, ap}
 use Rattle.ss_core.specs.View as view
-use Rattle.ss_logic_stores.specs.Formulas.{And, formulas_from}
+use Rattle.ss_logic.specs.Formulas.{And, formulas_from}
 use Rattle.ss_logic_frames.specs.Frames.{the_object}
-use Rattle.ss_terms_stores.proofs.Grown.{IsGrown-then}
+use Rattle.ss_terms.proofs.Grown.{IsGrown-then}
 use Rattle.ss_terms_puts.proofs.Putting.{formula_equal}
 use Rattle.ss_frames.proofs.Growing.{IsTerm-grown, HasCall-grown, AreNamed-grown}
 use Rattle.ss_frames.proofs.Making.{object_made}

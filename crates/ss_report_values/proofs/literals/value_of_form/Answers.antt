@@ -1,4 +1,4 @@
-use Rattle.ss_terms_stores.specs.Forms.{symbol_of}
+use Rattle.ss_terms.specs.Forms.{symbol_of}
 use Rattle.ss_report_values.proofs.Classes.{no_value}
 use Rattle.ss_report_values.proofs.literals.value_of_form.Goals as goal
 

@@ -1,6 +1,6 @@
 use Rattle.ss_core.specs.View as view
 use Rattle.ss_logic_rules.specs.Rules.{instance_of}
-use Rattle.ss_terms_stores.specs.Forms.{terms_at}
+use Rattle.ss_terms.specs.Forms.{terms_at}
 use Rattle.ss_rules.proofs.Limits.{by_number}
 use Rattle.ss_rules.proofs.rules.instance.Goals as goal
 

@@ -1,6 +1,6 @@
-use Rattle.ss_terms_stores.specs.declared.forms.TermId.{TermId}
-use Rattle.ss_terms_stores.specs.Forms.{term_at, terms_at}
-use Rattle.ss_terms_stores.proofs.Parts.{AreTermsBelow-get}
+use Rattle.ss_terms.specs.declared.forms.TermId.{TermId}
+use Rattle.ss_terms.specs.Forms.{term_at, terms_at}
+use Rattle.ss_terms.proofs.Parts.{AreTermsBelow-get}
 use Rattle.ss_rules_asked.specs.Numbers.{asked_in}
 use Rattle.ss_rules_asked.specs.Sentences.{among}
 use Rattle.ss_rules_asked.proofs.Asking.{asked_next}

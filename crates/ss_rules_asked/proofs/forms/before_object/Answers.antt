@@ -1,5 +1,5 @@
-use Rattle.ss_logic_stores.specs.Terms.{terms_from}
-use Rattle.ss_terms_stores.specs.Forms.{terms_at}
+use Rattle.ss_logic.specs.Terms.{terms_from}
+use Rattle.ss_terms.specs.Forms.{terms_at}
 use Rattle.ss_rules_asked.proofs.Numbering.{before_object}
 use Rattle.ss_rules_asked.proofs.forms.before_object.Goals as goal
 

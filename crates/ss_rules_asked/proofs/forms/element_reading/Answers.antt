@@ -1,5 +1,5 @@
 use Rattle.std.proofs.Common.{sym, arith}
-use Rattle.ss_terms_stores.specs.Forms.{term_at}
+use Rattle.ss_terms.specs.Forms.{term_at}
 use Rattle.ss_rules_asked.proofs.Numbering.{element-long, element-short}
 use Rattle.ss_rules_asked.proofs.forms.element_reading.Goals as goal
 

@@ -1,5 +1,5 @@
 use Rattle.std.proofs.Common.{sym, arith}
-use Rattle.ss_terms_stores.specs.Forms.{term_at}
+use Rattle.ss_terms.specs.Forms.{term_at}
 use Rattle.ss_rules_asked.proofs.Numbering.{next-long}
 use Rattle.ss_rules_asked.proofs.forms.next_reading.Goals as goal
 

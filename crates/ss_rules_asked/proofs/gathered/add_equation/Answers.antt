@@ -1,5 +1,5 @@
 use Rattle.std.proofs.Common.{refl, true, false}
-use Rattle.ss_terms_stores.specs.Forms.{formula_at}
+use Rattle.ss_terms.specs.Forms.{formula_at}
 use Rattle.ss_rules_asked.specs.Readings.{is_store_equation}
 use Rattle.ss_rules_asked.proofs.Equations.{has_one_more, pushed, left_out}
 use Rattle.ss_rules_asked.proofs.gathered.add_equation.Goals as goal

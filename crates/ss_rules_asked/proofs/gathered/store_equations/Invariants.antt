@@ -1,6 +1,6 @@
 use Rattle.std.proofs.Common.{◌≡◌, take}
 use Rattle.std.specs.Prelude.{filter}
-use Rattle.ss_terms_stores.specs.Forms.{formulas_at, HasFormulas}
+use Rattle.ss_terms.specs.Forms.{formulas_at, HasFormulas}
 use Rattle.ss_rules_asked.specs.Readings.{is_store_equation}
 use Rattle.ss_rules_asked.proofs.gathered.store_equations.Given as goal
 

@@ -1,6 +1,6 @@
 use Rattle.std.proofs.Common.{◌++◌, take}
 use Rattle.std.specs.Prelude.{flat_map}
-use Rattle.ss_terms_stores.specs.Forms.{formulas_at}
+use Rattle.ss_terms.specs.Forms.{formulas_at}
 use Rattle.ss_rules_asked.specs.Numbers.{asked_in, Asks}
 use Rattle.ss_rules_asked.specs.Sentences.{at_atom}
 use Rattle.ss_rules_asked.proofs.lists.ask_at_atoms.Given as goal

@@ -1,7 +1,7 @@
 use Rattle.std.proofs.Common.{◌++◌, take}
 use Rattle.std.specs.Prelude.{flat_map}
 use Rattle.ss_core.specs.View as view
-use Rattle.ss_terms_stores.specs.Forms.{terms_at}
+use Rattle.ss_terms.specs.Forms.{terms_at}
 use Rattle.ss_rules_asked.specs.Numbers.{asked_in, Asks}
 use Rattle.ss_rules_asked.specs.Sentences.{at_term}
 use Rattle.ss_rules_asked.proofs.lists.ask_at_terms.Given as goal

@@ -1,7 +1,7 @@
 use Rattle.std.proofs.Common.{◌++◌, ap, sym, ◌∙◌}
 use Rattle.std.specs.Prelude.{flat_map}
 use Rattle.ss_core.specs.View as view
-use Rattle.ss_terms_stores.specs.Forms.{terms_at, formulas_at}
+use Rattle.ss_terms.specs.Forms.{terms_at, formulas_at}
 use Rattle.ss_rules_asked.specs.Numbers.{asked_in}
 use Rattle.ss_rules_asked_first.specs.Good.{nearby_at, in_stores}
 use Rattle.ss_rules_asked_first.proofs.Joining.{ok_asks}

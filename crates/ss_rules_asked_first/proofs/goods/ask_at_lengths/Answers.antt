@@ -1,9 +1,9 @@
 use Rattle.std.proofs.Common.{[], ◌∷◌, subst, sym}
 use Rattle.ss_logic_rules.specs.declared.GoodRule.TheVariants as good_rule
 use Rattle.ss_logic_ground.specs.Asked.{OfGood, numeral}
-use Rattle.ss_terms_stores.specs.declared.forms.TermId.{TermId}
-use Rattle.ss_terms_stores.specs.Forms.{term_at, HasTerms}
-use Rattle.ss_terms_stores.proofs.Parts.{AreTermsBelow-get}
+use Rattle.ss_terms.specs.declared.forms.TermId.{TermId}
+use Rattle.ss_terms.specs.Forms.{term_at, HasTerms}
+use Rattle.ss_terms.proofs.Parts.{AreTermsBelow-get}
 use Rattle.ss_rules_asked.specs.Numbers.{asked_in}
 use Rattle.ss_rules_asked_first.proofs.Joining.{one_next_in}
 use Rattle.ss_rules_asked_first.proofs.goods.ask_at_lengths.Goals as goal

@@ -1,4 +1,4 @@
-use Rattle.ss_terms_stores.specs.Forms.{terms_at}
+use Rattle.ss_terms.specs.Forms.{terms_at}
 use Rattle.ss_rules_asked.specs.Numbers.{asked_in}
 use Rattle.ss_rules_asked_first.specs.Good.{nearby_at, in_stores}
 use Rattle.ss_rules_asked_first.proofs.Joining.{sentence_next}

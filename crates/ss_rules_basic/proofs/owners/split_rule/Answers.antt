@@ -1,4 +1,4 @@
-use Rattle.ss_terms_stores.specs.Forms.{terms_at}
+use Rattle.ss_terms.specs.Forms.{terms_at}
 use Rattle.ss_rules_basic.proofs.Shapes.{split_many}
 use Rattle.ss_rules_basic.proofs.owners.split_rule.Goals as goal
 

@@ -1,5 +1,5 @@
 use Rattle.std.proofs.Common.{ap, sym, ◌∙◌, Some}
-use Rattle.ss_terms_stores.specs.Forms.{term_at}
+use Rattle.ss_terms.specs.Forms.{term_at}
 use Rattle.ss_rules_basic.proofs.Shapes.{split_other, split_sorted}
 use Rattle.ss_rules_basic.proofs.owners.split_two.Goals as goal
 

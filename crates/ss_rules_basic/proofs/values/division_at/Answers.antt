@@ -4,7 +4,7 @@ use Rattle.std.proofs.Common.{rules}
 use Rattle.std.specs.Int.{w128}
 use Rattle.std.specs.Prelude.{IfOk, unsigned_abs, neg_ℤ}
 use Rattle.std.proofs.lemmas.Int.{to_z-of_z}
-use Rattle.ss_terms_stores.specs.Forms.{term_at, formula_at, HasFormula}
+use Rattle.ss_terms.specs.Forms.{term_at, formula_at, HasFormula}
 use Rattle.ss_rules_basic.proofs.Shapes.{division_bounds}
 use Rattle.ss_rules_basic.proofs.values.division_at.Goals as goal
 

@@ -1,6 +1,6 @@
 use Rattle.std.proofs.Common.{◌∙◌}
-use Rattle.ss_terms_stores.specs.Forms.{term_at}
-use Rattle.ss_terms_stores.proofs.Grown.{IsGrown-then}
+use Rattle.ss_terms.specs.Forms.{term_at}
+use Rattle.ss_terms.proofs.Grown.{IsGrown-then}
 use Rattle.ss_rules_good.specs.Fields.{element_of}
 use Rattle.ss_rules_good.proofs.Listed.{there_after, made_after, element_kept}
 use Rattle.ss_rules_good.proofs.elements.elements_of_classes.Goals as goal

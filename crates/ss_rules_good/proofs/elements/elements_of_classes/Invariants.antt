@@ -1,5 +1,5 @@
 use Rattle.std.proofs.Common.{◌≡◌, ◌∷◌, take, map}
-use Rattle.ss_terms_stores.specs.Forms.{term_at, HasFormulas, formulas_at, IsGrown}
+use Rattle.ss_terms.specs.Forms.{term_at, HasFormulas, formulas_at, IsGrown}
 use Rattle.ss_rules_good.specs.Fields.{element_allocated, element_of}
 use Rattle.ss_rules_good.proofs.elements.elements_of_classes.Given as goal
 

@@ -1,5 +1,5 @@
 use Rattle.ss_core.specs.View as view
-use Rattle.ss_terms_stores.specs.Forms.{term_at}
+use Rattle.ss_terms.specs.Forms.{term_at}
 use Rattle.ss_rules_good.proofs.Fits.{many_typed}
 use Rattle.ss_rules_good.proofs.typed.typed_rule.Goals as goal
 

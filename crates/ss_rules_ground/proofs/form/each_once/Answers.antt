@@ -1,4 +1,4 @@
-use Rattle.ss_terms_stores.proofs.Parts.{AreBelow-get}
+use Rattle.ss_terms.proofs.Parts.{AreBelow-get}
 use Rattle.ss_rules_occurring.proofs.Sought.{holds_itself}
 use Rattle.ss_rules_ground.proofs.Coming.{listed_next}
 use Rattle.ss_rules_ground.proofs.form.each_once.Goals as goal

@@ -1,5 +1,5 @@
 use Rattle.ss_core.specs.View as view
-use Rattle.ss_terms_stores.specs.Forms.{formula_at, formulas_at}
+use Rattle.ss_terms.specs.Forms.{formula_at, formulas_at}
 use Rattle.ss_rules_occurring.proofs.Sought.{holds_itself}
 use Rattle.ss_rules_ground.proofs.Coming.{too_many, form_done}
 use Rattle.ss_rules_ground.proofs.form.ground.Goals as goal

@@ -2,7 +2,7 @@ use Rattle.std.proofs.Common.{◌≡◌, ◌∙◌, length, sym, ap}
 use Rattle.ss_core.specs.View as view
 use Rattle.ss_logic_ground.specs.Ground.{closed}
 use Rattle.ss_logic_ground.specs.Matching.{forall_instances}
-use Rattle.ss_terms_stores.specs.Forms.{formula_at}
+use Rattle.ss_terms.specs.Forms.{formula_at}
 use Rattle.ss_rules_occurring.specs.Found.{formulas_of}
 use Rattle.ss_rules_occurring.proofs.Sought.{holds_itself}
 use Rattle.ss_rules_ground.proofs.Coming.{still_closed, ok_comes}

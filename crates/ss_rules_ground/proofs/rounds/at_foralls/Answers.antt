@@ -1,7 +1,7 @@
 use Rattle.std.proofs.Common.{◌≡◌, ◌+◌, ◌-◌, ◌<◌, length, arith, true, false, refl}
 use Rattle.ss_core.specs.View as view
-use Rattle.ss_terms_stores.proofs.Grown.{IsGrown-then, HasFormula-grown}
-use Rattle.ss_terms_stores.proofs.Parts.{AreBelow-get}
+use Rattle.ss_terms.proofs.Grown.{IsGrown-then, HasFormula-grown}
+use Rattle.ss_terms.proofs.Parts.{AreBelow-get}
 use Rattle.ss_rules_ground.proofs.Coming.{forall_stops, forall_goes_on, foralls_done, closed_now}
 use Rattle.ss_rules_ground.proofs.rounds.at_foralls.Goals as goal
 

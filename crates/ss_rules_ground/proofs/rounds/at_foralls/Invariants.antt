@@ -1,7 +1,7 @@
 use Rattle.std.proofs.Common.{◌≡◌, ◌≤◌, length, reverse}
 use Rattle.ss_core.specs.View as view
 use Rattle.ss_logic_ground.specs.Ground.{foralls_step}
-use Rattle.ss_terms_stores.specs.Forms.{formulas_at, IsGrown}
+use Rattle.ss_terms.specs.Forms.{formulas_at, IsGrown}
 use Rattle.ss_rules_occurring.specs.Found.{formulas_of, HasFound}
 use Rattle.ss_rules_ground.specs.Comes.{IsClosed}
 use Rattle.ss_rules_ground.proofs.Coming.{foralls_left}

@@ -1,5 +1,5 @@
 use Rattle.ss_core.specs.View as view
-use Rattle.ss_terms_stores.proofs.Grown.{IsGrown-then}
+use Rattle.ss_terms.proofs.Grown.{IsGrown-then}
 use Rattle.ss_rules_ground.proofs.Coming.{round_stops, round_goes_on, rounds_done}
 use Rattle.ss_rules_ground.proofs.rounds.rounds.Goals as goal
 

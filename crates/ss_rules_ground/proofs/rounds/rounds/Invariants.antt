@@ -1,7 +1,7 @@
 use Rattle.std.proofs.Common.{◌≡◌, ◌-◌}
 use Rattle.ss_core.specs.View as view
 use Rattle.ss_logic_ground.specs.Ground.{rounds_of}
-use Rattle.ss_terms_stores.specs.Forms.{IsGrown}
+use Rattle.ss_terms.specs.Forms.{IsGrown}
 use Rattle.ss_rules_occurring.specs.Found.{formulas_of, HasFound}
 use Rattle.ss_rules_ground.proofs.rounds.rounds.Given as goal
 

@@ -1,5 +1,5 @@
 use Rattle.ss_core.specs.View.{classes}
-use Rattle.ss_terms_stores.specs.Forms.{term_at}
+use Rattle.ss_terms.specs.Forms.{term_at}
 use Rattle.ss_rules_invariants.proofs.Said.{terms_so}
 use Rattle.ss_rules_invariants.proofs.instances.at_terms.Goals as goal
 

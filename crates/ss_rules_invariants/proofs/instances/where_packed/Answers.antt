@@ -1,9 +1,9 @@
 use Rattle.std.proofs.Common.{[], ◌∷◌, ◌∙◌, ap}
-use Rattle.ss_logic_stores.specs.Formulas.{neg}
+use Rattle.ss_logic.specs.Formulas.{neg}
 use Rattle.ss_logic_rules.specs.Shapes.{class_term, level_of, sub_atom, allocated, given}
 use Rattle.ss_logic_express.specs.Express.{or_of}
-use Rattle.ss_terms_stores.specs.Forms.{term_at, formula_at, formulas_at}
-use Rattle.ss_terms_stores.proofs.Grown.{IsGrown-then}
+use Rattle.ss_terms.specs.Forms.{term_at, formula_at, formulas_at}
+use Rattle.ss_terms.proofs.Grown.{IsGrown-then}
 use Rattle.ss_vcgen_express.proofs.Grown.{formula_so}
 use Rattle.ss_rules_invariants.proofs.instances.where_packed.Goals as goal
 

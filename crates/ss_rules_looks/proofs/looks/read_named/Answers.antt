@@ -2,7 +2,7 @@ use Rattle.std.proofs.Common.{◌∙◌, sym, ap}
 use Rattle.std.specs.Prelude.{option_and_then}
 use Rattle.ss_core.specs.View as view
 use Rattle.ss_logic_rules.specs.Reads.{look_of}
-use Rattle.ss_terms_stores.specs.Forms.{terms_at}
+use Rattle.ss_terms.specs.Forms.{terms_at}
 use Rattle.ss_rules_looks.specs.Looks.{fitting, look_in}
 use Rattle.ss_rules_looks.proofs.Fitting.{fitting_kept, fitting_none}
 use Rattle.ss_rules_looks.proofs.looks.read_named.Goals as goal

@@ -1,7 +1,7 @@
 use Rattle.std.proofs.Common.{ap, ◌∙◌}
 use Rattle.ss_logic_ground.specs.Occurring.{with_formulas}
-use Rattle.ss_logic_stores.specs.Formulas.{Formula}
-use Rattle.ss_terms_stores.specs.Forms.{formula_at}
+use Rattle.ss_logic.specs.Formulas.{Formula}
+use Rattle.ss_terms.specs.Forms.{formula_at}
 use Rattle.ss_rules_occurring.specs.Found.{formulas_of}
 use Rattle.ss_rules_matching.proofs.Adding.{instances_of_forall, ok_added}
 use Rattle.ss_rules_matching.proofs.instances.add_forall_instances.Goals as goal

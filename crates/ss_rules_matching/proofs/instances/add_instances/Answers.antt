@@ -1,6 +1,6 @@
 use Rattle.std.proofs.Common.{subst, sym, ap, ◌∙◌}
-use Rattle.ss_terms_stores.specs.Forms.{formula_at, HasTerms}
-use Rattle.ss_terms_stores.proofs.Grown.{IsGrown-then, HasTerms-grown}
+use Rattle.ss_terms.specs.Forms.{formula_at, HasTerms}
+use Rattle.ss_terms.proofs.Grown.{IsGrown-then, HasTerms-grown}
 use Rattle.ss_rules_occurring.specs.Found.{formulas_of}
 use Rattle.ss_rules_matching.specs.declared.places.Tuple.{Tuple}
 use Rattle.ss_rules_matching.proofs.Adding.{HasTuples-get, instance_next}

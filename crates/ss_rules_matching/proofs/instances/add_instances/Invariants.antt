@@ -1,6 +1,6 @@
 use Rattle.std.proofs.Common.{map, take}
 use Rattle.ss_logic_ground.specs.Occurring.{with_formulas}
-use Rattle.ss_terms_stores.specs.Forms.{formula_at, IsGrown}
+use Rattle.ss_terms.specs.Forms.{formula_at, IsGrown}
 use Rattle.ss_rules_occurring.specs.Found.{formulas_of, Holds}
 use Rattle.ss_rules_matching.specs.Matches.{tuples_at, instance_there}
 use Rattle.ss_rules_matching.proofs.instances.add_instances.Given as goal

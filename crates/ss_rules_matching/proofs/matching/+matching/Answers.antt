@@ -1,7 +1,7 @@
 use Rattle.std.proofs.Common.{arith, sym, ◌∙◌, ◌<◌, length}
 use Rattle.ss_core.specs.View as view
-use Rattle.ss_terms_stores.specs.Forms.{term_at, terms_at}
-use Rattle.ss_terms_stores.proofs.Parts.{AreTermsBelow-get}
+use Rattle.ss_terms.specs.Forms.{term_at, terms_at}
+use Rattle.ss_terms.proofs.Parts.{AreTermsBelow-get}
 use Rattle.ss_rules_matching.proofs.Finding.{closed_match, other_count, arguments_there}
 use Rattle.ss_rules_matching.proofs.matching.+matching.Goals as goal
 

@@ -1,7 +1,7 @@
 use Rattle.std.proofs.Common.{◌≡◌, ◌+◌, ◌*◌, ◌≤◌, length}
-use Rattle.ss_logic_stores.specs.Terms.{terms_from}
+use Rattle.ss_logic.specs.Terms.{terms_from}
 use Rattle.ss_logic_ground.specs.Matching as spec
-use Rattle.ss_terms_stores.specs.Forms.{terms_at}
+use Rattle.ss_terms.specs.Forms.{terms_at}
 use Rattle.ss_rules_matching.specs.Matches.{all_found_at, HasAllFound}
 use Rattle.ss_rules_matching.proofs.Finding.{left_from}
 use Rattle.ss_rules_matching.proofs.matching.+matching.Given as goal

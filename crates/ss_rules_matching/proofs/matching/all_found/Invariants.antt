@@ -1,6 +1,6 @@
 use Rattle.std.proofs.Common.{◌≡◌}
 use Rattle.ss_logic_ground.specs.Matching as spec
-use Rattle.ss_terms_stores.specs.Forms.{HasTerms}
+use Rattle.ss_terms.specs.Forms.{HasTerms}
 use Rattle.ss_rules_matching.specs.Matches.{all_found_at}
 use Rattle.ss_rules_matching.proofs.Finding.{all_from}
 use Rattle.ss_rules_matching.proofs.matching.all_found.Given as goal

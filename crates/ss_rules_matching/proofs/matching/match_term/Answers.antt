@@ -1,7 +1,7 @@
 use Rattle.std.proofs.Common.{◌≡◌, ◌∙◌, length, arith, ap, sym, true, false, refl}
 use Rattle.std.specs.Prelude.{option_and_then}
 use Rattle.ss_logic_ground.specs.Matching as spec
-use Rattle.ss_terms_stores.specs.Forms.{term_at}
+use Rattle.ss_terms.specs.Forms.{term_at}
 use Rattle.ss_rules_matching.specs.Matches.{all_found_at}
 use Rattle.ss_rules_matching.proofs.Finding.{nothing_had, nothing_at, none_match, these_match, ok_these, these_same, written_whole}
 use Rattle.ss_rules_matching.proofs.matching.match_term.Goals as goal

@@ -1,8 +1,8 @@
 use Rattle.std.proofs.Common.{◌≡◌, ◌∙◌, length, arith, ap, sym, true, false, refl}
 use Rattle.std.specs.Prelude.{option_and_then}
-use Rattle.ss_logic_stores.specs.Terms.{terms_from}
+use Rattle.ss_logic.specs.Terms.{terms_from}
 use Rattle.ss_logic_ground.specs.Matching as spec
-use Rattle.ss_terms_stores.specs.Forms.{terms_at}
+use Rattle.ss_terms.specs.Forms.{terms_at}
 use Rattle.ss_rules_matching.specs.Matches.{all_found_at}
 use Rattle.ss_rules_matching.proofs.Finding.{nothing_had, nothing_at, none_match, these_match, ok_these, these_same, written_whole}
 use Rattle.ss_rules_matching.proofs.matching.match_terms.Goals as goal

@@ -1,5 +1,5 @@
 use Rattle.std.proofs.Common.{refl, set, Some, arith}
-use Rattle.ss_terms_stores.specs.Forms.{term_at}
+use Rattle.ss_terms.specs.Forms.{term_at}
 use Rattle.ss_rules_matching.proofs.Finding.{HasTerm-there, something_there, newly_there}
 use Rattle.ss_rules_matching.proofs.matching.with_found.Goals as goal
 

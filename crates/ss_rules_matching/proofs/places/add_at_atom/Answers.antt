@@ -1,6 +1,6 @@
 use Rattle.ss_logic_ground.specs.Matching.{match_atom}
-use Rattle.ss_terms_stores.specs.Forms.{formula_at}
-use Rattle.ss_terms_stores.proofs.Parts.{AreBelow-get}
+use Rattle.ss_terms.specs.Forms.{formula_at}
+use Rattle.ss_terms.proofs.Parts.{AreBelow-get}
 use Rattle.ss_rules_matching.specs.Matches.{tuples_at}
 use Rattle.ss_rules_matching.proofs.Placed.{pattern_next}
 use Rattle.ss_rules_matching.proofs.places.add_at_atom.Goals as goal

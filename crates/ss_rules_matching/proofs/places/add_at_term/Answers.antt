@@ -1,6 +1,6 @@
 use Rattle.ss_logic_ground.specs.Matching.{match_term}
-use Rattle.ss_terms_stores.specs.Forms.{term_at}
-use Rattle.ss_terms_stores.proofs.Parts.{AreTermsBelow-get}
+use Rattle.ss_terms.specs.Forms.{term_at}
+use Rattle.ss_terms.proofs.Parts.{AreTermsBelow-get}
 use Rattle.ss_rules_matching.specs.Matches.{tuples_at}
 use Rattle.ss_rules_matching.proofs.Placed.{pattern_next}
 use Rattle.ss_rules_matching.proofs.places.add_at_term.Goals as goal

@@ -1,7 +1,7 @@
 use Rattle.std.specs.Prelude.{filter_map}
 use Rattle.ss_logic_ground.specs.Matching.{match_term}
-use Rattle.ss_terms_stores.specs.Forms.{term_at, terms_at}
-use Rattle.ss_terms_stores.proofs.Parts.{AreTermsBelow-get}
+use Rattle.ss_terms.specs.Forms.{term_at, terms_at}
+use Rattle.ss_terms.proofs.Parts.{AreTermsBelow-get}
 use Rattle.ss_rules_matching.specs.Matches.{tuples_at}
 use Rattle.ss_rules_matching.proofs.Placed.{place_next}
 use Rattle.ss_rules_matching.proofs.places.add_at_terms.Goals as goal

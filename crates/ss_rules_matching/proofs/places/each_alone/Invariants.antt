@@ -1,5 +1,5 @@
 use Rattle.std.proofs.Common.{[], ◌∷◌, map, take}
-use Rattle.ss_terms_stores.specs.Forms.{terms_at}
+use Rattle.ss_terms.specs.Forms.{terms_at}
 use Rattle.ss_rules_matching.specs.Matches.{AreTuples}
 use Rattle.ss_rules_matching.proofs.places.each_alone.Given as goal
 

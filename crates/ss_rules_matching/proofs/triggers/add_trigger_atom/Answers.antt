@@ -1,6 +1,6 @@
 use Rattle.std.proofs.Common.{refl, subst, sym, true, false, length, ◌*◌}
 use Rattle.ss_logic_ground.specs.Matching.{is_trigger_atom}
-use Rattle.ss_terms_stores.specs.Forms.{formula_at, HasFormulas}
+use Rattle.ss_terms.specs.Forms.{formula_at, HasFormulas}
 use Rattle.ss_terms_puts.proofs.Putting.{AreBelow-push}
 use Rattle.ss_rules_matching.proofs.Kept.{pushed, left_out}
 use Rattle.ss_rules_matching.proofs.triggers.add_trigger_atom.Goals as goal

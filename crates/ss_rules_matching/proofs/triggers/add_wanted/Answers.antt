@@ -1,5 +1,5 @@
 use Rattle.std.proofs.Common.{refl, subst, sym, true, false, length}
-use Rattle.ss_terms_stores.specs.Forms.{term_at, HasTerms}
+use Rattle.ss_terms.specs.Forms.{term_at, HasTerms}
 use Rattle.ss_terms_puts.proofs.Putting.{AreTermsBelow-push}
 use Rattle.ss_rules_matching.specs.Matches.{is_wanted}
 use Rattle.ss_rules_matching.proofs.Kept.{pushed, left_out}

@@ -1,7 +1,7 @@
 use Rattle.std.proofs.Common.{◌≡◌, take}
 use Rattle.std.specs.Prelude.{filter}
 use Rattle.ss_logic_ground.specs.Matching.{is_trigger_atom}
-use Rattle.ss_terms_stores.specs.Forms.{formulas_at, HasFormulas}
+use Rattle.ss_terms.specs.Forms.{formulas_at, HasFormulas}
 use Rattle.ss_rules_matching.proofs.triggers.all_trigger_atoms.Given as goal
 
 abbrev pub invariant-loop-f : goal.invariant-loop-f

@@ -1,6 +1,6 @@
 use Rattle.std.proofs.Common.{◌≡◌, take}
 use Rattle.std.specs.Prelude.{filter}
-use Rattle.ss_terms_stores.specs.Forms.{terms_at, HasTerms}
+use Rattle.ss_terms.specs.Forms.{terms_at, HasTerms}
 use Rattle.ss_rules_matching.specs.Matches.{is_wanted}
 use Rattle.ss_rules_matching.proofs.triggers.all_wanted.Given as goal
 

@@ -1,5 +1,5 @@
 use Rattle.std.proofs.Common.{sym, refl, arith, true, false}
-use Rattle.ss_terms_stores.specs.Forms.{terms_at}
+use Rattle.ss_terms.specs.Forms.{terms_at}
 use Rattle.ss_rules_matching.proofs.Kept.{has_next, one_lacks}
 use Rattle.ss_rules_matching.proofs.triggers.has_bound.Goals as goal
 

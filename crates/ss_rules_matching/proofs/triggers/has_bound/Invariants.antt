@@ -1,7 +1,7 @@
 use Rattle.std.proofs.Common.{◌≡◌, true}
-use Rattle.ss_logic_stores.specs.Terms.{terms_from}
+use Rattle.ss_logic.specs.Terms.{terms_from}
 use Rattle.ss_logic_ground.specs.Matching.{has_bound}
-use Rattle.ss_terms_stores.specs.Forms.{terms_at}
+use Rattle.ss_terms.specs.Forms.{terms_at}
 use Rattle.ss_rules_matching.proofs.triggers.has_bound.Given as goal
 
 abbrev pub invariant-loop-name : goal.invariant-loop-name

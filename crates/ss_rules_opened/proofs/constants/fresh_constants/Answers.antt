@@ -1,5 +1,5 @@
-use Rattle.ss_terms_stores.specs.Forms.{terms_at}
-use Rattle.ss_terms_stores.proofs.Grown.{IsGrown-then}
+use Rattle.ss_terms.specs.Forms.{terms_at}
+use Rattle.ss_terms.proofs.Grown.{IsGrown-then}
 use Rattle.ss_rules_opened.proofs.Fresh.{fresh_next, fresh_done}
 use Rattle.ss_rules_opened.proofs.constants.fresh_constants.Goals as goal
 

@@ -1,5 +1,5 @@
 use Rattle.std.proofs.Common.{◌≡◌, ◌<◌, length, refl, sym, arith, true, false, ◌∙◌}
-use Rattle.ss_terms_stores.specs.Forms.{terms_at}
+use Rattle.ss_terms.specs.Forms.{terms_at}
 use Rattle.ss_rules_opened.proofs.Fresh.{count-map, least_next, least_here, least_last}
 use Rattle.ss_rules_opened.proofs.constants.least.Goals as goal
 

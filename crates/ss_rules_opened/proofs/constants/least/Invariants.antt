@@ -1,6 +1,6 @@
 use Rattle.std.proofs.Common.{◌≡◌, ◌-◌, ◌≤◌, length}
 use Rattle.ss_logic_ground.specs.Opened.{least_from}
-use Rattle.ss_terms_stores.specs.Forms.{terms_at}
+use Rattle.ss_terms.specs.Forms.{terms_at}
 use Rattle.ss_rules_opened.proofs.constants.least.Given as goal
 
 abbrev pub invariant-loop-k : goal.invariant-loop-k

@@ -2,8 +2,8 @@ use Rattle.std.proofs.Common.{ap, subst}
 use Rattle.std.specs.Prelude.{find}
 use Rattle.ss_logic_ground.specs.Occurring.{quantified}
 use Rattle.ss_logic_ground.specs.Opened.{is_exists}
-use Rattle.ss_terms_stores.specs.Forms.{formulas_at, IsFormulaNumber}
-use Rattle.ss_terms_stores.proofs.Grown.{IsGrown-then}
+use Rattle.ss_terms.specs.Forms.{formulas_at, IsFormulaNumber}
+use Rattle.ss_terms.proofs.Grown.{IsGrown-then}
 use Rattle.ss_rules_opened.proofs.Going.{number_same, opening_itself, opened_next, fewer_left}
 use Rattle.ss_rules_opened.proofs.opening.open_all.Goals as goal
 

@@ -1,7 +1,7 @@
 use Rattle.std.proofs.Common.{◌≡◌}
 use Rattle.std.specs.Prelude.{sum_by}
 use Rattle.ss_logic_ground.specs.Opened.{exists_count}
-use Rattle.ss_terms_stores.specs.Forms.{terms_at, formulas_at, IsGrown}
+use Rattle.ss_terms.specs.Forms.{terms_at, formulas_at, IsGrown}
 use Rattle.ss_rules_opened.specs.Opening.{HasOpening}
 use Rattle.ss_rules_opened.proofs.Counting.{all_opened}
 use Rattle.ss_rules_opened.proofs.opening.open_all.Given as goal

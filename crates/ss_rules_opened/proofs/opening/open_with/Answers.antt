@@ -1,8 +1,8 @@
 use Rattle.std.proofs.Common.{◌++◌, map, ap, ◌∙◌, refl}
-use Rattle.ss_logic_stores.specs.Formulas.{put}
+use Rattle.ss_logic.specs.Formulas.{put}
 use Rattle.ss_logic_ground.specs.Opened.{fresh_constants, replaced}
-use Rattle.ss_terms_stores.specs.Forms.{terms_at, formula_at, formulas_at}
-use Rattle.ss_terms_stores.proofs.Grown.{HasTerms-grown, HasFormulas-grown, terms_at-grown, formulas_at-grown}
+use Rattle.ss_terms.specs.Forms.{terms_at, formula_at, formulas_at}
+use Rattle.ss_terms.proofs.Grown.{HasTerms-grown, HasFormulas-grown, terms_at-grown, formulas_at-grown}
 use Rattle.ss_rules_opened.proofs.Going.{ok_opening}
 use Rattle.ss_rules_opened.proofs.opening.open_with.Goals as goal
 

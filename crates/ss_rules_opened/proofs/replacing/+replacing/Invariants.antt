@@ -1,6 +1,6 @@
 use Rattle.std.proofs.Common.{◌≡◌, ◌+◌, ◌*◌, take, map}
 use Rattle.ss_logic_ground.specs.Opened.{replaced}
-use Rattle.ss_terms_stores.specs.Forms.{formula_at, formulas_at, HasFormulas, IsGrown}
+use Rattle.ss_terms.specs.Forms.{formula_at, formulas_at, HasFormulas, IsGrown}
 use Rattle.ss_rules_opened.proofs.replacing.+replacing.Given as goal
 
 abbrev pub decreases-replaced : goal.decreases-replaced

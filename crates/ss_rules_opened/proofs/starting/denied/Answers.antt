@@ -1,5 +1,5 @@
 use Rattle.std.proofs.Common.{[], ◌∷◌, ◌++◌, ◌*◌, length, subst, sym, ap, ◌∙◌}
-use Rattle.ss_terms_stores.specs.Forms.{HasFormulas}
+use Rattle.ss_terms.specs.Forms.{HasFormulas}
 use Rattle.ss_terms_puts.proofs.Putting.{AreBelow-push}
 use Rattle.ss_rules_opened.proofs.starting.denied.Goals as goal
 

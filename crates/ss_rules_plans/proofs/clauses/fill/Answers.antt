@@ -1,7 +1,7 @@
 use Rattle.std.proofs.Common.{◌≡◌, ◌∙◌, sym, ap, subst, map}
 use Rattle.std.specs.Prelude.{IfOk}
 use Rattle.ss_logic_rules.specs.Shapes.{all_of}
-use Rattle.ss_terms_stores.specs.Forms.{HasFormula, HasTerms, formula_at}
+use Rattle.ss_terms.specs.Forms.{HasFormula, HasTerms, formula_at}
 use Rattle.ss_rules_sentences.specs.Facts.{sentence_at, HasSentences}
 use Rattle.ss_rules_plans.proofs.Planned.{clauses_there, clauses_say}
 use Rattle.ss_rules_plans.proofs.clauses.fill.Goals as goal

@@ -1,5 +1,5 @@
 use Rattle.std.proofs.Common.{◌≡◌, take, map, length}
-use Rattle.ss_terms_stores.specs.Forms.{Forms, term_at, terms_at, HasTerms}
+use Rattle.ss_terms.specs.Forms.{Forms, term_at, terms_at, HasTerms}
 use Rattle.ss_rules_sentences.specs.Facts.{sentence_at, HasSentences}
 use Rattle.ss_rules_plans.specs.Plans.{slot_value, clause_at, HasClauses}
 use Rattle.ss_rules_plans.proofs.clauses.resolve_all.Given as goal

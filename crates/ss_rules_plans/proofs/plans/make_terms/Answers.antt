@@ -1,6 +1,6 @@
 use Rattle.std.proofs.Common.{pos}
-use Rattle.ss_terms_stores.proofs.Grown.{IsGrown-then}
-use Rattle.ss_terms_stores.specs.declared.forms.Symbol.TheVariants.{Number}
+use Rattle.ss_terms.proofs.Grown.{IsGrown-then}
+use Rattle.ss_terms.specs.declared.forms.Symbol.TheVariants.{Number}
 use Rattle.ss_rules_plans.specs.declared.plans.Plan.TheVariants.{Leaf}
 use Rattle.ss_rules_plans.proofs.Planned.{has_rest, rest_planned, there_after}
 use Rattle.ss_rules_plans.proofs.plans.make_terms.Goals as goal

@@ -1,5 +1,5 @@
 use Rattle.std.proofs.Common.{◌≡◌, [], drop, length}
-use Rattle.ss_terms_stores.specs.Forms.{term_at, terms_at, HasTerms, IsGrown}
+use Rattle.ss_terms.specs.Forms.{term_at, terms_at, HasTerms, IsGrown}
 use Rattle.ss_rules_plans.specs.Plans.{planned, HasPlans}
 use Rattle.ss_rules_plans.proofs.plans.make_terms.Given as goal
 

@@ -1,5 +1,5 @@
 use Rattle.std.proofs.Common.{◌∙◌, sym}
-use Rattle.ss_terms_stores.specs.Forms.{term_at}
+use Rattle.ss_terms.specs.Forms.{term_at}
 use Rattle.ss_rules_basic.proofs.Shapes.{next_here, no_next}
 use Rattle.ss_rules_reads.proofs.new.is_next.Goals as goal
 

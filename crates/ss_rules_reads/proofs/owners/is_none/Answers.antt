@@ -1,5 +1,5 @@
 use Rattle.std.proofs.Common.{◌∙◌}
-use Rattle.ss_terms_stores.specs.Forms.{term_at}
+use Rattle.ss_terms.specs.Forms.{term_at}
 use Rattle.ss_rules_basic.proofs.Shapes.{null_tested}
 use Rattle.ss_rules_reads.proofs.owners.is_none.Goals as goal
 

@@ -1,9 +1,9 @@
 use Rattle.std.proofs.Common.{◌∙◌, sym, ap, subst, arith, length}
 use Rattle.std.specs.Prelude.{IfOk}
 use Rattle.ss_core.specs.View as view
-use Rattle.ss_logic_stores.specs.Terms.{App, terms_from}
-use Rattle.ss_terms_stores.specs.Forms.{HasTerms, symbol_of, term_at, terms_at}
-use Rattle.ss_terms_stores.proofs.Trees.{AreTermsBelow-more}
+use Rattle.ss_logic.specs.Terms.{App, terms_from}
+use Rattle.ss_terms.specs.Forms.{HasTerms, symbol_of, term_at, terms_at}
+use Rattle.ss_terms.proofs.Trees.{AreTermsBelow-more}
 use Rattle.ss_rules_basic.specs.Arguments.{IsInstance}
 use Rattle.ss_rules_looks.specs.Looks.{look_in}
 use Rattle.ss_rules_reads.proofs.Instances.{over_app, over_unread, over_unsorted}

@@ -1,5 +1,5 @@
 use Rattle.std.proofs.Common.{◌≡◌, take}
-use Rattle.ss_terms_stores.specs.Forms.{terms_at, HasTerms, IsGrown}
+use Rattle.ss_terms.specs.Forms.{terms_at, HasTerms, IsGrown}
 use Rattle.ss_rules_asked.specs.Numbers.{arguments_at}
 use Rattle.ss_rules_said.proofs.arguments.terms_of_arguments.Given as goal
 

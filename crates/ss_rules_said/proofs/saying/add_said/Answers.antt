@@ -4,7 +4,7 @@ use Rattle.ss_logic_ground.specs.Asked.{said}
 use Rattle.ss_rules_asked.specs.Numbers.{asked_at, HasRule, HasArguments}
 use Rattle.ss_rules_asked.specs.declared.asked.Asked.{Asked}
 use Rattle.ss_rules_asked.proofs.Grown.{HasRule-grown, HasArguments-grown, HasAsked-get}
-use Rattle.ss_terms_stores.proofs.Grown.{IsGrown-then}
+use Rattle.ss_terms.proofs.Grown.{IsGrown-then}
 use Rattle.ss_rules_occurring.specs.Found.{formulas_of, Holds}
 use Rattle.ss_rules_said.specs.Said.{with_said}
 use Rattle.ss_rules_said.proofs.Made.{said_next}

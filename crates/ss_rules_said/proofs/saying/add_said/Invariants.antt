@@ -2,7 +2,7 @@ use Rattle.std.proofs.Common.{take}
 use Rattle.ss_core.specs.View as view
 use Rattle.ss_logic_ground.specs.Asked.{all_said}
 use Rattle.ss_logic_ground.specs.Occurring.{with_formulas}
-use Rattle.ss_terms_stores.specs.Forms.{IsGrown}
+use Rattle.ss_terms.specs.Forms.{IsGrown}
 use Rattle.ss_rules_asked.specs.Numbers.{asked_in}
 use Rattle.ss_rules_occurring.specs.Found.{formulas_of, Holds}
 use Rattle.ss_rules_said.proofs.saying.add_said.Given as goal

@@ -1,7 +1,7 @@
 use Rattle.std.proofs.Common.{ap, ◌∙◌}
 use Rattle.ss_core.specs.View as view
 use Rattle.ss_logic_ground.specs.Asked.{said}
-use Rattle.ss_terms_stores.specs.Forms.{terms_at}
+use Rattle.ss_terms.specs.Forms.{terms_at}
 use Rattle.ss_rules_asked.specs.Numbers.{rule_at, arguments_at, asked_with}
 use Rattle.ss_rules_asked.proofs.Grown.{HasRule-grown, rule_at-grown}
 use Rattle.ss_rules_said.proofs.Made.{ok_number}

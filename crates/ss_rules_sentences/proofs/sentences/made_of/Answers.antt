@@ -1,6 +1,6 @@
 use Rattle.std.proofs.Common.{◌≡◌, ◌+◌, ◌∙◌, sym, subst, map, take}
-use Rattle.ss_terms_stores.specs.Forms.{HasFormulas, formulas_at}
-use Rattle.ss_terms_stores.proofs.Grown.{IsGrown-then, HasFormulas-grown}
+use Rattle.ss_terms.specs.Forms.{HasFormulas, formulas_at}
+use Rattle.ss_terms.proofs.Grown.{IsGrown-then, HasFormulas-grown}
 use Rattle.ss_rules_sentences.specs.Facts.{sentence_at, HasSentence}
 use Rattle.ss_rules_sentences.proofs.Made.{HasSentences-get, HasSentence-grown, sentence_at-grown, AreBelow-push, made_next}
 use Rattle.ss_rules_sentences.proofs.sentences.made_of.Goals as goal

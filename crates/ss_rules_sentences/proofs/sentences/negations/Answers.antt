@@ -1,4 +1,4 @@
-use Rattle.ss_terms_stores.proofs.Grown.{IsGrown-then}
+use Rattle.ss_terms.proofs.Grown.{IsGrown-then}
 use Rattle.ss_rules_sentences.proofs.Made.{denied_has, denied_next, made_there}
 use Rattle.ss_rules_sentences.proofs.sentences.negations.Goals as goal
 

@@ -1,5 +1,5 @@
 use Rattle.std.proofs.Common.{◌≡◌, take, map}
-use Rattle.ss_terms_stores.specs.Forms.{HasFormulas, formulas_at, IsGrown}
+use Rattle.ss_terms.specs.Forms.{HasFormulas, formulas_at, IsGrown}
 use Rattle.ss_rules_sentences.specs.Facts.{denied_at}
 use Rattle.ss_rules_sentences.proofs.sentences.negations.Given as goal
 

@@ -1,4 +1,4 @@
-use Rattle.ss_terms_stores.specs.Forms.{IsGrown}
+use Rattle.ss_terms.specs.Forms.{IsGrown}
 use Rattle.ss_search_made.proofs.made.constants_of.Given as goal
 
 abbrev pub invariant-loop-place : goal.invariant-loop-place

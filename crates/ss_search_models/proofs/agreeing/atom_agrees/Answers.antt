@@ -1,5 +1,5 @@
 use Rattle.std.proofs.Common.{◌≡◌, Some, ◌∙◌, ap, map}
-use Rattle.ss_terms_stores.specs.Forms.{formula_at, terms_at, predicate_of}
+use Rattle.ss_terms.specs.Forms.{formula_at, terms_at, predicate_of}
 use Rattle.ss_search_models.specs.declared.signatures.Given.TheVariants as given
 use Rattle.ss_search_models.specs.Candidates.{model_at, class_at}
 use Rattle.ss_search_models.specs.Keys.{AtomKey, given_to}

@@ -1,6 +1,6 @@
 use Rattle.std.proofs.Common.{take}
 use Rattle.std.specs.List.{AllByRecursion}
-use Rattle.ss_terms_stores.specs.Forms.{formula_at}
+use Rattle.ss_terms.specs.Forms.{formula_at}
 use Rattle.ss_search_models.specs.Candidates.{model_at}
 use Rattle.ss_search_models.specs.Said.{IsAtomSaid}
 use Rattle.ss_search_models.proofs.agreeing.atoms_agree.Given as goal

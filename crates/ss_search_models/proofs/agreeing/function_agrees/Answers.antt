@@ -1,5 +1,5 @@
 use Rattle.std.proofs.Common.{◌≡◌, Some, ◌∙◌, ap, map}
-use Rattle.ss_terms_stores.specs.Forms.{term_at, terms_at, symbol_of}
+use Rattle.ss_terms.specs.Forms.{term_at, terms_at, symbol_of}
 use Rattle.ss_search_models.specs.declared.signatures.Given.TheVariants as given
 use Rattle.ss_search_models.specs.Candidates.{model_at, class_at}
 use Rattle.ss_search_models.specs.Keys.{FunctionKey, given_to}

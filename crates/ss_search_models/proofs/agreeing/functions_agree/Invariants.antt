@@ -1,6 +1,6 @@
 use Rattle.std.proofs.Common.{take}
 use Rattle.std.specs.List.{AllByRecursion}
-use Rattle.ss_terms_stores.specs.Forms.{term_at}
+use Rattle.ss_terms.specs.Forms.{term_at}
 use Rattle.ss_search_models.specs.Candidates.{model_at}
 use Rattle.ss_search_models.specs.Said.{IsFunctionSaid}
 use Rattle.ss_search_models.proofs.agreeing.functions_agree.Given as goal

@@ -1,5 +1,5 @@
 use Rattle.std.proofs.Common.{subst, sym}
-use Rattle.ss_terms_stores.specs.Forms.{formulas_at, HasFormulas}
+use Rattle.ss_terms.specs.Forms.{formulas_at, HasFormulas}
 use Rattle.ss_search_models.proofs.Models.{for_formulas}
 use Rattle.ss_search_models.proofs.checking.countermodel.Goals as goal
 

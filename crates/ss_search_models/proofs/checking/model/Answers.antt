@@ -1,4 +1,4 @@
-use Rattle.ss_terms_stores.specs.Forms.{formulas_at}
+use Rattle.ss_terms.specs.Forms.{formulas_at}
 use Rattle.ss_search_models.proofs.Models.{refuting_model}
 use Rattle.ss_search_models.proofs.checking.model.Goals as goal
 

@@ -1,6 +1,6 @@
 use Rattle.std.proofs.Common.{◌≡◌, true, arith, rules, sym, ◌∙◌}
 use Rattle.std.proofs.lemmas.Grind.{common_steps}
-use Rattle.ss_terms_stores.specs.Forms.{formulas_at}
+use Rattle.ss_terms.specs.Forms.{formulas_at}
 use Rattle.ss_search_models.proofs.Models.{refuting}
 use Rattle.ss_search_models.proofs.checking.refutes.Goals as goal
 

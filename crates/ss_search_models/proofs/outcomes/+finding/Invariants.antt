@@ -1,7 +1,7 @@
 use Rattle.std.proofs.Common.{◌≡◌, ◌+◌, ◌*◌, take, true, false}
 use Rattle.std.specs.List.{list_all, list_any}
 use Rattle.ss_logic_countermodels.specs.Refuting.{comes_out}
-use Rattle.ss_terms_stores.specs.Forms.{formulas_at}
+use Rattle.ss_terms.specs.Forms.{formulas_at}
 use Rattle.ss_search_models.specs.Candidates.{model_at}
 use Rattle.ss_search_models.specs.Found.{AreOutcomes}
 use Rattle.ss_search_models.proofs.outcomes.+finding.Given as goal

@@ -1,4 +1,4 @@
-use Rattle.ss_terms_stores.specs.Forms.{symbol_of}
+use Rattle.ss_terms.specs.Forms.{symbol_of}
 use Rattle.ss_search_models.proofs.Models.{no_value}
 use Rattle.ss_search_models.proofs.values.is_value_form.Goals as goal
 

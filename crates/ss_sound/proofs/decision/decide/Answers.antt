@@ -1,13 +1,18 @@
-use Rattle.std.proofs.Common.{map}
-use Rattle.ss_terms.specs.Lines.{line_of}
-use Rattle.ss_terms.specs.Forms.{formula_at, formulas_at}
-use Rattle.ss_terms.proofs.Banks.{HasFormulas-grown, formulas_at-grown}
-use Rattle.ss_sound.proofs.Moved.{HasDerivation-moved}
+use Rattle.std.proofs.Common.{◌*◌, length, take}
+use Rattle.ss_sound.proofs.Lists.{AreBelow-take, AreBelow-drop, part_is}
 use Rattle.ss_sound.proofs.decision.decide.Goals as goal
 
-pub check-requires-clause-premises : goal.check-requires-clause-premises
-check-requires-clause-premises c = HasFormulas-grown c.args.bank.now c.prove.new.bank c.prove.ensures.grown c.args.premises.now c.requires.premises
+pub decide_goal-requires-clause-premises : goal.decide_goal-requires-clause-premises
+decide_goal-requires-clause-premises c =
+    let bound = length c.args.bank.now.formulas * 2 in
+    rw (part_is c.args.obligation.now.first c.args.obligation.now.end c.args.trail.now c.requires.placed.first)
+    (AreBelow-drop bound c.args.obligation.now.first (take c.args.obligation.now.end c.args.trail.now) (AreBelow-take bound c.args.obligation.now.end c.args.trail.now c.requires.trail))
 
-pub returns-in-Ok-clause-derived : goal.returns-in-Ok-clause-derived
-returns-in-Ok-clause-derived c = HasDerivation-moved (formulas_at c.prove.new.bank c.args.premises.now) (formulas_at c.args.bank.now c.args.premises.now) (formula_at c.prove.new.bank c.args.goal) (formula_at c.args.bank.now c.args.goal)
-    (formulas_at-grown c.args.bank.now c.prove.new.bank c.prove.ensures.grown c.args.premises.now c.requires.premises) (c.prove.ensures.grown.same_formulas c.args.goal c.requires.goal) (map (line_of c.prove.new.bank) c.in-Proved.derivation.lines.items, c.in-Ok.ensures.derives)
+pub returns-clause-derived : goal.returns-clause-derived
+returns-clause-derived c = rw (part_is c.args.obligation.now.first c.args.obligation.now.end c.args.trail.now c.requires.placed.first) at c.decide_goal.ensures.derived
+
+pub returns-clause-refuted : goal.returns-clause-refuted
+returns-clause-refuted c = rw (part_is c.args.obligation.now.first c.args.obligation.now.end c.args.trail.now c.requires.placed.first) at c.decide_goal.ensures.refuted
+
+pub returns-clause-over : goal.returns-clause-over
+returns-clause-over c = rw (part_is c.args.obligation.now.first c.args.obligation.now.end c.args.trail.now c.requires.placed.first) at c.decide_goal.ensures.over

@@ -1,7 +1,7 @@
 use Rattle.std.proofs.Common.{◌∙◌}
 use Rattle.indexmap.specs.IndexMap.{keys}
+use Rattle.ss_terms_interned.proofs.Places.{entry_added, keys_differ}
 use Rattle.ss_terms.specs.Forms.{shape_of}
-use Rattle.ss_terms.proofs.Places.{entry_added, keys_differ}
 use Rattle.ss_terms.proofs.Same.{is_same_formula, is_same_formula-Decides}
 use Rattle.ss_terms.proofs.index.add_formula.Goals as goal
 

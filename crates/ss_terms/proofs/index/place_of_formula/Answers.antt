@@ -1,7 +1,7 @@
 use Rattle.std.proofs.Common.{◌∙◌, sym, ap, is_some}
 use Rattle.indexmap.specs.IndexMap.{keys}
+use Rattle.ss_terms_interned.proofs.Places.{form_found, form_absent, none_looked_up, none_is, if_some}
 use Rattle.ss_terms.specs.Forms.{shape_of}
-use Rattle.ss_terms.proofs.Places.{form_found, form_absent, none_looked_up, none_is, if_some}
 use Rattle.ss_terms.proofs.Same.{is_same_formula, is_same_formula-Decides}
 use Rattle.ss_terms.proofs.index.place_of_formula.Goals as goal
 

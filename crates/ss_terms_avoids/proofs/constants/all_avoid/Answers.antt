@@ -1,7 +1,7 @@
 use Rattle.std.proofs.Common.{◌&&◌, ap, ◌∙◌}
 use Rattle.std.specs.List.{list_all}
-use Rattle.ss_logic_stores.specs.Formulas.{term_avoids}
-use Rattle.ss_terms_stores.specs.Forms.{terms_at}
+use Rattle.ss_logic.specs.Formulas.{term_avoids}
+use Rattle.ss_terms.specs.Forms.{terms_at}
 use Rattle.ss_terms_avoids.proofs.Tables.{formulas_tested, terms_tested}
 use Rattle.ss_terms_avoids.proofs.constants.all_avoid.Goals as goal
 

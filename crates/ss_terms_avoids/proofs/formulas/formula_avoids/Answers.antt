@@ -1,6 +1,6 @@
 use Rattle.std.proofs.Common.{length, ap, ◌∙◌}
 use Rattle.std.specs.List.{list_all}
-use Rattle.ss_terms_stores.proofs.Trees.{AreBelow-more}
+use Rattle.ss_terms.proofs.Trees.{AreBelow-more}
 use Rattle.ss_terms_avoids.specs.Entries.{term_entry, formula_entry}
 use Rattle.ss_terms_avoids.proofs.Tables.{literal_avoids, and_avoids, or_avoids}
 use Rattle.ss_terms_avoids.proofs.formulas.formula_avoids.Goals as goal

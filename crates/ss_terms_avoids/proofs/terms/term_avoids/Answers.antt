@@ -1,6 +1,6 @@
 use Rattle.std.proofs.Common.{length, not, ◌&&◌, ap, ◌∙◌}
 use Rattle.std.specs.List.{list_all}
-use Rattle.ss_terms_stores.proofs.Trees.{AreTermsBelow-more}
+use Rattle.ss_terms.proofs.Trees.{AreTermsBelow-more}
 use Rattle.ss_terms_avoids.specs.Entries.{term_entry}
 use Rattle.ss_terms_avoids.proofs.Tables.{app_avoids}
 use Rattle.ss_terms_avoids.proofs.terms.term_avoids.Goals as goal

@@ -1,8 +1,8 @@
 use Rattle.std.proofs.Common.{map, ap, arith, ◌∙◌}
 use Rattle.ss_core.specs.View as view
 use Rattle.ss_logic_frames.specs.Frames.{lifted}
-use Rattle.ss_terms_stores.specs.Forms.{formulas_at}
-use Rattle.ss_terms_stores.proofs.Grown.{IsGrown-then, HasFormulas-grown, IsBankOf-grown}
+use Rattle.ss_terms.specs.Forms.{formulas_at}
+use Rattle.ss_terms.proofs.Grown.{IsGrown-then, HasFormulas-grown, IsBankOf-grown}
 use Rattle.ss_terms_puts.proofs.Putting.{AreBelow-get, AreBelow-push, formulas_more, formula_equal}
 use Rattle.ss_terms_lifts.proofs.Lifting.{lift_and, lift_or}
 use Rattle.ss_terms_lifts.proofs.formulas.+lifting_all.Goals as goal

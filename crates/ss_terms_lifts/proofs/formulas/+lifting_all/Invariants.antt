@@ -1,6 +1,6 @@
 use Rattle.std.proofs.Common.{◌≡◌, ◌+◌, ◌*◌, take, map}
 use Rattle.ss_logic_frames.specs.Frames.{lifted}
-use Rattle.ss_terms_stores.specs.Forms.{formulas_at, HasFormulas, IsGrown}
+use Rattle.ss_terms.specs.Forms.{formulas_at, HasFormulas, IsGrown}
 use Rattle.ss_terms_lifts.proofs.formulas.+lifting_all.Given as goal
 
 abbrev pub decreases-lift : goal.decreases-lift

@@ -1,7 +1,7 @@
 use Rattle.std.proofs.Common.{ap, sym, ◌∙◌}
-use Rattle.ss_logic_stores.specs.Terms.{terms_from}
-use Rattle.ss_logic_stores.specs.Formulas.{Literal}
-use Rattle.ss_terms_stores.specs.Forms.{terms_at, predicate_of}
+use Rattle.ss_logic.specs.Terms.{terms_from}
+use Rattle.ss_logic.specs.Formulas.{Literal}
+use Rattle.ss_terms.specs.Forms.{terms_at, predicate_of}
 use Rattle.ss_terms_puts.proofs.Putting.{formula_equal}
 use Rattle.ss_terms_lifts.proofs.Lifting.{lifted_terms-map}
 use Rattle.ss_terms_lifts.proofs.formulas.lift_literal.Goals as goal

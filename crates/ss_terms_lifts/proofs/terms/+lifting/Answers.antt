@@ -1,8 +1,8 @@
 use Rattle.std.proofs.Common.{map, ap, arith, ◌∙◌, sym}
 use Rattle.ss_core.specs.View as view
 use Rattle.ss_logic_frames.specs.Frames.{lifted_term}
-use Rattle.ss_terms_stores.specs.Forms.{term_at, terms_at}
-use Rattle.ss_terms_stores.proofs.Grown.{IsGrown-then, HasTerms-grown, IsBankOf-grown}
+use Rattle.ss_terms.specs.Forms.{term_at, terms_at}
+use Rattle.ss_terms.proofs.Grown.{IsGrown-then, HasTerms-grown, IsBankOf-grown}
 use Rattle.ss_terms_puts.proofs.Putting.{AreTermsBelow-get, AreTermsBelow-push, terms_more, term_equal}
 use Rattle.ss_terms_lifts.proofs.Lifting.{closed_term, lift_app}
 use Rattle.ss_terms_lifts.proofs.terms.+lifting.Goals as goal

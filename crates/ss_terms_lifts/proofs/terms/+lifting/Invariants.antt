@@ -1,6 +1,6 @@
 use Rattle.std.proofs.Common.{◌≡◌, ◌+◌, ◌*◌, take, map}
 use Rattle.ss_logic_frames.specs.Frames.{lifted_term}
-use Rattle.ss_terms_stores.specs.Forms.{terms_at, HasTerms, IsGrown}
+use Rattle.ss_terms.specs.Forms.{terms_at, HasTerms, IsGrown}
 use Rattle.ss_terms_lifts.proofs.terms.+lifting.Given as goal
 
 abbrev pub decreases-lift_term : goal.decreases-lift_term

@@ -1,8 +1,8 @@
 use Rattle.std.proofs.Common.{map, ap, arith, ◌∙◌}
 use Rattle.ss_core.specs.View as view
-use Rattle.ss_logic_stores.specs.Formulas.{put}
-use Rattle.ss_terms_stores.specs.Forms.{terms_at, formulas_at}
-use Rattle.ss_terms_stores.proofs.Grown.{IsGrown-then, HasTerms-grown, HasFormulas-grown, terms_at-grown, IsBankOf-grown}
+use Rattle.ss_logic.specs.Formulas.{put}
+use Rattle.ss_terms.specs.Forms.{terms_at, formulas_at}
+use Rattle.ss_terms.proofs.Grown.{IsGrown-then, HasTerms-grown, HasFormulas-grown, terms_at-grown, IsBankOf-grown}
 use Rattle.ss_terms_puts.proofs.Putting.{AreBelow-get, AreBelow-push, formulas_more, put_and, put_or, formula_equal}
 use Rattle.ss_terms_puts.proofs.formulas.+putting_all.Goals as goal
 

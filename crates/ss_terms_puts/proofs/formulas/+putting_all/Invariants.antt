@@ -1,6 +1,6 @@
 use Rattle.std.proofs.Common.{◌≡◌, ◌+◌, ◌*◌, take, map}
-use Rattle.ss_logic_stores.specs.Formulas.{put}
-use Rattle.ss_terms_stores.specs.Forms.{terms_at, formulas_at, HasFormulas, IsGrown}
+use Rattle.ss_logic.specs.Formulas.{put}
+use Rattle.ss_terms.specs.Forms.{terms_at, formulas_at, HasFormulas, IsGrown}
 use Rattle.ss_terms_puts.proofs.formulas.+putting_all.Given as goal
 
 abbrev pub decreases-put : goal.decreases-put

@@ -1,8 +1,8 @@
 use Rattle.std.proofs.Common.{map, ap, arith, ◌∙◌, sym}
 use Rattle.ss_core.specs.View as view
-use Rattle.ss_logic_stores.specs.Formulas.{put_term}
-use Rattle.ss_terms_stores.specs.Forms.{term_at, terms_at}
-use Rattle.ss_terms_stores.proofs.Grown.{IsGrown-then, HasTerms-grown, terms_at-grown, IsBankOf-grown}
+use Rattle.ss_logic.specs.Formulas.{put_term}
+use Rattle.ss_terms.specs.Forms.{term_at, terms_at}
+use Rattle.ss_terms.proofs.Grown.{IsGrown-then, HasTerms-grown, terms_at-grown, IsBankOf-grown}
 use Rattle.ss_terms_puts.proofs.Putting.{AreTermsBelow-get, AreTermsBelow-push, terms_more, put_app, term_equal, closed_put}
 use Rattle.ss_terms_puts.proofs.terms.+putting.Goals as goal
 

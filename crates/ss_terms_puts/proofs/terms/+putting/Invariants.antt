@@ -1,6 +1,6 @@
 use Rattle.std.proofs.Common.{◌≡◌, ◌+◌, ◌*◌, take, map}
-use Rattle.ss_logic_stores.specs.Formulas.{put_term}
-use Rattle.ss_terms_stores.specs.Forms.{terms_at, HasTerms, IsGrown}
+use Rattle.ss_logic.specs.Formulas.{put_term}
+use Rattle.ss_terms.specs.Forms.{terms_at, HasTerms, IsGrown}
 use Rattle.ss_terms_puts.proofs.terms.+putting.Given as goal
 
 abbrev pub decreases-put_term : goal.decreases-put_term

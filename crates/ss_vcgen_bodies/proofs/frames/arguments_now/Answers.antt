@@ -3,7 +3,7 @@ use Rattle.std.proofs.lemmas.List.{take-map}
 use Rattle.ss_core.specs.View.{body}
 use Rattle.ss_logic_express.specs.Express.{Scene}
 use Rattle.ss_store_rules.specs.Locals.{argument_count}
-use Rattle.ss_terms_stores.specs.declared.forms.TermId.{TermId}
+use Rattle.ss_terms.specs.declared.forms.TermId.{TermId}
 use Rattle.ss_vcgen_heaps.specs.Positions.{meant_of}
 use Rattle.ss_vcgen_express.specs.Scenes.{local_at}
 use Rattle.ss_vcgen_builder.specs.Builder.{position_at}

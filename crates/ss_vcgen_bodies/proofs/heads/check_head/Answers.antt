@@ -2,8 +2,8 @@ use Rattle.std.proofs.Common.{map}
 use Rattle.ss_core.specs.declared.names.Kind.TheVariants as kind
 use Rattle.ss_core.specs.View.{exprs, exposed_tree}
 use Rattle.ss_logic_express.specs.Express.{and_of}
-use Rattle.ss_terms_stores.specs.Forms.{Forms}
-use Rattle.ss_terms_stores.proofs.Grown.{IsGrown-then}
+use Rattle.ss_terms.specs.Forms.{Forms}
+use Rattle.ss_terms.proofs.Grown.{IsGrown-then}
 use Rattle.ss_vcgen_heaps.specs.Positions.{Position, check, check_all, holds_at}
 use Rattle.ss_vcgen_heaps.specs.Obligations.{classes_of, exposed_formulas, exposed_terms, frame_formula}
 use Rattle.ss_vcgen_builder.specs.Builder.{position_at, walk_at}

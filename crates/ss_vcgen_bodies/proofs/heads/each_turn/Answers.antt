@@ -2,8 +2,8 @@ use Rattle.std.proofs.Common.{[], ◌∷◌, map}
 use Rattle.ss_core.specs.View.{exposed_tree}
 use Rattle.ss_logic_express.specs.Express.{and_of}
 use Rattle.ss_logic_frames.specs.Frames.{grown}
-use Rattle.ss_terms_stores.specs.Forms.{Forms}
-use Rattle.ss_terms_stores.proofs.Grown.{IsGrown-then, HasTerm-grown}
+use Rattle.ss_terms.specs.Forms.{Forms}
+use Rattle.ss_terms.proofs.Grown.{IsGrown-then, HasTerm-grown}
 use Rattle.ss_vcgen_heaps.specs.Positions.{Position, good}
 use Rattle.ss_vcgen_heaps.specs.Obligations.{classes_of, exposed_formulas, exposed_terms, frame_formula}
 use Rattle.ss_vcgen_builder.specs.Builder.{position_at, walk_at}

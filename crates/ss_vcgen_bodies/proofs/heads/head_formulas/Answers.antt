@@ -2,8 +2,8 @@ use Rattle.std.proofs.Common.{List, ◌++◌, map, ap, ◌∙◌, append_assoc}
 use Rattle.ss_core.specs.declared.names.Ty.{Ty}
 use Rattle.ss_core.specs.View.{exprs, exposed_tree}
 use Rattle.ss_store_rules.specs.Locals.{local_types}
-use Rattle.ss_terms_stores.specs.Forms.{Forms}
-use Rattle.ss_terms_stores.proofs.Grown.{IsGrown-then}
+use Rattle.ss_terms.specs.Forms.{Forms}
+use Rattle.ss_terms.proofs.Grown.{IsGrown-then}
 use Rattle.ss_vcgen_heaps.specs.Positions.{Position, holds_at}
 use Rattle.ss_vcgen_heaps.specs.Obligations.{types_from}
 use Rattle.ss_vcgen_builder.specs.Builder.{locals_at, position_at, walk_at}

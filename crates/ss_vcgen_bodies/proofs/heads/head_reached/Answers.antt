@@ -1,8 +1,8 @@
 use Rattle.std.proofs.Common.{List, Option, map, ap, ◌∙◌}
 use Rattle.ss_core.specs.View.{exprs, exposed_tree, stmt_of}
-use Rattle.ss_terms_stores.specs.declared.forms.TermId.{TermId}
-use Rattle.ss_terms_stores.specs.Forms.{Forms}
-use Rattle.ss_terms_stores.proofs.Grown.{IsGrown-then}
+use Rattle.ss_terms.specs.declared.forms.TermId.{TermId}
+use Rattle.ss_terms.specs.Forms.{Forms}
+use Rattle.ss_terms.proofs.Grown.{IsGrown-then}
 use Rattle.ss_vcgen_heaps.specs.Positions.{Position, assume_all}
 use Rattle.ss_vcgen_builder.specs.Builder.{locals_at, position_at, walk_at}
 use Rattle.ss_vcgen_builder.proofs.Builds.{IsWalk-grown}

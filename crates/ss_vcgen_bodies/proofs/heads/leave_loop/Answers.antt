@@ -1,6 +1,6 @@
 use Rattle.std.proofs.Common.{map}
 use Rattle.ss_core.specs.View.{exprs, exposed_tree}
-use Rattle.ss_terms_stores.specs.Forms.{Forms}
+use Rattle.ss_terms.specs.Forms.{Forms}
 use Rattle.ss_vcgen_builder.specs.Builder.{position_at, walk_at, at_spot}
 use Rattle.ss_vcgen_builder.proofs.Builds.{HasSpot-grown}
 use Rattle.ss_vcgen_statements.proofs.Steps.{then}

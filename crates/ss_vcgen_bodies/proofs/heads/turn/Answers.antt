@@ -1,6 +1,6 @@
 use Rattle.std.proofs.Common.{map, sym, ap, ◌∙◌}
 use Rattle.ss_core.specs.View.{exprs, exposed_tree}
-use Rattle.ss_terms_stores.specs.Forms.{Forms}
+use Rattle.ss_terms.specs.Forms.{Forms}
 use Rattle.ss_vcgen_heaps.specs.Positions.{Guard, if_reached}
 use Rattle.ss_vcgen_builder.specs.Builder.{guard_of, position_at, walk_at}
 use Rattle.ss_vcgen_statements.proofs.Going.{here}

@@ -1,9 +1,9 @@
 use Rattle.std.proofs.Common.{List, [], ◌∷◌, ◌++◌, map, refl, ap, ◌∙◌}
 use Rattle.ss_logic_rules.specs.Shapes.{null_term, class_term, level_of, equal}
 use Rattle.ss_logic_express.specs.Express.{or_of}
-use Rattle.ss_terms_stores.specs.declared.forms.FormulaId.{FormulaId}
-use Rattle.ss_terms_stores.specs.Forms.{Forms, term_at, terms_at}
-use Rattle.ss_terms_stores.proofs.Grown.{IsGrown-then, HasTerm-grown, HasTerms-grown}
+use Rattle.ss_terms.specs.declared.forms.FormulaId.{FormulaId}
+use Rattle.ss_terms.specs.Forms.{Forms, term_at, terms_at}
+use Rattle.ss_terms.proofs.Grown.{IsGrown-then, HasTerm-grown, HasTerms-grown}
 use Rattle.ss_vcgen_builder.specs.Builder.{position_at}
 use Rattle.ss_vcgen_statements.proofs.Steps.{stays_then, formula_later, formulas_later, formula_more, formula_of}
 use Rattle.ss_vcgen_bodies.proofs.Making.{formulas_joined, formula_alone, formulas_so}

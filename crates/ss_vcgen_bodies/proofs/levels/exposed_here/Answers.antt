@@ -1,9 +1,9 @@
 use Rattle.std.proofs.Common.{ℕ, List, map, ap, ◌∙◌}
 use Rattle.ss_core.specs.View.{classes, exposed_tree}
-use Rattle.ss_logic_stores.specs.Terms.{Term}
-use Rattle.ss_terms_stores.specs.declared.forms.TermId.{TermId}
-use Rattle.ss_terms_stores.specs.Forms.{Forms, term_at, terms_at}
-use Rattle.ss_terms_stores.proofs.Grown.{IsGrown-then, HasTerm-grown}
+use Rattle.ss_logic.specs.Terms.{Term}
+use Rattle.ss_terms.specs.declared.forms.TermId.{TermId}
+use Rattle.ss_terms.specs.Forms.{Forms, term_at, terms_at}
+use Rattle.ss_terms.proofs.Grown.{IsGrown-then, HasTerm-grown}
 use Rattle.ss_vcgen_heaps.specs.Positions.{local_term}
 use Rattle.ss_vcgen_heaps.specs.Obligations as spec
 use Rattle.ss_vcgen_builder.specs.Builder.{position_at}

@@ -1,7 +1,7 @@
 use Rattle.std.proofs.Common.{ap}
 use Rattle.ss_core.specs.View.{stmt_of}
 use Rattle.ss_store_rules.specs.NonNull.{Known}
-use Rattle.ss_terms_stores.specs.Forms.{Forms}
+use Rattle.ss_terms.specs.Forms.{Forms}
 use Rattle.ss_vcgen_heaps.specs.Obligations as spec
 use Rattle.ss_vcgen_known.specs.Views.{known_of}
 use Rattle.ss_vcgen_builder.specs.Builder.{position_at, walk_at}

@@ -1,9 +1,9 @@
 use Rattle.std.proofs.Common.{List, ap}
 use Rattle.ss_core.specs.declared.names.Ty.{Ty}
 use Rattle.ss_core.specs.View.{stmt_of}
-use Rattle.ss_logic_stores.specs.declared.Sort.TheVariants as sort
-use Rattle.ss_terms_stores.specs.Forms.{Forms}
-use Rattle.ss_terms_stores.proofs.Grown.{IsGrown-then}
+use Rattle.ss_logic.specs.declared.Sort.TheVariants as sort
+use Rattle.ss_terms.specs.Forms.{Forms}
+use Rattle.ss_terms.proofs.Grown.{IsGrown-then}
 use Rattle.ss_vcgen_heaps.specs.Positions.{new_term, set_store, with_new}
 use Rattle.ss_vcgen_heaps.specs.Obligations as spec
 use Rattle.ss_vcgen_builder.specs.Builder.{position_at, walk_at}

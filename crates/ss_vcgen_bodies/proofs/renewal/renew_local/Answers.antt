@@ -1,6 +1,6 @@
 use Rattle.std.proofs.Common.{Some, ap}
-use Rattle.ss_logic_stores.specs.declared.Sort.{Sort}
-use Rattle.ss_terms_stores.specs.Forms.{Forms}
+use Rattle.ss_logic.specs.declared.Sort.{Sort}
+use Rattle.ss_terms.specs.Forms.{Forms}
 use Rattle.ss_vcgen_heaps.specs.Positions.{new_term, set_local, with_new}
 use Rattle.ss_vcgen_builder.specs.Builder.{position_at}
 use Rattle.ss_vcgen_statements.proofs.Steps.{so, then_term}

@@ -1,8 +1,8 @@
 use Rattle.std.proofs.Common.{[], ap, sym}
 use Rattle.ss_core.specs.declared.names.Kind.TheVariants as kind
-use Rattle.ss_logic_stores.specs.Formulas.{Formula}
-use Rattle.ss_terms_stores.specs.Forms.{Forms}
-use Rattle.ss_terms_stores.proofs.Grown.{IsGrown-then, HasFormulas-grown}
+use Rattle.ss_logic.specs.Formulas.{Formula}
+use Rattle.ss_terms.specs.Forms.{Forms}
+use Rattle.ss_terms.proofs.Grown.{IsGrown-then, HasFormulas-grown}
 use Rattle.ss_vcgen_contracts.specs.Views.{ones_at}
 use Rattle.ss_vcgen_heaps.specs.Positions.{Position, check, check_all, ended}
 use Rattle.ss_vcgen_heaps.specs.Obligations.{frame_formula}

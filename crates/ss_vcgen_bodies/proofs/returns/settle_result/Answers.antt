@@ -2,7 +2,7 @@ use Rattle.std.proofs.Common.{Option, Some, sym, ap, ◌∙◌}
 use Rattle.std.specs.Prelude.{option_map}
 use Rattle.ss_core.specs.declared.expr.Expr.{Expr}
 use Rattle.ss_core.specs.View.{expr}
-use Rattle.ss_terms_stores.specs.Forms.{Forms}
+use Rattle.ss_terms.specs.Forms.{Forms}
 use Rattle.ss_vcgen_builder.specs.Builder.{position_at, walk_at}
 use Rattle.ss_vcgen_builder.proofs.Builds.{if_ok}
 use Rattle.ss_vcgen_statements.proofs.Steps.{so}

@@ -2,8 +2,8 @@ use Rattle.std.proofs.Common.{◌+◌, true, false, ap, ◌∙◌}
 use Rattle.ss_core.specs.View.{expr}
 use Rattle.ss_store_rules.specs.NonNull.{Known, known_tested}
 use Rattle.ss_logic_express.specs.Express.{said}
-use Rattle.ss_terms_stores.specs.Forms.{Forms}
-use Rattle.ss_terms_stores.proofs.Grown.{IsGrown-then}
+use Rattle.ss_terms.specs.Forms.{Forms}
+use Rattle.ss_terms.proofs.Grown.{IsGrown-then}
 use Rattle.ss_vcgen_heaps.specs.Positions.{Position, When, evaluate, meant_at, first_side}
 use Rattle.ss_vcgen_heaps.specs.Obligations.{into_body}
 use Rattle.ss_vcgen_builder.specs.Builder.{position_at, walk_at}

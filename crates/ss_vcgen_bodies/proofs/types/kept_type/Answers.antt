@@ -1,6 +1,6 @@
 use Rattle.std.proofs.Common.{Option, [], Some, sym, ap}
-use Rattle.ss_terms_stores.specs.declared.forms.TermId.{TermId}
-use Rattle.ss_terms_stores.specs.Forms.{Forms, term_at}
+use Rattle.ss_terms.specs.declared.forms.TermId.{TermId}
+use Rattle.ss_terms.specs.Forms.{Forms, term_at}
 use Rattle.ss_vcgen_builder.specs.Builder.{local_at, walk_at}
 use Rattle.ss_vcgen_builder.proofs.Builds.{if_ok}
 use Rattle.ss_vcgen_statements.proofs.Steps.{formulas_are}

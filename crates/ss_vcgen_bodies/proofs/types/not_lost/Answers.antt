@@ -1,5 +1,5 @@
 use Rattle.std.proofs.Common.{Bool, [], true, sym, ap}
-use Rattle.ss_terms_stores.specs.Forms.{Forms, term_at}
+use Rattle.ss_terms.specs.Forms.{Forms, term_at}
 use Rattle.ss_vcgen_builder.proofs.Builds.{if_ok}
 use Rattle.ss_vcgen_statements.proofs.Steps.{formulas_are}
 use Rattle.ss_vcgen_bodies.specs.Words.{not_lost}

@@ -1,7 +1,7 @@
 use Rattle.std.proofs.Common.{[], ◌∷◌}
 use Rattle.ss_logic_rules.specs.Shapes.{null_term, equal, differ}
 use Rattle.ss_logic_express.specs.Express.{or_of}
-use Rattle.ss_terms_stores.specs.Forms.{Forms, term_at}
+use Rattle.ss_terms.specs.Forms.{Forms, term_at}
 use Rattle.ss_vcgen_bodies.proofs.Making.{formula_alone, formulas_so}
 use Rattle.ss_vcgen_bodies.proofs.types.stays_alone.Goals as goal
 

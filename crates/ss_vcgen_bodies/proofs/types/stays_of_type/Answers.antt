@@ -1,7 +1,7 @@
 use Rattle.std.proofs.Common.{Bool, ◌++◌, ap, ◌∙◌}
 use Rattle.ss_core.specs.declared.names.Ty.{Ty}
-use Rattle.ss_terms_stores.specs.Forms.{Forms, term_at}
-use Rattle.ss_terms_stores.proofs.Grown.{HasTerm-grown}
+use Rattle.ss_terms.specs.Forms.{Forms, term_at}
+use Rattle.ss_terms.proofs.Grown.{HasTerm-grown}
 use Rattle.ss_vcgen_heaps.specs.Contracts.{is_of_type}
 use Rattle.ss_vcgen_heaps.specs.Obligations as spec
 use Rattle.ss_vcgen_statements.proofs.Steps.{stays_then, formulas_later, formulas_are}

@@ -1,8 +1,8 @@
 use Rattle.std.proofs.Common.{[], ◌∷◌}
 use Rattle.ss_logic_rules.specs.Shapes.{null_term, equal, differ}
 use Rattle.ss_logic_express.specs.Express.{or_of}
-use Rattle.ss_terms_stores.specs.Forms.{Forms, term_at}
-use Rattle.ss_terms_stores.proofs.Grown.{HasTerm-grown}
+use Rattle.ss_terms.specs.Forms.{Forms, term_at}
+use Rattle.ss_terms.proofs.Grown.{HasTerm-grown}
 use Rattle.ss_vcgen_statements.proofs.Steps.{stays_then, formula_later, formula_more, formula_of}
 use Rattle.ss_vcgen_bodies.proofs.Making.{formula_alone}
 use Rattle.ss_vcgen_bodies.proofs.types.stays_there.Goals as goal

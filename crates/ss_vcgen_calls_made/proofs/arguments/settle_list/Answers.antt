@@ -1,7 +1,7 @@
 use Rattle.std.proofs.Common.{ap, ◌∙◌}
 use Rattle.ss_core.specs.View.{exprs}
-use Rattle.ss_terms_stores.specs.Forms.{Forms}
-use Rattle.ss_terms_stores.proofs.Grown.{IsGrown-then}
+use Rattle.ss_terms.specs.Forms.{Forms}
+use Rattle.ss_terms.proofs.Grown.{IsGrown-then}
 use Rattle.ss_vcgen_heaps.specs.Positions.{evaluate_all}
 use Rattle.ss_vcgen_heaps.specs.Obligations.{settle_all, arguments_settled}
 use Rattle.ss_vcgen_builder.specs.Builder.{position_at, walk_at}

@@ -1,8 +1,8 @@
 use Rattle.std.proofs.Common.{◌∷◌, ap, ◌∙◌}
 use Rattle.ss_core.specs.View.{expr, exprs}
 use Rattle.ss_logic_express.specs.Express.{One}
-use Rattle.ss_terms_stores.specs.Forms.{Forms}
-use Rattle.ss_terms_stores.proofs.Grown.{IsGrown-then, HasTerm-grown}
+use Rattle.ss_terms.specs.Forms.{Forms}
+use Rattle.ss_terms.proofs.Grown.{IsGrown-then, HasTerm-grown}
 use Rattle.ss_vcgen_heaps.specs.Positions as spec
 use Rattle.ss_vcgen_heaps.specs.Positions.{evaluate, evaluate_all, settled, term_for}
 use Rattle.ss_vcgen_heaps.specs.Obligations.{settle_all, arguments_settled}

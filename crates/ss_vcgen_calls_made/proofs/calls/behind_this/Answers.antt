@@ -1,6 +1,6 @@
 use Rattle.std.proofs.Common.{◌∷◌, ap, ◌∙◌}
 use Rattle.ss_logic_express.specs.Express.{One}
-use Rattle.ss_terms_stores.proofs.Grown.{HasTerms-grown}
+use Rattle.ss_terms.proofs.Grown.{HasTerms-grown}
 use Rattle.ss_vcgen_contracts.specs.Views.{ones_at}
 use Rattle.ss_vcgen_calls_made.proofs.calls.behind_this.Goals as goal
 

@@ -1,7 +1,7 @@
 use Rattle.std.proofs.Common.{ap, ◌∙◌}
-use Rattle.ss_terms_stores.specs.Forms.{Forms}
-use Rattle.ss_terms_stores.proofs.Grown.{IsGrown-then, HasTerms-grown}
-use Rattle.ss_logic_stores.specs.declared.Sort.TheVariants as sort
+use Rattle.ss_terms.specs.Forms.{Forms}
+use Rattle.ss_terms.proofs.Grown.{IsGrown-then, HasTerms-grown}
+use Rattle.ss_logic.specs.declared.Sort.TheVariants as sort
 use Rattle.ss_vcgen_heaps.specs.Positions.{with_new}
 use Rattle.ss_vcgen_heaps.specs.Obligations.{check_entry, returned, result_term, keep}
 use Rattle.ss_vcgen_builder.specs.Builder.{position_at, walk_at}

@@ -1,4 +1,4 @@
-use Rattle.ss_terms_stores.specs.Forms.{Forms, term_at}
+use Rattle.ss_terms.specs.Forms.{Forms, term_at}
 use Rattle.ss_core.specs.declared.names.Kind.TheVariants as kind
 use Rattle.ss_vcgen_builder.specs.Builder.{position_at, walk_at}
 use Rattle.ss_vcgen_statements.proofs.Steps.{then_formulas}

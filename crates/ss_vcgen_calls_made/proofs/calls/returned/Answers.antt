@@ -1,6 +1,6 @@
 use Rattle.std.proofs.Common.{ap, ◌∙◌, sym}
-use Rattle.ss_terms_stores.specs.Forms.{Forms, term_at}
-use Rattle.ss_terms_stores.proofs.Grown.{IsGrown-then, HasTerms-grown}
+use Rattle.ss_terms.specs.Forms.{Forms, term_at}
+use Rattle.ss_terms.proofs.Grown.{IsGrown-then, HasTerms-grown}
 use Rattle.ss_vcgen_builder.specs.Builder.{position_at, walk_at}
 use Rattle.ss_vcgen_builder.proofs.Builds.{IsWalk-grown}
 use Rattle.ss_vcgen_statements.proofs.Steps.{then, so, then_term, then_terms, term_later, terms_later, terms_are}
@@ -8,7 +8,7 @@ use Rattle.ss_core.specs.View.{classes}
 use Rattle.ss_vcgen_heaps.specs.Positions.{set_store, new_term, with_new}
 use Rattle.ss_vcgen_heaps.specs.Obligations.{with_result, result_term, returned}
 use Rattle.ss_vcgen_contracts.specs.Views.{contract_of, ones_at}
-use Rattle.ss_logic_stores.specs.declared.Sort.TheVariants as sort
+use Rattle.ss_logic.specs.declared.Sort.TheVariants as sort
 use Rattle.ss_vcgen_calls_made.specs.Words.{changes_assumed, promises_assumed}
 use Rattle.ss_vcgen_calls_made.proofs.Returning.{contract_result, returned_at}
 use Rattle.ss_vcgen_calls_made.proofs.calls.returned.Goals as goal

@@ -2,10 +2,10 @@ use Rattle.std.proofs.Common.{ap, ◌∙◌, sym}
 use Rattle.std.specs.Prelude.{pos}
 use Rattle.ss_core.specs.declared.names.Kind.TheVariants as kind
 use Rattle.ss_core.specs.View.{expr}
-use Rattle.ss_logic_stores.specs.declared.Sort.TheVariants as sort
+use Rattle.ss_logic.specs.declared.Sort.TheVariants as sort
 use Rattle.ss_logic_rules.specs.Shapes.{number, at_most}
-use Rattle.ss_terms_stores.specs.Forms.{Forms, IsGrown}
-use Rattle.ss_terms_stores.proofs.Grown.{IsGrown-then}
+use Rattle.ss_terms.specs.Forms.{Forms, IsGrown}
+use Rattle.ss_terms.proofs.Grown.{IsGrown-then}
 use Rattle.ss_vcgen_heaps.specs.Positions as spec
 use Rattle.ss_vcgen_heaps.specs.Positions.{evaluate, check, with_term, term_for}
 use Rattle.ss_vcgen_express.specs.Numbers.{meant_at, IsTerm, IsFormula}

@@ -5,8 +5,8 @@ use Rattle.ss_core.specs.declared.body.Body.{Body}
 use Rattle.ss_core.specs.View.{body, exprs}
 use Rattle.ss_store_rules.specs.Typed.{constructor_of}
 use Rattle.ss_logic_rules.specs.Shapes.{next_of}
-use Rattle.ss_terms_stores.specs.Forms.{Forms, term_at}
-use Rattle.ss_terms_stores.proofs.Grown.{IsGrown-then, HasTerm-grown, HasTerms-grown}
+use Rattle.ss_terms.specs.Forms.{Forms, term_at}
+use Rattle.ss_terms.proofs.Grown.{IsGrown-then, HasTerm-grown, HasTerms-grown}
 use Rattle.ss_vcgen_heaps.specs.Positions.{Position}
 use Rattle.ss_vcgen_heaps.specs.Obligations.{constructed, keep}
 use Rattle.ss_vcgen_express.specs.Numbers.{IsTerm}

@@ -1,8 +1,8 @@
 use Rattle.std.proofs.Common.{◌≡◌, List, ◌∷◌, ap, ◌∙◌}
 use Rattle.ss_core.specs.View.{body}
-use Rattle.ss_terms_stores.specs.declared.forms.TermId.{TermId}
-use Rattle.ss_terms_stores.specs.Forms.{Forms, term_at, HasTerms}
-use Rattle.ss_terms_stores.proofs.Grown.{HasTerm-grown, HasTerms-grown}
+use Rattle.ss_terms.specs.declared.forms.TermId.{TermId}
+use Rattle.ss_terms.specs.Forms.{Forms, term_at, HasTerms}
+use Rattle.ss_terms.proofs.Grown.{HasTerm-grown, HasTerms-grown}
 use Rattle.ss_vcgen_heaps.specs.Obligations.{check_entry, returned, with_ready}
 use Rattle.ss_vcgen_builder.specs.Builder.{position_at, walk_at}
 use Rattle.ss_vcgen_builder.proofs.Builds.{IsWalk-grown}

@@ -1,6 +1,6 @@
 use Rattle.std.proofs.Common.{[], ◌∷◌, ap}
-use Rattle.ss_terms_stores.specs.Forms.{Forms, term_at}
-use Rattle.ss_terms_stores.proofs.Grown.{IsGrown-then}
+use Rattle.ss_terms.specs.Forms.{Forms, term_at}
+use Rattle.ss_terms.proofs.Grown.{IsGrown-then}
 use Rattle.ss_vcgen_builder.specs.Builder.{position_at, walk_at}
 use Rattle.ss_vcgen_statements.proofs.Steps.{then_term, term_is}
 use Rattle.ss_core.specs.View.{expr}

@@ -1,11 +1,11 @@
 use Rattle.std.proofs.Common.{[], ◌∷◌, ap}
-use Rattle.ss_terms_stores.specs.Forms.{Forms, term_at}
-use Rattle.ss_terms_stores.proofs.Grown.{IsGrown-then}
+use Rattle.ss_terms.specs.Forms.{Forms, term_at}
+use Rattle.ss_terms.proofs.Grown.{IsGrown-then}
 use Rattle.ss_vcgen_builder.specs.Builder.{position_at}
 use Rattle.ss_vcgen_statements.proofs.Steps.{then, so, then_formulas, then_term, formula_later, term_later, no_formulas, formula_more}
 use Rattle.ss_logic_rules.specs.Shapes.{class_term, next_of, equal}
 use Rattle.ss_logic_rules.specs.Shapes as shape
-use Rattle.ss_logic_stores.specs.Terms.{NewArray, Length, app}
+use Rattle.ss_logic.specs.Terms.{NewArray, Length, app}
 use Rattle.ss_vcgen_heaps.specs.Positions.{assume_all, with_store}
 use Rattle.ss_vcgen_calls_made.specs.Words.{array_there}
 use Rattle.ss_vcgen_calls_made.proofs.objects.new_array_object.Goals as goal

@@ -1,8 +1,8 @@
 use Rattle.std.proofs.Common.{ap}
 use Rattle.ss_core.specs.View as view
 use Rattle.ss_logic_frames.specs.Frames as logic
-use Rattle.ss_terms_stores.specs.Forms.{term_at, terms_at}
-use Rattle.ss_terms_stores.proofs.Grown.{IsGrown-then, IsBankOf-grown}
+use Rattle.ss_terms.specs.Forms.{term_at, terms_at}
+use Rattle.ss_terms.proofs.Grown.{IsGrown-then, IsBankOf-grown}
 use Rattle.ss_frames.specs.Calls.{call_at}
 use Rattle.ss_vcgen_express.proofs.Grown.{formula_so}
 use Rattle.ss_vcgen_heaps.specs.Contracts as heaps

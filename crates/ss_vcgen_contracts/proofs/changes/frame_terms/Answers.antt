@@ -1,8 +1,8 @@
 use Rattle.std.proofs.Common.{map, length, sym, ap, ◌∙◌, subst}
 use Rattle.ss_core.specs.View as view
 use Rattle.ss_store_rules.specs.Locals.{this_types}
-use Rattle.ss_terms_stores.specs.Forms.{term_at, terms_at, HasTerms}
-use Rattle.ss_terms_stores.proofs.Grown.{HasTerm-grown, HasTerms-grown}
+use Rattle.ss_terms.specs.Forms.{term_at, terms_at, HasTerms}
+use Rattle.ss_terms.proofs.Grown.{HasTerm-grown, HasTerms-grown}
 use Rattle.ss_frames.specs.Calls.{named_at, owner_at, HasOwned}
 use Rattle.ss_vcgen_heaps.specs.Contracts as heaps
 use Rattle.ss_vcgen_contracts.specs.Names.{names_scene}

@@ -1,8 +1,8 @@
 use Rattle.std.proofs.Common.{ap, ◌∙◌}
 use Rattle.ss_core.specs.View as view
 use Rattle.ss_logic_express.specs.Express.{at_entry}
-use Rattle.ss_terms_stores.specs.Forms.{term_at}
-use Rattle.ss_terms_stores.proofs.Grown.{IsGrown-then, HasTerms-grown}
+use Rattle.ss_terms.specs.Forms.{term_at}
+use Rattle.ss_terms.proofs.Grown.{IsGrown-then, HasTerms-grown}
 use Rattle.ss_vcgen_contracts.specs.Views.{ones_at}
 use Rattle.ss_vcgen_contracts.proofs.Framing.{names_scene_is}
 use Rattle.ss_vcgen_contracts.proofs.changes.names_scene.Goals as goal

@@ -1,6 +1,6 @@
 use Rattle.std.proofs.Common.{map, take}
 use Rattle.ss_core.specs.View as view
-use Rattle.ss_terms_stores.specs.Forms.{IsGrown}
+use Rattle.ss_terms.specs.Forms.{IsGrown}
 use Rattle.ss_vcgen_express.specs.Numbers.{AreFormulas}
 use Rattle.ss_vcgen_express.specs.Scenes.{scene_at}
 use Rattle.ss_vcgen_heaps.specs.Contracts as heaps

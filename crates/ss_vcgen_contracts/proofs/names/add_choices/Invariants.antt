@@ -1,6 +1,6 @@
 use Rattle.std.proofs.Common.{[], ◌∷◌, ◌++◌, map, take}
 use Rattle.ss_logic_express.specs.Express.{and_of}
-use Rattle.ss_terms_stores.specs.Forms.{formulas_at, IsGrown}
+use Rattle.ss_terms.specs.Forms.{formulas_at, IsGrown}
 use Rattle.ss_frames.specs.Calls.{named_at}
 use Rattle.ss_vcgen_express.specs.Numbers.{choices_at}
 use Rattle.ss_vcgen_contracts.specs.Names.{named_by}

@@ -2,8 +2,8 @@ use Rattle.std.proofs.Common.{◌++◌, map, ap, ◌∙◌}
 use Rattle.ss_core.specs.View as view
 use Rattle.ss_logic_express.specs.Express.{meant}
 use Rattle.ss_machine_rules.specs.Frame.{subject_of}
-use Rattle.ss_terms_stores.specs.Forms.{formulas_at}
-use Rattle.ss_terms_stores.proofs.Grown.{IsGrown-then}
+use Rattle.ss_terms.specs.Forms.{formulas_at}
+use Rattle.ss_terms.proofs.Grown.{IsGrown-then}
 use Rattle.ss_frames.specs.Calls.{named_at}
 use Rattle.ss_vcgen_express.specs.Numbers.{meant_at}
 use Rattle.ss_vcgen_express.specs.Scenes.{scene_at}

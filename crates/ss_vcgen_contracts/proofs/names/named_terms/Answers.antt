@@ -1,6 +1,6 @@
 use Rattle.std.proofs.Common.{◌++◌, map, subst}
 use Rattle.ss_core.specs.View as view
-use Rattle.ss_terms_stores.proofs.Grown.{IsGrown-then}
+use Rattle.ss_terms.proofs.Grown.{IsGrown-then}
 use Rattle.ss_frames.specs.Calls.{named_at}
 use Rattle.ss_vcgen_express.specs.Scenes.{scene_at}
 use Rattle.ss_vcgen_express.proofs.Scenes.{HasScene-grown}

@@ -1,7 +1,7 @@
 use Rattle.std.proofs.Common.{map, take}
 use Rattle.std.specs.Prelude.{flat_map}
 use Rattle.ss_core.specs.View as view
-use Rattle.ss_terms_stores.specs.Forms.{IsGrown}
+use Rattle.ss_terms.specs.Forms.{IsGrown}
 use Rattle.ss_vcgen_express.specs.Scenes.{scene_at}
 use Rattle.ss_vcgen_contracts.specs.Names.{name_seen, names_of}
 use Rattle.ss_vcgen_contracts.specs.Views.{AreNames}

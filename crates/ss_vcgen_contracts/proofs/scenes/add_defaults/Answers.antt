@@ -1,6 +1,6 @@
 use Rattle.std.proofs.Common.{ap}
 use Rattle.ss_core.specs.View as view
-use Rattle.ss_terms_stores.proofs.Grown.{IsGrown-then}
+use Rattle.ss_terms.proofs.Grown.{IsGrown-then}
 use Rattle.ss_vcgen_contracts.specs.Views.{ones_at}
 use Rattle.ss_vcgen_contracts.proofs.Listing.{ones_next}
 use Rattle.ss_vcgen_contracts.proofs.scenes.add_defaults.Goals as goal

@@ -1,7 +1,7 @@
 use Rattle.std.proofs.Common.{take, map, ◌++◌}
 use Rattle.ss_core.specs.View as view
 use Rattle.ss_store_rules.specs.Locals.{types_of}
-use Rattle.ss_terms_stores.specs.Forms.{IsGrown}
+use Rattle.ss_terms.specs.Forms.{IsGrown}
 use Rattle.ss_vcgen_heaps.specs.Contracts as heaps
 use Rattle.ss_vcgen_contracts.specs.Views.{ones_at, AreOnes}
 use Rattle.ss_vcgen_contracts.proofs.scenes.add_defaults.Given as goal

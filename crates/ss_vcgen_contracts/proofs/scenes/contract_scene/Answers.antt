@@ -1,6 +1,6 @@
 use Rattle.ss_core.specs.View as view
-use Rattle.ss_terms_stores.specs.Forms.{term_at}
-use Rattle.ss_terms_stores.proofs.Grown.{HasTerm-grown}
+use Rattle.ss_terms.specs.Forms.{term_at}
+use Rattle.ss_terms.proofs.Grown.{HasTerm-grown}
 use Rattle.ss_vcgen_contracts.specs.Views.{ones_at}
 use Rattle.ss_vcgen_contracts.proofs.Framing.{scene_is}
 use Rattle.ss_vcgen_contracts.proofs.scenes.contract_scene.Goals as goal

@@ -1,8 +1,8 @@
 use Rattle.std.proofs.Common.{[], ◌∷◌, ap}
 use Rattle.ss_logic_express.specs.Express as spec
-use Rattle.ss_logic_stores.specs.Formulas.{Formula}
-use Rattle.ss_terms_stores.specs.Forms.{term_at, formula_at}
-use Rattle.ss_terms_stores.proofs.Grown.{IsGrown-then, HasFormula-grown}
+use Rattle.ss_logic.specs.Formulas.{Formula}
+use Rattle.ss_terms.specs.Forms.{term_at, formula_at}
+use Rattle.ss_terms.proofs.Grown.{IsGrown-then, HasFormula-grown}
 use Rattle.ss_vcgen_defaults.specs.Defaults.{no_peer}
 use Rattle.ss_vcgen_express.specs.Scenes.{scene_at}
 use Rattle.ss_vcgen_express.proofs.Grown.{formula_so}

@@ -2,11 +2,11 @@ use Rattle.std.proofs.Common.{[], ◌∷◌, ap, ◌∙◌}
 use Rattle.ss_core.specs.View.{classes}
 use Rattle.ss_logic_express.specs.Express as spec
 use Rattle.ss_logic_rules.specs.Shapes.{allocated}
-use Rattle.ss_logic_stores.specs.declared.Sort.TheVariants as sort
-use Rattle.ss_logic_stores.specs.Terms.{Term}
-use Rattle.ss_logic_stores.specs.Formulas.{Formula, Forall, neg}
-use Rattle.ss_terms_stores.specs.Forms.{term_at, formula_at}
-use Rattle.ss_terms_stores.proofs.Grown.{IsGrown-then, HasTerm-grown}
+use Rattle.ss_logic.specs.declared.Sort.TheVariants as sort
+use Rattle.ss_logic.specs.Terms.{Term}
+use Rattle.ss_logic.specs.Formulas.{Formula, Forall, neg}
+use Rattle.ss_terms.specs.Forms.{term_at, formula_at}
+use Rattle.ss_terms.proofs.Grown.{IsGrown-then, HasTerm-grown}
 use Rattle.ss_vcgen_defaults.specs.Defaults.{owned_is_full}
 use Rattle.ss_vcgen_express.specs.Scenes.{scene_at}
 use Rattle.ss_vcgen_express.proofs.Grown.{formula_so}

@@ -1,9 +1,9 @@
 use Rattle.std.proofs.Common.{[], ◌∷◌, ap, ◌∙◌}
-use Rattle.ss_logic_stores.specs.declared.Sort.TheVariants as sort
-use Rattle.ss_logic_stores.specs.Terms.{Term, Bound}
-use Rattle.ss_logic_stores.specs.Formulas.{Formula, Forall}
-use Rattle.ss_terms_stores.specs.Forms.{term_at, formula_at}
-use Rattle.ss_terms_stores.proofs.Grown.{IsGrown-then, HasTerm-grown}
+use Rattle.ss_logic.specs.declared.Sort.TheVariants as sort
+use Rattle.ss_logic.specs.Terms.{Term, Bound}
+use Rattle.ss_logic.specs.Formulas.{Formula, Forall}
+use Rattle.ss_terms.specs.Forms.{term_at, formula_at}
+use Rattle.ss_terms.proofs.Grown.{IsGrown-then, HasTerm-grown}
 use Rattle.ss_vcgen_defaults.specs.Defaults.{full_if_peer}
 use Rattle.ss_vcgen_express.proofs.Grown.{formula_so}
 use Rattle.ss_vcgen_defaults.proofs.defaults.peers_full.Goals as goal

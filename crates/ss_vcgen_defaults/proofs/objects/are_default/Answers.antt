@@ -1,6 +1,6 @@
-use Rattle.ss_logic_stores.specs.declared.Sort.TheVariants as sort
-use Rattle.ss_terms_stores.specs.Forms.{term_at}
-use Rattle.ss_terms_stores.proofs.Grown.{IsGrown-then, HasTerm-grown}
+use Rattle.ss_logic.specs.declared.Sort.TheVariants as sort
+use Rattle.ss_terms.specs.Forms.{term_at}
+use Rattle.ss_terms.proofs.Grown.{IsGrown-then, HasTerm-grown}
 use Rattle.ss_vcgen_defaults.specs.Defaults.{slot_of, at_default}
 use Rattle.ss_vcgen_express.proofs.Grown.{formulas_each}
 use Rattle.ss_vcgen_defaults.proofs.objects.are_default.Goals as goal

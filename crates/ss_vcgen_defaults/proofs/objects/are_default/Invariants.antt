@@ -1,5 +1,5 @@
 use Rattle.std.proofs.Common.{take, map}
-use Rattle.ss_terms_stores.specs.Forms.{term_at, IsGrown}
+use Rattle.ss_terms.specs.Forms.{term_at, IsGrown}
 use Rattle.ss_vcgen_defaults.specs.Defaults.{slot_of, at_default}
 use Rattle.ss_vcgen_express.specs.Numbers.{AreFormulas}
 use Rattle.ss_vcgen_defaults.proofs.objects.are_default.Given as goal

@@ -1,5 +1,5 @@
-use Rattle.ss_terms_stores.specs.Forms.{term_at}
-use Rattle.ss_terms_stores.proofs.Grown.{IsGrown-then, HasTerm-grown}
+use Rattle.ss_terms.specs.Forms.{term_at}
+use Rattle.ss_terms.proofs.Grown.{IsGrown-then, HasTerm-grown}
 use Rattle.ss_vcgen_defaults.specs.Defaults.{number_of, full_if_owned}
 use Rattle.ss_vcgen_express.proofs.Grown.{formulas_each}
 use Rattle.ss_vcgen_defaults.proofs.objects.are_full_if_owned.Goals as goal

@@ -1,5 +1,5 @@
 use Rattle.std.proofs.Common.{take, map}
-use Rattle.ss_terms_stores.specs.Forms.{term_at, IsGrown}
+use Rattle.ss_terms.specs.Forms.{term_at, IsGrown}
 use Rattle.ss_vcgen_defaults.specs.Defaults.{number_of, full_if_owned}
 use Rattle.ss_vcgen_express.specs.Numbers.{AreFormulas}
 use Rattle.ss_vcgen_defaults.proofs.objects.are_full_if_owned.Given as goal

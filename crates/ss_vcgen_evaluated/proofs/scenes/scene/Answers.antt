@@ -1,5 +1,5 @@
 use Rattle.std.proofs.Common.{List, Option, map, refl, ap, ◌∙◌}
-use Rattle.ss_terms_stores.specs.declared.forms.TermId.{TermId}
+use Rattle.ss_terms.specs.declared.forms.TermId.{TermId}
 use Rattle.ss_vcgen_builder.proofs.Builds.{becomes_bank}
 use Rattle.ss_vcgen_evaluated.specs.Scenes.{or_else}
 use Rattle.ss_vcgen_evaluated.proofs.Evaluated.{scene_stands}

@@ -1,6 +1,6 @@
 use Rattle.std.proofs.Common.{◌≡◌}
 use Rattle.std.proofs.lemmas.Result.{IfOk-weaker}
-use Rattle.ss_terms_stores.specs.Forms.{HasFormulas, formula_at, formulas_at}
+use Rattle.ss_terms.specs.Forms.{HasFormulas, formula_at, formulas_at}
 use Rattle.ss_vcgen_express.specs.Chains.{conjuncts}
 use Rattle.ss_vcgen_express.proofs.Chaining.{and_within, and_parts}
 use Rattle.ss_vcgen_express.proofs.chains.conjuncts.Goals as goal

@@ -1,5 +1,5 @@
 use Rattle.ss_logic_express.specs.Express as spec
-use Rattle.ss_terms_stores.proofs.Grown.{IsGrown-then}
+use Rattle.ss_terms.proofs.Grown.{IsGrown-then}
 use Rattle.ss_vcgen_express.proofs.Grown.{HasChoices-grown, HasChoices-get, no_choice}
 use Rattle.ss_vcgen_express.proofs.Listing.{choices_flat}
 use Rattle.ss_vcgen_express.proofs.classes.as_choices.Goals as goal

@@ -1,6 +1,6 @@
 use Rattle.ss_logic_express.specs.Express as spec
-use Rattle.ss_terms_stores.specs.Forms.{term_at}
-use Rattle.ss_terms_stores.proofs.Grown.{IsGrown-then}
+use Rattle.ss_terms.specs.Forms.{term_at}
+use Rattle.ss_terms.proofs.Grown.{IsGrown-then}
 use Rattle.ss_vcgen_express.specs.Numbers.{choice_at, choices_at}
 use Rattle.ss_vcgen_express.specs.Functions.{applied_two}
 use Rattle.ss_vcgen_express.proofs.Grown.{HasChoices-grown, HasChoices-get, no_choice}

@@ -1,6 +1,6 @@
 use Rattle.std.proofs.Common.{◌≡◌, take, map}
-use Rattle.ss_logic_stores.specs.Formulas.{neg}
-use Rattle.ss_terms_stores.specs.Forms.{formulas_at, HasFormulas}
+use Rattle.ss_logic.specs.Formulas.{neg}
+use Rattle.ss_terms.specs.Forms.{formulas_at, HasFormulas}
 use Rattle.ss_vcgen_express.proofs.quantifiers.negations.Given as goal
 
 abbrev pub invariant-loop-f : goal.invariant-loop-f

@@ -1,7 +1,7 @@
 use Rattle.std.proofs.Common.{ap}
 use Rattle.ss_logic_express.specs.Express.{and_of}
-use Rattle.ss_terms_stores.specs.Forms.{formulas_at}
-use Rattle.ss_terms_stores.proofs.Grown.{formulas_at-grown}
+use Rattle.ss_terms.specs.Forms.{formulas_at}
+use Rattle.ss_terms.proofs.Grown.{formulas_at-grown}
 use Rattle.ss_vcgen_express.proofs.Grown.{is_formula}
 use Rattle.ss_vcgen_express.proofs.truths.all.Goals as goal
 

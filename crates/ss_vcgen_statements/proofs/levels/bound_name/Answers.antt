@@ -1,6 +1,6 @@
 use Rattle.std.proofs.Common.{refl}
 use Rattle.ss_vcgen_statements.proofs.Steps.{bank_ok}
-use Rattle.ss_logic_stores.specs.Terms.{Bound}
+use Rattle.ss_logic.specs.Terms.{Bound}
 use Rattle.ss_vcgen_express.proofs.Listing.{is_term}
 use Rattle.ss_vcgen_statements.proofs.levels.bound_name.Goals as goal
 

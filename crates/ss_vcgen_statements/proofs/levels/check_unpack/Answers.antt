@@ -1,11 +1,11 @@
 use Rattle.std.proofs.Common.{ap}
-use Rattle.ss_terms_stores.specs.Forms.{Forms, term_at}
-use Rattle.ss_terms_stores.proofs.Grown.{IsGrown-then}
+use Rattle.ss_terms.specs.Forms.{Forms, term_at}
+use Rattle.ss_terms.proofs.Grown.{IsGrown-then}
 use Rattle.ss_core.specs.declared.names.Kind.TheVariants as kind
 use Rattle.ss_vcgen_builder.specs.Builder.{position_at, walk_at}
 use Rattle.ss_vcgen_builder.proofs.Builds.{IsWalk-grown}
 use Rattle.ss_vcgen_statements.proofs.Steps.{then, then_formula, formula_later, formula_is}
-use Rattle.ss_logic_stores.specs.Formulas.{neg}
+use Rattle.ss_logic.specs.Formulas.{neg}
 use Rattle.ss_logic_rules.specs.Shapes.{class_term, level_of, equal, committed}
 use Rattle.ss_vcgen_heaps.specs.Positions.{check, local_term}
 use Rattle.ss_vcgen_heaps.specs.Obligations.{check_local}

@@ -1,8 +1,8 @@
 use Rattle.std.proofs.Common.{[], ◌∷◌, ap}
-use Rattle.ss_terms_stores.specs.Forms.{formula_at}
+use Rattle.ss_terms.specs.Forms.{formula_at}
 use Rattle.ss_vcgen_statements.proofs.Steps.{bank_ok}
-use Rattle.ss_logic_stores.specs.Formulas.{Forall}
-use Rattle.ss_logic_stores.specs.declared.Sort.TheVariants as sort
+use Rattle.ss_logic.specs.Formulas.{Forall}
+use Rattle.ss_logic.specs.declared.Sort.TheVariants as sort
 use Rattle.ss_vcgen_express.proofs.Grown.{is_formula}
 use Rattle.ss_vcgen_statements.proofs.levels.each_object.Goals as goal
 

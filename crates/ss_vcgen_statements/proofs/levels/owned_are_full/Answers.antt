@@ -1,12 +1,12 @@
 use Rattle.std.proofs.Common.{[], ◌∷◌, ap, ◌∙◌}
-use Rattle.ss_terms_stores.specs.Forms.{Forms, term_at}
-use Rattle.ss_terms_stores.proofs.Grown.{IsGrown-then}
+use Rattle.ss_terms.specs.Forms.{Forms, term_at}
+use Rattle.ss_terms.proofs.Grown.{IsGrown-then}
 use Rattle.ss_vcgen_builder.specs.Builder.{position_at}
 use Rattle.ss_vcgen_statements.proofs.Steps.{then}
-use Rattle.ss_logic_stores.specs.Formulas.{Forall}
-use Rattle.ss_logic_stores.specs.declared.Sort.TheVariants as sort
+use Rattle.ss_logic.specs.Formulas.{Forall}
+use Rattle.ss_logic.specs.declared.Sort.TheVariants as sort
 use Rattle.ss_vcgen_statements.specs.Words.{full_where_owned}
-use Rattle.ss_logic_stores.specs.Terms.{Bound}
+use Rattle.ss_logic.specs.Terms.{Bound}
 use Rattle.ss_vcgen_statements.proofs.levels.owned_are_full.Goals as goal
 
 pub returns-clause-stays : goal.returns-clause-stays

@@ -1,10 +1,10 @@
 use Rattle.std.proofs.Common.{[], ◌∷◌}
-use Rattle.ss_terms_stores.specs.Forms.{Forms, term_at}
-use Rattle.ss_terms_stores.proofs.Grown.{IsGrown-then}
+use Rattle.ss_terms.specs.Forms.{Forms, term_at}
+use Rattle.ss_terms.proofs.Grown.{IsGrown-then}
 use Rattle.ss_vcgen_builder.specs.Builder.{position_at, walk_at}
 use Rattle.ss_vcgen_builder.proofs.Builds.{IsWalk-grown}
 use Rattle.ss_vcgen_statements.proofs.Steps.{then, so, then_term, term_later}
-use Rattle.ss_logic_stores.specs.Terms.{Pack, app}
+use Rattle.ss_logic.specs.Terms.{Pack, app}
 use Rattle.ss_vcgen_heaps.specs.Positions.{local_term, with_store}
 use Rattle.ss_vcgen_heaps.specs.Obligations.{pack}
 use Rattle.ss_vcgen_statements.specs.Words.{checked_level, checked_invariants}

@@ -1,9 +1,9 @@
 use Rattle.std.proofs.Common.{[], ◌∷◌}
-use Rattle.ss_terms_stores.specs.Forms.{Forms, term_at}
+use Rattle.ss_terms.specs.Forms.{Forms, term_at}
 use Rattle.ss_vcgen_builder.specs.Builder.{position_at, walk_at}
 use Rattle.ss_vcgen_builder.proofs.Builds.{IsWalk-grown}
 use Rattle.ss_vcgen_statements.proofs.Steps.{then, then_term, term_later}
-use Rattle.ss_logic_stores.specs.Terms.{Unpack, app}
+use Rattle.ss_logic.specs.Terms.{Unpack, app}
 use Rattle.ss_vcgen_heaps.specs.Positions.{local_term, with_store}
 use Rattle.ss_vcgen_statements.specs.Words.{checked_unpack}
 use Rattle.ss_vcgen_statements.proofs.levels.unpack.Goals as goal

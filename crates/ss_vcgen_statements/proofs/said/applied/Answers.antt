@@ -1,8 +1,8 @@
 use Rattle.std.proofs.Common.{ap}
-use Rattle.ss_terms_stores.specs.Forms.{terms_at, symbol_of}
-use Rattle.ss_terms_stores.proofs.Grown.{terms_at-grown}
+use Rattle.ss_terms.specs.Forms.{terms_at, symbol_of}
+use Rattle.ss_terms.proofs.Grown.{terms_at-grown}
 use Rattle.ss_vcgen_statements.proofs.Steps.{bank_ok}
-use Rattle.ss_logic_stores.specs.Terms.{app}
+use Rattle.ss_logic.specs.Terms.{app}
 use Rattle.ss_vcgen_express.proofs.Listing.{is_term}
 use Rattle.ss_vcgen_statements.proofs.said.applied.Goals as goal
 

@@ -1,9 +1,9 @@
 use Rattle.std.proofs.Common.{[], ◌∷◌, ap, ◌∙◌}
-use Rattle.ss_terms_stores.specs.Forms.{Forms, term_at, symbol_of}
-use Rattle.ss_terms_stores.proofs.Grown.{IsGrown-then}
+use Rattle.ss_terms.specs.Forms.{Forms, term_at, symbol_of}
+use Rattle.ss_terms.proofs.Grown.{IsGrown-then}
 use Rattle.ss_vcgen_builder.specs.Builder.{position_at}
 use Rattle.ss_vcgen_statements.proofs.Steps.{then}
-use Rattle.ss_logic_stores.specs.Terms.{app}
+use Rattle.ss_logic.specs.Terms.{app}
 use Rattle.ss_vcgen_statements.proofs.said.applied_local.Goals as goal
 
 pub returns-clause-stays : goal.returns-clause-stays

@@ -1,7 +1,7 @@
-use Rattle.ss_terms_stores.specs.Forms.{Forms, terms_at, symbol_of}
+use Rattle.ss_terms.specs.Forms.{Forms, terms_at, symbol_of}
 use Rattle.ss_vcgen_builder.specs.Builder.{position_at}
 use Rattle.ss_vcgen_statements.proofs.Steps.{then_term}
-use Rattle.ss_logic_stores.specs.Terms.{app}
+use Rattle.ss_logic.specs.Terms.{app}
 use Rattle.ss_vcgen_heaps.specs.Positions.{with_store}
 use Rattle.ss_vcgen_statements.proofs.said.change_store.Goals as goal
 

@@ -1,4 +1,4 @@
-use Rattle.ss_terms_stores.specs.Forms.{term_at}
+use Rattle.ss_terms.specs.Forms.{term_at}
 use Rattle.ss_vcgen_statements.proofs.Steps.{negated}
 use Rattle.ss_vcgen_express.specs.Sayings.{said_so}
 use Rattle.ss_vcgen_statements.proofs.said.deny.Goals as goal

@@ -1,5 +1,5 @@
 use Rattle.std.proofs.Common.{ap}
-use Rattle.ss_terms_stores.specs.Forms.{term_at}
+use Rattle.ss_terms.specs.Forms.{term_at}
 use Rattle.ss_vcgen_statements.proofs.Steps.{bank_ok}
 use Rattle.ss_vcgen_heaps.specs.Positions.{good}
 use Rattle.ss_vcgen_express.proofs.Grown.{is_formula}

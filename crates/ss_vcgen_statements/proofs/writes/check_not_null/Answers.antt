@@ -3,7 +3,7 @@ use Rattle.ss_core.specs.declared.names.Kind.TheVariants as kind
 use Rattle.ss_core.specs.View.{classes, body, expr}
 use Rattle.ss_store_rules.specs.NonNull.{is_never_null}
 use Rattle.ss_logic_rules.specs.Shapes.{null_term, differ}
-use Rattle.ss_terms_stores.specs.Forms.{Forms, term_at}
+use Rattle.ss_terms.specs.Forms.{Forms, term_at}
 use Rattle.ss_vcgen_heaps.specs.Positions.{check_unless, site}
 use Rattle.ss_vcgen_heaps.specs.Obligations.{check_not_null}
 use Rattle.ss_vcgen_known.specs.declared.tests.Tests.TheVariants as tests

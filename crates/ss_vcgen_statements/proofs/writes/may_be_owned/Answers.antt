@@ -1,6 +1,6 @@
 use Rattle.std.proofs.Common.{[], ◌∷◌}
-use Rattle.ss_terms_stores.specs.Forms.{Forms, term_at}
-use Rattle.ss_terms_stores.proofs.Grown.{IsGrown-then}
+use Rattle.ss_terms.specs.Forms.{Forms, term_at}
+use Rattle.ss_terms.proofs.Grown.{IsGrown-then}
 use Rattle.ss_vcgen_builder.specs.Builder.{position_at}
 use Rattle.ss_vcgen_statements.proofs.Steps.{then, formula_later, no_formulas, formula_more, formula_of}
 use Rattle.ss_logic_rules.specs.Shapes.{null_term, class_term, owner_of, pair_of, equal, group}

@@ -1,10 +1,10 @@
 use Rattle.std.proofs.Common.{[], ◌∷◌}
-use Rattle.ss_terms_stores.specs.Forms.{Forms, term_at}
+use Rattle.ss_terms.specs.Forms.{Forms, term_at}
 use Rattle.ss_vcgen_builder.specs.Builder.{position_at, walk_at}
 use Rattle.ss_vcgen_builder.proofs.Builds.{IsWalk-grown}
 use Rattle.ss_vcgen_statements.proofs.Steps.{then, then_term, term_later}
 use Rattle.ss_core.specs.View.{expr}
-use Rattle.ss_logic_stores.specs.Terms.{Put, app}
+use Rattle.ss_logic.specs.Terms.{Put, app}
 use Rattle.ss_vcgen_heaps.specs.Positions.{with_store}
 use Rattle.ss_vcgen_statements.specs.Words.{checked_element}
 use Rattle.ss_vcgen_statements.proofs.writes.write_element.Goals as goal

@@ -1,6 +1,6 @@
 use Rattle.std.proofs.lemmas.Result.{on_ok_weaker}
 use Rattle.ss_logic_express.specs.Express.{over}
-use Rattle.ss_terms_stores.specs.Forms.{Forms, term_at}
+use Rattle.ss_terms.specs.Forms.{Forms, term_at}
 use Rattle.ss_vcgen_express.specs.Numbers.{meant_at}
 use Rattle.ss_vcgen_express.specs.Sayings.{said_so}
 use Rattle.ss_vcgen_walk.proofs.Composing.{part_more}

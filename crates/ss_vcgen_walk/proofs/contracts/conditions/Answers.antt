@@ -1,7 +1,7 @@
 use Rattle.ss_core.specs.Tree.{ExprTree}
 use Rattle.ss_logic_express.specs.Express as spec
-use Rattle.ss_terms_stores.specs.Forms.{Forms}
-use Rattle.ss_terms_stores.proofs.Grown.{IsGrown-then}
+use Rattle.ss_terms.specs.Forms.{Forms}
+use Rattle.ss_terms.proofs.Grown.{IsGrown-then}
 use Rattle.ss_vcgen_express.specs.Scenes.{scene_at}
 use Rattle.ss_vcgen_express.proofs.Scenes.{HasScene-grown}
 use Rattle.ss_vcgen_walk.proofs.Holding.{conditions_more, at_item}

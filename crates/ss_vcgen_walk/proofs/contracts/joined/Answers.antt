@@ -1,7 +1,7 @@
 use Rattle.std.proofs.Common.{[], ◌∷◌, ◌++◌, ap, ◌∙◌}
 use Rattle.ss_logic_express.specs.Express as spec
-use Rattle.ss_terms_stores.specs.Forms.{Forms, formula_at, formulas_at}
-use Rattle.ss_terms_stores.proofs.Grown.{HasFormulas-grown}
+use Rattle.ss_terms.specs.Forms.{Forms, formula_at, formulas_at}
+use Rattle.ss_terms.proofs.Grown.{HasFormulas-grown}
 use Rattle.ss_vcgen_express.specs.Marked.{formulas_of}
 use Rattle.ss_vcgen_express.specs.Numbers.{meant_at}
 use Rattle.ss_vcgen_express.proofs.Grown.{formula_so}

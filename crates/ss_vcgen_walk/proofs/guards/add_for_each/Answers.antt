@@ -1,5 +1,5 @@
-use Rattle.ss_terms_stores.specs.Forms.{Forms, formulas_at}
-use Rattle.ss_terms_stores.proofs.Grown.{IsGrown-refl, IsGrown-then, HasFormulas-grown}
+use Rattle.ss_terms.specs.Forms.{Forms, formulas_at}
+use Rattle.ss_terms.proofs.Grown.{IsGrown-refl, IsGrown-then, HasFormulas-grown}
 use Rattle.ss_vcgen_express.specs.Scenes.{for_each}
 use Rattle.ss_vcgen_walk.proofs.Composing.{parts_next, parts_none}
 use Rattle.ss_vcgen_walk.proofs.Growing.{HasParts-grown, HasParts-get, no_part}

@@ -1,5 +1,5 @@
 use Rattle.std.proofs.Common.{◌++◌, map, take}
-use Rattle.ss_terms_stores.specs.Forms.{formulas_at, IsGrown}
+use Rattle.ss_terms.specs.Forms.{formulas_at, IsGrown}
 use Rattle.ss_vcgen_express.specs.Marked.{with_marked}
 use Rattle.ss_vcgen_express.specs.Scenes.{for_each}
 use Rattle.ss_vcgen_walk.specs.Parts.{parts_at, AreParts}

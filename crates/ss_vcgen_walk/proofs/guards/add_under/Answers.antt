@@ -1,8 +1,8 @@
 use Rattle.std.proofs.Common.{[], ◌∷◌}
-use Rattle.ss_logic_stores.specs.Formulas.{Formula, neg}
+use Rattle.ss_logic.specs.Formulas.{Formula, neg}
 use Rattle.ss_logic_express.specs.Express.{or_of}
-use Rattle.ss_terms_stores.specs.Forms.{Forms, formula_at}
-use Rattle.ss_terms_stores.proofs.Grown.{IsGrown-refl, IsGrown-then, HasFormula-grown}
+use Rattle.ss_terms.specs.Forms.{Forms, formula_at}
+use Rattle.ss_terms.proofs.Grown.{IsGrown-refl, IsGrown-then, HasFormula-grown}
 use Rattle.ss_vcgen_walk.proofs.Composing.{parts_next, parts_none}
 use Rattle.ss_vcgen_walk.proofs.Growing.{HasParts-grown, HasParts-get, no_part}
 use Rattle.ss_vcgen_walk.proofs.guards.add_under.Goals as goal

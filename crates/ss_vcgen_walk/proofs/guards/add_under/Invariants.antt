@@ -1,5 +1,5 @@
 use Rattle.std.proofs.Common.{◌++◌, take}
-use Rattle.ss_terms_stores.specs.Forms.{formula_at, IsGrown}
+use Rattle.ss_terms.specs.Forms.{formula_at, IsGrown}
 use Rattle.ss_vcgen_express.specs.Marked.{marked_under}
 use Rattle.ss_vcgen_walk.specs.Parts.{parts_at, AreParts}
 use Rattle.ss_vcgen_walk.proofs.guards.add_under.Given as goal

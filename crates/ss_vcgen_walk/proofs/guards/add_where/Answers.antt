@@ -1,8 +1,8 @@
 use Rattle.std.proofs.Common.{◌++◌, ap}
 use Rattle.std.proofs.lemmas.Result.{on_ok_weaker}
 use Rattle.ss_logic_express.specs.Express.{said}
-use Rattle.ss_terms_stores.specs.Forms.{Forms, formula_at}
-use Rattle.ss_terms_stores.proofs.Grown.{IsGrown-then}
+use Rattle.ss_terms.specs.Forms.{Forms, formula_at}
+use Rattle.ss_terms.proofs.Grown.{IsGrown-then}
 use Rattle.ss_vcgen_express.specs.Marked.{marked_under}
 use Rattle.ss_vcgen_express.specs.Numbers.{meant_at}
 use Rattle.ss_vcgen_walk.specs.Parts.{parts_at}

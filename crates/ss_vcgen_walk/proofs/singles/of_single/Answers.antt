@@ -1,4 +1,4 @@
-use Rattle.ss_terms_stores.specs.Forms.{Forms}
+use Rattle.ss_terms.specs.Forms.{Forms}
 use Rattle.ss_vcgen_express.specs.Numbers.{meant_at}
 use Rattle.ss_vcgen_express.specs.Scenes.{scene_at}
 use Rattle.ss_vcgen_express.proofs.Grown.{HasMeant-grown}

@@ -11,9 +11,9 @@ use Rattle.ss_core.specs.View.{expr, classes, default_tree, owners_tree, word_tr
 use Rattle.ss_store_rules.specs.NonNull.{Known, known_right}
 use Rattle.ss_store_rules.specs.Types.{type_of, is_bool, element_of}
 use Rattle.ss_logic_express.specs.Express as spec
-use Rattle.ss_terms_stores.specs.declared.forms.FormulaId.{FormulaId}
-use Rattle.ss_terms_stores.specs.Forms.{Forms}
-use Rattle.ss_terms_stores.proofs.Grown.{IsGrown-then, HasFormulas-grown}
+use Rattle.ss_terms.specs.declared.forms.FormulaId.{FormulaId}
+use Rattle.ss_terms.specs.Forms.{Forms}
+use Rattle.ss_terms.proofs.Grown.{IsGrown-then, HasFormulas-grown}
 use Rattle.ss_vcgen_known.specs.Fronts.{chain_front, path_front, link_behind, step_behind}
 use Rattle.ss_vcgen_known.specs.Views.{known_of}
 use Rattle.ss_vcgen_known.proofs.Grouping.{operation_is, is_is, as_is, field_is, element_is, length_is, front_next, path_next, front_whole, path_whole}

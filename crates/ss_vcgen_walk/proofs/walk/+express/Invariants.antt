@@ -1,7 +1,7 @@
 use Rattle.std.proofs.Common.{◌≡◌, List, take}
 use Rattle.ss_core.specs.View.{expr, classes}
 use Rattle.ss_store_rules.specs.Types.{type_of}
-use Rattle.ss_terms_stores.specs.Forms.{IsGrown}
+use Rattle.ss_terms.specs.Forms.{IsGrown}
 use Rattle.ss_vcgen_known.specs.Fronts.{chain_front, path_front}
 use Rattle.ss_vcgen_walk.specs.declared.parts.Part.{Part}
 use Rattle.ss_vcgen_walk.specs.Sights.{Reads}

@@ -4,7 +4,7 @@ use Rattle.std.proofs.lemmas.Result.{on_ok_weaker}
 use Rattle.ss_core.specs.declared.names.Kind.TheVariants as kind
 use Rattle.ss_core.specs.View.{expr}
 use Rattle.ss_store_rules.specs.NonNull.{is_never_null}
-use Rattle.ss_terms_stores.specs.Forms.{Forms}
+use Rattle.ss_terms.specs.Forms.{Forms}
 use Rattle.ss_vcgen_express.specs.Marked.{Marked, marked_part}
 use Rattle.ss_vcgen_express.specs.Numbers.{meant_at}
 use Rattle.ss_vcgen_express.specs.Scenes.{scene_at}

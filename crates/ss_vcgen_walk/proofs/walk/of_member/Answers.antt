@@ -1,7 +1,7 @@
 use Rattle.std.proofs.Common.{◌++◌, map}
 use Rattle.ss_logic_express.specs.Express as spec
-use Rattle.ss_terms_stores.specs.Forms.{Forms, formulas_at}
-use Rattle.ss_terms_stores.proofs.Grown.{HasFormulas-grown}
+use Rattle.ss_terms.specs.Forms.{Forms, formulas_at}
+use Rattle.ss_terms.proofs.Grown.{HasFormulas-grown}
 use Rattle.ss_vcgen_express.specs.Marked.{with_marked}
 use Rattle.ss_vcgen_express.specs.Numbers.{meant_at}
 use Rattle.ss_vcgen_express.specs.Scenes.{for_each, quantified_over}

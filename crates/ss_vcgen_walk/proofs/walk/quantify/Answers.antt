@@ -1,4 +1,4 @@
-use Rattle.ss_terms_stores.proofs.Grown.{HasFormulas-grown}
+use Rattle.ss_terms.proofs.Grown.{HasFormulas-grown}
 use Rattle.ss_vcgen_walk.proofs.walk.quantify.Goals as goal
 
 pub quantified-requires-clause-range : goal.quantified-requires-clause-range

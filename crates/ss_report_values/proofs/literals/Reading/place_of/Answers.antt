@@ -1,5 +1,5 @@
-use Rattle.ss_terms_stores.specs.Forms.{term_at}
-use Rattle.ss_terms_stores.proofs.Parts.{AreTermsBelow-get}
+use Rattle.ss_terms.specs.Forms.{term_at}
+use Rattle.ss_terms.proofs.Parts.{AreTermsBelow-get}
 use Rattle.ss_report_values.proofs.Classes.{place_past}
 use Rattle.ss_report_values.proofs.literals.Reading.place_of.Goals as goal
 

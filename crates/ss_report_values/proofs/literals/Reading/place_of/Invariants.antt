@@ -1,7 +1,7 @@
 use Rattle.std.proofs.Common.{◌≡◌, ◌+◌, ◌-◌, ◌≤◌, length, drop}
-use Rattle.ss_logic_stores.specs.Equal.{same_term}
+use Rattle.ss_logic.specs.Equal.{same_term}
 use Rattle.ss_logic_countermodels.specs.Refuting.{place_among}
-use Rattle.ss_terms_stores.specs.Forms.{term_at, terms_at}
+use Rattle.ss_terms.specs.Forms.{term_at, terms_at}
 use Rattle.ss_report_values.proofs.literals.Reading.place_of.Given as goal
 
 abbrev pub invariant-loop-i : goal.invariant-loop-i

@@ -1,5 +1,5 @@
 use Rattle.std.proofs.Common.{arith, ◌∙◌}
-use Rattle.ss_terms_stores.proofs.Parts.{AreTermsBelow-get}
+use Rattle.ss_terms.proofs.Parts.{AreTermsBelow-get}
 use Rattle.ss_report_values.proofs.Classes.{value_here, none_left_there}
 use Rattle.ss_report_values.proofs.literals.Reading.value_in.Goals as goal
 

@@ -1,5 +1,5 @@
 use Rattle.std.proofs.Common.{◌≡◌, ◌-◌, length, drop}
-use Rattle.ss_terms_stores.specs.Forms.{terms_at}
+use Rattle.ss_terms.specs.Forms.{terms_at}
 use Rattle.ss_report_values.specs.Literals.{value_in}
 use Rattle.ss_report_values.proofs.literals.Reading.value_in.Given as goal
 

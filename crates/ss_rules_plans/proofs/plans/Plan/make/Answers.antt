@@ -1,5 +1,5 @@
 use Rattle.std.proofs.Common.{length, sym, subst}
-use Rattle.ss_terms_stores.specs.Forms.{HasTerm}
+use Rattle.ss_terms.specs.Forms.{HasTerm}
 use Rattle.ss_rules_plans.specs.Plans.{HasPlan}
 use Rattle.ss_rules_plans.proofs.Planned.{slot_has}
 use Rattle.ss_rules_plans.proofs.plans.Plan.make.Goals as goal

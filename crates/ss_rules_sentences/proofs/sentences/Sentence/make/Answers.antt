@@ -1,7 +1,7 @@
 use Rattle.std.proofs.Common.{◌≡◌, ◌∙◌, sym, ap, subst, map}
 use Rattle.std.specs.Prelude.{IfOk}
-use Rattle.ss_logic_stores.specs.Formulas.{Or, formulas_from}
-use Rattle.ss_terms_stores.specs.Forms.{HasFormula, HasFormulas, formula_at, formulas_at}
+use Rattle.ss_logic.specs.Formulas.{Or, formulas_from}
+use Rattle.ss_terms.specs.Forms.{HasFormula, HasFormulas, formula_at, formulas_at}
 use Rattle.ss_rules_sentences.specs.Facts.{denied_at}
 use Rattle.ss_rules_sentences.proofs.Made.{made_there, sentence_made, some_length}
 use Rattle.ss_rules_sentences.proofs.sentences.Sentence.make.Goals as goal

@@ -1,4 +1,4 @@
-use Rattle.ss_terms_stores.specs.Forms.{IsGrown}
+use Rattle.ss_terms.specs.Forms.{IsGrown}
 use Rattle.ss_search_engine.proofs.engine.Engine.learn_front.Given as goal
 
 abbrev pub invariant-loop-number : goal.invariant-loop-number

@@ -1,4 +1,4 @@
-use Rattle.ss_terms_stores.specs.Forms.{IsGrown}
+use Rattle.ss_terms.specs.Forms.{IsGrown}
 use Rattle.ss_search_engine.proofs.engine.Engine.run.Given as goal
 
 abbrev pub invariant-loop-turn : goal.invariant-loop-turn

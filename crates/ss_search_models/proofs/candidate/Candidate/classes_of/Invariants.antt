@@ -1,5 +1,5 @@
 use Rattle.std.proofs.Common.{◌≡◌, map, take}
-use Rattle.ss_terms_stores.specs.Forms.{terms_at}
+use Rattle.ss_terms.specs.Forms.{terms_at}
 use Rattle.ss_search_models.specs.Candidates.{class_at}
 use Rattle.ss_search_models.proofs.candidate.Candidate.classes_of.Given as goal
 

@@ -1,8 +1,8 @@
 use Rattle.std.proofs.Common.{◌*◌, sym, ap, ◌∙◌, subst, length, map, refl}
-use Rattle.ss_logic.specs.Logic.{neg}
-use Rattle.ss_terms.specs.Forms.{AndShape, OrShape, HasParts, AreBelow, shape_of, other, formula_of, term_at, formula_at}
+use Rattle.ss_logic.specs.Formulas.{neg}
+use Rattle.ss_terms.specs.Forms.{AndShape, OrShape, ForallShape, ExistsShape, HasParts, AreBelow, shape_of, other, formula_of, term_at, formula_at}
 use Rattle.ss_terms.proofs.Signs.{others_others, others_below}
-use Rattle.ss_terms.proofs.Banks.{negated_at, or_form}
+use Rattle.ss_terms.proofs.Banks.{negated_at, opposite_form}
 use Rattle.ss_terms.proofs.bank.Bank.formula.Goals as goal
 
 pub pair-requires-in-Or-clause-negation : goal.pair-requires-in-Or-clause-negation
@@ -21,6 +21,19 @@ returns-in_ok-number-in-Or-clause-at c =
       at.0,
       at.1
           ∙ ap neg (c.in_ok-number-in-Or.ensures.at ∙ ap (λ fs. formula_of (term_at b) (formula_at b) (AndShape fs)) (c.in_ok-others-in-Or.ensures ∙ ap (map other) c.deref-in-Or.ensures.value))
-          ∙ or_form b c.in-Or.parts.items
+          ∙ opposite_form b (OrShape c.in-Or.parts.items)
           ∙ ap (λ n. formula_of (term_at b) (formula_at b) (shape_of n)) (sym c.in-Or.is),
+    )
+
+pub returns-in_ok-number-in-Exists-clause-at : goal.returns-in_ok-number-in-Exists-clause-at
+returns-in_ok-number-in-Exists-clause-at c =
+    let b = c.args.self.now in
+    let at = negated_at c.pair-in-Exists.new.self c.in_ok-number-in-Exists.number (record { 0 = _ }) refl c.in_ok-number-in-Exists.ensures.in_bank in (
+      at.0,
+      at.1
+          ∙ ap neg (c.in_ok-number-in-Exists.ensures.at
+          ∙ ap (λ ss. formula_of (term_at b) (formula_at b) (ForallShape ss c.opposite-in-Exists.result)) (c.in_ok-same-in-Exists.ensures.items ∙ c.deref-in-Exists.ensures.value)
+          ∙ ap (λ f. formula_of (term_at b) (formula_at b) (ForallShape c.in-Exists.sorts.items f)) c.opposite-in-Exists.ensures)
+          ∙ opposite_form b (ExistsShape c.in-Exists.sorts.items c.in-Exists.body)
+          ∙ ap (λ n. formula_of (term_at b) (formula_at b) (shape_of n)) (sym c.in-Exists.is),
     )

@@ -7,4 +7,4 @@ use Rattle.ss_terms.proofs.bank.Bank.is_same_term.Goals as goal
 pub returns : goal.returns
 returns c =
     subst (λ b. HasTerm b c.args.x → HasTerm b c.args.y → eqb c.args.x.0 c.args.y.0 ≡ same_term (term_at b c.args.x) (term_at b c.args.y)) c.self.view_is
-    (same_term-numbers c.self.inside.terms.keys c.self.inside.formulas.entries c.self.invariant c.args.x c.args.y) c.requires.left c.requires.right
+    (same_term-numbers c.self.inside.fields.items c.self.inside.terms.entries c.self.inside.formulas.entries c.self.invariant c.args.x c.args.y) c.requires.left c.requires.right

@@ -1,4 +1,4 @@
-use Rattle.ss_terms_stores.specs.Forms.{formula_at}
+use Rattle.ss_terms.specs.Forms.{formula_at}
 use Rattle.ss_vcgen_heaps.specs.Positions as spec
 use Rattle.ss_vcgen_builder.specs.Builder.{guard_of, position_at}
 use Rattle.ss_vcgen_builder.proofs.Builds.{becomes_said, on_ok}

@@ -1,8 +1,8 @@
 use Rattle.std.proofs.Common.{◌+◌, drop, get_or, List, ap}
 use Rattle.std.proofs.lemmas.List.{drop_more, drop_all}
-use Rattle.ss_terms_stores.specs.declared.forms.FormulaId.{FormulaId}
-use Rattle.ss_terms_stores.specs.Forms.{formula_at, formulas_at}
-use Rattle.ss_terms_stores.proofs.Grown.{HasFormulas-grown}
+use Rattle.ss_terms.specs.declared.forms.FormulaId.{FormulaId}
+use Rattle.ss_terms.specs.Forms.{formula_at, formulas_at}
+use Rattle.ss_terms.proofs.Grown.{HasFormulas-grown}
 use Rattle.ss_vcgen_heaps.specs.Positions as spec
 use Rattle.ss_vcgen_builder.specs.Builder.{position_at, walk_at}
 use Rattle.ss_vcgen_builder.proofs.Held.{HasFormulas-get, no_formula}

@@ -1,5 +1,5 @@
 use Rattle.std.proofs.Common.{drop}
-use Rattle.ss_terms_stores.specs.Forms.{formulas_at}
+use Rattle.ss_terms.specs.Forms.{formulas_at}
 use Rattle.ss_vcgen_heaps.specs.Positions as spec
 use Rattle.ss_vcgen_builder.specs.Builder.{position_at, walk_at}
 use Rattle.ss_vcgen_builder.proofs.Builds.{Going}

@@ -1,9 +1,0 @@
-//! The checker of derivations over stores.
-#![tactic(auto)]
-
-mod choices;
-mod facts;
-mod instances;
-mod steps;
-
-pub use steps::{CheckStop, check};

@@ -1,2 +1,0 @@
-//! Definitions: the ground form of an obligation, and the models that refute it.
-#![tactic(auto)]

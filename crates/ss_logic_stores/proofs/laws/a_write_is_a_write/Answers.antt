@@ -1,5 +1,0 @@
-use Rattle.ss_logic_stores.proofs.Writing.{written_same}
-use Rattle.ss_logic_stores.proofs.laws.a_write_is_a_write.Goals as goal
-
-pub returns : goal.returns
-returns c = written_same

@@ -1,5 +1,0 @@
-use Rattle.ss_logic_stores.proofs.Changing.{ready_same}
-use Rattle.ss_logic_stores.proofs.laws.being_made_ready_is_being_made_ready.Goals as goal
-
-pub returns : goal.returns
-returns c = ready_same

@@ -1,5 +1,0 @@
-use Rattle.ss_logic_stores.proofs.Changing.{packed_same}
-use Rattle.ss_logic_stores.proofs.laws.packing_is_packing.Goals as goal
-
-pub returns : goal.returns
-returns c = packed_same

@@ -1,0 +1,17 @@
+-- Lists of obligations that aren't proved.
+use Rattle.std.specs.Prelude.{ℕ, ◌+◌, ◌≤◌, List, [], ◌∷◌, map}
+use Rattle.ss_search.specs.declared.answers.Countered.{Countered}
+use Rattle.ss_search.specs.declared.answers.Undecided.{Undecided}
+
+-- the numbers of the obligations that a model refutes
+abbrev pub countered_numbers : List Countered → List ℕ
+countered_numbers ls = map (λ l. l.obligation) ls
+
+-- the numbers of those that aren't decided
+abbrev pub undecided_numbers : List Undecided → List ℕ
+undecided_numbers ls = map (λ l. l.obligation) ls
+
+-- each number is at least `low`, and above the one before it
+abbrev pub AreRisingFrom : ℕ → List ℕ → Type 0
+AreRisingFrom low [] = Unit {0}
+AreRisingFrom low (n ∷ ns) = (low ≤ n) × AreRisingFrom (n + 1) ns

@@ -1,0 +1,48 @@
+// What is found of obligations.
+
+use ss_deriv::Derivation;
+use ss_logic_countermodels::Countermodel;
+
+/// How far an obligation is searched.
+#[derive(Clone, Copy, Debug, PartialEq, Eq)]
+pub struct Options {
+    /// The rounds of the ground form.
+    pub rounds: u8,
+    /// The most formulas that the ground form may have.
+    pub instances: u32,
+}
+
+/// What was found of one obligation.
+#[derive(Drop)]
+pub enum Found {
+    /// Lines that may derive it.
+    Proved(Derivation),
+    /// A model that refutes its ground form.
+    Countered(Countermodel),
+    /// Its ground form has more formulas than this.
+    TooMany { limit: u32 },
+    /// None of these. That this doesn't come is not proved.
+    Lost,
+    Memory,
+}
+
+/// A budget that ran out.
+#[derive(Clone, Copy, Debug, PartialEq, Eq)]
+pub enum Budget {
+    /// The ground form has more formulas than this.
+    Instances(u32),
+}
+
+/// An obligation, by its number, and a model that refutes its ground form.
+#[derive(Drop)]
+pub struct Countered {
+    pub obligation: usize,
+    pub model: Countermodel,
+}
+
+/// An obligation, by its number, that was neither proved nor refuted, since this ran out.
+#[derive(Clone, Copy, Debug, PartialEq, Eq)]
+pub struct Undecided {
+    pub obligation: usize,
+    pub cause: Budget,
+}

@@ -1,0 +1,79 @@
+// What a case says as a model.
+
+ghost use Rattle.ss_terms.specs.Forms.{HasFormulas, IsGrown};
+
+use ss_rules_occurring::atoms;
+use ss_search_classes::{
+    EQUAL, LITERAL, first_of, kind_of, of_pair, of_term, pair_argument, pair_head,
+};
+use ss_search_engine::Engine;
+use ss_search_state::State;
+use ss_terms::{Bank, FormulaId};
+use std::alloc::{AllocError, Global};
+
+// How many splits are tried.
+const MOST_SPLITS: usize = 20_000;
+
+/// A class for each term of a bank, and a truth value for each pair of a formula and its negation, of the one that stands first.
+#[derive(Drop)]
+pub struct Candidate {
+    pub classes: Vec<usize>,
+    pub truths: Vec<bool>,
+}
+
+// The class of a node; its own where nothing is known of it.
+fn class_of(state: &State, node: usize) -> usize {
+    if state.equal.is_there(node) {
+        state.equal.class(node)
+    } else {
+        node
+    }
+}
+
+// Whether a formula is true; what isn't known is false.
+fn truth_of(state: &State, bank: &Bank, pair: usize) -> bool {
+    if kind_of(bank, first_of(pair)) != LITERAL {
+        return state.nodes.value(first_of(pair)) == Some(true);
+    }
+    if pair_head(bank, pair).kind == EQUAL {
+        let left = of_term(pair_argument(bank, pair, 0));
+        let right = of_term(pair_argument(bank, pair, 1));
+        return class_of(state, left) == class_of(state, right);
+    }
+    class_of(state, of_pair(pair)) == class_of(state, state.equal.yes())
+}
+
+fn classes_of(alloc: Global, state: &State, bank: &Bank) -> Result<Vec<usize>, AllocError> {
+    let mut classes = Vec::new(alloc);
+    for term in 0..bank.term_count() {
+        classes.push(class_of(state, of_term(term)))?;
+    }
+    Ok(classes)
+}
+
+fn truths_of(alloc: Global, state: &State, bank: &Bank) -> Result<Vec<bool>, AllocError> {
+    let mut truths = Vec::new(alloc);
+    for pair in 0..bank.formula_count() / 2 {
+        truths.push(truth_of(state, bank, pair))?;
+    }
+    Ok(truths)
+}
+
+/// A candidate for a model that makes the formulas true, or nothing where there is none or the cases are too many.
+pub fn find_candidate(
+    alloc: Global,
+    bank: &mut Bank,
+    formulas: &[FormulaId],
+) -> Result<Option<Candidate>, AllocError>
+    requires { HasFormulas bank.old formulas.now }
+    ensures grown { IsGrown bank.old bank.new }
+{
+    let found = atoms(alloc, bank, formulas)?;
+    let mut engine = Engine::new(alloc, bank)?;
+    if !engine.satisfy(bank, formulas, &found.list, MOST_SPLITS)? {
+        return Ok(None);
+    }
+    let classes = classes_of(alloc, engine.state(), bank)?;
+    let truths = truths_of(alloc, engine.state(), bank)?;
+    Ok(Some(Candidate { classes, truths }))
+}

@@ -1,0 +1,123 @@
+// Cases of ground formulas, in which each `or` has a part that is known.
+
+use crate::cases::Closed;
+use crate::engine::Engine;
+use ss_search_classes::{
+    EXISTS, LITERAL, NONE, is_first, kind_of, of_pair, pair_of, part_at, part_count,
+};
+use ss_search_proof::{Reason, Said};
+use ss_search_state::{State, Step};
+use ss_terms::{Bank, FormulaId};
+use std::alloc::AllocError;
+
+impl Engine {
+    /// What is known.
+    pub fn state(&self) -> &State {
+        &self.state
+    }
+
+    /// Makes the formulas known, and goes through cases to one in which each known `or` has a part that is known, with no other
+    /// instance. The classes of the atoms and of the terms in them are told apart. Whether there is such a case within so many splits.
+    pub fn satisfy(
+        &mut self,
+        bank: &Bank,
+        formulas: &[FormulaId],
+        atoms: &[FormulaId],
+        splits: usize,
+    ) -> Result<bool, AllocError> {
+        self.state.left.splits = splits;
+        self.state.nodes.grow(bank)?;
+        for atom in atoms {
+            self.state.equal.add(bank, of_pair(pair_of(atom.0)))?;
+        }
+        let step = self.learn_ground(bank, formulas)?;
+        self.run_ground(bank, step)
+    }
+
+    fn learn_ground(&mut self, bank: &Bank, formulas: &[FormulaId]) -> Result<Step, AllocError> {
+        let mut step = Step::Rests;
+        for (number, formula) in formulas.iter().enumerate() {
+            if let Step::Conflict(_) = &step {
+                break;
+            }
+            self.state
+                .learn(Said::Formula(formula.0), Reason::Premise(number), 0)?;
+            step = self.settle_ground(bank)?;
+        }
+        Ok(step)
+    }
+
+    // Finds what follows. Nothing is made in the bank.
+    fn settle_ground(&mut self, bank: &Bank) -> Result<Step, AllocError> {
+        let step = self.state.settle(bank)?;
+        self.state.requests.truncate(0);
+        Ok(step)
+    }
+
+    fn run_ground(&mut self, bank: &Bank, first: Step) -> Result<bool, AllocError> {
+        let mut step = first;
+        for _turn in 0..u64::MAX {
+            match self.advance_ground(bank, step)? {
+                Closed::Root(_) => return Ok(false),
+                Closed::Next(Step::Rests) => break,
+                Closed::Next(next) => step = next,
+                Closed::Split(_) => step = Step::Goes,
+            }
+        }
+        Ok(self.open_clause(bank) == NONE)
+    }
+
+    fn advance_ground(&mut self, bank: &Bank, step: Step) -> Result<Closed, AllocError> {
+        if let Step::Conflict(conflict) = step {
+            return self.close(bank, conflict);
+        }
+        let step = self.settle_ground(bank)?;
+        if let Step::Conflict(_) = &step {
+            return Ok(Closed::Next(step));
+        }
+        let place = self.open_clause(bank);
+        if place == NONE {
+            Ok(Closed::Next(Step::Rests))
+        } else {
+            self.open_split(bank, place)
+        }
+    }
+
+    // A known `or` that isn't met, with the fewest open parts, by its place, or NONE: of those with two the last.
+    fn open_clause(&self, bank: &Bank) -> usize {
+        let mut best = NONE;
+        let mut fewest = NONE;
+        let count_all = self.state.asked.clause_count();
+        for turn in 0..count_all {
+            let place = count_all.saturating_sub(turn).saturating_sub(1);
+            let formula = self.state.asked.clause(place).formula;
+            let count = self.state.nodes.open_count(formula);
+            if count < fewest && !self.is_met(bank, formula) {
+                fewest = count;
+                best = place;
+                if count <= 2 {
+                    break;
+                }
+            }
+        }
+        best
+    }
+
+    // Whether a part of the `or` is known, or denies something of which nothing is known: what isn't known is made false.
+    fn is_met(&self, bank: &Bank, formula: usize) -> bool {
+        if self.state.nodes.is_settled(formula) || self.state.nodes.has_held_part(bank, formula) {
+            return true;
+        }
+        for place in 0..part_count(bank, formula) {
+            let part = part_at(bank, formula, place);
+            let kind = kind_of(bank, part);
+            if (kind == LITERAL || kind == EXISTS)
+                && !is_first(part)
+                && self.state.nodes.value(part).is_none()
+            {
+                return true;
+            }
+        }
+        false
+    }
+}

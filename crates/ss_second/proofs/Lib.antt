@@ -1,4 +1,0 @@
-pub mod Loops
-pub mod Longer
-pub mod Shapes
-pub mod Collecting

@@ -1,5 +1,0 @@
-pub mod Collected
-pub mod Narrow
-pub mod Views
-pub mod Second
-pub mod Answers

@@ -1,4 +1,0 @@
-pub mod Values
-pub mod Formed
-pub mod Steps
-pub mod Safe

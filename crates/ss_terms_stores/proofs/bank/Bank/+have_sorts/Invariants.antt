@@ -1,5 +1,0 @@
-use Rattle.std.proofs.Common.{length}
-use Rattle.ss_terms_stores.proofs.bank.Bank.+have_sorts.Given as goal
-
-abbrev pub decreases-have_sorts : goal.decreases-have_sorts
-decreases-have_sorts l = length l.sorts.now

@@ -1,5 +1,0 @@
-use Rattle.ss_terms_stores.proofs.Parts.{AreTermsBelow-get}
-use Rattle.ss_terms_stores.proofs.bank.Bank.sorts_under.Goals as goal
-
-pub sort_under-requires : goal.sort_under-requires
-sort_under-requires c = AreTermsBelow-get _ c.args.ts.now c.loop-t.t-index _ c.requires c.loop-t-test.true

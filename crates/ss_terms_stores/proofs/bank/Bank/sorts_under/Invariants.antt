@@ -1,8 +1,0 @@
-use Rattle.std.proofs.Common.{◌≡◌, List, map, take}
-use Rattle.ss_core.specs.Tree.{ClassTree}
-use Rattle.ss_logic_stores.specs.Terms.{sort_of}
-use Rattle.ss_terms_stores.specs.Forms.{terms_at, IsBankOf}
-use Rattle.ss_terms_stores.proofs.bank.Bank.sorts_under.Given as goal
-
-abbrev pub invariant-loop-t : goal.invariant-loop-t
-invariant-loop-t l = (cs : List ClassTree) → IsBankOf cs l.self → l.sorts.items ≡ map (sort_of cs l.bound) (terms_at l.self (take l.t-index l.ts))

@@ -1,0 +1,121 @@
+// Derivations of many lines, and of a line of many steps.
+
+ghost use Rattle.std.specs.Prelude.{◌≡◌};
+ghost use Rattle.ss_core.specs.View as view;
+ghost use Rattle.ss_core.specs.Chain.{IsWithinLimits};
+ghost use Rattle.ss_terms.specs.Forms.{IsBankOf};
+
+use ss_check::check;
+use ss_core::Classes;
+use ss_deriv::{Draft, Line};
+use ss_logic::Sort;
+use ss_logic_rules::RuleName;
+use ss_terms::{Bank, FormulaId, Predicate, Symbol, TermId, field_sorts};
+use std::alloc::{AllocError, Global};
+
+// No class is declared.
+fn no_class(alloc: Global) -> Classes
+    ensures { IsWithinLimits (view.classes result) }
+{
+    Classes {
+        list: Vec::new(alloc),
+    }
+}
+
+// Adds the line, where it may come next.
+fn add(draft: &mut Draft, line: Line) -> Result<(), AllocError> {
+    if draft.allows(&line) {
+        draft.add(line)
+    } else {
+        Ok(())
+    }
+}
+
+// The first two of these lines give a clash; between are `count` times the two values of a truth value.
+fn many(alloc: Global, count: usize, b: TermId) -> Result<Draft, AllocError> {
+    let mut draft = Draft::new(alloc);
+    add(&mut draft, Line::Premise { number: 0 })?;
+    add(&mut draft, Line::Denied)?;
+    for i in 0..count {
+        let _ = i;
+        let arguments = Vec::from_slice(alloc, &[b])?;
+        let name = RuleName::Bool;
+        add(&mut draft, Line::Rule { name, arguments })?;
+    }
+    add(&mut draft, Line::Clash { left: 0, right: 1 })?;
+    Ok(draft)
+}
+
+// From one term to the other and back, `count` times, and to the other.
+fn long(alloc: Global, count: usize, left: TermId, right: TermId) -> Result<Draft, AllocError> {
+    let mut path = Vec::new(alloc);
+    for i in 0..count {
+        let _ = i;
+        path.push(0)?;
+        path.push(0)?;
+    }
+    path.push(0)?;
+    let mut draft = Draft::new(alloc);
+    add(&mut draft, Line::Premise { number: 0 })?;
+    add(&mut draft, Line::Denied)?;
+    add(&mut draft, Line::Chain { left, right, path })?;
+    add(&mut draft, Line::Clash { left: 2, right: 1 })?;
+    Ok(draft)
+}
+
+// Whether the goal follows from itself by the lines.
+fn is_accepted(
+    alloc: Global,
+    bank: &mut Bank,
+    classes: &Classes,
+    goal: FormulaId,
+    draft: Draft,
+) -> bool
+    requires bank { IsBankOf (view.classes classes.now) bank.old }
+    requires limits { IsWithinLimits (view.classes classes.now) }
+{
+    if !bank.has_formula(goal) || !draft.is_finished() {
+        return false;
+    }
+    check(alloc, bank, classes, &[goal], goal, &draft.finish()).is_ok()
+}
+
+// That a truth value is true, and its term and that of `true`.
+fn truth(bank: &mut Bank) -> Result<(FormulaId, TermId, TermId), AllocError>
+    ensures { bank.new.fields ≡ bank.old.fields }
+{
+    let b = bank.apply(Symbol::Constant(Sort::Truth, 0), &[])?;
+    let t = bank.apply(Symbol::Fixed(true), &[])?;
+    if !bank.has_term(b) || !bank.has_term(t) {
+        return Err(AllocError);
+    }
+    let f = bank.atom(true, Predicate::Equal, &[b, t])?;
+    Ok((f, b, t))
+}
+
+// Whether the checker accepts so many lines, or one line of so many steps.
+fn answer_to(
+    alloc: Global,
+    bank: &mut Bank,
+    classes: &Classes,
+    lines: usize,
+    steps: usize,
+) -> Result<bool, AllocError>
+    requires bank { IsBankOf (view.classes classes.now) bank.old }
+    requires limits { IsWithinLimits (view.classes classes.now) }
+{
+    let (f, b, t) = truth(bank)?;
+    let draft = if lines > 0 {
+        many(alloc, lines, b)?
+    } else {
+        long(alloc, steps / 2, b, t)?
+    };
+    Ok(is_accepted(alloc, bank, classes, f, draft))
+}
+
+/// Whether the checker accepts a derivation of so many lines between three others; where there are none, one with a line of so many steps.
+pub fn are_accepted(alloc: Global, lines: usize, steps: usize) -> Result<bool, AllocError> {
+    let classes = no_class(alloc);
+    let mut bank = Bank::new(alloc, field_sorts(alloc, &classes)?);
+    answer_to(alloc, &mut bank, &classes, lines, steps)
+}

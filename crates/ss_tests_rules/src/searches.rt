@@ -1,0 +1,239 @@
+// What the search finds of each obligation of a text. A derivation that is found has to be accepted.
+
+ghost use Rattle.std.specs.Prelude.{◌≡◌};
+ghost use Rattle.ss_core.specs.View as view;
+ghost use Rattle.ss_core.specs.Chain.{IsWithinLimits};
+ghost use Rattle.ss_terms.specs.Forms.{HasFormula, HasFormulas, IsBankOf};
+
+use crate::classes::{are_few, program};
+use crate::derivations::read_formula;
+use crate::lines::first_word;
+use crate::reader::has_formulas;
+use ss_check::check;
+use ss_core::Classes;
+use ss_deriv::{Derivation, Line};
+use ss_search::{Found, Options, Search};
+use ss_terms::{Bank, FormulaId, field_sorts};
+use std::alloc::{AllocError, Global};
+use std::test::Fail;
+
+/// Obligations, and what is found of them. `absurd` is said of premises that can't all hold: the derivation doesn't deny the goal.
+const FOUND: &str = "
+# both, by cases
+given (or (= b0 true) (= b1 true))
+given (or (= b0 true) (not (= b1 true)))
+given (or (not (= b0 true)) (= b1 true))
+goal (and (= b0 true) (= b1 true))
+proved
+
+# choices inside choices
+given (or (or (= b0 true) (= b1 true)))
+given (or (or (= b0 true) (not (= b1 true))))
+given (or (= b0 true) (= b1 true))
+goal (= b2 true)
+countered
+
+# the goal is far from premises that can't all hold
+given (or (= b0 true) (= b1 true))
+given (or (= b0 true) (not (= b1 true)))
+given (and (or (not (= b0 true)) (= b1 true)) (or (not (= b0 true)) (not (= b1 true))))
+goal (and (= b2 true) (= b3 true))
+absurd
+
+# a written field is what was written
+goal (= (field (set s0 x0 f0 5) x0 f0) 5)
+proved
+
+# and nothing else
+goal (= (field (set s0 x0 f0 5) x0 f0) 4)
+countered
+
+# the field of another object stays
+given (not (= x1 x0))
+given (= (field s0 x1 f0) 7)
+goal (= (field (set s0 x0 f0 5) x1 f0) 7)
+proved
+
+# an object that is unpacked leaves the level of each other one
+given (not (= x0 x1))
+goal (= (inv (unp s0 x0 c6) x1) (inv s0 x1))
+proved
+
+# it doesn't change it
+given (not (= x0 x1))
+goal (not (= (inv (unp s0 x0 c6) x1) (inv s0 x1)))
+countered
+
+# of what is so of all objects that are committed
+given (forall object (or (not (com s0 v0)) (= (field s0 v0 f0) 3)))
+given (com s0 x1)
+goal (= (field s0 x1 f0) 3)
+proved
+";
+
+#[derive(Clone, Copy, PartialEq, Eq)]
+enum Answer {
+    // By a derivation that denies the goal.
+    Proved,
+    // By a derivation from the premises alone.
+    Absurd,
+    Countered,
+    // Nothing is found, what is found isn't accepted, or the text can't be read.
+    Other,
+}
+
+fn named_answer(line: &str) -> Option<Answer> {
+    match line {
+        "proved" => Some(Answer::Proved),
+        "absurd" => Some(Answer::Absurd),
+        "countered" => Some(Answer::Countered),
+        _ => None,
+    }
+}
+
+// An obligation, as far as it is read.
+#[derive(Drop)]
+struct Asked {
+    premises: Vec<FormulaId>,
+    goals: Vec<FormulaId>,
+}
+
+impl Asked {
+    fn new(alloc: Global) -> Self {
+        Asked {
+            premises: Vec::new(alloc),
+            goals: Vec::new(alloc),
+        }
+    }
+
+    fn take(&mut self, alloc: Global, bank: &mut Bank, text: &str) -> Result<(), AllocError>
+        ensures { bank.new.fields ≡ bank.old.fields }
+    {
+        let (word, rest) = first_word(text);
+        match word {
+            "given" => {
+                let f = read_formula(alloc, bank, rest)?;
+                self.premises.extend_from_slice(&f)?;
+            }
+            "goal" => {
+                let f = read_formula(alloc, bank, rest)?;
+                self.goals.extend_from_slice(&f)?;
+            }
+            _ => {}
+        }
+        Ok(())
+    }
+}
+
+fn denies(derivation: &Derivation) -> bool {
+    for line in derivation.lines() {
+        if matches!(line, Line::Denied) {
+            return true;
+        }
+    }
+    false
+}
+
+// What is said of lines that are found.
+fn accepted(
+    alloc: Global,
+    bank: &mut Bank,
+    classes: &Classes,
+    premises: &[FormulaId],
+    goal: FormulaId,
+    derivation: &Derivation,
+) -> Answer
+    requires bank { IsBankOf (view.classes classes.now) bank.old }
+    requires limits { IsWithinLimits (view.classes classes.now) }
+    ensures { bank.new.fields ≡ bank.old.fields }
+{
+    if !has_formulas(bank, premises) || !bank.has_formula(goal) {
+        return Answer::Other;
+    }
+    match check(alloc, bank, classes, premises, goal, derivation) {
+        Ok(()) if denies(derivation) => Answer::Proved,
+        Ok(()) => Answer::Absurd,
+        Err(_) => Answer::Other,
+    }
+}
+
+// Searches once.
+fn search_for(
+    alloc: Global,
+    bank: &mut Bank,
+    classes: &Classes,
+    premises: &[FormulaId],
+    goal: FormulaId,
+) -> Result<Found, AllocError>
+    requires bank { IsBankOf (view.classes classes.now) bank.old }
+    requires limits { IsWithinLimits (view.classes classes.now) }
+    ensures { bank.new.fields ≡ bank.old.fields }
+{
+    let mut search = Search::new(alloc, bank)?;
+    if !has_formulas(bank, premises) || !bank.has_formula(goal) {
+        return Ok(Found::Lost);
+    }
+    let options = Options {
+        rounds: 2,
+        instances: 50_000,
+    };
+    Ok(search.prove(bank, classes, premises, goal, options))
+}
+
+fn answer_to(
+    alloc: Global,
+    bank: &mut Bank,
+    classes: &Classes,
+    asked: &Asked,
+) -> Result<Answer, AllocError>
+    requires bank { IsBankOf (view.classes classes.now) bank.old }
+    requires limits { IsWithinLimits (view.classes classes.now) }
+    ensures { bank.new.fields ≡ bank.old.fields }
+{
+    let premises = asked.premises.as_slice();
+    let [goal] = asked.goals.as_slice() else {
+        return Ok(Answer::Other);
+    };
+    match search_for(alloc, bank, classes, premises, *goal)? {
+        Found::Proved(derivation) => {
+            Ok(accepted(alloc, bank, classes, premises, *goal, &derivation))
+        }
+        Found::Countered(_) => Ok(Answer::Countered),
+        _ => Ok(Answer::Other),
+    }
+}
+
+// The line of the first answer that isn't the one that is given, from 0.
+fn first_other(
+    alloc: Global,
+    bank: &mut Bank,
+    classes: &Classes,
+) -> Result<Option<usize>, AllocError>
+    requires bank { IsBankOf (view.classes classes.now) bank.old }
+    requires limits { IsWithinLimits (view.classes classes.now) }
+    ensures { bank.new.fields ≡ bank.old.fields }
+{
+    let mut asked = Asked::new(alloc);
+    for (number, line) in FOUND.lines().enumerate() {
+        match named_answer(line) {
+            Some(wanted) => {
+                if answer_to(alloc, bank, classes, &asked)? != wanted {
+                    return Ok(Some(number));
+                }
+                asked = Asked::new(alloc);
+            }
+            None => asked.take(alloc, bank, line)?,
+        }
+    }
+    Ok(None)
+}
+
+#[test]
+fn obligations_are_decided(rt: HostRuntime) -> Result<(), Fail> {
+    let alloc = rt.alloc();
+    let classes = program(alloc)?;
+    assert!(rt; are_few(&classes));
+    let mut bank = Bank::new(alloc, field_sorts(alloc, &classes)?);
+    assert!(rt; first_other(alloc, &mut bank, &classes)?.is_none());
+    Ok(())
+}

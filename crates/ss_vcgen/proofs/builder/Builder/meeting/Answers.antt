@@ -1,9 +1,0 @@
-use Rattle.std.proofs.lemmas.Result.{IfOk-weaker}
-use Rattle.ss_vcgen.specs.Builder.{known_of, Becomes}
-use Rattle.ss_vcgen.proofs.Builds.{becomes_grown}
-use Rattle.ss_vcgen.proofs.builder.Builder.meeting.Goals as goal
-
-pub returns-clause-stays : goal.returns-clause-stays
-returns-clause-stays c =
-    let s = c.args.self.now in
-    IfOk-weaker c.meeting_guard.result _ (λ _. Becomes s (record s { bank = c.meeting_guard.new.bank }) (known_of s)) (λ _ _. becomes_grown s c.requires c.meeting_guard.new.bank c.meeting_guard.ensures.grown) c.meeting_guard.ensures.at
