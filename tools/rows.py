@@ -47,8 +47,7 @@ def rule_rows():
             continue
         if answer is None:
             sys.exit("docs/RULES.md: rule %d has no answer" % rule)
-        command = "verify" if rule == 90 else "expand"
-        lines = row("rule-%d" % rule, command, program.group(1).split("\n"), [], "4 " + answer.group(1))
+        lines = row("rule-%d" % rule, "expand", program.group(1).split("\n"), [], "4 " + answer.group(1))
         rows.append(["# later: " + line for line in lines] if rule in LATER else lines)
     return rows
 

@@ -9,7 +9,7 @@ use Rattle.ss_logic_derivations.specs.Steps.{State, Open, Between, add_fact, fac
 use Rattle.ss_terms.specs.declared.forms.TermId.{TermId}
 use Rattle.ss_terms.specs.declared.forms.FormulaId.{FormulaId}
 use Rattle.ss_deriv.specs.declared.line.Line.{Line}
-use Rattle.ss_deriv.specs.declared.line.Line.TheVariants.{Premise, Denied, Part, Split, Cut, Inst, Choose, Rule, Good, Invariants, Chain, Cong, Swap, Clash, Case}
+use Rattle.ss_deriv.specs.declared.line.Line.TheVariants.{Premise, Denied, Part, Split, Cut, Inst, Choose, Rule, Good, Invariants, Chain, Cong, Swap, Sum, Clash, Case}
 use Rattle.ss_terms.specs.Forms.{Forms, formula_at, formulas_at, HasTerms, HasFormula, HasFormulas, IsGrown}
 use Rattle.ss_deriv.specs.Lines.{all_below, is_within, line_in, line_of}
 use Rattle.ss_terms.proofs.Grown.{HasTerm-grown, HasTerms-grown, HasFormula-grown, terms_at-grown, formulas_at-grown}
@@ -58,6 +58,7 @@ module _ (a b : Forms) (g : IsGrown a b) where
   line_in-grown (Cong x y path) h = let l = g.same_terms x h.0 in let r = g.same_terms y h.1 in cc
   line_in-grown (Swap i f js) h = ap (λ x. TreeSwap i x js.items) (g.same_formulas f h)
   line_in-grown (Rule name ts) h = ap (TreeRule name) (terms_at-grown a b g ts.items h)
+  line_in-grown (Sum s) h = refl
   line_in-grown (Clash i j) h = refl
   line_in-grown Case h = refl
 
@@ -75,6 +76,7 @@ module _ (a b : Forms) (g : IsGrown a b) where
   LineWithin-grown (Cong x y path) h = (HasTerm-grown a b g x h.0, HasTerm-grown a b g y h.1)
   LineWithin-grown (Swap i f js) h = HasFormula-grown a b g f h
   LineWithin-grown (Rule name ts) h = HasTerms-grown a b g ts.items h
+  LineWithin-grown (Sum s) h = tt
   LineWithin-grown (Clash i j) h = tt
   LineWithin-grown Case h = tt
 
@@ -96,6 +98,7 @@ LineWithin-tested b (Cong x y path) h = let p = and_parts (nat_lt x.0 (length b.
 LineWithin-tested b (Chain x y path) h = let p = and_parts (nat_lt x.0 (length b.terms)) (nat_lt y.0 (length b.terms)) h in (ltb-true _ _ p.0, ltb-true _ _ p.1)
 LineWithin-tested b (Swap i f js) h = ltb-true _ _ h
 LineWithin-tested b (Rule name ts) h = HasTerms-below b ts.items h
+LineWithin-tested b (Sum s) h = tt
 LineWithin-tested b (Clash i j) h = tt
 LineWithin-tested b Case h = tt
 
@@ -122,6 +125,7 @@ step_adds cs b ps g known waiting (Chain a d path) s c x = refl
 step_adds cs b ps g known waiting (Cong a d path) s c x = refl
 step_adds cs b ps g known waiting (Swap i f js) s c x = refl
 step_adds cs b ps g known waiting (Rule name ts) s c x = refl
+step_adds cs b ps g known waiting (Sum x) s c y = refl
 step_adds cs b ps g known waiting (Clash i j) s c x = absurd (x i j refl)
 step_adds cs b ps g known waiting Case s c x = refl
 

@@ -11,6 +11,7 @@ ghost use Rattle.ss_check.specs.Within.{LineWithin};
 
 use crate::choices::choose;
 use crate::instances::{good, invariants, rule};
+use crate::sums::sum;
 use ss_check_steps::{chain, cong, inst, known_at, part, swap};
 use ss_core::Classes;
 use ss_deriv::Line;
@@ -66,6 +67,7 @@ pub(crate) fn fact(
             formula,
             equalities,
         } => Ok(swap(bank, known, *of, *formula, equalities)),
+        Line::Sum(line) => sum(alloc, bank, classes, known, line),
         _ => Ok(None),
     }
 }

@@ -5,5 +5,6 @@ mod choices;
 mod facts;
 mod instances;
 mod steps;
+mod sums;
 
 pub use steps::{CheckStop, check};

@@ -69,6 +69,7 @@ module _ (cs : List ClassTree) where
     in_case known waiting (tree.Chain x y is) next e = added known waiting (fact_of cs premises goal known (tree.Chain x y is)) next e
     in_case known waiting (tree.Cong x y is) next e = added known waiting (fact_of cs premises goal known (tree.Cong x y is)) next e
     in_case known waiting (tree.Swap i f js) next e = added known waiting (fact_of cs premises goal known (tree.Swap i f js)) next e
+    in_case known waiting (tree.Sum d ps) next e = added known waiting (fact_of cs premises goal known (tree.Sum d ps)) next e
 
     between : (waiting : List (List Formula)) (line : tree.Line) (next : State) → step cs premises goal (Between waiting) line ≡ Some next → after (BetweenCases (length waiting)) (turn line) ≡ Some (place next)
     unfolding place

@@ -5,7 +5,7 @@ use Rattle.ss_logic_derivations.specs.Steps as tree
 use Rattle.ss_terms.specs.declared.forms.TermId.{TermId}
 use Rattle.ss_terms.specs.Forms.{Forms, term_at, terms_at, formula_at}
 use Rattle.ss_deriv.specs.declared.line.Line.{Line}
-use Rattle.ss_deriv.specs.declared.line.Line.TheVariants.{Premise, Denied, Part, Split, Cut, Inst, Choose, Rule, Good, Invariants, Chain, Cong, Swap, Clash, Case}
+use Rattle.ss_deriv.specs.declared.line.Line.TheVariants.{Premise, Denied, Part, Split, Cut, Inst, Choose, Rule, Good, Invariants, Chain, Cong, Swap, Sum, Clash, Case}
 
 -- the terms have numbers below this one
 abbrev pub all_below : ℕ → List TermId → Bool
@@ -26,6 +26,7 @@ is_within terms formulas (Invariants i ts) = all_below terms ts.items
 is_within terms formulas (Chain x y is) = nat_lt x.0 terms && nat_lt y.0 terms
 is_within terms formulas (Cong x y is) = nat_lt x.0 terms && nat_lt y.0 terms
 is_within terms formulas (Swap i f js) = nat_lt f.0 formulas
+is_within terms formulas (Sum s) = true
 is_within terms formulas (Clash i j) = true
 is_within terms formulas Case = true
 
@@ -44,6 +45,7 @@ line_in b (Invariants i ts) = tree.InvariantsLine i (terms_at b ts.items)
 line_in b (Chain x y is) = tree.Chain (term_at b x) (term_at b y) is.items
 line_in b (Cong x y is) = tree.Cong (term_at b x) (term_at b y) is.items
 line_in b (Swap i f js) = tree.Swap i (formula_at b f) js.items
+line_in b (Sum s) = tree.Sum s.divisor s.parts.items
 line_in b (Clash i j) = tree.Clash i j
 line_in b Case = tree.Case
 

@@ -1,7 +1,7 @@
 -- The shape of derivations: which lines end a case, and where a case goes on.
 use Rattle.std.specs.Prelude.{◌≡◌, ℕ, suc, ◌+◌, List, [], ◌∷◌, map, Option, Some, None, IsSome, option_and_then}
 use Rattle.ss_deriv.specs.declared.line.Line.{Line}
-use Rattle.ss_deriv.specs.declared.line.Line.TheVariants.{Premise, Denied, Part, Split, Cut, Inst, Choose, Rule, Good, Invariants, Chain, Cong, Swap, Clash, Case}
+use Rattle.ss_deriv.specs.declared.line.Line.TheVariants.{Premise, Denied, Part, Split, Cut, Inst, Choose, Rule, Good, Invariants, Chain, Cong, Swap, Sum, Clash, Case}
 
 -- what a line does to the cases
 pub data Turn : Type 0 where
@@ -26,6 +26,7 @@ turn_of (Invariants i ts) = Stay
 turn_of (Chain x y is) = Stay
 turn_of (Cong x y is) = Stay
 turn_of (Swap i f js) = Stay
+turn_of (Sum s) = Stay
 turn_of (Clash i j) = Branch 0
 turn_of Case = Resume
 

@@ -1,6 +1,6 @@
 -- The shape of derivations over formulas.
 use Rattle.std.specs.Prelude.{◌≡◌, List, map, Some}
-use Rattle.ss_logic_derivations.specs.Steps.{Line, Premise, Denied, Part, Split, Cut, Inst, Choose, Rule, GoodLine, InvariantsLine, Chain, Cong, Swap, Clash, Case, Nowhere}
+use Rattle.ss_logic_derivations.specs.Steps.{Line, Premise, Denied, Part, Split, Cut, Inst, Choose, Rule, GoodLine, InvariantsLine, Chain, Cong, Swap, Sum, Clash, Case, Nowhere}
 use Rattle.ss_deriv.specs.Shape.{Turn, Stay, Branch, Resume, InCase, BetweenCases, after_all}
 
 -- what a line over formulas does to the cases
@@ -18,6 +18,7 @@ turn (InvariantsLine i ts) = Stay
 turn (Chain x y is) = Stay
 turn (Cong x y is) = Stay
 turn (Swap i f js) = Stay
+turn (Sum d ps) = Stay
 turn (Clash i j) = Branch 0
 turn Case = Resume
 turn Nowhere = Stay

@@ -7,4 +7,4 @@ mod line;
 
 pub use draft::Draft;
 pub use laws::what_derives_ends_each_case;
-pub use line::{Derivation, Line};
+pub use line::{Derivation, Line, Sum};

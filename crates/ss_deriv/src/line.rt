@@ -6,6 +6,15 @@ use ss_logic_rules::{GoodRule, RuleName};
 use ss_terms::{FormulaId, TermId};
 use std::marker::Model;
 
+/// Known facts with their weights, and the number by which their sum is divided.
+#[derive(Drop)]
+pub struct Sum {
+    /// The number of each fact, and its weight.
+    pub parts: Vec<(usize, i64)>,
+    /// The divisor.
+    pub divisor: i64,
+}
+
 /// A line of a derivation. The formulas that are known are numbered from 0 along the path to it.
 #[derive(Drop)]
 pub enum Line {
@@ -73,6 +82,8 @@ pub enum Line {
         formula: FormulaId,
         equalities: Vec<usize>,
     },
+    /// The weighted sum of known facts, divided and rounded down.
+    Sum(Sum),
     /// Closes the case: a known formula and its negation, or one literal that is false everywhere.
     Clash {
         left: usize,

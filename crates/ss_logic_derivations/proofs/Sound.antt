@@ -15,7 +15,8 @@ use Rattle.ss_logic_rules.specs.Shapes.{when, equal}
 use Rattle.ss_logic_rules.specs.Rules.{instance_of}
 use Rattle.ss_logic_rules.specs.GoodRules.{good_instance_of}
 use Rattle.ss_logic_express.specs.Invariants.{invariants_of}
-use Rattle.ss_logic_derivations.specs.Steps.{Line, Premise, Denied, Part, Split, Cut, Inst, Choose, Rule, GoodLine, InvariantsLine, Chain, Cong, Swap, Clash, Case, part_at, count_of, part_of, cases_of, is_literal, is_quantified, is_cut, other_side, walk, joins, is_joined, are_exchanged, is_congruent, is_swapped, body_at, good_store, fact_of, is_value, is_false_bound, is_absurd, is_opposed, is_clash, State, Open, Between, open_cases, add_fact, step_open, step_between, step, run, Derives}
+use Rattle.ss_logic_sums.proofs.Means.{sum_true}
+use Rattle.ss_logic_derivations.specs.Steps.{Line, Premise, Denied, Part, Split, Cut, Inst, Choose, Rule, GoodLine, InvariantsLine, Chain, Cong, Swap, Sum, Clash, Case, part_at, count_of, part_of, cases_of, is_literal, is_quantified, is_cut, other_side, walk, joins, is_joined, are_exchanged, is_congruent, is_swapped, body_at, good_store, fact_of, is_value, is_false_bound, is_absurd, is_opposed, is_clash, State, Open, Between, open_cases, add_fact, step_open, step_between, step, run, Derives}
 use Rattle.ss_logic_derivations.proofs.Chosen.{IsChoice, is_choice, choice_refutes}
 
 pub and_then_some : {A B : Type 0} (k : A → Option B) (o : Option A) (y : B) → option_and_then k o ≡ Some y → (x : A) × (o ≡ Some x) × (k x ≡ Some y)
@@ -253,6 +254,7 @@ module _ (cs : List ClassTree) (rules : AreRules cs) (premises : List Formula) (
       let p = and_then_some _ (slice_get known i) f e in
       let w = when_some (is_swapped known js p.0 g) g f p.2 in
       inl (subst (λ x. True cs m [] x) w.1 (swap_true cs m known h js p.0 g (Hold-get cs m known i p.0 h p.1) w.0))
+  fact_true m given denied known (Sum d ps) f h e = inl (sum_true cs m known d ps f h e)
   fact_true m given denied known line f h e = cc
 
   -- In no structure are the premises, the denied goal and all of these true. Of all structures, since a line may choose another

@@ -1,5 +1,5 @@
 -- Derivations: what each line does to the cases that are open.
-use Rattle.std.specs.Prelude.{◌≡◌, ℕ, pos, negsuc, zero, suc, ◌+◌, List, [], ◌∷◌, ◌++◌, map, Bool, true, false, ◌==◌, ◌&&◌, ◌||◌, not, Option, Some, None, option_and_then, slice_get, if◌then◌else◌}
+use Rattle.std.specs.Prelude.{◌≡◌, ℕ, ℤ, pos, negsuc, zero, suc, ◌+◌, List, [], ◌∷◌, ◌++◌, map, Bool, true, false, ◌==◌, ◌&&◌, ◌||◌, not, Option, Some, None, option_and_then, slice_get, if◌then◌else◌}
 use Rattle.std.specs.List.{list_all}
 use Rattle.std.specs.Bool.{beq}
 use Rattle.ss_core.specs.Tree.{ClassTree}
@@ -13,6 +13,7 @@ use Rattle.ss_logic_rules.specs.Shapes.{when, equal}
 use Rattle.ss_logic_rules.specs.Rules.{instance_of}
 use Rattle.ss_logic_rules.specs.GoodRules.{good_instance_of}
 use Rattle.ss_logic_express.specs.Invariants.{invariants_of}
+use Rattle.ss_logic_sums.specs.Sums.{sum_of}
 
 -- `Nowhere` is a line that names a term or a formula that isn't there
 pub data Line : Type 0 where
@@ -29,6 +30,8 @@ pub data Line : Type 0 where
   Chain : Term → Term → List ℕ → Line
   Cong : Term → Term → List ℕ → Line
   Swap : ℕ → Formula → List ℕ → Line
+  -- a divisor, and known facts with their weights
+  Sum : ℤ → List (ℕ × ℤ) → Line
   Clash : ℕ → ℕ → Line
   Case : Line
   Nowhere : Line
@@ -162,6 +165,7 @@ fact_of cs premises goal known (InvariantsLine i ts) = option_and_then (λ s. in
 fact_of cs premises goal known (Chain x y is) = option_and_then (λ z. when (same_term z y) (equal x y)) (walk known x is)
 fact_of cs premises goal known (Cong x y is) = when (is_congruent known is x y) (equal x y)
 fact_of cs premises goal known (Swap i f js) = option_and_then (λ g. when (is_swapped known js g f) f) (slice_get known i)
+fact_of cs premises goal known (Sum d ps) = sum_of cs known d ps
 fact_of cs premises goal known line = None
 
 -- a number, a truth value, null or a class name

@@ -31,7 +31,6 @@ sentence rule =
     else if rule == 50 then codes "an invariant may read fields of `this` and of what it owns alone"
     else if rule == 51 then codes "a question about levels and owners, `old` and `result` can't stand here"
     else if rule == 52 then codes "this attribute is unknown, can't stand here, or stands here already"
-    else if rule == 90 then codes "the program is accepted, but `verify` and `run` don't take it yet: so far they take no arithmetic, order comparisons, quantifiers, arrays and loops; `run FILE --unverified` runs it with all its checks"
     else codes "this rule is broken"
 
 -- the sentence of a check that failed in a run

@@ -39,8 +39,6 @@ pub(crate) fn sentence(rule: u16) -> &'static str
         50 => "an invariant may read fields of `this` and of what it owns alone",
         51 => "a question about levels and owners, `old` and `result` can't stand here",
         52 => "this attribute is unknown, can't stand here, or stands here already",
-        90 =>
-            "the program is accepted, but `verify` and `run` don't take it yet: so far they take no arithmetic, order comparisons, quantifiers, arrays and loops; `run FILE --unverified` runs it with all its checks",
         _ => "this rule is broken",
     }
 }

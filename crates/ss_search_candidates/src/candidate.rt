@@ -6,13 +6,15 @@ use ss_rules_occurring::atoms;
 use ss_search_classes::{
     EQUAL, LITERAL, first_of, kind_of, of_pair, of_term, pair_argument, pair_head,
 };
-use ss_search_engine::Engine;
+use ss_search_engine::{Engine, Order};
 use ss_search_state::State;
 use ss_terms::{Bank, FormulaId};
 use std::alloc::{AllocError, Global};
 
-// How many splits are tried.
-const MOST_SPLITS: usize = 20_000;
+// How many splits are tried, from the front and then from the back.
+const FIRST_SPLITS: usize = 3_000;
+
+const LAST_SPLITS: usize = 20_000;
 
 /// A class for each term of a bank, and a truth value for each pair of a formula and its negation, of the one that stands first.
 #[derive(Drop)]
@@ -59,6 +61,48 @@ fn truths_of(alloc: Global, state: &State, bank: &Bank) -> Result<Vec<bool>, All
     Ok(truths)
 }
 
+// A search in which each `or` of the formulas has a part that is known, where it is found within so many splits.
+fn satisfied(
+    alloc: Global,
+    bank: &mut Bank,
+    formulas: &[FormulaId],
+    order: Order,
+    splits: usize,
+) -> Result<Option<Engine>, AllocError>
+    requires { HasFormulas bank.old formulas.now }
+    ensures grown { IsGrown bank.old bank.new }
+{
+    let found = atoms(alloc, bank, formulas)?;
+    let mut engine = Engine::new(alloc, bank)?;
+    if engine.satisfy(bank, formulas, &found.list, order, splits)? {
+        Ok(Some(engine))
+    } else {
+        Ok(None)
+    }
+}
+
+fn candidate_of(alloc: Global, bank: &Bank, engine: &Engine) -> Result<Candidate, AllocError> {
+    let classes = classes_of(alloc, engine.state(), bank)?;
+    let truths = truths_of(alloc, engine.state(), bank)?;
+    Ok(Candidate { classes, truths })
+}
+
+fn candidate_in(
+    alloc: Global,
+    bank: &mut Bank,
+    formulas: &[FormulaId],
+    order: Order,
+    splits: usize,
+) -> Result<Option<Candidate>, AllocError>
+    requires { HasFormulas bank.old formulas.now }
+    ensures grown { IsGrown bank.old bank.new }
+{
+    match satisfied(alloc, bank, formulas, order, splits)? {
+        Some(engine) => Ok(Some(candidate_of(alloc, bank, &engine)?)),
+        None => Ok(None),
+    }
+}
+
 /// A candidate for a model that makes the formulas true, or nothing where there is none or the cases are too many.
 pub fn find_candidate(
     alloc: Global,
@@ -68,12 +112,9 @@ pub fn find_candidate(
     requires { HasFormulas bank.old formulas.now }
     ensures grown { IsGrown bank.old bank.new }
 {
-    let found = atoms(alloc, bank, formulas)?;
-    let mut engine = Engine::new(alloc, bank)?;
-    if !engine.satisfy(bank, formulas, &found.list, MOST_SPLITS)? {
-        return Ok(None);
+    let first = candidate_in(alloc, bank, formulas, Order::First, FIRST_SPLITS)?;
+    if first.is_some() {
+        return Ok(first);
     }
-    let classes = classes_of(alloc, engine.state(), bank)?;
-    let truths = truths_of(alloc, engine.state(), bank)?;
-    Ok(Some(Candidate { classes, truths }))
+    candidate_in(alloc, bank, formulas, Order::Last, LAST_SPLITS)
 }

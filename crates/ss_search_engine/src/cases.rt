@@ -9,7 +9,7 @@ use ss_core::Classes;
 use ss_search_classes::{Conflict, NONE, part_at, part_count};
 use ss_search_proof::{Reason, Said};
 use ss_search_state::{Mark, Step};
-use ss_search_wants::work;
+use ss_search_wants::{use_positions, work};
 use ss_terms::Bank;
 use std::alloc::AllocError;
 
@@ -112,7 +112,7 @@ impl Engine {
         if self.look_ahead(bank)? {
             return self.after_look(bank);
         }
-        if self.state.widen(bank)? {
+        if self.state.widen(bank)? || use_positions(&mut self.state, bank)? {
             Ok(Closed::Next(Step::Goes))
         } else {
             Ok(Closed::Next(Step::Rests))

@@ -91,8 +91,10 @@ impl Engine {
         let yes = bank.apply(Symbol::Fixed(true), &[])?;
         let no = bank.apply(Symbol::Fixed(false), &[])?;
         let fresh = first_fresh(bank);
+        let mut state = State::new(alloc, yes.0, no.0, fresh);
+        state.has_numbers = true;
         Ok(Engine {
-            state: State::new(alloc, yes.0, no.0, fresh),
+            state,
             splits: Vec::new(alloc),
             handed: Vec::new(alloc),
             front: Vec::new(alloc),

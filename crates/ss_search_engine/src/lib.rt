@@ -9,4 +9,5 @@ mod made;
 mod satisfying;
 
 pub use engine::{Answer, Engine};
+pub use satisfying::Order;
 pub use ss_search_state::Limits;

@@ -10,6 +10,21 @@ use ss_search_state::{State, Step};
 use ss_terms::{Bank, FormulaId};
 use std::alloc::AllocError;
 
+/// Which of the open clauses with the fewest open parts is split.
+#[derive(Clone, Copy)]
+pub enum Order {
+    First,
+    Last,
+}
+
+// The place that comes after so many.
+fn place_in(order: Order, turn: usize, count: usize) -> usize {
+    match order {
+        Order::First => turn,
+        Order::Last => count.saturating_sub(turn).saturating_sub(1),
+    }
+}
+
 impl Engine {
     /// What is known.
     pub fn state(&self) -> &State {
@@ -18,20 +33,23 @@ impl Engine {
 
     /// Makes the formulas known, and goes through cases to one in which each known `or` has a part that is known, with no other
     /// instance. The classes of the atoms and of the terms in them are told apart. Whether there is such a case within so many splits.
+    /// Nothing else was known to the search. Numbers aren't looked at.
     pub fn satisfy(
         &mut self,
         bank: &Bank,
         formulas: &[FormulaId],
         atoms: &[FormulaId],
+        order: Order,
         splits: usize,
     ) -> Result<bool, AllocError> {
+        self.state.has_numbers = false;
         self.state.left.splits = splits;
         self.state.nodes.grow(bank)?;
         for atom in atoms {
             self.state.equal.add(bank, of_pair(pair_of(atom.0)))?;
         }
         let step = self.learn_ground(bank, formulas)?;
-        self.run_ground(bank, step)
+        self.run_ground(bank, order, step)
     }
 
     fn learn_ground(&mut self, bank: &Bank, formulas: &[FormulaId]) -> Result<Step, AllocError> {
@@ -54,20 +72,25 @@ impl Engine {
         Ok(step)
     }
 
-    fn run_ground(&mut self, bank: &Bank, first: Step) -> Result<bool, AllocError> {
+    fn run_ground(&mut self, bank: &Bank, order: Order, first: Step) -> Result<bool, AllocError> {
         let mut step = first;
         for _turn in 0..u64::MAX {
-            match self.advance_ground(bank, step)? {
+            match self.advance_ground(bank, order, step)? {
                 Closed::Root(_) => return Ok(false),
                 Closed::Next(Step::Rests) => break,
                 Closed::Next(next) => step = next,
                 Closed::Split(_) => step = Step::Goes,
             }
         }
-        Ok(self.open_clause(bank) == NONE)
+        Ok(self.open_clause(bank, order) == NONE)
     }
 
-    fn advance_ground(&mut self, bank: &Bank, step: Step) -> Result<Closed, AllocError> {
+    fn advance_ground(
+        &mut self,
+        bank: &Bank,
+        order: Order,
+        step: Step,
+    ) -> Result<Closed, AllocError> {
         if let Step::Conflict(conflict) = step {
             return self.close(bank, conflict);
         }
@@ -75,7 +98,7 @@ impl Engine {
         if let Step::Conflict(_) = &step {
             return Ok(Closed::Next(step));
         }
-        let place = self.open_clause(bank);
+        let place = self.open_clause(bank, order);
         if place == NONE {
             Ok(Closed::Next(Step::Rests))
         } else {
@@ -83,13 +106,13 @@ impl Engine {
         }
     }
 
-    // A known `or` that isn't met, with the fewest open parts, by its place, or NONE: of those with two the last.
-    fn open_clause(&self, bank: &Bank) -> usize {
+    // A known `or` that isn't met, with the fewest open parts, by its place, or NONE.
+    fn open_clause(&self, bank: &Bank, order: Order) -> usize {
         let mut best = NONE;
         let mut fewest = NONE;
-        let count_all = self.state.asked.clause_count();
-        for turn in 0..count_all {
-            let place = count_all.saturating_sub(turn).saturating_sub(1);
+        let clauses = self.state.asked.clause_count();
+        for turn in 0..clauses {
+            let place = place_in(order, turn, clauses);
             let formula = self.state.asked.clause(place).formula;
             let count = self.state.nodes.open_count(formula);
             if count < fewest && !self.is_met(bank, formula) {

@@ -74,6 +74,8 @@ pub enum Reason {
     Rule(RuleKind, Range),
     /// A rule on the store of a `good`, at terms.
     Good(GoodName, usize, Range),
+    /// The sum of facts with weights from a place on, divided by a number.
+    Sum(i64, Range, usize),
 }
 
 /// A fact; what it comes from: 0 premises, 1 instances, 2 the goal and cases; when it was last found to be needed; and, while
@@ -94,6 +96,8 @@ pub struct Fact {
 pub struct Facts {
     facts: Vec<Fact>,
     paths: Vec<usize>,
+    /// The weights of sums.
+    pub weights: Vec<i64>,
 }
 
 impl Facts {
@@ -102,6 +106,7 @@ impl Facts {
         Facts {
             facts: Vec::new(alloc),
             paths: Vec::new(alloc),
+            weights: Vec::new(alloc),
         }
     }
 

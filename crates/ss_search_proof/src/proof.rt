@@ -243,6 +243,7 @@ impl Proof {
             Reason::Good(_, whole, _) => self.wait_for(whole),
             Reason::Chain(range) => self.need_path(facts, range),
             Reason::Cong(range) => self.need_path(facts, range),
+            Reason::Sum(_, range, _) => self.need_path(facts, range),
             Reason::Swap(whole, range) => {
                 self.wait_for(whole)?;
                 self.need_path(facts, range)

@@ -159,6 +159,17 @@ impl Reasons {
         self.facts.keep(&numbers)
     }
 
+    /// A fact that two terms are equal.
+    pub fn equal(
+        &mut self,
+        bank: &Bank,
+        classes: &Classes,
+        x: usize,
+        y: usize,
+    ) -> Result<usize, AllocError> {
+        self.chain(bank, classes, x, y, DEEPEST)
+    }
+
     // A chain by a path to `ends.0`, an equality from there to `ends.1`, and a path from there.
     fn chain_over(
         &mut self,

@@ -3,7 +3,7 @@
 use crate::facts::{Fact, Facts, GoodName, Range, Reason, RuleKind, Said};
 use crate::proof::{End, Proof};
 use crate::reasons::Reasons;
-use ss_deriv::{Derivation, Draft, Line};
+use ss_deriv::{Derivation, Draft, Line, Sum};
 use ss_logic_rules::{GoodRule, RuleName};
 use ss_search_classes::NONE;
 use ss_terms::{FormulaId, TermId};
@@ -166,6 +166,7 @@ impl Places {
             Reason::Good(_, whole, _) => self.use_in(facts, proof, whole, block),
             Reason::Chain(range) => self.use_path(facts, proof, range, block),
             Reason::Cong(range) => self.use_path(facts, proof, range, block),
+            Reason::Sum(_, range, _) => self.use_path(facts, proof, range, block),
             Reason::Swap(whole, range) => {
                 self.use_in(facts, proof, whole, block)?;
                 self.use_path(facts, proof, range, block)
@@ -186,6 +187,14 @@ impl Places {
             self.use_in(facts, proof, fact, block)?;
         }
         Ok(())
+    }
+}
+
+// A fact stands in no block any more.
+fn let_go(facts: &mut Facts, number: usize) {
+    if let Some(fact) = facts.fact_mut(number) {
+        fact.block = NONE;
+        fact.next = NONE;
     }
 }
 
@@ -235,9 +244,8 @@ impl Writer {
     fn learn(&mut self, facts: &mut Facts, number: usize) {
         if let Some(fact) = facts.fact_mut(number) {
             fact.known = self.known;
-            fact.block = NONE;
-            fact.next = NONE;
         }
+        let_go(facts, number);
         self.known = self.known.saturating_add(1);
     }
 
@@ -297,6 +305,9 @@ impl Writer {
                 self.learn_choice(facts, at, choices);
                 at = next;
             } else {
+                if !choices {
+                    let_go(facts, at);
+                }
                 at = fact.next;
             }
         }
@@ -329,6 +340,7 @@ impl Writer {
             Reason::Inst(whole, range) => self.write_inst(facts, whole, range),
             Reason::Choose(formula, range) => self.write_choice(facts, formula, range),
             Reason::Rule(rule, range) => self.write_rule(facts, rule, range),
+            Reason::Sum(divisor, range, weights) => self.write_sum(facts, divisor, range, weights),
             Reason::Good(rule, whole, range) => self.write_good(facts, rule, (whole, range)),
             _ => Ok(()),
         }
@@ -394,6 +406,24 @@ impl Writer {
             formula: FormulaId(formula),
             constants,
         })
+    }
+
+    fn write_sum(
+        &mut self,
+        facts: &Facts,
+        divisor: i64,
+        range: Range,
+        weights: usize,
+    ) -> Result<(), AllocError> {
+        let mut parts = Vec::new(self.alloc);
+        for place in 0..range.to.saturating_sub(range.from) {
+            let fact = facts.path_at(range.from.saturating_add(place));
+            let Some(weight) = facts.weights.get(weights.saturating_add(place)) else {
+                break;
+            };
+            parts.push((known_at(facts, fact), *weight))?;
+        }
+        self.add(Line::Sum(Sum { parts, divisor }))
     }
 
     fn write_rule(

@@ -2,10 +2,10 @@
 
 use crate::state::State;
 use ss_search_classes::{
-    ALLOCATED, AND, AT_MOST, COMMITTED, CONSTANT, ELEMENT, EQUAL, FIELD, LEVEL, LITERAL, NEXT,
-    NONE, OR, OWNER, READY, SET, argument, arity, code_of_sort, first_of, is_closed, is_first,
-    is_term, is_truth, is_value, kind_of, node_head, of_pair, of_term, pair_argument, pair_head,
-    pair_of, part_at, part_count, sort_at, term_argument, term_head,
+    ADD, ALLOCATED, AND, AT_MOST, COMMITTED, CONSTANT, ELEMENT, EQUAL, FIELD, LEVEL, LITERAL,
+    MULTIPLY, NEXT, NONE, OR, OWNER, PUT, READY, SET, argument, arity, code_of_sort, first_of,
+    is_closed, is_first, is_term, is_truth, is_value, kind_of, node_head, of_pair, of_term,
+    pair_argument, pair_head, pair_of, part_at, part_count, sort_at, term_argument, term_head,
 };
 use ss_terms::Bank;
 use std::alloc::AllocError;
@@ -19,8 +19,8 @@ impl State {
         }
     }
 
-    // Finds how deep reads nest in the terms that are new.
-    fn grow_depths(&mut self, bank: &Bank) -> Result<(), AllocError> {
+    // Finds how deep reads nest in the terms that are new, and which of them are sums or have positions.
+    pub(crate) fn grow_depths(&mut self, bank: &Bank) -> Result<(), AllocError> {
         for term in self.depths.len()..bank.term_count() {
             let mut depth = 0usize;
             for place in 0..arity(bank, of_term(term)) {
@@ -32,6 +32,12 @@ impl State {
             let kind = term_head(bank, term).kind;
             if kind == FIELD || kind == ELEMENT {
                 depth = depth.saturating_add(1);
+            }
+            if kind >= ADD && kind <= MULTIPLY {
+                self.sums.push(term)?;
+            }
+            if kind == ELEMENT || kind == PUT {
+                self.elements.push(term)?;
             }
             self.depths.push(depth)?;
         }
@@ -337,6 +343,9 @@ impl State {
     /// Asks for more where nothing is left to do. Whether something was.
     pub fn widen(&mut self, bank: &Bank) -> Result<bool, AllocError> {
         let before = self.asked.mark();
+        if self.compare_positions(bank)? {
+            return Ok(true);
+        }
         for place in 0..self.asked.clause_count() {
             let clause = self.asked.clause(place);
             let pair = pair_of(clause.formula);
@@ -349,7 +358,7 @@ impl State {
             return Ok(true);
         }
         self.ask_known(bank)?;
-        Ok(self.asked.has_grown(before))
+        Ok(self.asked.has_grown(before) || self.compare_others(bank)?)
     }
 
     // The literals that are known are asked for.

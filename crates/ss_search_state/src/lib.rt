@@ -3,6 +3,8 @@
 
 mod asking;
 mod closing;
+mod numbers;
+mod positions;
 mod requests;
 mod state;
 

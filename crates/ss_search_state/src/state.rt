@@ -2,12 +2,13 @@
 
 use crate::requests::{Request, Wanted, new_request};
 use ss_search_classes::{
-    AND, Classes as Equal, Conflict, EQUAL, EXISTS, Event, FORALL, GOOD, Keys, LITERAL, NONE, OR,
-    SUB, is_first, is_truth, is_value, kind_of, of_pair, of_term, opposite, pair_argument,
-    pair_head, pair_of, part_at, part_count,
+    AND, AT_MOST, Classes as Equal, Conflict, EQUAL, EXISTS, Event, FORALL, GOOD, Keys, LITERAL,
+    NONE, OR, SUB, is_first, is_truth, is_value, kind_of, of_pair, of_term, opposite,
+    pair_argument, pair_head, pair_of, part_at, part_count,
 };
 use ss_search_instances::{Asked, Clause, Heads, Marks};
 use ss_search_nodes::{Ground, Nodes, or_of};
+use ss_search_numbers::Rows;
 use ss_search_proof::{Reason, Reasons, RuleKind, Said};
 use ss_terms::Bank;
 use std::alloc::{AllocError, Global};
@@ -32,6 +33,8 @@ pub struct Mark {
     pub seen: usize,
     pub facts: usize,
     pub paths: usize,
+    pub weights: usize,
+    pub bounds: usize,
 }
 
 /// What a step of the search came to.
@@ -69,6 +72,17 @@ pub struct State {
     /// How many facts were learned outside of trials.
     pub progress: usize,
     pub is_trial: bool,
+    /// Whether contradictions of whole numbers are looked for.
+    pub has_numbers: bool,
+    /// The known literals that compare numbers, each with its fact, and what they come to.
+    pub(crate) bounds: Vec<(usize, usize)>,
+    pub(crate) rows: Rows,
+    /// The sums, differences and products of the bank.
+    pub(crate) sums: Vec<usize>,
+    /// The terms of the bank that read or change an element.
+    pub elements: Vec<usize>,
+    /// How many merges and comparisons there were when they were last looked at.
+    pub(crate) counted: (usize, usize),
 }
 
 /// Nothing stands.
@@ -80,6 +94,8 @@ pub fn first_mark() -> Mark {
         seen: 0,
         facts: 0,
         paths: 0,
+        weights: 0,
+        bounds: 0,
     }
 }
 
@@ -113,6 +129,12 @@ impl State {
             left: no_limits(),
             progress: 0,
             is_trial: false,
+            has_numbers: false,
+            bounds: Vec::new(alloc),
+            rows: Rows::new(alloc),
+            sums: Vec::new(alloc),
+            elements: Vec::new(alloc),
+            counted: (0, 0),
         }
     }
 
@@ -125,6 +147,8 @@ impl State {
             seen: self.seen.len(),
             facts: self.reasons.facts.len(),
             paths: self.reasons.facts.paths_len(),
+            weights: self.reasons.facts.weights.len(),
+            bounds: self.bounds.len(),
         }
     }
 
@@ -134,6 +158,7 @@ impl State {
         self.nodes.undo(mark.nodes);
         self.asked.undo(mark.asked);
         self.seen.undo(mark.seen);
+        self.bounds.truncate(mark.bounds);
     }
 
     /// Takes back what came after a mark, facts too, and forgets all blocks.
@@ -141,6 +166,7 @@ impl State {
         self.drop_pending();
         self.undo(mark);
         self.reasons.facts.forget(mark.facts, mark.paths);
+        self.reasons.facts.weights.truncate(mark.weights);
         self.reasons.proof.forget();
         self.reasons.begin();
         self.is_trial = false;
@@ -188,7 +214,7 @@ impl State {
             return self.look_at_unit(bank, pair);
         }
         let Some(fact) = self.queue.get(self.done).copied() else {
-            return Ok(Step::Rests);
+            return self.look_at_numbers(bank);
         };
         self.done = self.done.saturating_add(1);
         self.take_apart(bank, fact)
@@ -318,6 +344,9 @@ impl State {
         self.equal.add(bank, of_pair(pair))?;
         if head.kind == GOOD && holds {
             self.asked.add_good(pair_argument(bank, pair, 0), fact)?;
+        }
+        if head.kind == AT_MOST {
+            self.bounds.push((formula, fact))?;
         }
         if head.kind == SUB {
             self.asked.add_sub(pair)?;

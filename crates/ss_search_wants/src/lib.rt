@@ -7,8 +7,10 @@ mod good;
 mod levels;
 mod looks;
 mod numbers;
+mod positions;
 mod reads;
 mod typed;
 mod wants;
 
+pub use positions::use_positions;
 pub use wants::work;

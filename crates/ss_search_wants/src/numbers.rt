@@ -7,10 +7,10 @@ use crate::looks::{
 use crate::typed::good_field;
 use ss_core::{ClassId, Classes};
 use ss_search_classes::{
-    ELEMENT, FIELD, LENGTH, LEVEL, NONE, TYPE, argument, is_term, is_whole, node_head, of_term,
-    pair_argument,
+    ELEMENT, EQUAL, FIELD, LENGTH, LEVEL, NONE, NUMBER, QUOTIENT, REMAINDER, TYPE, argument,
+    is_term, is_whole, node_head, of_term, pair_argument, term_head,
 };
-use ss_search_proof::GoodName;
+use ss_search_proof::{GoodName, RuleKind};
 use ss_search_state::{State, Wanted, new_request};
 use ss_terms::Bank;
 use std::alloc::AllocError;
@@ -26,11 +26,38 @@ pub(crate) fn use_numbers(
     if head.kind == FIELD {
         return invariants_at(state, bank, program, node);
     }
+    if head.kind == EQUAL {
+        return apart(state, bank, node);
+    }
+    if head.kind == QUOTIENT || head.kind == REMAINDER {
+        return divided(state, bank, node);
+    }
     if head.kind == ELEMENT && is_whole(bank, node / 2) {
         return element_range(state, bank, node);
     }
     if head.kind == LENGTH {
         return length(state, bank, node);
+    }
+    Ok(())
+}
+
+// Numbers that aren't known to be equal are equal, or one is below the other.
+fn apart(state: &mut State, bank: &Bank, node: usize) -> Result<(), AllocError> {
+    let (x, y) = (argument(bank, node, 0), argument(bank, node, 1));
+    if !is_whole(bank, x) || state.equal.are_equal(of_term(x), of_term(y)) {
+        return Ok(());
+    }
+    if state.seen.is_new(KEY_RULE.saturating_add(20), x, y)? {
+        state.want(new_request(Wanted::Rule(RuleKind::Apart), x, y, NONE))?;
+    }
+    Ok(())
+}
+
+// A quotient or remainder by a number.
+fn divided(state: &mut State, bank: &Bank, node: usize) -> Result<(), AllocError> {
+    let (x, d) = (argument(bank, node, 0), argument(bank, node, 1));
+    if term_head(bank, d).kind == NUMBER && state.seen.is_new(KEY_RULE.saturating_add(21), x, d)? {
+        state.want(new_request(Wanted::Rule(RuleKind::Quorem), x, d, NONE))?;
     }
     Ok(())
 }

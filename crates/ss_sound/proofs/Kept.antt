@@ -11,7 +11,7 @@ use Rattle.ss_terms.specs.declared.forms.FormulaId.{FormulaId}
 use Rattle.ss_terms.specs.Forms.{Forms, formula_at, formulas_at, HasFormula, HasFormulas, IsGrown}
 use Rattle.ss_terms.proofs.Grown.{formulas_at-grown}
 use Rattle.ss_deriv.specs.declared.line.Line.{Line}
-use Rattle.ss_deriv.specs.declared.line.Line.TheVariants.{Premise, Denied, Part, Split, Cut, Inst, Choose, Rule, Good, Invariants, Chain, Cong, Swap, Clash, Case}
+use Rattle.ss_deriv.specs.declared.line.Line.TheVariants.{Premise, Denied, Part, Split, Cut, Inst, Choose, Rule, Good, Invariants, Chain, Cong, Swap, Sum, Clash, Case}
 use Rattle.ss_deriv.specs.Lines.{all_below, is_within, line_in, line_of, lines_of}
 use Rattle.ss_sound.specs.declared.decision.Decision.{Decision}
 use Rattle.ss_sound.specs.declared.decision.Decision.TheVariants as decision
@@ -43,6 +43,7 @@ tested-LineWithin b (Chain x y path) h = both (nat_lt x.0 (length b.terms)) (nat
 tested-LineWithin b (Cong x y path) h = both (nat_lt x.0 (length b.terms)) (nat_lt y.0 (length b.terms)) (lt-ltb _ _ h.0) (lt-ltb _ _ h.1)
 tested-LineWithin b (Swap i f js) h = lt-ltb _ _ h
 tested-LineWithin b (Rule name ts) h = all_below-has b ts.items h
+tested-LineWithin b (Sum s) h = refl
 tested-LineWithin b (Clash i j) h = refl
 tested-LineWithin b Case h = refl
 

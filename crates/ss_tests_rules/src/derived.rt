@@ -610,6 +610,127 @@ denied
 clash 1 0
 end
 accepted
+
+# two inequalities
+given (<= i0 3)
+given (<= 4 i0)
+goal (= x0 x1)
+obligation 0
+premise 0
+premise 1
+sum 1 0 1 1 1
+clash 2 2
+end
+accepted
+
+# an equality, with a weight below 0
+given (= i0 (+ i1 1))
+given (<= i0 i1)
+goal (= x0 x1)
+obligation 0
+premise 0
+premise 1
+sum 1 1 1 0 -1
+clash 2 2
+end
+accepted
+
+# 5 halves, rounded down
+given (<= (* 2 i0) 5)
+given (not (<= (* 1 i0) 2))
+goal (= x0 x1)
+obligation 0
+premise 0
+premise 1
+sum 2 0 1
+clash 2 1
+end
+accepted
+
+# -5 halves, rounded down
+given (<= (* 2 i0) -5)
+given (not (<= (* 1 i0) -3))
+goal (= x0 x1)
+obligation 0
+premise 0
+premise 1
+sum 2 0 1
+clash 2 1
+end
+accepted
+
+# a sum of a sum
+given (<= (* 2 i0) 5)
+given (<= 3 i0)
+goal (= x0 x1)
+obligation 0
+premise 0
+premise 1
+sum 2 0 1
+sum 1 2 1 1 1
+clash 3 3
+end
+accepted
+
+# a sum of no facts
+given (not (<= 0 0))
+goal (= x0 x1)
+obligation 0
+premise 0
+sum 1
+clash 1 0
+end
+accepted
+
+# the negation of `<=`
+given (not (<= i0 i1))
+given (not (<= (+ (* 1 i1) (* -1 i0)) -1))
+goal (= x0 x1)
+obligation 0
+premise 0
+premise 1
+sum 1 0 1
+clash 2 1
+end
+accepted
+
+# products with a number, on either side, and of two terms
+given (<= (+ (* i0 3) (* i0 i1)) 5)
+given (<= 6 (+ (* 3 i0) (* i0 i1)))
+goal (= x0 x1)
+obligation 0
+premise 0
+premise 1
+sum 1 0 1 1 1
+clash 2 2
+end
+accepted
+
+# terms stand in the order of their first use, without those that fall out
+given (<= (+ i1 i0) 4)
+given (<= i2 i1)
+given (not (<= (+ (* 1 i0) (* 1 i2)) 4))
+goal (= x0 x1)
+obligation 0
+premise 0
+premise 1
+premise 2
+sum 1 0 1 1 1
+clash 3 2
+end
+accepted
+
+# a difference of a difference, twice
+given (<= (* 2 (- i0 (- i1 i2))) 0)
+given (not (<= (+ (+ (* 1 i0) (* -1 i1)) (* 1 i2)) 0))
+goal (= x0 x1)
+obligation 0
+premise 0
+premise 1
+sum 2 0 1
+clash 2 1
+end
+accepted
 ";
 
 /// Derivations with a line that is no step. The first such line is named, counted from the one behind `obligation`.
@@ -1830,6 +1951,148 @@ case
 clash 1 1
 end
 refused 4
+
+# a weight below 0 on an inequality
+given (<= i0 3)
+goal (= x0 x1)
+obligation 0
+premise 0
+sum 1 0 -1
+clash 1 1
+end
+refused 2
+
+# a weight of 0 on an inequality
+given (<= i0 3)
+goal (= x0 x1)
+obligation 0
+premise 0
+sum 1 0 0
+clash 1 1
+end
+refused 2
+
+# a weight of 0 on an equality
+given (= i0 3)
+goal (= x0 x1)
+obligation 0
+premise 0
+sum 1 0 0
+clash 1 1
+end
+refused 2
+
+# 5 halves, rounded up
+given (<= (* 2 i0) 5)
+given (not (<= (* 1 i0) 3))
+goal (= x0 x1)
+obligation 0
+premise 0
+premise 1
+sum 2 0 1
+clash 2 1
+end
+refused 4
+
+# a divisor that doesn't divide a coefficient
+given (<= (* 3 i0) 5)
+goal (= x0 x1)
+obligation 0
+premise 0
+sum 2 0 1
+clash 1 1
+end
+refused 2
+
+# a divisor of 0
+given (<= i0 3)
+goal (= x0 x1)
+obligation 0
+premise 0
+sum 0 0 1
+clash 1 1
+end
+refused 2
+
+# a divisor below 0
+given (<= i0 3)
+goal (= x0 x1)
+obligation 0
+premise 0
+sum -1 0 1
+clash 1 1
+end
+refused 2
+
+# a coefficient past 128 bits
+given (<= (* 170141183460469231731687303715884105727 i0) 0)
+goal (= x0 x1)
+obligation 0
+premise 0
+sum 1 0 2
+clash 1 1
+end
+refused 2
+
+# a number past 128 bits
+given (<= i0 170141183460469231731687303715884105727)
+goal (= x0 x1)
+obligation 0
+premise 0
+sum 1 0 2
+clash 1 1
+end
+refused 2
+
+# a fact that is no inequality
+given (com s0 x0)
+goal (= x0 x1)
+obligation 0
+premise 0
+sum 1 0 1
+clash 1 1
+end
+refused 2
+
+# an equality of objects
+given (= x0 x0)
+goal (= x0 x1)
+obligation 0
+premise 0
+sum 1 0 1
+clash 1 1
+end
+refused 2
+
+# the negation of an equality
+given (not (= i0 3))
+goal (= x0 x1)
+obligation 0
+premise 0
+sum 1 0 1
+clash 1 1
+end
+refused 2
+
+# a sum of a fact that isn't known
+given (<= i0 3)
+goal (= x0 x1)
+obligation 0
+premise 0
+sum 1 1 1
+clash 1 1
+end
+refused 2
+
+# 0 is at most 0
+given (<= i0 3)
+goal (= x0 x1)
+obligation 0
+premise 0
+sum 1
+clash 1 1
+end
+refused 3
 ";
 
 /// Lines that are no derivation: a case is left, or a line stands where it has no place.

@@ -4,7 +4,7 @@ ghost use Rattle.std.specs.Prelude.{◌≡◌};
 
 use crate::reader::Reader;
 use crate::words::{free_rule, good_rule};
-use ss_deriv::Line;
+use ss_deriv::{Line, Sum};
 use ss_terms::{Bank, FormulaId, Symbol, Term, TermId};
 use std::alloc::{AllocError, Global};
 
@@ -24,6 +24,54 @@ fn number(bank: &Bank, t: TermId) -> Option<usize> {
     match bank.term_node(t) {
         Term::App(Symbol::Number(n), _) => usize::try_from(*n).ok(),
         _ => None,
+    }
+}
+
+// The weight or the divisor that a term is.
+fn signed(bank: &Bank, t: TermId) -> Option<i64> {
+    if !bank.has_term(t) {
+        return None;
+    }
+    match bank.term_node(t) {
+        Term::App(Symbol::Number(n), _) => i64::try_from(*n).ok(),
+        _ => None,
+    }
+}
+
+// A fact's number and its weight.
+fn weighted(bank: &Bank, i: TermId, w: TermId) -> Option<(usize, i64)> {
+    Some((number(bank, i)?, signed(bank, w)?))
+}
+
+fn all_weighted(
+    alloc: Global,
+    bank: &Bank,
+    ts: &[TermId],
+) -> Result<Option<Vec<(usize, i64)>>, AllocError> {
+    let mut all = Vec::new(alloc);
+    for k in 0..ts.len() / 2 {
+        match weighted(bank, ts[2 * k], ts[2 * k + 1]) {
+            Some(part) => all.push(part)?,
+            None => return Ok(None),
+        }
+    }
+    Ok(Some(all))
+}
+
+// A `sum`: the divisor, and then facts with their weights.
+fn sum(alloc: Global, bank: &Bank, ts: &[TermId]) -> Result<Option<Line>, AllocError> {
+    let [d, rest @ ..] = ts else {
+        return Ok(None);
+    };
+    let Some(divisor) = signed(bank, *d) else {
+        return Ok(None);
+    };
+    if rest.len() % 2 != 0 {
+        return Ok(None);
+    }
+    match all_weighted(alloc, bank, rest)? {
+        Some(parts) => Ok(Some(Line::Sum(Sum { parts, divisor }))),
+        None => Ok(None),
     }
 }
 
@@ -158,6 +206,7 @@ fn line_of(
             "chain" => equality(alloc, bank, true, ts),
             "cong" => equality(alloc, bank, false, ts),
             "inst" => inst(alloc, bank, ts),
+            "sum" => sum(alloc, bank, ts),
             _ => Ok(numbered(bank, word, ts)),
         },
         [f] => about(alloc, bank, word, *f, ts),

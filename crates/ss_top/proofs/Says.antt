@@ -31,7 +31,7 @@ use Rattle.ss_top_sources.specs.Sources as reading
 use Rattle.ss_top_sources.specs.Sources.{IsAccepted, IsRefused}
 use Rattle.ss_top.specs.declared.source.Goal.{Goal}
 use Rattle.ss_top.specs.declared.source.Goal.TheVariants as asked_for
-use Rattle.ss_top.specs.Sources.{Means, Expands, IsStop, Gives}
+use Rattle.ss_top.specs.Sources.{Means, Gives}
 use Rattle.ss_top_words.specs.Words.{Asked}
 use Rattle.ss_top.specs.Runs.{HasRun, FailsAt}
 use Rattle.ss_top.specs.Answers.{OfSource, OfFile, verified_line, options, IsHeadline, IsToldVerified, IsExpanded, IsToldUnproved, IsToldUndecided, AreListed, IsVerifiedInPart, IsToldInPart, IsExpandedInPart, IsWrittenInPart, IsVerify, IsRun, IsRunUnverified, IsExpand, Verifies, command_of_goal, IfRefused, IfUnproved, IfUndecided, IfStopped, IfFailed, ReadsOnly, IsVerified, IsSilent, HasEnded, IsSpent, IsStopped, IsUnadmitted, Says, answer_to}
@@ -46,14 +46,14 @@ told_verified c old new source means safe took = record { program = c; means = m
 pub verified_in_part : (c : CoreTree) (old new : Option (List ℕ)) (source : List ℕ) → Means source c → IsSafe c → GrewByFront old new verified_line → IsVerifiedInPart old new source
 verified_in_part c old new source means safe front = record { program = c; means = means; safe = safe; front = front }
 
-pub expands : (source : List ℕ) (ts : List Tok) (p : TypedTree) (c : CoreTree) → IsAccepted source ts p → c ≡ elaborated p → Expands source c
-expands source ts p c a e = record { tokens = ts; program = p; accepted = a; core = sym e; formed = subst IsFormed (sym e) (accepted_formed source ts p a) }
+pub means : (source : List ℕ) (ts : List Tok) (p : TypedTree) (c : CoreTree) → IsAccepted source ts p → c ≡ elaborated p → Means source c
+means source ts p c a e = record { tokens = ts; program = p; accepted = a; core = sym e; formed = subst IsFormed (sym e) (accepted_formed source ts p a) }
 
 pub expanded : (source : List ℕ) (ts : List Tok) (p : TypedTree) (c : CoreTree) (text : List ℕ) (old new : Option (List ℕ)) → IsAccepted source ts p → c ≡ elaborated p → text ≡ core_text c → Grew old new text → IsExpanded old new source
-expanded source ts p c text old new a e is took = record { program = c; expands = expands source ts p c a e; took = subst (λ t. Grew old new t) is took }
+expanded source ts p c text old new a e is took = record { program = c; means = means source ts p c a e; took = subst (λ t. Grew old new t) is took }
 
 pub expanded_in_part : (source : List ℕ) (ts : List Tok) (p : TypedTree) (c : CoreTree) (text : List ℕ) (old new : Option (List ℕ)) → IsAccepted source ts p → c ≡ elaborated p → text ≡ core_text c → GrewByFront old new text → IsExpandedInPart old new source
-expanded_in_part source ts p c text old new a e is front = record { program = c; expands = expands source ts p c a e; front = subst (λ t. GrewByFront old new t) is front }
+expanded_in_part source ts p c text old new a e is front = record { program = c; means = means source ts p c a e; front = subst (λ t. GrewByFront old new t) is front }
 
 pub told : (c : CoreTree) (os : List Obligation) (ms : List Countered) (us : List Undecided) (old new : Option (List ℕ)) (source text : List ℕ) → Means source c → os ≡ obligations c → IsUnproved c.classes options (obligations c) ms us
     → text ≡ verdict_text c os ms us → Grew old new text → IsToldUnproved ms us old new source
@@ -89,7 +89,7 @@ pub grew_nothing : (taken : Option (List ℕ)) → Grew taken taken []
 grew_nothing None = refl
 grew_nothing (Some bytes) = ap Some (sym (append-nil bytes))
 
--- the answer to a source that isn't read, or that isn't verified yet
+-- the answer to a source that isn't read
 pub refused_says : (steps : ℕ) (input : List ℤ) (taken : Option (List ℕ)) (g : Goal) (source : List ℕ) (stop : FrontStop) → Gives source (Err stop) → Says steps input taken taken (answer_to stop) (command_of_goal g) source
 refused_says steps input taken g source front.Memory h = inl (grew_nothing taken)
 refused_says steps input taken asked_for.Verdict source (front.Refused rule at) h = (h, grew_nothing taken)
@@ -106,7 +106,7 @@ unrun_says steps input taken source (front.Refused rule at) h = (h, grew_nothing
 -- what is refused to every command
 pub refused_gives : (source : List ℕ) (stop : FrontStop) → reading.Gives source (Err stop) → Gives source (Err stop)
 refused_gives source front.Memory h = tt
-refused_gives source (front.Refused rule at) h = inl h
+refused_gives source (front.Refused rule at) h = h
 
 -- a front of what a goal lets be written
 pub verdict_in_part : (g : Goal) (steps : ℕ) (input : List ℤ) (old new : Option (List ℕ)) (source : List ℕ) → IsToldInPart old new source → IsWrittenInPart steps input old new (command_of_goal g) source
@@ -122,7 +122,7 @@ goal_verifies asked_for.Run = tt
 -- no check of it fails
 never_fails : (c : CoreTree) (kind : Kind) (at : Place) (steps : ℕ) (input : List ℤ) (old new : Option (List ℕ)) (source : List ℕ) → Means source c → IsSafe c → IsInput input → FailsAt kind at steps input old new source → ⊥
 never_fails c kind at steps input old new source means safe given h =
-    let same : h.program ≡ c = one_core source h.program c h.expands means.expands in
+    let same : h.program ≡ c = one_core source h.program c h.means means in
     let safe_one : IsSafe h.program = subst IsSafe (sym same) safe in
     subst IsUnfailed h.failed (safe_one.unfailed input given h.admits steps)
 
@@ -135,7 +135,7 @@ safe_says c steps input old new source (status.Failed kind at) means safe given 
 safe_says c steps input old new source status.NotAdmitted means safe given h = (record { program = c; means = means; safe = safe }, h)
 safe_says c steps input old new source (status.Unproved ms us) means safe given h = absurd h.0
 safe_says c steps input old new source (status.Undecided us) means safe given h = absurd h.0
-safe_says c steps input old new source (status.SourceRefused rule at) means safe given h = (inl h.0, h.1)
+safe_says c steps input old new source (status.SourceRefused rule at) means safe given h = h
 safe_says c steps input old new source status.WriteFault means safe given h = inl (record { program = c; means = means; safe = safe }, h)
 safe_says c steps input old new source status.Memory means safe given h = ⊎_elim (λ nothing. inl nothing) (λ part. inr (inl (record { program = c; means = means; safe = safe }, part))) h
 safe_says c steps input old new source status.BadWords means safe given h = absurd h
@@ -148,7 +148,7 @@ abbrev pub SaysOf : Asked → Option (List ℕ) → Option (List ℕ) → Status
 SaysOf a old new st source = Says a.steps a.input old new st a.command source
 
 pub Says-refused : (a : Asked) (old new : Option (List ℕ)) (st : Status) (told : List ℕ → Told) → OfSource (told a.file) (SaysOf a old new st)
-    → IfRefused st (λ rule at. OfFile (Some a) told (λ asked source. IsStop asked.command source rule at))
+    → IfRefused st (λ rule at. OfFile (Some a) told (λ asked source. IsRefused source rule at))
 Says-refused a old new status.Ended told h = tt
 Says-refused a old new status.StepsSpent told h = tt
 Says-refused a old new (status.Stopped at) told h = tt
@@ -156,7 +156,7 @@ Says-refused a old new (status.Failed kind at) told h = tt
 Says-refused a old new status.NotAdmitted told h = tt
 Says-refused a old new (status.Unproved countered undecided) told h = tt
 Says-refused a old new (status.Undecided undecided) told h = tt
-Says-refused a old new (status.SourceRefused rule at) told h = OfSource-map (told a.file) (SaysOf a old new (status.SourceRefused rule at)) (λ source. IsStop a.command source rule at) (λ source x. x.0) h
+Says-refused a old new (status.SourceRefused rule at) told h = OfSource-map (told a.file) (SaysOf a old new (status.SourceRefused rule at)) (λ source. IsRefused source rule at) (λ source x. x.0) h
 Says-refused a old new status.WriteFault told h = tt
 Says-refused a old new status.Memory told h = tt
 Says-refused a old new status.BadWords told h = tt

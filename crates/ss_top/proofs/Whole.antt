@@ -14,7 +14,7 @@ use Rattle.ss_report.specs.declared.status.Status.TheVariants as status
 use Rattle.ss_top_words.specs.declared.Command.{Command}
 use Rattle.ss_top_words.specs.declared.Command.TheVariants as command
 use Rattle.ss_top_sources.specs.Sources.{IsNoProgram, IsFaulty, IsRefused}
-use Rattle.ss_top.specs.Sources.{Expands, IsNotBuilt, IsUnbuilt, IsStop}
+use Rattle.ss_top.specs.Sources.{Means}
 use Rattle.ss_top.specs.Runs.{HasRun, RunsOn, StopsAt, FailsAt, IsNotAdmitted, RunsInPart}
 use Rattle.ss_top.specs.Answers.{OfSource, IsHeadline, IsToldVerified, IsToldUnproved, IsToldUndecided, IsExpanded, IsVerifiedInPart, IsToldInPart, IsExpandedInPart, IsWrittenInPart, HasEnded, IsSpent, IsStopped, IsUnadmitted, Says}
 
@@ -54,7 +54,7 @@ HasTokens-whole bytes file tokens e h = ⊎_elim
 
 module _ (bytes file : List ℕ) (e : bytes ≡ take 1048577 file) where
   -- bytes with a program are the whole file
-  same : (c : CoreTree) → Expands bytes c → bytes ≡ file
+  same : (c : CoreTree) → Means bytes c → bytes ≡ file
   same c x = HasTokens-whole bytes file x.tokens e (x.accepted).reads
 
   refused_whole : (rule : ℕ) (at : Place) → IsRefused bytes rule at → IsRefused file rule at
@@ -66,61 +66,49 @@ module _ (bytes file : List ℕ) (e : bytes ≡ take 1048577 file) where
       others))
       h
 
-  unbuilt_whole : (rule : ℕ) (at : Place) → IsUnbuilt bytes rule at → IsUnbuilt file rule at
-  unbuilt_whole rule at h = (h.0, h.1, subst IsNotBuilt (same (h.2).program (h.2).expands) h.2)
-
-  verifying_whole : (rule : ℕ) (at : Place) → IsRefused bytes rule at ⊎ IsUnbuilt bytes rule at → IsRefused file rule at ⊎ IsUnbuilt file rule at
-  verifying_whole rule at h = ⊎_elim (λ x. inl (refused_whole rule at x)) (λ x. inr (unbuilt_whole rule at x)) h
-
-  stop_whole : (c : Command) (rule : ℕ) (at : Place) → IsStop c bytes rule at → IsStop c file rule at
-  stop_whole command.Verify rule at h = verifying_whole rule at h
-  stop_whole command.Run rule at h = verifying_whole rule at h
-  stop_whole command.RunUnverified rule at h = refused_whole rule at h
-  stop_whole command.Expand rule at h = refused_whole rule at h
-
   module _ (steps : ℕ) (input : List ℤ) (old new : Option (List ℕ)) where
     ended_whole : (c : Command) → HasEnded c steps input old new bytes → HasEnded c steps input old new file
-    ended_whole command.Verify h = subst (IsToldVerified old new) (same h.program h.means.expands) h
-    ended_whole command.Run h = subst (λ s. IsHeadline s × HasRun steps input old new s) (same (h.1).program (h.1).expands) h
-    ended_whole command.RunUnverified h = subst (HasRun steps input old new) (same h.program h.expands) h
-    ended_whole command.Expand h = subst (IsExpanded old new) (same h.program h.expands) h
+    ended_whole command.Verify h = subst (IsToldVerified old new) (same h.program h.means) h
+    ended_whole command.Run h = subst (λ s. IsHeadline s × HasRun steps input old new s) (same (h.1).program (h.1).means) h
+    ended_whole command.RunUnverified h = subst (HasRun steps input old new) (same h.program h.means) h
+    ended_whole command.Expand h = subst (IsExpanded old new) (same h.program h.means) h
 
     spent_whole : (c : Command) → IsSpent c steps input old new bytes → IsSpent c steps input old new file
     spent_whole command.Verify h = h
-    spent_whole command.Run h = subst (λ s. IsHeadline s × RunsOn steps input old new s) (same (h.1).program (h.1).expands) h
-    spent_whole command.RunUnverified h = subst (RunsOn steps input old new) (same h.program h.expands) h
+    spent_whole command.Run h = subst (λ s. IsHeadline s × RunsOn steps input old new s) (same (h.1).program (h.1).means) h
+    spent_whole command.RunUnverified h = subst (RunsOn steps input old new) (same h.program h.means) h
     spent_whole command.Expand h = h
 
     stopped_whole : (at : Place) (c : Command) → IsStopped at c steps input old new bytes → IsStopped at c steps input old new file
     stopped_whole at command.Verify h = h
-    stopped_whole at command.Run h = subst (λ s. IsHeadline s × StopsAt at steps input old new s) (same (h.1).program (h.1).expands) h
-    stopped_whole at command.RunUnverified h = subst (StopsAt at steps input old new) (same h.program h.expands) h
+    stopped_whole at command.Run h = subst (λ s. IsHeadline s × StopsAt at steps input old new s) (same (h.1).program (h.1).means) h
+    stopped_whole at command.RunUnverified h = subst (StopsAt at steps input old new) (same h.program h.means) h
     stopped_whole at command.Expand h = h
 
     unadmitted_whole : (c : Command) → IsUnadmitted c input old new bytes → IsUnadmitted c input old new file
     unadmitted_whole command.Verify h = h
-    unadmitted_whole command.Run h = subst (λ s. IsHeadline s × IsNotAdmitted input old new s) (same (h.1).program (h.1).expands) h
-    unadmitted_whole command.RunUnverified h = subst (IsNotAdmitted input old new) (same h.program h.expands) h
+    unadmitted_whole command.Run h = subst (λ s. IsHeadline s × IsNotAdmitted input old new s) (same (h.1).program (h.1).means) h
+    unadmitted_whole command.RunUnverified h = subst (IsNotAdmitted input old new) (same h.program h.means) h
     unadmitted_whole command.Expand h = h
 
     told_whole : IsToldInPart old new bytes → IsToldInPart old new file
-    told_whole h = subst (IsToldInPart old new) (same h.program h.means.expands) h
+    told_whole h = subst (IsToldInPart old new) (same h.program h.means) h
 
     in_part_whole : (c : Command) → IsWrittenInPart steps input old new c bytes → IsWrittenInPart steps input old new c file
-    in_part_whole command.Verify h = ⊎_elim (λ x. inl (subst (IsVerifiedInPart old new) (same x.program x.means.expands) x)) (λ told. inr (told_whole told)) h
-    in_part_whole command.Run h = ⊎_elim (λ x. inl (subst (λ s. IsHeadline s × RunsInPart steps input old new s) (same (x.1).program (x.1).expands) x)) (λ told. inr (told_whole told)) h
-    in_part_whole command.RunUnverified h = subst (RunsInPart steps input old new) (same h.program h.expands) h
-    in_part_whole command.Expand h = subst (IsExpandedInPart old new) (same h.program h.expands) h
+    in_part_whole command.Verify h = ⊎_elim (λ x. inl (subst (IsVerifiedInPart old new) (same x.program x.means) x)) (λ told. inr (told_whole told)) h
+    in_part_whole command.Run h = ⊎_elim (λ x. inl (subst (λ s. IsHeadline s × RunsInPart steps input old new s) (same (x.1).program (x.1).means) x)) (λ told. inr (told_whole told)) h
+    in_part_whole command.RunUnverified h = subst (RunsInPart steps input old new) (same h.program h.means) h
+    in_part_whole command.Expand h = subst (IsExpandedInPart old new) (same h.program h.means) h
 
     says_whole : (st : Status) (c : Command) → Says steps input old new st c bytes → Says steps input old new st c file
     says_whole status.Ended c h = ended_whole c h
     says_whole status.StepsSpent c h = spent_whole c h
     says_whole (status.Stopped at) c h = stopped_whole at c h
-    says_whole (status.Failed kind at) c h = (h.0, subst (FailsAt kind at steps input old new) (same (h.1).program (h.1).expands) h.1)
+    says_whole (status.Failed kind at) c h = (h.0, subst (FailsAt kind at steps input old new) (same (h.1).program (h.1).means) h.1)
     says_whole status.NotAdmitted c h = unadmitted_whole c h
-    says_whole (status.Unproved countered undecided) c h = (h.0, subst (IsToldUnproved countered.items undecided.items old new) (same (h.1).program (h.1).means.expands) h.1)
-    says_whole (status.Undecided undecided) c h = (h.0, subst (IsToldUndecided undecided.items old new) (same (h.1).program (h.1).means.expands) h.1)
-    says_whole (status.SourceRefused rule at) c h = (stop_whole c rule at h.0, h.1)
+    says_whole (status.Unproved countered undecided) c h = (h.0, subst (IsToldUnproved countered.items undecided.items old new) (same (h.1).program (h.1).means) h.1)
+    says_whole (status.Undecided undecided) c h = (h.0, subst (IsToldUndecided undecided.items old new) (same (h.1).program (h.1).means) h.1)
+    says_whole (status.SourceRefused rule at) c h = (refused_whole rule at h.0, h.1)
     says_whole status.WriteFault c h = in_part_whole c h
     says_whole status.Memory c h = ⊎_elim (λ nothing. inl nothing) (λ some. inr (in_part_whole c some)) h
     says_whole status.BadWords c h = absurd h

@@ -22,7 +22,8 @@ use Rattle.ss_top_words.specs.declared.Command.{Command}
 use Rattle.ss_top_words.specs.declared.Command.TheVariants as command
 use Rattle.ss_top.specs.declared.source.Goal.{Goal}
 use Rattle.ss_top.specs.declared.source.Goal.TheVariants as goal
-use Rattle.ss_top.specs.Sources.{Means, Expands, IsStop}
+use Rattle.ss_top_sources.specs.Sources.{IsRefused}
+use Rattle.ss_top.specs.Sources.{Means}
 use Rattle.ss_top.specs.Runs.{HasRun, RunsOn, StopsAt, FailsAt, IsNotAdmitted, RunsInPart}
 
 -- what the words ask for
@@ -87,7 +88,7 @@ pub record IsToldUndecided (undecided : List Undecided) (old new : Option (List 
 -- the sink took exactly the text of the core program
 pub record IsExpanded (old new : Option (List ℕ)) (source : List ℕ) : Type 0 where
   pub program : CoreTree
-  pub expands : Expands source program
+  pub means : Means source program
   pub took : Grew old new (core_text program)
 
 -- the program is safe, and the sink took a front of the line `verified`
@@ -113,7 +114,7 @@ pub record IsToldInPart (old new : Option (List ℕ)) (source : List ℕ) : Type
 -- the sink took a front of the text of the core program
 pub record IsExpandedInPart (old new : Option (List ℕ)) (source : List ℕ) : Type 0 where
   pub program : CoreTree
-  pub expands : Expands source program
+  pub means : Means source program
   pub front : GrewByFront old new (core_text program)
 
 -- the sink took a front of what the answers above let be written
@@ -246,7 +247,7 @@ Says steps input old new (status.Failed kind at) c source = IsRunUnverified c ×
 Says steps input old new status.NotAdmitted c source = IsUnadmitted c input old new source
 Says steps input old new (status.Unproved countered undecided) c source = Verifies c × IsToldUnproved countered.items undecided.items old new source
 Says steps input old new (status.Undecided undecided) c source = Verifies c × IsToldUndecided undecided.items old new source
-Says steps input old new (status.SourceRefused rule at) c source = IsStop c source rule at × Grew old new []
+Says steps input old new (status.SourceRefused rule at) c source = IsRefused source rule at × Grew old new []
 Says steps input old new status.WriteFault c source = IsWrittenInPart steps input old new c source
 Says steps input old new status.Memory c source = Grew old new [] ⊎ IsWrittenInPart steps input old new c source
 Says steps input old new status.BadWords c source = ⊥

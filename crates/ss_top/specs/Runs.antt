@@ -8,7 +8,7 @@ use Rattle.ss_store_rules.specs.Admitted.{admitted}
 use Rattle.ss_machine_rules.specs.Runs.{run, printed}
 use Rattle.ss_machine_rules.specs.Good.{IsGoodState}
 use Rattle.ss_machine_rules.specs.Ends.{IsRunning, IsDoneWith, HasFailed, HasStopped}
-use Rattle.ss_top.specs.Sources.{Expands}
+use Rattle.ss_top.specs.Sources.{Means}
 
 -- Every state of the run is good until a check has failed. Each object then meets the invariants of each class at which it is
 -- packed.
@@ -19,7 +19,7 @@ IsGoodThroughout c input = (n : ℕ) → IsGoodState c (run c input n)
 -- the run printed.
 pub record HasRun (steps : ℕ) (input : List ℤ) (old new : Option (List ℕ)) (source : List ℕ) : Type 0 where
   pub program : CoreTree
-  pub expands : Expands source program
+  pub means : Means source program
   pub admits : admitted program input ≡ true
   pub done : IsDoneWith (printed program input steps) (run program input steps)
   pub good : IsGoodThroughout program input
@@ -28,7 +28,7 @@ pub record HasRun (steps : ℕ) (input : List ℤ) (old new : Option (List ℕ))
 -- the same, but after these steps the run isn't at its end
 pub record RunsOn (steps : ℕ) (input : List ℤ) (old new : Option (List ℕ)) (source : List ℕ) : Type 0 where
   pub program : CoreTree
-  pub expands : Expands source program
+  pub means : Means source program
   pub admits : admitted program input ≡ true
   pub running : IsRunning (run program input steps)
   pub good : IsGoodThroughout program input
@@ -37,7 +37,7 @@ pub record RunsOn (steps : ℕ) (input : List ℤ) (old new : Option (List ℕ))
 -- the same, but within these steps the run stopped at an assumption that is false, which is at this place
 pub record StopsAt (at : Place) (steps : ℕ) (input : List ℤ) (old new : Option (List ℕ)) (source : List ℕ) : Type 0 where
   pub program : CoreTree
-  pub expands : Expands source program
+  pub means : Means source program
   pub admits : admitted program input ≡ true
   pub stopped : HasStopped program input at steps
   pub good : IsGoodThroughout program input
@@ -46,7 +46,7 @@ pub record StopsAt (at : Place) (steps : ℕ) (input : List ℤ) (old new : Opti
 -- the same, but within these steps a check of the run failed, of this kind and at this place
 pub record FailsAt (kind : Kind) (at : Place) (steps : ℕ) (input : List ℤ) (old new : Option (List ℕ)) (source : List ℕ) : Type 0 where
   pub program : CoreTree
-  pub expands : Expands source program
+  pub means : Means source program
   pub admits : admitted program input ≡ true
   pub failed : HasFailed program input kind at steps
   pub good : IsGoodThroughout program input
@@ -55,13 +55,13 @@ pub record FailsAt (kind : Kind) (at : Place) (steps : ℕ) (input : List ℤ) (
 -- the program doesn't admit the input, and the sink took nothing
 pub record IsNotAdmitted (input : List ℤ) (old new : Option (List ℕ)) (source : List ℕ) : Type 0 where
   pub program : CoreTree
-  pub expands : Expands source program
+  pub means : Means source program
   pub refuses : admitted program input ≡ false
   pub nothing : Grew old new []
 
 -- the program admits the input, and the sink took a front of what the run printed
 pub record RunsInPart (steps : ℕ) (input : List ℤ) (old new : Option (List ℕ)) (source : List ℕ) : Type 0 where
   pub program : CoreTree
-  pub expands : Expands source program
+  pub means : Means source program
   pub admits : admitted program input ≡ true
   pub front : GrewByFront old new (printed program input steps)

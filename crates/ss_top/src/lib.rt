@@ -8,5 +8,6 @@ mod source;
 mod top;
 
 pub use front::read_program;
-pub use laws::{no_fault, one_core, one_fault};
+pub use laws::{no_fault, one_core};
+pub use ss_top_sources::one_fault;
 pub use top::specsharp;

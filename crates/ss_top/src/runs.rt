@@ -9,7 +9,7 @@ ghost use Rattle.ss_typed.specs.View.{typed};
 ghost use Rattle.ss_store_rules.specs.Admitted as store;
 ghost use Rattle.ss_machine_typed.specs.Inputs.{IsInput};
 ghost use Rattle.ss_top_sources.specs.Sources.{IsAccepted};
-ghost use Rattle.ss_top.specs.Sources.{Expands};
+ghost use Rattle.ss_top.specs.Sources.{Means};
 ghost use Rattle.ss_top.specs.Answers.{Says};
 ghost use Rattle.ss_top_words.specs.declared.Command.TheVariants as goals;
 
@@ -68,7 +68,7 @@ pub fn run_whole<S: Sink>(
 ) -> Status
     requires short { length asked.now.input.items < 2 ^ 31 }
     requires input { IsInput asked.now.input.items }
-    requires expands { Expands source.now (core program.now) }
+    requires means { Means source.now (core program.now) }
     requires limits { IsWithinLimits (classes program.now.classes) }
     ensures says { Says asked.now.steps asked.now.input.items (S.taken out.old) (S.taken out.new) result goals.RunUnverified source.now }
     ensures faults { S.faults out.old ≤ S.faults out.new }
@@ -91,7 +91,7 @@ fn run_admitted<S: Sink>(
 ) -> Status
     requires short { length asked.now.input.items < 2 ^ 31 }
     requires input { IsInput asked.now.input.items }
-    requires expands { Expands source.now (core program.now) }
+    requires means { Means source.now (core program.now) }
     requires limits { IsWithinLimits (classes program.now.classes) }
     requires admits { store.admitted (core program.now) asked.now.input.items ≡ true }
     ensures says { Says asked.now.steps asked.now.input.items (S.taken out.old) (S.taken out.new) result goals.RunUnverified source.now }

@@ -2,7 +2,7 @@
 
 ghost use Rattle.std.specs.Prelude.{◌≡◌, ◌<◌, ◌≤◌, ◌⊎◌, ◌↔◌, [], None, IsSomeAnd};
 ghost use Rattle.ss_io.specs.Outside.{Rose, Grew};
-ghost use Rattle.ss_top.specs.Sources.{IsStop};
+ghost use Rattle.ss_top_sources.specs.Sources.{IsRefused};
 ghost use Rattle.ss_top.specs.Runs.{HasRun, FailsAt};
 ghost use Rattle.ss_top.specs.Answers.{asked_by, file_of, OfFile, IsHeadline, IsToldVerified, IsExpanded, IsSpent, IsStopped, IsUnadmitted, IsToldUnproved, IsToldUndecided, IsWrittenInPart, IsVerify, IsRun, IsRunUnverified, IsExpand, Verifies, IfRefused, IfUnproved, IfUndecided, IfStopped, IfFailed, IsVerified, IsSilent, ReadsOnly};
 
@@ -26,7 +26,7 @@ pub fn specsharp<F: Files, S: Sink>(
 ) -> Status
     ensures bad_words { (result ≡ Status.BadWords) ↔ (asked_by words.now ≡ None) }
     ensures read_fault { result ≡ Status.ReadFault → IsSomeAnd (file_of words.now) (λ name. F.faults files.old name < F.faults files.new name) }
-    ensures refused { IfRefused result (λ rule at. OfFile (asked_by words.now) (F.told files.old) (λ asked source. IsStop asked.command source rule at)) }
+    ensures refused { IfRefused result (λ rule at. OfFile (asked_by words.now) (F.told files.old) (λ asked source. IsRefused source rule at)) }
 
     ensures headline { IsVerified result → OfFile (asked_by words.now) (F.told files.old) (λ asked source. Verifies asked.command → IsHeadline source) }
     ensures verified { result ≡ Status.Ended → OfFile (asked_by words.now) (F.told files.old) (λ asked source. IsVerify asked.command → IsToldVerified (S.taken out.old) (S.taken out.new) source) }

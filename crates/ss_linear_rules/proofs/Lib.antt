@@ -1,0 +1,4 @@
+pub mod Cancelling
+pub mod Few
+pub mod Networks
+pub mod Values

@@ -1,0 +1,4 @@
+pub mod Few
+pub mod Nodes
+pub mod Two
+pub mod Valued

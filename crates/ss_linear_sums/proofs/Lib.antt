@@ -1,0 +1,4 @@
+pub mod Places
+pub mod Summing
+pub mod Weights
+pub mod Quotients

@@ -1,0 +1,12 @@
+use Rattle.std.proofs.Common.{◌≡◌, ℤ, List, ◌++◌, drop, Some, None}
+use Rattle.ss_logic.specs.Terms.{Term}
+use Rattle.ss_logic_sums.specs.Sums as sums
+use Rattle.ss_linear_sums.specs.Linear.{parts_at, HasParts}
+use Rattle.ss_linear_sums.proofs.bounds.divided.Given as goal
+
+abbrev pub invariant-loop-part : goal.invariant-loop-part
+invariant-loop-part l = record {
+  has : HasParts l.bank l.made.items;
+  some : (rest : List (Term × ℤ)) → sums.divided l.d (drop l.part-index (parts_at l.bank l.parts)) ≡ Some rest → sums.divided l.d (parts_at l.bank l.parts) ≡ Some (parts_at l.bank l.made.items ++ rest);
+  none : sums.divided l.d (drop l.part-index (parts_at l.bank l.parts)) ≡ None → sums.divided l.d (parts_at l.bank l.parts) ≡ None;
+}

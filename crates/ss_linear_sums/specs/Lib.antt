@@ -1,0 +1,5 @@
+pub mod Linear
+pub mod Parts
+pub mod Table
+pub mod Readings
+pub mod Weighted

@@ -1,5 +1,0 @@
-use Rattle.ss_top.proofs.Meanings.{one_fault}
-use Rattle.ss_top.proofs.laws.one_fault.Goals as goal
-
-pub returns : goal.returns
-returns c = one_fault
