@@ -6,8 +6,10 @@ mod formed;
 mod forms;
 mod index;
 mod makers;
+mod obligation;
 mod sorts;
 
 pub use bank::Bank;
 pub use forms::{Formula, FormulaId, Predicate, Symbol, Term, TermId};
+pub use obligation::Obligation;
 pub use sorts::field_sorts;

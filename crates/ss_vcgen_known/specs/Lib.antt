@@ -4,5 +4,6 @@ pub mod Names
 pub mod Pairs
 pub mod Sets
 pub mod Steps
+pub mod TellsFront
 pub mod Told
 pub mod Views

@@ -6,9 +6,8 @@ ghost use Rattle.ss_vcgen_known.specs.declared.told.Told.TheVariants as told;
 ghost use Rattle.ss_core.specs.declared.names.Place.{Place as PlaceValue};
 ghost use Rattle.ss_core.specs.Tree.{ExprTree};
 ghost use Rattle.ss_core.specs.View.{expr};
-ghost use Rattle.ss_store_rules.specs.NonNull as spec;
 ghost use Rattle.ss_vcgen_known.specs.Fronts.{link_behind, chain_front};
-ghost use Rattle.ss_vcgen_known.specs.Told.{local_of, not_null, told_where, told_by, told_by_operation, with_told};
+ghost use Rattle.ss_vcgen_known.specs.Told.{local_of, not_null, told_where, told_by, told_by_operation};
 
 use crate::atoms::{is_null_literal, local_of};
 use ss_core::{Expr, Link, Operator};
@@ -102,7 +101,7 @@ fn tell_links(
 
 // The same of an operand with one link behind it.
 #[cycle(told)]
-fn tell_link(
+pub(crate) fn tell_link(
     link: &Link,
     outcome: bool,
     mark: usize,
@@ -184,45 +183,4 @@ pub fn told_by(alloc: Global, e: &Expr, outcome: bool) -> Result<Vec<Told>, Allo
     let mut found = Vec::new(alloc);
     tell(e, outcome, &mut found)?;
     Ok(found)
-}
-
-// What the front of a chain tells where it has this truth value.
-fn told_by_front(
-    alloc: Global,
-    first: &Expr,
-    links: &[Link],
-    outcome: bool,
-) -> Result<Vec<Told>, AllocError>
-    ensures { IfOk result (λ v. (p : PlaceValue) → v.items ≡ told_by (chain_front p (expr first.now) links.now) outcome) }
-{
-    let mut found = Vec::new(alloc);
-    tell(first, outcome, &mut found)?;
-    tell_links(links, local_of(first), outcome, 0, &mut found)?;
-    Ok(found)
-}
-
-/// What the front of a chain tells where the right operand of its next operation is read.
-pub fn told_on_right(
-    alloc: Global,
-    operator: Operator,
-    first: &Expr,
-    links: &[Link],
-) -> Result<Vec<Told>, AllocError>
-    ensures { IfOk result (λ v. (p : PlaceValue) (k : spec.Known) → with_told v.items k ≡ spec.known_right operator (chain_front p (expr first.now) links.now) k) }
-{
-    match operator {
-        Operator::And => told_by_front(alloc, first, links, true),
-        Operator::Or => told_by_front(alloc, first, links, false),
-        Operator::Equal
-        | Operator::NotEqual
-        | Operator::Less
-        | Operator::LessEqual
-        | Operator::Greater
-        | Operator::GreaterEqual
-        | Operator::Add
-        | Operator::Subtract
-        | Operator::Multiply
-        | Operator::Divide
-        | Operator::Remainder => Ok(Vec::new(alloc)),
-    }
 }

@@ -17,6 +17,7 @@ ghost use Rattle.ss_vcgen_express.specs.Scenes as scenes;
 ghost use Rattle.ss_vcgen_express.specs.Scenes.{scene_at, HasScene};
 ghost use Rattle.ss_vcgen_heaps.specs.Parts.{is_upwards, fits_class};
 ghost use Rattle.ss_vcgen_known.specs.Fronts.{link_behind, step_behind, chain_front, path_front};
+ghost use Rattle.ss_vcgen_known.specs.TellsFront.{TellsFront};
 ghost use Rattle.ss_vcgen_walk.specs.declared.parts.Part.{Part as PartValue};
 ghost use Rattle.ss_vcgen_walk.specs.declared.singles.Single.TheVariants as single;
 ghost use Rattle.ss_vcgen_walk.specs.declared.twos.Two.TheVariants as two;
@@ -42,8 +43,7 @@ use ss_terms::{Bank, FormulaId, Symbol};
 use ss_vcgen_defaults::default_said;
 use ss_vcgen_express::{Meant, Saying, Scene, local_term, out_of_range, quantified, said};
 use ss_vcgen_known::{
-    Site, Tests, element_of, is_bool, is_never_null, link_type, path_never_null, step_type,
-    told_on_right, type_of,
+    FrontTold, element_of, is_bool, is_never_null, link_type, path_never_null, step_type, type_of,
 };
 use std::alloc::{AllocError, Global};
 
@@ -415,7 +415,7 @@ fn behind(
     of_two(alloc, bank, scene, parts, &list, form, m, &n)
 }
 
-// An operation behind the front of a chain, which means this.
+// An operation behind the front of a chain, which tells this and means this.
 #[cycle(express)]
 fn operation(
     alloc: Global,
@@ -427,36 +427,25 @@ fn operation(
     place: Place,
     operator: Operator,
     bools: bool,
-    first: &Expr,
-    links: &[Link],
+    told: &FrontTold,
     m: &Meant,
 ) -> Result<Meant, AllocError>
     requires sight { IsSight sight.now }
     requires scene { HasScene bank.old scene.now }
     requires parts { HasParts bank.old parts.old.items }
     requires meant { HasMeant bank.old m.now }
-    ensures expressed { IfOk result (λ r. Expressed bank.new r parts.new.items
+    ensures expressed { (t : ExprTree) → TellsFront told.now t → IfOk result (λ r. Expressed bank.new r parts.new.items
         (λ b. spec.operated operator bools (meant_at b m.now) (spec.meant (expr e.now) (scene_at b scene.entry.now)))
-        (λ b. two_asks (two.Operation place operator bools) (parts_at b parts.old.items) (marked (expr e.now) (site_at sight.now) (rules.known_right operator (chain_front place (expr first.now) links.now) (known_at sight.now)) (scene_at b scene.entry.now)) (scene_at b scene.entry.now) (meant_at b m.now) (spec.meant (expr e.now) (scene_at b scene.entry.now)))) }
+        (λ b. two_asks (two.Operation place operator bools) (parts_at b parts.old.items) (marked (expr e.now) (site_at sight.now) (rules.known_right operator t (known_at sight.now)) (scene_at b scene.entry.now)) (scene_at b scene.entry.now) (meant_at b m.now) (spec.meant (expr e.now) (scene_at b scene.entry.now)))) }
     ensures grown { IsGrown bank.old bank.new }
 {
-    let told = told_on_right(alloc, operator, first, links)?;
-    let tests = Tests::Told(&*sight.tests, &told);
-    let site = Site {
-        classes: &*sight.site.classes,
-        types: &*sight.site.types,
-        constructs: sight.site.constructs,
-    };
-    let inner = Sight {
-        site,
-        known: &*sight.known,
-        tests: &tests,
-    };
+    let tests = told.on_right(operator, sight.tests);
+    let inner = sight.with_tests(&tests);
     let form = Two::Operation(place, operator, bools);
     behind(alloc, bank, &inner, scene, parts, e, form, m)
 }
 
-// A link behind the front of a chain, which means this and has this type.
+// A link behind the front of a chain, which tells this, means this and has this type.
 #[cycle(express)]
 fn linked(
     alloc: Global,
@@ -466,17 +455,17 @@ fn linked(
     parts: &mut Vec<Part>,
     link: &Link,
     place: Place,
-    first: &Expr,
-    links: &[Link],
+    told: &FrontTold,
     ty: Option<Ty>,
     m: &Meant,
 ) -> Result<Meant, AllocError>
     requires sight { IsSight sight.now }
     requires scene { HasScene bank.old scene.now }
-    requires front { (q : List PartValue) × Reads bank.old m.now parts.old.items q (chain_front place (expr first.now) links.now) sight.now scene.now }
-    requires typed { ty ≡ types.type_of (classes scene.now.classes.now) scene.now.types.items (chain_front place (expr first.now) links.now) }
-    ensures expressed { (q : List PartValue) → Reads bank.old m.now parts.old.items q (chain_front place (expr first.now) links.now) sight.now scene.entry.now
-        → IfOk result (λ r. Reads bank.new r parts.new.items q (link_behind link.now place (chain_front place (expr first.now) links.now)) sight.now scene.entry.now) }
+    requires front { (q : List PartValue) × (t : ExprTree) × Reads bank.old m.now parts.old.items q t sight.now scene.now }
+    ensures expressed { (q : List PartValue) (t : ExprTree) → Reads bank.old m.now parts.old.items q t sight.now scene.entry.now
+        → TellsFront told.now t
+        → ty ≡ types.type_of (classes scene.entry.now.classes.now) scene.entry.now.types.items t
+        → IfOk result (λ r. Reads bank.new r parts.new.items q (link_behind link.now place t) sight.now scene.entry.now) }
     ensures grown { IsGrown bank.old bank.new }
 {
     match link {
@@ -490,8 +479,7 @@ fn linked(
             place,
             *operator,
             is_bool(ty),
-            first,
-            links,
+            told,
             m,
         ),
         Link::Is(class) => of_single(alloc, bank, scene, parts, Single::Is(*class), m),
@@ -521,21 +509,13 @@ fn chain(
 {
     let mut front = m;
     let mut ty = type_of(scene.classes, &scene.types, first);
-    for (i, link) in links.iter().enumerate() {
+    let mut told = FrontTold::new(alloc, first)?;
+    for link in links {
         front = linked(
-            alloc,
-            bank,
-            sight,
-            scene,
-            parts,
-            link,
-            place,
-            first,
-            &links[..i],
-            ty,
-            &front,
+            alloc, bank, sight, scene, parts, link, place, &told, ty, &front,
         )?;
         ty = link_type(scene.classes, &scene.types, ty, link);
+        told.add(link)?;
     }
     Ok(front)
 }
