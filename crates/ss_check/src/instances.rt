@@ -13,7 +13,7 @@ ghost use Rattle.ss_check_steps.specs.Numbered.{IsNumberOf};
 use ss_check_steps::{good_store_at, known_at};
 use ss_core::Classes;
 use ss_logic_rules::{GoodRule, RuleName};
-use ss_rules::{good_instance, instance};
+use ss_rules_instances::{good_instance, instance};
 use ss_terms::{Bank, FormulaId, TermId};
 use std::alloc::{AllocError, Global};
 

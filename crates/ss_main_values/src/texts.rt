@@ -14,7 +14,7 @@ use ss_rules_occurring::{atoms, terms};
 use ss_search::Countered;
 use ss_terms::{Bank, FormulaId, TermId};
 use ss_top::read_program;
-use ss_vcgen::{Obligation, Obligations, Positions, locate};
+use ss_vcgen::{Listed, Obligations, Positions, locate};
 use std::alloc::{AllocError, Global};
 
 // How many obligations have their values told.
@@ -46,7 +46,7 @@ fn text_of(
     bank: &mut Bank,
     trail: &[FormulaId],
     core: &Core,
-    obligation: &Obligation,
+    obligation: &Listed,
     classes: &[usize],
     locals: &[Option<TermId>],
 ) -> Result<String, AllocError>

@@ -12,7 +12,7 @@ ghost use Rattle.ss_report.specs.Verdict.{verdict_text as verdict_of, line_of, i
 use crate::texts::{push_not_proved, push_undecided};
 use ss_core::{BodyId, Core};
 use ss_search::{Budget, Countered, Undecided};
-use ss_vcgen::{Obligation, Obligations};
+use ss_vcgen::{Listed, Obligations};
 use std::alloc::{AllocError, Global};
 
 // The name of a body's class, or nothing where there is none.
@@ -43,7 +43,7 @@ fn push_line(
     alloc: Global,
     text: &mut String,
     program: &Core,
-    obligation: &Obligation,
+    obligation: &Listed,
     refuted: bool,
     over: Option<Budget>,
 ) -> Result<(), AllocError>
@@ -106,7 +106,7 @@ fn next_undecided(rest: &[Undecided], number: usize) -> (Option<Budget>, &[Undec
 fn verdict_lines(
     alloc: Global,
     program: &Core,
-    list: &[Obligation],
+    list: &[Listed],
     countered: &[Countered],
     undecided: &[Undecided],
 ) -> Result<String, AllocError>

@@ -15,7 +15,7 @@ ghost use Rattle.ss_rules_said.specs.Said.{with_said};
 use crate::arguments::terms_of_arguments;
 use ss_core::Classes;
 use ss_logic_rules::GoodRule;
-use ss_rules::{good_instance, instance};
+use ss_rules_instances::{good_instance, instance};
 use ss_rules_asked::{Asked, Rule};
 use ss_rules_invariants::invariants;
 use ss_rules_occurring::FormulaList;

@@ -6,7 +6,7 @@ ghost use Rattle.ss_core.specs.View as view;
 ghost use Rattle.ss_terms.specs.Forms.{HasTerms, IsGrown, IsBankOf};
 
 use ss_core::Classes;
-use ss_rules::{good_instance, instance};
+use ss_rules_instances::{good_instance, instance};
 use ss_rules_invariants::invariants;
 use ss_search_classes::{
     FORALL, NONE, body_of, bound_count, bound_sort, code_of_sort, is_closed, kind_of, opposite,

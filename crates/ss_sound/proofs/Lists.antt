@@ -14,7 +14,7 @@ use Rattle.ss_terms.specs.Forms.{Forms, AreBelow, HasFormula, HasFormulas, IsGro
 use Rattle.ss_terms.proofs.Grown.{HasFormula-grown, formulas_at-grown}
 use Rattle.ss_vcgen_heaps.specs.Positions as oblig
 use Rattle.ss_vcgen_safe.specs.Derived.{AreDerived}
-use Rattle.ss_vcgen_builder.specs.declared.builder.Obligation.{Obligation}
+use Rattle.ss_vcgen_builder.specs.declared.builder.Listed.{Listed}
 use Rattle.ss_vcgen_builder.specs.Builder.{obligation_at, obligations_at, IsPlaced, AreWithin}
 use Rattle.ss_deriv.specs.declared.line.Line.{Line}
 use Rattle.ss_deriv.specs.Lines.{lines_of}
@@ -47,44 +47,44 @@ part_is first end fs h =
 -- ---- the obligation at a number
 
 -- the k-th obligation of a list within a bank
-pub within_at : (b : Forms) (n : ℕ) (os : List Obligation) (k : ℕ) (o : Obligation) → AreWithin b n os → slice_get os k ≡ Some o → IsPlaced b n o
+pub within_at : (b : Forms) (n : ℕ) (os : List Listed) (k : ℕ) (o : Listed) → AreWithin b n os → slice_get os k ≡ Some o → IsPlaced b n o
 within_at b n [] k o h e = absurd (cc)
 within_at b n (x ∷ xs) zero o h e = let same : x ≡ o = cc in subst (λ y. IsPlaced b n y) same h.0
 within_at b n (x ∷ xs) (suc k) o h e = within_at b n xs k o h.1 e
 
-tree_at : (b : Forms) (trail : List FormulaId) (os : List Obligation) (k : ℕ) (o : Obligation) → slice_get os k ≡ Some o
+tree_at : (b : Forms) (trail : List FormulaId) (os : List Listed) (k : ℕ) (o : Listed) → slice_get os k ≡ Some o
     → slice_get (obligations_at b trail os) k ≡ Some (obligation_at b trail o)
 tree_at b trail [] k o e = absurd (cc)
 tree_at b trail (x ∷ xs) zero o e = let same : x ≡ o = cc in ap (λ y. Some (obligation_at b trail y)) same
 tree_at b trail (x ∷ xs) (suc k) o e = tree_at b trail xs k o e
 
 -- the obligation that code reads at a number
-read_at : (os : List Obligation) (k : ℕ) (d : Obligation) → k < length os → slice_get os k ≡ Some (slice_index_or os k d)
+read_at : (os : List Listed) (k : ℕ) (d : Listed) → k < length os → slice_get os k ≡ Some (slice_index_or os k d)
 read_at [] k d h = absurd (omega arith)
 read_at (x ∷ xs) zero d h = refl
 read_at (x ∷ xs) (suc k) d h = read_at xs k d (omega arith)
 
-pub placed_at : (a b : Forms) (n : ℕ) (os : List Obligation) (k : ℕ) (d : Obligation) → IsGrown a b → AreWithin a n os → k < length os → IsPlaced b n (slice_index_or os k d)
+pub placed_at : (a b : Forms) (n : ℕ) (os : List Listed) (k : ℕ) (d : Listed) → IsGrown a b → AreWithin a n os → k < length os → IsPlaced b n (slice_index_or os k d)
 placed_at a b n os k d grown h small =
     let here : IsPlaced a n (slice_index_or os k d) = within_at a n os k (slice_index_or os k d) h (read_at os k d small) in
     record { goal = HasFormula-grown a b grown (slice_index_or os k d).goal here.goal; first = here.first; end = here.end }
 
-pub within_later : (a b : Forms) (n : ℕ) (os : List Obligation) → IsGrown a b → AreWithin a n os → AreWithin b n os
+pub within_later : (a b : Forms) (n : ℕ) (os : List Listed) → IsGrown a b → AreWithin a n os → AreWithin b n os
 within_later a b n [] grown h = tt
 within_later a b n (o ∷ os) grown h = (record { goal = HasFormula-grown a b grown o.goal h.0.goal; first = h.0.first; end = h.0.end }, within_later a b n os grown h.1)
 
 -- an obligation says the same in a bank that has grown
-obligation_grown : (a b : Forms) (trail : List FormulaId) (o : Obligation) → IsGrown a b → HasFormulas a trail → HasFormula a o.goal → obligation_at b trail o ≡ obligation_at a trail o
+obligation_grown : (a b : Forms) (trail : List FormulaId) (o : Listed) → IsGrown a b → HasFormulas a trail → HasFormula a o.goal → obligation_at b trail o ≡ obligation_at a trail o
 obligation_grown a b trail o grown has goal =
     let premises : HasFormulas a (drop o.first (take o.end trail)) = AreBelow-drop (length a.formulas * 2) o.first (take o.end trail) (AreBelow-take (length a.formulas * 2) o.end trail has) in
     rw (formulas_at-grown a b grown (drop o.first (take o.end trail)) premises, grown.same_formulas o.goal goal) refl
 
-pub obligations_grown : (a b : Forms) (trail : List FormulaId) (n : ℕ) (os : List Obligation) → IsGrown a b → HasFormulas a trail → AreWithin a n os → obligations_at b trail os ≡ obligations_at a trail os
+pub obligations_grown : (a b : Forms) (trail : List FormulaId) (n : ℕ) (os : List Listed) → IsGrown a b → HasFormulas a trail → AreWithin a n os → obligations_at b trail os ≡ obligations_at a trail os
 obligations_grown a b trail n [] grown has within = refl
 obligations_grown a b trail n (x ∷ xs) grown has within =
     let first = obligation_grown a b trail x grown has within.0.goal in let others = obligations_grown a b trail n xs grown has within.1 in cc
 
-length-obligations_at : (b : Forms) (trail : List FormulaId) (os : List Obligation) → length (obligations_at b trail os) ≡ length os
+length-obligations_at : (b : Forms) (trail : List FormulaId) (os : List Listed) → length (obligations_at b trail os) ≡ length os
 length-obligations_at b trail os = length-map os (obligation_at b trail)
 
 -- ---- rising numbers
@@ -248,7 +248,7 @@ module _ (cs : List ClassTree) (p : Options) where
         }
 
   -- the next obligation of the list was decided, in a bank that has grown
-  module _ (a : Forms) (trail : List FormulaId) (os : List Obligation) (has : HasFormulas a trail) (within : AreWithin a (length trail) os) (k : ℕ) (y : Obligation) (small : k < length os)
+  module _ (a : Forms) (trail : List FormulaId) (os : List Listed) (has : HasFormulas a trail) (within : AreWithin a (length trail) os) (k : ℕ) (y : Listed) (small : k < length os)
       (b c : Forms) (grown : IsGrown a b) (ms : List Countered) (us : List Undecided) (ds : List (List Line)) (h : IsDecidedTo (obligations_at a trail os) k b ms us ds) where
     there : slice_get (obligations_at a trail os) k ≡ Some (obligation_at a trail (slice_index_or os k y))
     there = tree_at a trail os k (slice_index_or os k y) (read_at os k y small)
@@ -278,23 +278,23 @@ module _ (cs : List ClassTree) (p : Options) where
         (subst (λ q. IfRefuted q (IsCountered cs p (obligation_at b trail (slice_index_or os k y)))) was refuted) (subst (λ q. IfOver q (IsOverBudget cs p (obligation_at b trail (slice_index_or os k y)))) was over)
 
   -- where nothing is listed of a list that is decided to its end, each obligation has its derivation
-  pub derived_to_end : (a b : Forms) (trail : List FormulaId) (os : List Obligation) (n : ℕ) (ms : List Countered) (us : List Undecided) (ds : List (List Line)) → n ≡ length os
+  pub derived_to_end : (a b : Forms) (trail : List FormulaId) (os : List Listed) (n : ℕ) (ms : List Countered) (us : List Undecided) (ds : List (List Line)) → n ≡ length os
       → IsDecidedTo (obligations_at a trail os) n b ms us ds → ms ≡ [] → us ≡ [] → AreDerived cs (obligations_at a trail os) (derivations_of b ds)
   derived_to_end a b trail os n ms us ds e h clean none =
       subst (λ xs. AreDerived cs xs (derivations_of b ds)) (first_all (obligations_at a trail os) n (e ∙ sym (length-obligations_at a trail os))) (h.derived clean none)
 
   -- what is decided of a list of obligations
-  pub decided_whole : (a : Forms) (trail : List FormulaId) (os : List Obligation) (all : List oblig.Obligation) (ms : List Countered) (us : List Undecided) → obligations_at a trail os ≡ all
+  pub decided_whole : (a : Forms) (trail : List FormulaId) (os : List Listed) (all : List oblig.Obligation) (ms : List Countered) (us : List Undecided) → obligations_at a trail os ≡ all
       → AreDecided cs p (obligations_at a trail os) (length os) ms us → AreDecided cs p all (length all) ms us
   decided_whole a trail os all ms us e h =
       subst (λ xs. AreDecided cs p xs (length xs) ms us) e (subst (λ n. AreDecided cs p (obligations_at a trail os) n ms us) (sym (length-obligations_at a trail os)) h)
 
   -- what is decided of obligations, where they are read in a bank that had grown
-  pub decided_before : {E : Type 0} (r : Result Decided E) (a b : Forms) (trail : List FormulaId) (os : List Obligation) (n : ℕ) → IsGrown a b → HasFormulas a trail → AreWithin a (length trail) os
+  pub decided_before : {E : Type 0} (r : Result Decided E) (a b : Forms) (trail : List FormulaId) (os : List Listed) (n : ℕ) → IsGrown a b → HasFormulas a trail → AreWithin a (length trail) os
       → IfOk r (λ d. AreDecided cs p (obligations_at b trail os) n d.countered.items d.undecided.items) → IfOk r (λ d. AreDecided cs p (obligations_at a trail os) n d.countered.items d.undecided.items)
   decided_before r a b trail os n grown has within h = subst (λ xs. IfOk r (λ d. AreDecided cs p xs n d.countered.items d.undecided.items)) (obligations_grown a b trail (length trail) os grown has within) h
 
-  pub derived_before : {E : Type 0} (r : Result Decided E) (a b c : Forms) (trail : List FormulaId) (os : List Obligation) → IsGrown a b → HasFormulas a trail → AreWithin a (length trail) os
+  pub derived_before : {E : Type 0} (r : Result Decided E) (a b c : Forms) (trail : List FormulaId) (os : List Listed) → IsGrown a b → HasFormulas a trail → AreWithin a (length trail) os
       → IfOk r (λ d. d.countered.items ≡ [] → d.undecided.items ≡ [] → AreDerived cs (obligations_at b trail os) (derivations_of c d.derivations.items))
       → IfOk r (λ d. d.countered.items ≡ [] → d.undecided.items ≡ [] → AreDerived cs (obligations_at a trail os) (derivations_of c d.derivations.items))
   derived_before r a b c trail os grown has within h =

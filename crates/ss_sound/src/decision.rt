@@ -15,7 +15,7 @@ use ss_core::Classes;
 use ss_deriv::Derivation;
 use ss_search::{Budget, Countermodel, Found, Options, Search};
 use ss_terms::{Bank, FormulaId};
-use ss_vcgen::Obligation;
+use ss_vcgen::Listed;
 use std::alloc::{AllocFailed, Global};
 
 /// What was found of one obligation.
@@ -103,7 +103,7 @@ pub(crate) fn decide(
     bank: &mut Bank,
     classes: &Classes,
     trail: &[FormulaId],
-    obligation: &Obligation,
+    obligation: &Listed,
     options: Options,
 ) -> Result<Decision, Stop>
     requires bank { IsBankOf (view.classes classes.now) bank.old }

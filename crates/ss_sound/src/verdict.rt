@@ -17,7 +17,7 @@ use ss_core::{Classes, Core};
 use ss_deriv::Derivation;
 use ss_search::{Countered, Options, Search, Undecided};
 use ss_terms::{Bank, FormulaId};
-use ss_vcgen::{Obligation, Obligations};
+use ss_vcgen::{Listed, Obligations};
 use std::alloc::Global;
 
 /// The answer of verification.
@@ -122,7 +122,7 @@ fn decide_all(
     bank: &mut Bank,
     classes: &Classes,
     trail: &[FormulaId],
-    list: &[Obligation],
+    list: &[Listed],
     options: Options,
 ) -> Result<Decided, Stop>
     requires bank { IsBankOf (view.classes classes.now) bank.old }
@@ -146,7 +146,7 @@ fn decide_each(
     bank: &mut Bank,
     classes: &Classes,
     trail: &[FormulaId],
-    list: &[Obligation],
+    list: &[Listed],
     options: Options,
 ) -> Result<Decided, Stop>
     requires bank { IsBankOf (view.classes classes.now) bank.old }

@@ -9,13 +9,13 @@ use lines::are_accepted;
 use listing::of_source;
 use program::{Program, read_programs};
 use ss_report::kind_name;
-use ss_vcgen::{Obligation, Obligations};
+use ss_vcgen::{Listed, Obligations};
 use std::alloc::{AllocError, Global};
 use std::rt::{Env, Files};
 use std::{env, fs, io};
 
 /// The kind and the place of an obligation, as `KIND LINE:COLUMN`.
-fn check_text(alloc: Global, obligation: &Obligation) -> Result<String, AllocError> {
+fn check_text(alloc: Global, obligation: &Listed) -> Result<String, AllocError> {
     let mut text = String::from_str(alloc, kind_name(obligation.kind))?;
     text.push_str(" ")?;
     text.push_str(&obligation.place.line.to_string(alloc)?)?;
@@ -24,7 +24,7 @@ fn check_text(alloc: Global, obligation: &Obligation) -> Result<String, AllocErr
     Ok(text)
 }
 
-fn has_check(alloc: Global, list: &[Obligation], check: &str) -> Result<bool, AllocError> {
+fn has_check(alloc: Global, list: &[Listed], check: &str) -> Result<bool, AllocError> {
     for obligation in list {
         if check_text(alloc, obligation)?.as_str() == check {
             return Ok(true);

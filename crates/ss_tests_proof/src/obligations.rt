@@ -8,7 +8,7 @@ use crate::part;
 use ss_core::{
     Body, BodyFlags, BodyId, Callee, Core, Expr, Kind, Link, Local, Operator, Place, Stmt, Ty,
 };
-use ss_vcgen::{Obligation, obligations};
+use ss_vcgen::{Listed, obligations};
 use std::alloc::{AllocError, Global};
 use std::test::Fail;
 
@@ -112,7 +112,7 @@ fn two_asserts(alloc: Global) -> Result<Core, AllocError>
 }
 
 // Whether the obligations are of these kinds, at these lines and in these bodies.
-fn are(list: &[Obligation], expected: &[(Kind, u32, u32)]) -> bool {
+fn are(list: &[Listed], expected: &[(Kind, u32, u32)]) -> bool {
     for (i, (kind, line, body)) in expected.iter().enumerate() {
         let Some(o) = list.get(i) else {
             return false;

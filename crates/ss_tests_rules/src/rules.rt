@@ -10,7 +10,7 @@ use crate::reader::{Reader, has_terms};
 use crate::rows::{FITTING, OTHERS, WRONG};
 use crate::words::{free_rule, good_rule};
 use ss_core::Classes;
-use ss_rules::{good_instance, instance};
+use ss_rules_instances::{good_instance, instance};
 use ss_terms::{Bank, FormulaId, TermId, field_sorts};
 use std::alloc::{AllocError, Global};
 use std::test::Fail;

@@ -11,4 +11,4 @@ mod watch;
 
 pub use list::Obligations;
 pub use programs::{Positions, locate, obligations};
-pub use ss_vcgen_builder::Obligation;
+pub use ss_vcgen_builder::Listed;

@@ -1,7 +1,7 @@
 // Lists of obligations.
 
 use ss_terms::{Bank, FormulaId};
-use ss_vcgen_builder::Obligation;
+use ss_vcgen_builder::Listed;
 
 /// The obligations of a program, in their order, body by body. Each has for its premises a part of the one trail.
 #[derive(Drop)]
@@ -11,5 +11,5 @@ pub struct Obligations {
     /// What is known, in the order of the bodies.
     pub trail: Vec<FormulaId>,
     /// The obligations.
-    pub list: Vec<Obligation>,
+    pub list: Vec<Listed>,
 }

@@ -14,7 +14,7 @@ use crate::watch::Watch;
 use ss_bit_set::BitSet;
 use ss_core::{BodyId, Core};
 use ss_terms::{Bank, Symbol, TermId, field_sorts};
-use ss_vcgen_builder::{Builder, Counters, Guard, Obligation};
+use ss_vcgen_builder::{Builder, Counters, Guard, Listed};
 use ss_vcgen_known::{Fields, Known};
 use std::alloc::{AllocError, Global};
 
@@ -70,7 +70,7 @@ fn body_number(i: usize) -> Result<BodyId, AllocError>
 }
 
 // What was built.
-fn finished(builder: Builder, list: Vec<Obligation>) -> Obligations
+fn finished(builder: Builder, list: Vec<Listed>) -> Obligations
     ensures { result ≡ record { bank = builder.bank; trail = builder.trail; list = list } }
 {
     let Builder { bank, trail, .. } = builder;

@@ -24,7 +24,7 @@ use Rattle.ss_vcgen_heaps.specs.Positions.{Position}
 use Rattle.ss_vcgen_builder.specs.declared.guard.Guard.{Guard}
 use Rattle.ss_vcgen_builder.specs.declared.builder.Builder.{Builder}
 use Rattle.ss_vcgen_builder.specs.declared.builder.Counters.{Counters}
-use Rattle.ss_vcgen_builder.specs.declared.builder.Obligation.{Obligation}
+use Rattle.ss_vcgen_builder.specs.declared.builder.Listed.{Listed}
 use Rattle.ss_vcgen_builder.specs.declared.builder.Walk.{Walk}
 use Rattle.ss_vcgen_builder.specs.declared.branches.Spot.{Spot}
 use Rattle.ss_vcgen_builder.specs.Builder.{guard_of, counters_of, local_at, locals_at, obligation_at, obligations_at, position_at, HasLocal, HasLocals, AreWithin, IsFine, Becomes, listing, IsWalk, HasSpot, at_spot, IsSpot}
@@ -102,7 +102,7 @@ module _ (s : Builder) (fine : IsFine s) where
   -- ---- one premise more
 
   module _ (f : FormulaId) where
-    list_stays : (b : Forms) (os : List Obligation) → AreWithin s.bank (length s.trail.items) os → obligations_at b (s.trail.items ++ f ∷ []) os ≡ obligations_at b s.trail.items os
+    list_stays : (b : Forms) (os : List Listed) → AreWithin s.bank (length s.trail.items) os → obligations_at b (s.trail.items ++ f ∷ []) os ≡ obligations_at b s.trail.items os
     list_stays b [] h = refl
     list_stays b (o ∷ os) h =
         ap (λ fs. record (obligation_at b s.trail.items o) { premises = formulas_at b (drop o.first fs) } ∷ obligations_at b (s.trail.items ++ f ∷ []) os) (take-append-le o.end s.trail.items (f ∷ []) h.0.end)
@@ -130,7 +130,7 @@ module _ (s : Builder) (fine : IsFine s) where
 
   -- ---- one obligation more
 
-  pub becomes_listed : (o : Obligation) (t : Vec Obligation Global) → t.items ≡ s.list.items ++ o ∷ [] → HasFormula s.bank o.goal → o.first ≡ s.first → o.end ≡ length s.trail.items →
+  pub becomes_listed : (o : Listed) (t : Vec Listed Global) → t.items ≡ s.list.items ++ o ∷ [] → HasFormula s.bank o.goal → o.first ≡ s.first → o.end ≡ length s.trail.items →
       Becomes s (record s { list = t }) (λ b. record (position_at b s) { listed = (position_at b s).listed ++ record { premises = (position_at b s).premises; goal = formula_at b o.goal; kind = o.kind; place = o.place; body = o.body.0 } ∷ [] })
   becomes_listed o t e within is_first is_end = record {
     fine = record {

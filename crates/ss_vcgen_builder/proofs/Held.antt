@@ -5,7 +5,7 @@ use Rattle.ss_terms.specs.declared.forms.TermId.{TermId}
 use Rattle.ss_terms.specs.declared.forms.FormulaId.{FormulaId}
 use Rattle.ss_terms.specs.Forms.{Forms, HasFormula, HasFormulas, IsGrown}
 use Rattle.ss_terms.proofs.Grown.{HasTerm-grown, HasFormula-grown}
-use Rattle.ss_vcgen_builder.specs.declared.builder.Obligation.{Obligation}
+use Rattle.ss_vcgen_builder.specs.declared.builder.Listed.{Listed}
 use Rattle.ss_vcgen_builder.specs.Builder.{HasLocal, HasLocals, IsPlaced, AreWithin}
 
 module _ (a b : Forms) (g : IsGrown a b) where
@@ -17,10 +17,10 @@ module _ (a b : Forms) (g : IsGrown a b) where
   HasLocals-grown [] h = tt
   HasLocals-grown (l ∷ ls) h = (HasLocal-grown l h.0, HasLocals-grown ls h.1)
 
-  IsPlaced-grown : (n : ℕ) (o : Obligation) → IsPlaced a n o → IsPlaced b n o
+  IsPlaced-grown : (n : ℕ) (o : Listed) → IsPlaced a n o → IsPlaced b n o
   IsPlaced-grown n o h = record { goal = HasFormula-grown a b g o.goal h.goal; first = h.first; end = h.end }
 
-  pub AreWithin-grown : (n : ℕ) (os : List Obligation) → AreWithin a n os → AreWithin b n os
+  pub AreWithin-grown : (n : ℕ) (os : List Listed) → AreWithin a n os → AreWithin b n os
   AreWithin-grown n [] h = tt
   AreWithin-grown n (o ∷ os) h = (IsPlaced-grown n o h.0, AreWithin-grown n os h.1)
 
@@ -49,12 +49,12 @@ module _ (b : Forms) where
   HasFormulas-get (f ∷ fs) zero d h at = h.0
   HasFormulas-get (f ∷ fs) (suc i) d h at = HasFormulas-get fs i d h.1 (omega arith)
 
-  pub AreWithin-push : (n : ℕ) (os : List Obligation) (o : Obligation) → AreWithin b n os → IsPlaced b n o → AreWithin b n (os ++ o ∷ [])
+  pub AreWithin-push : (n : ℕ) (os : List Listed) (o : Listed) → AreWithin b n os → IsPlaced b n o → AreWithin b n (os ++ o ∷ [])
   AreWithin-push n [] o h w = (w, tt)
   AreWithin-push n (p ∷ os) o h w = (h.0, AreWithin-push n os o h.1 w)
 
   -- a longer trail
-  pub AreWithin-longer : (n : ℕ) (os : List Obligation) → AreWithin b n os → AreWithin b (n + 1) os
+  pub AreWithin-longer : (n : ℕ) (os : List Listed) → AreWithin b n os → AreWithin b (n + 1) os
   AreWithin-longer n [] h = tt
   AreWithin-longer n (o ∷ os) h = (record { goal = h.0.goal; first = h.0.first; end = let l = h.0.end in omega arith }, AreWithin-longer n os h.1)
 

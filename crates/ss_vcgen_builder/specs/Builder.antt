@@ -17,7 +17,7 @@ use Rattle.ss_vcgen_known.specs.Views.{known_of}
 use Rattle.ss_vcgen_builder.specs.declared.guard.Guard.{Guard}
 use Rattle.ss_vcgen_builder.specs.declared.guard.Guard.TheVariants as guard
 use Rattle.ss_vcgen_builder.specs.declared.builder.Counters.{Counters}
-use Rattle.ss_vcgen_builder.specs.declared.builder.Obligation.{Obligation}
+use Rattle.ss_vcgen_builder.specs.declared.builder.Listed.{Listed}
 use Rattle.ss_vcgen_builder.specs.declared.builder.Builder.{Builder}
 use Rattle.ss_vcgen_builder.specs.declared.builder.Walk.{Walk}
 use Rattle.ss_vcgen_builder.specs.declared.branches.Spot.{Spot}
@@ -39,7 +39,7 @@ abbrev pub locals_at : Forms → List (Option TermId) → List (Option tree.Term
 locals_at b ls = map (local_at b) ls
 
 -- an obligation, whose premises are a part of the trail
-abbrev pub obligation_at : Forms → List FormulaId → Obligation → spec.Obligation
+abbrev pub obligation_at : Forms → List FormulaId → Listed → spec.Obligation
 obligation_at b trail o = record {
   premises = formulas_at b (drop o.first (take o.end trail));
   goal = formula_at b o.goal;
@@ -48,7 +48,7 @@ obligation_at b trail o = record {
   body = o.body.0;
 }
 
-abbrev pub obligations_at : Forms → List FormulaId → List Obligation → List spec.Obligation
+abbrev pub obligations_at : Forms → List FormulaId → List Listed → List spec.Obligation
 obligations_at b trail os = map (obligation_at b trail) os
 
 -- ---- what a builder stands for
@@ -83,12 +83,12 @@ pub record AreLocals (a : Forms) (ls : List (Option TermId)) (say : Forms → Li
   pub are : (b : Forms) → IsGrown a b → locals_at b ls ≡ say b
 
 -- the goal is in the bank, and the premises are a part of a trail of this length
-pub record IsPlaced (b : Forms) (n : ℕ) (o : Obligation) : Type 0 where
+pub record IsPlaced (b : Forms) (n : ℕ) (o : Listed) : Type 0 where
   pub goal : HasFormula b o.goal
   pub first : o.first ≤ o.end
   pub end : o.end ≤ n
 
-abbrev pub AreWithin : Forms → ℕ → List Obligation → Type 0
+abbrev pub AreWithin : Forms → ℕ → List Listed → Type 0
 AreWithin b n [] = Unit {0}
 AreWithin b n (o ∷ os) = IsPlaced b n o × AreWithin b n os
 

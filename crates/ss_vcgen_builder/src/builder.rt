@@ -24,7 +24,7 @@ pub struct Counters {
 /// What has to be shown for one check: the goal, where the premises are true. They are the formulas of the trail from the number
 /// `first` to before the number `end`.
 #[derive(Clone, Copy)]
-pub struct Obligation {
+pub struct Listed {
     pub first: usize,
     pub end: usize,
     /// What has to be true.
@@ -63,7 +63,7 @@ pub struct Builder {
     pub first: usize,
     /// The premises, body by body.
     pub trail: Vec<FormulaId>,
-    pub list: Vec<Obligation>,
+    pub list: Vec<Listed>,
 }
 
 impl Builder {
@@ -121,7 +121,7 @@ impl Builder {
         requires goal { HasFormula self.old.bank goal }
         ensures { OnOk result (Becomes self.old self.new (λ b. listing (walk_at b walk.now) kind place (formula_at b goal) (position_at b self.old))) }
     {
-        self.list.push(Obligation {
+        self.list.push(Listed {
             first: self.first,
             end: self.trail.len(),
             goal,

@@ -8,5 +8,5 @@ mod joins;
 mod terms;
 
 pub use branches::Spot;
-pub use builder::{Builder, Counters, Obligation, Walk};
+pub use builder::{Builder, Counters, Listed, Walk};
 pub use guard::Guard;

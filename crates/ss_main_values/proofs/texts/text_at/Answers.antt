@@ -3,7 +3,7 @@ use Rattle.std.specs.Prelude.{slice_get}
 use Rattle.std.proofs.lemmas.Option.{slice_get-get_or}
 use Rattle.ss_terms.specs.declared.forms.FormulaId.{FormulaId}
 use Rattle.ss_terms.proofs.Grown.{HasFormulas-grown}
-use Rattle.ss_vcgen_builder.specs.declared.builder.Obligation.{Obligation}
+use Rattle.ss_vcgen_builder.specs.declared.builder.Listed.{Listed}
 use Rattle.ss_vcgen_builder.specs.Builder.{IsPlaced}
 use Rattle.ss_sound.proofs.Lists.{within_at, within_later}
 use Rattle.ss_main_values.proofs.texts.text_at.Goals as goal
@@ -15,7 +15,7 @@ text_of-requires-clause-placed c =
     let o = c.in-Some.obligation.now in
     let h = c.in-Some.ensures.lookup in
     let e : slice_get os.list.items k ≡ Some o =
-    ap (λ (l : List Obligation). slice_get l k) (sym c.deref.ensures.value) ∙ slice_get-get_or c.deref.result.now k o h.3.0 ∙ ap (λ (t : Obligation). Some t) (sym h.1) in
+    ap (λ (l : List Listed). slice_get l k) (sym c.deref.ensures.value) ∙ slice_get-get_or c.deref.result.now k o h.3.0 ∙ ap (λ (t : Listed). Some t) (sym h.1) in
     subst (λ (ts : List FormulaId). IsPlaced os.bank (length ts) o) (sym c.deref-2.ensures.value) (within_at os.bank (length os.trail.items) os.list.items k o c.requires.within.list e)
 
 pub returns-clause-within : goal.returns-clause-within

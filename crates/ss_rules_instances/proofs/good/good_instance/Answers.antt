@@ -1,8 +1,8 @@
 use Rattle.ss_core.specs.View as view
 use Rattle.ss_logic_rules.specs.GoodRules.{good_instance_of}
 use Rattle.ss_terms.specs.Forms.{term_at, terms_at}
-use Rattle.ss_rules.proofs.Limits.{by_number, few_fields}
-use Rattle.ss_rules.proofs.good.good_instance.Goals as goal
+use Rattle.ss_rules_instances.proofs.Limits.{by_number, few_fields}
+use Rattle.ss_rules_instances.proofs.good.good_instance.Goals as goal
 
 pub good_sentence_at-requires-clause-fields : goal.good_sentence_at-requires-clause-fields
 good_sentence_at-requires-clause-fields c = few_fields (view.classes c.args.classes.now) c.requires.limits
