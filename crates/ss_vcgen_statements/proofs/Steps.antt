@@ -10,7 +10,7 @@ use Rattle.ss_terms.proofs.Grown.{IsGrown-refl, IsGrown-then, HasTerm-grown, Has
 use Rattle.ss_vcgen_heaps.specs.Positions.{Position}
 use Rattle.ss_vcgen_express.specs.Numbers.{IsTerm, IsFormula, AreFormulas}
 use Rattle.ss_vcgen_builder.specs.declared.builder.Builder.{Builder}
-use Rattle.ss_vcgen_builder.specs.declared.builder.Obligation.{Obligation}
+use Rattle.ss_vcgen_builder.specs.declared.builder.Listed.{Listed}
 use Rattle.ss_vcgen_builder.specs.Builder.{position_at, HasLocals, AreWithin, IsFine, Becomes}
 use Rattle.ss_vcgen_statements.specs.Words.{AreTerms}
 
@@ -22,7 +22,7 @@ module _ (a b : Forms) (g : IsGrown a b) where
   locals_grown (None ∷ ls) h = (tt, locals_grown ls h.1)
   locals_grown (Some t ∷ ls) h = (HasTerm-grown a b g t h.0, locals_grown ls h.1)
 
-  within_grown : (n : ℕ) (os : List Obligation) → AreWithin a n os → AreWithin b n os
+  within_grown : (n : ℕ) (os : List Listed) → AreWithin a n os → AreWithin b n os
   within_grown n [] h = tt
   within_grown n (o ∷ os) h = (record { goal = HasFormula-grown a b g o.goal h.0.goal; first = h.0.first; end = h.0.end }, within_grown n os h.1)
 
