@@ -103,7 +103,7 @@ pub struct Event {
     pub why: Why,
 }
 
-const LISTS: usize = 4096;
+const LISTS: usize = 65_536;
 
 /// The classes of equal nodes.
 #[derive(Drop)]

@@ -6,7 +6,7 @@ ghost use Rattle.ss_terms.specs.Forms.{IsGrown, IsBankOf};
 
 use crate::engine::{Engine, Split};
 use ss_core::Classes;
-use ss_search_classes::{Conflict, NONE, part_at, part_count};
+use ss_search_classes::{Conflict, LITERAL, NONE, kind_of, part_at, part_count};
 use ss_search_proof::{Reason, Said};
 use ss_search_state::{Mark, Step};
 use ss_search_wants::{use_positions, work};
@@ -157,8 +157,11 @@ impl Engine {
 
     // Opens the next case of a split that isn't refuted, where there is one.
     fn next_case(&mut self, bank: &Bank, split: Split) -> Result<Closed, AllocError> {
-        for place in split.place..part_count(bank, split.formula) {
-            let part = part_at(bank, split.formula, place);
+        for place in split.place..self.turn_count(bank, split.formula) {
+            let part = self.part_in_turn(bank, split.formula, place);
+            if part == NONE {
+                continue;
+            }
             if self.state.nodes.value(part) == Some(false) {
                 self.state
                     .close_part(bank, split.block, part, &mut self.handed)?;
@@ -167,6 +170,36 @@ impl Engine {
             }
         }
         self.end_split(split)
+    }
+
+    // How many turns the cases of an `or` take: with literals first, each part has two.
+    fn turn_count(&self, bank: &Bank, formula: usize) -> usize {
+        let count = part_count(bank, formula);
+        if self.literals_first {
+            count.saturating_add(count)
+        } else {
+            count
+        }
+    }
+
+    // The part of an `or` that comes in a turn, or NONE.
+    fn part_in_turn(&self, bank: &Bank, formula: usize, turn: usize) -> usize {
+        if !self.literals_first {
+            return part_at(bank, formula, turn);
+        }
+        let count = part_count(bank, formula);
+        let comes_first = turn < count;
+        let place = if comes_first {
+            turn
+        } else {
+            turn.saturating_sub(count)
+        };
+        let part = part_at(bank, formula, place);
+        if (kind_of(bank, part) == LITERAL) == comes_first {
+            part
+        } else {
+            NONE
+        }
     }
 
     // Opens the case of a split at a place, for this part.

@@ -54,6 +54,8 @@ pub struct Engine {
     pub(crate) look_from: usize,
     // A block that closes more than the literal that was tried.
     pub(crate) pending_block: Option<usize>,
+    // Whether literals are the first cases of a split.
+    pub(crate) literals_first: bool,
 }
 
 // A number above those of all constants that the bank has.
@@ -104,6 +106,7 @@ impl Engine {
             quiet: NONE,
             look_from: 0,
             pending_block: None,
+            literals_first: false,
         })
     }
 

@@ -3,7 +3,8 @@
 use crate::cases::Closed;
 use crate::engine::Engine;
 use ss_search_classes::{
-    EXISTS, LITERAL, NONE, is_first, kind_of, of_pair, pair_of, part_at, part_count,
+    EQUAL, EXISTS, LITERAL, NONE, is_first, is_truth, kind_of, of_pair, pair_argument, pair_head,
+    pair_of, part_at, part_count,
 };
 use ss_search_proof::{Reason, Said};
 use ss_search_state::{State, Step};
@@ -43,6 +44,7 @@ impl Engine {
         splits: usize,
     ) -> Result<bool, AllocError> {
         self.state.has_numbers = false;
+        self.literals_first = true;
         self.state.left.splits = splits;
         self.state.nodes.grow(bank)?;
         for atom in atoms {
@@ -108,6 +110,16 @@ impl Engine {
 
     // A known `or` that isn't met, with the fewest open parts, by its place, or NONE.
     fn open_clause(&self, bank: &Bank, order: Order) -> usize {
+        let best = self.open_clause_of(bank, order, false);
+        if best == NONE {
+            self.open_clause_of(bank, order, true)
+        } else {
+            best
+        }
+    }
+
+    // The same of the clauses that say a truth value alone, or of the others.
+    fn open_clause_of(&self, bank: &Bank, order: Order, of_truth: bool) -> usize {
         let mut best = NONE;
         let mut fewest = NONE;
         let clauses = self.state.asked.clause_count();
@@ -115,7 +127,11 @@ impl Engine {
             let place = place_in(order, turn, clauses);
             let formula = self.state.asked.clause(place).formula;
             let count = self.state.nodes.open_count(formula);
-            if count < fewest && !self.is_met(bank, formula) {
+            if count < fewest
+                && !self.state.nodes.is_settled(formula)
+                && is_of_truth(bank, formula) == of_truth
+                && !self.is_met(bank, formula)
+            {
                 fewest = count;
                 best = place;
                 if count <= 2 {
@@ -126,9 +142,9 @@ impl Engine {
         best
     }
 
-    // Whether a part of the `or` is known, or denies something of which nothing is known: what isn't known is made false.
+    // Whether a part of an `or` that isn't settled is known, or denies something of which nothing is known: what isn't known is made false.
     fn is_met(&self, bank: &Bank, formula: usize) -> bool {
-        if self.state.nodes.is_settled(formula) || self.state.nodes.has_held_part(bank, formula) {
+        if self.state.nodes.has_held_part(bank, formula) {
             return true;
         }
         for place in 0..part_count(bank, formula) {
@@ -143,4 +159,19 @@ impl Engine {
         }
         false
     }
+}
+
+// Whether each part says that a term is a truth value.
+fn is_of_truth(bank: &Bank, formula: usize) -> bool {
+    for place in 0..part_count(bank, formula) {
+        let part = part_at(bank, formula, place);
+        if kind_of(bank, part) != LITERAL || !is_first(part) {
+            return false;
+        }
+        let pair = pair_of(part);
+        if pair_head(bank, pair).kind != EQUAL || !is_truth(bank, pair_argument(bank, pair, 0)) {
+            return false;
+        }
+    }
+    true
 }

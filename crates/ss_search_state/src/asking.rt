@@ -361,12 +361,13 @@ impl State {
         Ok(self.asked.has_grown(before) || self.compare_others(bank)?)
     }
 
-    // The literals that are known are asked for.
+    // The literals that are known are asked for, and wanted.
     fn ask_known(&mut self, bank: &Bank) -> Result<(), AllocError> {
         for number in 0..self.reasons.facts.len() {
             let formula = self.reasons.facts.formula(number);
             if kind_of(bank, formula) == LITERAL && self.is_known_still(bank, formula) {
                 self.ask_atom(bank, pair_of(formula))?;
+                self.asked.set_relevant(pair_of(formula))?;
             }
         }
         Ok(())

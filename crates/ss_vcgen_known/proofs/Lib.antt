@@ -12,3 +12,4 @@ pub mod Assigning
 pub mod Ending
 pub mod Stepping
 pub mod Giving
+pub mod Fronting

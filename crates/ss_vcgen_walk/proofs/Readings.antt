@@ -1,5 +1,5 @@
 -- Readings of expressions, form by form.
-use Rattle.std.proofs.Common.{◌≡◌, ℕ, List, [], ◌++◌, map, Bool, Bor, not, refl, sym, ◌∙◌, ap, subst, append_assoc, Result, Ok, Err}
+use Rattle.std.proofs.Common.{◌≡◌, ℕ, List, [], ◌++◌, map, Bool, not, refl, sym, ◌∙◌, ap, subst, append_assoc, Result, Ok, Err}
 use Rattle.std.specs.Prelude.{IfOk, if◌then◌else◌}
 use Rattle.std.proofs.lemmas.List.{append-nil}
 use Rattle.ss_core.specs.declared.names.ClassId.{ClassId}
@@ -21,13 +21,6 @@ use Rattle.ss_logic_express.specs.Express as spec
 use Rattle.ss_terms.specs.declared.forms.FormulaId.{FormulaId}
 use Rattle.ss_terms.specs.Forms.{Forms, formulas_at, IsGrown}
 use Rattle.ss_terms.proofs.Grown.{IsGrown-then}
-use Rattle.ss_vcgen_known.specs.declared.tests.Tests.{Tests}
-use Rattle.ss_vcgen_known.specs.declared.tests.Tests.TheVariants as tests
-use Rattle.ss_vcgen_known.specs.declared.tests.Tests.TheFolds.{fold-roll-Tests}
-use Rattle.ss_vcgen_known.specs.declared.tests.Tests.TheOpen as shape
-use Rattle.ss_vcgen_known.specs.declared.told.Told.{Told}
-use Rattle.ss_vcgen_known.specs.Told.{with_told}
-use Rattle.ss_vcgen_known.specs.Views.{tested, tests_step}
 use Rattle.ss_vcgen_express.specs.declared.meant.Meant.{Meant}
 use Rattle.ss_vcgen_express.specs.declared.scene.Scene.{Scene}
 use Rattle.ss_vcgen_express.specs.Marked.{Marked, marked, marked_part, marked_word, with_marked, in_range}
@@ -135,11 +128,6 @@ reads_member (Ok m) a c ps q t s inner sc g e h = record {
   parts = record { has = h.parts.has; are = λ b k. h.parts.are b k ∙ ap (λ x. parts_at b q ++ marked t (site_at s) (known_at s) x) (e.is b (IsGrown-then a c b g k)) };
 }
 reads_member (Err z) a c ps q t s inner sc g e h = tt
-
--- what is known where these tests have come out so too
-pub told_behind : (of : rules.Known → Type 0) (r : Bor Tests) (l : Bor (List Told)) (k : rules.Known) → of (tested (tests.Told r l) k) → (told : List Told) → l.now ≡ told → (next : rules.Known) → with_told told (tested r.now k) ≡ next → of next
-told_behind of r l k h told e next is =
-    subst of (ap (λ x. tested x k) (sym (tests.rolls-Told r l)) ∙ ap (λ (f : rules.Known → rules.Known). f k) (fold-roll-Tests (rules.Known → rules.Known) tests_step (shape.Told r l)) ∙ ap (λ x. with_told x (tested r.now k)) e ∙ is) h
 
 -- ---- quantifiers
 

@@ -8,13 +8,15 @@ use Rattle.ss_core.specs.declared.names.Ty.{Ty}
 use Rattle.ss_core.specs.declared.expr.Expr.{the_lemmas}
 use Rattle.ss_core.specs.Tree.{IntExpr, BoolExpr, NullExpr, LocalExpr, DefaultExpr, NegateExpr, NotExpr, ImpliesExpr, IffExpr, CastExpr, OldExpr, QuantifiedExpr, StateExpr, OwnersExpr, BinaryExpr, IsExpr, AsExpr, FieldExpr, ElementExpr, LengthExpr}
 use Rattle.ss_core.specs.View.{expr, classes, default_tree, owners_tree, word_tree}
-use Rattle.ss_store_rules.specs.NonNull.{Known, known_right}
+use Rattle.ss_core.specs.Tree.{ExprTree}
+use Rattle.ss_store_rules.specs.NonNull.{Known, Site}
 use Rattle.ss_store_rules.specs.Types.{type_of, is_bool, element_of}
 use Rattle.ss_logic_express.specs.Express as spec
 use Rattle.ss_terms.specs.declared.forms.FormulaId.{FormulaId}
 use Rattle.ss_terms.specs.Forms.{Forms}
 use Rattle.ss_terms.proofs.Grown.{IsGrown-then, HasFormulas-grown}
 use Rattle.ss_vcgen_known.specs.Fronts.{chain_front, path_front, link_behind, step_behind}
+use Rattle.ss_vcgen_known.specs.TellsFront.{TellsFront}
 use Rattle.ss_vcgen_known.specs.Views.{known_of}
 use Rattle.ss_vcgen_known.proofs.Grouping.{operation_is, is_is, as_is, field_is, element_is, length_is, front_next, path_next, front_whole, path_whole}
 use Rattle.ss_vcgen_express.specs.Marked.{marked}
@@ -31,7 +33,7 @@ use Rattle.ss_vcgen_walk.specs.Reading.{Expressed}
 use Rattle.ss_vcgen_walk.specs.Sights.{site_at, known_at, Reads}
 use Rattle.ss_vcgen_walk.proofs.Composing.{single_behind, second_behind, fresh}
 use Rattle.ss_vcgen_walk.proofs.Growing.{HasParts-grown}
-use Rattle.ss_vcgen_walk.proofs.Readings.{reads_as, reads_alone, reads_old, reads_member, two_behind, reads_cast, quantified_behind, reads_quantified, reads_state, reads_owners, reads_operation, reads_is, reads_as_class, reads_field, reads_length, reads_element, reads_tree, told_behind, may_be_null}
+use Rattle.ss_vcgen_walk.proofs.Readings.{reads_as, reads_alone, reads_old, reads_member, two_behind, reads_cast, quantified_behind, reads_quantified, reads_state, reads_owners, reads_operation, reads_is, reads_as_class, reads_field, reads_length, reads_element, reads_tree, may_be_null}
 use Rattle.ss_vcgen_walk.proofs.Chains.{chain_so, path_so}
 use Rattle.ss_vcgen_walk.proofs.Trees.{int_is, bool_is, null_is, local_is, default_is, iff_so, implies_so, owners_so, negate_so, not_so, cast_so, old_so, state_so, quantified_so}
 use Rattle.ss_vcgen_walk.proofs.walk.+express.Goals as goal
@@ -189,35 +191,32 @@ express-returns-in_ok-m-in-Owners-clause-expressed t c =
     c.behind-in-Owners.ensures.grown c.in_ok-m-in-Owners.ensures.expressed (c.owners_form-form.ensures ∙ same) c.behind-in-Owners.ensures.expressed)
 
 pub linked-returns-in-Operation-clause-expressed : goal.linked-returns-in-Operation-clause-expressed
-linked-returns-in-Operation-clause-expressed t c = λ q h.
+linked-returns-in-Operation-clause-expressed t c = λ q front h told typed.
     let a = c.args in
     let s = a.sight.now in
     let sc = a.scene.now in
     let v = c.in-Operation in
-    let front = chain_front a.place (expr a.first.now) a.links.now in
     reads_as c.operation.result c.operation.new.bank c.operation.new.parts.items q s sc (BinaryExpr a.place v.operator front (expr v.e)) (link_behind a.link.now a.place front)
     (sym (ap (λ l. link_behind l a.place front) v.is ∙ operation_is v.operator v.e a.place front))
     (reads_operation c.operation.result s sc a.bank.now c.operation.new.bank a.m.now a.parts.now.items c.operation.new.parts.items q front c.operation.ensures.grown h v.operator a.place (expr v.e) c.is_bool.result
-    (c.is_bool.ensures ∙ ap is_bool c.requires.typed) c.operation.ensures.expressed)
+    (c.is_bool.ensures ∙ ap is_bool typed) (c.operation.ensures.expressed front told))
 
 pub linked-returns-in-Is-clause-expressed : goal.linked-returns-in-Is-clause-expressed
-linked-returns-in-Is-clause-expressed t c = λ q h.
+linked-returns-in-Is-clause-expressed t c = λ q front h told typed.
     let a = c.args in
     let s = a.sight.now in
     let sc = a.scene.now in
     let v = c.in-Is in
-    let front = chain_front a.place (expr a.first.now) a.links.now in
     reads_as c.of_single.result c.of_single.new.bank c.of_single.new.parts.items q s sc (IsExpr a.place front v.class.0) (link_behind a.link.now a.place front)
     (sym (ap (λ l. link_behind l a.place front) v.is ∙ is_is v.class a.place front))
     (reads_is c.of_single.result s sc a.bank.now c.of_single.new.bank a.m.now a.parts.now.items c.of_single.new.parts.items q front c.of_single.ensures.grown h v.class a.place c.of_single.ensures.expressed)
 
 pub linked-returns-in-As-clause-expressed : goal.linked-returns-in-As-clause-expressed
-linked-returns-in-As-clause-expressed t c = λ q h.
+linked-returns-in-As-clause-expressed t c = λ q front h told typed.
     let a = c.args in
     let s = a.sight.now in
     let sc = a.scene.now in
     let v = c.in-As in
-    let front = chain_front a.place (expr a.first.now) a.links.now in
     reads_as c.of_single-in-As.result c.of_single-in-As.new.bank c.of_single-in-As.new.parts.items q s sc (AsExpr a.place front v.class.0) (link_behind a.link.now a.place front)
     (sym (ap (λ l. link_behind l a.place front) v.is ∙ as_is v.class a.place front))
     (reads_as_class c.of_single-in-As.result s sc a.bank.now c.of_single-in-As.new.bank a.m.now a.parts.now.items c.of_single-in-As.new.parts.items q front c.of_single-in-As.ensures.grown h v.class a.place c.of_single-in-As.ensures.expressed)
@@ -353,8 +352,8 @@ pub chain-returns-clause-expressed : goal.chain-returns-clause-expressed
 chain-returns-clause-expressed t c = λ q h.
     let a = c.args in
     let head = expr a.first.now in
-    reads_tree c.loop-i.bank c.loop-i.front c.loop-i.parts.items q a.sight.now a.scene.now (chain_front a.place head (take c.loop-i.i a.links.now)) (chain_front a.place head a.links.now)
-    (front_whole a.place head a.links.now c.loop-i.i c.loop-i-test.false) (c.loop-i.invariant.reads q h)
+    reads_tree c.loop-link.bank c.loop-link.front c.loop-link.parts.items q a.sight.now a.scene.now (chain_front a.place head (take c.loop-link.link-index a.links.now)) (chain_front a.place head a.links.now)
+    (front_whole a.place head a.links.now c.loop-link.link-index c.loop-link-test.false) (c.loop-link.invariant.reads q h)
 
 pub path-returns-clause-expressed : goal.path-returns-clause-expressed
 path-returns-clause-expressed t c = λ q h.
@@ -364,35 +363,38 @@ path-returns-clause-expressed t c = λ q h.
     (path_whole a.place head a.steps.now c.loop-i.i c.loop-i-test.false) (c.loop-i.invariant.reads q h)
 
 pub operation-returns-clause-expressed : goal.operation-returns-clause-expressed
-operation-returns-clause-expressed t c =
+operation-returns-clause-expressed t c = λ front told.
     let a = c.args in
     let d = c.behind.new.bank in
     let e = expr a.e.now in
-    let of = λ (k : Known). IfOk c.behind.result (λ r. Expressed d r c.behind.new.parts.items (λ b. spec.operated a.operator a.bools (meant_at b a.m.now) (spec.meant e (scene_at b a.scene.now)))
-    (λ b. two_asks (two.Operation a.place a.operator a.bools) (parts_at b a.parts.now.items) (marked e (site_at a.sight.now) k (scene_at b a.scene.now)) (scene_at b a.scene.now) (meant_at b a.m.now) (spec.meant e (scene_at b a.scene.now)))) in
-    told_behind of _ _ (known_of a.sight.now.known.now) c.behind.ensures.expressed c.in_ok-told.told.items c.deref.ensures.value (known_right a.operator (chain_front a.place (expr a.first.now) a.links.now) (known_at a.sight.now)) (c.in_ok-told.ensures a.place (known_at a.sight.now))
+    let s = c.with_tests.result in
+    let of = λ (x : Site) (k : Known). IfOk c.behind.result (λ r. Expressed d r c.behind.new.parts.items (λ b. spec.operated a.operator a.bools (meant_at b a.m.now) (spec.meant e (scene_at b a.scene.now)))
+    (λ b. two_asks (two.Operation a.place a.operator a.bools) (parts_at b a.parts.now.items) (marked e x k (scene_at b a.scene.now)) (scene_at b a.scene.now) (meant_at b a.m.now) (spec.meant e (scene_at b a.scene.now)))) in
+    subst (λ k. of (site_at a.sight.now) k) (c.with_tests.ensures.known ∙ c.on_right.ensures front (known_of a.sight.now.known.now) told)
+    (subst (λ x. of x (known_at s)) c.with_tests.ensures.site c.behind.ensures.expressed)
 
 pub chain-linked-requires : goal.chain-linked-requires
 chain-linked-requires t c =
     let q = c.requires.front.0 in
-    (search (rules, the_lemmas), (c.requires.sight, (HasScene-grown c.loop-i.invariant.grown c.args.scene.now c.requires.scene, ((q, c.loop-i.invariant.reads q c.requires.front.1), c.loop-i.invariant.typed))))
+    (search (rules, the_lemmas), (c.requires.sight, (HasScene-grown c.loop-link.invariant.grown c.args.scene.now c.requires.scene, (q, chain_front c.args.place (expr c.args.first.now) (take c.loop-link.link-index c.args.links.now), c.loop-link.invariant.reads q c.requires.front.1))))
 
-pub chain-loop-i-preserved : goal.chain-loop-i-preserved
-chain-loop-i-preserved t c =
+pub chain-loop-link-preserved : goal.chain-loop-link-preserved
+chain-loop-link-preserved t c =
     let a = c.args in
     let s = a.sight.now in
     let sc = a.scene.now in
-    let i = c.loop-i.i in
+    let i = c.loop-link.link-index in
     let head = expr a.first.now in
     let here = chain_front a.place head (take i a.links.now) in
-    let next = front_next a.place head a.links.now i c.index-links-i.result c.loop-i-test.true c.index-links-i.is in
+    let next = front_next a.place head a.links.now i c.link-item.result c.loop-link-test.true c.link-item.is in
     record {
-      grown = IsGrown-then a.bank.now c.loop-i.bank c.linked.new.bank c.loop-i.invariant.grown c.linked.ensures.grown;
-      typed = subst (λ (tys : List Ty). c.loop-i.ty ≡ type_of (classes sc.classes.now) tys here → c.link_type-ty.result ≡ type_of (classes sc.classes.now) tys (link_behind c.index-links-i.result a.place here)) c.deref-in-loop-i.ensures.value
-          (c.link_type-ty.ensures a.place here) c.loop-i.invariant.typed
+      grown = IsGrown-then a.bank.now c.loop-link.bank c.linked.new.bank c.loop-link.invariant.grown c.linked.ensures.grown;
+      typed = subst (λ (tys : List Ty). c.loop-link.ty ≡ type_of (classes sc.classes.now) tys here → c.link_type-ty.result ≡ type_of (classes sc.classes.now) tys (link_behind c.link-item.result a.place here)) c.deref-in-loop-link.ensures.value
+          (c.link_type-ty.ensures a.place here) c.loop-link.invariant.typed
           ∙ ap (λ x. type_of (classes sc.classes.now) sc.types.items x) (sym next);
-      reads = λ q h. reads_tree c.linked.new.bank c.in_ok-front.front c.linked.new.parts.items q s sc (link_behind c.index-links-i.result a.place here) (chain_front a.place head (take (i + 1) a.links.now)) (sym next)
-          (c.in_ok-front.ensures.expressed q (c.loop-i.invariant.reads q h));
+      told = subst (λ (e : ExprTree). TellsFront c.add.new.told e) (sym next) (c.in_ok-add.ensures a.place here c.loop-link.invariant.told);
+      reads = λ q h. reads_tree c.linked.new.bank c.in_ok-front.front c.linked.new.parts.items q s sc (link_behind c.link-item.result a.place here) (chain_front a.place head (take (i + 1) a.links.now)) (sym next)
+          (c.in_ok-front.ensures.expressed q here (c.loop-link.invariant.reads q h) c.loop-link.invariant.told c.loop-link.invariant.typed);
     }
 
 pub path-stepped-requires : goal.path-stepped-requires
