@@ -778,8 +778,11 @@ impl Classes {
                 self.add_apart_at(right, new_entry(fact, left, false))?;
             }
         }
-        self.tell_class(left)?;
-        self.tell_class(right)?;
+        if self.node(self.class(left)).weight <= self.node(self.class(right)).weight {
+            self.tell_class(left)?;
+        } else {
+            self.tell_class(right)?;
+        }
         Ok(None)
     }
 

@@ -9,7 +9,7 @@ use ss_core::Classes;
 use ss_search_classes::{Conflict, LITERAL, NONE, kind_of, part_at, part_count};
 use ss_search_proof::{Reason, Said};
 use ss_search_state::{Mark, Step};
-use ss_search_wants::{use_positions, work};
+use ss_search_wants::{use_levels, use_positions, work};
 use ss_terms::Bank;
 use std::alloc::AllocError;
 
@@ -89,7 +89,7 @@ impl Engine {
         if choice != NONE {
             return self.look_or_split(bank, choice);
         }
-        self.look_or_widen(bank)
+        self.look_or_widen(bank, program)
     }
 
     // Whether what is asked for asks for an instance of a stage.
@@ -108,11 +108,14 @@ impl Engine {
     }
 
     // Looks ahead, and asks for more where that finds nothing.
-    fn look_or_widen(&mut self, bank: &Bank) -> Result<Closed, AllocError> {
+    fn look_or_widen(&mut self, bank: &Bank, program: &Classes) -> Result<Closed, AllocError> {
         if self.look_ahead(bank)? {
             return self.after_look(bank);
         }
-        if self.state.widen(bank)? || use_positions(&mut self.state, bank)? {
+        if self.state.widen(bank)?
+            || use_positions(&mut self.state, bank)?
+            || use_levels(&mut self.state, bank, program)?
+        {
             Ok(Closed::Next(Step::Goes))
         } else {
             Ok(Closed::Next(Step::Rests))

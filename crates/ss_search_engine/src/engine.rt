@@ -56,6 +56,8 @@ pub struct Engine {
     pub(crate) pending_block: Option<usize>,
     // Whether literals are the first cases of a split.
     pub(crate) literals_first: bool,
+    // From which clause on, in their order, an open one is looked for.
+    pub(crate) scan_from: usize,
 }
 
 // A number above those of all constants that the bank has.
@@ -107,6 +109,7 @@ impl Engine {
             look_from: 0,
             pending_block: None,
             literals_first: false,
+            scan_from: 0,
         })
     }
 

@@ -18,11 +18,17 @@ pub enum Order {
     Last,
 }
 
-// The place that comes after so many.
-fn place_in(order: Order, turn: usize, count: usize) -> usize {
+// The place that comes after so many, from a place on. Behind the last one comes the first.
+fn place_in(order: Order, from: usize, turn: usize, count: usize) -> usize {
+    let at = from.saturating_add(turn);
+    let place = if at < count {
+        at
+    } else {
+        at.saturating_sub(count)
+    };
     match order {
-        Order::First => turn,
-        Order::Last => count.saturating_sub(turn).saturating_sub(1),
+        Order::First => place,
+        Order::Last => count.saturating_sub(place).saturating_sub(1),
     }
 }
 
@@ -102,10 +108,11 @@ impl Engine {
         }
         let place = self.open_clause(bank, order);
         if place == NONE {
-            Ok(Closed::Next(Step::Rests))
-        } else {
-            self.open_split(bank, place)
+            return Ok(Closed::Next(Step::Rests));
         }
+        let clauses = self.state.asked.clause_count();
+        self.scan_from = place_in(order, 0, place, clauses);
+        self.open_split(bank, place)
     }
 
     // A known `or` that isn't met, with the fewest open parts, by its place, or NONE.
@@ -124,7 +131,7 @@ impl Engine {
         let mut fewest = NONE;
         let clauses = self.state.asked.clause_count();
         for turn in 0..clauses {
-            let place = place_in(order, turn, clauses);
+            let place = place_in(order, self.scan_from, turn, clauses);
             let formula = self.state.asked.clause(place).formula;
             let count = self.state.nodes.open_count(formula);
             if count < fewest

@@ -12,5 +12,6 @@ mod reads;
 mod typed;
 mod wants;
 
+pub use numbers::use_levels;
 pub use positions::use_positions;
 pub use wants::work;

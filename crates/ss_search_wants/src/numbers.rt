@@ -8,7 +8,7 @@ use crate::typed::good_field;
 use ss_core::{ClassId, Classes};
 use ss_search_classes::{
     ELEMENT, EQUAL, FIELD, LENGTH, LEVEL, NONE, NUMBER, QUOTIENT, REMAINDER, TYPE, argument,
-    is_term, is_whole, node_head, of_term, pair_argument, term_head,
+    is_term, is_whole, node_head, of_term, pair_argument, term_argument, term_head,
 };
 use ss_search_proof::{GoodName, RuleKind};
 use ss_search_state::{State, Wanted, new_request};
@@ -97,6 +97,35 @@ fn invariants_at(
     if level == NONE {
         return Ok(());
     }
+    for place in 0..program.list.len() {
+        invariant_at(state, bank, program, (store, object, level), place)?;
+    }
+    Ok(())
+}
+
+/// Makes the instances of the rule on invariants at each level that is there. Whether there was one.
+pub fn use_levels(state: &mut State, bank: &Bank, program: &Classes) -> Result<bool, AllocError> {
+    let before = state.requests.len();
+    for term in 0..bank.term_count() {
+        if term_head(bank, term).kind == LEVEL && state.equal.is_there(of_term(term)) {
+            invariants_of(state, bank, program, term)?;
+        }
+    }
+    Ok(state.requests.len() > before)
+}
+
+// The invariants of an object whose level this is.
+fn invariants_of(
+    state: &mut State,
+    bank: &Bank,
+    program: &Classes,
+    level: usize,
+) -> Result<(), AllocError> {
+    let store = good_store(state, term_argument(bank, level, 0));
+    if store == NONE {
+        return Ok(());
+    }
+    let object = term_argument(bank, level, 1);
     for place in 0..program.list.len() {
         invariant_at(state, bank, program, (store, object, level), place)?;
     }

@@ -43,7 +43,8 @@ use ss_terms::{Bank, FormulaId, Symbol};
 use ss_vcgen_defaults::default_said;
 use ss_vcgen_express::{Meant, Saying, Scene, local_term, out_of_range, quantified, said};
 use ss_vcgen_known::{
-    FrontTold, element_of, is_bool, is_never_null, link_type, path_never_null, step_type, type_of,
+    FrontTold, Site, element_of, is_bool, is_never_null, link_type, path_never_null, step_type,
+    type_of,
 };
 use std::alloc::{AllocError, Global};
 
@@ -439,8 +440,17 @@ fn operation(
         (λ b. two_asks (two.Operation place operator bools) (parts_at b parts.old.items) (marked (expr e.now) (site_at sight.now) (rules.known_right operator t (known_at sight.now)) (scene_at b scene.entry.now)) (scene_at b scene.entry.now) (meant_at b m.now) (spec.meant (expr e.now) (scene_at b scene.entry.now)))) }
     ensures grown { IsGrown bank.old bank.new }
 {
-    let tests = told.on_right(operator, sight.tests);
-    let inner = sight.with_tests(&tests);
+    let tests = (&*told).on_right(operator, &*sight.tests);
+    let site = Site {
+        classes: &*sight.site.classes,
+        types: &*sight.site.types,
+        constructs: sight.site.constructs,
+    };
+    let inner = Sight {
+        site,
+        known: &*sight.known,
+        tests: &tests,
+    };
     let form = Two::Operation(place, operator, bools);
     behind(alloc, bank, &inner, scene, parts, e, form, m)
 }

@@ -9,7 +9,7 @@ use Rattle.ss_core.specs.declared.expr.Expr.{the_lemmas}
 use Rattle.ss_core.specs.Tree.{IntExpr, BoolExpr, NullExpr, LocalExpr, DefaultExpr, NegateExpr, NotExpr, ImpliesExpr, IffExpr, CastExpr, OldExpr, QuantifiedExpr, StateExpr, OwnersExpr, BinaryExpr, IsExpr, AsExpr, FieldExpr, ElementExpr, LengthExpr}
 use Rattle.ss_core.specs.View.{expr, classes, default_tree, owners_tree, word_tree}
 use Rattle.ss_core.specs.Tree.{ExprTree}
-use Rattle.ss_store_rules.specs.NonNull.{Known, Site}
+use Rattle.ss_store_rules.specs.NonNull.{Known}
 use Rattle.ss_store_rules.specs.Types.{type_of, is_bool, element_of}
 use Rattle.ss_logic_express.specs.Express as spec
 use Rattle.ss_terms.specs.declared.forms.FormulaId.{FormulaId}
@@ -367,11 +367,9 @@ operation-returns-clause-expressed t c = λ front told.
     let a = c.args in
     let d = c.behind.new.bank in
     let e = expr a.e.now in
-    let s = c.with_tests.result in
-    let of = λ (x : Site) (k : Known). IfOk c.behind.result (λ r. Expressed d r c.behind.new.parts.items (λ b. spec.operated a.operator a.bools (meant_at b a.m.now) (spec.meant e (scene_at b a.scene.now)))
-    (λ b. two_asks (two.Operation a.place a.operator a.bools) (parts_at b a.parts.now.items) (marked e x k (scene_at b a.scene.now)) (scene_at b a.scene.now) (meant_at b a.m.now) (spec.meant e (scene_at b a.scene.now)))) in
-    subst (λ k. of (site_at a.sight.now) k) (c.with_tests.ensures.known ∙ c.on_right.ensures front (known_of a.sight.now.known.now) told)
-    (subst (λ x. of x (known_at s)) c.with_tests.ensures.site c.behind.ensures.expressed)
+    let of = λ (k : Known). IfOk c.behind.result (λ r. Expressed d r c.behind.new.parts.items (λ b. spec.operated a.operator a.bools (meant_at b a.m.now) (spec.meant e (scene_at b a.scene.now)))
+    (λ b. two_asks (two.Operation a.place a.operator a.bools) (parts_at b a.parts.now.items) (marked e (site_at a.sight.now) k (scene_at b a.scene.now)) (scene_at b a.scene.now) (meant_at b a.m.now) (spec.meant e (scene_at b a.scene.now)))) in
+    subst of (c.on_right-tests.ensures front (known_of a.sight.now.known.now) told) c.behind.ensures.expressed
 
 pub chain-linked-requires : goal.chain-linked-requires
 chain-linked-requires t c =
@@ -392,7 +390,7 @@ chain-loop-link-preserved t c =
       typed = subst (λ (tys : List Ty). c.loop-link.ty ≡ type_of (classes sc.classes.now) tys here → c.link_type-ty.result ≡ type_of (classes sc.classes.now) tys (link_behind c.link-item.result a.place here)) c.deref-in-loop-link.ensures.value
           (c.link_type-ty.ensures a.place here) c.loop-link.invariant.typed
           ∙ ap (λ x. type_of (classes sc.classes.now) sc.types.items x) (sym next);
-      told = subst (λ (e : ExprTree). TellsFront c.add.new.told e) (sym next) (c.in_ok-add.ensures a.place here c.loop-link.invariant.told);
+      told = subst (λ (e : ExprTree). TellsFront c.add.new.self e) (sym next) (c.in_ok-add.ensures a.place here c.loop-link.invariant.told);
       reads = λ q h. reads_tree c.linked.new.bank c.in_ok-front.front c.linked.new.parts.items q s sc (link_behind c.link-item.result a.place here) (chain_front a.place head (take (i + 1) a.links.now)) (sym next)
           (c.in_ok-front.ensures.expressed q here (c.loop-link.invariant.reads q h) c.loop-link.invariant.told c.loop-link.invariant.typed);
     }
