@@ -2,8 +2,6 @@
 #![tactic(auto)]
 
 mod arguments;
-mod made;
 mod saying;
 
-pub use made::Made;
 pub use saying::add_said;

@@ -15,8 +15,8 @@ ghost use Rattle.ss_rules_said.specs.Said.{with_said};
 use crate::arguments::terms_of_arguments;
 use ss_core::Classes;
 use ss_logic_rules::GoodRule;
-use ss_rules_asked::{Asked, Rule};
 use ss_rules_instances::{good_instance, instance};
+use ss_rules_asked::{Asked, Rule};
 use ss_rules_invariants::invariants;
 use ss_rules_occurring::FormulaList;
 use ss_terms::{Bank, FormulaId, Predicate, TermId};
@@ -115,7 +115,7 @@ fn say_at(
 }
 
 // What an instance says, where its arguments fit the rule.
-pub(crate) fn say(
+fn say(
     alloc: Global,
     bank: &mut Bank,
     classes: &Classes,
@@ -133,7 +133,7 @@ pub(crate) fn say(
 }
 
 // Adds a formula, if there is one.
-pub(crate) fn add_found(
+fn add_found(
     bank: &Bank,
     list: &mut FormulaList,
     found: Option<FormulaId>,

