@@ -14,9 +14,9 @@ ghost use Rattle.ss_check_steps.specs.Stack.{AreCases, state_of, waiting_of};
 
 use crate::facts::fact;
 use ss_check_steps::{Cases, close, cut, learn, reopen, split};
-use ss_core::Classes;
+use ss_core::{Classes, Core};
 use ss_deriv::{Derivation, Line};
-use ss_terms::{Bank, FormulaId, TermId};
+use ss_terms::{Bank, FormulaId, Obligation, TermId};
 use std::alloc::{AllocError, Global};
 
 /// Why a derivation is refused.
@@ -152,28 +152,36 @@ fn is_line_within(line: &Line, terms: usize, formulas: usize) -> bool
     }
 }
 
-/// Checks that a derivation derives the goal from the premises, and so, in a program whose invariants are admissible, that the goal is true
-/// in every structure in which the premises are. The first line that is no step is refused, also one that names a term or a formula that the bank doesn't
-/// have.
+/// Checks that a derivation derives the goal of an obligation from its premises, and so, in a program whose invariants are admissible, that the
+/// goal is true in every structure in which the premises are. The first line that is no step is refused, also one that names a term or a
+/// formula that the bank doesn't have.
 pub fn check(
     alloc: Global,
     bank: &mut Bank,
-    classes: &Classes,
-    premises: &[FormulaId],
-    goal: FormulaId,
+    program: &Core,
+    obligation: &Obligation<'_>,
     derivation: &Derivation,
 ) -> Result<(), CheckStop>
-    requires bank { IsBankOf (view.classes classes.now) bank.old }
-    requires limits { IsWithinLimits (view.classes classes.now) }
-    requires premises { HasFormulas bank.old premises.now }
-    requires goal { HasFormula bank.old goal }
-    ensures derives { OnOk result (Derives (view.classes classes.now) (formulas_at bank.old premises.now) (formula_at bank.old goal) (lines_of bank.old derivation.now)) }
-    ensures valid { OnOk result (IsChain (view.classes classes.now) → NoAlso (view.classes classes.now) → AreInvariants (view.classes classes.now) → IsValid (view.classes classes.now) (formulas_at bank.old premises.now) (formula_at bank.old goal)) }
-    ensures refused { (n : ℕ) → result ≡ Err (CheckStop.BadStep n) → Derives (view.classes classes.now) (formulas_at bank.old premises.now) (formula_at bank.old goal) (lines_of bank.old derivation.now) → ⊥ }
-    ensures first { (n : ℕ) → result ≡ Err (CheckStop.BadStep n) → first_bad (view.classes classes.now) (formulas_at bank.old premises.now) (formula_at bank.old goal) (lines_of bank.old derivation.now) ≡ Some n }
+    requires bank { IsBankOf (view.classes program.now.classes) bank.old }
+    requires limits { IsWithinLimits (view.classes program.now.classes) }
+    requires premises { HasFormulas bank.old obligation.now.premises.now }
+    requires goal { HasFormula bank.old obligation.now.goal }
+    ensures derives { OnOk result (Derives (view.classes program.now.classes) (formulas_at bank.old obligation.now.premises.now) (formula_at bank.old obligation.now.goal) (lines_of bank.old derivation.now)) }
+    ensures valid { OnOk result (IsChain (view.classes program.now.classes) → NoAlso (view.classes program.now.classes) → AreInvariants (view.classes program.now.classes) → IsValid (view.classes program.now.classes) (formulas_at bank.old obligation.now.premises.now) (formula_at bank.old obligation.now.goal)) }
+    ensures refused { (n : ℕ) → result ≡ Err (CheckStop.BadStep n) → Derives (view.classes program.now.classes) (formulas_at bank.old obligation.now.premises.now) (formula_at bank.old obligation.now.goal) (lines_of bank.old derivation.now) → ⊥ }
+    ensures first { (n : ℕ) → result ≡ Err (CheckStop.BadStep n) → first_bad (view.classes program.now.classes) (formulas_at bank.old obligation.now.premises.now) (formula_at bank.old obligation.now.goal) (lines_of bank.old derivation.now) ≡ Some n }
     ensures grown { IsGrown bank.old bank.new }
 {
-    check_lines(alloc, bank, classes, premises, goal, derivation.lines())
+    let classes = &program.classes;
+    let lines = derivation.lines();
+    check_lines(
+        alloc,
+        bank,
+        classes,
+        obligation.premises,
+        obligation.goal,
+        lines,
+    )
 }
 
 fn check_lines(

@@ -112,4 +112,4 @@ model_of fs classes truths = record {
 pub record RefutesGround (cs : List ClassTree) (premises : List Formula) (goal : Formula) (rounds limit : ℕ) (c : Countermodel) : Type 0 where
   pub formulas : List Formula
   pub ground : ground_form cs premises goal rounds limit ≡ Some formulas
-  pub refutes : Refutes (model_of formulas c.classes.items c.truths.items) formulas
+  pub refutes : Refutes (model_of formulas c.classes.items c.truth.items) formulas

@@ -6,5 +6,5 @@
 #[derive(Drop)]
 pub struct Countermodel {
     pub classes: Vec<usize>,
-    pub truths: Vec<bool>,
+    pub truth: Vec<bool>,
 }

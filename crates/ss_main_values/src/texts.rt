@@ -9,7 +9,7 @@ ghost use Rattle.ss_vcgen.specs.Built.{IsWithin};
 
 use ss_core::{Body, Core};
 use ss_report_values::{Reading, values_text};
-use ss_rules_ground::{GroundForm, ground};
+use ss_rules::{GroundStop, ground};
 use ss_rules_occurring::{atoms, terms};
 use ss_search::Countered;
 use ss_terms::{Bank, FormulaId, TermId};
@@ -46,33 +46,24 @@ fn text_of(
     bank: &mut Bank,
     trail: &[FormulaId],
     core: &Core,
-    obligation: &Listed,
+    listed: &Listed,
     classes: &[usize],
     locals: &[Option<TermId>],
 ) -> Result<String, AllocError>
     requires bank { IsBankOf (view.classes core.now.classes) bank.old }
     requires limits { IsWithinLimits (view.classes core.now.classes) }
     requires trail { HasFormulas bank.old trail.now }
-    requires placed { IsPlaced bank.old (length trail.now) obligation.now }
+    requires placed { IsPlaced bank.old (length trail.now) listed.now }
     ensures grown { IsGrown bank.old bank.new }
 {
-    let premises = &trail[obligation.first..obligation.end];
-    let Some(body) = core.bodies.get(obligation.body.0 as usize) else {
+    let Some(body) = core.bodies.get(listed.body.0 as usize) else {
         return Ok(String::new(alloc));
     };
-    match ground(
-        alloc,
-        bank,
-        &core.classes,
-        premises,
-        obligation.goal,
-        2,
-        50_000,
-    )? {
-        GroundForm::Formulas(formulas) => {
-            values_of(alloc, bank, &formulas, classes, body, locals)
-        }
-        GroundForm::TooMany => Ok(String::new(alloc)),
+    let obligation = listed.obligation(trail);
+    match ground(alloc, bank, core, &obligation, 2, 50_000) {
+        Ok(formulas) => values_of(alloc, bank, &formulas, classes, body, locals),
+        Err(GroundStop::TooMany { .. }) => Ok(String::new(alloc)),
+        Err(GroundStop::Memory) => Err(AllocError),
     }
 }
 
@@ -102,18 +93,10 @@ fn text_at(
     ensures within { IsWithin obligations.new }
 {
     let Obligations { bank, trail, list } = obligations;
-    let Some(obligation) = list.get(one.obligation) else {
+    let Some(listed) = list.get(one.obligation) else {
         return Ok(String::new(alloc));
     };
-    text_of(
-        alloc,
-        bank,
-        trail,
-        core,
-        obligation,
-        &one.model.classes,
-        locals,
-    )
+    text_of(alloc, bank, trail, core, listed, &one.model.classes, locals)
 }
 
 // A text for each obligation whose values are told.

@@ -8,6 +8,8 @@ use ss_logic_countermodels::Countermodel;
 pub struct Options {
     /// The rounds of the ground form.
     pub rounds: u8,
+    /// The most splits of one attempt at a derivation.
+    pub splits: u64,
     /// The most formulas that the ground form may have.
     pub instances: u32,
 }

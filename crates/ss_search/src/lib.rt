@@ -7,5 +7,5 @@ mod refuting;
 mod search;
 
 pub use answers::{Budget, Countered, Found, Options, Undecided};
-pub use search::Search;
+pub use search::{Search, prove};
 pub use ss_logic_countermodels::Countermodel;

@@ -8,45 +8,45 @@ ghost use Rattle.ss_logic_countermodels.specs.Refuting.{Refutes, model_of};
 ghost use Rattle.ss_search.specs.Found.{IfCountered, IfTooMany, IsRefutedBy, IsOver};
 
 use crate::answers::{Found, Options};
-use ss_core::Classes;
-use ss_rules_ground::{GroundForm, ground};
+use ss_core::Core;
+use ss_rules::{GroundStop, ground};
 use ss_search_candidates::find_candidate;
 use ss_search_models::countermodel;
-use ss_terms::{Bank, FormulaId};
+use ss_terms::{Bank, FormulaId, Obligation};
 use std::alloc::Global;
 
-/// Searches for a model that refutes the ground form of the premises and the denied goal.
+/// Searches for a model that refutes the ground form of an obligation.
 pub(crate) fn refute(
     alloc: Global,
     bank: &mut Bank,
-    classes: &Classes,
-    premises: &[FormulaId],
-    goal: FormulaId,
-    options: Options,
+    program: &Core,
+    obligation: &Obligation<'_>,
+    options: &Options,
 ) -> Found
-    requires bank { IsBankOf (view.classes classes.now) bank.old }
-    requires limits { IsWithinLimits (view.classes classes.now) }
-    requires premises { HasFormulas bank.old premises.now }
-    requires goal { HasFormula bank.old goal }
-    ensures countered { IfCountered result (IsRefutedBy (view.classes classes.now) options (formulas_at bank.old premises.now) (formula_at bank.old goal)) }
-    ensures too_many { IfTooMany result (IsOver (view.classes classes.now) options (formulas_at bank.old premises.now) (formula_at bank.old goal)) }
+    requires bank { IsBankOf (view.classes program.now.classes) bank.old }
+    requires limits { IsWithinLimits (view.classes program.now.classes) }
+    requires premises { HasFormulas bank.old obligation.now.premises.now }
+    requires goal { HasFormula bank.old obligation.now.goal }
+    ensures countered { IfCountered result (IsRefutedBy (view.classes program.now.classes) options.now (formulas_at bank.old obligation.now.premises.now) (formula_at bank.old obligation.now.goal)) }
+    ensures too_many { IfTooMany result (IsOver (view.classes program.now.classes) options.now (formulas_at bank.old obligation.now.premises.now) (formula_at bank.old obligation.now.goal)) }
     ensures grown { IsGrown bank.old bank.new }
 {
-    let rounds = options.rounds as usize;
-    let limit = options.instances as usize;
-    match ground(alloc, bank, classes, premises, goal, rounds, limit) {
-        Ok(GroundForm::Formulas(formulas)) => find_model(alloc, bank, &formulas),
-        Ok(GroundForm::TooMany) => Found::TooMany {
-            limit: options.instances,
-        },
-        Err(_) => Found::Memory,
+    let Options {
+        rounds,
+        instances,
+        ..
+    } = *options;
+    match ground(alloc, bank, program, obligation, rounds, instances) {
+        Ok(formulas) => find_model(alloc, bank, &formulas),
+        Err(GroundStop::TooMany { limit }) => Found::TooMany { limit },
+        Err(GroundStop::Memory) => Found::Memory,
     }
 }
 
 // Searches for a model that makes the formulas true.
 fn find_model(alloc: Global, bank: &mut Bank, formulas: &[FormulaId]) -> Found
     requires { HasFormulas bank.old formulas.now }
-    ensures countered { IfCountered result (λ m. Refutes (model_of (formulas_at bank.old formulas.now) m.classes.items m.truths.items) (formulas_at bank.old formulas.now)) }
+    ensures countered { IfCountered result (λ m. Refutes (model_of (formulas_at bank.old formulas.now) m.classes.items m.truth.items) (formulas_at bank.old formulas.now)) }
     ensures too_many { IfTooMany result (λ limit. ⊥) }
     ensures grown { IsGrown bank.old bank.new }
 {

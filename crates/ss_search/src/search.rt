@@ -8,9 +8,9 @@ ghost use Rattle.ss_search.specs.Found.{IfCountered, IfTooMany, IsRefutedBy, IsO
 
 use crate::answers::{Found, Options};
 use crate::refuting::refute;
-use ss_core::Classes;
+use ss_core::{Classes, Core};
 use ss_search_engine::{Answer, Engine, Limits};
-use ss_terms::{Bank, FormulaId};
+use ss_terms::{Bank, Obligation};
 use std::alloc::{AllocError, Global};
 
 // What serves nearly every obligation.
@@ -26,6 +26,15 @@ const SECOND: Limits = Limits {
     splits: 3_000,
     trials: 60_000,
 };
+
+// The limits, with no more splits than these.
+fn with_splits(limits: Limits, splits: u64) -> Limits {
+    let most = usize::try_from(splits).unwrap_or(usize::MAX);
+    Limits {
+        splits: limits.splits.min(most),
+        ..limits
+    }
+}
 
 /// What the search keeps from one obligation of a program to the next.
 #[derive(Drop)]
@@ -43,27 +52,26 @@ impl Search {
         Ok(Search { alloc, engine })
     }
 
-    /// Searches for a derivation of the goal from the premises; and where none is found, for a model that refutes the ground form.
+    /// Searches for a derivation of an obligation; and where none is found, for a model that refutes its ground form.
     pub fn prove(
         &mut self,
         bank: &mut Bank,
-        classes: &Classes,
-        premises: &[FormulaId],
-        goal: FormulaId,
-        options: Options,
+        program: &Core,
+        obligation: &Obligation<'_>,
+        options: &Options,
     ) -> Found
-        requires bank { IsBankOf (view.classes classes.now) bank.old }
-        requires limits { IsWithinLimits (view.classes classes.now) }
-        requires premises { HasFormulas bank.old premises.now }
-        requires goal { HasFormula bank.old goal }
-        ensures countered { IfCountered result (IsRefutedBy (view.classes classes.now) options (formulas_at bank.old premises.now) (formula_at bank.old goal)) }
-        ensures too_many { IfTooMany result (IsOver (view.classes classes.now) options (formulas_at bank.old premises.now) (formula_at bank.old goal)) }
+        requires bank { IsBankOf (view.classes program.now.classes) bank.old }
+        requires limits { IsWithinLimits (view.classes program.now.classes) }
+        requires premises { HasFormulas bank.old obligation.now.premises.now }
+        requires goal { HasFormula bank.old obligation.now.goal }
+        ensures countered { IfCountered result (IsRefutedBy (view.classes program.now.classes) options.now (formulas_at bank.old obligation.now.premises.now) (formula_at bank.old obligation.now.goal)) }
+        ensures too_many { IfTooMany result (IsOver (view.classes program.now.classes) options.now (formulas_at bank.old obligation.now.premises.now) (formula_at bank.old obligation.now.goal)) }
         ensures grown { IsGrown bank.old bank.new }
     {
         let alloc = self.alloc;
-        match self.derive(bank, classes, premises, goal) {
+        match self.derive(bank, &program.classes, obligation, options.splits) {
             Ok(Answer::Proved(derivation)) => Found::Proved(derivation),
-            Ok(Answer::Stuck) => refute(alloc, bank, classes, premises, goal, options),
+            Ok(Answer::Stuck) => refute(alloc, bank, program, obligation, options),
             Err(_) => Found::Memory,
         }
     }
@@ -73,17 +81,20 @@ impl Search {
         &mut self,
         bank: &mut Bank,
         classes: &Classes,
-        premises: &[FormulaId],
-        goal: FormulaId,
+        obligation: &Obligation<'_>,
+        splits: u64,
     ) -> Result<Answer, AllocError>
         requires bank { IsBankOf (view.classes classes.now) bank.old }
         requires limits { IsWithinLimits (view.classes classes.now) }
         ensures grown { IsGrown bank.old bank.new }
     {
-        let answer = self.engine.search(bank, classes, premises, goal, FIRST)?;
+        let Obligation { premises, goal, .. } = *obligation;
+        let first = with_splits(FIRST, splits);
+        let answer = self.engine.search(bank, classes, premises, goal, first)?;
         match answer {
             Answer::Stuck if self.is_spent() => {
-                self.engine.search(bank, classes, premises, goal, SECOND)
+                let second = with_splits(SECOND, splits);
+                self.engine.search(bank, classes, premises, goal, second)
             }
             _ => Ok(answer),
         }
@@ -93,5 +104,27 @@ impl Search {
     fn is_spent(&self) -> bool {
         let left = self.engine.left();
         left.instances == 0 || left.splits == 0 || left.trials == 0
+    }
+}
+
+/// Searches for a derivation of one obligation alone; and where none is found, for a model that refutes its ground form.
+pub fn prove(
+    alloc: Global,
+    bank: &mut Bank,
+    program: &Core,
+    obligation: &Obligation<'_>,
+    options: &Options,
+) -> Found
+    requires bank { IsBankOf (view.classes program.now.classes) bank.old }
+    requires limits { IsWithinLimits (view.classes program.now.classes) }
+    requires premises { HasFormulas bank.old obligation.now.premises.now }
+    requires goal { HasFormula bank.old obligation.now.goal }
+    ensures countered { IfCountered result (IsRefutedBy (view.classes program.now.classes) options.now (formulas_at bank.old obligation.now.premises.now) (formula_at bank.old obligation.now.goal)) }
+    ensures too_many { IfTooMany result (IsOver (view.classes program.now.classes) options.now (formulas_at bank.old obligation.now.premises.now) (formula_at bank.old obligation.now.goal)) }
+    ensures grown { IsGrown bank.old bank.new }
+{
+    match Search::new(alloc, bank) {
+        Ok(mut search) => search.prove(bank, program, obligation, options),
+        Err(_) => Found::Memory,
     }
 }

@@ -102,10 +102,10 @@ impl Candidate<'_> {
     /// The candidate as a model. An error is want of memory.
     pub(crate) fn model(&self, alloc: Global) -> Result<Countermodel, AllocError>
         ensures classes { IfOk result (λ m. m.classes.items ≡ map (class_number self.now) self.now.terms.now.list.items) }
-        ensures truths { IfOk result (λ m. m.truths.items ≡ map (truth_number self.now) self.now.told.now.list.items) }
+        ensures truth { IfOk result (λ m. m.truth.items ≡ map (truth_number self.now) self.now.told.now.list.items) }
     {
         let classes = self.listed_classes(alloc)?;
-        let truths = self.listed_truths(alloc)?;
-        Ok(Countermodel { classes, truths })
+        let truth = self.listed_truths(alloc)?;
+        Ok(Countermodel { classes, truth })
     }
 }

@@ -50,7 +50,7 @@ fn model(
 ) -> Result<Option<Countermodel>, AllocError>
     requires candidate { IsFor bank.now candidate.now (formulas_at bank.now formulas.now) }
     requires formulas { HasFormulas bank.now formulas.now }
-    ensures { IfOk result (λ o. IfSome o (λ m. Refutes (model_of (formulas_at bank.now formulas.now) m.classes.items m.truths.items) (formulas_at bank.now formulas.now))) }
+    ensures { IfOk result (λ o. IfSome o (λ m. Refutes (model_of (formulas_at bank.now formulas.now) m.classes.items m.truth.items) (formulas_at bank.now formulas.now))) }
 {
     if refutes(alloc, bank, candidate, formulas)? {
         Ok(Some(candidate.model(alloc)?))
@@ -70,7 +70,7 @@ pub fn countermodel(
     truths: &[bool],
 ) -> Result<Option<Countermodel>, AllocError>
     requires { HasFormulas bank.now formulas.now }
-    ensures { IfOk result (λ o. IfSome o (λ m. Refutes (model_of (formulas_at bank.now formulas.now) m.classes.items m.truths.items) (formulas_at bank.now formulas.now))) }
+    ensures { IfOk result (λ o. IfSome o (λ m. Refutes (model_of (formulas_at bank.now formulas.now) m.classes.items m.truth.items) (formulas_at bank.now formulas.now))) }
 {
     let told = told(alloc, bank, formulas)?;
     let terms = terms(alloc, bank, &told.list)?;

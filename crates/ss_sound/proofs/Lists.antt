@@ -1,12 +1,12 @@
 -- Lists of obligations that are decided from the front.
-use Rattle.std.proofs.Common.{◌≡◌, ◌≢◌, ℕ, zero, suc, ◌+◌, ◌-◌, ◌*◌, ◌<◌, ◌≤◌, List, [], ◌∷◌, ◌++◌, map, take, drop, length, Some, refl, sym, ap, ◌∙◌, subst, arith}
+use Rattle.std.proofs.Common.{◌≡◌, ◌≢◌, ℕ, zero, suc, ◌+◌, ◌*◌, ◌<◌, ◌≤◌, List, [], ◌∷◌, ◌++◌, map, take, drop, length, Some, refl, sym, ap, ◌∙◌, subst, arith}
 use Rattle.std.specs.Prelude.{Result, Ok, IfOk}
 use Rattle.ss_sound.specs.declared.decision.Decision.{Decision}
 use Rattle.ss_sound.specs.declared.decision.Decision.TheVariants as decision
 use Rattle.ss_sound.specs.declared.verdict.Decided.{Decided}
 use Rattle.std.specs.List.{slice_get, slice_index_or}
 use borrow.Author.Count.{below_more}
-use Rattle.std.proofs.lemmas.List.{append-nil, drop-take, map_push, length-map}
+use Rattle.std.proofs.lemmas.List.{append-nil, map_push, length-map}
 use Rattle.ss_core.specs.Tree.{ClassTree}
 use Rattle.ss_logic_derivations.specs.Steps as tree
 use Rattle.ss_terms.specs.declared.forms.FormulaId.{FormulaId}
@@ -37,12 +37,6 @@ pub AreBelow-drop : (n k : ℕ) (fs : List FormulaId) → AreBelow n fs → AreB
 AreBelow-drop n zero fs h = h
 AreBelow-drop n (suc k) [] h = tt
 AreBelow-drop n (suc k) (f ∷ fs) h = AreBelow-drop n k fs h.1
-
--- a part of a list, as code takes it
-pub part_is : (first end : ℕ) (fs : List FormulaId) → first ≤ end → take (end - first) (drop first fs) ≡ drop first (take end fs)
-part_is first end fs h =
-    let whole : first + (end - first) ≡ end = omega arith in
-    sym (subst (λ n. drop first (take n fs) ≡ take (end - first) (drop first fs)) whole (drop-take first (end - first) fs))
 
 -- ---- the obligation at a number
 

@@ -11,10 +11,10 @@ ghost use Rattle.ss_search.specs.Found.{IsRefutedBy};
 ghost use Rattle.ss_sound.specs.Decided.{IsDerivedBy, IsCountered, IsOverBudget, IsSpentOn, IfDerived, IfRefuted, IfOver};
 
 use ss_check::{CheckStop, check};
-use ss_core::Classes;
+use ss_core::Core;
 use ss_deriv::Derivation;
 use ss_search::{Budget, Countermodel, Found, Options, Search};
-use ss_terms::{Bank, FormulaId};
+use ss_terms::{Bank, FormulaId, Obligation};
 use ss_vcgen::Listed;
 use std::alloc::{AllocFailed, Global};
 
@@ -47,52 +47,50 @@ impl<T: Drop> From<AllocFailed<T>> for Stop {
 fn accepted(
     alloc: Global,
     bank: &mut Bank,
-    classes: &Classes,
-    premises: &[FormulaId],
-    goal: FormulaId,
+    program: &Core,
+    obligation: &Obligation<'_>,
     derivation: Derivation,
 ) -> Result<Decision, Stop>
-    requires bank { IsBankOf (view.classes classes.now) bank.old }
-    requires limits { IsWithinLimits (view.classes classes.now) }
-    requires premises { HasFormulas bank.old premises.now }
-    requires goal { HasFormula bank.old goal }
-    ensures derived { IfDerived result (λ d. Derives (view.classes classes.now) (formulas_at bank.old premises.now) (formula_at bank.old goal) (lines_of bank.old d)) }
+    requires bank { IsBankOf (view.classes program.now.classes) bank.old }
+    requires limits { IsWithinLimits (view.classes program.now.classes) }
+    requires premises { HasFormulas bank.old obligation.now.premises.now }
+    requires goal { HasFormula bank.old obligation.now.goal }
+    ensures derived { IfDerived result (λ d. Derives (view.classes program.now.classes) (formulas_at bank.old obligation.now.premises.now) (formula_at bank.old obligation.now.goal) (lines_of bank.old d)) }
     ensures not_refuted { IfRefuted result (λ m. ⊥) }
     ensures not_over { IfOver result (λ budget. ⊥) }
     ensures grown { IsGrown bank.old bank.new }
 {
-    match check(alloc, bank, classes, premises, goal, &derivation) {
+    match check(alloc, bank, program, obligation, &derivation) {
         Ok(()) => Ok(Decision::Derived(derivation)),
         Err(CheckStop::BadStep { .. }) => Err(Stop::Lost),
         Err(CheckStop::Memory) => Err(Stop::Memory),
     }
 }
 
-// Searches for a derivation of the goal from the premises, and has it checked.
-fn decide_goal(
+// Searches for a derivation, and has it checked.
+fn decide_lent(
     alloc: Global,
     search: &mut Search,
     bank: &mut Bank,
-    classes: &Classes,
-    premises: &[FormulaId],
-    goal: FormulaId,
-    options: Options,
+    program: &Core,
+    obligation: &Obligation<'_>,
+    options: &Options,
 ) -> Result<Decision, Stop>
-    requires bank { IsBankOf (view.classes classes.now) bank.old }
-    requires limits { IsWithinLimits (view.classes classes.now) }
-    requires premises { HasFormulas bank.old premises.now }
-    requires goal { HasFormula bank.old goal }
-    ensures derived { IfDerived result (λ d. Derives (view.classes classes.now) (formulas_at bank.old premises.now) (formula_at bank.old goal) (lines_of bank.new d)) }
-    ensures refuted { IfRefuted result (IsRefutedBy (view.classes classes.now) options (formulas_at bank.old premises.now) (formula_at bank.old goal)) }
-    ensures over { IfOver result (IsSpentOn (view.classes classes.now) options (formulas_at bank.old premises.now) (formula_at bank.old goal)) }
+    requires bank { IsBankOf (view.classes program.now.classes) bank.old }
+    requires limits { IsWithinLimits (view.classes program.now.classes) }
+    requires premises { HasFormulas bank.old obligation.now.premises.now }
+    requires goal { HasFormula bank.old obligation.now.goal }
+    ensures derived { IfDerived result (λ d. Derives (view.classes program.now.classes) (formulas_at bank.old obligation.now.premises.now) (formula_at bank.old obligation.now.goal) (lines_of bank.new d)) }
+    ensures refuted { IfRefuted result (IsRefutedBy (view.classes program.now.classes) options.now (formulas_at bank.old obligation.now.premises.now) (formula_at bank.old obligation.now.goal)) }
+    ensures over { IfOver result (IsSpentOn (view.classes program.now.classes) options.now (formulas_at bank.old obligation.now.premises.now) (formula_at bank.old obligation.now.goal)) }
     ensures grown { IsGrown bank.old bank.new }
 {
-    match search.prove(bank, classes, premises, goal, options) {
+    match search.prove(bank, program, obligation, options) {
         Found::Memory => Err(Stop::Memory),
         Found::Lost => Err(Stop::Lost),
         Found::TooMany { limit } => Ok(Decision::Over(Budget::Instances(limit))),
         Found::Countered(model) => Ok(Decision::Refuted(model)),
-        Found::Proved(derivation) => accepted(alloc, bank, classes, premises, goal, derivation),
+        Found::Proved(derivation) => accepted(alloc, bank, program, obligation, derivation),
     }
 }
 
@@ -101,28 +99,20 @@ pub(crate) fn decide(
     alloc: Global,
     search: &mut Search,
     bank: &mut Bank,
-    classes: &Classes,
+    program: &Core,
     trail: &[FormulaId],
-    obligation: &Listed,
-    options: Options,
+    listed: &Listed,
+    options: &Options,
 ) -> Result<Decision, Stop>
-    requires bank { IsBankOf (view.classes classes.now) bank.old }
-    requires limits { IsWithinLimits (view.classes classes.now) }
+    requires bank { IsBankOf (view.classes program.now.classes) bank.old }
+    requires limits { IsWithinLimits (view.classes program.now.classes) }
     requires trail { HasFormulas bank.old trail.now }
-    requires placed { IsPlaced bank.old (length trail.now) obligation.now }
-    ensures derived { IfDerived result (λ d. IsDerivedBy (view.classes classes.now) (obligation_at bank.old trail.now obligation.now) (lines_of bank.new d)) }
-    ensures refuted { IfRefuted result (IsCountered (view.classes classes.now) options (obligation_at bank.old trail.now obligation.now)) }
-    ensures over { IfOver result (IsOverBudget (view.classes classes.now) options (obligation_at bank.old trail.now obligation.now)) }
+    requires placed { IsPlaced bank.old (length trail.now) listed.now }
+    ensures derived { IfDerived result (λ d. IsDerivedBy (view.classes program.now.classes) (obligation_at bank.old trail.now listed.now) (lines_of bank.new d)) }
+    ensures refuted { IfRefuted result (IsCountered (view.classes program.now.classes) options.now (obligation_at bank.old trail.now listed.now)) }
+    ensures over { IfOver result (IsOverBudget (view.classes program.now.classes) options.now (obligation_at bank.old trail.now listed.now)) }
     ensures grown { IsGrown bank.old bank.new }
 {
-    let premises = &trail[obligation.first..obligation.end];
-    decide_goal(
-        alloc,
-        search,
-        bank,
-        classes,
-        premises,
-        obligation.goal,
-        options,
-    )
+    let obligation = listed.obligation(trail);
+    decide_lent(alloc, search, bank, program, &obligation, options)
 }

@@ -13,7 +13,7 @@ ghost use Rattle.ss_sound.specs.Safe.{IsSafe};
 ghost use Rattle.ss_sound.specs.Verdicts.{AreDecided, IsUnproved, IsUndecided, IfVerified, IfUnproved, IfUndecided, derivations_of, derivations_in, countered_in, undecided_in};
 
 use crate::decision::{Decision, Stop, decide};
-use ss_core::{Classes, Core};
+use ss_core::Core;
 use ss_deriv::Derivation;
 use ss_search::{Countered, Options, Search, Undecided};
 use ss_terms::{Bank, FormulaId};
@@ -95,7 +95,7 @@ pub fn verify(
     alloc: Global,
     program: &Core,
     obligations: &mut Obligations,
-    options: Options,
+    options: &Options,
 ) -> Verdict
     requires formed { IsFormed (view.core program.now) }
     requires limits { IsWithinLimits (view.classes program.now.classes) }
@@ -104,12 +104,14 @@ pub fn verify(
     requires bank { IsBankOf (view.classes program.now.classes) obligations.old.bank }
     ensures derived { IfVerified result (λ ds. AreDerived (view.classes program.now.classes) (oblig.obligations (view.core program.now)) (derivations_of obligations.new.bank ds)) }
     ensures safe { IfVerified result (λ _. IsSafe (view.core program.now)) }
-    ensures unproved { IfUnproved result (IsUnproved (view.classes program.now.classes) options (oblig.obligations (view.core program.now))) }
-    ensures undecided { IfUndecided result (IsUndecided (view.classes program.now.classes) options (oblig.obligations (view.core program.now))) }
+    ensures unproved { IfUnproved result (IsUnproved (view.classes program.now.classes) options.now (oblig.obligations (view.core program.now))) }
+    ensures undecided { IfUndecided result (IsUndecided (view.classes program.now.classes) options.now (oblig.obligations (view.core program.now))) }
     ensures obligations { trees obligations.new ≡ trees obligations.old }
+    ensures list { obligations.new.list ≡ obligations.old.list }
+    ensures grown { IsGrown obligations.old.bank obligations.new.bank }
 {
     let Obligations { bank, trail, list } = obligations;
-    match decide_all(alloc, bank, &program.classes, trail, list, options) {
+    match decide_all(alloc, bank, program, trail, list, options) {
         Ok(decided) => decided.verdict(),
         Err(Stop::Lost) => Verdict::Lost,
         Err(Stop::Memory) => Verdict::Memory,
@@ -120,23 +122,23 @@ pub fn verify(
 fn decide_all(
     alloc: Global,
     bank: &mut Bank,
-    classes: &Classes,
+    program: &Core,
     trail: &[FormulaId],
     list: &[Listed],
-    options: Options,
+    options: &Options,
 ) -> Result<Decided, Stop>
-    requires bank { IsBankOf (view.classes classes.now) bank.old }
-    requires limits { IsWithinLimits (view.classes classes.now) }
+    requires bank { IsBankOf (view.classes program.now.classes) bank.old }
+    requires limits { IsWithinLimits (view.classes program.now.classes) }
     requires trail { HasFormulas bank.old trail.now }
     requires list { AreWithin bank.old (length trail.now) list.now }
-    ensures decided { IfOk result (λ d. AreDecided (view.classes classes.now) options (obligations_at bank.old trail.now list.now) (length list.now) d.countered.items d.undecided.items) }
-    ensures derived { IfOk result (λ d. d.countered.items ≡ [] → d.undecided.items ≡ [] → AreDerived (view.classes classes.now) (obligations_at bank.old trail.now list.now) (derivations_of bank.new d.derivations.items)) }
+    ensures decided { IfOk result (λ d. AreDecided (view.classes program.now.classes) options.now (obligations_at bank.old trail.now list.now) (length list.now) d.countered.items d.undecided.items) }
+    ensures derived { IfOk result (λ d. d.countered.items ≡ [] → d.undecided.items ≡ [] → AreDerived (view.classes program.now.classes) (obligations_at bank.old trail.now list.now) (derivations_of bank.new d.derivations.items)) }
     ensures grown { IsGrown bank.old bank.new }
 {
     let Ok(mut search) = Search::new(alloc, bank) else {
         return Err(Stop::Memory);
     };
-    decide_each(alloc, &mut search, bank, classes, trail, list, options)
+    decide_each(alloc, &mut search, bank, program, trail, list, options)
 }
 
 // The same, by a search over a bank that has all of them.
@@ -144,17 +146,17 @@ fn decide_each(
     alloc: Global,
     search: &mut Search,
     bank: &mut Bank,
-    classes: &Classes,
+    program: &Core,
     trail: &[FormulaId],
     list: &[Listed],
-    options: Options,
+    options: &Options,
 ) -> Result<Decided, Stop>
-    requires bank { IsBankOf (view.classes classes.now) bank.old }
-    requires limits { IsWithinLimits (view.classes classes.now) }
+    requires bank { IsBankOf (view.classes program.now.classes) bank.old }
+    requires limits { IsWithinLimits (view.classes program.now.classes) }
     requires trail { HasFormulas bank.old trail.now }
     requires list { AreWithin bank.old (length trail.now) list.now }
-    ensures decided { IfOk result (λ d. AreDecided (view.classes classes.now) options (obligations_at bank.old trail.now list.now) (length list.now) d.countered.items d.undecided.items) }
-    ensures derived { IfOk result (λ d. d.countered.items ≡ [] → d.undecided.items ≡ [] → AreDerived (view.classes classes.now) (obligations_at bank.old trail.now list.now) (derivations_of bank.new d.derivations.items)) }
+    ensures decided { IfOk result (λ d. AreDecided (view.classes program.now.classes) options.now (obligations_at bank.old trail.now list.now) (length list.now) d.countered.items d.undecided.items) }
+    ensures derived { IfOk result (λ d. d.countered.items ≡ [] → d.undecided.items ≡ [] → AreDerived (view.classes program.now.classes) (obligations_at bank.old trail.now list.now) (derivations_of bank.new d.derivations.items)) }
     ensures grown { IsGrown bank.old bank.new }
 {
     let mut decided = Decided {
@@ -162,8 +164,8 @@ fn decide_each(
         countered: Vec::new(alloc),
         undecided: Vec::new(alloc),
     };
-    for (number, obligation) in list.iter().enumerate() {
-        let decision = decide(alloc, search, bank, classes, trail, obligation, options)?;
+    for (number, listed) in list.iter().enumerate() {
+        let decision = decide(alloc, search, bank, program, trail, listed, options)?;
         decided.add(number, decision)?;
     }
     Ok(decided)

@@ -6,19 +6,23 @@ ghost use Rattle.ss_core.specs.Chain.{IsWithinLimits};
 ghost use Rattle.ss_terms.specs.Forms.{IsBankOf};
 
 use ss_check::check;
-use ss_core::Classes;
+use ss_core::{BodyId, Classes, Core, Kind, Place};
 use ss_deriv::{Draft, Line};
 use ss_logic::Sort;
 use ss_logic_rules::RuleName;
-use ss_terms::{Bank, FormulaId, Predicate, Symbol, TermId, field_sorts};
+use ss_terms::{Bank, FormulaId, Obligation, Predicate, Symbol, TermId, field_sorts};
 use std::alloc::{AllocError, Global};
 
-// No class is declared.
-fn no_class(alloc: Global) -> Classes
-    ensures { IsWithinLimits (view.classes result) }
+// No class is declared, and there is no body.
+fn no_class(alloc: Global) -> Core
+    ensures { IsWithinLimits (view.classes result.classes) }
 {
-    Classes {
-        list: Vec::new(alloc),
+    Core {
+        classes: Classes {
+            list: Vec::new(alloc),
+        },
+        bodies: Vec::new(alloc),
+        main: BodyId(0),
     }
 }
 
@@ -67,17 +71,24 @@ fn long(alloc: Global, count: usize, left: TermId, right: TermId) -> Result<Draf
 fn is_accepted(
     alloc: Global,
     bank: &mut Bank,
-    classes: &Classes,
+    program: &Core,
     goal: FormulaId,
     draft: Draft,
 ) -> bool
-    requires bank { IsBankOf (view.classes classes.now) bank.old }
-    requires limits { IsWithinLimits (view.classes classes.now) }
+    requires bank { IsBankOf (view.classes program.now.classes) bank.old }
+    requires limits { IsWithinLimits (view.classes program.now.classes) }
 {
     if !bank.has_formula(goal) || !draft.is_finished() {
         return false;
     }
-    check(alloc, bank, classes, &[goal], goal, &draft.finish()).is_ok()
+    let obligation = Obligation {
+        premises: &[goal],
+        goal,
+        kind: Kind::Assert,
+        place: Place { line: 1, column: 1 },
+        body: BodyId(0),
+    };
+    check(alloc, bank, program, &obligation, &draft.finish()).is_ok()
 }
 
 // That a truth value is true, and its term and that of `true`.
@@ -97,12 +108,12 @@ fn truth(bank: &mut Bank) -> Result<(FormulaId, TermId, TermId), AllocError>
 fn answer_to(
     alloc: Global,
     bank: &mut Bank,
-    classes: &Classes,
+    program: &Core,
     lines: usize,
     steps: usize,
 ) -> Result<bool, AllocError>
-    requires bank { IsBankOf (view.classes classes.now) bank.old }
-    requires limits { IsWithinLimits (view.classes classes.now) }
+    requires bank { IsBankOf (view.classes program.now.classes) bank.old }
+    requires limits { IsWithinLimits (view.classes program.now.classes) }
 {
     let (f, b, t) = truth(bank)?;
     let draft = if lines > 0 {
@@ -110,12 +121,12 @@ fn answer_to(
     } else {
         long(alloc, steps / 2, b, t)?
     };
-    Ok(is_accepted(alloc, bank, classes, f, draft))
+    Ok(is_accepted(alloc, bank, program, f, draft))
 }
 
 /// Whether the checker accepts a derivation of so many lines between three others; where there are none, one with a line of so many steps.
 pub fn are_accepted(alloc: Global, lines: usize, steps: usize) -> Result<bool, AllocError> {
-    let classes = no_class(alloc);
-    let mut bank = Bank::new(alloc, field_sorts(alloc, &classes)?);
-    answer_to(alloc, &mut bank, &classes, lines, steps)
+    let program = no_class(alloc);
+    let mut bank = Bank::new(alloc, field_sorts(alloc, &program.classes)?);
+    answer_to(alloc, &mut bank, &program, lines, steps)
 }

@@ -6,8 +6,10 @@ ghost use Rattle.ss_core.specs.View as view;
 ghost use Rattle.ss_core.specs.Chain.{IsWithinLimits};
 
 use ss_core::{
-    Class, ClassId, Classes, Expr, Field, FieldId, Link, Mark, Operator, Place, Step, Ty,
+    BodyId, Class, ClassId, Classes, Core, Expr, Field, FieldId, Kind, Link, Mark, Operator, Place,
+    Step, Ty,
 };
+use ss_terms::{FormulaId, Obligation};
 use std::alloc::{AllocError, Global};
 
 fn reference(class: u16, non_null: bool) -> Ty {
@@ -76,11 +78,29 @@ fn fill(alloc: Global, list: &mut Vec<Class>) -> Result<(), AllocError> {
     add(alloc, list, 0, &[ClassId(8)], &[], Vec::new(alloc))
 }
 
-/// The classes.
-pub fn program(alloc: Global) -> Result<Classes, AllocError> {
+/// The classes, in a program without bodies.
+pub fn program(alloc: Global) -> Result<Core, AllocError> {
     let mut list = Vec::new(alloc);
     fill(alloc, &mut list)?;
-    Ok(Classes { list })
+    Ok(Core {
+        classes: Classes { list },
+        bodies: Vec::new(alloc),
+        main: BodyId(0),
+    })
+}
+
+/// The goal, where the premises are true. What the check is about doesn't matter.
+pub fn obligation<'o>(premises: &'o [FormulaId], goal: FormulaId) -> Obligation<'o>
+    ensures premises { result.premises.now ≡ premises.now }
+    ensures goal { result.goal ≡ goal }
+{
+    Obligation {
+        premises,
+        goal,
+        kind: Kind::Assert,
+        place: Place { line: 1, column: 1 },
+        body: BodyId(0),
+    }
 }
 
 fn has_few_fields(class: &Class) -> bool

@@ -5,12 +5,12 @@ ghost use Rattle.ss_core.specs.View as view;
 ghost use Rattle.ss_core.specs.Chain.{IsWithinLimits};
 ghost use Rattle.ss_terms.specs.Forms.{IsBankOf};
 
-use crate::classes::{are_few, program};
+use crate::classes::{are_few, obligation, program};
 use crate::derived::{ACCEPTED, REFUSED, UNFINISHED};
 use crate::lines::{first_word, read_line};
 use crate::reader::{Reader, has_formulas};
 use ss_check::{CheckStop, check};
-use ss_core::Classes;
+use ss_core::Core;
 use ss_deriv::{Draft, Line};
 use ss_terms::{Bank, FormulaId, field_sorts};
 use std::alloc::{AllocError, Global};
@@ -132,14 +132,9 @@ pub fn read_formula(
 }
 
 // What is said of the row.
-fn answer_to(
-    alloc: Global,
-    bank: &mut Bank,
-    classes: &Classes,
-    row: Row,
-) -> Result<Answer, AllocError>
-    requires bank { IsBankOf (view.classes classes.now) bank.old }
-    requires limits { IsWithinLimits (view.classes classes.now) }
+fn answer_to(alloc: Global, bank: &mut Bank, program: &Core, row: Row) -> Result<Answer, AllocError>
+    requires bank { IsBankOf (view.classes program.now.classes) bank.old }
+    requires limits { IsWithinLimits (view.classes program.now.classes) }
     ensures { bank.new.fields ≡ bank.old.fields }
 {
     let Row {
@@ -158,7 +153,8 @@ fn answer_to(
     if !is_shaped || !draft.is_finished() {
         return Ok(Answer::Unfinished);
     }
-    match check(alloc, bank, classes, &premises, *goal, &draft.finish()) {
+    let obligation = obligation(&premises, *goal);
+    match check(alloc, bank, program, &obligation, &draft.finish()) {
         Ok(()) => Ok(Answer::Accepted),
         Err(CheckStop::BadStep { at }) => Ok(Answer::Refused { at }),
         Err(CheckStop::Memory) => Err(AllocError),
@@ -169,11 +165,11 @@ fn answer_to(
 fn first_other(
     alloc: Global,
     bank: &mut Bank,
-    classes: &Classes,
+    program: &Core,
     text: &str,
 ) -> Result<Option<usize>, AllocError>
-    requires bank { IsBankOf (view.classes classes.now) bank.old }
-    requires limits { IsWithinLimits (view.classes classes.now) }
+    requires bank { IsBankOf (view.classes program.now.classes) bank.old }
+    requires limits { IsWithinLimits (view.classes program.now.classes) }
     ensures { bank.new.fields ≡ bank.old.fields }
 {
     let mut row = Row::new(alloc);
@@ -183,7 +179,7 @@ fn first_other(
         }
         match named_answer(line) {
             Some(wanted) => {
-                if answer_to(alloc, bank, classes, row)? != wanted {
+                if answer_to(alloc, bank, program, row)? != wanted {
                     return Ok(Some(number));
                 }
                 row = Row::new(alloc);
@@ -197,24 +193,24 @@ fn first_other(
 fn first_others(
     alloc: Global,
     bank: &mut Bank,
-    classes: &Classes,
+    program: &Core,
 ) -> Result<[Option<usize>; 3], AllocError>
-    requires bank { IsBankOf (view.classes classes.now) bank.old }
-    requires limits { IsWithinLimits (view.classes classes.now) }
+    requires bank { IsBankOf (view.classes program.now.classes) bank.old }
+    requires limits { IsWithinLimits (view.classes program.now.classes) }
 {
-    let accepted = first_other(alloc, bank, classes, ACCEPTED)?;
-    let refused = first_other(alloc, bank, classes, REFUSED)?;
-    let unfinished = first_other(alloc, bank, classes, UNFINISHED)?;
+    let accepted = first_other(alloc, bank, program, ACCEPTED)?;
+    let refused = first_other(alloc, bank, program, REFUSED)?;
+    let unfinished = first_other(alloc, bank, program, UNFINISHED)?;
     Ok([accepted, refused, unfinished])
 }
 
 #[test]
 fn derivations_have_their_answers(rt: HostRuntime) -> Result<(), Fail> {
     let alloc = rt.alloc();
-    let classes = program(alloc)?;
-    assert!(rt; are_few(&classes));
-    let mut bank = Bank::new(alloc, field_sorts(alloc, &classes)?);
-    let others = first_others(alloc, &mut bank, &classes)?;
+    let program = program(alloc)?;
+    assert!(rt; are_few(&program.classes));
+    let mut bank = Bank::new(alloc, field_sorts(alloc, &program.classes)?);
+    let others = first_others(alloc, &mut bank, &program)?;
     assert_eq!(rt; others, [None, None, None]);
     Ok(())
 }

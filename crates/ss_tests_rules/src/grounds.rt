@@ -5,12 +5,12 @@ ghost use Rattle.ss_core.specs.View as view;
 ghost use Rattle.ss_core.specs.Chain.{IsWithinLimits};
 ghost use Rattle.ss_terms.specs.Forms.{IsBankOf};
 
-use crate::classes::{are_few, program};
+use crate::classes::{are_few, obligation, program};
 use crate::derivations::read_formula;
 use crate::lines::first_word;
 use crate::reader::has_formulas;
-use ss_core::Classes;
-use ss_rules_ground::{GroundForm, ground};
+use ss_core::Core;
+use ss_rules::{GroundStop, ground};
 use ss_terms::{Bank, FormulaId, field_sorts};
 use std::alloc::{AllocError, Global};
 use std::test::Fail;
@@ -85,13 +85,13 @@ impl Asked {
 fn listed(
     alloc: Global,
     bank: &mut Bank,
-    classes: &Classes,
+    program: &Core,
     asked: &Asked,
-    rounds: usize,
-    limit: usize,
+    rounds: u8,
+    limit: u32,
 ) -> Result<Option<Vec<FormulaId>>, AllocError>
-    requires bank { IsBankOf (view.classes classes.now) bank.old }
-    requires limits { IsWithinLimits (view.classes classes.now) }
+    requires bank { IsBankOf (view.classes program.now.classes) bank.old }
+    requires limits { IsWithinLimits (view.classes program.now.classes) }
     ensures { bank.new.fields ≡ bank.old.fields }
 {
     let premises = asked.premises.as_slice();
@@ -101,9 +101,11 @@ fn listed(
     if !has_formulas(bank, premises) || !bank.has_formula(*goal) {
         return Ok(None);
     }
-    match ground(alloc, bank, classes, premises, *goal, rounds, limit)? {
-        GroundForm::Formulas(list) => Ok(Some(list)),
-        GroundForm::TooMany => Ok(None),
+    let obligation = obligation(premises, *goal);
+    match ground(alloc, bank, program, &obligation, rounds, limit) {
+        Ok(list) => Ok(Some(list)),
+        Err(GroundStop::TooMany { .. }) => Ok(None),
+        Err(GroundStop::Memory) => Err(AllocError),
     }
 }
 
@@ -111,30 +113,26 @@ fn listed(
 fn is_so(
     alloc: Global,
     bank: &mut Bank,
-    classes: &Classes,
+    program: &Core,
     asked: &Asked,
-    rounds: usize,
+    rounds: u8,
 ) -> Result<bool, AllocError>
-    requires bank { IsBankOf (view.classes classes.now) bank.old }
-    requires limits { IsWithinLimits (view.classes classes.now) }
+    requires bank { IsBankOf (view.classes program.now.classes) bank.old }
+    requires limits { IsWithinLimits (view.classes program.now.classes) }
     ensures { bank.new.fields ≡ bank.old.fields }
 {
-    let count = asked.wanted.len();
-    let fewer = listed(alloc, bank, classes, asked, rounds, count.saturating_sub(1))?;
-    match listed(alloc, bank, classes, asked, rounds, count)? {
+    let count = u32::try_from(asked.wanted.len()).unwrap_or(0);
+    let fewer = listed(alloc, bank, program, asked, rounds, count.saturating_sub(1))?;
+    match listed(alloc, bank, program, asked, rounds, count)? {
         Some(list) => Ok(fewer.is_none() && list.as_slice() == asked.wanted.as_slice()),
         None => Ok(false),
     }
 }
 
 // The line of the first ground form that is another one, from 0.
-fn first_other(
-    alloc: Global,
-    bank: &mut Bank,
-    classes: &Classes,
-) -> Result<Option<usize>, AllocError>
-    requires bank { IsBankOf (view.classes classes.now) bank.old }
-    requires limits { IsWithinLimits (view.classes classes.now) }
+fn first_other(alloc: Global, bank: &mut Bank, program: &Core) -> Result<Option<usize>, AllocError>
+    requires bank { IsBankOf (view.classes program.now.classes) bank.old }
+    requires limits { IsWithinLimits (view.classes program.now.classes) }
     ensures { bank.new.fields ≡ bank.old.fields }
 {
     let mut asked = Asked::new(alloc);
@@ -144,8 +142,8 @@ fn first_other(
             "" => asked = Asked::new(alloc),
             "#" => {}
             "after" => {
-                let rounds = rest.parse::<usize>().unwrap_or(0);
-                if !is_so(alloc, bank, classes, &asked, rounds)? {
+                let rounds = rest.parse::<u8>().unwrap_or(0);
+                if !is_so(alloc, bank, program, &asked, rounds)? {
                     return Ok(Some(number));
                 }
             }
@@ -161,9 +159,9 @@ fn first_other(
 #[test]
 fn ground_forms_are_as_counted(rt: HostRuntime) -> Result<(), Fail> {
     let alloc = rt.alloc();
-    let classes = program(alloc)?;
-    assert!(rt; are_few(&classes));
-    let mut bank = Bank::new(alloc, field_sorts(alloc, &classes)?);
-    assert_eq!(rt; first_other(alloc, &mut bank, &classes)?, None);
+    let program = program(alloc)?;
+    assert!(rt; are_few(&program.classes));
+    let mut bank = Bank::new(alloc, field_sorts(alloc, &program.classes)?);
+    assert_eq!(rt; first_other(alloc, &mut bank, &program)?, None);
     Ok(())
 }

@@ -9,8 +9,9 @@ use crate::classes::{are_few, program};
 use crate::reader::{Reader, has_terms};
 use crate::rows::{FITTING, OTHERS, WRONG};
 use crate::words::{free_rule, good_rule};
-use ss_core::Classes;
-use ss_rules_instances::{good_instance, instance};
+use ss_core::Core;
+use ss_rules::instance;
+use ss_rules_instances::good_instance;
 use ss_terms::{Bank, FormulaId, TermId, field_sorts};
 use std::alloc::{AllocError, Global};
 use std::test::Fail;
@@ -19,21 +20,21 @@ use std::test::Fail;
 fn said(
     alloc: Global,
     bank: &mut Bank,
-    classes: &Classes,
+    program: &Core,
     word: &str,
     arguments: &[TermId],
 ) -> Result<Option<FormulaId>, AllocError>
-    requires bank { IsBankOf (view.classes classes.now) bank.old }
-    requires limits { IsWithinLimits (view.classes classes.now) }
+    requires bank { IsBankOf (view.classes program.now.classes) bank.old }
+    requires limits { IsWithinLimits (view.classes program.now.classes) }
     requires arguments { HasTerms bank.old arguments.now }
     ensures { bank.new.fields ≡ bank.old.fields }
 {
     if let Some(rule) = free_rule(word) {
-        return instance(alloc, bank, classes, rule, arguments);
+        return instance(alloc, bank, program, rule, arguments);
     }
     match (good_rule(word), arguments) {
         (Some(rule), [store, rest @ ..]) => {
-            good_instance(alloc, bank, classes, rule, *store, rest)
+            good_instance(alloc, bank, &program.classes, rule, *store, rest)
         }
         _ => Ok(None),
     }
@@ -43,11 +44,11 @@ fn said(
 fn says(
     alloc: Global,
     bank: &mut Bank,
-    classes: &Classes,
+    program: &Core,
     line: &str,
 ) -> Result<Option<bool>, AllocError>
-    requires bank { IsBankOf (view.classes classes.now) bank.old }
-    requires limits { IsWithinLimits (view.classes classes.now) }
+    requires bank { IsBankOf (view.classes program.now.classes) bank.old }
+    requires limits { IsWithinLimits (view.classes program.now.classes) }
     ensures { bank.new.fields ≡ bank.old.fields }
 {
     let Some((left, sentence)) = line.split_once(':') else {
@@ -62,7 +63,7 @@ fn says(
     if !given.is_read || !has_terms(bank, arguments) {
         return Ok(None);
     }
-    let made = said(alloc, bank, classes, word, arguments)?;
+    let made = said(alloc, bank, program, word, arguments)?;
     let mut wanted = Reader::new(alloc, arguments.get(1).copied());
     wanted.read(alloc, bank, sentence)?;
     if !wanted.is_read {
@@ -75,16 +76,16 @@ fn says(
 fn first_other(
     alloc: Global,
     bank: &mut Bank,
-    classes: &Classes,
+    program: &Core,
     lines: &str,
     wanted: bool,
 ) -> Result<Option<usize>, AllocError>
-    requires bank { IsBankOf (view.classes classes.now) bank.old }
-    requires limits { IsWithinLimits (view.classes classes.now) }
+    requires bank { IsBankOf (view.classes program.now.classes) bank.old }
+    requires limits { IsWithinLimits (view.classes program.now.classes) }
     ensures { bank.new.fields ≡ bank.old.fields }
 {
     for (number, line) in lines.lines().enumerate() {
-        if !line.is_empty() && says(alloc, bank, classes, line)? != Some(wanted) {
+        if !line.is_empty() && says(alloc, bank, program, line)? != Some(wanted) {
             return Ok(Some(number));
         }
     }
@@ -95,24 +96,24 @@ fn first_other(
 fn first_others(
     alloc: Global,
     bank: &mut Bank,
-    classes: &Classes,
+    program: &Core,
 ) -> Result<[Option<usize>; 3], AllocError>
-    requires bank { IsBankOf (view.classes classes.now) bank.old }
-    requires limits { IsWithinLimits (view.classes classes.now) }
+    requires bank { IsBankOf (view.classes program.now.classes) bank.old }
+    requires limits { IsWithinLimits (view.classes program.now.classes) }
 {
-    let fitting = first_other(alloc, bank, classes, FITTING, true)?;
-    let others = first_other(alloc, bank, classes, OTHERS, true)?;
-    let wrong = first_other(alloc, bank, classes, WRONG, false)?;
+    let fitting = first_other(alloc, bank, program, FITTING, true)?;
+    let others = first_other(alloc, bank, program, OTHERS, true)?;
+    let wrong = first_other(alloc, bank, program, WRONG, false)?;
     Ok([fitting, others, wrong])
 }
 
 #[test]
 fn rules_say_their_sentences(rt: HostRuntime) -> Result<(), Fail> {
     let alloc = rt.alloc();
-    let classes = program(alloc)?;
-    assert!(rt; are_few(&classes));
-    let mut bank = Bank::new(alloc, field_sorts(alloc, &classes)?);
-    let others = first_others(alloc, &mut bank, &classes)?;
+    let program = program(alloc)?;
+    assert!(rt; are_few(&program.classes));
+    let mut bank = Bank::new(alloc, field_sorts(alloc, &program.classes)?);
+    let others = first_others(alloc, &mut bank, &program)?;
     assert_eq!(rt; others, [None, None, None]);
     Ok(())
 }

@@ -3,17 +3,17 @@
 ghost use Rattle.std.specs.Prelude.{◌≡◌};
 ghost use Rattle.ss_core.specs.View as view;
 ghost use Rattle.ss_core.specs.Chain.{IsWithinLimits};
-ghost use Rattle.ss_terms.specs.Forms.{HasFormula, HasFormulas, IsBankOf};
+ghost use Rattle.ss_terms.specs.Forms.{IsBankOf};
 
-use crate::classes::{are_few, program};
+use crate::classes::{are_few, obligation, program};
 use crate::derivations::read_formula;
 use crate::lines::first_word;
 use crate::reader::has_formulas;
 use ss_check::check;
-use ss_core::Classes;
+use ss_core::Core;
 use ss_deriv::{Derivation, Line};
-use ss_search::{Found, Options, Search};
-use ss_terms::{Bank, FormulaId, field_sorts};
+use ss_search::{Found, Options, prove};
+use ss_terms::{Bank, FormulaId, Obligation, field_sorts};
 use std::alloc::{AllocError, Global};
 use std::test::Fail;
 
@@ -138,19 +138,18 @@ fn denies(derivation: &Derivation) -> bool {
 fn accepted(
     alloc: Global,
     bank: &mut Bank,
-    classes: &Classes,
-    premises: &[FormulaId],
-    goal: FormulaId,
+    program: &Core,
+    obligation: &Obligation<'_>,
     derivation: &Derivation,
 ) -> Answer
-    requires bank { IsBankOf (view.classes classes.now) bank.old }
-    requires limits { IsWithinLimits (view.classes classes.now) }
+    requires bank { IsBankOf (view.classes program.now.classes) bank.old }
+    requires limits { IsWithinLimits (view.classes program.now.classes) }
     ensures { bank.new.fields ≡ bank.old.fields }
 {
-    if !has_formulas(bank, premises) || !bank.has_formula(goal) {
+    if !has_formulas(bank, obligation.premises) || !bank.has_formula(obligation.goal) {
         return Answer::Other;
     }
-    match check(alloc, bank, classes, premises, goal, derivation) {
+    match check(alloc, bank, program, obligation, derivation) {
         Ok(()) if denies(derivation) => Answer::Proved,
         Ok(()) => Answer::Absurd,
         Err(_) => Answer::Other,
@@ -158,66 +157,55 @@ fn accepted(
 }
 
 // Searches once.
-fn search_for(
-    alloc: Global,
-    bank: &mut Bank,
-    classes: &Classes,
-    premises: &[FormulaId],
-    goal: FormulaId,
-) -> Result<Found, AllocError>
-    requires bank { IsBankOf (view.classes classes.now) bank.old }
-    requires limits { IsWithinLimits (view.classes classes.now) }
+fn search_for(alloc: Global, bank: &mut Bank, program: &Core, obligation: &Obligation<'_>) -> Found
+    requires bank { IsBankOf (view.classes program.now.classes) bank.old }
+    requires limits { IsWithinLimits (view.classes program.now.classes) }
     ensures { bank.new.fields ≡ bank.old.fields }
 {
-    let mut search = Search::new(alloc, bank)?;
-    if !has_formulas(bank, premises) || !bank.has_formula(goal) {
-        return Ok(Found::Lost);
+    if !has_formulas(bank, obligation.premises) || !bank.has_formula(obligation.goal) {
+        return Found::Lost;
     }
     let options = Options {
         rounds: 2,
+        splits: 200_000,
         instances: 50_000,
     };
-    Ok(search.prove(bank, classes, premises, goal, options))
+    prove(alloc, bank, program, obligation, &options)
 }
 
 fn answer_to(
     alloc: Global,
     bank: &mut Bank,
-    classes: &Classes,
+    program: &Core,
     asked: &Asked,
 ) -> Result<Answer, AllocError>
-    requires bank { IsBankOf (view.classes classes.now) bank.old }
-    requires limits { IsWithinLimits (view.classes classes.now) }
+    requires bank { IsBankOf (view.classes program.now.classes) bank.old }
+    requires limits { IsWithinLimits (view.classes program.now.classes) }
     ensures { bank.new.fields ≡ bank.old.fields }
 {
     let premises = asked.premises.as_slice();
     let [goal] = asked.goals.as_slice() else {
         return Ok(Answer::Other);
     };
-    match search_for(alloc, bank, classes, premises, *goal)? {
-        Found::Proved(derivation) => {
-            Ok(accepted(alloc, bank, classes, premises, *goal, &derivation))
-        }
+    let obligation = obligation(premises, *goal);
+    match search_for(alloc, bank, program, &obligation) {
+        Found::Proved(derivation) => Ok(accepted(alloc, bank, program, &obligation, &derivation)),
         Found::Countered(_) => Ok(Answer::Countered),
         _ => Ok(Answer::Other),
     }
 }
 
 // The line of the first answer that isn't the one that is given, from 0.
-fn first_other(
-    alloc: Global,
-    bank: &mut Bank,
-    classes: &Classes,
-) -> Result<Option<usize>, AllocError>
-    requires bank { IsBankOf (view.classes classes.now) bank.old }
-    requires limits { IsWithinLimits (view.classes classes.now) }
+fn first_other(alloc: Global, bank: &mut Bank, program: &Core) -> Result<Option<usize>, AllocError>
+    requires bank { IsBankOf (view.classes program.now.classes) bank.old }
+    requires limits { IsWithinLimits (view.classes program.now.classes) }
     ensures { bank.new.fields ≡ bank.old.fields }
 {
     let mut asked = Asked::new(alloc);
     for (number, line) in FOUND.lines().enumerate() {
         match named_answer(line) {
             Some(wanted) => {
-                if answer_to(alloc, bank, classes, &asked)? != wanted {
+                if answer_to(alloc, bank, program, &asked)? != wanted {
                     return Ok(Some(number));
                 }
                 asked = Asked::new(alloc);
@@ -231,9 +219,9 @@ fn first_other(
 #[test]
 fn obligations_are_decided(rt: HostRuntime) -> Result<(), Fail> {
     let alloc = rt.alloc();
-    let classes = program(alloc)?;
-    assert!(rt; are_few(&classes));
-    let mut bank = Bank::new(alloc, field_sorts(alloc, &classes)?);
-    assert!(rt; first_other(alloc, &mut bank, &classes)?.is_none());
+    let program = program(alloc)?;
+    assert!(rt; are_few(&program.classes));
+    let mut bank = Bank::new(alloc, field_sorts(alloc, &program.classes)?);
+    assert!(rt; first_other(alloc, &mut bank, &program)?.is_none());
     Ok(())
 }

@@ -68,7 +68,7 @@ pub record IsToldVerified (old new : Option (List ℕ)) (source : List ℕ) : Ty
 
 -- how far obligations are searched
 abbrev pub options : Options
-options = record { rounds = 2; instances = 50000 }
+options = record { rounds = 2; splits = 200000; instances = 50000 }
 
 -- The first of the listed obligations are refuted by their models, the others have too many instances, and all that aren't listed are
 -- valid. The sink took exactly the text of the verdict.

@@ -33,6 +33,7 @@ use std::alloc::Global;
 // How far obligations are searched.
 const OPTIONS: Options = Options {
     rounds: 2,
+    splits: 200_000,
     instances: 50_000,
 };
 
@@ -139,7 +140,7 @@ fn answer_program<S: Sink>(
     let Ok(mut obligations) = obligations(alloc, program) else {
         return Status::Memory;
     };
-    match verify(alloc, program, &mut obligations, OPTIONS) {
+    match verify(alloc, program, &mut obligations, &OPTIONS) {
         Verdict::Verified(_) => answer_safe(alloc, goal, asked, source, program, out),
         Verdict::Unproved {
             countered,

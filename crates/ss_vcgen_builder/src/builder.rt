@@ -1,6 +1,6 @@
 // A list of obligations under construction.
 
-ghost use Rattle.std.specs.Prelude.{IfOk, OnOk};
+ghost use Rattle.std.specs.Prelude.{◌≡◌, ◌≤◌, IfOk, OnOk, length, take, drop};
 ghost use Rattle.ss_terms.specs.Forms.{formula_at, formulas_at, HasFormula, HasFormulas};
 ghost use Rattle.ss_vcgen_heaps.specs.Positions as spec;
 ghost use Rattle.ss_vcgen_express.specs.Numbers.{IsFormula};
@@ -8,7 +8,7 @@ ghost use Rattle.ss_vcgen_builder.specs.Builder.{guard_of, listing, position_at,
 
 use crate::guard::{Guard, under};
 use ss_core::{Body, BodyId, Core, Kind, Place, Ty};
-use ss_terms::{Bank, FormulaId, TermId};
+use ss_terms::{Bank, FormulaId, Obligation, TermId};
 use ss_vcgen_known::Known;
 use std::alloc::{AllocError, Global};
 
@@ -35,6 +35,27 @@ pub struct Listed {
     pub place: Place,
     /// The body that the check stands in.
     pub body: BodyId,
+}
+
+impl Listed {
+    /// What has to be shown, with the premises that the trail lends.
+    pub fn obligation<'o>(&self, trail: &'o [FormulaId]) -> Obligation<'o>
+        requires first { self.now.first ≤ self.now.end }
+        requires end { self.now.end ≤ length trail.now }
+        ensures premises { result.premises.now ≡ drop self.now.first (take self.now.end trail.now) }
+        ensures goal { result.goal ≡ self.now.goal }
+        ensures kind { result.kind ≡ self.now.kind }
+        ensures place { result.place ≡ self.now.place }
+        ensures body { result.body ≡ self.now.body }
+    {
+        Obligation {
+            premises: &trail[self.first..self.end],
+            goal: self.goal,
+            kind: self.kind,
+            place: self.place,
+            body: self.body,
+        }
+    }
 }
 
 /// The body that is walked over, the types of its locals, its number, and the store at its entry.

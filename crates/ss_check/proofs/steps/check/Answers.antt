@@ -6,5 +6,5 @@ use Rattle.ss_check.proofs.steps.check.Goals as goal
 
 pub returns-clause-refused : goal.returns-clause-refused
 returns-clause-refused c = λ n e d.
-    bad-not_derived (classes c.args.classes.now) (formulas_at c.args.bank.now c.args.premises.now) (formula_at c.args.bank.now c.args.goal) (lines_of c.args.bank.now c.args.derivation.now) n
-    (rw c.lines.ensures at (c.check_lines.ensures.first n e)) d
+    bad-not_derived (classes c.args.program.now.classes) (formulas_at c.args.bank.now c.args.obligation.now.premises.now) (formula_at c.args.bank.now c.args.obligation.now.goal) (lines_of c.args.bank.now c.args.derivation.now) n
+    (rw c.lines-lines.ensures at (c.check_lines.ensures.first n e)) d

@@ -13,6 +13,6 @@ countermodel-requires c = HasFormulas-grown c.args.bank.now c.find_candidate.new
 pub returns-in-Ok-Some-countermodel-clause-countered : goal.returns-in-Ok-Some-countermodel-clause-countered
 returns-in-Ok-Some-countermodel-clause-countered c =
     let fs = formulas_at c.find_candidate.new.bank c.args.formulas.now in
-    let refutes = subst (λ (o : Option Countermodel). IfSome o (λ m. Refutes (model_of fs m.classes.items m.truths.items) fs)) c.in-Ok-Some-countermodel.field-0-is c.in-Ok-Some-countermodel.ensures in
-    subst (λ (gs : List Formula). Refutes (model_of gs c.in-Ok-Some-countermodel.model.classes.items c.in-Ok-Some-countermodel.model.truths.items) gs)
+    let refutes = subst (λ (o : Option Countermodel). IfSome o (λ m. Refutes (model_of fs m.classes.items m.truth.items) fs)) c.in-Ok-Some-countermodel.field-0-is c.in-Ok-Some-countermodel.ensures in
+    subst (λ (gs : List Formula). Refutes (model_of gs c.in-Ok-Some-countermodel.model.classes.items c.in-Ok-Some-countermodel.model.truth.items) gs)
     (formulas_at-grown c.args.bank.now c.find_candidate.new.bank c.find_candidate.ensures.grown c.args.formulas.now c.requires) refutes

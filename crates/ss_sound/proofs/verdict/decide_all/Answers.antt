@@ -5,10 +5,10 @@ use Rattle.ss_sound.proofs.Lists.{within_later, decided_before, derived_before}
 use Rattle.ss_sound.proofs.verdict.decide_all.Goals as goal
 
 pub returns-clause-decided : goal.returns-clause-decided
-returns-clause-decided c = decided_before (classes c.args.classes.now) c.args.options c.decide_each.result c.args.bank.now c.new.new.bank c.args.trail.now c.args.list.now (length c.args.list.now) c.new.ensures c.requires.trail c.requires.list c.decide_each.ensures.decided
+returns-clause-decided c = decided_before (classes c.args.program.now.classes) c.args.options.now c.decide_each.result c.args.bank.now c.new.new.bank c.args.trail.now c.args.list.now (length c.args.list.now) c.new.ensures c.requires.trail c.requires.list c.decide_each.ensures.decided
 
 pub returns-clause-derived : goal.returns-clause-derived
-returns-clause-derived c = derived_before (classes c.args.classes.now) c.args.options c.decide_each.result c.args.bank.now c.new.new.bank c.decide_each.new.bank c.args.trail.now c.args.list.now c.new.ensures c.requires.trail c.requires.list c.decide_each.ensures.derived
+returns-clause-derived c = derived_before (classes c.args.program.now.classes) c.args.options.now c.decide_each.result c.args.bank.now c.new.new.bank c.decide_each.new.bank c.args.trail.now c.args.list.now c.new.ensures c.requires.trail c.requires.list c.decide_each.ensures.derived
 
 pub decide_each-requires-clause-trail : goal.decide_each-requires-clause-trail
 decide_each-requires-clause-trail c = HasFormulas-grown c.args.bank.now c.new.new.bank c.new.ensures c.args.trail.now c.requires.trail
