@@ -72,7 +72,7 @@ fn are_expected(
 /// The words of a case. Where it says only that its source is read, `expand` answers it: all commands refuse the same sources.
 fn words_of(alloc: Global, case: &Case) -> Result<Vec<String>, AllocError> {
     let mut words = Vec::new(alloc);
-    if let Expected::Read = case.expected {
+    if matches!(case.expected, Expected::Read) {
         words.push(String::from_str(alloc, "expand")?)?;
         words.push(String::from_str(alloc, "FILE")?)?;
         return Ok(words);
