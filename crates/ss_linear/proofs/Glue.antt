@@ -1,0 +1,229 @@
+-- What is read of facts.
+use Rattle.std.proofs.Common.{◌≡◌, ◌≢◌, ◌⊎◌, inl, inr, ⊎_elim, ℕ, zero, suc, ◌+◌, ◌<◌, ◌≤◌, ℤ, pos, negsuc, ◌+ℤ◌, ◌-ℤ◌, ◌*ℤ◌, ◌<ℤ◌, List, [], ◌∷◌, ◌++◌, length, get_or, take, map, Bool, true, false, ◌&&◌, ◌||◌, Option, Some, None, refl, sym, ◌∙◌, ap, subst, arith}
+use Rattle.std.specs.Prelude.{slice_get, if◌then◌else◌, IfSome, IfNone, option_and_then}
+use Rattle.std.specs.List.{All, AllZip}
+use Rattle.std.proofs.lemmas.Int.{ints}
+use Rattle.std.proofs.lemmas.List.{take_more}
+use Rattle.std.proofs.lemmas.List.Elements.{All-append}
+use borrow.Author.Differences.{product_is}
+use Rattle.ss_core.specs.Tree.{ClassTree}
+use Rattle.ss_logic.specs.Terms.{Term}
+use Rattle.ss_logic.specs.Formulas.{Formula}
+use Rattle.ss_logic.specs.Equal.{same_term}
+use Rattle.ss_logic_sums.specs.Sums as sums
+use Rattle.ss_logic_sums.specs.Sums.{is_zero, sum_fact_of}
+use Rattle.ss_logic_sums.proofs.Numbers.{one_times, times_zero, zero_is}
+use Rattle.ss_terms.specs.declared.forms.FormulaId.{FormulaId}
+use Rattle.ss_terms.specs.Forms.{Forms, term_at, formula_at, formulas_at, HasFormula, HasFormulas, AreBelow}
+use Rattle.ss_linear_sums.specs.declared.forms.Part.{Part}
+use Rattle.ss_linear_sums.specs.declared.forms.SumFact.{SumFact}
+use Rattle.ss_linear_sums.specs.Linear as linear
+use Rattle.ss_linear_sums.specs.Linear.{HasParts, IsFactOf}
+use Rattle.ss_linear_rules.specs.Two.{is_one, is_less_one, parts_left, are_apart, is_difference, fact_at}
+use Rattle.ss_linear_rules.specs.Few.{AreZero, one_at}
+use Rattle.ss_linear_rules.specs.Valued.{parts_at}
+use Rattle.ss_linear_rules.specs.Nodes.{end_value}
+use Rattle.ss_linear.specs.Contradictions.{said, HaveParts, AreRead, AreEnds}
+use Rattle.ss_linear.specs.declared.ends.Ends.{Ends}
+
+mapped_more : {A B : Type 0} (f : A → B) (xs : List A) (i : ℕ) (d : A) → i < length xs → map f (take (i + 1) xs) ≡ map f (take i xs) ++ f (get_or xs i d) ∷ []
+mapped_more f xs i d l = ap (map f) (take_more xs i d l) ∙ pushed f (take i xs) (get_or xs i d)
+  where
+    pushed : {A B : Type 0} (f : A → B) (xs : List A) (x : A) → map f (xs ++ x ∷ []) ≡ map f xs ++ f x ∷ []
+    pushed f [] x = refl
+    pushed f (y ∷ xs) x = ap (λ r. f y ∷ r) (pushed f xs x)
+
+zip_pushed : {A B : Type 0} (R : A → B → Type 0) (xs : List A) (ys : List B) (x : A) (y : B) → AllZip R xs ys → R x y → AllZip R (xs ++ x ∷ []) (ys ++ y ∷ [])
+zip_pushed R [] [] x y h k = (k, tt)
+zip_pushed R [] (b ∷ ys) x y h k = absurd h
+zip_pushed R (a ∷ xs) [] x y h k = absurd h
+zip_pushed R (a ∷ xs) (b ∷ ys) x y h k = (h.0, zip_pushed R xs ys x y h.1 k)
+
+pub empty_is : {A : Type 0} (xs : List A) → length xs < 1 → xs ≡ []
+empty_is [] l = refl
+empty_is (x ∷ xs) l = absurd (omega arith)
+
+-- ---- facts
+
+pub read_more : (cs : List ClassTree) (b : Forms) (fs : List FormulaId) (i : ℕ) (d : FormulaId) (vs ws : List (Option SumFact)) (v : Option SumFact) → i < length fs → ws ≡ vs ++ v ∷ [] → AllZip (IsFactOf b) vs (map (said cs b) (take i fs)) → IsFactOf b v (said cs b (get_or fs i d)) → AllZip (IsFactOf b) ws (map (said cs b) (take (i + 1) fs))
+read_more cs b fs i d vs ws v l is h k =
+    subst (λ (xs : List (Option SumFact)). AllZip (IsFactOf b) xs (map (said cs b) (take (i + 1) fs))) (sym is)
+    (subst (λ (ys : List (Option sums.SumFact)). AllZip (IsFactOf b) (vs ++ v ∷ []) ys) (sym (mapped_more (said cs b) fs i d l)) (zip_pushed (IsFactOf b) vs (map (said cs b) (take i fs)) v (said cs b (get_or fs i d)) h k))
+
+all_one : {X : Type 0} (P : X → Type 0) (x : X) → P x → All P (x ∷ [])
+all_one P x h zero d l = h
+all_one P x h (suc k) d l = absurd (omega arith)
+
+pub have_more : (b : Forms) (vs ws : List (Option SumFact)) (v : Option SumFact) → ws ≡ vs ++ v ∷ [] → HaveParts b vs → IfSome v (λ f. HasParts b f.sum.parts.items) → HaveParts b ws
+have_more b vs ws v is h k =
+    let P : Option SumFact → Type 0 = λ o. IfSome o (λ f. HasParts b f.sum.parts.items) in
+    subst (λ (xs : List (Option SumFact)). HaveParts b xs) (sym is) (All-append P vs (v ∷ []) h (all_one P v k))
+
+have_formula : (n : ℕ) (fs : List FormulaId) (i : ℕ) (d : FormulaId) → AreBelow n fs → i < length fs → (get_or fs i d).0 < n
+have_formula n [] i d h l = absurd (omega arith)
+have_formula n (f ∷ fs) zero d h l = h.0
+have_formula n (f ∷ fs) (suc i) d h l = have_formula n fs i d h.1 (omega arith)
+
+pub has_formula_at : (b : Forms) (fs : List FormulaId) (i : ℕ) (d : FormulaId) → HasFormulas b fs → i < length fs → HasFormula b (get_or fs i d)
+has_formula_at b fs i d h l = have_formula _ fs i d h l
+
+-- what is read at a place is what the known formula there says
+pub read_at : (cs : List ClassTree) (b : Forms) (fs : List FormulaId) (vs : List (Option SumFact)) (i : ℕ) (d : Option SumFact) → AreRead cs b fs vs → i < length vs → IsFactOf b (get_or vs i d) (fact_at cs (formulas_at b fs) i)
+read_at cs b [] [] i d h l = absurd (omega arith)
+read_at cs b [] (v ∷ vs) i d h l = absurd h
+read_at cs b (f ∷ fs) [] i d h l = absurd h
+read_at cs b (f ∷ fs) (v ∷ vs) zero d h l = h.0
+read_at cs b (f ∷ fs) (v ∷ vs) (suc i) d h l = read_at cs b fs vs i d h.1 (omega arith)
+
+-- past those there is none
+pub read_past : (cs : List ClassTree) (b : Forms) (fs : List FormulaId) (vs : List (Option SumFact)) (i : ℕ) → AreRead cs b fs vs → length vs ≤ i → fact_at cs (formulas_at b fs) i ≡ None
+read_past cs b [] [] i h l = refl
+read_past cs b [] (v ∷ vs) i h l = absurd h
+read_past cs b (f ∷ fs) [] i h l = absurd h
+read_past cs b (f ∷ fs) (v ∷ vs) zero h l = absurd (omega arith)
+read_past cs b (f ∷ fs) (v ∷ vs) (suc i) h l = read_past cs b fs vs i h.1 (omega arith)
+
+pub read_length : (cs : List ClassTree) (b : Forms) (fs : List FormulaId) (vs : List (Option SumFact)) → AreRead cs b fs vs → length vs ≡ length (formulas_at b fs)
+read_length cs b [] [] h = refl
+read_length cs b [] (v ∷ vs) h = absurd h
+read_length cs b (f ∷ fs) [] h = absurd h
+read_length cs b (f ∷ fs) (v ∷ vs) h = ap suc (read_length cs b fs vs h.1)
+
+-- ---- parts
+
+pub have_part : (b : Forms) (ps : List Part) (i : ℕ) (d : Part) → HasParts b ps → i < length ps → HasParts b (get_or ps i d ∷ [])
+have_part b [] i d h l = absurd (omega arith)
+have_part b (p ∷ ps) zero d h l = (h.0, tt)
+have_part b (p ∷ ps) (suc i) d h l = have_part b ps i d h.1 (omega arith)
+
+left_pushed : (xs : List (Term × ℤ)) (p : Term × ℤ) → parts_left (xs ++ p ∷ []) ≡ parts_left xs ++ parts_left (p ∷ [])
+left_pushed [] p = refl
+left_pushed (x ∷ xs) p = by_test (is_zero x.1) (left_pushed xs p)
+  where
+    by_test : (c : Bool) → parts_left (xs ++ p ∷ []) ≡ parts_left xs ++ parts_left (p ∷ []) → (if c then parts_left (xs ++ p ∷ []) else x ∷ parts_left (xs ++ p ∷ [])) ≡ (if c then parts_left xs else x ∷ parts_left xs) ++ parts_left (p ∷ [])
+    by_test true h = h
+    by_test false h = ap (λ r. x ∷ r) h
+
+pub left_more : (b : Forms) (ps : List Part) (i : ℕ) (d : Part) (old new : List Part) → i < length ps → linear.parts_at b old ≡ parts_left (linear.parts_at b (take i ps)) → linear.parts_at b new ≡ linear.parts_at b old ++ parts_left (linear.parts_at b (get_or ps i d ∷ [])) → linear.parts_at b new ≡ parts_left (linear.parts_at b (take (i + 1) ps))
+left_more b ps i d old new l h k =
+    k ∙ ap (λ r. r ++ parts_left (linear.parts_at b (get_or ps i d ∷ []))) h
+    ∙ sym (ap parts_left (mapped_more (linear.part_at b) ps i d l) ∙ left_pushed (linear.parts_at b (take i ps)) (linear.part_at b (get_or ps i d)))
+
+value_pushed : (v : Term → ℤ) (xs : List (Term × ℤ)) (p : Term × ℤ) → parts_at v (xs ++ p ∷ []) ≡ parts_at v xs +ℤ parts_at v (p ∷ [])
+value_pushed v [] p = omega (arith, ints)
+value_pushed v (x ∷ xs) p = let h = value_pushed v xs p in omega (arith, ints)
+
+pub value_more : (b : Forms) (v : Term → ℤ) (ps : List Part) (i : ℕ) (d : Part) (old new : ℤ) → i < length ps → old ≡ parts_at v (linear.parts_at b (take i ps)) → new ≡ old +ℤ parts_at v (linear.parts_at b (get_or ps i d ∷ [])) → new ≡ parts_at v (linear.parts_at b (take (i + 1) ps))
+value_more b v ps i d old new l h k =
+    let e : parts_at v (linear.parts_at b (take (i + 1) ps)) ≡ parts_at v (linear.parts_at b (take i ps)) +ℤ parts_at v (linear.parts_at b (get_or ps i d ∷ [])) = ap (parts_at v) (mapped_more (linear.part_at b) ps i d l) ∙ value_pushed v (linear.parts_at b (take i ps)) (linear.part_at b (get_or ps i d)) in
+    omega (arith, ints)
+
+zero_pushed : (xs : List (Term × ℤ)) (p : Term × ℤ) → AreZero xs → is_zero p.1 ≡ true → AreZero (xs ++ p ∷ [])
+zero_pushed [] p h z = (z, tt)
+zero_pushed (x ∷ xs) p h z = (h.0, zero_pushed xs p h.1 z)
+
+pub zero_more : (b : Forms) (ps : List Part) (i : ℕ) (d : Part) → i < length ps → AreZero (linear.parts_at b (take i ps)) → is_zero (get_or ps i d).coefficient ≡ true → AreZero (linear.parts_at b (take (i + 1) ps))
+zero_more b ps i d l h z =
+    subst (λ (qs : List (Term × ℤ)). AreZero qs) (sym (mapped_more (linear.part_at b) ps i d l)) (zero_pushed (linear.parts_at b (take i ps)) (linear.part_at b (get_or ps i d)) h z)
+
+pub zero_there : (b : Forms) (ps : List Part) (i : ℕ) (d : Part) → i < length ps → AreZero (linear.parts_at b ps) → is_zero (get_or ps i d).coefficient ≡ true
+zero_there b [] i d l h = absurd (omega arith)
+zero_there b (p ∷ ps) zero d l h = h.0
+zero_there b (p ∷ ps) (suc i) d l h = zero_there b ps i d (omega arith) h.1
+
+pub left_value : (v : Term → ℤ) (ps : List (Term × ℤ)) → parts_at v (parts_left ps) ≡ parts_at v ps
+left_value v [] = refl
+left_value v (p ∷ ps) = by_test (is_zero p.1) refl (left_value v ps)
+  where
+    by_test : (c : Bool) → is_zero p.1 ≡ c → parts_at v (parts_left ps) ≡ parts_at v ps → parts_at v (if c then parts_left ps else p ∷ parts_left ps) ≡ (p.1 *ℤ v p.0) +ℤ parts_at v ps
+    by_test true e h =
+        let z : p.1 *ℤ v p.0 ≡ pos 0 = ap (λ y. y *ℤ v p.0) (zero_is p.1 e) ∙ omega (arith, ints, product_is (pos 0) (v p.0)) in
+        omega (arith, ints)
+    by_test false e h = ap (λ r. (p.1 *ℤ v p.0) +ℤ r) h
+
+-- the value of a part at a term
+pub own_part : (b : Forms) (p : Part) (t : Term) → same_term (term_at b p.term) t ≡ true → parts_at (one_at t) (linear.parts_at b (p ∷ [])) ≡ p.coefficient
+own_part b p t e = ap (λ c. (p.coefficient *ℤ (if c then pos 1 else pos 0)) +ℤ pos 0) e ∙ omega (arith, ints, product_is p.coefficient (pos 1))
+
+pub other_part : (b : Forms) (p : Part) (t : Term) → same_term (term_at b p.term) t ≡ false → parts_at (one_at t) (linear.parts_at b (p ∷ [])) ≡ pos 0
+other_part b p t e = ap (λ c. (p.coefficient *ℤ (if c then pos 1 else pos 0)) +ℤ pos 0) e ∙ omega (arith, ints, product_is p.coefficient (pos 0))
+
+-- ---- differences
+
+pub one_is : (z : ℤ) → is_one z ≡ true → z ≡ pos 1
+one_is (pos (suc zero)) h = refl
+one_is (pos zero) h = let no : ⊥ = cc in absurd no
+one_is (pos (suc (suc n))) h = let no : ⊥ = cc in absurd no
+one_is (negsuc n) h = let no : ⊥ = cc in absurd no
+
+pub less_one_is : (z : ℤ) → is_less_one z ≡ true → z ≡ negsuc 0
+less_one_is (negsuc zero) h = refl
+less_one_is (negsuc (suc n)) h = let no : ⊥ = cc in absurd no
+less_one_is (pos n) h = let no : ⊥ = cc in absurd no
+
+pub plus_value : (v : Term → ℤ) (t : Term) (z : ℤ) → z ≡ pos 1 → parts_at v ((t, z) ∷ []) ≡ end_value v (Some t) -ℤ end_value v None
+plus_value v t z e = ap (λ y. (y *ℤ v t) +ℤ pos 0) e ∙ omega (arith, ints, product_is (pos 1) (v t))
+
+pub minus_value : (v : Term → ℤ) (t : Term) (z : ℤ) → z ≡ negsuc 0 → parts_at v ((t, z) ∷ []) ≡ end_value v None -ℤ end_value v (Some t)
+minus_value v t z e = ap (λ y. (y *ℤ v t) +ℤ pos 0) e ∙ omega (arith, ints, product_is (negsuc 0) (v t))
+
+pub two_value : (v : Term → ℤ) (t u : Term) (y z : ℤ) → y ≡ pos 1 → z ≡ negsuc 0 → parts_at v ((t, y) ∷ (u, z) ∷ []) ≡ v t -ℤ v u
+two_value v t u y z e f = ap (λ x. (x *ℤ v t) +ℤ ((z *ℤ v u) +ℤ pos 0)) e ∙ ap (λ x. (pos 1 *ℤ v t) +ℤ ((x *ℤ v u) +ℤ pos 0)) f ∙ omega (arith, ints, product_is (pos 1) (v t), product_is (negsuc 0) (v u))
+
+or_right : (a b : Bool) → b ≡ true → (a || b) ≡ true
+or_right true b e = refl
+or_right false b e = e
+
+and_turned : (a b : Bool) → (a && b) ≡ true → (b && a) ≡ true
+and_turned true true h = refl
+and_turned true false h = h
+and_turned false b h = let no : ⊥ = cc in absurd no
+
+-- two parts in the other order
+pub flipped : (b : Forms) (p q : Part) (r : Option Ends) → IfSome r (λ e. ((is_one q.coefficient && is_less_one p.coefficient) ≡ true) × AreEnds b (linear.parts_at b (q ∷ p ∷ [])) e) → IfSome r (λ e. (are_apart (linear.parts_at b (p ∷ q ∷ [])) ≡ true) × AreEnds b (linear.parts_at b (p ∷ q ∷ [])) e)
+flipped b p q None h = tt
+flipped b p q (Some e) h = (
+  or_right (is_one p.coefficient && is_less_one q.coefficient) (is_less_one p.coefficient && is_one q.coefficient) (and_turned (is_one q.coefficient) (is_less_one p.coefficient) h.0),
+  record {
+    plus = h.1.plus;
+    minus = h.1.minus;
+    value = λ v. let e = h.1.value v in omega (arith, ints);
+  },
+)
+
+-- the ends of the parts that count are those of all
+pub ends_left : (b : Forms) (ps : List Part) (e : Ends) → AreEnds b (parts_left (linear.parts_at b ps)) e → AreEnds b (linear.parts_at b ps) e
+ends_left b ps e h = record { plus = h.plus; minus = h.minus; value = λ v. sym (left_value v (linear.parts_at b ps)) ∙ h.value v }
+
+pub both_true : (a b : Bool) → a ≡ true → b ≡ true → (a && b) ≡ true
+both_true true b e f = f
+both_true false b e f = e
+
+pub first_false : (a b : Bool) → a ≡ false → (a && b) ≡ false
+first_false true b e = let no : ⊥ = cc in absurd no
+first_false false b e = refl
+
+pub second_false : (a b : Bool) → b ≡ false → (a && b) ≡ false
+second_false true b e = e
+second_false false b e = refl
+
+pub parts_pushed : (b : Forms) (xs : List Part) (p : Part) → HasParts b xs → HasParts b (p ∷ []) → HasParts b (xs ++ p ∷ [])
+parts_pushed b [] p h k = k
+parts_pushed b (x ∷ xs) p h k = (h.0, parts_pushed b xs p h.1 k)
+
+pub and_right : (a b : Bool) → (a && b) ≡ true → b ≡ true
+and_right true b h = h
+and_right false b h = let no : ⊥ = cc in absurd no
+
+pub some_ends : (b : Forms) (r : Option Ends) (all left : List Part) (small : Bool) → small ≡ true → linear.parts_at b left ≡ parts_left (linear.parts_at b all) → IfSome r (λ e. (are_apart (linear.parts_at b left) ≡ true) × AreEnds b (linear.parts_at b left) e) → IfSome r (λ e. ((are_apart (parts_left (linear.parts_at b all)) && small) ≡ true) × AreEnds b (linear.parts_at b all) e)
+some_ends b None all left small s is h = tt
+some_ends b (Some e) all left small s is h = (
+  both_true (are_apart (parts_left (linear.parts_at b all))) small (ap are_apart (sym is) ∙ h.0) s,
+  ends_left b all e (subst (λ (ps : List (Term × ℤ)). AreEnds b ps e) is h.1),
+)
+
+pub no_difference : (o : Option sums.SumFact) (x y : sums.SumFact) → o ≡ Some x → o ≡ Some y → is_difference x ≡ false → is_difference y ≡ true → ⊥
+no_difference o x y e f a b =
+    let same : x ≡ y = cc in
+    let g : is_difference x ≡ is_difference y = ap is_difference same in
+    cc

@@ -1,0 +1,84 @@
+-- What is read and found of known facts.
+use Rattle.std.specs.Prelude.{◌≡◌, ℕ, ℤ, pos, ◌-ℤ◌, List, [], ◌∷◌, map, Bool, true, false, Option, Some, None, IfSome, Vec}
+use Rattle.std.specs.declared.alloc.Global.{Global}
+use Rattle.std.specs.List.{All, AllZip}
+use Rattle.ss_core.specs.Tree.{ClassTree}
+use Rattle.ss_logic.specs.Terms.{Term}
+use Rattle.ss_logic.specs.Formulas.{Formula}
+use Rattle.ss_logic_sums.specs.Sums as sums
+use Rattle.ss_logic_sums.specs.Sums.{sum_fact_of, sum_of}
+use Rattle.ss_terms.specs.declared.forms.FormulaId.{FormulaId}
+use Rattle.ss_terms.specs.Forms.{Forms, formula_at}
+use Rattle.ss_linear_sums.specs.declared.forms.SumFact.{SumFact}
+use Rattle.ss_linear_sums.specs.Linear.{HasParts, IsFactOf}
+use Rattle.ss_deriv.specs.declared.line.Sum.{Sum}
+use Rattle.ss_linear_rules.specs.Two.{IsFalse, IsUnit}
+use Rattle.ss_linear_rules.specs.Few.{IsNone}
+use Rattle.ss_linear_rules.specs.Valued.{parts_at}
+use Rattle.ss_linear_rules.specs.Nodes.{end_value}
+use Rattle.ss_linear_network.specs.Made.{term_of, HasTermOf}
+use Rattle.ss_linear.specs.declared.ends.Ends.{Ends}
+
+-- the divisor of a sum, and its weights
+abbrev pub summed : Sum → ℤ × List (ℕ × ℤ)
+summed s = (s.divisor, s.parts.items)
+
+abbrev pub sums_of : List Sum → List (ℤ × List (ℕ × ℤ))
+sums_of ss = map summed ss
+
+-- what the formula with this number says of a sum
+abbrev pub said : List ClassTree → Forms → FormulaId → Option sums.SumFact
+said cs b f = sum_fact_of cs (formula_at b f)
+
+-- the bank has the terms of the facts
+abbrev pub HaveParts : Forms → List (Option SumFact) → Type 0
+HaveParts b facts = All (λ o. IfSome o (λ f. HasParts b f.sum.parts.items)) facts
+
+-- the facts that are read of formulas, one by one
+abbrev pub AreRead : List ClassTree → Forms → List FormulaId → List (Option SumFact) → Type 0
+AreRead cs b fs facts = AllZip (IsFactOf b) facts (map (said cs b) fs)
+
+-- the sum with these weights and the divisor 1 gives what is false
+abbrev pub IsContradiction : List ClassTree → List Formula → List (ℕ × ℤ) → Type 0
+IsContradiction cs known ps = (f : Formula) × (sum_of cs known (pos 1) ps ≡ Some f) × IsFalse f
+
+abbrev pub IsTested : List ClassTree → List Formula → List (ℕ × ℤ) → Bool → Type 0
+IsTested cs known ps true = IsContradiction cs known ps
+IsTested cs known ps false = IsNone cs known ps
+
+-- the parts come to the difference of the ends, whatever terms are
+pub record AreEnds (b : Forms) (ps : List (Term × ℤ)) (e : Ends) : Type 0 where
+  pub plus : HasTermOf b e.plus
+  pub minus : HasTermOf b e.minus
+  pub value : (v : Term → ℤ) → parts_at v ps ≡ end_value v (term_of b e.plus) -ℤ end_value v (term_of b e.minus)
+
+-- weights with which two known facts are a contradiction, or there are none
+abbrev pub AreWeights : List ClassTree → List Formula → ℕ → ℕ → Option (ℤ × ℤ) → Type 0
+AreWeights cs known i j (Some p) = IsContradiction cs known ((i, p.0) ∷ (j, p.1) ∷ [])
+AreWeights cs known i j None = (w u : ℤ) → IsUnit w → IsUnit u → IsNone cs known ((i, w) ∷ (j, u) ∷ [])
+
+-- the weight with which a known fact is one by itself, or there is none
+abbrev pub IsWeight : List ClassTree → List Formula → ℕ → Option ℤ → Type 0
+IsWeight cs known i (Some w) = IsContradiction cs known ((i, w) ∷ [])
+IsWeight cs known i None = (w : ℤ) → IsUnit w → IsNone cs known ((i, w) ∷ [])
+
+-- the known fact at this place is no contradiction by itself or with another one
+abbrev pub IsFree : List ClassTree → List Formula → ℕ → Type 0
+IsFree cs known i = ((w : ℤ) → IsUnit w → IsNone cs known ((i, w) ∷ [])) × ((j : ℕ) (w u : ℤ) → IsUnit w → IsUnit u → IsNone cs known ((i, w) ∷ (j, u) ∷ []))
+
+-- a contradiction, or what is so without one
+abbrev pub IsPair : List ClassTree → List Formula → ℕ → ℕ → Option (Vec (ℕ × ℤ) Global) → Type 0
+IsPair cs known i j (Some ps) = IsContradiction cs known ps.items
+IsPair cs known i j None = (w u : ℤ) → IsUnit w → IsUnit u → IsNone cs known ((i, w) ∷ (j, u) ∷ [])
+
+abbrev pub IsSecond : List ClassTree → List Formula → ℕ → Option (Vec (ℕ × ℤ) Global) → Type 0
+IsSecond cs known i (Some ps) = IsContradiction cs known ps.items
+IsSecond cs known i None = (j : ℕ) (w u : ℤ) → IsUnit w → IsUnit u → IsNone cs known ((i, w) ∷ (j, u) ∷ [])
+
+abbrev pub IsAt : List ClassTree → List Formula → ℕ → Option (Vec (ℕ × ℤ) Global) → Type 0
+IsAt cs known i (Some ps) = IsContradiction cs known ps.items
+IsAt cs known i None = IsFree cs known i
+
+abbrev pub IsFew : List ClassTree → List Formula → Option (Vec (ℕ × ℤ) Global) → Type 0
+IsFew cs known (Some ps) = IsContradiction cs known ps.items
+IsFew cs known None = (i : ℕ) → IsFree cs known i

@@ -1,0 +1,363 @@
+// Contradictions of one or two facts.
+
+ghost use Rattle.std.specs.Prelude.{◌≡◌, ◌⊎◌, ◌<◌, ℕ, ℤ, pos, ◌+ℤ◌, ◌*ℤ◌, ◌<ℤ◌, ◌≤ℤ◌, List, [], ◌∷◌, length, Some, IsTrue, IsFalse, IfOk, IfSome};
+ghost use Rattle.ss_core.specs.Tree.{ClassTree};
+ghost use Rattle.ss_logic.specs.Formulas.{Formula};
+ghost use Rattle.ss_terms.specs.Forms.{Forms, term_at, HasFormulas, formulas_at, IsBankOf};
+ghost use Rattle.ss_linear_sums.specs.Linear as linear;
+ghost use Rattle.ss_linear_sums.specs.Linear.{HasParts, IsFactOf};
+ghost use Rattle.ss_linear_rules.specs.Two as two;
+ghost use Rattle.ss_linear_rules.specs.Few.{IsNone, AreZero, one_at};
+ghost use Rattle.ss_linear_rules.specs.Valued.{parts_at};
+ghost use Rattle.ss_linear.specs.Contradictions.{HaveParts, AreRead, IsTested, AreWeights, IsWeight, IsPair, IsSecond, IsAt, IsFew};
+
+use crate::facts::{coefficient_of, is_zero, is_zero_part};
+use ss_linear_sums::{LinearSum, Part, SumFact, weighted};
+use ss_terms::{Bank, FormulaId};
+use std::alloc::{AllocError, Global};
+
+// The number with more bits.
+fn wide(n: i64) -> i128
+    ensures { result ≡ n }
+{
+    n as i128
+}
+
+// A number with its weight. None where that leaves 128 bits.
+fn times(w: i64, n: i128) -> Option<i128>
+    ensures { IfSome result (λ z. z ≡ w *ℤ n) }
+{
+    wide(w).checked_mul(n)
+}
+
+// Two numbers with weights, together. None where a number leaves 128 bits.
+fn together(a: i128, w: i64, b: i128, u: i64) -> Option<i128>
+    ensures { IfSome result (λ z. z ≡ (w *ℤ a) +ℤ (u *ℤ b)) }
+{
+    match times(w, a) {
+        Some(x) => match times(u, b) {
+            Some(y) => x.checked_add(y),
+            None => None,
+        },
+        None => None,
+    }
+}
+
+// Whether two numbers with weights may be above 0 together.
+fn may_be_above(a: i128, w: i64, b: i128, u: i64) -> bool
+    ensures { IsFalse result → ((w *ℤ a) +ℤ (u *ℤ b)) ≤ℤ pos 0 }
+{
+    match together(a, w, b, u) {
+        Some(sum) => sum > 0,
+        None => true,
+    }
+}
+
+// Whether a part may cancel in the sum of two facts with weights.
+fn may_cancel(bank: &Bank, p: Part, a: &[Part], w: i64, b: &[Part], u: i64) -> bool
+    requires part { HasParts bank.now (p ∷ []) }
+    requires first { HasParts bank.now a.now }
+    requires second { HasParts bank.now b.now }
+    ensures { IsFalse result → ((w *ℤ parts_at (one_at (term_at bank.now p.term)) (linear.parts_at bank.now a.now)) +ℤ (u *ℤ parts_at (one_at (term_at bank.now p.term)) (linear.parts_at bank.now b.now))) ≡ pos 0 → ⊥ }
+{
+    match (
+        coefficient_of(bank, a, p.term),
+        coefficient_of(bank, b, p.term),
+    ) {
+        (Some(c), Some(d)) => match together(c, w, d, u) {
+            Some(sum) => is_zero(sum),
+            None => true,
+        },
+        _ => true,
+    }
+}
+
+// The first part that counts.
+fn first_left(parts: &[Part]) -> Option<Part>
+    ensures { (b : Forms) → HasParts b parts.now → IfSome result (λ p. HasParts b (p ∷ [])) }
+{
+    for p in parts {
+        if !is_zero(p.coefficient) {
+            return Some(*p);
+        }
+    }
+    None
+}
+
+// Whether two facts with weights may be a contradiction, by their numbers and the first part that counts.
+fn may_contradict(bank: &Bank, a: &SumFact, w: i64, b: &SumFact, u: i64) -> bool
+    requires first { HasParts bank.now a.now.sum.parts.items }
+    requires second { HasParts bank.now b.now.sum.parts.items }
+    ensures { (cs : List ClassTree) (known : List Formula) (i j : ℕ) → two.fact_at cs known i ≡ Some (linear.fact_at bank.now a.now) → two.fact_at cs known j ≡ Some (linear.fact_at bank.now b.now) → IsFalse result → IsNone cs known ((i, w) ∷ (j, u) ∷ []) }
+{
+    if !may_be_above(a.sum.constant, w, b.sum.constant, u) {
+        return false;
+    }
+    match first_left(&a.sum.parts) {
+        Some(p) => may_cancel(bank, p, &a.sum.parts, w, &b.sum.parts, u),
+        None => true,
+    }
+}
+
+// Whether no part has a coefficient.
+fn are_zero(parts: &[Part]) -> bool
+    ensures zero { (b : Forms) → IsTrue result → AreZero (linear.parts_at b parts.now) }
+    ensures other { (b : Forms) → IsFalse result → AreZero (linear.parts_at b parts.now) → ⊥ }
+{
+    for p in parts {
+        if !is_zero_part(*p) {
+            return false;
+        }
+    }
+    true
+}
+
+// Whether a sum without parts is above 0.
+fn is_false(sum: &LinearSum) -> bool
+    ensures parts { (b : Forms) → IsTrue result → AreZero (linear.parts_at b sum.now.parts.items) }
+    ensures above { IsTrue result → pos 0 <ℤ sum.now.constant }
+    ensures other { (b : Forms) → IsFalse result → AreZero (linear.parts_at b sum.now.parts.items) → pos 0 <ℤ sum.now.constant → ⊥ }
+{
+    if are_zero(&sum.parts) {
+        sum.constant > 0
+    } else {
+        false
+    }
+}
+
+// Whether the sum of known facts with these weights is a contradiction.
+fn is_contradiction(
+    alloc: Global,
+    bank: &Bank,
+    known: &[FormulaId],
+    parts: &[(usize, i64)],
+) -> Result<bool, AllocError>
+    requires { HasFormulas bank.now known.now }
+    ensures { (cs : List ClassTree) → IsBankOf cs bank.now → IfOk result (IsTested cs (formulas_at bank.now known.now) parts.now) }
+{
+    let found = weighted(alloc, bank, known, parts)?;
+    match found {
+        Some(sum) => Ok(is_false(&sum)),
+        None => Ok(false),
+    }
+}
+
+// Whether the sum of two facts with these weights is a contradiction.
+fn is_pair(
+    alloc: Global,
+    bank: &Bank,
+    known: &[FormulaId],
+    a: &SumFact,
+    b: &SumFact,
+    first: (usize, i64),
+    second: (usize, i64),
+) -> Result<bool, AllocError>
+    requires known { HasFormulas bank.now known.now }
+    requires parts { HasParts bank.now a.now.sum.parts.items }
+    requires others { HasParts bank.now b.now.sum.parts.items }
+    ensures { (cs : List ClassTree) → IsBankOf cs bank.now → two.fact_at cs (formulas_at bank.now known.now) first.0 ≡ Some (linear.fact_at bank.now a.now) → two.fact_at cs (formulas_at bank.now known.now) second.0 ≡ Some (linear.fact_at bank.now b.now) → IfOk result (IsTested cs (formulas_at bank.now known.now) (first ∷ second ∷ [])) }
+{
+    if may_contradict(bank, a, first.1, b, second.1) {
+        is_contradiction(alloc, bank, known, &[first, second])
+    } else {
+        Ok(false)
+    }
+}
+
+// The weights of two facts with which their sum is a contradiction.
+fn of_two(
+    alloc: Global,
+    bank: &Bank,
+    known: &[FormulaId],
+    a: &SumFact,
+    b: &SumFact,
+    i: usize,
+    j: usize,
+) -> Result<Option<(i64, i64)>, AllocError>
+    requires known { HasFormulas bank.now known.now }
+    requires parts { HasParts bank.now a.now.sum.parts.items }
+    requires others { HasParts bank.now b.now.sum.parts.items }
+    ensures { (cs : List ClassTree) → IsBankOf cs bank.now → two.fact_at cs (formulas_at bank.now known.now) i ≡ Some (linear.fact_at bank.now a.now) → two.fact_at cs (formulas_at bank.now known.now) j ≡ Some (linear.fact_at bank.now b.now) → IfOk result (AreWeights cs (formulas_at bank.now known.now) i j) }
+{
+    if is_pair(alloc, bank, known, a, b, (i, 1), (j, 1))? {
+        return Ok(Some((1, 1)));
+    }
+    if is_pair(alloc, bank, known, a, b, (i, 1), (j, -1))? {
+        return Ok(Some((1, -1)));
+    }
+    if is_pair(alloc, bank, known, a, b, (i, -1), (j, 1))? {
+        return Ok(Some((-1, 1)));
+    }
+    if is_pair(alloc, bank, known, a, b, (i, -1), (j, -1))? {
+        return Ok(Some((-1, -1)));
+    }
+    Ok(None)
+}
+
+// The weight of a fact with which it is a contradiction by itself.
+fn of_one(
+    alloc: Global,
+    bank: &Bank,
+    known: &[FormulaId],
+    i: usize,
+) -> Result<Option<i64>, AllocError>
+    requires { HasFormulas bank.now known.now }
+    ensures { (cs : List ClassTree) → IsBankOf cs bank.now → IfOk result (IsWeight cs (formulas_at bank.now known.now) i) }
+{
+    if is_contradiction(alloc, bank, known, &[(i, 1)])? {
+        return Ok(Some(1));
+    }
+    if is_contradiction(alloc, bank, known, &[(i, -1)])? {
+        return Ok(Some(-1));
+    }
+    Ok(None)
+}
+
+// One fact with its weight.
+fn one(alloc: Global, first: (usize, i64)) -> Result<Vec<(usize, i64)>, AllocError>
+    ensures { IfOk result (λ v. v.items ≡ first ∷ []) }
+{
+    let mut parts = Vec::new(alloc);
+    parts.push(first)?;
+    Ok(parts)
+}
+
+// Two facts with their weights.
+fn pair(
+    alloc: Global,
+    i: usize,
+    j: usize,
+    weights: (i64, i64),
+) -> Result<Vec<(usize, i64)>, AllocError>
+    ensures { IfOk result (λ v. v.items ≡ (i, weights.0) ∷ (j, weights.1) ∷ []) }
+{
+    let mut parts = Vec::new(alloc);
+    parts.push((i, weights.0))?;
+    parts.push((j, weights.1))?;
+    Ok(parts)
+}
+
+// A contradiction of two facts.
+fn of_facts(
+    alloc: Global,
+    bank: &Bank,
+    known: &[FormulaId],
+    a: &SumFact,
+    b: &SumFact,
+    i: usize,
+    j: usize,
+) -> Result<Option<Vec<(usize, i64)>>, AllocError>
+    requires known { HasFormulas bank.now known.now }
+    requires parts { HasParts bank.now a.now.sum.parts.items }
+    requires others { HasParts bank.now b.now.sum.parts.items }
+    ensures { (cs : List ClassTree) → IsBankOf cs bank.now → two.fact_at cs (formulas_at bank.now known.now) i ≡ Some (linear.fact_at bank.now a.now) → two.fact_at cs (formulas_at bank.now known.now) j ≡ Some (linear.fact_at bank.now b.now) → IfOk result (IsPair cs (formulas_at bank.now known.now) i j) }
+{
+    match of_two(alloc, bank, known, a, b, i, j)? {
+        Some(weights) => Ok(Some(pair(alloc, i, j, weights)?)),
+        None => Ok(None),
+    }
+}
+
+// A contradiction of a fact and the one at another place.
+fn with_other(
+    alloc: Global,
+    bank: &Bank,
+    known: &[FormulaId],
+    a: &SumFact,
+    other: &Option<SumFact>,
+    i: usize,
+    j: usize,
+) -> Result<Option<Vec<(usize, i64)>>, AllocError>
+    requires known { HasFormulas bank.now known.now }
+    requires parts { HasParts bank.now a.now.sum.parts.items }
+    requires others { IfSome other.now (λ f. HasParts bank.now f.sum.parts.items) }
+    ensures { (cs : List ClassTree) → IsBankOf cs bank.now → two.fact_at cs (formulas_at bank.now known.now) i ≡ Some (linear.fact_at bank.now a.now) → IsFactOf bank.now other.now (two.fact_at cs (formulas_at bank.now known.now) j) → IfOk result (IsPair cs (formulas_at bank.now known.now) i j) }
+{
+    match other {
+        Some(b) => of_facts(alloc, bank, known, a, b, i, j),
+        None => Ok(None),
+    }
+}
+
+// A contradiction of a fact and another one.
+fn with_second(
+    alloc: Global,
+    bank: &Bank,
+    known: &[FormulaId],
+    facts: &[Option<SumFact>],
+    i: usize,
+    a: &SumFact,
+) -> Result<Option<Vec<(usize, i64)>>, AllocError>
+    requires known { HasFormulas bank.now known.now }
+    requires facts { HaveParts bank.now facts.now }
+    requires parts { HasParts bank.now a.now.sum.parts.items }
+    ensures { (cs : List ClassTree) → IsBankOf cs bank.now → AreRead cs bank.now known.now facts.now → two.fact_at cs (formulas_at bank.now known.now) i ≡ Some (linear.fact_at bank.now a.now) → IfOk result (IsSecond cs (formulas_at bank.now known.now) i) }
+{
+    for (j, other) in facts.iter().enumerate() {
+        match with_other(alloc, bank, known, a, other, i, j)? {
+            Some(parts) => return Ok(Some(parts)),
+            None => {}
+        }
+    }
+    Ok(None)
+}
+
+// A contradiction of a fact alone, or with another one.
+fn of_fact(
+    alloc: Global,
+    bank: &Bank,
+    known: &[FormulaId],
+    facts: &[Option<SumFact>],
+    i: usize,
+    a: &SumFact,
+) -> Result<Option<Vec<(usize, i64)>>, AllocError>
+    requires known { HasFormulas bank.now known.now }
+    requires facts { HaveParts bank.now facts.now }
+    requires parts { HasParts bank.now a.now.sum.parts.items }
+    ensures { (cs : List ClassTree) → IsBankOf cs bank.now → AreRead cs bank.now known.now facts.now → two.fact_at cs (formulas_at bank.now known.now) i ≡ Some (linear.fact_at bank.now a.now) → IfOk result (IsAt cs (formulas_at bank.now known.now) i) }
+{
+    match of_one(alloc, bank, known, i)? {
+        Some(w) => Ok(Some(one(alloc, (i, w))?)),
+        None => with_second(alloc, bank, known, facts, i, a),
+    }
+}
+
+// A contradiction of the fact at a place alone, or with another one.
+fn of_place(
+    alloc: Global,
+    bank: &Bank,
+    known: &[FormulaId],
+    facts: &[Option<SumFact>],
+    i: usize,
+    first: &Option<SumFact>,
+) -> Result<Option<Vec<(usize, i64)>>, AllocError>
+    requires known { HasFormulas bank.now known.now }
+    requires facts { HaveParts bank.now facts.now }
+    requires first { IfSome first.now (λ f. HasParts bank.now f.sum.parts.items) }
+    ensures { (cs : List ClassTree) → IsBankOf cs bank.now → AreRead cs bank.now known.now facts.now → IsFactOf bank.now first.now (two.fact_at cs (formulas_at bank.now known.now) i) → IfOk result (IsAt cs (formulas_at bank.now known.now) i) }
+{
+    match first {
+        Some(a) => of_fact(alloc, bank, known, facts, i, a),
+        None => Ok(None),
+    }
+}
+
+/// One or two known facts and weights with which their sum is a contradiction. None only where there are no such.
+pub(crate) fn of_few(
+    alloc: Global,
+    bank: &Bank,
+    known: &[FormulaId],
+    facts: &[Option<SumFact>],
+) -> Result<Option<Vec<(usize, i64)>>, AllocError>
+    requires known { HasFormulas bank.now known.now }
+    requires facts { HaveParts bank.now facts.now }
+    ensures { (cs : List ClassTree) → IsBankOf cs bank.now → AreRead cs bank.now known.now facts.now → IfOk result (IsFew cs (formulas_at bank.now known.now)) }
+{
+    for (i, first) in facts.iter().enumerate() {
+        match of_place(alloc, bank, known, facts, i, first)? {
+            Some(parts) => return Ok(Some(parts)),
+            None => {}
+        }
+    }
+    Ok(None)
+}
