@@ -1,6 +1,6 @@
 -- What is read of facts.
-use Rattle.std.proofs.Common.{◌≡◌, ◌≢◌, ◌⊎◌, inl, inr, ⊎_elim, ℕ, zero, suc, ◌+◌, ◌<◌, ◌≤◌, ℤ, pos, negsuc, ◌+ℤ◌, ◌-ℤ◌, ◌*ℤ◌, ◌<ℤ◌, List, [], ◌∷◌, ◌++◌, length, get_or, take, map, Bool, true, false, ◌&&◌, ◌||◌, Option, Some, None, refl, sym, ◌∙◌, ap, subst, arith}
-use Rattle.std.specs.Prelude.{slice_get, if◌then◌else◌, IfSome, IfNone, option_and_then}
+use Rattle.std.proofs.Common.{◌≡◌, ℕ, zero, suc, ◌+◌, ◌<◌, ◌≤◌, ℤ, pos, negsuc, ◌+ℤ◌, ◌-ℤ◌, ◌*ℤ◌, List, [], ◌∷◌, ◌++◌, length, get_or, take, map, Bool, true, false, ◌&&◌, ◌||◌, Option, Some, None, refl, sym, ◌∙◌, ap, subst, arith}
+use Rattle.std.specs.Prelude.{if◌then◌else◌, IfSome}
 use Rattle.std.specs.List.{All, AllZip}
 use Rattle.std.proofs.lemmas.Int.{ints}
 use Rattle.std.proofs.lemmas.List.{take_more}
@@ -8,13 +8,12 @@ use Rattle.std.proofs.lemmas.List.Elements.{All-append}
 use borrow.Author.Differences.{product_is}
 use Rattle.ss_core.specs.Tree.{ClassTree}
 use Rattle.ss_logic.specs.Terms.{Term}
-use Rattle.ss_logic.specs.Formulas.{Formula}
 use Rattle.ss_logic.specs.Equal.{same_term}
 use Rattle.ss_logic_sums.specs.Sums as sums
 use Rattle.ss_logic_sums.specs.Sums.{is_zero, sum_fact_of}
-use Rattle.ss_logic_sums.proofs.Numbers.{one_times, times_zero, zero_is}
+use Rattle.ss_logic_sums.proofs.Numbers.{zero_is}
 use Rattle.ss_terms.specs.declared.forms.FormulaId.{FormulaId}
-use Rattle.ss_terms.specs.Forms.{Forms, term_at, formula_at, formulas_at, HasFormula, HasFormulas, AreBelow}
+use Rattle.ss_terms.specs.Forms.{Forms, term_at, formulas_at, HasFormula, HasFormulas, AreBelow}
 use Rattle.ss_linear_sums.specs.declared.forms.Part.{Part}
 use Rattle.ss_linear_sums.specs.declared.forms.SumFact.{SumFact}
 use Rattle.ss_linear_sums.specs.Linear as linear
@@ -26,7 +25,7 @@ use Rattle.ss_linear_rules.specs.Nodes.{end_value}
 use Rattle.ss_linear.specs.Contradictions.{said, HaveParts, AreRead, AreEnds}
 use Rattle.ss_linear.specs.declared.ends.Ends.{Ends}
 
-mapped_more : {A B : Type 0} (f : A → B) (xs : List A) (i : ℕ) (d : A) → i < length xs → map f (take (i + 1) xs) ≡ map f (take i xs) ++ f (get_or xs i d) ∷ []
+pub mapped_more : {A B : Type 0} (f : A → B) (xs : List A) (i : ℕ) (d : A) → i < length xs → map f (take (i + 1) xs) ≡ map f (take i xs) ++ f (get_or xs i d) ∷ []
 mapped_more f xs i d l = ap (map f) (take_more xs i d l) ∙ pushed f (take i xs) (get_or xs i d)
   where
     pushed : {A B : Type 0} (f : A → B) (xs : List A) (x : A) → map f (xs ++ x ∷ []) ≡ map f xs ++ f x ∷ []

@@ -1,2 +1,3 @@
 pub mod Glue
 pub mod Tests
+pub mod Results

@@ -1,10 +1,10 @@
 -- What is tested of one or two facts.
-use Rattle.std.proofs.Common.{◌≡◌, ◌⊎◌, inl, inr, ⊎_elim, ℕ, zero, suc, ◌<◌, ◌≤◌, ◌^◌, ℤ, pos, negsuc, ◌+ℤ◌, ◌*ℤ◌, ◌<ℤ◌, List, [], ◌∷◌, Bool, true, false, Option, Some, None, refl, sym, ◌∙◌, ap, subst, arith}
+use Rattle.std.proofs.Common.{◌≡◌, ⊎_elim, ℕ, zero, suc, ◌<◌, ◌≤◌, ◌^◌, ℤ, pos, negsuc, ◌<ℤ◌, List, [], ◌∷◌, Bool, true, false, Option, Some, None, refl, sym, ◌∙◌, ap, subst, arith}
 use Rattle.std.specs.Prelude.{SomeIff, IfSome}
 use Rattle.ss_core.specs.Tree.{ClassTree}
 use Rattle.ss_logic.specs.Formulas.{Formula}
-use Rattle.ss_logic_sums.specs.Sums.{is_zero, LinearSum, number_sum, weighted, sum_of}
-use Rattle.ss_linear_rules.specs.Two.{IsFalse, fact_at, IsUnit, Two, Refute}
+use Rattle.ss_logic_sums.specs.Sums.{is_zero, LinearSum, number_sum, weighted}
+use Rattle.ss_linear_rules.specs.Two.{fact_at, IsUnit, Two, Refute}
 use Rattle.ss_linear_rules.specs.Few.{IsNone, AreZero}
 use Rattle.ss_linear_rules.specs.Valued.{MeetsDifferences}
 use Rattle.ss_linear_rules.proofs.Few.{gives_false, none_weighted, none_other, none_without, none_second, two_false}

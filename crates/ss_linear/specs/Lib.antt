@@ -1,1 +1,2 @@
 pub mod Contradictions
+pub mod Results

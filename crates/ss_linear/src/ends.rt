@@ -19,7 +19,8 @@ pub(crate) struct Ends {
     pub(crate) minus: Option<TermId>,
 }
 
-fn is_one(n: i128) -> bool
+/// Whether a number is 1.
+pub(crate) fn is_one(n: i128) -> bool
     ensures { result ≡ two.is_one n }
 {
     n == 1

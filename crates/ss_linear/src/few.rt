@@ -16,8 +16,8 @@ use ss_linear_sums::{LinearSum, Part, SumFact, weighted};
 use ss_terms::{Bank, FormulaId};
 use std::alloc::{AllocError, Global};
 
-// The number with more bits.
-fn wide(n: i64) -> i128
+/// The number with more bits.
+pub(crate) fn wide(n: i64) -> i128
     ensures { result ≡ n }
 {
     n as i128
@@ -112,8 +112,8 @@ fn are_zero(parts: &[Part]) -> bool
     true
 }
 
-// Whether a sum without parts is above 0.
-fn is_false(sum: &LinearSum) -> bool
+/// Whether a sum without parts is above 0.
+pub(crate) fn is_false(sum: &LinearSum) -> bool
     ensures parts { (b : Forms) → IsTrue result → AreZero (linear.parts_at b sum.now.parts.items) }
     ensures above { IsTrue result → pos 0 <ℤ sum.now.constant }
     ensures other { (b : Forms) → IsFalse result → AreZero (linear.parts_at b sum.now.parts.items) → pos 0 <ℤ sum.now.constant → ⊥ }

@@ -9,6 +9,7 @@ ghost use Rattle.ss_linear.specs.Contradictions.{sums_of};
 use crate::differences::of_differences;
 use crate::facts::read_all;
 use crate::few::of_few;
+use crate::many::of_many;
 use ss_deriv::Sum;
 use ss_terms::{Bank, FormulaId};
 use std::alloc::{AllocError, Global};
@@ -33,7 +34,7 @@ pub fn refute(
     ensures some { (cs : List ClassTree) → IsBankOf cs bank.now → IfOk result (λ o. IfSome o (λ sums. Refute cs (formulas_at bank.now facts.now) (sums_of sums.items))) }
     ensures none { (cs : List ClassTree) → IsBankOf cs bank.now → IfOk result (λ o. IfNone o (Two cs (formulas_at bank.now facts.now) → ⊥)) }
 {
-    let read = read_all(alloc, bank, facts)?;
+    let mut read = read_all(alloc, bank, facts)?;
     let differences = of_differences(alloc, bank, facts, &read)?;
     match differences {
         Some(parts) => Ok(Some(alone(alloc, parts)?)),
@@ -41,7 +42,7 @@ pub fn refute(
             let few = of_few(alloc, bank, facts, &read)?;
             match few {
                 Some(parts) => Ok(Some(alone(alloc, parts)?)),
-                None => Ok(None),
+                None => of_many(alloc, bank, &mut read),
             }
         }
     }

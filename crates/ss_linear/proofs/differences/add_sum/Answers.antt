@@ -1,5 +1,5 @@
-use Rattle.std.proofs.Common.{◌≡◌, sym, subst, refl, ◌<◌, ◌^◌, FitsSigned, rules}
-use Rattle.std.specs.Prelude.{ℤ, unsigned_abs, nat_lt}
+use Rattle.std.proofs.Common.{sym, subst, refl, ◌<◌, ◌^◌, FitsSigned, rules}
+use Rattle.std.specs.Prelude.{ℤ, unsigned_abs}
 use Rattle.std.proofs.lemmas.Bool.{ltb-true}
 use Rattle.std.proofs.lemmas.Int.{to_z-of_z}
 use mir.Syntax.{w128}

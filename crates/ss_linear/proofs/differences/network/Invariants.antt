@@ -1,4 +1,4 @@
-use Rattle.std.proofs.Common.{List, length}
+use Rattle.std.proofs.Common.{List}
 use Rattle.ss_core.specs.Tree.{ClassTree}
 use Rattle.ss_terms.specs.Forms.{HasTerms, formulas_at, IsBankOf}
 use Rattle.ss_linear_network.specs.Made.{IsNetworkOf, IsSound}

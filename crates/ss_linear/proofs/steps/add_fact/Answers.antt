@@ -1,0 +1,12 @@
+use Rattle.std.proofs.Common.{subst, sym, Option, to_z-of_z, arith}
+use Rattle.ss_linear_sums.specs.declared.forms.SumFact.{SumFact}
+use Rattle.ss_linear_sums.specs.Linear.{IsFactOf}
+use Rattle.ss_linear_rules.specs.Two.{fact_at}
+use Rattle.ss_linear.proofs.Results.{fact_read}
+use Rattle.ss_linear.proofs.steps.add_fact.Goals as goal
+
+pub returns-then-place-facts-clause-added : goal.returns-then-place-facts-clause-added
+returns-then-place-facts-clause-added c = λ cs known h.
+    rw (to_z-of_z c.ranges.weight) at (c.add_read.ensures.added (fact_at cs known c.args.place)
+    (subst (λ (o : Option SumFact). IsFactOf c.args.bank.now o (fact_at cs known c.args.place)) (sym c.index-facts-place.is)
+    (fact_read cs c.args.bank.now known c.args.facts.now c.args.place c.index-facts-place.result h (let l = c.if-place-facts.true in omega arith))))
