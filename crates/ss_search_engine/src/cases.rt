@@ -107,7 +107,7 @@ impl Engine {
         }
     }
 
-    // Looks ahead, and asks for more where that finds nothing.
+    // Looks ahead, and asks for more where that finds nothing; at the end looks at all numbers together.
     fn look_or_widen(&mut self, bank: &Bank, program: &Classes) -> Result<Closed, AllocError> {
         if self.look_ahead(bank)? {
             return self.after_look(bank);
@@ -118,7 +118,7 @@ impl Engine {
         {
             Ok(Closed::Next(Step::Goes))
         } else {
-            Ok(Closed::Next(Step::Rests))
+            Ok(Closed::Next(self.state.refute_numbers(bank)?))
         }
     }
 

@@ -1,13 +1,18 @@
 // Contradictions of what is known of whole numbers.
 
+ghost use Rattle.std.specs.Prelude.{OnOk};
+ghost use Rattle.ss_terms.specs.Forms.{HasFormulas};
+
 use crate::state::{State, Step};
+use ss_deriv::Sum;
+use ss_linear::refute;
 use ss_search_classes::{
     ADD, Conflict, MULTIPLY, NONE, NUMBER, SUBTRACT, is_first, is_term, of_term, pair_argument,
     pair_of, term_argument, term_at, term_head,
 };
 use ss_search_numbers::{Part, Source};
 use ss_search_proof::{Reason, Said};
-use ss_terms::{Bank, Symbol, Term};
+use ss_terms::{Bank, FormulaId, Symbol, Term};
 use std::alloc::AllocError;
 
 /// How deep sums may nest.
@@ -35,6 +40,47 @@ impl State {
         }
         self.counted = (0, 0);
         Ok(Step::Conflict(Conflict::Facts(fact, fact)))
+    }
+
+    /// Looks for a contradiction of the known literals that compare whole numbers, as they stand: of one or two of them, of differences, and
+    /// others.
+    pub fn refute_numbers(&mut self, bank: &Bank) -> Result<Step, AllocError> {
+        let mut formulas = Vec::new(self.alloc);
+        let mut facts = Vec::new(self.alloc);
+        add_literals(bank, &mut formulas, &mut facts, &self.bounds)?;
+        add_literals(bank, &mut formulas, &mut facts, &self.equations)?;
+        match refute(self.alloc, bank, &formulas)? {
+            Some(sums) => self.learn_sums(&sums, facts),
+            None => Ok(Step::Rests),
+        }
+    }
+
+    // A fact for each sum; the last one is a contradiction.
+    fn learn_sums(&mut self, sums: &[Sum], mut facts: Vec<usize>) -> Result<Step, AllocError> {
+        let mut last = NONE;
+        for sum in sums {
+            last = self.learn_sum(sum, &facts)?;
+            facts.push(last)?;
+        }
+        if last == NONE {
+            return Ok(Step::Rests);
+        }
+        Ok(Step::Conflict(Conflict::Facts(last, last)))
+    }
+
+    fn learn_sum(&mut self, sum: &Sum, facts: &[usize]) -> Result<usize, AllocError> {
+        let mut numbers = Vec::new(self.alloc);
+        let from = self.reasons.facts.weights.len();
+        for part in &sum.parts {
+            numbers.push(facts.get(part.0).copied().unwrap_or(NONE))?;
+            self.reasons.facts.weights.push(part.1)?;
+        }
+        let range = self.reasons.facts.keep(&numbers)?;
+        self.reasons.facts.add(
+            Said::Equal(NONE, NONE),
+            Reason::Sum(sum.divisor, range, from),
+            1,
+        )
     }
 
     fn collect_bounds(&mut self, bank: &Bank) -> Result<(), AllocError> {
@@ -218,6 +264,39 @@ impl State {
             Source::Equal(x, y) => self.reasons.equal(bank, &self.equal, x, y),
         }
     }
+}
+
+// Adds known literals that the bank has, and the facts that say them.
+fn add_literals(
+    bank: &Bank,
+    formulas: &mut Vec<FormulaId>,
+    facts: &mut Vec<usize>,
+    literals: &[(usize, usize)],
+) -> Result<(), AllocError>
+    requires { HasFormulas bank.now formulas.old.items }
+    ensures { OnOk result (HasFormulas bank.now formulas.new.items) }
+{
+    for known in literals {
+        add_literal(bank, formulas, facts, *known)?;
+    }
+    Ok(())
+}
+
+fn add_literal(
+    bank: &Bank,
+    formulas: &mut Vec<FormulaId>,
+    facts: &mut Vec<usize>,
+    known: (usize, usize),
+) -> Result<(), AllocError>
+    requires { HasFormulas bank.now formulas.old.items }
+    ensures { OnOk result (HasFormulas bank.now formulas.new.items) }
+{
+    let formula = FormulaId(known.0);
+    if bank.has_formula(formula) {
+        formulas.push(formula)?;
+        facts.push(known.1)?;
+    }
+    Ok(())
 }
 
 // The number that a term is.

@@ -3,7 +3,7 @@
 use crate::requests::{Request, Wanted, new_request};
 use ss_search_classes::{
     AND, AT_MOST, Classes as Equal, Conflict, EQUAL, EXISTS, Event, FORALL, GOOD, Keys, LITERAL,
-    NONE, OR, SUB, is_first, is_truth, is_value, kind_of, of_pair, of_term, opposite,
+    NONE, OR, SUB, is_first, is_truth, is_value, is_whole, kind_of, of_pair, of_term, opposite,
     pair_argument, pair_head, pair_of, part_at, part_count,
 };
 use ss_search_instances::{Asked, Clause, Heads, Marks};
@@ -35,6 +35,7 @@ pub struct Mark {
     pub paths: usize,
     pub weights: usize,
     pub bounds: usize,
+    pub equations: usize,
 }
 
 /// What a step of the search came to.
@@ -77,6 +78,8 @@ pub struct State {
     /// The known literals that compare numbers, each with its fact, and what they come to.
     pub(crate) bounds: Vec<(usize, usize)>,
     pub(crate) rows: Rows,
+    /// The known equations of whole numbers, each with its fact.
+    pub(crate) equations: Vec<(usize, usize)>,
     /// The sums, differences and products of the bank.
     pub(crate) sums: Vec<usize>,
     /// The terms of the bank that read or change an element.
@@ -96,6 +99,7 @@ pub fn first_mark() -> Mark {
         paths: 0,
         weights: 0,
         bounds: 0,
+        equations: 0,
     }
 }
 
@@ -132,6 +136,7 @@ impl State {
             has_numbers: false,
             bounds: Vec::new(alloc),
             rows: Rows::new(alloc),
+            equations: Vec::new(alloc),
             sums: Vec::new(alloc),
             elements: Vec::new(alloc),
             counted: (0, 0),
@@ -149,6 +154,7 @@ impl State {
             paths: self.reasons.facts.paths_len(),
             weights: self.reasons.facts.weights.len(),
             bounds: self.bounds.len(),
+            equations: self.equations.len(),
         }
     }
 
@@ -159,6 +165,7 @@ impl State {
         self.asked.undo(mark.asked);
         self.seen.undo(mark.seen);
         self.bounds.truncate(mark.bounds);
+        self.equations.truncate(mark.equations);
     }
 
     /// Takes back what came after a mark, facts too, and forgets all blocks.
@@ -371,6 +378,9 @@ impl State {
         self.equal.add(bank, of_term(left))?;
         self.equal.add(bank, of_term(right))?;
         if is_first(formula) {
+            if is_whole(bank, left) {
+                self.equations.push((formula, fact))?;
+            }
             return step_of(self.equal.merge(bank, of_term(left), of_term(right), fact)?);
         }
         let step = step_of(self.equal.separate(of_term(left), of_term(right), fact)?)?;
