@@ -8,7 +8,7 @@ use ss_terms::{Bank, TermId};
 use std::alloc::{AllocError, Global};
 
 /// An argument of a rule: a term of a bank, a number or a class.
-#[derive(Clone, Copy)]
+#[derive(Clone, Copy, PartialEq, Eq)]
 pub enum Argument {
     /// A term.
     Term(TermId),
@@ -19,7 +19,7 @@ pub enum Argument {
 }
 
 /// A rule: one that is true in every structure, or at a store one on good stores or the one on invariants.
-#[derive(Clone, Copy)]
+#[derive(Clone, Copy, PartialEq, Eq)]
 pub enum Rule {
     /// A rule that is true in every structure.
     True(RuleName),
@@ -30,7 +30,7 @@ pub enum Rule {
 }
 
 /// An instance that is asked for.
-#[derive(Drop)]
+#[derive(Drop, PartialEq, Eq)]
 pub struct Asked {
     /// The rule.
     pub rule: Rule,

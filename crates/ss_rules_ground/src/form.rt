@@ -14,6 +14,7 @@ use crate::rounds::closed_rounds;
 use ss_core::Classes;
 use ss_rules_occurring::FormulaList;
 use ss_rules_opened::start;
+use ss_rules_said::Made;
 use ss_terms::{Bank, FormulaId};
 use std::alloc::{AllocError, Global};
 
@@ -76,7 +77,8 @@ pub fn ground(
     ensures grown { IsGrown bank.old bank.new }
 {
     let mut list = started(alloc, bank, classes, premises, goal)?;
-    let few = closed_rounds(alloc, bank, classes, &mut list, rounds, limit)?;
+    let mut made = Made::new(alloc);
+    let few = closed_rounds(alloc, bank, classes, &mut list, &mut made, rounds, limit)?;
     if !few {
         return Ok(GroundForm::TooMany);
     }

@@ -10,6 +10,7 @@ ghost use Rattle.ss_logic_ground.specs.Occurring as occurring;
 ghost use Rattle.ss_logic_ground.specs.Occurring.{with_formulas};
 ghost use Rattle.ss_rules_asked.specs.Numbers.{Asks};
 ghost use Rattle.ss_terms.specs.Forms.{formula_at, formulas_at, HasFormula, HasFormulas, IsGrown, IsBankOf};
+ghost use Rattle.ss_rules_said.specs.AreMade.{AreMade};
 ghost use Rattle.ss_rules_occurring.specs.Found.{formulas_of, HasFound, Holds};
 ghost use Rattle.ss_rules_ground.specs.Comes.{Comes, IsClosed};
 
@@ -18,7 +19,7 @@ use ss_rules_asked::{Asked, asked_to_close};
 use ss_rules_asked_first::asked_first;
 use ss_rules_matching::add_forall_instances;
 use ss_rules_occurring::{FormulaList, atoms, quantified, terms};
-use ss_rules_said::add_said;
+use ss_rules_said::{Made, add_said};
 use ss_terms::{Bank, FormulaId};
 use std::alloc::{AllocError, Global};
 
@@ -44,15 +45,18 @@ fn add_due(
     bank: &mut Bank,
     classes: &Classes,
     list: &mut FormulaList,
+    made: &mut Made,
 ) -> Result<(), AllocError>
     requires bank { IsBankOf (view.classes classes.now) bank.old }
     requires limits { IsWithinLimits (view.classes classes.now) }
     requires list { HasFound bank.old list.old }
+    requires made { AreMade (view.classes classes.now) bank.old made.old }
     ensures added { OnOk result (Holds bank.new list.new (with_formulas (formulas_of bank.old list.old) (spec.due (view.classes classes.now) (formulas_of bank.old list.old)))) }
+    ensures made { OnOk result (AreMade (view.classes classes.now) bank.new made.new) }
     ensures grown { IsGrown bank.old bank.new }
 {
     let asked = due(alloc, bank, classes, list)?;
-    add_said(alloc, bank, classes, list, &asked)
+    made.add_said(alloc, bank, classes, list, asked)
 }
 
 /// Adds what is due again until nothing is new. Answers whether there are at most `limit` formulas.
@@ -61,18 +65,21 @@ pub(crate) fn close(
     bank: &mut Bank,
     classes: &Classes,
     list: &mut FormulaList,
+    made: &mut Made,
     limit: usize,
 ) -> Result<bool, AllocError>
     requires bank { IsBankOf (view.classes classes.now) bank.old }
     requires limits { IsWithinLimits (view.classes classes.now) }
     requires list { HasFound bank.old list.old }
+    requires made { AreMade (view.classes classes.now) bank.old made.old }
     ensures closed { IfOk result (λ few. Comes bank.new few list.new (spec.closed (view.classes classes.now) limit (formulas_of bank.old list.old))) }
+    ensures made { OnOk result (AreMade (view.classes classes.now) bank.new made.new) }
     ensures grown { IsGrown bank.old bank.new }
 {
     for step in 0..limit {
         let _ = step;
         let before = list.list.len();
-        add_due(alloc, bank, classes, list)?;
+        add_due(alloc, bank, classes, list, made)?;
         let after = list.list.len();
         if after > limit {
             return Ok(false);
@@ -124,15 +131,18 @@ fn at_forall(
     bank: &mut Bank,
     classes: &Classes,
     list: &mut FormulaList,
+    made: &mut Made,
     f: FormulaId,
     limit: usize,
 ) -> Result<bool, AllocError>
     requires bank { IsBankOf (view.classes classes.now) bank.old }
     requires limits { IsWithinLimits (view.classes classes.now) }
     requires list { HasFound bank.old list.old }
+    requires made { AreMade (view.classes classes.now) bank.old made.old }
     requires was_closed { IsClosed (view.classes classes.now) limit (formulas_of bank.old list.old) }
     requires formula { HasFormula bank.old f }
     ensures closed { IfOk result (λ few. Comes bank.new few list.new (spec.closed (view.classes classes.now) limit (with_formulas (formulas_of bank.old list.old) (forall_instances (formulas_of bank.old list.old) (formula_at bank.old f))))) }
+    ensures made { OnOk result (AreMade (view.classes classes.now) bank.new made.new) }
     ensures grown { IsGrown bank.old bank.new }
 {
     let before = list.list.len();
@@ -141,7 +151,7 @@ fn at_forall(
     if after == before {
         return Ok(true);
     }
-    close(alloc, bank, classes, list, limit)
+    close(alloc, bank, classes, list, made, limit)
 }
 
 // Does so with each of them, from the last to the first.
@@ -150,21 +160,24 @@ fn at_foralls(
     bank: &mut Bank,
     classes: &Classes,
     list: &mut FormulaList,
+    made: &mut Made,
     fs: &[FormulaId],
     limit: usize,
 ) -> Result<bool, AllocError>
     requires bank { IsBankOf (view.classes classes.now) bank.old }
     requires limits { IsWithinLimits (view.classes classes.now) }
     requires list { HasFound bank.old list.old }
+    requires made { AreMade (view.classes classes.now) bank.old made.old }
     requires was_closed { IsClosed (view.classes classes.now) limit (formulas_of bank.old list.old) }
     requires formulas { HasFormulas bank.old fs.now }
     ensures closed { IfOk result (λ few. Comes bank.new few list.new (spec.foralls_step (view.classes classes.now) limit (reverse (formulas_at bank.old fs.now)) (formulas_of bank.old list.old))) }
+    ensures made { OnOk result (AreMade (view.classes classes.now) bank.new made.new) }
     ensures grown { IsGrown bank.old bank.new }
 {
     let mut i = fs.len();
     while i > 0 {
         i -= 1;
-        let few = at_forall(alloc, bank, classes, list, fs[i], limit)?;
+        let few = at_forall(alloc, bank, classes, list, made, fs[i], limit)?;
         if !few {
             return Ok(false);
         }
@@ -178,16 +191,19 @@ fn first(
     bank: &mut Bank,
     classes: &Classes,
     list: &mut FormulaList,
+    made: &mut Made,
     limit: usize,
 ) -> Result<bool, AllocError>
     requires bank { IsBankOf (view.classes classes.now) bank.old }
     requires limits { IsWithinLimits (view.classes classes.now) }
     requires list { HasFound bank.old list.old }
+    requires made { AreMade (view.classes classes.now) bank.old made.old }
     ensures closed { IfOk result (λ few. Comes bank.new few list.new (spec.closed (view.classes classes.now) limit (with_formulas (formulas_of bank.old list.old) (spec.first_step (view.classes classes.now) (formulas_of bank.old list.old))))) }
+    ensures made { OnOk result (AreMade (view.classes classes.now) bank.new made.new) }
     ensures grown { IsGrown bank.old bank.new }
 {
     add_first(alloc, bank, classes, list)?;
-    close(alloc, bank, classes, list, limit)
+    close(alloc, bank, classes, list, made, limit)
 }
 
 // Does a round, of which these are the quantified formulas.
@@ -196,21 +212,24 @@ fn round_with(
     bank: &mut Bank,
     classes: &Classes,
     list: &mut FormulaList,
+    made: &mut Made,
     fs: &[FormulaId],
     limit: usize,
 ) -> Result<bool, AllocError>
     requires bank { IsBankOf (view.classes classes.now) bank.old }
     requires limits { IsWithinLimits (view.classes classes.now) }
     requires list { HasFound bank.old list.old }
+    requires made { AreMade (view.classes classes.now) bank.old made.old }
     requires formulas { HasFormulas bank.old fs.now }
     ensures done { IfOk result (λ few. Comes bank.new few list.new (option_and_then (spec.foralls_step (view.classes classes.now) limit (reverse (formulas_at bank.old fs.now))) (spec.closed (view.classes classes.now) limit (with_formulas (formulas_of bank.old list.old) (spec.first_step (view.classes classes.now) (formulas_of bank.old list.old)))))) }
+    ensures made { OnOk result (AreMade (view.classes classes.now) bank.new made.new) }
     ensures grown { IsGrown bank.old bank.new }
 {
-    let few = first(alloc, bank, classes, list, limit)?;
+    let few = first(alloc, bank, classes, list, made, limit)?;
     if !few {
         return Ok(false);
     }
-    at_foralls(alloc, bank, classes, list, fs, limit)
+    at_foralls(alloc, bank, classes, list, made, fs, limit)
 }
 
 // Does a round.
@@ -219,16 +238,19 @@ fn round(
     bank: &mut Bank,
     classes: &Classes,
     list: &mut FormulaList,
+    made: &mut Made,
     limit: usize,
 ) -> Result<bool, AllocError>
     requires bank { IsBankOf (view.classes classes.now) bank.old }
     requires limits { IsWithinLimits (view.classes classes.now) }
     requires list { HasFound bank.old list.old }
+    requires made { AreMade (view.classes classes.now) bank.old made.old }
     ensures done { IfOk result (λ few. Comes bank.new few list.new (spec.round (view.classes classes.now) limit (formulas_of bank.old list.old))) }
+    ensures made { OnOk result (AreMade (view.classes classes.now) bank.new made.new) }
     ensures grown { IsGrown bank.old bank.new }
 {
     let found = quantified(alloc, bank, &list.list)?;
-    round_with(alloc, bank, classes, list, &found.list, limit)
+    round_with(alloc, bank, classes, list, made, &found.list, limit)
 }
 
 // Does so many rounds.
@@ -237,18 +259,21 @@ fn rounds(
     bank: &mut Bank,
     classes: &Classes,
     list: &mut FormulaList,
+    made: &mut Made,
     count: usize,
     limit: usize,
 ) -> Result<bool, AllocError>
     requires bank { IsBankOf (view.classes classes.now) bank.old }
     requires limits { IsWithinLimits (view.classes classes.now) }
     requires list { HasFound bank.old list.old }
+    requires made { AreMade (view.classes classes.now) bank.old made.old }
     ensures done { IfOk result (λ few. Comes bank.new few list.new (spec.rounds_of (view.classes classes.now) limit count (formulas_of bank.old list.old))) }
+    ensures made { OnOk result (AreMade (view.classes classes.now) bank.new made.new) }
     ensures grown { IsGrown bank.old bank.new }
 {
     for number in 0..count {
         let _ = number;
-        let few = round(alloc, bank, classes, list, limit)?;
+        let few = round(alloc, bank, classes, list, made, limit)?;
         if !few {
             return Ok(false);
         }
@@ -262,18 +287,21 @@ pub(crate) fn closed_rounds(
     bank: &mut Bank,
     classes: &Classes,
     list: &mut FormulaList,
+    made: &mut Made,
     count: usize,
     limit: usize,
 ) -> Result<bool, AllocError>
     requires bank { IsBankOf (view.classes classes.now) bank.old }
     requires limits { IsWithinLimits (view.classes classes.now) }
     requires list { HasFound bank.old list.old }
+    requires made { AreMade (view.classes classes.now) bank.old made.old }
     ensures done { IfOk result (λ few. Comes bank.new few list.new (option_and_then (spec.rounds_of (view.classes classes.now) limit count) (spec.closed (view.classes classes.now) limit (formulas_of bank.old list.old)))) }
+    ensures made { OnOk result (AreMade (view.classes classes.now) bank.new made.new) }
     ensures grown { IsGrown bank.old bank.new }
 {
-    let few = close(alloc, bank, classes, list, limit)?;
+    let few = close(alloc, bank, classes, list, made, limit)?;
     if !few {
         return Ok(false);
     }
-    rounds(alloc, bank, classes, list, count, limit)
+    rounds(alloc, bank, classes, list, made, count, limit)
 }

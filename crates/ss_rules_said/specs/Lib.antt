@@ -1,1 +1,2 @@
+pub mod AreMade
 pub mod Said

@@ -2,6 +2,8 @@
 #![tactic(auto)]
 
 mod arguments;
+mod made;
 mod saying;
 
+pub use made::Made;
 pub use saying::add_said;

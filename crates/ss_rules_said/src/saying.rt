@@ -115,7 +115,7 @@ fn say_at(
 }
 
 // What an instance says, where its arguments fit the rule.
-fn say(
+pub(crate) fn say(
     alloc: Global,
     bank: &mut Bank,
     classes: &Classes,
@@ -133,7 +133,7 @@ fn say(
 }
 
 // Adds a formula, if there is one.
-fn add_found(
+pub(crate) fn add_found(
     bank: &Bank,
     list: &mut FormulaList,
     found: Option<FormulaId>,

@@ -19,3 +19,6 @@ returns-clause-exact c =
 
 pub returns-clause-in_bank : goal.returns-clause-in_bank
 returns-clause-in_bank c = c.in_ok-few.ensures.done.has.has
+
+pub closed_rounds-requires-clause-made : goal.closed_rounds-requires-clause-made
+closed_rounds-requires-clause-made c = c.new-made.ensures (view.classes c.args.classes.now) c.started.new.bank

@@ -5,6 +5,7 @@ use Rattle.ss_logic_ground.specs.Matching.{forall_instances}
 use Rattle.ss_terms.specs.Forms.{formula_at}
 use Rattle.ss_rules_occurring.specs.Found.{formulas_of}
 use Rattle.ss_rules_occurring.proofs.Sought.{holds_itself}
+use Rattle.ss_rules_said.proofs.Again.{AreMade-grown}
 use Rattle.ss_rules_ground.proofs.Coming.{still_closed, ok_comes}
 use Rattle.ss_rules_ground.proofs.rounds.at_forall.Goals as goal
 
@@ -20,3 +21,9 @@ close-requires-clause-list c = holds_itself c.add_forall_instances.new.bank c.ad
 pub returns-clause-closed : goal.returns-clause-closed
 returns-clause-closed c =
     ok_comes c.close.result c.close.new.bank c.close.new.list _ _ (ap (closed (view.classes c.args.classes.now) c.args.limit) c.in_ok-add_forall_instances.ensures.added.are) c.close.ensures.closed
+
+pub close-requires-clause-made : goal.close-requires-clause-made
+close-requires-clause-made c = AreMade-grown (view.classes c.args.classes.now) c.args.bank.now c.add_forall_instances.new.bank c.add_forall_instances.ensures.grown c.args.made.now c.requires.made
+
+pub returns-then-after-before-clause-made : goal.returns-then-after-before-clause-made
+returns-then-after-before-clause-made c = AreMade-grown (view.classes c.args.classes.now) c.args.bank.now c.add_forall_instances.new.bank c.add_forall_instances.ensures.grown c.args.made.now c.requires.made

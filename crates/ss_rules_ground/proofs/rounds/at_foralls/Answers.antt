@@ -18,6 +18,7 @@ loop-i-preserved c =
       within = omega (arith, within);
       grown = IsGrown-then c.args.bank.now c.loop-i.bank c.at_forall.new.bank c.loop-i.invariant.grown c.at_forall.ensures.grown;
       has = c.in_ok-few.ensures.closed.has;
+      made = c.in_ok-few.ensures.made;
       still = closed_now (view.classes c.args.classes.now) c.args.limit c.at_forall.new.bank c.at_forall.new.list c.in_ok-few.few _ c.in_ok-few.ensures.closed c.if-not-few.false;
       left = forall_goes_on (view.classes c.args.classes.now) c.args.limit c.args.bank.now c.loop-i.bank c.at_forall.new.bank c.args.fs.now (c.loop-i.i - 1) c.loop-i.i next (record { 0 = 0 }) c.loop-i.list c.at_forall.new.list _ within c.requires.formulas c.loop-i.invariant.grown
           c.in_ok-few.few c.loop-i.invariant.left c.in_ok-few.ensures.closed c.if-not-few.false;

@@ -2,6 +2,7 @@ use Rattle.std.proofs.Common.{ap}
 use Rattle.ss_core.specs.View as view
 use Rattle.ss_logic_ground.specs.Ground.{closed}
 use Rattle.ss_rules_occurring.proofs.Sought.{holds_itself}
+use Rattle.ss_rules_said.proofs.Again.{AreMade-grown}
 use Rattle.ss_rules_ground.proofs.Coming.{ok_comes}
 use Rattle.ss_rules_ground.proofs.rounds.first.Goals as goal
 
@@ -10,3 +11,6 @@ close-requires-clause-list c = holds_itself c.add_first.new.bank c.add_first.new
 
 pub returns-clause-closed : goal.returns-clause-closed
 returns-clause-closed c = ok_comes c.close.result c.close.new.bank c.close.new.list _ _ (ap (closed (view.classes c.args.classes.now) c.args.limit) c.in_ok-add_first.ensures.added.are) c.close.ensures.closed
+
+pub close-requires-clause-made : goal.close-requires-clause-made
+close-requires-clause-made c = AreMade-grown (view.classes c.args.classes.now) c.args.bank.now c.add_first.new.bank c.add_first.ensures.grown c.args.made.now c.requires.made

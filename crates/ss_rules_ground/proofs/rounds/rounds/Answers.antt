@@ -7,6 +7,7 @@ pub loop-number-preserved : goal.loop-number-preserved
 loop-number-preserved c = record {
   grown = IsGrown-then c.args.bank.now c.loop-number.bank c.round.new.bank c.loop-number.invariant.grown c.round.ensures.grown;
   has = c.in_ok-few.ensures.done.has;
+  made = c.in_ok-few.ensures.made;
   left = round_goes_on (view.classes c.args.classes.now) c.args.limit c.args.count c.loop-number.number c.loop-number.bank c.round.new.bank c.loop-number.list c.round.new.list _ c.loop-number-test.true c.in_ok-few.few c.loop-number.invariant.left c.in_ok-few.ensures.done c.if-not-few.false;
 }
 

@@ -1,6 +1,6 @@
 use Rattle.ss_terms.proofs.Grown.{IsGrown-then}
 use Rattle.ss_rules_asked.proofs.Grown.{HasArgument-grown, HasArguments-get}
-use Rattle.ss_rules_said.proofs.Made.{arguments_next, terms_pushed}
+use Rattle.ss_rules_said.proofs.Making.{arguments_next, terms_pushed}
 use Rattle.ss_rules_said.proofs.arguments.terms_of_arguments.Goals as goal
 
 pub term_of_argument-requires : goal.term_of_argument-requires

@@ -1,5 +1,5 @@
 use Rattle.ss_rules_occurring.proofs.Growing.{HasFound-grown}
-use Rattle.ss_rules_said.proofs.Made.{number_is, number_has, ok_holds_in}
+use Rattle.ss_rules_said.proofs.Making.{number_is, number_has, ok_holds_in}
 use Rattle.ss_rules_said.proofs.saying.add_one_said.Goals as goal
 
 pub add_found-requires-clause-list : goal.add_found-requires-clause-list

@@ -7,7 +7,7 @@ use Rattle.ss_rules_asked.proofs.Grown.{HasRule-grown, HasArguments-grown, HasAs
 use Rattle.ss_terms.proofs.Grown.{IsGrown-then}
 use Rattle.ss_rules_occurring.specs.Found.{formulas_of, Holds}
 use Rattle.ss_rules_said.specs.Said.{with_said}
-use Rattle.ss_rules_said.proofs.Made.{said_next}
+use Rattle.ss_rules_said.proofs.Making.{said_next}
 use Rattle.ss_rules_said.proofs.saying.add_said.Goals as goal
 
 pub loop-one-preserved : goal.loop-one-preserved

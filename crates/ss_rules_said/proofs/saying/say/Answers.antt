@@ -4,7 +4,7 @@ use Rattle.ss_logic_ground.specs.Asked.{said}
 use Rattle.ss_terms.specs.Forms.{terms_at}
 use Rattle.ss_rules_asked.specs.Numbers.{rule_at, arguments_at, asked_with}
 use Rattle.ss_rules_asked.proofs.Grown.{HasRule-grown, rule_at-grown}
-use Rattle.ss_rules_said.proofs.Made.{ok_number}
+use Rattle.ss_rules_said.proofs.Making.{ok_number}
 use Rattle.ss_rules_said.proofs.saying.say.Goals as goal
 
 pub say_at-requires-clause-rule : goal.say_at-requires-clause-rule

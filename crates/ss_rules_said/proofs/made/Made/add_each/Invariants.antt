@@ -1,0 +1,17 @@
+use Rattle.std.proofs.Common.{◌≡◌, length, take}
+use Rattle.ss_core.specs.View as view
+use Rattle.ss_logic_ground.specs.Asked.{all_said}
+use Rattle.ss_logic_ground.specs.Occurring.{with_formulas}
+use Rattle.ss_terms.specs.Forms.{IsGrown}
+use Rattle.ss_rules_asked.specs.Numbers.{asked_in}
+use Rattle.ss_rules_occurring.specs.Found.{formulas_of, Holds}
+use Rattle.ss_rules_said.specs.AreMade.{AreNumbers}
+use Rattle.ss_rules_said.proofs.made.Made.add_each.Given as goal
+
+abbrev pub invariant-loop-one : goal.invariant-loop-one
+invariant-loop-one l = record {
+  grown : IsGrown l.initial.bank l.bank;
+  added : Holds l.bank l.list (with_formulas (formulas_of l.initial.bank l.initial.list) (all_said (view.classes l.classes) (asked_in l.initial.bank (take l.one-index l.asked))));
+  count : l.one-index ≡ length l.all.items;
+  numbers : AreNumbers (view.classes l.classes) l.bank l.asked l.all.items;
+}

@@ -1,0 +1,156 @@
+// Instances that aren't made again.
+
+ghost use Rattle.std.specs.Prelude.{IfOk, IfSome, OnOk, List};
+ghost use Rattle.ss_core.specs.Chain.{IsWithinLimits};
+ghost use Rattle.ss_core.specs.View as view;
+ghost use Rattle.ss_core.specs.Tree.{ClassTree};
+ghost use Rattle.ss_logic_ground.specs.Asked.{said, all_said};
+ghost use Rattle.ss_logic_ground.specs.Occurring.{with_formulas};
+ghost use Rattle.ss_terms.specs.Forms.{Forms, IsFormulaNumber, IsGrown, IsBankOf};
+ghost use Rattle.ss_rules_asked.specs.Numbers.{asked_at, asked_in, HasAsked, HasRule, HasArguments};
+ghost use Rattle.ss_rules_occurring.specs.Found.{formulas_of, HasFound, Holds};
+ghost use Rattle.ss_rules_said.specs.AreMade.{AreMade, AreNumbers};
+ghost use Rattle.ss_rules_said.specs.Said.{with_said};
+
+use crate::saying::{add_found, say};
+use ss_core::Classes;
+use ss_rules_asked::Asked;
+use ss_rules_occurring::FormulaList;
+use ss_terms::{Bank, FormulaId};
+use std::alloc::{AllocError, Global};
+
+/// Instances that were made, in the order in which they were asked for: what was asked for, and the formula that each says, where its
+/// arguments fit the rule.
+#[derive(Drop)]
+pub struct Made {
+    pub(crate) asked: Vec<Asked>,
+    pub(crate) found: Vec<Option<FormulaId>>,
+}
+
+impl Made {
+    /// None.
+    pub fn new(alloc: Global) -> Made
+        ensures { (cs : List ClassTree) (b : Forms) → AreMade cs b result }
+    {
+        Made {
+            asked: Vec::new(alloc),
+            found: Vec::new(alloc),
+        }
+    }
+
+    // What the instance at a place says, where it is this one.
+    fn at(&self, place: usize, asked: &Asked) -> Option<Option<FormulaId>>
+        ensures { (cs : List ClassTree) (b : Forms) → AreMade cs b self.now → IfSome result (λ o. IsFormulaNumber b (said cs (asked_at b asked.now)) o) }
+    {
+        let one = self.asked.get(place)?;
+        if *one == *asked {
+            let found = self.found.get(place)?;
+            Some(*found)
+        } else {
+            None
+        }
+    }
+
+    // What an instance says, where its arguments fit the rule. It is made where it isn't the one at this place, behind which the place goes.
+    fn say(
+        &self,
+        alloc: Global,
+        bank: &mut Bank,
+        classes: &Classes,
+        place: &mut usize,
+        asked: &Asked,
+    ) -> Result<Option<FormulaId>, AllocError>
+        requires bank { IsBankOf (view.classes classes.now) bank.old }
+        requires limits { IsWithinLimits (view.classes classes.now) }
+        requires made { AreMade (view.classes classes.now) bank.old self.now }
+        requires rule { HasRule bank.old asked.now.rule }
+        requires arguments { HasArguments bank.old asked.now.arguments.items }
+        ensures at { IfOk result (λ o. IsFormulaNumber bank.new (said (view.classes classes.now) (asked_at bank.old asked.now)) o) }
+        ensures grown { IsGrown bank.old bank.new }
+    {
+        match self.at(*place, asked) {
+            Some(found) => {
+                *place = place.saturating_add(1);
+                Ok(found)
+            }
+            None => say(alloc, bank, classes, asked),
+        }
+    }
+
+    /// Adds what each of the instances says to the list, where it isn't there yet. Those that stand here in the same order aren't made
+    /// again. An error is want of memory.
+    pub fn add_said(
+        &mut self,
+        alloc: Global,
+        bank: &mut Bank,
+        classes: &Classes,
+        list: &mut FormulaList,
+        asked: Vec<Asked>,
+    ) -> Result<(), AllocError>
+        requires bank { IsBankOf (view.classes classes.now) bank.old }
+        requires limits { IsWithinLimits (view.classes classes.now) }
+        requires made { AreMade (view.classes classes.now) bank.old self.old }
+        requires list { HasFound bank.old list.old }
+        requires asked { HasAsked bank.old asked.items }
+        ensures added { OnOk result (Holds bank.new list.new (with_formulas (formulas_of bank.old list.old) (all_said (view.classes classes.now) (asked_in bank.old asked.items)))) }
+        ensures made { OnOk result (AreMade (view.classes classes.now) bank.new self.new) }
+        ensures grown { IsGrown bank.old bank.new }
+    {
+        let found = self.add_each(alloc, bank, classes, list, &asked)?;
+        self.asked = asked;
+        self.found = found;
+        Ok(())
+    }
+
+    // Adds what an instance says to the list, where it isn't there yet. Gives what it says.
+    fn add_one(
+        &self,
+        alloc: Global,
+        bank: &mut Bank,
+        classes: &Classes,
+        list: &mut FormulaList,
+        place: &mut usize,
+        asked: &Asked,
+    ) -> Result<Option<FormulaId>, AllocError>
+        requires bank { IsBankOf (view.classes classes.now) bank.old }
+        requires limits { IsWithinLimits (view.classes classes.now) }
+        requires made { AreMade (view.classes classes.now) bank.old self.now }
+        requires list { HasFound bank.old list.old }
+        requires rule { HasRule bank.old asked.now.rule }
+        requires arguments { HasArguments bank.old asked.now.arguments.items }
+        ensures added { OnOk result (Holds bank.new list.new (with_said (formulas_of bank.old list.old) (said (view.classes classes.now) (asked_at bank.old asked.now)))) }
+        ensures at { IfOk result (λ o. IsFormulaNumber bank.new (said (view.classes classes.now) (asked_at bank.old asked.now)) o) }
+        ensures grown { IsGrown bank.old bank.new }
+    {
+        let found = self.say(alloc, bank, classes, place, asked)?;
+        add_found(bank, list, found)?;
+        Ok(found)
+    }
+
+    // Adds what each of the instances says. Gives what each says.
+    fn add_each(
+        &self,
+        alloc: Global,
+        bank: &mut Bank,
+        classes: &Classes,
+        list: &mut FormulaList,
+        asked: &[Asked],
+    ) -> Result<Vec<Option<FormulaId>>, AllocError>
+        requires bank { IsBankOf (view.classes classes.now) bank.old }
+        requires limits { IsWithinLimits (view.classes classes.now) }
+        requires made { AreMade (view.classes classes.now) bank.old self.now }
+        requires list { HasFound bank.old list.old }
+        requires asked { HasAsked bank.old asked.now }
+        ensures added { OnOk result (Holds bank.new list.new (with_formulas (formulas_of bank.old list.old) (all_said (view.classes classes.now) (asked_in bank.old asked.now)))) }
+        ensures numbers { IfOk result (λ fs. AreNumbers (view.classes classes.now) bank.new asked.now fs.items) }
+        ensures grown { IsGrown bank.old bank.new }
+    {
+        let mut all = Vec::new(alloc);
+        let mut place = 0;
+        for one in asked {
+            let found = self.add_one(alloc, bank, classes, list, &mut place, one)?;
+            all.push(found)?;
+        }
+        Ok(all)
+    }
+}
