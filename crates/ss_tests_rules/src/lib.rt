@@ -1,6 +1,6 @@
 //! Tests of the instances of rules: each rule at arguments that fit it, with the sentence that docs/OBLIGATIONS.md gives, and at others;
 //! of the constants that a `choose` may take; of the check of derivations, each line once and faulty ones; of ground forms that were counted
-//! by hand; and of what the search finds.
+//! by hand; of weighted sums that are contradictions; and of what the search finds.
 #![tactic(auto)]
 
 #[cfg(test)]
@@ -23,5 +23,7 @@ mod rows;
 mod rules;
 #[cfg(test)]
 mod searches;
+#[cfg(test)]
+mod sums;
 #[cfg(test)]
 mod words;
