@@ -1,5 +1,5 @@
 -- What becomes of a list, step by step.
-use Rattle.std.proofs.Common.{◌≡◌, ℕ, zero, suc, ◌+◌, ◌-◌, ◌<◌, ◌≤◌, ◌≢◌, List, [], ◌∷◌, ◌++◌, length, map, take, get_or, reverse, Bool, true, false, refl, sym, ◌∙◌, ap, subst, arith, Option, Some, None, if◌then◌else◌, Result, Ok, Err, Vec, Global}
+use Rattle.std.proofs.Common.{◌≡◌, ℕ, suc, ◌+◌, ◌-◌, ◌<◌, ◌≤◌, ◌≢◌, List, [], ◌∷◌, length, take, get_or, reverse, Bool, true, false, refl, sym, ◌∙◌, ap, arith, Option, Some, None, if◌then◌else◌, Result, Ok, Err, Vec, Global}
 use Rattle.std.specs.Prelude.{option_and_then, IfOk, OnOk}
 use Rattle.std.proofs.lemmas.List.{map_push, take_more, reverse-append}
 use Rattle.ss_core.specs.Tree.{ClassTree}

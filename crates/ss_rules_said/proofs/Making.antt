@@ -1,17 +1,16 @@
 -- Instances made in a bank, and lists that they are added to.
-use Rattle.std.proofs.Common.{◌≡◌, ℕ, ◌+◌, ◌<◌, List, [], ◌∷◌, ◌++◌, length, map, take, get_or, refl, sym, ◌∙◌, ap, subst, Result, Ok, Err, Option, Some, None}
-use Rattle.std.specs.Prelude.{IfOk, IfSome, OnOk, option_map, filter_map}
+use Rattle.std.proofs.Common.{◌≡◌, ℕ, ◌+◌, ◌<◌, List, [], ◌∷◌, ◌++◌, length, take, get_or, refl, sym, ◌∙◌, ap, subst, Result, Ok, Err, Option, Some, None}
+use Rattle.std.specs.Prelude.{IfOk, IfSome, OnOk, option_map}
 use Rattle.std.proofs.lemmas.List.{map_push, take_more}
 use Rattle.std.proofs.lemmas.List.Elements.{filter_map-append}
 use Rattle.ss_core.specs.Tree.{ClassTree}
-use Rattle.ss_logic.specs.Terms.{Term}
 use Rattle.ss_logic.specs.Formulas.{Formula}
 use Rattle.ss_logic_ground.specs.Asked as spec
 use Rattle.ss_logic_ground.specs.Asked.{said, all_said}
-use Rattle.ss_logic_ground.specs.Occurring.{with_formula, with_formulas}
+use Rattle.ss_logic_ground.specs.Occurring.{with_formulas}
 use Rattle.ss_terms.specs.declared.forms.TermId.{TermId}
 use Rattle.ss_terms.specs.declared.forms.FormulaId.{FormulaId}
-use Rattle.ss_terms.specs.Forms.{Forms, term_at, terms_at, formula_at, formulas_at, HasTerm, HasTerms, HasFormula, HasFormulas, IsFormulaNumber, IsGrown}
+use Rattle.ss_terms.specs.Forms.{Forms, term_at, terms_at, formula_at, HasTerm, HasTerms, HasFormula, IsFormulaNumber, IsGrown}
 use Rattle.ss_terms.proofs.Grown.{HasTerms-grown, terms_at-grown}
 use Rattle.ss_terms_puts.proofs.Putting.{AreTermsBelow-push}
 use Rattle.ss_rules_asked.specs.declared.asked.Argument.{Argument}

@@ -1,8 +1,7 @@
-use Rattle.std.proofs.Common.{ap, ◌∙◌}
+use Rattle.std.proofs.Common.{ap}
 use Rattle.ss_core.specs.View as view
 use Rattle.ss_logic_ground.specs.Asked.{all_said}
 use Rattle.ss_logic_ground.specs.Occurring.{with_formulas}
-use Rattle.ss_rules_asked.specs.Numbers.{asked_in}
 use Rattle.ss_rules_occurring.specs.Found.{formulas_of}
 use Rattle.ss_rules_ground.proofs.Coming.{ok_added}
 use Rattle.ss_rules_ground.proofs.rounds.add_due.Goals as goal

@@ -1,4 +1,4 @@
-use Rattle.std.proofs.Common.{◌≡◌, ◌+◌, ◌-◌, ◌<◌, length, arith, true, false, refl}
+use Rattle.std.proofs.Common.{◌≡◌, ◌+◌, ◌-◌, ◌<◌, length, arith}
 use Rattle.ss_core.specs.View as view
 use Rattle.ss_terms.proofs.Grown.{IsGrown-then, HasFormula-grown}
 use Rattle.ss_terms.proofs.Parts.{AreBelow-get}

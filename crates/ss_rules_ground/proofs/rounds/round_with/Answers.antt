@@ -1,10 +1,9 @@
-use Rattle.std.proofs.Common.{reverse, ap}
+use Rattle.std.proofs.Common.{reverse}
 use Rattle.ss_core.specs.View as view
 use Rattle.ss_logic_ground.specs.Ground.{foralls_step}
 use Rattle.ss_terms.specs.Forms.{formulas_at}
-use Rattle.ss_terms.proofs.Grown.{HasFormulas-grown, formulas_at-grown}
-use Rattle.ss_rules_occurring.specs.Found.{formulas_of}
-use Rattle.ss_rules_ground.proofs.Coming.{stops, goes_on, ok_comes, closed_now, same_foralls}
+use Rattle.ss_terms.proofs.Grown.{HasFormulas-grown}
+use Rattle.ss_rules_ground.proofs.Coming.{stops, ok_comes, closed_now, same_foralls}
 use Rattle.ss_rules_ground.proofs.rounds.round_with.Goals as goal
 
 pub at_foralls-requires-clause-list : goal.at_foralls-requires-clause-list

@@ -2,7 +2,6 @@ use Rattle.std.proofs.Common.{ap, ◌∙◌}
 use Rattle.std.specs.Prelude.{option_map}
 use Rattle.ss_logic_ground.specs.Asked.{if_good}
 use Rattle.ss_terms.specs.Forms.{term_at, formula_at}
-use Rattle.ss_terms.proofs.Grown.{HasTerm-grown}
 use Rattle.ss_rules_said.proofs.Making.{number_is, number_has, ok_number}
 use Rattle.ss_rules_said.proofs.saying.say_of_invariants.Goals as goal
 
