@@ -154,6 +154,7 @@ impl Engine {
             case: NONE,
             start: self.state.mark(),
             handed: self.handed.len(),
+            clause: place,
         };
         self.next_case(bank, split)
     }
@@ -222,6 +223,7 @@ impl Engine {
             case,
             start: split.start,
             handed: split.handed,
+            clause: split.clause,
         })?;
         self.settle_next(bank)
     }
@@ -280,6 +282,7 @@ impl Engine {
         let Some(split) = self.find_split(fact) else {
             return Ok(Closed::Root(block));
         };
+        self.add_weight(split.formula, split.clause)?;
         self.state.drop_pending();
         self.state.undo(split.start);
         self.state

@@ -22,7 +22,7 @@ pub enum Answer {
 }
 
 /// A split of which a case is open: its block, the fact and the formula of its `or`, the place and the fact of the open case,
-/// what stood when it was opened, and how many hypotheses had been handed over before.
+/// what stood when it was opened, how many hypotheses had been handed over before, and the place of its clause.
 #[derive(Clone, Copy)]
 pub(crate) struct Split {
     pub(crate) block: usize,
@@ -32,6 +32,7 @@ pub(crate) struct Split {
     pub(crate) case: usize,
     pub(crate) start: Mark,
     pub(crate) handed: usize,
+    pub(crate) clause: usize,
 }
 
 /// A search that serves all obligations of a program. What the premises of the last obligation made known stays, and is used
@@ -58,6 +59,11 @@ pub struct Engine {
     pub(crate) literals_first: bool,
     // From which clause on, in their order, an open one is looked for.
     pub(crate) scan_from: usize,
+    // How often a case of the `or` of each pair was refuted, where cases of ground formulas are gone through, the clauses of which one was,
+    // and how many were.
+    pub(crate) weights: Vec<usize>,
+    pub(crate) heavy: Vec<usize>,
+    pub(crate) refuted: usize,
 }
 
 // A number above those of all constants that the bank has.
@@ -110,6 +116,9 @@ impl Engine {
             pending_block: None,
             literals_first: false,
             scan_from: 0,
+            weights: Vec::new(alloc),
+            heavy: Vec::new(alloc),
+            refuted: 0,
         })
     }
 

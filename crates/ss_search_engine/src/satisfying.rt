@@ -7,7 +7,7 @@ use ss_search_classes::{
     pair_of, part_at, part_count,
 };
 use ss_search_proof::{Reason, Said};
-use ss_search_state::{State, Step};
+use ss_search_state::{Mark, State, Step};
 use ss_terms::{Bank, FormulaId};
 use std::alloc::AllocError;
 
@@ -56,6 +56,9 @@ impl Engine {
         for atom in atoms {
             self.state.equal.add(bank, of_pair(pair_of(atom.0)))?;
         }
+        for _ in 0..bank.formula_count() / 2 {
+            self.weights.push(0)?;
+        }
         let step = self.learn_ground(bank, formulas)?;
         self.run_ground(bank, order, step)
     }
@@ -80,9 +83,66 @@ impl Engine {
         Ok(step)
     }
 
+    // The open clause of which cases were refuted most often, by its place, or NONE.
+    fn heavy_clause(&self, bank: &Bank) -> usize {
+        let mut best = NONE;
+        let mut heaviest = 0usize;
+        for place in &self.heavy {
+            let formula = self.state.asked.clause(*place).formula;
+            let weight = self.weight(formula);
+            if weight > heaviest
+                && !self.state.nodes.is_settled(formula)
+                && !is_of_truth(bank, formula)
+                && !self.is_met(bank, formula)
+            {
+                heaviest = weight;
+                best = *place;
+            }
+        }
+        best
+    }
+
+    // How often a case of the `or` was refuted.
+    fn weight(&self, formula: usize) -> usize {
+        match self.weights.get(pair_of(formula)) {
+            Some(weight) => *weight,
+            None => 0,
+        }
+    }
+
+    // A case of the `or` was refuted, whose clause stands at this place.
+    pub(crate) fn add_weight(&mut self, formula: usize, place: usize) -> Result<(), AllocError> {
+        let Some(weight) = self.weights.get_mut(pair_of(formula)) else {
+            return Ok(());
+        };
+        let was = *weight;
+        *weight = was.saturating_add(1);
+        self.refuted = self.refuted.saturating_add(1);
+        if was == 0 {
+            self.heavy.push(place)?;
+        }
+        Ok(())
+    }
+
+    // Takes back all cases.
+    fn begin_again(&mut self, start: Mark) {
+        self.state.drop_pending();
+        self.state.undo(start);
+        self.splits.truncate(0);
+        self.handed.truncate(0);
+    }
+
     fn run_ground(&mut self, bank: &Bank, order: Order, first: Step) -> Result<bool, AllocError> {
         let mut step = first;
+        let start = self.state.mark();
+        let mut most = 50usize;
         for _turn in 0..u64::MAX {
+            if self.refuted > most {
+                self.refuted = 0;
+                most = most.saturating_add(most / 2);
+                self.begin_again(start);
+                step = Step::Goes;
+            }
             match self.advance_ground(bank, order, step)? {
                 Closed::Root(_) => return Ok(false),
                 Closed::Next(Step::Rests) => break,
@@ -117,6 +177,10 @@ impl Engine {
 
     // A known `or` that isn't met, with the fewest open parts, by its place, or NONE.
     fn open_clause(&self, bank: &Bank, order: Order) -> usize {
+        let heavy = self.heavy_clause(bank);
+        if heavy != NONE {
+            return heavy;
+        }
         let best = self.open_clause_of(bank, order, false);
         if best == NONE {
             self.open_clause_of(bank, order, true)
