@@ -251,7 +251,7 @@ impl Builder {
         match meant {
             Meant::One(t) => Ok(*t),
             Meant::Either(_) => self.define(sort, meant),
-            Meant::Says(_) => self.define(sort, meant),
+            Meant::Says(_) | Meant::All(_) | Meant::Any(_) => self.define(sort, meant),
         }
     }
 }

@@ -1,6 +1,7 @@
 -- Chains, by what they join.
-use Rattle.std.proofs.Common.{◌≡◌, ◌*◌, List, [], ◌∷◌, ◌++◌, length, refl, sym, ◌∙◌, ap, arith, Vec, Global, Result}
+use Rattle.std.proofs.Common.{◌≡◌, ◌*◌, List, [], ◌∷◌, ◌++◌, length, refl, sym, ◌∙◌, ap, arith, Vec, Global, Result, Ok, Err}
 use Rattle.std.specs.Prelude.{IfOk}
+use Rattle.std.proofs.lemmas.List.{map_push}
 use Rattle.ss_logic.specs.Formulas.{Formula, Literal, And, Or, Forall, Exists, formulas_from, formula_list}
 use Rattle.ss_logic_express.specs.Express as spec
 use Rattle.ss_terms.specs.declared.forms.FormulaId.{FormulaId}
@@ -8,10 +9,12 @@ use Rattle.ss_terms.specs.declared.forms.Formula.TheVariants as form
 use Rattle.ss_terms.specs.declared.forms.Formula.{Formula as Form}
 use Rattle.ss_terms.specs.Forms.{Forms, formula_at, formulas_at, HasFormula, HasFormulas, IsFormulaForm, IsGrown}
 use Rattle.ss_terms.proofs.Trees.{AreBelow-more}
-use Rattle.ss_terms.proofs.Grown.{IsGrown-then, formulas_at-grown}
-use Rattle.ss_vcgen_express.specs.Numbers.{IsFormula}
+use Rattle.ss_terms.proofs.Grown.{IsGrown-then, HasFormula-grown, formulas_at-grown}
+use Rattle.ss_vcgen_express.specs.declared.meant.Meant.{Meant}
+use Rattle.ss_vcgen_express.specs.declared.meant.Meant.TheVariants as meant
+use Rattle.ss_vcgen_express.specs.Numbers.{meant_at, HasMeant, IsFormula, AreFormulas, IsMeant}
 use Rattle.ss_vcgen_express.specs.Chains.{conjuncts, disjuncts}
-use Rattle.ss_vcgen_express.proofs.Grown.{formula_so}
+use Rattle.ss_vcgen_express.proofs.Grown.{HasFormulas-push}
 
 list_back : (fs : List Formula) → formula_list (formulas_from fs) ≡ fs
 list_back [] = refl
@@ -45,15 +48,33 @@ or_more-is (Or fs) g = refl
 or_more-is (Forall ss f) g = refl
 or_more-is (Exists ss f) g = refl
 
+-- the parts of a formula that was made, in each larger bank
+pub parts_are : {E : Type 0} (r : Result (Vec FormulaId Global) E) (a : Forms) (f : FormulaId) (says : Forms → Formula) (op : Formula → List Formula) → IsFormula a f says → IfOk r (λ v. HasFormulas a v.items) →
+    IfOk r (λ v. formulas_at a v.items ≡ op (formula_at a f)) → IfOk r (λ v. AreFormulas a v.items (λ b. op (says b)))
+parts_are (Ok v) a f says op is h e = record { has = h; are = λ b k. formulas_at-grown a b k v.items h ∙ e ∙ ap op (sym (k.same_formulas f is.has) ∙ is.is b k) }
+parts_are (Err z) a f says op is h e = tt
+
+-- those of a chain are its own
+pub all_parts : (a : Forms) (x : Meant) (fs : Vec FormulaId Global) → x ≡ meant.All fs → HasMeant a x → AreFormulas a fs.items (λ b. conjuncts (spec.said (meant_at b x)))
+all_parts a x fs is h = record { has = rw is at h; are = λ b k. rw is (sym (list_back (formulas_at b fs.items))) }
+
+pub any_parts : (a : Forms) (x : Meant) (fs : Vec FormulaId Global) → x ≡ meant.Any fs → HasMeant a x → AreFormulas a fs.items (λ b. disjuncts (spec.said (meant_at b x)))
+any_parts a x fs is h = record { has = rw is at h; are = λ b k. rw is (sym (list_back (formulas_at b fs.items))) }
+
 -- one more behind the parts
-module _ {E : Type 0} (a c : Forms) (grown : IsGrown a c) (f g : FormulaId) (there : HasFormula a f) (parts : List FormulaId) (has : HasFormulas a parts) (r : Result FormulaId E) where
-  say_grown : (op : Formula → List Formula) → formulas_at a parts ≡ op (formula_at a f) → (b : Forms) → IsGrown a b → formulas_at b parts ++ formula_at b g ∷ [] ≡ op (formula_at b f) ++ formula_at b g ∷ []
-  say_grown op is b k = ap (λ fs. fs ++ formula_at b g ∷ []) (formulas_at-grown a b k parts has ∙ is ∙ ap op (sym (k.same_formulas f there)))
+module _ (a c : Forms) (grown : IsGrown a c) (x y : Forms → Formula) (v w : Vec FormulaId Global) (f : FormulaId) (last : IsFormula a f y) (pushed : w.items ≡ v.items ++ f ∷ []) where
+  has_more : HasFormulas c v.items → HasFormulas c w.items
+  has_more h = rw pushed (HasFormulas-push c v.items f h (HasFormula-grown a c grown f last.has))
 
-  pub and_made : formulas_at a parts ≡ conjuncts (formula_at a f) → IfOk r (λ h. IsFormula c h (λ b. spec.and_of (formulas_at b parts ++ formula_at b g ∷ []))) → IfOk r (λ h. IsFormula c h (λ b. spec.and_more (formula_at b f) (formula_at b g)))
-  and_made is h = formula_so r c (λ b. spec.and_of (formulas_at b parts ++ formula_at b g ∷ [])) (λ b. spec.and_more (formula_at b f) (formula_at b g))
-      (λ b k. ap (λ fs. spec.and_of fs) (say_grown conjuncts is b (IsGrown-then a c b grown k)) ∙ sym (and_more-is (formula_at b f) (formula_at b g))) h
+  are_more : (op : Formula → List Formula) → AreFormulas c v.items (λ b. op (x b)) → (b : Forms) → IsGrown c b → formulas_at b w.items ≡ op (x b) ++ y b ∷ []
+  are_more op h b k =
+      ap (formulas_at b) pushed
+      ∙ map_push (formula_at b) v.items f
+      ∙ ap (λ l. l ++ formula_at b f ∷ []) (h.are b k)
+      ∙ ap (λ z. op (x b) ++ z ∷ []) (last.is b (IsGrown-then a c b grown k))
 
-  pub or_made : formulas_at a parts ≡ disjuncts (formula_at a f) → IfOk r (λ h. IsFormula c h (λ b. spec.or_of (formulas_at b parts ++ formula_at b g ∷ []))) → IfOk r (λ h. IsFormula c h (λ b. spec.or_more (formula_at b f) (formula_at b g)))
-  or_made is h = formula_so r c (λ b. spec.or_of (formulas_at b parts ++ formula_at b g ∷ [])) (λ b. spec.or_more (formula_at b f) (formula_at b g))
-      (λ b k. ap (λ fs. spec.or_of fs) (say_grown disjuncts is b (IsGrown-then a c b grown k)) ∙ sym (or_more-is (formula_at b f) (formula_at b g))) h
+  pub all_more : AreFormulas c v.items (λ b. conjuncts (x b)) → IsMeant c (meant.All w) (λ b. spec.Says (spec.and_more (x b) (y b)))
+  all_more h = record { has = has_more h.has; is = λ b k. ap (λ l. spec.Says (spec.and_of l)) (are_more conjuncts h b k) ∙ ap (λ z. spec.Says z) (sym (and_more-is (x b) (y b))) }
+
+  pub any_more : AreFormulas c v.items (λ b. disjuncts (x b)) → IsMeant c (meant.Any w) (λ b. spec.Says (spec.or_more (x b) (y b)))
+  any_more h = record { has = has_more h.has; is = λ b k. ap (λ l. spec.Says (spec.or_of l)) (are_more disjuncts h b k) ∙ ap (λ z. spec.Says z) (sym (or_more-is (x b) (y b))) }

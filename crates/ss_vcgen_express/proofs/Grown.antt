@@ -1,5 +1,5 @@
 -- What stands for what stays so as the bank grows.
-use Rattle.std.proofs.Common.{◌≡◌, ℕ, zero, suc, ◌+◌, ◌<◌, List, [], ◌∷◌, ◌++◌, length, map, take, get_or, refl, sym, ◌∙◌, ap, arith, Option, Some, None, Result, Ok, Err}
+use Rattle.std.proofs.Common.{◌≡◌, ℕ, zero, suc, ◌+◌, ◌<◌, List, [], ◌∷◌, ◌++◌, length, map, take, get_or, refl, sym, ◌∙◌, ap, arith, Option, Some, None, Result, Ok, Err, Vec, Global}
 use Rattle.std.specs.Prelude.{IfOk}
 use Rattle.std.proofs.lemmas.List.{take_more, map_push}
 use Rattle.ss_logic.specs.Terms as tree
@@ -16,7 +16,7 @@ use Rattle.ss_vcgen_express.specs.declared.sayings.Relation.{Relation}
 use Rattle.ss_vcgen_express.specs.declared.sayings.Relation.TheVariants as relation
 use Rattle.ss_vcgen_express.specs.declared.sayings.Saying.{Saying}
 use Rattle.ss_vcgen_express.specs.declared.sayings.Saying.TheVariants as saying
-use Rattle.ss_vcgen_express.specs.Numbers.{choice_at, choices_at, HasChoice, HasChoices, HasMeant, IsFormula, AreFormulas}
+use Rattle.ss_vcgen_express.specs.Numbers.{choice_at, choices_at, HasChoice, HasChoices, HasMeant, IsFormula, AreFormulas, AreChoices}
 use Rattle.ss_vcgen_express.specs.declared.functions.Function.{Function}
 use Rattle.ss_vcgen_express.specs.Functions.{HasFirst, HasFunction}
 use Rattle.ss_vcgen_express.specs.Sayings.{related, said_so, HasRelation, HasSaying}
@@ -35,6 +35,8 @@ module _ {a b : Forms} (g : IsGrown a b) where
   HasMeant-grown (meant.One t) h = HasTerm-grown a b g t h
   HasMeant-grown (meant.Either cs) h = HasChoices-grown cs.items h
   HasMeant-grown (meant.Says f) h = HasFormula-grown a b g f h
+  HasMeant-grown (meant.All fs) h = HasFormulas-grown a b g fs.items h
+  HasMeant-grown (meant.Any fs) h = HasFormulas-grown a b g fs.items h
 
   pub HasRelation-grown : (r : Relation) → HasRelation a r → HasRelation b r
   HasRelation-grown (relation.SameOwner s) h = HasTerm-grown a b g s h
@@ -115,6 +117,12 @@ pub formula_so : {E : Type 0} (r : Result FormulaId E) (c : Forms) (says others 
     IfOk r (λ f. IsFormula c f says) → IfOk r (λ f. IsFormula c f others)
 formula_so (Ok f) c says others same h = record { has = h.has; is = λ b k. h.is b k ∙ same b k }
 formula_so (Err z) c says others same h = tt
+
+-- the same of choices
+pub choices_so : {E : Type 0} (r : Result (Vec Choice Global) E) (c : Forms) (say others : Forms → List spec.Choice) → ((b : Forms) → IsGrown c b → say b ≡ others b) →
+    IfOk r (λ v. AreChoices c v.items say) → IfOk r (λ v. AreChoices c v.items others)
+choices_so (Ok v) c say others same h = record { has = h.has; are = λ b k. h.are b k ∙ same b k }
+choices_so (Err z) c say others same h = tt
 
 -- ---- one more of a list
 

@@ -22,6 +22,8 @@ abbrev pub meant_at : Forms → Meant → spec.Meant
 meant_at b (meant.One t) = spec.One (term_at b t)
 meant_at b (meant.Either cs) = spec.Either (choices_at b cs.items)
 meant_at b (meant.Says f) = spec.Says (formula_at b f)
+meant_at b (meant.All fs) = spec.Says (spec.and_of (formulas_at b fs.items))
+meant_at b (meant.Any fs) = spec.Says (spec.or_of (formulas_at b fs.items))
 
 -- ---- the bank has them
 
@@ -36,6 +38,8 @@ abbrev pub HasMeant : Forms → Meant → Type 0
 HasMeant b (meant.One t) = HasTerm b t
 HasMeant b (meant.Either cs) = HasChoices b cs.items
 HasMeant b (meant.Says f) = HasFormula b f
+HasMeant b (meant.All fs) = HasFormulas b fs.items
+HasMeant b (meant.Any fs) = HasFormulas b fs.items
 
 -- ---- The bank has them, and in it and in each that it grows to they stand for this.
 

@@ -52,7 +52,11 @@ pub fn any_with(
 }
 
 // The parts of a conjunction; any other is its own part.
-fn conjuncts(bank: &Bank, alloc: Global, f: FormulaId) -> Result<Vec<FormulaId>, AllocError>
+pub(crate) fn conjuncts(
+    bank: &Bank,
+    alloc: Global,
+    f: FormulaId,
+) -> Result<Vec<FormulaId>, AllocError>
     requires { HasFormula bank.now f }
     ensures in_bank { IfOk result (λ v. HasFormulas bank.now v.items) }
     ensures at { IfOk result (λ v. formulas_at bank.now v.items ≡ conjuncts (formula_at bank.now f)) }
@@ -64,7 +68,11 @@ fn conjuncts(bank: &Bank, alloc: Global, f: FormulaId) -> Result<Vec<FormulaId>,
 }
 
 // The parts of a disjunction; any other is its own part.
-fn disjuncts(bank: &Bank, alloc: Global, f: FormulaId) -> Result<Vec<FormulaId>, AllocError>
+pub(crate) fn disjuncts(
+    bank: &Bank,
+    alloc: Global,
+    f: FormulaId,
+) -> Result<Vec<FormulaId>, AllocError>
     requires { HasFormula bank.now f }
     ensures in_bank { IfOk result (λ v. HasFormulas bank.now v.items) }
     ensures at { IfOk result (λ v. formulas_at bank.now v.items ≡ disjuncts (formula_at bank.now f)) }
@@ -73,36 +81,4 @@ fn disjuncts(bank: &Bank, alloc: Global, f: FormulaId) -> Result<Vec<FormulaId>,
         Formula::Or(parts) => Vec::from_slice(alloc, parts),
         _ => Vec::from_slice(alloc, &[f]),
     }
-}
-
-/// Both; a chain is one formula.
-pub fn and_more(
-    alloc: Global,
-    bank: &mut Bank,
-    f: FormulaId,
-    g: FormulaId,
-) -> Result<FormulaId, AllocError>
-    requires first { HasFormula bank.old f }
-    requires second { HasFormula bank.old g }
-    ensures at { IfOk result (λ h. IsFormula bank.new h (λ b. spec.and_more (formula_at b f) (formula_at b g))) }
-    ensures grown { IsGrown bank.old bank.new }
-{
-    let parts = conjuncts(bank, alloc, f)?;
-    all_with(alloc, bank, &parts, g)
-}
-
-/// Either; a chain is one formula.
-pub fn or_more(
-    alloc: Global,
-    bank: &mut Bank,
-    f: FormulaId,
-    g: FormulaId,
-) -> Result<FormulaId, AllocError>
-    requires first { HasFormula bank.old f }
-    requires second { HasFormula bank.old g }
-    ensures at { IfOk result (λ h. IsFormula bank.new h (λ b. spec.or_more (formula_at b f) (formula_at b g))) }
-    ensures grown { IsGrown bank.old bank.new }
-{
-    let parts = disjuncts(bank, alloc, f)?;
-    any_with(alloc, bank, &parts, g)
 }

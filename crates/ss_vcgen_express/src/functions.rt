@@ -108,7 +108,9 @@ pub fn mapped(
             Ok(Meant::One(t))
         }
         Meant::Either(_) => mapped_either(alloc, bank, function, m),
-        Meant::Says(_) => mapped_either(alloc, bank, function, m),
+        Meant::Says(_) | Meant::All(_) | Meant::Any(_) => {
+            mapped_either(alloc, bank, function, m)
+        }
     }
 }
 

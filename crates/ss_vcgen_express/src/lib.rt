@@ -14,7 +14,7 @@ mod scene;
 mod truths;
 mod words;
 
-pub use chains::{all_with, and_more, any_with, or_more};
+pub use chains::{all_with, any_with};
 pub use classes::as_class;
 pub use decided::has_truth_of;
 pub use functions::{Function, mapped, paired};

@@ -5,10 +5,11 @@ ghost use Rattle.ss_logic_express.specs.Express as spec;
 ghost use Rattle.ss_logic.specs.Formulas.{neg};
 ghost use Rattle.ss_terms.specs.Forms.{term_at, symbol_of, IsGrown};
 ghost use Rattle.ss_vcgen_express.specs.Functions.{of_two};
-ghost use Rattle.ss_vcgen_express.specs.Numbers.{meant_at, HasMeant, IsFormula, IsMeant};
+ghost use Rattle.ss_vcgen_express.specs.Chains.{conjuncts, disjuncts};
+ghost use Rattle.ss_vcgen_express.specs.Numbers.{meant_at, HasMeant, IsFormula, AreFormulas, IsMeant};
 ghost use Rattle.ss_vcgen_express.specs.Sayings.{related, HasRelation};
 
-use crate::chains::{and_more, or_more};
+use crate::chains::{conjuncts, disjuncts};
 use crate::functions::{Function, paired};
 use crate::meant::Meant;
 use crate::operations::same_truths;
@@ -18,33 +19,47 @@ use ss_core::Operator;
 use ss_terms::{Bank, FormulaId, Symbol};
 use std::alloc::{AllocError, Global};
 
-// That both are true.
-fn both_said(alloc: Global, bank: &mut Bank, x: &Meant, y: &Meant) -> Result<FormulaId, AllocError>
-    requires first { HasMeant bank.old x.now }
-    requires second { HasMeant bank.old y.now }
-    ensures at { IfOk result (λ h. IsFormula bank.new h (λ b. spec.and_more (spec.said (meant_at b x.now)) (spec.said (meant_at b y.now)))) }
+// The formulas of which it says that all are so.
+fn conjuncts_of(alloc: Global, bank: &mut Bank, x: &Meant) -> Result<Vec<FormulaId>, AllocError>
+    requires { HasMeant bank.old x.now }
+    ensures at { IfOk result (λ v. AreFormulas bank.new v.items (λ b. conjuncts (spec.said (meant_at b x.now)))) }
     ensures grown { IsGrown bank.old bank.new }
 {
     let f = said(alloc, bank, x)?;
-    let g = said(alloc, bank, y)?;
-    and_more(alloc, bank, f, g)
+    conjuncts(bank, alloc, f)
 }
 
-// That either is true.
-fn either_said(
-    alloc: Global,
-    bank: &mut Bank,
-    x: &Meant,
-    y: &Meant,
-) -> Result<FormulaId, AllocError>
-    requires first { HasMeant bank.old x.now }
-    requires second { HasMeant bank.old y.now }
-    ensures at { IfOk result (λ h. IsFormula bank.new h (λ b. spec.or_more (spec.said (meant_at b x.now)) (spec.said (meant_at b y.now)))) }
+// The formulas of which it says that one is so.
+fn disjuncts_of(alloc: Global, bank: &mut Bank, x: &Meant) -> Result<Vec<FormulaId>, AllocError>
+    requires { HasMeant bank.old x.now }
+    ensures at { IfOk result (λ v. AreFormulas bank.new v.items (λ b. disjuncts (spec.said (meant_at b x.now)))) }
     ensures grown { IsGrown bank.old bank.new }
 {
     let f = said(alloc, bank, x)?;
-    let g = said(alloc, bank, y)?;
-    or_more(alloc, bank, f, g)
+    disjuncts(bank, alloc, f)
+}
+
+// The same; those of a chain are handed over.
+fn all_of(alloc: Global, bank: &mut Bank, x: Meant) -> Result<Vec<FormulaId>, AllocError>
+    requires { HasMeant bank.old x }
+    ensures at { IfOk result (λ v. AreFormulas bank.new v.items (λ b. conjuncts (spec.said (meant_at b x)))) }
+    ensures grown { IsGrown bank.old bank.new }
+{
+    match x {
+        Meant::All(fs) => Ok(fs),
+        other => conjuncts_of(alloc, bank, &other),
+    }
+}
+
+fn any_of(alloc: Global, bank: &mut Bank, x: Meant) -> Result<Vec<FormulaId>, AllocError>
+    requires { HasMeant bank.old x }
+    ensures at { IfOk result (λ v. AreFormulas bank.new v.items (λ b. disjuncts (spec.said (meant_at b x)))) }
+    ensures grown { IsGrown bank.old bank.new }
+{
+    match x {
+        Meant::Any(fs) => Ok(fs),
+        other => disjuncts_of(alloc, bank, &other),
+    }
 }
 
 // That they are equal; `bools` says that they are truth values.
@@ -67,26 +82,30 @@ fn equal_said(
     }
 }
 
-// Both are true.
-fn and(alloc: Global, bank: &mut Bank, x: &Meant, y: &Meant) -> Result<Meant, AllocError>
-    requires first { HasMeant bank.old x.now }
+// Both are true; a chain is one formula.
+fn and(alloc: Global, bank: &mut Bank, x: Meant, y: &Meant) -> Result<Meant, AllocError>
+    requires first { HasMeant bank.old x }
     requires second { HasMeant bank.old y.now }
-    ensures at { IfOk result (λ r. IsMeant bank.new r (λ b. spec.Says (spec.and_more (spec.said (meant_at b x.now)) (spec.said (meant_at b y.now))))) }
+    ensures at { IfOk result (λ r. IsMeant bank.new r (λ b. spec.Says (spec.and_more (spec.said (meant_at b x)) (spec.said (meant_at b y.now))))) }
     ensures grown { IsGrown bank.old bank.new }
 {
-    let f = both_said(alloc, bank, x, y)?;
-    Ok(Meant::Says(f))
+    let last = said(alloc, bank, y)?;
+    let mut parts = all_of(alloc, bank, x)?;
+    parts.push(last)?;
+    Ok(Meant::All(parts))
 }
 
-// Either is true.
-fn or(alloc: Global, bank: &mut Bank, x: &Meant, y: &Meant) -> Result<Meant, AllocError>
-    requires first { HasMeant bank.old x.now }
+// Either is true; a chain is one formula.
+fn or(alloc: Global, bank: &mut Bank, x: Meant, y: &Meant) -> Result<Meant, AllocError>
+    requires first { HasMeant bank.old x }
     requires second { HasMeant bank.old y.now }
-    ensures at { IfOk result (λ r. IsMeant bank.new r (λ b. spec.Says (spec.or_more (spec.said (meant_at b x.now)) (spec.said (meant_at b y.now))))) }
+    ensures at { IfOk result (λ r. IsMeant bank.new r (λ b. spec.Says (spec.or_more (spec.said (meant_at b x)) (spec.said (meant_at b y.now))))) }
     ensures grown { IsGrown bank.old bank.new }
 {
-    let f = either_said(alloc, bank, x, y)?;
-    Ok(Meant::Says(f))
+    let last = said(alloc, bank, y)?;
+    let mut parts = any_of(alloc, bank, x)?;
+    parts.push(last)?;
+    Ok(Meant::Any(parts))
 }
 
 // They are equal.
@@ -167,27 +186,27 @@ pub fn operated(
     bank: &mut Bank,
     operator: Operator,
     bools: bool,
-    x: &Meant,
+    x: Meant,
     y: &Meant,
 ) -> Result<Meant, AllocError>
-    requires first { HasMeant bank.old x.now }
+    requires first { HasMeant bank.old x }
     requires second { HasMeant bank.old y.now }
-    ensures at { IfOk result (λ r. IsMeant bank.new r (λ b. spec.operated operator bools (meant_at b x.now) (meant_at b y.now))) }
+    ensures at { IfOk result (λ r. IsMeant bank.new r (λ b. spec.operated operator bools (meant_at b x) (meant_at b y.now))) }
     ensures grown { IsGrown bank.old bank.new }
 {
     match operator {
         Operator::And => and(alloc, bank, x, y),
         Operator::Or => or(alloc, bank, x, y),
-        Operator::Equal => equal(alloc, bank, bools, x, y),
-        Operator::NotEqual => not_equal(alloc, bank, bools, x, y),
-        Operator::Less => compared(alloc, bank, Relation::Less, x, y),
-        Operator::LessEqual => compared(alloc, bank, Relation::AtMost, x, y),
-        Operator::Greater => compared(alloc, bank, Relation::Greater, x, y),
-        Operator::GreaterEqual => compared(alloc, bank, Relation::AtLeast, x, y),
-        Operator::Add => calculated(alloc, bank, Symbol::Add, x, y),
-        Operator::Subtract => calculated(alloc, bank, Symbol::Subtract, x, y),
-        Operator::Multiply => calculated(alloc, bank, Symbol::Multiply, x, y),
-        Operator::Divide => calculated(alloc, bank, Symbol::Quotient, x, y),
-        Operator::Remainder => calculated(alloc, bank, Symbol::Remainder, x, y),
+        Operator::Equal => equal(alloc, bank, bools, &x, y),
+        Operator::NotEqual => not_equal(alloc, bank, bools, &x, y),
+        Operator::Less => compared(alloc, bank, Relation::Less, &x, y),
+        Operator::LessEqual => compared(alloc, bank, Relation::AtMost, &x, y),
+        Operator::Greater => compared(alloc, bank, Relation::Greater, &x, y),
+        Operator::GreaterEqual => compared(alloc, bank, Relation::AtLeast, &x, y),
+        Operator::Add => calculated(alloc, bank, Symbol::Add, &x, y),
+        Operator::Subtract => calculated(alloc, bank, Symbol::Subtract, &x, y),
+        Operator::Multiply => calculated(alloc, bank, Symbol::Multiply, &x, y),
+        Operator::Divide => calculated(alloc, bank, Symbol::Quotient, &x, y),
+        Operator::Remainder => calculated(alloc, bank, Symbol::Remainder, &x, y),
     }
 }

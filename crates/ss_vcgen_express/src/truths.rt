@@ -122,7 +122,7 @@ pub fn over(
     match m {
         Meant::One(t) => say(alloc, bank, saying, *t),
         Meant::Either(_) => over_choices(alloc, bank, m, saying),
-        Meant::Says(_) => over_choices(alloc, bank, m, saying),
+        Meant::Says(_) | Meant::All(_) | Meant::Any(_) => over_choices(alloc, bank, m, saying),
     }
 }
 
@@ -136,6 +136,8 @@ pub fn said(alloc: Global, bank: &mut Bank, m: &Meant) -> Result<FormulaId, Allo
         Meant::One(t) => say(alloc, bank, Saying::IsTrue, *t),
         Meant::Either(_) => over_choices(alloc, bank, m, Saying::IsTrue),
         Meant::Says(f) => Ok(*f),
+        Meant::All(fs) => all(bank, fs),
+        Meant::Any(fs) => any(bank, fs),
     }
 }
 
@@ -215,6 +217,8 @@ pub fn over_two(
     match x {
         Meant::One(t) => over(alloc, bank, y, Saying::Behind(relation, *t)),
         Meant::Either(_) => over_two_choices(alloc, bank, x, y, relation),
-        Meant::Says(_) => over_two_choices(alloc, bank, x, y, relation),
+        Meant::Says(_) | Meant::All(_) | Meant::Any(_) => {
+            over_two_choices(alloc, bank, x, y, relation)
+        }
     }
 }

@@ -82,6 +82,9 @@ pub(crate) fn add_where(
     ensures asked { OnOk result (AreParts bank.new parts.new.items (λ b. parts_at b parts.old.items ++ marked_under (said (meant_at b m.now)) (parts_at b list.now))) }
     ensures grown { IsGrown bank.old bank.new }
 {
+    if list.is_empty() {
+        return Ok(());
+    }
     let f = said(alloc, bank, m)?;
     add_under(bank, parts, list, f)
 }
@@ -110,6 +113,9 @@ fn add_unless(
     ensures asked { OnOk result (AreParts bank.new parts.new.items (λ b. parts_at b parts.old.items ++ marked_under (neg (said (meant_at b m.now))) (parts_at b list.now))) }
     ensures grown { IsGrown bank.old bank.new }
 {
+    if list.is_empty() {
+        return Ok(());
+    }
     let f = denied(alloc, bank, m)?;
     add_under(bank, parts, list, f)
 }

@@ -112,21 +112,21 @@ fn two_meant(
     bank: &mut Bank,
     scene: &Scene<'_>,
     form: Two,
-    x: &Meant,
+    x: Meant,
     y: &Meant,
 ) -> Result<Meant, AllocError>
     requires scene { HasScene bank.old scene.now }
-    requires first { HasMeant bank.old x.now }
+    requires first { HasMeant bank.old x }
     requires second { HasMeant bank.old y.now }
-    ensures at { IfOk result (λ r. IsMeant bank.new r (λ b. two_meant form (scene_at b scene.entry.now) (meant_at b x.now) (meant_at b y.now))) }
+    ensures at { IfOk result (λ r. IsMeant bank.new r (λ b. two_meant form (scene_at b scene.entry.now) (meant_at b x) (meant_at b y.now))) }
     ensures grown { IsGrown bank.old bank.new }
 {
     match form {
         Two::Operation(_, operator, bools) => operated(alloc, bank, operator, bools, x, y),
-        Two::Element(_, sort, _) => element(alloc, bank, scene, sort, x, y),
-        Two::Implies => implied(alloc, bank, x, y),
-        Two::Iff => as_one(alloc, bank, x, y),
-        Two::Owners(_, test, _, _) => owners_answered(alloc, bank, scene, test, x, y),
+        Two::Element(_, sort, _) => element(alloc, bank, scene, sort, &x, y),
+        Two::Implies => implied(alloc, bank, &x, y),
+        Two::Iff => as_one(alloc, bank, &x, y),
+        Two::Owners(_, test, _, _) => owners_answered(alloc, bank, scene, test, &x, y),
     }
 }
 
@@ -344,17 +344,17 @@ pub(crate) fn of_two(
     parts: &mut Vec<Part>,
     list: &[Part],
     form: Two,
-    x: &Meant,
+    x: Meant,
     y: &Meant,
 ) -> Result<Meant, AllocError>
     requires scene { HasScene bank.old scene.now }
-    requires first { HasMeant bank.old x.now }
+    requires first { HasMeant bank.old x }
     requires second { HasMeant bank.old y.now }
     requires parts { HasParts bank.old parts.old.items }
     requires list { HasParts bank.old list.now }
-    ensures expressed { IfOk result (λ r. Expressed bank.new r parts.new.items (λ b. two_meant form (scene_at b scene.entry.now) (meant_at b x.now) (meant_at b y.now)) (λ b. two_asks form (parts_at b parts.old.items) (parts_at b list.now) (scene_at b scene.entry.now) (meant_at b x.now) (meant_at b y.now))) }
+    ensures expressed { IfOk result (λ r. Expressed bank.new r parts.new.items (λ b. two_meant form (scene_at b scene.entry.now) (meant_at b x) (meant_at b y.now)) (λ b. two_asks form (parts_at b parts.old.items) (parts_at b list.now) (scene_at b scene.entry.now) (meant_at b x) (meant_at b y.now))) }
     ensures grown { IsGrown bank.old bank.new }
 {
-    ask_two_behind(alloc, bank, scene, parts, list, form, x, y)?;
+    ask_two_behind(alloc, bank, scene, parts, list, form, &x, y)?;
     two_meant(alloc, bank, scene, form, x, y)
 }

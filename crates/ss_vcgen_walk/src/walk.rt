@@ -325,11 +325,11 @@ pub fn express(
         Expr::Local(_, x) => local(bank, scene, *x),
         Expr::Iff(_, a, b) => {
             let m = express(alloc, bank, sight, scene, parts, a)?;
-            behind(alloc, bank, sight, scene, parts, b, Two::Iff, &m)
+            behind(alloc, bank, sight, scene, parts, b, Two::Iff, m)
         }
         Expr::Implies(_, a, b) => {
             let m = express(alloc, bank, sight, scene, parts, a)?;
-            behind(alloc, bank, sight, scene, parts, b, Two::Implies, &m)
+            behind(alloc, bank, sight, scene, parts, b, Two::Implies, m)
         }
         Expr::Chain(place, first, links) => {
             let m = express(alloc, bank, sight, scene, parts, first)?;
@@ -361,7 +361,7 @@ pub fn express(
         Expr::Owners(place, test, a, b) => {
             let form = owners_form(sight, scene, *place, *test, a, b);
             let m = express(alloc, bank, sight, scene, parts, a)?;
-            behind(alloc, bank, sight, scene, parts, b, form, &m)
+            behind(alloc, bank, sight, scene, parts, b, form, m)
         }
         Expr::Default(_, condition) => default_met(alloc, bank, scene, *condition),
     }
@@ -400,15 +400,15 @@ fn behind(
     parts: &mut Vec<Part>,
     e: &Expr,
     form: Two,
-    m: &Meant,
+    m: Meant,
 ) -> Result<Meant, AllocError>
     requires sight { IsSight sight.now }
     requires scene { HasScene bank.old scene.now }
     requires parts { HasParts bank.old parts.old.items }
-    requires meant { HasMeant bank.old m.now }
+    requires meant { HasMeant bank.old m }
     ensures expressed { IfOk result (λ r. Expressed bank.new r parts.new.items
-        (λ b. two_meant form (scene_at b scene.entry.now) (meant_at b m.now) (spec.meant (expr e.now) (scene_at b scene.entry.now)))
-        (λ b. two_asks form (parts_at b parts.old.items) (marked (expr e.now) (site_at sight.now) (known_at sight.now) (scene_at b scene.entry.now)) (scene_at b scene.entry.now) (meant_at b m.now) (spec.meant (expr e.now) (scene_at b scene.entry.now)))) }
+        (λ b. two_meant form (scene_at b scene.entry.now) (meant_at b m) (spec.meant (expr e.now) (scene_at b scene.entry.now)))
+        (λ b. two_asks form (parts_at b parts.old.items) (marked (expr e.now) (site_at sight.now) (known_at sight.now) (scene_at b scene.entry.now)) (scene_at b scene.entry.now) (meant_at b m) (spec.meant (expr e.now) (scene_at b scene.entry.now)))) }
     ensures grown { IsGrown bank.old bank.new }
 {
     let mut list = Vec::new(alloc);
@@ -429,15 +429,15 @@ fn operation(
     operator: Operator,
     bools: bool,
     told: &FrontTold,
-    m: &Meant,
+    m: Meant,
 ) -> Result<Meant, AllocError>
     requires sight { IsSight sight.now }
     requires scene { HasScene bank.old scene.now }
     requires parts { HasParts bank.old parts.old.items }
-    requires meant { HasMeant bank.old m.now }
+    requires meant { HasMeant bank.old m }
     ensures expressed { (t : ExprTree) → TellsFront told.now t → IfOk result (λ r. Expressed bank.new r parts.new.items
-        (λ b. spec.operated operator bools (meant_at b m.now) (spec.meant (expr e.now) (scene_at b scene.entry.now)))
-        (λ b. two_asks (two.Operation place operator bools) (parts_at b parts.old.items) (marked (expr e.now) (site_at sight.now) (rules.known_right operator t (known_at sight.now)) (scene_at b scene.entry.now)) (scene_at b scene.entry.now) (meant_at b m.now) (spec.meant (expr e.now) (scene_at b scene.entry.now)))) }
+        (λ b. spec.operated operator bools (meant_at b m) (spec.meant (expr e.now) (scene_at b scene.entry.now)))
+        (λ b. two_asks (two.Operation place operator bools) (parts_at b parts.old.items) (marked (expr e.now) (site_at sight.now) (rules.known_right operator t (known_at sight.now)) (scene_at b scene.entry.now)) (scene_at b scene.entry.now) (meant_at b m) (spec.meant (expr e.now) (scene_at b scene.entry.now)))) }
     ensures grown { IsGrown bank.old bank.new }
 {
     let tests = (&*told).on_right(operator, &*sight.tests);
@@ -467,12 +467,12 @@ fn linked(
     place: Place,
     told: &FrontTold,
     ty: Option<Ty>,
-    m: &Meant,
+    m: Meant,
 ) -> Result<Meant, AllocError>
     requires sight { IsSight sight.now }
     requires scene { HasScene bank.old scene.now }
-    requires front { (q : List PartValue) × (t : ExprTree) × Reads bank.old m.now parts.old.items q t sight.now scene.now }
-    ensures expressed { (q : List PartValue) (t : ExprTree) → Reads bank.old m.now parts.old.items q t sight.now scene.entry.now
+    requires front { (q : List PartValue) × (t : ExprTree) × Reads bank.old m parts.old.items q t sight.now scene.now }
+    ensures expressed { (q : List PartValue) (t : ExprTree) → Reads bank.old m parts.old.items q t sight.now scene.entry.now
         → TellsFront told.now t
         → ty ≡ types.type_of (classes scene.entry.now.classes.now) scene.entry.now.types.items t
         → IfOk result (λ r. Reads bank.new r parts.new.items q (link_behind link.now place t) sight.now scene.entry.now) }
@@ -492,8 +492,8 @@ fn linked(
             told,
             m,
         ),
-        Link::Is(class) => of_single(alloc, bank, scene, parts, Single::Is(*class), m),
-        Link::As(class) => of_single(alloc, bank, scene, parts, Single::As(*class), m),
+        Link::Is(class) => of_single(alloc, bank, scene, parts, Single::Is(*class), &m),
+        Link::As(class) => of_single(alloc, bank, scene, parts, Single::As(*class), &m),
     }
 }
 
@@ -522,7 +522,7 @@ fn chain(
     let mut told = FrontTold::new(alloc, first)?;
     for link in links {
         front = linked(
-            alloc, bank, sight, scene, parts, link, place, &told, ty, &front,
+            alloc, bank, sight, scene, parts, link, place, &told, ty, front,
         )?;
         ty = link_type(scene.classes, &scene.types, ty, link);
         told.add(link)?;
@@ -542,12 +542,12 @@ fn stepped(
     place: Place,
     checked: bool,
     ty: Option<Ty>,
-    m: &Meant,
+    m: Meant,
 ) -> Result<Meant, AllocError>
     requires sight { IsSight sight.now }
     requires scene { HasScene bank.old scene.now }
-    requires front { (q : List PartValue) × (t : ExprTree) × Reads bank.old m.now parts.old.items q t sight.now scene.now }
-    ensures expressed { (q : List PartValue) (t : ExprTree) → Reads bank.old m.now parts.old.items q t sight.now scene.entry.now
+    requires front { (q : List PartValue) × (t : ExprTree) × Reads bank.old m parts.old.items q t sight.now scene.now }
+    ensures expressed { (q : List PartValue) (t : ExprTree) → Reads bank.old m parts.old.items q t sight.now scene.entry.now
         → checked ≡ not (rules.is_never_null (site_at sight.now) (known_at sight.now) scene.entry.now.inside_old t)
         → ty ≡ types.type_of (classes scene.entry.now.classes.now) scene.entry.now.types.items t
         → IfOk result (λ r. Reads bank.new r parts.new.items q (step_behind step.now place t) sight.now scene.entry.now) }
@@ -556,13 +556,20 @@ fn stepped(
     match step {
         Step::Field(field) => {
             let form = Single::Field(place, *field, checked);
-            of_single(alloc, bank, scene, parts, form, m)
+            of_single(alloc, bank, scene, parts, form, &m)
         }
         Step::Element(e) => {
             let form = Two::Element(place, element_sort(scene, ty), checked);
             behind(alloc, bank, sight, scene, parts, e, form, m)
         }
-        Step::Length => of_single(alloc, bank, scene, parts, Single::Length(place, checked), m),
+        Step::Length => of_single(
+            alloc,
+            bank,
+            scene,
+            parts,
+            Single::Length(place, checked),
+            &m,
+        ),
     }
 }
 
@@ -591,7 +598,7 @@ fn path(
     for (i, step) in steps.iter().enumerate() {
         let checked = front_may_be_null(sight, scene, first, &steps[..i]);
         front = stepped(
-            alloc, bank, sight, scene, parts, step, place, checked, ty, &front,
+            alloc, bank, sight, scene, parts, step, place, checked, ty, front,
         )?;
         ty = step_type(scene.classes, &scene.types, ty, step);
     }

@@ -50,7 +50,7 @@ behind-returns-clause-expressed t c =
     let a = c.args in
     let says = λ (b : Forms). spec.meant (expr a.e.now) (scene_at b a.scene.now) in
     let say = λ (b : Forms). marked (expr a.e.now) (site_at a.sight.now) (known_at a.sight.now) (scene_at b a.scene.now) in
-    second_behind c.of_two.result a.form a.scene.now c.express.new.bank c.of_two.new.bank a.m.now c.in_ok-n.n a.parts.now.items c.of_two.new.parts.items c.deref.result.now says say c.of_two.ensures.grown
+    second_behind c.of_two.result a.form a.scene.now c.express.new.bank c.of_two.new.bank a.m c.in_ok-n.n a.parts.now.items c.of_two.new.parts.items c.deref.result.now says say c.of_two.ensures.grown
     (subst (λ (l : List Part). Expressed c.express.new.bank c.in_ok-n.n l says say) (sym c.deref.ensures.value) (fresh c.express.new.bank c.in_ok-n.n c.express.new.parts.items c.new-list.result.items says say c.new-list.ensures.items c.in_ok-n.ensures.expressed))
     c.of_two.ensures.expressed
 
@@ -198,7 +198,7 @@ linked-returns-in-Operation-clause-expressed t c = λ q front h told typed.
     let v = c.in-Operation in
     reads_as c.operation.result c.operation.new.bank c.operation.new.parts.items q s sc (BinaryExpr a.place v.operator front (expr v.e)) (link_behind a.link.now a.place front)
     (sym (ap (λ l. link_behind l a.place front) v.is ∙ operation_is v.operator v.e a.place front))
-    (reads_operation c.operation.result s sc a.bank.now c.operation.new.bank a.m.now a.parts.now.items c.operation.new.parts.items q front c.operation.ensures.grown h v.operator a.place (expr v.e) c.is_bool.result
+    (reads_operation c.operation.result s sc a.bank.now c.operation.new.bank a.m a.parts.now.items c.operation.new.parts.items q front c.operation.ensures.grown h v.operator a.place (expr v.e) c.is_bool.result
     (c.is_bool.ensures ∙ ap is_bool typed) (c.operation.ensures.expressed front told))
 
 pub linked-returns-in-Is-clause-expressed : goal.linked-returns-in-Is-clause-expressed
@@ -209,7 +209,7 @@ linked-returns-in-Is-clause-expressed t c = λ q front h told typed.
     let v = c.in-Is in
     reads_as c.of_single.result c.of_single.new.bank c.of_single.new.parts.items q s sc (IsExpr a.place front v.class.0) (link_behind a.link.now a.place front)
     (sym (ap (λ l. link_behind l a.place front) v.is ∙ is_is v.class a.place front))
-    (reads_is c.of_single.result s sc a.bank.now c.of_single.new.bank a.m.now a.parts.now.items c.of_single.new.parts.items q front c.of_single.ensures.grown h v.class a.place c.of_single.ensures.expressed)
+    (reads_is c.of_single.result s sc a.bank.now c.of_single.new.bank a.m a.parts.now.items c.of_single.new.parts.items q front c.of_single.ensures.grown h v.class a.place c.of_single.ensures.expressed)
 
 pub linked-returns-in-As-clause-expressed : goal.linked-returns-in-As-clause-expressed
 linked-returns-in-As-clause-expressed t c = λ q front h told typed.
@@ -219,7 +219,7 @@ linked-returns-in-As-clause-expressed t c = λ q front h told typed.
     let v = c.in-As in
     reads_as c.of_single-in-As.result c.of_single-in-As.new.bank c.of_single-in-As.new.parts.items q s sc (AsExpr a.place front v.class.0) (link_behind a.link.now a.place front)
     (sym (ap (λ l. link_behind l a.place front) v.is ∙ as_is v.class a.place front))
-    (reads_as_class c.of_single-in-As.result s sc a.bank.now c.of_single-in-As.new.bank a.m.now a.parts.now.items c.of_single-in-As.new.parts.items q front c.of_single-in-As.ensures.grown h v.class a.place c.of_single-in-As.ensures.expressed)
+    (reads_as_class c.of_single-in-As.result s sc a.bank.now c.of_single-in-As.new.bank a.m a.parts.now.items c.of_single-in-As.new.parts.items q front c.of_single-in-As.ensures.grown h v.class a.place c.of_single-in-As.ensures.expressed)
 
 pub stepped-returns-in-Field-clause-expressed : goal.stepped-returns-in-Field-clause-expressed
 stepped-returns-in-Field-clause-expressed t c = λ q front h checked ty.
@@ -229,7 +229,7 @@ stepped-returns-in-Field-clause-expressed t c = λ q front h checked ty.
     let v = c.in-Field in
     reads_as c.of_single.result c.of_single.new.bank c.of_single.new.parts.items q s sc (FieldExpr a.place front v.field.0) (step_behind a.step.now a.place front)
     (sym (ap (λ l. step_behind l a.place front) v.is ∙ field_is v.field a.place front))
-    (reads_field c.of_single.result s sc a.bank.now c.of_single.new.bank a.m.now a.parts.now.items c.of_single.new.parts.items q front c.of_single.ensures.grown h v.field a.place a.checked checked c.of_single.ensures.expressed)
+    (reads_field c.of_single.result s sc a.bank.now c.of_single.new.bank a.m a.parts.now.items c.of_single.new.parts.items q front c.of_single.ensures.grown h v.field a.place a.checked checked c.of_single.ensures.expressed)
 
 pub stepped-returns-in-Length-clause-expressed : goal.stepped-returns-in-Length-clause-expressed
 stepped-returns-in-Length-clause-expressed t c = λ q front h checked ty.
@@ -239,7 +239,7 @@ stepped-returns-in-Length-clause-expressed t c = λ q front h checked ty.
     let v = c.in-Length in
     reads_as c.of_single-in-Length.result c.of_single-in-Length.new.bank c.of_single-in-Length.new.parts.items q s sc (LengthExpr a.place front) (step_behind a.step.now a.place front)
     (sym (ap (λ l. step_behind l a.place front) v.is ∙ length_is a.place front))
-    (reads_length c.of_single-in-Length.result s sc a.bank.now c.of_single-in-Length.new.bank a.m.now a.parts.now.items c.of_single-in-Length.new.parts.items q front c.of_single-in-Length.ensures.grown h a.place a.checked checked c.of_single-in-Length.ensures.expressed)
+    (reads_length c.of_single-in-Length.result s sc a.bank.now c.of_single-in-Length.new.bank a.m a.parts.now.items c.of_single-in-Length.new.parts.items q front c.of_single-in-Length.ensures.grown h a.place a.checked checked c.of_single-in-Length.ensures.expressed)
 
 pub stepped-returns-in-Element-clause-expressed : goal.stepped-returns-in-Element-clause-expressed
 stepped-returns-in-Element-clause-expressed t c = λ q front h checked ty.
@@ -249,7 +249,7 @@ stepped-returns-in-Element-clause-expressed t c = λ q front h checked ty.
     let v = c.in-Element in
     reads_as c.behind.result c.behind.new.bank c.behind.new.parts.items q s sc (ElementExpr a.place front (expr v.e)) (step_behind a.step.now a.place front)
     (sym (ap (λ l. step_behind l a.place front) v.is ∙ element_is v.e a.place front))
-    (reads_element c.behind.result s sc a.bank.now c.behind.new.bank a.m.now a.parts.now.items c.behind.new.parts.items q front c.behind.ensures.grown h a.place (expr v.e) c.element_sort.result a.checked
+    (reads_element c.behind.result s sc a.bank.now c.behind.new.bank a.m a.parts.now.items c.behind.new.parts.items q front c.behind.ensures.grown h a.place (expr v.e) c.element_sort.result a.checked
     (c.element_sort.ensures ∙ ap (λ x. spec.element_sort (element_of (classes sc.classes.now) x)) ty) checked c.behind.ensures.expressed)
 
 -- ---- what the calls ask
@@ -258,7 +258,7 @@ pub behind-of_two-requires-clause-scene : goal.behind-of_two-requires-clause-sce
 behind-of_two-requires-clause-scene t c = HasScene-grown c.express.ensures.grown c.args.scene.now c.requires.scene
 
 pub behind-of_two-requires-clause-first : goal.behind-of_two-requires-clause-first
-behind-of_two-requires-clause-first t c = HasMeant-grown c.express.ensures.grown c.args.m.now c.requires.meant
+behind-of_two-requires-clause-first t c = HasMeant-grown c.express.ensures.grown c.args.m c.requires.meant
 
 pub behind-of_two-requires-clause-parts : goal.behind-of_two-requires-clause-parts
 behind-of_two-requires-clause-parts t c = HasParts-grown c.express.ensures.grown c.args.parts.now.items c.requires.parts
@@ -367,8 +367,8 @@ operation-returns-clause-expressed t c = λ front told.
     let a = c.args in
     let d = c.behind.new.bank in
     let e = expr a.e.now in
-    let of = λ (k : Known). IfOk c.behind.result (λ r. Expressed d r c.behind.new.parts.items (λ b. spec.operated a.operator a.bools (meant_at b a.m.now) (spec.meant e (scene_at b a.scene.now)))
-    (λ b. two_asks (two.Operation a.place a.operator a.bools) (parts_at b a.parts.now.items) (marked e (site_at a.sight.now) k (scene_at b a.scene.now)) (scene_at b a.scene.now) (meant_at b a.m.now) (spec.meant e (scene_at b a.scene.now)))) in
+    let of = λ (k : Known). IfOk c.behind.result (λ r. Expressed d r c.behind.new.parts.items (λ b. spec.operated a.operator a.bools (meant_at b a.m) (spec.meant e (scene_at b a.scene.now)))
+    (λ b. two_asks (two.Operation a.place a.operator a.bools) (parts_at b a.parts.now.items) (marked e (site_at a.sight.now) k (scene_at b a.scene.now)) (scene_at b a.scene.now) (meant_at b a.m) (spec.meant e (scene_at b a.scene.now)))) in
     subst of (c.on_right-tests.ensures front (known_of a.sight.now.known.now) told) c.behind.ensures.expressed
 
 pub chain-linked-requires : goal.chain-linked-requires
