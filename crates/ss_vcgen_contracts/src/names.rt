@@ -159,7 +159,9 @@ fn add_meant(
     match m {
         Meant::One(t) => add_alone(bank, names, kind, guards, *t),
         Meant::Either(choices) => add_choices(alloc, bank, names, kind, guards, choices),
-        Meant::Says(_) | Meant::All(_) | Meant::Any(_) => Ok(()),
+        Meant::Says(_) => Ok(()),
+        Meant::All(_) => Ok(()),
+        Meant::Any(_) => Ok(()),
     }
 }
 
