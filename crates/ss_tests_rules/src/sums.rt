@@ -1,5 +1,6 @@
 // Known facts that contradict each other by a weighted sum, and others that don't.
 
+use crate::derivations::read_formula;
 use crate::reader::{Reader, has_formulas};
 use ss_deriv::Sum;
 use ss_linear::refute;
@@ -65,13 +66,48 @@ fn last_of(
     Ok(last)
 }
 
-// Whether a formula says that 0 is at most a number from -30 to -1.
-fn is_below(bank: &mut Bank, f: FormulaId) -> Result<bool, AllocError> {
-    for k in -30i128..0 {
-        let zero = bank.number(0)?;
-        let below = bank.number(k)?;
-        if bank.atom(true, ss_terms::Predicate::AtMost, &[zero, below])? == f {
-            return Ok(true);
+// Each says that 0 is at most a number below 0.
+const BELOW: &str = "
+(<= 0 -1)
+(<= 0 -2)
+(<= 0 -3)
+(<= 0 -4)
+(<= 0 -5)
+(<= 0 -6)
+(<= 0 -7)
+(<= 0 -8)
+(<= 0 -9)
+(<= 0 -10)
+(<= 0 -11)
+(<= 0 -12)
+(<= 0 -13)
+(<= 0 -14)
+(<= 0 -15)
+(<= 0 -16)
+(<= 0 -17)
+(<= 0 -18)
+(<= 0 -19)
+(<= 0 -20)
+(<= 0 -21)
+(<= 0 -22)
+(<= 0 -23)
+(<= 0 -24)
+(<= 0 -25)
+(<= 0 -26)
+(<= 0 -27)
+(<= 0 -28)
+(<= 0 -29)
+(<= 0 -30)
+";
+
+// Whether a formula is one of these.
+fn is_below(alloc: Global, bank: &mut Bank, f: FormulaId) -> Result<bool, AllocError> {
+    for line in BELOW.lines() {
+        let read = read_formula(alloc, bank, line)?;
+        if let Some(g) = read.first() {
+            if *g == f {
+                return Ok(true);
+            }
         }
     }
     Ok(false)
@@ -89,7 +125,7 @@ fn is_refuted(alloc: Global, bank: &mut Bank, line: &str) -> Result<Option<bool>
         return Ok(Some(false));
     };
     match last_of(alloc, bank, facts, &sums)? {
-        Some(last) => Ok(if is_below(bank, last)? {
+        Some(last) => Ok(if is_below(alloc, bank, last)? {
             Some(true)
         } else {
             None
