@@ -12,7 +12,7 @@ pub text_of-requires-clause-placed : goal.text_of-requires-clause-placed
 text_of-requires-clause-placed c =
     let os = c.args.obligations.now in
     let k = c.args.one.now.obligation in
-    let o = c.in-Some.obligation.now in
+    let o = c.in-Some.listed.now in
     let h = c.in-Some.ensures.lookup in
     let e : slice_get os.list.items k ≡ Some o =
     ap (λ (l : List Listed). slice_get l k) (sym c.deref.ensures.value) ∙ slice_get-get_or c.deref.result.now k o h.3.0 ∙ ap (λ (t : Listed). Some t) (sym h.1) in
