@@ -1,3 +1,4 @@
 pub mod Growing
 pub mod Making
+pub mod Meaning
 pub mod Naming

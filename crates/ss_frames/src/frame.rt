@@ -1,11 +1,14 @@
 // The frame condition.
 
-ghost use Rattle.std.specs.Prelude.{◌≡◌, ◌≤◌, [], ◌∷◌, length, map, IfOk};
+ghost use Rattle.std.specs.Prelude.{◌≡◌, ◌≤◌, ◌↔◌, [], ◌∷◌, length, map, IfOk};
 ghost use Rattle.ss_core.specs.Chain.{most_classes, IsWithinLimits};
 ghost use Rattle.ss_core.specs.View as view;
-ghost use Rattle.ss_logic.specs.Formulas.{neg};
+ghost use Rattle.ss_logic.specs.Values.{Structure};
+ghost use Rattle.ss_logic.specs.Formulas.{neg, True};
 ghost use Rattle.ss_logic_rules.specs.Shapes.{allocated};
 ghost use Rattle.ss_logic_frames.specs.Frames.{and_of, the_object, the_index, is_free, is_outside, objects_kept, elements_kept, others_full, kept};
+ghost use Rattle.ss_logic_frames.specs.Means.{IsKept};
+ghost use Rattle.ss_logic_frames.specs.Sorted.{AreSorted};
 ghost use Rattle.ss_terms.specs.Forms.{term_at, formula_at, HasFormula, IsGrown, IsBankOf};
 ghost use Rattle.ss_frames.specs.Calls.{call_at, HasCall, IsTerm, IsMade, AreMade, AreNamed};
 
@@ -15,7 +18,7 @@ use crate::marks::{Mark, Part, marks, pick};
 use crate::objects::object_kept;
 use crate::parts::{joined, unless};
 use crate::same::{is_full, same_elements};
-use ss_core::Classes;
+use ss_core::{Classes, Core};
 use ss_logic::Sort;
 use ss_terms::{Bank, FormulaId, Predicate, Term, TermId};
 use std::alloc::{AllocError, Global};
@@ -145,16 +148,18 @@ fn all_kept(
 pub fn kept(
     alloc: Global,
     b: &mut Bank,
-    classes: &Classes,
+    core: &Core,
     m: &CallTerms,
 ) -> Result<FormulaId, AllocError>
-    requires bank { IsBankOf (view.classes classes.now) b.old }
-    requires limits { IsWithinLimits (view.classes classes.now) }
+    requires bank { IsBankOf (view.classes core.now.classes) b.old }
+    requires limits { IsWithinLimits (view.classes core.now.classes) }
     requires call { HasCall b.old m.now }
-    ensures at { IfOk result (λ f. HasFormula b.new f × (formula_at b.new f ≡ kept (view.classes classes.now) (call_at b.old m.now))) }
+    ensures at { IfOk result (λ f. HasFormula b.new f × (formula_at b.new f ≡ kept (view.classes core.now.classes) (call_at b.old m.now))) }
+    ensures means { IfOk result (λ f. (s : Structure) → AreSorted (view.classes core.now.classes) (call_at b.old m.now) →
+        True (view.classes core.now.classes) s [] (formula_at b.new f) ↔ IsKept (view.classes core.now.classes) s (call_at b.old m.now)) }
     ensures grown { IsGrown b.old b.new }
 {
     let object = b.term(Term::Bound(0))?;
     let index = b.term(Term::Bound(1))?;
-    all_kept(alloc, b, classes, m, object, index)
+    all_kept(alloc, b, &core.classes, m, object, index)
 }

@@ -1,7 +1,14 @@
 // Growth of a store.
 
-ghost use Rattle.std.specs.Prelude.{◌≡◌, IfOk};
+ghost use Rattle.std.specs.Prelude.{◌≡◌, ◌↔◌, List, [], ◌∷◌, true, IfOk};
+ghost use Rattle.ss_core.specs.Tree.{ClassTree};
+ghost use Rattle.ss_logic.specs.declared.Sort.TheVariants as sort;
+ghost use Rattle.ss_logic.specs.Values.{Structure};
+ghost use Rattle.ss_logic.specs.Terms.{have_sorts};
+ghost use Rattle.ss_logic.specs.Formulas.{True};
 ghost use Rattle.ss_logic_frames.specs.Frames.{the_object, object_grown, grown};
+ghost use Rattle.ss_logic_frames.specs.Means.{store_of};
+ghost use Rattle.ss_logic_frames.specs.Means as means;
 ghost use Rattle.ss_terms.specs.Forms.{term_at, formula_at, HasTerm, HasFormula, IsGrown};
 ghost use Rattle.ss_frames.specs.Calls.{IsTerm, IsMade};
 
@@ -74,6 +81,8 @@ pub fn grown(
     requires before { HasTerm b.old before }
     requires after { HasTerm b.old after }
     ensures at { IfOk result (λ f. HasFormula b.new f × (formula_at b.new f ≡ grown (term_at b.old before) (term_at b.old after))) }
+    ensures means { IfOk result (λ f. (cs : List ClassTree) (s : Structure) → have_sorts cs (sort.Store ∷ sort.Store ∷ []) (term_at b.old before ∷ term_at b.old after ∷ []) ≡ true →
+        True cs s [] (formula_at b.new f) ↔ means.IsGrown (store_of cs s (term_at b.old before)) (store_of cs s (term_at b.old after))) }
     ensures grown { IsGrown b.old b.new }
 {
     let object = b.term(Term::Bound(0))?;

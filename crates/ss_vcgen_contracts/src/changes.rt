@@ -17,7 +17,7 @@ use crate::captured::{captured_terms, owned_terms};
 use crate::contract::Contract;
 use crate::names::named_terms;
 use crate::scenes::{contract_scene, no_result};
-use ss_core::Classes;
+use ss_core::{Classes, Core};
 use ss_frames::{CallTerms, NamedTerm};
 use ss_terms::{Bank, FormulaId, TermId};
 use ss_vcgen_express::{Scene, local_term};
@@ -106,45 +106,47 @@ pub fn frame_terms(
 }
 
 // The frame condition of a call.
-fn kept(
-    alloc: Global,
-    bank: &mut Bank,
-    classes: &Classes,
-    m: &CallTerms,
-) -> Result<FormulaId, AllocError>
-    requires bank { IsBankOf (view.classes classes.now) bank.old }
-    requires limits { IsWithinLimits (view.classes classes.now) }
+fn kept(alloc: Global, bank: &mut Bank, core: &Core, m: &CallTerms) -> Result<FormulaId, AllocError>
+    requires bank { IsBankOf (view.classes core.now.classes) bank.old }
+    requires limits { IsWithinLimits (view.classes core.now.classes) }
     requires call { HasCall bank.old m.now }
-    ensures at { IfOk result (λ f. IsFormula bank.new f (λ b. logic.kept (view.classes classes.now) (call_at b m.now))) }
+    ensures at { IfOk result (λ f. IsFormula bank.new f (λ b. logic.kept (view.classes core.now.classes) (call_at b m.now))) }
     ensures grown { IsGrown bank.old bank.new }
 {
-    ss_frames::kept(alloc, bank, classes, m)
+    ss_frames::kept(alloc, bank, core, m)
 }
 
 /// The frame condition of a body with this contract: no more has changed than it may change.
 pub fn frame(
     alloc: Global,
     bank: &mut Bank,
-    classes: &Classes,
+    core: &Core,
     contract: Contract<'_>,
     before: TermId,
     after: TermId,
     arguments: &[TermId],
     outside: &[TermId],
 ) -> Result<FormulaId, AllocError>
-    requires bank { IsBankOf (view.classes classes.now) bank.old }
-    requires limits { IsWithinLimits (view.classes classes.now) }
+    requires bank { IsBankOf (view.classes core.now.classes) bank.old }
+    requires limits { IsWithinLimits (view.classes core.now.classes) }
     requires before { HasTerm bank.old before }
     requires after { HasTerm bank.old after }
     requires arguments { HasTerms bank.old arguments.now }
     requires outside { HasTerms bank.old outside.now }
-    ensures at { IfOk result (λ f. IsFormula bank.new f (λ b. logic.kept (view.classes classes.now) (heaps.frame_terms (view.classes classes.now) (contract_of contract.entry) (term_at b before) (term_at b after) (ones_at b arguments.now) (terms_at b outside.now)))) }
+    ensures at { IfOk result (λ f. IsFormula bank.new f (λ b. logic.kept (view.classes core.now.classes) (heaps.frame_terms (view.classes core.now.classes) (contract_of contract.entry) (term_at b before) (term_at b after) (ones_at b arguments.now) (terms_at b outside.now)))) }
     ensures grown { IsGrown bank.old bank.new }
 {
     let m = frame_terms(
-        alloc, bank, classes, contract, before, after, arguments, outside,
+        alloc,
+        bank,
+        &core.classes,
+        contract,
+        before,
+        after,
+        arguments,
+        outside,
     )?;
-    kept(alloc, bank, classes, &m)
+    kept(alloc, bank, core, &m)
 }
 
 /// The later store has grown out of the earlier one.

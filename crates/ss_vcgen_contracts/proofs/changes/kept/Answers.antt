@@ -8,5 +8,5 @@ use Rattle.ss_vcgen_contracts.proofs.changes.kept.Goals as goal
 
 pub returns-clause-at : goal.returns-clause-at
 returns-clause-at c =
-    is_formula c.kept.result c.args.bank.now c.kept.new.b (λ b. logic.kept (view.classes c.args.classes.now) (call_at b c.args.m.now)) c.kept.ensures.grown
-    (λ b g. ap (logic.kept (view.classes c.args.classes.now)) (call_at-grown c.args.bank.now b g c.args.m.now c.requires.call)) c.kept.ensures.at
+    is_formula c.kept.result c.args.bank.now c.kept.new.b (λ b. logic.kept (view.classes c.args.core.now.classes) (call_at b c.args.m.now)) c.kept.ensures.grown
+    (λ b g. ap (logic.kept (view.classes c.args.core.now.classes)) (call_at-grown c.args.bank.now b g c.args.m.now c.requires.call)) c.kept.ensures.at
