@@ -122,7 +122,7 @@ pub fn frame_said(
     frame(
         builder.alloc,
         &mut builder.bank,
-        &walk.core.classes,
+        walk.core,
         callee,
         before,
         builder.store,
