@@ -1,7 +1,10 @@
 //! Instances of rules, and the ground forms of obligations, over the bank of terms and formulas of a program.
 #![tactic(auto)]
 
+mod instances;
+mod names;
 mod rules;
 
-pub use rules::{GroundStop, ground, instance};
-pub use ss_logic_rules::RuleName;
+pub use instances::instance;
+pub use names::RuleName;
+pub use rules::{GroundStop, ground};

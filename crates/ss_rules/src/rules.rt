@@ -1,17 +1,15 @@
-// What is said of a program: instances of rules and ground forms.
+// The ground forms of obligations.
 
 ghost use Rattle.std.specs.Prelude.{◌≡◌, ℕ, Some, None, Err, IfOk};
 ghost use Rattle.ss_core.specs.Chain.{IsWithinLimits};
 ghost use Rattle.ss_core.specs.View as view;
-ghost use Rattle.ss_logic_rules.specs.Rules.{instance_of};
 ghost use Rattle.ss_logic_ground.specs.Ground.{ground_form};
-ghost use Rattle.ss_terms.specs.Forms.{formula_at, formulas_at, terms_at, HasTerms, HasFormula, HasFormulas, IsFormulaNumber, IsGrown, IsBankOf};
+ghost use Rattle.ss_terms.specs.Forms.{formula_at, formulas_at, HasFormula, HasFormulas, IsGrown, IsBankOf};
 
 use ss_core::Core;
-use ss_logic_rules::RuleName;
 use ss_rules_ground::GroundForm;
-use ss_terms::{Bank, FormulaId, Obligation, TermId};
-use std::alloc::{AllocError, Global};
+use ss_terms::{Bank, FormulaId, Obligation};
+use std::alloc::Global;
 
 /// Why a ground form isn't made.
 #[derive(Clone, Copy, Debug, PartialEq, Eq)]
@@ -20,23 +18,6 @@ pub enum GroundStop {
     TooMany { limit: u32 },
     /// Memory ran out.
     Memory,
-}
-
-/// What a rule says of these arguments, where they fit it. An error is want of memory; what the bank had before stays.
-pub fn instance(
-    alloc: Global,
-    bank: &mut Bank,
-    program: &Core,
-    rule: RuleName,
-    arguments: &[TermId],
-) -> Result<Option<FormulaId>, AllocError>
-    requires bank { IsBankOf (view.classes program.now.classes) bank.old }
-    requires limits { IsWithinLimits (view.classes program.now.classes) }
-    requires arguments { HasTerms bank.old arguments.now }
-    ensures at { IfOk result (λ o. IsFormulaNumber bank.new (instance_of (view.classes program.now.classes) rule (terms_at bank.old arguments.now)) o) }
-    ensures grown { IsGrown bank.old bank.new }
-{
-    ss_rules_instances::instance(alloc, bank, &program.classes, rule, arguments)
 }
 
 /// The formulas of the ground form of an obligation after so many rounds, where they are at most `limit`. What the bank had before stays.

@@ -8,20 +8,19 @@ ghost use Rattle.ss_terms.specs.Forms.{HasTerms, IsBankOf};
 use crate::classes::{are_few, program};
 use crate::reader::{Reader, has_terms};
 use crate::rows::{FITTING, OTHERS, WRONG};
-use crate::words::{free_rule, good_rule};
+use crate::words::any_rule;
 use ss_core::Core;
-use ss_rules::instance;
-use ss_rules_instances::good_instance;
+use ss_rules::{RuleName, instance};
 use ss_terms::{Bank, FormulaId, TermId, field_sorts};
 use std::alloc::{AllocError, Global};
 use std::test::Fail;
 
-// What the rule says of these arguments. A rule on good stores has the store first.
+// What the rule says of these arguments.
 fn said(
     alloc: Global,
     bank: &mut Bank,
     program: &Core,
-    word: &str,
+    rule: RuleName,
     arguments: &[TermId],
 ) -> Result<Option<FormulaId>, AllocError>
     requires bank { IsBankOf (view.classes program.now.classes) bank.old }
@@ -29,15 +28,7 @@ fn said(
     requires arguments { HasTerms bank.old arguments.now }
     ensures { bank.new.fields ≡ bank.old.fields }
 {
-    if let Some(rule) = free_rule(word) {
-        return instance(alloc, bank, program, rule, arguments);
-    }
-    match (good_rule(word), arguments) {
-        (Some(rule), [store, rest @ ..]) => {
-            good_instance(alloc, bank, &program.classes, rule, *store, rest)
-        }
-        _ => Ok(None),
-    }
+    instance(alloc, bank, program, rule, arguments)
 }
 
 // Whether the rule of the line says its sentence, or says nothing where there is none. There is no answer where the line can't be read.
@@ -57,13 +48,16 @@ fn says(
     let Some((word, arguments)) = left.split_once(' ') else {
         return Ok(None);
     };
+    let Some(rule) = any_rule(word) else {
+        return Ok(None);
+    };
     let mut given = Reader::new(alloc, None);
     given.read(alloc, bank, arguments)?;
     let arguments = given.terms.as_slice();
     if !given.is_read || !has_terms(bank, arguments) {
         return Ok(None);
     }
-    let made = said(alloc, bank, program, word, arguments)?;
+    let made = said(alloc, bank, program, rule, arguments)?;
     let mut wanted = Reader::new(alloc, arguments.get(1).copied());
     wanted.read(alloc, bank, sentence)?;
     if !wanted.is_read {

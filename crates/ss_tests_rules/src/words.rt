@@ -1,7 +1,8 @@
 // The words of terms, formulas and rules, as docs/OBLIGATIONS.md has them.
 
 use ss_logic::Sort;
-use ss_logic_rules::{GoodRule, RuleName};
+use ss_logic_rules::{GoodRule, RuleName as EveryRule};
+use ss_rules::RuleName;
 use ss_terms::{Predicate, Symbol};
 
 /// What stands behind an opening parenthesis.
@@ -112,7 +113,7 @@ pub fn bound_name(word: &str) -> Option<usize> {
 }
 
 /// The rule of this name.
-pub fn free_rule(word: &str) -> Option<RuleName> {
+pub fn any_rule(word: &str) -> Option<RuleName> {
     match word {
         "read" => Some(RuleName::Read),
         "fresh" => Some(RuleName::Fresh),
@@ -121,11 +122,31 @@ pub fn free_rule(word: &str) -> Option<RuleName> {
         "apart" => Some(RuleName::Apart),
         "quorem" => Some(RuleName::Quorem),
         "bool" => Some(RuleName::Bool),
+        "g1" => Some(RuleName::Invariants),
+        "g2" => Some(RuleName::Full),
+        "g3" => Some(RuleName::Owned),
+        "g4" => Some(RuleName::Marks),
+        "g5" => Some(RuleName::Typed),
+        "g6" => Some(RuleName::Ready),
         _ => None,
     }
 }
 
-/// The rule on good stores of this name.
+/// The rule of this name that a line `rule` may have.
+pub fn free_rule(word: &str) -> Option<EveryRule> {
+    match word {
+        "read" => Some(EveryRule::Read),
+        "fresh" => Some(EveryRule::Fresh),
+        "class" => Some(EveryRule::Class),
+        "split" => Some(EveryRule::Split),
+        "apart" => Some(EveryRule::Apart),
+        "quorem" => Some(EveryRule::Quorem),
+        "bool" => Some(EveryRule::Bool),
+        _ => None,
+    }
+}
+
+/// The rule of this name that a line `good` may have, but for `g1`.
 pub fn good_rule(word: &str) -> Option<GoodRule> {
     match word {
         "g2" => Some(GoodRule::Full),
