@@ -94,6 +94,8 @@ quorem i0 -170141183460469231731687303715884105728 : (and (= i0 (+ (* -170141183
 bool b0 : (or (= b0 true) (= b0 false))
 bool (field s0 x0 f1) : (or (= (field s0 x0 f1) true) (= (field s0 x0 f1) false))
 bool true : (or (= true true) (= true false))
+g1 s0 x0 c4 : (or (not (alloc s0 x0)) (not (sub (inv s0 x0) c4)) (and (and (not (= x0 null)) (<= 0 (field s0 x0 f0)))))
+g1 (rdy s0 x1) x0 c6 : (or (not (alloc (rdy s0 x1) x0)) (not (sub (inv (rdy s0 x1) x0) c6)) (and ))
 g2 s0 x0 : (or (not (alloc s0 x0)) (not (com s0 x0)) (= (inv s0 x0) (type x0)))
 g2 (rdy s0 x1) x0 : (or (not (alloc (rdy s0 x1) x0)) (not (com (rdy s0 x1) x0)) (= (inv (rdy s0 x1) x0) (type x0)))
 g3 s0 0 x0 x1 c4 : (and (or (not (alloc s0 x0)) (not (= (own s0 x0) (pair x1 c4))) (not (com s0 x0)) (sub (inv s0 x1) c4)) (or (not (alloc s0 x0)) (not (= (own s0 x0) (pair x1 c4))) (com s0 x0) (not (sub (inv s0 x1) c4))))
@@ -219,6 +221,11 @@ bool x0 :
 bool b0 b1 :
 bool (field s0 x0 f0) :
 bool (field x0 x0 f1) :
+g1 s0 x0 :
+g1 s0 x0 x1 :
+g1 s0 i0 c4 :
+g1 x0 x1 c4 :
+g1 s0 x0 c4 c4 :
 g2  :
 g2 s0 :
 g2 s0 i0 :
@@ -297,6 +304,8 @@ class 0 c4 c6 : (sub c4 c6)
 class 2 x0 c6 c4 : (or (not (sub x0 c6)) (not (sub x0 c4)))
 class 2 x0 c4 c8 : (or (not (sub x0 c4)) (not (sub x0 c8)))
 quorem i0 -3 : (and (= i0 (+ (* -3 (quo i0 -3)) (rem i0 -3))) (or (not (<= 0 i0)) (<= 0 (rem i0 -3))) (or (not (<= i0 0)) (<= (rem i0 -3) 0)) (<= (rem i0 -3) 3) (<= -3 (rem i0 -3)))
+g1 s0 x0 c4 : (or (not (sub (inv s0 x0) c4)) (and (and (not (= x0 null)) (<= 0 (field s0 x0 f0)))))
+g1 s0 x0 c6 : (or (not (alloc s0 x0)) (not (sub (inv s0 x0) c6)) (and (and (not (= x0 null)) (<= 0 (field s0 x0 f0)))))
 g3 s0 0 x0 x1 c4 : (and (or (not (= (own s0 x0) (pair x1 c4))) (not (com s0 x0)) (sub (inv s0 x1) c4)) (or (not (= (own s0 x0) (pair x1 c4))) (com s0 x0) (not (sub (inv s0 x1) c4))))
 g3 s0 1 x0 : (or (not (isgroup (own s0 x0))) (not (com s0 x0)))
 g4 s0 x0 3 : (or (not (alloc s0 x0)) (not (sub (type x0) c4)) (= (field s0 x0 f3) null) (= (own s0 (field s0 x0 f3)) (pair x0 c4)))
