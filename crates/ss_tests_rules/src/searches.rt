@@ -69,6 +69,17 @@ given (forall object (or (not (com s0 v0)) (= (field s0 v0 f0) 3)))
 given (com s0 x1)
 goal (= (field s0 x1 f0) 3)
 proved
+
+# a number isn't the one behind it: the search sums comparisons, of which there are none, and only `refute` sees this
+given (= (+ i0 1) i0)
+goal (= b0 true)
+absurd
+
+# two comparisons, whose coefficients are too large for these sums
+given (<= (* 100000000000000000000 i0) (* 100000000000000000000 i1))
+given (<= (+ (* 100000000000000000000 i1) 1) (* 100000000000000000000 i0))
+goal (= b0 true)
+absurd
 ";
 
 #[derive(Clone, Copy, PartialEq, Eq)]
