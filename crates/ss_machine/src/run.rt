@@ -8,6 +8,7 @@ ghost use Rattle.ss_machine_rules.specs.Runs.{run, printed, start_with};
 ghost use Rattle.ss_machine_rules.specs.States.{Running};
 ghost use Rattle.ss_machine_rules.specs.Good.{IsGoodState};
 ghost use Rattle.ss_machine_typed.specs.Inputs.{IsInput};
+ghost use Rattle.ss_machine_non_null.specs.States.{IsNonNullState};
 ghost use Rattle.ss_store_rules.specs.Formed.{IsFormed};
 ghost use Rattle.ss_machine_rules.specs.Ends.{IsDoneAt, HasFailed, HasStopped, IsRunning};
 ghost use Rattle.ss_machine.specs.Ends as ends;
@@ -17,7 +18,7 @@ ghost use Rattle.ss_machine.specs.Pieces.{pieces, WroteFirst};
 
 use crate::calls::body_at;
 use crate::frame::{Frame, Target, locals_at_entry};
-use crate::good::every_state_is_good;
+use crate::good::{every_state_is_good, non_null_never_gives_null};
 use crate::halt::Halt;
 use crate::machine::Machine;
 use ss_core::{Body, Core, Kind, Place};
@@ -87,7 +88,7 @@ fn end_of(halt: Halt, steps: u64) -> CheckedEnd
 /// comes where a write failed, and `Memory` where there was no memory; the sink then took a front of what the run prints.
 /// What a step prints is one piece, which the sink takes whole in one write; an empty one is not written.
 /// Whatever the program does, each state of the run of a formed one is good until a check has failed: each object meets the invariants
-/// of each class at which it is packed (JOT 2004).
+/// of each class at which it is packed (JOT 2004). In none of them does an expression of non-null type give null (OOPSLA 2003).
 pub fn run_checked<S: Sink>(
     alloc: Global,
     core: &Core,
@@ -108,10 +109,12 @@ pub fn run_checked<S: Sink>(
         (Wrote (S.pieces out.old) (S.pieces out.new) (pieces (view.core core.now) input.now steps)) }
     ensures first_pieces { WroteFirst (S.pieces out.old) (S.pieces out.new) (pieces (view.core core.now) input.now steps) }
     ensures good { IsFormed (view.core core.now) → IsInput input.now → (n : ℕ) → IsGoodState (view.core core.now) (run (view.core core.now) input.now n) }
+    ensures non_null { IsFormed (view.core core.now) → IsInput input.now → (n : ℕ) → IsNonNullState (view.core core.now) (run (view.core core.now) input.now n) }
     ensures faults { S.faults out.old ≤ S.faults out.new }
     ensures cause { result ≡ CheckedEnd.WriteFault → Rose (S.faults out.old) (S.faults out.new) }
 {
     every_state_is_good(core, input);
+    non_null_never_gives_null(core, input);
     let Some(main) = body_at(core, core.main) else {
         return CheckedEnd::Done { steps: 0 };
     };

@@ -1,0 +1,4 @@
+pub mod Followed
+pub mod Constructors
+pub mod Runs
+pub mod States
