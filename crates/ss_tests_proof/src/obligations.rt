@@ -143,12 +143,12 @@ fn asserts_are_obligations(rt: HostRuntime) -> Result<(), Fail> {
     Ok(())
 }
 
-// An assert of 4,000 operands.
+// An assert of 100,000 operands.
 fn long_chain(alloc: Global) -> Result<Core, AllocError>
     ensures { IfOk result (λ c. IsWithinLimits (classes c.classes)) }
 {
     let mut others = Vec::new(alloc);
-    for _ in 0..3_999 {
+    for _ in 0..99_999 {
         others.push(Link::Operation(Operator::And, x_is(alloc, 0)?))?;
     }
     let chain = Expr::Chain(at(2), Box::new(alloc, Expr::Local(at(2), 1))?, others);
