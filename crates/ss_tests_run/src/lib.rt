@@ -1,5 +1,4 @@
-//! Tests of the run side over its public calls: the outside, the class chain, the object store, the values of expressions, the inputs
-//! that a program admits, and the machine.
+//! Tests of the run side over its public calls: the outside, the class chain, the object store and the values of expressions.
 
 #![tactic(auto)]
 
@@ -8,12 +7,8 @@ mod changes;
 #[cfg(test)]
 mod classes;
 #[cfg(test)]
-mod inputs;
-#[cfg(test)]
 mod outside;
 #[cfg(test)]
 mod part;
-#[cfg(test)]
-mod runs;
 #[cfg(test)]
 mod values;
