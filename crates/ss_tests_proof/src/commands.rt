@@ -88,22 +88,3 @@ fn a_megabyte_of_one_chain_is_run(rt: HostRuntime) -> Result<(), Fail> {
     assert!(rt; status.number() == 0 && out.bytes() == b"True\n".as_slice());
     Ok(())
 }
-
-/// A source with an assert of 100,000 operands.
-fn long_assert(alloc: Global) -> Result<Vec<u8>, AllocError> {
-    let mut source = b"class P { static void Main() { bool b = true; assert b".to_vec(alloc)?;
-    for _ in 1..100_000 {
-        source.extend_from_slice(b" && b")?;
-    }
-    source.extend_from_slice(b"; } }")?;
-    Ok(source)
-}
-
-#[test]
-fn an_assert_of_a_hundred_thousand_is_verified(rt: HostRuntime) -> Result<(), Fail> {
-    let alloc = rt.alloc();
-    let mut out = MemSink::new(alloc, Vec::new(alloc));
-    let status = answer(alloc, "verify", long_assert(alloc)?, &mut out)?;
-    assert!(rt; status.number() == 0 && out.bytes() == b"verified\n".as_slice());
-    Ok(())
-}

@@ -1,4 +1,4 @@
-//! Tests of the bank and of the whole call.
+//! Tests of the proof side over its public calls: the bank and the obligations; and of the whole call.
 
 #![tactic(auto)]
 
@@ -6,3 +6,7 @@
 mod banks;
 #[cfg(test)]
 mod commands;
+#[cfg(test)]
+mod obligations;
+#[cfg(test)]
+mod part;

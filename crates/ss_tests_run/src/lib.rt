@@ -1,4 +1,5 @@
-//! Tests of the run side over its public calls: the outside, the class chain, the object store and the values of expressions.
+//! Tests of the run side over its public calls: the outside, the class chain, the object store, the values of expressions, the inputs
+//! that a program admits, and the machine.
 
 #![tactic(auto)]
 
@@ -7,8 +8,12 @@ mod changes;
 #[cfg(test)]
 mod classes;
 #[cfg(test)]
+mod inputs;
+#[cfg(test)]
 mod outside;
 #[cfg(test)]
 mod part;
+#[cfg(test)]
+mod runs;
 #[cfg(test)]
 mod values;
