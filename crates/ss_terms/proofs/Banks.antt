@@ -26,9 +26,11 @@ use Rattle.ss_terms.specs.declared.bank.Beside.{Beside}
 use Rattle.ss_terms.specs.declared.bank.BesideTerm.{BesideTerm}
 use Rattle.ss_terms.specs.Forms.{TermShape, Shape, LiteralShape, AndShape, OrShape, ForallShape, ExistsShape, term_shape, shape_of, Forms, term_of, formula_of, build_term, no_term, term_at, with_sign, build_formula, nothing, pair_at, formula_at, HasTerm, HasFormula, TermBelow, ShapeBelow, HasArguments, HasParts, IsTermForm, IsFormulaForm, IsGrown, opposite_shape, is_plain, IsBankOf, predicate_of}
 use Rattle.ss_terms.specs.Bank.{forms_of, IsPlain, AnyTerm, PairBelow, number, IsBesideTerm, IsBeside, IsBank}
+use Rattle.ss_terms.specs.Highest.{highest_of_term, highest}
 use Rattle.ss_terms.proofs.Same.{term_id, formula_id}
 use Rattle.ss_terms.proofs.Signs.{others_below, other_below, signed_plain, signed_negated, signed_apart, formula_of-opposite}
 use Rattle.ss_terms.proofs.Parts.{neg_formed}
+use Rattle.ss_terms.proofs.Highest.{neg_highest}
 use Rattle.ss_terms.proofs.Trees.{arguments_same, term_same, term_upward, term_equal, AreTermsBelow-more, shape_upward, form_same, form_upward, form_equal, plain_formula}
 
 shape_get : {K X N : Type 0} (form : K → N) (es : List (K × X)) (k : ℕ) (e : K × X) → slice_get es k ≡ Some e → slice_get (map form (keys_of es)) k ≡ Some (form e.0)
@@ -131,6 +133,15 @@ module _ (fs : List Sort) (ts : List (Term × BesideTerm)) (es : List (Formula �
       by zero = refl
       by (suc r) = sym (neg_formed cs [] (pair_at Old (f.0 / 2)))
 
+  pub highest_value : (f : FormulaId) (v : Beside) → slice_get (map (λ e. e.1) es) (f.0 / 2) ≡ Some v → v.highest ≡ highest (formula_at Old f)
+  highest_value f v at =
+      let p = entry_get es (f.0 / 2) v at in
+      ap (λ x. x.highest) (sym p.2) ∙ (ok.beside (f.0 / 2) p.0 p.1).constants ∙ by (f.0 % 2)
+    where
+      by : (r : ℕ) → highest (pair_at Old (f.0 / 2)) ≡ highest (with_sign r (pair_at Old (f.0 / 2)))
+      by zero = refl
+      by (suc r) = sym (neg_highest (pair_at Old (f.0 / 2)))
+
   -- one more term
   module _ (e : Term × BesideTerm) where
     abbrev WithTerm : Forms
@@ -183,11 +194,12 @@ module _ (fs : List Sort) (ts : List (Term × BesideTerm)) (es : List (Formula �
       beside = λ k x at. record {
         negation = (ok.beside k x at).negation;
         formed = λ cs is. (ok.beside k x at).formed cs is ∙ ap (is_well_formed cs []) (sym (pairs_kept k));
+        constants = (ok.beside k x at).constants ∙ ap highest (sym (pairs_kept k));
       };
     }
       where
         moved : (x y : tree.Term) (v : BesideTerm) → y ≡ x → IsBesideTerm Old x v → IsBesideTerm WithTerm y v
-        moved x y v s b = record { sort = λ cs is. b.sort cs is ∙ ap (sort_of cs []) (sym s); sorted = λ cs is. b.sorted cs is ∙ ap (is_well_sorted cs []) (sym s) }
+        moved x y v s b = record { sort = λ cs is. b.sort cs is ∙ ap (sort_of cs []) (sym s); sorted = λ cs is. b.sorted cs is ∙ ap (is_well_sorted cs []) (sym s); constants = b.constants ∙ ap highest_of_term (sym s) }
 
         old : (k : ℕ) (x : Term × BesideTerm) → slice_get ts k ≡ Some x → IsBesideTerm WithTerm (term_at WithTerm (number k)) x.1
         old k x at =
@@ -240,25 +252,34 @@ module _ (fs : List Sort) (ts : List (Term × BesideTerm)) (es : List (Formula �
 
     pub IsBank-pair : is_plain (shape_of e.0) ≡ true → HasParts Old (shape_of e.0) → ((k : ℕ) → slice_get shapes k ≡ Some (shape_of e.0) → ⊥) →
         shape_of e.1.negation ≡ opposite_shape (shape_of e.0) →
-        ((cs : List ClassTree) → IsBankOf cs Old → e.1.is_well_formed ≡ is_well_formed cs [] (formula_of (term_at Old) (formula_at Old) (shape_of e.0))) → IsBank fs ts (es ++ e ∷ [])
-    IsBank-pair plain parts absent negation formed = record {
+        ((cs : List ClassTree) → IsBankOf cs Old → e.1.is_well_formed ≡ is_well_formed cs [] (formula_of (term_at Old) (formula_at Old) (shape_of e.0))) →
+        e.1.highest ≡ highest (formula_of (term_at Old) (formula_at Old) (shape_of e.0)) → IsBank fs ts (es ++ e ∷ [])
+    IsBank-pair plain parts absent negation formed constants = record {
       terms_apart = ok.terms_apart;
       formulas_apart =
           subst (AreInterned nothing (build_formula (term_at Old)) (PairBelow (length term_shapes)) IsPlain) (sym (shapes_push shape_of es e))
           (AreInterned-push nothing (build_formula (term_at Old)) (PairBelow (length term_shapes)) IsPlain
           (form_same (term_at Old) (length term_shapes)) (form_equal (term_at Old) (length term_shapes) terms_differ) (form_upward (term_at Old) (length term_shapes))
           shapes ok.formulas_apart (shape_of e.0) parts (plain_formula (term_at Old) (pair_at Old) (shape_of e.0) plain) absent);
-      terms_beside = λ k x at. record { sort = (ok.terms_beside k x at).sort; sorted = (ok.terms_beside k x at).sorted };
+      terms_beside = λ k x at. record { sort = (ok.terms_beside k x at).sort; sorted = (ok.terms_beside k x at).sorted; constants = (ok.terms_beside k x at).constants };
       beside = λ k x at. ⊎_elim (old k x) (new k x) (slice_get-push_cases es e x k at);
     }
       where
         old : (k : ℕ) (x : Formula × Beside) → slice_get es k ≡ Some x → IsBeside WithPair k x
         old k x at =
             let h : k < length shapes = omega (arith, slice_get_within es k x at, length-shapes shape_of es) in
-            record { negation = (ok.beside k x at).negation; formed = λ cs is. (ok.beside k x at).formed cs is ∙ ap (is_well_formed cs []) (sym (pair_kept k h)) }
+            record {
+              negation = (ok.beside k x at).negation;
+              formed = λ cs is. (ok.beside k x at).formed cs is ∙ ap (is_well_formed cs []) (sym (pair_kept k h));
+              constants = (ok.beside k x at).constants ∙ ap highest (sym (pair_kept k h));
+            }
 
         new : (k : ℕ) (x : Formula × Beside) → (k ≡ length es) × (e ≡ x) → IsBeside WithPair k x
-        new k x p = subst (λ y. IsBeside WithPair k y) p.1 (record { negation = negation; formed = λ cs is. formed cs is ∙ ap (is_well_formed cs []) (sym (pair_new k p.0)) })
+        new k x p = subst (λ y. IsBeside WithPair k y) p.1 (record {
+          negation = negation;
+          formed = λ cs is. formed cs is ∙ ap (is_well_formed cs []) (sym (pair_new k p.0));
+          constants = constants ∙ ap highest (sym (pair_new k p.0));
+        })
 
 -- the number after that of a formula stands for the negation
 pub negated_at : (b : Forms) (k : ℕ) (f : FormulaId) → f.0 ≡ k * 2 + 1 → k < length b.formulas → HasFormula b f × (formula_at b f ≡ neg (pair_at b k))

@@ -3,6 +3,7 @@ pub mod Same
 pub mod Signs
 pub mod Sorted
 pub mod Parts
+pub mod Highest
 pub mod Trees
 pub mod Banks
 pub mod Grown

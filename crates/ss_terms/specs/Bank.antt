@@ -13,6 +13,7 @@ use Rattle.ss_terms.specs.declared.forms.Term.{Term}
 use Rattle.ss_terms.specs.declared.forms.Formula.{Formula}
 use Rattle.ss_terms.specs.declared.bank.Beside.{Beside}
 use Rattle.ss_terms.specs.declared.bank.BesideTerm.{BesideTerm}
+use Rattle.ss_terms.specs.Highest.{highest_of_term, highest}
 use Rattle.ss_terms.specs.Forms.{Forms, Shape, term_shape, shape_of, build_term, no_term, term_at, build_formula, nothing, pair_at, TermBelow, ShapeBelow, opposite_shape, IsBankOf}
 
 abbrev pub forms_of : List Sort → List (Term × BesideTerm) → List (Formula × Beside) → Forms
@@ -39,11 +40,13 @@ number k = record { 0 = k }
 pub record IsBesideTerm (b : Forms) (x : tree.Term) (e : BesideTerm) : Type 0 where
   pub sort : (cs : List ClassTree) → IsBankOf cs b → e.sort ≡ sort_of cs [] x
   pub sorted : (cs : List ClassTree) → IsBankOf cs b → e.is_well_sorted ≡ is_well_sorted cs [] x
+  pub constants : e.highest ≡ highest_of_term x
 
 -- what stands beside the formula k
 pub record IsBeside (b : Forms) (k : ℕ) (e : Formula × Beside) : Type 0 where
   pub negation : shape_of e.1.negation ≡ opposite_shape (shape_of e.0)
   pub formed : (cs : List ClassTree) → IsBankOf cs b → e.1.is_well_formed ≡ is_well_formed cs [] (pair_at b k)
+  pub constants : e.1.highest ≡ highest (pair_at b k)
 
 pub record IsBank (fields : List Sort) (terms : List (Term × BesideTerm)) (formulas : List (Formula × Beside)) : Type 0 where
   pub terms_apart : AreInterned no_term build_term TermBelow AnyTerm (map term_shape (keys_of terms))

@@ -1,3 +1,4 @@
 pub mod Forms
 pub mod Bank
 pub mod Apart
+pub mod Highest

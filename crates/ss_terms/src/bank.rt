@@ -10,7 +10,9 @@ ghost use Rattle.ss_logic.specs.Equal.{same_term, same_formula};
 ghost use Rattle.ss_terms.specs.Forms.{Forms, LiteralShape, term_shape, shape_of, term_of, term_at, terms_at, formula_of, formula_at, pair_at, HasTerm, HasTerms, HasFormula, HasFormulas, HasArguments, HasParts, IsTermForm, IsFormulaForm, IsGrown, IsBankOf, opposite_shape, other, is_plain};
 ghost use Rattle.ss_terms.specs.Bank.{IsBesideTerm};
 ghost use Rattle.ss_terms.specs.Apart.{AreApart};
+ghost use Rattle.ss_terms.specs.Highest.{highest, highest_of_term};
 
+use crate::constants::number_of;
 use crate::forms::{Formula, FormulaId, Predicate, Term, TermId};
 use crate::index::{add_formula, add_term, place_of_formula, place_of_term};
 use crate::sorts::{result_sort, same_sort};
@@ -19,18 +21,22 @@ use ss_logic::Sort;
 use std::alloc::{AllocError, Global};
 use std::marker::Model;
 
-/// What stands beside a term: its sort, and whether it is well sorted and has no bound name.
+/// What stands beside a term: its sort, whether it is well sorted and has no bound name, and the greatest number of a
+/// constant in it.
 #[derive(Clone, Copy, Drop)]
 pub(crate) struct BesideTerm {
     pub(crate) sort: Sort,
     pub(crate) is_well_sorted: bool,
+    pub(crate) highest: usize,
 }
 
-/// What stands beside a formula: the form of its negation, and whether both are well formed and no name in them is unbound.
+/// What stands beside a formula: the form of its negation, whether both are well formed and no name in them is unbound, and
+/// the greatest number of a constant in them.
 #[derive(Drop)]
 pub(crate) struct Beside {
     pub(crate) negation: Formula,
     pub(crate) is_well_formed: bool,
+    pub(crate) highest: usize,
 }
 
 /// Terms and formulas with numbers, over the fields of a program. Equal ones have equal numbers, a number keeps what it
@@ -188,6 +194,22 @@ impl Bank {
         self.formulas[f.0 / 2].is_well_formed
     }
 
+    /// The greatest number of a constant in a formula; 0 where it has none.
+    pub fn highest(&self, f: FormulaId) -> usize
+        requires { HasFormula self.now f }
+        ensures { result ≡ highest (formula_at self.now f) }
+    {
+        self.formulas[f.0 / 2].highest
+    }
+
+    // The greatest number of a constant in a term.
+    pub(crate) fn highest_of_term(&self, t: TermId) -> usize
+        requires { HasTerm self.now t }
+        ensures { result ≡ highest_of_term (term_at self.now t) }
+    {
+        self.beside_term(t).highest
+    }
+
     /// Whether the terms have these sorts, one by one, are well sorted, and have no unbound name.
     pub fn have_sorts(&self, sorts: &[Sort], ts: &[TermId]) -> bool
         requires { HasTerms self.now ts.now }
@@ -250,6 +272,7 @@ impl Bank {
             Term::Bound(_) => Ok(BesideTerm {
                 sort: Sort::Rest,
                 is_well_sorted: false,
+                highest: 0,
             }),
             Term::App(symbol, arguments) => {
                 let is_well_sorted = self.is_applied_under(
@@ -258,9 +281,11 @@ impl Bank {
                     arguments,
                     self.term_count(),
                 )?;
+                let highest = number_of(*symbol).max(self.highest_of_terms(arguments));
                 Ok(BesideTerm {
                     sort: result_sort(self.fields(), *symbol),
                     is_well_sorted,
+                    highest,
                 })
             }
         }
@@ -352,9 +377,11 @@ impl Bank {
             return Ok(number);
         }
         let is_well_formed = self.is_form_under(&[], &plain, self.formula_count())?;
+        let highest = self.highest_of_form(&plain);
         let beside = Beside {
             negation,
             is_well_formed,
+            highest,
         };
         let number = add_formula(&mut self.formulas, plain, beside)?;
         Ok(number)

@@ -2,6 +2,7 @@
 #![tactic(auto)]
 
 mod bank;
+mod constants;
 mod formed;
 mod forms;
 mod index;

@@ -8,6 +8,7 @@ ghost use Rattle.ss_logic.specs.Formulas as logic;
 ghost use Rattle.ss_logic_derivations.specs.Steps as steps;
 ghost use Rattle.ss_terms.specs.Forms.{term_at, terms_at, formulas_at, HasTerm, HasTerms, HasFormulas};
 ghost use Rattle.ss_terms_avoids.specs.Entries.{constant_of};
+ghost use Rattle.ss_terms_avoids.specs.Rising.{are_rising};
 
 use crate::formulas::{all_formulas, formula_entries};
 use crate::terms::{Constant, all_terms, same_sort, term_entries};
@@ -91,8 +92,22 @@ fn all_avoid(
     Ok(all_terms(&terms, ts))
 }
 
-/// Whether the terms are constants, each of which occurs in none of the formulas and in no later term. An error is want of memory.
-pub fn are_new(
+// Whether the terms are constants whose numbers rise, the first above this one.
+fn are_rising(bank: &Bank, above: usize, ts: &[TermId]) -> bool
+    requires { HasTerms bank.now ts.now }
+    ensures { result ≡ are_rising above (terms_at bank.now ts.now) }
+{
+    match ts {
+        [] => true,
+        [t, ts @ ..] => match constant_at(bank, *t) {
+            Some(constant) => { above < constant.number && are_rising(bank, constant.number, ts) }
+            None => false,
+        },
+    }
+}
+
+// The same by tables of the whole bank.
+fn are_new_by_tables(
     alloc: Global,
     bank: &Bank,
     fs: &[FormulaId],
@@ -109,9 +124,27 @@ pub fn are_new(
                 if !all_avoid(alloc, bank, constant, fs, later)? {
                     return Ok(false);
                 }
-                are_new(alloc, bank, fs, later)
+                are_new_by_tables(alloc, bank, fs, later)
             }
             None => Ok(false),
         },
     }
+}
+
+/// Whether the terms are constants, each of which occurs in none of the formulas and in no later term. Where their numbers
+/// rise above those of all constants in the formulas, no formula is looked into. An error is want of memory.
+pub fn are_new(
+    alloc: Global,
+    bank: &Bank,
+    fs: &[FormulaId],
+    ts: &[TermId],
+) -> Result<bool, AllocError>
+    requires formulas { HasFormulas bank.now fs.now }
+    requires terms { HasTerms bank.now ts.now }
+    ensures { IfOk result (λ yes. yes ≡ steps.are_new (formulas_at bank.now fs.now) (terms_at bank.now ts.now)) }
+{
+    if are_rising(bank, bank.highest_of_all(fs), ts) {
+        return Ok(true);
+    }
+    are_new_by_tables(alloc, bank, fs, ts)
 }

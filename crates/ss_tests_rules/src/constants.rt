@@ -11,6 +11,8 @@ use std::test::Fail;
 const NEW: &str = "
 x5 x6 :
 x5 x6 : (alloc s0 x0) (<= i5 i6)
+x5 x6 : (alloc s0 x4) (<= i4 i3)
+x5 x6 : (alloc s0 x9)
 x6 x5 : (or (not (= (own (cap s0 x0 c4 x1) x2) x3)) (and ))
 ";
 
