@@ -1,7 +1,7 @@
 // The faults of construction of a whole program, and the first of them.
 
 ghost use Rattle.std.specs.Prelude.{◌≡◌, ◌++◌, ◌+◌, ◌*◌, OnOk, IfOk, map, option_map, slice_get};
-ghost use Rattle.ss_faults.specs.First.{first_fault};
+ghost use Rattle.ss_faults.specs.First.{first_fault, Answers};
 ghost use Rattle.ss_core.specs.View.{class_of};
 ghost use Rattle.ss_core.specs.Chain.{above_of};
 ghost use Rattle.ss_typed.specs.View.{body, expr, field, members, typed};
@@ -14,8 +14,8 @@ use crate::constructors::{check_above, check_constructor};
 use crate::escapes::Use;
 use crate::noting::{note_escapes, note_unset};
 use crate::statements::find_if;
-use ss_core::{Class, ClassId, Place};
-use ss_faults::{Fault, first_fault};
+use ss_core::{Class, ClassId, FrontStop, Place};
+use ss_faults::{Fault, answer, first_fault};
 use ss_paths_assigned::{Fields, started_in};
 use ss_typed::{Typed, TypedBody, TypedClass, TypedExpr, TypedField};
 use std::alloc::{AllocError, Global};
@@ -179,11 +179,18 @@ fn find_faults(alloc: Global, program: &Typed) -> Result<Vec<Fault>, AllocError>
     Ok(found)
 }
 
-/// The first fault of construction in a resolved program: the one at the earliest place, and of two there the one of the lower rule;
-/// None where there is none. The error is want of memory.
-pub fn check_construction(alloc: Global, program: &Typed) -> Result<Option<Fault>, AllocError>
+// The first fault of construction in a program, where it has one.
+fn first_construction_fault(alloc: Global, program: &Typed) -> Result<Option<Fault>, AllocError>
     ensures { IfOk result (λ f. f ≡ first_fault (construction_faults (typed program.now))) }
 {
     let faults = find_faults(alloc, program)?;
     Ok(first_fault(&faults))
+}
+
+/// Refuses a program that has faults of construction, by the first: the one at the earliest place, and of two there the one of the
+/// lower rule.
+pub fn check_construction(alloc: Global, program: &Typed) -> Result<(), FrontStop>
+    ensures { Answers (first_fault (construction_faults (typed program.now))) result }
+{
+    answer(first_construction_fault(alloc, program))
 }

@@ -1,6 +1,8 @@
 -- The first of some faults: the one with the least place, and of two rules there the one with the lower number.
-use Rattle.std.specs.Prelude.{◌==◌, List, [], ◌∷◌, Bool, nat_lt, ◌&&◌, if◌then◌else◌, Option, Some, None}
+use Rattle.std.specs.Prelude.{◌≡◌, ◌==◌, List, [], ◌∷◌, Bool, nat_lt, ◌&&◌, if◌then◌else◌, Option, Some, None, Result, Ok, Err}
 use Rattle.ss_core.specs.declared.names.Place.{Place}
+use Rattle.ss_core.specs.declared.names.FrontStop.{FrontStop}
+use Rattle.ss_core.specs.declared.names.FrontStop.TheVariants as stop
 use Rattle.ss_faults.specs.declared.Fault.{Fault}
 
 abbrev pub place_before : Place → Place → Bool
@@ -19,3 +21,9 @@ earlier f (Some g) = if comes_before g f then g else f
 abbrev pub first_fault : List Fault → Option Fault
 first_fault [] = None
 first_fault (f ∷ fs) = Some (earlier f (first_fault fs))
+
+-- what a phase answers with this first fault: it refuses by it, or by want of memory, and where there is none it goes on
+abbrev pub Answers : {A : Type 0} → Option Fault → Result A FrontStop → Type 0
+Answers o (Ok x) = o ≡ None
+Answers o (Err (stop.Refused rule at)) = o ≡ Some (record { rule = rule; place = at })
+Answers o (Err stop.Memory) = Unit {0}

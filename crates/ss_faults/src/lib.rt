@@ -1,10 +1,12 @@
 //! Faults of a source, and which of them is answered.
 #![tactic(auto)]
 
-ghost use Rattle.std.specs.Prelude.{◌≡◌, Option, Some, None};
-ghost use Rattle.ss_faults.specs.First.{comes_before, earlier, first_fault};
+ghost use Rattle.std.specs.Prelude.{◌≡◌, Option, Some, None, IfOk};
+ghost use Rattle.ss_faults.specs.declared.Fault as fault;
+ghost use Rattle.ss_faults.specs.First.{comes_before, earlier, first_fault, Answers};
 
-use ss_core::Place;
+use ss_core::{FrontStop, Place};
+use std::alloc::AllocError;
 
 /// A fault of a source: the number of its rule, and its place.
 #[derive(Clone, Copy, Debug, PartialEq, Eq)]
@@ -50,5 +52,16 @@ fn earlier(fault: Fault, other: Option<Fault>) -> Fault
             }
         }
         None => fault,
+    }
+}
+
+/// What a phase answers that has found this first fault, or none, or had no memory.
+pub fn answer(found: Result<Option<Fault>, AllocError>) -> Result<(), FrontStop>
+    ensures { (o : Option fault.Fault) → IfOk found (λ f. f ≡ o) → Answers o result }
+{
+    match found {
+        Ok(None) => Ok(()),
+        Ok(Some(Fault { rule, place })) => Err(FrontStop::Refused { rule, place }),
+        Err(_) => Err(FrontStop::Memory),
     }
 }

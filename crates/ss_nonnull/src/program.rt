@@ -3,13 +3,14 @@
 ghost use Rattle.std.specs.Prelude.{◌≡◌, ◌++◌, IfOk, OnOk, map};
 ghost use Rattle.ss_typed.specs.View.{typed, body};
 ghost use Rattle.ss_nonnull.specs.Names.{table_names};
-ghost use Rattle.ss_faults.specs.First.{first_fault};
+ghost use Rattle.ss_faults.specs.First.{first_fault, Answers};
 ghost use Rattle.ss_nonnull_rules.specs.Program.{body_faults, bodies_faults, null_faults};
 
 use crate::bodies::check_body;
 use crate::initializers::check_initializers;
 use crate::overrides::{all_names, check_override};
-use ss_faults::{Fault, first_fault};
+use ss_core::FrontStop;
+use ss_faults::{Fault, answer, first_fault};
 use ss_paths_assigned::Fields;
 use ss_tables_lookup::Places;
 use ss_typed::{Typed, TypedBody};
@@ -56,13 +57,21 @@ fn check_bodies(alloc: Global, program: &Typed, found: &mut Vec<Fault>) -> Resul
     Ok(())
 }
 
-/// The first fault of non-null types in a program, where it has one.
+// The first fault of non-null types in a program, where it has one.
 #[tactic(auto, unfolding(ss_nonnull_rules::specs::Program::null_faults))]
-pub fn check_nulls(alloc: Global, program: &Typed) -> Result<Option<Fault>, AllocError>
+fn first_null_fault(alloc: Global, program: &Typed) -> Result<Option<Fault>, AllocError>
     ensures { IfOk result (λ r. r ≡ first_fault (null_faults (typed program.now))) }
 {
     let mut found = Vec::new(alloc);
     check_initializers(alloc, program, &mut found)?;
     check_bodies(alloc, program, &mut found)?;
     Ok(first_fault(&found))
+}
+
+/// Refuses a program that has faults of non-null types, by the first: the one at the earliest place, and of two there the one of the
+/// lower rule.
+pub fn check_nulls(alloc: Global, program: &Typed) -> Result<(), FrontStop>
+    ensures { Answers (first_fault (null_faults (typed program.now))) result }
+{
+    answer(first_null_fault(alloc, program))
 }

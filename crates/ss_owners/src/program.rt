@@ -1,7 +1,7 @@
 // The faults of ownership of a whole program, and the first of them.
 
 ghost use Rattle.std.specs.Prelude.{◌≡◌, ◌++◌, OnOk, IfOk, map, option_map, slice_get, true, false};
-ghost use Rattle.ss_faults.specs.First.{first_fault};
+ghost use Rattle.ss_faults.specs.First.{first_fault, Answers};
 ghost use Rattle.ss_ast.specs.Expressions.{name_tree};
 ghost use Rattle.ss_core.specs.View.{class_of, field_of};
 ghost use Rattle.ss_typed.specs.View.{base, block, body, expr, exprs, field, invariant_of, members, modified, param, typed};
@@ -20,8 +20,8 @@ use crate::reads::find_reads;
 use crate::statements::{find_if, find_in, find_in_all};
 use crate::words::{Allowed, find_in_each, find_words};
 use ss_ast::Name;
-use ss_core::{Class, Field, Mark, Place};
-use ss_faults::{Fault, first_fault};
+use ss_core::{Class, Field, FrontStop, Mark, Place};
+use ss_faults::{Fault, answer, first_fault};
 use ss_typed::{
     Typed, TypedBase, TypedBody, TypedClass, TypedExpr, TypedField, TypedInvariant, TypedModifies,
     TypedParam,
@@ -334,11 +334,18 @@ fn find_faults(alloc: Global, program: &Typed) -> Result<Vec<Fault>, AllocError>
     Ok(found)
 }
 
-/// The first fault of ownership in a resolved program: the one at the earliest place, and of two there the one of the lower rule;
-/// None where there is none. The error is want of memory.
-pub fn check_ownership(alloc: Global, program: &Typed) -> Result<Option<Fault>, AllocError>
+// The first fault of ownership in a program, where it has one.
+fn first_ownership_fault(alloc: Global, program: &Typed) -> Result<Option<Fault>, AllocError>
     ensures { IfOk result (λ f. f ≡ first_fault (ownership_faults (typed program.now))) }
 {
     let faults = find_faults(alloc, program)?;
     Ok(first_fault(&faults))
+}
+
+/// Refuses a program that has faults of ownership, by the first: the one at the earliest place, and of two there the one of the
+/// lower rule.
+pub fn check_ownership(alloc: Global, program: &Typed) -> Result<(), FrontStop>
+    ensures { Answers (first_fault (ownership_faults (typed program.now))) result }
+{
+    answer(first_ownership_fault(alloc, program))
 }

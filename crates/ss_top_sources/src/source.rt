@@ -5,6 +5,7 @@ ghost use Rattle.ss_core.specs.View as core;
 ghost use Rattle.ss_ast.specs.Tokens.{Tok, toks};
 ghost use Rattle.ss_ast.specs.Programs.{program_tree};
 ghost use Rattle.ss_lexer.specs.Reading.{HasTokens};
+ghost use Rattle.ss_faults.specs.First.{Answers};
 ghost use Rattle.ss_typed.specs.View.{typed};
 ghost use Rattle.ss_expand_rules.specs.Elaborated.{elaborated};
 ghost use Rattle.ss_resolver.specs.Phases.{ResolvesTo};
@@ -16,7 +17,6 @@ use ss_core::FrontStop;
 use ss_decls::parse_program;
 use ss_delayed::check_construction;
 use ss_expand::expand;
-use ss_faults::Fault;
 use ss_lexer::tokens;
 use ss_nonnull::check_nulls;
 use ss_owners::check_ownership;
@@ -31,20 +31,13 @@ pub struct Accepted {
     pub program: Typed,
 }
 
-// The first fault of the phases of a resolved program.
-fn typed_fault(alloc: Global, program: &Typed) -> Result<Option<Fault>, AllocError>
-    ensures { IfOk result (λ f. f ≡ typed_fault (typed program.now)) }
+// The phases of a resolved program, one after the other.
+fn check_phases(alloc: Global, program: &Typed) -> Result<(), FrontStop>
+    ensures { Answers (typed_fault (typed program.now)) result }
 {
-    if let Some(fault) = check_nulls(alloc, program)? {
-        return Ok(Some(fault));
-    }
-    if let Some(fault) = check_construction(alloc, program)? {
-        return Ok(Some(fault));
-    }
-    if let Some(fault) = check_ownership(alloc, program)? {
-        return Ok(Some(fault));
-    }
-    Ok(None)
+    check_nulls(alloc, program)?;
+    check_construction(alloc, program)?;
+    check_ownership(alloc, program)
 }
 
 // The phases behind names and types.
@@ -62,13 +55,9 @@ fn check_typed(
 {
     let _source = source;
     let _tree = tree;
-    match typed_fault(alloc, &program) {
-        Ok(None) => Ok(Accepted { tokens, program }),
-        Ok(Some(fault)) => Err(FrontStop::Refused {
-            rule: fault.rule,
-            place: fault.place,
-        }),
-        Err(_) => Err(FrontStop::Memory),
+    match check_phases(alloc, &program) {
+        Ok(()) => Ok(Accepted { tokens, program }),
+        Err(stop) => Err(stop),
     }
 }
 
