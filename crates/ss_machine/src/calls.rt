@@ -13,6 +13,7 @@ use crate::halt::{Halt, ensure};
 use crate::machine::{Machine, or_memory};
 use crate::values::{put, set_local, this};
 use ss_core::{Body, BodyId, Callee, ClassId, Core, Expr, Kind, Place};
+use ss_core_bodies::{body_at, constructor_of, method_at};
 use ss_store_rules::Value;
 use std::alloc::Global;
 
@@ -21,32 +22,6 @@ use std::alloc::Global;
 pub struct Site {
     pub place: Place,
     pub into: Option<usize>,
-}
-
-pub fn body_at(core: &Core, number: BodyId) -> Option<&Body>
-    ensures { option_map (λ b. view.body b.now) result ≡ typed.body_at (view.core core.now) number.0 }
-{
-    core.bodies.get(number.0 as usize)
-}
-
-// The body at this place of the table of the class.
-fn method_at(core: &Core, class: ClassId, m: usize) -> Option<&Body>
-    ensures { option_map (λ b. view.body b.now) result ≡ typed.method_at (view.core core.now) class.0 m }
-{
-    let entry = core.classes.declared(class)?.table.get(m)?;
-    body_at(core, entry.body)
-}
-
-// The first constructor of the class.
-fn constructor_of(core: &Core, class: ClassId) -> Option<&Body>
-    ensures { option_map (λ b. view.body b.now) result ≡ typed.constructor_of (view.core core.now) class.0 }
-{
-    for body in &core.bodies {
-        if body.flags.ctor && body.class == class {
-            return Some(body);
-        }
-    }
-    None
 }
 
 // The number of the result among the locals of a body, where it has one.

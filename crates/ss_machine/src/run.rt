@@ -16,12 +16,12 @@ ghost use Rattle.ss_machine.specs.Ends.{IfDone, IfFailed, IfStopped, OnWhole};
 ghost use Rattle.ss_machine.specs.Frames.{running, waiting};
 ghost use Rattle.ss_machine.specs.Pieces.{pieces, WroteFirst};
 
-use crate::calls::body_at;
 use crate::frame::{Frame, Target, locals_at_entry};
 use crate::good::{every_state_is_good, non_null_never_gives_null};
 use crate::halt::Halt;
 use crate::machine::Machine;
 use ss_core::{Body, Core, Kind, Place};
+use ss_core_bodies::body_at;
 use ss_io::Sink;
 use ss_machine_stores::Stores;
 use ss_store_rules::Value;

@@ -16,13 +16,13 @@ ghost use Rattle.ss_vcgen_calls_made.specs.Words.{object_there, array_there, len
 use crate::arguments::{behind, settle_list};
 use crate::calls::{check_entry, keep, returned};
 use ss_core::{Body, ClassId, Expr, Kind, Place};
+use ss_core_bodies::constructor_of;
 use ss_logic::Sort;
 use ss_rules_plans::{Claim, Clause, Plan, Slot, fill};
 use ss_terms::{Bank, FormulaId, Predicate, Symbol, TermId};
 use ss_vcgen_builder::{Builder, Walk};
 use ss_vcgen_contracts::Contract;
 use ss_vcgen_evaluated::evaluate;
-use ss_vcgen_known::constructor_of;
 use ss_vcgen_statements::{applied, change_store};
 use std::alloc::{AllocError, Global};
 

@@ -8,33 +8,8 @@ ghost use Rattle.ss_store_rules.specs.Locals.{types_of, this_types, argument_typ
 ghost use Rattle.ss_store_rules.specs.Typed as typed;
 
 use ss_core::{Body, BodyId, Callee, Class, ClassId, Core, Local, Ty};
+use ss_core_bodies::{body_at, method_at};
 use std::alloc::{AllocError, Global};
-
-fn body_at(core: &Core, number: BodyId) -> Option<&Body>
-    ensures { option_map (λ b. view.body b.now) result ≡ typed.body_at (view.core core.now) number.0 }
-{
-    core.bodies.get(number.0 as usize)
-}
-
-// The body at this place of the table of the class.
-fn method_at(core: &Core, class: ClassId, m: usize) -> Option<&Body>
-    ensures { option_map (λ b. view.body b.now) result ≡ typed.method_at (view.core core.now) class.0 m }
-{
-    let entry = core.classes.declared(class)?.table.get(m)?;
-    body_at(core, entry.body)
-}
-
-/// The first constructor of the class.
-pub fn constructor_of(core: &Core, class: ClassId) -> Option<&Body>
-    ensures { option_map (λ b. view.body b.now) result ≡ typed.constructor_of (view.core core.now) class.0 }
-{
-    for body in &core.bodies {
-        if body.flags.ctor && body.class == class {
-            return Some(body);
-        }
-    }
-    None
-}
 
 fn is_instance_method(body: &Body) -> bool
     ensures { result ≡ typed.is_instance_method (view.body body.now) }

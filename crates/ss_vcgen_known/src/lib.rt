@@ -20,7 +20,7 @@ mod types;
 
 pub use assigns::assigned;
 pub use atoms::{is_literal_true, is_null_literal, is_this};
-pub use bodies::{argument_types, callee_of, constructor_of, local_types};
+pub use bodies::{argument_types, callee_of, local_types};
 pub use code::code_type;
 pub use expressions::{link_type, step_type, type_of};
 pub use fields::Fields;
