@@ -11,12 +11,10 @@ use crate::classes::parse_declarations;
 use ss_ast::{Program, Symbol, Token, TokenKind};
 use ss_core::{FrontStop, Place};
 use ss_grammar::fault::Stop;
+use ss_parser_expressions::LEVELS;
 use ss_parser_expressions::heads::next_symbol;
 use ss_parser_expressions::refusal::refused;
 use std::alloc::Global;
-
-// How deep brackets, statements and operands nest.
-const LEVELS: u32 = 64;
 
 // The place of the end of the text, where it is the next, and the tokens behind it.
 fn next_end(tokens: &[Token]) -> Option<(Place, &[Token])>

@@ -2,28 +2,13 @@
 ghost use Rattle.std.specs.Prelude.{◌≡◌, slice_get, unwrap_or};
 ghost use Rattle.ss_store_rules.specs.Store.{slot_value};
 ghost use Rattle.ss_store_rules.specs.Reads.{no_object, object_at};
-ghost use Rattle.ss_store.specs.Shapes.{owner_of_pair};
 ghost use Rattle.ss_journal.specs.Undo.{IsHeaderOf};
 
 use ss_core::{ClassId, FieldId};
 use ss_journal::{Journal, OldHeader, header_at};
-use ss_store::{Before, Slot, Store, slot_value};
+use ss_store::{Before, NO_CLASS, Slot, Store, owner_of_pair, slot_value};
 use ss_store_rules::{Owner, Value};
 use std::marker::Model;
-
-/// Stands in place of a class where the owner is a group.
-const NO_CLASS: u16 = 65535;
-
-/// The owner that a pair of numbers means.
-fn owner_of_pair(pair: (u32, u16)) -> Owner
-    ensures { result ≡ owner_of_pair pair }
-{
-    if pair.1 == NO_CLASS {
-        Owner::Group(pair.0)
-    } else {
-        Owner::Owned(pair.0, ClassId(pair.1))
-    }
-}
 
 /// The content of the first slot of the field; null where there is none.
 fn field_of(fields: &[Slot], f: FieldId) -> Value

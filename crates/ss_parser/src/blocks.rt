@@ -9,6 +9,7 @@ use crate::statements::parse_whole_block;
 use ss_ast::{Block, Token};
 use ss_core::FrontStop;
 use ss_grammar::fault::Stop;
+use ss_parser_expressions::LEVELS;
 use ss_parser_expressions::refusal::refused;
 use std::alloc::Global;
 
@@ -21,7 +22,7 @@ pub fn parse_block(alloc: Global, tokens: &[Token], at: usize) -> Result<(Block,
     ensures end_left { EndsText tokens.now → IfOk result (λ x. x.1 < length tokens.now) }
 {
     let (_, ahead) = tokens.split_at(at);
-    match parse_whole_block(alloc, 64, ahead) {
+    match parse_whole_block(alloc, LEVELS, ahead) {
         Ok((block, rest)) => Ok((block, tokens.len() - rest.len())),
         Err(Stop::Memory) => Err(FrontStop::Memory),
         Err(Stop::Fault(fault, left)) => Err(refused(tokens, fault, left)),

@@ -5,6 +5,7 @@ ghost use Rattle.ss_ast.specs.Expressions.{expr_tree};
 ghost use Rattle.ss_grammar_expressions.specs.Grammar.{Expression};
 ghost use Rattle.ss_parser_expressions.specs.Answer.{PartAnswer, EndsText};
 
+use crate::LEVELS;
 use crate::expressions::parse_expression;
 use crate::refusal::refused;
 use ss_ast::{Expr, Token};
@@ -21,7 +22,7 @@ pub fn parse_expr(alloc: Global, tokens: &[Token], at: usize) -> Result<(Expr, u
     ensures end_left { EndsText tokens.now → IfOk result (λ x. x.1 < length tokens.now) }
 {
     let (_, ahead) = tokens.split_at(at);
-    match parse_expression(alloc, 64, ahead) {
+    match parse_expression(alloc, LEVELS, ahead) {
         Ok((expr, rest)) => Ok((Box::into_inner(expr), tokens.len() - rest.len())),
         Err(Stop::Memory) => Err(FrontStop::Memory),
         Err(Stop::Fault(fault, left)) => Err(refused(tokens, fault, left)),

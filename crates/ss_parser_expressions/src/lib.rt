@@ -17,3 +17,6 @@ pub mod types;
 mod unaries;
 
 pub use expr::parse_expr;
+
+/// How deep brackets, statements and operands nest at most.
+pub const LEVELS: u32 = 64;

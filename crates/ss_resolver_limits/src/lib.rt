@@ -10,11 +10,9 @@ ghost use Rattle.ss_resolver_limits.specs.Limits.{body_faults, bodies_faults, li
 use ss_core::Body;
 use ss_expand_programs::expand;
 use ss_faults::{Fault, first_fault};
-use ss_resolver_names_rules::Rule;
+use ss_resolver_names_rules::{MOST_LOCALS, Rule};
 use ss_typed::Typed;
 use std::alloc::{AllocError, Global};
-
-const MOST_LOCALS: usize = 4096;
 
 // A body with too many locals.
 #[tactic(auto, unfolding(ss_resolver_names_rules::specs::Programs::most_locals))]

@@ -16,13 +16,11 @@ use indexmap::IndexSet;
 use ss_ast::{Block, Name};
 use ss_faults::Fault;
 use ss_resolver_names_members::add;
-use ss_resolver_names_rules::Rule;
+use ss_resolver_names_rules::{MOST_LOCALS, Rule};
 use ss_resolver_scoping::{declare_params, plus};
 use ss_tables_lookup::{ConstructorRef, MethodRef, Shelf, Tables};
 use ss_tables_scopes::{Scopes, Within};
 use std::alloc::{AllocError, Global};
-
-const MOST_LOCALS: usize = 4096;
 
 // How many parameters a block assigns.
 fn assigned_params(

@@ -5,3 +5,6 @@
 mod fault;
 
 pub use fault::Rule;
+
+/// How many locals a body has at most.
+pub const MOST_LOCALS: usize = 4096;

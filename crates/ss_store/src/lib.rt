@@ -29,6 +29,7 @@ pub use arithmetic::same_value;
 pub use before::Before;
 pub use inputs::{admitted, first_store};
 pub use making::NewStop;
-pub use object::Slot;
+pub use object::{NO_CLASS, Slot};
 pub use owners::{is_group, is_pair_upto, same_owner};
+pub use scene::owner_of_pair;
 pub use store::{Store, slot_value};

@@ -6,7 +6,7 @@ use ss_store_rules::{Owner, Value};
 use std::marker::Model;
 
 /// Stands in place of a class where the owner is a group.
-pub(crate) const NO_CLASS: u16 = 65535;
+pub const NO_CLASS: u16 = 65535;
 
 /// A field of an object.
 #[derive(Drop)]

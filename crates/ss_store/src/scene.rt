@@ -22,8 +22,8 @@ pub(crate) struct Scene<'a, B> {
     pub(crate) inside_old: bool,
 }
 
-// The owner that the pair tells.
-fn owner_of_pair(pair: (u32, u16)) -> Owner
+/// The owner that a pair of numbers means: a group beside `NO_CLASS`, or an object and a class.
+pub fn owner_of_pair(pair: (u32, u16)) -> Owner
     ensures { result ≡ shapes.owner_of_pair pair }
 {
     let (number, class) = pair;

@@ -8,12 +8,10 @@ ghost use Rattle.ss_top.specs.Answers.{asked_by, file_of, OfFile, IsHeadline, Is
 
 use crate::source::answer_source;
 use ss_io::{Files, ReadStop, Sink};
+use ss_lexer::MAX_BYTES;
 use ss_report::Status;
 use ss_top_words::read_words;
 use std::alloc::Global;
-
-/// The largest source, in bytes.
-pub const SOURCE_BYTES: usize = 1_048_576;
 
 /// Does what the words say: `verify FILE` verifies the program of the file and writes the verdict, `run FILE` verifies
 /// it and runs it where it is verified, `run FILE --unverified` runs it with all its checks, and `expand FILE` writes its core
@@ -55,7 +53,7 @@ pub fn specsharp<F: Files, S: Sink>(
         Ok(None) => return Status::BadWords,
         Err(_) => return Status::Memory,
     };
-    match files.read(alloc, asked.file, SOURCE_BYTES + 1) {
+    match files.read(alloc, asked.file, MAX_BYTES + 1) {
         Ok(source) => answer_source(alloc, &asked, &source, out),
         Err(ReadStop::Failed) => Status::ReadFault,
         Err(ReadStop::Memory) => Status::Memory,
