@@ -8,8 +8,7 @@ ghost use Rattle.ss_expand_rules.specs.Bodies as bodies;
 ghost use Rattle.ss_expand_expressions.specs.Sources.{stmts_of};
 
 use ss_core::{BodyFlags, BodyId, Callee, ClassId, Expr, Place, Stmt, Ty};
-use ss_expand_expressions::class_type;
-use ss_typed::{TypedFlags, TypedParam};
+use ss_typed::{TypedFlags, TypedParam, class_type};
 use std::alloc::{AllocError, Global};
 
 /// What kind of body a written one is in the core program.

@@ -8,68 +8,14 @@ ghost use Rattle.ss_typed.specs.Types as types;
 ghost use Rattle.ss_expand_rules.specs.Lifting as lifting;
 ghost use Rattle.ss_expand_expressions.specs.Views.{link_behind, step_behind, stepped};
 
-use ss_core::{ClassId, Operator, Ty};
-use ss_typed::{TypedExpr, TypedLink, TypedStep};
-
-/// The type of a class, with or without null.
-pub fn class_type(class: ClassId, non_null: bool) -> Ty
-    ensures { result ≡ types.class_type class.0 non_null }
-{
-    Ty::Ref { class, non_null }
-}
+use ss_core::{ClassId, Ty};
+use ss_typed::{TypedExpr, TypedLink, TypedStep, class_type, element_of, operation_type};
 
 /// The type that is wanted of a reference wherever none is declared.
 pub fn any_object() -> Ty
     ensures { result ≡ lifting.any_object }
 {
     class_type(ClassId(0), false)
-}
-
-// The type of the elements of the array class.
-fn element_type(array: ClassId) -> Ty
-    ensures { result ≡ types.element_type array.0 }
-{
-    if array.0 == 1 {
-        return Ty::Int;
-    }
-    if array.0 == 2 {
-        return Ty::Bool;
-    }
-    if array.0 == 3 {
-        return any_object();
-    }
-    class_type(ClassId(array.0.saturating_sub(1)), false)
-}
-
-// The type of the elements of an array of this type.
-fn element_of(array: Option<Ty>) -> Option<Ty>
-    ensures { result ≡ types.element_of array }
-{
-    match array {
-        Some(Ty::Ref { class, .. }) => Some(element_type(class)),
-        Some(Ty::Int) | Some(Ty::Bool) | Some(Ty::Null) | None => None,
-    }
-}
-
-// What an operation gives.
-fn operation_type(operator: Operator) -> Ty
-    ensures { result ≡ types.operation_type operator }
-{
-    match operator {
-        Operator::Or
-        | Operator::And
-        | Operator::Equal
-        | Operator::NotEqual
-        | Operator::Less
-        | Operator::LessEqual
-        | Operator::Greater
-        | Operator::GreaterEqual => Ty::Bool,
-        Operator::Add
-        | Operator::Subtract
-        | Operator::Multiply
-        | Operator::Divide
-        | Operator::Remainder => Ty::Int,
-    }
 }
 
 /// The type of an operand with this link behind it.

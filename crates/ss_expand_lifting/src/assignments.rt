@@ -7,7 +7,6 @@ ghost use Rattle.ss_core.specs.Tree as core;
 ghost use Rattle.ss_core.specs.View as view;
 ghost use Rattle.ss_typed.specs.Tree as tree;
 ghost use Rattle.ss_typed.specs.Tree.{ExprTree};
-ghost use Rattle.ss_typed.specs.Types as types;
 ghost use Rattle.ss_typed.specs.View as typed;
 ghost use Rattle.ss_expand_rules.specs.Calls as calls;
 ghost use Rattle.ss_expand_rules.specs.Code.{after};
@@ -33,7 +32,7 @@ use ss_expand_expressions::{
     Operand, Source, binary, has_call, is_lazy_operator, place_of, plain, put, step_operator,
     valued,
 };
-use ss_typed::TypedExpr;
+use ss_typed::{TypedExpr, operation_type};
 use std::alloc::{AllocError, Global};
 
 // Adds the write of a field, with its mark and the class that declares it.
@@ -235,27 +234,6 @@ fn assign(
     } else {
         assign_settled(alloc, setting, target, e, code, made)?;
         Ok(())
-    }
-}
-
-// What an operation gives.
-fn operation_type(operator: Operator) -> Ty
-    ensures { result ≡ types.operation_type operator }
-{
-    match operator {
-        Operator::Or
-        | Operator::And
-        | Operator::Equal
-        | Operator::NotEqual
-        | Operator::Less
-        | Operator::LessEqual
-        | Operator::Greater
-        | Operator::GreaterEqual => Ty::Bool,
-        Operator::Add
-        | Operator::Subtract
-        | Operator::Multiply
-        | Operator::Divide
-        | Operator::Remainder => Ty::Int,
     }
 }
 

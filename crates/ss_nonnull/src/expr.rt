@@ -20,9 +20,9 @@ use crate::site::Site;
 use ss_core::{ClassId, Operator, Place, Ty};
 use ss_faults::Fault;
 use ss_nonnull_facts::{
-    Called, base_method, class_type, constructor, is_non_null, method_of, static_method, type_at,
+    Called, base_method, constructor, is_non_null, method_of, static_method, type_at,
 };
-use ss_typed::{TypedExpr, TypedLink, TypedStep};
+use ss_typed::{TypedExpr, TypedLink, TypedStep, class_type};
 use std::alloc::{AllocError, Global};
 
 // A truth value or a number that says nothing.

@@ -11,7 +11,8 @@ use crate::known::{Known, has_its_field, knows, learned};
 use crate::site::Site;
 use ss_core::{ClassId, FieldId, Operator, Place, Ty};
 use ss_faults::Fault;
-use ss_nonnull_facts::{class_type, element_of, is_non_null, is_non_null_type};
+use ss_nonnull_facts::{is_non_null, is_non_null_type};
+use ss_typed::{class_type, element_of};
 use std::alloc::{AllocError, Global};
 
 /// All that is asked of an expression from outside.

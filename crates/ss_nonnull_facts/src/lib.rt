@@ -13,4 +13,4 @@ pub use called::{
     members_of, method_of, static_method, type_at,
 };
 pub use locals::put_all;
-pub use types::{class_type, element_of, is_non_null, is_non_null_type, operation_type};
+pub use types::{is_non_null, is_non_null_type};

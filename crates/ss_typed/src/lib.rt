@@ -6,8 +6,10 @@ mod body;
 mod expr;
 mod program;
 mod stmt;
+mod types;
 
 pub use body::{TypedBase, TypedBody, TypedFlags, TypedModifies, TypedParam};
 pub use expr::{TypedExpr, TypedLink, TypedStep};
 pub use program::{Typed, TypedClass, TypedField, TypedInvariant};
 pub use stmt::{TypedBlock, TypedDeclarator, TypedInit, TypedSimple, TypedStmt};
+pub use types::{class_type, element_of, operation_type};
