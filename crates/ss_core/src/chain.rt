@@ -9,9 +9,6 @@ use crate::names::{ClassId, FieldId};
 /// How many levels a class has at most: itself and 63 above it.
 pub const MOST_LEVELS: u8 = 64;
 
-/// How many fields an object has at most.
-pub const MOST_FIELDS: usize = 1024;
-
 impl Class {
     ghost use Rattle.std.specs.Prelude.{◌==◌};
     ghost use Rattle.std.specs.List.{list_any};

@@ -10,7 +10,7 @@ mod names;
 mod stmt;
 
 pub use body::{Body, BodyFlags, Core, Local, Modifies};
-pub use chain::{MOST_FIELDS, MOST_LEVELS};
+pub use chain::MOST_LEVELS;
 pub use class::{Class, Classes, Entry, Field};
 pub use expr::{DefaultCondition, Expr, Link, Operator, OwnerTest, Quantifier, StateWord, Step};
 pub use names::{BodyId, ClassId, FieldId, FrontStop, Kind, Mark, Place, Ty};

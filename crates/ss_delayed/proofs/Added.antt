@@ -14,10 +14,10 @@ use Rattle.ss_typed.specs.declared.expr.TypedExpr.TheOpen as shape
 use Rattle.ss_typed.specs.declared.expr.TypedExpr.TheOpen.{TypedLink-F, TypedStep-F}
 use Rattle.ss_typed.specs.Tree.{ExprTree, FieldOf, QuantifiedOf, BaseOf, arguments}
 use Rattle.ss_typed.specs.View.{Behind, grouped, expr_step, link_step, step_step, expr}
-use Rattle.ss_paths.specs.Assigned.{is_this}
+use Rattle.ss_typed.specs.Shapes.{is_this}
 use Rattle.ss_delayed_rules.specs.Escapes.{Use, ForFields, NotAtAll, may_read, uses, uses_each}
-use Rattle.ss_paths_assigned.specs.Views.{link_behind, step_behind}
-use Rattle.ss_paths_assigned.proofs.Grouping.{link_shape, step_shape, chain_is, path_is}
+use Rattle.ss_typed.specs.Parts.{link_behind, step_behind}
+use Rattle.ss_typed.proofs.Grouping.{chain_is, link_shape, path_is, step_shape}
 use Rattle.ss_paths_assigned.proofs.Forms.{no_this_behind}
 use Rattle.ss_delayed.specs.Parts.{nowhere, nothing, link_uses, links_uses, step_uses, steps_uses, is_field, is_allowed_read, unless}
 

@@ -4,7 +4,8 @@ use Rattle.std.specs.Prelude.{option_and_then}
 use Rattle.ss_core.specs.declared.names.Place.{Place}
 use Rattle.ss_typed.specs.Tree.{ExprTree, DeclaratorTree, SimpleTree, InitTree, DeclareFirst, SimpleFirst, BlockTree, BlockOf, StmtTree, InBlock, DeclareOf, SimpleOf, IfOf, IfElseOf, WhileOf, ForOf, ReturnOf, AssertOf, AssumeOf, ExposeOf, EmptyOf, StmtTrees, NoMore, Before, TypedTree}
 use Rattle.ss_paths.specs.Fields.{Numbers}
-use Rattle.ss_paths.specs.Paths.{met, all_declared, begun, is_true, test_of, behind, behind_block, at_end, declared_faults, first_faults, step_faults, in_loop, behind_first, faults_at, faults_in, faults_along}
+use Rattle.ss_paths.specs.Paths.{met, all_declared, begun, test_of, behind, behind_block, at_end, declared_faults, first_faults, step_faults, in_loop, behind_first, faults_at, faults_in, faults_along}
+use Rattle.ss_typed.specs.Shapes.{is_true}
 use Rattle.ss_paths.specs.Assigned.{Assigned, assigned_flow}
 use Rattle.ss_delayed_rules.specs.Constructors.{unassigned_faults, end_check}
 use Rattle.ss_delayed.specs.Walked.{Known, joined, begun_with, left_with, walked, walked_in, walked_along, ended, ended_in, ended_along}

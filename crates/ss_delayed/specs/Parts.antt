@@ -6,10 +6,10 @@ use Rattle.ss_ast.specs.declared.stmt.AssignOperator.TheVariants as assign
 use Rattle.ss_typed.specs.declared.expr.TypedLink.{TypedLink}
 use Rattle.ss_typed.specs.declared.expr.TypedStep.{TypedStep}
 use Rattle.ss_typed.specs.Tree.{ExprTree, NullOf, FieldOf}
-use Rattle.ss_paths.specs.Assigned.{is_this}
+use Rattle.ss_typed.specs.Shapes.{is_this}
 use Rattle.ss_delayed_rules.specs.Escapes as escapes
 use Rattle.ss_delayed_rules.specs.Escapes.{may_read, uses, uses_left}
-use Rattle.ss_paths_assigned.specs.Views.{link_behind, step_behind}
+use Rattle.ss_typed.specs.Parts.{link_behind, step_behind}
 use Rattle.ss_delayed.specs.declared.escapes.Use.{Use}
 use Rattle.ss_delayed.specs.declared.escapes.Use.TheVariants as allowed
 

@@ -4,7 +4,8 @@ use Rattle.std.specs.Prelude.{List, [], ◌++◌, Bool, Option, Some, None, opti
 use Rattle.ss_faults.specs.declared.Fault.{Fault}
 use Rattle.ss_typed.specs.Tree.{InitTree, DeclareFirst, SimpleFirst, BlockTree, BlockOf, StmtTree, InBlock, DeclareOf, SimpleOf, IfOf, IfElseOf, WhileOf, ForOf, ReturnOf, AssertOf, AssumeOf, ExposeOf, EmptyOf, StmtTrees, NoMore, Before}
 use Rattle.ss_paths.specs.Fields.{Numbers}
-use Rattle.ss_paths.specs.Paths.{is_true, test_of}
+use Rattle.ss_paths.specs.Paths.{test_of}
+use Rattle.ss_typed.specs.Shapes.{is_true}
 use Rattle.ss_paths.specs.Assigned.{Assigned, assigned_by, both_assigned}
 use Rattle.ss_paths_assigned.specs.declared.assigned.Assigned as code
 use Rattle.ss_paths_assigned.specs.Codes.{assigned_of}

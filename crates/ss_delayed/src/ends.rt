@@ -4,7 +4,8 @@ ghost use Rattle.std.specs.Prelude.{◌≡◌, ◌++◌, IfOk, OnOk, map, option
 ghost use Rattle.ss_core.specs.declared.names.Place.{Place as PlaceValue};
 ghost use Rattle.ss_typed.specs.Tree.{stmt_trees};
 ghost use Rattle.ss_typed.specs.View.{block, expr, init_of, simple_of, stmt_of, typed};
-ghost use Rattle.ss_paths.specs.Paths.{is_true, test_of};
+ghost use Rattle.ss_paths.specs.Paths.{test_of};
+ghost use Rattle.ss_typed.specs.Shapes.{is_true};
 ghost use Rattle.ss_paths.specs.Assigned.{assigned_by};
 ghost use Rattle.ss_paths_assigned.specs.Codes.{numbers_of, assigned_of};
 ghost use Rattle.ss_delayed_rules.specs.Constructors.{unassigned_faults};
@@ -13,8 +14,8 @@ ghost use Rattle.ss_delayed.specs.Walked.{known_of, joined, begun_with, left_wit
 use crate::noting::note_unassigned;
 use ss_core::{ClassId, Place};
 use ss_faults::Fault;
-use ss_paths_assigned::{Assigned, Numbers, is_true};
-use ss_typed::{Typed, TypedBlock, TypedExpr, TypedInit, TypedSimple, TypedStmt};
+use ss_paths_assigned::{Assigned, Numbers};
+use ss_typed::{Typed, TypedBlock, TypedExpr, TypedInit, TypedSimple, TypedStmt, is_true};
 use std::alloc::AllocError;
 
 /// A constructor along whose statements we go: its class, the numbers of that class's fields, and the place of a fault at an end.

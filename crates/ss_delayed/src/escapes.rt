@@ -4,12 +4,11 @@ ghost use Rattle.std.specs.Prelude.{◌≡◌, ◌++◌, OnOk, map};
 ghost use Rattle.ss_typed.specs.Tree.{arguments};
 ghost use Rattle.ss_typed.specs.View.{expr};
 ghost use Rattle.ss_delayed_rules.specs.Escapes.{may_read, uses, uses_each};
-ghost use Rattle.ss_paths_assigned.specs.Views.{step_behind};
+ghost use Rattle.ss_typed.specs.Parts.{step_behind};
 ghost use Rattle.ss_delayed.specs.Parts.{use_of, nowhere, nothing, link_uses, links_uses, step_uses, steps_uses, is_field, starts_with_field, is_allowed_read, unless};
 
 use ss_core::Place;
-use ss_paths_assigned::is_this;
-use ss_typed::{TypedExpr, TypedLink, TypedStep};
+use ss_typed::{TypedExpr, TypedLink, TypedStep, is_this};
 use std::alloc::AllocError;
 
 /// How `this` may be used.

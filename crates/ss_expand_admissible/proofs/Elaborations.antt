@@ -11,7 +11,7 @@ use Rattle.ss_core.specs.Tree.{WordTree, Consistent, Committed, New, Level, Pack
 use Rattle.ss_core.specs.Chain.{DeclaredField, all_fields, below}
 use Rattle.ss_ast.specs.Programs.{ProgramTree}
 use Rattle.ss_typed.specs.Tree.{ExprTree, ThisOf, ResultOf, IffOf, ImpliesOf, BinaryOf, IsOf, AsOf, NegateOf, NotOf, CastOf, FieldOf, ElementOf, LengthOf, OldOf, QuantifiedOf, StateOf, OwnersOf}
-use Rattle.ss_paths.specs.Assigned.{is_this}
+use Rattle.ss_typed.specs.Shapes.{is_this}
 use Rattle.ss_owners_rules.specs.Words.{NoWord, allows_state, unless, misplaced}
 use Rattle.ss_owners_rules.specs.Admissible as written
 use Rattle.ss_owners_rules.specs.Admissible.{field_marks, smallest, inadmissible}

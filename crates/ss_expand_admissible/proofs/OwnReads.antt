@@ -18,7 +18,7 @@ use Rattle.ss_tables.specs.Scopes.{Scope, local_named}
 use Rattle.ss_tables.specs.Statics.{Receiver, TheConsole, TheOwner, TheBase, AClass, AValue, Callee, AMethod, APrint, AWord, ABase, NoCallee, is_member, class_or_value, this_type, receiver, member_type, read_type, static, name_callee, member_callee}
 use Rattle.ss_typed.specs.Tree.{ExprTree, IffOf, ImpliesOf, BinaryOf, IsOf, AsOf, NegateOf, NotOf, CastOf, FieldOf, ElementOf, LengthOf, QuantifiedOf, NullOf, StateOf, OwnersOf, CallOf, StaticOf, BaseOf}
 use Rattle.ss_typed.specs.Tree as typed
-use Rattle.ss_paths.specs.Assigned.{is_this}
+use Rattle.ss_typed.specs.Shapes.{is_this}
 use Rattle.ss_resolver_rules.specs.Numbers.{field_id, class_in}
 use Rattle.ss_resolver_rules.specs.Names.{Known, Variable, BoundName, Env, known, within}
 use Rattle.ss_resolver_rules.specs.Expressions.{this, read_field, known_or_field, field_behind, state_word, third_class, member, method_call, base_call, owner_question, call_of, question, called_behind, called_bare, expr, call, args}

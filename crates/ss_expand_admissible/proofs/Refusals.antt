@@ -11,7 +11,7 @@ use Rattle.ss_core.specs.declared.names.Mark.TheVariants as mark
 use Rattle.ss_ast.specs.Expressions.{NameTree}
 use Rattle.ss_ast.specs.Programs.{MemberKindTree, FieldsOf, InvariantOf, MethodOf, ConstructorOf, MemberTree, ClassTree, ProgramTree}
 use Rattle.ss_typed.specs.Tree.{ExprTree, ThisOf, LocalOf, BoundOf, IffOf, ImpliesOf, BinaryOf, IsOf, AsOf, NegateOf, NotOf, CastOf, FieldOf, ElementOf, LengthOf, OldOf, QuantifiedOf, StateOf, OwnersOf, NewOf, NewArrayOf, CallOf, StaticOf, BaseOf, InvariantTree, MembersTree}
-use Rattle.ss_paths.specs.Assigned.{is_this}
+use Rattle.ss_typed.specs.Shapes.{is_this}
 use Rattle.ss_owners_rules.specs.Admissible as written
 use Rattle.ss_owners_rules.specs.Admissible.{field_marks, smallest, inadmissible}
 use Rattle.ss_resolver_rules.specs.Names.{Env, class_env}

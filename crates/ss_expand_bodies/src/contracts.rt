@@ -8,8 +8,8 @@ ghost use Rattle.ss_expand_rules.specs.Contracts as contracts;
 ghost use Rattle.ss_expand_expressions.specs.Views.{numbers_of};
 
 use ss_core::{ClassId, Expr, Modifies, Place};
-use ss_expand_expressions::{Numbers, is_this, plain};
-use ss_typed::{TypedBody, TypedExpr, TypedModifies};
+use ss_expand_expressions::{Numbers, plain};
+use ss_typed::{TypedBody, TypedExpr, TypedModifies, is_this};
 use std::alloc::{AllocError, Global};
 
 /// Adds these expressions without calls.

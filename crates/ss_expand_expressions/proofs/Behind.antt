@@ -8,7 +8,8 @@ use Rattle.ss_core.specs.Tree.{LocalExpr}
 use Rattle.ss_typed.specs.Tree.{ExprTree}
 use Rattle.ss_typed.specs.Types.{type_of}
 use Rattle.ss_expand_rules.specs.Numbers.{Numbers, plain}
-use Rattle.ss_expand_rules.specs.Calls.{has_call, is_lazy, place_of}
+use Rattle.ss_expand_rules.specs.Calls.{has_call, is_lazy}
+use Rattle.ss_typed.specs.Shapes.{place_of}
 use Rattle.ss_expand_rules.specs.Lifting.{Source, Pure, Created, CreatedArray, Called, put, Lifted, Valued, in_local, in_temporary, valued, valued_from, next, temporary_type, any_object, lifted_of, unlifted, operand}
 use Rattle.ss_expand_expressions.specs.Sources.{lifted_behind, valued_behind}
 

@@ -1,8 +1,6 @@
 -- Chains and paths link by link.
-use Rattle.std.proofs.Common.{◌≡◌, ◌++◌, ℕ, suc, length, List, [], ◌∷◌, map, take, drop, get_or, ◌<◌, Bool, true, false, Vec, Box, Global, refl, sym, ap, subst, ◌∙◌, arith, zero, ◌-◌, true≢false, ⊎_elim, Option, Some, None}
-use Rattle.std.specs.Prelude.{◌||◌, ◌==◌, slice_get}
-use Rattle.std.proofs.lemmas.Bool.Decides.{eqb_tells}
-use Rattle.std.proofs.lemmas.Option.{slice_get-get_or, get_or_from_slice_get}
+use Rattle.std.proofs.Common.{◌≡◌, ◌++◌, ℕ, suc, length, List, [], ◌∷◌, map, take, get_or, ◌<◌, Bool, true, false, Vec, Box, Global, refl, sym, ap, ◌∙◌}
+use Rattle.std.specs.Prelude.{◌||◌}
 use Rattle.ss_core.specs.declared.names.Place.{Place}
 use Rattle.ss_core.specs.declared.expr.Expr.{Expr}
 use Rattle.ss_core.specs.declared.expr.Link.{Link}
@@ -12,24 +10,17 @@ use Rattle.ss_core.specs.declared.expr.Expr.TheVariants as core_variant
 use Rattle.ss_core.specs.declared.expr.Expr.TheOpen as core_shape
 use Rattle.ss_core.specs.Tree as tree
 use Rattle.ss_core.specs.View as core
-use Rattle.ss_typed.specs.declared.expr.TypedExpr.{TypedExpr}
 use Rattle.ss_typed.specs.declared.expr.TypedLink.{TypedLink}
 use Rattle.ss_typed.specs.declared.expr.TypedStep.{TypedStep}
-use Rattle.ss_typed.specs.declared.expr.TypedExpr.TheFolds.{fold-roll-TypedExpr, fold_out-TypedLink, fold_out-TypedStep}
-use Rattle.ss_typed.specs.declared.expr.TypedExpr.TheVariants.{Chain, rolls-Chain, Path, rolls-Path}
 use Rattle.ss_typed.specs.declared.expr.TypedExpr.TheOpen as shape
 use Rattle.ss_typed.specs.declared.expr.TypedExpr.TheOpen.{TypedLink-F, TypedStep-F}
 use Rattle.ss_typed.specs.Tree.{ExprTree}
-use Rattle.ss_typed.specs.View.{Behind, grouped, expr_step, link_step, step_step, expr}
+use Rattle.ss_typed.specs.View.{Behind, link_step, step_step}
+use Rattle.ss_typed.specs.Parts.{link_behind, linked, step_behind, stepped}
+use Rattle.ss_typed.proofs.Grouping.{link_shape, step_shape, linked_push, stepped_push}
 use Rattle.ss_expand_rules.specs.Calls.{has_call}
-use Rattle.ss_expand_expressions.specs.Views.{link_behind, step_behind, core_link_behind, core_step_behind, linked, stepped, core_linked, core_stepped}
+use Rattle.ss_expand_expressions.specs.Views.{core_link_behind, core_step_behind, core_linked, core_stepped}
 use Rattle.ss_expand_expressions.proofs.Loops.{take_item, map_append}
-
-pub chain_is : (p : Place) (first : Box TypedExpr Global) (links : Vec TypedLink Global) → expr (Chain p first links) ≡ linked p (expr first.value) links.items
-chain_is p first links = ap expr (sym (rolls-Chain p first links)) ∙ fold-roll-TypedExpr ExprTree Behind Behind expr_step link_step step_step (shape.Chain p first links)
-
-pub path_is : (p : Place) (first : Box TypedExpr Global) (steps : Vec TypedStep Global) → expr (Path p first steps) ≡ stepped p (expr first.value) steps.items
-path_is p first steps = ap expr (sym (rolls-Path p first steps)) ∙ fold-roll-TypedExpr ExprTree Behind Behind expr_step link_step step_step (shape.Path p first steps)
 
 pub core_chain_is : (p : Place) (first : Box Expr Global) (links : Vec Link Global) → core.expr (core_variant.Chain p first links) ≡ core_linked p (core.expr first.value) links.items
 core_chain_is p first links = ap core.expr (sym (core_variant.rolls-Chain p first links)) ∙ core_fold.fold-roll-Expr tree.ExprTree core.Behind core.Behind core.expr_step core.link_step core.step_step (core_shape.Chain p first links)
@@ -37,36 +28,11 @@ core_chain_is p first links = ap core.expr (sym (core_variant.rolls-Chain p firs
 pub core_path_is : (p : Place) (first : Box Expr Global) (steps : Vec Step Global) → core.expr (core_variant.Path p first steps) ≡ core_stepped p (core.expr first.value) steps.items
 core_path_is p first steps = ap core.expr (sym (core_variant.rolls-Path p first steps)) ∙ core_fold.fold-roll-Expr tree.ExprTree core.Behind core.Behind core.expr_step core.link_step core.step_step (core_shape.Path p first steps)
 
--- what a link or a step makes
-pub record LinkShape (l : TypedLink) : Type 0 where
-  pub shape : TypedLink-F ExprTree Behind Behind
-  pub is : link_behind l ≡ link_step shape
-
-pub link_shape : (l : TypedLink) → LinkShape l
-link_shape l = record { shape = _; is = fold_out-TypedLink ExprTree Behind Behind expr_step link_step step_step l }
-
-pub record StepShape (l : TypedStep) : Type 0 where
-  pub shape : TypedStep-F ExprTree Behind Behind
-  pub is : step_behind l ≡ step_step shape
-
-pub step_shape : (l : TypedStep) → StepShape l
-step_shape l = record { shape = _; is = fold_out-TypedStep ExprTree Behind Behind expr_step link_step step_step l }
-
 -- ---- one more at the end
-
-pub grouped_push : (p : Place) (e : ExprTree) (bs : List Behind) (b : Behind) → grouped p e (bs ++ b ∷ []) ≡ b p (grouped p e bs)
-grouped_push p e [] b = refl
-grouped_push p e (x ∷ bs) b = grouped_push p (x p e) bs b
 
 pub core_grouped_push : (p : Place) (e : tree.ExprTree) (bs : List core.Behind) (b : core.Behind) → core.grouped p e (bs ++ b ∷ []) ≡ b p (core.grouped p e bs)
 core_grouped_push p e [] b = refl
 core_grouped_push p e (x ∷ bs) b = core_grouped_push p (x p e) bs b
-
-pub linked_push : (p : Place) (e : ExprTree) (ls : List TypedLink) (l : TypedLink) → linked p e (ls ++ l ∷ []) ≡ link_behind l p (linked p e ls)
-linked_push p e ls l = ap (λ bs. grouped p e bs) (map_append link_behind ls (l ∷ [])) ∙ grouped_push p e (map link_behind ls) (link_behind l)
-
-pub stepped_push : (p : Place) (e : ExprTree) (ls : List TypedStep) (l : TypedStep) → stepped p e (ls ++ l ∷ []) ≡ step_behind l p (stepped p e ls)
-stepped_push p e ls l = ap (λ bs. grouped p e bs) (map_append step_behind ls (l ∷ [])) ∙ grouped_push p e (map step_behind ls) (step_behind l)
 
 pub core_linked_push : (p : Place) (e : tree.ExprTree) (ls : List Link) (l : Link) → core_linked p e (ls ++ l ∷ []) ≡ core_link_behind l p (core_linked p e ls)
 core_linked_push p e ls l = ap (λ bs. core.grouped p e bs) (map_append core_link_behind ls (l ∷ [])) ∙ core_grouped_push p e (map core_link_behind ls) (core_link_behind l)
@@ -150,63 +116,3 @@ link_with p e l ls h = links_keep p (link_behind l p e) ls (h ∙ or_true (has_c
 
 pub step_with : (p : Place) (e : ExprTree) (l : TypedStep) (ls : List TypedStep) → has_call (step_behind l p e) ≡ (has_call e || true) → has_call (stepped p e (l ∷ ls)) ≡ (has_call e || true)
 step_with p e l ls h = steps_keep p (step_behind l p e) ls (h ∙ or_true (has_call e)) ∙ sym (or_true (has_call e))
-
--- ---- the last link or step
-
--- a chain is of the kind of its links where all are of one, and so is a path
-pub chain_all : {X : Type 0} (f : ExprTree → X) (x : Place → X) → ((s : TypedLink-F ExprTree Behind Behind) (p : Place) (e : ExprTree) → f (link_step s p e) ≡ x p) → (p : Place) (e : ExprTree) (l : TypedLink) (ls : List TypedLink) → f (linked p e (l ∷ ls)) ≡ x p
-chain_all f x h p e l [] = ap (λ (b : Behind). f (b p e)) (link_shape l).is ∙ h (link_shape l).shape p e
-chain_all f x h p e l (m ∷ ls) = chain_all f x h p (link_behind l p e) m ls
-
-pub path_all : {X : Type 0} (f : ExprTree → X) (x : Place → X) → ((s : TypedStep-F ExprTree Behind Behind) (p : Place) (e : ExprTree) → f (step_step s p e) ≡ x p) → (p : Place) (e : ExprTree) (l : TypedStep) (ls : List TypedStep) → f (stepped p e (l ∷ ls)) ≡ x p
-path_all f x h p e l [] = ap (λ (b : Behind). f (b p e)) (step_shape l).is ∙ h (step_shape l).shape p e
-path_all f x h p e l (m ∷ ls) = path_all f x h p (step_behind l p e) m ls
-
-some_length : (n : ℕ) → n ≡ 0 → false ≡ (n == 0) → ⊥
-some_length n e h = true≢false (sym (h ∙ ap (λ k. k == 0) e))
-
-no_length : (n m : ℕ) → n ≡ suc m → true ≡ (n == 0) → ⊥
-no_length n m e h = ⊎_elim (λ d. let x : n ≡ 0 = d.1 in omega arith) (λ d. true≢false (h ∙ d.0)) (eqb_tells n 0)
-
--- the same where a length says that there is one
-pub chain_some : {X : Type 0} (f : ExprTree → X) (x : Place → X) → ((s : TypedLink-F ExprTree Behind Behind) (p : Place) (e : ExprTree) → f (link_step s p e) ≡ x p) → (p : Place) (e : ExprTree) (ls : List TypedLink) (n : ℕ) → n ≡ length ls → false ≡ (n == 0) → f (linked p e ls) ≡ x p
-chain_some f x k p e [] n c h = absurd (some_length n c h)
-chain_some f x k p e (l ∷ ls) n c h = chain_all f x k p e l ls
-
-pub path_some : {X : Type 0} (f : ExprTree → X) (x : Place → X) → ((s : TypedStep-F ExprTree Behind Behind) (p : Place) (e : ExprTree) → f (step_step s p e) ≡ x p) → (p : Place) (e : ExprTree) (ls : List TypedStep) (n : ℕ) → n ≡ length ls → false ≡ (n == 0) → f (stepped p e ls) ≡ x p
-path_some f x k p e [] n c h = absurd (some_length n c h)
-path_some f x k p e (l ∷ ls) n c h = path_all f x k p e l ls
-
--- without links or steps it is what it begins with
-pub chain_alone : (p : Place) (e : ExprTree) (ls : List TypedLink) (n : ℕ) → n ≡ length ls → true ≡ (n == 0) → linked p e ls ≡ e
-chain_alone p e [] n c h = refl
-chain_alone p e (l ∷ ls) n c h = absurd (no_length n (length ls) c h)
-
-pub path_alone : (p : Place) (e : ExprTree) (ls : List TypedStep) (n : ℕ) → n ≡ length ls → true ≡ (n == 0) → stepped p e ls ≡ e
-path_alone p e [] n c h = refl
-path_alone p e (l ∷ ls) n c h = absurd (no_length n (length ls) c h)
-
--- a chain is of the kind of its last link
-pub chain_last : {X : Type 0} (f : ExprTree → X) (x : X) (p : Place) (e : ExprTree) (ls : List TypedLink) (k : ℕ) (l d : TypedLink) → suc k ≡ length ls → get_or ls k d ≡ l → ((before : ExprTree) → f (link_behind l p before) ≡ x) → f (linked p e ls) ≡ x
-chain_last f x p e [] k l d n g h = absurd (omega arith)
-chain_last f x p e (m ∷ []) zero l d n g h = ap (λ (y : TypedLink). f (link_behind y p e)) g ∙ h e
-chain_last f x p e (m ∷ []) (suc k) l d n g h = absurd (omega arith)
-chain_last f x p e (m ∷ o ∷ ls) zero l d n g h = absurd (omega arith)
-chain_last f x p e (m ∷ o ∷ ls) (suc k) l d n g h = chain_last f x p (link_behind m p e) (o ∷ ls) k l d (omega arith) g h
-
-some_not_none : {X : Type 0} (x : X) → Some x ≡ None → ⊥
-some_not_none x h = cc
-
-pub chain_last_some : {X : Type 0} (f : ExprTree → X) (x : X) (p : Place) (e : ExprTree) (ls : List TypedLink) (l : TypedLink) → Some l ≡ slice_get ls (length ls - 1) → ((before : ExprTree) → f (link_behind l p before) ≡ x) → f (linked p e ls) ≡ x
-chain_last_some f x p e [] l g h = absurd (some_not_none l g)
-chain_last_some f x p e (m ∷ ms) l g h =
-    let at : length (m ∷ ms) - 1 ≡ length ms = omega arith in
-    let got : slice_get (m ∷ ms) (length ms) ≡ Some l = ap (λ k. slice_get (m ∷ ms) k) (sym at) ∙ sym g in
-    chain_last f x p e (m ∷ ms) (length ms) l m (omega arith) (get_or_from_slice_get (m ∷ ms) (length ms) l m got) h
-
-pub chain_last_none : (p : Place) (e : ExprTree) (ls : List TypedLink) → None ≡ slice_get ls (length ls - 1) → linked p e ls ≡ e
-chain_last_none p e [] g = refl
-chain_last_none p e (m ∷ ms) g =
-    let at : length (m ∷ ms) - 1 ≡ length ms = omega arith in
-    let got : slice_get (m ∷ ms) (length ms) ≡ Some (get_or (m ∷ ms) (length ms) m) = slice_get-get_or (m ∷ ms) (length ms) m (omega arith) in
-    absurd (some_not_none (get_or (m ∷ ms) (length ms) m) (sym got ∙ ap (λ k. slice_get (m ∷ ms) k) (sym at) ∙ sym g))

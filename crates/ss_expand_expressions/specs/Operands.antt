@@ -11,7 +11,8 @@ use Rattle.ss_core.specs.View.{code_of}
 use Rattle.ss_typed.specs.Tree.{ExprTree}
 use Rattle.ss_typed.specs.Types.{type_of}
 use Rattle.ss_expand_rules.specs.Numbers.{Numbers}
-use Rattle.ss_expand_rules.specs.Calls.{has_call, is_lazy, place_of}
+use Rattle.ss_expand_rules.specs.Calls.{has_call, is_lazy}
+use Rattle.ss_typed.specs.Shapes.{place_of}
 use Rattle.ss_expand_rules.specs.Lifting as lifting
 use Rattle.ss_expand_rules.specs.Lifting.{Setting, Lifted, Valued, right_side, in_temporary, next, put}
 use Rattle.ss_expand_expressions.specs.declared.operands.Operand.{Operand}

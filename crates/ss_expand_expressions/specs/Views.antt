@@ -7,11 +7,6 @@ use Rattle.ss_core.specs.declared.expr.Step.{Step}
 use Rattle.ss_core.specs.declared.expr.Expr.TheFolds.{fold-Link, fold-Step}
 use Rattle.ss_core.specs.Tree as core
 use Rattle.ss_core.specs.View as core_view
-use Rattle.ss_typed.specs.declared.expr.TypedLink.{TypedLink}
-use Rattle.ss_typed.specs.declared.expr.TypedStep.{TypedStep}
-use Rattle.ss_typed.specs.declared.expr.TypedExpr.TheFolds.{fold-TypedLink, fold-TypedStep}
-use Rattle.ss_typed.specs.Tree.{ExprTree}
-use Rattle.ss_typed.specs.View.{Behind, grouped, expr_step, link_step, step_step}
 use Rattle.ss_expand_rules.specs.Numbers as elab
 use Rattle.ss_expand_expressions.specs.declared.locals.Numbers.{Numbers}
 use Rattle.ss_expand_expressions.specs.declared.expressions.PlainSteps.{PlainSteps}
@@ -19,13 +14,7 @@ use Rattle.ss_expand_expressions.specs.declared.expressions.PlainSteps.{PlainSte
 abbrev pub numbers_of : Numbers → elab.Numbers
 numbers_of ns = record { meant = ns.meant.items; first_temporary = ns.first_temporary; outcome = ns.outcome; first_bound = ns.first_bound }
 
--- what a link or a step makes of what stands before it, in a resolved expression and in one of the core program
-abbrev pub link_behind : TypedLink → Behind
-link_behind = fold-TypedLink ExprTree Behind Behind expr_step link_step step_step
-
-abbrev pub step_behind : TypedStep → Behind
-step_behind = fold-TypedStep ExprTree Behind Behind expr_step link_step step_step
-
+-- what a link or a step of the core program makes of what stands before it
 abbrev pub core_link_behind : Link → core_view.Behind
 core_link_behind = fold-Link core.ExprTree core_view.Behind core_view.Behind core_view.expr_step core_view.link_step core_view.step_step
 
@@ -33,12 +22,6 @@ abbrev pub core_step_behind : Step → core_view.Behind
 core_step_behind = fold-Step core.ExprTree core_view.Behind core_view.Behind core_view.expr_step core_view.link_step core_view.step_step
 
 -- the operand with these links, and the beginning of a path with these steps
-abbrev pub linked : Place → ExprTree → List TypedLink → ExprTree
-linked p e links = grouped p e (map link_behind links)
-
-abbrev pub stepped : Place → ExprTree → List TypedStep → ExprTree
-stepped p e steps = grouped p e (map step_behind steps)
-
 abbrev pub core_linked : Place → core.ExprTree → List Link → core.ExprTree
 core_linked p e links = core_view.grouped p e (map core_link_behind links)
 

@@ -5,7 +5,7 @@ ghost use Rattle.ss_core.specs.declared.names.Place.{Place};
 ghost use Rattle.ss_typed.specs.Tree.{ExprTree};
 ghost use Rattle.ss_typed.specs.View.{expr};
 ghost use Rattle.ss_expand_rules.specs.Calls as calls;
-ghost use Rattle.ss_expand_expressions.specs.Views.{link_behind, step_behind, linked, stepped};
+ghost use Rattle.ss_typed.specs.Parts.{link_behind, linked, step_behind, stepped};
 
 use ss_typed::{TypedExpr, TypedLink, TypedStep};
 

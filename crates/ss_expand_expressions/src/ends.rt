@@ -5,8 +5,7 @@ ghost use Rattle.ss_typed.specs.Tree.{stmt_trees};
 ghost use Rattle.ss_typed.specs.View as typed;
 ghost use Rattle.ss_expand_rules.specs.Ends as ends;
 
-use crate::kinds::is_true;
-use ss_typed::{TypedBlock, TypedExpr, TypedStmt};
+use ss_typed::{TypedBlock, TypedExpr, TypedStmt, is_true};
 
 // Whether a test is one that always holds, as one that isn't written does.
 fn is_always(test: &Option<TypedExpr>) -> bool

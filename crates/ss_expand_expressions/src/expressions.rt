@@ -6,7 +6,8 @@ ghost use Rattle.ss_core.specs.View as core;
 ghost use Rattle.ss_typed.specs.Tree.{ExprTree};
 ghost use Rattle.ss_typed.specs.View as typed;
 ghost use Rattle.ss_expand_rules.specs.Numbers as elab;
-ghost use Rattle.ss_expand_expressions.specs.Views.{numbers_of, link_behind, step_behind, core_link_behind, core_step_behind, linked, stepped, core_linked, plain_step_behind, path_of};
+ghost use Rattle.ss_expand_expressions.specs.Views.{numbers_of, core_link_behind, core_step_behind, core_linked, plain_step_behind, path_of};
+ghost use Rattle.ss_typed.specs.Parts.{link_behind, linked, step_behind, stepped};
 
 use crate::locals::Numbers;
 use ss_core::{Expr, Link, Place, Step};

@@ -23,7 +23,7 @@ pub use expressions::{PlainSteps, plain, plain_links, plain_steps, whole_chain, 
 pub use joined::{
     as_of, binary, element_of, field_of, iff_of, is_of, length_of, with_link, with_step,
 };
-pub use kinds::{is_lazy, is_lazy_link, is_lazy_operator, is_this, is_true, place_of};
+pub use kinds::{is_lazy, is_lazy_link, is_lazy_operator};
 pub use locals::Numbers;
 pub use mentions::mentions_this;
 pub use operands::{Operand, begin_lazy, end_lazy, keep};

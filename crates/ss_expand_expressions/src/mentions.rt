@@ -4,15 +4,15 @@ ghost use Rattle.std.specs.Prelude.{◌≡◌, ◌||◌, map};
 ghost use Rattle.ss_core.specs.declared.names.Place.{Place};
 ghost use Rattle.ss_typed.specs.Tree.{ExprTree, arguments};
 ghost use Rattle.ss_typed.specs.View.{expr};
-ghost use Rattle.ss_expand_rules.specs.Calls as calls;
-ghost use Rattle.ss_expand_expressions.specs.Views.{link_behind, step_behind, linked, stepped};
+ghost use Rattle.ss_typed.specs.Shapes as shapes;
+ghost use Rattle.ss_typed.specs.Parts.{link_behind, linked, step_behind, stepped};
 
 use ss_typed::{TypedExpr, TypedLink, TypedStep};
 
 /// Whether `this` stands in it, or a call of a method of the class above on `this`.
 #[cycle(mentions)]
 pub fn mentions_this(e: &TypedExpr) -> bool
-    ensures { result ≡ calls.mentions_this (expr e.now) }
+    ensures { result ≡ shapes.mentions_this (expr e.now) }
 {
     match e {
         TypedExpr::Int(..)
@@ -45,7 +45,7 @@ pub fn mentions_this(e: &TypedExpr) -> bool
 // Whether it stands in one of these.
 #[cycle(mentions)]
 fn mention_this(es: &[TypedExpr]) -> bool
-    ensures { result ≡ calls.mention_this (arguments (map expr es.now)) }
+    ensures { result ≡ shapes.mention_this (arguments (map expr es.now)) }
 {
     for e in es {
         if mentions_this(e) {
@@ -58,7 +58,7 @@ fn mention_this(es: &[TypedExpr]) -> bool
 // Whether it stands in the first operand, as is told, or in these links.
 #[cycle(mentions)]
 fn links_mention_this(first: bool, links: &[TypedLink]) -> bool
-    ensures { (p : Place) → (before : ExprTree) → calls.mentions_this before ≡ first → calls.mentions_this (linked p before links.now) ≡ result }
+    ensures { (p : Place) → (before : ExprTree) → shapes.mentions_this before ≡ first → shapes.mentions_this (linked p before links.now) ≡ result }
 {
     let mut found = first;
     for link in links {
@@ -69,7 +69,7 @@ fn links_mention_this(first: bool, links: &[TypedLink]) -> bool
 
 #[cycle(mentions)]
 fn link_mentions_this(first: bool, link: &TypedLink) -> bool
-    ensures { (p : Place) → (before : ExprTree) → calls.mentions_this before ≡ first → calls.mentions_this (link_behind link.now p before) ≡ result }
+    ensures { (p : Place) → (before : ExprTree) → shapes.mentions_this before ≡ first → shapes.mentions_this (link_behind link.now p before) ≡ result }
 {
     match link {
         TypedLink::Operation(_, e) => first || mentions_this(e),
@@ -80,7 +80,7 @@ fn link_mentions_this(first: bool, link: &TypedLink) -> bool
 // Whether it stands in the beginning of a path, as is told, or in these steps.
 #[cycle(mentions)]
 fn steps_mention_this(first: bool, steps: &[TypedStep]) -> bool
-    ensures { (p : Place) → (before : ExprTree) → calls.mentions_this before ≡ first → calls.mentions_this (stepped p before steps.now) ≡ result }
+    ensures { (p : Place) → (before : ExprTree) → shapes.mentions_this before ≡ first → shapes.mentions_this (stepped p before steps.now) ≡ result }
 {
     let mut found = first;
     for step in steps {
@@ -91,7 +91,7 @@ fn steps_mention_this(first: bool, steps: &[TypedStep]) -> bool
 
 #[cycle(mentions)]
 fn step_mentions_this(first: bool, step: &TypedStep) -> bool
-    ensures { (p : Place) → (before : ExprTree) → calls.mentions_this before ≡ first → calls.mentions_this (step_behind step.now p before) ≡ result }
+    ensures { (p : Place) → (before : ExprTree) → shapes.mentions_this before ≡ first → shapes.mentions_this (step_behind step.now p before) ≡ result }
 {
     match step {
         TypedStep::Element(e) => first || mentions_this(e),

@@ -4,6 +4,7 @@ ghost use Rattle.std.specs.Prelude.{◌≡◌, ◌++◌, ◌∷◌, [], IfOk, Ma
 ghost use Rattle.ss_typed.specs.Tree.{ExprTree};
 ghost use Rattle.ss_core.specs.View as core;
 ghost use Rattle.ss_expand_rules.specs.Calls as calls;
+ghost use Rattle.ss_typed.specs.Shapes.{place_of};
 ghost use Rattle.ss_expand_rules.specs.Lifting as lifting;
 ghost use Rattle.ss_expand_rules.specs.Simple as simple;
 ghost use Rattle.ss_typed.specs.Types as types;
@@ -99,7 +100,7 @@ pub fn valued(
     ty: Option<Ty>,
     source: Source,
 ) -> Result<Expr, AllocError>
-    ensures { (e : ExprTree) → calls.place_of e ≡ place → types.type_of e ≡ ty
+    ensures { (e : ExprTree) → place_of e ≡ place → types.type_of e ≡ ty
         → IfOk result (λ v. valued_by code.new made.new v ≡ lifting.valued (numbers_of numbers.now) e (lifted_by code.old made.old source)) }
 {
     match source {

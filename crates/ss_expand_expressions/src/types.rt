@@ -6,7 +6,7 @@ ghost use Rattle.ss_typed.specs.Tree.{ExprTree};
 ghost use Rattle.ss_typed.specs.View.{expr};
 ghost use Rattle.ss_typed.specs.Types as types;
 ghost use Rattle.ss_expand_rules.specs.Lifting as lifting;
-ghost use Rattle.ss_expand_expressions.specs.Views.{link_behind, step_behind, stepped};
+ghost use Rattle.ss_typed.specs.Parts.{link_behind, step_behind, stepped};
 
 use ss_core::{ClassId, Ty};
 use ss_typed::{TypedExpr, TypedLink, TypedStep, class_type, element_of, operation_type};

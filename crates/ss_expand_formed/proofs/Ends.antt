@@ -10,9 +10,9 @@ use Rattle.ss_typed.specs.Tree.{ExprTree, BoolOf, BlockTree, BlockOf, StmtTree, 
 use Rattle.ss_store_rules.specs.Paths.{passes, reaches_end}
 use Rattle.ss_expand_formed.proofs.Facts.{and_false, or_false, and_is_false, not_false}
 use Rattle.ss_expand_rules.specs.Code.{Coded, nothing, then_code}
-use Rattle.ss_expand_rules.specs.Ends.{is_true, is_always, can_end, block_can_end, all_can_end}
+use Rattle.ss_expand_rules.specs.Ends.{is_always, can_end, block_can_end, all_can_end}
+use Rattle.ss_typed.specs.Shapes.{is_true, place_of}
 use Rattle.ss_typed.specs.Types.{type_of}
-use Rattle.ss_expand_rules.specs.Calls.{place_of}
 use Rattle.ss_expand_rules.specs.Lifting.{Setting, Opened, Valued, Lifted, next, in_temporary, temporary_type, any_object, right_side, value}
 use Rattle.ss_expand_rules.specs.Statements.{packs, leave_with, kept_result, leave_value, leave, loop_while, begin, advance, exposed_class, within, opened, expose_in, expose_with, expose_lifted, stmt, block, stmts}
 

@@ -25,7 +25,8 @@ use Rattle.ss_resolver_rules.specs.Expressions.{expr}
 use Rattle.ss_resolver_rules.specs.Statements.{behind_first, past, declared_in, behind, block, stmt, stmts}
 use Rattle.ss_resolver_rules.specs.Programs as resolver
 use Rattle.ss_resolver_rules.specs.Programs.{method_env, bodies_of, bodies_from, resolved}
-use Rattle.ss_expand_rules.specs.Ends.{is_true, is_always, can_end, block_can_end, all_can_end}
+use Rattle.ss_expand_rules.specs.Ends.{is_always, can_end, block_can_end, all_can_end}
+use Rattle.ss_typed.specs.Shapes.{is_true}
 use Rattle.ss_expand_rules.specs.Program.{table, Origin}
 use Rattle.ss_expand_rules.specs.Constructors.{implicit_constructor, before_all, in_block, constructor_stmts, closing_brace as closing}
 use Rattle.ss_expand_rules.specs.Bodies.{with_return, statements, setting, temporary_count, copying, code}

@@ -11,7 +11,7 @@ use Rattle.ss_paths.specs.Assigned.{statements}
 use Rattle.ss_delayed_rules.specs.Opening.{is_first, first_run, before_base, opening_of, opening, base_in, written_base}
 use Rattle.ss_delayed_rules.specs.Constructors.{arguments_of}
 use Rattle.ss_expand_rules.specs.Program.{field_at, members_of}
-use Rattle.ss_expand_rules.specs.Calls.{is_this, mentions_this}
+use Rattle.ss_typed.specs.Shapes.{is_this, mentions_this}
 use Rattle.ss_expand_rules.specs.Constructors.{before_all, in_block, initialize, initializers_from, initializers_in, initializers, has_base_call, is_declared_in, is_initial, behind_initial, base_alone, with_base, constructor_stmts}
 use Rattle.ss_expand_formed_construction.proofs.Choices.{where_chosen}
 use Rattle.ss_expand_formed_construction.proofs.Statements.{Along}

@@ -10,10 +10,9 @@ use Rattle.ss_ast.specs.declared.stmt.AssignOperator.{AssignOperator}
 use Rattle.ss_ast.specs.declared.stmt.AssignOperator.TheVariants as operator
 use Rattle.ss_typed.specs.Tree.{ExprTree, IntOf, BoolOf, NullOf, ThisOf, LocalOf, ResultOf, BoundOf, IffOf, ImpliesOf, BinaryOf, IsOf, AsOf, NegateOf, NotOf, CastOf, FieldOf, ElementOf, LengthOf, OldOf, QuantifiedOf, StateOf, OwnersOf, NewOf, NewArrayOf, CallOf, StaticOf, BaseOf, Arguments, NoMore, Argument, DeclaratorTree, SimpleTree, AssignOf, StepOf, AloneOf, PrintOf, PrintTextOf, BaseCallOf, InitTree, DeclareFirst, SimpleFirst, BlockTree, BlockOf, StmtTree, InBlock, DeclareOf, SimpleOf, IfOf, IfElseOf, WhileOf, ForOf, ReturnOf, AssertOf, AssumeOf, ExposeOf, EmptyOf, StmtTrees, Before, ParamTree, BodyTree}
 use Rattle.ss_typed.specs.Tree as typed
-use Rattle.ss_paths.specs.Assigned as paths
 use Rattle.ss_delayed_rules.specs.Escapes.{Use, ForFields, NotAtAll, uses, uses_each, uses_in_all, uses_if, uses_left, uses_declared, uses_done, uses_first, uses_step, uses_at, uses_in, uses_along}
 use Rattle.ss_expand_rules.specs.Numbers.{Numbers, number}
-use Rattle.ss_expand_rules.specs.Calls.{is_this}
+use Rattle.ss_typed.specs.Shapes.{is_this}
 use Rattle.ss_expand_rules.specs.Contracts.{first_param}
 use Rattle.ss_expand_rules.specs.Bodies.{block_assigns, meant_from, first_copy, meant, numbers}
 use Rattle.ss_store_rules.specs.Admissible as store
@@ -43,7 +42,7 @@ mutual
   less (OldOf p e) h = less e h
   less (StateOf p w e) h = less e h
   less (NewArrayOf p t e) h = less e h
-  less (FieldOf p e f t) h = where_chosen (λ (ps : List Place). ps ≡ []) (paths.is_this e) [] (uses ForFields e) (λ yes. refl) (λ no. less e h)
+  less (FieldOf p e f t) h = where_chosen (λ (ps : List Place). ps ≡ []) (is_this e) [] (uses ForFields e) (λ yes. refl) (λ no. less e h)
   less (QuantifiedOf p q name low high e) h =
       let u = none_left (uses NotAtAll low ++ uses NotAtAll high) (uses NotAtAll e) h in
       let v = none_left (uses NotAtAll low) (uses NotAtAll high) u.0 in
@@ -69,26 +68,22 @@ mutual
 abbrev pub FineSimple : Use → SimpleTree → Type 0
 FineSimple u x = InSimple (Fine u) (AreFine u) x
 
-pub same_this : (e : ExprTree) → paths.is_this e ≡ is_this e
-same_this (ThisOf p t) = refl
-same_this e = refl
-
 past : (b : Bool) (ps : List Place) → b ≡ false → (if b then [] else ps) ≡ [] → ps ≡ []
 past true ps e h = absurd (false≢true (sym e))
 past false ps e h = h
 
 module _ (u : Use) where
   left_of : (l : ExprTree) → Fine u l → Left (Fine u) l
-  left_of (FieldOf p o f t) h = ⊎_elim (λ own. inl (sym (same_this o) ∙ own.1)) inr (own_or_fine u p o f t h)
+  left_of (FieldOf p o f t) h = ⊎_elim (λ own. inl own.1) inr (own_or_fine u p o f t h)
   left_of (ElementOf p a i) h = two_fine u a i h.unused h.locals
   left_of l h = tt
 
   left_fine : (l : ExprTree) → uses_left u l ≡ [] → Other l → Left (Fine u) l
   left_fine (FieldOf p o f t) h g =
       ⊎_elim
-      (λ yes. inl (sym (same_this o) ∙ yes))
-      (λ no. left_of (FieldOf p o f t) (fine u (FieldOf p o f t) (past (paths.is_this o) (uses u (FieldOf p o f t)) no h) g))
-      (cases_Bool (paths.is_this o))
+      (λ yes. inl yes)
+      (λ no. left_of (FieldOf p o f t) (fine u (FieldOf p o f t) (past (is_this o) (uses u (FieldOf p o f t)) no h) g))
+      (cases_Bool (is_this o))
   left_fine (ElementOf p a i) h g = two_fine u a i h g
   left_fine l h g = tt
 

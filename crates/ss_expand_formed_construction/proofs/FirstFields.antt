@@ -29,7 +29,7 @@ use Rattle.ss_resolver_types_expressions.specs.Expressions.{AsValue, faults}
 use Rattle.ss_resolver_types_expressions.specs.Statements.{in_code, is_target, target_faults, assigned_faults, simple_faults, stmt_faults}
 use Rattle.ss_resolver_types_expressions.specs.Wants.{AnInt, wrong}
 use Rattle.ss_resolver_types_expressions.specs.Members.{constructor_body, base_call, is_this, has_field, is_own_field, is_first_assignment, outermost_faults, constructor_stmts}
-use Rattle.ss_expand_rules.specs.Calls as calls
+use Rattle.ss_typed.specs.Shapes as shapes
 use Rattle.ss_expand_rules.specs.Constructors.{is_base_call, has_base_call}
 use Rattle.ss_expand_formed.proofs.Facts.{none_left, not_false, or_false}
 use Rattle.ss_expand_formed_construction.proofs.Bases.{no_more_first, stmt_free, at_no_base, none_found, same_base}
@@ -52,7 +52,7 @@ no_fault_where : (b : Bool) (f : Fault) → fault_where b f ≡ [] → b ≡ fal
 no_fault_where true f h = absurd (let z : ⊥ = cc in z)
 no_fault_where false f h = refl
 
-this_stays : (e : Env) (a : text.ExprTree) → is_this a ≡ true → (calls.is_this (expr e a) ≡ true) × (static e.scope a ≡ this_type e.scope.refuses_this e.scope.class)
+this_stays : (e : Env) (a : text.ExprTree) → is_this a ≡ true → (shapes.is_this (expr e a) ≡ true) × (static e.scope a ≡ this_type e.scope.refuses_this e.scope.class)
 this_stays e (text.ThisOf q) h = (refl, refl)
 this_stays e (text.ParenOf q a) h = this_stays e a h
 this_stays e a h = absurd (false≢true h)
@@ -69,12 +69,12 @@ module _ (p : ProgramTree) (k : ℕ) (c : ClassTree) (at : slice_get p.classes k
   abbrev Owns : ExprTree → Type 0
   Owns x = own_target (resolved p) (4 + 2 * k) x ≡ true
 
-  field_owns : (q : Place) (o : ExprTree) (n : List ℕ) → calls.is_this o ≡ true → has_field s.classes k n ≡ true → Owns (read_field e q o (field_of e.scope.classes k n))
+  field_owns : (q : Place) (o : ExprTree) (n : List ℕ) → shapes.is_this o ≡ true → has_field s.classes k n ≡ true → Owns (read_field e q o (field_of e.scope.classes k n))
   field_owns q o n this h =
       let there : has_field p.classes k n ≡ true = subst (λ cs. has_field cs k n ≡ true) i.scope h in
       subst (λ cs. Owns (read_field e q o (field_of cs k n))) (sym i.classes) (read_own p k c at e i.classes q o n this (field_in (members_at p.classes k) n) refl there)
 
-  member_owns : (q : Place) (o : ExprTree) (n : List ℕ) → calls.is_this o ≡ true → is_state_read n ≡ false → has_field s.classes k n ≡ true → Owns (member e q o n (class_number k))
+  member_owns : (q : Place) (o : ExprTree) (n : List ℕ) → shapes.is_this o ≡ true → is_state_read n ≡ false → has_field s.classes k n ≡ true → Owns (member e q o n (class_number k))
   member_owns q o n this word h = rw (word, no_array k, own_place k) (field_owns q o n this h)
 
   target_owns : (a : Around) → a.scope ≡ s → (x : text.ExprTree) → target_faults a x ≡ [] → is_own_field k s x ≡ true → Owns (expr e x)

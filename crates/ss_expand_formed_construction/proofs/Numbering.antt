@@ -11,12 +11,11 @@ use Rattle.ss_core.proofs.Fields.{first_class, later_class}
 use Rattle.ss_ast.specs.declared.stmt.AssignOperator.{AssignOperator}
 use Rattle.ss_ast.specs.declared.stmt.AssignOperator.TheVariants as operator
 use Rattle.ss_typed.specs.Tree.{ExprTree, IntOf, BoolOf, NullOf, ThisOf, LocalOf, ResultOf, BoundOf, IffOf, ImpliesOf, BinaryOf, IsOf, AsOf, NegateOf, NotOf, CastOf, FieldOf, ElementOf, LengthOf, OldOf, QuantifiedOf, StateOf, OwnersOf, NewOf, NewArrayOf, CallOf, StaticOf, BaseOf, Arguments, NoMore, Argument, AssignOf, StmtTree, SimpleOf, TypedTree}
-use Rattle.ss_paths.specs.Assigned as paths
 use Rattle.ss_paths.specs.Fields.{class_place, fields_in, field_count, field_numbers, is_among}
 use Rattle.ss_delayed_rules.specs.Escapes.{NotAtAll, uses, uses_each}
 use Rattle.ss_delayed_rules.specs.Opening.{is_empty, is_first}
 use Rattle.ss_expand_rules.specs.Program.{field_at}
-use Rattle.ss_expand_rules.specs.Calls.{is_this, mentions_this, mention_this}
+use Rattle.ss_typed.specs.Shapes.{is_this, mention_this, mentions_this}
 use Rattle.ss_expand_rules.specs.Constructors.{is_declared_in, is_initial}
 
 -- ---- numbers
@@ -147,16 +146,12 @@ mutual
 
 -- ---- the first statements of a block
 
-same_this : (e : ExprTree) → is_this e ≡ paths.is_this e
-same_this (ThisOf p t) = refl
-same_this e = refl
-
 not_not : (a b : Bool) → a ≡ not b → not a ≡ b
 not_not a true h = rw h refl
 not_not a false h = rw h refl
 
 set_first : (p : TypedTree) (k : ℕ) (l e : ExprTree) → is_initial p (4 + 2 * k) (SimpleOf (AssignOf l operator.Set e)) ≡ is_first p (4 + 2 * k) (SimpleOf (AssignOf l operator.Set e))
-set_first p k (FieldOf q o f u) e = rw (same_this o, same_fields p k f, not_not (mentions_this e) (is_empty (uses NotAtAll e)) (mentions e)) refl
+set_first p k (FieldOf q o f u) e = rw (same_fields p k f, not_not (mentions_this e) (is_empty (uses NotAtAll e)) (mentions e)) refl
 set_first p k l e = refl
 
 other_first : (p : TypedTree) (k : ℕ) (l e : ExprTree) (o : AssignOperator) → (o ≡ operator.Set → ⊥) → is_initial p (4 + 2 * k) (SimpleOf (AssignOf l o e)) ≡ false

@@ -25,7 +25,7 @@ use Rattle.ss_resolver_rules.specs.Names as names
 use Rattle.ss_resolver_rules.specs.Expressions.{this, read_field}
 use Rattle.ss_resolver_rules.specs.Programs.{class, field, each, field_member, resolved}
 use Rattle.ss_expand_rules.specs.Program.{field_at}
-use Rattle.ss_expand_rules.specs.Calls.{is_this}
+use Rattle.ss_typed.specs.Shapes.{is_this}
 use Rattle.ss_expand_rules.specs.Constructors.{initialize, initializers_from, fields_before, initializers_in, initializers, is_declared_in}
 use Rattle.ss_expand_admissible.proofs.Classes as classes
 use Rattle.ss_expand_formed.proofs.Searching.{place_found, any_at}

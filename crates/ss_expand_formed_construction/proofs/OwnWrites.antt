@@ -12,7 +12,8 @@ use Rattle.ss_core.specs.Chain.{DeclaredField}
 use Rattle.ss_ast.specs.declared.stmt.AssignOperator.TheVariants as operator
 use Rattle.ss_typed.specs.Tree.{ExprTree, ThisOf, IntOf, FieldOf, BinaryOf, Arguments, SimpleTree, AssignOf, StepOf, SimpleOf, StmtTrees, NoMore, Before}
 use Rattle.ss_expand_rules.specs.Program.{field_at}
-use Rattle.ss_expand_rules.specs.Calls.{has_call, place_of}
+use Rattle.ss_expand_rules.specs.Calls.{has_call}
+use Rattle.ss_typed.specs.Shapes.{place_of}
 use Rattle.ss_expand_rules.specs.Constructors.{is_declared_in}
 use Rattle.ss_expand_rules.specs.Lifting.{Setting, value}
 use Rattle.ss_expand_rules.specs.Code.{Coded}

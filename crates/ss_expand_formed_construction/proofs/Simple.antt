@@ -16,7 +16,8 @@ use Rattle.ss_core.specs.Chain.{DeclaredField}
 use Rattle.ss_typed.specs.Tree.{ExprTree, ThisOf, IntOf, LocalOf, FieldOf, ElementOf, BinaryOf, Arguments, DeclaratorTree, SimpleTree, AssignOf, StepOf, AloneOf, PrintOf, PrintTextOf, BaseCallOf}
 use Rattle.ss_typed.specs.Types.{type_of}
 use Rattle.ss_expand_rules.specs.Numbers.{Numbers, number, plain}
-use Rattle.ss_expand_rules.specs.Calls.{has_call, is_this, place_of}
+use Rattle.ss_expand_rules.specs.Calls.{has_call}
+use Rattle.ss_typed.specs.Shapes.{is_this, place_of}
 use Rattle.ss_expand_rules.specs.Program.{field_at, above_of, constructor_of, param_types_in, Constructor, number_of}
 use Rattle.ss_expand_rules.specs.Lifting.{Setting, Source, Pure, Created, CreatedArray, Called, put, Lifted, next, temporary_type, any_object, right_side, value, arguments_of}
 use Rattle.ss_expand_rules.specs.Code.{Coded}

@@ -12,7 +12,7 @@ use Rattle.ss_core.specs.View.{code_of}
 use Rattle.ss_typed.specs.Tree.{ExprTree, Arguments, SimpleTree, InitTree, DeclareFirst, SimpleFirst, BlockTree, BlockOf, StmtTree, InBlock, DeclareOf, SimpleOf, IfOf, IfElseOf, WhileOf, ForOf, ReturnOf, AssertOf, AssumeOf, ExposeOf, EmptyOf, StmtTrees, NoMore, Before}
 use Rattle.ss_typed.specs.Types.{type_of}
 use Rattle.ss_expand_rules.specs.Numbers.{Numbers, plain, all_plain}
-use Rattle.ss_expand_rules.specs.Calls.{place_of}
+use Rattle.ss_typed.specs.Shapes.{place_of}
 use Rattle.ss_expand_rules.specs.Lifting.{Opened, Setting, Lifted, Valued, next, temporary_type, any_object, in_temporary, right_side, value}
 use Rattle.ss_expand_rules.specs.Code.{Coded, nothing, then_code}
 use Rattle.ss_expand_rules.specs.Ends.{can_end, block_can_end}

@@ -9,7 +9,7 @@ use Rattle.ss_core.specs.declared.names.Ty.TheVariants as ty
 use Rattle.ss_core.specs.Tree as core
 use Rattle.ss_core.specs.Tree.{NullExpr, LocalExpr, FieldExpr, ElementExpr, LengthExpr, NegateExpr, NotExpr, BinaryExpr, IffExpr, IsExpr, AsExpr, CastExpr, Dispatched, Static, Base, AssignStmt, WriteStmt, NewStmt, NewArrayStmt, CallStmt, IfStmt, CodeTree}
 use Rattle.ss_typed.specs.Tree.{ExprTree, IntOf, BoolOf, NullOf, ThisOf, LocalOf, ResultOf, BoundOf, IffOf, ImpliesOf, BinaryOf, IsOf, AsOf, NegateOf, NotOf, CastOf, FieldOf, ElementOf, LengthOf, OldOf, QuantifiedOf, StateOf, OwnersOf, NewOf, NewArrayOf, CallOf, StaticOf, BaseOf, Arguments}
-use Rattle.ss_paths.specs.Assigned as paths
+use Rattle.ss_typed.specs.Shapes.{is_this}
 use Rattle.ss_delayed_rules.specs.Escapes.{Use, ForFields, NotAtAll, may_read, uses, uses_each}
 use Rattle.ss_expand_rules.specs.Numbers.{Numbers, number, plain}
 use Rattle.ss_expand_rules.specs.Calls.{has_call}
@@ -60,19 +60,19 @@ two_fine u a b h g =
     (fine u a n.0 l.0, fine u b n.1 l.1)
 
 -- a field is read of `this`, where that may be, or of what is fine
-pub own_or_fine : (u : Use) (p : Place) (e : ExprTree) (f : ℕ) (t : Ty) → Fine u (FieldOf p e f t) → ((may_read u ≡ true) × (paths.is_this e ≡ true)) ⊎ Fine u e
+pub own_or_fine : (u : Use) (p : Place) (e : ExprTree) (f : ℕ) (t : Ty) → Fine u (FieldOf p e f t) → ((may_read u ≡ true) × (is_this e ≡ true)) ⊎ Fine u e
 own_or_fine ForFields p e f t h =
     ⊎_elim
     (λ yes. inl (refl, yes))
     (λ no. inr (fine ForFields e (rw no at h.unused) h.locals))
-    (cases_Bool (paths.is_this e))
+    (cases_Bool (is_this e))
 own_or_fine NotAtAll p e f t h = inr (fine NotAtAll e h.unused h.locals)
 
-called_no_this : (e : ExprTree) → has_call e ≡ true → paths.is_this e ≡ true → ⊥
+called_no_this : (e : ExprTree) → has_call e ≡ true → is_this e ≡ true → ⊥
 called_no_this (ThisOf p t) c h = false≢true c
 called_no_this e c h = false≢true h
 
-this_plain : (ns : Numbers) (e : ExprTree) → paths.is_this e ≡ true → store.is_this (plain ns e) ≡ true
+this_plain : (ns : Numbers) (e : ExprTree) → is_this e ≡ true → store.is_this (plain ns e) ≡ true
 this_plain ns (ThisOf p t) h = refl
 this_plain ns e h = absurd (false≢true h)
 
@@ -134,7 +134,7 @@ module _ (ns : Numbers) (n : IsBehindThis ns) where
       ⊎_elim
       (λ yes. or_left (store.is_this (plain ns e)) _ (this_plain ns e yes))
       (λ no. or_right (store.is_this (plain ns e)) _ (in_fields e (rw no at h) g))
-      (cases_Bool (paths.is_this e))
+      (cases_Bool (is_this e))
   in_fields (QuantifiedOf p q name low high e) h g =
       let u = none_left (uses ForFields low ++ uses ForFields high) (uses ForFields e) h in
       let v = none_left (uses ForFields low) (uses ForFields high) u.0 in

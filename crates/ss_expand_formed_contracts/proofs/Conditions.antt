@@ -13,7 +13,8 @@ use Rattle.ss_core.specs.Chain.{IsChain, all_fields}
 use Rattle.ss_typed.specs.Tree.{ExprTree, IntOf, BoolOf, NullOf, ThisOf, LocalOf, ResultOf, BoundOf, IffOf, ImpliesOf, BinaryOf, IsOf, AsOf, NegateOf, NotOf, CastOf, FieldOf, ElementOf, LengthOf, OldOf, QuantifiedOf, StateOf, OwnersOf, NewOf, NewArrayOf, CallOf, StaticOf, BaseOf, ModifiedTree, OneOf, AllOf, ElementsOf, ParamTree, BodyTree, TypedTree}
 use Rattle.ss_typed.specs.Types.{class_type, type_of}
 use Rattle.ss_owners_rules.specs.Words.{Allowed, NoWord, Questions, EveryWord, allows_result, allows_old, allows_state, allows_question, unless, misplaced}
-use Rattle.ss_expand_rules.specs.Calls.{has_call, is_this}
+use Rattle.ss_expand_rules.specs.Calls.{has_call}
+use Rattle.ss_typed.specs.Shapes.{is_this}
 use Rattle.ss_expand_rules.specs.Numbers.{Numbers, number, plain}
 use Rattle.ss_expand_rules.specs.Contracts.{named}
 use Rattle.ss_expand_rules.specs.Bodies.{results}

@@ -39,7 +39,8 @@ use Rattle.ss_resolver_rules.specs.Names as env
 use Rattle.ss_resolver_rules.specs.Numbers.{type_id, class_in, method_id, table_place}
 use Rattle.ss_resolver_rules.specs.Expressions.{this, read_field, known_or_field, field_behind, state_word, third_class, member, method_call, base_call, owner_question, place_or_own, called_behind, called_bare, call, expr, args}
 use Rattle.ss_resolver_rules.specs.Programs.{one_of, modified, with_terms, modifies_in, resolved}
-use Rattle.ss_expand_rules.specs.Calls.{has_call, is_this}
+use Rattle.ss_expand_rules.specs.Calls.{has_call}
+use Rattle.ss_typed.specs.Shapes.{is_this}
 use Rattle.ss_store_rules.specs.Types.{is_reference}
 use Rattle.ss_expand_formed.specs.Laws.{core_of}
 use Rattle.ss_expand_formed.proofs.Facts.{none_left, or_false, not_false, not_true}

@@ -17,10 +17,10 @@ use Rattle.ss_paths.specs.Assigned.{Assigned, assigned_by, assigned_flow}
 use Rattle.ss_paths.specs.Paths as source
 use Rattle.ss_expand_rules.specs.Program.{field_at}
 use Rattle.ss_expand_rules.specs.Numbers.{plain, all_plain}
-use Rattle.ss_expand_rules.specs.Calls.{place_of}
+use Rattle.ss_typed.specs.Shapes.{is_true, place_of}
 use Rattle.ss_expand_rules.specs.Lifting.{Opened, Setting, Valued, next, temporary_type, any_object, in_temporary, right_side, value}
 use Rattle.ss_expand_rules.specs.Code.{Coded, nothing, then_code}
-use Rattle.ss_expand_rules.specs.Ends.{is_true, can_end, block_can_end}
+use Rattle.ss_expand_rules.specs.Ends.{can_end, block_can_end}
 use Rattle.ss_expand_rules.specs.Simple.{declare, simple}
 use Rattle.ss_expand_rules.specs.Statements.{exposed, loop_while, begin, advance, pack_of, pack_this, packs, leave_with, result_type, kept_result, leave_value, leave, exposed_class, close, opened, expose_lifted, stmt, block, stmts}
 use Rattle.ss_store_rules.specs.Paths.{Check, is_literal_true, met, left, at_end, where_reached, in_body, holds_along}
@@ -258,10 +258,6 @@ module _ (c : core.CoreTree) (b : core.BodyTree) (n : Numbers) (first : Fields) 
     ended NoMore = refl
     ended (Before x ss) = refl
 
-    same_true : (e : ExprTree) → source.is_true e ≡ is_true e
-    same_true (BoolOf p v) = refl
-    same_true e = refl
-
     -- ---- exposes
 
     close_goes : (o : Opened) (reaches : Bool) (inside : Coded) (k : Fields) (d : Option Assigned) → Goes inside.code k d → Goes (close o reaches inside).code k d
@@ -320,7 +316,7 @@ module _ (c : core.CoreTree) (b : core.BodyTree) (n : Numbers) (first : Fields) 
     for_goes os p is None turn made a k h f = loop_goes p (all_plain z.numbers is) (BoolExpr p true) os [] (turn made).code true a k refl (λ i. refl) h (λ l i. f made l i)
     for_goes os p is (Some e) turn made a k h f =
         let v = value (at os) e made in
-        loop_goes p (all_plain z.numbers is) v.value os v.code (turn v.made).code (source.is_true e) a k (value_is_mild (at os) e made) (λ i. test_value os e made (sym (same_true e) ∙ i)) h (λ l i. f v.made l i)
+        loop_goes p (all_plain z.numbers is) v.value os v.code (turn v.made).code (is_true e) a k (value_is_mild (at os) e made) (λ i. test_value os e made i) h (λ l i. f v.made l i)
 
     -- code behind code whose end is known
     two_goes : (xs ys : Code) (k : Fields) (d : Assigned) (r : Option Assigned) → Goes xs k (Some d) → ((l : Fields) → Knows d l → Goes ys l r) → Goes (xs ++ ys) k r

@@ -13,7 +13,8 @@ use Rattle.ss_typed.specs.Types.{type_of}
 use Rattle.ss_paths.specs.Sets.{Set, put}
 use Rattle.ss_paths.specs.Fields as fields
 use Rattle.ss_paths.specs.Fields.{Numbers, is_among}
-use Rattle.ss_paths.specs.Assigned.{Assigned, has_field, is_this, own_assigned}
+use Rattle.ss_paths.specs.Assigned.{Assigned, has_field, own_assigned}
+use Rattle.ss_typed.specs.Shapes.{is_this}
 use Rattle.ss_nonnull_rules.specs.NonNull as source
 use Rattle.ss_expand_rules.specs.Numbers.{number}
 use Rattle.ss_expand_rules.specs.Contracts.{is_reference}

@@ -4,18 +4,14 @@ use Rattle.std.specs.Prelude.{not, ◌&&◌}
 use Rattle.std.proofs.lemmas.Bool.{false≢true}
 use Rattle.ss_core.specs.declared.names.Place.{Place}
 use Rattle.ss_typed.specs.Tree.{ExprTree, BoolOf, BlockTree, BlockOf, StmtTree, InBlock, DeclareOf, SimpleOf, IfOf, IfElseOf, WhileOf, ForOf, ReturnOf, AssertOf, AssumeOf, ExposeOf, EmptyOf, StmtTrees, NoMore, Before}
-use Rattle.ss_paths.specs.Paths.{Flow, test_of, is_true, left, behind, behind_block, at_end, begun}
-use Rattle.ss_expand_rules.specs.Ends as ends
+use Rattle.ss_paths.specs.Paths.{Flow, test_of, left, behind, behind_block, at_end, begun}
+use Rattle.ss_typed.specs.Shapes.{is_true}
 use Rattle.ss_expand_rules.specs.Ends.{can_end, block_can_end, all_can_end, is_always}
 use Rattle.ss_expand_formed.proofs.Facts.{or_false}
 
 pub not_false : (a : Bool) → not a ≡ false → a ≡ true
 not_false true h = refl
 not_false false h = absurd (false≢true (sym h))
-
-same_true : (e : ExprTree) → ends.is_true e ≡ true → is_true e ≡ true
-same_true (BoolOf p b) h = h
-same_true e h = absurd (false≢true h)
 
 module _ {S : Type 0} (f : Flow S) where
   pub none_behind : (ss : StmtTrees) → at_end f ss None ≡ None
@@ -27,7 +23,7 @@ module _ {S : Type 0} (f : Flow S) where
 
   always : (p : Place) (e : Option ExprTree) → is_always e ≡ true → is_true (test_of p e) ≡ true
   always p None h = refl
-  always p (Some e) h = same_true e h
+  always p (Some e) h = h
 
   by_ends : (a b : Bool) (ss : StmtTrees) (k : Option S) → (a ≡ false → k ≡ None) → (b ≡ false → at_end f ss k ≡ None) → (a && b) ≡ false → at_end f ss k ≡ None
   by_ends true b ss k g h i = h i
@@ -44,7 +40,7 @@ module _ {S : Type 0} (f : Flow S) where
         let one = no_end a (f.tested e true k) both.0 in
         let two = no_end b (f.tested e false k) both.1 in
         rw (one, two) refl
-    no_end (WhileOf p e is a) k h = left_none e (f.head a None k) (same_true e (not_false (ends.is_true e) h))
+    no_end (WhileOf p e is a) k h = left_none e (f.head a None k) (not_false (is_true e) h)
     no_end (ForOf p i e x is a) k h = left_none (test_of p e) (f.head a x (begun f i k)) (always p e (not_false (is_always e) h))
     no_end (ReturnOf p e) k h = refl
     no_end (AssertOf p e) k h = absurd (false≢true (sym h))

@@ -10,7 +10,7 @@ use Rattle.ss_core.specs.Chain.{above}
 use Rattle.ss_typed.specs.Tree.{ExprTree, QuantifiedOf, StateOf, OwnersOf, IffOf, ImpliesOf, BinaryOf, IsOf, AsOf, NegateOf, NotOf, CastOf, FieldOf, ElementOf, LengthOf, OldOf, NewOf, NewArrayOf, CallOf, StaticOf, BaseOf, Arguments, NoMore, Argument}
 use Rattle.ss_typed.specs.Types.{type_of}
 use Rattle.ss_paths.specs.Fields as fields
-use Rattle.ss_paths.specs.Assigned.{is_this}
+use Rattle.ss_typed.specs.Shapes.{is_this}
 use Rattle.ss_nonnull_rules.specs.NonNull as source
 use Rattle.ss_nonnull_rules.specs.Facts.{says, the_local, is_null}
 use Rattle.ss_nonnull_rules.specs.Faults.{inside, handed, parameters, body_in_table, class_of, method_of, constructor_parameters}

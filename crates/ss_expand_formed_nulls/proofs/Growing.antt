@@ -11,7 +11,8 @@ use Rattle.ss_core.specs.Tree.{NotExpr, BinaryExpr}
 use Rattle.ss_typed.specs.Tree.{ExprTree, IffOf, ImpliesOf, BinaryOf, IsOf, AsOf, NegateOf, NotOf, CastOf, FieldOf, ElementOf, LengthOf, NewOf, NewArrayOf, CallOf, StaticOf, BaseOf, Arguments, NoMore, Argument}
 use Rattle.ss_typed.specs.Types.{type_of}
 use Rattle.ss_expand_rules.specs.Numbers.{Numbers, plain, plain_arguments}
-use Rattle.ss_expand_rules.specs.Calls.{has_call, have_call, is_lazy, place_of}
+use Rattle.ss_expand_rules.specs.Calls.{has_call, have_call, is_lazy}
+use Rattle.ss_typed.specs.Shapes.{place_of}
 use Rattle.ss_expand_rules.specs.Program.{above_of}
 use Rattle.ss_expand_rules.specs.Lifting.{Setting, Source, Pure, Created, CreatedArray, Called, Lifted, Valued, Listed, unlifted, temporary_type, any_object, in_temporary, valued_from, valued, lifted_of, operand, unary, binary, lazily, holds, fails, negated, operation, first_type, other_types, no_operands, operands_of, and_operands, static_class, types_of_constructor, types_of_written, types_of_method, lifted, in_temporaries, right_side, value}
 use Rattle.ss_expand_formed_locals.proofs.Facts.{on_either}

@@ -11,7 +11,8 @@ use Rattle.ss_typed.specs.Tree.{ExprTree, IntOf, LocalOf, FieldOf, ElementOf, Bi
 use Rattle.ss_typed.specs.Tree as typed
 use Rattle.ss_typed.specs.Types.{type_of}
 use Rattle.ss_expand_rules.specs.Numbers.{plain_arguments}
-use Rattle.ss_expand_rules.specs.Calls.{has_call, have_call, is_this, place_of}
+use Rattle.ss_expand_rules.specs.Calls.{has_call, have_call}
+use Rattle.ss_typed.specs.Shapes.{is_this, place_of}
 use Rattle.ss_expand_rules.specs.Program.{above_of, constructor_of, param_types_in}
 use Rattle.ss_expand_rules.specs.Code.{Coded, nothing, then_code}
 use Rattle.ss_expand_rules.specs.Lifting.{Opened, Setting, Lifted, Listed, next, temporary_type, any_object, in_temporaries, right_side, value, arguments_of}

@@ -11,13 +11,13 @@ use Rattle.ss_ast.specs.declared.stmt.AssignOperator.TheVariants as operator
 use Rattle.ss_typed.specs.Tree.{ExprTree, ThisOf, LocalOf, FieldOf, ElementOf, BinaryOf, AssignOf}
 use Rattle.ss_typed.specs.Types.{type_of}
 use Rattle.ss_paths.specs.Fields as fields
-use Rattle.ss_paths.specs.Assigned as paths
 use Rattle.ss_paths.specs.Assigned.{own_assigned, assigned_by}
 use Rattle.ss_nonnull_rules.specs.NonNull as source
 use Rattle.ss_nonnull_rules.specs.Facts.{is_null}
 use Rattle.ss_nonnull_rules.specs.Faults.{inside, wanted, wanted_if}
 use Rattle.ss_expand_rules.specs.Numbers.{number, plain}
-use Rattle.ss_expand_rules.specs.Calls.{has_call, is_this, place_of}
+use Rattle.ss_expand_rules.specs.Calls.{has_call}
+use Rattle.ss_typed.specs.Shapes.{is_this, place_of}
 use Rattle.ss_expand_rules.specs.Program.{field_at}
 use Rattle.ss_expand_rules.specs.Lifting.{Opened, Setting, Lifted, next, temporary_type, any_object, right_side, value}
 use Rattle.ss_expand_rules.specs.Simple.{assign_settled, Settled, settle_lifted, settle_part, settle, assign_behind, assign, update}
@@ -37,10 +37,6 @@ use Rattle.ss_expand_formed_nulls.proofs.Operations.{wanted_never}
 use Rattle.ss_expand_formed_nulls.proofs.Expressions.{right_known, value_known}
 use Rattle.ss_expand_formed_nulls.proofs.Assignments.{Done, done_join, done_nothing, value_never, into_known, over_known, write_keeps, write_known}
 
-same_this : (e : ExprTree) → is_this e ≡ paths.is_this e
-same_this (ThisOf p t) = refl
-same_this e = refl
-
 nullable_not : (t : Ty) → is_non_null t ≡ false → fields.is_non_null t ≡ false
 nullable_not ty.Int h = refl
 nullable_not ty.Bool h = refl
@@ -59,7 +55,7 @@ module _ (z : Frame) (agrees : Agrees z) (os : List Opened) where
   abbrev pub s : Setting
   s = setting z os
 
-  this_plain : (e : ExprTree) → paths.is_this e ≡ true → admissible.is_this (plain z.numbers e) ≡ true
+  this_plain : (e : ExprTree) → is_this e ≡ true → admissible.is_this (plain z.numbers e) ≡ true
   this_plain (ThisOf p t) h = refl
   this_plain e h = absurd (false≢true h)
 
@@ -70,7 +66,7 @@ module _ (z : Frame) (agrees : Agrees z) (os : List Opened) where
     done : Done z agrees l k t.code
     fit : fits z t.target ≡ true
     clean : inside z.site (Some k) t.target ≡ []
-    this : paths.is_this e ≡ true → admissible.is_this (plain z.numbers t.target) ≡ true
+    this : is_this e ≡ true → admissible.is_this (plain z.numbers t.target) ≡ true
     reads : (f : ℕ) → reads_set z e f ≡ true → reads_set z t.target f ≡ true
 
   -- a temporary is no local of the body
@@ -105,7 +101,7 @@ module _ (z : Frame) (agrees : Agrees z) (os : List Opened) where
             done = record { now = v.values.now; runs = v.values.runs; covers = v.values.covers };
             fit = and_from _ _ (implied_by_false (fields.is_non_null t) _ (nullable_not t (temporary_nullable any_object (type_of e)))) (implied_by_false (z.mine x) _ (not_mine x (omega arith)));
             clean = refl;
-            this = λ own. absurd (false≢true (sym h ∙ same_this e ∙ own));
+            this = λ own. absurd (false≢true (sym h ∙ own));
             reads = λ g r. reads_temporary (place_of e) x t g (omega arith);
           }
 
@@ -122,7 +118,7 @@ module _ (z : Frame) (agrees : Agrees z) (os : List Opened) where
   kind_known k l c e m f h n = of_or m (not (is_reference_type (type_of e))) m (λ i. i) (λ i. absurd (false≢true (sym (value_never z agrees k l c e f (not_true _ i)) ∙ n))) h
 
   -- a field of an object that is settled
-  field_known : (k : source.Known) (l : Known) (p : Place) (o q : ExprTree) (f : ℕ) (t : Ty) (e : ExprTree) (made : List Ty) → Covers z k l → (paths.is_this o ≡ true → admissible.is_this (plain z.numbers q) ≡ true) → target_fits z (FieldOf p o f t) ≡ true →
+  field_known : (k : source.Known) (l : Known) (p : Place) (o q : ExprTree) (f : ℕ) (t : Ty) (e : ExprTree) (made : List Ty) → Covers z k l → (is_this o ≡ true → admissible.is_this (plain z.numbers q) ≡ true) → target_fits z (FieldOf p o f t) ≡ true →
       fits z e ≡ true → is_some (type_of e) ≡ true → inside z.site (Some k) e ≡ [] → wanted z.site (Some k) e t ≡ [] → HasMade z (value s e made).made → Done z agrees l (assigned (FieldOf p o f t) e k) (assign_settled s (FieldOf p q f t) e made).code
   field_known k l p o q f t e made c this h g some i w m =
       let both = and_parts (implied (is_non_null (field_type z.program.classes f)) (fields.is_non_null t)) (is_some (field_at z.typed f)) h in

@@ -14,7 +14,8 @@ use Rattle.ss_paths.specs.Assigned.{has_field}
 use Rattle.ss_nonnull_rules.specs.NonNull as source
 use Rattle.ss_nonnull_rules.specs.Facts.{says}
 use Rattle.ss_expand_rules.specs.Numbers.{Numbers, number, plain}
-use Rattle.ss_expand_rules.specs.Calls.{has_call, is_lazy, place_of}
+use Rattle.ss_expand_rules.specs.Calls.{has_call, is_lazy}
+use Rattle.ss_typed.specs.Shapes.{place_of}
 use Rattle.ss_expand_rules.specs.Lifting.{Source, Pure, Created, CreatedArray, Called, put, Lifted, Valued, unlifted, next, temporary_type, any_object, in_temporary, valued_from, valued, lifted_of, operand, unary, binary_with, lazily}
 use Rattle.ss_store_rules.specs.Good.{is_non_null}
 use Rattle.ss_store_rules.specs.Paths.{met}

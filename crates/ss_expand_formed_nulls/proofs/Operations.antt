@@ -20,9 +20,9 @@ use Rattle.ss_nonnull_rules.specs.NonNull as source
 use Rattle.ss_nonnull_rules.specs.Facts as told
 use Rattle.ss_nonnull_rules.specs.Facts.{says, the_local, is_null}
 use Rattle.ss_nonnull_rules.specs.Faults.{inside, wanted, handed, null_fault}
-use Rattle.ss_nonnull_rules.specs.Faults as faults
 use Rattle.ss_expand_rules.specs.Numbers.{plain, plain_arguments}
-use Rattle.ss_expand_rules.specs.Calls.{has_call, have_call, is_lazy, place_of}
+use Rattle.ss_expand_rules.specs.Calls.{has_call, have_call, is_lazy}
+use Rattle.ss_typed.specs.Shapes.{place_of}
 use Rattle.ss_expand_rules.specs.Lifting.{Opened, Setting, Pure, Lifted, Valued, Listed, unlifted, next, any_object, lifted_of, operand, unary, binary, holds, fails, negated, operation, other_types, lifted}
 use Rattle.ss_store_rules.specs.Good.{is_non_null}
 use Rattle.ss_store_rules.specs.Locals.{types_of, each, targets_only}
@@ -95,7 +95,7 @@ module _ (z : Frame) (agrees : Agrees z) (os : List Opened) where
       ((none_left (inside z.site (Some k) e) (wanted z.site (Some k) e t) both.0).0, both.1)
 
   pub wanted_never : (k : source.Known) (e : ExprTree) (t : Ty) → wanted z.site (Some k) e t ≡ [] → fields.is_non_null t ≡ true → is_some (type_of e) ≡ true → never_in z agrees k e ≡ true
-  wanted_never k e t h i j = no_fault (fields.is_non_null t) (is_some (type_of e)) (never_in z agrees k e) (null_fault (faults.place_of e)) h i j
+  wanted_never k e t h i j = no_fault (fields.is_non_null t) (is_some (type_of e)) (never_in z agrees k e) (null_fault (place_of e)) h i j
 
   stands_if : (u : Ty) (m : Known) (v : core.ExprTree) → (is_non_null u ≡ true → core_never z agrees m v ≡ true) → may_stand z.program z.body m v u ≡ true
   stands_if u m v h = by (is_non_null u) refl

@@ -11,6 +11,7 @@ use Rattle.ss_paths.specs.Sets.{Set, both}
 use Rattle.ss_paths.specs.Fields.{Numbers, is_among}
 use Rattle.ss_paths.specs.Assigned.{Assigned, has_field, both_assigned}
 use Rattle.ss_paths.specs.Paths as phase
+use Rattle.ss_typed.specs.Shapes.{is_true}
 use Rattle.ss_nonnull_rules.specs.NonNull as source
 use Rattle.ss_nonnull_rules.specs.Facts.{says}
 use Rattle.ss_expand_rules.specs.Lifting.{Valued}
@@ -144,11 +145,11 @@ module _ (z : Frame) (agrees : Agrees z) where
 
   -- what is known at the head of the loop is this
   pub loop_goes : (k : source.Known) (l : Known) (e : ExprTree) (v : Valued) (p : Place) (is : List core.ExprTree) (ys : Code) (xs : List ExposedTree) →
-      (h : Values z agrees k (known_head (LoopStmt p is (code_of v.code) v.value (code_of ys) xs) l) e v) → fits z e ≡ true → (phase.is_true e ≡ true → is_literal_true v.value ≡ true) → holds_along (flow z) (check z) (code_of ys) (Some (known_tested v.value true h.now)) ≡ true →
+      (h : Values z agrees k (known_head (LoopStmt p is (code_of v.code) v.value (code_of ys) xs) l) e v) → fits z e ≡ true → (is_true e ≡ true → is_literal_true v.value ≡ true) → holds_along (flow z) (check z) (code_of ys) (Some (known_tested v.value true h.now)) ≡ true →
       Goes l (phase.left along e k) (LoopStmt p is (code_of v.code) v.value (code_of ys) xs ∷ [])
   loop_goes k l e v p is ys xs h f lit turn =
       let tested = at_end (flow z) (code_of v.code) (Some (known_head (LoopStmt p is (code_of v.code) v.value (code_of ys) xs) l)) in
       record {
         held = and_from _ _ (and_from _ _ (and_from _ _ (and_from _ _ h.runs.checked (any_test tested)) (ap (λ o. holds_along (flow z) (check z) (code_of ys) (in_body (flow z) v.value o)) h.runs.at ∙ turn)) (any_test (at_end (flow z) (code_of ys) (in_body (flow z) v.value tested)))) refl;
-        covers = subst (λ o. CoversWhere (phase.left along e k) (left (flow z) v.value o)) (sym h.runs.at) (left_covers (phase.is_true e) (is_literal_true v.value) (source.known_tested e false k) (known_tested v.value false h.now) lit (tested_covers k (known_head (LoopStmt p is (code_of v.code) v.value (code_of ys) xs) l) e v false h f));
+        covers = subst (λ o. CoversWhere (phase.left along e k) (left (flow z) v.value o)) (sym h.runs.at) (left_covers (is_true e) (is_literal_true v.value) (source.known_tested e false k) (known_tested v.value false h.now) lit (tested_covers k (known_head (LoopStmt p is (code_of v.code) v.value (code_of ys) xs) l) e v false h f));
       }

@@ -10,7 +10,8 @@ use Rattle.ss_core.specs.Tree as core
 use Rattle.ss_typed.specs.Tree.{ExprTree, NullOf, ThisOf, LocalOf, ResultOf, FieldOf, CastOf, OldOf, NotOf, BinaryOf, IsOf, NewOf, NewArrayOf, CallOf, StaticOf, BaseOf}
 use Rattle.ss_paths.specs.Sets.{Set, none, only, either}
 use Rattle.ss_paths.specs.Fields as fields
-use Rattle.ss_paths.specs.Assigned.{has_field, is_this}
+use Rattle.ss_paths.specs.Assigned.{has_field}
+use Rattle.ss_typed.specs.Shapes.{is_this}
 use Rattle.ss_nonnull_rules.specs.NonNull as source
 use Rattle.ss_nonnull_rules.specs.Facts as told
 use Rattle.ss_nonnull_rules.specs.Facts.{says, the_local, is_null}

@@ -16,7 +16,7 @@ use Rattle.ss_nonnull_rules.specs.NonNull as source
 use Rattle.ss_nonnull_rules.specs.Facts.{forgotten, step_puts, assigns}
 use Rattle.ss_nonnull_rules.specs.Faults.{inside, wanted_if, returned_faults, null_check}
 use Rattle.ss_expand_rules.specs.Numbers.{number, all_plain}
-use Rattle.ss_expand_rules.specs.Calls.{place_of}
+use Rattle.ss_typed.specs.Shapes.{is_true, place_of}
 use Rattle.ss_expand_rules.specs.Code.{Coded, nothing, then_code}
 use Rattle.ss_expand_rules.specs.Lifting.{Opened, Lifted, Valued, next, temporary_type, any_object, right_side, value}
 use Rattle.ss_expand_rules.specs.Ends.{can_end, block_can_end}
@@ -68,7 +68,7 @@ module _ (z : Frame) (agrees : Agrees z) (builds : Builds z) where
 
   -- ---- tests
 
-  literal_true : (os : List Opened) (e : ExprTree) (made : List Ty) → phase.is_true e ≡ true → is_literal_true (value (setting z os) e made).value ≡ true
+  literal_true : (os : List Opened) (e : ExprTree) (made : List Ty) → is_true e ≡ true → is_literal_true (value (setting z os) e made).value ≡ true
   literal_true os (BoolOf p b) made h = h
   literal_true os e made h = absurd (false≢true h)
 

@@ -11,7 +11,8 @@ use Rattle.std.specs.List.{list_all}
 use Rattle.ss_typed.specs.Types.{type_of}
 use Rattle.ss_paths.specs.Fields as fields
 use Rattle.ss_paths.specs.Fields.{is_among}
-use Rattle.ss_paths.specs.Assigned.{has_field, is_this}
+use Rattle.ss_paths.specs.Assigned.{has_field}
+use Rattle.ss_typed.specs.Shapes.{is_this}
 use Rattle.ss_nonnull_rules.specs.NonNull as source
 use Rattle.ss_nonnull_rules.specs.Facts.{is_null}
 use Rattle.ss_nonnull_rules.specs.Faults.{parameters, body_in_table, class_of, method_of, constructor_parameters}

@@ -11,7 +11,7 @@ use Rattle.ss_typed.specs.Tree.{ExprTree, FieldOf, DeclaratorTree, SimpleTree, A
 use Rattle.ss_typed.specs.Tree as typed
 use Rattle.ss_typed.specs.Types.{type_of}
 use Rattle.ss_paths.specs.Fields as fields
-use Rattle.ss_paths.specs.Assigned.{is_this}
+use Rattle.ss_typed.specs.Shapes.{is_this}
 use Rattle.ss_nonnull_rules.specs.NonNull as source
 use Rattle.ss_delayed_rules.specs.Escapes.{ForFields, uses, uses_in_all, uses_if, uses_left, uses_declared, uses_done, uses_first, uses_step, uses_at, uses_in, uses_along}
 use Rattle.ss_expand_rules.specs.Program.{above_of, constructor_of, param_types_in}

@@ -10,7 +10,7 @@ use Rattle.ss_core.specs.Chain.{above}
 use Rattle.ss_typed.specs.Tree.{ExprTree, IntOf, BoolOf, NullOf, ThisOf, LocalOf, ResultOf, BoundOf, IffOf, ImpliesOf, BinaryOf, IsOf, AsOf, NegateOf, NotOf, CastOf, FieldOf, ElementOf, LengthOf, OldOf, QuantifiedOf, StateOf, OwnersOf, NewOf, NewArrayOf, CallOf, StaticOf, BaseOf, Arguments, NoMore, Argument, BodyTree, TypedTree}
 use Rattle.ss_typed.specs.Types.{type_of}
 use Rattle.ss_paths.specs.Fields as fields
-use Rattle.ss_paths.specs.Assigned.{is_this}
+use Rattle.ss_typed.specs.Shapes.{is_this}
 use Rattle.ss_nonnull_rules.specs.Facts.{is_null}
 use Rattle.ss_nonnull_rules.specs.Faults.{parameters, class_of, method_of, constructor_parameters}
 use Rattle.ss_delayed_rules.specs.Escapes.{Use, ForFields, NotAtAll, may_read, uses, uses_each}

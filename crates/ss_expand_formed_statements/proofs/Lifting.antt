@@ -17,7 +17,8 @@ use Rattle.ss_typed.specs.Types.{class_type, type_of}
 use Rattle.ss_typed.specs.Types as typed
 use Rattle.ss_owners_rules.specs.Words.{NoWord, misplaced, misplaced_each}
 use Rattle.ss_expand_rules.specs.Numbers.{plain, plain_arguments}
-use Rattle.ss_expand_rules.specs.Calls.{has_call, have_call, is_lazy, place_of}
+use Rattle.ss_expand_rules.specs.Calls.{has_call, have_call, is_lazy}
+use Rattle.ss_typed.specs.Shapes.{place_of}
 use Rattle.ss_expand_rules.specs.Program.{above_of, method_at, number_of_written}
 use Rattle.ss_expand_rules.specs.Lifting.{Opened, Setting, Source, Pure, Created, CreatedArray, Called, put, Lifted, Valued, Listed, unlifted, next, temporary_type, any_object, in_temporary, valued_from, valued, lifted_of, operand, unary, lazily, holds, fails, negated, operation, implication, no_operands, operands_of, and_operands, called, only_of, dispatched, static_class, class_of_type, base_number, types_of_constructor, types_of_written, types_of_method, lifted, in_temporaries, right_side, value, arguments_of}
 use Rattle.ss_store_rules.specs.Changes.{below, is_array}

@@ -14,7 +14,7 @@ use Rattle.ss_typed.specs.Tree.{ExprTree, SimpleTree, InitTree, DeclareFirst, Si
 use Rattle.ss_typed.specs.Types.{type_of}
 use Rattle.ss_owners_rules.specs.Words.{Allowed, NoWord, OfEntry}
 use Rattle.ss_expand_rules.specs.Numbers.{plain, all_plain}
-use Rattle.ss_expand_rules.specs.Calls.{place_of}
+use Rattle.ss_typed.specs.Shapes.{place_of}
 use Rattle.ss_expand_rules.specs.Lifting.{Opened, Setting, Valued, next, temporary_type, any_object, in_temporary, right_side, value}
 use Rattle.ss_expand_rules.specs.Code.{Coded, nothing, then_code}
 use Rattle.ss_expand_rules.specs.Ends.{can_end, block_can_end}

@@ -10,7 +10,7 @@ use Rattle.ss_core.specs.declared.names.Place.{Place}
 use Rattle.ss_core.specs.Tree as core
 use Rattle.ss_core.specs.Tree.{DefaultTree, LocalExpr, DefaultExpr, NamedTree, UptoOf}
 use Rattle.ss_typed.specs.Tree.{ExprTree, IntOf, BoolOf, NullOf, ThisOf, LocalOf, ResultOf, BoundOf, IffOf, ImpliesOf, BinaryOf, IsOf, AsOf, NegateOf, NotOf, CastOf, FieldOf, ElementOf, LengthOf, OldOf, QuantifiedOf, StateOf, OwnersOf, NewOf, NewArrayOf, CallOf, StaticOf, BaseOf, ModifiedTree, OneOf, AllOf, ElementsOf, BodyTree}
-use Rattle.ss_expand_rules.specs.Calls.{is_this}
+use Rattle.ss_typed.specs.Shapes.{is_this}
 use Rattle.ss_expand_rules.specs.Numbers.{Numbers, number, plain, all_plain}
 use Rattle.ss_expand_rules.specs.Contracts.{conditions, default_entry, default_exit, entry_of_first, modifies_of_first, all_exits, named, this_upto, written_terms, terms_of_method, terms, entry_conditions, exit_conditions, named_terms}
 use Rattle.ss_expand_rules.specs.Bodies.{results, param_of}

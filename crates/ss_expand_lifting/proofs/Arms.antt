@@ -19,15 +19,16 @@ use Rattle.ss_typed.specs.declared.expr.TypedStep.{TypedStep}
 use Rattle.ss_typed.specs.Tree.{ExprTree, IffOf, ImpliesOf, BinaryOf, NegateOf, NotOf, CastOf, NewOf, NewArrayOf, CallOf, StaticOf, BaseOf, Arguments, Argument, arguments}
 use Rattle.ss_typed.specs.View.{expr, exprs}
 use Rattle.ss_expand_rules.specs.Program as program
-use Rattle.ss_expand_rules.specs.Calls.{has_call, have_call, place_of, is_lazy_operator}
+use Rattle.ss_expand_rules.specs.Calls.{has_call, have_call, is_lazy_operator}
+use Rattle.ss_typed.specs.Shapes.{place_of}
 use Rattle.ss_expand_rules.specs.Numbers.{plain}
 use Rattle.ss_expand_rules.specs.Lifting.{Setting, Source, Pure, Created, CreatedArray, Called, put, Lifted, lifted, right_side, operand, lazily_in, lazily_with, in_temporary, negated, called, dispatched, operands_of, and_operands, in_temporaries, types_of_method, static_class, arguments_of, first_type, other_types, any_object, next}
 use Rattle.ss_core.specs.declared.names.Ty.TheVariants as ty
-use Rattle.ss_expand_expressions.specs.Views.{linked, stepped, link_behind, step_behind}
+use Rattle.ss_typed.specs.Parts.{link_behind, linked, step_behind, stepped}
 use Rattle.ss_expand_expressions.specs.Sources.{lifted_behind, valued_behind, listed_behind}
 use Rattle.ss_expand_expressions.specs.Operands.{valued_as}
 use Rattle.ss_expand_expressions.proofs.Loops.{drop_item, map_append}
-use Rattle.ss_expand_expressions.proofs.Shapes.{chain_is, path_is}
+use Rattle.ss_typed.proofs.Grouping.{chain_is, path_is}
 use Rattle.ss_expand_lifting.specs.Operations.{is_and, size_of, test_of, receiver_of, values_of}
 use Rattle.ss_expand_lifting.proofs.Joins.{lifted_as, listed_as, with_call, unlifted_behind, strict_operation, lazy_operation, negated_with, negated_without, unary_behind, unary_kept, binary_kept, array_behind, begun_behind, lazily_behind, receiver_and_arguments, listed_onto, one_more_argument, no_more_arguments}
 use Rattle.ss_expand_lifting.proofs.Forms.{iff_is, implies_is, negate_is, not_is, cast_is, new_is, new_array_is, static_is, base_is}

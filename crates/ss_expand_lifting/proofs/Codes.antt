@@ -10,7 +10,8 @@ use Rattle.ss_typed.specs.Tree.{ExprTree, ThisOf, LocalOf, FieldOf, ElementOf, D
 use Rattle.ss_typed.specs.Types.{type_of}
 use Rattle.ss_expand_rules.specs.Numbers.{number, plain}
 use Rattle.ss_expand_rules.specs.Program.{field_at}
-use Rattle.ss_expand_rules.specs.Calls.{has_call, is_this, place_of}
+use Rattle.ss_expand_rules.specs.Calls.{has_call}
+use Rattle.ss_typed.specs.Shapes.{is_this, place_of}
 use Rattle.ss_expand_rules.specs.Code.{Coded, nothing, after, then_code, and_then}
 use Rattle.ss_expand_rules.specs.Lifting.{Setting, Source, put, Lifted, Valued, in_local, right_side, value, valued, next, temporary_type, any_object, class_of_type}
 use Rattle.ss_expand_rules.specs.Simple.{into_local, write_of, write, write_value, assign_settled, Settled, settled_as, settle_lifted, settle_part, settle_both, settle, assign_behind, declared_as, declare, drop_result, alone}

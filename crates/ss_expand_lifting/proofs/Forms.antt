@@ -16,7 +16,7 @@ use Rattle.ss_typed.specs.declared.expr.TypedStep.{TypedStep}
 use Rattle.ss_typed.specs.declared.expr.TypedStep.TheVariants as step
 use Rattle.ss_typed.specs.Tree.{ExprTree, IffOf, ImpliesOf, NegateOf, NotOf, CastOf, NewOf, NewArrayOf, StaticOf, BaseOf, BinaryOf, IsOf, AsOf, FieldOf, ElementOf, LengthOf, CallOf, arguments}
 use Rattle.ss_typed.specs.View.{Behind, expr_step, link_step, step_step, expr, exprs}
-use Rattle.ss_expand_expressions.specs.Views.{link_behind, step_behind}
+use Rattle.ss_typed.specs.Parts.{link_behind, step_behind}
 
 pub iff_is : (p : Place) (a b : Box TypedExpr Global) → expr (variant.Iff p a b) ≡ IffOf p (expr a.value) (expr b.value)
 iff_is p a b = ap expr (sym (variant.rolls-Iff p a b)) ∙ fold-roll-TypedExpr ExprTree Behind Behind expr_step link_step step_step (shape.Iff p a b)

@@ -12,7 +12,8 @@ use Rattle.ss_core.specs.Tree.{LocalExpr, NotExpr, BinaryExpr, IfStmt, NoCode}
 use Rattle.ss_core.specs.View.{code_of}
 use Rattle.ss_typed.specs.Tree.{ExprTree, NewArrayOf, Arguments, Argument}
 use Rattle.ss_expand_rules.specs.Numbers.{Numbers, plain, plain_arguments}
-use Rattle.ss_expand_rules.specs.Calls.{has_call, have_call, place_of, is_lazy_operator}
+use Rattle.ss_expand_rules.specs.Calls.{has_call, have_call, is_lazy_operator}
+use Rattle.ss_typed.specs.Shapes.{place_of}
 use Rattle.ss_expand_rules.specs.Lifting.{Setting, Source, Pure, CreatedArray, put, Lifted, Valued, Listed, unlifted, lifted_of, lifted, right_side, unary, binary, operand, operation, lazily, lazily_in, in_temporary, next, negated, called, and_operands, no_operands, only_of, operands_of, valued, in_temporaries, first_type, other_types, any_object}
 use Rattle.ss_expand_expressions.specs.Sources.{lifted_behind, valued_behind, listed_behind}
 use Rattle.ss_expand_expressions.specs.Operands.{valued_as}

@@ -12,15 +12,17 @@ use Rattle.ss_typed.specs.declared.expr.TypedExpr.TheOpen as shape
 use Rattle.ss_typed.specs.declared.expr.TypedExpr.TheOpen.{TypedLink-F, TypedStep-F}
 use Rattle.ss_typed.specs.Tree.{ExprTree}
 use Rattle.ss_typed.specs.View.{Behind, link_step, step_step}
-use Rattle.ss_expand_rules.specs.Calls.{has_call, place_of, is_lazy, is_this}
+use Rattle.ss_expand_rules.specs.Calls.{has_call, is_lazy}
+use Rattle.ss_typed.specs.Shapes.{is_this, place_of}
 use Rattle.ss_expand_rules.specs.Numbers.{plain}
 use Rattle.ss_expand_rules.specs.Lifting.{Setting, Source, Pure, Lifted, right_side}
-use Rattle.ss_expand_expressions.specs.Views.{link_behind, step_behind, linked, stepped}
+use Rattle.ss_typed.specs.Parts.{link_behind, linked, step_behind, stepped}
 use Rattle.ss_expand_expressions.specs.Sources.{lifted_behind}
 use Rattle.ss_expand_expressions.specs.Operands.{IsOperand}
 use Rattle.ss_expand_expressions.specs.declared.operands.Operand.{Operand}
 use Rattle.ss_expand_expressions.proofs.Loops.{drop_item}
-use Rattle.ss_expand_expressions.proofs.Shapes.{links_keep, steps_keep, linked_next, stepped_next, link_shape, step_shape}
+use Rattle.ss_expand_expressions.proofs.Shapes.{links_keep, steps_keep, linked_next, stepped_next}
+use Rattle.ss_typed.proofs.Grouping.{link_shape, step_shape}
 use Rattle.ss_expand_lifting.specs.Fronts.{link_begins, step_begins, LinksGoOn, StepsGoOn}
 use Rattle.ss_expand_lifting.proofs.Joins.{lifted_as, without_call}
 

@@ -12,7 +12,8 @@ use Rattle.ss_typed.specs.View.{expr}
 use Rattle.ss_typed.specs.Tree.{ExprTree, BinaryOf, Arguments, DeclaratorTree}
 use Rattle.ss_expand_rules.specs.Program.{number_of, constructor_of, param_types_in, Constructor}
 use Rattle.ss_expand_rules.specs.Numbers.{plain}
-use Rattle.ss_expand_rules.specs.Calls.{has_call, place_of}
+use Rattle.ss_expand_rules.specs.Calls.{has_call}
+use Rattle.ss_typed.specs.Shapes.{place_of}
 use Rattle.ss_expand_rules.specs.Code.{Coded, after, then_code}
 use Rattle.ss_expand_rules.specs.Lifting.{Setting, Source, Pure, put, Lifted, Valued, Listed, lifted, right_side, value, arguments_of}
 use Rattle.ss_expand_rules.specs.Simple.{into_local, write_value, assign_settled, Settled, settle, assign, assign_behind, update_settled, declared_as, declare, print_value, ready_behind, base_with, base_of}

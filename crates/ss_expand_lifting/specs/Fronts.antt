@@ -10,7 +10,7 @@ use Rattle.ss_typed.specs.declared.expr.TypedStep.{TypedStep}
 use Rattle.ss_typed.specs.Tree.{ExprTree}
 use Rattle.ss_expand_rules.specs.Calls.{has_call}
 use Rattle.ss_expand_rules.specs.Lifting.{Setting}
-use Rattle.ss_expand_expressions.specs.Views.{link_behind, step_behind, linked, stepped}
+use Rattle.ss_typed.specs.Parts.{link_behind, linked, step_behind, stepped}
 use Rattle.ss_expand_expressions.specs.Operands.{IsOperand}
 use Rattle.ss_expand_lifting.specs.declared.fronts.Front.{Front}
 

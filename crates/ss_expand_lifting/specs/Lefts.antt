@@ -2,7 +2,7 @@
 use Rattle.std.specs.Prelude.{◌≡◌, Bool, true, false}
 use Rattle.ss_typed.specs.Tree.{ExprTree, LocalOf, FieldOf, ElementOf}
 use Rattle.ss_typed.specs.View.{expr}
-use Rattle.ss_expand_expressions.specs.Views.{stepped}
+use Rattle.ss_typed.specs.Parts.{stepped}
 use Rattle.ss_expand_lifting.specs.declared.lefts.Part.{Part}
 use Rattle.ss_expand_lifting.specs.declared.lefts.Left.{Left}
 use Rattle.ss_expand_lifting.specs.declared.lefts.Left.TheVariants as left

@@ -8,7 +8,7 @@ ghost use Rattle.ss_core.specs.View as view;
 ghost use Rattle.ss_typed.specs.Tree as tree;
 ghost use Rattle.ss_typed.specs.Tree.{ExprTree};
 ghost use Rattle.ss_typed.specs.View as typed;
-ghost use Rattle.ss_expand_rules.specs.Calls as calls;
+ghost use Rattle.ss_typed.specs.Shapes as shapes;
 ghost use Rattle.ss_expand_rules.specs.Code.{after};
 ghost use Rattle.ss_expand_rules.specs.Lifting as lifting;
 ghost use Rattle.ss_expand_rules.specs.Program as program;
@@ -29,10 +29,9 @@ use ss_ast::{AssignOperator, StepOperator};
 use ss_core::{Expr, FieldId, Operator, Place, Stmt, Ty};
 use ss_expand_bodies::field_at;
 use ss_expand_expressions::{
-    Operand, Source, binary, has_call, is_lazy_operator, place_of, plain, put, step_operator,
-    valued,
+    Operand, Source, binary, has_call, is_lazy_operator, plain, put, step_operator, valued,
 };
-use ss_typed::{TypedExpr, operation_type};
+use ss_typed::{TypedExpr, operation_type, place_of};
 use std::alloc::{AllocError, Global};
 
 // Adds the write of a field, with its mark and the class that declares it.
@@ -284,7 +283,7 @@ fn update_settled(
 ) -> Result<(), AllocError>
     ensures { OnOk result (coded_by code.new made.new
         ≡ after (stmts_of code.old.statements) (elab.assign_settled (setting_of setting.now) (typed.expr target.now)
-        (tree.BinaryOf (calls.place_of (typed.expr target.now)) operator (typed.expr target.now) (typed.expr e.now)) made.old.items)) }
+        (tree.BinaryOf (shapes.place_of (typed.expr target.now)) operator (typed.expr target.now) (typed.expr e.now)) made.old.items)) }
 {
     let read = lift_operand(alloc, setting, target, code, made)?;
     let place = read.place;

@@ -10,7 +10,8 @@ ghost use Rattle.ss_typed.specs.View as typed;
 ghost use Rattle.ss_expand_rules.specs.Calls as calls;
 ghost use Rattle.ss_expand_rules.specs.Lifting as elab;
 ghost use Rattle.ss_expand_expressions.specs.Parameters.{param_types};
-ghost use Rattle.ss_expand_expressions.specs.Views.{link_behind, step_behind, linked, stepped, numbers_of};
+ghost use Rattle.ss_expand_expressions.specs.Views.{numbers_of};
+ghost use Rattle.ss_typed.specs.Parts.{link_behind, linked, step_behind, stepped};
 ghost use Rattle.ss_expand_expressions.specs.Sources.{stmts_of, lifted_by, valued_by, listed_by, lifted_behind, valued_behind, listed_behind};
 ghost use Rattle.ss_expand_expressions.specs.Operands.{IsOperand, valued_as};
 ghost use Rattle.ss_expand_lifting.specs.Settings.{setting_of};
@@ -31,9 +32,9 @@ use ss_expand_bodies::{
 use ss_expand_expressions::{
     Operand, Source, any_object, begin_lazy, binary, class_of_type, element_of, end_lazy,
     first_type, has_call, have_call, iff_of, is_lazy, is_lazy_link, is_lazy_operator, keep,
-    link_type, other_params, place_of, plain, step_type, type_of, valued,
+    link_type, other_params, plain, step_type, type_of, valued,
 };
-use ss_typed::{TypedExpr, TypedLink, TypedParam, TypedStep};
+use ss_typed::{TypedExpr, TypedLink, TypedParam, TypedStep, place_of};
 use std::alloc::{AllocError, Global};
 
 /// What the expression is lifted to, behind the code so far. Without a call it stays as it is.

@@ -6,10 +6,10 @@ ghost use Rattle.ss_core.specs.Tree as core;
 ghost use Rattle.ss_typed.specs.Tree as tree;
 ghost use Rattle.ss_typed.specs.Tree.{ExprTree};
 ghost use Rattle.ss_typed.specs.View as typed;
-ghost use Rattle.ss_expand_rules.specs.Calls as calls;
+ghost use Rattle.ss_typed.specs.Shapes as shapes;
 ghost use Rattle.ss_expand_rules.specs.Lifting as lifting;
 ghost use Rattle.ss_expand_rules.specs.Simple as elab;
-ghost use Rattle.ss_expand_expressions.specs.Views.{stepped, step_behind};
+ghost use Rattle.ss_typed.specs.Parts.{step_behind, stepped};
 ghost use Rattle.ss_expand_expressions.specs.Sources.{stmts_of};
 ghost use Rattle.ss_expand_expressions.specs.Operands.{IsOperand};
 ghost use Rattle.ss_expand_lifting.specs.Settings.{setting_of};
@@ -22,9 +22,9 @@ use crate::lifting::lift_operand;
 use crate::settings::Setting;
 use ss_core::{ClassId, FieldId, Place, Ty};
 use ss_expand_expressions::{
-    Operand, any_object, class_of_type, in_local, is_this, next, place_of, temporary_type, type_of,
+    Operand, any_object, class_of_type, in_local, next, temporary_type, type_of,
 };
-use ss_typed::{TypedExpr, TypedStep};
+use ss_typed::{TypedExpr, TypedStep, is_this, place_of};
 use std::alloc::{AllocError, Global};
 
 // `this`
@@ -43,7 +43,7 @@ fn local_of(place: Place, x: usize, ty: Ty) -> TypedExpr
 
 // `this`, made anew.
 fn this_again(e: &TypedExpr) -> TypedExpr
-    ensures { calls.is_this (typed.expr e.now) ≡ true → typed.expr result ≡ typed.expr e.now }
+    ensures { shapes.is_this (typed.expr e.now) ≡ true → typed.expr result ≡ typed.expr e.now }
 {
     this_of(place_of(e), class_of_type(type_of(e)))
 }

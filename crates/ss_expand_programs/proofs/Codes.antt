@@ -9,7 +9,7 @@ use Rattle.ss_core.specs.Tree.{LocalExpr, IfStmt, LoopStmt, UnpackStmt}
 use Rattle.ss_core.specs.View.{code_of}
 use Rattle.ss_typed.specs.Tree.{ExprTree, SimpleTree, StmtTree, ExposeOf, BlockTree, StmtTrees, Before}
 use Rattle.ss_expand_rules.specs.Numbers.{all_plain}
-use Rattle.ss_expand_rules.specs.Calls.{place_of}
+use Rattle.ss_typed.specs.Shapes.{place_of}
 use Rattle.ss_expand_rules.specs.Code.{Coded, nothing, after, then_code}
 use Rattle.ss_expand_rules.specs.Lifting.{Opened, Setting, Valued, next, right_side}
 use Rattle.ss_expand_rules.specs.Ends.{can_end, block_can_end, all_can_end}

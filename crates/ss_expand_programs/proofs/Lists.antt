@@ -9,7 +9,7 @@ use Rattle.ss_core.specs.Chain.{DeclaredField, all_fields}
 use Rattle.ss_core.specs.Tree.{ReturnStmt}
 use Rattle.ss_typed.specs.Tree as typed
 use Rattle.ss_typed.specs.Tree.{ExprTree, FieldOf, AssignOf, SimpleOf, ReturnOf, StmtTree, StmtTrees, NoMore, Before, stmt_trees, FieldTree, MembersTree, TypedTree}
-use Rattle.ss_expand_rules.specs.Calls.{is_this, mentions_this}
+use Rattle.ss_typed.specs.Shapes.{is_this, mentions_this}
 use Rattle.ss_expand_rules.specs.Program.{field_at, members_of}
 use Rattle.ss_expand_rules.specs.Code.{Coded, nothing, after, then_code}
 use Rattle.ss_expand_rules.specs.Lifting.{Setting}

@@ -2,7 +2,7 @@
 use Rattle.std.specs.Prelude.{ℕ, ◌==◌, List, [], ◌∷◌, Bool, false, if◌then◌else◌, Option, Some, None}
 use Rattle.ss_core.specs.Tree as core
 use Rattle.ss_typed.specs.Tree.{ExprTree, FieldOf, StmtTree, StmtTrees, Before, BodyTree, TypedTree}
-use Rattle.ss_expand_rules.specs.Calls.{is_this}
+use Rattle.ss_typed.specs.Shapes.{is_this}
 use Rattle.ss_expand_rules.specs.Program.{field_at}
 use Rattle.ss_expand_rules.specs.Constructors.{is_declared_in, before_all, behind_initial, initializers, with_base}
 

@@ -5,7 +5,7 @@ use Rattle.ss_core.specs.declared.names.Ty.{Ty}
 use Rattle.ss_core.specs.Tree.{UnpackStmt}
 use Rattle.ss_typed.specs.Tree.{ExprTree}
 use Rattle.ss_typed.specs.Types.{type_of}
-use Rattle.ss_expand_rules.specs.Calls.{place_of}
+use Rattle.ss_typed.specs.Shapes.{place_of}
 use Rattle.ss_expand_rules.specs.Code.{Coded}
 use Rattle.ss_expand_rules.specs.Lifting.{Opened, Setting, Lifted, Valued, next, temporary_type, any_object, in_temporary, right_side}
 use Rattle.ss_expand_rules.specs.Statements.{exposed_class, opened}

@@ -3,7 +3,7 @@
 ghost use Rattle.std.specs.Prelude.{◌≡◌, ◌++◌, ◌∷◌, [], IfOk, OnOk, map, option_map, if◌then◌else◌};
 ghost use Rattle.ss_core.specs.Tree.{LocalExpr, UnpackStmt};
 ghost use Rattle.ss_typed.specs.View as typed;
-ghost use Rattle.ss_expand_rules.specs.Calls as calls;
+ghost use Rattle.ss_typed.specs.Shapes as shapes;
 ghost use Rattle.ss_expand_rules.specs.Code.{after};
 ghost use Rattle.ss_expand_rules.specs.Lifting as lifting;
 ghost use Rattle.ss_expand_rules.specs.Statements as statements;
@@ -17,11 +17,9 @@ ghost use Rattle.ss_expand_programs.specs.Opening.{opened_by, object_of, opening
 use crate::looping::add_one;
 use ss_core::{ClassId, Place, Stmt, Ty};
 use ss_expand_bodies::{Opened, pack_of};
-use ss_expand_expressions::{
-    any_object, class_of_type, in_local, next, place_of, temporary_type, type_of,
-};
+use ss_expand_expressions::{any_object, class_of_type, in_local, next, temporary_type, type_of};
 use ss_expand_lifting::{Code, Setting, right_side};
-use ss_typed::TypedExpr;
+use ss_typed::{TypedExpr, place_of};
 use std::alloc::{AllocError, Global};
 
 // The class at which it is: the static class of the object, where none is written.
@@ -42,7 +40,7 @@ fn put_object(
     code: &mut Code,
     made: &mut Vec<Ty>,
 ) -> Result<usize, AllocError>
-    ensures kept { IfOk result (λ x. valued_as (stmts_of code.new.statements) (LocalExpr (calls.place_of (typed.expr e.now)) x) made.new.items
+    ensures kept { IfOk result (λ x. valued_as (stmts_of code.new.statements) (LocalExpr (shapes.place_of (typed.expr e.now)) x) made.new.items
         ≡ valued_behind (stmts_of code.old.statements) (object_of (setting_of setting.now) (typed.expr e.now) made.old.items)) }
     ensures number { IfOk result (λ x. x ≡ lifting.next (setting_of setting.now).numbers (lifting.right_side (setting_of setting.now) (typed.expr e.now) made.old.items).made) }
 {

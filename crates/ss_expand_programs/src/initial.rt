@@ -6,7 +6,7 @@ ghost use Rattle.ss_core.specs.Chain.{in_class, most_classes};
 ghost use Rattle.ss_core.specs.View as core;
 ghost use Rattle.ss_typed.specs.Tree.{StmtTree, SimpleOf, Before, stmt_trees};
 ghost use Rattle.ss_typed.specs.View as typed;
-ghost use Rattle.ss_expand_rules.specs.Calls as calls;
+ghost use Rattle.ss_typed.specs.Shapes as shapes;
 ghost use Rattle.ss_expand_rules.specs.Constructors as constructors;
 ghost use Rattle.ss_expand_rules.specs.Ends as ends;
 ghost use Rattle.ss_expand_programs.specs.Constructing as constructing;
@@ -86,7 +86,7 @@ fn is_own_field(program: &Typed, class: ClassId, field: Option<FieldId>) -> bool
 // Whether a plain assignment is one to a field of the class, whose right side is without `this`.
 fn assigns_own(program: &Typed, class: ClassId, target: &TypedExpr, e: &TypedExpr) -> bool
     requires few_classes { length (core.classes program.now.classes) ≤ most_classes }
-    ensures { result ≡ (constructing.is_own_field (typed.typed program.now) class.0 (constructing.own_field (typed.expr target.now)) && not (calls.mentions_this (typed.expr e.now))) }
+    ensures { result ≡ (constructing.is_own_field (typed.typed program.now) class.0 (constructing.own_field (typed.expr target.now)) && not (shapes.mentions_this (typed.expr e.now))) }
 {
     is_own_field(program, class, own_field(target)) && !mentions_this(e)
 }

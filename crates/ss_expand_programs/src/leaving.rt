@@ -15,9 +15,9 @@ ghost use Rattle.ss_expand_programs.specs.Returns.{returned_value};
 use crate::looping::add_one;
 use ss_core::{Expr, Place, Stmt, Ty};
 use ss_expand_bodies::{add_pack_this, add_packs};
-use ss_expand_expressions::{any_object, in_local, next, place_of};
+use ss_expand_expressions::{any_object, in_local, next};
 use ss_expand_lifting::{Code, Setting, right_side, value};
-use ss_typed::TypedExpr;
+use ss_typed::{TypedExpr, place_of};
 use std::alloc::{AllocError, Global};
 
 // Adds the packs before a return at this place: of the exposes around it, from the innermost outwards, and of a constructor's `this`.

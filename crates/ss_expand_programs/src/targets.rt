@@ -4,8 +4,8 @@ ghost use Rattle.std.specs.Prelude.{◌≡◌, false, option_map, if◌then◌el
 ghost use Rattle.ss_core.specs.declared.names.Place.{Place};
 ghost use Rattle.ss_typed.specs.Tree.{ExprTree};
 ghost use Rattle.ss_typed.specs.View.{expr};
-ghost use Rattle.ss_expand_rules.specs.Calls as calls;
-ghost use Rattle.ss_expand_expressions.specs.Views.{link_behind, step_behind, linked, stepped};
+ghost use Rattle.ss_typed.specs.Shapes as shapes;
+ghost use Rattle.ss_typed.specs.Parts.{link_behind, linked, step_behind, stepped};
 ghost use Rattle.ss_expand_programs.specs.Constructing as constructing;
 
 use ss_core::FieldId;
@@ -31,7 +31,7 @@ fn neither() -> Target
 
 // What an operand with this link behind it is.
 fn link_target(link: &TypedLink) -> Target
-    ensures this { (p : Place) → (before : ExprTree) → calls.is_this (link_behind link.now p before) ≡ result.is_this }
+    ensures this { (p : Place) → (before : ExprTree) → shapes.is_this (link_behind link.now p before) ≡ result.is_this }
     ensures field { (p : Place) → (before : ExprTree) → constructing.own_field (link_behind link.now p before) ≡ option_map (λ f. f.0) result.field }
 {
     match link {
@@ -43,8 +43,8 @@ fn link_target(link: &TypedLink) -> Target
 
 // The same of these links.
 fn links_target(first: Target, links: &[TypedLink]) -> Target
-    ensures this { (p : Place) → (before : ExprTree) → calls.is_this before ≡ first.is_this
-        → calls.is_this (linked p before links.now) ≡ result.is_this }
+    ensures this { (p : Place) → (before : ExprTree) → shapes.is_this before ≡ first.is_this
+        → shapes.is_this (linked p before links.now) ≡ result.is_this }
     ensures field { (p : Place) → (before : ExprTree) → constructing.own_field before ≡ option_map (λ f. f.0) first.field
         → constructing.own_field (linked p before links.now) ≡ option_map (λ f. f.0) result.field }
 {
@@ -64,8 +64,8 @@ fn field_where(is_this: bool, field: FieldId) -> Option<FieldId>
 
 // What is such a target with this step behind it.
 fn step_target(before: Target, step: &TypedStep) -> Target
-    ensures this { (p : Place) → (e : ExprTree) → calls.is_this (step_behind step.now p e) ≡ result.is_this }
-    ensures field { (p : Place) → (e : ExprTree) → calls.is_this e ≡ before.is_this
+    ensures this { (p : Place) → (e : ExprTree) → shapes.is_this (step_behind step.now p e) ≡ result.is_this }
+    ensures field { (p : Place) → (e : ExprTree) → shapes.is_this e ≡ before.is_this
         → constructing.own_field (step_behind step.now p e) ≡ option_map (λ f. f.0) result.field }
 {
     match step {
@@ -81,9 +81,9 @@ fn step_target(before: Target, step: &TypedStep) -> Target
 
 // The same of these steps.
 fn steps_target(first: Target, steps: &[TypedStep]) -> Target
-    ensures this { (p : Place) → (e : ExprTree) → calls.is_this e ≡ first.is_this
-        → calls.is_this (stepped p e steps.now) ≡ result.is_this }
-    ensures field { (p : Place) → (e : ExprTree) → calls.is_this e ≡ first.is_this → constructing.own_field e ≡ option_map (λ f. f.0) first.field
+    ensures this { (p : Place) → (e : ExprTree) → shapes.is_this e ≡ first.is_this
+        → shapes.is_this (stepped p e steps.now) ≡ result.is_this }
+    ensures field { (p : Place) → (e : ExprTree) → shapes.is_this e ≡ first.is_this → constructing.own_field e ≡ option_map (λ f. f.0) first.field
         → constructing.own_field (stepped p e steps.now) ≡ option_map (λ f. f.0) result.field }
 {
     let mut target = first;
@@ -95,7 +95,7 @@ fn steps_target(first: Target, steps: &[TypedStep]) -> Target
 
 // What the expression is.
 fn target_of(e: &TypedExpr) -> Target
-    ensures this { calls.is_this (expr e.now) ≡ result.is_this }
+    ensures this { shapes.is_this (expr e.now) ≡ result.is_this }
     ensures field { constructing.own_field (expr e.now) ≡ option_map (λ f. f.0) result.field }
 {
     match e {

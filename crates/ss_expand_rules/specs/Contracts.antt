@@ -9,7 +9,7 @@ use Rattle.ss_core.specs.Chain.{levels}
 use Rattle.ss_typed.specs.Tree.{ExprTree, ParamTree, ModifiedTree, OneOf, AllOf, ElementsOf, BodyTree, TypedTree}
 use Rattle.ss_expand_rules.specs.Program.{is_declared_by, method_at}
 use Rattle.ss_expand_rules.specs.Numbers.{Numbers, plain, all_plain}
-use Rattle.ss_expand_rules.specs.Calls.{is_this}
+use Rattle.ss_typed.specs.Shapes.{is_this}
 
 -- ---- default contracts
 

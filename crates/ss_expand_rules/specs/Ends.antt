@@ -1,11 +1,7 @@
 -- Whether the end of a statement can be reached.
 use Rattle.std.specs.Prelude.{Bool, true, false, not, ◌&&◌, ◌||◌, Option, Some, None}
 use Rattle.ss_typed.specs.Tree.{ExprTree, BoolOf, BlockTree, BlockOf, StmtTree, InBlock, DeclareOf, SimpleOf, IfOf, IfElseOf, WhileOf, ForOf, ReturnOf, AssertOf, AssumeOf, ExposeOf, EmptyOf, StmtTrees, NoMore, Before}
-
--- the literal `true`
-abbrev pub is_true : ExprTree → Bool
-is_true (BoolOf p b) = b
-is_true e = false
+use Rattle.ss_typed.specs.Shapes.{is_true}
 
 -- without a test it is one that always holds
 abbrev pub is_always : Option ExprTree → Bool

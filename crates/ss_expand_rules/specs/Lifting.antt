@@ -13,7 +13,8 @@ use Rattle.ss_typed.specs.Tree.{ExprTree, IffOf, ImpliesOf, BinaryOf, IsOf, AsOf
 use Rattle.ss_typed.specs.Types.{class_type, type_of}
 use Rattle.ss_expand_rules.specs.Program.{above_of, method_at, body_at, constructor_of, param_types_in, number_of_written, number_in_table}
 use Rattle.ss_expand_rules.specs.Numbers.{Numbers, plain, plain_arguments}
-use Rattle.ss_expand_rules.specs.Calls.{has_call, have_call, is_lazy, place_of}
+use Rattle.ss_expand_rules.specs.Calls.{has_call, have_call, is_lazy}
+use Rattle.ss_typed.specs.Shapes.{place_of}
 
 -- an `expose` around a statement: its place, the temporary with the object, and the class
 pub record Opened : Type 0 where

@@ -16,7 +16,8 @@ use Rattle.ss_typed.specs.Tree.{ExprTree, IntOf, LocalOf, FieldOf, ElementOf, Bi
 use Rattle.ss_typed.specs.Types.{type_of}
 use Rattle.ss_expand_rules.specs.Program.{above_of, field_at, constructor_of, param_types_in, Constructor, number_of}
 use Rattle.ss_expand_rules.specs.Numbers.{number, plain}
-use Rattle.ss_expand_rules.specs.Calls.{has_call, is_this, place_of}
+use Rattle.ss_expand_rules.specs.Calls.{has_call}
+use Rattle.ss_typed.specs.Shapes.{is_this, place_of}
 use Rattle.ss_expand_rules.specs.Lifting.{Setting, Source, Pure, Created, CreatedArray, Called, put, Lifted, Valued, Listed, next, temporary_type, any_object, right_side, value, arguments_of}
 use Rattle.ss_expand_rules.specs.Code.{Coded, nothing, after, then_code, and_then}
 

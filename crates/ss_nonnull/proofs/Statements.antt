@@ -7,7 +7,8 @@ use Rattle.ss_typed.specs.declared.stmt.TypedStmt.{TypedStmt}
 use Rattle.ss_typed.specs.Tree.{ExprTree, SimpleTree, InitTree, StmtTree, IfOf, IfElseOf, WhileOf, ForOf, BlockOf, StmtTrees, NoMore, Before, stmt_trees}
 use Rattle.ss_typed.specs.View.{stmt_of}
 use Rattle.ss_paths.specs.Sets.{Set}
-use Rattle.ss_paths.specs.Paths.{is_true, met, test_of}
+use Rattle.ss_paths.specs.Paths.{met, test_of}
+use Rattle.ss_typed.specs.Shapes.{is_true}
 use Rattle.ss_nonnull_rules.specs.Facts.{says, assigns}
 use Rattle.ss_nonnull_rules.specs.NonNull.{Site, Known, known_flow}
 use Rattle.ss_nonnull_rules.specs.Faults.{inside}

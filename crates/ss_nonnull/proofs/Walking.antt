@@ -10,9 +10,9 @@ use Rattle.ss_typed.specs.View.{Behind, grouped, expr}
 use Rattle.ss_faults.specs.declared.Fault.{Fault}
 use Rattle.ss_nonnull_rules.specs.NonNull.{Site, Known}
 use Rattle.ss_nonnull_rules.specs.Faults.{inside}
-use Rattle.ss_nonnull_facts.specs.Views.{link_behind, step_behind}
+use Rattle.ss_typed.specs.Parts.{link_behind, step_behind}
 use Rattle.ss_nonnull_facts.proofs.Loops.{take_item, take_whole, map_append}
-use Rattle.ss_nonnull_facts.proofs.Grouping.{chain_is, path_is}
+use Rattle.ss_typed.proofs.Grouping.{chain_is, path_is}
 use Rattle.ss_nonnull.specs.Seen.{Seen, seen, IsSeen, Leads}
 
 pub chain_walked : (s : Site) (k : Option Known) (f0 f1 f2 : List Fault) (v0 v1 : Seen) (p : Place) (first : Box TypedExpr Global) (links : Vec TypedLink Global) (e f : TypedExpr) (ls : List TypedLink)

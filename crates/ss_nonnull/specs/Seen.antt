@@ -10,11 +10,10 @@ use Rattle.ss_typed.specs.Tree.{ExprTree}
 use Rattle.ss_typed.specs.Types.{type_of, class_type, element_of}
 use Rattle.ss_paths.specs.Sets.{Set, none, only, either}
 use Rattle.ss_paths.specs.Fields.{is_non_null}
-use Rattle.ss_paths.specs.Paths.{is_true}
-use Rattle.ss_paths.specs.Assigned.{is_this}
+use Rattle.ss_typed.specs.Shapes.{is_this, is_true, place_of}
 use Rattle.ss_nonnull_rules.specs.Facts.{is_null, says}
 use Rattle.ss_nonnull_rules.specs.NonNull.{Site, Known, knows, has_its_field, is_never_null, is_non_null_type}
-use Rattle.ss_nonnull_rules.specs.Faults.{place_of, null_fault, inside}
+use Rattle.ss_nonnull_rules.specs.Faults.{null_fault, inside}
 use Rattle.ss_nonnull_facts.specs.Locals.{local_of}
 
 pub record Seen : Type 0 where

@@ -5,7 +5,7 @@ ghost use Rattle.ss_typed.specs.Tree.{ExprTree, BinaryOf, ElementOf, CallOf, arg
 ghost use Rattle.ss_typed.specs.View.{expr, grouped};
 ghost use Rattle.ss_nonnull_rules.specs.NonNull.{is_set_result, known_right};
 ghost use Rattle.ss_nonnull_rules.specs.Faults.{inside, handed, wanted_if};
-ghost use Rattle.ss_nonnull_facts.specs.Views.{link_behind, step_behind};
+ghost use Rattle.ss_typed.specs.Parts.{link_behind, step_behind};
 ghost use Rattle.ss_nonnull_facts.specs.Called.{called_types};
 ghost use Rattle.ss_nonnull.specs.Codes.{path_of, site_of, seen_of};
 ghost use Rattle.ss_nonnull.specs.Seen.{Leads, seen, plain};

@@ -1,3 +1,2 @@
 pub mod Locals
-pub mod Views
 pub mod Called

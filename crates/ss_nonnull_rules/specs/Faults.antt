@@ -7,39 +7,11 @@ use Rattle.ss_core.specs.declared.names.Ty.TheVariants as ty
 use Rattle.ss_core.specs.Tree as core
 use Rattle.ss_core.specs.Chain.{above, declared}
 use Rattle.ss_typed.specs.Tree.{ExprTree, IntOf, BoolOf, NullOf, ThisOf, LocalOf, ResultOf, BoundOf, FieldOf, ElementOf, LengthOf, NegateOf, NotOf, BinaryOf, ImpliesOf, IffOf, IsOf, AsOf, CastOf, OldOf, QuantifiedOf, StateOf, OwnersOf, NewOf, NewArrayOf, CallOf, StaticOf, BaseOf, Arguments, NoMore, Argument, DeclaratorTree, SimpleTree, AssignOf, StepOf, AloneOf, BaseCallOf, PrintOf, PrintTextOf, BodyTree, ParamTree, MembersTree, TypedTree}
+use Rattle.ss_typed.specs.Shapes.{place_of}
 use Rattle.ss_typed.specs.Types.{type_of}
 use Rattle.ss_paths.specs.Fields.{is_non_null, class_place}
 use Rattle.ss_paths.specs.Paths.{Check}
 use Rattle.ss_nonnull_rules.specs.NonNull.{Site, Known, is_never_null, known_right}
-
-abbrev pub place_of : ExprTree → Place
-place_of (IntOf p n) = p
-place_of (BoolOf p b) = p
-place_of (NullOf p) = p
-place_of (ThisOf p t) = p
-place_of (LocalOf p x t) = p
-place_of (ResultOf p t) = p
-place_of (BoundOf p n) = p
-place_of (IffOf p a b) = p
-place_of (ImpliesOf p a b) = p
-place_of (BinaryOf p o a b) = p
-place_of (IsOf p e t) = p
-place_of (AsOf p e t) = p
-place_of (NegateOf p e) = p
-place_of (NotOf p e) = p
-place_of (CastOf p t non_null e) = p
-place_of (FieldOf p e f t) = p
-place_of (ElementOf p a i) = p
-place_of (LengthOf p e) = p
-place_of (OldOf p e) = p
-place_of (QuantifiedOf p q name low high e) = p
-place_of (StateOf p w e) = p
-place_of (OwnersOf p w a b) = p
-place_of (NewOf p t es) = p
-place_of (NewArrayOf p t e) = p
-place_of (CallOf p e m t es) = p
-place_of (StaticOf p n t es) = p
-place_of (BaseOf p m t es) = p
 
 -- the number of the rule
 abbrev pub may_be_null : ℕ

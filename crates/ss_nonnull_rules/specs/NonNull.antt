@@ -9,7 +9,8 @@ use Rattle.ss_typed.specs.Tree.{ExprTree, ThisOf, LocalOf, ResultOf, FieldOf, Ca
 use Rattle.ss_paths.specs.Sets.{Set, either, both, put}
 use Rattle.ss_paths.specs.Fields.{Numbers, is_non_null}
 use Rattle.ss_paths.specs.Paths.{Flow}
-use Rattle.ss_paths.specs.Assigned.{Assigned, has_field, is_this, assigned_by, both_assigned}
+use Rattle.ss_paths.specs.Assigned.{Assigned, has_field, assigned_by, both_assigned}
+use Rattle.ss_typed.specs.Shapes.{is_this}
 use Rattle.ss_nonnull_rules.specs.Facts.{says, forgotten}
 
 -- Where an expression stands.

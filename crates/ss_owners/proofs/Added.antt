@@ -12,8 +12,8 @@ use Rattle.ss_typed.specs.declared.expr.TypedExpr.TheOpen as shape
 use Rattle.ss_typed.specs.declared.expr.TypedExpr.TheOpen.{TypedLink-F, TypedStep-F}
 use Rattle.ss_typed.specs.Tree.{ExprTree, QuantifiedOf}
 use Rattle.ss_typed.specs.View.{Behind, grouped, expr_step, link_step, step_step, expr}
-use Rattle.ss_paths_assigned.specs.Views.{link_behind, step_behind}
-use Rattle.ss_paths_assigned.proofs.Grouping.{link_shape, step_shape, chain_is, path_is}
+use Rattle.ss_typed.specs.Parts.{link_behind, step_behind}
+use Rattle.ss_typed.proofs.Grouping.{chain_is, link_shape, path_is, step_shape}
 use Rattle.ss_owners_rules.specs.Words.{Allowed, misplaced}
 use Rattle.ss_owners.specs.Parts.{nowhere, nothing, link_words, links_words, step_words, steps_words}
 

@@ -12,8 +12,8 @@ use Rattle.ss_typed.specs.declared.expr.TypedExpr.TheOpen as shape
 use Rattle.ss_typed.specs.declared.expr.TypedExpr.TheOpen.{TypedLink-F}
 use Rattle.ss_typed.specs.Tree.{ExprTree}
 use Rattle.ss_typed.specs.View.{Behind, grouped, link_step, expr}
-use Rattle.ss_paths_assigned.specs.Views.{link_behind, step_behind}
-use Rattle.ss_paths_assigned.proofs.Grouping.{link_shape, chain_is, chain_some, grouped_more}
+use Rattle.ss_typed.specs.Parts.{link_behind, step_behind}
+use Rattle.ss_typed.proofs.Grouping.{chain_is, chain_some, grouped_more, link_shape}
 use Rattle.ss_paths_assigned.proofs.Loops.{take_whole}
 use Rattle.ss_owners_rules.specs.Admissible.{inadmissible}
 use Rattle.ss_owners.specs.declared.reads.Reached.{Reached}
@@ -47,7 +47,7 @@ link_nothing ms (shape.As c) p t = refl
 
 -- with links
 pub some_links : (ms : List Mark) (p : Place) (t : ExprTree) (ls : List TypedLink) (n : ℕ) (r : Reached) → n ≡ length ls → false ≡ (n == 0) → r ≡ nothing_reached → r ≡ reached ms (grouped p t (map link_behind ls))
-some_links ms p t ls n r counted some is = is ∙ sym (chain_some (reached ms) nothing_reached (link_nothing ms) p t ls n counted some)
+some_links ms p t ls n r counted some is = is ∙ sym (chain_some (reached ms) (λ q. nothing_reached) (link_nothing ms) p t ls n counted some)
 
 pub chain_reached : (ms : List Mark) (p : Place) (first : Box TypedExpr Global) (links : Vec TypedLink Global) (e : TypedExpr) (l : List TypedLink) (x : TypedExpr) (head r : Reached)
     → e ≡ view.Chain p first links → x ≡ first.value → l ≡ links.items → head ≡ reached ms (expr x)

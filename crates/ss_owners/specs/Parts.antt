@@ -4,7 +4,7 @@ use Rattle.ss_core.specs.declared.names.Place.{Place}
 use Rattle.ss_typed.specs.declared.expr.TypedLink.{TypedLink}
 use Rattle.ss_typed.specs.declared.expr.TypedStep.{TypedStep}
 use Rattle.ss_typed.specs.Tree.{ExprTree, NullOf}
-use Rattle.ss_paths_assigned.specs.Views.{link_behind, step_behind}
+use Rattle.ss_typed.specs.Parts.{link_behind, step_behind}
 use Rattle.ss_owners_rules.specs.Words as words
 use Rattle.ss_owners_rules.specs.Words.{misplaced}
 use Rattle.ss_owners.specs.declared.words.Allowed.{Allowed}

@@ -5,7 +5,7 @@ ghost use Rattle.ss_core.specs.declared.names.Place.{Place as PlaceValue};
 ghost use Rattle.ss_core.specs.declared.names.Mark.{Mark as MarkValue};
 ghost use Rattle.ss_typed.specs.Tree.{ExprTree, arguments};
 ghost use Rattle.ss_typed.specs.View.{expr, grouped};
-ghost use Rattle.ss_paths_assigned.specs.Views.{link_behind, step_behind};
+ghost use Rattle.ss_typed.specs.Parts.{link_behind, step_behind};
 ghost use Rattle.ss_owners_rules.specs.Admissible.{smallest, inadmissible, inadmissible_each};
 ghost use Rattle.ss_owners.specs.Reads.{reached, other_reached, nothing_reached, this_reached, behind_field, links_reads, link_reads, Leads};
 

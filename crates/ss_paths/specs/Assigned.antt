@@ -2,6 +2,7 @@
 use Rattle.std.specs.Prelude.{ℕ, ◌==◌, ◌+◌, ◌-◌, Bool, true, false, not, ◌&&◌, ◌||◌, if◌then◌else◌, Option, Some, None, is_some, slice_get, nat_le}
 use Rattle.ss_ast.specs.declared.stmt.AssignOperator.TheVariants as assign
 use Rattle.ss_typed.specs.Tree.{ExprTree, ThisOf, FieldOf, SimpleTree, AssignOf, BaseCallOf, BlockTree, BlockOf, StmtTree, SimpleOf, StmtTrees, NoMore, Before, BodyTree, FieldTree, TypedTree}
+use Rattle.ss_typed.specs.Shapes.{is_this}
 use Rattle.ss_paths.specs.Sets.{Set, put, both}
 use Rattle.ss_paths.specs.Fields.{Numbers, is_among, written_fields}
 use Rattle.ss_paths.specs.Paths.{Flow}
@@ -15,10 +16,6 @@ pub record Assigned : Type 0 where
 -- the field of the `this` of a constructor has its value, where its class declares the fields of these numbers
 abbrev pub has_field : Numbers → Assigned → ℕ → Bool
 has_field n a f = if is_among n f then a.own (f - n.first) else a.above
-
-abbrev pub is_this : ExprTree → Bool
-is_this (ThisOf p t) = true
-is_this e = false
 
 -- the field of `this` on the left is assigned
 abbrev pub own_assigned : Numbers → ExprTree → Set → Set

@@ -4,6 +4,7 @@ use Rattle.std.specs.Prelude.{List, [], ◌∷◌, ◌++◌, Bool, true, false, 
 use Rattle.ss_core.specs.declared.names.Place.{Place}
 use Rattle.ss_faults.specs.declared.Fault.{Fault}
 use Rattle.ss_typed.specs.Tree.{ExprTree, BoolOf, DeclaratorTree, SimpleTree, InitTree, DeclareFirst, SimpleFirst, BlockTree, BlockOf, StmtTree, InBlock, DeclareOf, SimpleOf, IfOf, IfElseOf, WhileOf, ForOf, ReturnOf, AssertOf, AssumeOf, ExposeOf, EmptyOf, StmtTrees, NoMore, Before}
+use Rattle.ss_typed.specs.Shapes.{is_true}
 
 -- How a kind of knowledge goes along paths.
 pub record Flow (S : Type 0) : Type 0 where
@@ -40,10 +41,6 @@ begun f (Some (SimpleFirst s)) k = f.done s k
 abbrev pub test_of : Place → Option ExprTree → ExprTree
 test_of p None = BoolOf p true
 test_of p (Some e) = e
-
-abbrev pub is_true : ExprTree → Bool
-is_true (BoolOf p b) = b
-is_true e = false
 
 -- behind a loop with this test, at whose head this is known: one on the literal `true` is left by a return alone
 abbrev pub left : {S : Type 0} → Flow S → ExprTree → S → Option S

@@ -6,33 +6,16 @@ use Rattle.ss_typed.specs.declared.expr.TypedExpr.TheOpen as shape
 use Rattle.ss_typed.specs.declared.expr.TypedExpr.TheOpen.{TypedLink-F, TypedStep-F}
 use Rattle.ss_typed.specs.Tree.{ExprTree}
 use Rattle.ss_typed.specs.View.{Behind, grouped, link_step, step_step}
-use Rattle.ss_paths.specs.Assigned.{is_this}
-use Rattle.ss_paths.specs.Paths.{is_true}
+use Rattle.ss_typed.specs.Shapes.{is_this}
 use Rattle.ss_paths_assigned.specs.Shapes.{own_field}
-use Rattle.ss_paths_assigned.specs.Views.{step_behind}
-use Rattle.ss_paths_assigned.proofs.Grouping.{step_shape}
+use Rattle.ss_typed.specs.Parts.{step_behind}
+use Rattle.ss_typed.proofs.Grouping.{step_shape}
 
-pub link_not_this : (s : TypedLink-F ExprTree Behind Behind) (at : Place) (t : ExprTree) → is_this (link_step s at t) ≡ false
-link_not_this (shape.Operation op e) at t = refl
-link_not_this (shape.Is u) at t = refl
-link_not_this (shape.As u) at t = refl
-
-pub step_not_this : (s : TypedStep-F ExprTree Behind Behind) (at : Place) (t : ExprTree) → is_this (step_step s at t) ≡ false
+step_not_this : (s : TypedStep-F ExprTree Behind Behind) (at : Place) (t : ExprTree) → is_this (step_step s at t) ≡ false
 step_not_this (shape.Field f ty) at t = refl
 step_not_this (shape.Element e) at t = refl
 step_not_this shape.Length at t = refl
 step_not_this (shape.Call m ty es) at t = refl
-
-pub link_not_true : (s : TypedLink-F ExprTree Behind Behind) (at : Place) (t : ExprTree) → is_true (link_step s at t) ≡ false
-link_not_true (shape.Operation op e) at t = refl
-link_not_true (shape.Is u) at t = refl
-link_not_true (shape.As u) at t = refl
-
-pub step_not_true : (s : TypedStep-F ExprTree Behind Behind) (at : Place) (t : ExprTree) → is_true (step_step s at t) ≡ false
-step_not_true (shape.Field f ty) at t = refl
-step_not_true (shape.Element e) at t = refl
-step_not_true shape.Length at t = refl
-step_not_true (shape.Call m ty es) at t = refl
 
 pub link_no_field : (s : TypedLink-F ExprTree Behind Behind) (at : Place) (t : ExprTree) → own_field (link_step s at t) ≡ None
 link_no_field (shape.Operation op e) at t = refl

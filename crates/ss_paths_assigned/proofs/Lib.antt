@@ -1,4 +1,3 @@
 pub mod Loops
-pub mod Grouping
 pub mod Forms
 pub mod Places

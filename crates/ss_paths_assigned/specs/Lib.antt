@@ -1,4 +1,3 @@
-pub mod Views
 pub mod Shapes
 pub mod Numbered
 pub mod Codes

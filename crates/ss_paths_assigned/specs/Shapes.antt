@@ -1,7 +1,7 @@
 -- Fields of `this`.
 use Rattle.std.specs.Prelude.{ℕ, if◌then◌else◌, Option, Some, None}
 use Rattle.ss_typed.specs.Tree.{ExprTree, FieldOf}
-use Rattle.ss_paths.specs.Assigned.{is_this}
+use Rattle.ss_typed.specs.Shapes.{is_this}
 
 -- the field of `this` that the expression is, where it is one
 abbrev pub own_field : ExprTree → Option ℕ

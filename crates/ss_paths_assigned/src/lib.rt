@@ -9,4 +9,4 @@ mod shapes;
 pub use assigned::Assigned;
 pub use beginning::{assigned_by_initializers, assigned_first, has_base, is_base, started_in};
 pub use fields::{Fields, Numbers, class_at, is_non_null, members_at};
-pub use shapes::{is_this, is_true, own_field};
+pub use shapes::own_field;

@@ -3,97 +3,11 @@
 ghost use Rattle.std.specs.Prelude.{◌≡◌, ◌<◌, length, map, option_map};
 ghost use Rattle.ss_core.specs.declared.names.Place.{Place as PlaceValue};
 ghost use Rattle.ss_typed.specs.View.{expr, grouped};
-ghost use Rattle.ss_paths.specs.Assigned.{is_this};
-ghost use Rattle.ss_paths.specs.Paths.{is_true};
 ghost use Rattle.ss_paths_assigned.specs.Shapes.{own_field};
-ghost use Rattle.ss_paths_assigned.specs.Views.{step_behind};
+ghost use Rattle.ss_typed.specs.Parts.{step_behind};
 
 use ss_core::FieldId;
-use ss_typed::{TypedExpr, TypedStep};
-
-/// Whether the expression is `this`.
-pub fn is_this(e: &TypedExpr) -> bool
-    ensures { result ≡ is_this (expr e.now) }
-{
-    match e {
-        TypedExpr::This(..) => true,
-        TypedExpr::Chain(_, first, links) => {
-            if links.is_empty() {
-                is_this(first)
-            } else {
-                false
-            }
-        }
-        TypedExpr::Path(_, first, steps) => {
-            if steps.is_empty() {
-                is_this(first)
-            } else {
-                false
-            }
-        }
-        TypedExpr::Int(..)
-        | TypedExpr::Bool(..)
-        | TypedExpr::Null(..)
-        | TypedExpr::Local(..)
-        | TypedExpr::Result(..)
-        | TypedExpr::Bound(..)
-        | TypedExpr::Iff(..)
-        | TypedExpr::Implies(..)
-        | TypedExpr::Negate(..)
-        | TypedExpr::Not(..)
-        | TypedExpr::Cast(..)
-        | TypedExpr::Old(..)
-        | TypedExpr::Quantified(..)
-        | TypedExpr::State(..)
-        | TypedExpr::Owners(..)
-        | TypedExpr::New(..)
-        | TypedExpr::NewArray(..)
-        | TypedExpr::Static(..)
-        | TypedExpr::Base(..) => false,
-    }
-}
-
-/// Whether the expression is the literal `true`.
-pub fn is_true(e: &TypedExpr) -> bool
-    ensures { result ≡ is_true (expr e.now) }
-{
-    match e {
-        TypedExpr::Bool(_, value) => *value,
-        TypedExpr::Chain(_, first, links) => {
-            if links.is_empty() {
-                is_true(first)
-            } else {
-                false
-            }
-        }
-        TypedExpr::Path(_, first, steps) => {
-            if steps.is_empty() {
-                is_true(first)
-            } else {
-                false
-            }
-        }
-        TypedExpr::Int(..)
-        | TypedExpr::Null(..)
-        | TypedExpr::This(..)
-        | TypedExpr::Local(..)
-        | TypedExpr::Result(..)
-        | TypedExpr::Bound(..)
-        | TypedExpr::Iff(..)
-        | TypedExpr::Implies(..)
-        | TypedExpr::Negate(..)
-        | TypedExpr::Not(..)
-        | TypedExpr::Cast(..)
-        | TypedExpr::Old(..)
-        | TypedExpr::Quantified(..)
-        | TypedExpr::State(..)
-        | TypedExpr::Owners(..)
-        | TypedExpr::New(..)
-        | TypedExpr::NewArray(..)
-        | TypedExpr::Static(..)
-        | TypedExpr::Base(..) => false,
-    }
-}
+use ss_typed::{TypedExpr, TypedStep, is_this};
 
 /// The field of `this` that the expression is, where it is one.
 pub fn own_field(e: &TypedExpr) -> Option<FieldId>

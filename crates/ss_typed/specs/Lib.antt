@@ -1,3 +1,5 @@
 pub mod Tree
 pub mod View
 pub mod Types
+pub mod Parts
+pub mod Shapes

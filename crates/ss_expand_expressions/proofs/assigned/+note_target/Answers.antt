@@ -11,7 +11,7 @@ use Rattle.ss_bit_set.specs.Marked.{marked}
 use Rattle.ss_expand_rules.specs.Bodies.{is_local}
 use Rattle.ss_expand_expressions.proofs.Forms.{local_is}
 use Rattle.ss_expand_expressions.proofs.Noting.{noted_none, noted_one}
-use Rattle.ss_expand_expressions.proofs.Shapes.{chain_is, path_is, chain_some, chain_alone, path_some, path_alone}
+use Rattle.ss_typed.proofs.Grouping.{chain_alone, chain_is, chain_some, path_alone, path_is, path_some}
 use Rattle.ss_expand_expressions.proofs.assigned.+note_target.Goals as goal
 
 link_never : (x : ℕ) (s : TypedLink-F ExprTree Behind Behind) (p : Place) (e : ExprTree) → is_local x (link_step s p e) ≡ false

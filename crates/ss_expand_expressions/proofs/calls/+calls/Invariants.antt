@@ -2,7 +2,7 @@ use Rattle.std.proofs.Common.{◌≡◌, drop}
 use Rattle.ss_core.specs.declared.names.Place.{Place}
 use Rattle.ss_typed.specs.Tree.{ExprTree}
 use Rattle.ss_expand_rules.specs.Calls.{has_call}
-use Rattle.ss_expand_expressions.specs.Views.{linked, stepped}
+use Rattle.ss_typed.specs.Parts.{linked, stepped}
 use Rattle.ss_expand_expressions.proofs.calls.+calls.Given as goal
 
 abbrev pub invariant-links_have_call-loop-link : goal.invariant-links_have_call-loop-link

@@ -2,7 +2,8 @@ use Rattle.std.proofs.Common.{◌≡◌, ◌++◌, ◌∷◌, [], take, map, sym
 use Rattle.ss_typed.specs.View.{expr}
 use Rattle.ss_core.specs.View as core
 use Rattle.ss_expand_rules.specs.Numbers.{plain}
-use Rattle.ss_expand_expressions.specs.Views.{numbers_of, linked, stepped, core_linked, path_of, core_link_behind, plain_step_behind}
+use Rattle.ss_expand_expressions.specs.Views.{numbers_of, core_linked, path_of, core_link_behind, plain_step_behind}
+use Rattle.ss_typed.specs.Parts.{linked, stepped}
 use Rattle.ss_expand_expressions.proofs.Shapes.{linked_next, stepped_next, core_linked_push}
 use Rattle.ss_expand_expressions.proofs.expressions.+plain.Goals as goal
 

@@ -2,7 +2,8 @@ use Rattle.std.proofs.Common.{◌≡◌, take}
 use Rattle.ss_core.specs.declared.names.Place.{Place}
 use Rattle.ss_typed.specs.Tree.{ExprTree}
 use Rattle.ss_expand_rules.specs.Numbers.{plain}
-use Rattle.ss_expand_expressions.specs.Views.{numbers_of, linked, stepped, core_linked, path_of}
+use Rattle.ss_expand_expressions.specs.Views.{numbers_of, core_linked, path_of}
+use Rattle.ss_typed.specs.Parts.{linked, stepped}
 use Rattle.ss_expand_expressions.proofs.expressions.+plain.Given as goal
 
 abbrev pub invariant-plain_links-loop-link : goal.invariant-plain_links-loop-link

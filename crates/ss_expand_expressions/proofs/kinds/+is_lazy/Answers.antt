@@ -6,7 +6,7 @@ use Rattle.ss_typed.specs.declared.expr.TypedExpr.TheOpen.{TypedStep-F}
 use Rattle.ss_typed.specs.Tree.{ExprTree}
 use Rattle.ss_typed.specs.View.{Behind, expr, step_step}
 use Rattle.ss_expand_rules.specs.Calls.{is_lazy}
-use Rattle.ss_expand_expressions.proofs.Shapes.{chain_is, path_is, chain_last_some, chain_last_none, path_some, path_alone}
+use Rattle.ss_typed.proofs.Grouping.{chain_is, chain_last_none, chain_last_some, path_alone, path_is, path_some}
 use Rattle.ss_expand_expressions.proofs.kinds.+is_lazy.Goals as goal
 
 step_never : (s : TypedStep-F ExprTree Behind Behind) (p : Place) (e : ExprTree) → is_lazy (step_step s p e) ≡ false

@@ -1,6 +1,6 @@
 use Rattle.std.proofs.Common.{◌≡◌, ap, ◌∙◌, take, add-one}
-use Rattle.ss_expand_rules.specs.Calls.{mentions_this}
-use Rattle.ss_expand_expressions.specs.Views.{linked, stepped}
+use Rattle.ss_typed.specs.Shapes.{mentions_this}
+use Rattle.ss_typed.specs.Parts.{linked, stepped}
 use Rattle.ss_expand_expressions.proofs.Shapes.{linked_next, stepped_next}
 use Rattle.ss_expand_expressions.proofs.mentions.+mentions.Goals as goal
 

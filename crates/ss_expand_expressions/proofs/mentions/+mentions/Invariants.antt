@@ -2,8 +2,8 @@ use Rattle.std.proofs.Common.{◌≡◌, drop, take, map}
 use Rattle.ss_core.specs.declared.names.Place.{Place}
 use Rattle.ss_typed.specs.Tree.{ExprTree, arguments}
 use Rattle.ss_typed.specs.View.{expr}
-use Rattle.ss_expand_rules.specs.Calls.{mentions_this, mention_this}
-use Rattle.ss_expand_expressions.specs.Views.{linked, stepped}
+use Rattle.ss_typed.specs.Shapes.{mention_this, mentions_this}
+use Rattle.ss_typed.specs.Parts.{linked, stepped}
 use Rattle.ss_expand_expressions.proofs.mentions.+mentions.Given as goal
 
 abbrev pub invariant-mention_this-loop-e : goal.invariant-mention_this-loop-e

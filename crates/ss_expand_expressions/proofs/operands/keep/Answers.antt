@@ -1,7 +1,8 @@
 use Rattle.std.proofs.Common.{◌≡◌, Bool, true, false, refl, sym, subst, ap, ◌∙◌, IfOk}
 use Rattle.std.specs.Prelude.{◌&&◌}
 use Rattle.ss_typed.specs.Types.{type_of}
-use Rattle.ss_expand_rules.specs.Calls.{has_call, is_lazy, place_of}
+use Rattle.ss_expand_rules.specs.Calls.{has_call, is_lazy}
+use Rattle.ss_typed.specs.Shapes.{place_of}
 use Rattle.ss_expand_rules.specs.Lifting.{Lifted, lifted, right_side, operand, in_temporary, temporary_type}
 use Rattle.ss_expand_expressions.specs.Views.{numbers_of}
 use Rattle.ss_expand_expressions.specs.Sources.{lifted_by, valued_by, valued_behind}

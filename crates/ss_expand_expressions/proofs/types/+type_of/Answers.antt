@@ -2,7 +2,7 @@ use Rattle.std.proofs.Common.{◌≡◌, ◌-◌, length, Some, None, sym, ap, �
 use Rattle.std.specs.Prelude.{slice_get}
 use Rattle.ss_typed.specs.View.{expr}
 use Rattle.ss_typed.specs.Types.{type_of}
-use Rattle.ss_expand_expressions.proofs.Shapes.{chain_is, chain_last_some, chain_last_none}
+use Rattle.ss_typed.proofs.Grouping.{chain_is, chain_last_none, chain_last_some}
 use Rattle.ss_expand_expressions.proofs.types.+type_of.Goals as goal
 
 pub returns-in-Some : goal.returns-in-Some

@@ -1,6 +1,6 @@
 use Rattle.std.proofs.Common.{◌≡◌, false, take, drop, sym, ap, ◌∙◌}
 use Rattle.ss_expand_rules.specs.Calls.{has_call}
-use Rattle.ss_expand_expressions.specs.Views.{stepped}
+use Rattle.ss_typed.specs.Parts.{stepped}
 use Rattle.ss_expand_lifting.proofs.Links.{steps_after_call, steps_go_on, operand_along}
 use Rattle.ss_expand_lifting.proofs.fronts.front_of_path.Goals as goal
 

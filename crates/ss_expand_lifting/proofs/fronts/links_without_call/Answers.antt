@@ -1,5 +1,5 @@
 use Rattle.std.proofs.Common.{take}
-use Rattle.ss_expand_expressions.specs.Views.{linked}
+use Rattle.ss_typed.specs.Parts.{linked}
 use Rattle.ss_expand_lifting.proofs.Links.{link_adds_none, link_starts}
 use Rattle.ss_expand_lifting.proofs.fronts.links_without_call.Goals as goal
 

@@ -1,6 +1,6 @@
 use Rattle.std.proofs.Common.{ap, ◌∙◌, take, add-one}
 use Rattle.ss_typed.specs.Types.{type_of}
-use Rattle.ss_expand_expressions.specs.Views.{stepped}
+use Rattle.ss_typed.specs.Parts.{stepped}
 use Rattle.ss_expand_expressions.proofs.Shapes.{stepped_next}
 use Rattle.ss_expand_lifting.proofs.fronts.path_type.Goals as goal
 

@@ -1,5 +1,5 @@
 use Rattle.std.proofs.Common.{take}
-use Rattle.ss_expand_expressions.specs.Views.{stepped}
+use Rattle.ss_typed.specs.Parts.{stepped}
 use Rattle.ss_expand_lifting.proofs.Links.{step_adds_none, step_starts}
 use Rattle.ss_expand_lifting.proofs.fronts.steps_without_call.Goals as goal
 

@@ -2,13 +2,14 @@ use Rattle.std.proofs.Common.{◌≡◌, ◌-◌, length, Some, sym, ap, subst, 
 use Rattle.std.specs.Prelude.{slice_get}
 use Rattle.ss_typed.specs.Tree.{ExprTree}
 use Rattle.ss_typed.specs.Types.{type_of}
-use Rattle.ss_expand_rules.specs.Calls.{place_of, is_lazy}
+use Rattle.ss_expand_rules.specs.Calls.{is_lazy}
+use Rattle.ss_typed.specs.Shapes.{place_of}
 use Rattle.ss_expand_rules.specs.Numbers.{plain}
 use Rattle.ss_expand_rules.specs.Lifting.{Pure}
-use Rattle.ss_expand_expressions.specs.Views.{linked}
+use Rattle.ss_typed.specs.Parts.{linked}
 use Rattle.ss_expand_expressions.specs.Sources.{stmts_of, source_of}
 use Rattle.ss_expand_expressions.specs.Operands.{IsOperand}
-use Rattle.ss_expand_expressions.proofs.Shapes.{chain_last_some, chain_last_none}
+use Rattle.ss_typed.proofs.Grouping.{chain_last_none, chain_last_some}
 use Rattle.ss_expand_lifting.proofs.Links.{plain_source, plain_lifted, link_place}
 use Rattle.ss_expand_lifting.proofs.fronts.with_links.Goals as goal
 

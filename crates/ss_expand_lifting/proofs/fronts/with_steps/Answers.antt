@@ -1,12 +1,13 @@
 use Rattle.std.proofs.Common.{◌≡◌, false, length, sym, ap, subst, ◌∙◌, refl}
 use Rattle.ss_typed.specs.Tree.{ExprTree}
-use Rattle.ss_expand_rules.specs.Calls.{place_of, is_lazy}
+use Rattle.ss_expand_rules.specs.Calls.{is_lazy}
+use Rattle.ss_typed.specs.Shapes.{place_of}
 use Rattle.ss_expand_rules.specs.Numbers.{plain}
 use Rattle.ss_expand_rules.specs.Lifting.{Pure}
-use Rattle.ss_expand_expressions.specs.Views.{stepped}
+use Rattle.ss_typed.specs.Parts.{stepped}
 use Rattle.ss_expand_expressions.specs.Sources.{stmts_of, source_of}
 use Rattle.ss_expand_expressions.specs.Operands.{IsOperand}
-use Rattle.ss_expand_expressions.proofs.Shapes.{path_some, path_alone}
+use Rattle.ss_typed.proofs.Grouping.{path_alone, path_some}
 use Rattle.ss_expand_lifting.proofs.Links.{plain_source, plain_lifted, step_form_place, step_form_lazy}
 use Rattle.ss_expand_lifting.proofs.fronts.with_steps.Goals as goal
 

@@ -5,8 +5,8 @@ use Rattle.ss_typed.specs.declared.expr.TypedExpr.TheOpen as shape
 use Rattle.ss_typed.specs.declared.expr.TypedExpr.TheOpen.{TypedLink-F}
 use Rattle.ss_typed.specs.Tree.{ExprTree}
 use Rattle.ss_typed.specs.View.{Behind, expr, link_step}
-use Rattle.ss_expand_expressions.specs.Views.{step_behind, stepped}
-use Rattle.ss_expand_expressions.proofs.Shapes.{chain_is, path_is, chain_some, chain_alone, path_alone, stepped_push}
+use Rattle.ss_typed.specs.Parts.{step_behind, stepped}
+use Rattle.ss_typed.proofs.Grouping.{chain_alone, chain_is, chain_some, path_alone, path_is, stepped_push}
 use Rattle.ss_expand_lifting.specs.declared.lefts.Left.{Left}
 use Rattle.ss_expand_lifting.specs.Lefts.{IsLeft, may_be_left}
 use Rattle.ss_expand_lifting.proofs.lefts.+left_of.Goals as goal

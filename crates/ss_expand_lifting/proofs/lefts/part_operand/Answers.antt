@@ -1,6 +1,6 @@
 use Rattle.std.proofs.Common.{◌≡◌, take, refl, ap, ◌∙◌}
 use Rattle.ss_typed.specs.View.{expr}
-use Rattle.ss_expand_expressions.specs.Views.{stepped}
+use Rattle.ss_typed.specs.Parts.{stepped}
 use Rattle.ss_expand_expressions.specs.Sources.{stmts_of}
 use Rattle.ss_expand_lifting.specs.Settings.{setting_of}
 use Rattle.ss_expand_lifting.proofs.Links.{stepped_split, steps_go_along, operand_along}

@@ -3,7 +3,7 @@ use Rattle.ss_core.specs.View as core
 use Rattle.ss_typed.specs.View.{expr}
 use Rattle.ss_expand_rules.specs.Numbers.{plain}
 use Rattle.ss_expand_expressions.specs.Views.{numbers_of, path_of}
-use Rattle.ss_expand_expressions.proofs.Shapes.{path_alone}
+use Rattle.ss_typed.proofs.Grouping.{path_alone}
 use Rattle.ss_expand_lifting.proofs.lefts.plain_part.Goals as goal
 
 pub returns-then-is_empty : goal.returns-then-is_empty

@@ -7,7 +7,7 @@ use Rattle.ss_typed.specs.View as typed
 use Rattle.ss_expand_rules.specs.Lifting as elab
 use Rattle.ss_expand_rules.specs.Program as program
 use Rattle.ss_expand_expressions.specs.Parameters.{param_types}
-use Rattle.ss_expand_expressions.specs.Views.{linked, stepped, link_behind, step_behind}
+use Rattle.ss_typed.specs.Parts.{link_behind, linked, step_behind, stepped}
 use Rattle.ss_expand_expressions.specs.Sources.{stmts_of, source_of, lifted_behind, valued_behind, listed_behind}
 use Rattle.ss_expand_expressions.proofs.Shapes.{linked_next, stepped_next}
 use Rattle.ss_expand_lifting.specs.Settings.{setting_of}

@@ -6,7 +6,7 @@ use Rattle.ss_typed.specs.Tree.{ExprTree, arguments}
 use Rattle.ss_typed.specs.View as typed
 use Rattle.ss_expand_rules.specs.Lifting.{in_temporaries}
 use Rattle.ss_expand_expressions.specs.Parameters.{param_types}
-use Rattle.ss_expand_expressions.specs.Views.{linked, stepped}
+use Rattle.ss_typed.specs.Parts.{linked, stepped}
 use Rattle.ss_expand_expressions.specs.Sources.{stmts_of}
 use Rattle.ss_expand_expressions.specs.Operands.{IsOperand}
 use Rattle.ss_expand_lifting.specs.Settings.{setting_of}

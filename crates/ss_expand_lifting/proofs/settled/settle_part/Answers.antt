@@ -1,9 +1,9 @@
 use Rattle.std.proofs.Common.{◌≡◌, false, length, refl, sym, ap, ◌∙◌}
 use Rattle.ss_typed.specs.View.{expr}
-use Rattle.ss_expand_rules.specs.Calls.{is_this}
+use Rattle.ss_typed.specs.Shapes.{is_this}
 use Rattle.ss_expand_rules.specs.Simple as simple
 use Rattle.ss_expand_expressions.specs.Sources.{stmts_of}
-use Rattle.ss_expand_expressions.proofs.Shapes.{path_alone, path_some}
+use Rattle.ss_typed.proofs.Grouping.{path_alone, path_some}
 use Rattle.ss_expand_lifting.specs.Settings.{setting_of}
 use Rattle.ss_expand_lifting.specs.Lefts.{part_tree}
 use Rattle.ss_expand_lifting.specs.Made.{settled_behind}

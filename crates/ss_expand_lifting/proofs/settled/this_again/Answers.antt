@@ -2,7 +2,7 @@ use Rattle.std.proofs.Common.{◌≡◌, ap, ◌∙◌}
 use Rattle.ss_typed.specs.Tree.{ThisOf}
 use Rattle.ss_typed.specs.View.{expr}
 use Rattle.ss_typed.specs.Types.{type_of}
-use Rattle.ss_expand_rules.specs.Calls.{place_of}
+use Rattle.ss_typed.specs.Shapes.{place_of}
 use Rattle.ss_expand_rules.specs.Lifting.{class_of_type}
 use Rattle.ss_expand_lifting.proofs.Codes.{this_again_is}
 use Rattle.ss_expand_lifting.proofs.settled.this_again.Goals as goal

@@ -4,7 +4,7 @@ use Rattle.ss_core.specs.View as core
 use Rattle.ss_core.specs.declared.names.Ty.{Ty}
 use Rattle.ss_typed.specs.View.{expr}
 use Rattle.ss_typed.specs.Types.{type_of}
-use Rattle.ss_expand_rules.specs.Calls.{place_of}
+use Rattle.ss_typed.specs.Shapes.{place_of}
 use Rattle.ss_expand_rules.specs.Lifting.{Lifted, Valued, right_side, in_local, next, temporary_type, any_object}
 use Rattle.ss_expand_expressions.specs.Operands.{valued_as}
 use Rattle.ss_expand_expressions.specs.Sources.{stmts_of, lifted_by, valued_by, valued_behind}

@@ -1,7 +1,7 @@
 use Rattle.std.proofs.Common.{◌≡◌, List, ap, ◌∙◌}
 use Rattle.ss_core.specs.declared.names.Ty.{Ty}
 use Rattle.ss_typed.specs.View.{expr}
-use Rattle.ss_expand_rules.specs.Calls.{place_of}
+use Rattle.ss_typed.specs.Shapes.{place_of}
 use Rattle.ss_expand_rules.specs.Lifting.{Lifted, right_side, in_local, next}
 use Rattle.ss_expand_rules.specs.Statements.{result_type}
 use Rattle.ss_expand_expressions.specs.Sources.{stmts_of, lifted_by}

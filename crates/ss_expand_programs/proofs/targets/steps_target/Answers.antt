@@ -1,6 +1,6 @@
 use Rattle.std.proofs.Common.{ap, ◌∙◌, take, add-one}
-use Rattle.ss_expand_rules.specs.Calls.{is_this}
-use Rattle.ss_expand_expressions.specs.Views.{stepped}
+use Rattle.ss_typed.specs.Shapes.{is_this}
+use Rattle.ss_typed.specs.Parts.{stepped}
 use Rattle.ss_expand_expressions.proofs.Shapes.{stepped_next}
 use Rattle.ss_expand_programs.specs.Constructing.{own_field}
 use Rattle.ss_expand_programs.proofs.targets.steps_target.Goals as goal

@@ -2,8 +2,8 @@ use Rattle.std.proofs.Common.{◌≡◌, take}
 use Rattle.std.specs.Prelude.{option_map}
 use Rattle.ss_core.specs.declared.names.Place.{Place}
 use Rattle.ss_typed.specs.Tree.{ExprTree}
-use Rattle.ss_expand_rules.specs.Calls.{is_this}
-use Rattle.ss_expand_expressions.specs.Views.{stepped}
+use Rattle.ss_typed.specs.Shapes.{is_this}
+use Rattle.ss_typed.specs.Parts.{stepped}
 use Rattle.ss_expand_programs.specs.Constructing.{own_field}
 use Rattle.ss_expand_programs.proofs.targets.steps_target.Given as goal
 

@@ -6,9 +6,9 @@ use Rattle.ss_typed.specs.declared.expr.TypedStep.{TypedStep}
 use Rattle.ss_typed.specs.Tree.{ExprTree, BinaryOf, IsOf, AsOf, FieldOf, ElementOf, LengthOf, CallOf, arguments}
 use Rattle.ss_typed.specs.View.{expr}
 use Rattle.ss_nonnull_rules.specs.Faults.{inside, wanted_if, handed}
-use Rattle.ss_nonnull_facts.specs.Views.{link_behind, step_behind}
+use Rattle.ss_typed.specs.Parts.{link_behind, step_behind}
 use Rattle.ss_nonnull_facts.specs.Called.{called_types}
-use Rattle.ss_nonnull_facts.proofs.Grouping.{operation_is, is_is, as_is, field_is, element_is, length_is, call_is}
+use Rattle.ss_typed.proofs.Grouping.{as_is, call_is, element_is, field_is, is_is, length_is, operation_is}
 use Rattle.ss_nonnull.specs.Codes.{path_of, site_of, seen_of}
 use Rattle.ss_nonnull.specs.Seen.{seen, plain}
 use Rattle.ss_nonnull_rules.specs.NonNull.{Known}

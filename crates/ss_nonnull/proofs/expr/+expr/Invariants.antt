@@ -2,7 +2,7 @@ use Rattle.std.proofs.Common.{◌≡◌, ◌++◌, map, take, drop}
 use Rattle.ss_typed.specs.Tree.{ExprTree, arguments}
 use Rattle.ss_typed.specs.View.{grouped, expr}
 use Rattle.ss_nonnull_rules.specs.Faults.{handed}
-use Rattle.ss_nonnull_facts.specs.Views.{link_behind, step_behind}
+use Rattle.ss_typed.specs.Parts.{link_behind, step_behind}
 use Rattle.ss_nonnull_facts.specs.Called.{called_types}
 use Rattle.ss_nonnull.specs.Codes.{path_of, site_of, seen_of}
 use Rattle.ss_nonnull.specs.Seen.{Leads}

@@ -5,7 +5,7 @@ use Rattle.ss_typed.specs.declared.expr.TypedExpr.TheOpen.{TypedLink-F, TypedSte
 use Rattle.ss_typed.specs.Tree.{ExprTree}
 use Rattle.ss_typed.specs.View.{Behind, expr, link_step, step_step}
 use Rattle.ss_nonnull_facts.specs.Locals.{local_of}
-use Rattle.ss_nonnull_facts.proofs.Grouping.{chain_is, path_is, chain_some, path_some, path_alone}
+use Rattle.ss_typed.proofs.Grouping.{chain_is, chain_some, path_alone, path_is, path_some}
 use Rattle.ss_nonnull_facts.proofs.assigns.+local_of.Goals as goal
 
 link_never : (s : TypedLink-F ExprTree Behind Behind) (at : Place) (t : ExprTree) → local_of (link_step s at t) ≡ None

@@ -1,7 +1,7 @@
 use Rattle.std.proofs.Common.{◌≡◌, ◌++◌, map, take, drop}
 use Rattle.ss_typed.specs.Tree.{ExprTree, arguments}
 use Rattle.ss_typed.specs.View.{expr, grouped}
-use Rattle.ss_paths_assigned.specs.Views.{step_behind}
+use Rattle.ss_typed.specs.Parts.{step_behind}
 use Rattle.ss_owners_rules.specs.Admissible.{inadmissible_each}
 use Rattle.ss_owners.specs.Reads.{links_reads, Leads}
 use Rattle.ss_owners.proofs.reads.+reads.Given as goal

@@ -4,9 +4,9 @@ use Rattle.ss_typed.specs.declared.expr.TypedExpr.TheOpen as shape
 use Rattle.ss_typed.specs.declared.expr.TypedExpr.TheOpen.{TypedLink-F, TypedStep-F}
 use Rattle.ss_typed.specs.Tree.{ExprTree}
 use Rattle.ss_typed.specs.View.{Behind, expr, link_step, step_step}
-use Rattle.ss_expand_rules.specs.Ends.{is_true}
-use Rattle.ss_expand_expressions.proofs.Shapes.{chain_is, path_is, chain_some, path_some, path_alone}
-use Rattle.ss_expand_expressions.proofs.kinds.+is_true.Goals as goal
+use Rattle.ss_typed.specs.Shapes.{is_true}
+use Rattle.ss_typed.proofs.Grouping.{chain_is, chain_some, path_alone, path_is, path_some}
+use Rattle.ss_typed.proofs.shapes.+is_true.Goals as goal
 
 link_never : (s : TypedLink-F ExprTree Behind Behind) (p : Place) (e : ExprTree) → is_true (link_step s p e) ≡ false
 link_never (shape.Operation op b) p e = refl

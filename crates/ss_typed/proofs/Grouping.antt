@@ -1,6 +1,8 @@
 -- Chains and paths by their parts.
-use Rattle.std.proofs.Common.{◌≡◌, ℕ, length, List, [], ◌∷◌, map, true, false, Vec, Box, Global, refl, sym, ap, ◌∙◌, arith, suc, true≢false, ⊎_elim}
-use Rattle.std.specs.Prelude.{◌==◌, Option}
+use Rattle.std.proofs.Common.{◌≡◌, ◌<◌, ◌+◌, ◌-◌, ◌++◌, ℕ, zero, suc, length, take, get_or, List, [], ◌∷◌, map, true, false, Some, None, Vec, Box, Global, refl, sym, ap, ◌∙◌, arith, true≢false, ⊎_elim}
+use Rattle.std.specs.Prelude.{◌==◌, Option, slice_get}
+use Rattle.std.proofs.lemmas.List.{map-append, take_more}
+use Rattle.std.proofs.lemmas.Option.{slice_get-get_or, get_or_from_slice_get}
 use Rattle.std.proofs.lemmas.Bool.Decides.{eqb_tells}
 use Rattle.ss_core.specs.declared.names.Place.{Place}
 use Rattle.ss_typed.specs.declared.expr.TypedExpr.{TypedExpr}
@@ -20,7 +22,7 @@ use Rattle.ss_core.specs.declared.names.ClassId.{ClassId}
 use Rattle.ss_core.specs.declared.names.FieldId.{FieldId}
 use Rattle.ss_core.specs.declared.names.Ty.{Ty}
 use Rattle.ss_core.specs.declared.expr.Operator.{Operator}
-use Rattle.ss_nonnull_facts.specs.Views.{link_behind, step_behind}
+use Rattle.ss_typed.specs.Parts.{link_behind, step_behind, linked, stepped}
 
 pub chain_is : (at : Place) (first : Box TypedExpr Global) (links : Vec TypedLink Global) → expr (view.Chain at first links) ≡ grouped at (expr first.value) (map link_behind links.items)
 chain_is at first links = ap expr (sym (rolls-Chain at first links)) ∙ fold-roll-TypedExpr ExprTree Behind Behind expr_step link_step step_step (shape.Chain at first links)
@@ -75,6 +77,54 @@ chain_alone at t (l ∷ ls) n e h = absurd (no_length n (length ls) e h)
 pub path_alone : (at : Place) (t : ExprTree) (ls : List TypedStep) (n : ℕ) → n ≡ length ls → true ≡ (n == 0) → grouped at t (map step_behind ls) ≡ t
 path_alone at t [] n e h = refl
 path_alone at t (l ∷ ls) n e h = absurd (no_length n (length ls) e h)
+
+-- ---- one part more
+
+pub grouped_push : (at : Place) (e : ExprTree) (bs : List Behind) (b : Behind) → grouped at e (bs ++ b ∷ []) ≡ b at (grouped at e bs)
+grouped_push at e [] b = refl
+grouped_push at e (x ∷ bs) b = grouped_push at (x at e) bs b
+
+-- one more part behind those that a loop has gone over
+pub grouped_more : {X : Type 0} (behind : X → Behind) (at : Place) (e : ExprTree) (xs : List X) (i : ℕ) (x : X) → i < length xs → x ≡ get_or xs i x
+    → grouped at e (map behind (take (i + 1) xs)) ≡ behind x at (grouped at e (map behind (take i xs)))
+grouped_more behind at e xs i x l g =
+    ap (λ ys. grouped at e (map behind ys)) (take_more xs i x l)
+    ∙ ap (grouped at e) (map-append behind (take i xs) (get_or xs i x ∷ []))
+    ∙ grouped_push at e (map behind (take i xs)) (behind (get_or xs i x))
+    ∙ ap (λ y. behind y at (grouped at e (map behind (take i xs)))) (sym g)
+
+pub linked_push : (p : Place) (e : ExprTree) (ls : List TypedLink) (l : TypedLink) → linked p e (ls ++ l ∷ []) ≡ link_behind l p (linked p e ls)
+linked_push p e ls l = ap (λ bs. grouped p e bs) (map-append link_behind ls (l ∷ [])) ∙ grouped_push p e (map link_behind ls) (link_behind l)
+
+pub stepped_push : (p : Place) (e : ExprTree) (ls : List TypedStep) (l : TypedStep) → stepped p e (ls ++ l ∷ []) ≡ step_behind l p (stepped p e ls)
+stepped_push p e ls l = ap (λ bs. grouped p e bs) (map-append step_behind ls (l ∷ [])) ∙ grouped_push p e (map step_behind ls) (step_behind l)
+
+-- ---- the last part
+
+-- a chain is of the kind of its last link
+pub chain_last : {X : Type 0} (f : ExprTree → X) (x : X) (p : Place) (e : ExprTree) (ls : List TypedLink) (k : ℕ) (l d : TypedLink) → suc k ≡ length ls → get_or ls k d ≡ l → ((before : ExprTree) → f (link_behind l p before) ≡ x) → f (linked p e ls) ≡ x
+chain_last f x p e [] k l d n g h = absurd (omega arith)
+chain_last f x p e (m ∷ []) zero l d n g h = ap (λ (y : TypedLink). f (link_behind y p e)) g ∙ h e
+chain_last f x p e (m ∷ []) (suc k) l d n g h = absurd (omega arith)
+chain_last f x p e (m ∷ o ∷ ls) zero l d n g h = absurd (omega arith)
+chain_last f x p e (m ∷ o ∷ ls) (suc k) l d n g h = chain_last f x p (link_behind m p e) (o ∷ ls) k l d (omega arith) g h
+
+some_not_none : {X : Type 0} (x : X) → Some x ≡ None → ⊥
+some_not_none x h = cc
+
+pub chain_last_some : {X : Type 0} (f : ExprTree → X) (x : X) (p : Place) (e : ExprTree) (ls : List TypedLink) (l : TypedLink) → Some l ≡ slice_get ls (length ls - 1) → ((before : ExprTree) → f (link_behind l p before) ≡ x) → f (linked p e ls) ≡ x
+chain_last_some f x p e [] l g h = absurd (some_not_none l g)
+chain_last_some f x p e (m ∷ ms) l g h =
+    let at : length (m ∷ ms) - 1 ≡ length ms = omega arith in
+    let got : slice_get (m ∷ ms) (length ms) ≡ Some l = ap (λ k. slice_get (m ∷ ms) k) (sym at) ∙ sym g in
+    chain_last f x p e (m ∷ ms) (length ms) l m (omega arith) (get_or_from_slice_get (m ∷ ms) (length ms) l m got) h
+
+pub chain_last_none : (p : Place) (e : ExprTree) (ls : List TypedLink) → None ≡ slice_get ls (length ls - 1) → linked p e ls ≡ e
+chain_last_none p e [] g = refl
+chain_last_none p e (m ∷ ms) g =
+    let at : length (m ∷ ms) - 1 ≡ length ms = omega arith in
+    let got : slice_get (m ∷ ms) (length ms) ≡ Some (get_or (m ∷ ms) (length ms) m) = slice_get-get_or (m ∷ ms) (length ms) m (omega arith) in
+    absurd (some_not_none (get_or (m ∷ ms) (length ms) m) (sym got ∙ ap (λ k. slice_get (m ∷ ms) k) (sym at) ∙ sym g))
 
 -- ---- each part by its form
 
