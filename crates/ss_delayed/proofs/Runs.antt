@@ -4,7 +4,7 @@ use Rattle.std.specs.Prelude.{if◌then◌else◌, not}
 use Rattle.ss_typed.specs.declared.stmt.TypedStmt.{TypedStmt}
 use Rattle.ss_typed.specs.Tree.{StmtTree, StmtTrees, NoMore, Before, TypedTree, stmt_trees}
 use Rattle.ss_typed.specs.View.{stmt_of}
-use Rattle.ss_paths.specs.Assigned.{is_base, has_base}
+use Rattle.ss_typed.specs.Shapes.{has_base, is_base}
 use Rattle.ss_paths_assigned.proofs.Loops.{drop_next, drop_past, take_next, take_whole, map_append}
 use Rattle.ss_delayed_rules.specs.Opening.{first_run, before_base, opening_of}
 use Rattle.ss_delayed.specs.Openings.{run, is_no_base, ahead}

@@ -6,7 +6,8 @@ use Rattle.ss_core.specs.declared.names.Place.{Place}
 use Rattle.ss_faults.specs.declared.Fault.{Fault}
 use Rattle.ss_paths.specs.Fields.{field_numbers}
 use Rattle.ss_paths.specs.Paths.{at_end}
-use Rattle.ss_paths.specs.Assigned.{is_base, assigned_flow, assigned_by_initializers}
+use Rattle.ss_paths.specs.Assigned.{assigned_flow, assigned_by_initializers}
+use Rattle.ss_typed.specs.Shapes.{is_base}
 use Rattle.ss_delayed_rules.specs.Constructors.{unassigned_faults}
 use Rattle.ss_delayed.specs.declared.opening.BaseCall.{BaseCall}
 

@@ -10,8 +10,8 @@ ghost use Rattle.ss_delayed.specs.Openings.{run, is_no_base, base_at, base_of};
 use crate::escapes::{Use, find_uses};
 use ss_ast::AssignOperator;
 use ss_core::{ClassId, Place};
-use ss_paths_assigned::{Fields, has_base, is_base, own_field};
-use ss_typed::{TypedBody, TypedExpr, TypedSimple, TypedStmt};
+use ss_paths_assigned::{Fields, own_field};
+use ss_typed::{TypedBody, TypedExpr, TypedSimple, TypedStmt, has_base, is_base};
 use std::alloc::{AllocError, Global};
 
 /// `base(..)`: its place and its arguments.

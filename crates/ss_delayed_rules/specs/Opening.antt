@@ -5,8 +5,8 @@ use Rattle.ss_ast.specs.declared.stmt.AssignOperator.TheVariants as assign
 use Rattle.ss_typed.specs.Tree.{ExprTree, FieldOf, Arguments, SimpleTree, AssignOf, BaseCallOf, BlockTree, StmtTree, SimpleOf, StmtTrees, NoMore, Before, BaseTree, BodyTree, TypedTree}
 use Rattle.ss_typed.specs.Tree as tree
 use Rattle.ss_paths.specs.Fields.{is_among, field_numbers}
-use Rattle.ss_paths.specs.Assigned.{is_base, has_base, statements}
-use Rattle.ss_typed.specs.Shapes.{is_this}
+use Rattle.ss_paths.specs.Assigned.{statements}
+use Rattle.ss_typed.specs.Shapes.{has_base, is_base, is_this}
 use Rattle.ss_delayed_rules.specs.Escapes.{NotAtAll, uses}
 
 abbrev pub is_empty : List Place → Bool

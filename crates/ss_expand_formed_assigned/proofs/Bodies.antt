@@ -18,7 +18,8 @@ use Rattle.ss_expand_rules.specs.Program.{field_at, members_from, members_of, ab
 use Rattle.ss_expand_rules.specs.Numbers.{number}
 use Rattle.ss_expand_rules.specs.Contracts.{first_param}
 use Rattle.ss_expand_rules.specs.Lifting.{Pure, Called}
-use Rattle.ss_expand_rules.specs.Constructors.{before_all, in_block, closing_brace, initialize, initializers_from, initializers_in, has_base_call, is_initial, behind_initial, base_alone, with_base, constructor_stmts}
+use Rattle.ss_expand_rules.specs.Constructors.{before_all, in_block, closing_brace, initialize, initializers_from, initializers_in, is_initial, behind_initial, base_alone, with_base, constructor_stmts}
+use Rattle.ss_typed.specs.Shapes.{has_base}
 use Rattle.ss_expand_rules.specs.Bodies.{block_assigns, this_meant, meant_from, first_copy, meant, numbers, copying_from, copying, with_return, statements, setting, code_with, temporary_count, written_body, own_params, wrapper_result, returned, first_of_wrapper, wrapper_body, param_of}
 use Rattle.ss_store_rules.specs.Locals.{this_types, types_of, local_types, argument_count, is_argument}
 use Rattle.ss_store_rules.specs.Assigned.{reads_what_is_assigned}
@@ -67,7 +68,7 @@ module _ (own : ℕ → Bool) where
     with_base_read : (m : May) (b : BodyTree) (base : Option BaseTree) → base_read m base ≡ true → (ss : StmtTrees) → all_read own m ss ≡ true → all_read own m (with_base p b base ss) ≡ true
     with_base_read m b (Some base) g ss h = and_from _ _ g h
     with_base_read m b None g ss h =
-        on_either (λ (z : StmtTrees). all_read own m z ≡ true) (has_base_call ss) ss (if b.flags.delayed then Before (base_alone b) ss else behind_initial p b.class (base_alone b) ss) h
+        on_either (λ (z : StmtTrees). all_read own m z ≡ true) (has_base ss) ss (if b.flags.delayed then Before (base_alone b) ss else behind_initial p b.class (base_alone b) ss) h
         (on_either (λ (z : StmtTrees). all_read own m z ≡ true) b.flags.delayed (Before (base_alone b) ss) (behind_initial p b.class (base_alone b) ss) h (behind_read m b.class b ss h))
 
     module _ (m : May) (this : m.this ≡ true) (more : StmtTrees) (behind_them : all_read own m more ≡ true) where

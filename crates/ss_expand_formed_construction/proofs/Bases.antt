@@ -8,7 +8,7 @@ use Rattle.ss_ast.specs.Statements as written
 use Rattle.ss_tables.specs.Scopes.{Scope, enter, behind, behind_init}
 use Rattle.ss_tables.specs.Statics.{Receiver, TheConsole, TheOwner, TheBase, AClass, AValue, receiver, static, count}
 use Rattle.ss_typed.specs.Tree.{ExprTree, Arguments, SimpleTree, BaseCallOf, StmtTree, SimpleOf, StmtTrees, NoMore, Before}
-use Rattle.ss_paths.specs.Assigned.{is_base}
+use Rattle.ss_typed.specs.Shapes.{has_base, is_base}
 use Rattle.ss_delayed_rules.specs.Opening.{before_base, base_in}
 use Rattle.ss_resolver_rules.specs.Names.{Env}
 use Rattle.ss_resolver_rules.specs.Names as names
@@ -21,7 +21,7 @@ use Rattle.ss_resolver_types_expressions.specs.Wants.{place_of}
 use Rattle.ss_resolver_types_expressions.specs.Expressions.{AsValue, condition_faults, faults, faults_as, argument_faults}
 use Rattle.ss_resolver_types_expressions.specs.Statements.{Body, in_code, simple_faults, init_faults, test_faults, step_faults, conditions, test, exposed_want, stmt_faults, block_faults, stmts_faults}
 use Rattle.ss_resolver_types_expressions.specs.Members.{constructor_body, base_call, is_first_assignment, base_faults, outermost_faults, constructor_stmts}
-use Rattle.ss_expand_rules.specs.Constructors.{before_all, is_base_call, has_base_call}
+use Rattle.ss_expand_rules.specs.Constructors.{before_all}
 use Rattle.ss_expand_formed.proofs.Facts.{none_left}
 use Rattle.ss_expand_formed_construction.proofs.Statements.{AtFirst, AtStep, At, InAll, Along}
 use Rattle.ss_expand_formed_construction.proofs.Free.{Anything, is_free, any_printed, any_declared, any_all}
@@ -208,18 +208,14 @@ none_or_one k s e (written.Before x xs) h = further k s e x xs refl h (λ i. non
 
 -- ---- whether one is found
 
-pub at_no_base : (s : StmtTree) → At Free Anything s → is_base_call s ≡ false
+pub at_no_base : (s : StmtTree) → At Free Anything s → is_base s ≡ false
 at_no_base (SimpleOf (BaseCallOf p es)) h = absurd (false≢true h)
 at_no_base s h = refl
 
-pub none_found : (ss : StmtTrees) → Along Free Anything ss → has_base_call ss ≡ false
+pub none_found : (ss : StmtTrees) → Along Free Anything ss → has_base ss ≡ false
 none_found NoMore h = refl
 none_found (Before s ss) h = rw (at_no_base s h.0) (none_found ss h.1)
 
-pub one_found : (front : StmtTrees) (p : Place) (es : Arguments) (rest : StmtTrees) → has_base_call (before_all front (Before (SimpleOf (BaseCallOf p es)) rest)) ≡ true
+pub one_found : (front : StmtTrees) (p : Place) (es : Arguments) (rest : StmtTrees) → has_base (before_all front (Before (SimpleOf (BaseCallOf p es)) rest)) ≡ true
 one_found NoMore p es rest = refl
-one_found (Before s front) p es rest = or_right (is_base_call s) _ (one_found front p es rest)
-
-pub same_base : (s : StmtTree) → is_base s ≡ is_base_call s
-same_base (SimpleOf (BaseCallOf p es)) = refl
-same_base s = refl
+one_found (Before s front) p es rest = or_right (is_base s) _ (one_found front p es rest)

@@ -11,8 +11,8 @@ use Rattle.ss_paths.specs.Assigned.{statements}
 use Rattle.ss_delayed_rules.specs.Opening.{is_first, first_run, before_base, opening_of, opening, base_in, written_base}
 use Rattle.ss_delayed_rules.specs.Constructors.{arguments_of}
 use Rattle.ss_expand_rules.specs.Program.{field_at, members_of}
-use Rattle.ss_typed.specs.Shapes.{is_this, mentions_this}
-use Rattle.ss_expand_rules.specs.Constructors.{before_all, in_block, initialize, initializers_from, initializers_in, initializers, has_base_call, is_declared_in, is_initial, behind_initial, base_alone, with_base, constructor_stmts}
+use Rattle.ss_typed.specs.Shapes.{is_this, mentions_this, has_base}
+use Rattle.ss_expand_rules.specs.Constructors.{before_all, in_block, initialize, initializers_from, initializers_in, initializers, is_declared_in, is_initial, behind_initial, base_alone, with_base, constructor_stmts}
 use Rattle.ss_expand_formed_construction.proofs.Choices.{where_chosen}
 use Rattle.ss_expand_formed_construction.proofs.Statements.{Along}
 use Rattle.ss_expand_formed_construction.proofs.Free.{Anything}
@@ -106,7 +106,7 @@ not_in (Before (ExposeOf p e t x) ss) h = not_in ss h.1
 not_in (Before (EmptyOf p) ss) h = not_in ss h.1
 
 -- what is made of the block
-pub with_base_begins : (p : TypedTree) (b : BodyTree) → ((x : StmtTree) → is_initial p b.class x ≡ is_first p b.class x) → (base : Option BaseTree) (ss : StmtTrees) → (base ≡ None → Along Free Anything ss ⊎ Splits ss) → (base ≡ None → has_base_call ss ≡ true → OnlyOwn p b.class (before_base ss)) → ((o : BaseTree) → base ≡ Some o → Along Free Anything ss) →
+pub with_base_begins : (p : TypedTree) (b : BodyTree) → ((x : StmtTree) → is_initial p b.class x ≡ is_first p b.class x) → (base : Option BaseTree) (ss : StmtTrees) → (base ≡ None → Along Free Anything ss ⊎ Splits ss) → (base ≡ None → has_base ss ≡ true → OnlyOwn p b.class (before_base ss)) → ((o : BaseTree) → base ≡ Some o → Along Free Anything ss) →
     Begins p b (opening_of p b.class base ss) (arguments_of (base_or base ss)) NoMore ss (with_base p b base ss)
 with_base_begins p b same (Some base) ss split owns whole = record { front = NoMore; place = base.place; given = base.arguments; rest = ss; is = refl; simple = tt; free = whole base refl; own = tt; as_early = λ d. refl; as_given = refl; as_late = λ d. (NoMore, refl, inl (refl, refl)) }
 with_base_begins p b same None ss split owns whole =
@@ -119,7 +119,7 @@ with_base_begins p b same None ss split owns whole =
     let none = none_found ss free in
     rw (none, not_in ss free) chosen)
     (λ r.
-    let found : has_base_call ss ≡ true = ap has_base_call r.is ∙ one_found r.front r.place r.given r.rest in
+    let found : has_base ss ≡ true = ap has_base r.is ∙ one_found r.front r.place r.given r.rest in
     let whole_of : Begins p b (before_base ss) r.given NoMore ss ss =
     record { front = r.front; place = r.place; given = r.given; rest = r.rest; is = r.is; simple = r.simple; free = r.free; own = subst (OnlyOwn p b.class) r.before (owns refl found); as_early = λ d. sym r.before; as_given = refl; as_late = λ d. (r.front, refl, inr r.is) } in
     rw (found, r.base) whole_of)

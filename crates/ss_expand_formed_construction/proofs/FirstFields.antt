@@ -30,9 +30,9 @@ use Rattle.ss_resolver_types_expressions.specs.Statements.{in_code, is_target, t
 use Rattle.ss_resolver_types_expressions.specs.Wants.{AnInt, wrong}
 use Rattle.ss_resolver_types_expressions.specs.Members.{constructor_body, base_call, is_this, has_field, is_own_field, is_first_assignment, outermost_faults, constructor_stmts}
 use Rattle.ss_typed.specs.Shapes as shapes
-use Rattle.ss_expand_rules.specs.Constructors.{is_base_call, has_base_call}
+use Rattle.ss_typed.specs.Shapes.{has_base, is_base}
 use Rattle.ss_expand_formed.proofs.Facts.{none_left, not_false, or_false}
-use Rattle.ss_expand_formed_construction.proofs.Bases.{no_more_first, stmt_free, at_no_base, none_found, same_base}
+use Rattle.ss_expand_formed_construction.proofs.Bases.{no_more_first, stmt_free, at_no_base, none_found}
 use Rattle.ss_expand_formed_construction.proofs.OwnFields.{own_target, is_own, OnlyOwn, read_own, params_agree, none_known}
 
 own_place : (k : ℕ) → declared_place (class_number k) ≡ Some k
@@ -105,26 +105,26 @@ module _ (p : ProgramTree) (k : ℕ) (c : ClassTree) (at : slice_get p.classes k
   first_owns (written.AloneOf x) none h = absurd (false≢true h)
 
   -- where one `base(..)` stands in the block
-  simple_own : (x : written.SimpleTree) (xs : written.StmtTrees) → base_call (written.SimpleOf x) ≡ None → constructor_stmts k s true (written.Before (written.SimpleOf x) xs) ≡ [] → has_base_call (stmts e (written.Before (written.SimpleOf x) xs)) ≡ true →
-      (constructor_stmts k s true xs ≡ [] → has_base_call (stmts e xs) ≡ true → OnlyOwn (resolved p) (4 + 2 * k) (before_base (stmts e xs))) → OnlyOwn (resolved p) (4 + 2 * k) (before_base (stmts e (written.Before (written.SimpleOf x) xs)))
+  simple_own : (x : written.SimpleTree) (xs : written.StmtTrees) → base_call (written.SimpleOf x) ≡ None → constructor_stmts k s true (written.Before (written.SimpleOf x) xs) ≡ [] → has_base (stmts e (written.Before (written.SimpleOf x) xs)) ≡ true →
+      (constructor_stmts k s true xs ≡ [] → has_base (stmts e xs) ≡ true → OnlyOwn (resolved p) (4 + 2 * k) (before_base (stmts e xs))) → OnlyOwn (resolved p) (4 + 2 * k) (before_base (stmts e (written.Before (written.SimpleOf x) xs)))
   simple_own x xs none h found go_on =
       let z = written.SimpleOf x in
       let both = none_left (outermost_faults k s z true (base_call z)) (constructor_stmts k s (is_first_assignment k s z) xs) h in
       let faultless : simple_faults (in_code constructor_body s) x ≡ [] = rw none at both.0 in
       let here = stmt_free constructor_body s e z faultless in
-      let other : is_base_call (SimpleOf (simple e x)) ≡ false = at_no_base (SimpleOf (simple e x)) here in
+      let other : is_base (SimpleOf (simple e x)) ≡ false = at_no_base (SimpleOf (simple e x)) here in
       ⊎_elim
       (λ yes.
       let rest : constructor_stmts k s true xs ≡ [] = rw yes at both.1 in
-      let there : has_base_call (stmts e xs) ≡ true = rw other at found in
-      rw (same_base (SimpleOf (simple e x)), other) (first_owns x faultless yes, go_on rest there))
+      let there : has_base (stmts e xs) ≡ true = rw other at found in
+      rw other (first_owns x faultless yes, go_on rest there))
       (λ no.
       let rest : constructor_stmts k s false xs ≡ [] = rw no at both.1 in
       let nothing = none_found (stmts e xs) (no_more_first k s e xs rest) in
       absurd (false≢true (sym (rw (other, nothing) refl) ∙ found)))
       (cases_Bool (is_first_assignment k s z))
 
-  other_own : (x : written.StmtTree) (xs : written.StmtTrees) → base_call x ≡ None → is_first_assignment k s x ≡ false → constructor_stmts k s true (written.Before x xs) ≡ [] → has_base_call (stmts e (written.Before x xs)) ≡ true → ⊥
+  other_own : (x : written.StmtTree) (xs : written.StmtTrees) → base_call x ≡ None → is_first_assignment k s x ≡ false → constructor_stmts k s true (written.Before x xs) ≡ [] → has_base (stmts e (written.Before x xs)) ≡ true → ⊥
   other_own x xs none unlike h found =
       let both = none_left (outermost_faults k s x true (base_call x)) (constructor_stmts k (behind s x) (true && is_first_assignment k s x) xs) h in
       let faultless : stmt_faults constructor_body s x ≡ [] = rw none at both.0 in
@@ -133,7 +133,7 @@ module _ (p : ProgramTree) (k : ℕ) (c : ClassTree) (at : slice_get p.classes k
       let nothing = none_found (stmts (rules.behind e x) xs) (no_more_first k (behind s x) (rules.behind e x) xs rest) in
       false≢true (sym (rw (here, nothing) refl) ∙ found)
 
-  pub before_own : (xs : written.StmtTrees) → constructor_stmts k s true xs ≡ [] → has_base_call (stmts e xs) ≡ true → OnlyOwn (resolved p) (4 + 2 * k) (before_base (stmts e xs))
+  pub before_own : (xs : written.StmtTrees) → constructor_stmts k s true xs ≡ [] → has_base (stmts e xs) ≡ true → OnlyOwn (resolved p) (4 + 2 * k) (before_base (stmts e xs))
   before_own written.NoMore h found = tt
   before_own (written.Before (written.SimpleOf (written.AloneOf (text.CallOf q (text.BaseOf r) es))) xs) h found = tt
   before_own (written.Before (written.SimpleOf x) xs) h found = simple_own x xs refl h found (λ i f. before_own xs i f)

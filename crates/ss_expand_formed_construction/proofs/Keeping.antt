@@ -22,7 +22,8 @@ use Rattle.ss_resolver_rules.specs.Programs.{base_of, param_env, constructor_bod
 use Rattle.ss_expand_rules.specs.Program.{field_at, above_of, body_at, table, Origin}
 use Rattle.ss_expand_rules.specs.Statements.{stmts}
 use Rattle.ss_expand_rules.specs.Contracts.{first_param, declarations}
-use Rattle.ss_expand_rules.specs.Constructors.{before_all, in_block, closing_brace, initialize, initializers_from, fields_before, initializers_in, initializers, has_base_call, is_initial, behind_initial, base_alone, with_base, implicit_constructor}
+use Rattle.ss_expand_rules.specs.Constructors.{before_all, in_block, closing_brace, initialize, initializers_from, fields_before, initializers_in, initializers, is_initial, behind_initial, base_alone, with_base, implicit_constructor}
+use Rattle.ss_typed.specs.Shapes.{has_base}
 use Rattle.ss_expand_rules.specs.Bodies.{first_copy, copying_from, copying, statements, setting, temporary_count, code, written_body}
 use Rattle.ss_store_rules.specs.Locals.{each}
 use Rattle.ss_store_rules.specs.Construction.{if_delayed, keeps_this_in}
@@ -60,7 +61,7 @@ module _ (G : typed.SimpleTree → Type 0) (F : ExprTree → Type 0) where
   pub along_base : (p : TypedTree) (b : BodyTree) (base : Option BaseTree) (ss : StmtTrees) → ((q : Place) → G (BaseCallOf q (delayed.arguments_of base))) → ((q : Place) → G (BaseCallOf q typed.Arguments.NoMore)) → Along G F ss → Along G F (with_base p b base ss)
   along_base p b (Some base) ss given none h = (given base.place, h)
   along_base p b None ss given none h =
-      where_chosen (Along G F) (has_base_call ss) ss (if b.flags.delayed then Before (base_alone b) ss else behind_initial p b.class (base_alone b) ss) (λ yes. h)
+      where_chosen (Along G F) (has_base ss) ss (if b.flags.delayed then Before (base_alone b) ss else behind_initial p b.class (base_alone b) ss) (λ yes. h)
       (λ no. where_chosen (Along G F) b.flags.delayed (Before (base_alone b) ss) (behind_initial p b.class (base_alone b) ss) (λ late. (none b.place, h)) (λ early. along_run p b.class (base_alone b) ss (none b.place) h))
 
 pub no_escapes : (ps : List Place) → escapes ps ≡ [] → ps ≡ []

@@ -10,7 +10,8 @@ use Rattle.ss_ast.specs.Programs.{ClassTree, ProgramTree}
 use Rattle.ss_ast.specs.declared.stmt.AssignOperator.TheVariants as operator
 use Rattle.ss_tables.specs.Members.{ConstructorTree}
 use Rattle.ss_typed.specs.Tree.{ExprTree, ThisOf, FieldOf, SimpleTree, AssignOf, StepOf, BaseCallOf, BlockTree, BlockOf, InBlock, DeclareOf, SimpleOf, IfOf, IfElseOf, WhileOf, ForOf, ReturnOf, AssertOf, AssumeOf, ExposeOf, EmptyOf, StmtTrees, NoMore, Before, BaseTree, BodyTree, TypedTree}
-use Rattle.ss_paths.specs.Assigned.{is_base, has_base, statements, assigned_by_initializers, assigned_flow}
+use Rattle.ss_paths.specs.Assigned.{statements, assigned_by_initializers, assigned_flow}
+use Rattle.ss_typed.specs.Shapes.{has_base, is_base}
 use Rattle.ss_paths.specs.Fields.{field_numbers}
 use Rattle.ss_paths.specs.Paths.{at_end}
 use Rattle.ss_delayed_rules.specs.Escapes.{NotAtAll, uses_each, uses_in_all, uses_along}

@@ -41,7 +41,8 @@ use Rattle.ss_resolver_rules.specs.Expressions.{expr, args}
 use Rattle.ss_resolver_rules.specs.Statements.{Declared, declared_in_block, block, local}
 use Rattle.ss_resolver_rules.specs.Programs.{param, param_env, method_env, locals, base_of, method_body, constructor_body, written_constructor, resolved}
 use Rattle.ss_expand_rules.specs.Program.{body_at, above_of, constructor_in, constructor_of, param_types_in}
-use Rattle.ss_expand_rules.specs.Constructors.{in_block, has_base_call, implicit_constructor}
+use Rattle.ss_expand_rules.specs.Constructors.{in_block, implicit_constructor}
+use Rattle.ss_typed.specs.Shapes.{has_base}
 use Rattle.ss_expand_rules.specs.Contracts.{first_param}
 use Rattle.ss_expand_rules.specs.Bodies.{statements}
 use Rattle.ss_expand_formed.specs.Laws.{core_of}
@@ -282,7 +283,7 @@ module _ (p : ProgramTree) (faultless : program_faults p ≡ []) (typed_well : t
         let given = base_given p faultless x known true (first b) k refl a here es (all_named (named_at p x false a) q.arguments names) (no_fault _ _ ts.0) ts.1 worded in
         subst (λ (z : BaseTree). Given z.arguments) (same_Some _ _ e) (subst Given tree given)
 
-    implied_given : (base : Option BaseCallTree) → typing.implied_base p.classes k (is_some base || typing.block_calls_base d.body) d.name.place ≡ [] → option_map (base_of (param_env p.classes k false d.params)) base ≡ None → has_base_call (in_block b.block) ≡ false → Given typed.Arguments.NoMore
+    implied_given : (base : Option BaseCallTree) → typing.implied_base p.classes k (is_some base || typing.block_calls_base d.body) d.name.place ≡ [] → option_map (base_of (param_env p.classes k false d.params)) base ≡ None → has_base (in_block b.block) ≡ false → Given typed.Arguments.NoMore
     implied_given (Some q) types e none = absurd (let z : ⊥ = cc in z)
     implied_given None types e none =
         let takes = implied k (typing.block_calls_base d.body) d.name.place (block_calls_none (param_env p.classes k false d.params) d.body none) types in

@@ -19,7 +19,8 @@ use Rattle.ss_resolver_types_expressions.specs.Members.{constructor_body, base_c
 use Rattle.ss_resolver_rules.specs.Names.{Env}
 use Rattle.ss_resolver_rules.specs.Statements.{declared_in_block, declared_in, declared_in_all, behind, block, stmt, stmts}
 use Rattle.ss_resolver_rules.specs.Programs.{resolved}
-use Rattle.ss_expand_rules.specs.Constructors.{in_block, is_base_call, has_base_call}
+use Rattle.ss_expand_rules.specs.Constructors.{in_block}
+use Rattle.ss_typed.specs.Shapes.{has_base, is_base}
 use Rattle.ss_expand_formed.specs.Laws.{core_of}
 use Rattle.ss_expand_formed.proofs.Facts.{none_left, or_false}
 use Rattle.ss_expand_formed_expressions.proofs.Fit.{Context}
@@ -32,17 +33,17 @@ use Rattle.ss_expand_formed_fits.proofs.Statements.{Returns, behind_stands, stmt
 
 -- ---- whether a block has one
 
-base_resolved : (e : Env) (y : written.StmtTree) → is_base_call (stmt e y) ≡ false → is_some (base_call y) ≡ false
+base_resolved : (e : Env) (y : written.StmtTree) → is_base (stmt e y) ≡ false → is_some (base_call y) ≡ false
 base_resolved e (written.SimpleOf (written.AloneOf (text.CallOf q (text.BaseOf r) es))) h = absurd (true≢false h)
 base_resolved e y h = refl
 
-pub none_called : (e : Env) (ys : written.StmtTrees) → has_base_call (stmts e ys) ≡ false → calls_base ys ≡ false
+pub none_called : (e : Env) (ys : written.StmtTrees) → has_base (stmts e ys) ≡ false → calls_base ys ≡ false
 none_called e written.NoMore h = refl
 none_called e (written.Before y ys) h =
-    let both = or_false (is_base_call (stmt e y)) (has_base_call (stmts (behind e y) ys)) h in
+    let both = or_false (is_base (stmt e y)) (has_base (stmts (behind e y) ys)) h in
     rw (base_resolved e y both.0) (none_called (behind e y) ys both.1)
 
-pub block_calls_none : (e : Env) (b : written.BlockTree) → has_base_call (in_block (block e b)) ≡ false → block_calls_base b ≡ false
+pub block_calls_none : (e : Env) (b : written.BlockTree) → has_base (in_block (block e b)) ≡ false → block_calls_base b ≡ false
 block_calls_none e (written.BlockOf q ys r) h = none_called _ ys h
 
 -- ---- the block

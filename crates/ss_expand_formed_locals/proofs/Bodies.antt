@@ -22,7 +22,8 @@ use Rattle.ss_resolver_rules.specs.Programs.{param, param_env, method_env, metho
 use Rattle.ss_expand_rules.specs.Program.{field_at, members_of, table, Origin, above_of, number_in_table}
 use Rattle.ss_expand_rules.specs.Numbers.{number}
 use Rattle.ss_expand_rules.specs.Contracts.{first_param, declarations}
-use Rattle.ss_expand_rules.specs.Constructors.{before_all, in_block, closing_brace, initialize, initializers_from, initializers_in, initializers, has_base_call, is_initial, behind_initial, base_alone, with_base, constructor_stmts, implicit_constructor}
+use Rattle.ss_expand_rules.specs.Constructors.{before_all, in_block, closing_brace, initialize, initializers_from, initializers_in, initializers, is_initial, behind_initial, base_alone, with_base, constructor_stmts, implicit_constructor}
+use Rattle.ss_typed.specs.Shapes.{has_base}
 use Rattle.ss_expand_rules.specs.Bodies.{is_local, simple_assigns, begin_assigns, step_assigns, assigns, block_assigns, any_assigns, assigned_from, assigned_params, meant_from, first_copy, meant, results, numbers, copies, temporaries_from, copying_from, with_return, statements, setting, code_with, temporary_types, temporary_count, code, written_body, own_params, wrapper_types, wrapper_result, returned, wrapper_code, first_of_wrapper, wrapper_body, param_of, copy_of}
 use Rattle.ss_store_rules.specs.Locals.{targets_only, this_types, argument_types, types_of, local_types, argument_count, result_number}
 use Rattle.ss_store_rules.specs.Typed.{body_at}
@@ -205,7 +206,7 @@ module _ (f g : ℕ → Bool) (p : TypedTree) where
   with_base_passes : (b : BodyTree) (base : Option BaseTree) (ss : StmtTrees) → all_pass f g ss ≡ true → all_pass f g (with_base p b base ss) ≡ true
   with_base_passes b (Some base) ss h = h
   with_base_passes b None ss h =
-      on_either (λ (z : StmtTrees). all_pass f g z ≡ true) (has_base_call ss) ss (if b.flags.delayed then Before (base_alone b) ss else behind_initial p b.class (base_alone b) ss) h
+      on_either (λ (z : StmtTrees). all_pass f g z ≡ true) (has_base ss) ss (if b.flags.delayed then Before (base_alone b) ss else behind_initial p b.class (base_alone b) ss) h
       (on_either (λ (z : StmtTrees). all_pass f g z ≡ true) b.flags.delayed (Before (base_alone b) ss) (behind_initial p b.class (base_alone b) ss) h (behind_initial_passes b.class (base_alone b) ss refl h))
 
   with_return_passes : (b : BodyTree) (r : Option Ty) (ss : StmtTrees) → all_pass f g ss ≡ true → all_pass f g (with_return b r ss) ≡ true

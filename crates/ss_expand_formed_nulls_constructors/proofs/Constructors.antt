@@ -10,7 +10,8 @@ use Rattle.ss_typed.specs.Tree.{Arguments, BaseCallOf, StmtTree, SimpleOf, Retur
 use Rattle.ss_typed.specs.Tree as typed
 use Rattle.ss_paths.specs.Sets.{none}
 use Rattle.ss_paths.specs.Fields.{is_among, field_numbers, own_fields}
-use Rattle.ss_paths.specs.Assigned.{Assigned, has_field, has_base, statements, assigned_by_initializers, assigned_first}
+use Rattle.ss_paths.specs.Assigned.{Assigned, has_field, statements, assigned_by_initializers, assigned_first}
+use Rattle.ss_typed.specs.Shapes.{has_base}
 use Rattle.ss_paths.specs.Paths as phase
 use Rattle.ss_nonnull_rules.specs.NonNull as source
 use Rattle.ss_nonnull_rules.specs.Faults as faults
@@ -23,7 +24,7 @@ use Rattle.ss_delayed_rules.specs.Constructors.{arguments_of}
 use Rattle.ss_resolver_rules.specs.Programs.{members, resolved}
 use Rattle.ss_expand_rules.specs.Simple.{has_delayed_constructor}
 use Rattle.ss_expand_rules.specs.Contracts.{first_param}
-use Rattle.ss_expand_rules.specs.Constructors.{before_all, in_block, closing_brace, initializers, has_base_call, is_initial, behind_initial, base_alone, with_base}
+use Rattle.ss_expand_rules.specs.Constructors.{before_all, in_block, closing_brace, initializers, is_initial, behind_initial, base_alone, with_base}
 use Rattle.ss_expand_rules.specs.Bodies as bodies
 use Rattle.ss_expand_rules.specs.Bodies.{temporary_count, written_body}
 use Rattle.ss_store_rules.specs.NonNull.{known_at_entry, keeps_nulls_out}
@@ -42,7 +43,7 @@ use Rattle.ss_expand_formed_nulls_constructors.proofs.BehindBase.{behind_base}
 use Rattle.ss_expand_formed_nulls_constructors.proofs.Refit.{refit_base}
 use Rattle.ss_expand_formed_nulls_constructors.proofs.Initial.{OnlyInitial, initial_simple, initial_fit}
 use Rattle.ss_expand_formed_nulls_constructors.proofs.Initializers.{own_less, behind_initializers}
-use Rattle.ss_expand_formed_nulls_constructors.proofs.Splits.{same_statements, same_found, split_at_base, split_at_run}
+use Rattle.ss_expand_formed_nulls_constructors.proofs.Splits.{same_statements, split_at_base, split_at_run}
 
 -- its statements: the beginnings of fields, `base(..)` and the block, and a return
 pub parts_of : (q : TypedTree) (b : BodyTree) → b.flags.ctor ≡ true → b.result ≡ None → bodies.statements q b ≡ before_all (initializers q b.class) (before_all (with_base q b b.base (in_block b.block)) (Before (ReturnOf (closing_brace b.block) None) NoMore))
@@ -140,7 +141,7 @@ module _ (c : core.CoreTree) (p : ProgramTree) (k : ℕ) (tree : ClassTree) (b :
         ⊎_elim
         (λ yes.
         let is_block : with_base q b None ss ≡ ss = ap (λ (w : Bool). if w then ss else if b.flags.delayed then Before (base_alone b) ss else behind_initial q b.class (base_alone b) ss) yes in
-        let found : has_base (statements b.block) ≡ true = ap has_base (same_statements b.block) ∙ same_found ss ∙ yes in
+        let found : has_base (statements b.block) ≡ true = ap has_base (same_statements b.block) ∙ yes in
         let less : Less v first initialized = record { facts = λ x i. i; fields = λ f o h. own_less v.site.numbers f first.fields initialized.fields (λ i own. own) (λ above. absurd (false≢true (sym (ap not found) ∙ above))) h } in
         let mine = subst (λ xs. all_fitting v (before_all xs last) ≡ true) is_block g in
         subst (λ xs. HoldFrom v initialized (before_all xs last)) (sym is_block) (from_less v first initialized (before_all ss last) less (all_hold v (agree fields false builds) builds first (before_all ss last) mine block_pure)))
@@ -149,7 +150,7 @@ module _ (c : core.CoreTree) (p : ProgramTree) (k : ℕ) (tree : ClassTree) (b :
         ap (λ (w : Bool). if w then ss else if b.flags.delayed then Before (base_alone b) ss else behind_initial q b.class (base_alone b) ss) no ∙ ap (λ (w : Bool). if w then Before (base_alone b) ss else behind_initial q b.class (base_alone b) ss) late in
         let mine = subst (λ xs. all_fitting v (before_all xs last) ≡ true) is_called g in
         subst (λ xs. HoldFrom v initialized (before_all xs last)) (sym is_called) (late_called b.place typed.Arguments.NoMore refl mine))
-        (cases_Bool (has_base_call ss))
+        (cases_Bool (has_base ss))
 
     pub late_keeps : keeps_nulls_out c (written_body q b bs) ≡ true
     late_keeps =
@@ -243,7 +244,7 @@ module _ (c : core.CoreTree) (p : ProgramTree) (k : ℕ) (tree : ClassTree) (b :
         ⊎_elim
         (λ yes.
         let is_block : with_base q b None ss ≡ ss = ap (λ (w : Bool). if w then ss else if b.flags.delayed then Before (base_alone b) ss else behind_initial q b.class (base_alone b) ss) yes in
-        let found : has_base ss ≡ true = same_found ss ∙ yes in
+        let found : has_base ss ≡ true = yes in
         let front : OnlyInitial own (before_base ss) = subst (λ (w : Bool). OnlyInitial own (if w then before_base ss else first_run q b.class ss)) found only in
         subst (λ xs. HoldFrom before initialized (before_all xs last)) (sym is_block) (in_block_called found front fine (subst (λ xs. all_fitting behind (before_all xs last) ≡ true) is_block g)))
         (λ no.
@@ -251,7 +252,7 @@ module _ (c : core.CoreTree) (p : ProgramTree) (k : ℕ) (tree : ClassTree) (b :
         ap (λ (w : Bool). if w then ss else if b.flags.delayed then Before (base_alone b) ss else behind_initial q b.class (base_alone b) ss) no ∙ ap (λ (w : Bool). if w then Before (base_alone b) ss else behind_initial q b.class (base_alone b) ss) early in
         let front : OnlyInitial own (first_run q b.class ss) = subst (λ (w : Bool). OnlyInitial own (if w then before_base ss else first_run q b.class ss)) (same_found ss ∙ no) only in
         subst (λ xs. HoldFrom before initialized (before_all xs last)) (sym is_run) (implied_called front (subst (λ xs. all_fitting behind (before_all xs last) ≡ true) is_run g)))
-        (cases_Bool (has_base_call ss))
+        (cases_Bool (has_base ss))
 
     pub early_keeps : all_fitting behind (bodies.statements q b) ≡ true → OnlyInitial own (initializers q b.class) → OnlyInitial own (opening q b) → AreFine NotAtAll (arguments_of (written_base b)) → keeps_nulls_out c (written_body q b bs) ≡ true
     early_keeps fit begin only fine =

@@ -14,7 +14,8 @@ use Rattle.ss_delayed_rules.specs.Constructors.{escapes, end_faults, base_faults
 use Rattle.ss_delayed_rules.specs.Program.{classes_faults, body_faults}
 use Rattle.ss_resolver_rules.specs.Programs.{param_env, resolved}
 use Rattle.ss_expand_rules.specs.Program.{body_at, field_at}
-use Rattle.ss_expand_rules.specs.Constructors.{before_all, in_block, closing_brace, initializers, has_base_call, is_declared_in, is_initial, behind_initial, base_alone, with_base}
+use Rattle.ss_expand_rules.specs.Constructors.{before_all, in_block, closing_brace, initializers, is_declared_in, is_initial, behind_initial, base_alone, with_base}
+use Rattle.ss_typed.specs.Shapes.{has_base}
 use Rattle.ss_expand_formed.proofs.Facts.{none_left}
 use Rattle.ss_expand_formed_construction.proofs.Choices.{where_chosen}
 use Rattle.ss_expand_formed_construction.proofs.Statements.{InAll, Along}
@@ -107,7 +108,7 @@ module _ (q : TypedTree) (b : BodyTree) where
   based : b.flags.delayed ≡ true → (base : Option BaseTree) (ss : StmtTrees) → uses_each ForFields (arguments_of base) ≡ [] → uses_along ForFields ss ≡ [] → uses_along ForFields (with_base q b base ss) ≡ []
   based late (Some o) ss h g = rw (h, g) refl
   based late None ss h g =
-      where_chosen (λ (xs : StmtTrees). uses_along ForFields xs ≡ []) (has_base_call ss) ss (if b.flags.delayed then Before (base_alone b) ss else behind_initial q b.class (base_alone b) ss) (λ yes. g)
+      where_chosen (λ (xs : StmtTrees). uses_along ForFields xs ≡ []) (has_base ss) ss (if b.flags.delayed then Before (base_alone b) ss else behind_initial q b.class (base_alone b) ss) (λ yes. g)
       (λ no. where_chosen (λ (xs : StmtTrees). uses_along ForFields xs ≡ []) b.flags.delayed (Before (base_alone b) ss) (behind_initial q b.class (base_alone b) ss) (λ yes. g) (λ other. absurd (false≢true (sym other ∙ late))))
 
   pub fields_behind : b.flags.delayed ≡ true → UsesFields b → uses_along ForFields behind_fields ≡ []

@@ -4,23 +4,19 @@ use Rattle.std.specs.Prelude.{◌||◌, if◌then◌else◌}
 use Rattle.std.proofs.lemmas.Bool.{cases_Bool, false≢true}
 use Rattle.ss_core.specs.declared.names.Place.{Place}
 use Rattle.ss_typed.specs.Tree.{ExprTree, Arguments, SimpleTree, BaseCallOf, BlockTree, BlockOf, StmtTree, SimpleOf, StmtTrees, NoMore, Before, BaseTree, TypedTree}
-use Rattle.ss_paths.specs.Assigned.{is_base, has_base, statements}
+use Rattle.ss_paths.specs.Assigned.{statements}
+use Rattle.ss_typed.specs.Shapes.{has_base, is_base}
 use Rattle.ss_delayed_rules.specs.Opening.{is_first, first_run, before_base, opening_of, base_in}
 use Rattle.ss_delayed_rules.specs.Constructors.{arguments_of}
-use Rattle.ss_expand_rules.specs.Constructors.{before_all, in_block, has_base_call, is_initial, behind_initial}
+use Rattle.ss_expand_rules.specs.Constructors.{before_all, in_block, is_initial, behind_initial}
 use Rattle.ss_expand_formed.proofs.Facts.{or_false}
 use Rattle.ss_expand_formed_construction.proofs.Choices.{where_chosen}
 use Rattle.ss_expand_formed_construction.proofs.Statements.{Along}
-use Rattle.ss_expand_formed_construction.proofs.Bases.{same_base}
 use Rattle.ss_expand_formed_construction.proofs.Begins.{base_or}
 use Rattle.ss_expand_formed_construction.proofs.ReadLocals.{Other, Others, OtherSimple}
 
 pub same_statements : (b : BlockTree) → statements b ≡ in_block b
 same_statements (BlockOf q ss end) = refl
-
-pub same_found : (ss : StmtTrees) → has_base ss ≡ has_base_call ss
-same_found NoMore = refl
-same_found (Before s ss) = rw (same_base s, same_found ss) refl
 
 -- ---- a written `base(..)`
 

@@ -6,7 +6,8 @@ use Rattle.ss_core.specs.Tree as core
 use Rattle.ss_typed.specs.Tree.{BlockTree, BlockOf, StmtTree, ReturnOf, StmtTrees, NoMore, Before, BaseTree, BodyTree, TypedTree}
 use Rattle.ss_typed.specs.Tree as typed
 use Rattle.ss_expand_rules.specs.Program.{above_of, constructor_of, param_types_in}
-use Rattle.ss_expand_rules.specs.Constructors.{before_all, in_block, closing_brace, initializers, has_base_call, is_initial, behind_initial, base_alone, with_base, constructor_stmts}
+use Rattle.ss_expand_rules.specs.Constructors.{before_all, in_block, closing_brace, initializers, is_initial, behind_initial, base_alone, with_base, constructor_stmts}
+use Rattle.ss_typed.specs.Shapes.{has_base}
 use Rattle.ss_expand_rules.specs.Contracts.{first_param}
 use Rattle.ss_expand_rules.specs.Bodies.{with_return, statements}
 use Rattle.ss_expand_formed_construction.proofs.Choices.{where_chosen}
@@ -36,10 +37,10 @@ module _ (p : TypedTree) (C : List core.ClassTree) (b : BodyTree) where
   behind_in t s NoMore h g = (h, tt)
   behind_in t s (Before x xs) h g = where_chosen InBody (is_initial p t x) (Before x (behind_initial p t s xs)) (Before s (Before x xs)) (λ yes. (g.0, behind_in t s xs h g.1)) (λ no. (h, g))
 
-  base_in : (base : Option BaseTree) (ss : StmtTrees) → b.flags.ctor ≡ true → ((x : BaseTree) → base ≡ Some x → GivenAbove x.arguments) → (base ≡ None → has_base_call ss ≡ false → GivenAbove typed.Arguments.NoMore) → InBody ss → InBody (with_base p b base ss)
+  base_in : (base : Option BaseTree) (ss : StmtTrees) → b.flags.ctor ≡ true → ((x : BaseTree) → base ≡ Some x → GivenAbove x.arguments) → (base ≡ None → has_base ss ≡ false → GivenAbove typed.Arguments.NoMore) → InBody ss → InBody (with_base p b base ss)
   base_in (Some x) ss ctor given none h = ((ctor, given x refl), h)
   base_in None ss ctor given none h =
-      where_chosen InBody (has_base_call ss) ss (if b.flags.delayed then Before (base_alone b) ss else behind_initial p b.class (base_alone b) ss) (λ yes. h)
+      where_chosen InBody (has_base ss) ss (if b.flags.delayed then Before (base_alone b) ss else behind_initial p b.class (base_alone b) ss) (λ yes. h)
       (λ no. where_chosen InBody b.flags.delayed (Before (base_alone b) ss) (behind_initial p b.class (base_alone b) ss) (λ late. ((ctor, none refl no), h)) (λ early. behind_in b.class (base_alone b) ss (ctor, none refl no) h))
 
   abbrev OneReturn : Option Ty → Type 0
@@ -57,7 +58,7 @@ module _ (p : TypedTree) (C : List core.ClassTree) (b : BodyTree) where
   method_in method f =
       subst (λ d. InBody (with_return b b.result (if d then constructor_stmts p b else in_block b.block))) (sym method) (return_in b.result refl (in_block b.block) (block_in b.block f))
 
-  pub constructor_in : b.flags.ctor ≡ true → InBody (initializers p b.class) → ((x : BaseTree) → b.base ≡ Some x → GivenAbove x.arguments) → (b.base ≡ None → has_base_call (in_block b.block) ≡ false → GivenAbove typed.Arguments.NoMore) →
+  pub constructor_in : b.flags.ctor ≡ true → InBody (initializers p b.class) → ((x : BaseTree) → b.base ≡ Some x → GivenAbove x.arguments) → (b.base ≡ None → has_base (in_block b.block) ≡ false → GivenAbove typed.Arguments.NoMore) →
       FitBlock p C (context_of b) b.flags.ctor (first_param b + length b.params) b.block → InBody (statements p b)
   constructor_in ctor first given none f =
       let inner = both_in (initializers p b.class) (with_base p b b.base (in_block b.block)) first (base_in b.base (in_block b.block) ctor given none (block_in b.block f)) in

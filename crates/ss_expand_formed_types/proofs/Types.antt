@@ -23,7 +23,8 @@ use Rattle.ss_resolver_rules.specs.Programs.{param_env, method_env, base_of, fie
 use Rattle.ss_expand_rules.specs.Program.{field_at, members_from, members_of, table, Origin}
 use Rattle.ss_expand_rules.specs.Statements.{result_type}
 use Rattle.ss_expand_rules.specs.Contracts.{first_param, declarations}
-use Rattle.ss_expand_rules.specs.Constructors.{before_all, in_block, closing_brace, initialize, initializers_from, initializers_in, initializers, has_base_call, is_initial, behind_initial, base_alone, with_base, constructor_stmts, implicit_constructor}
+use Rattle.ss_expand_rules.specs.Constructors.{before_all, in_block, closing_brace, initialize, initializers_from, initializers_in, initializers, is_initial, behind_initial, base_alone, with_base, constructor_stmts, implicit_constructor}
+use Rattle.ss_typed.specs.Shapes.{has_base}
 use Rattle.ss_expand_rules.specs.Bodies.{block_assigns, assigned_from, copy_of, copies, temporaries_from, with_return, statements, setting, temporary_types, written_body, wrapper_types}
 use Rattle.ss_store_rules.specs.Typed.{is_local}
 use Rattle.ss_expand_formed.specs.Laws.{core_of}
@@ -90,7 +91,7 @@ module _ (cs : List core.ClassTree) where
     with_base_typed : (b : BodyTree) (base : Option BaseTree) → base_typed base ≡ true → (ss : StmtTrees) → all_typed cs ss ≡ true → all_typed cs (with_base p b base ss) ≡ true
     with_base_typed b (Some base) g ss h = and_from _ _ g h
     with_base_typed b None g ss h =
-        on_either (λ (z : StmtTrees). all_typed cs z ≡ true) (has_base_call ss) ss (if b.flags.delayed then Before (base_alone b) ss else behind_initial p b.class (base_alone b) ss) h
+        on_either (λ (z : StmtTrees). all_typed cs z ≡ true) (has_base ss) ss (if b.flags.delayed then Before (base_alone b) ss else behind_initial p b.class (base_alone b) ss) h
         (on_either (λ (z : StmtTrees). all_typed cs z ≡ true) b.flags.delayed (Before (base_alone b) ss) (behind_initial p b.class (base_alone b) ss) h (behind_typed b.class (base_alone b) ss refl h))
 
     with_return_typed : (b : BodyTree) (r : Option Ty) (ss : StmtTrees) → all_typed cs ss ≡ true → all_typed cs (with_return b r ss) ≡ true

@@ -12,12 +12,12 @@ ghost use Rattle.ss_expand_lifting.specs.Made.{coded_by};
 ghost use Rattle.ss_expand_lifting.specs.Settings.{setting_of};
 ghost use Rattle.ss_expand_programs.specs.Constructing.{constructed, with_implied};
 
-use crate::initial::{front_length, has_base_call};
+use crate::initial::front_length;
 use crate::initializers::add_initializers;
 use crate::statements::add_stmts;
 use ss_core::Ty;
 use ss_expand_lifting::{Code, Setting, base_call};
-use ss_typed::{TypedBase, TypedStmt};
+use ss_typed::{TypedBase, TypedStmt, has_base};
 use std::alloc::{AllocError, Global};
 
 // Adds `base()`, at the constructor's name, between these statements.
@@ -93,7 +93,7 @@ fn add_with_base(
     match base {
         Some(base) => add_behind_base(alloc, setting, base, stmts, code, made),
         None => {
-            if has_base_call(stmts) {
+            if has_base(stmts) {
                 add_stmts(alloc, setting, stmts, code, made)
             } else {
                 add_with_implied(alloc, setting, stmts, code, made)

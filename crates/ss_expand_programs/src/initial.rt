@@ -1,4 +1,4 @@
-// The assignments with which a block begins, and whether it calls `base(..)`.
+// The assignments with which a block begins.
 
 ghost use Rattle.std.specs.Prelude.{◌≡◌, ◌≤◌, ◌&&◌, length, take, drop, map, not, true, option_map};
 ghost use Rattle.std.specs.List.{prefix_len};
@@ -17,50 +17,6 @@ use ss_core::{ClassId, Field, FieldId};
 use ss_expand_bodies::field_at;
 use ss_expand_expressions::mentions_this;
 use ss_typed::{Typed, TypedBody, TypedExpr, TypedSimple, TypedStmt};
-
-// Whether the statement calls `base(..)`.
-fn is_simple_base_call(stmt: &TypedSimple) -> bool
-    ensures { result ≡ constructors.is_base_call (SimpleOf (typed.simple_of stmt.now)) }
-{
-    match stmt {
-        TypedSimple::Base(..) => true,
-        TypedSimple::Assign(..)
-        | TypedSimple::Step(..)
-        | TypedSimple::Alone(..)
-        | TypedSimple::Print(..)
-        | TypedSimple::PrintText(..) => false,
-    }
-}
-
-fn is_base_call(stmt: &TypedStmt) -> bool
-    ensures { result ≡ constructors.is_base_call (typed.stmt_of stmt.now) }
-{
-    match stmt {
-        TypedStmt::Simple(simple) => is_simple_base_call(simple),
-        TypedStmt::Block(..)
-        | TypedStmt::Declare(..)
-        | TypedStmt::If(..)
-        | TypedStmt::While(..)
-        | TypedStmt::For(..)
-        | TypedStmt::Return(..)
-        | TypedStmt::Assert(..)
-        | TypedStmt::Assume(..)
-        | TypedStmt::Expose(..)
-        | TypedStmt::Empty(..) => false,
-    }
-}
-
-/// Whether one of the statements calls `base(..)`.
-pub fn has_base_call(stmts: &[TypedStmt]) -> bool
-    ensures { result ≡ constructors.has_base_call (stmt_trees (map typed.stmt_of stmts.now)) }
-{
-    for stmt in stmts {
-        if is_base_call(stmt) {
-            return true;
-        }
-    }
-    false
-}
 
 // Whether it is a field of the class.
 fn is_declared_in(class: ClassId, found: Option<(ClassId, &Field)>) -> bool

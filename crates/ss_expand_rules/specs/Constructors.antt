@@ -53,14 +53,6 @@ initializers p t = initializers_in p t (members_of p t)
 
 -- ---- the implicit base call
 
-abbrev pub is_base_call : StmtTree → Bool
-is_base_call (SimpleOf (BaseCallOf p es)) = true
-is_base_call s = false
-
-abbrev pub has_base_call : StmtTrees → Bool
-has_base_call typed.NoMore = false
-has_base_call (typed.Before s ss) = is_base_call s || has_base_call ss
-
 abbrev pub is_declared_in : ℕ → Option DeclaredField → Bool
 is_declared_in t None = false
 is_declared_in t (Some d) = d.class == t
@@ -87,7 +79,7 @@ base_above base = SimpleOf (BaseCallOf base.place base.arguments)
 abbrev pub with_base : TypedTree → BodyTree → Option BaseTree → StmtTrees → StmtTrees
 with_base p b (Some base) ss = typed.Before (base_above base) ss
 with_base p b None ss =
-    if has_base_call ss then ss
+    if has_base ss then ss
     else if b.flags.delayed then typed.Before (base_alone b) ss
     else behind_initial p b.class (base_alone b) ss
 

@@ -46,14 +46,6 @@ abbrev pub starts_with_value : Option FieldTree → Bool
 starts_with_value None = false
 starts_with_value (Some f) = is_some f.initial
 
-abbrev pub is_base : StmtTree → Bool
-is_base (SimpleOf (BaseCallOf p es)) = true
-is_base s = false
-
-abbrev pub has_base : StmtTrees → Bool
-has_base NoMore = false
-has_base (Before s ss) = is_base s || has_base ss
-
 abbrev pub statements : BlockTree → StmtTrees
 statements (BlockOf p ss end) = ss
 

@@ -1,10 +1,9 @@
 // What is assigned where a constructor begins.
 
 ghost use Rattle.std.specs.Prelude.{◌≡◌, IfOk, map, option_map};
-ghost use Rattle.ss_typed.specs.Tree.{SimpleOf, stmt_trees};
-ghost use Rattle.ss_typed.specs.View.{body, field, members, simple_of, stmt_of, typed};
+ghost use Rattle.ss_typed.specs.View.{body, field, members, typed};
 ghost use Rattle.ss_paths.specs.Fields.{fields_of_members};
-ghost use Rattle.ss_paths.specs.Assigned.{starts_with_value, is_base, has_base, assigned_by_initializers, assigned_first};
+ghost use Rattle.ss_paths.specs.Assigned.{starts_with_value, assigned_by_initializers, assigned_first};
 ghost use Rattle.ss_bit_set.specs.Marked.{marked};
 ghost use Rattle.ss_paths_assigned.specs.Codes.{assigned_of};
 ghost use Rattle.ss_paths_assigned.specs.Started.{started};
@@ -13,53 +12,8 @@ use crate::assigned::Assigned;
 use crate::fields::members_at;
 use ss_bit_set::BitSet;
 use ss_core::ClassId;
-use ss_typed::{Typed, TypedBody, TypedClass, TypedField, TypedSimple, TypedStmt};
+use ss_typed::{Typed, TypedBody, TypedClass, TypedField, has_base};
 use std::alloc::{AllocError, Global};
-
-// Whether a simple statement is `base(..)`.
-fn calls_base(done: &TypedSimple) -> bool
-    ensures { result ≡ is_base (SimpleOf (simple_of done.now)) }
-{
-    match done {
-        TypedSimple::Base(..) => true,
-        TypedSimple::Assign(..)
-        | TypedSimple::Step(..)
-        | TypedSimple::Alone(_)
-        | TypedSimple::Print(..)
-        | TypedSimple::PrintText(..) => false,
-    }
-}
-
-/// Whether the statement is `base(..)`.
-pub fn is_base(statement: &TypedStmt) -> bool
-    ensures { result ≡ is_base (stmt_of statement.now) }
-{
-    match statement {
-        TypedStmt::Simple(done) => calls_base(done),
-        TypedStmt::Block(_)
-        | TypedStmt::Declare(_)
-        | TypedStmt::If(..)
-        | TypedStmt::While(..)
-        | TypedStmt::For(..)
-        | TypedStmt::Return(..)
-        | TypedStmt::Assert(..)
-        | TypedStmt::Assume(..)
-        | TypedStmt::Expose(..)
-        | TypedStmt::Empty(_) => false,
-    }
-}
-
-/// Whether one of the statements is `base(..)`.
-pub fn has_base(statements: &[TypedStmt]) -> bool
-    ensures { result ≡ has_base (stmt_trees (map stmt_of statements.now)) }
-{
-    for statement in statements {
-        if is_base(statement) {
-            return true;
-        }
-    }
-    false
-}
 
 // Whether the field has an initializer.
 fn starts_with_value(declared: &TypedField) -> bool

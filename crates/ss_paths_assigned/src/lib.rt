@@ -7,6 +7,6 @@ mod fields;
 mod shapes;
 
 pub use assigned::Assigned;
-pub use beginning::{assigned_by_initializers, assigned_first, has_base, is_base, started_in};
+pub use beginning::{assigned_by_initializers, assigned_first, started_in};
 pub use fields::{Fields, Numbers, class_at, is_non_null, members_at};
 pub use shapes::own_field;

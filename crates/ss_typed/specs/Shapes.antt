@@ -1,7 +1,7 @@
--- What an expression is outermost, its place, and whether `this` stands in it.
+-- What an expression is outermost, its place, whether `this` stands in it; and whether statements call `base(..)`.
 use Rattle.std.specs.Prelude.{Bool, true, false, ◌||◌}
 use Rattle.ss_core.specs.declared.names.Place.{Place}
-use Rattle.ss_typed.specs.Tree.{ExprTree, IntOf, BoolOf, NullOf, ThisOf, LocalOf, ResultOf, BoundOf, IffOf, ImpliesOf, BinaryOf, IsOf, AsOf, NegateOf, NotOf, CastOf, FieldOf, ElementOf, LengthOf, OldOf, QuantifiedOf, StateOf, OwnersOf, NewOf, NewArrayOf, CallOf, StaticOf, BaseOf, Arguments, NoMore, Argument}
+use Rattle.ss_typed.specs.Tree.{ExprTree, IntOf, BoolOf, NullOf, ThisOf, LocalOf, ResultOf, BoundOf, IffOf, ImpliesOf, BinaryOf, IsOf, AsOf, NegateOf, NotOf, CastOf, FieldOf, ElementOf, LengthOf, OldOf, QuantifiedOf, StateOf, OwnersOf, NewOf, NewArrayOf, CallOf, StaticOf, BaseOf, Arguments, NoMore, Argument, BaseCallOf, StmtTree, SimpleOf, StmtTrees, Before}
 
 -- the place at which it stands
 abbrev pub place_of : ExprTree → Place
@@ -76,3 +76,12 @@ abbrev mutual
   pub mention_this : Arguments → Bool
   mention_this NoMore = false
   mention_this (Argument e es) = mentions_this e || mention_this es
+
+-- the statement is `base(..)`, and one of the statements is
+abbrev pub is_base : StmtTree → Bool
+is_base (SimpleOf (BaseCallOf p es)) = true
+is_base s = false
+
+abbrev pub has_base : StmtTrees → Bool
+has_base NoMore = false
+has_base (Before s ss) = is_base s || has_base ss

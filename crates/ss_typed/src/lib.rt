@@ -12,6 +12,6 @@ mod types;
 pub use body::{TypedBase, TypedBody, TypedFlags, TypedModifies, TypedParam};
 pub use expr::{TypedExpr, TypedLink, TypedStep};
 pub use program::{Typed, TypedClass, TypedField, TypedInvariant};
-pub use shapes::{is_this, is_true, place_of};
+pub use shapes::{has_base, is_base, is_this, is_true, place_of};
 pub use stmt::{TypedBlock, TypedDeclarator, TypedInit, TypedSimple, TypedStmt};
 pub use types::{class_type, element_of, operation_type};

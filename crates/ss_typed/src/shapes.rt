@@ -1,10 +1,12 @@
-// What an expression is outermost, chains and paths without parts set aside.
+// What an expression is outermost, chains and paths without parts set aside; and whether statements call `base(..)`.
 
-ghost use Rattle.std.specs.Prelude.{◌≡◌};
-ghost use Rattle.ss_typed.specs.View.{expr};
+ghost use Rattle.std.specs.Prelude.{◌≡◌, map};
+ghost use Rattle.ss_typed.specs.Tree.{SimpleOf, stmt_trees};
+ghost use Rattle.ss_typed.specs.View.{expr, simple_of, stmt_of};
 ghost use Rattle.ss_typed.specs.Shapes as shapes;
 
 use crate::expr::TypedExpr;
+use crate::stmt::{TypedSimple, TypedStmt};
 use ss_core::Place;
 
 /// The place at which it stands.
@@ -131,4 +133,49 @@ pub fn is_true(e: &TypedExpr) -> bool
         | TypedExpr::Static(..)
         | TypedExpr::Base(..) => false,
     }
+}
+
+// Whether a simple statement is `base(..)`.
+fn calls_base(done: &TypedSimple) -> bool
+    ensures { result ≡ shapes.is_base (SimpleOf (simple_of done.now)) }
+{
+    match done {
+        TypedSimple::Base(..) => true,
+        TypedSimple::Assign(..)
+        | TypedSimple::Step(..)
+        | TypedSimple::Alone(_)
+        | TypedSimple::Print(..)
+        | TypedSimple::PrintText(..) => false,
+    }
+}
+
+/// Whether the statement is `base(..)`.
+pub fn is_base(statement: &TypedStmt) -> bool
+    ensures { result ≡ shapes.is_base (stmt_of statement.now) }
+{
+    match statement {
+        TypedStmt::Simple(done) => calls_base(done),
+        TypedStmt::Block(_)
+        | TypedStmt::Declare(_)
+        | TypedStmt::If(..)
+        | TypedStmt::While(..)
+        | TypedStmt::For(..)
+        | TypedStmt::Return(..)
+        | TypedStmt::Assert(..)
+        | TypedStmt::Assume(..)
+        | TypedStmt::Expose(..)
+        | TypedStmt::Empty(_) => false,
+    }
+}
+
+/// Whether one of the statements is `base(..)`.
+pub fn has_base(statements: &[TypedStmt]) -> bool
+    ensures { result ≡ shapes.has_base (stmt_trees (map stmt_of statements.now)) }
+{
+    for statement in statements {
+        if is_base(statement) {
+            return true;
+        }
+    }
+    false
 }
