@@ -47,17 +47,14 @@ fn add_field_write(
         ++ elab.write_of place (view.expr object) field.0 (program.field_at (typed.typed setting.now.program.now) field.0) (view.expr value)) }
 {
     match field_at(setting.program, field) {
-        Some((class, declared)) => {
-            code.statements.push(Stmt::Write {
-                place,
-                object,
-                field,
-                mark: declared.mark,
-                class,
-                value,
-            })?;
-            Ok(())
-        }
+        Some((class, declared)) => code.add(Stmt::Write {
+            place,
+            object,
+            field,
+            mark: declared.mark,
+            class,
+            value,
+        }),
         None => Ok(()),
     }
 }
@@ -73,9 +70,7 @@ fn add_element_write(
     ensures { OnOk result (stmts_of code.new.statements ≡ stmts_of code.old.statements
         ++ core.WriteElementStmt place (view.expr array) (view.expr index) (view.expr value) ∷ []) }
 {
-    let write = Stmt::WriteElement(place, array, index, value);
-    code.statements.push(write)?;
-    Ok(())
+    code.add(Stmt::WriteElement(place, array, index, value))
 }
 
 // Adds the write of a field or an element whose object and index parts stay as they are.
@@ -116,8 +111,7 @@ pub(crate) fn add_put(
 ) -> Result<(), AllocError>
     ensures { OnOk result (stmts_of code.new.statements ≡ stmts_of code.old.statements ++ lifting.put place x (source_of source) ∷ []) }
 {
-    code.statements.push(put(place, x, source))?;
-    Ok(())
+    code.add(put(place, x, source))
 }
 
 // Adds the write of what has been lifted to a left side that is no local.

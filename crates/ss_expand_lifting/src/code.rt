@@ -1,10 +1,11 @@
 // Code of the core program.
 
-ghost use Rattle.std.specs.Prelude.{◌≡◌, []};
+ghost use Rattle.std.specs.Prelude.{◌≡◌, ◌++◌, [], ◌∷◌, OnOk};
+ghost use Rattle.ss_core.specs.View.{stmt_of};
 ghost use Rattle.ss_expand_expressions.specs.Sources.{stmts_of};
 
 use ss_core::Stmt;
-use std::alloc::Global;
+use std::alloc::{AllocError, Global};
 
 /// Statements that have been made so far.
 #[derive(Drop)]
@@ -20,5 +21,13 @@ impl Code {
         Code {
             statements: Vec::new(alloc),
         }
+    }
+
+    /// Adds a statement.
+    pub fn add(&mut self, statement: Stmt) -> Result<(), AllocError>
+        ensures { OnOk result (stmts_of self.new.statements ≡ stmts_of self.old.statements ++ stmt_of statement ∷ []) }
+    {
+        self.statements.push(statement)?;
+        Ok(())
     }
 }

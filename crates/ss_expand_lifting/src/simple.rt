@@ -85,10 +85,7 @@ fn add_dropped(source: Source, code: &mut Code) -> Result<(), AllocError>
     ensures { OnOk result (stmts_of code.new.statements ≡ stmts_of code.old.statements ++ elab.drop_result (source_of source)) }
 {
     match dropped(source) {
-        Some(statement) => {
-            code.statements.push(statement)?;
-            Ok(())
-        }
+        Some(statement) => code.add(statement),
         None => Ok(()),
     }
 }
@@ -118,8 +115,7 @@ fn add_print(
 ) -> Result<(), AllocError>
     ensures { OnOk result (stmts_of code.new.statements ≡ stmts_of code.old.statements ++ core.PrintStmt place (option_map view.expr value) line ∷ []) }
 {
-    code.statements.push(Stmt::Print(place, value, line))?;
-    Ok(())
+    code.add(Stmt::Print(place, value, line))
 }
 
 // Adds the print of a value, where there is one.
@@ -163,8 +159,7 @@ fn add_ready(
         return Ok(());
     }
     if has_delayed_constructor(setting.program, above) {
-        code.statements.push(Stmt::Ready(place))?;
-        return Ok(());
+        return code.add(Stmt::Ready(place));
     }
     Ok(())
 }
@@ -179,9 +174,7 @@ fn add_base_call(
     ensures { OnOk result (stmts_of code.new.statements ≡ stmts_of code.old.statements
         ++ core.CallStmt place None (core.BaseConstructor number.0) (view.exprs values.items) ∷ []) }
 {
-    let call = Stmt::Call(place, None, Callee::Constructor(number), values);
-    code.statements.push(call)?;
-    Ok(())
+    code.add(Stmt::Call(place, None, Callee::Constructor(number), values))
 }
 
 // Adds the call of the constructor of this class.
@@ -241,8 +234,7 @@ fn print_text(
     ensures { OnOk result (stmts_of code.new.statements ≡ stmts_of code.old.statements ++ core.PrintTextStmt place text.now line ∷ []) }
 {
     let copy = Vec::from_slice(alloc, text)?;
-    code.statements.push(Stmt::PrintText(place, copy, line))?;
-    Ok(())
+    code.add(Stmt::PrintText(place, copy, line))
 }
 
 /// Adds the code of a statement that has no other inside.

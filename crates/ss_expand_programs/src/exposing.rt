@@ -14,7 +14,6 @@ ghost use Rattle.ss_expand_lifting.specs.Made.{coded_by};
 ghost use Rattle.ss_expand_lifting.specs.Settings.{setting_of};
 ghost use Rattle.ss_expand_programs.specs.Opening.{opened_by, object_of, opening};
 
-use crate::looping::add_one;
 use ss_core::{ClassId, Place, Stmt, Ty};
 use ss_expand_bodies::{Opened, pack_of};
 use ss_expand_expressions::{any_object, class_of_type, in_local, next, temporary_type, type_of};
@@ -56,7 +55,7 @@ fn put_object(
 fn add_unpack(code: &mut Code, place: Place, local: usize, class: ClassId) -> Result<(), AllocError>
     ensures { OnOk result (stmts_of code.new.statements ≡ stmts_of code.old.statements ++ UnpackStmt place local class.0 ∷ []) }
 {
-    add_one(code, Stmt::Unpack(place, local, class))?;
+    code.add(Stmt::Unpack(place, local, class))?;
     Ok(())
 }
 
@@ -116,7 +115,7 @@ pub fn close(code: &mut Code, opened: Opened, reached: bool) -> Result<(), Alloc
     ensures { OnOk result (stmts_of code.new.statements ≡ stmts_of code.old.statements ++ (if reached then statements.pack_of (opened_of opened) ∷ [] else [])) }
 {
     if reached {
-        add_one(code, pack_of(opened))?;
+        code.add(pack_of(opened))?;
     }
     Ok(())
 }

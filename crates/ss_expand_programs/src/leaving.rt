@@ -12,7 +12,6 @@ ghost use Rattle.ss_expand_lifting.specs.Made.{coded_by};
 ghost use Rattle.ss_expand_lifting.specs.Settings.{setting_of};
 ghost use Rattle.ss_expand_programs.specs.Returns.{returned_value};
 
-use crate::looping::add_one;
 use ss_core::{Expr, Place, Stmt, Ty};
 use ss_expand_bodies::{add_pack_this, add_packs};
 use ss_expand_expressions::{any_object, in_local, next};
@@ -39,7 +38,7 @@ fn add_return(
     ensures { OnOk result (stmts_of code.new.statements ≡ stmts_of code.old.statements ++ (statements.packs (setting_of setting.now) place ++ ReturnStmt place (option_map core.expr value) ∷ [])) }
 {
     add_all_packs(setting, code, place)?;
-    add_one(code, Stmt::Return(place, value))?;
+    code.add(Stmt::Return(place, value))?;
     Ok(())
 }
 

@@ -21,14 +21,6 @@ use ss_expand_lifting::{Code, Setting, declare, simple_statement, value};
 use ss_typed::{TypedExpr, TypedInit, TypedSimple};
 use std::alloc::{AllocError, Global};
 
-/// Adds one statement.
-pub fn add_one(code: &mut Code, stmt: Stmt) -> Result<(), AllocError>
-    ensures { OnOk result (stmts_of code.new.statements ≡ stmts_of code.old.statements ++ core.stmt_of stmt ∷ []) }
-{
-    code.statements.push(stmt)?;
-    Ok(())
-}
-
 /// Adds an `assert`.
 pub fn add_assert(
     alloc: Global,
@@ -40,8 +32,7 @@ pub fn add_assert(
     ensures { OnOk result (stmts_of code.new.statements ≡ stmts_of code.old.statements ++ AssertStmt place (elab.plain (numbers_of setting.now.numbers.now) (typed.expr e.now)) ∷ []) }
 {
     let e = plain(alloc, setting.numbers, e)?;
-    add_one(code, Stmt::Assert(place, e))?;
-    Ok(())
+    code.add(Stmt::Assert(place, e))
 }
 
 /// Adds an `assume`.
@@ -55,8 +46,7 @@ pub fn add_assume(
     ensures { OnOk result (stmts_of code.new.statements ≡ stmts_of code.old.statements ++ AssumeStmt place (elab.plain (numbers_of setting.now.numbers.now) (typed.expr e.now)) ∷ []) }
 {
     let e = plain(alloc, setting.numbers, e)?;
-    add_one(code, Stmt::Assume(place, e))?;
-    Ok(())
+    code.add(Stmt::Assume(place, e))
 }
 
 /// Adds an `if` with these two sides.
@@ -69,11 +59,7 @@ pub fn add_branch(
 ) -> Result<(), AllocError>
     ensures { OnOk result (stmts_of code.new.statements ≡ stmts_of code.old.statements ++ IfStmt place (core.expr test) (core.code_of (stmts_of one.statements)) (core.code_of (stmts_of other.statements)) ∷ []) }
 {
-    add_one(
-        code,
-        Stmt::If(place, test, one.statements, other.statements),
-    )?;
-    Ok(())
+    code.add(Stmt::If(place, test, one.statements, other.statements))
 }
 
 // The invariants of a loop.
@@ -126,7 +112,7 @@ pub fn add_loop(
     let invariants = invariants_of(alloc, setting, invariants)?;
     let exposes = list_exposed(alloc, &setting.exposes)?;
     let made = loop_of(place, invariants, prelude, test, turn, exposes);
-    add_one(code, made)?;
+    code.add(made)?;
     Ok(())
 }
 

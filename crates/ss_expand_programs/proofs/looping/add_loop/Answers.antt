@@ -15,7 +15,7 @@ returns c =
     let before = stmts_of c.args.code.now.statements in
     let at = λ (es : List core.ExprTree) (xs : List core.ExposedTree). LoopStmt c.args.place es (code_of (stmts_of c.args.prelude.statements)) (expr c.args.test) (code_of (stmts_of c.args.turn.statements)) xs in
     let es = all_plain (numbers_of c.args.setting.now.numbers.now) (exprs c.args.invariants.now) in
-    c.in_ok-add_one.ensures
+    c.in_ok-add.ensures
     ∙ ap (λ (x : core.StmtTree). before ++ x ∷ [])
     (c.loop_of-made.ensures
     ∙ ap (λ (is : List core.ExprTree). at is (map exposed_tree c.in_ok-exposes.exposes.items)) c.in_ok-invariants.ensures
