@@ -8,7 +8,7 @@ use Rattle.ss_typed.specs.declared.body.TypedFlags.{TypedFlags}
 use Rattle.ss_typed.specs.Tree.{ExprTree, ThisOf, FieldOf, Arguments, SimpleTree, AssignOf, BaseCallOf, BlockTree, BlockOf, StmtTree, SimpleOf, StmtTrees, BaseTree, BodyTree, FieldTree, MembersTree, TypedTree}
 use Rattle.ss_typed.specs.Tree as typed
 use Rattle.ss_expand_rules.specs.Program.{field_at, members_of}
-use Rattle.ss_typed.specs.Shapes.{is_this, mentions_this}
+use Rattle.ss_typed.specs.Shapes.{has_base, is_this, mentions_this}
 
 -- ---- lists of statements
 

@@ -1,8 +1,8 @@
 -- The fields of the `this` of a constructor that have their values on every path to a point (OOPSLA 2003).
 use Rattle.std.specs.Prelude.{ℕ, ◌==◌, ◌+◌, ◌-◌, Bool, true, false, not, ◌&&◌, ◌||◌, if◌then◌else◌, Option, Some, None, is_some, slice_get, nat_le}
 use Rattle.ss_ast.specs.declared.stmt.AssignOperator.TheVariants as assign
-use Rattle.ss_typed.specs.Tree.{ExprTree, ThisOf, FieldOf, SimpleTree, AssignOf, BaseCallOf, BlockTree, BlockOf, StmtTree, SimpleOf, StmtTrees, NoMore, Before, BodyTree, FieldTree, TypedTree}
-use Rattle.ss_typed.specs.Shapes.{is_this}
+use Rattle.ss_typed.specs.Tree.{ExprTree, FieldOf, SimpleTree, AssignOf, BaseCallOf, BlockTree, BlockOf, StmtTree, SimpleOf, StmtTrees, NoMore, Before, BodyTree, FieldTree, TypedTree}
+use Rattle.ss_typed.specs.Shapes.{has_base, is_this}
 use Rattle.ss_paths.specs.Sets.{Set, put, both}
 use Rattle.ss_paths.specs.Fields.{Numbers, is_among, written_fields}
 use Rattle.ss_paths.specs.Paths.{Flow}
