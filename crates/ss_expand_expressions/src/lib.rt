@@ -29,6 +29,4 @@ pub use mentions::mentions_this;
 pub use operands::{Operand, begin_lazy, end_lazy, keep};
 pub use operators::{compound, default_of, step_operator};
 pub use sources::{Source, dropped, in_local, in_temporary, next, put, valued};
-pub use types::{
-    any_object, class_of_type, link_type, step_type, temporary_type, type_of,
-};
+pub use types::{any_object, class_of_type, link_type, step_type, temporary_type, type_of};
