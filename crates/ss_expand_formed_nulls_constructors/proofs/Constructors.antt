@@ -250,7 +250,7 @@ module _ (c : core.CoreTree) (p : ProgramTree) (k : ℕ) (tree : ClassTree) (b :
         (λ no.
         let is_run : with_base q b None ss ≡ behind_initial q b.class (base_alone b) ss =
         ap (λ (w : Bool). if w then ss else if b.flags.delayed then Before (base_alone b) ss else behind_initial q b.class (base_alone b) ss) no ∙ ap (λ (w : Bool). if w then Before (base_alone b) ss else behind_initial q b.class (base_alone b) ss) early in
-        let front : OnlyInitial own (first_run q b.class ss) = subst (λ (w : Bool). OnlyInitial own (if w then before_base ss else first_run q b.class ss)) (same_found ss ∙ no) only in
+        let front : OnlyInitial own (first_run q b.class ss) = subst (λ (w : Bool). OnlyInitial own (if w then before_base ss else first_run q b.class ss)) no only in
         subst (λ xs. HoldFrom before initialized (before_all xs last)) (sym is_run) (implied_called front (subst (λ xs. all_fitting behind (before_all xs last) ≡ true) is_run g)))
         (cases_Bool (has_base ss))
 
