@@ -1,5 +1,5 @@
 -- Tokens as the parser and the lexer see them.
-use Rattle.std.proofs.Common.{◌≡◌, inl, inr, ℕ, List, [], ◌∷◌, map, Option, None, Result, Err, refl, sym, ap, ◌∙◌, subst}
+use Rattle.std.proofs.Common.{◌≡◌, inr, inl, ℕ, List, [], ◌∷◌, map, Option, Err, refl, ap, ◌∙◌, subst}
 use Rattle.std.specs.Option.{option_or}
 use Rattle.ss_core.specs.declared.names.FrontStop.{FrontStop}
 use Rattle.ss_core.specs.declared.names.FrontStop.TheVariants as front
@@ -50,7 +50,7 @@ behind_resolve tree p r h = ap (λ f. option_or f (typed_fault (resolved tree)))
 
 -- what the phases behind refuse has that fault
 pub phases_give : (source : List ℕ) (ts : List Token) (tree : ProgramTree) (p : TypedTree) (stop : FrontStop) → HasTokens source (toks ts) → AreProgram (toks ts) tree → ResolvesTo tree p →
-    Answers (typed_fault p) (Err stop) → Gives source (Err stop)
+    Answers {A = Unit {0}} (typed_fault p) (Err stop) → Gives source (Err stop)
 phases_give source ts tree p front.Memory reads parses r h = tt
 phases_give source ts tree p (front.Refused rule at) reads parses r h = inr (inr (record {
   tokens = toks ts;
@@ -59,11 +59,3 @@ phases_give source ts tree p (front.Refused rule at) reads parses r h = inr (inr
   parses = parses;
   faulty = behind_resolve tree p r h;
 }))
-
--- a phase that refuses answers for all behind it, and one without a fault leaves it to them
-pub refused_first : {A : Type 0} (o q : Option Fault) (stop : FrontStop) → Answers {A} o (Err stop) → Answers {A} (option_or o q) (Err stop)
-refused_first o q front.Memory h = tt
-refused_first o q (front.Refused rule at) h = ap (λ f. option_or f q) h
-
-pub left_to_others : {A : Type 0} (o q : Option Fault) (r : Result A FrontStop) → o ≡ None → Answers q r → Answers (option_or o q) r
-left_to_others o q r e h = subst (λ f. Answers (option_or f q) r) (sym e) h
