@@ -77,7 +77,7 @@ def main():
         expect(time.time() - since < 1, "--help answers at once")
         status, out, err, calls = clone.answer("--version")
         expect(status == 0 and out.startswith("specsharp ") and not calls, "--version answers without a build")
-        for words in [(), ("verify",), ("walk", "FILE"), ("walk", "run"), ("verify", "FILE", "FILE")]:
+        for words in [(), ("verify",), ("walk", "FILE"), ("walk", "run"), ("verify", "FILE", "FILE"), ("verify", "--rounds", "1"), ("verify", "FILE", "--steps", "1")]:
             status, out, err, calls = clone.answer(*words)
             expect(status == 2 and err.endswith("bad words\n") and not calls, "words of no command are refused")
         status, out, err, calls = clone.answer("--unproved", "run", "FILE")
@@ -88,6 +88,9 @@ def main():
         for words in [("verify", "--", "FILE"), ("expand", "FILE", "--")]:
             status, out, err, calls = clone.answer(*words, fails="ss_typed")
             expect(status == build.NOT_BUILT and calls, "a file may stand behind `--`")
+        for words in [("verify", "FILE", "--splits", "0"), ("verify", "--rounds=1", "--instances", "5", "FILE")]:
+            status, out, err, calls = clone.answer(*words, fails="ss_typed")
+            expect(status == build.NOT_BUILT and calls, "options of verification may stand before and behind the file")
         status, out, err, calls = clone.answer("run", "FILE")
         expect(status == 7 and out == "answered run FILE\n", "the status of the program is passed on")
         expect(try_order(calls, below) == set(names), "each crate is built")

@@ -1,19 +1,21 @@
 -- What is read of facts.
-use Rattle.std.proofs.Common.{◌≡◌, ℕ, zero, suc, ◌+◌, ◌<◌, ◌≤◌, ℤ, pos, negsuc, ◌+ℤ◌, ◌-ℤ◌, ◌*ℤ◌, List, [], ◌∷◌, ◌++◌, length, get_or, take, map, Bool, true, false, ◌&&◌, ◌||◌, Option, Some, None, refl, sym, ◌∙◌, ap, subst, arith}
+use Rattle.std.proofs.Common.{◌≡◌, ℕ, zero, suc, ◌+◌, ◌<◌, ◌≤◌, ℤ, pos, negsuc, ◌+ℤ◌, ◌-ℤ◌, ◌*ℤ◌, List, [], ◌∷◌, ◌++◌, length, get_or, take, map, Bool, true, false, ◌&&◌, ◌||◌, Option, Some, None, refl, sym, ◌∙◌, ap, subst, append_assoc, arith}
 use Rattle.std.specs.Prelude.{if◌then◌else◌, IfSome}
-use Rattle.std.specs.List.{All, AllZip}
+use Rattle.std.specs.List.{All}
 use Rattle.std.proofs.lemmas.Int.{ints}
 use Rattle.std.proofs.lemmas.List.{take_more}
 use Rattle.std.proofs.lemmas.List.Elements.{All-append}
 use borrow.Author.Differences.{product_is}
 use Rattle.ss_core.specs.Tree.{ClassTree}
 use Rattle.ss_logic.specs.Terms.{Term}
+use Rattle.ss_logic.specs.Formulas.{Formula}
 use Rattle.ss_logic.specs.Equal.{same_term}
 use Rattle.ss_logic_sums.specs.Sums as sums
 use Rattle.ss_logic_sums.specs.Sums.{is_zero, sum_fact_of}
 use Rattle.ss_logic_sums.proofs.Numbers.{zero_is}
 use Rattle.ss_terms.specs.declared.forms.FormulaId.{FormulaId}
-use Rattle.ss_terms.specs.Forms.{Forms, term_at, formulas_at, HasFormula, HasFormulas, AreBelow}
+use Rattle.ss_terms.specs.declared.forms.TermId.{TermId}
+use Rattle.ss_terms.specs.Forms.{Forms, term_at, formula_at, formulas_at, HasTerm, HasFormula, HasFormulas, AreBelow}
 use Rattle.ss_linear_sums.specs.declared.forms.Part.{Part}
 use Rattle.ss_linear_sums.specs.declared.forms.SumFact.{SumFact}
 use Rattle.ss_linear_sums.specs.Linear as linear
@@ -22,7 +24,8 @@ use Rattle.ss_linear_rules.specs.Two.{is_one, is_less_one, parts_left, are_apart
 use Rattle.ss_linear_rules.specs.Few.{AreZero, one_at}
 use Rattle.ss_linear_rules.specs.Valued.{parts_at}
 use Rattle.ss_linear_rules.specs.Nodes.{end_value}
-use Rattle.ss_linear.specs.Contradictions.{said, HaveParts, AreRead, AreEnds}
+use Rattle.ss_linear.specs.Contradictions.{equality_at, equalities_at, HasPairs, HaveParts, AreEnds}
+use Rattle.ss_linear.specs.Results.{AreFacts}
 use Rattle.ss_linear.specs.declared.ends.Ends.{Ends}
 
 pub mapped_more : {A B : Type 0} (f : A → B) (xs : List A) (i : ℕ) (d : A) → i < length xs → map f (take (i + 1) xs) ≡ map f (take i xs) ++ f (get_or xs i d) ∷ []
@@ -32,22 +35,36 @@ mapped_more f xs i d l = ap (map f) (take_more xs i d l) ∙ pushed f (take i xs
     pushed f [] x = refl
     pushed f (y ∷ xs) x = ap (λ r. f y ∷ r) (pushed f xs x)
 
-zip_pushed : {A B : Type 0} (R : A → B → Type 0) (xs : List A) (ys : List B) (x : A) (y : B) → AllZip R xs ys → R x y → AllZip R (xs ++ x ∷ []) (ys ++ y ∷ [])
-zip_pushed R [] [] x y h k = (k, tt)
-zip_pushed R [] (b ∷ ys) x y h k = absurd h
-zip_pushed R (a ∷ xs) [] x y h k = absurd h
-zip_pushed R (a ∷ xs) (b ∷ ys) x y h k = (h.0, zip_pushed R xs ys x y h.1 k)
-
 pub empty_is : {A : Type 0} (xs : List A) → length xs < 1 → xs ≡ []
 empty_is [] l = refl
 empty_is (x ∷ xs) l = absurd (omega arith)
 
 -- ---- facts
 
-pub read_more : (cs : List ClassTree) (b : Forms) (fs : List FormulaId) (i : ℕ) (d : FormulaId) (vs ws : List (Option SumFact)) (v : Option SumFact) → i < length fs → ws ≡ vs ++ v ∷ [] → AllZip (IsFactOf b) vs (map (said cs b) (take i fs)) → IsFactOf b v (said cs b (get_or fs i d)) → AllZip (IsFactOf b) ws (map (said cs b) (take (i + 1) fs))
+pub facts_pushed : (cs : List ClassTree) (b : Forms) (known : List Formula) (vs ws : List (Option SumFact)) (f : Formula) (v : Option SumFact) → ws ≡ vs ++ v ∷ [] → AreFacts cs b known vs → IsFactOf b v (sum_fact_of cs f) → AreFacts cs b (known ++ f ∷ []) ws
+facts_pushed cs b known vs ws f v is h k = subst (λ (xs : List (Option SumFact)). AreFacts cs b (known ++ f ∷ []) xs) (sym is) (pushed known vs h)
+  where
+    pushed : (known : List Formula) (vs : List (Option SumFact)) → AreFacts cs b known vs → AreFacts cs b (known ++ f ∷ []) (vs ++ v ∷ [])
+    pushed [] [] h = (k, tt)
+    pushed [] (v ∷ vs) h = absurd h
+    pushed (f ∷ known) [] h = absurd h
+    pushed (f ∷ known) (v ∷ vs) h = (h.0, pushed known vs h.1)
+
+pub read_more : (cs : List ClassTree) (b : Forms) (fs : List FormulaId) (i : ℕ) (d : FormulaId) (vs ws : List (Option SumFact)) (v : Option SumFact) → i < length fs → ws ≡ vs ++ v ∷ [] → AreFacts cs b (formulas_at b (take i fs)) vs → IsFactOf b v (sum_fact_of cs (formula_at b (get_or fs i d))) → AreFacts cs b (formulas_at b (take (i + 1) fs)) ws
 read_more cs b fs i d vs ws v l is h k =
-    subst (λ (xs : List (Option SumFact)). AllZip (IsFactOf b) xs (map (said cs b) (take (i + 1) fs))) (sym is)
-    (subst (λ (ys : List (Option sums.SumFact)). AllZip (IsFactOf b) (vs ++ v ∷ []) ys) (sym (mapped_more (said cs b) fs i d l)) (zip_pushed (IsFactOf b) vs (map (said cs b) (take i fs)) v (said cs b (get_or fs i d)) h k))
+    subst (λ (gs : List Formula). AreFacts cs b gs ws) (sym (mapped_more (formula_at b) fs i d l)) (facts_pushed cs b (formulas_at b (take i fs)) vs ws (formula_at b (get_or fs i d)) v is h k)
+
+pub equal_more : (cs : List ClassTree) (b : Forms) (known : List Formula) (es : List (TermId × TermId)) (i : ℕ) (d : TermId × TermId) (vs ws : List (Option SumFact)) (v : Option SumFact) → i < length es → ws ≡ vs ++ v ∷ [] → AreFacts cs b (known ++ equalities_at b (take i es)) vs → IsFactOf b v (sum_fact_of cs (equality_at b (get_or es i d))) → AreFacts cs b (known ++ equalities_at b (take (i + 1) es)) ws
+equal_more cs b known es i d vs ws v l is h k =
+    subst (λ (gs : List Formula). AreFacts cs b gs ws)
+    (append_assoc known (equalities_at b (take i es)) (equality_at b (get_or es i d) ∷ []) ∙ ap (λ r. known ++ r) (sym (mapped_more (equality_at b) es i d l)))
+    (facts_pushed cs b (known ++ equalities_at b (take i es)) vs ws (equality_at b (get_or es i d)) v is h k)
+
+-- the bank has the terms of each pair
+pub has_pair : (b : Forms) (es : List (TermId × TermId)) (i : ℕ) (d : TermId × TermId) → HasPairs b es → i < length es → HasTerm b (get_or es i d).0 × HasTerm b (get_or es i d).1
+has_pair b [] i d h l = absurd (omega arith)
+has_pair b (e ∷ es) zero d h l = h.0
+has_pair b (e ∷ es) (suc i) d h l = has_pair b es i d h.1 (omega arith)
 
 all_one : {X : Type 0} (P : X → Type 0) (x : X) → P x → All P (x ∷ [])
 all_one P x h zero d l = h
@@ -67,26 +84,26 @@ pub has_formula_at : (b : Forms) (fs : List FormulaId) (i : ℕ) (d : FormulaId)
 has_formula_at b fs i d h l = have_formula _ fs i d h l
 
 -- what is read at a place is what the known formula there says
-pub read_at : (cs : List ClassTree) (b : Forms) (fs : List FormulaId) (vs : List (Option SumFact)) (i : ℕ) (d : Option SumFact) → AreRead cs b fs vs → i < length vs → IsFactOf b (get_or vs i d) (fact_at cs (formulas_at b fs) i)
-read_at cs b [] [] i d h l = absurd (omega arith)
-read_at cs b [] (v ∷ vs) i d h l = absurd h
-read_at cs b (f ∷ fs) [] i d h l = absurd h
-read_at cs b (f ∷ fs) (v ∷ vs) zero d h l = h.0
-read_at cs b (f ∷ fs) (v ∷ vs) (suc i) d h l = read_at cs b fs vs i d h.1 (omega arith)
+pub fact_read : (cs : List ClassTree) (b : Forms) (known : List Formula) (vs : List (Option SumFact)) (i : ℕ) (d : Option SumFact) → AreFacts cs b known vs → i < length vs → IsFactOf b (get_or vs i d) (fact_at cs known i)
+fact_read cs b [] [] i d h l = absurd (omega arith)
+fact_read cs b [] (v ∷ vs) i d h l = absurd h
+fact_read cs b (f ∷ known) [] i d h l = absurd h
+fact_read cs b (f ∷ known) (v ∷ vs) zero d h l = h.0
+fact_read cs b (f ∷ known) (v ∷ vs) (suc i) d h l = fact_read cs b known vs i d h.1 (omega arith)
 
 -- past those there is none
-pub read_past : (cs : List ClassTree) (b : Forms) (fs : List FormulaId) (vs : List (Option SumFact)) (i : ℕ) → AreRead cs b fs vs → length vs ≤ i → fact_at cs (formulas_at b fs) i ≡ None
-read_past cs b [] [] i h l = refl
-read_past cs b [] (v ∷ vs) i h l = absurd h
-read_past cs b (f ∷ fs) [] i h l = absurd h
-read_past cs b (f ∷ fs) (v ∷ vs) zero h l = absurd (omega arith)
-read_past cs b (f ∷ fs) (v ∷ vs) (suc i) h l = read_past cs b fs vs i h.1 (omega arith)
+pub fact_past : (cs : List ClassTree) (b : Forms) (known : List Formula) (vs : List (Option SumFact)) (i : ℕ) → AreFacts cs b known vs → length vs ≤ i → fact_at cs known i ≡ None
+fact_past cs b [] [] i h l = refl
+fact_past cs b [] (v ∷ vs) i h l = absurd h
+fact_past cs b (f ∷ known) [] i h l = absurd h
+fact_past cs b (f ∷ known) (v ∷ vs) zero h l = absurd (omega arith)
+fact_past cs b (f ∷ known) (v ∷ vs) (suc i) h l = fact_past cs b known vs i h.1 (omega arith)
 
-pub read_length : (cs : List ClassTree) (b : Forms) (fs : List FormulaId) (vs : List (Option SumFact)) → AreRead cs b fs vs → length vs ≡ length (formulas_at b fs)
-read_length cs b [] [] h = refl
-read_length cs b [] (v ∷ vs) h = absurd h
-read_length cs b (f ∷ fs) [] h = absurd h
-read_length cs b (f ∷ fs) (v ∷ vs) h = ap suc (read_length cs b fs vs h.1)
+pub facts_length : (cs : List ClassTree) (b : Forms) (known : List Formula) (vs : List (Option SumFact)) → AreFacts cs b known vs → length vs ≡ length known
+facts_length cs b [] [] h = refl
+facts_length cs b [] (v ∷ vs) h = absurd h
+facts_length cs b (f ∷ known) [] h = absurd h
+facts_length cs b (f ∷ known) (v ∷ vs) h = ap suc (facts_length cs b known vs h.1)
 
 -- ---- parts
 
@@ -116,6 +133,14 @@ pub value_more : (b : Forms) (v : Term → ℤ) (ps : List Part) (i : ℕ) (d : 
 value_more b v ps i d old new l h k =
     let e : parts_at v (linear.parts_at b (take (i + 1) ps)) ≡ parts_at v (linear.parts_at b (take i ps)) +ℤ parts_at v (linear.parts_at b (get_or ps i d ∷ [])) = ap (parts_at v) (mapped_more (linear.part_at b) ps i d l) ∙ value_pushed v (linear.parts_at b (take i ps)) (linear.part_at b (get_or ps i d)) in
     omega (arith, ints)
+
+-- what a part comes to is added
+pub part_value : (b : Forms) (v : Term → ℤ) (p : Part) (r : Option ℤ) (sum number : ℤ) → number ≡ v (term_at b p.term) → IfSome r (λ z. z ≡ sum +ℤ (p.coefficient *ℤ number)) → IfSome r (λ z. z ≡ sum +ℤ parts_at v (linear.parts_at b (p ∷ [])))
+part_value b v p None sum number e h = tt
+part_value b v p (Some z) sum number e h =
+    let k : z ≡ sum +ℤ (p.coefficient *ℤ v (term_at b p.term)) = h ∙ ap (λ x. sum +ℤ (p.coefficient *ℤ x)) e in
+    let all : z ≡ sum +ℤ ((p.coefficient *ℤ v (term_at b p.term)) +ℤ pos 0) = omega (arith, ints) in
+    all
 
 zero_pushed : (xs : List (Term × ℤ)) (p : Term × ℤ) → AreZero xs → is_zero p.1 ≡ true → AreZero (xs ++ p ∷ [])
 zero_pushed [] p h z = (z, tt)

@@ -1,3 +1,4 @@
 pub mod Glue
 pub mod Tests
 pub mod Results
+pub mod Seen

@@ -1,5 +1,5 @@
 -- What a weighted sum gives, read as a fact again.
-use Rattle.std.proofs.Common.{◌≡◌, ℕ, zero, suc, ◌+◌, ◌<◌, ◌≤◌, ◌^◌, ℤ, pos, negsuc, neg_ℤ, ◌+ℤ◌, ◌*ℤ◌, FitsSigned, List, [], ◌∷◌, ◌++◌, length, get_or, take, drop, Bool, true, false, Option, Some, None, option_and_then, refl, sym, ◌∙◌, ap, subst, append_assoc, arith}
+use Rattle.std.proofs.Common.{◌≡◌, ℕ, ◌+◌, ◌<◌, ◌≤◌, ◌^◌, ℤ, pos, negsuc, neg_ℤ, ◌+ℤ◌, ◌*ℤ◌, FitsSigned, List, [], ◌∷◌, ◌++◌, length, get_or, take, drop, Bool, true, false, Option, Some, None, option_and_then, refl, sym, ◌∙◌, ap, subst, append_assoc, arith}
 use Rattle.std.specs.Prelude.{if◌then◌else◌, IfNone, IfOk, Result, Ok, Err}
 use Rattle.std.specs.Int.{int_div_euclid, int_rem_euclid, is_positive, w128}
 use Rattle.std.proofs.lemmas.Int.{ints}
@@ -13,20 +13,24 @@ use Rattle.ss_logic.specs.Equal.{same_term, equal_terms}
 use Rattle.ss_logic_rules.specs.Shapes.{when, number, at_most}
 use Rattle.ss_logic_sums.specs.Sums.{is_within, is_zero, checked, plus_times, LinearSum, number_sum, term_sum, add_part, add_parts, sum_times, linear, SumFact, sum_fact, sum_fact_of, weighted, divided, multiple, sum_onto, sum_term, bounded, sum_of}
 use Rattle.ss_logic_sums.proofs.Numbers.{one_times, times_zero, zero_sum}
-use Rattle.ss_terms.specs.declared.forms.FormulaId.{FormulaId}
 use Rattle.ss_terms.specs.declared.forms.TermId.{TermId}
-use Rattle.ss_terms.specs.Forms.{Forms, term_at, formulas_at}
+use Rattle.ss_terms.specs.Forms.{Forms, term_at}
 use Rattle.ss_deriv.specs.declared.line.Sum.{Sum as Told}
 use Rattle.ss_linear_sums.specs.declared.forms.Part.{Part}
 use Rattle.ss_linear_sums.specs.declared.forms.LinearSum.{LinearSum as Sum}
 use Rattle.ss_linear_sums.specs.declared.forms.SumFact.{SumFact as Read}
-use Rattle.ss_linear_sums.specs.Linear.{part_at, parts_at, sum_at as sum_of_bank, fact_at as read_as, HasParts, IsFactOf, Became}
+use Rattle.ss_linear_sums.specs.Linear.{part_at, parts_at, sum_at as sum_of_bank, fact_at as read_as, HasParts, Became}
 use Rattle.ss_linear_sums.specs.Parts.{with_coefficient}
 use Rattle.ss_linear_sums.specs.Weighted.{divided_part}
-use Rattle.ss_linear_rules.specs.Two.{is_one, Refute, fact_at}
-use Rattle.ss_linear.specs.Contradictions.{AreRead, IsContradiction, summed, sums_of}
-use Rattle.ss_linear.specs.Results.{AreFacts, AreOthers, IsNext, AreNext, IsResult}
+use Rattle.ss_linear_rules.specs.Two.{is_one, Refute}
+use Rattle.ss_linear.specs.Contradictions.{IsContradiction, summed, sums_of}
+use Rattle.ss_linear.specs.Results.{AreOthers, IsNext, AreNext, IsResult}
 use Rattle.ss_linear.proofs.Glue.{mapped_more, one_is}
+
+pub none_then : {X E A B : Type 0} (r : Result (Option X) E) → (A → B) → IfOk r (λ o. IfNone o A) → IfOk r (λ o. IfNone o B)
+none_then (Ok (Some x)) f h = tt
+none_then (Ok None) f h = f h
+none_then (Err e) f h = tt
 
 kept : (c : ℤ) → is_within c ≡ true → checked c ≡ Some c
 kept c h = ap (λ b. when b c) h
@@ -102,36 +106,10 @@ next_after before (q ∷ ps) p h k = (h.0, next_after (before ++ q ∷ []) ps p 
 pub next_pushed : (ps : List (Term × ℤ)) (p : Term × ℤ) → AreNext [] ps → IsNext ps p → AreNext [] (ps ++ p ∷ [])
 next_pushed ps p h k = next_after [] ps p h k
 
--- ---- facts that are read
-
-pub fact_read : (cs : List ClassTree) (b : Forms) (known : List Formula) (vs : List (Option Read)) (i : ℕ) (d : Option Read) → AreFacts cs b known vs → i < length vs → IsFactOf b (get_or vs i d) (fact_at cs known i)
-fact_read cs b [] [] i d h l = absurd (omega arith)
-fact_read cs b [] (v ∷ vs) i d h l = absurd h
-fact_read cs b (f ∷ known) [] i d h l = absurd h
-fact_read cs b (f ∷ known) (v ∷ vs) zero d h l = h.0
-fact_read cs b (f ∷ known) (v ∷ vs) (suc i) d h l = fact_read cs b known vs i d h.1 (omega arith)
-
-pub facts_read : (cs : List ClassTree) (b : Forms) (fs : List FormulaId) (vs : List (Option Read)) → AreRead cs b fs vs → AreFacts cs b (formulas_at b fs) vs
-facts_read cs b [] [] h = tt
-facts_read cs b [] (v ∷ vs) h = absurd h
-facts_read cs b (f ∷ fs) [] h = absurd h
-facts_read cs b (f ∷ fs) (v ∷ vs) h = (h.0, facts_read cs b fs vs h.1)
-
-pub facts_more : (cs : List ClassTree) (b : Forms) (known : List Formula) (vs ws : List (Option Read)) (f : Formula) (v : Read) → ws ≡ vs ++ Some v ∷ [] → AreFacts cs b known vs → HasParts b v.sum.parts.items → sum_fact_of cs f ≡ Some (read_as b v) → AreFacts cs b (known ++ f ∷ []) ws
-facts_more cs b known vs ws f v is h has says = subst (λ (xs : List (Option Read)). AreFacts cs b (known ++ f ∷ []) xs) (sym is) (pushed known vs h)
-  where
-    pushed : (known : List Formula) (vs : List (Option Read)) → AreFacts cs b known vs → AreFacts cs b (known ++ f ∷ []) (vs ++ Some v ∷ [])
-    pushed [] [] h = ((has, says), tt)
-    pushed [] (v ∷ vs) h = absurd h
-    pushed (f ∷ known) [] h = absurd h
-    pushed (f ∷ known) (v ∷ vs) h = (h.0, pushed known vs h.1)
-
 -- ---- what the functions give
 
-pub became : {A B E : Type 0} (r : Result Bool E) (o : Option A) (x : A) (g : A → Option B) (n : B) → o ≡ Some x → IfOk r (λ yes. Became yes (g x) n) → IfOk r (λ yes. yes ≡ true → option_and_then g o ≡ Some n)
-became (Ok true) o x g n e h = λ k. ap (option_and_then g) e ∙ h
-became (Ok false) o x g n e h = λ k. let no : ⊥ = cc in absurd no
-became (Err e) o x g n f h = tt
+pub became : {A B E : Type 0} (r : Result Bool E) (o : Option A) (x : A) (g : A → Option B) (n : B) → o ≡ Some x → IfOk r (λ yes. Became yes (g x) n) → IfOk r (λ yes. Became yes (option_and_then g o) n)
+became r o x g n e h = subst (λ p. IfOk r (λ yes. Became yes (option_and_then g p) n)) (sym e) h
 
 pub mapped_ok : {E : Type 0} (r : Result Bool E) (P Q : Bool → Type 0) → ((b : Bool) → P b → Q b) → IfOk r P → IfOk r Q
 mapped_ok (Ok b) P Q f h = f b h

@@ -1,20 +1,20 @@
 -- What is read and found of known facts.
-use Rattle.std.specs.Prelude.{◌≡◌, ℕ, ℤ, pos, ◌-ℤ◌, List, [], ◌∷◌, map, Bool, true, false, Option, Some, None, IfSome, Vec}
+use Rattle.std.specs.Prelude.{◌≡◌, ◌⊎◌, ℕ, ℤ, pos, ◌-ℤ◌, List, [], ◌∷◌, map, Bool, true, false, Option, Some, None, IfSome, Vec}
 use Rattle.std.specs.declared.alloc.Global.{Global}
-use Rattle.std.specs.List.{All, AllZip}
+use Rattle.std.specs.List.{All, AllByRecursion}
 use Rattle.ss_core.specs.Tree.{ClassTree}
 use Rattle.ss_logic.specs.Terms.{Term}
 use Rattle.ss_logic.specs.Formulas.{Formula}
-use Rattle.ss_logic_sums.specs.Sums as sums
-use Rattle.ss_logic_sums.specs.Sums.{sum_fact_of, sum_of}
-use Rattle.ss_terms.specs.declared.forms.FormulaId.{FormulaId}
-use Rattle.ss_terms.specs.Forms.{Forms, formula_at}
+use Rattle.ss_logic_rules.specs.Shapes.{equal}
+use Rattle.ss_logic_sums.specs.Sums.{sum_of}
+use Rattle.ss_terms.specs.declared.forms.TermId.{TermId}
+use Rattle.ss_terms.specs.Forms.{Forms, term_at, HasTerm}
 use Rattle.ss_linear_sums.specs.declared.forms.SumFact.{SumFact}
-use Rattle.ss_linear_sums.specs.Linear.{HasParts, IsFactOf}
+use Rattle.ss_linear_sums.specs.Linear.{HasParts}
 use Rattle.ss_deriv.specs.declared.line.Sum.{Sum}
 use Rattle.ss_linear_rules.specs.Two.{IsFalse, IsUnit}
 use Rattle.ss_linear_rules.specs.Few.{IsNone}
-use Rattle.ss_linear_rules.specs.Valued.{parts_at}
+use Rattle.ss_linear_rules.specs.Valued.{parts_at, IsMetAt}
 use Rattle.ss_linear_rules.specs.Nodes.{end_value}
 use Rattle.ss_linear_network.specs.Made.{term_of, HasTermOf}
 use Rattle.ss_linear.specs.declared.ends.Ends.{Ends}
@@ -26,17 +26,20 @@ summed s = (s.divisor, s.parts.items)
 abbrev pub sums_of : List Sum → List (ℤ × List (ℕ × ℤ))
 sums_of ss = map summed ss
 
--- what the formula with this number says of a sum
-abbrev pub said : List ClassTree → Forms → FormulaId → Option sums.SumFact
-said cs b f = sum_fact_of cs (formula_at b f)
+-- that two terms are equal
+abbrev pub equality_at : Forms → TermId × TermId → Formula
+equality_at b p = equal (term_at b p.0) (term_at b p.1)
+
+abbrev pub equalities_at : Forms → List (TermId × TermId) → List Formula
+equalities_at b ps = map (equality_at b) ps
+
+-- the bank has both terms of each pair
+abbrev pub HasPairs : Forms → List (TermId × TermId) → Type 0
+HasPairs b ps = AllByRecursion (λ p. HasTerm b p.0 × HasTerm b p.1) ps
 
 -- the bank has the terms of the facts
 abbrev pub HaveParts : Forms → List (Option SumFact) → Type 0
 HaveParts b facts = All (λ o. IfSome o (λ f. HasParts b f.sum.parts.items)) facts
-
--- the facts that are read of formulas, one by one
-abbrev pub AreRead : List ClassTree → Forms → List FormulaId → List (Option SumFact) → Type 0
-AreRead cs b fs facts = AllZip (IsFactOf b) facts (map (said cs b) fs)
 
 -- the sum with these weights and the divisor 1 gives what is false
 abbrev pub IsContradiction : List ClassTree → List Formula → List (ℕ × ℤ) → Type 0
@@ -62,23 +65,47 @@ abbrev pub IsWeight : List ClassTree → List Formula → ℕ → Option ℤ →
 IsWeight cs known i (Some w) = IsContradiction cs known ((i, w) ∷ [])
 IsWeight cs known i None = (w : ℤ) → IsUnit w → IsNone cs known ((i, w) ∷ [])
 
--- the known fact at this place is no contradiction by itself or with another one
+-- the known facts at these places are no contradiction together, in this order
+abbrev pub IsFreeOf : List ClassTree → List Formula → ℕ → ℕ → Type 0
+IsFreeOf cs known i j = (w u : ℤ) → IsUnit w → IsUnit u → IsNone cs known ((i, w) ∷ (j, u) ∷ [])
+
+-- the known fact at this place is no contradiction by itself
+abbrev pub IsFreeAlone : List ClassTree → List Formula → ℕ → Type 0
+IsFreeAlone cs known i = (w : ℤ) → IsUnit w → IsNone cs known ((i, w) ∷ [])
+
+-- nor with another one
 abbrev pub IsFree : List ClassTree → List Formula → ℕ → Type 0
-IsFree cs known i = ((w : ℤ) → IsUnit w → IsNone cs known ((i, w) ∷ [])) × ((j : ℕ) (w u : ℤ) → IsUnit w → IsUnit u → IsNone cs known ((i, w) ∷ (j, u) ∷ []))
+IsFree cs known i = IsFreeAlone cs known i × ((j : ℕ) → IsFreeOf cs known i j)
+
+-- It is so at these numbers, or it is no contradiction by itself, nor with another one in any order.
+abbrev pub IsClear : List ClassTree → List Formula → (Term → ℤ) → ℕ → Type 0
+IsClear cs known v i = IsMetAt cs known v i ⊎ (IsFreeAlone cs known i × ((j : ℕ) → IsFreeOf cs known i j × IsFreeOf cs known j i))
 
 -- a contradiction, or what is so without one
 abbrev pub IsPair : List ClassTree → List Formula → ℕ → ℕ → Option (Vec (ℕ × ℤ) Global) → Type 0
 IsPair cs known i j (Some ps) = IsContradiction cs known ps.items
-IsPair cs known i j None = (w u : ℤ) → IsUnit w → IsUnit u → IsNone cs known ((i, w) ∷ (j, u) ∷ [])
+IsPair cs known i j None = IsFreeOf cs known i j
 
 abbrev pub IsSecond : List ClassTree → List Formula → ℕ → Option (Vec (ℕ × ℤ) Global) → Type 0
 IsSecond cs known i (Some ps) = IsContradiction cs known ps.items
-IsSecond cs known i None = (j : ℕ) (w u : ℤ) → IsUnit w → IsUnit u → IsNone cs known ((i, w) ∷ (j, u) ∷ [])
+IsSecond cs known i None = (j : ℕ) → IsFreeOf cs known i j
 
-abbrev pub IsAt : List ClassTree → List Formula → ℕ → Option (Vec (ℕ × ℤ) Global) → Type 0
-IsAt cs known i (Some ps) = IsContradiction cs known ps.items
-IsAt cs known i None = IsFree cs known i
+abbrev pub IsFirst : List ClassTree → List Formula → ℕ → Option (Vec (ℕ × ℤ) Global) → Type 0
+IsFirst cs known i (Some ps) = IsContradiction cs known ps.items
+IsFirst cs known i None = (j : ℕ) → IsFreeOf cs known j i
 
-abbrev pub IsFew : List ClassTree → List Formula → Option (Vec (ℕ × ℤ) Global) → Type 0
-IsFew cs known (Some ps) = IsContradiction cs known ps.items
-IsFew cs known None = (i : ℕ) → IsFree cs known i
+abbrev pub IsBeside : List ClassTree → List Formula → ℕ → Option (Vec (ℕ × ℤ) Global) → Type 0
+IsBeside cs known i (Some ps) = IsContradiction cs known ps.items
+IsBeside cs known i None = (j : ℕ) → IsFreeOf cs known i j × IsFreeOf cs known j i
+
+abbrev pub IsOther : List ClassTree → List Formula → ℕ → Option (Vec (ℕ × ℤ) Global) → Type 0
+IsOther cs known i (Some ps) = IsContradiction cs known ps.items
+IsOther cs known i None = IsFreeAlone cs known i × ((j : ℕ) → IsFreeOf cs known i j × IsFreeOf cs known j i)
+
+abbrev pub IsAt : List ClassTree → List Formula → (Term → ℤ) → ℕ → Option (Vec (ℕ × ℤ) Global) → Type 0
+IsAt cs known v i (Some ps) = IsContradiction cs known ps.items
+IsAt cs known v i None = IsClear cs known v i
+
+abbrev pub IsFew : List ClassTree → List Formula → (Term → ℤ) → Option (Vec (ℕ × ℤ) Global) → Type 0
+IsFew cs known v (Some ps) = IsContradiction cs known ps.items
+IsFew cs known v None = (i : ℕ) → IsClear cs known v i

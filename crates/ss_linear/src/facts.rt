@@ -2,28 +2,30 @@
 
 ghost use Rattle.std.specs.Prelude.{◌≡◌, ◌+ℤ◌, List, [], ◌∷◌, ◌++◌, OnOk, IfOk, IfSome};
 ghost use Rattle.ss_core.specs.Tree.{ClassTree};
+ghost use Rattle.ss_logic.specs.Formulas.{Formula};
 ghost use Rattle.ss_logic_sums.specs.Sums as sums;
-ghost use Rattle.ss_terms.specs.Forms.{Forms, term_at, HasTerm, HasFormulas, IsBankOf};
+ghost use Rattle.ss_terms.specs.Forms.{Forms, term_at, formulas_at, HasTerm, HasFormulas, IsBankOf};
 ghost use Rattle.ss_linear_sums.specs.Linear as linear;
 ghost use Rattle.ss_linear_sums.specs.Linear.{HasParts};
 ghost use Rattle.ss_linear_rules.specs.Two as two;
 ghost use Rattle.ss_linear_rules.specs.Few.{one_at};
 ghost use Rattle.ss_linear_rules.specs.Valued as valued;
-ghost use Rattle.ss_linear.specs.Contradictions.{HaveParts, AreRead};
+ghost use Rattle.ss_linear.specs.Contradictions.{equalities_at, HasPairs, HaveParts};
+ghost use Rattle.ss_linear.specs.Results.{AreFacts};
 
-use ss_linear_sums::{Part, SumFact, SumTable, sum_fact};
+use ss_linear_sums::{Part, SumFact, SumTable, equality_fact, sum_fact};
 use ss_terms::{Bank, FormulaId, TermId};
 use std::alloc::{AllocError, Global};
 
-/// What each known fact says of a sum, if anything.
-pub(crate) fn read_all(
+/// What each formula says of a sum, if anything.
+pub(crate) fn read_formulas(
     alloc: Global,
     bank: &Bank,
     known: &[FormulaId],
 ) -> Result<Vec<Option<SumFact>>, AllocError>
     requires { HasFormulas bank.now known.now }
     ensures parts { IfOk result (λ v. HaveParts bank.now v.items) }
-    ensures read { (cs : List ClassTree) → IsBankOf cs bank.now → IfOk result (λ v. AreRead cs bank.now known.now v.items) }
+    ensures read { (cs : List ClassTree) → IsBankOf cs bank.now → IfOk result (λ v. AreFacts cs bank.now (formulas_at bank.now known.now) v.items) }
 {
     let mut table = SumTable::new(alloc);
     let mut facts = Vec::new(alloc);
@@ -32,6 +34,50 @@ pub(crate) fn read_all(
         facts.push(fact)?;
     }
     Ok(facts)
+}
+
+// Adds what the equality of each pair of terms says.
+fn add_equalities(
+    alloc: Global,
+    bank: &Bank,
+    equalities: &[(TermId, TermId)],
+    facts: &mut Vec<Option<SumFact>>,
+) -> Result<(), AllocError>
+    requires terms { HasPairs bank.now equalities.now }
+    requires parts { HaveParts bank.now facts.old.items }
+    ensures parts { OnOk result (HaveParts bank.now facts.new.items) }
+    ensures read { (cs : List ClassTree) (known : List Formula) → IsBankOf cs bank.now → AreFacts cs bank.now known facts.old.items → OnOk result (AreFacts cs bank.now (known ++ equalities_at bank.now equalities.now) facts.new.items) }
+{
+    let mut table = SumTable::new(alloc);
+    for pair in equalities {
+        let fact = equality_fact(alloc, bank, &mut table, pair.0, pair.1)?;
+        facts.push(fact)?;
+    }
+    Ok(())
+}
+
+/// The same, and behind it what the equality of each pair of terms says.
+pub(crate) fn read_all(
+    alloc: Global,
+    bank: &Bank,
+    known: &[FormulaId],
+    equalities: &[(TermId, TermId)],
+) -> Result<Vec<Option<SumFact>>, AllocError>
+    requires known { HasFormulas bank.now known.now }
+    requires terms { HasPairs bank.now equalities.now }
+    ensures parts { IfOk result (λ v. HaveParts bank.now v.items) }
+    ensures read { (cs : List ClassTree) → IsBankOf cs bank.now → IfOk result (λ v. AreFacts cs bank.now (formulas_at bank.now known.now ++ equalities_at bank.now equalities.now) v.items) }
+{
+    let mut facts = read_formulas(alloc, bank, known)?;
+    add_equalities(alloc, bank, equalities, &mut facts)?;
+    Ok(facts)
+}
+
+/// The number with more bits.
+pub(crate) fn wide(n: i64) -> i128
+    ensures { result ≡ n }
+{
+    n as i128
 }
 
 /// Whether a number is 0.

@@ -3,25 +3,24 @@
 ghost use Rattle.std.specs.Prelude.{◌≡◌, ◌⊎◌, ◌<◌, ℕ, ℤ, pos, ◌+ℤ◌, ◌*ℤ◌, ◌<ℤ◌, ◌≤ℤ◌, List, [], ◌∷◌, length, Some, IsTrue, IsFalse, IfOk, IfSome};
 ghost use Rattle.ss_core.specs.Tree.{ClassTree};
 ghost use Rattle.ss_logic.specs.Formulas.{Formula};
-ghost use Rattle.ss_terms.specs.Forms.{Forms, term_at, HasFormulas, formulas_at, IsBankOf};
+ghost use Rattle.ss_terms.specs.Forms.{Forms, term_at};
 ghost use Rattle.ss_linear_sums.specs.Linear as linear;
 ghost use Rattle.ss_linear_sums.specs.Linear.{HasParts, IsFactOf};
 ghost use Rattle.ss_linear_rules.specs.Two as two;
+ghost use Rattle.ss_linear_rules.specs.Two.{IsUnit};
 ghost use Rattle.ss_linear_rules.specs.Few.{IsNone, AreZero, one_at};
 ghost use Rattle.ss_linear_rules.specs.Valued.{parts_at};
-ghost use Rattle.ss_linear.specs.Contradictions.{HaveParts, AreRead, IsTested, AreWeights, IsWeight, IsPair, IsSecond, IsAt, IsFew};
+ghost use Rattle.ss_linear.specs.Contradictions.{HaveParts, IsTested, AreWeights, IsWeight, IsPair, IsSecond, IsFirst, IsBeside, IsOther, IsAt, IsFew};
+ghost use Rattle.ss_linear_network.specs.Made.{AreNodesOf, numbers_at};
+ghost use Rattle.ss_linear.specs.Results.{AreFacts};
 
-use crate::facts::{coefficient_of, is_zero, is_zero_part};
-use ss_linear_sums::{LinearSum, Part, SumFact, weighted};
-use ss_terms::{Bank, FormulaId};
+use crate::adding::weighted;
+use crate::facts::{coefficient_of, is_zero, is_zero_part, wide};
+use crate::meeting::is_met;
+use ss_linear_network::Numbers;
+use ss_linear_sums::{LinearSum, Part, SumFact};
+use ss_terms::Bank;
 use std::alloc::{AllocError, Global};
-
-/// The number with more bits.
-pub(crate) fn wide(n: i64) -> i128
-    ensures { result ≡ n }
-{
-    n as i128
-}
 
 // A number with its weight. None where that leaves 128 bits.
 fn times(w: i64, n: i128) -> Option<i128>
@@ -72,6 +71,29 @@ fn may_cancel(bank: &Bank, p: Part, a: &[Part], w: i64, b: &[Part], u: i64) -> b
     }
 }
 
+// Whether two numbers are of one size.
+fn are_alike(c: i128, d: i128) -> bool
+    ensures { (w u : ℤ) → IsUnit w → IsUnit u → IsFalse result → ((w *ℤ c) +ℤ (u *ℤ d)) ≡ pos 0 → ⊥ }
+{
+    c.unsigned_abs() == d.unsigned_abs()
+}
+
+// Whether a part may cancel in the sum of two facts with any weights.
+fn may_match(bank: &Bank, p: Part, a: &[Part], b: &[Part]) -> bool
+    requires part { HasParts bank.now (p ∷ []) }
+    requires first { HasParts bank.now a.now }
+    requires second { HasParts bank.now b.now }
+    ensures { (w u : ℤ) → IsUnit w → IsUnit u → IsFalse result → ((w *ℤ parts_at (one_at (term_at bank.now p.term)) (linear.parts_at bank.now a.now)) +ℤ (u *ℤ parts_at (one_at (term_at bank.now p.term)) (linear.parts_at bank.now b.now))) ≡ pos 0 → ⊥ }
+{
+    match (
+        coefficient_of(bank, a, p.term),
+        coefficient_of(bank, b, p.term),
+    ) {
+        (Some(c), Some(d)) => are_alike(c, d),
+        _ => true,
+    }
+}
+
 // The first part that counts.
 fn first_left(parts: &[Part]) -> Option<Part>
     ensures { (b : Forms) → HasParts b parts.now → IfSome result (λ p. HasParts b (p ∷ [])) }
@@ -95,6 +117,18 @@ fn may_contradict(bank: &Bank, a: &SumFact, w: i64, b: &SumFact, u: i64) -> bool
     }
     match first_left(&a.sum.parts) {
         Some(p) => may_cancel(bank, p, &a.sum.parts, w, &b.sum.parts, u),
+        None => true,
+    }
+}
+
+// Whether two facts may be a contradiction with any weights, by the first part that counts.
+fn may_meet(bank: &Bank, a: &SumFact, b: &SumFact) -> bool
+    requires first { HasParts bank.now a.now.sum.parts.items }
+    requires second { HasParts bank.now b.now.sum.parts.items }
+    ensures { (cs : List ClassTree) (known : List Formula) (i j : ℕ) → two.fact_at cs known i ≡ Some (linear.fact_at bank.now a.now) → two.fact_at cs known j ≡ Some (linear.fact_at bank.now b.now) → (w u : ℤ) → IsUnit w → IsUnit u → IsFalse result → IsNone cs known ((i, w) ∷ (j, u) ∷ []) }
+{
+    match first_left(&a.sum.parts) {
+        Some(p) => may_match(bank, p, &a.sum.parts, &b.sum.parts),
         None => true,
     }
 }
@@ -129,13 +163,13 @@ pub(crate) fn is_false(sum: &LinearSum) -> bool
 fn is_contradiction(
     alloc: Global,
     bank: &Bank,
-    known: &[FormulaId],
+    facts: &[Option<SumFact>],
     parts: &[(usize, i64)],
 ) -> Result<bool, AllocError>
-    requires { HasFormulas bank.now known.now }
-    ensures { (cs : List ClassTree) → IsBankOf cs bank.now → IfOk result (IsTested cs (formulas_at bank.now known.now) parts.now) }
+    requires { HaveParts bank.now facts.now }
+    ensures { (cs : List ClassTree) (known : List Formula) → AreFacts cs bank.now known facts.now → IfOk result (IsTested cs known parts.now) }
 {
-    let found = weighted(alloc, bank, known, parts)?;
+    let found = weighted(alloc, bank, facts, parts)?;
     match found {
         Some(sum) => Ok(is_false(&sum)),
         None => Ok(false),
@@ -146,19 +180,19 @@ fn is_contradiction(
 fn is_pair(
     alloc: Global,
     bank: &Bank,
-    known: &[FormulaId],
+    facts: &[Option<SumFact>],
     a: &SumFact,
     b: &SumFact,
     first: (usize, i64),
     second: (usize, i64),
 ) -> Result<bool, AllocError>
-    requires known { HasFormulas bank.now known.now }
+    requires facts { HaveParts bank.now facts.now }
     requires parts { HasParts bank.now a.now.sum.parts.items }
     requires others { HasParts bank.now b.now.sum.parts.items }
-    ensures { (cs : List ClassTree) → IsBankOf cs bank.now → two.fact_at cs (formulas_at bank.now known.now) first.0 ≡ Some (linear.fact_at bank.now a.now) → two.fact_at cs (formulas_at bank.now known.now) second.0 ≡ Some (linear.fact_at bank.now b.now) → IfOk result (IsTested cs (formulas_at bank.now known.now) (first ∷ second ∷ [])) }
+    ensures { (cs : List ClassTree) (known : List Formula) → AreFacts cs bank.now known facts.now → two.fact_at cs known first.0 ≡ Some (linear.fact_at bank.now a.now) → two.fact_at cs known second.0 ≡ Some (linear.fact_at bank.now b.now) → IfOk result (IsTested cs known (first ∷ second ∷ [])) }
 {
     if may_contradict(bank, a, first.1, b, second.1) {
-        is_contradiction(alloc, bank, known, &[first, second])
+        is_contradiction(alloc, bank, facts, &[first, second])
     } else {
         Ok(false)
     }
@@ -168,27 +202,27 @@ fn is_pair(
 fn of_two(
     alloc: Global,
     bank: &Bank,
-    known: &[FormulaId],
+    facts: &[Option<SumFact>],
     a: &SumFact,
     b: &SumFact,
     i: usize,
     j: usize,
 ) -> Result<Option<(i64, i64)>, AllocError>
-    requires known { HasFormulas bank.now known.now }
+    requires facts { HaveParts bank.now facts.now }
     requires parts { HasParts bank.now a.now.sum.parts.items }
     requires others { HasParts bank.now b.now.sum.parts.items }
-    ensures { (cs : List ClassTree) → IsBankOf cs bank.now → two.fact_at cs (formulas_at bank.now known.now) i ≡ Some (linear.fact_at bank.now a.now) → two.fact_at cs (formulas_at bank.now known.now) j ≡ Some (linear.fact_at bank.now b.now) → IfOk result (AreWeights cs (formulas_at bank.now known.now) i j) }
+    ensures { (cs : List ClassTree) (known : List Formula) → AreFacts cs bank.now known facts.now → two.fact_at cs known i ≡ Some (linear.fact_at bank.now a.now) → two.fact_at cs known j ≡ Some (linear.fact_at bank.now b.now) → IfOk result (AreWeights cs known i j) }
 {
-    if is_pair(alloc, bank, known, a, b, (i, 1), (j, 1))? {
+    if is_pair(alloc, bank, facts, a, b, (i, 1), (j, 1))? {
         return Ok(Some((1, 1)));
     }
-    if is_pair(alloc, bank, known, a, b, (i, 1), (j, -1))? {
+    if is_pair(alloc, bank, facts, a, b, (i, 1), (j, -1))? {
         return Ok(Some((1, -1)));
     }
-    if is_pair(alloc, bank, known, a, b, (i, -1), (j, 1))? {
+    if is_pair(alloc, bank, facts, a, b, (i, -1), (j, 1))? {
         return Ok(Some((-1, 1)));
     }
-    if is_pair(alloc, bank, known, a, b, (i, -1), (j, -1))? {
+    if is_pair(alloc, bank, facts, a, b, (i, -1), (j, -1))? {
         return Ok(Some((-1, -1)));
     }
     Ok(None)
@@ -198,16 +232,16 @@ fn of_two(
 fn of_one(
     alloc: Global,
     bank: &Bank,
-    known: &[FormulaId],
+    facts: &[Option<SumFact>],
     i: usize,
 ) -> Result<Option<i64>, AllocError>
-    requires { HasFormulas bank.now known.now }
-    ensures { (cs : List ClassTree) → IsBankOf cs bank.now → IfOk result (IsWeight cs (formulas_at bank.now known.now) i) }
+    requires { HaveParts bank.now facts.now }
+    ensures { (cs : List ClassTree) (known : List Formula) → AreFacts cs bank.now known facts.now → IfOk result (IsWeight cs known i) }
 {
-    if is_contradiction(alloc, bank, known, &[(i, 1)])? {
+    if is_contradiction(alloc, bank, facts, &[(i, 1)])? {
         return Ok(Some(1));
     }
-    if is_contradiction(alloc, bank, known, &[(i, -1)])? {
+    if is_contradiction(alloc, bank, facts, &[(i, -1)])? {
         return Ok(Some(-1));
     }
     Ok(None)
@@ -241,18 +275,21 @@ fn pair(
 fn of_facts(
     alloc: Global,
     bank: &Bank,
-    known: &[FormulaId],
+    facts: &[Option<SumFact>],
     a: &SumFact,
     b: &SumFact,
     i: usize,
     j: usize,
 ) -> Result<Option<Vec<(usize, i64)>>, AllocError>
-    requires known { HasFormulas bank.now known.now }
+    requires facts { HaveParts bank.now facts.now }
     requires parts { HasParts bank.now a.now.sum.parts.items }
     requires others { HasParts bank.now b.now.sum.parts.items }
-    ensures { (cs : List ClassTree) → IsBankOf cs bank.now → two.fact_at cs (formulas_at bank.now known.now) i ≡ Some (linear.fact_at bank.now a.now) → two.fact_at cs (formulas_at bank.now known.now) j ≡ Some (linear.fact_at bank.now b.now) → IfOk result (IsPair cs (formulas_at bank.now known.now) i j) }
+    ensures { (cs : List ClassTree) (known : List Formula) → AreFacts cs bank.now known facts.now → two.fact_at cs known i ≡ Some (linear.fact_at bank.now a.now) → two.fact_at cs known j ≡ Some (linear.fact_at bank.now b.now) → IfOk result (IsPair cs known i j) }
 {
-    match of_two(alloc, bank, known, a, b, i, j)? {
+    if !may_meet(bank, a, b) {
+        return Ok(None);
+    }
+    match of_two(alloc, bank, facts, a, b, i, j)? {
         Some(weights) => Ok(Some(pair(alloc, i, j, weights)?)),
         None => Ok(None),
     }
@@ -262,19 +299,19 @@ fn of_facts(
 fn with_other(
     alloc: Global,
     bank: &Bank,
-    known: &[FormulaId],
+    facts: &[Option<SumFact>],
     a: &SumFact,
     other: &Option<SumFact>,
     i: usize,
     j: usize,
 ) -> Result<Option<Vec<(usize, i64)>>, AllocError>
-    requires known { HasFormulas bank.now known.now }
+    requires facts { HaveParts bank.now facts.now }
     requires parts { HasParts bank.now a.now.sum.parts.items }
     requires others { IfSome other.now (λ f. HasParts bank.now f.sum.parts.items) }
-    ensures { (cs : List ClassTree) → IsBankOf cs bank.now → two.fact_at cs (formulas_at bank.now known.now) i ≡ Some (linear.fact_at bank.now a.now) → IsFactOf bank.now other.now (two.fact_at cs (formulas_at bank.now known.now) j) → IfOk result (IsPair cs (formulas_at bank.now known.now) i j) }
+    ensures { (cs : List ClassTree) (known : List Formula) → AreFacts cs bank.now known facts.now → two.fact_at cs known i ≡ Some (linear.fact_at bank.now a.now) → IsFactOf bank.now other.now (two.fact_at cs known j) → IfOk result (IsPair cs known i j) }
 {
     match other {
-        Some(b) => of_facts(alloc, bank, known, a, b, i, j),
+        Some(b) => of_facts(alloc, bank, facts, a, b, i, j),
         None => Ok(None),
     }
 }
@@ -283,18 +320,16 @@ fn with_other(
 fn with_second(
     alloc: Global,
     bank: &Bank,
-    known: &[FormulaId],
     facts: &[Option<SumFact>],
     i: usize,
     a: &SumFact,
 ) -> Result<Option<Vec<(usize, i64)>>, AllocError>
-    requires known { HasFormulas bank.now known.now }
     requires facts { HaveParts bank.now facts.now }
     requires parts { HasParts bank.now a.now.sum.parts.items }
-    ensures { (cs : List ClassTree) → IsBankOf cs bank.now → AreRead cs bank.now known.now facts.now → two.fact_at cs (formulas_at bank.now known.now) i ≡ Some (linear.fact_at bank.now a.now) → IfOk result (IsSecond cs (formulas_at bank.now known.now) i) }
+    ensures { (cs : List ClassTree) (known : List Formula) → AreFacts cs bank.now known facts.now → two.fact_at cs known i ≡ Some (linear.fact_at bank.now a.now) → IfOk result (IsSecond cs known i) }
 {
     for (j, other) in facts.iter().enumerate() {
-        match with_other(alloc, bank, known, a, other, i, j)? {
+        match with_other(alloc, bank, facts, a, other, i, j)? {
             Some(parts) => return Ok(Some(parts)),
             None => {}
         }
@@ -302,23 +337,102 @@ fn with_second(
     Ok(None)
 }
 
-// A contradiction of a fact alone, or with another one.
-fn of_fact(
+// A contradiction of the fact at another place and this one.
+fn before(
     alloc: Global,
     bank: &Bank,
-    known: &[FormulaId],
+    facts: &[Option<SumFact>],
+    a: &SumFact,
+    other: &Option<SumFact>,
+    i: usize,
+    j: usize,
+) -> Result<Option<Vec<(usize, i64)>>, AllocError>
+    requires facts { HaveParts bank.now facts.now }
+    requires parts { HasParts bank.now a.now.sum.parts.items }
+    requires others { IfSome other.now (λ f. HasParts bank.now f.sum.parts.items) }
+    ensures { (cs : List ClassTree) (known : List Formula) → AreFacts cs bank.now known facts.now → two.fact_at cs known i ≡ Some (linear.fact_at bank.now a.now) → IsFactOf bank.now other.now (two.fact_at cs known j) → IfOk result (IsPair cs known j i) }
+{
+    match other {
+        Some(b) => of_facts(alloc, bank, facts, b, a, j, i),
+        None => Ok(None),
+    }
+}
+
+// A contradiction of another fact and this one.
+fn with_first(
+    alloc: Global,
+    bank: &Bank,
     facts: &[Option<SumFact>],
     i: usize,
     a: &SumFact,
 ) -> Result<Option<Vec<(usize, i64)>>, AllocError>
-    requires known { HasFormulas bank.now known.now }
     requires facts { HaveParts bank.now facts.now }
     requires parts { HasParts bank.now a.now.sum.parts.items }
-    ensures { (cs : List ClassTree) → IsBankOf cs bank.now → AreRead cs bank.now known.now facts.now → two.fact_at cs (formulas_at bank.now known.now) i ≡ Some (linear.fact_at bank.now a.now) → IfOk result (IsAt cs (formulas_at bank.now known.now) i) }
+    ensures { (cs : List ClassTree) (known : List Formula) → AreFacts cs bank.now known facts.now → two.fact_at cs known i ≡ Some (linear.fact_at bank.now a.now) → IfOk result (IsFirst cs known i) }
 {
-    match of_one(alloc, bank, known, i)? {
+    for (j, other) in facts.iter().enumerate() {
+        match before(alloc, bank, facts, a, other, i, j)? {
+            Some(parts) => return Ok(Some(parts)),
+            None => {}
+        }
+    }
+    Ok(None)
+}
+
+// A contradiction of a fact and another one, in any order.
+fn with_any(
+    alloc: Global,
+    bank: &Bank,
+    facts: &[Option<SumFact>],
+    i: usize,
+    a: &SumFact,
+) -> Result<Option<Vec<(usize, i64)>>, AllocError>
+    requires facts { HaveParts bank.now facts.now }
+    requires parts { HasParts bank.now a.now.sum.parts.items }
+    ensures { (cs : List ClassTree) (known : List Formula) → AreFacts cs bank.now known facts.now → two.fact_at cs known i ≡ Some (linear.fact_at bank.now a.now) → IfOk result (IsBeside cs known i) }
+{
+    match with_second(alloc, bank, facts, i, a)? {
+        Some(parts) => Ok(Some(parts)),
+        None => with_first(alloc, bank, facts, i, a),
+    }
+}
+
+// A contradiction of a fact alone, or with another one.
+fn of_other(
+    alloc: Global,
+    bank: &Bank,
+    facts: &[Option<SumFact>],
+    i: usize,
+    a: &SumFact,
+) -> Result<Option<Vec<(usize, i64)>>, AllocError>
+    requires facts { HaveParts bank.now facts.now }
+    requires parts { HasParts bank.now a.now.sum.parts.items }
+    ensures { (cs : List ClassTree) (known : List Formula) → AreFacts cs bank.now known facts.now → two.fact_at cs known i ≡ Some (linear.fact_at bank.now a.now) → IfOk result (IsOther cs known i) }
+{
+    match of_one(alloc, bank, facts, i)? {
         Some(w) => Ok(Some(one(alloc, (i, w))?)),
-        None => with_second(alloc, bank, known, facts, i, a),
+        None => with_any(alloc, bank, facts, i, a),
+    }
+}
+
+// The same of a fact that these numbers may meet. Then it is no contradiction with others that they meet.
+fn of_fact(
+    alloc: Global,
+    bank: &Bank,
+    facts: &[Option<SumFact>],
+    i: usize,
+    a: &SumFact,
+    numbers: &Numbers,
+) -> Result<Option<Vec<(usize, i64)>>, AllocError>
+    requires facts { HaveParts bank.now facts.now }
+    requires nodes { AreNodesOf bank.now numbers.now.nodes }
+    requires parts { HasParts bank.now a.now.sum.parts.items }
+    ensures { (cs : List ClassTree) (known : List Formula) → AreFacts cs bank.now known facts.now → two.fact_at cs known i ≡ Some (linear.fact_at bank.now a.now) → IfOk result (IsAt cs known (numbers_at bank.now numbers.now) i) }
+{
+    if is_met(bank, numbers, a) {
+        Ok(None)
+    } else {
+        of_other(alloc, bank, facts, i, a)
     }
 }
 
@@ -326,35 +440,36 @@ fn of_fact(
 fn of_place(
     alloc: Global,
     bank: &Bank,
-    known: &[FormulaId],
     facts: &[Option<SumFact>],
     i: usize,
     first: &Option<SumFact>,
+    numbers: &Numbers,
 ) -> Result<Option<Vec<(usize, i64)>>, AllocError>
-    requires known { HasFormulas bank.now known.now }
     requires facts { HaveParts bank.now facts.now }
+    requires nodes { AreNodesOf bank.now numbers.now.nodes }
     requires first { IfSome first.now (λ f. HasParts bank.now f.sum.parts.items) }
-    ensures { (cs : List ClassTree) → IsBankOf cs bank.now → AreRead cs bank.now known.now facts.now → IsFactOf bank.now first.now (two.fact_at cs (formulas_at bank.now known.now) i) → IfOk result (IsAt cs (formulas_at bank.now known.now) i) }
+    ensures { (cs : List ClassTree) (known : List Formula) → AreFacts cs bank.now known facts.now → IsFactOf bank.now first.now (two.fact_at cs known i) → IfOk result (IsAt cs known (numbers_at bank.now numbers.now) i) }
 {
     match first {
-        Some(a) => of_fact(alloc, bank, known, facts, i, a),
+        Some(a) => of_fact(alloc, bank, facts, i, a, numbers),
         None => Ok(None),
     }
 }
 
-/// One or two known facts and weights with which their sum is a contradiction. None only where there are no such.
+/// One or two known facts and weights with which their sum is a contradiction. None only where there are no such but of
+/// facts that these numbers meet.
 pub(crate) fn of_few(
     alloc: Global,
     bank: &Bank,
-    known: &[FormulaId],
     facts: &[Option<SumFact>],
+    numbers: &Numbers,
 ) -> Result<Option<Vec<(usize, i64)>>, AllocError>
-    requires known { HasFormulas bank.now known.now }
     requires facts { HaveParts bank.now facts.now }
-    ensures { (cs : List ClassTree) → IsBankOf cs bank.now → AreRead cs bank.now known.now facts.now → IfOk result (IsFew cs (formulas_at bank.now known.now)) }
+    requires nodes { AreNodesOf bank.now numbers.now.nodes }
+    ensures { (cs : List ClassTree) (known : List Formula) → AreFacts cs bank.now known facts.now → IfOk result (IsFew cs known (numbers_at bank.now numbers.now)) }
 {
     for (i, first) in facts.iter().enumerate() {
-        match of_place(alloc, bank, known, facts, i, first)? {
+        match of_place(alloc, bank, facts, i, first, numbers)? {
             Some(parts) => return Ok(Some(parts)),
             None => {}
         }

@@ -1,26 +1,27 @@
 // Sums one after the other: whether they end in a contradiction.
 
-ghost use Rattle.std.specs.Prelude.{◌≡◌, pos, neg_ℤ, List, [], ◌∷◌, true, false, Option, Some, option_and_then, length, ◌+◌, ◌<◌, ◌≤◌, IsTrue, IsFalse, IfOk, IfSome};
+ghost use Rattle.std.specs.Prelude.{◌≡◌, pos, neg_ℤ, List, [], ◌∷◌, true, false, Some, length, ◌+◌, ◌<◌, ◌≤◌, IsTrue, IsFalse, IfOk, IfSome};
 ghost use Rattle.std.specs.Int.{int_div_euclid, int_rem_euclid, is_positive};
 ghost use Rattle.ss_core.specs.Tree.{ClassTree};
 ghost use Rattle.ss_logic.specs.Formulas.{Formula};
 ghost use Rattle.ss_logic_sums.specs.Sums as sums;
 ghost use Rattle.ss_logic_rules.specs.Shapes.{when};
 ghost use Rattle.ss_terms.specs.Forms.{term_at, HasTerm};
-ghost use Rattle.ss_linear_sums.specs.Linear.{part_at, parts_at, sum_at, HasParts, IsFactOf};
+ghost use Rattle.ss_linear_sums.specs.Linear.{part_at, parts_at, sum_at, HasParts};
 ghost use Rattle.ss_linear_sums.specs.Parts.{with_coefficient};
-ghost use Rattle.ss_linear_sums.specs.Weighted.{with_known, divided_part, IsDividedOnto};
+ghost use Rattle.ss_linear_sums.specs.Weighted.{divided_part, IsDividedOnto};
 ghost use Rattle.ss_linear_sums.specs.Table.{AreKept};
 ghost use Rattle.ss_linear_rules.specs.Two as two;
 ghost use Rattle.ss_linear_rules.specs.Two.{Refute};
 ghost use Rattle.ss_linear.specs.Contradictions.{HaveParts, IsContradiction, sums_of};
 ghost use Rattle.ss_linear.specs.Results.{AreFacts, AreOthers, AreNext, IsResult};
 
+use crate::adding::weighted;
 use crate::ends::is_one;
-use crate::facts::{is_zero, is_zero_part};
-use crate::few::{is_false, wide};
+use crate::facts::{is_zero, is_zero_part, wide};
+use crate::few::is_false;
 use ss_deriv::Sum;
-use ss_linear_sums::{LinearSum, Part, SumFact, SumTable, add_weighted, linear};
+use ss_linear_sums::{LinearSum, Part, SumFact, SumTable, linear};
 use ss_terms::{Bank, TermId};
 use std::alloc::{AllocError, Global};
 
@@ -36,71 +37,6 @@ fn is_unit(n: i64) -> bool
     ensures { result ≡ two.is_one n }
 {
     n == 1
-}
-
-// ---- a weighted sum of facts
-
-// Adds a fact with its weight to a sum. No where it can't.
-fn add_read(
-    bank: &Bank,
-    sum: &mut LinearSum,
-    fact: &Option<SumFact>,
-    weight: i128,
-) -> Result<bool, AllocError>
-    requires fact { IfSome fact.now (λ f. HasParts bank.now f.sum.parts.items) }
-    requires sum { HasParts bank.now sum.old.parts.items }
-    ensures has { IfOk result (λ _. HasParts bank.now sum.new.parts.items) }
-    ensures added { (o : Option sums.SumFact) → IsFactOf bank.now fact.now o → IfOk result (λ yes. IsTrue yes → option_and_then (sums.add_weighted weight (sum_at bank.now sum.old)) o ≡ Some (sum_at bank.now sum.new)) }
-{
-    match fact {
-        Some(fact) => add_weighted(bank, sum, weight, fact),
-        None => Ok(false),
-    }
-}
-
-// Adds the fact at a place with its weight to a sum. No where it can't.
-fn add_fact(
-    bank: &Bank,
-    sum: &mut LinearSum,
-    facts: &[Option<SumFact>],
-    place: usize,
-    weight: i128,
-) -> Result<bool, AllocError>
-    requires facts { HaveParts bank.now facts.now }
-    requires sum { HasParts bank.now sum.old.parts.items }
-    ensures has { IfOk result (λ _. HasParts bank.now sum.new.parts.items) }
-    ensures added { (cs : List ClassTree) (known : List Formula) → AreFacts cs bank.now known facts.now → IfOk result (λ yes. IsTrue yes → with_known cs known (sum_at bank.now sum.old) place weight ≡ Some (sum_at bank.now sum.new)) }
-{
-    if place < facts.len() {
-        add_read(bank, sum, &facts[place], weight)
-    } else {
-        Ok(false)
-    }
-}
-
-// The weighted sum of facts, where there is one.
-fn weighted(
-    alloc: Global,
-    bank: &Bank,
-    facts: &[Option<SumFact>],
-    parts: &[(usize, i64)],
-) -> Result<Option<LinearSum>, AllocError>
-    requires { HaveParts bank.now facts.now }
-    ensures has { IfOk result (λ o. IfSome o (λ s. HasParts bank.now s.parts.items)) }
-    ensures sum { (cs : List ClassTree) (known : List Formula) → AreFacts cs bank.now known facts.now → IfOk result (λ o. IfSome o (λ s. sums.weighted cs known (sums.number_sum (pos 0)) parts.now ≡ Some (sum_at bank.now s))) }
-{
-    let mut sum = LinearSum {
-        parts: Vec::new(alloc),
-        constant: 0,
-    };
-    for part in parts {
-        match add_fact(bank, &mut sum, facts, part.0, wide(part.1)) {
-            Ok(true) => {}
-            Ok(false) => return Ok(None),
-            Err(e) => return Err(e),
-        }
-    }
-    Ok(Some(sum))
 }
 
 // ---- what a sum gives

@@ -1,30 +1,36 @@
 -- Networks that are made.
-use Rattle.std.proofs.Common.{◌≡◌, ◌≢◌, ◌⊎◌, inl, inr, ⊎_elim, ℕ, zero, suc, ◌+◌, ◌^◌, ◌<◌, ◌≤◌, ℤ, pos, negsuc, ◌+ℤ◌, ◌-ℤ◌, ◌*ℤ◌, ◌<ℤ◌, List, [], ◌∷◌, ◌++◌, length, get_or, take, drop, map, Bool, true, false, ◌&&◌, eqb, Some, None, Result, Ok, Err, refl, sym, ◌∙◌, ap, subst, FitsSigned, arith}
-use Rattle.std.specs.Prelude.{unsigned_abs, nat_lt, slice_get, if◌then◌else◌, OnOk}
+use Rattle.std.proofs.Common.{◌≡◌, ◌≢◌, ◌⊎◌, inl, inr, ⊎_elim, ℕ, zero, suc, ◌+◌, ◌^◌, ◌<◌, ◌≤◌, ℤ, pos, negsuc, ◌+ℤ◌, ◌-ℤ◌, ◌*ℤ◌, ◌<ℤ◌, List, [], ◌∷◌, ◌++◌, length, get_or, take, map, Bool, true, false, cond, ◌&&◌, eqb, Option, Some, None, Result, Ok, Err, refl, sym, ◌∙◌, ap, subst, FitsSigned, arith}
+use Rattle.std.specs.Prelude.{unsigned_abs, nat_eq, nat_lt, slice_get, unwrap_or, if◌then◌else◌, SomeIff, IfSome, OnOk}
 use Rattle.std.specs.List.{AllZip, Contains}
+use Rattle.std.specs.Map.{lookup}
 use Rattle.std.proofs.lemmas.Bool.{eqb-true, eq-eqb, ltb-true}
 use Rattle.std.proofs.lemmas.Int.{ints}
-use Rattle.std.proofs.lemmas.List.{length-map, take_more, get_or-map}
+use Rattle.std.proofs.lemmas.List.{length-map, take_more}
 use Rattle.std.proofs.lemmas.List.Elements.{All-append, All-cons, All-nil}
+use Rattle.indexmap.specs.IndexMap.{get}
 use mir.Syntax.{w128}
 use Rattle.ss_core.specs.Tree.{ClassTree}
 use Rattle.ss_logic.specs.Terms.{Term}
 use Rattle.ss_logic.specs.Formulas.{Formula}
-use Rattle.ss_logic.specs.Equal.{same_term}
+use Rattle.ss_logic.specs.Equal.{same_term, equal_terms}
 use Rattle.ss_logic_sums.specs.Sums.{SumFact, is_weight}
 use Rattle.ss_logic_sums.proofs.Numbers.{one_times}
 use borrow.Author.Differences.{product_is}
 use Rattle.ss_terms.specs.declared.forms.TermId.{TermId}
 use Rattle.ss_terms.specs.Forms.{Forms, term_at, terms_at, HasTerm, HasTerms, AreTermsBelow}
+use Rattle.ss_terms.specs.Apart.{AreApart}
 use Rattle.ss_linear_paths.specs.declared.edges.Edge.{Edge}
-use Rattle.ss_linear_paths.specs.Edges.{HasNodes, AreSmall}
+use Rattle.ss_linear_paths.specs.Edges.{label, HasNodes, AreSmall}
 use Rattle.ss_linear_rules.specs.Two.{fact_at, is_difference, parts_left, are_apart}
-use Rattle.ss_linear_rules.specs.Valued.{fact_value}
-use Rattle.ss_linear_rules.specs.Nodes.{place, node_number, AreOnce, IsEnd, IsEdgeOf, HasEdges, IsNetwork, no_origin, origins_at, end_value}
-use Rattle.ss_linear_rules.proofs.Networks.{edge_still, end_still, end_number, end_inside, place_most, once_pushed, got_last, got_place, none_once, zip_weaker}
+use Rattle.ss_linear_rules.specs.Valued.{fact_value, parts_at}
+use Rattle.ss_linear_rules.specs.Nodes.{place, node_number, AreOnce, IsEnd, IsEdgeOf, HasEdges, IsNetwork, no_origin, origins_at}
+use Rattle.ss_linear_rules.proofs.Networks.{edge_still, end_still, end_number, end_inside, place_most, place_first, place_past, place_last, once_pushed, got_last, got_place, none_once, zip_weaker}
+use Rattle.ss_linear_rules.proofs.Values.{some_is}
+use Rattle.ss_linear_network.specs.declared.nodes.Nodes.{Nodes}
 use Rattle.ss_linear_network.specs.declared.network.Difference.{Difference}
 use Rattle.ss_linear_network.specs.declared.network.Network.{Network}
-use Rattle.ss_linear_network.specs.Made.{term_of, HasEnd, edges_of, places_of, IsDifferenceOf, IsSound}
+use Rattle.ss_linear_network.specs.declared.network.Numbers.{Numbers}
+use Rattle.ss_linear_network.specs.Made.{AreNodesOf, term_of, HasEnd, edges_of, places_of, IsDifferenceOf, IsSound, numbers_at}
 
 either : (b : Bool) → (b ≡ true) ⊎ (b ≡ false)
 either true = inl refl
@@ -69,80 +75,114 @@ contains_last xs ys x h = let e = length_more xs ys in let l = h.1 in (length xs
     past [] ys i d = ap (λ n. get_or ys n d) (omega arith)
     past (x ∷ xs) ys i d = let e : suc (length xs) + i ≡ suc (length xs + i) = omega arith in ap (λ n. get_or (x ∷ (xs ++ ys)) n d) e ∙ past xs ys i d
 
--- ---- places of terms
-
-place_at : (xs : List Term) (i : ℕ) (d t : Term) → i < length xs → place (drop i xs) t ≡ (if same_term (get_or xs i d) t then 0 else suc (place (drop (i + 1) xs) t))
-place_at [] i d t l = absurd (omega arith)
-place_at (x ∷ xs) zero d t l = refl
-place_at (x ∷ xs) (suc i) d t l = let e : suc i + 1 ≡ suc (i + 1) = omega arith in place_at xs i d t (omega arith) ∙ ap (λ n. if same_term (get_or xs i d) t then 0 else suc (place (drop n (x ∷ xs)) t)) (sym e)
-
-place_past : (xs : List Term) (i : ℕ) (t : Term) → length xs ≤ i → place (drop i xs) t ≡ 0
-place_past [] zero t l = refl
-place_past [] (suc i) t l = refl
-place_past (x ∷ xs) zero t l = absurd (omega arith)
-place_past (x ∷ xs) (suc i) t l = place_past xs i t (omega arith)
-
--- the term at a place, as one of the list of terms
-read : (b : Forms) (ts : List TermId) (i : ℕ) (d : TermId) → i < length ts → get_or (terms_at b ts) i (term_at b d) ≡ term_at b (get_or ts i d)
-read b ts i d l = get_or-map (term_at b) ts i d (term_at b d) l
-
-pub place_found : (b : Forms) (ts : List TermId) (i : ℕ) (d t : TermId) → i < length ts → place (terms_at b ts) (term_at b t) ≡ i + place (drop i (terms_at b ts)) (term_at b t) → same_term (term_at b (get_or ts i d)) (term_at b t) ≡ true → i ≡ place (terms_at b ts) (term_at b t)
-place_found b ts i d t l h e =
-    let n = length-map ts (term_at b) in
-    let at : place (drop i (terms_at b ts)) (term_at b t) ≡ 0 = place_at (terms_at b ts) i (term_at b d) (term_at b t) (omega arith) ∙ ap (λ x. if same_term x (term_at b t) then 0 else suc (place (drop (i + 1) (terms_at b ts)) (term_at b t))) (read b ts i d l) ∙ ap (λ c. if c then 0 else suc (place (drop (i + 1) (terms_at b ts)) (term_at b t))) e in
-    omega arith
-
-pub place_on : (b : Forms) (ts : List TermId) (i : ℕ) (d t : TermId) → i < length ts → place (terms_at b ts) (term_at b t) ≡ i + place (drop i (terms_at b ts)) (term_at b t) → same_term (term_at b (get_or ts i d)) (term_at b t) ≡ false → place (terms_at b ts) (term_at b t) ≡ i + 1 + place (drop (i + 1) (terms_at b ts)) (term_at b t)
-place_on b ts i d t l h e =
-    let n = length-map ts (term_at b) in
-    let at : place (drop i (terms_at b ts)) (term_at b t) ≡ suc (place (drop (i + 1) (terms_at b ts)) (term_at b t)) = place_at (terms_at b ts) i (term_at b d) (term_at b t) (omega arith) ∙ ap (λ x. if same_term x (term_at b t) then 0 else suc (place (drop (i + 1) (terms_at b ts)) (term_at b t))) (read b ts i d l) ∙ ap (λ c. if c then 0 else suc (place (drop (i + 1) (terms_at b ts)) (term_at b t))) e in
-    omega arith
-
-pub place_none : (b : Forms) (ts : List TermId) (i : ℕ) (t : TermId) → length ts ≤ i → i ≤ length ts → place (terms_at b ts) (term_at b t) ≡ i + place (drop i (terms_at b ts)) (term_at b t) → length ts ≡ place (terms_at b ts) (term_at b t)
-place_none b ts i t l m h =
-    let n = length-map ts (term_at b) in
-    let z = place_past (terms_at b ts) i (term_at b t) (omega arith) in
-    omega arith
-
-have_term : (n : ℕ) (ts : List TermId) (i : ℕ) (d : TermId) → AreTermsBelow n ts → i < length ts → (get_or ts i d).0 < n
-have_term n [] i d h l = absurd (omega arith)
-have_term n (t ∷ ts) zero d h l = h.0
-have_term n (t ∷ ts) (suc i) d h l = have_term n ts i d h.1 (omega arith)
-
-pub has_at : (b : Forms) (ts : List TermId) (i : ℕ) (d : TermId) → HasTerms b ts → i < length ts → HasTerm b (get_or ts i d)
-has_at b ts i d h l = have_term (length b.terms) ts i d h l
+-- ---- terms with their nodes
 
 have_pushed : (n : ℕ) (ts : List TermId) (t : TermId) → AreTermsBelow n ts → t.0 < n → AreTermsBelow n (ts ++ t ∷ [])
 have_pushed n [] t h l = (l, tt)
 have_pushed n (u ∷ ts) t h l = (h.0, have_pushed n ts t h.1 l)
 
+pub no_nodes : (b : Forms) (n : Nodes) → n.terms.items ≡ [] → n.places.entries ≡ [] → AreNodesOf b n
+no_nodes b n empty unplaced = record {
+  terms = subst (λ (ts : List TermId). HasTerms b ts) (sym empty) tt;
+  places = λ t l.
+      ap (λ (o : Option ℕ). unwrap_or o (length n.terms.items)) (none t.0)
+      ∙ ap length empty
+      ∙ sym (ap (λ (ts : List TermId). place (terms_at b ts) (term_at b t)) empty);
+  within = λ k p e. let is : None ≡ Some p = sym (none k) ∙ e in let no : ⊥ = cc in absurd no;
+}
+  where
+    none : (k : ℕ) → get nat_eq n.places k ≡ None
+    none k = ap (lookup (nat_eq k)) unplaced
+
+-- what is looked up is the place, or there is none
+pub looked_up : (b : Forms) (n : Nodes) (t : TermId) (o : Option ℕ) (at : ℕ) → AreNodesOf b n → HasTerm b t → get nat_eq n.places t.0 ≡ o → at ≡ unwrap_or o (length n.terms.items) → at ≡ place (terms_at b n.terms.items) (term_at b t)
+looked_up b n t o at h l e is = is ∙ ap (λ (p : Option ℕ). unwrap_or p (length n.terms.items)) (sym e) ∙ h.places t l
+
+pub place_within : (b : Forms) (ts : List TermId) (t : TermId) (at : ℕ) → at ≡ place (terms_at b ts) (term_at b t) → at ≤ length ts
+place_within b ts t at e =
+    let n = length-map ts (term_at b) in
+    let most = place_most (terms_at b ts) (term_at b t) in
+    omega arith
+
+pub none_there : (b : Forms) (ts : List TermId) (t : TermId) (at : ℕ) → at ≡ place (terms_at b ts) (term_at b t) → length ts ≤ at → place (terms_at b ts) (term_at b t) ≡ length ts
+none_there b ts t at e l = let most = place_within b ts t at e in omega arith
+
+-- one more term, which is new
+module _ (b : Forms) (apart : AreApart b) (old new : Nodes) (t : TermId) (h : AreNodesOf b old) (has : HasTerm b t) (unknown : place (terms_at b old.terms.items) (term_at b t) ≡ length old.terms.items)
+    (pushed : new.terms.items ≡ old.terms.items ++ t ∷ []) (placed : (k : ℕ) → get nat_eq new.places k ≡ cond (eqb t.0 k) (Some (length old.terms.items)) (get nat_eq old.places k)) where
+  as_many : length (terms_at b old.terms.items) ≡ length old.terms.items
+  as_many = length-map old.terms.items (term_at b)
+
+  longer : length new.terms.items ≡ suc (length old.terms.items)
+  longer = let e = ap length pushed in let m = length_more old.terms.items (t ∷ []) in omega arith
+
+  listed : terms_at b new.terms.items ≡ terms_at b old.terms.items ++ term_at b t ∷ []
+  listed = ap (terms_at b) pushed ∙ mapped_pushed (term_at b) old.terms.items t
+
+  last_place : place (terms_at b old.terms.items) (term_at b t) ≡ length (terms_at b old.terms.items)
+  last_place = unknown ∙ sym as_many
+
+  -- the term itself
+  own_place : (u : TermId) → same_term (term_at b t) (term_at b u) ≡ true → length old.terms.items ≡ place (terms_at b old.terms.items ++ term_at b t ∷ []) (term_at b u)
+  own_place u e =
+      sym as_many
+      ∙ sym (place_last (terms_at b old.terms.items) (term_at b t) last_place)
+      ∙ ap (place (terms_at b old.terms.items ++ term_at b t ∷ [])) (equal_terms (term_at b t) (term_at b u) e)
+
+  -- another one
+  other_place : (u : TermId) → HasTerm b u → same_term (term_at b t) (term_at b u) ≡ false → (o : Option ℕ) → get nat_eq old.places u.0 ≡ o → unwrap_or o (length new.terms.items) ≡ place (terms_at b old.terms.items ++ term_at b t ∷ []) (term_at b u)
+  other_place u l e (Some p) is =
+      let inside : p < length old.terms.items = h.within u.0 p is in
+      let at : p ≡ place (terms_at b old.terms.items) (term_at b u) = looked_up b old u (Some p) p h l is refl in
+      let many = as_many in
+      at ∙ sym (place_first (terms_at b old.terms.items) (term_at b t ∷ []) (term_at b u) (omega arith))
+  other_place u l e None is =
+      let at : length old.terms.items ≡ place (terms_at b old.terms.items) (term_at b u) = looked_up b old u None (length old.terms.items) h l is refl in
+      longer ∙ ap suc (sym as_many) ∙ sym (place_past (terms_at b old.terms.items) (term_at b t) (term_at b u) (sym at ∙ sym as_many) e)
+
+  more_places : (u : TermId) → HasTerm b u → unwrap_or (get nat_eq new.places u.0) (length new.terms.items) ≡ place (terms_at b new.terms.items) (term_at b u)
+  more_places u l =
+      ap (λ (o : Option ℕ). unwrap_or o (length new.terms.items)) (placed u.0)
+      ∙ by_test (eqb t.0 u.0) (sym (apart.terms t u has l))
+      ∙ sym (ap (λ (xs : List Term). place xs (term_at b u)) listed)
+    where
+      by_test : (c : Bool) → same_term (term_at b t) (term_at b u) ≡ c → unwrap_or (cond c (Some (length old.terms.items)) (get nat_eq old.places u.0)) (length new.terms.items) ≡ place (terms_at b old.terms.items ++ term_at b t ∷ []) (term_at b u)
+      by_test true e = own_place u e
+      by_test false e = other_place u l e (get nat_eq old.places u.0) refl
+
+  more_within : (k p : ℕ) → get nat_eq new.places k ≡ Some p → p < length new.terms.items
+  more_within k p e = by_test (eqb t.0 k) (sym (placed k) ∙ e)
+    where
+      by_test : (c : Bool) → cond c (Some (length old.terms.items)) (get nat_eq old.places k) ≡ Some p → p < length new.terms.items
+      by_test true is = let same : length old.terms.items ≡ p = some_is (length old.terms.items) p is in let m = longer in omega arith
+      by_test false is = let inside = h.within k p is in let m = longer in omega arith
+
+  pub nodes_added : AreNodesOf b new
+  nodes_added = record {
+    terms = subst (λ (ts : List TermId). HasTerms b ts) (sym pushed) (have_pushed (length b.terms) old.terms.items t h.terms has);
+    places = more_places;
+    within = more_within;
+  }
+
+  pub end_added : (n : ℕ) → n ≡ suc (length old.terms.items) → HasEnd b old.terms.items new.terms.items (Some (term_at b t)) n
+  end_added n size = record {
+    more = (term_at b t ∷ [], listed);
+    once = λ o. subst (λ (xs : List Term). AreOnce xs) (sym listed) (once_pushed (terms_at b old.terms.items) (term_at b t) last_place o);
+    end = (length (terms_at b old.terms.items), size ∙ ap suc (sym as_many), ap (λ (xs : List Term). slice_get xs (length (terms_at b old.terms.items))) listed ∙ got_last (terms_at b old.terms.items) (term_at b t));
+  }
+
 -- ---- ends
 
-pub no_end : (b : Forms) (ts : List TermId) → HasTerms b ts → HasEnd b ts ts None 0
-no_end b ts h = record { has = h; more = ([], sym (append_nil (terms_at b ts))); once = λ o. o; end = refl }
+pub no_end : (b : Forms) (ts : List TermId) → HasEnd b ts ts None 0
+no_end b ts = record { more = ([], sym (append_nil (terms_at b ts))); once = λ o. o; end = refl }
 
-pub end_found : (b : Forms) (ts : List TermId) (t : TermId) (at : ℕ) → HasTerms b ts → at ≡ place (terms_at b ts) (term_at b t) → at < length ts → HasEnd b ts ts (Some (term_at b t)) (at + 1)
-end_found b ts t at h e l =
+pub end_found : (b : Forms) (ts : List TermId) (t : TermId) (at : ℕ) → at ≡ place (terms_at b ts) (term_at b t) → at < length ts → HasEnd b ts ts (Some (term_at b t)) (at + 1)
+end_found b ts t at e l =
     let n = length-map ts (term_at b) in
     record {
-      has = h;
       more = ([], sym (append_nil (terms_at b ts)));
       once = λ o. o;
       end = (at, omega arith, ap (λ i. slice_get (terms_at b ts) i) e ∙ got_place (terms_at b ts) (term_at b t) (omega arith));
-    }
-
-pub end_pushed : (b : Forms) (ts us : List TermId) (t : TermId) (at n : ℕ) → HasTerms b ts → HasTerm b t → at ≡ place (terms_at b ts) (term_at b t) → length ts ≤ at → us ≡ ts ++ t ∷ [] → n ≡ length us → HasEnd b ts us (Some (term_at b t)) n
-end_pushed b ts us t at n h l e m is size =
-    let k = length-map ts (term_at b) in
-    let most = place_most (terms_at b ts) (term_at b t) in
-    let new : place (terms_at b ts) (term_at b t) ≡ length (terms_at b ts) = omega arith in
-    let longer : length us ≡ length ts + 1 = ap length is ∙ length_more ts (t ∷ []) in
-    let all : terms_at b us ≡ terms_at b ts ++ term_at b t ∷ [] = ap (terms_at b) is ∙ mapped_pushed (term_at b) ts t in
-    record {
-      has = subst (λ (xs : List TermId). HasTerms b xs) (sym is) (have_pushed (length b.terms) ts t h l);
-      more = (term_at b t ∷ [], all);
-      once = λ o. subst (λ (xs : List Term). AreOnce xs) (sym all) (once_pushed (terms_at b ts) (term_at b t) new o);
-      end = (length (terms_at b ts), omega arith, ap (λ (xs : List Term). slice_get xs (length (terms_at b ts))) all ∙ got_last (terms_at b ts) (term_at b t));
     }
 
 -- ---- numbers
@@ -173,13 +213,15 @@ less_one_times : (z : ℤ) → negsuc 0 *ℤ z ≡ pos 0 -ℤ z
 less_one_times z = omega (arith, ints, product_is (negsuc 0) z)
 
 -- what the fact comes to
-module _ (b : Forms) (cs : List ClassTree) (known : List Formula) (k : ℕ) (d : Difference) (xs : List Term) (m n : ℕ) (h : IsDifferenceOf b cs known k d) (from : IsEnd xs (term_of b d.minus) m) (to : IsEnd xs (term_of b d.plus) n) where
+module _ (b : Forms) (cs : List ClassTree) (known : List Formula) (k : ℕ) (d : Difference) (xs : List Term) (m n : ℕ) (h : IsDifferenceOf b cs known k d) (from : IsEnd xs (term_of b d.plus) m) (to : IsEnd xs (term_of b d.minus) n) where
   value : (v : Term → ℤ) → fact_value v (fact_at cs known k) ≡ (node_number v xs n -ℤ node_number v xs m) +ℤ d.constant
   value v =
-      ap (fact_value v) h.is
-      ∙ ap (λ x. x +ℤ h.fact.sum.constant) (h.parts v)
-      ∙ ap (λ x. (end_value v (term_of b d.plus) -ℤ end_value v (term_of b d.minus)) +ℤ x) h.constant
-      ∙ sym (ap (λ x. (x -ℤ node_number v xs m) +ℤ d.constant) (end_number v xs (term_of b d.plus) n to) ∙ ap (λ x. (end_value v (term_of b d.plus) -ℤ x) +ℤ d.constant) (end_number v xs (term_of b d.minus) m from))
+      let plus = end_number v xs (term_of b d.plus) m from in
+      let minus = end_number v xs (term_of b d.minus) n to in
+      let parts = h.parts v in
+      let constant = h.constant in
+      let said : fact_value v (fact_at cs known k) ≡ parts_at v h.fact.sum.parts +ℤ h.fact.sum.constant = ap (fact_value v) h.is in
+      omega (arith, ints)
 
   small : unsigned_abs d.constant < 2 ^ 64
   small =
@@ -188,8 +230,8 @@ module _ (b : Forms) (cs : List ClassTree) (known : List Formula) (k : ℕ) (d :
 
   forth_edge : IsEdgeOf cs known xs (record { from = m; to = n; weight = pos 0 -ℤ d.constant }) (k, pos 1)
   forth_edge = record {
-    from = end_inside xs (term_of b d.minus) m from;
-    to = end_inside xs (term_of b d.plus) n to;
+    from = end_inside xs (term_of b d.plus) m from;
+    to = end_inside xs (term_of b d.minus) n to;
     small = negated_size d.constant small;
     used = record { fact = h.fact; is = h.is; difference = h.difference; weighs = plain_weighs h.fact.is_equality; unit = inl refl };
     value = λ v.
@@ -200,8 +242,8 @@ module _ (b : Forms) (cs : List ClassTree) (known : List Formula) (k : ℕ) (d :
 
   back_edge : d.is_equality ≡ true → IsEdgeOf cs known xs (record { from = n; to = m; weight = d.constant }) (k, negsuc 0)
   back_edge eq = record {
-    from = end_inside xs (term_of b d.plus) n to;
-    to = end_inside xs (term_of b d.minus) m from;
+    from = end_inside xs (term_of b d.minus) n to;
+    to = end_inside xs (term_of b d.plus) m from;
     small = small;
     used = record { fact = h.fact; is = h.is; difference = h.difference; weighs = ap (λ c. is_weight c (negsuc 0)) (h.equality ∙ eq); unit = inr refl };
     value = λ v.
@@ -221,13 +263,10 @@ module _ (b : Forms) (cs : List ClassTree) (known : List Formula) (k : ℕ) (d :
   listed_edges fact is difference = (
     (0, omega arith, refl),
     λ eq.
-        let same : h.fact ≡ fact = some_same h.fact fact (sym h.is ∙ is) in
+        let same : h.fact ≡ fact = some_is h.fact fact (sym h.is ∙ is) in
         let equal : d.is_equality ≡ true = sym h.equality ∙ ap (λ (f : SumFact). f.is_equality) same ∙ eq in
         subst (λ (os : List (ℕ × ℤ)). Contains os (k, negsuc 0)) (sym (ap (λ c. (k, pos 1) ∷ (if c then (k, negsuc 0) ∷ [] else [])) equal)) (1, omega arith, refl),
   )
-    where
-      some_same : (x y : SumFact) → Some x ≡ Some y → x ≡ y
-      some_same x y e = cc
 
 has_first : (cs : List ClassTree) (known : List Formula) (os ps : List (ℕ × ℤ)) (j : ℕ) → HasEdges cs known os j → HasEdges cs known (os ++ ps) j
 has_first cs known os ps j h fact is d = (contains_first os ps (j, pos 1) (h fact is d).0, λ eq. contains_first os ps (j, negsuc 0) ((h fact is d).1 eq))
@@ -236,7 +275,7 @@ has_last : (cs : List ClassTree) (known : List Formula) (os ps : List (ℕ × �
 has_last cs known os ps j h fact is d = (contains_last os ps (j, pos 1) (h fact is d).0, λ eq. contains_last os ps (j, negsuc 0) ((h fact is d).1 eq))
 
 -- the network with the edges of one more fact
-network_more : (b : Forms) (cs : List ClassTree) (known : List Formula) (k : ℕ) (d : Difference) (xs ts : List Term) (es : List Edge) (os : List (ℕ × ℤ)) (m n : ℕ) → IsNetwork cs known xs es os k → IsDifferenceOf b cs known k d → AreOnce (xs ++ ts) → IsEnd (xs ++ ts) (term_of b d.minus) m → IsEnd (xs ++ ts) (term_of b d.plus) n → IsNetwork cs known (xs ++ ts) (es ++ edges_of d m n) (os ++ places_of k d) (k + 1)
+network_more : (b : Forms) (cs : List ClassTree) (known : List Formula) (k : ℕ) (d : Difference) (xs ts : List Term) (es : List Edge) (os : List (ℕ × ℤ)) (m n : ℕ) → IsNetwork cs known xs es os k → IsDifferenceOf b cs known k d → AreOnce (xs ++ ts) → IsEnd (xs ++ ts) (term_of b d.plus) m → IsEnd (xs ++ ts) (term_of b d.minus) n → IsNetwork cs known (xs ++ ts) (es ++ edges_of d m n) (os ++ places_of k d) (k + 1)
 network_more b cs known k d xs ts es os m n w h once from to = record {
   once = once;
   edges = zip_more (IsEdgeOf cs known (xs ++ ts)) es os (edges_of d m n) (places_of k d) (zip_weaker (IsEdgeOf cs known xs) (IsEdgeOf cs known (xs ++ ts)) (λ e o. edge_still cs known xs ts e o) es os w.edges) (made_edges b cs known k d (xs ++ ts) m n h from to);
@@ -250,15 +289,15 @@ network_more b cs known k d xs ts es os m n w h once from to = record {
 }
 
 -- what is made of a network by the next fact
-pub network_added : (b : Forms) (cs : List ClassTree) (known : List Formula) (k : ℕ) (d : Difference) (ts us ws : List TermId) (es new_es : List Edge) (os new_os : List (ℕ × ℤ)) (m n : ℕ) → HasEnd b ts us (term_of b d.plus) n → HasEnd b us ws (term_of b d.minus) m → new_es ≡ es ++ edges_of d m n → new_os ≡ os ++ places_of k d → IsNetwork cs known (terms_at b ts) es os k → IsDifferenceOf b cs known k d → IsNetwork cs known (terms_at b ws) new_es new_os (k + 1)
+pub network_added : (b : Forms) (cs : List ClassTree) (known : List Formula) (k : ℕ) (d : Difference) (ts us ws : List TermId) (es new_es : List Edge) (os new_os : List (ℕ × ℤ)) (m n : ℕ) → HasEnd b ts us (term_of b d.plus) m → HasEnd b us ws (term_of b d.minus) n → new_es ≡ es ++ edges_of d m n → new_os ≡ os ++ places_of k d → IsNetwork cs known (terms_at b ts) es os k → IsDifferenceOf b cs known k d → IsNetwork cs known (terms_at b ws) new_es new_os (k + 1)
 network_added b cs known k d ts us ws es new_es os new_os m n plus minus edges origins w h =
     let all : terms_at b ws ≡ terms_at b ts ++ (plus.more.0 ++ minus.more.0) = minus.more.1 ∙ ap (λ (xs : List Term). xs ++ minus.more.0) plus.more.1 ∙ assoc (terms_at b ts) plus.more.0 minus.more.0 in
     let once : AreOnce (terms_at b ws) = minus.once (plus.once w.once) in
-    let to : IsEnd (terms_at b ws) (term_of b d.plus) n = subst (λ (xs : List Term). IsEnd xs (term_of b d.plus) n) (sym minus.more.1) (end_still (terms_at b us) minus.more.0 (term_of b d.plus) n plus.end) in
+    let from : IsEnd (terms_at b ws) (term_of b d.plus) m = subst (λ (xs : List Term). IsEnd xs (term_of b d.plus) m) (sym minus.more.1) (end_still (terms_at b us) minus.more.0 (term_of b d.plus) m plus.end) in
     let made = network_more b cs known k d (terms_at b ts) (plus.more.0 ++ minus.more.0) es os m n w h
     (subst (λ (xs : List Term). AreOnce xs) all once)
-    (subst (λ (xs : List Term). IsEnd xs (term_of b d.minus) m) all minus.end)
-    (subst (λ (xs : List Term). IsEnd xs (term_of b d.plus) n) all to) in
+    (subst (λ (xs : List Term). IsEnd xs (term_of b d.plus) m) all from)
+    (subst (λ (xs : List Term). IsEnd xs (term_of b d.minus) n) all minus.end) in
     subst (λ (xs : List Term). IsNetwork cs known xs new_es new_os (k + 1)) (sym all)
     (subst (λ (x : List Edge). IsNetwork cs known (terms_at b ts ++ (plus.more.0 ++ minus.more.0)) x new_os (k + 1)) (sym edges)
     (subst (λ (o : List (ℕ × ℤ)). IsNetwork cs known (terms_at b ts ++ (plus.more.0 ++ minus.more.0)) (es ++ edges_of d m n) o (k + 1)) (sym origins) made))
@@ -306,16 +345,16 @@ made_same d k m n = by_test d.is_equality
     by_test true = refl
     by_test false = refl
 
-pub sound_added : (b : Forms) (k : ℕ) (d : Difference) (old new : Network) (us : List TermId) (m n : ℕ) → HasEnd b old.terms.items us (term_of b d.plus) n → HasEnd b us new.terms.items (term_of b d.minus) m → unsigned_abs d.constant < 2 ^ 64 → new.edges.items ≡ old.edges.items ++ edges_of d m n → new.origins.items ≡ old.origins.items ++ places_of k d → IsSound old → IsSound new
+pub sound_added : (b : Forms) (k : ℕ) (d : Difference) (old new : Network) (us : List TermId) (m n : ℕ) → HasEnd b old.nodes.terms.items us (term_of b d.plus) m → HasEnd b us new.nodes.terms.items (term_of b d.minus) n → unsigned_abs d.constant < 2 ^ 64 → new.edges.items ≡ old.edges.items ++ edges_of d m n → new.origins.items ≡ old.origins.items ++ places_of k d → IsSound old → IsSound new
 sound_added b k d old new us m n plus minus small edges origins s =
-    let old_length = length-map old.terms.items (term_at b) in
+    let old_length = length-map old.nodes.terms.items (term_at b) in
     let mid_length = length-map us (term_at b) in
-    let new_length = length-map new.terms.items (term_at b) in
-    let first : length (terms_at b us) ≡ length (terms_at b old.terms.items) + length plus.more.0 = ap length plus.more.1 ∙ length_more (terms_at b old.terms.items) plus.more.0 in
-    let second : length (terms_at b new.terms.items) ≡ length (terms_at b us) + length minus.more.0 = ap length minus.more.1 ∙ length_more (terms_at b us) minus.more.0 in
-    let to = end_inside (terms_at b us) (term_of b d.plus) n plus.end in
-    let from = end_inside (terms_at b new.terms.items) (term_of b d.minus) m minus.end in
-    let q : length old.terms.items + 1 ≤ length new.terms.items + 1 = omega arith in
+    let new_length = length-map new.nodes.terms.items (term_at b) in
+    let first : length (terms_at b us) ≡ length (terms_at b old.nodes.terms.items) + length plus.more.0 = ap length plus.more.1 ∙ length_more (terms_at b old.nodes.terms.items) plus.more.0 in
+    let second : length (terms_at b new.nodes.terms.items) ≡ length (terms_at b us) + length minus.more.0 = ap length minus.more.1 ∙ length_more (terms_at b us) minus.more.0 in
+    let from = end_inside (terms_at b us) (term_of b d.plus) m plus.end in
+    let to = end_inside (terms_at b new.nodes.terms.items) (term_of b d.minus) n minus.end in
+    let q : length old.nodes.terms.items + 1 ≤ length new.nodes.terms.items + 1 = omega arith in
     let e = length_more old.edges.items (edges_of d m n) in
     let o = length_more old.origins.items (places_of k d) in
     let es = ap length edges in
@@ -323,10 +362,10 @@ sound_added b k d old new us m n plus minus small edges origins s =
     let made = made_same d k m n in
     let same = s.places in
     record {
-      nodes = subst (λ (x : List Edge). HasNodes (length new.terms.items + 1) x) (sym edges)
-          (All-append (λ (e : Edge). (e.from < length new.terms.items + 1) × (e.to < length new.terms.items + 1)) old.edges.items (edges_of d m n)
-          (more_nodes (length old.terms.items + 1) (length new.terms.items + 1) old.edges.items q s.nodes)
-          (made_nodes d m n (length new.terms.items + 1) (omega arith) (omega arith)));
+      nodes = subst (λ (x : List Edge). HasNodes (length new.nodes.terms.items + 1) x) (sym edges)
+          (All-append (λ (e : Edge). (e.from < length new.nodes.terms.items + 1) × (e.to < length new.nodes.terms.items + 1)) old.edges.items (edges_of d m n)
+          (more_nodes (length old.nodes.terms.items + 1) (length new.nodes.terms.items + 1) old.edges.items q s.nodes)
+          (made_nodes d m n (length new.nodes.terms.items + 1) (omega arith) (omega arith)));
       small = subst (λ (x : List Edge). AreSmall x) (sym edges) (All-append (λ (e : Edge). unsigned_abs e.weight < 2 ^ 64) old.edges.items (edges_of d m n) s.small (made_small d m n small));
       places = omega arith;
     }
@@ -336,6 +375,17 @@ sound_added b k d old new us m n plus minus small edges origins s =
 pub on_three : {T E : Type 0} (r : Result T E) (A B C D : Type 0) → (A → B → C → D) → OnOk r A → OnOk r B → OnOk r C → OnOk r D
 on_three (Ok x) A B C D f a b c = f a b c
 on_three (Err e) A B C D f a b c = tt
+
+-- ---- numbers of terms
+
+pub some_if : (P : Type 0) (r : Option ℤ) (v w : ℤ) → SomeIff r P v → v ≡ w → IfSome r (λ z. z ≡ w)
+some_if P None v w h e = tt
+some_if P (Some x) v w h e = h.1 ∙ e
+
+pub number_is : (b : Forms) (n : Numbers) (t : TermId) (at : ℕ) (x y : ℤ) → at ≡ place (terms_at b n.nodes.terms.items) (term_at b t) → x ≡ label n.labels.items 0 → y ≡ label n.labels.items (at + 1) → x -ℤ y ≡ numbers_at b n (term_at b t)
+number_is b n t at x y e first own =
+    let place_is : at + 1 ≡ suc (place (terms_at b n.nodes.terms.items) (term_at b t)) = omega arith in
+    ap (λ z. z -ℤ y) first ∙ ap (λ z. label n.labels.items 0 -ℤ z) (own ∙ ap (label n.labels.items) place_is)
 
 -- ---- the facts of edges
 

@@ -4,4 +4,5 @@
 mod network;
 mod nodes;
 
-pub use network::{Difference, Network};
+pub use network::{Difference, Network, Numbers, Solved};
+pub use nodes::Nodes;

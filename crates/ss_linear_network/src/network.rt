@@ -1,14 +1,15 @@
 // Edges between the terms of known differences.
 
-ghost use Rattle.std.specs.Prelude.{◌≡◌, ◌∷◌, ◌++◌, ◌+◌, ◌<◌, ◌^◌, pos, ◌-ℤ◌, List, [], length, OnOk, IfOk, unsigned_abs};
+ghost use Rattle.std.specs.Prelude.{◌≡◌, ◌∷◌, ◌++◌, ◌+◌, ◌<◌, ◌^◌, pos, ◌-ℤ◌, List, [], length, OnOk, IfOk, IfSome, unsigned_abs};
 ghost use Rattle.std.specs.List.{All};
 ghost use Rattle.ss_core.specs.Tree.{ClassTree};
 ghost use Rattle.ss_logic.specs.Formulas.{Formula};
-ghost use Rattle.ss_terms.specs.Forms.{Forms, HasTerms};
+ghost use Rattle.ss_terms.specs.Forms.{Forms, term_at, HasTerm};
 ghost use Rattle.ss_linear_rules.specs.Nodes.{origins_at};
-ghost use Rattle.ss_linear_network.specs.Made.{HasTermOf, edges_of, places_of, IsNetworkOf, IsDifferenceOf, IsSound, IsAnswer};
+ghost use Rattle.ss_linear_paths.specs.Edges.{label};
+ghost use Rattle.ss_linear_network.specs.Made.{AreNodesOf, HasTermOf, edges_of, places_of, IsNetworkOf, IsDifferenceOf, IsSound, numbers_at, IsSolved, HasNumbers};
 
-use crate::nodes::end;
+use crate::nodes::Nodes;
 use ss_linear_paths::{Edge, Found, shortest};
 use ss_terms::{Bank, TermId};
 use std::alloc::{AllocError, Global};
@@ -30,8 +31,8 @@ pub struct Difference {
 /// says it.
 #[derive(Drop)]
 pub struct Network {
-    /// The terms. The node of each is 1 above its place; node 0 stands for 0.
-    pub terms: Vec<TermId>,
+    /// The terms with their nodes.
+    pub nodes: Nodes,
     /// The edges.
     pub edges: Vec<Edge>,
     /// The place of each edge's fact, and its weight.
@@ -96,11 +97,12 @@ impl Network {
     /// No edge.
     pub fn new(alloc: Global) -> Self
         ensures sound { IsSound result }
-        ensures terms { result.terms.items ≡ [] }
+        ensures terms { result.nodes.terms.items ≡ [] }
+        ensures nodes { (b : Forms) → AreNodesOf b result.nodes }
         ensures network { (b : Forms) (cs : List ClassTree) (known : List Formula) → IsNetworkOf b cs known result 0 }
     {
         Network {
-            terms: Vec::new(alloc),
+            nodes: Nodes::new(alloc),
             edges: Vec::new(alloc),
             origins: Vec::new(alloc),
         }
@@ -115,7 +117,7 @@ impl Network {
         to: usize,
     ) -> Result<(), AllocError>
         requires { unsigned_abs d.constant < 2 ^ 64 }
-        ensures terms { OnOk result (self.new.terms.items ≡ self.old.terms.items) }
+        ensures nodes { OnOk result (self.new.nodes ≡ self.old.nodes) }
         ensures edges { OnOk result (self.new.edges.items ≡ self.old.edges.items ++ edges_of d from to) }
         ensures origins { OnOk result (self.new.origins.items ≡ self.old.origins.items ++ places_of k d) }
     {
@@ -142,28 +144,76 @@ impl Network {
         requires plus { HasTermOf bank.now d.plus }
         requires minus { HasTermOf bank.now d.minus }
         requires small { unsigned_abs d.constant < 2 ^ 64 }
-        requires terms { HasTerms bank.now self.old.terms.items }
-        ensures terms { OnOk result (HasTerms bank.now self.new.terms.items) }
+        requires nodes { AreNodesOf bank.now self.old.nodes }
+        ensures nodes { OnOk result (AreNodesOf bank.now self.new.nodes) }
         ensures sound { IsSound self.old → OnOk result (IsSound self.new) }
         ensures network { (cs : List ClassTree) (known : List Formula) → IsNetworkOf bank.now cs known self.old k → IsDifferenceOf bank.now cs known k d → OnOk result (IsNetworkOf bank.now cs known self.new (k + 1)) }
     {
-        let to = end(&mut self.terms, bank, d.plus)?;
-        let from = end(&mut self.terms, bank, d.minus)?;
+        let from = self.nodes.end(bank, d.plus)?;
+        let to = self.nodes.end(bank, d.minus)?;
         self.add_edges(k, d, from, to)
     }
 
-    /// Known facts and weights with which their sum is a contradiction, or none where some numbers meet all differences.
-    pub fn contradiction(&self, alloc: Global) -> Result<Option<Vec<(usize, i64)>>, AllocError>
-        requires { IsSound self.now }
-        ensures { (b : Forms) (cs : List ClassTree) (known : List Formula) → IsNetworkOf b cs known self.now (length known) → IfOk result (IsAnswer cs known) }
+    /// Known facts and weights with which their sum is a contradiction, or numbers that meet all differences.
+    pub fn solve(self, alloc: Global) -> Result<Solved, AllocError>
+        requires { IsSound self }
+        ensures nodes { (b : Forms) → AreNodesOf b self.nodes → IfOk result (HasNumbers b) }
+        ensures solved { (b : Forms) (cs : List ClassTree) (known : List Formula) → IsNetworkOf b cs known self (length known) → IfOk result (IsSolved b cs known) }
     {
-        let found = shortest(alloc, self.terms.len() + 1, &self.edges)?;
+        let Network {
+            nodes,
+            edges,
+            origins,
+        } = self;
+        let found = shortest(alloc, nodes.terms.len() + 1, &edges)?;
         match found {
-            Found::Labels(_) => Ok(None),
+            Found::Labels(labels) => Ok(Solved::Met(Numbers { nodes, labels })),
             Found::Cycle(cycle) => {
-                let weights = weights_of(alloc, &self.origins, &cycle)?;
-                Ok(Some(weights))
+                let weights = weights_of(alloc, &origins, &cycle)?;
+                Ok(Solved::Contradicted(weights))
             }
         }
     }
+}
+
+/// Numbers of terms; a term that isn't there has some number, too.
+#[derive(Drop)]
+pub struct Numbers {
+    /// The terms with their nodes.
+    pub nodes: Nodes,
+    /// A number for each node. That of a term is that of node 0 less its node's, so that terms have the least numbers.
+    pub labels: Vec<i128>,
+}
+
+impl Numbers {
+    // The number of a node.
+    fn label(&self, node: usize) -> i128
+        ensures { result ≡ label self.now.labels.items node }
+    {
+        if node < self.labels.len() {
+            self.labels[node]
+        } else {
+            0
+        }
+    }
+
+    /// The number of a term. None where that leaves 128 bits.
+    pub fn number(&self, bank: &Bank, t: TermId) -> Option<i128>
+        requires nodes { AreNodesOf bank.now self.now.nodes }
+        requires term { HasTerm bank.now t }
+        ensures { IfSome result (λ z. z ≡ numbers_at bank.now self.now (term_at bank.now t)) }
+    {
+        let at = self.nodes.place(bank, t);
+        let first = self.label(0);
+        first.checked_sub(self.label(at + 1))
+    }
+}
+
+/// What is found of a network.
+#[derive(Drop)]
+pub enum Solved {
+    /// Numbers that meet all differences.
+    Met(Numbers),
+    /// Known facts and weights with which their sum is a contradiction.
+    Contradicted(Vec<(usize, i64)>),
 }

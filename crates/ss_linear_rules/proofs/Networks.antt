@@ -74,7 +74,7 @@ number_first v (x ∷ xs) ys (suc i) l = number_first v xs ys i (omega arith)
 
 node_first : (v : Term → ℤ) (xs ys : List Term) (n : ℕ) → n < suc (length xs) → node_number v (xs ++ ys) n ≡ node_number v xs n
 node_first v xs ys zero l = refl
-node_first v xs ys (suc i) l = number_first v xs ys i (omega arith)
+node_first v xs ys (suc i) l = ap (λ z. pos 0 -ℤ z) (number_first v xs ys i (omega arith))
 
 length_first : (xs ys : List Term) → length xs ≤ length (xs ++ ys)
 length_first [] ys = omega arith
@@ -98,9 +98,9 @@ pub end_still : (xs ys : List Term) (o : Option Term) (n : ℕ) → IsEnd xs o n
 end_still xs ys None n h = h
 end_still xs ys (Some t) n h = (h.0, h.1, got_first xs ys h.0 t h.2)
 
-pub end_number : (v : Term → ℤ) (xs : List Term) (o : Option Term) (n : ℕ) → IsEnd xs o n → node_number v xs n ≡ end_value v o
+pub end_number : (v : Term → ℤ) (xs : List Term) (o : Option Term) (n : ℕ) → IsEnd xs o n → node_number v xs n ≡ pos 0 -ℤ end_value v o
 end_number v xs None n h = ap (node_number v xs) h
-end_number v xs (Some t) n h = ap (node_number v xs) h.1 ∙ number_got v xs h.0 t h.2
+end_number v xs (Some t) n h = ap (node_number v xs) h.1 ∙ ap (λ z. pos 0 -ℤ z) (number_got v xs h.0 t h.2)
 
 pub end_inside : (xs : List Term) (o : Option Term) (n : ℕ) → IsEnd xs o n → n < suc (length xs)
 end_inside xs None n h = omega arith
@@ -116,7 +116,7 @@ place_most (x ∷ xs) t = by_test (same_term x t) (place_most xs t)
     by_test true l = omega arith
     by_test false l = omega arith
 
-place_first : (xs ys : List Term) (t : Term) → place xs t < length xs → place (xs ++ ys) t ≡ place xs t
+pub place_first : (xs ys : List Term) (t : Term) → place xs t < length xs → place (xs ++ ys) t ≡ place xs t
 place_first [] ys t l = absurd (omega arith)
 place_first (x ∷ xs) ys t l = by_test (same_term x t) (place_first xs ys t) l
   where
@@ -124,7 +124,16 @@ place_first (x ∷ xs) ys t l = by_test (same_term x t) (place_first xs ys t) l
     by_test true further k = refl
     by_test false further k = ap suc (further (omega arith))
 
-place_last : (xs : List Term) (t : Term) → place xs t ≡ length xs → place (xs ++ t ∷ []) t ≡ length xs
+-- a term that isn't there is past one more that is another
+pub place_past : (xs : List Term) (t u : Term) → place xs u ≡ length xs → same_term t u ≡ false → place (xs ++ t ∷ []) u ≡ suc (length xs)
+place_past [] t u h e = ap (λ b. if b then 0 else 1) e
+place_past (x ∷ xs) t u h e = by_test (same_term x u) (λ k. place_past xs t u k e) h
+  where
+    by_test : (b : Bool) → (place xs u ≡ length xs → place (xs ++ t ∷ []) u ≡ suc (length xs)) → (if b then 0 else suc (place xs u)) ≡ suc (length xs) → (if b then 0 else suc (place (xs ++ t ∷ []) u)) ≡ suc (suc (length xs))
+    by_test true further k = absurd (omega arith)
+    by_test false further k = ap suc (further (omega arith))
+
+pub place_last : (xs : List Term) (t : Term) → place xs t ≡ length xs → place (xs ++ t ∷ []) t ≡ length xs
 place_last [] t h = ap (λ b. if b then 0 else 1) (same_term_equal t t refl)
 place_last (x ∷ xs) t h = by_test (same_term x t) (place_last xs t) h
   where
@@ -195,11 +204,12 @@ cycle_contradicts cs known xs es os ks h c few =
 
 -- ---- numbers that meet all edges
 
-labelled : (ls : List ℤ) (xs : List Term) (n : ℕ) → AreOnce xs → n < suc (length xs) → node_number (λ t. label ls (suc (place xs t)) -ℤ label ls 0) xs n ≡ label ls n -ℤ label ls 0
+labelled : (ls : List ℤ) (xs : List Term) (n : ℕ) → AreOnce xs → n < suc (length xs) → node_number (λ t. label ls 0 -ℤ label ls (suc (place xs t))) xs n ≡ label ls n -ℤ label ls 0
 labelled ls xs zero once l = omega (arith, ints)
 labelled ls xs (suc i) once l =
     let t = inside_got xs i (omega arith) in
-    number_got (λ t. label ls (suc (place xs t)) -ℤ label ls 0) xs i t.0 t.1 ∙ ap (λ j. label ls (suc j) -ℤ label ls 0) (once i t.0 t.1)
+    let at = number_got (λ t. label ls 0 -ℤ label ls (suc (place xs t))) xs i t.0 t.1 ∙ ap (λ j. label ls 0 -ℤ label ls (suc j)) (once i t.0 t.1) in
+    omega (arith, ints)
 
 met_by : (b : Bool) (z : ℤ) → z ≤ℤ pos 0 → (b ≡ true → pos 0 ≤ℤ z) → IsMetBy b z
 met_by true z low high = let h : pos 0 ≤ℤ z = high refl in omega (arith, ints)
@@ -209,12 +219,12 @@ less_one_times : (z : ℤ) → negsuc 0 *ℤ z ≡ pos 0 -ℤ z
 less_one_times z = omega (arith, ints, product_is (negsuc 0) z)
 
 -- what an edge that is met says, at these numbers
-edge_says : (cs : List ClassTree) (known : List Formula) (xs : List Term) (es : List Edge) (os : List (ℕ × ℤ)) (ls : List ℤ) (o : ℕ × ℤ) → AreOnce xs → AllZip (IsEdgeOf cs known xs) es os → All (IsMet ls) es → Contains os o → (o.1 *ℤ fact_value (λ t. label ls (suc (place xs t)) -ℤ label ls 0) (fact_at cs known o.0)) ≤ℤ pos 0
+edge_says : (cs : List ClassTree) (known : List Formula) (xs : List Term) (es : List Edge) (os : List (ℕ × ℤ)) (ls : List ℤ) (o : ℕ × ℤ) → AreOnce xs → AllZip (IsEdgeOf cs known xs) es os → All (IsMet ls) es → Contains os o → (o.1 *ℤ fact_value (λ t. label ls 0 -ℤ label ls (suc (place xs t))) (fact_at cs known o.0)) ≤ℤ pos 0
 edge_says cs known xs es os ls o once h met c =
     let n = zip_length (IsEdgeOf cs known xs) es os h in
     let inside : c.0 < length es = (let l = c.1 in omega arith) in
     let e : IsEdgeOf cs known xs (get_or es c.0 no_edge) o = subst (λ p. IsEdgeOf cs known xs (get_or es c.0 no_edge) p) c.2 (zip_at (IsEdgeOf cs known xs) es os c.0 no_edge o h inside) in
-    let value = e.value (λ t. label ls (suc (place xs t)) -ℤ label ls 0) in
+    let value = e.value (λ t. label ls 0 -ℤ label ls (suc (place xs t))) in
     let to = labelled ls xs (get_or es c.0 no_edge).to once e.to in
     let from = labelled ls xs (get_or es c.0 no_edge).from once e.from in
     let m : label ls (get_or es c.0 no_edge).to ≤ℤ (label ls (get_or es c.0 no_edge).from +ℤ (get_or es c.0 no_edge).weight) = met c.0 no_edge inside in
@@ -223,16 +233,16 @@ edge_says cs known xs es os ls o once h met c =
 known_inside : (cs : List ClassTree) (fs : List Formula) (k : ℕ) (fact : SumFact) → fact_at cs fs k ≡ Some fact → k < length fs
 known_inside cs fs k fact e = let p = and_then_some (sum_fact_of cs) (slice_get fs k) fact e in got_inside fs k p.0 p.1
 
-pub labels_meet : (cs : List ClassTree) (known : List Formula) (xs : List Term) (es : List Edge) (os : List (ℕ × ℤ)) (ls : List ℤ) → IsNetwork cs known xs es os (length known) → All (IsMet ls) es → MeetsDifferences cs known (λ t. label ls (suc (place xs t)) -ℤ label ls 0)
+pub labels_meet : (cs : List ClassTree) (known : List Formula) (xs : List Term) (es : List Edge) (os : List (ℕ × ℤ)) (ls : List ℤ) → IsNetwork cs known xs es os (length known) → All (IsMet ls) es → MeetsDifferences cs known (λ t. label ls 0 -ℤ label ls (suc (place xs t)))
 labels_meet cs known xs es os ls n met k fact is d =
     let l = known_inside cs known k fact is in
     let edges = n.all k l fact is d in
     let one = edge_says cs known xs es os ls (k, pos 1) n.once n.edges met edges.0 in
-    let same : fact_value (λ t. label ls (suc (place xs t)) -ℤ label ls 0) (fact_at cs known k) ≡ sum_at (λ t. label ls (suc (place xs t)) -ℤ label ls 0) fact.sum = ap (fact_value (λ t. label ls (suc (place xs t)) -ℤ label ls 0)) is in
-    let times = one_times (fact_value (λ t. label ls (suc (place xs t)) -ℤ label ls 0) (fact_at cs known k)) in
-    met_by fact.is_equality (sum_at (λ t. label ls (suc (place xs t)) -ℤ label ls 0) fact.sum)
+    let same : fact_value (λ t. label ls 0 -ℤ label ls (suc (place xs t))) (fact_at cs known k) ≡ sum_at (λ t. label ls 0 -ℤ label ls (suc (place xs t))) fact.sum = ap (fact_value (λ t. label ls 0 -ℤ label ls (suc (place xs t)))) is in
+    let times = one_times (fact_value (λ t. label ls 0 -ℤ label ls (suc (place xs t))) (fact_at cs known k)) in
+    met_by fact.is_equality (sum_at (λ t. label ls 0 -ℤ label ls (suc (place xs t))) fact.sum)
     (omega (arith, ints))
     (λ e.
     let two = edge_says cs known xs es os ls (k, negsuc 0) n.once n.edges met (edges.1 e) in
-    let less = less_one_times (fact_value (λ t. label ls (suc (place xs t)) -ℤ label ls 0) (fact_at cs known k)) in
+    let less = less_one_times (fact_value (λ t. label ls 0 -ℤ label ls (suc (place xs t))) (fact_at cs known k)) in
     omega (arith, ints))

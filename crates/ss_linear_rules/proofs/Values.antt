@@ -11,10 +11,10 @@ use Rattle.ss_logic.specs.Formulas.{Formula}
 use Rattle.ss_logic.specs.Equal.{same_term, equal_terms}
 use Rattle.ss_logic_rules.specs.Shapes.{number, at_most}
 use Rattle.ss_logic_rules.proofs.Options.{when_some, and_then_some, if_some}
-use Rattle.ss_logic_sums.specs.Sums.{is_within, checked, plus_times, is_zero, LinearSum, number_sum, add_part, add_parts, add_times, SumFact, is_weight, add_weighted, weighted, divided, multiple, sum_onto, sum_term, bounded, sum_of}
+use Rattle.ss_logic_sums.specs.Sums.{is_within, checked, plus_times, is_zero, LinearSum, number_sum, add_part, add_parts, add_times, is_weight, add_weighted, weighted, divided, multiple, sum_onto, sum_term, bounded, sum_of}
 use Rattle.ss_logic_sums.proofs.Numbers.{product_assoc, product_sum, times_zero, coefficient_more, sum_zero, zero_sum, first_more, rest_more, regroup, onto, zero_is, zero_times, most_times, exact}
 use Rattle.ss_linear_rules.specs.Two.{IsFalse, fact_at, is_difference, IsDifferenceAt}
-use Rattle.ss_linear_rules.specs.Valued.{parts_at, sum_at, IsMetBy, MeetsDifferences}
+use Rattle.ss_linear_rules.specs.Valued.{parts_at, sum_at, IsMetBy, IsMetAt, MeetsDifferences}
 
 pub checked_is : (n r : ℤ) → checked n ≡ Some r → n ≡ r
 checked_is n r h = (when_some (is_within n) n r h).1
@@ -146,7 +146,7 @@ module _ (v : Term → ℤ) where
   met_more true w a z p f h = zero_times a w z h f
   met_more false w a z p f h = most_times a w z h p f
 
-  weighted_met : (cs : List ClassTree) (known : List Formula) (a : LinearSum) (ps : List (ℕ × ℤ)) (b : LinearSum) → AllByRecursion (λ p. (fact : SumFact) → fact_at cs known p.0 ≡ Some fact → IsMetBy fact.is_equality (sum_at v fact.sum)) ps → int_le (sum_at v a) (pos 0) ≡ true → weighted cs known a ps ≡ Some b → int_le (sum_at v b) (pos 0) ≡ true
+  weighted_met : (cs : List ClassTree) (known : List Formula) (a : LinearSum) (ps : List (ℕ × ℤ)) (b : LinearSum) → AllByRecursion (λ p. IsMetAt cs known v p.0) ps → int_le (sum_at v a) (pos 0) ≡ true → weighted cs known a ps ≡ Some b → int_le (sum_at v b) (pos 0) ≡ true
   weighted_met cs known a [] b all t e = subst (λ x. int_le (sum_at v x) (pos 0) ≡ true) (some_is a b e) t
   weighted_met cs known a (p ∷ ps) b all t e =
       let q = and_then_some (λ fact. option_and_then (λ c. weighted cs known c ps) (add_weighted p.1 a fact)) (fact_at cs known p.0) b e in
@@ -156,7 +156,7 @@ module _ (v : Term → ℤ) where
       (ap (λ x. int_le x (pos 0)) (add_times_value a p.1 q.0.sum c.0 w.1) ∙ met_more q.0.is_equality p.1 (sum_at v a) (sum_at v q.0.sum) w.0 (all.0 q.0 q.1) t)
       c.2
 
-  all_met : (cs : List ClassTree) (known : List Formula) (ps : List (ℕ × ℤ)) → MeetsDifferences cs known v → AllByRecursion (λ p. IsDifferenceAt cs known p.0) ps → AllByRecursion (λ p. (fact : SumFact) → fact_at cs known p.0 ≡ Some fact → IsMetBy fact.is_equality (sum_at v fact.sum)) ps
+  all_met : (cs : List ClassTree) (known : List Formula) (ps : List (ℕ × ℤ)) → MeetsDifferences cs known v → AllByRecursion (λ p. IsDifferenceAt cs known p.0) ps → AllByRecursion (λ p. IsMetAt cs known v p.0) ps
   all_met cs known [] met all = tt
   all_met cs known (p ∷ ps) met all = (
     λ fact e.
@@ -165,12 +165,16 @@ module _ (v : Term → ℤ) where
     all_met cs known ps met all.1,
   )
 
-  pub never_false : (cs : List ClassTree) (known : List Formula) (ps : List (ℕ × ℤ)) (f : Formula) → MeetsDifferences cs known v → AllByRecursion (λ p. IsDifferenceAt cs known p.0) ps → sum_of cs known (pos 1) ps ≡ Some f → IsFalse f → ⊥
-  never_false cs known ps f met all e c =
+  -- facts that are met never give what is false
+  pub met_false : (cs : List ClassTree) (known : List Formula) (ps : List (ℕ × ℤ)) (f : Formula) → AllByRecursion (λ p. IsMetAt cs known v p.0) ps → sum_of cs known (pos 1) ps ≡ Some f → IsFalse f → ⊥
+  met_false cs known ps f all e c =
       let p = if_some (is_positive (pos 1)) (option_and_then (bounded (pos 1)) (weighted cs known (number_sum (pos 0)) ps)) f e in
       let q = and_then_some (bounded (pos 1)) (weighted cs known (number_sum (pos 0)) ps) f p.1 in
       let no = bounded_false q.0 f q.2 c in
-      let most : int_le (sum_at v q.0) (pos 0) ≡ true = weighted_met cs known (number_sum (pos 0)) ps q.0 (all_met cs known ps met all) refl q.1 in
+      let most : int_le (sum_at v q.0) (pos 0) ≡ true = weighted_met cs known (number_sum (pos 0)) ps q.0 all refl q.1 in
       let parts = no.0 in
       let above = no.1 in
       omega (arith, ints)
+
+  pub never_false : (cs : List ClassTree) (known : List Formula) (ps : List (ℕ × ℤ)) (f : Formula) → MeetsDifferences cs known v → AllByRecursion (λ p. IsDifferenceAt cs known p.0) ps → sum_of cs known (pos 1) ps ≡ Some f → IsFalse f → ⊥
+  never_false cs known ps f met all e c = met_false cs known ps f (all_met cs known ps met all) e c

@@ -7,6 +7,7 @@ use Rattle.ss_logic.specs.Formulas.{Formula}
 use Rattle.ss_logic.specs.Equal.{same_term}
 use Rattle.ss_logic_sums.specs.Sums.{SumFact}
 use Rattle.ss_linear_paths.specs.declared.edges.Edge.{Edge}
+use Rattle.ss_linear_paths.specs.Edges.{label}
 use Rattle.ss_linear_rules.specs.Two.{fact_at, is_difference}
 use Rattle.ss_linear_rules.specs.Valued.{fact_value, IsUsed}
 
@@ -20,10 +21,10 @@ number_at v [] i = pos 0
 number_at v (x ∷ xs) zero = v x
 number_at v (x ∷ xs) (suc i) = number_at v xs i
 
--- the number of a node, where terms have these numbers
+-- the number of a node, where terms have these numbers: that of a term with the other sign
 abbrev pub node_number : (Term → ℤ) → List Term → ℕ → ℤ
 node_number v xs zero = pos 0
-node_number v xs (suc i) = number_at v xs i
+node_number v xs (suc i) = pos 0 -ℤ number_at v xs i
 
 -- each term stands once
 abbrev pub AreOnce : List Term → Type 0
@@ -59,6 +60,10 @@ no_origin = (0, pos 0)
 abbrev pub origins_at : List (ℕ × ℤ) → List ℕ → List (ℕ × ℤ)
 origins_at os [] = []
 origins_at os (k ∷ ks) = slice_index_or os k no_origin ∷ origins_at os ks
+
+-- the number of a term, where nodes have these labels: that of the first node less that of its own; a term without a node has none
+abbrev pub number_of : List Term → List ℤ → Term → ℤ
+number_of xs ls t = label ls 0 -ℤ label ls (suc (place xs t))
 
 -- what a term comes to, 0 without one
 abbrev pub end_value : (Term → ℤ) → Option Term → ℤ

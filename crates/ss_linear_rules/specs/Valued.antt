@@ -18,6 +18,10 @@ abbrev pub IsMetBy : Bool → ℤ → Type 0
 IsMetBy true z = z ≡ pos 0
 IsMetBy false z = int_le z (pos 0) ≡ true
 
+-- the known fact at this place, where there is one, is so at these numbers
+abbrev pub IsMetAt : List ClassTree → List Formula → (Term → ℤ) → ℕ → Type 0
+IsMetAt cs known v k = (fact : SumFact) → fact_at cs known k ≡ Some fact → IsMetBy fact.is_equality (sum_at v fact.sum)
+
 -- each known fact that is a difference is so at these numbers
 abbrev pub MeetsDifferences : List ClassTree → List Formula → (Term → ℤ) → Type 0
 MeetsDifferences cs known v = (k : ℕ) (fact : SumFact) → fact_at cs known k ≡ Some fact → is_difference fact ≡ true → IsMetBy fact.is_equality (sum_at v fact.sum)

@@ -4,6 +4,7 @@ ghost use Rattle.std.specs.Prelude.{◌≡◌, pos, List, [], ◌∷◌, length,
 ghost use Rattle.ss_core.specs.Tree.{ClassTree};
 ghost use Rattle.ss_logic.specs.Terms.{terms_from};
 ghost use Rattle.ss_logic.specs.Formulas as logic;
+ghost use Rattle.ss_logic_rules.specs.Shapes.{equal};
 ghost use Rattle.ss_logic_sums.specs.Sums as sums;
 ghost use Rattle.ss_terms.specs.Forms.{Forms, predicate_of, term_at, terms_at, formula_at, HasTerm, HasTerms, HasFormula, IsBankOf};
 ghost use Rattle.ss_linear_sums.specs.Linear.{HasParts, IsSumOf, IsFactOf};
@@ -205,6 +206,27 @@ pub fn sum_fact(
     ensures fact { (cs : List ClassTree) → IsBankOf cs bank.now → IfOk result (λ o. IsFactOf bank.now o (sums.sum_fact_of cs (formula_at bank.now f))) }
 {
     match read_comparison(bank, f) {
+        Some(c) => fact_of(alloc, bank, table, c),
+        None => Ok(None),
+    }
+}
+
+/// What the equality of two terms says of a sum, where they are whole numbers and no number on the way leaves 128 bits.
+pub fn equality_fact(
+    alloc: Global,
+    bank: &Bank,
+    table: &mut SumTable,
+    left: TermId,
+    right: TermId,
+) -> Result<Option<SumFact>, AllocError>
+    requires left { HasTerm bank.now left }
+    requires right { HasTerm bank.now right }
+    requires kept { AreKept bank.now table.old.kept.items }
+    ensures kept { IfOk result (λ _. AreKept bank.now table.new.kept.items) }
+    ensures terms { IfOk result (λ o. IfSome o (λ fact. HasParts bank.now fact.sum.parts.items)) }
+    ensures fact { (cs : List ClassTree) → IsBankOf cs bank.now → IfOk result (λ o. IsFactOf bank.now o (sums.sum_fact_of cs (equal (term_at bank.now left) (term_at bank.now right)))) }
+{
+    match equality(bank, left, right) {
         Some(c) => fact_of(alloc, bank, table, c),
         None => Ok(None),
     }

@@ -12,7 +12,7 @@ mod table;
 
 pub use adding::{add_weighted, weighted};
 pub use bounds::sum;
-pub use facts::sum_fact;
+pub use facts::{equality_fact, sum_fact};
 pub use forms::{LinearSum, Part, SumFact};
 pub use parts::add_times;
 pub use summed::linear;

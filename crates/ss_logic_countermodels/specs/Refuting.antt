@@ -1,12 +1,15 @@
 -- Models of ground forms: a class for each term, and a truth value for each atom and each quantified formula. A model refutes an
 -- obligation where every formula of the ground form comes out true at it.
-use Rattle.std.specs.Prelude.{◌≡◌, ℕ, suc, List, [], ◌∷◌, ◌++◌, map, flat_map, Bool, true, false, not, ◌&&◌, ◌||◌, ◌==◌, if◌then◌else◌, Some}
+use Rattle.std.specs.Prelude.{◌≡◌, ℕ, suc, List, [], ◌∷◌, ◌++◌, map, filter, flat_map, Bool, true, false, not, ◌&&◌, ◌||◌, ◌==◌, if◌then◌else◌, Some}
 use Rattle.std.specs.List.{slice_index_or, list_all}
 use Rattle.std.specs.Bool.{beq}
-use Rattle.ss_logic.specs.Terms.{Term, App, Terms, no_terms, term_then, term_list}
+use Rattle.ss_logic.specs.declared.Sort.TheVariants as sort
+use Rattle.ss_logic.specs.Terms.{Term, App, Terms, no_terms, term_then, term_list, same_sort, sort_of}
 use Rattle.ss_logic.specs.Formulas.{Equal, Formula, Formulas, Literal, And, Or, Forall, Exists, no_formulas, formula_then, neg}
 use Rattle.ss_logic.specs.Equal.{same_term, same_symbol, same_predicate, same_formula}
+use Rattle.ss_logic_rules.specs.Shapes.{equal}
 use Rattle.ss_logic_derivations.specs.Steps.{is_value}
+use Rattle.ss_linear_rules.specs.Two.{Two}
 use Rattle.ss_logic_ground.specs.Occurring.{terms, with_formulas}
 use Rattle.ss_logic_ground.specs.Ground.{ground_form}
 use Rattle.ss_logic_countermodels.specs.declared.Countermodel.{Countermodel}
@@ -87,12 +90,39 @@ abbrev pub implies : Bool → Bool → Bool
 implies a b = not a || b
 
 -- The model makes each formula true; equal terms have equal functions of them; equality is that of the classes, and values differ.
-pub record Refutes (m : Model) (fs : List Formula) : Type 0 where
+pub record Agrees (m : Model) (fs : List Formula) : Type 0 where
   pub true_ones : list_all (comes_out m) fs ≡ true
   pub congruent : list_all (λ s. list_all (λ t. implies (are_congruent m s t) (m.class s == m.class t)) (terms fs)) (terms fs) ≡ true
   pub alike : list_all (λ f. list_all (λ g. implies (are_alike m f g) (beq (m.truth f) (m.truth g))) (told fs)) (told fs) ≡ true
-  pub equal : list_all (is_equal_inside m) (told fs) ≡ true
+  pub inside : list_all (is_equal_inside m) (told fs) ≡ true
   pub apart : list_all (λ s. list_all (are_apart m s) (terms fs)) (terms fs) ≡ true
+
+-- ---- numbers
+
+-- what has a truth value, where that is true, and else its negation
+abbrev pub as_told : Model → Formula → Formula
+as_told m f = if m.truth f then f else neg f
+
+abbrev pub is_whole : List ClassTree → Term → Bool
+is_whole cs t = same_sort (sort_of cs [] t) sort.Whole
+
+-- the equalities of a term with those of the list that are in its class
+abbrev pub equalities_of : Model → Term → List Term → List Formula
+equalities_of m s ts = map (equal s) (filter (λ t. m.class s == m.class t) ts)
+
+-- of each two terms of one class
+abbrev pub equalities : Model → List Term → List Formula
+equalities m [] = []
+equalities m (t ∷ ts) = equalities_of m t ts ++ equalities m ts
+
+-- what the model makes true, and the equalities of whole numbers of one class
+abbrev pub facts_of : List ClassTree → Model → List Formula → List Formula
+facts_of cs m fs = map (as_told m) (told fs) ++ equalities m (filter (is_whole cs) (terms fs))
+
+-- It agrees with the formulas, and no sum of one or two of its facts, or of differences among them, is a contradiction. More isn't asked of numbers.
+pub record Refutes (cs : List ClassTree) (m : Model) (fs : List Formula) : Type 0 where
+  pub agrees : Agrees m fs
+  pub numbers : Two cs (facts_of cs m fs) → ⊥
 
 -- ---- as lists
 
@@ -112,4 +142,4 @@ model_of fs classes truths = record {
 pub record RefutesGround (cs : List ClassTree) (premises : List Formula) (goal : Formula) (rounds limit : ℕ) (c : Countermodel) : Type 0 where
   pub formulas : List Formula
   pub ground : ground_form cs premises goal rounds limit ≡ Some formulas
-  pub refutes : Refutes (model_of formulas c.classes.items c.truth.items) formulas
+  pub refutes : Refutes cs (model_of formulas c.classes.items c.truth.items) formulas

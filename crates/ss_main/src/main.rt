@@ -8,7 +8,7 @@ use ss_main_messages::{
 };
 use ss_report::{Status, status_line};
 use ss_top::specsharp;
-use ss_top_words::read_words;
+use ss_top_words::{DEFAULT_LIMITS, Limits, read_words};
 use std::alloc::{AllocError, Global};
 use std::process::ExitCode;
 use std::rt::Env;
@@ -35,14 +35,28 @@ fn unread<R: std::rt::Files>(rt: &R, file: &str) -> Unread {
     }
 }
 
+// What messages speak of: a file, and how far its program was verified.
+#[derive(Clone, Copy)]
+struct Subject<'w> {
+    file: &'w str,
+    limits: Limits,
+}
+
+// What they speak of where no words are read.
+const NOTHING: Subject<'static> = Subject {
+    file: "",
+    limits: DEFAULT_LIMITS,
+};
+
 // What is said of an answer that speaks of the source of a file, of which these bytes were read.
 fn of_source(
     alloc: Global,
-    file: &str,
+    subject: Subject<'_>,
     source: &[u8],
     status: &Status,
     verdict: &[u8],
 ) -> Result<String, AllocError> {
+    let Subject { file, limits } = subject;
     match status {
         Status::SourceRefused { rule, place } => {
             refused_message(alloc, file, source, *place, *rule)
@@ -51,11 +65,11 @@ fn of_source(
         Status::Stopped { place } => stopped_message(alloc, file, source, *place),
         Status::Unproved { countered, .. } => {
             let verdict = str::from_utf8(verdict).unwrap_or("");
-            verdict_messages(alloc, file, source, verdict, countered)
+            verdict_messages(alloc, file, source, verdict, countered, limits)
         }
         Status::Undecided { .. } => {
             let verdict = str::from_utf8(verdict).unwrap_or("");
-            verdict_messages(alloc, file, source, verdict, &[])
+            verdict_messages(alloc, file, source, verdict, &[], limits)
         }
         _ => Ok(String::new(alloc)),
     }
@@ -64,15 +78,17 @@ fn of_source(
 // What is said of an answer beside its status line.
 fn explanation<R: std::rt::Files + AllocGlobal>(
     rt: &R,
-    file: &str,
+    subject: Subject<'_>,
     source: Option<&[u8]>,
     status: &Status,
     verdict: &[u8],
 ) -> Result<String, AllocError> {
     match (status, source) {
         (Status::BadWords, _) => String::from_str(rt.alloc(), usage()),
-        (Status::ReadFault, _) => unread_message(rt.alloc(), file, unread(rt, file)),
-        (_, Some(source)) => of_source(rt.alloc(), file, source, status, verdict),
+        (Status::ReadFault, _) => {
+            unread_message(rt.alloc(), subject.file, unread(rt, subject.file))
+        }
+        (_, Some(source)) => of_source(rt.alloc(), subject, source, status, verdict),
         (_, None) => Ok(String::new(rt.alloc())),
     }
 }
@@ -89,11 +105,14 @@ fn tell<R: Eprint + AllocGlobal>(rt: &R, explanation: Result<String, AllocError>
     }
 }
 
-// The file that the words name, or nothing where they name none.
-fn file_of(alloc: Global, words: &[String]) -> &str {
+// What messages about the words speak of.
+fn subject_of(alloc: Global, words: &[String]) -> Subject<'_> {
     match read_words(alloc, words) {
-        Ok(Some(asked)) => asked.file,
-        _ => "",
+        Ok(Some(asked)) => Subject {
+            file: asked.file,
+            limits: asked.limits,
+        },
+        _ => NOTHING,
     }
 }
 
@@ -104,7 +123,7 @@ fn answer<R: Print + Eprint + std::rt::Files + AllocGlobal>(rt: &R, words: &[Str
     let status = specsharp(rt.alloc(), words, &mut files, &mut out);
     let text = explanation(
         rt,
-        file_of(rt.alloc(), words),
+        subject_of(rt.alloc(), words),
         files.last(),
         &status,
         out.last(),
@@ -126,7 +145,7 @@ fn main(rt: HostRuntime) -> ExitCode {
         Ok(words) => answer(&rt, &words),
         Err(error) => {
             let status = without_words(&error);
-            let text = explanation(&rt, "", None, &status, b"");
+            let text = explanation(&rt, NOTHING, None, &status, b"");
             tell(&rt, text, &status);
             status
         }

@@ -21,7 +21,7 @@ pub enum Unread {
 
 /// The commands.
 pub fn usage() -> &'static str {
-    "usage: specsharp verify FILE             verifies the program of the file FILE\n       specsharp run FILE                verifies it, and runs it where it is verified\n       specsharp run FILE --unverified   runs it with all its checks, whatever it is\n           with --steps S, for at most S steps (1000000 without it), and INT .. behind FILE: the input\n       specsharp expand FILE             writes the core program that it means\nFILE doesn't begin with `-`; write ./-FILE for one that does. Numbers below 0 stand behind `--`.\n"
+    "usage: specsharp verify FILE             verifies the program of the file FILE\n       specsharp run FILE                verifies it, and runs it where it is verified\n           both with --rounds R, --instances N and --splits S: how far they search (2, 50000 and 200000 without them)\n       specsharp run FILE --unverified   runs it with all its checks, whatever it is\n           run with --steps S, for at most S steps (1000000 without it), and INT .. behind FILE: the input\n       specsharp expand FILE             writes the core program that it means\nFILE doesn't begin with `-`; write ./-FILE for one that does. Numbers below 0 stand behind `--`.\n"
 }
 
 /// The message of a file that couldn't be read.

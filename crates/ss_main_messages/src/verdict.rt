@@ -5,6 +5,7 @@ use crate::sentences::sentence_of_check;
 use ss_core::Place;
 use ss_main_values::model_texts;
 use ss_search::Countered;
+use ss_top_words::Limits;
 use std::alloc::{AllocError, Global};
 
 // A line of a verdict: the kind of a check that isn't shown to hold, where it stands, and what is said behind it.
@@ -36,12 +37,15 @@ fn read_line<'a>(line: &'a str, prefix: &str) -> Option<Unproved<'a>> {
     })
 }
 
-// Adds which limit the obligation passed.
-fn push_limit(text: &mut String, behind: &str) -> Result<(), AllocError> {
+// Adds which budget wasn't enough for the obligation.
+fn push_budget(text: &mut String, behind: &str) -> Result<(), AllocError> {
     match behind.split_once(", ") {
-        Some((_, limit)) => {
+        Some((_, budget)) => {
             text.push_str("    this isn't decided: ")?;
-            text.push_str(limit)?;
+            text.push_str(budget)?;
+            if budget.ends_with(" splits") {
+                text.push_str(" aren't enough")?;
+            }
             text.push_str("\n")
         }
         None => Ok(()),
@@ -90,20 +94,22 @@ fn with_values(
         } else if let Some(undecided) = read_line(line, "undecided: ") {
             let message = unproved_message(alloc, file, source, &undecided)?;
             text.push_str(message.as_str())?;
-            push_limit(&mut text, undecided.behind)?;
+            push_budget(&mut text, undecided.behind)?;
         }
     }
     Ok(text)
 }
 
-/// The messages of a verdict, one for each of its lines, with the values that the models of the verdict give to locals.
+/// The messages of a verdict, one for each of its lines, with the values that the models of the verdict give to locals. The limits are those of
+/// the verdict.
 pub fn verdict_messages(
     alloc: Global,
     file: &str,
     source: &[u8],
     verdict: &str,
     countered: &[Countered],
+    limits: Limits,
 ) -> Result<String, AllocError> {
-    let values = model_texts(alloc, source, countered)?;
+    let values = model_texts(alloc, source, countered, limits)?;
     with_values(alloc, file, source, verdict, &values)
 }

@@ -14,6 +14,7 @@ use ss_rules_occurring::{atoms, terms};
 use ss_search::Countered;
 use ss_terms::{Bank, FormulaId, TermId};
 use ss_top::read_program;
+use ss_top_words::Limits;
 use ss_vcgen::{Listed, Obligations, Positions, locate};
 use std::alloc::{AllocError, Global};
 
@@ -49,6 +50,7 @@ fn text_of(
     listed: &Listed,
     classes: &[usize],
     locals: &[Option<TermId>],
+    limits: Limits,
 ) -> Result<String, AllocError>
     requires bank { IsBankOf (view.classes core.now.classes) bank.old }
     requires limits { IsWithinLimits (view.classes core.now.classes) }
@@ -60,7 +62,12 @@ fn text_of(
         return Ok(String::new(alloc));
     };
     let obligation = listed.obligation(trail);
-    match ground(alloc, bank, core, &obligation, 2, 50_000) {
+    let Limits {
+        rounds,
+        instances,
+        ..
+    } = limits;
+    match ground(alloc, bank, core, &obligation, rounds, instances) {
         Ok(formulas) => values_of(alloc, bank, &formulas, classes, body, locals),
         Err(GroundStop::TooMany { .. }) => Ok(String::new(alloc)),
         Err(GroundStop::Memory) => Err(AllocError),
@@ -85,6 +92,7 @@ fn text_at(
     core: &Core,
     one: &Countered,
     locals: &[Option<TermId>],
+    limits: Limits,
 ) -> Result<String, AllocError>
     requires bank { IsBankOf (view.classes core.now.classes) obligations.old.bank }
     requires limits { IsWithinLimits (view.classes core.now.classes) }
@@ -96,11 +104,25 @@ fn text_at(
     let Some(listed) = list.get(one.obligation) else {
         return Ok(String::new(alloc));
     };
-    text_of(alloc, bank, trail, core, listed, &one.model.classes, locals)
+    text_of(
+        alloc,
+        bank,
+        trail,
+        core,
+        listed,
+        &one.model.classes,
+        locals,
+        limits,
+    )
 }
 
 // A text for each obligation whose values are told.
-fn texts_of(alloc: Global, core: &Core, countered: &[Countered]) -> Result<Vec<String>, AllocError>
+fn texts_of(
+    alloc: Global,
+    core: &Core,
+    countered: &[Countered],
+    limits: Limits,
+) -> Result<Vec<String>, AllocError>
     requires { IsWithinLimits (view.classes core.now.classes) }
 {
     let numbers = told_numbers(alloc, countered)?;
@@ -111,7 +133,7 @@ fn texts_of(alloc: Global, core: &Core, countered: &[Countered]) -> Result<Vec<S
     let mut texts = Vec::new(alloc);
     for place in 0..locals.len() {
         if let Some(one) = countered.get(place) {
-            let text = text_at(alloc, &mut obligations, core, one, &locals[place])?;
+            let text = text_at(alloc, &mut obligations, core, one, &locals[place], limits)?;
             texts.push(text)?;
         }
     }
@@ -119,14 +141,16 @@ fn texts_of(alloc: Global, core: &Core, countered: &[Countered]) -> Result<Vec<S
 }
 
 /// The values that the models give to the locals of the program of a source, as `x = 3, b = True`: a text for each of the first twenty
-/// obligations that a model refutes, in their order. It is empty where no local has a value there. An error is want of memory.
+/// obligations that a model refutes, in their order. It is empty where no local has a value there. The limits are those of the verdict. An
+/// error is want of memory.
 pub fn model_texts(
     alloc: Global,
     source: &[u8],
     countered: &[Countered],
+    limits: Limits,
 ) -> Result<Vec<String>, AllocError> {
     match read_program(alloc, source) {
-        Ok(core) => texts_of(alloc, &core, countered),
+        Ok(core) => texts_of(alloc, &core, countered, limits),
         Err(_) => Ok(Vec::new(alloc)),
     }
 }

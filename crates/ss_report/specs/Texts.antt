@@ -3,6 +3,8 @@ use Rattle.std.specs.Prelude.{ℕ, List, [], ◌∷◌, ◌++◌, codes, decimal
 use Rattle.ss_core.specs.declared.names.Place.{Place}
 use Rattle.ss_core.specs.declared.names.Kind.{Kind}
 use Rattle.ss_core.specs.declared.names.Kind.TheVariants as kind
+use Rattle.ss_search.specs.declared.answers.Budget.{Budget}
+use Rattle.ss_search.specs.declared.answers.Budget.TheVariants.{Splits, Instances}
 
 -- the name of a kind
 abbrev pub kind_name : Kind → List ℕ
@@ -40,10 +42,11 @@ check_text k at class body = kind_name k ++ codes " at " ++ place_text at ++ cod
 abbrev pub not_proved_line : Kind → Place → List ℕ → List ℕ → List ℕ
 not_proved_line k at class body = codes "not proved: " ++ check_text k at class body ++ 10 ∷ []
 
--- which limit was passed, and a line end
-abbrev pub limit_text : ℕ → List ℕ
-limit_text limit = codes ", more than " ++ decimal limit ++ codes " instances" ++ 10 ∷ []
+-- which budget wasn't enough, and a line end
+abbrev pub budget_text : Budget → List ℕ
+budget_text (Splits splits) = codes ", " ++ decimal splits ++ codes " splits" ++ 10 ∷ []
+budget_text (Instances limit) = codes ", more than " ++ decimal limit ++ codes " instances" ++ 10 ∷ []
 
--- the line of an obligation whose ground form has more formulas than the limit
-abbrev pub undecided_line : Kind → Place → List ℕ → List ℕ → ℕ → List ℕ
-undecided_line k at class body limit = codes "undecided: " ++ check_text k at class body ++ limit_text limit
+-- the line of an obligation that isn't decided, since this budget wasn't enough
+abbrev pub undecided_line : Kind → Place → List ℕ → List ℕ → Budget → List ℕ
+undecided_line k at class body over = codes "undecided: " ++ check_text k at class body ++ budget_text over

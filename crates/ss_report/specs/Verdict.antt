@@ -7,7 +7,6 @@ use Rattle.ss_vcgen_heaps.specs.Positions.{Obligation}
 use Rattle.ss_search.specs.declared.answers.Countered.{Countered}
 use Rattle.ss_search.specs.declared.answers.Undecided.{Undecided}
 use Rattle.ss_search.specs.declared.answers.Budget.{Budget}
-use Rattle.ss_search.specs.declared.answers.Budget.TheVariants.{Instances}
 use Rattle.ss_report.specs.Texts.{not_proved_line, undecided_line}
 
 -- ---- what is listed, by the number of the obligation
@@ -29,10 +28,10 @@ abbrev pub name_of_body : Option BodyTree → List ℕ
 name_of_body None = []
 name_of_body (Some b) = b.name
 
--- the line of an obligation that a model refutes, or that passed a budget; nothing of another
+-- the line of an obligation that a model refutes, or for which a budget wasn't enough; nothing of another
 abbrev pub line_of : CoreTree → Obligation → Bool → Option Budget → List ℕ
 line_of c o true over = not_proved_line o.kind o.place (class_of_body c (slice_get c.bodies o.body)) (name_of_body (slice_get c.bodies o.body))
-line_of c o false (Some (Instances limit)) = undecided_line o.kind o.place (class_of_body c (slice_get c.bodies o.body)) (name_of_body (slice_get c.bodies o.body)) limit
+line_of c o false (Some over) = undecided_line o.kind o.place (class_of_body c (slice_get c.bodies o.body)) (name_of_body (slice_get c.bodies o.body)) over
 line_of c o false None = []
 
 -- the lines of obligations that are numbered from k

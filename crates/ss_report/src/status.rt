@@ -13,7 +13,7 @@ use std::alloc::{AllocError, Global};
 pub enum Status {
     /// The command did its work: the program was verified, and where it was run, its run is done.
     Ended,
-    /// A model refutes the ground form of each of the first obligations, of which there is one at least; the second passed a budget.
+    /// A model refutes the ground form of each of the first obligations, of which there is one at least; for the second a budget wasn't enough.
     Unproved {
         countered: Vec<Countered>,
         undecided: Vec<Undecided>,
@@ -30,7 +30,7 @@ pub enum Status {
     /// The output failed.
     WriteFault,
     Memory,
-    /// No obligation is known to be refuted, but these passed a budget.
+    /// No obligation is known to be refuted, but for these a budget wasn't enough.
     Undecided {
         undecided: Vec<Undecided>,
     },

@@ -1,9 +1,11 @@
 // The text of a verdict.
 
 ghost use Rattle.std.specs.Prelude.{◌≡◌, ◌++◌, IfOk, OnOk, string_bytes};
-ghost use Rattle.ss_report.specs.Texts.{kind_name as kind_words, check_text, limit_text as limit_words, not_proved_line, undecided_line, place_text as place_words};
+ghost use Rattle.ss_search.specs.declared.answers.Budget.TheVariants.{Splits, Instances};
+ghost use Rattle.ss_report.specs.Texts.{kind_name as kind_words, check_text, budget_text as budget_words, not_proved_line, undecided_line, place_text as place_words};
 
 use ss_core::{Kind, Place};
+use ss_search::Budget;
 use std::alloc::{AllocError, Global};
 
 /// The name of a kind.
@@ -74,9 +76,20 @@ pub(crate) fn push_not_proved(
     Ok(())
 }
 
-// Which limit was passed, and a line end.
-fn limit_text(alloc: Global, limit: u32) -> Result<String, AllocError>
-    ensures { IfOk result (λ text. string_bytes text ≡ limit_words limit) }
+// How many splits weren't enough, and a line end.
+fn splits_text(alloc: Global, splits: u64) -> Result<String, AllocError>
+    ensures { IfOk result (λ text. string_bytes text ≡ budget_words (Splits splits)) }
+{
+    let mut text = String::from_str(alloc, ", ")?;
+    text.push_str(&splits.to_string(alloc)?)?;
+    text.push_str(" splits")?;
+    text.push_str("\n")?;
+    Ok(text)
+}
+
+// Than which limit there are more instances, and a line end.
+fn instances_text(alloc: Global, limit: u32) -> Result<String, AllocError>
+    ensures { IfOk result (λ text. string_bytes text ≡ budget_words (Instances limit)) }
 {
     let mut text = String::from_str(alloc, ", more than ")?;
     text.push_str(&limit.to_string(alloc)?)?;
@@ -85,8 +98,18 @@ fn limit_text(alloc: Global, limit: u32) -> Result<String, AllocError>
     Ok(text)
 }
 
-/// Adds the line of an obligation whose ground form has more formulas than the limit: `undecided: KIND at LINE:COLUMN in CLASS.NAME, more than
-/// LIMIT instances` and a line end.
+// Which budget wasn't enough, and a line end.
+fn budget_text(alloc: Global, over: Budget) -> Result<String, AllocError>
+    ensures { IfOk result (λ text. string_bytes text ≡ budget_words over) }
+{
+    match over {
+        Budget::Splits(splits) => splits_text(alloc, splits),
+        Budget::Instances(limit) => instances_text(alloc, limit),
+    }
+}
+
+/// Adds the line of an obligation that isn't decided: `undecided: KIND at LINE:COLUMN in CLASS.NAME, `, then `N splits` or `more than N instances`,
+/// and a line end.
 pub(crate) fn push_undecided(
     alloc: Global,
     text: &mut String,
@@ -94,13 +117,13 @@ pub(crate) fn push_undecided(
     place: Place,
     class: &str,
     body: &str,
-    limit: u32,
+    over: Budget,
 ) -> Result<(), AllocError>
-    ensures { OnOk result (string_bytes text.new ≡ string_bytes text.old ++ undecided_line kind place class.now body.now limit) }
+    ensures { OnOk result (string_bytes text.new ≡ string_bytes text.old ++ undecided_line kind place class.now body.now over) }
 {
     text.push_str("undecided: ")?;
     push_check(alloc, text, kind, place, class, body)?;
-    text.push_str(&limit_text(alloc, limit)?)?;
+    text.push_str(&budget_text(alloc, over)?)?;
     Ok(())
 }
 

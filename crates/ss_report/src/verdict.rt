@@ -38,7 +38,7 @@ fn body_name(program: &Core, id: BodyId) -> &str
     }
 }
 
-// Adds the line of an obligation: whether a model refutes it, and which budget it passed.
+// Adds the line of an obligation: whether a model refutes it, and which budget wasn't enough.
 fn push_line(
     alloc: Global,
     text: &mut String,
@@ -55,14 +55,14 @@ fn push_line(
         return push_not_proved(alloc, text, obligation.kind, obligation.place, class, body);
     }
     match over {
-        Some(Budget::Instances(limit)) => push_undecided(
+        Some(over) => push_undecided(
             alloc,
             text,
             obligation.kind,
             obligation.place,
             class,
             body,
-            limit,
+            over,
         ),
         None => Ok(()),
     }
@@ -85,7 +85,7 @@ fn next_countered(rest: &[Countered], number: usize) -> (bool, &[Countered])
     }
 }
 
-// Which budget the obligation of this number passed; and those behind it.
+// Which budget wasn't enough for the obligation of this number; and those behind it.
 fn next_undecided(rest: &[Undecided], number: usize) -> (Option<Budget>, &[Undecided])
     requires { AreRisingFrom number (undecided_numbers rest.now) }
     ensures over { result.0 ≡ budget_of rest.now number }

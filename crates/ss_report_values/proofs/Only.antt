@@ -7,7 +7,7 @@ use Rattle.ss_logic.specs.Formulas.{Formula}
 use Rattle.ss_logic.specs.Equal.{same_term, equal_terms, same_term_equal}
 use Rattle.ss_logic_derivations.specs.Steps.{is_value}
 use Rattle.ss_logic_ground.specs.Occurring.{terms}
-use Rattle.ss_logic_countermodels.specs.Refuting.{Model, Refutes, model_of, place_among, are_apart}
+use Rattle.ss_logic_countermodels.specs.Refuting.{Model, Agrees, model_of, place_among, are_apart}
 use Rattle.ss_report_values.specs.declared.literals.Value.{Value}
 use Rattle.ss_report_values.specs.Literals.{value_of, value_or, value_in, value_at}
 use Rattle.ss_report_values.specs.Said.{Occurs, IsTheValue}
@@ -32,7 +32,7 @@ not_apart true true same false a b c h = cc
 not_apart true false same e a b c h = cc
 not_apart false w same e a b c h = cc
 
-only_one : (m : Model) (fs : List Formula) → Refutes m fs → (v w : Term) → Occurs fs v → Occurs fs w → is_value v ≡ true → is_value w ≡ true → m.class v ≡ m.class w → v ≡ w
+only_one : (m : Model) (fs : List Formula) → Agrees m fs → (v w : Term) → Occurs fs v → Occurs fs w → is_value v ≡ true → is_value w ≡ true → m.class v ≡ m.class w → v ≡ w
 only_one m fs r v w at bt a b e =
     let row = all_at (λ s. list_all (are_apart m s) (terms fs)) (terms fs) v r.apart at in
     let h = all_at (are_apart m v) (terms fs) w row bt in
@@ -100,7 +100,7 @@ class_at_place [] i n h = cc
 class_at_place (k ∷ ns) zero n h = cc
 class_at_place (k ∷ ns) (suc i) n h = class_at_place ns i n h
 
-pub told_value : (fs : List Formula) (classes : List ℕ) (truths : List Bool) → Refutes (model_of fs classes truths) fs → (t : Term) (v : Value) → value_at (terms fs) classes t ≡ Some v → IsTheValue (model_of fs classes truths) fs t v
+pub told_value : (fs : List Formula) (classes : List ℕ) (truths : List Bool) → Agrees (model_of fs classes truths) fs → (t : Term) (v : Value) → value_at (terms fs) classes t ≡ Some v → IsTheValue (model_of fs classes truths) fs t v
 told_value fs classes truths r t v h = by (slice_get classes (place_among (same_term t) (terms fs))) refl h
   where
     made : (n : ℕ) → slice_get classes (place_among (same_term t) (terms fs)) ≡ Some n → Found (terms fs) classes n v → IsTheValue (model_of fs classes truths) fs t v

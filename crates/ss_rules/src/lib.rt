@@ -7,4 +7,4 @@ mod rules;
 
 pub use instances::instance;
 pub use names::RuleName;
-pub use rules::{GroundStop, ground};
+pub use rules::{GroundStop, ground, ground_with_origins};

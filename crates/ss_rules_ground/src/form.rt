@@ -1,19 +1,28 @@
 // The ground form.
 
-ghost use Rattle.std.specs.Prelude.{◌≡◌, [], IfOk};
+ghost use Rattle.std.specs.Prelude.{◌≡◌, ◌+◌, ◌<◌, [], ◌∷◌, ◌++◌, map, option_and_then, List, IfOk, IfSome, OnOk};
 ghost use Rattle.ss_core.specs.Chain.{IsWithinLimits};
+ghost use Rattle.ss_core.specs.Tree.{ClassTree};
 ghost use Rattle.ss_core.specs.View as view;
-ghost use Rattle.ss_logic_ground.specs.Ground.{ground_form};
+ghost use Rattle.ss_logic.specs.Formulas as logic;
+ghost use Rattle.ss_logic_ground.specs.Ground.{closed, rounds_of, ground_form};
 ghost use Rattle.ss_logic_ground.specs.Occurring.{with_formulas};
 ghost use Rattle.ss_logic_ground.specs.Opened as opened;
+ghost use Rattle.ss_logic_means.specs.Sorts.{AreWellFormed};
+ghost use Rattle.ss_logic_origins.specs.Origins as words;
+ghost use Rattle.ss_logic_origins.specs.Origins.{AreAccepted};
 ghost use Rattle.ss_terms.specs.Forms.{formula_at, formulas_at, HasFormula, HasFormulas, IsGrown, IsBankOf};
-ghost use Rattle.ss_rules_occurring.specs.Found.{Holds};
-ghost use Rattle.ss_rules_ground.specs.Grounds.{ground_at, HasGround};
+ghost use Rattle.ss_rules_occurring.specs.Found.{formulas_of, HasFound, Holds};
+ghost use Rattle.ss_rules_opened.specs.Choices.{choices_at, HasChoices};
+ghost use Rattle.ss_rules_origins.specs.Views.{ComeFrom, StillCome};
+ghost use Rattle.ss_rules_ground.specs.Comes.{Comes};
+ghost use Rattle.ss_rules_ground.specs.Grounds.{ground_at, grounded_at, start_source, HasGround, IsGrounded};
 
 use crate::rounds::closed_rounds;
 use ss_core::Classes;
 use ss_rules_occurring::FormulaList;
-use ss_rules_opened::start;
+use ss_rules_opened::{Choice, Started, start};
+use ss_rules_origins::{Origin, Source, add_from};
 use ss_rules_said::Made;
 use ss_terms::{Bank, FormulaId};
 use std::alloc::{AllocError, Global};
@@ -27,34 +36,174 @@ pub enum GroundForm {
     TooMany,
 }
 
-// The formulas, each once.
-fn each_once(alloc: Global, bank: &Bank, fs: &[FormulaId]) -> Result<FormulaList, AllocError>
+/// The ground form of an obligation, and where each formula of it comes from.
+#[derive(Drop)]
+pub struct Grounded {
+    /// Its formulas.
+    pub formulas: Vec<FormulaId>,
+    /// Where each of them comes from.
+    pub origins: Vec<Origin>,
+    /// The choices with which it starts, in their order.
+    pub choices: Vec<Choice>,
+}
+
+// The list with which a ground form starts, where each formula comes from, and the choices.
+#[derive(Drop)]
+struct Begun {
+    list: FormulaList,
+    origins: Vec<Origin>,
+    choices: Vec<Choice>,
+}
+
+// What the formula at this place of so many comes from at the start: the last is the denied goal.
+fn source_at(place: usize, count: usize) -> Source
+    requires { place < count }
+    ensures { result ≡ start_source place count }
+{
+    if place + 1 == count {
+        return Source::Denied;
+    }
+    Source::Premise(place)
+}
+
+// The formulas, each once, and where each comes from.
+fn each_once(
+    alloc: Global,
+    bank: &Bank,
+    fs: &[FormulaId],
+    origins: &mut Vec<Origin>,
+) -> Result<FormulaList, AllocError>
     requires { HasFormulas bank.now fs.now }
-    ensures { IfOk result (λ list. Holds bank.now list (with_formulas [] (formulas_at bank.now fs.now))) }
+    ensures list { IfOk result (λ list. Holds bank.now list (with_formulas [] (formulas_at bank.now fs.now))) }
+    ensures noted { IfOk result (λ list. (cs : List ClassTree) (premises : List logic.Formula) (goal : logic.Formula) (choices : List words.Choice) → origins.old.items ≡ [] → formulas_at bank.now fs.now ≡ map (words.opened_by choices) (premises ++ logic.neg goal ∷ []) → ComeFrom cs premises goal choices bank.now (formulas_of bank.now list) origins.new.items) }
 {
     let mut list = FormulaList::new(alloc, bank);
-    for f in fs {
-        list.add(bank, *f)?;
+    let count = fs.len();
+    for place in 0..count {
+        let source = source_at(place, count);
+        add_from(alloc, bank, &mut list, origins, fs[place], source, &[])?;
     }
     Ok(list)
 }
 
-// The list with which a ground form starts.
-fn started(
+// What there is at the start.
+fn begin(
     alloc: Global,
     bank: &mut Bank,
     classes: &Classes,
     premises: &[FormulaId],
     goal: FormulaId,
-) -> Result<FormulaList, AllocError>
+) -> Result<Begun, AllocError>
     requires bank { IsBankOf (view.classes classes.now) bank.old }
     requires premises { HasFormulas bank.old premises.now }
     requires goal { HasFormula bank.old goal }
-    ensures at { IfOk result (λ list. Holds bank.new list (with_formulas [] (opened.start (formulas_at bank.old premises.now) (formula_at bank.old goal)))) }
+    ensures at { IfOk result (λ r. Holds bank.new r.list (with_formulas [] (opened.start (formulas_at bank.old premises.now) (formula_at bank.old goal)))) }
+    ensures noted { IfOk result (λ r. IsGrounded (view.classes classes.now) (formulas_at bank.old premises.now) (formula_at bank.old goal) bank.new (formulas_of bank.new r.list) r.origins.items r.choices.items) }
     ensures grown { IsGrown bank.old bank.new }
 {
-    let fs = start(alloc, bank, classes, premises, goal)?;
-    each_once(alloc, bank, &fs)
+    let started = start(alloc, bank, classes, premises, goal)?;
+    let Started { formulas, choices } = started;
+    let mut origins = Vec::new(alloc);
+    let list = each_once(alloc, bank, &formulas, &mut origins)?;
+    Ok(Begun {
+        list,
+        origins,
+        choices,
+    })
+}
+
+// The formulas alone.
+fn formulas_alone(bank: &Bank, found: Option<Grounded>) -> GroundForm
+    requires { IfSome found (λ g. HasFormulas bank.now g.formulas.items) }
+    ensures at { ground_at bank.now result ≡ grounded_at bank.now found }
+    ensures in_bank { HasGround bank.now result }
+{
+    let _ = bank;
+    match found {
+        Some(grounded) => {
+            let Grounded {
+                formulas,
+                origins,
+                choices,
+            } = grounded;
+            drop(origins);
+            drop(choices);
+            GroundForm::Formulas(formulas)
+        }
+        None => GroundForm::TooMany,
+    }
+}
+
+// Closes the list and does so many rounds. Answers whether there were never more than `limit` formulas.
+fn go_on(
+    alloc: Global,
+    bank: &mut Bank,
+    classes: &Classes,
+    begun: &mut Begun,
+    rounds: usize,
+    limit: usize,
+) -> Result<bool, AllocError>
+    requires bank { IsBankOf (view.classes classes.now) bank.old }
+    requires limits { IsWithinLimits (view.classes classes.now) }
+    requires list { HasFound bank.old begun.old.list }
+    ensures done { IfOk result (λ few. Comes bank.new few begun.new.list (option_and_then (rounds_of (view.classes classes.now) limit rounds) (closed (view.classes classes.now) limit (formulas_of bank.old begun.old.list)))) }
+    ensures noted { OnOk result (StillCome (view.classes classes.now) bank.old (formulas_of bank.old begun.old.list) begun.old.origins.items bank.new (formulas_of bank.new begun.new.list) begun.new.origins.items) }
+    ensures choices { begun.new.choices.items ≡ begun.old.choices.items }
+    ensures grown { IsGrown bank.old bank.new }
+{
+    let mut made = Made::new(alloc);
+    closed_rounds(
+        alloc,
+        bank,
+        classes,
+        &mut begun.list,
+        &mut begun.origins,
+        &mut made,
+        rounds,
+        limit,
+    )
+}
+
+/// The ground form of an obligation after so many rounds, where it has at most `limit` formulas, and where each formula of it comes from.
+/// Where the premises and the goal are well formed, the lines that make the choices are steps of a derivation. An error is want of memory;
+/// what the bank had before stays.
+pub fn ground_with_origins(
+    alloc: Global,
+    bank: &mut Bank,
+    classes: &Classes,
+    premises: &[FormulaId],
+    goal: FormulaId,
+    rounds: usize,
+    limit: usize,
+) -> Result<Option<Grounded>, AllocError>
+    requires bank { IsBankOf (view.classes classes.now) bank.old }
+    requires limits { IsWithinLimits (view.classes classes.now) }
+    requires premises { HasFormulas bank.old premises.now }
+    requires goal { HasFormula bank.old goal }
+    ensures exact { IfOk result (λ o. grounded_at bank.new o ≡ ground_form (view.classes classes.now) (formulas_at bank.old premises.now) (formula_at bank.old goal) rounds limit) }
+    ensures in_bank { IfOk result (λ o. IfSome o (λ g. HasFormulas bank.new g.formulas.items)) }
+    ensures has_choices { IfOk result (λ o. IfSome o (λ g. HasChoices bank.new g.choices.items)) }
+    ensures origins { IfOk result (λ o. IfSome o (λ g. ComeFrom (view.classes classes.now) (formulas_at bank.old premises.now) (formula_at bank.old goal) (choices_at bank.new g.choices.items) bank.new (formulas_at bank.new g.formulas.items) g.origins.items)) }
+    ensures accepted { IfOk result (λ o. IfSome o (λ g. AreWellFormed (view.classes classes.now) [] (formula_at bank.old goal ∷ formulas_at bank.old premises.now) → AreAccepted (view.classes classes.now) (formulas_at bank.old premises.now) (formula_at bank.old goal) (choices_at bank.new g.choices.items))) }
+    ensures grown { IsGrown bank.old bank.new }
+{
+    let mut begun = begin(alloc, bank, classes, premises, goal)?;
+    let few = go_on(alloc, bank, classes, &mut begun, rounds, limit)?;
+    if !few {
+        return Ok(None);
+    }
+    let Begun {
+        list,
+        origins,
+        choices,
+    } = begun;
+    let FormulaList { list, numbers } = list;
+    drop(numbers);
+    Ok(Some(Grounded {
+        formulas: list,
+        origins,
+        choices,
+    }))
 }
 
 /// The ground form of an obligation after so many rounds, where it has at most `limit` formulas. An error is want of memory; what the
@@ -76,13 +225,6 @@ pub fn ground(
     ensures in_bank { IfOk result (HasGround bank.new) }
     ensures grown { IsGrown bank.old bank.new }
 {
-    let mut list = started(alloc, bank, classes, premises, goal)?;
-    let mut made = Made::new(alloc);
-    let few = closed_rounds(alloc, bank, classes, &mut list, &mut made, rounds, limit)?;
-    if !few {
-        return Ok(GroundForm::TooMany);
-    }
-    let FormulaList { list, numbers } = list;
-    drop(numbers);
-    Ok(GroundForm::Formulas(list))
+    let found = ground_with_origins(alloc, bank, classes, premises, goal, rounds, limit)?;
+    Ok(formulas_alone(bank, found))
 }

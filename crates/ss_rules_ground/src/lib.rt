@@ -4,4 +4,4 @@
 mod form;
 mod rounds;
 
-pub use form::{GroundForm, ground};
+pub use form::{GroundForm, Grounded, ground, ground_with_origins};

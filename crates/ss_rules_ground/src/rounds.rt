@@ -1,6 +1,6 @@
 // Closing a list, and rounds.
 
-ghost use Rattle.std.specs.Prelude.{option_and_then, reverse, IfOk, OnOk};
+ghost use Rattle.std.specs.Prelude.{option_and_then, reverse, IfOk, OnOk, Contains};
 ghost use Rattle.ss_core.specs.Chain.{IsWithinLimits};
 ghost use Rattle.ss_core.specs.View as view;
 ghost use Rattle.ss_logic_ground.specs.Asked as asking;
@@ -9,9 +9,11 @@ ghost use Rattle.ss_logic_ground.specs.Matching.{forall_instances};
 ghost use Rattle.ss_logic_ground.specs.Occurring as occurring;
 ghost use Rattle.ss_logic_ground.specs.Occurring.{with_formulas};
 ghost use Rattle.ss_rules_asked.specs.Numbers.{Asks};
+ghost use Rattle.ss_logic_occurring.specs.Includes.{Includes};
 ghost use Rattle.ss_terms.specs.Forms.{formula_at, formulas_at, HasFormula, HasFormulas, IsGrown, IsBankOf};
 ghost use Rattle.ss_rules_said.specs.AreMade.{AreMade};
 ghost use Rattle.ss_rules_occurring.specs.Found.{formulas_of, HasFound, Holds};
+ghost use Rattle.ss_rules_origins.specs.Views.{StillCome};
 ghost use Rattle.ss_rules_ground.specs.Comes.{Comes, IsClosed};
 
 use ss_core::Classes;
@@ -19,6 +21,7 @@ use ss_rules_asked::{Asked, asked_to_close};
 use ss_rules_asked_first::asked_first;
 use ss_rules_matching::add_forall_instances;
 use ss_rules_occurring::{FormulaList, atoms, quantified, terms};
+use ss_rules_origins::Origin;
 use ss_rules_said::{Made, add_said};
 use ss_terms::{Bank, FormulaId};
 use std::alloc::{AllocError, Global};
@@ -45,6 +48,7 @@ fn add_due(
     bank: &mut Bank,
     classes: &Classes,
     list: &mut FormulaList,
+    origins: &mut Vec<Origin>,
     made: &mut Made,
 ) -> Result<(), AllocError>
     requires bank { IsBankOf (view.classes classes.now) bank.old }
@@ -52,11 +56,12 @@ fn add_due(
     requires list { HasFound bank.old list.old }
     requires made { AreMade (view.classes classes.now) bank.old made.old }
     ensures added { OnOk result (Holds bank.new list.new (with_formulas (formulas_of bank.old list.old) (spec.due (view.classes classes.now) (formulas_of bank.old list.old)))) }
+    ensures noted { OnOk result (StillCome (view.classes classes.now) bank.old (formulas_of bank.old list.old) origins.old.items bank.new (formulas_of bank.new list.new) origins.new.items) }
     ensures made { OnOk result (AreMade (view.classes classes.now) bank.new made.new) }
     ensures grown { IsGrown bank.old bank.new }
 {
     let asked = due(alloc, bank, classes, list)?;
-    made.add_said(alloc, bank, classes, list, asked)
+    made.add_said(alloc, bank, classes, list, origins, asked)
 }
 
 /// Adds what is due again until nothing is new. Answers whether there are at most `limit` formulas.
@@ -65,6 +70,7 @@ pub(crate) fn close(
     bank: &mut Bank,
     classes: &Classes,
     list: &mut FormulaList,
+    origins: &mut Vec<Origin>,
     made: &mut Made,
     limit: usize,
 ) -> Result<bool, AllocError>
@@ -73,13 +79,14 @@ pub(crate) fn close(
     requires list { HasFound bank.old list.old }
     requires made { AreMade (view.classes classes.now) bank.old made.old }
     ensures closed { IfOk result (λ few. Comes bank.new few list.new (spec.closed (view.classes classes.now) limit (formulas_of bank.old list.old))) }
+    ensures noted { OnOk result (StillCome (view.classes classes.now) bank.old (formulas_of bank.old list.old) origins.old.items bank.new (formulas_of bank.new list.new) origins.new.items) }
     ensures made { OnOk result (AreMade (view.classes classes.now) bank.new made.new) }
     ensures grown { IsGrown bank.old bank.new }
 {
     for step in 0..limit {
         let _ = step;
         let before = list.list.len();
-        add_due(alloc, bank, classes, list, made)?;
+        add_due(alloc, bank, classes, list, origins, made)?;
         let after = list.list.len();
         if after > limit {
             return Ok(false);
@@ -114,15 +121,17 @@ fn add_first(
     bank: &mut Bank,
     classes: &Classes,
     list: &mut FormulaList,
+    origins: &mut Vec<Origin>,
 ) -> Result<(), AllocError>
     requires bank { IsBankOf (view.classes classes.now) bank.old }
     requires limits { IsWithinLimits (view.classes classes.now) }
     requires list { HasFound bank.old list.old }
     ensures added { OnOk result (Holds bank.new list.new (with_formulas (formulas_of bank.old list.old) (spec.first_step (view.classes classes.now) (formulas_of bank.old list.old)))) }
+    ensures noted { OnOk result (StillCome (view.classes classes.now) bank.old (formulas_of bank.old list.old) origins.old.items bank.new (formulas_of bank.new list.new) origins.new.items) }
     ensures grown { IsGrown bank.old bank.new }
 {
     let asked = due_first(alloc, bank, classes, list)?;
-    add_said(alloc, bank, classes, list, &asked)
+    add_said(alloc, bank, classes, list, origins, &asked)
 }
 
 // Adds the instances of a quantified formula, and closes the list, which stays closed where nothing is new.
@@ -131,6 +140,7 @@ fn at_forall(
     bank: &mut Bank,
     classes: &Classes,
     list: &mut FormulaList,
+    origins: &mut Vec<Origin>,
     made: &mut Made,
     f: FormulaId,
     limit: usize,
@@ -142,16 +152,17 @@ fn at_forall(
     requires was_closed { IsClosed (view.classes classes.now) limit (formulas_of bank.old list.old) }
     requires formula { HasFormula bank.old f }
     ensures closed { IfOk result (λ few. Comes bank.new few list.new (spec.closed (view.classes classes.now) limit (with_formulas (formulas_of bank.old list.old) (forall_instances (formulas_of bank.old list.old) (formula_at bank.old f))))) }
+    ensures noted { OnOk result (Contains (occurring.quantified (formulas_of bank.old list.old)) (formula_at bank.old f) → StillCome (view.classes classes.now) bank.old (formulas_of bank.old list.old) origins.old.items bank.new (formulas_of bank.new list.new) origins.new.items) }
     ensures made { OnOk result (AreMade (view.classes classes.now) bank.new made.new) }
     ensures grown { IsGrown bank.old bank.new }
 {
     let before = list.list.len();
-    add_forall_instances(alloc, bank, classes, list, f)?;
+    add_forall_instances(alloc, bank, classes, list, origins, f)?;
     let after = list.list.len();
     if after == before {
         return Ok(true);
     }
-    close(alloc, bank, classes, list, made, limit)
+    close(alloc, bank, classes, list, origins, made, limit)
 }
 
 // Does so with each of them, from the last to the first.
@@ -160,6 +171,7 @@ fn at_foralls(
     bank: &mut Bank,
     classes: &Classes,
     list: &mut FormulaList,
+    origins: &mut Vec<Origin>,
     made: &mut Made,
     fs: &[FormulaId],
     limit: usize,
@@ -171,13 +183,14 @@ fn at_foralls(
     requires was_closed { IsClosed (view.classes classes.now) limit (formulas_of bank.old list.old) }
     requires formulas { HasFormulas bank.old fs.now }
     ensures closed { IfOk result (λ few. Comes bank.new few list.new (spec.foralls_step (view.classes classes.now) limit (reverse (formulas_at bank.old fs.now)) (formulas_of bank.old list.old))) }
+    ensures noted { OnOk result (Includes (occurring.quantified (formulas_of bank.old list.old)) (formulas_at bank.old fs.now) → StillCome (view.classes classes.now) bank.old (formulas_of bank.old list.old) origins.old.items bank.new (formulas_of bank.new list.new) origins.new.items) }
     ensures made { OnOk result (AreMade (view.classes classes.now) bank.new made.new) }
     ensures grown { IsGrown bank.old bank.new }
 {
     let mut i = fs.len();
     while i > 0 {
         i -= 1;
-        let few = at_forall(alloc, bank, classes, list, made, fs[i], limit)?;
+        let few = at_forall(alloc, bank, classes, list, origins, made, fs[i], limit)?;
         if !few {
             return Ok(false);
         }
@@ -191,6 +204,7 @@ fn first(
     bank: &mut Bank,
     classes: &Classes,
     list: &mut FormulaList,
+    origins: &mut Vec<Origin>,
     made: &mut Made,
     limit: usize,
 ) -> Result<bool, AllocError>
@@ -199,11 +213,12 @@ fn first(
     requires list { HasFound bank.old list.old }
     requires made { AreMade (view.classes classes.now) bank.old made.old }
     ensures closed { IfOk result (λ few. Comes bank.new few list.new (spec.closed (view.classes classes.now) limit (with_formulas (formulas_of bank.old list.old) (spec.first_step (view.classes classes.now) (formulas_of bank.old list.old))))) }
+    ensures noted { OnOk result (StillCome (view.classes classes.now) bank.old (formulas_of bank.old list.old) origins.old.items bank.new (formulas_of bank.new list.new) origins.new.items) }
     ensures made { OnOk result (AreMade (view.classes classes.now) bank.new made.new) }
     ensures grown { IsGrown bank.old bank.new }
 {
-    add_first(alloc, bank, classes, list)?;
-    close(alloc, bank, classes, list, made, limit)
+    add_first(alloc, bank, classes, list, origins)?;
+    close(alloc, bank, classes, list, origins, made, limit)
 }
 
 // Does a round, of which these are the quantified formulas.
@@ -212,6 +227,7 @@ fn round_with(
     bank: &mut Bank,
     classes: &Classes,
     list: &mut FormulaList,
+    origins: &mut Vec<Origin>,
     made: &mut Made,
     fs: &[FormulaId],
     limit: usize,
@@ -222,14 +238,15 @@ fn round_with(
     requires made { AreMade (view.classes classes.now) bank.old made.old }
     requires formulas { HasFormulas bank.old fs.now }
     ensures done { IfOk result (λ few. Comes bank.new few list.new (option_and_then (spec.foralls_step (view.classes classes.now) limit (reverse (formulas_at bank.old fs.now))) (spec.closed (view.classes classes.now) limit (with_formulas (formulas_of bank.old list.old) (spec.first_step (view.classes classes.now) (formulas_of bank.old list.old)))))) }
+    ensures noted { OnOk result (Includes (occurring.quantified (formulas_of bank.old list.old)) (formulas_at bank.old fs.now) → StillCome (view.classes classes.now) bank.old (formulas_of bank.old list.old) origins.old.items bank.new (formulas_of bank.new list.new) origins.new.items) }
     ensures made { OnOk result (AreMade (view.classes classes.now) bank.new made.new) }
     ensures grown { IsGrown bank.old bank.new }
 {
-    let few = first(alloc, bank, classes, list, made, limit)?;
+    let few = first(alloc, bank, classes, list, origins, made, limit)?;
     if !few {
         return Ok(false);
     }
-    at_foralls(alloc, bank, classes, list, made, fs, limit)
+    at_foralls(alloc, bank, classes, list, origins, made, fs, limit)
 }
 
 // Does a round.
@@ -238,6 +255,7 @@ fn round(
     bank: &mut Bank,
     classes: &Classes,
     list: &mut FormulaList,
+    origins: &mut Vec<Origin>,
     made: &mut Made,
     limit: usize,
 ) -> Result<bool, AllocError>
@@ -246,11 +264,21 @@ fn round(
     requires list { HasFound bank.old list.old }
     requires made { AreMade (view.classes classes.now) bank.old made.old }
     ensures done { IfOk result (λ few. Comes bank.new few list.new (spec.round (view.classes classes.now) limit (formulas_of bank.old list.old))) }
+    ensures noted { OnOk result (StillCome (view.classes classes.now) bank.old (formulas_of bank.old list.old) origins.old.items bank.new (formulas_of bank.new list.new) origins.new.items) }
     ensures made { OnOk result (AreMade (view.classes classes.now) bank.new made.new) }
     ensures grown { IsGrown bank.old bank.new }
 {
     let found = quantified(alloc, bank, &list.list)?;
-    round_with(alloc, bank, classes, list, made, &found.list, limit)
+    round_with(
+        alloc,
+        bank,
+        classes,
+        list,
+        origins,
+        made,
+        &found.list,
+        limit,
+    )
 }
 
 // Does so many rounds.
@@ -259,6 +287,7 @@ fn rounds(
     bank: &mut Bank,
     classes: &Classes,
     list: &mut FormulaList,
+    origins: &mut Vec<Origin>,
     made: &mut Made,
     count: usize,
     limit: usize,
@@ -268,12 +297,13 @@ fn rounds(
     requires list { HasFound bank.old list.old }
     requires made { AreMade (view.classes classes.now) bank.old made.old }
     ensures done { IfOk result (λ few. Comes bank.new few list.new (spec.rounds_of (view.classes classes.now) limit count (formulas_of bank.old list.old))) }
+    ensures noted { OnOk result (StillCome (view.classes classes.now) bank.old (formulas_of bank.old list.old) origins.old.items bank.new (formulas_of bank.new list.new) origins.new.items) }
     ensures made { OnOk result (AreMade (view.classes classes.now) bank.new made.new) }
     ensures grown { IsGrown bank.old bank.new }
 {
     for number in 0..count {
         let _ = number;
-        let few = round(alloc, bank, classes, list, made, limit)?;
+        let few = round(alloc, bank, classes, list, origins, made, limit)?;
         if !few {
             return Ok(false);
         }
@@ -287,6 +317,7 @@ pub(crate) fn closed_rounds(
     bank: &mut Bank,
     classes: &Classes,
     list: &mut FormulaList,
+    origins: &mut Vec<Origin>,
     made: &mut Made,
     count: usize,
     limit: usize,
@@ -296,12 +327,13 @@ pub(crate) fn closed_rounds(
     requires list { HasFound bank.old list.old }
     requires made { AreMade (view.classes classes.now) bank.old made.old }
     ensures done { IfOk result (λ few. Comes bank.new few list.new (option_and_then (spec.rounds_of (view.classes classes.now) limit count) (spec.closed (view.classes classes.now) limit (formulas_of bank.old list.old)))) }
+    ensures noted { OnOk result (StillCome (view.classes classes.now) bank.old (formulas_of bank.old list.old) origins.old.items bank.new (formulas_of bank.new list.new) origins.new.items) }
     ensures made { OnOk result (AreMade (view.classes classes.now) bank.new made.new) }
     ensures grown { IsGrown bank.old bank.new }
 {
-    let few = close(alloc, bank, classes, list, made, limit)?;
+    let few = close(alloc, bank, classes, list, origins, made, limit)?;
     if !few {
         return Ok(false);
     }
-    rounds(alloc, bank, classes, list, made, count, limit)
+    rounds(alloc, bank, classes, list, origins, made, count, limit)
 }

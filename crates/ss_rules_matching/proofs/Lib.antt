@@ -2,3 +2,4 @@ pub mod Adding
 pub mod Finding
 pub mod Kept
 pub mod Placed
+pub mod Noted

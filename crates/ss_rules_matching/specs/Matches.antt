@@ -1,12 +1,14 @@
 -- What stands for bound names, and lists of terms, in a bank.
-use Rattle.std.specs.Prelude.{◌≡◌, ℕ, List, [], ◌∷◌, ◌++◌, map, filter, filter_map, flat_map, length, Bool, ◌&&◌, Option, Some, None, option_map, IfSome, if◌then◌else◌, Vec}
+use Rattle.std.specs.Prelude.{◌≡◌, ℕ, List, [], ◌∷◌, ◌++◌, map, filter, filter_map, flat_map, length, Bool, ◌&&◌, Option, Some, None, option_map, IfSome, if◌then◌else◌, Vec, Contains}
 use Rattle.std.specs.Global.{Global}
+use Rattle.ss_core.specs.Tree.{ClassTree}
 use Rattle.ss_logic.specs.declared.Sort.{Sort}
 use Rattle.ss_logic.specs.Terms.{Term}
 use Rattle.ss_logic.specs.Formulas.{Formula, Or, formulas_from, neg, put}
 use Rattle.ss_logic_ground.specs.Occurring.{atoms, terms, all_terms}
 use Rattle.ss_logic_ground.specs.Asked.{is_empty}
 use Rattle.ss_logic_ground.specs.Matching.{is_trigger, is_plain_whole, is_one_whole, term_triggers, atom_triggers, match_term, match_atom}
+use Rattle.ss_logic_origins.specs.Origins.{IsInstance}
 use Rattle.ss_terms.specs.declared.forms.TermId.{TermId}
 use Rattle.ss_terms.specs.Forms.{Forms, term_at, terms_at, HasTerm, HasTerms}
 use Rattle.ss_rules_matching.specs.declared.triggers.Wanted.{Wanted}
@@ -78,3 +80,7 @@ places fs ss f = places_by fs ss (term_triggers (length ss) f) (atom_triggers (l
 -- the instance there: there is nothing for which the body is false, or it is true of these terms
 abbrev pub instance_there : Formula → Formula → List Term → Formula
 instance_there whole f ts = Or (formulas_from (neg whole ∷ put ts f ∷ []))
+
+-- at each of these tuples it is an instance of a `forall` of the list
+abbrev pub AreInstances : List ClassTree → List Formula → Formula → Formula → List (List Term) → Type 0
+AreInstances cs fs whole f tuples = (ts : List Term) → Contains tuples ts → IsInstance cs fs whole ts (instance_there whole f ts)

@@ -1,18 +1,21 @@
 // The instances of a `forall`.
 
-ghost use Rattle.std.specs.Prelude.{◌≡◌, map, IfOk, OnOk};
+ghost use Rattle.std.specs.Prelude.{◌≡◌, map, IfOk, OnOk, Contains};
 ghost use Rattle.ss_core.specs.View as view;
 ghost use Rattle.ss_logic.specs.Formulas.{Forall};
 ghost use Rattle.ss_logic_ground.specs.Matching.{forall_instances};
-ghost use Rattle.ss_logic_ground.specs.Occurring.{with_formula, with_formulas};
+ghost use Rattle.ss_logic_ground.specs.Occurring.{quantified, with_formula, with_formulas};
+ghost use Rattle.ss_logic_origins.specs.Origins.{IsInstance};
 ghost use Rattle.ss_terms.specs.Forms.{terms_at, formula_at, HasTerms, HasFormula, IsGrown, IsBankOf};
 ghost use Rattle.ss_rules_occurring.specs.Found.{formulas_of, HasFound, Holds};
-ghost use Rattle.ss_rules_matching.specs.Matches.{tuples_at, HasTuples, places, instance_there};
+ghost use Rattle.ss_rules_origins.specs.Views.{StillCome};
+ghost use Rattle.ss_rules_matching.specs.Matches.{tuples_at, HasTuples, places, instance_there, AreInstances};
 
 use crate::places::{Tuple, places};
 use ss_core::Classes;
 use ss_logic::Sort;
 use ss_rules_occurring::FormulaList;
+use ss_rules_origins::{Origin, Source, add_from};
 use ss_terms::{Bank, Formula, FormulaId, TermId};
 use ss_terms_puts::put;
 use std::alloc::{AllocError, Global};
@@ -38,12 +41,13 @@ fn instance(
     bank.or(&[denied, there])
 }
 
-// Adds it.
+// Adds it, and notes that it is one.
 fn add_instance(
     alloc: Global,
     bank: &mut Bank,
     classes: &Classes,
     list: &mut FormulaList,
+    origins: &mut Vec<Origin>,
     whole: FormulaId,
     body: FormulaId,
     ts: &[TermId],
@@ -54,10 +58,12 @@ fn add_instance(
     requires body { HasFormula bank.old body }
     requires terms { HasTerms bank.old ts.now }
     ensures added { OnOk result (Holds bank.new list.new (with_formula (formulas_of bank.old list.old) (instance_there (formula_at bank.old whole) (formula_at bank.old body) (terms_at bank.old ts.now)))) }
+    ensures noted { OnOk result (IsInstance (view.classes classes.now) (formulas_of bank.old list.old) (formula_at bank.old whole) (terms_at bank.old ts.now) (instance_there (formula_at bank.old whole) (formula_at bank.old body) (terms_at bank.old ts.now)) → StillCome (view.classes classes.now) bank.old (formulas_of bank.old list.old) origins.old.items bank.new (formulas_of bank.new list.new) origins.new.items) }
     ensures grown { IsGrown bank.old bank.new }
 {
     let f = instance(alloc, bank, classes, whole, body, ts)?;
-    list.add(bank, f)
+    let source = Source::Forall(whole);
+    add_from(alloc, bank, list, origins, f, source, ts)
 }
 
 // Adds those at each place.
@@ -66,6 +72,7 @@ fn add_instances(
     bank: &mut Bank,
     classes: &Classes,
     list: &mut FormulaList,
+    origins: &mut Vec<Origin>,
     whole: FormulaId,
     body: FormulaId,
     places: &[Tuple],
@@ -76,10 +83,20 @@ fn add_instances(
     requires body { HasFormula bank.old body }
     requires places { HasTuples bank.old places.now }
     ensures added { OnOk result (Holds bank.new list.new (with_formulas (formulas_of bank.old list.old) (map (instance_there (formula_at bank.old whole) (formula_at bank.old body)) (tuples_at bank.old places.now)))) }
+    ensures noted { OnOk result (AreInstances (view.classes classes.now) (formulas_of bank.old list.old) (formula_at bank.old whole) (formula_at bank.old body) (tuples_at bank.old places.now) → StillCome (view.classes classes.now) bank.old (formulas_of bank.old list.old) origins.old.items bank.new (formulas_of bank.new list.new) origins.new.items) }
     ensures grown { IsGrown bank.old bank.new }
 {
     for place in places {
-        add_instance(alloc, bank, classes, list, whole, body, &place.terms)?;
+        add_instance(
+            alloc,
+            bank,
+            classes,
+            list,
+            origins,
+            whole,
+            body,
+            &place.terms,
+        )?;
     }
     Ok(())
 }
@@ -90,6 +107,7 @@ fn add_at_places(
     bank: &mut Bank,
     classes: &Classes,
     list: &mut FormulaList,
+    origins: &mut Vec<Origin>,
     whole: FormulaId,
     sorts: &[Sort],
     body: FormulaId,
@@ -99,31 +117,35 @@ fn add_at_places(
     requires whole { HasFormula bank.old whole }
     requires body { HasFormula bank.old body }
     ensures added { OnOk result (Holds bank.new list.new (with_formulas (formulas_of bank.old list.old) (map (instance_there (formula_at bank.old whole) (formula_at bank.old body)) (places (formulas_of bank.old list.old) sorts.now (formula_at bank.old body))))) }
+    ensures noted { OnOk result (AreInstances (view.classes classes.now) (formulas_of bank.old list.old) (formula_at bank.old whole) (formula_at bank.old body) (places (formulas_of bank.old list.old) sorts.now (formula_at bank.old body)) → StillCome (view.classes classes.now) bank.old (formulas_of bank.old list.old) origins.old.items bank.new (formulas_of bank.new list.new) origins.new.items) }
     ensures grown { IsGrown bank.old bank.new }
 {
     let found = places(alloc, bank, classes, &list.list, sorts, body)?;
-    add_instances(alloc, bank, classes, list, whole, body, &found)
+    add_instances(alloc, bank, classes, list, origins, whole, body, &found)
 }
 
-/// Adds the instances of a formula at the terms of the list, where it is a `forall`. An error is want of memory.
+/// Adds the instances of a formula at the terms of the list, where it is a `forall`, and notes of what they are instances. An error is want
+/// of memory.
 pub fn add_forall_instances(
     alloc: Global,
     bank: &mut Bank,
     classes: &Classes,
     list: &mut FormulaList,
+    origins: &mut Vec<Origin>,
     f: FormulaId,
 ) -> Result<(), AllocError>
     requires bank { IsBankOf (view.classes classes.now) bank.old }
     requires list { HasFound bank.old list.old }
     requires formula { HasFormula bank.old f }
     ensures added { OnOk result (Holds bank.new list.new (with_formulas (formulas_of bank.old list.old) (forall_instances (formulas_of bank.old list.old) (formula_at bank.old f)))) }
+    ensures noted { OnOk result (Contains (quantified (formulas_of bank.old list.old)) (formula_at bank.old f) → StillCome (view.classes classes.now) bank.old (formulas_of bank.old list.old) origins.old.items bank.new (formulas_of bank.new list.new) origins.new.items) }
     ensures grown { IsGrown bank.old bank.new }
 {
     match bank.formula_node(f) {
         Formula::Forall(sorts, body) => {
             let body = *body;
             let sorts = Vec::from_slice(alloc, sorts)?;
-            add_at_places(alloc, bank, classes, list, f, &sorts, body)
+            add_at_places(alloc, bank, classes, list, origins, f, &sorts, body)
         }
         _ => Ok(()),
     }

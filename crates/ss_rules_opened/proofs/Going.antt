@@ -1,6 +1,6 @@
 -- Finding an `exists`, and opening one after the other.
-use Rattle.std.proofs.Common.{◌≡◌, ℕ, zero, suc, ◌+◌, ◌<◌, ◌≤◌, List, [], ◌∷◌, ◌++◌, length, map, take, get_or, Bool, true, false, refl, sym, ◌∙◌, ap, subst, arith, Option, Some, None, cond, Result, Ok, Err}
-use Rattle.std.specs.Prelude.{find, sum_by, OnOk}
+use Rattle.std.proofs.Common.{◌≡◌, ℕ, zero, suc, ◌+◌, ◌<◌, ◌≤◌, List, [], ◌∷◌, ◌++◌, length, map, take, get_or, Bool, true, false, refl, sym, ◌∙◌, ap, subst, arith, Option, Some, None, cond}
+use Rattle.std.specs.Prelude.{find, sum_by}
 use Rattle.std.proofs.lemmas.List.{map_push, take_more}
 use Rattle.ss_logic.specs.declared.Sort.{Sort}
 use Rattle.ss_logic.specs.Terms.{Term}
@@ -75,10 +75,6 @@ opening_itself b r used fs h = record { has_used = h.has_used; used = refl; has_
 
 pub opening_same : (b : Forms) (r : Opening) (used more : List Term) (fs gs : List Formula) → used ≡ more → fs ≡ gs → IsOpening b r used fs → IsOpening b r more gs
 opening_same b r used more fs gs e f h = record { has_used = h.has_used; used = h.used ∙ e; has_list = h.has_list; list = h.list ∙ f }
-
-pub ok_opening : {A E : Type 0} (r : Result A E) (b : Forms) (s : Opening) (used more : List Term) (fs gs : List Formula) → used ≡ more → fs ≡ gs → OnOk r (IsOpening b s used fs) → OnOk r (IsOpening b s more gs)
-ok_opening (Ok x) b s used more fs gs e f h = opening_same b s used more fs gs e f h
-ok_opening (Err z) b s used more fs gs e f h = tt
 
 module _ (b c : Forms) (s after : Opening) (f : FormulaId) (found : IsFormulaNumber b (find is_exists (quantified (formulas_at b s.list.items))) (Some f))
     (done : IsOpening c after (used_after (formula_at b f) (terms_at b s.used.items)) (list_after (formula_at b f) (terms_at b s.used.items) (formulas_at b s.list.items))) where

@@ -2,3 +2,4 @@ pub mod Counting
 pub mod Fresh
 pub mod Going
 pub mod Replaced
+pub mod Choosing

@@ -7,4 +7,5 @@ mod opening;
 mod replacing;
 mod starting;
 
-pub use starting::start;
+pub use opening::Choice;
+pub use starting::{Started, start};

@@ -1,12 +1,13 @@
 // Opening each `exists`.
 
-ghost use Rattle.std.specs.Prelude.{◌≡◌, ◌++◌, find, map, sum_by, IfOk, OnOk};
+ghost use Rattle.std.specs.Prelude.{◌≡◌, [], ◌∷◌, ◌++◌, find, map, sum_by, IfOk, OnOk};
 ghost use Rattle.ss_core.specs.View as view;
 ghost use Rattle.ss_logic.specs.Formulas as logic;
 ghost use Rattle.ss_logic_ground.specs.Occurring as occurring;
 ghost use Rattle.ss_logic_ground.specs.Opened as spec;
 ghost use Rattle.ss_terms.specs.Forms.{terms_at, formula_at, formulas_at, HasTerms, HasFormula, HasFormulas, IsFormulaNumber, IsGrown, IsBankOf};
 ghost use Rattle.ss_rules_opened.specs.Opening.{used_after, list_after, IsOpened, IsOpening, HasOpening};
+ghost use Rattle.ss_rules_opened.specs.Choices.{choice_of, choices_after, choices_at, HasChoices, StillStart};
 
 use crate::constants::{fresh_constants, joined};
 use crate::replacing::all_replaced;
@@ -22,6 +23,15 @@ use std::alloc::{AllocError, Global};
 pub(crate) struct Opening {
     pub(crate) used: Vec<TermId>,
     pub(crate) list: Vec<FormulaId>,
+}
+
+/// A choice with which a ground form starts.
+#[derive(Drop)]
+pub struct Choice {
+    /// The `exists` that was opened.
+    pub whole: FormulaId,
+    /// The constants at which it was opened.
+    pub constants: Vec<TermId>,
 }
 
 /// Fresh constants, and a body at them.
@@ -107,25 +117,50 @@ fn put_in_place(
     Ok(())
 }
 
+// Notes that the formula was opened at the constants.
+fn note(
+    bank: &Bank,
+    choices: &mut Vec<Choice>,
+    whole: FormulaId,
+    opened: Opened,
+) -> Result<(), AllocError>
+    requires choices { HasChoices bank.now choices.old.items }
+    requires whole { HasFormula bank.now whole }
+    requires constants { HasTerms bank.now opened.constants.items }
+    ensures has { OnOk result (HasChoices bank.now choices.new.items) }
+    ensures noted { OnOk result (choices_at bank.now choices.new.items ≡ choices_at bank.now choices.old.items ++ choice_of (formula_at bank.now whole) (terms_at bank.now opened.constants.items) ∷ []) }
+{
+    let _ = bank;
+    let Opened { constants, body } = opened;
+    let _ = body;
+    choices.push(Choice { whole, constants })?;
+    Ok(())
+}
+
 // Opens an `exists` with these sorts and this body.
 fn open_with(
     alloc: Global,
     bank: &mut Bank,
     classes: &Classes,
     state: &mut Opening,
+    choices: &mut Vec<Choice>,
     f: FormulaId,
     sorts: &[Sort],
     body: FormulaId,
 ) -> Result<(), AllocError>
     requires bank { IsBankOf (view.classes classes.now) bank.old }
     requires state { HasOpening bank.old state.old }
+    requires choices { HasChoices bank.old choices.old.items }
     requires formula { HasFormula bank.old f }
     requires body { HasFormula bank.old body }
     ensures is { OnOk result (IsOpening bank.new state.new (spec.fresh_constants sorts.now (terms_at bank.old state.old.used.items) ++ terms_at bank.old state.old.used.items) (map (spec.replaced (formula_at bank.old f) (logic.put (spec.fresh_constants sorts.now (terms_at bank.old state.old.used.items)) (formula_at bank.old body))) (formulas_at bank.old state.old.list.items))) }
+    ensures has { OnOk result (HasChoices bank.new choices.new.items) }
+    ensures noted { OnOk result (choices_at bank.new choices.new.items ≡ choices_at bank.old choices.old.items ++ choice_of (formula_at bank.old f) (spec.fresh_constants sorts.now (terms_at bank.old state.old.used.items)) ∷ []) }
     ensures grown { IsGrown bank.old bank.new }
 {
     let found = at_fresh(alloc, bank, classes, &state.used, sorts, body)?;
-    put_in_place(alloc, bank, state, f, &found)
+    put_in_place(alloc, bank, state, f, &found)?;
+    note(bank, choices, f, found)
 }
 
 // Opens a formula, where it is an `exists`.
@@ -134,39 +169,47 @@ fn open_at(
     bank: &mut Bank,
     classes: &Classes,
     state: &mut Opening,
+    choices: &mut Vec<Choice>,
     f: FormulaId,
 ) -> Result<(), AllocError>
     requires bank { IsBankOf (view.classes classes.now) bank.old }
     requires state { HasOpening bank.old state.old }
+    requires choices { HasChoices bank.old choices.old.items }
     requires formula { HasFormula bank.old f }
     ensures is { OnOk result (IsOpening bank.new state.new (used_after (formula_at bank.old f) (terms_at bank.old state.old.used.items)) (list_after (formula_at bank.old f) (terms_at bank.old state.old.used.items) (formulas_at bank.old state.old.list.items))) }
+    ensures has { OnOk result (HasChoices bank.new choices.new.items) }
+    ensures noted { OnOk result (choices_at bank.new choices.new.items ≡ choices_after (formula_at bank.old f) (terms_at bank.old state.old.used.items) (choices_at bank.old choices.old.items)) }
     ensures grown { IsGrown bank.old bank.new }
 {
     match bank.formula_node(f) {
         Formula::Exists(sorts, body) => {
             let body = *body;
             let sorts = Vec::from_slice(alloc, sorts)?;
-            open_with(alloc, bank, classes, state, f, &sorts, body)
+            open_with(alloc, bank, classes, state, choices, f, &sorts, body)
         }
         _ => Ok(()),
     }
 }
 
-/// Opens the first `exists` of the list, until there is none. An error is want of memory.
+/// Opens the first `exists` of the list, until there is none, and notes each choice. An error is want of memory.
 pub(crate) fn open_all(
     alloc: Global,
     bank: &mut Bank,
     classes: &Classes,
     state: &mut Opening,
+    choices: &mut Vec<Choice>,
 ) -> Result<(), AllocError>
     requires bank { IsBankOf (view.classes classes.now) bank.old }
     requires state { HasOpening bank.old state.old }
+    requires choices { HasChoices bank.old choices.old.items }
     ensures has { OnOk result (HasFormulas bank.new state.new.list.items) }
     ensures is { OnOk result (formulas_at bank.new state.new.list.items ≡ spec.opened_from (sum_by spec.exists_count (formulas_at bank.old state.old.list.items)) (terms_at bank.old state.old.used.items) (formulas_at bank.old state.old.list.items)) }
+    ensures has_choices { OnOk result (HasChoices bank.new choices.new.items) }
+    ensures noted { OnOk result (StillStart (view.classes classes.now) (terms_at bank.old state.old.used.items) (formulas_at bank.old state.old.list.items) (choices_at bank.old choices.old.items) (formulas_at bank.new state.new.list.items) (choices_at bank.new choices.new.items)) }
     ensures grown { IsGrown bank.old bank.new }
 {
     while let Some(f) = first_exists(alloc, bank, &state.list)? {
-        open_at(alloc, bank, classes, state, f)?;
+        open_at(alloc, bank, classes, state, choices, f)?;
     }
     Ok(())
 }

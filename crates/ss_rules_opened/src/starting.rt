@@ -1,14 +1,17 @@
 // The formulas with which a ground form starts.
 
-ghost use Rattle.std.specs.Prelude.{◌≡◌, [], ◌∷◌, ◌++◌, IfOk};
+ghost use Rattle.std.specs.Prelude.{◌≡◌, [], ◌∷◌, ◌++◌, map, IfOk};
 ghost use Rattle.ss_core.specs.View as view;
 ghost use Rattle.ss_logic.specs.Formulas.{neg};
 ghost use Rattle.ss_logic_ground.specs.Occurring.{all_terms};
 ghost use Rattle.ss_logic_ground.specs.Opened as spec;
+ghost use Rattle.ss_logic_means.specs.Sorts.{AreWellFormed};
+ghost use Rattle.ss_logic_origins.specs.Origins.{opened_by, AreAccepted};
 ghost use Rattle.ss_terms.specs.Forms.{terms_at, formula_at, formulas_at, HasTerms, HasFormula, HasFormulas, IsGrown, IsBankOf};
+ghost use Rattle.ss_rules_opened.specs.Choices.{choices_at, HasChoices};
 ghost use Rattle.ss_rules_opened.specs.Opening.{IsOpening};
 
-use crate::opening::{Opening, open_all};
+use crate::opening::{Choice, Opening, open_all};
 use ss_core::Classes;
 use ss_rules_occurring::{all_atoms, terms};
 use ss_terms::{Bank, FormulaId, TermId};
@@ -52,25 +55,42 @@ fn at_first(alloc: Global, bank: &Bank, list: Vec<FormulaId>) -> Result<Opening,
     Ok(Opening { used, list })
 }
 
-/// The premises and the denied goal, each `exists` opened at fresh constants. An error is want of memory.
+/// The formulas with which a ground form starts.
+#[derive(Drop)]
+pub struct Started {
+    /// The premises and the denied goal, opened.
+    pub formulas: Vec<FormulaId>,
+    /// The choices by which they were opened, in their order.
+    pub choices: Vec<Choice>,
+}
+
+/// The premises and the denied goal, each `exists` opened at fresh constants. Where they are well formed, the lines that make these choices
+/// are steps of a derivation. An error is want of memory.
 pub fn start(
     alloc: Global,
     bank: &mut Bank,
     classes: &Classes,
     premises: &[FormulaId],
     goal: FormulaId,
-) -> Result<Vec<FormulaId>, AllocError>
+) -> Result<Started, AllocError>
     requires bank { IsBankOf (view.classes classes.now) bank.old }
     requires premises { HasFormulas bank.old premises.now }
     requires goal { HasFormula bank.old goal }
-    ensures has { IfOk result (λ v. HasFormulas bank.new v.items) }
-    ensures are { IfOk result (λ v. formulas_at bank.new v.items ≡ spec.start (formulas_at bank.old premises.now) (formula_at bank.old goal)) }
+    ensures has { IfOk result (λ r. HasFormulas bank.new r.formulas.items) }
+    ensures are { IfOk result (λ r. formulas_at bank.new r.formulas.items ≡ spec.start (formulas_at bank.old premises.now) (formula_at bank.old goal)) }
+    ensures has_choices { IfOk result (λ r. HasChoices bank.new r.choices.items) }
+    ensures opened { IfOk result (λ r. formulas_at bank.new r.formulas.items ≡ map (opened_by (choices_at bank.new r.choices.items)) (formulas_at bank.old premises.now ++ neg (formula_at bank.old goal) ∷ [])) }
+    ensures accepted { IfOk result (λ r. AreWellFormed (view.classes classes.now) [] (formula_at bank.old goal ∷ formulas_at bank.old premises.now) → AreAccepted (view.classes classes.now) (formulas_at bank.old premises.now) (formula_at bank.old goal) (choices_at bank.new r.choices.items)) }
     ensures grown { IsGrown bank.old bank.new }
 {
     let list = denied(alloc, bank, premises, goal)?;
     let mut state = at_first(alloc, bank, list)?;
-    open_all(alloc, bank, classes, &mut state)?;
+    let mut choices = Vec::new(alloc);
+    open_all(alloc, bank, classes, &mut state, &mut choices)?;
     let Opening { used, list } = state;
     drop(used);
-    Ok(list)
+    Ok(Started {
+        formulas: list,
+        choices,
+    })
 }

@@ -116,5 +116,5 @@ same_asked b x y e =
 
 -- ---- a list with what it says
 
-pub holds_in : (a b : Forms) (start s : FormulaList) (o x : Option Formula) → IsGrown a b → HasFound a start → o ≡ x → Holds b s (with_said (formulas_of b start) o) → Holds b s (with_said (formulas_of a start) x)
-holds_in a b start s o x g h e k = record { marked = k.marked; has = k.has; are = k.are ∙ ap (λ fs. with_said fs o) (formulas_of-grown a b start g h) ∙ ap (with_said (formulas_of a start)) e }
+pub holds_in : (a b c : Forms) (start s : FormulaList) (o x : Option Formula) → IsGrown a b → HasFound a start → o ≡ x → Holds c s (with_said (formulas_of b start) o) → Holds c s (with_said (formulas_of a start) x)
+holds_in a b c start s o x g h e k = record { marked = k.marked; has = k.has; are = k.are ∙ ap (λ fs. with_said fs o) (formulas_of-grown a b start g h) ∙ ap (with_said (formulas_of a start)) e }

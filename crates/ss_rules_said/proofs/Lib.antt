@@ -1,2 +1,3 @@
 pub mod Making
 pub mod Again
+pub mod Noted

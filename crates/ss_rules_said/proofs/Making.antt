@@ -54,9 +54,9 @@ ok_number (Err z) b x y e h = tt
 
 -- ---- one more instance
 
-pub ok_holds_in : {A E : Type 0} (r : Result A E) (a b : Forms) (start s : FormulaList) (o x : Option Formula) → IsGrown a b → HasFound a start → o ≡ x → OnOk r (Holds b s (with_said (formulas_of b start) o)) → OnOk r (Holds b s (with_said (formulas_of a start) x))
-ok_holds_in (Ok u) a b start s o x g h e k = record { marked = k.marked; has = k.has; are = k.are ∙ ap (λ fs. with_said fs o) (formulas_of-grown a b start g h) ∙ ap (with_said (formulas_of a start)) e }
-ok_holds_in (Err z) a b start s o x g h e k = tt
+pub ok_holds_in : {A E : Type 0} (r : Result A E) (a b c : Forms) (start s : FormulaList) (o x : Option Formula) → IsGrown a b → HasFound a start → o ≡ x → OnOk r (Holds c s (with_said (formulas_of b start) o)) → OnOk r (Holds c s (with_said (formulas_of a start) x))
+ok_holds_in (Ok u) a b c start s o x g h e k = record { marked = k.marked; has = k.has; are = k.are ∙ ap (λ fs. with_said fs o) (formulas_of-grown a b start g h) ∙ ap (with_said (formulas_of a start)) e }
+ok_holds_in (Err z) a b c start s o x g h e k = tt
 
 one_said : (cs : List ClassTree) (fs : List Formula) (x : spec.Asked) (o : Option Formula) → said cs x ≡ o → with_formulas fs (all_said cs (x ∷ [])) ≡ with_said fs o
 one_said cs fs x None e = rw e refl

@@ -9,6 +9,7 @@ ghost use Rattle.ss_logic_ground.specs.Occurring.{with_formulas};
 ghost use Rattle.ss_terms.specs.Forms.{Forms, IsFormulaNumber, IsGrown, IsBankOf};
 ghost use Rattle.ss_rules_asked.specs.Numbers.{asked_at, asked_in, HasAsked, HasRule, HasArguments};
 ghost use Rattle.ss_rules_occurring.specs.Found.{formulas_of, HasFound, Holds};
+ghost use Rattle.ss_rules_origins.specs.Views.{StillCome};
 ghost use Rattle.ss_rules_said.specs.AreMade.{AreMade, AreNumbers};
 ghost use Rattle.ss_rules_said.specs.Said.{with_said};
 
@@ -16,6 +17,7 @@ use crate::saying::{add_found, say};
 use ss_core::Classes;
 use ss_rules_asked::Asked;
 use ss_rules_occurring::FormulaList;
+use ss_rules_origins::Origin;
 use ss_terms::{Bank, FormulaId};
 use std::alloc::{AllocError, Global};
 
@@ -77,14 +79,15 @@ impl Made {
         }
     }
 
-    /// Adds what each of the instances says to the list, where it isn't there yet. Those that stand here in the same order aren't made
-    /// again. An error is want of memory.
+    /// Adds what each of the instances says to the list, where it isn't there yet, and then notes where it comes from. Those that stand
+    /// here in the same order aren't made again. An error is want of memory.
     pub fn add_said(
         &mut self,
         alloc: Global,
         bank: &mut Bank,
         classes: &Classes,
         list: &mut FormulaList,
+        origins: &mut Vec<Origin>,
         asked: Vec<Asked>,
     ) -> Result<(), AllocError>
         requires bank { IsBankOf (view.classes classes.now) bank.old }
@@ -93,10 +96,11 @@ impl Made {
         requires list { HasFound bank.old list.old }
         requires asked { HasAsked bank.old asked.items }
         ensures added { OnOk result (Holds bank.new list.new (with_formulas (formulas_of bank.old list.old) (all_said (view.classes classes.now) (asked_in bank.old asked.items)))) }
+        ensures noted { OnOk result (StillCome (view.classes classes.now) bank.old (formulas_of bank.old list.old) origins.old.items bank.new (formulas_of bank.new list.new) origins.new.items) }
         ensures made { OnOk result (AreMade (view.classes classes.now) bank.new self.new) }
         ensures grown { IsGrown bank.old bank.new }
     {
-        let found = self.add_each(alloc, bank, classes, list, &asked)?;
+        let found = self.add_each(alloc, bank, classes, list, origins, &asked)?;
         self.asked = asked;
         self.found = found;
         Ok(())
@@ -109,6 +113,7 @@ impl Made {
         bank: &mut Bank,
         classes: &Classes,
         list: &mut FormulaList,
+        origins: &mut Vec<Origin>,
         place: &mut usize,
         asked: &Asked,
     ) -> Result<Option<FormulaId>, AllocError>
@@ -119,11 +124,12 @@ impl Made {
         requires rule { HasRule bank.old asked.now.rule }
         requires arguments { HasArguments bank.old asked.now.arguments.items }
         ensures added { OnOk result (Holds bank.new list.new (with_said (formulas_of bank.old list.old) (said (view.classes classes.now) (asked_at bank.old asked.now)))) }
+        ensures noted { OnOk result (StillCome (view.classes classes.now) bank.old (formulas_of bank.old list.old) origins.old.items bank.new (formulas_of bank.new list.new) origins.new.items) }
         ensures at { IfOk result (λ o. IsFormulaNumber bank.new (said (view.classes classes.now) (asked_at bank.old asked.now)) o) }
         ensures grown { IsGrown bank.old bank.new }
     {
         let found = self.say(alloc, bank, classes, place, asked)?;
-        add_found(bank, list, found)?;
+        add_found(alloc, bank, list, origins, asked, found)?;
         Ok(found)
     }
 
@@ -134,6 +140,7 @@ impl Made {
         bank: &mut Bank,
         classes: &Classes,
         list: &mut FormulaList,
+        origins: &mut Vec<Origin>,
         asked: &[Asked],
     ) -> Result<Vec<Option<FormulaId>>, AllocError>
         requires bank { IsBankOf (view.classes classes.now) bank.old }
@@ -142,13 +149,14 @@ impl Made {
         requires list { HasFound bank.old list.old }
         requires asked { HasAsked bank.old asked.now }
         ensures added { OnOk result (Holds bank.new list.new (with_formulas (formulas_of bank.old list.old) (all_said (view.classes classes.now) (asked_in bank.old asked.now)))) }
+        ensures noted { OnOk result (StillCome (view.classes classes.now) bank.old (formulas_of bank.old list.old) origins.old.items bank.new (formulas_of bank.new list.new) origins.new.items) }
         ensures numbers { IfOk result (λ fs. AreNumbers (view.classes classes.now) bank.new asked.now fs.items) }
         ensures grown { IsGrown bank.old bank.new }
     {
         let mut all = Vec::new(alloc);
         let mut place = 0;
         for one in asked {
-            let found = self.add_one(alloc, bank, classes, list, &mut place, one)?;
+            let found = self.add_one(alloc, bank, classes, list, origins, &mut place, one)?;
             all.push(found)?;
         }
         Ok(all)

@@ -1,15 +1,17 @@
 // What instances say.
 
-ghost use Rattle.std.specs.Prelude.{◌≡◌, option_map, IfOk, IfSome, OnOk};
+ghost use Rattle.std.specs.Prelude.{◌≡◌, option_map, IfOk, IfSome, OnOk, List, Some};
 ghost use Rattle.ss_core.specs.Chain.{IsWithinLimits};
+ghost use Rattle.ss_core.specs.Tree.{ClassTree};
 ghost use Rattle.ss_core.specs.View as view;
 ghost use Rattle.ss_logic_express.specs.Invariants.{invariants_of};
 ghost use Rattle.ss_logic_rules.specs.GoodRules.{good_instance_of};
 ghost use Rattle.ss_logic_ground.specs.Asked.{if_good, said, all_said};
-ghost use Rattle.ss_logic_ground.specs.Occurring.{with_formulas};
+ghost use Rattle.ss_logic_ground.specs.Occurring.{with_formula, with_formulas};
 ghost use Rattle.ss_terms.specs.Forms.{term_at, terms_at, formula_at, HasTerm, HasTerms, HasFormula, IsFormulaNumber, IsGrown, IsBankOf};
 ghost use Rattle.ss_rules_asked.specs.Numbers.{rule_at, asked_at, asked_in, asked_with, HasRule, HasArguments, HasAsked};
 ghost use Rattle.ss_rules_occurring.specs.Found.{formulas_of, HasFound, Holds};
+ghost use Rattle.ss_rules_origins.specs.Views.{StillCome};
 ghost use Rattle.ss_rules_said.specs.Said.{with_said};
 
 use crate::arguments::terms_of_arguments;
@@ -19,6 +21,7 @@ use ss_rules_asked::{Asked, Rule};
 use ss_rules_instances::{good_instance, instance};
 use ss_rules_invariants::invariants;
 use ss_rules_occurring::FormulaList;
+use ss_rules_origins::{Origin, Source};
 use ss_terms::{Bank, FormulaId, Predicate, TermId};
 use std::alloc::{AllocError, Global};
 
@@ -132,18 +135,54 @@ pub(crate) fn say(
     say_at(alloc, bank, classes, asked.rule, &arguments)
 }
 
-// Adds a formula, if there is one.
-pub(crate) fn add_found(
-    bank: &Bank,
+// Adds what an instance says, where it isn't there yet, and then notes where it comes from.
+fn add_new(
+    alloc: Global,
+    bank: &mut Bank,
     list: &mut FormulaList,
+    origins: &mut Vec<Origin>,
+    asked: &Asked,
+    f: FormulaId,
+) -> Result<(), AllocError>
+    requires list { HasFound bank.old list.old }
+    requires formula { HasFormula bank.old f }
+    requires rule { HasRule bank.old asked.now.rule }
+    requires arguments { HasArguments bank.old asked.now.arguments.items }
+    ensures added { OnOk result (Holds bank.new list.new (with_formula (formulas_of bank.old list.old) (formula_at bank.old f))) }
+    ensures noted { OnOk result ((cs : List ClassTree) → said cs (asked_at bank.old asked.now) ≡ Some (formula_at bank.old f) → StillCome cs bank.old (formulas_of bank.old list.old) origins.old.items bank.new (formulas_of bank.new list.new) origins.new.items) }
+    ensures grown { IsGrown bank.old bank.new }
+{
+    let before = list.list.len();
+    list.add(bank, f)?;
+    let after = list.list.len();
+    if after == before {
+        return Ok(());
+    }
+    let terms = terms_of_arguments(alloc, bank, &asked.arguments)?;
+    let source = Source::Rule(asked.rule);
+    origins.push(Origin { source, terms })?;
+    Ok(())
+}
+
+// Adds what an instance says, if it says something.
+pub(crate) fn add_found(
+    alloc: Global,
+    bank: &mut Bank,
+    list: &mut FormulaList,
+    origins: &mut Vec<Origin>,
+    asked: &Asked,
     found: Option<FormulaId>,
 ) -> Result<(), AllocError>
-    requires list { HasFound bank.now list.old }
-    requires found { IfSome found (HasFormula bank.now) }
-    ensures { OnOk result (Holds bank.now list.new (with_said (formulas_of bank.now list.old) (option_map (formula_at bank.now) found))) }
+    requires list { HasFound bank.old list.old }
+    requires rule { HasRule bank.old asked.now.rule }
+    requires arguments { HasArguments bank.old asked.now.arguments.items }
+    requires found { IfSome found (HasFormula bank.old) }
+    ensures added { OnOk result (Holds bank.new list.new (with_said (formulas_of bank.old list.old) (option_map (formula_at bank.old) found))) }
+    ensures noted { OnOk result ((cs : List ClassTree) → said cs (asked_at bank.old asked.now) ≡ option_map (formula_at bank.old) found → StillCome cs bank.old (formulas_of bank.old list.old) origins.old.items bank.new (formulas_of bank.new list.new) origins.new.items) }
+    ensures grown { IsGrown bank.old bank.new }
 {
     match found {
-        Some(f) => list.add(bank, f),
+        Some(f) => add_new(alloc, bank, list, origins, asked, f),
         None => Ok(()),
     }
 }
@@ -154,6 +193,7 @@ fn add_one_said(
     bank: &mut Bank,
     classes: &Classes,
     list: &mut FormulaList,
+    origins: &mut Vec<Origin>,
     asked: &Asked,
 ) -> Result<(), AllocError>
     requires bank { IsBankOf (view.classes classes.now) bank.old }
@@ -162,18 +202,21 @@ fn add_one_said(
     requires rule { HasRule bank.old asked.now.rule }
     requires arguments { HasArguments bank.old asked.now.arguments.items }
     ensures added { OnOk result (Holds bank.new list.new (with_said (formulas_of bank.old list.old) (said (view.classes classes.now) (asked_at bank.old asked.now)))) }
+    ensures noted { OnOk result (StillCome (view.classes classes.now) bank.old (formulas_of bank.old list.old) origins.old.items bank.new (formulas_of bank.new list.new) origins.new.items) }
     ensures grown { IsGrown bank.old bank.new }
 {
     let found = say(alloc, bank, classes, asked)?;
-    add_found(bank, list, found)
+    add_found(alloc, bank, list, origins, asked, found)
 }
 
-/// Adds what each of the instances says to the list, where it isn't there yet. An error is want of memory.
+/// Adds what each of the instances says to the list, where it isn't there yet, and then notes where it comes from. An error is want of
+/// memory.
 pub fn add_said(
     alloc: Global,
     bank: &mut Bank,
     classes: &Classes,
     list: &mut FormulaList,
+    origins: &mut Vec<Origin>,
     asked: &[Asked],
 ) -> Result<(), AllocError>
     requires bank { IsBankOf (view.classes classes.now) bank.old }
@@ -181,10 +224,11 @@ pub fn add_said(
     requires list { HasFound bank.old list.old }
     requires asked { HasAsked bank.old asked.now }
     ensures added { OnOk result (Holds bank.new list.new (with_formulas (formulas_of bank.old list.old) (all_said (view.classes classes.now) (asked_in bank.old asked.now)))) }
+    ensures noted { OnOk result (StillCome (view.classes classes.now) bank.old (formulas_of bank.old list.old) origins.old.items bank.new (formulas_of bank.new list.new) origins.new.items) }
     ensures grown { IsGrown bank.old bank.new }
 {
     for one in asked {
-        add_one_said(alloc, bank, classes, list, one)?;
+        add_one_said(alloc, bank, classes, list, origins, one)?;
     }
     Ok(())
 }

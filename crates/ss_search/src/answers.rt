@@ -8,7 +8,7 @@ use ss_logic_countermodels::Countermodel;
 pub struct Options {
     /// The rounds of the ground form.
     pub rounds: u8,
-    /// The most splits of one attempt at a derivation.
+    /// The most splits: of one attempt at a derivation, and for the ground form where none is found.
     pub splits: u64,
     /// The most formulas that the ground form may have.
     pub instances: u32,
@@ -21,6 +21,8 @@ pub enum Found {
     Proved(Derivation),
     /// A model that refutes its ground form.
     Countered(Countermodel),
+    /// For its ground form so many splits aren't enough.
+    Spent { splits: u64 },
     /// Its ground form has more formulas than this.
     TooMany { limit: u32 },
     /// None of these. That this doesn't come is not proved.
@@ -31,6 +33,8 @@ pub enum Found {
 /// A budget that ran out.
 #[derive(Clone, Copy, Debug, PartialEq, Eq)]
 pub enum Budget {
+    /// For the ground form so many splits aren't enough.
+    Splits(u64),
     /// The ground form has more formulas than this.
     Instances(u32),
 }

@@ -1,21 +1,25 @@
 // Obligations for which no derivation was found.
 
-ghost use Rattle.std.specs.Prelude.{◌≡◌, Some, None};
+ghost use Rattle.std.specs.Prelude.{◌≡◌, List, Some, None, IfOk, IfSome};
+ghost use Rattle.ss_core.specs.Tree.{ClassTree};
 ghost use Rattle.ss_core.specs.View as view;
 ghost use Rattle.ss_core.specs.Chain.{IsWithinLimits};
 ghost use Rattle.ss_terms.specs.Forms.{formula_at, formulas_at, HasFormula, HasFormulas, IsBankOf, IsGrown};
 ghost use Rattle.ss_logic_countermodels.specs.Refuting.{Refutes, model_of};
-ghost use Rattle.ss_search.specs.Found.{IfCountered, IfTooMany, IsRefutedBy, IsOver};
+ghost use Rattle.ss_search_procedure_rules.specs.Closed.{AreEnough};
+ghost use Rattle.ss_search.specs.Found.{IfCountered, IfSpent, IfTooMany, IsRefutedBy, IsShort, IsOver};
 
 use crate::answers::{Found, Options};
 use ss_core::Core;
+use ss_logic_countermodels::Countermodel;
 use ss_rules::{GroundStop, ground};
 use ss_search_candidates::find_candidate;
-use ss_search_models::countermodel;
+use ss_search_models::{countermodel, told};
+use ss_search_procedure::{Settled, settle_by};
 use ss_terms::{Bank, FormulaId, Obligation};
-use std::alloc::Global;
+use std::alloc::{AllocError, Global};
 
-/// Searches for a model that refutes the ground form of an obligation.
+/// Searches for a model that refutes the ground form of an obligation. Where none is found, a procedure decides of it, as far as the splits go.
 pub(crate) fn refute(
     alloc: Global,
     bank: &mut Bank,
@@ -28,36 +32,67 @@ pub(crate) fn refute(
     requires premises { HasFormulas bank.old obligation.now.premises.now }
     requires goal { HasFormula bank.old obligation.now.goal }
     ensures countered { IfCountered result (IsRefutedBy (view.classes program.now.classes) options.now (formulas_at bank.old obligation.now.premises.now) (formula_at bank.old obligation.now.goal)) }
+    ensures spent { IfSpent result (IsShort (view.classes program.now.classes) options.now (formulas_at bank.old obligation.now.premises.now) (formula_at bank.old obligation.now.goal)) }
     ensures too_many { IfTooMany result (IsOver (view.classes program.now.classes) options.now (formulas_at bank.old obligation.now.premises.now) (formula_at bank.old obligation.now.goal)) }
     ensures grown { IsGrown bank.old bank.new }
 {
     let Options {
         rounds,
+        splits,
         instances,
-        ..
     } = *options;
     match ground(alloc, bank, program, obligation, rounds, instances) {
-        Ok(formulas) => find_model(alloc, bank, &formulas),
+        Ok(formulas) => find_model(alloc, bank, &formulas, splits),
         Err(GroundStop::TooMany { limit }) => Found::TooMany { limit },
         Err(GroundStop::Memory) => Found::Memory,
     }
 }
 
-// Searches for a model that makes the formulas true.
-fn find_model(alloc: Global, bank: &mut Bank, formulas: &[FormulaId]) -> Found
+// Searches for a model that refutes the formulas, and lets the procedure decide where none is found.
+fn find_model(alloc: Global, bank: &mut Bank, formulas: &[FormulaId], splits: u64) -> Found
     requires { HasFormulas bank.old formulas.now }
-    ensures countered { IfCountered result (λ m. Refutes (model_of (formulas_at bank.old formulas.now) m.classes.items m.truth.items) (formulas_at bank.old formulas.now)) }
+    ensures countered { (cs : List ClassTree) → IsBankOf cs bank.old → IfCountered result (λ m. Refutes cs (model_of (formulas_at bank.old formulas.now) m.classes.items m.truth.items) (formulas_at bank.old formulas.now)) }
+    ensures spent { (cs : List ClassTree) → IsBankOf cs bank.old → IfSpent result (λ n. (n ≡ splits) × (AreEnough cs (formulas_at bank.old formulas.now) splits → ⊥)) }
     ensures too_many { IfTooMany result (λ limit. ⊥) }
     ensures grown { IsGrown bank.old bank.new }
 {
-    let found = match find_candidate(alloc, bank, formulas) {
-        Ok(Some(found)) => found,
-        Ok(None) => return Found::Lost,
-        Err(_) => return Found::Memory,
-    };
-    match countermodel(alloc, bank, formulas, &found.classes, &found.truths) {
+    match candidate_model(alloc, bank, formulas) {
         Ok(Some(model)) => Found::Countered(model),
-        Ok(None) => Found::Lost,
+        Ok(None) => decide(alloc, bank, formulas, splits),
+        Err(_) => Found::Memory,
+    }
+}
+
+// A candidate for a model, where it refutes the formulas.
+fn candidate_model(
+    alloc: Global,
+    bank: &mut Bank,
+    formulas: &[FormulaId],
+) -> Result<Option<Countermodel>, AllocError>
+    requires { HasFormulas bank.old formulas.now }
+    ensures refutes { (cs : List ClassTree) → IsBankOf cs bank.old → IfOk result (λ o. IfSome o (λ m. Refutes cs (model_of (formulas_at bank.old formulas.now) m.classes.items m.truth.items) (formulas_at bank.old formulas.now))) }
+    ensures grown { IsGrown bank.old bank.new }
+{
+    match find_candidate(alloc, bank, formulas)? {
+        Some(found) => countermodel(alloc, bank, formulas, &found.classes, &found.truths),
+        None => Ok(None),
+    }
+}
+
+// What the procedure finds of the formulas.
+fn decide(alloc: Global, bank: &Bank, formulas: &[FormulaId], splits: u64) -> Found
+    requires { HasFormulas bank.now formulas.now }
+    ensures countered { (cs : List ClassTree) → IsBankOf cs bank.now → IfCountered result (λ m. Refutes cs (model_of (formulas_at bank.now formulas.now) m.classes.items m.truth.items) (formulas_at bank.now formulas.now)) }
+    ensures spent { (cs : List ClassTree) → IsBankOf cs bank.now → IfSpent result (λ n. (n ≡ splits) × (AreEnough cs (formulas_at bank.now formulas.now) splits → ⊥)) }
+    ensures too_many { IfTooMany result (λ limit. ⊥) }
+{
+    let Ok(choices) = told(alloc, bank, formulas) else {
+        return Found::Memory;
+    };
+    match settle_by(alloc, bank, formulas, &choices.list, splits) {
+        Ok(Settled::Countered(model)) => Found::Countered(model),
+        Ok(Settled::Spent) => Found::Spent { splits },
+        Ok(Settled::Closed) => Found::Lost,
         Err(_) => Found::Memory,
     }
 }

@@ -4,7 +4,7 @@ ghost use Rattle.std.specs.Prelude.{◌≡◌, None, IfOk};
 ghost use Rattle.ss_core.specs.View as view;
 ghost use Rattle.ss_core.specs.Chain.{IsWithinLimits};
 ghost use Rattle.ss_terms.specs.Forms.{formula_at, formulas_at, HasFormula, HasFormulas, IsBankOf, IsGrown};
-ghost use Rattle.ss_search.specs.Found.{IfCountered, IfTooMany, IsRefutedBy, IsOver};
+ghost use Rattle.ss_search.specs.Found.{IfCountered, IfSpent, IfTooMany, IsRefutedBy, IsShort, IsOver};
 
 use crate::answers::{Found, Options};
 use crate::refuting::refute;
@@ -27,11 +27,12 @@ const SECOND: Limits = Limits {
     trials: 60_000,
 };
 
-// The limits, with no more splits than these.
+// The limits, with no more splits than these. A literal that is tried is a split, too.
 fn with_splits(limits: Limits, splits: u64) -> Limits {
     let most = usize::try_from(splits).unwrap_or(usize::MAX);
     Limits {
         splits: limits.splits.min(most),
+        trials: limits.trials.min(most),
         ..limits
     }
 }
@@ -65,6 +66,7 @@ impl Search {
         requires premises { HasFormulas bank.old obligation.now.premises.now }
         requires goal { HasFormula bank.old obligation.now.goal }
         ensures countered { IfCountered result (IsRefutedBy (view.classes program.now.classes) options.now (formulas_at bank.old obligation.now.premises.now) (formula_at bank.old obligation.now.goal)) }
+        ensures spent { IfSpent result (IsShort (view.classes program.now.classes) options.now (formulas_at bank.old obligation.now.premises.now) (formula_at bank.old obligation.now.goal)) }
         ensures too_many { IfTooMany result (IsOver (view.classes program.now.classes) options.now (formulas_at bank.old obligation.now.premises.now) (formula_at bank.old obligation.now.goal)) }
         ensures grown { IsGrown bank.old bank.new }
     {
@@ -120,6 +122,7 @@ pub fn prove(
     requires premises { HasFormulas bank.old obligation.now.premises.now }
     requires goal { HasFormula bank.old obligation.now.goal }
     ensures countered { IfCountered result (IsRefutedBy (view.classes program.now.classes) options.now (formulas_at bank.old obligation.now.premises.now) (formula_at bank.old obligation.now.goal)) }
+    ensures spent { IfSpent result (IsShort (view.classes program.now.classes) options.now (formulas_at bank.old obligation.now.premises.now) (formula_at bank.old obligation.now.goal)) }
     ensures too_many { IfTooMany result (IsOver (view.classes program.now.classes) options.now (formulas_at bank.old obligation.now.premises.now) (formula_at bank.old obligation.now.goal)) }
     ensures grown { IsGrown bank.old bank.new }
 {

@@ -1,7 +1,10 @@
 // What a case says as a model.
 
+ghost use Rattle.std.specs.Prelude.{IfSome};
 ghost use Rattle.ss_terms.specs.Forms.{HasFormulas, IsGrown};
+ghost use Rattle.ss_linear_network.specs.Made.{AreNodesOf};
 
+use crate::numbers::{Known, compares};
 use ss_rules_occurring::atoms;
 use ss_search_classes::{
     EQUAL, LITERAL, first_of, kind_of, of_pair, of_term, pair_argument, pair_head,
@@ -32,7 +35,23 @@ fn class_of(state: &State, node: usize) -> usize {
     }
 }
 
-// Whether a formula is true; what isn't known is false.
+// Whether a comparison is true: as it is known, and else as it fits what is known.
+fn compared(
+    alloc: Global,
+    state: &State,
+    bank: &Bank,
+    known: &Known,
+    literal: usize,
+) -> Result<bool, AllocError>
+    requires { IfSome known.now.numbers (λ n. AreNodesOf bank.now n.nodes) }
+{
+    match state.nodes.value(literal) {
+        Some(truth) => Ok(truth),
+        None => known.is_so(alloc, state, bank, FormulaId(literal)),
+    }
+}
+
+// Whether a formula that doesn't compare numbers is true; what isn't known is false.
 fn truth_of(state: &State, bank: &Bank, pair: usize) -> bool {
     if kind_of(bank, first_of(pair)) != LITERAL {
         return state.nodes.value(first_of(pair)) == Some(true);
@@ -54,9 +73,15 @@ fn classes_of(alloc: Global, state: &State, bank: &Bank) -> Result<Vec<usize>, A
 }
 
 fn truths_of(alloc: Global, state: &State, bank: &Bank) -> Result<Vec<bool>, AllocError> {
+    let known = Known::of(alloc, state, bank)?;
     let mut truths = Vec::new(alloc);
     for pair in 0..bank.formula_count() / 2 {
-        truths.push(truth_of(state, bank, pair))?;
+        let truth = if compares(bank, pair) {
+            compared(alloc, state, bank, &known, first_of(pair))?
+        } else {
+            truth_of(state, bank, pair)
+        };
+        truths.push(truth)?;
     }
     Ok(truths)
 }

@@ -3,5 +3,7 @@
 #![tactic(auto)]
 
 mod candidate;
+mod numbers;
+mod ranges;
 
 pub use candidate::{Candidate, find_candidate};

@@ -64,6 +64,8 @@ pub struct Engine {
     pub(crate) weights: Vec<usize>,
     pub(crate) heavy: Vec<usize>,
     pub(crate) refuted: usize,
+    // Whether numbers were looked at since a case was refuted.
+    pub(crate) looked: bool,
 }
 
 // A number above those of all constants that the bank has.
@@ -119,6 +121,7 @@ impl Engine {
             weights: Vec::new(alloc),
             heavy: Vec::new(alloc),
             refuted: 0,
+            looked: false,
         })
     }
 

@@ -3,8 +3,8 @@
 use crate::cases::Closed;
 use crate::engine::Engine;
 use ss_search_classes::{
-    EQUAL, EXISTS, LITERAL, NONE, is_first, is_truth, kind_of, of_pair, pair_argument, pair_head,
-    pair_of, part_at, part_count,
+    AT_MOST, EQUAL, EXISTS, LITERAL, NONE, is_first, is_truth, kind_of, of_pair, pair_argument,
+    pair_head, pair_of, part_at, part_count,
 };
 use ss_search_proof::{Reason, Said};
 use ss_search_state::{Mark, State, Step};
@@ -40,7 +40,8 @@ impl Engine {
 
     /// Makes the formulas known, and goes through cases to one in which each known `or` has a part that is known, with no other
     /// instance. The classes of the atoms and of the terms in them are told apart. Whether there is such a case within so many splits.
-    /// Nothing else was known to the search. Numbers aren't looked at.
+    /// Nothing else was known to the search. Numbers are looked at once the clauses of which cases
+    /// were refuted are met, and at the end.
     pub fn satisfy(
         &mut self,
         bank: &Bank,
@@ -160,19 +161,35 @@ impl Engine {
         step: Step,
     ) -> Result<Closed, AllocError> {
         if let Step::Conflict(conflict) = step {
+            self.looked = false;
             return self.close(bank, conflict);
         }
         let step = self.settle_ground(bank)?;
         if let Step::Conflict(_) = &step {
             return Ok(Closed::Next(step));
         }
+        if !self.looked && self.heavy_clause(bank) == NONE {
+            self.looked = true;
+            let step = self.look_at_numbers(bank)?;
+            if let Step::Conflict(_) = &step {
+                return Ok(Closed::Next(step));
+            }
+        }
         let place = self.open_clause(bank, order);
         if place == NONE {
-            return Ok(Closed::Next(Step::Rests));
+            return Ok(Closed::Next(self.look_at_numbers(bank)?));
         }
         let clauses = self.state.asked.clause_count();
         self.scan_from = place_in(order, 0, place, clauses);
         self.open_split(bank, place)
+    }
+
+    // Finds what follows, with numbers.
+    fn look_at_numbers(&mut self, bank: &Bank) -> Result<Step, AllocError> {
+        self.state.has_numbers = true;
+        let step = self.settle_ground(bank)?;
+        self.state.has_numbers = false;
+        Ok(step)
     }
 
     // A known `or` that isn't met, with the fewest open parts, by its place, or NONE.
@@ -213,7 +230,8 @@ impl Engine {
         best
     }
 
-    // Whether a part of an `or` that isn't settled is known, or denies something of which nothing is known: what isn't known is made false.
+    // Whether a part of an `or` that isn't settled is known, or denies something of which nothing is known: what isn't known is made false, but
+    // for comparisons of numbers.
     fn is_met(&self, bank: &Bank, formula: usize) -> bool {
         if self.state.nodes.has_held_part(bank, formula) {
             return true;
@@ -223,6 +241,7 @@ impl Engine {
             let kind = kind_of(bank, part);
             if (kind == LITERAL || kind == EXISTS)
                 && !is_first(part)
+                && !compares(bank, part)
                 && self.state.nodes.value(part).is_none()
             {
                 return true;
@@ -230,6 +249,11 @@ impl Engine {
         }
         false
     }
+}
+
+// Whether a literal compares numbers.
+fn compares(bank: &Bank, part: usize) -> bool {
+    kind_of(bank, part) == LITERAL && pair_head(bank, pair_of(part)).kind == AT_MOST
 }
 
 // Whether each part says that a term is a truth value.

@@ -1,8 +1,11 @@
 pub mod Numbers
-pub mod Told
+pub mod Tellings
 pub mod Terms
 pub mod Outcome
 pub mod Symbols
 pub mod Keys
 pub mod Said
 pub mod Models
+pub mod Equalities
+pub mod Following
+pub mod Facts

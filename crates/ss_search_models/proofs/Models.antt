@@ -1,12 +1,14 @@
 -- The model of a candidate refutes, and values have no arguments.
 use Rattle.std.proofs.Common.{◌≡◌, ℕ, ◌≤◌, List, [], ◌∷◌, length, map, Bool, true, false, refl, sym, ◌∙◌, ap, subst, arith}
 use Rattle.std.specs.List.{list_all, slice_index_or}
+use Rattle.ss_core.specs.Tree.{ClassTree}
+use Rattle.ss_linear_rules.specs.Two.{Two}
 use Rattle.ss_logic.specs.Terms.{Symbol, Number, Fixed, Null, ClassName, Constant, Add, Subtract, Multiply, Quotient, Remainder, Field, Element, Length, TypeOf, Level, Owner, Pair, Next, Set, Put, Unpack, Pack, Capture, Join, New, NewArray, MakeReady, Term, App, Terms, term_then, terms_from}
 use Rattle.ss_logic.specs.Formulas.{Formula}
 use Rattle.ss_logic.specs.Equal.{same_term, same_formula}
 use Rattle.ss_logic_derivations.specs.Steps.{is_value}
 use Rattle.ss_logic_ground.specs.Occurring.{terms, with_terms_of_all}
-use Rattle.ss_logic_countermodels.specs.Refuting.{Model, Refutes, comes_out, model_of, place_among, told, is_equal_inside}
+use Rattle.ss_logic_countermodels.specs.Refuting.{Model, Agrees, Refutes, comes_out, model_of, place_among, told, is_equal_inside}
 use Rattle.ss_terms.specs.declared.forms.TermId.{TermId}
 use Rattle.ss_terms.specs.declared.forms.FormulaId.{FormulaId}
 use Rattle.ss_terms.specs.Forms.{Forms, term_at, terms_at, formulas_at}
@@ -15,6 +17,7 @@ use Rattle.ss_rules_occurring.proofs.Sought.{holds_itself}
 use Rattle.ss_rules_occurring.proofs.Stacks.{holds_terms_itself}
 use Rattle.ss_search_models.specs.declared.candidate.Candidate.{Candidate}
 use Rattle.ss_search_models.specs.Candidates.{class_number, truth_number, class_at, truth_at, model_at, IsFor}
+use Rattle.ss_search_models.specs.Facts.{facts_in}
 use Rattle.ss_search_models.proofs.Terms.{terms_told}
 use Rattle.ss_search_models.specs.Said.{are_functions_of_classes, are_atoms_of_classes, are_values_apart}
 
@@ -52,18 +55,26 @@ no_value b f [] h = absurd (omega arith)
 no_value b f (t ∷ ts) h = applied f (term_at b t) (terms_from (terms_at b ts))
 
 module _ (b : Forms) (c : Candidate) (fs : List Formula) (h : IsFor b c fs) where
-  pub refuting : (r : Bool) →
+  pub agreeing : (r : Bool) →
       true ≡ list_all (comes_out (model_at b c)) fs →
       are_functions_of_classes (model_at b c) (terms_of b c.terms.now) ≡ true →
       are_atoms_of_classes (model_at b c) (formulas_of b c.told.now) ≡ true →
       are_values_apart (model_at b c) (terms_of b c.terms.now) ≡ true →
-      r ≡ list_all (is_equal_inside (model_at b c)) (formulas_of b c.told.now) → r ≡ true → Refutes (model_at b c) fs
-  refuting r true_ones congruent alike apart equal e = record {
+      r ≡ list_all (is_equal_inside (model_at b c)) (formulas_of b c.told.now) → r ≡ true → Agrees (model_at b c) fs
+  agreeing r true_ones congruent alike apart inside e = record {
     true_ones = sym true_ones;
     congruent = ap (are_functions_of_classes (model_at b c)) (sym h.terms) ∙ congruent;
     alike = ap (are_atoms_of_classes (model_at b c)) (sym h.told) ∙ alike;
-    equal = ap (list_all (is_equal_inside (model_at b c))) (sym h.told) ∙ sym equal ∙ e;
+    inside = ap (list_all (is_equal_inside (model_at b c))) (sym h.told) ∙ sym inside ∙ e;
     apart = ap (are_values_apart (model_at b c)) (sym h.terms) ∙ apart;
+  }
+
+  pub refuting : (cs : List ClassTree) → Agrees (model_at b c) fs → (Two cs (facts_in cs (model_at b c) (formulas_of b c.told.now) (terms_of b c.terms.now)) → ⊥) → Refutes cs (model_at b c) fs
+  refuting cs agrees free = record {
+    agrees = agrees;
+    numbers = λ two.
+        free (subst (λ (gs : List Formula). Two cs (facts_in cs (model_at b c) gs (terms_of b c.terms.now))) (sym h.told)
+        (subst (λ (ts : List Term). Two cs (facts_in cs (model_at b c) (told fs) ts)) (sym h.terms) two));
   }
 
   pub same_model : (classes : List ℕ) (truths : List Bool) → classes ≡ map (class_number c) c.terms.now.list.items → truths ≡ map (truth_number c) c.told.now.list.items → model_at b c ≡ model_of fs classes truths
@@ -74,8 +85,8 @@ module _ (b : Forms) (c : Candidate) (fs : List Formula) (h : IsFor b c fs) wher
       ∙ ap (λ ns. model_of fs ns (map (truth_number c) c.told.now.list.items)) (sym cs)
       ∙ ap (λ vs. model_of fs classes vs) (sym ts)
 
-  pub refuting_model : (classes : List ℕ) (truths : List Bool) → classes ≡ map (class_number c) c.terms.now.list.items → truths ≡ map (truth_number c) c.told.now.list.items → Refutes (model_at b c) fs → Refutes (model_of fs classes truths) fs
-  refuting_model classes truths cs ts r = subst (λ m. Refutes m fs) (same_model classes truths cs ts) r
+  pub refuting_model : (cs : List ClassTree) (classes : List ℕ) (truths : List Bool) → classes ≡ map (class_number c) c.terms.now.list.items → truths ≡ map (truth_number c) c.told.now.list.items → Refutes cs (model_at b c) fs → Refutes cs (model_of fs classes truths) fs
+  refuting_model cs classes truths es ts r = subst (λ m. Refutes cs m fs) (same_model classes truths es ts) r
 
 pub for_formulas : (b : Forms) (c : Candidate) (fs : List Formula) (gs : List FormulaId) → Holds b c.told.now (told fs) → gs ≡ c.told.now.list.items → HoldsTerms b c.terms.now (with_terms_of_all [] (formulas_at b gs)) → IsFor b c fs
 for_formulas b c fs gs k e h = record {

@@ -3,3 +3,5 @@ pub mod Tellings
 pub mod Found
 pub mod Keys
 pub mod Said
+pub mod Wholes
+pub mod Facts

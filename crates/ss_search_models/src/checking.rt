@@ -1,13 +1,15 @@
 // Whether a candidate is a model that refutes.
 
-ghost use Rattle.std.specs.Prelude.{◌≡◌, true, IfOk, IfSome};
-ghost use Rattle.ss_logic_countermodels.specs.Refuting.{Refutes, model_of};
-ghost use Rattle.ss_terms.specs.Forms.{formulas_at, HasFormulas};
+ghost use Rattle.std.specs.Prelude.{◌≡◌, List, true, IfOk, IfSome};
+ghost use Rattle.ss_core.specs.Tree.{ClassTree};
+ghost use Rattle.ss_logic_countermodels.specs.Refuting.{Agrees, Refutes, model_of};
+ghost use Rattle.ss_terms.specs.Forms.{formulas_at, HasFormulas, IsBankOf};
 ghost use Rattle.ss_search_models.specs.Candidates.{model_at, IsFor};
 
 use crate::agreeing::{atoms_agree, equalities_are_inside, functions_agree};
 use crate::candidate::Candidate;
 use crate::outcomes::come_true;
+use crate::sums::numbers_agree;
 use crate::telling::told;
 use crate::values::values_differ;
 use ss_logic_countermodels::Countermodel;
@@ -15,8 +17,8 @@ use ss_rules_occurring::terms;
 use ss_terms::{Bank, FormulaId};
 use std::alloc::{AllocError, Global};
 
-// Whether the model of the candidate refutes the formulas.
-fn refutes(
+// Whether the model of the candidate agrees with the formulas.
+fn agrees(
     alloc: Global,
     bank: &Bank,
     candidate: &Candidate<'_>,
@@ -24,7 +26,7 @@ fn refutes(
 ) -> Result<bool, AllocError>
     requires candidate { IsFor bank.now candidate.now (formulas_at bank.now formulas.now) }
     requires formulas { HasFormulas bank.now formulas.now }
-    ensures { IfOk result (λ r. r ≡ true → Refutes (model_at bank.now candidate.now) (formulas_at bank.now formulas.now)) }
+    ensures { IfOk result (λ r. r ≡ true → Agrees (model_at bank.now candidate.now) (formulas_at bank.now formulas.now)) }
 {
     if !come_true(alloc, bank, candidate, formulas)? {
         return Ok(false);
@@ -41,6 +43,23 @@ fn refutes(
     Ok(equalities_are_inside(bank, candidate))
 }
 
+// Whether it refutes the formulas.
+fn refutes(
+    alloc: Global,
+    bank: &Bank,
+    candidate: &Candidate<'_>,
+    formulas: &[FormulaId],
+) -> Result<bool, AllocError>
+    requires candidate { IsFor bank.now candidate.now (formulas_at bank.now formulas.now) }
+    requires formulas { HasFormulas bank.now formulas.now }
+    ensures { (cs : List ClassTree) → IsBankOf cs bank.now → IfOk result (λ r. r ≡ true → Refutes cs (model_at bank.now candidate.now) (formulas_at bank.now formulas.now)) }
+{
+    if !agrees(alloc, bank, candidate, formulas)? {
+        return Ok(false);
+    }
+    numbers_agree(alloc, bank, candidate)
+}
+
 // The model of the candidate, where it refutes the formulas.
 fn model(
     alloc: Global,
@@ -50,7 +69,7 @@ fn model(
 ) -> Result<Option<Countermodel>, AllocError>
     requires candidate { IsFor bank.now candidate.now (formulas_at bank.now formulas.now) }
     requires formulas { HasFormulas bank.now formulas.now }
-    ensures { IfOk result (λ o. IfSome o (λ m. Refutes (model_of (formulas_at bank.now formulas.now) m.classes.items m.truth.items) (formulas_at bank.now formulas.now))) }
+    ensures { (cs : List ClassTree) → IsBankOf cs bank.now → IfOk result (λ o. IfSome o (λ m. Refutes cs (model_of (formulas_at bank.now formulas.now) m.classes.items m.truth.items) (formulas_at bank.now formulas.now))) }
 {
     if refutes(alloc, bank, candidate, formulas)? {
         Ok(Some(candidate.model(alloc)?))
@@ -70,7 +89,7 @@ pub fn countermodel(
     truths: &[bool],
 ) -> Result<Option<Countermodel>, AllocError>
     requires { HasFormulas bank.now formulas.now }
-    ensures { IfOk result (λ o. IfSome o (λ m. Refutes (model_of (formulas_at bank.now formulas.now) m.classes.items m.truth.items) (formulas_at bank.now formulas.now))) }
+    ensures { (cs : List ClassTree) → IsBankOf cs bank.now → IfOk result (λ o. IfSome o (λ m. Refutes cs (model_of (formulas_at bank.now formulas.now) m.classes.items m.truth.items) (formulas_at bank.now formulas.now))) }
 {
     let told = told(alloc, bank, formulas)?;
     let terms = terms(alloc, bank, &told.list)?;

@@ -1,12 +1,17 @@
-//! A checker of models: whether a candidate makes each formula of a list come out true, and keeps equality, functions and values apart.
+//! A checker of models: whether a candidate makes each formula of a list come out true, keeps equality, functions and values apart, and
+//! meets what sums say of numbers.
 #![tactic(auto)]
 
 mod agreeing;
 mod candidate;
 mod checking;
 mod outcomes;
+mod pairs;
 mod signatures;
+mod sums;
 mod telling;
 mod values;
+mod wholes;
 
 pub use checking::countermodel;
+pub use telling::told;

@@ -104,7 +104,7 @@ fn add_all(
 }
 
 /// The atoms and the `forall`s of the formulas, outside quantified formulas. An error is want of memory.
-pub(crate) fn told(alloc: Global, bank: &Bank, fs: &[FormulaId]) -> Result<FormulaList, AllocError>
+pub fn told(alloc: Global, bank: &Bank, fs: &[FormulaId]) -> Result<FormulaList, AllocError>
     requires { HasFormulas bank.now fs.now }
     ensures { IfOk result (λ found. Holds bank.now found (spec.told (formulas_at bank.now fs.now))) }
 {

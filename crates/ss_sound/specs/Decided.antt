@@ -6,7 +6,7 @@ use Rattle.ss_logic_derivations.specs.Steps as tree
 use Rattle.ss_logic_derivations.specs.Steps.{Derives}
 use Rattle.ss_vcgen_heaps.specs.Positions.{Obligation}
 use Rattle.ss_deriv.specs.declared.line.Line.{Line}
-use Rattle.ss_search.specs.Found.{IsRefutedBy, IsOver}
+use Rattle.ss_search.specs.Found.{IsRefutedBy, IsShort, IsOver}
 use Rattle.ss_search.specs.declared.answers.Options.{Options}
 use Rattle.ss_search.specs.declared.answers.Budget.{Budget}
 use Rattle.ss_search.specs.declared.answers.Budget.TheVariants as budget
@@ -18,15 +18,16 @@ use Rattle.ss_sound.specs.declared.decision.Decision.TheVariants as decision
 abbrev pub IsDerivedBy : List ClassTree → Obligation → List tree.Line → Type 0
 IsDerivedBy cs o lines = Derives cs o.premises o.goal lines
 
--- the budget of the options, which the ground form of the premises and the denied goal passes
+-- the budget of the options, which isn't enough for the ground form of the premises and the denied goal
 abbrev pub IsSpentOn : List ClassTree → Options → List Formula → Formula → Budget → Type 0
+IsSpentOn cs p premises goal (budget.Splits splits) = IsShort cs p premises goal splits
 IsSpentOn cs p premises goal (budget.Instances limit) = IsOver cs p premises goal limit
 
 -- the model refutes the ground form of the obligation
 abbrev pub IsCountered : List ClassTree → Options → Obligation → Countermodel → Type 0
 IsCountered cs p o m = IsRefutedBy cs p o.premises o.goal m
 
--- the ground form of the obligation passes this budget
+-- this budget isn't enough for the ground form of the obligation
 abbrev pub IsOverBudget : List ClassTree → Options → Obligation → Budget → Type 0
 IsOverBudget cs p o c = IsSpentOn cs p o.premises o.goal c
 

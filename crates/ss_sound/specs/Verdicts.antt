@@ -50,7 +50,7 @@ abbrev pub AreCountered : List ClassTree → Options → List Obligation → Lis
 AreCountered cs p os [] = Unit {0}
 AreCountered cs p os (l ∷ ls) = IfThere (slice_get os l.obligation) (λ o. IsCountered cs p o l.model) × AreCountered cs p os ls
 
--- the obligation of each number passes its budget
+-- for the obligation of each number its budget isn't enough
 abbrev pub AreUndecided : List ClassTree → Options → List Obligation → List Undecided → Type 0
 AreUndecided cs p os [] = Unit {0}
 AreUndecided cs p os (l ∷ ls) = IfThere (slice_get os l.obligation) (λ o. IsOverBudget cs p o l.cause) × AreUndecided cs p os ls
@@ -73,7 +73,7 @@ pub record IsUnproved (cs : List ClassTree) (p : Options) (os : List Obligation)
   pub some : countered ≢ []
   pub decided : AreDecided cs p os (length os) countered undecided
 
--- no model is at hand, and one obligation at least isn't decided; each that is listed passes its budget, and each other one has a derivation
+-- no model is at hand, and one obligation at least isn't decided; for each that is listed its budget isn't enough, and each other one has a derivation
 pub record IsUndecided (cs : List ClassTree) (p : Options) (os : List Obligation) (undecided : List Undecided) : Type 0 where
   pub some : undecided ≢ []
   pub decided : AreDecided cs p os (length os) [] undecided

@@ -25,7 +25,7 @@ pub(crate) enum Decision {
     Derived(Derivation),
     /// This model refutes its ground form.
     Refuted(Countermodel),
-    /// Its ground form passes this budget.
+    /// Neither was found within this budget.
     Over(Budget),
 }
 
@@ -88,6 +88,7 @@ fn decide_lent(
     match search.prove(bank, program, obligation, options) {
         Found::Memory => Err(Stop::Memory),
         Found::Lost => Err(Stop::Lost),
+        Found::Spent { splits } => Ok(Decision::Over(Budget::Splits(splits))),
         Found::TooMany { limit } => Ok(Decision::Over(Budget::Instances(limit))),
         Found::Countered(model) => Ok(Decision::Refuted(model)),
         Found::Proved(derivation) => accepted(alloc, bank, program, obligation, derivation),

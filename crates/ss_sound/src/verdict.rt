@@ -25,12 +25,13 @@ use std::alloc::Global;
 pub enum Verdict {
     /// Each obligation has a derivation that the checker accepted. These are they, over the bank of the obligations.
     Verified(Vec<Derivation>),
-    /// A model refutes each of the first of these, of which there is one at least; the second passed a budget. Every other one has a derivation.
+    /// A model refutes each of the first of these, of which there is one at least; for the second a budget wasn't enough. Every other one has a
+    /// derivation.
     Unproved {
         countered: Vec<Countered>,
         undecided: Vec<Undecided>,
     },
-    /// These passed a budget, and every other one has a derivation.
+    /// For these a budget wasn't enough, and every other one has a derivation.
     Undecided(Vec<Undecided>),
     /// Of an obligation neither a derivation nor a cause was found. That this doesn't come is not proved.
     Lost,

@@ -1,5 +1,5 @@
 -- The input that words ask for has numbers of 32 bits, and not too many.
-use Rattle.std.proofs.Common.{ℕ, zero, suc, ℤ, pos, negsuc, neg_ℤ, ◌≡◌, ◌≤◌, ◌<◌, ◌^◌, List, [], ◌∷◌, ◌++◌, length, Bool, true, false, not, ◌==◌, ◌&&◌, nat_le, nat_lt, if◌then◌else◌, Option, Some, None, is_none, refl, sym, ap, ◌∙◌, subst, arith}
+use Rattle.std.proofs.Common.{ℕ, zero, suc, ℤ, pos, negsuc, neg_ℤ, ◌≡◌, ◌≤◌, ◌<◌, ◌^◌, List, [], ◌∷◌, ◌++◌, length, Bool, true, false, ◌==◌, ◌&&◌, nat_le, nat_lt, if◌then◌else◌, Option, Some, None, is_some, refl, sym, ap, ◌∙◌, subst, arith}
 use Rattle.std.specs.List.{list_all}
 use Rattle.std.proofs.lemmas.Bool.{and_from, leb-true, lt-ltb}
 use Rattle.std.proofs.lemmas.Grind.{common_steps}
@@ -8,7 +8,7 @@ use Rattle.ss_machine_typed.specs.Inputs.{IsInput}
 use Rattle.ss_top_words.specs.declared.Command.{Command}
 use Rattle.ss_top_words.specs.declared.Command.TheVariants as command
 use Rattle.ss_top_words.specs.Numbers.{is_digit, number_behind, within, natural, negated, positive, whole}
-use Rattle.ss_top_words.specs.Words.{Reading, Asked, with_number, numbers_behind, most_numbers, with_input, of_file, of_run, asked_by, command_named, complete, first_reading, read_all, asked}
+use Rattle.ss_top_words.specs.Words.{Reading, Asked, and_number, numbers_behind, most_numbers, with_input, takes, of_file, of_run, asked_by, command_named, complete, first_reading, read_all, asked}
 
 -- ---- numbers of 32 bits
 
@@ -57,14 +57,14 @@ push_fits (m ∷ ns) n h g = rest (fits m) (list_all fits ns) (list_all fits (ns
     rest true b c h more = more h g
     rest false b c h more = h
 
-number_fits : (ns : Option (List ℤ)) (n : Option ℤ) → AllFit ns → ((z : ℤ) → n ≡ Some z → fits z ≡ true) → AllFit (with_number ns n)
+number_fits : (ns : Option (List ℤ)) (n : Option ℤ) → AllFit ns → ((z : ℤ) → n ≡ Some z → fits z ≡ true) → AllFit (and_number ns n)
 number_fits None n h g = tt
 number_fits (Some ns) None h g = tt
 number_fits (Some ns) (Some n) h g = push_fits ns n h (g n refl)
 
 numbers_fit : (words : List (List ℕ)) (ns : Option (List ℤ)) → AllFit ns → AllFit (numbers_behind ns words)
 numbers_fit [] ns h = h
-numbers_fit (word ∷ words) ns h = numbers_fit words (with_number ns (whole word)) (number_fits ns (whole word) h (whole_fits word))
+numbers_fit (word ∷ words) ns h = numbers_fit words (and_number ns (whole word)) (number_fits ns (whole word) h (whole_fits word))
 
 -- ---- what is asked
 
@@ -78,7 +78,7 @@ has_input false x a h g = absurd (let none : None ≡ Some a = h in cc)
 
 file_has_input : (c : Command) (r : Reading) (words : List (List ℕ)) (a : Asked) → of_file c r words ≡ Some a → IsInput a.input
 file_has_input c r [] a h = absurd (let none : None ≡ Some a = h in cc)
-file_has_input c r (file ∷ []) a h = has_input (is_none r.options.steps && not r.options.unverified) _ a h (λ e. record { numbers = refl; short = refl })
+file_has_input c r (file ∷ []) a h = has_input (takes c r.options) _ a h (λ e. record { numbers = refl; short = refl })
 file_has_input c r (file ∷ word ∷ words) a h = absurd (let none : None ≡ Some a = h in cc)
 
 short_input : (n : ℕ) → nat_le n most_numbers ≡ true → nat_lt n (2 ^ 31) ≡ true
@@ -101,7 +101,7 @@ command_has_input command.Expand r a h = file_has_input command.Expand r r.posit
 complete_has_input : (c : Option Command) (r : Option Reading) (a : Asked) → complete c r ≡ Some a → IsInput a.input
 complete_has_input None r a h = absurd (let none : None ≡ Some a = h in cc)
 complete_has_input (Some c) None a h = absurd (let none : None ≡ Some a = h in cc)
-complete_has_input (Some c) (Some r) a h = command_has_input c r a (some_of_if r.options.wants_steps (asked_by c r) a h)
+complete_has_input (Some c) (Some r) a h = command_has_input c r a (some_of_if (is_some r.options.wants) (asked_by c r) a h)
 
 pub asked_has_input : (words : List (List ℕ)) (a : Asked) → asked words ≡ Some a → IsInput a.input
 asked_has_input [] a h = absurd (let none : None ≡ Some a = h in cc)

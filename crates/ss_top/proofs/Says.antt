@@ -21,6 +21,7 @@ use Rattle.ss_sound.specs.Verdicts.{IsUnproved, IsUndecided}
 use Rattle.ss_report.specs.declared.status.Status.{Status}
 use Rattle.ss_report.specs.declared.status.Status.TheVariants as status
 use Rattle.ss_report.specs.Verdict.{verdict_text}
+use Rattle.ss_top_words.specs.declared.Limits.{Limits}
 use Rattle.ss_top_words.specs.declared.Command.{Command}
 use Rattle.ss_top_words.specs.declared.Command.TheVariants as command
 use Rattle.ss_typed.specs.Tree.{TypedTree}
@@ -34,7 +35,7 @@ use Rattle.ss_top.specs.declared.source.Goal.TheVariants as asked_for
 use Rattle.ss_top.specs.Sources.{Means, Gives}
 use Rattle.ss_top_words.specs.Words.{Asked}
 use Rattle.ss_top.specs.Runs.{HasRun, FailsAt}
-use Rattle.ss_top.specs.Answers.{OfSource, OfFile, verified_line, options, IsHeadline, IsToldVerified, IsExpanded, IsToldUnproved, IsToldUndecided, AreListed, IsVerifiedInPart, IsToldInPart, IsExpandedInPart, IsWrittenInPart, IsVerify, IsRun, IsRunUnverified, IsExpand, Verifies, command_of_goal, IfRefused, IfUnproved, IfUndecided, IfStopped, IfFailed, ReadsOnly, IsVerified, IsSilent, HasEnded, IsSpent, IsStopped, IsUnadmitted, Says, answer_to}
+use Rattle.ss_top.specs.Answers.{OfSource, OfFile, verified_line, options_of, IsHeadline, IsToldVerified, IsExpanded, IsToldUnproved, IsToldUndecided, AreListed, IsVerifiedInPart, IsToldInPart, IsExpandedInPart, IsWrittenInPart, IsVerify, IsRun, IsRunUnverified, IsExpand, Verifies, command_of_goal, IfRefused, IfUnproved, IfUndecided, IfStopped, IfFailed, ReadsOnly, IsVerified, IsSilent, HasEnded, IsSpent, IsStopped, IsUnadmitted, Says, answer_to}
 use Rattle.ss_store_rules.specs.Formed.{IsFormed}
 use Rattle.ss_top.proofs.Limits.{accepted_formed}
 use Rattle.ss_top.proofs.Meanings.{one_core}
@@ -55,27 +56,27 @@ expanded source ts p c text old new a e is took = record { program = c; means = 
 pub expanded_in_part : (source : List ℕ) (ts : List Tok) (p : TypedTree) (c : CoreTree) (text : List ℕ) (old new : Option (List ℕ)) → IsAccepted source ts p → c ≡ elaborated p → text ≡ core_text c → GrewByFront old new text → IsExpandedInPart old new source
 expanded_in_part source ts p c text old new a e is front = record { program = c; means = means source ts p c a e; front = subst (λ t. GrewByFront old new t) is front }
 
-pub told : (c : CoreTree) (os : List Obligation) (ms : List Countered) (us : List Undecided) (old new : Option (List ℕ)) (source text : List ℕ) → Means source c → os ≡ obligations c → IsUnproved c.classes options (obligations c) ms us
-    → text ≡ verdict_text c os ms us → Grew old new text → IsToldUnproved ms us old new source
-told c os ms us old new source text means same unproved is took = record {
+pub told : (l : Limits) (c : CoreTree) (os : List Obligation) (ms : List Countered) (us : List Undecided) (old new : Option (List ℕ)) (source text : List ℕ) → Means source c → os ≡ obligations c → IsUnproved c.classes (options_of l) (obligations c) ms us
+    → text ≡ verdict_text c os ms us → Grew old new text → IsToldUnproved l ms us old new source
+told l c os ms us old new source text means same unproved is took = record {
   program = c;
   means = means;
   unproved = unproved;
   took = subst (λ t. Grew old new t) (is ∙ ap (λ o. verdict_text c o ms us) same) took;
 }
 
-pub told_undecided : (c : CoreTree) (os : List Obligation) (us : List Undecided) (old new : Option (List ℕ)) (source text : List ℕ) → Means source c → os ≡ obligations c → IsUndecided c.classes options (obligations c) us
-    → text ≡ verdict_text c os [] us → Grew old new text → IsToldUndecided us old new source
-told_undecided c os us old new source text means same undecided is took = record {
+pub told_undecided : (l : Limits) (c : CoreTree) (os : List Obligation) (us : List Undecided) (old new : Option (List ℕ)) (source text : List ℕ) → Means source c → os ≡ obligations c → IsUndecided c.classes (options_of l) (obligations c) us
+    → text ≡ verdict_text c os [] us → Grew old new text → IsToldUndecided l us old new source
+told_undecided l c os us old new source text means same undecided is took = record {
   program = c;
   means = means;
   verdict = undecided;
   took = subst (λ t. Grew old new t) (is ∙ ap (λ o. verdict_text c o [] us) same) took;
 }
 
-pub told_in_part : (c : CoreTree) (os : List Obligation) (ms : List Countered) (us : List Undecided) (old new : Option (List ℕ)) (source text : List ℕ) → Means source c → os ≡ obligations c → AreListed c ms us
-    → text ≡ verdict_text c os ms us → GrewByFront old new text → IsToldInPart old new source
-told_in_part c os ms us old new source text means same listed is front = record {
+pub told_in_part : (l : Limits) (c : CoreTree) (os : List Obligation) (ms : List Countered) (us : List Undecided) (old new : Option (List ℕ)) (source text : List ℕ) → Means source c → os ≡ obligations c → AreListed l c ms us
+    → text ≡ verdict_text c os ms us → GrewByFront old new text → IsToldInPart l old new source
+told_in_part l c os ms us old new source text means same listed is front = record {
   program = c;
   means = means;
   countered = ms;
@@ -90,18 +91,18 @@ grew_nothing None = refl
 grew_nothing (Some bytes) = ap Some (sym (append-nil bytes))
 
 -- the answer to a source that isn't read
-pub refused_says : (steps : ℕ) (input : List ℤ) (taken : Option (List ℕ)) (g : Goal) (source : List ℕ) (stop : FrontStop) → Gives source (Err stop) → Says steps input taken taken (answer_to stop) (command_of_goal g) source
-refused_says steps input taken g source front.Memory h = inl (grew_nothing taken)
-refused_says steps input taken asked_for.Verdict source (front.Refused rule at) h = (h, grew_nothing taken)
-refused_says steps input taken asked_for.Run source (front.Refused rule at) h = (h, grew_nothing taken)
+pub refused_says : (l : Limits) (steps : ℕ) (input : List ℤ) (taken : Option (List ℕ)) (g : Goal) (source : List ℕ) (stop : FrontStop) → Gives source (Err stop) → Says l steps input taken taken (answer_to stop) (command_of_goal g) source
+refused_says l steps input taken g source front.Memory h = inl (grew_nothing taken)
+refused_says l steps input taken asked_for.Verdict source (front.Refused rule at) h = (h, grew_nothing taken)
+refused_says l steps input taken asked_for.Run source (front.Refused rule at) h = (h, grew_nothing taken)
 
-pub unread_says : (steps : ℕ) (input : List ℤ) (taken : Option (List ℕ)) (source : List ℕ) (stop : FrontStop) → reading.Gives source (Err stop) → Says steps input taken taken (answer_to stop) command.Expand source
-unread_says steps input taken source front.Memory h = inl (grew_nothing taken)
-unread_says steps input taken source (front.Refused rule at) h = (h, grew_nothing taken)
+pub unread_says : (l : Limits) (steps : ℕ) (input : List ℤ) (taken : Option (List ℕ)) (source : List ℕ) (stop : FrontStop) → reading.Gives source (Err stop) → Says l steps input taken taken (answer_to stop) command.Expand source
+unread_says l steps input taken source front.Memory h = inl (grew_nothing taken)
+unread_says l steps input taken source (front.Refused rule at) h = (h, grew_nothing taken)
 
-pub unrun_says : (steps : ℕ) (input : List ℤ) (taken : Option (List ℕ)) (source : List ℕ) (stop : FrontStop) → reading.Gives source (Err stop) → Says steps input taken taken (answer_to stop) command.RunUnverified source
-unrun_says steps input taken source front.Memory h = inl (grew_nothing taken)
-unrun_says steps input taken source (front.Refused rule at) h = (h, grew_nothing taken)
+pub unrun_says : (l : Limits) (steps : ℕ) (input : List ℤ) (taken : Option (List ℕ)) (source : List ℕ) (stop : FrontStop) → reading.Gives source (Err stop) → Says l steps input taken taken (answer_to stop) command.RunUnverified source
+unrun_says l steps input taken source front.Memory h = inl (grew_nothing taken)
+unrun_says l steps input taken source (front.Refused rule at) h = (h, grew_nothing taken)
 
 -- what is refused to every command
 pub refused_gives : (source : List ℕ) (stop : FrontStop) → reading.Gives source (Err stop) → Gives source (Err stop)
@@ -109,9 +110,9 @@ refused_gives source front.Memory h = tt
 refused_gives source (front.Refused rule at) h = h
 
 -- a front of what a goal lets be written
-pub verdict_in_part : (g : Goal) (steps : ℕ) (input : List ℤ) (old new : Option (List ℕ)) (source : List ℕ) → IsToldInPart old new source → IsWrittenInPart steps input old new (command_of_goal g) source
-verdict_in_part asked_for.Verdict steps input old new source h = inr h
-verdict_in_part asked_for.Run steps input old new source h = inr h
+pub verdict_in_part : (l : Limits) (g : Goal) (steps : ℕ) (input : List ℤ) (old new : Option (List ℕ)) (source : List ℕ) → IsToldInPart l old new source → IsWrittenInPart l steps input old new (command_of_goal g) source
+verdict_in_part l asked_for.Verdict steps input old new source h = inr h
+verdict_in_part l asked_for.Run steps input old new source h = inr h
 
 pub goal_verifies : (g : Goal) → Verifies (command_of_goal g)
 goal_verifies asked_for.Verdict = tt
@@ -127,25 +128,25 @@ never_fails c kind at steps input old new source means safe given h =
     subst IsUnfailed h.failed (safe_one.unfailed input given h.admits steps)
 
 -- what is said of its run without verification is said of its run behind it
-pub safe_says : (c : CoreTree) (steps : ℕ) (input : List ℤ) (old new : Option (List ℕ)) (source : List ℕ) (st : Status) → Means source c → IsSafe c → IsInput input → Says steps input old new st command.RunUnverified source → Says steps input old new st command.Run source
-safe_says c steps input old new source status.Ended means safe given h = (record { program = c; means = means; safe = safe }, h)
-safe_says c steps input old new source status.StepsSpent means safe given h = (record { program = c; means = means; safe = safe }, h)
-safe_says c steps input old new source (status.Stopped at) means safe given h = (record { program = c; means = means; safe = safe }, h)
-safe_says c steps input old new source (status.Failed kind at) means safe given h = absurd (never_fails c kind at steps input old new source means safe given h.1)
-safe_says c steps input old new source status.NotAdmitted means safe given h = (record { program = c; means = means; safe = safe }, h)
-safe_says c steps input old new source (status.Unproved ms us) means safe given h = absurd h.0
-safe_says c steps input old new source (status.Undecided us) means safe given h = absurd h.0
-safe_says c steps input old new source (status.SourceRefused rule at) means safe given h = h
-safe_says c steps input old new source status.WriteFault means safe given h = inl (record { program = c; means = means; safe = safe }, h)
-safe_says c steps input old new source status.Memory means safe given h = ⊎_elim (λ nothing. inl nothing) (λ part. inr (inl (record { program = c; means = means; safe = safe }, part))) h
-safe_says c steps input old new source status.BadWords means safe given h = absurd h
-safe_says c steps input old new source status.ReadFault means safe given h = absurd h
+pub safe_says : (l : Limits) (c : CoreTree) (steps : ℕ) (input : List ℤ) (old new : Option (List ℕ)) (source : List ℕ) (st : Status) → Means source c → IsSafe c → IsInput input → Says l steps input old new st command.RunUnverified source → Says l steps input old new st command.Run source
+safe_says l c steps input old new source status.Ended means safe given h = (record { program = c; means = means; safe = safe }, h)
+safe_says l c steps input old new source status.StepsSpent means safe given h = (record { program = c; means = means; safe = safe }, h)
+safe_says l c steps input old new source (status.Stopped at) means safe given h = (record { program = c; means = means; safe = safe }, h)
+safe_says l c steps input old new source (status.Failed kind at) means safe given h = absurd (never_fails c kind at steps input old new source means safe given h.1)
+safe_says l c steps input old new source status.NotAdmitted means safe given h = (record { program = c; means = means; safe = safe }, h)
+safe_says l c steps input old new source (status.Unproved ms us) means safe given h = absurd h.0
+safe_says l c steps input old new source (status.Undecided us) means safe given h = absurd h.0
+safe_says l c steps input old new source (status.SourceRefused rule at) means safe given h = h
+safe_says l c steps input old new source status.WriteFault means safe given h = inl (record { program = c; means = means; safe = safe }, h)
+safe_says l c steps input old new source status.Memory means safe given h = ⊎_elim (λ nothing. inl nothing) (λ part. inr (inl (record { program = c; means = means; safe = safe }, part))) h
+safe_says l c steps input old new source status.BadWords means safe given h = absurd h
+safe_says l c steps input old new source status.ReadFault means safe given h = absurd h
 
 -- ---- from what an answer says to the single facts
 
 -- what is said where this was asked
 abbrev pub SaysOf : Asked → Option (List ℕ) → Option (List ℕ) → Status → List ℕ → Type 0
-SaysOf a old new st source = Says a.steps a.input old new st a.command source
+SaysOf a old new st source = Says a.limits a.steps a.input old new st a.command source
 
 pub Says-refused : (a : Asked) (old new : Option (List ℕ)) (st : Status) (told : List ℕ → Told) → OfSource (told a.file) (SaysOf a old new st)
     → IfRefused st (λ rule at. OfFile (Some a) told (λ asked source. IsRefused source rule at))
@@ -284,7 +285,7 @@ Says-failed a old new status.BadWords told h = tt
 Says-failed a old new status.ReadFault told h = tt
 
 pub Says-unproved : (a : Asked) (old new : Option (List ℕ)) (st : Status) (told : List ℕ → Told) → OfSource (told a.file) (SaysOf a old new st)
-    → IfUnproved st (λ countered undecided. OfFile (Some a) told (λ asked source. Verifies asked.command × IsToldUnproved countered undecided old new source))
+    → IfUnproved st (λ countered undecided. OfFile (Some a) told (λ asked source. Verifies asked.command × IsToldUnproved asked.limits countered undecided old new source))
 Says-unproved a old new status.Ended told h = tt
 Says-unproved a old new status.StepsSpent told h = tt
 Says-unproved a old new (status.Stopped at) told h = tt
@@ -299,7 +300,7 @@ Says-unproved a old new status.BadWords told h = tt
 Says-unproved a old new status.ReadFault told h = tt
 
 pub Says-undecided : (a : Asked) (old new : Option (List ℕ)) (st : Status) (told : List ℕ → Told) → OfSource (told a.file) (SaysOf a old new st)
-    → IfUndecided st (λ undecided. OfFile (Some a) told (λ asked source. Verifies asked.command × IsToldUndecided undecided old new source))
+    → IfUndecided st (λ undecided. OfFile (Some a) told (λ asked source. Verifies asked.command × IsToldUndecided asked.limits undecided old new source))
 Says-undecided a old new status.Ended told h = tt
 Says-undecided a old new status.StepsSpent told h = tt
 Says-undecided a old new (status.Stopped at) told h = tt
@@ -345,12 +346,12 @@ either (Some None) A P h = absurd h
 either (Some (Some source)) A P h = h
 
 pub Says-written : (a : Asked) (old new : Option (List ℕ)) (st : Status) (told : List ℕ → Told) → OfSource (told a.file) (SaysOf a old new st) → st ≡ status.WriteFault
-    → OfFile (Some a) told (λ asked source. IsWrittenInPart asked.steps asked.input old new asked.command source)
+    → OfFile (Some a) told (λ asked source. IsWrittenInPart asked.limits asked.steps asked.input old new asked.command source)
 Says-written a old new st told h e = subst (λ x. OfSource (told a.file) (SaysOf a old new x)) e h
 
 pub Says-memory : (a : Asked) (old new : Option (List ℕ)) (st : Status) (told : List ℕ → Told) → OfSource (told a.file) (SaysOf a old new st) → st ≡ status.Memory
-    → Grew old new [] ⊎ OfFile (Some a) told (λ asked source. IsWrittenInPart asked.steps asked.input old new asked.command source)
-Says-memory a old new st told h e = either (told a.file) (Grew old new []) (IsWrittenInPart a.steps a.input old new a.command) (subst (λ x. OfSource (told a.file) (SaysOf a old new x)) e h)
+    → Grew old new [] ⊎ OfFile (Some a) told (λ asked source. IsWrittenInPart asked.limits asked.steps asked.input old new asked.command source)
+Says-memory a old new st told h e = either (told a.file) (Grew old new []) (IsWrittenInPart a.limits a.steps a.input old new a.command) (subst (λ x. OfSource (told a.file) (SaysOf a old new x)) e h)
 
 -- a read leaves the counts of all names but its own
 pub reads_only : {T : Type 0} (before now : List ℕ → ℕ) (file : Option (List ℕ)) (name : List ℕ) (r : Result T ReadStop) → file ≡ Some name → ReadCounts before now name r → ReadsOnly file before now

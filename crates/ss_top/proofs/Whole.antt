@@ -11,6 +11,7 @@ use Rattle.ss_lexer.specs.Pieces.{too_long}
 use Rattle.ss_lexer.specs.Reading.{Answer, Reads, start, without_mark, IsReadAs, HasTokens}
 use Rattle.ss_report.specs.declared.status.Status.{Status}
 use Rattle.ss_report.specs.declared.status.Status.TheVariants as status
+use Rattle.ss_top_words.specs.declared.Limits.{Limits}
 use Rattle.ss_top_words.specs.declared.Command.{Command}
 use Rattle.ss_top_words.specs.declared.Command.TheVariants as command
 use Rattle.ss_top_sources.specs.Sources.{IsNoProgram, IsFaulty, IsRefused}
@@ -66,7 +67,7 @@ module _ (bytes file : List ℕ) (e : bytes ≡ take 1048577 file) where
       others))
       h
 
-  module _ (steps : ℕ) (input : List ℤ) (old new : Option (List ℕ)) where
+  module _ (limits : Limits) (steps : ℕ) (input : List ℤ) (old new : Option (List ℕ)) where
     ended_whole : (c : Command) → HasEnded c steps input old new bytes → HasEnded c steps input old new file
     ended_whole command.Verify h = subst (IsToldVerified old new) (same h.program h.means) h
     ended_whole command.Run h = subst (λ s. IsHeadline s × HasRun steps input old new s) (same (h.1).program (h.1).means) h
@@ -91,23 +92,23 @@ module _ (bytes file : List ℕ) (e : bytes ≡ take 1048577 file) where
     unadmitted_whole command.RunUnverified h = subst (IsNotAdmitted input old new) (same h.program h.means) h
     unadmitted_whole command.Expand h = h
 
-    told_whole : IsToldInPart old new bytes → IsToldInPart old new file
-    told_whole h = subst (IsToldInPart old new) (same h.program h.means) h
+    told_whole : IsToldInPart limits old new bytes → IsToldInPart limits old new file
+    told_whole h = subst (IsToldInPart limits old new) (same h.program h.means) h
 
-    in_part_whole : (c : Command) → IsWrittenInPart steps input old new c bytes → IsWrittenInPart steps input old new c file
+    in_part_whole : (c : Command) → IsWrittenInPart limits steps input old new c bytes → IsWrittenInPart limits steps input old new c file
     in_part_whole command.Verify h = ⊎_elim (λ x. inl (subst (IsVerifiedInPart old new) (same x.program x.means) x)) (λ told. inr (told_whole told)) h
     in_part_whole command.Run h = ⊎_elim (λ x. inl (subst (λ s. IsHeadline s × RunsInPart steps input old new s) (same (x.1).program (x.1).means) x)) (λ told. inr (told_whole told)) h
     in_part_whole command.RunUnverified h = subst (RunsInPart steps input old new) (same h.program h.means) h
     in_part_whole command.Expand h = subst (IsExpandedInPart old new) (same h.program h.means) h
 
-    says_whole : (st : Status) (c : Command) → Says steps input old new st c bytes → Says steps input old new st c file
+    says_whole : (st : Status) (c : Command) → Says limits steps input old new st c bytes → Says limits steps input old new st c file
     says_whole status.Ended c h = ended_whole c h
     says_whole status.StepsSpent c h = spent_whole c h
     says_whole (status.Stopped at) c h = stopped_whole at c h
     says_whole (status.Failed kind at) c h = (h.0, subst (FailsAt kind at steps input old new) (same (h.1).program (h.1).means) h.1)
     says_whole status.NotAdmitted c h = unadmitted_whole c h
-    says_whole (status.Unproved countered undecided) c h = (h.0, subst (IsToldUnproved countered.items undecided.items old new) (same (h.1).program (h.1).means) h.1)
-    says_whole (status.Undecided undecided) c h = (h.0, subst (IsToldUndecided undecided.items old new) (same (h.1).program (h.1).means) h.1)
+    says_whole (status.Unproved countered undecided) c h = (h.0, subst (IsToldUnproved limits countered.items undecided.items old new) (same (h.1).program (h.1).means) h.1)
+    says_whole (status.Undecided undecided) c h = (h.0, subst (IsToldUndecided limits undecided.items old new) (same (h.1).program (h.1).means) h.1)
     says_whole (status.SourceRefused rule at) c h = (refused_whole rule at h.0, h.1)
     says_whole status.WriteFault c h = in_part_whole c h
     says_whole status.Memory c h = ⊎_elim (λ nothing. inl nothing) (λ some. inr (in_part_whole c some)) h
@@ -115,10 +116,10 @@ module _ (bytes file : List ℕ) (e : bytes ≡ take 1048577 file) where
     says_whole status.ReadFault c h = absurd h
 
 -- what the answer says of the bytes that were read, it says of the source
-pub Says-source : (steps : ℕ) (input : List ℤ) (old new : Option (List ℕ)) (st : Status) (c : Command) (told : Told) (bytes : List ℕ) → IsFront told 1048577 bytes → Says steps input old new st c bytes → OfSource told (Says steps input old new st c)
-Says-source steps input old new st c None bytes front h = (bytes, h)
-Says-source steps input old new st c (Some None) bytes front h = front
-Says-source steps input old new st c (Some (Some file)) bytes front h = says_whole bytes file front steps input old new st c h
+pub Says-source : (limits : Limits) (steps : ℕ) (input : List ℤ) (old new : Option (List ℕ)) (st : Status) (c : Command) (told : Told) (bytes : List ℕ) → IsFront told 1048577 bytes → Says limits steps input old new st c bytes → OfSource told (Says limits steps input old new st c)
+Says-source limits steps input old new st c None bytes front h = (bytes, h)
+Says-source limits steps input old new st c (Some None) bytes front h = front
+Says-source limits steps input old new st c (Some (Some file)) bytes front h = says_whole bytes file front limits steps input old new st c h
 
 pub OfSource-map : (told : Told) (P Q : List ℕ → Type 0) → ((source : List ℕ) → P source → Q source) → OfSource told P → OfSource told Q
 OfSource-map None P Q f h = (h.0, f h.0 h.1)

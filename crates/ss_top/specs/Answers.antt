@@ -18,6 +18,7 @@ use Rattle.ss_report.specs.declared.status.Status.TheVariants as status
 use Rattle.ss_report.specs.Verdict.{verdict_text}
 use Rattle.ss_report_core.specs.Text.{core_text}
 use Rattle.ss_top_words.specs.Words.{Asked, asked}
+use Rattle.ss_top_words.specs.declared.Limits.{Limits}
 use Rattle.ss_top_words.specs.declared.Command.{Command}
 use Rattle.ss_top_words.specs.declared.Command.TheVariants as command
 use Rattle.ss_top.specs.declared.source.Goal.{Goal}
@@ -67,22 +68,22 @@ pub record IsToldVerified (old new : Option (List ℕ)) (source : List ℕ) : Ty
   pub took : Grew old new verified_line
 
 -- how far obligations are searched
-abbrev pub options : Options
-options = record { rounds = 2; splits = 200000; instances = 50000 }
+abbrev pub options_of : Limits → Options
+options_of l = record { rounds = l.rounds; splits = l.splits; instances = l.instances }
 
--- The first of the listed obligations are refuted by their models, the others have too many instances, and all that aren't listed are
+-- The first of the listed obligations are refuted by their models, for the others the limits aren't enough, and all that aren't listed are
 -- valid. The sink took exactly the text of the verdict.
-pub record IsToldUnproved (countered : List Countered) (undecided : List Undecided) (old new : Option (List ℕ)) (source : List ℕ) : Type 0 where
+pub record IsToldUnproved (limits : Limits) (countered : List Countered) (undecided : List Undecided) (old new : Option (List ℕ)) (source : List ℕ) : Type 0 where
   pub program : CoreTree
   pub means : Means source program
-  pub unproved : IsUnproved program.classes options (obligations program) countered undecided
+  pub unproved : IsUnproved program.classes (options_of limits) (obligations program) countered undecided
   pub took : Grew old new (verdict_text program (obligations program) countered undecided)
 
--- the listed obligations have too many instances, and all others are valid; the sink took exactly the text of the verdict
-pub record IsToldUndecided (undecided : List Undecided) (old new : Option (List ℕ)) (source : List ℕ) : Type 0 where
+-- for the listed obligations the limits aren't enough, and all others are valid; the sink took exactly the text of the verdict
+pub record IsToldUndecided (limits : Limits) (undecided : List Undecided) (old new : Option (List ℕ)) (source : List ℕ) : Type 0 where
   pub program : CoreTree
   pub means : Means source program
-  pub verdict : IsUndecided program.classes options (obligations program) undecided
+  pub verdict : IsUndecided program.classes (options_of limits) (obligations program) undecided
   pub took : Grew old new (verdict_text program (obligations program) [] undecided)
 
 -- the sink took exactly the text of the core program
@@ -99,16 +100,16 @@ pub record IsVerifiedInPart (old new : Option (List ℕ)) (source : List ℕ) : 
   pub front : GrewByFront old new verified_line
 
 -- these are lists of a verdict that isn't that all is proved
-abbrev pub AreListed : CoreTree → List Countered → List Undecided → Type 0
-AreListed c countered undecided = IsUnproved c.classes options (obligations c) countered undecided ⊎ (countered ≡ []) × IsUndecided c.classes options (obligations c) undecided
+abbrev pub AreListed : Limits → CoreTree → List Countered → List Undecided → Type 0
+AreListed l c countered undecided = IsUnproved c.classes (options_of l) (obligations c) countered undecided ⊎ (countered ≡ []) × IsUndecided c.classes (options_of l) (obligations c) undecided
 
 -- the sink took a front of the text of a verdict that could be given
-pub record IsToldInPart (old new : Option (List ℕ)) (source : List ℕ) : Type 0 where
+pub record IsToldInPart (limits : Limits) (old new : Option (List ℕ)) (source : List ℕ) : Type 0 where
   pub program : CoreTree
   pub means : Means source program
   pub countered : List Countered
   pub undecided : List Undecided
-  pub listed : AreListed program countered undecided
+  pub listed : AreListed limits program countered undecided
   pub front : GrewByFront old new (verdict_text program (obligations program) countered undecided)
 
 -- the sink took a front of the text of the core program
@@ -118,11 +119,11 @@ pub record IsExpandedInPart (old new : Option (List ℕ)) (source : List ℕ) : 
   pub front : GrewByFront old new (core_text program)
 
 -- the sink took a front of what the answers above let be written
-abbrev pub IsWrittenInPart : ℕ → List ℤ → Option (List ℕ) → Option (List ℕ) → Command → List ℕ → Type 0
-IsWrittenInPart steps input old new command.Verify source = IsVerifiedInPart old new source ⊎ IsToldInPart old new source
-IsWrittenInPart steps input old new command.Run source = IsHeadline source × RunsInPart steps input old new source ⊎ IsToldInPart old new source
-IsWrittenInPart steps input old new command.RunUnverified source = RunsInPart steps input old new source
-IsWrittenInPart steps input old new command.Expand source = IsExpandedInPart old new source
+abbrev pub IsWrittenInPart : Limits → ℕ → List ℤ → Option (List ℕ) → Option (List ℕ) → Command → List ℕ → Type 0
+IsWrittenInPart limits steps input old new command.Verify source = IsVerifiedInPart old new source ⊎ IsToldInPart limits old new source
+IsWrittenInPart limits steps input old new command.Run source = IsHeadline source × RunsInPart steps input old new source ⊎ IsToldInPart limits old new source
+IsWrittenInPart limits steps input old new command.RunUnverified source = RunsInPart steps input old new source
+IsWrittenInPart limits steps input old new command.Expand source = IsExpandedInPart old new source
 
 -- no count of faults falls, and only that of the file may rise
 pub record ReadsOnly (file : Option (List ℕ)) (before now : List ℕ → ℕ) : Type 0 where
@@ -239,16 +240,16 @@ IsUnadmitted command.Run input old new source = IsHeadline source × IsNotAdmitt
 IsUnadmitted command.RunUnverified input old new source = IsNotAdmitted input old new source
 IsUnadmitted command.Expand input old new source = ⊥
 
-abbrev pub Says : ℕ → List ℤ → Option (List ℕ) → Option (List ℕ) → Status → Command → List ℕ → Type 0
-Says steps input old new status.Ended c source = HasEnded c steps input old new source
-Says steps input old new status.StepsSpent c source = IsSpent c steps input old new source
-Says steps input old new (status.Stopped at) c source = IsStopped at c steps input old new source
-Says steps input old new (status.Failed kind at) c source = IsRunUnverified c × FailsAt kind at steps input old new source
-Says steps input old new status.NotAdmitted c source = IsUnadmitted c input old new source
-Says steps input old new (status.Unproved countered undecided) c source = Verifies c × IsToldUnproved countered.items undecided.items old new source
-Says steps input old new (status.Undecided undecided) c source = Verifies c × IsToldUndecided undecided.items old new source
-Says steps input old new (status.SourceRefused rule at) c source = IsRefused source rule at × Grew old new []
-Says steps input old new status.WriteFault c source = IsWrittenInPart steps input old new c source
-Says steps input old new status.Memory c source = Grew old new [] ⊎ IsWrittenInPart steps input old new c source
-Says steps input old new status.BadWords c source = ⊥
-Says steps input old new status.ReadFault c source = ⊥
+abbrev pub Says : Limits → ℕ → List ℤ → Option (List ℕ) → Option (List ℕ) → Status → Command → List ℕ → Type 0
+Says limits steps input old new status.Ended c source = HasEnded c steps input old new source
+Says limits steps input old new status.StepsSpent c source = IsSpent c steps input old new source
+Says limits steps input old new (status.Stopped at) c source = IsStopped at c steps input old new source
+Says limits steps input old new (status.Failed kind at) c source = IsRunUnverified c × FailsAt kind at steps input old new source
+Says limits steps input old new status.NotAdmitted c source = IsUnadmitted c input old new source
+Says limits steps input old new (status.Unproved countered undecided) c source = Verifies c × IsToldUnproved limits countered.items undecided.items old new source
+Says limits steps input old new (status.Undecided undecided) c source = Verifies c × IsToldUndecided limits undecided.items old new source
+Says limits steps input old new (status.SourceRefused rule at) c source = IsRefused source rule at × Grew old new []
+Says limits steps input old new status.WriteFault c source = IsWrittenInPart limits steps input old new c source
+Says limits steps input old new status.Memory c source = Grew old new [] ⊎ IsWrittenInPart limits steps input old new c source
+Says limits steps input old new status.BadWords c source = ⊥
+Says limits steps input old new status.ReadFault c source = ⊥

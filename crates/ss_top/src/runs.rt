@@ -27,7 +27,7 @@ use std::alloc::Global;
 pub fn run_unverified<S: Sink>(alloc: Global, asked: &Asked, source: &[u8], out: &mut S) -> Status
     requires short { length asked.now.input.items < 2 ^ 31 }
     requires input { IsInput asked.now.input.items }
-    ensures says { Says asked.now.steps asked.now.input.items (S.taken out.old) (S.taken out.new) result goals.RunUnverified source.now }
+    ensures says { Says asked.now.limits asked.now.steps asked.now.input.items (S.taken out.old) (S.taken out.new) result goals.RunUnverified source.now }
     ensures faults { S.faults out.old ≤ S.faults out.new }
     ensures cause { result ≡ Status.WriteFault → Rose (S.faults out.old) (S.faults out.new) }
 {
@@ -48,7 +48,7 @@ fn run_accepted<S: Sink>(
     requires short { length asked.now.input.items < 2 ^ 31 }
     requires input { IsInput asked.now.input.items }
     requires accepted { IsAccepted source.now (toks accepted.now.tokens.items) (typed accepted.now.program) }
-    ensures says { Says asked.now.steps asked.now.input.items (S.taken out.old) (S.taken out.new) result goals.RunUnverified source.now }
+    ensures says { Says asked.now.limits asked.now.steps asked.now.input.items (S.taken out.old) (S.taken out.new) result goals.RunUnverified source.now }
     ensures faults { S.faults out.old ≤ S.faults out.new }
     ensures cause { result ≡ Status.WriteFault → Rose (S.faults out.old) (S.faults out.new) }
 {
@@ -70,7 +70,7 @@ pub fn run_whole<S: Sink>(
     requires input { IsInput asked.now.input.items }
     requires means { Means source.now (core program.now) }
     requires limits { IsWithinLimits (classes program.now.classes) }
-    ensures says { Says asked.now.steps asked.now.input.items (S.taken out.old) (S.taken out.new) result goals.RunUnverified source.now }
+    ensures says { Says asked.now.limits asked.now.steps asked.now.input.items (S.taken out.old) (S.taken out.new) result goals.RunUnverified source.now }
     ensures faults { S.faults out.old ≤ S.faults out.new }
     ensures cause { result ≡ Status.WriteFault → Rose (S.faults out.old) (S.faults out.new) }
 {
@@ -94,7 +94,7 @@ fn run_admitted<S: Sink>(
     requires means { Means source.now (core program.now) }
     requires limits { IsWithinLimits (classes program.now.classes) }
     requires admits { store.admitted (core program.now) asked.now.input.items ≡ true }
-    ensures says { Says asked.now.steps asked.now.input.items (S.taken out.old) (S.taken out.new) result goals.RunUnverified source.now }
+    ensures says { Says asked.now.limits asked.now.steps asked.now.input.items (S.taken out.old) (S.taken out.new) result goals.RunUnverified source.now }
     ensures faults { S.faults out.old ≤ S.faults out.new }
     ensures cause { result ≡ Status.WriteFault → Rose (S.faults out.old) (S.faults out.new) }
 {

@@ -13,8 +13,9 @@ ghost use Rattle.ss_ast.specs.Tokens.{toks};
 ghost use Rattle.ss_typed.specs.View.{typed};
 ghost use Rattle.ss_machine_typed.specs.Inputs.{IsInput};
 ghost use Rattle.ss_top_sources.specs.Sources.{IsAccepted};
-ghost use Rattle.ss_top.specs.Answers.{Says, command_of_goal, options};
+ghost use Rattle.ss_top.specs.Answers.{Says, command_of_goal, options_of};
 ghost use Rattle.ss_top.specs.declared.source.Goal.{Goal as AnyGoal};
+ghost use Rattle.ss_top_words.specs.declared.Limits.{Limits as AnyLimits};
 ghost use Rattle.ss_top_words.specs.declared.Command.TheVariants as goals;
 
 use crate::front::{read_program, refuse};
@@ -30,13 +31,6 @@ use ss_top_words::{Asked, Command};
 use ss_vcgen::{Obligations, obligations};
 use std::alloc::Global;
 
-// How far obligations are searched.
-const OPTIONS: Options = Options {
-    rounds: 2,
-    splits: 200_000,
-    instances: 50_000,
-};
-
 /// What is done with a program that is verified.
 #[derive(Clone, Copy, Debug, PartialEq, Eq)]
 pub enum Goal {
@@ -50,7 +44,7 @@ pub enum Goal {
 pub fn answer_source<S: Sink>(alloc: Global, asked: &Asked, source: &[u8], out: &mut S) -> Status
     requires short { length asked.now.input.items < 2 ^ 31 }
     requires input { IsInput asked.now.input.items }
-    ensures says { Says asked.now.steps asked.now.input.items (S.taken out.old) (S.taken out.new) result asked.now.command source.now }
+    ensures says { Says asked.now.limits asked.now.steps asked.now.input.items (S.taken out.old) (S.taken out.new) result asked.now.command source.now }
     ensures faults { S.faults out.old ≤ S.faults out.new }
     ensures cause { result ≡ Status.WriteFault → Rose (S.faults out.old) (S.faults out.new) }
 {
@@ -64,7 +58,7 @@ pub fn answer_source<S: Sink>(alloc: Global, asked: &Asked, source: &[u8], out: 
 
 // Writes the core program of a source.
 fn expand_source<S: Sink>(alloc: Global, source: &[u8], out: &mut S) -> Status
-    ensures says { (steps : ℕ) (input : List ℤ) → Says steps input (S.taken out.old) (S.taken out.new) result goals.Expand source.now }
+    ensures says { (limits : AnyLimits) (steps : ℕ) (input : List ℤ) → Says limits steps input (S.taken out.old) (S.taken out.new) result goals.Expand source.now }
     ensures faults { S.faults out.old ≤ S.faults out.new }
     ensures cause { result ≡ Status.WriteFault → Rose (S.faults out.old) (S.faults out.new) }
 {
@@ -82,7 +76,7 @@ fn expand_accepted<S: Sink>(
     out: &mut S,
 ) -> Status
     requires accepted { IsAccepted source.now (toks accepted.now.tokens.items) (typed accepted.now.program) }
-    ensures says { (steps : ℕ) (input : List ℤ) → Says steps input (S.taken out.old) (S.taken out.new) result goals.Expand source.now }
+    ensures says { (limits : AnyLimits) (steps : ℕ) (input : List ℤ) → Says limits steps input (S.taken out.old) (S.taken out.new) result goals.Expand source.now }
     ensures faults { S.faults out.old ≤ S.faults out.new }
     ensures cause { result ≡ Status.WriteFault → Rose (S.faults out.old) (S.faults out.new) }
 {
@@ -110,7 +104,7 @@ fn verify_source<S: Sink>(
 ) -> Status
     requires short { length asked.now.input.items < 2 ^ 31 }
     requires input { IsInput asked.now.input.items }
-    ensures says { Says asked.now.steps asked.now.input.items (S.taken out.old) (S.taken out.new) result (command_of_goal goal) source.now }
+    ensures says { Says asked.now.limits asked.now.steps asked.now.input.items (S.taken out.old) (S.taken out.new) result (command_of_goal goal) source.now }
     ensures faults { S.faults out.old ≤ S.faults out.new }
     ensures cause { result ≡ Status.WriteFault → Rose (S.faults out.old) (S.faults out.new) }
 {
@@ -133,20 +127,27 @@ fn answer_program<S: Sink>(
     requires input { IsInput asked.now.input.items }
     requires means { Means source.now (core program.now) }
     requires limits { IsWithinLimits (classes program.now.classes) }
-    ensures says { Says asked.now.steps asked.now.input.items (S.taken out.old) (S.taken out.new) result (command_of_goal goal) source.now }
+    ensures says { Says asked.now.limits asked.now.steps asked.now.input.items (S.taken out.old) (S.taken out.new) result (command_of_goal goal) source.now }
     ensures faults { S.faults out.old ≤ S.faults out.new }
     ensures cause { result ≡ Status.WriteFault → Rose (S.faults out.old) (S.faults out.new) }
 {
     let Ok(mut obligations) = obligations(alloc, program) else {
         return Status::Memory;
     };
-    match verify(alloc, program, &mut obligations, &OPTIONS) {
+    let limits = asked.limits;
+    let options = Options {
+        rounds: limits.rounds,
+        splits: limits.splits,
+        instances: limits.instances,
+    };
+    match verify(alloc, program, &mut obligations, &options) {
         Verdict::Verified(_) => answer_safe(alloc, goal, asked, source, program, out),
         Verdict::Unproved {
             countered,
             undecided,
         } => tell_unproved(
             alloc,
+            asked,
             source,
             program,
             &obligations,
@@ -155,7 +156,7 @@ fn answer_program<S: Sink>(
             out,
         ),
         Verdict::Undecided(undecided) => {
-            tell_undecided(alloc, source, program, &obligations, undecided, out)
+            tell_undecided(alloc, asked, source, program, &obligations, undecided, out)
         }
         // Lost was never seen, and there is no answer for it but the one that may always come.
         Verdict::Lost | Verdict::Memory => Status::Memory,
@@ -176,7 +177,7 @@ fn answer_safe<S: Sink>(
     requires means { Means source.now (core program.now) }
     requires limits { IsWithinLimits (classes program.now.classes) }
     requires safe { IsSafe (core program.now) }
-    ensures says { Says asked.now.steps asked.now.input.items (S.taken out.old) (S.taken out.new) result (command_of_goal goal) source.now }
+    ensures says { Says asked.now.limits asked.now.steps asked.now.input.items (S.taken out.old) (S.taken out.new) result (command_of_goal goal) source.now }
     ensures faults { S.faults out.old ≤ S.faults out.new }
     ensures cause { result ≡ Status.WriteFault → Rose (S.faults out.old) (S.faults out.new) }
 {
@@ -190,7 +191,7 @@ fn answer_safe<S: Sink>(
 fn tell_verified<S: Sink>(source: &[u8], program: &Core, out: &mut S) -> Status
     requires means { Means source.now (core program.now) }
     requires safe { IsSafe (core program.now) }
-    ensures says { (steps : ℕ) (input : List ℤ) → Says steps input (S.taken out.old) (S.taken out.new) result goals.Verify source.now }
+    ensures says { (limits : AnyLimits) (steps : ℕ) (input : List ℤ) → Says limits steps input (S.taken out.old) (S.taken out.new) result goals.Verify source.now }
     ensures faults { S.faults out.old ≤ S.faults out.new }
     ensures cause { result ≡ Status.WriteFault → Rose (S.faults out.old) (S.faults out.new) }
 {
@@ -215,7 +216,7 @@ fn run_safe<S: Sink>(
     requires means { Means source.now (core program.now) }
     requires limits { IsWithinLimits (classes program.now.classes) }
     requires safe { IsSafe (core program.now) }
-    ensures says { Says asked.now.steps asked.now.input.items (S.taken out.old) (S.taken out.new) result goals.Run source.now }
+    ensures says { Says asked.now.limits asked.now.steps asked.now.input.items (S.taken out.old) (S.taken out.new) result goals.Run source.now }
     ensures faults { S.faults out.old ≤ S.faults out.new }
     ensures cause { result ≡ Status.WriteFault → Rose (S.faults out.old) (S.faults out.new) }
 {
@@ -225,6 +226,7 @@ fn run_safe<S: Sink>(
 // Writes the text of a verdict where a model refutes an obligation.
 fn tell_unproved<S: Sink>(
     alloc: Global,
+    asked: &Asked,
     source: &[u8],
     program: &Core,
     obligations: &Obligations,
@@ -234,12 +236,12 @@ fn tell_unproved<S: Sink>(
 ) -> Status
     requires means { Means source.now (core program.now) }
     requires obligations { trees obligations.now ≡ oblig.obligations (core program.now) }
-    requires unproved { IsUnproved (classes program.now.classes) options (oblig.obligations (core program.now)) countered.items undecided.items }
-    ensures says { (steps : ℕ) (input : List ℤ) (goal : AnyGoal) → Says steps input (S.taken out.old) (S.taken out.new) result (command_of_goal goal) source.now }
+    requires unproved { IsUnproved (classes program.now.classes) (options_of asked.now.limits) (oblig.obligations (core program.now)) countered.items undecided.items }
+    ensures says { (goal : AnyGoal) → Says asked.now.limits asked.now.steps asked.now.input.items (S.taken out.old) (S.taken out.new) result (command_of_goal goal) source.now }
     ensures faults { S.faults out.old ≤ S.faults out.new }
     ensures cause { result ≡ Status.WriteFault → Rose (S.faults out.old) (S.faults out.new) }
 {
-    let _source = source;
+    let (_asked, _source) = (asked, source);
     let Ok(text) = verdict_text(alloc, program, obligations, &countered, &undecided) else {
         return Status::Memory;
     };
@@ -256,6 +258,7 @@ fn tell_unproved<S: Sink>(
 // Writes the text of a verdict where no model is at hand, but not all is proved.
 fn tell_undecided<S: Sink>(
     alloc: Global,
+    asked: &Asked,
     source: &[u8],
     program: &Core,
     obligations: &Obligations,
@@ -264,12 +267,12 @@ fn tell_undecided<S: Sink>(
 ) -> Status
     requires means { Means source.now (core program.now) }
     requires obligations { trees obligations.now ≡ oblig.obligations (core program.now) }
-    requires undecided { IsUndecided (classes program.now.classes) options (oblig.obligations (core program.now)) undecided.items }
-    ensures says { (steps : ℕ) (input : List ℤ) (goal : AnyGoal) → Says steps input (S.taken out.old) (S.taken out.new) result (command_of_goal goal) source.now }
+    requires undecided { IsUndecided (classes program.now.classes) (options_of asked.now.limits) (oblig.obligations (core program.now)) undecided.items }
+    ensures says { (goal : AnyGoal) → Says asked.now.limits asked.now.steps asked.now.input.items (S.taken out.old) (S.taken out.new) result (command_of_goal goal) source.now }
     ensures faults { S.faults out.old ≤ S.faults out.new }
     ensures cause { result ≡ Status.WriteFault → Rose (S.faults out.old) (S.faults out.new) }
 {
-    let _source = source;
+    let (_asked, _source) = (asked, source);
     let Ok(text) = verdict_text(alloc, program, obligations, &[], &undecided) else {
         return Status::Memory;
     };

@@ -15,7 +15,8 @@ use std::alloc::Global;
 
 /// Does what the words say: `verify FILE` verifies the program of the file and writes the verdict, `run FILE` verifies
 /// it and runs it where it is verified, `run FILE --unverified` runs it with all its checks, and `expand FILE` writes its core
-/// program. A run has as many steps as `--steps` says, and the numbers behind FILE are its input.
+/// program. Verification searches as far as `--rounds`, `--splits` and `--instances` say. A run has as many steps as `--steps` says, and the
+/// numbers behind FILE are its input.
 pub fn specsharp<F: Files, S: Sink>(
     alloc: Global,
     words: &[String],
@@ -35,13 +36,13 @@ pub fn specsharp<F: Files, S: Sink>(
     ensures stopped { IfStopped result (λ place. OfFile (asked_by words.now) (F.told files.old) (λ asked source. IsStopped place asked.command asked.steps asked.input (S.taken out.old) (S.taken out.new) source)) }
     ensures failed { IfFailed result (λ kind place. OfFile (asked_by words.now) (F.told files.old) (λ asked source. IsRunUnverified asked.command × FailsAt kind place asked.steps asked.input (S.taken out.old) (S.taken out.new) source)) }
     ensures not_admitted { result ≡ Status.NotAdmitted → OfFile (asked_by words.now) (F.told files.old) (λ asked source. IsUnadmitted asked.command asked.input (S.taken out.old) (S.taken out.new) source) }
-    ensures unproved { IfUnproved result (λ countered undecided. OfFile (asked_by words.now) (F.told files.old) (λ asked source. Verifies asked.command × IsToldUnproved countered undecided (S.taken out.old) (S.taken out.new) source)) }
-    ensures undecided { IfUndecided result (λ undecided. OfFile (asked_by words.now) (F.told files.old) (λ asked source. Verifies asked.command × IsToldUndecided undecided (S.taken out.old) (S.taken out.new) source)) }
+    ensures unproved { IfUnproved result (λ countered undecided. OfFile (asked_by words.now) (F.told files.old) (λ asked source. Verifies asked.command × IsToldUnproved asked.limits countered undecided (S.taken out.old) (S.taken out.new) source)) }
+    ensures undecided { IfUndecided result (λ undecided. OfFile (asked_by words.now) (F.told files.old) (λ asked source. Verifies asked.command × IsToldUndecided asked.limits undecided (S.taken out.old) (S.taken out.new) source)) }
 
     ensures write_fault { result ≡ Status.WriteFault → Rose (S.faults out.old) (S.faults out.new) }
-    ensures written { result ≡ Status.WriteFault → OfFile (asked_by words.now) (F.told files.old) (λ asked source. IsWrittenInPart asked.steps asked.input (S.taken out.old) (S.taken out.new) asked.command source) }
+    ensures written { result ≡ Status.WriteFault → OfFile (asked_by words.now) (F.told files.old) (λ asked source. IsWrittenInPart asked.limits asked.steps asked.input (S.taken out.old) (S.taken out.new) asked.command source) }
     ensures memory { result ≡ Status.Memory → Grew (S.taken out.old) (S.taken out.new) []
-        ⊎ OfFile (asked_by words.now) (F.told files.old) (λ asked source. IsWrittenInPart asked.steps asked.input (S.taken out.old) (S.taken out.new) asked.command source) }
+        ⊎ OfFile (asked_by words.now) (F.told files.old) (λ asked source. IsWrittenInPart asked.limits asked.steps asked.input (S.taken out.old) (S.taken out.new) asked.command source) }
     ensures silent { IsSilent result → Grew (S.taken out.old) (S.taken out.new) [] }
 
     ensures stays { F.told files.new ≡ F.told files.old }

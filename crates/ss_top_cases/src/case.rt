@@ -18,6 +18,8 @@ pub struct Case {
     pub words: Vec<String>,
     pub source: Vec<u8>,
     pub output: Vec<u8>,
+    /// The end of the `undecided` lines that may stand among the lines of the output, where there may be such.
+    pub others: Option<String>,
     /// The messages on standard error, where the case says them.
     pub messages: Vec<u8>,
     pub expected: Expected,
@@ -99,6 +101,8 @@ fn push_line(alloc: Global, case: &mut Case, line: &str) -> Result<(), AllocErro
         }
     } else if let Some(text) = line.strip_prefix("|") {
         push_source(case, text)?;
+    } else if let Some(text) = line.strip_prefix(">~ ") {
+        case.others = Some(String::from_str(alloc, text)?);
     } else if let Some(text) = line.strip_prefix(">") {
         push_output(case, text)?;
     } else if let Some(text) = line.strip_prefix("!") {
@@ -121,6 +125,7 @@ pub fn read_cases(alloc: Global, text: &str) -> Result<Vec<Case>, AllocError> {
                 words: Vec::new(alloc),
                 source: Vec::new(alloc),
                 output: Vec::new(alloc),
+                others: None,
                 messages: Vec::new(alloc),
                 expected: Expected::Read,
             })?;

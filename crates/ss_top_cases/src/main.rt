@@ -8,6 +8,7 @@ use ss_io::{MemFiles, MemSink};
 use ss_main_messages::{failed_message, refused_message, stopped_message, verdict_messages};
 use ss_report::{Status, status_line};
 use ss_top::specsharp;
+use ss_top_words::{DEFAULT_LIMITS, Limits, read_words};
 use std::alloc::{AllocError, Global};
 use std::rt::{Env, Files};
 use std::{env, fs, io, str};
@@ -30,12 +31,21 @@ fn is_expected(expected: &Expected, status: &Status, told: &str) -> bool {
     }
 }
 
+/// How far the words let verification search.
+fn limits_of(alloc: Global, words: &[String]) -> Limits {
+    match read_words(alloc, words) {
+        Ok(Some(asked)) => asked.limits,
+        _ => DEFAULT_LIMITS,
+    }
+}
+
 /// The messages on standard error of an answer to a source.
 fn messages(
     alloc: Global,
     source: &[u8],
     status: &Status,
     verdict: &[u8],
+    limits: Limits,
 ) -> Result<String, AllocError> {
     match status {
         Status::SourceRefused { rule, place } => {
@@ -45,11 +55,11 @@ fn messages(
         Status::Stopped { place } => stopped_message(alloc, "FILE", source, *place),
         Status::Unproved { countered, .. } => {
             let verdict = str::from_utf8(verdict).unwrap_or("");
-            verdict_messages(alloc, "FILE", source, verdict, countered)
+            verdict_messages(alloc, "FILE", source, verdict, countered, limits)
         }
         Status::Undecided { .. } => {
             let verdict = str::from_utf8(verdict).unwrap_or("");
-            verdict_messages(alloc, "FILE", source, verdict, &[])
+            verdict_messages(alloc, "FILE", source, verdict, &[], limits)
         }
         _ => Ok(String::new(alloc)),
     }
@@ -65,8 +75,49 @@ fn are_expected(
     if case.messages.is_empty() {
         return Ok(true);
     }
-    let messages = messages(alloc, case.source.as_slice(), status, verdict)?;
+    let limits = limits_of(alloc, &case.words);
+    let messages = messages(alloc, case.source.as_slice(), status, verdict, limits)?;
     Ok(messages.as_bytes() == case.messages.as_slice())
+}
+
+/// Whether these are the wanted lines, in order, with lines of `undecided` that have this end among them.
+fn are_lines(lines: &str, wanted: &str, end: &str) -> bool {
+    let mut rest = wanted.lines();
+    let mut next = rest.next();
+    for line in lines.lines() {
+        match next {
+            Some(text) if text == line => next = rest.next(),
+            _ => {
+                if !line.starts_with("undecided: ") || !line.ends_with(end) {
+                    return false;
+                }
+            }
+        }
+    }
+    next.is_none()
+}
+
+/// The text that bytes are, or nothing where they are none.
+fn text_of(bytes: &[u8]) -> &str {
+    match str::from_utf8(bytes) {
+        Ok(text) => text,
+        Err(_) => "",
+    }
+}
+
+/// Whether the output is the one that the case says. Where it says only that its source is read, every output is.
+fn is_written(case: &Case, output: &[u8]) -> bool {
+    if matches!(case.expected, Expected::Read) {
+        return true;
+    }
+    match &case.others {
+        Some(end) => {
+            let lines = text_of(output);
+            let wanted = text_of(&case.output);
+            are_lines(lines, wanted, end.as_str())
+        }
+        None => output == case.output.as_slice(),
+    }
 }
 
 /// The words of a case. Where it says only that its source is read, `expand` answers it: all commands refuse the same sources.
@@ -95,7 +146,7 @@ fn difference(alloc: Global, case: &Case) -> Result<Option<String>, AllocError> 
     let status = specsharp(alloc, &words, &mut files, &mut out);
     let told = told(alloc, &status)?;
     let answered = is_expected(&case.expected, &status, &told);
-    let written = matches!(case.expected, Expected::Read) || out.bytes() == case.output.as_slice();
+    let written = is_written(case, out.bytes());
     if answered && written && are_expected(alloc, case, &status, out.bytes())? {
         return Ok(None);
     }

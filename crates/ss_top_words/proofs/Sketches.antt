@@ -1,5 +1,5 @@
 -- Whether words ask for something shows in a sketch of them.
-use Rattle.std.proofs.Common.{ℕ, ℤ, ◌≡◌, ◌≤◌, ◌+◌, ◌-◌, ◌⊎◌, inl, inr, ⊎_elim, List, [], ◌∷◌, ◌++◌, Bool, true, false, not, ◌==◌, ◌&&◌, nat_le, if◌then◌else◌, Option, Some, None, is_some, is_none, map, length, drop, String, string_bytes, slice_index_or, refl, sym, ap, ◌∙◌, subst, arith}
+use Rattle.std.proofs.Common.{ℕ, ℤ, ◌≡◌, ◌≤◌, ◌+◌, ◌-◌, ◌⊎◌, inl, inr, ⊎_elim, List, [], ◌∷◌, ◌++◌, Bool, true, false, ◌==◌, ◌&&◌, nat_le, if◌then◌else◌, Option, Some, None, is_some, map, length, drop, String, string_bytes, slice_index_or, refl, sym, ap, ◌∙◌, subst, arith}
 use Rattle.std.specs.List.{list_all}
 use Rattle.std.specs.declared.alloc.Global.{Global}
 use Rattle.std.proofs.lemmas.Grind.{common_steps}
@@ -7,8 +7,8 @@ use Rattle.ss_top_words.specs.declared.Command.{Command}
 use Rattle.ss_top_words.specs.declared.Command.TheVariants as command
 use Rattle.ss_top_words.specs.declared.sketch.Sketch.{Sketch}
 use Rattle.ss_top_words.specs.Numbers.{whole}
-use Rattle.ss_top_words.specs.Words.{Reading, Asked, read, read_all, with_number, numbers_behind, most_numbers, with_input, of_file, of_run, asked_by, complete}
-use Rattle.ss_top_words.specs.Views.{is_number, IsSketchOf, AsksFor}
+use Rattle.ss_top_words.specs.Words.{Reading, Asked, read, read_all, and_number, numbers_behind, most_numbers, with_input, takes, of_file, of_run, asked_by, complete}
+use Rattle.ss_top_words.specs.Views.{options_of, is_number, IsSketchOf, AsksFor}
 
 no_reading : (words : List (List ℕ)) → read_all None words ≡ None
 no_reading [] = refl
@@ -25,9 +25,9 @@ some_where : {A : Type 0} (b : Bool) (a : A) → is_some (if b then Some a else 
 some_where true a = refl
 some_where false a = refl
 
-file_alone : (c : Command) (r : Reading) (words : List (List ℕ)) → is_some (of_file c r words) ≡ (length words == 1 && (is_none r.options.steps && not r.options.unverified))
+file_alone : (c : Command) (r : Reading) (words : List (List ℕ)) → is_some (of_file c r words) ≡ (length words == 1 && takes c r.options)
 file_alone c r [] = refl
-file_alone c r (file ∷ []) = some_where (is_none r.options.steps && not r.options.unverified) _
+file_alone c r (file ∷ []) = some_where (takes c r.options) _
 file_alone c r (file ∷ word ∷ words) = grind (arith, common_steps)
 
 -- ---- a file with numbers
@@ -41,7 +41,7 @@ no_numbers [] = refl
 no_numbers (word ∷ words) = no_numbers words
 
 counted_next : (word : List ℕ) (words : List (List ℕ)) (others : (ms : List ℤ) → Counted ms words (numbers_behind (Some ms) words)) (ns : List ℤ) (n : Option ℤ) → whole word ≡ n →
-    Counted ns (word ∷ words) (numbers_behind (with_number (Some ns) n) words)
+    Counted ns (word ∷ words) (numbers_behind (and_number (Some ns) n) words)
 counted_next word words others ns None e = inr (ap (λ o. is_some o && list_all is_number words) e, no_numbers words)
 counted_next word words others ns (Some n) e =
     let first : list_all is_number (word ∷ words) ≡ list_all is_number words = ap (λ o. is_some o && list_all is_number words) e in
@@ -75,28 +75,28 @@ file_with_input r (file ∷ words) = input_found r file words (numbers_behind (S
 
 -- ---- by the command
 
-wanting : (wants : Bool) (o : Option Asked) → wants ≡ true → false ≡ is_some (if wants then None else o)
-wanting true o e = refl
-wanting false o e = absurd (cc)
+nothing_where : (wants : Bool) (o : Option Asked) → wants ≡ true → false ≡ is_some (if wants then None else o)
+nothing_where true o e = refl
+nothing_where false o e = absurd (cc)
 
-pub asks_nothing : (c : Command) (s : Sketch) (r : Reading) → IsSketchOf s r → s.options.wants_steps ≡ true → AsksFor c r false
-asks_nothing c s r is e = wanting r.options.wants_steps (asked_by c r) (ap (λ o. o.wants_steps) (sym is.options) ∙ e)
+pub asks_nothing : (c : Command) (s : Sketch) (r : Reading) → IsSketchOf s r → is_some s.options.wants ≡ true → AsksFor c r false
+asks_nothing c s r is e = nothing_where (is_some r.options.wants) (asked_by c r) (ap (λ o. is_some o.wants) (sym is.options) ∙ e)
 
-asks_of : (r : Reading) (o : Option Asked) (b : Bool) → r.options.wants_steps ≡ false → is_some o ≡ b → b ≡ is_some (if r.options.wants_steps then None else o)
+asks_of : (r : Reading) (o : Option Asked) (b : Bool) → is_some r.options.wants ≡ false → is_some o ≡ b → b ≡ is_some (if is_some r.options.wants then None else o)
 asks_of r o b e h = sym h ∙ ap (λ w. is_some (if w then None else o)) (sym e)
 
-not_wanting : (s : Sketch) (r : Reading) → IsSketchOf s r → s.options.wants_steps ≡ false → r.options.wants_steps ≡ false
-not_wanting s r is e = ap (λ o. o.wants_steps) (sym is.options) ∙ e
+not_wanting : (s : Sketch) (r : Reading) → IsSketchOf s r → is_some s.options.wants ≡ false → is_some r.options.wants ≡ false
+not_wanting s r is e = ap (λ o. is_some o.wants) (sym is.options) ∙ e
 
 -- a sketch says what its reading says
-sketched_alone : (s : Sketch) (r : Reading) → IsSketchOf s r → (length r.positional == 1 && (is_none r.options.steps && not r.options.unverified)) ≡ (s.count == 1 && (is_none s.options.steps && not s.options.unverified))
-sketched_alone s r is = ap (λ n. n == 1 && (is_none r.options.steps && not r.options.unverified)) (sym is.count) ∙ ap (λ o. s.count == 1 && (is_none o.steps && not o.unverified)) (sym is.options)
+sketched_alone : (c : Command) (s : Sketch) (r : Reading) → IsSketchOf s r → (length r.positional == 1 && takes c r.options) ≡ (s.count == 1 && takes c (options_of s.options))
+sketched_alone c s r is = ap (λ n. n == 1 && takes c r.options) (sym is.count) ∙ ap (λ o. s.count == 1 && takes c o) (sym is.options)
 
 sketched_input : (s : Sketch) (r : Reading) → IsSketchOf s r → (nat_le 1 (length r.positional) && (nat_le (length r.positional - 1) most_numbers && list_all is_number (drop 1 r.positional))) ≡ (nat_le 1 s.count && (nat_le (s.count - 1) most_numbers && s.numbers))
 sketched_input s r is = ap (λ n. nat_le 1 n && (nat_le (n - 1) most_numbers && list_all is_number (drop 1 r.positional))) (sym is.count) ∙ ap (λ b. nat_le 1 s.count && (nat_le (s.count - 1) most_numbers && b)) (sym is.numbers)
 
-pub asks_file : (c : Command) (s : Sketch) (r : Reading) → asked_by c r ≡ of_file c r r.positional → IsSketchOf s r → s.options.wants_steps ≡ false → AsksFor c r (s.count == 1 && (is_none s.options.steps && not s.options.unverified))
-asks_file c s r by is e = asks_of r (asked_by c r) _ (not_wanting s r is e) (ap is_some by ∙ file_alone c r r.positional ∙ sketched_alone s r is)
+pub asks_file : (c : Command) (s : Sketch) (r : Reading) → asked_by c r ≡ of_file c r r.positional → IsSketchOf s r → is_some s.options.wants ≡ false → AsksFor c r (s.count == 1 && takes c (options_of s.options))
+asks_file c s r by is e = asks_of r (asked_by c r) _ (not_wanting s r is e) (ap is_some by ∙ file_alone c r r.positional ∙ sketched_alone c s r is)
 
-pub asks_run : (c : Command) (s : Sketch) (r : Reading) → asked_by c r ≡ of_run r r.positional → IsSketchOf s r → s.options.wants_steps ≡ false → AsksFor c r (nat_le 1 s.count && (nat_le (s.count - 1) most_numbers && s.numbers))
+pub asks_run : (c : Command) (s : Sketch) (r : Reading) → asked_by c r ≡ of_run r r.positional → IsSketchOf s r → is_some s.options.wants ≡ false → AsksFor c r (nat_le 1 s.count && (nat_le (s.count - 1) most_numbers && s.numbers))
 asks_run c s r by is e = asks_of r (asked_by c r) _ (not_wanting s r is e) (ap is_some by ∙ file_with_input r r.positional ∙ sketched_input s r is)

@@ -17,7 +17,15 @@ abbrev pub texts_of : List (Bor (List ℕ)) → List (List ℕ)
 texts_of words = map (λ w. w.now) words
 
 abbrev pub options_of : Options → meaning.Options
-options_of o = record { steps = o.steps; unverified = o.unverified; wants_steps = o.wants_steps; ended = o.ended }
+options_of o = record {
+  steps = o.steps;
+  rounds = o.rounds;
+  splits = o.splits;
+  instances = o.instances;
+  unverified = o.unverified;
+  wants = o.wants;
+  ended = o.ended;
+}
 
 abbrev pub taken_of : Taken → meaning.Taken
 taken_of taken.Positional = meaning.Positional
@@ -31,6 +39,7 @@ abbrev pub asked_of : Asked → meaning.Asked
 asked_of a = record {
   command = a.command;
   file = a.file.now;
+  limits = a.limits;
   steps = a.steps;
   input = a.input.items;
 }

@@ -5,6 +5,7 @@ ghost use Rattle.std.specs.Prelude.{◌≡◌, IfOk, IsErr, Some, is_some, map, 
 ghost use Rattle.ss_top_words.specs.Views.{asked_of, reading_of, texts_of, IsShort};
 ghost use Rattle.ss_top_words.specs.Words as meaning;
 
+mod number_options;
 mod numbers;
 mod options;
 mod reading;
@@ -28,17 +29,36 @@ pub enum Command {
     Expand,
 }
 
-/// What the words ask for: a command, its file, and of a run how many steps it has at most and its input.
+/// How far verification searches.
+#[derive(Clone, Copy, Debug, PartialEq, Eq)]
+pub struct Limits {
+    /// The rounds of the ground form of an obligation.
+    pub rounds: u8,
+    /// The most splits of its formulas.
+    pub splits: u64,
+    /// The most formulas that it may have.
+    pub instances: u32,
+}
+
+/// What the words ask for: a command, its file, how far verification searches, and of a run how many steps it has at most and its input.
 #[derive(Drop)]
 pub struct Asked<'w> {
     pub command: Command,
     pub file: &'w str,
+    pub limits: Limits,
     pub steps: u64,
     pub input: Vec<i32>,
 }
 
 /// How many steps a run has where none are named.
 pub const DEFAULT_STEPS: u64 = 1_000_000;
+
+/// How far verification searches where nothing is said of it.
+pub const DEFAULT_LIMITS: Limits = Limits {
+    rounds: 2,
+    splits: 200_000,
+    instances: 50_000,
+};
 
 // How many numbers an input has at most.
 const MOST_NUMBERS: usize = 2_147_483_647;
@@ -66,13 +86,14 @@ fn of_file<'w>(alloc: Global, command: Command, reading: &Reading<'w>) -> Option
     let [file] = reading.positional.as_slice() else {
         return None;
     };
-    if reading.options.steps.is_some() || reading.options.unverified {
+    if !reading.options.stand_with(command) {
         return None;
     }
     Some(Asked {
         command,
         file,
-        steps: DEFAULT_STEPS,
+        limits: reading.options.limits(),
+        steps: reading.options.most_steps(),
         input: Vec::new(alloc),
     })
 }
@@ -92,7 +113,8 @@ fn of_run<'w>(alloc: Global, reading: &Reading<'w>) -> Result<Option<Asked<'w>>,
     Ok(Some(Asked {
         command: run_command(reading.options.unverified),
         file,
-        steps: reading.options.steps.unwrap_or(DEFAULT_STEPS),
+        limits: reading.options.limits(),
+        steps: reading.options.most_steps(),
         input,
     }))
 }
@@ -131,7 +153,7 @@ fn read_behind(
     ensures short { IfOk result IsShort }
 {
     let mut reading = Reading::new(alloc);
-    if !reading.read_all(words)? || reading.options.wants_steps {
+    if !reading.read_all(words)? || reading.options.wants.is_some() {
         return Ok(None);
     }
     asked_by(alloc, command, &reading)

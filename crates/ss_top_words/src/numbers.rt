@@ -1,5 +1,5 @@
 // Numbers in words.
-ghost use Rattle.std.specs.Prelude.{◌≡◌, Some, IfOk};
+ghost use Rattle.std.specs.Prelude.{◌≡◌, ◌≤◌, Some, IfOk, IfSome};
 ghost use Rattle.std.specs.List.{list_all};
 ghost use Rattle.ss_top_words.specs.Numbers as numbers;
 ghost use Rattle.ss_top_words.specs.Views.{texts_of, IsPushed};
@@ -27,7 +27,8 @@ fn are_digits(bytes: &[u8]) -> bool
 // The number that the digits write, where it is at most the limit.
 #[tactic(auto, using(crate::proofs::Ends::number_behind_le))]
 fn number_within(limit: u32, digits: &[u8]) -> Option<u64>
-    ensures { result ≡ numbers.within limit (numbers.number_behind 0 digits.now) }
+    ensures value { result ≡ numbers.within limit (numbers.number_behind 0 digits.now) }
+    ensures within { IfSome result (λ n. n ≤ limit) }
 {
     let mut number = 0u64;
     let mut rest = digits;
@@ -43,7 +44,8 @@ fn number_within(limit: u32, digits: &[u8]) -> Option<u64>
 
 // The number of one to ten digits, where it is at most the limit.
 pub fn natural(limit: u32, bytes: &[u8]) -> Option<u64>
-    ensures { result ≡ numbers.natural limit bytes.now }
+    ensures value { result ≡ numbers.natural limit bytes.now }
+    ensures within { IfSome result (λ n. n ≤ limit) }
 {
     if bytes.is_empty() || bytes.len() > 10 || !are_digits(bytes) {
         return None;

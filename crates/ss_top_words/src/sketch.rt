@@ -1,6 +1,6 @@
 // Whether words ask for something, without memory.
-ghost use Rattle.std.specs.Prelude.{◌≡◌, ◌<◌, ◌+◌, ◌-◌, ◌^◌, ◌==◌, ◌&&◌, not, nat_le, Some, is_none, is_some, map, string_bytes};
-ghost use Rattle.ss_top_words.specs.Views.{IsSketchOf, IsSketched, AsksFor};
+ghost use Rattle.std.specs.Prelude.{◌≡◌, ◌<◌, ◌+◌, ◌-◌, ◌^◌, ◌==◌, ◌&&◌, nat_le, Some, is_some, map, string_bytes};
+ghost use Rattle.ss_top_words.specs.Views.{options_of, IsSketchOf, IsSketched, AsksFor};
 ghost use Rattle.ss_top_words.specs.Words as meaning;
 
 use crate::numbers::whole;
@@ -66,11 +66,11 @@ fn sketched(words: &[String]) -> Option<Sketch>
 }
 
 impl Sketch {
-    // Whether that is a file alone.
-    fn is_file_alone(self) -> bool
-        ensures { result ≡ (self.count == 1 && (is_none self.options.steps && not self.options.unverified)) }
+    // Whether that is a file alone, with options of the command.
+    fn is_file_alone(self, command: Command) -> bool
+        ensures { result ≡ (self.count == 1 && meaning.takes command (options_of self.options)) }
     {
-        self.count == 1 && self.options.steps.is_none() && !self.options.unverified
+        self.count == 1 && self.options.stand_with(command)
     }
 
     // Whether that is a file with the numbers of an input.
@@ -84,11 +84,11 @@ impl Sketch {
     fn asks(self, command: Command) -> bool
         ensures { (r : meaning.Reading) → IsSketchOf self r → AsksFor command r result }
     {
-        if self.options.wants_steps {
+        if self.options.wants.is_some() {
             return false;
         }
         match command {
-            Command::Verify | Command::Expand => self.is_file_alone(),
+            Command::Verify | Command::Expand => self.is_file_alone(command),
             Command::Run | Command::RunUnverified => self.is_file_with_input(),
         }
     }

@@ -38,5 +38,5 @@ returns-in-Some-clause-network c = λ cs known is w.
 pub returns-in-None-clause-network : goal.returns-in-None-clause-network
 returns-in-None-clause-network c = λ cs known is w.
     let h = rw c.in-None.is at (c.in_ok-found.ensures.none c.args.bank.now) in
-    network_passed cs known (terms_at c.args.bank.now c.args.made.now.terms.items) c.args.made.now.edges.items c.args.made.now.origins.items c.args.k
+    network_passed cs known (terms_at c.args.bank.now c.args.made.now.nodes.terms.items) c.args.made.now.edges.items c.args.made.now.origins.items c.args.k
     (λ fact e d. no_difference (two.fact_at cs known c.args.k) (fact_at c.args.bank.now c.args.fact.now) fact is e h d) w

@@ -1,13 +1,13 @@
 use Rattle.std.proofs.Common.{List}
 use Rattle.ss_core.specs.Tree.{ClassTree}
-use Rattle.ss_terms.specs.Forms.{HasTerms, formulas_at, IsBankOf}
-use Rattle.ss_linear_network.specs.Made.{IsNetworkOf, IsSound}
-use Rattle.ss_linear.specs.Contradictions.{AreRead}
+use Rattle.ss_logic.specs.Formulas.{Formula}
+use Rattle.ss_linear_network.specs.Made.{AreNodesOf, IsNetworkOf, IsSound}
+use Rattle.ss_linear.specs.Results.{AreFacts}
 use Rattle.ss_linear.proofs.differences.network.Given as goal
 
 abbrev pub invariant-loop-k : goal.invariant-loop-k
 invariant-loop-k l = record {
-  terms : HasTerms l.bank l.made.terms.items;
+  nodes : AreNodesOf l.bank l.made.nodes;
   sound : IsSound l.made;
-  network : (cs : List ClassTree) → IsBankOf cs l.bank → AreRead cs l.bank l.known l.facts → IsNetworkOf l.bank cs (formulas_at l.bank l.known) l.made l.k;
+  network : (cs : List ClassTree) (known : List Formula) → AreFacts cs l.bank known l.facts → IsNetworkOf l.bank cs known l.made l.k;
 }

@@ -1,6 +1,6 @@
 use Rattle.std.proofs.Common.{refl, rules, SFits, to_z-of_z}
 use Rattle.std.specs.Int.{w128}
-use Rattle.ss_linear.proofs.Tests.{some_if}
+use Rattle.ss_linear_network.proofs.Making.{some_if}
 use Rattle.ss_linear.proofs.few.together.Goals as goal
 
 pub returns-in-Some-times : goal.returns-in-Some-times

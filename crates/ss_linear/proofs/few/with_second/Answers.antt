@@ -1,27 +1,26 @@
 use Rattle.std.proofs.Common.{sym, subst, below_more, ℤ, [], ◌∷◌, Option, length, arith}
-use Rattle.ss_terms.specs.Forms.{formulas_at}
 use Rattle.ss_linear_sums.specs.declared.forms.SumFact.{SumFact}
 use Rattle.ss_linear_sums.specs.Linear.{IsFactOf}
 use Rattle.ss_linear_rules.specs.Two as two
 use Rattle.ss_linear_rules.specs.Two.{IsUnit}
 use Rattle.ss_linear_rules.specs.Few.{IsNone}
-use Rattle.ss_linear.proofs.Glue.{read_at, read_past}
+use Rattle.ss_linear.proofs.Glue.{fact_read, fact_past}
 use Rattle.ss_linear.proofs.Tests.{at_each, second_without}
 use Rattle.ss_linear.proofs.few.with_second.Goals as goal
 
 pub returns-in-Some : goal.returns-in-Some
-returns-in-Some c = λ cs h r e.
-    rw c.in-Some.is at (c.in_ok-parts.ensures cs h e
-    (subst (λ (o : Option SumFact). IsFactOf c.args.bank.now o (two.fact_at cs (formulas_at c.args.bank.now c.args.known.now) c.loop-j.j)) (sym c.index-facts-j.is) (read_at cs c.args.bank.now c.args.known.now c.args.facts.now c.loop-j.j c.index-facts-j.result r c.loop-j-test.true)))
+returns-in-Some c = λ cs known h e.
+    rw c.in-Some.is at (c.in_ok-parts.ensures cs known h e
+    (subst (λ (o : Option SumFact). IsFactOf c.args.bank.now o (two.fact_at cs known c.loop-j.j)) (sym c.index-facts-j.is) (fact_read cs c.args.bank.now known c.args.facts.now c.loop-j.j c.index-facts-j.result h c.loop-j-test.true)))
 
 pub loop-j-preserved : goal.loop-j-preserved
-loop-j-preserved c = λ cs h r e.
-    below_more (λ k. (w u : ℤ) → IsUnit w → IsUnit u → IsNone cs (formulas_at c.args.bank.now c.args.known.now) ((c.args.i, w) ∷ (k, u) ∷ [])) c.loop-j.j (c.loop-j.invariant cs h r e)
-    (rw c.in-None.is at (c.in_ok-parts.ensures cs h e
-    (subst (λ (o : Option SumFact). IsFactOf c.args.bank.now o (two.fact_at cs (formulas_at c.args.bank.now c.args.known.now) c.loop-j.j)) (sym c.index-facts-j.is) (read_at cs c.args.bank.now c.args.known.now c.args.facts.now c.loop-j.j c.index-facts-j.result r c.loop-j-test.true))))
+loop-j-preserved c = λ cs known h e.
+    below_more (λ k. (w u : ℤ) → IsUnit w → IsUnit u → IsNone cs known ((c.args.i, w) ∷ (k, u) ∷ [])) c.loop-j.j (c.loop-j.invariant cs known h e)
+    (rw c.in-None.is at (c.in_ok-parts.ensures cs known h e
+    (subst (λ (o : Option SumFact). IsFactOf c.args.bank.now o (two.fact_at cs known c.loop-j.j)) (sym c.index-facts-j.is) (fact_read cs c.args.bank.now known c.args.facts.now c.loop-j.j c.index-facts-j.result h c.loop-j-test.true))))
 
 pub returns : goal.returns
-returns c = λ cs h r e.
-    at_each (λ k. (w u : ℤ) → IsUnit w → IsUnit u → IsNone cs (formulas_at c.args.bank.now c.args.known.now) ((c.args.i, w) ∷ (k, u) ∷ [])) (length c.args.facts.now)
-    (λ k l. c.loop-j.invariant cs h r e k (omega arith))
-    (λ k l w u x y. second_without cs (formulas_at c.args.bank.now c.args.known.now) c.args.i k w u (read_past cs c.args.bank.now c.args.known.now c.args.facts.now k r l))
+returns c = λ cs known h e.
+    at_each (λ k. (w u : ℤ) → IsUnit w → IsUnit u → IsNone cs known ((c.args.i, w) ∷ (k, u) ∷ [])) (length c.args.facts.now)
+    (λ k l. c.loop-j.invariant cs known h e k (omega arith))
+    (λ k l w u x y. second_without cs known c.args.i k w u (fact_past cs c.args.bank.now known c.args.facts.now k h l))

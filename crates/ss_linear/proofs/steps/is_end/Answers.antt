@@ -1,8 +1,8 @@
 use Rattle.std.proofs.Common.{◌≡◌, ◌++◌, [], ◌∷◌, true, Some, pos}
 use Rattle.ss_linear_rules.specs.Two.{Refute}
 use Rattle.ss_linear.specs.Contradictions.{IsContradiction, sums_of}
-use Rattle.ss_linear.proofs.Glue.{have_more}
-use Rattle.ss_linear.proofs.Results.{end_last, end_step, facts_more, mapped_ok}
+use Rattle.ss_linear.proofs.Glue.{have_more, facts_pushed}
+use Rattle.ss_linear.proofs.Results.{end_last, end_step, mapped_ok}
 use Rattle.ss_linear.proofs.steps.is_end.Goals as goal
 
 pub loop-i-init : goal.loop-i-init
@@ -25,7 +25,7 @@ loop-i-preserved c = record {
       let s = c.loop-i.invariant.left cs known h in
       let r = rw c.in-Some.is at (c.in_ok-found.ensures.gives cs s.0 (rw c.as_slice-read.ensures.value s.1)) in (
         s.0 ++ r.1.0 ∷ [],
-        facts_more cs c.args.bank.now s.0 c.loop-i.facts.items c.push.new.self.items r.1.0 c.in-Some.fact c.in_ok-push.ensures.items s.1 r.0 r.1.2,
+        facts_pushed cs c.args.bank.now s.0 c.loop-i.facts.items c.push.new.self.items r.1.0 (Some c.in-Some.fact) c.in_ok-push.ensures.items s.1 (r.0, r.1.2),
         λ k. s.2 (end_step cs c.args.sums.now c.loop-i.i c.index-sums-i.result c.loop-i-test.true c.index-sums-i.is s.0 r.1.0 r.1.1 k),
       );
 }

@@ -10,7 +10,7 @@ use Rattle.ss_linear.proofs.steps.is_last.Goals as goal
 pub returns : goal.returns
 returns c = λ cs known h yes.
     let fits : SFits w64 c.args.sum.now.divisor = search rules in
-    let e = rw (c.in-Some.is, c.deref.ensures.value) at (c.in_ok-found.ensures.sum cs known h) in
+    let e = (rw (c.in-Some.is, c.deref.ensures.value) at (c.in_ok-found.ensures.sum cs known h)).1 in
     let wide : FitsSigned w128 c.in-Some.total.constant = search rules in
     let below : c.in-Some.total.constant <ℤ pos (2 ^ 127) = omega (arith, ints) in (
       one_is c.args.sum.now.divisor (sym (rw (to_z-of_z fits) at c.is_unit.ensures) ∙ c.if-not-is_unit.false),

@@ -11,6 +11,6 @@ returns-clause-gives c = λ cs known h.
     let fits : SFits w64 c.args.sum.now.divisor = search rules in
     let wide : SFits w128 c.wide.result = search rules in
     let p : is_positive c.args.sum.now.divisor ≡ true = sym (rw (to_z-of_z fits) at c.is_above.ensures) ∙ c.if-not-is_above.false in
-    let e = rw (c.in-Some.is, c.deref.ensures.value) at (c.in_ok-found.ensures.sum cs known h) in
+    let e = (rw (c.in-Some.is, c.deref.ensures.value) at (c.in_ok-found.ensures.sum cs known h)).1 in
     subst (λ (o : Option Formula). IfOk c.bounded.result (IsResult cs c.args.bank.now o)) (sym (summed_is cs known c.args.sum.now.divisor c.args.sum.now.parts.items (sum_at c.args.bank.now c.in-Some.total) p e))
     (rw (to_z-of_z wide, c.wide.ensures, to_z-of_z fits) at (c.bounded.ensures.gives cs))

@@ -7,6 +7,7 @@ use Rattle.ss_rules_occurring.specs.Found.{formulas_of}
 use Rattle.ss_rules_occurring.proofs.Sought.{holds_itself}
 use Rattle.ss_rules_said.proofs.Again.{AreMade-grown}
 use Rattle.ss_rules_ground.proofs.Coming.{still_closed, ok_comes}
+use Rattle.ss_rules_ground.proofs.Noted.{ok_after}
 use Rattle.ss_rules_ground.proofs.rounds.at_forall.Goals as goal
 
 pub returns-then-after-before-clause-closed : goal.returns-then-after-before-clause-closed
@@ -27,3 +28,10 @@ close-requires-clause-made c = AreMade-grown (view.classes c.args.classes.now) c
 
 pub returns-then-after-before-clause-made : goal.returns-then-after-before-clause-made
 returns-then-after-before-clause-made c = AreMade-grown (view.classes c.args.classes.now) c.args.bank.now c.add_forall_instances.new.bank c.add_forall_instances.ensures.grown c.args.made.now c.requires.made
+
+pub returns-clause-noted : goal.returns-clause-noted
+returns-clause-noted c =
+    let a = c.args.bank.now in
+    let b = c.add_forall_instances.new.bank in
+    ok_after c.close.result (view.classes c.args.classes.now) a b c.close.new.bank (formulas_of a c.args.list.now) (formulas_of b c.add_forall_instances.new.list) _ c.args.origins.now.items c.add_forall_instances.new.origins.items c.close.new.origins.items
+    c.in_ok-add_forall_instances.ensures.noted c.close.ensures.noted

@@ -1,8 +1,12 @@
-use Rattle.std.proofs.Common.{◌≡◌, ◌+◌, ◌-◌, ◌<◌, length, arith}
+use Rattle.std.proofs.Common.{◌≡◌, ◌+◌, ◌-◌, ◌<◌, length, get_or, arith}
 use Rattle.ss_core.specs.View as view
+use Rattle.ss_logic_ground.specs.Matching.{forall_instances}
+use Rattle.ss_terms.specs.Forms.{formula_at}
 use Rattle.ss_terms.proofs.Grown.{IsGrown-then, HasFormula-grown}
 use Rattle.ss_terms.proofs.Parts.{AreBelow-get}
 use Rattle.ss_rules_ground.proofs.Coming.{forall_stops, forall_goes_on, foralls_done, closed_now}
+use Rattle.ss_rules_occurring.specs.Found.{formulas_of}
+use Rattle.ss_rules_ground.proofs.Noted.{comes_including, one_occurs}
 use Rattle.ss_rules_ground.proofs.rounds.at_foralls.Goals as goal
 
 pub at_forall-requires-clause-formula : goal.at_forall-requires-clause-formula
@@ -18,6 +22,11 @@ loop-i-preserved c =
       within = omega (arith, within);
       grown = IsGrown-then c.args.bank.now c.loop-i.bank c.at_forall.new.bank c.loop-i.invariant.grown c.at_forall.ensures.grown;
       has = c.in_ok-few.ensures.closed.has;
+      including = λ x k. comes_including (view.classes c.args.classes.now) c.args.limit c.at_forall.new.bank c.at_forall.new.list c.in_ok-few.few (formulas_of c.loop-i.bank c.loop-i.list) (forall_instances (formulas_of c.loop-i.bank c.loop-i.list) (formula_at c.loop-i.bank (get_or c.args.fs.now (c.loop-i.i - 1) (record { 0 = 0 })))) c.in_ok-few.ensures.closed c.if-not-few.false x (c.loop-i.invariant.including x k);
+      noted = λ all premises goal choices h.
+          c.in_ok-few.ensures.noted
+          (one_occurs c.args.bank.now c.loop-i.bank c.args.fs.now (c.loop-i.i - 1) (record { 0 = 0 }) (formulas_of c.args.bank.now c.args.list.now) (formulas_of c.loop-i.bank c.loop-i.list) c.loop-i.invariant.grown c.requires.formulas within c.loop-i.invariant.including all)
+          premises goal choices (c.loop-i.invariant.noted all premises goal choices h);
       made = c.in_ok-few.ensures.made;
       still = closed_now (view.classes c.args.classes.now) c.args.limit c.at_forall.new.bank c.at_forall.new.list c.in_ok-few.few _ c.in_ok-few.ensures.closed c.if-not-few.false;
       left = forall_goes_on (view.classes c.args.classes.now) c.args.limit c.args.bank.now c.loop-i.bank c.at_forall.new.bank c.args.fs.now (c.loop-i.i - 1) c.loop-i.i next (record { 0 = 0 }) c.loop-i.list c.at_forall.new.list _ within c.requires.formulas c.loop-i.invariant.grown
@@ -33,3 +42,10 @@ returns-then-not-few-clause-closed c =
 
 pub returns-clause-closed : goal.returns-clause-closed
 returns-clause-closed c = foralls_done (view.classes c.args.classes.now) c.args.limit c.args.bank.now c.loop-i.bank c.args.fs.now c.loop-i.i c.loop-i.list _ c.loop-i.invariant.has (omega (arith, c.loop-i-test.false)) c.loop-i.invariant.left
+
+pub returns-then-not-few-clause-noted : goal.returns-then-not-few-clause-noted
+returns-then-not-few-clause-noted c = λ all premises goal choices h.
+    let within : c.loop-i.i - 1 < length c.args.fs.now = omega (arith, c.loop-i.invariant.within, c.loop-i-test.true) in
+    c.in_ok-few.ensures.noted
+    (one_occurs c.args.bank.now c.loop-i.bank c.args.fs.now (c.loop-i.i - 1) (record { 0 = 0 }) (formulas_of c.args.bank.now c.args.list.now) (formulas_of c.loop-i.bank c.loop-i.list) c.loop-i.invariant.grown c.requires.formulas within c.loop-i.invariant.including all)
+    premises goal choices (c.loop-i.invariant.noted all premises goal choices h)

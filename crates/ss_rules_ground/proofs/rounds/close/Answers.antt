@@ -12,6 +12,7 @@ loop-step-preserved c =
     record {
       grown = IsGrown-then c.args.bank.now c.loop-step.bank c.add_due.new.bank c.loop-step.invariant.grown c.add_due.ensures.grown;
       has = holds_itself c.add_due.new.bank c.add_due.new.list _ c.in_ok-add_due.ensures.added;
+      noted = λ premises goal choices h. c.in_ok-add_due.ensures.noted premises goal choices (c.loop-step.invariant.noted premises goal choices h);
       made = c.in_ok-add_due.ensures.made;
       left = more_come (view.classes c.args.classes.now) c.args.limit c.loop-step.step c.loop-step.bank c.add_due.new.bank c.loop-step.list c.add_due.new.list _ c.loop-step-test.true c.loop-step.invariant.left c.in_ok-add_due.ensures.added (omega (arith, after, c.if-after-limit.false)) (λ e. c.if-after-before.false (after ∙ e ∙ sym before));
     }
@@ -29,3 +30,9 @@ returns-then-after-before-clause-closed c =
 
 pub returns-clause-closed : goal.returns-clause-closed
 returns-clause-closed c = never_closed (view.classes c.args.classes.now) c.args.limit c.loop-step.step c.loop-step.bank c.loop-step.list _ c.loop-step.invariant.has c.loop-step-test.false c.loop-step.invariant.left
+
+pub returns-then-after-limit-clause-noted : goal.returns-then-after-limit-clause-noted
+returns-then-after-limit-clause-noted c = λ premises goal choices h. c.in_ok-add_due.ensures.noted premises goal choices (c.loop-step.invariant.noted premises goal choices h)
+
+pub returns-then-after-before-clause-noted : goal.returns-then-after-before-clause-noted
+returns-then-after-before-clause-noted c = λ premises goal choices h. c.in_ok-add_due.ensures.noted premises goal choices (c.loop-step.invariant.noted premises goal choices h)

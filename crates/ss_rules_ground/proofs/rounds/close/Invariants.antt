@@ -3,6 +3,7 @@ use Rattle.ss_core.specs.View as view
 use Rattle.ss_logic_ground.specs.Ground.{closed_from}
 use Rattle.ss_terms.specs.Forms.{IsGrown}
 use Rattle.ss_rules_occurring.specs.Found.{formulas_of, HasFound}
+use Rattle.ss_rules_origins.specs.Views.{StillCome}
 use Rattle.ss_rules_said.specs.AreMade.{AreMade}
 use Rattle.ss_rules_ground.proofs.rounds.close.Given as goal
 
@@ -10,6 +11,7 @@ abbrev pub invariant-loop-step : goal.invariant-loop-step
 invariant-loop-step l = record {
   grown : IsGrown l.initial.bank l.bank;
   has : HasFound l.bank l.list;
+  noted : StillCome (view.classes l.classes) l.initial.bank (formulas_of l.initial.bank l.initial.list) l.initial.origins.items l.bank (formulas_of l.bank l.list) l.origins.items;
   made : AreMade (view.classes l.classes) l.bank l.made;
   left : closed_from (view.classes l.classes) l.limit (l.limit - l.step) (formulas_of l.bank l.list) ≡ closed_from (view.classes l.classes) l.limit l.limit (formulas_of l.initial.bank l.initial.list);
 }

@@ -1,6 +1,8 @@
 use Rattle.ss_core.specs.View as view
 use Rattle.ss_logic_ground.specs.Ground.{rounds_of}
 use Rattle.ss_rules_ground.proofs.Coming.{stops, goes_on, ok_comes}
+use Rattle.ss_rules_occurring.specs.Found.{formulas_of}
+use Rattle.ss_rules_ground.proofs.Noted.{ok_follows}
 use Rattle.ss_rules_ground.proofs.rounds.closed_rounds.Goals as goal
 
 pub rounds-requires-clause-list : goal.rounds-requires-clause-list
@@ -12,3 +14,10 @@ returns-then-not-few-clause-done c = stops c.close.new.bank c.close.new.list c.i
 pub returns-clause-done : goal.returns-clause-done
 returns-clause-done c =
     ok_comes c.rounds.result c.rounds.new.bank c.rounds.new.list _ _ (goes_on c.close.new.bank c.close.new.list c.in_ok-few.few _ (rounds_of (view.classes c.args.classes.now) c.args.limit c.args.count) c.in_ok-few.ensures.closed c.if-not-few.false) c.rounds.ensures.done
+
+pub returns-clause-noted : goal.returns-clause-noted
+returns-clause-noted c =
+    let a = c.args.bank.now in
+    let b = c.close.new.bank in
+    ok_follows c.rounds.result (view.classes c.args.classes.now) a b c.rounds.new.bank (formulas_of a c.args.list.now) (formulas_of b c.close.new.list) _ c.args.origins.now.items c.close.new.origins.items c.rounds.new.origins.items
+    c.in_ok-few.ensures.noted c.rounds.ensures.noted

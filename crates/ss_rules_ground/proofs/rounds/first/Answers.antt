@@ -4,6 +4,8 @@ use Rattle.ss_logic_ground.specs.Ground.{closed}
 use Rattle.ss_rules_occurring.proofs.Sought.{holds_itself}
 use Rattle.ss_rules_said.proofs.Again.{AreMade-grown}
 use Rattle.ss_rules_ground.proofs.Coming.{ok_comes}
+use Rattle.ss_rules_occurring.specs.Found.{formulas_of}
+use Rattle.ss_rules_ground.proofs.Noted.{ok_follows}
 use Rattle.ss_rules_ground.proofs.rounds.first.Goals as goal
 
 pub close-requires-clause-list : goal.close-requires-clause-list
@@ -14,3 +16,10 @@ returns-clause-closed c = ok_comes c.close.result c.close.new.bank c.close.new.l
 
 pub close-requires-clause-made : goal.close-requires-clause-made
 close-requires-clause-made c = AreMade-grown (view.classes c.args.classes.now) c.args.bank.now c.add_first.new.bank c.add_first.ensures.grown c.args.made.now c.requires.made
+
+pub returns-clause-noted : goal.returns-clause-noted
+returns-clause-noted c =
+    let a = c.args.bank.now in
+    let b = c.add_first.new.bank in
+    ok_follows c.close.result (view.classes c.args.classes.now) a b c.close.new.bank (formulas_of a c.args.list.now) (formulas_of b c.add_first.new.list) _ c.args.origins.now.items c.add_first.new.origins.items c.close.new.origins.items
+    c.in_ok-add_first.ensures.noted c.close.ensures.noted

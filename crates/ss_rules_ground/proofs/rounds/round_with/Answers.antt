@@ -1,9 +1,12 @@
 use Rattle.std.proofs.Common.{reverse}
 use Rattle.ss_core.specs.View as view
-use Rattle.ss_logic_ground.specs.Ground.{foralls_step}
+use Rattle.ss_logic_ground.specs.Ground.{first_step, foralls_step}
 use Rattle.ss_terms.specs.Forms.{formulas_at}
 use Rattle.ss_terms.proofs.Grown.{HasFormulas-grown}
 use Rattle.ss_rules_ground.proofs.Coming.{stops, ok_comes, closed_now, same_foralls}
+use Rattle.ss_terms.proofs.Grown.{formulas_at-grown}
+use Rattle.ss_rules_occurring.specs.Found.{formulas_of}
+use Rattle.ss_rules_ground.proofs.Noted.{ok_after_given, all_occur_later, comes_including}
 use Rattle.ss_rules_ground.proofs.rounds.round_with.Goals as goal
 
 pub at_foralls-requires-clause-list : goal.at_foralls-requires-clause-list
@@ -23,3 +26,17 @@ returns-clause-done c =
     ok_comes c.at_foralls.result c.at_foralls.new.bank c.at_foralls.new.list _ _
     (same_foralls (view.classes c.args.classes.now) c.args.limit c.args.bank.now c.first.new.bank c.args.fs.now c.first.new.list c.in_ok-few.few _ c.first.ensures.grown c.requires.formulas c.in_ok-few.ensures.closed c.if-not-few.false)
     c.at_foralls.ensures.closed
+
+pub returns-then-not-few-clause-noted : goal.returns-then-not-few-clause-noted
+returns-then-not-few-clause-noted c = λ all. c.in_ok-few.ensures.noted
+
+pub returns-clause-noted : goal.returns-clause-noted
+returns-clause-noted c =
+    let a = c.args.bank.now in
+    let b = c.first.new.bank in
+    ok_after_given c.at_foralls.result (view.classes c.args.classes.now) a b c.at_foralls.new.bank (formulas_of a c.args.list.now) (formulas_of b c.first.new.list) _ c.args.origins.now.items c.first.new.origins.items c.at_foralls.new.origins.items
+    (λ all.
+    all_occur_later (formulas_of a c.args.list.now) (formulas_of b c.first.new.list) (formulas_at a c.args.fs.now) (formulas_at b c.args.fs.now)
+    (comes_including (view.classes c.args.classes.now) c.args.limit b c.first.new.list c.in_ok-few.few (formulas_of a c.args.list.now) (first_step (view.classes c.args.classes.now) (formulas_of a c.args.list.now)) c.in_ok-few.ensures.closed c.if-not-few.false)
+    (formulas_at-grown a b c.first.ensures.grown c.args.fs.now c.requires.formulas) all)
+    c.in_ok-few.ensures.noted c.at_foralls.ensures.noted

@@ -3,6 +3,7 @@ use Rattle.ss_core.specs.View as view
 use Rattle.ss_logic_ground.specs.Ground.{rounds_of}
 use Rattle.ss_terms.specs.Forms.{IsGrown}
 use Rattle.ss_rules_occurring.specs.Found.{formulas_of, HasFound}
+use Rattle.ss_rules_origins.specs.Views.{StillCome}
 use Rattle.ss_rules_said.specs.AreMade.{AreMade}
 use Rattle.ss_rules_ground.proofs.rounds.rounds.Given as goal
 
@@ -10,6 +11,7 @@ abbrev pub invariant-loop-number : goal.invariant-loop-number
 invariant-loop-number l = record {
   grown : IsGrown l.initial.bank l.bank;
   has : HasFound l.bank l.list;
+  noted : StillCome (view.classes l.classes) l.initial.bank (formulas_of l.initial.bank l.initial.list) l.initial.origins.items l.bank (formulas_of l.bank l.list) l.origins.items;
   made : AreMade (view.classes l.classes) l.bank l.made;
   left : rounds_of (view.classes l.classes) l.limit (l.count - l.number) (formulas_of l.bank l.list) ≡ rounds_of (view.classes l.classes) l.limit l.count (formulas_of l.initial.bank l.initial.list);
 }

@@ -1,9 +1,9 @@
 use Rattle.std.proofs.Common.{ap, ◌∙◌}
 use Rattle.ss_logic_ground.specs.Occurring.{with_formulas}
-use Rattle.ss_logic.specs.Formulas.{Formula}
-use Rattle.ss_terms.specs.Forms.{formula_at}
+use Rattle.ss_core.specs.View as view
 use Rattle.ss_rules_occurring.specs.Found.{formulas_of}
 use Rattle.ss_rules_matching.proofs.Adding.{instances_of_forall, ok_added}
+use Rattle.ss_rules_matching.proofs.Noted.{are_instances, ok_given}
 use Rattle.ss_rules_matching.proofs.instances.add_forall_instances.Goals as goal
 
 pub returns-in_ok-sorts-in-Forall-clause-added : goal.returns-in_ok-sorts-in-Forall-clause-added
@@ -12,3 +12,9 @@ returns-in_ok-sorts-in-Forall-clause-added c =
     (ap (with_formulas (formulas_of c.args.bank.now c.args.list.now))
     (instances_of_forall c.args.bank.now c.args.f c.in-Forall.sorts c.in-Forall.body c.deref-in-Forall.result.now (formulas_of c.args.bank.now c.args.list.now) (c.deref-in-Forall.ensures.value ∙ c.in_ok-sorts-in-Forall.ensures.items ∙ c.deref.ensures.value) (rw c.in-Forall.is at c.formula_node.ensures)))
     c.add_at_places.ensures.added
+
+pub returns-in_ok-sorts-in-Forall-clause-noted : goal.returns-in_ok-sorts-in-Forall-clause-noted
+returns-in_ok-sorts-in-Forall-clause-noted c =
+    ok_given c.add_at_places.result (view.classes c.args.classes.now) c.args.bank.now c.add_at_places.new.bank (formulas_of c.args.bank.now c.args.list.now) (formulas_of c.add_at_places.new.bank c.add_at_places.new.list) c.args.origins.now.items c.add_at_places.new.origins.items
+    (are_instances (view.classes c.args.classes.now) c.args.bank.now c.args.f c.in-Forall.sorts c.in-Forall.body c.deref-in-Forall.result.now (formulas_of c.args.bank.now c.args.list.now) (c.deref-in-Forall.ensures.value ∙ c.in_ok-sorts-in-Forall.ensures.items ∙ c.deref.ensures.value) (rw c.in-Forall.is at c.formula_node.ensures))
+    c.add_at_places.ensures.noted

@@ -1,12 +1,16 @@
 use Rattle.std.proofs.Common.{map, take}
+use Rattle.ss_core.specs.View as view
 use Rattle.ss_logic_ground.specs.Occurring.{with_formulas}
 use Rattle.ss_terms.specs.Forms.{formula_at, IsGrown}
 use Rattle.ss_rules_occurring.specs.Found.{formulas_of, Holds}
-use Rattle.ss_rules_matching.specs.Matches.{tuples_at, instance_there}
+use Rattle.ss_rules_origins.specs.Views.{StillCome}
+use Rattle.ss_rules_matching.specs.Matches.{tuples_at, instance_there, AreInstances}
 use Rattle.ss_rules_matching.proofs.instances.add_instances.Given as goal
 
 abbrev pub invariant-loop-place : goal.invariant-loop-place
 invariant-loop-place l = record {
   grown : IsGrown l.initial.bank l.bank;
   added : Holds l.bank l.list (with_formulas (formulas_of l.initial.bank l.initial.list) (map (instance_there (formula_at l.initial.bank l.whole) (formula_at l.initial.bank l.body)) (tuples_at l.initial.bank (take l.place-index l.places))));
+  noted : AreInstances (view.classes l.classes) (formulas_of l.initial.bank l.initial.list) (formula_at l.initial.bank l.whole) (formula_at l.initial.bank l.body) (tuples_at l.initial.bank l.places) →
+      StillCome (view.classes l.classes) l.initial.bank (formulas_of l.initial.bank l.initial.list) l.initial.origins.items l.bank (formulas_of l.bank l.list) l.origins.items;
 }

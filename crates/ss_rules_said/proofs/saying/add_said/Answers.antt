@@ -16,6 +16,7 @@ loop-one-preserved c = record {
   added = said_next (view.classes c.args.classes.now) c.args.bank.now c.loop-one.bank c.add_one_said.new.bank (formulas_of c.args.bank.now c.args.list.now) c.loop-one.list c.add_one_said.new.list c.args.asked.now c.loop-one.one-index c.one-item.result
       c.loop-one.invariant.grown c.requires.asked c.loop-one-test.true c.loop-one.invariant.added
       (subst (λ x. Holds c.add_one_said.new.bank c.add_one_said.new.list (with_said (formulas_of c.loop-one.bank c.loop-one.list) (said (view.classes c.args.classes.now) (asked_at c.loop-one.bank x)))) c.one-item.is c.in_ok-add_one_said.ensures.added);
+  noted = λ premises goal choices h. c.in_ok-add_one_said.ensures.noted premises goal choices (c.loop-one.invariant.noted premises goal choices h);
 }
 
 pub add_one_said-requires-clause-rule : goal.add_one_said-requires-clause-rule

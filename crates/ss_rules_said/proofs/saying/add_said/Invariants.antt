@@ -5,10 +5,12 @@ use Rattle.ss_logic_ground.specs.Occurring.{with_formulas}
 use Rattle.ss_terms.specs.Forms.{IsGrown}
 use Rattle.ss_rules_asked.specs.Numbers.{asked_in}
 use Rattle.ss_rules_occurring.specs.Found.{formulas_of, Holds}
+use Rattle.ss_rules_origins.specs.Views.{StillCome}
 use Rattle.ss_rules_said.proofs.saying.add_said.Given as goal
 
 abbrev pub invariant-loop-one : goal.invariant-loop-one
 invariant-loop-one l = record {
   grown : IsGrown l.initial.bank l.bank;
   added : Holds l.bank l.list (with_formulas (formulas_of l.initial.bank l.initial.list) (all_said (view.classes l.classes) (asked_in l.initial.bank (take l.one-index l.asked))));
+  noted : StillCome (view.classes l.classes) l.initial.bank (formulas_of l.initial.bank l.initial.list) l.initial.origins.items l.bank (formulas_of l.bank l.list) l.origins.items;
 }

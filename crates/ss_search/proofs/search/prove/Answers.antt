@@ -11,3 +11,7 @@ returns-in-Ok-clause-countered c =
 pub returns-in-Ok-clause-too_many : goal.returns-in-Ok-clause-too_many
 returns-in-Ok-clause-too_many c =
     rw (formulas_at-grown c.args.bank.now c.new.new.bank c.new.ensures c.args.obligation.now.premises.now c.requires.premises, c.new.ensures.same_formulas c.args.obligation.now.goal c.requires.goal) at c.prove.ensures.too_many
+
+pub returns-in-Ok-clause-spent : goal.returns-in-Ok-clause-spent
+returns-in-Ok-clause-spent c =
+    rw (formulas_at-grown c.args.bank.now c.new.new.bank c.new.ensures c.args.obligation.now.premises.now c.requires.premises, c.new.ensures.same_formulas c.args.obligation.now.goal c.requires.goal) at c.prove.ensures.spent

@@ -1,4 +1,4 @@
-use Rattle.ss_search_models.proofs.Told.{told_more}
+use Rattle.ss_search_models.proofs.Tellings.{told_more}
 use Rattle.ss_search_models.proofs.telling.add_told.Goals as goal
 
 pub returns : goal.returns

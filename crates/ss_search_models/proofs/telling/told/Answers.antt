@@ -4,7 +4,7 @@ use Rattle.ss_logic_ground.specs.Occurring.{with_formulas}
 use Rattle.ss_logic_countermodels.specs.Refuting.{told_in}
 use Rattle.ss_terms.specs.Forms.{formulas_at}
 use Rattle.ss_rules_occurring.specs.Found.{Holds}
-use Rattle.ss_search_models.proofs.Told.{tells_itself}
+use Rattle.ss_search_models.proofs.Tellings.{tells_itself}
 use Rattle.ss_search_models.proofs.telling.told.Goals as goal
 
 pub add_all-requires-clause-telling : goal.add_all-requires-clause-telling

@@ -25,7 +25,7 @@ answer_source-requires-clause-input g c = asked_has_input (map string_bytes c.ar
 said : (g : Over) (c : goal.After-drop-asked g) → OfSource (g.F.Files.told c.args.files.now (the_asked g c).file) (SaysOf (the_asked g c) (g.S.Sink.taken c.args.out.now) (g.S.Sink.taken c.answer_source.new.out) c.answer_source.result)
 said g c =
     let a = the_asked g c in
-    Says-source a.steps a.input (g.S.Sink.taken c.args.out.now) (g.S.Sink.taken c.answer_source.new.out) c.answer_source.result a.command (g.F.Files.told c.args.files.now a.file) c.in-Ok.source.items c.in-Ok.ensures.front
+    Says-source a.limits a.steps a.input (g.S.Sink.taken c.args.out.now) (g.S.Sink.taken c.answer_source.new.out) c.answer_source.result a.command (g.F.Files.told c.args.files.now a.file) c.in-Ok.source.items c.in-Ok.ensures.front
     (rw c.deref.ensures.value at c.answer_source.ensures.says)
 
 pub returns-in-Ok-clause-bad_words : goal.returns-in-Ok-clause-bad_words

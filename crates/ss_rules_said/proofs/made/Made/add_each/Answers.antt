@@ -37,6 +37,7 @@ loop-one-preserved c =
       added = said_next cs a.bank.now c.loop-one.bank c.add_one.new.bank (formulas_of a.bank.now a.list.now) c.loop-one.list c.add_one.new.list a.asked.now i one
           c.loop-one.invariant.grown c.requires.asked c.loop-one-test.true c.loop-one.invariant.added
           (subst (λ x. Holds c.add_one.new.bank c.add_one.new.list (with_said (formulas_of c.loop-one.bank c.loop-one.list) (said cs (asked_at c.loop-one.bank x)))) c.one-item.is c.in_ok-found.ensures.added);
+      noted = λ premises goal choices h. c.in_ok-found.ensures.noted premises goal choices (c.loop-one.invariant.noted premises goal choices h);
       count = omega (arith, c.loop-one.invariant.count, ap length pushed, length-append c.loop-one.all.items (c.in_ok-found.found ∷ []));
       numbers = next_number cs c.loop-one.bank c.add_one.new.bank c.add_one.ensures.grown a.asked.now c.loop-one.all.items c.push.new.self.items c.in_ok-found.found i one
           (HasAsked-grown a.bank.now c.loop-one.bank c.loop-one.invariant.grown a.asked.now c.requires.asked) c.loop-one.invariant.count

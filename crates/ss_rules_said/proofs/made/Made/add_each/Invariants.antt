@@ -6,12 +6,14 @@ use Rattle.ss_terms.specs.Forms.{IsGrown}
 use Rattle.ss_rules_asked.specs.Numbers.{asked_in}
 use Rattle.ss_rules_occurring.specs.Found.{formulas_of, Holds}
 use Rattle.ss_rules_said.specs.AreMade.{AreNumbers}
+use Rattle.ss_rules_origins.specs.Views.{StillCome}
 use Rattle.ss_rules_said.proofs.made.Made.add_each.Given as goal
 
 abbrev pub invariant-loop-one : goal.invariant-loop-one
 invariant-loop-one l = record {
   grown : IsGrown l.initial.bank l.bank;
   added : Holds l.bank l.list (with_formulas (formulas_of l.initial.bank l.initial.list) (all_said (view.classes l.classes) (asked_in l.initial.bank (take l.one-index l.asked))));
+  noted : StillCome (view.classes l.classes) l.initial.bank (formulas_of l.initial.bank l.initial.list) l.initial.origins.items l.bank (formulas_of l.bank l.list) l.origins.items;
   count : l.one-index ≡ length l.all.items;
   numbers : AreNumbers (view.classes l.classes) l.bank l.asked l.all.items;
 }

@@ -1,4 +1,4 @@
-use Rattle.ss_search_models.proofs.Told.{nothing_told}
+use Rattle.ss_search_models.proofs.Tellings.{nothing_told}
 use Rattle.ss_search_models.proofs.telling.Telling.new.Goals as goal
 
 pub returns : goal.returns

@@ -1,0 +1,6 @@
+//! Where each formula of a ground form comes from, beside the list of its formulas.
+#![tactic(auto)]
+
+mod origins;
+
+pub use origins::{Origin, Source, add_from};

@@ -1,0 +1,62 @@
+// Origins beside a list.
+
+ghost use Rattle.std.specs.Prelude.{OnOk};
+ghost use Rattle.ss_logic_ground.specs.Occurring.{with_formula};
+ghost use Rattle.ss_terms.specs.Forms.{formula_at, terms_at, HasFormula, HasTerms};
+ghost use Rattle.ss_rules_occurring.specs.Found.{formulas_of, HasFound, Holds};
+ghost use Rattle.ss_rules_origins.specs.Views.{origin_with, HasSource, StillComeWith};
+
+use ss_rules_asked::Rule;
+use ss_rules_occurring::FormulaList;
+use ss_terms::{Bank, FormulaId, TermId};
+use std::alloc::{AllocError, Global};
+
+/// What a formula of a ground form comes from.
+#[derive(Clone, Copy)]
+pub enum Source {
+    /// A premise, by its place.
+    Premise(usize),
+    /// The denied goal.
+    Denied,
+    /// A rule.
+    Rule(Rule),
+    /// A `forall`.
+    Forall(FormulaId),
+}
+
+/// Where a formula of a ground form comes from.
+#[derive(Drop)]
+pub struct Origin {
+    /// What it comes from.
+    pub source: Source,
+    /// The terms of which it is the instance.
+    pub terms: Vec<TermId>,
+}
+
+/// Adds a formula, where it isn't there yet, and then notes where it comes from. An error is want of memory.
+pub fn add_from(
+    alloc: Global,
+    bank: &Bank,
+    list: &mut FormulaList,
+    origins: &mut Vec<Origin>,
+    f: FormulaId,
+    source: Source,
+    terms: &[TermId],
+) -> Result<(), AllocError>
+    requires list { HasFound bank.now list.old }
+    requires formula { HasFormula bank.now f }
+    requires source { HasSource bank.now source }
+    requires terms { HasTerms bank.now terms.now }
+    ensures added { OnOk result (Holds bank.now list.new (with_formula (formulas_of bank.now list.old) (formula_at bank.now f))) }
+    ensures noted { OnOk result (StillComeWith bank.now (formulas_of bank.now list.old) origins.old.items (origin_with bank.now source (terms_at bank.now terms.now)) (formula_at bank.now f) (formulas_of bank.now list.new) origins.new.items) }
+{
+    let before = list.list.len();
+    list.add(bank, f)?;
+    let after = list.list.len();
+    if after == before {
+        return Ok(());
+    }
+    let terms = Vec::from_slice(alloc, terms)?;
+    origins.push(Origin { source, terms })?;
+    Ok(())
+}

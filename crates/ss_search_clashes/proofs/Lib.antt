@@ -1,0 +1,9 @@
+pub mod Keys
+pub mod Numbers
+pub mod Said
+pub mod Equations
+pub mod Entered
+pub mod Opposed
+pub mod Tables
+pub mod Terms
+pub mod Fitting

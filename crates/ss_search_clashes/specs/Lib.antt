@@ -1,0 +1,5 @@
+pub mod Numbered
+pub mod Says
+pub mod Values
+pub mod Tables
+pub mod Found

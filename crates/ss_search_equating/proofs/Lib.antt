@@ -1,0 +1,13 @@
+pub mod Lists
+pub mod Going
+pub mod Legs
+pub mod Ending
+pub mod Marks
+pub mod Sorts
+pub mod Walks
+pub mod Lines
+pub mod Arguments
+pub mod Places
+pub mod Congruent
+pub mod Making
+pub mod Written

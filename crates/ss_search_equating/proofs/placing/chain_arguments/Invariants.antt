@@ -1,0 +1,6 @@
+use Rattle.std.proofs.Common.{[], take}
+use Rattle.ss_search_equating.specs.Placed.{chains, AddsChains}
+use Rattle.ss_search_equating.proofs.placing.chain_arguments.Given as goal
+
+abbrev pub invariant-loop-i : goal.invariant-loop-i
+invariant-loop-i l = AddsChains l.bank (chains l.bank l.joins l.places (take l.i l.xs) (take l.i l.ys)) l.known l.initial.lines.items l.lines.items [] l.equalities.items

@@ -1,0 +1,5 @@
+pub mod Ways
+pub mod Legs
+pub mod Needed
+pub mod Said
+pub mod Placed

@@ -1,0 +1,11 @@
+//! Lines of a derivation that make known what follows by congruence from known equalities: each is on terms that are equal, by the
+//! joins of their classes.
+#![tactic(auto)]
+
+mod ends;
+mod equating;
+mod needed;
+mod placing;
+mod ways;
+
+pub use equating::{Shown, equate, swap};

@@ -1,0 +1,12 @@
+use Rattle.std.proofs.lemmas.Result.{on_ok_weaker}
+use Rattle.ss_terms.specs.Forms.{formula_at}
+use Rattle.ss_search_path.specs.Paths.{known_on}
+use Rattle.ss_search_path.proofs.Making.{denied_makes}
+use Rattle.ss_search_path.proofs.path.Path.denied.Goals as goal
+
+pub returns-clause-goes_on : goal.returns-clause-goes_on
+returns-clause-goes_on c =
+    let b = c.args.bank.now in
+    let known = known_on b c.args.self.now in
+    on_ok_weaker c.fact.result (λ goes cs premises goal is formed. goes cs premises goal
+    (denied_makes cs premises goal known (formula_at b c.args.f) is formed)) c.fact.ensures.goes_on

@@ -1,0 +1,59 @@
+-- What was tried, and what stays open.
+use Rattle.std.proofs.Common.{◌≡◌, ℕ, suc, ◌+◌, ◌-◌, ◌<◌, ◌≤◌, List, [], ◌∷◌, ◌++◌, length, take, get_or, Bool, true, false, not, refl, sym, ◌∙◌, ap, subst, inr, ◌⊎◌, ⊎_elim}
+use Rattle.std.specs.List.{Contains}
+use Rattle.std.proofs.lemmas.Bool.{true≢false}
+use Rattle.std.proofs.lemmas.List.{take_more, take_all, map-append}
+use Rattle.std.proofs.lemmas.List.Elements.{Contains-append_left, Contains-append_cases, Contains-push}
+use Rattle.ss_core.specs.Tree.{ClassTree}
+use Rattle.ss_logic.specs.Formulas.{Formula, neg}
+use Rattle.ss_logic.proofs.Truth.{neg_neg}
+use Rattle.ss_terms.specs.declared.forms.FormulaId.{FormulaId}
+use Rattle.ss_terms.specs.Forms.{Forms, formula_at, formulas_at}
+use Rattle.ss_search_procedure_rules.specs.Closed.{Includes, IsStable, StaysOpen}
+use Rattle.ss_search_procedure_rules.proofs.Lists.{contains_none, contains_split}
+use Rattle.ss_search_procedure_rules.proofs.Open.{open_isn't_closed}
+use Rattle.ss_search_reached.specs.declared.reached.Reached.{Reached}
+use Rattle.ss_search_procedure.specs.declared.setting.Settling.{Settling}
+use Rattle.ss_search_procedure.specs.Choices.{chosen, facts, first_chosen, IsState, GoesOn, IsTried, AreTried}
+
+-- ---- by choices, one after the other
+
+-- what holds of the first formulas and of the next holds of one more
+pub one_more : (b : Forms) (P : Formula → Type 0) (fs : List FormulaId) (i : ℕ) (d : FormulaId) → i < length fs → ((p : Formula) → Contains (formulas_at b (take i fs)) p → P p) → P (formula_at b (get_or fs i d)) →
+    (p : Formula) → Contains (formulas_at b (take (i + 1) fs)) p → P p
+one_more b P fs i d h before here p c = ⊎_elim
+    (λ k. before p k)
+    (λ k. ⊎_elim (λ e. subst P e here) (λ n. absurd (contains_none p n)) (contains_split (formula_at b (get_or fs i d)) [] p k))
+    (Contains-append_cases (formulas_at b (take i fs)) (formula_at b (get_or fs i d) ∷ []) p
+    (subst (λ gs. Contains gs p) (ap (formulas_at b) (take_more fs i d h) ∙ map-append (formula_at b) (take i fs) (get_or fs i d ∷ [])) c))
+
+pub all_of_them : (b : Forms) (P : Formula → Type 0) (fs : List FormulaId) (i : ℕ) → length fs ≤ i → ((p : Formula) → Contains (formulas_at b (take i fs)) p → P p) → (p : Formula) → Contains (formulas_at b fs) p → P p
+all_of_them b P fs i h all p c = all p (subst (λ gs. Contains (formulas_at b gs) p) (sym (take_all i fs h)) c)
+
+-- ---- what was tried
+
+module _ (s : Settling) (cs : List ClassTree) where
+  pub tried : (depth : ℕ) (old new : Reached) (p : Formula) → GoesOn s old new → Includes (facts s new) (facts s old ++ p ∷ []) → StaysOpen cs depth (facts s new) → IsTried cs depth (facts s old) p
+  tried depth old new p g more stays = inr (inr (λ c. open_isn't_closed cs depth (facts s new) stays (p ∷ facts s old) with_it c))
+    where
+      with_it : Includes (facts s new) (p ∷ facts s old)
+      with_it x h = more x (⊎_elim
+          (λ e. subst (Contains (facts s old ++ p ∷ [])) e (Contains-push (facts s old) p))
+          (λ k. Contains-append_left (facts s old) (p ∷ []) x k)
+          (contains_split p (facts s old) x h))
+
+  pub nothing_follows : (depth : ℕ) (r : Reached) → IsStable cs (facts s r) → IsState s r → ((p : Formula) → Contains (chosen s) p → AreTried cs depth (facts s r) p) → StaysOpen cs (suc depth) (facts s r)
+  nothing_follows depth r stable has h = (
+    stable,
+    λ p c. ⊎_elim
+        (λ o. (h p (has.choices p o)).0)
+        (λ o. subst (IsTried cs depth (facts s r)) (neg_neg p) (h (neg p) (has.choices (neg p) o)).1)
+        c,
+  )
+
+  pub none_tried : (depth : ℕ) (known : List Formula) (p : Formula) → Contains (first_chosen s 0) p → AreTried cs depth known p
+  none_tried depth known p c = absurd (contains_none p c)
+
+pub was_open : (b : Bool) → not b ≡ false → b ≡ true
+was_open true e = refl
+was_open false e = absurd (true≢false e)

@@ -1,0 +1,92 @@
+-- Known literals, whole numbers of one class, and sums of them.
+use Rattle.std.proofs.Common.{◌≡◌, ℕ, ◌+◌, ◌<◌, List, [], ◌∷◌, ◌++◌, length, map, filter, take, get_or, Bool, true, false, not, cond, Option, Some, None, sym, ◌∙◌, ap, subst, inl, inr, ◌⊎◌, ⊎_elim}
+use Rattle.std.specs.Prelude.{is_some, IfNone}
+use Rattle.std.specs.List.{Contains}
+use Rattle.std.proofs.lemmas.Bool.{false≢true}
+use Rattle.std.proofs.lemmas.List.{take_more, map-append, append-nil}
+use Rattle.std.proofs.lemmas.List.Elements.{Contains-append_left, Contains-append_right, filter-append}
+use Rattle.ss_core.specs.Tree.{ClassTree}
+use Rattle.ss_logic.specs.Terms.{Term}
+use Rattle.ss_logic.specs.Formulas.{Formula}
+use Rattle.ss_logic_rules.specs.Shapes.{equal}
+use Rattle.ss_linear_rules.specs.Two.{Two}
+use Rattle.ss_logic_ground.specs.Occurring.{terms}
+use Rattle.ss_logic_countermodels.specs.Refuting.{is_whole}
+use Rattle.ss_terms.specs.declared.forms.TermId.{TermId}
+use Rattle.ss_terms.specs.declared.forms.FormulaId.{FormulaId}
+use Rattle.ss_terms.specs.Forms.{Forms, term_at, terms_at, formulas_at, HasTerm, HasTerms}
+use Rattle.ss_equality_rules.specs.Equal.{class_number}
+use Rattle.ss_linear.specs.Contradictions.{equality_at, equalities_at, HasPairs}
+use Rattle.ss_search_clashes.specs.Numbered.{class_of, IsClassing}
+use Rattle.ss_search_procedure_rules.specs.Closed.{basics}
+use Rattle.ss_search_procedure_rules.proofs.Lists.{contains_filter, from_filter, contains_head, contains_cons, map_from, map_to}
+use Rattle.ss_search_reached.specs.Groups.{Pairs, ArePairs, AreOfOneClass, IsWholeIn, AreWholePairs}
+use Rattle.ss_search_reached.specs.Following.{HasNoSum}
+use Rattle.ss_search_reached.proofs.Lists.{has_term}
+
+-- ---- what is kept of a list by a test
+
+-- one more number, and what it stands for
+module _ {I A : Type 0} (at : I → A) (test : A → Bool) (xs : List I) (i : ℕ) (d : I) (h : i < length xs) where
+  next_filtered : filter test (map at (take (i + 1) xs)) ≡ filter test (map at (take i xs)) ++ cond (test (at (get_or xs i d))) (at (get_or xs i d) ∷ []) []
+  next_filtered = ap (λ ys. filter test (map at ys)) (take_more xs i d h) ∙ ap (filter test) (map-append at (take i xs) (get_or xs i d ∷ [])) ∙ filter-append test (map at (take i xs)) (at (get_or xs i d) ∷ [])
+
+  pub filtered_in : (ys zs : List I) → map at ys ≡ filter test (map at (take i xs)) → test (at (get_or xs i d)) ≡ true → zs ≡ ys ++ get_or xs i d ∷ [] → map at zs ≡ filter test (map at (take (i + 1) xs))
+  filtered_in ys zs e t z =
+      ap (map at) z ∙ map-append at ys (get_or xs i d ∷ []) ∙ ap (λ l. l ++ at (get_or xs i d) ∷ []) e
+      ∙ ap (λ b. filter test (map at (take i xs)) ++ cond b (at (get_or xs i d) ∷ []) []) (sym t) ∙ sym next_filtered
+
+  pub filtered_out : (ys : List I) → map at ys ≡ filter test (map at (take i xs)) → test (at (get_or xs i d)) ≡ false → map at ys ≡ filter test (map at (take (i + 1) xs))
+  filtered_out ys e t = e ∙ sym (append-nil (filter test (map at (take i xs)))) ∙ ap (λ b. filter test (map at (take i xs)) ++ cond b (at (get_or xs i d) ∷ []) []) (sym t) ∙ sym next_filtered
+
+pub HasTerms-push : (b : Forms) (ts : List TermId) (t : TermId) → HasTerms b ts → HasTerm b t → HasTerms b (ts ++ t ∷ [])
+HasTerms-push b [] t h at = (at, tt)
+HasTerms-push b (u ∷ ts) t h at = (h.0, HasTerms-push b ts t h.1 at)
+
+-- ---- pairs
+
+pub has_pairs : (b : Forms) (classes : List ℕ) (ts : List TermId) (ps : Pairs) → HasTerms b ts → ArePairs classes ts ps → HasPairs b ps
+has_pairs b classes ts ps h a = all ps (λ p c. let r = a.only p c in (has_term b ts p.0 h r.0, has_term b ts p.1 h r.1))
+  where
+    all : (qs : Pairs) → ((p : TermId × TermId) → Contains qs p → HasTerm b p.0 × HasTerm b p.1) → HasPairs b qs
+    all [] k = tt
+    all (q ∷ qs) k = (k q (contains_head q qs), all qs (λ p c. k p (contains_cons q qs p c)))
+
+pub whole_pairs : (cs : List ClassTree) (b : Forms) (classes : List ℕ) (xs : List Term) (ts : List TermId) (ps : Pairs) → HasTerms b ts → terms_at b ts ≡ filter (is_whole cs) xs → ArePairs classes ts ps → AreWholePairs cs b classes xs ps
+whole_pairs cs b classes xs ts ps h e a = record {
+  all = λ s t c d ws wt.
+      let x = map_from (term_at b) ts s (subst (λ ys. Contains ys s) (sym e) (contains_filter (is_whole cs) xs s c ws)) in
+      let y = map_from (term_at b) ts t (subst (λ ys. Contains ys t) (sym e) (contains_filter (is_whole cs) xs t d wt)) in
+      record { left = x.0; right = y.0; has_left = has_term b ts x.0 h x.1; has_right = has_term b ts y.0 h y.1; left_is = x.2; right_is = y.2; pair = a.all x.0 y.0 x.1 y.1 };
+  only = λ p c. let r = a.only p c in (whole_in p.0 r.0, whole_in p.1 r.1);
+}
+  where
+    whole_in : (t : TermId) → Contains ts t → IsWholeIn cs b xs t
+    whole_in t c = let r = from_filter (is_whole cs) xs (term_at b t) (subst (λ ys. Contains ys (term_at b t)) e (map_to (term_at b) ts t c)) in record { within = r.0; whole = r.1 }
+
+pub of_one_class : (classes : List ℕ) (ts : List TermId) (ps : Pairs) → ArePairs classes ts ps → AreOfOneClass classes ps
+of_one_class classes ts ps a = record { one_class = λ p c. (a.only p c).2 }
+
+one_term : (b : Forms) (x y : TermId) → x.0 ≡ y.0 → term_at b x ≡ term_at b y
+one_term b x y e = ap (λ (n : ℕ). let t : TermId = record { 0 = n } in term_at b t) e
+
+pub no_sum : (cs : List ClassTree) (b : Forms) (classes : List ℕ) (known : List Formula) (bs : List FormulaId) (ps : Pairs) → IsClassing b classes (class_of b classes) → formulas_at b bs ≡ basics known →
+    AreWholePairs cs b classes (terms (formulas_at b bs)) ps → (Two cs (formulas_at b bs ++ equalities_at b ps) → ⊥) → HasNoSum cs (class_of b classes) (basics known)
+no_sum cs b classes known bs ps classing e pairs none = record {
+  facts = formulas_at b bs ++ equalities_at b ps;
+  literals = λ f c. Contains-append_left (formulas_at b bs) (equalities_at b ps) f (subst (λ fs. Contains fs f) (sym e) c);
+  equalities = λ s t c d ws wt same.
+      let p = pairs.all s t (subst (λ fs. Contains (terms fs) s) (sym e) c) (subst (λ fs. Contains (terms fs) t) (sym e) d) ws wt in
+      let one : class_number classes p.left ≡ class_number classes p.right =
+      sym (classing.at p.left p.has_left) ∙ ap (class_of b classes) p.left_is ∙ same ∙ ap (class_of b classes) (sym p.right_is) ∙ classing.at p.right p.has_right in
+      ⊎_elim
+      (λ i. inl (sym p.left_is ∙ one_term b p.left p.right i ∙ p.right_is))
+      (λ k. inr (Contains-append_right (formulas_at b bs) (equalities_at b ps) (equal s t)
+      (subst (Contains (equalities_at b ps)) (ap (λ x. equal x (term_at b p.right)) p.left_is ∙ ap (equal s) p.right_is) (map_to (equality_at b) ps (p.left, p.right) k))))
+      (p.pair one);
+  none = none;
+}
+
+pub none_found : {X : Type 0} (o : Option X) (none : Bool) (P : Type 0) → is_some o ≡ not none → none ≡ true → IfNone o P → P
+none_found None none P e t h = h
+none_found (Some x) none P e t h = absurd (false≢true (sym (e ∙ ap not t)))

@@ -1,0 +1,5 @@
+pub mod Guarding
+pub mod Turning
+pub mod Learning
+pub mod Spread
+pub mod Resolving

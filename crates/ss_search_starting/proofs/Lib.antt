@@ -1,0 +1,5 @@
+pub mod Accepting
+pub mod Sources
+pub mod Saying
+pub mod Begins
+pub mod Told

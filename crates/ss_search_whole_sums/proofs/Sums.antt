@@ -1,0 +1,87 @@
+-- Pairs of whole numbers of one class, and what closes a case with sums of them.
+use Rattle.std.proofs.Common.{◌≡◌, ℕ, zero, suc, ◌<◌, List, [], ◌∷◌, ◌++◌, length, true, Option, Some, None, sym, ◌∙◌, subst}
+use Rattle.std.specs.Prelude.{slice_get, IfSome, IfNone}
+use Rattle.std.specs.List.{Contains}
+use Rattle.ss_core.specs.Tree.{ClassTree}
+use Rattle.ss_logic.specs.declared.Sort.TheVariants as sort
+use Rattle.ss_logic.specs.Terms.{sort_of, is_well_sorted}
+use Rattle.ss_logic.specs.Formulas.{Formula}
+use Rattle.ss_logic.proofs.Truth.{equal_sorts}
+use Rattle.ss_logic_means.specs.Sorts.{AreWellFormed}
+use Rattle.ss_logic_means.proofs.Sorting.{more_formed}
+use Rattle.ss_logic_ground.specs.Occurring.{terms}
+use Rattle.ss_logic_origins.proofs.Formed.{each_formed, terms_sorted}
+use Rattle.ss_linear_rules.specs.Two.{Two}
+use Rattle.ss_terms.specs.declared.forms.TermId.{TermId}
+use Rattle.ss_terms.specs.declared.forms.FormulaId.{FormulaId}
+use Rattle.ss_terms.specs.Forms.{Forms, term_at, formulas_at, HasTerm}
+use Rattle.ss_linear.specs.Contradictions.{equalities_at, HasPairs}
+use Rattle.ss_deriv.specs.declared.line.Line.{Line}
+use Rattle.ss_equality_rules.specs.declared.Merge.{Merge}
+use Rattle.ss_equality_rules.specs.Equal.{Standing, AreFormsOf, AreClassesOf}
+use Rattle.ss_search_equating.proofs.Sorts.{formed_equal}
+use Rattle.ss_search_contradicting.specs.Contradicting.{ArePairsEqual, CloseFacts}
+use Rattle.ss_search_clashes.specs.Numbered.{class_of, IsClassing}
+use Rattle.ss_search_procedure_rules.specs.Closed.{basics}
+use Rattle.ss_search_procedure_rules.proofs.Lists.{contains_head, contains_cons}
+use Rattle.ss_search_reached.specs.Groups.{Pairs, AreOfOneClass, IsWholeIn, AreWholePairs}
+use Rattle.ss_search_reached.specs.Following.{HasNoSum}
+use Rattle.ss_search_reached.proofs.Lists.{contains_at}
+use Rattle.ss_search_reached.proofs.Sums.{no_sum}
+use Rattle.ss_search_whole_sums.specs.WholeSums.{basic_ones, basic_places, CloseSums}
+use Rattle.ss_search_whole_sums.proofs.Basics.{ones_are, ones_at, ones_formed}
+
+-- ---- pairs
+
+-- the terms of each pair are equal by the merges
+pub pairs_equal : (b : Forms) (c : Standing) (classes : List ℕ) (ps : Pairs) → AreFormsOf b c.terms → AreClassesOf c.terms c.merges classes → HasPairs b ps → AreOfOneClass classes ps → ArePairsEqual c ps
+pairs_equal b c classes ps forms are has one = record {
+  equal = λ i p e.
+      let h = pair_at ps i p has e in
+      (are p.0.0 p.1.0 (in_terms p.0 h.0) (in_terms p.1 h.1)).0 (one.one_class p (contains_at ps i p e));
+}
+  where
+    in_terms : (t : TermId) → HasTerm b t → t.0 < length c.terms
+    in_terms t h = subst (λ (n : ℕ). t.0 < n) (sym forms.all) h
+
+    pair_at : (qs : Pairs) (i : ℕ) (p : TermId × TermId) → HasPairs b qs → slice_get qs i ≡ Some p → HasTerm b p.0 × HasTerm b p.1
+    pair_at [] i p h e = cc
+    pair_at (q ∷ qs) zero p h e = let same : q ≡ p = cc in subst (λ (r : TermId × TermId). HasTerm b r.0 × HasTerm b r.1) same h.0
+    pair_at (q ∷ qs) (suc i) p h e = pair_at qs i p h.1 e
+
+module _ (cs : List ClassTree) (b : Forms) (fs : List Formula) (formed : AreWellFormed cs [] fs) where
+  whole_sorted : (t : TermId) → IsWholeIn cs b (terms fs) t → (sort_of cs [] (term_at b t) ≡ sort.Whole) × (is_well_sorted cs [] (term_at b t) ≡ true)
+  whole_sorted t h = (equal_sorts (sort_of cs [] (term_at b t)) sort.Whole h.whole, terms_sorted cs fs (each_formed cs [] fs formed) (term_at b t) h.within)
+
+  pub pairs_formed : (ps : Pairs) → ((p : TermId × TermId) → Contains ps p → IsWholeIn cs b (terms fs) p.0 × IsWholeIn cs b (terms fs) p.1) → AreWellFormed cs [] (equalities_at b ps)
+  pairs_formed [] only = tt
+  pairs_formed (p ∷ ps) only =
+      let r = only p (contains_head p ps) in
+      let x = whole_sorted p.0 r.0 in
+      let y = whole_sorted p.1 r.1 in
+      (formed_equal cs (term_at b p.0) (term_at b p.1) (x.0 ∙ sym y.0) x.1 y.1, pairs_formed ps (λ q c. only q (contains_cons p ps q c)))
+
+-- ---- what closes a case
+
+pub closes_shown : (cs : List ClassTree) (b : Forms) (ms : List Merge) (count : ℕ) (fs : List FormulaId) (places : List ℕ) (classes : List ℕ) (ps : Pairs) (lines : List Line) → length places ≡ length fs →
+    AreWholePairs cs b classes (terms (formulas_at b (basic_ones b fs))) ps → CloseFacts cs b ms count (basic_ones b fs) (basic_places b fs places) ps lines → CloseSums cs b ms count fs places lines
+closes_shown cs b ms count fs places classes ps lines l pairs close = record {
+  closes = λ premises goal known are shown.
+      let formed = ones_formed b cs known fs places l shown in
+      close.closes premises goal known are (ones_at b cs known fs places l shown)
+      (more_formed cs [] (formulas_at b (basic_ones b fs)) (equalities_at b ps) formed (pairs_formed cs b (formulas_at b (basic_ones b fs)) formed ps pairs.only));
+}
+
+pub has_none : (cs : List ClassTree) (b : Forms) (fs : List FormulaId) (classes : List ℕ) (ps : Pairs) → IsClassing b classes (class_of b classes) →
+    AreWholePairs cs b classes (terms (formulas_at b (basic_ones b fs))) ps → (Two cs (formulas_at b (basic_ones b fs) ++ equalities_at b ps) → ⊥) → HasNoSum cs (class_of b classes) (basics (formulas_at b fs))
+has_none cs b fs classes ps classing pairs none = no_sum cs b classes (formulas_at b fs) (basic_ones b fs) ps classing (ones_are b fs) pairs none
+
+-- ---- answers
+
+pub none_then : {X : Type 0} (o : Option X) (P Q : Type 0) → (P → Q) → IfNone o P → IfNone o Q
+none_then None P Q f h = f h
+none_then (Some x) P Q f h = h
+
+pub some_then : {X : Type 0} (o : Option X) (P Q : X → Type 0) → ((x : X) → P x → Q x) → IfSome o P → IfSome o Q
+some_then None P Q f h = h
+some_then (Some x) P Q f h = f x h

@@ -1,0 +1,94 @@
+// Sums of known literals, and of equalities of whole numbers of one class.
+
+ghost use Rattle.std.specs.Prelude.{◌≡◌, ◌++◌, ◌∷◌, [], List, length, if◌then◌else◌, IfOk, IfSome, IfNone, OnOk};
+ghost use Rattle.ss_core.specs.Tree.{ClassTree};
+ghost use Rattle.ss_terms.specs.Forms.{formula_at, formulas_at, HasFormula, HasFormulas, IsBankOf};
+ghost use Rattle.ss_equality_rules.specs.Equal.{AreFormsOf, AreClassesOf};
+ghost use Rattle.ss_search_clashes.specs.Numbered.{class_of};
+ghost use Rattle.ss_search_procedure_rules.specs.Closed as closed;
+ghost use Rattle.ss_search_reached.specs.Following.{HasNoSum};
+ghost use Rattle.ss_search_whole_sums.specs.WholeSums.{basic_ones, basic_places, CloseSums};
+
+use ss_deriv::Line;
+use ss_equality::Congruence;
+use ss_search_clashes::classes_are_of_terms;
+use ss_search_contradicting::close_contradiction;
+use ss_search_reached::{is_basic, whole_pairs};
+use ss_terms::{Bank, FormulaId};
+use std::alloc::{AllocError, Global};
+
+// Literals and quantified formulas, and the place of each.
+#[derive(Drop)]
+struct Placed {
+    formulas: Vec<FormulaId>,
+    places: Vec<usize>,
+}
+
+// One more formula, where it is a literal or quantified.
+fn add(bank: &Bank, basics: &mut Placed, f: FormulaId, place: usize) -> Result<(), AllocError>
+    requires { HasFormula bank.now f }
+    ensures formulas { OnOk result (basics.new.formulas.items ≡ basics.old.formulas.items ++ (if closed.is_basic (formula_at bank.now f) then f ∷ [] else [])) }
+    ensures places { OnOk result (basics.new.places.items ≡ basics.old.places.items ++ (if closed.is_basic (formula_at bank.now f) then place ∷ [] else [])) }
+{
+    if !is_basic(bank, f) {
+        return Ok(());
+    }
+    basics.formulas.push(f)?;
+    basics.places.push(place)?;
+    Ok(())
+}
+
+// The literals and quantified formulas among formulas, with their places.
+fn basics(
+    alloc: Global,
+    bank: &Bank,
+    known: &[FormulaId],
+    places: &[usize],
+) -> Result<Placed, AllocError>
+    requires known { HasFormulas bank.now known.now }
+    requires long { length places.now ≡ length known.now }
+    ensures formulas { IfOk result (λ r. r.formulas.items ≡ basic_ones bank.now known.now) }
+    ensures places { IfOk result (λ r. r.places.items ≡ basic_places bank.now known.now places.now) }
+{
+    let mut basics = Placed {
+        formulas: Vec::new(alloc),
+        places: Vec::new(alloc),
+    };
+    for i in 0..known.len() {
+        add(bank, &mut basics, known[i], places[i])?;
+    }
+    Ok(basics)
+}
+
+/// Lines that close a case in which known literals and equalities of whole numbers of one class contradict each other by sums; none only where
+/// no sum of one or two of them, or of differences, does. `places` has a place for each known formula, `count` is how many facts there are. An
+/// error is want of memory.
+pub fn close_whole_sums(
+    alloc: Global,
+    bank: &Bank,
+    congruence: &Congruence,
+    classes: &[usize],
+    count: usize,
+    known: &[FormulaId],
+    places: &[usize],
+) -> Result<Option<Vec<Line>>, AllocError>
+    requires known { HasFormulas bank.now known.now }
+    requires long { length places.now ≡ length known.now }
+    requires forms { AreFormsOf bank.now congruence.now.terms }
+    requires classes { AreClassesOf congruence.now.terms congruence.now.merges classes.now }
+    ensures none { (cs : List ClassTree) → IsBankOf cs bank.now → IfOk result (λ o. IfNone o (HasNoSum cs (class_of bank.now classes.now) (closed.basics (formulas_at bank.now known.now)))) }
+    ensures some { (cs : List ClassTree) → IsBankOf cs bank.now → IfOk result (λ o. IfSome o (λ v. CloseSums cs bank.now congruence.now.merges count known.now places.now v.items)) }
+{
+    classes_are_of_terms(bank);
+    let basics = basics(alloc, bank, known, places)?;
+    let pairs = whole_pairs(alloc, bank, classes, &basics.formulas)?;
+    close_contradiction(
+        alloc,
+        bank,
+        congruence,
+        count,
+        &basics.formulas,
+        &basics.places,
+        &pairs,
+    )
+}

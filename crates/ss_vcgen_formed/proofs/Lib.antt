@@ -1,0 +1,12 @@
+pub mod Kept
+pub mod Contracts
+pub mod Steps
+pub mod Values
+pub mod Changes
+pub mod Calls
+pub mod Returns
+pub mod Joins
+pub mod Loops
+pub mod Statements
+pub mod Entries
+pub mod Programs
