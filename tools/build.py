@@ -20,8 +20,8 @@ AT_A_TIME = 4
 # The status where the program can't be built, or a run before any proof can't be had.
 NOT_BUILT = 20
 # What the first build took where it was last measured.
-FIRST_BUILD = "some 45 minutes on four processors"
-UNPROVED = "about two minutes"
+FIRST_BUILD = "some 360 processor minutes, an hour and a half on four processors"
+UNPROVED = "about 80 seconds"
 
 
 def say(text):
