@@ -7,8 +7,8 @@ use Rattle.ss_terms.specs.Forms.{Forms, TermShape, AppShape, term_of, term_at, T
 use Rattle.ss_terms.specs.Bank.{number}
 use Rattle.ss_equality_rules.specs.declared.Merge.{Merge}
 
--- The least congruence, over terms of these forms, that holds these merges: reflexive, symmetric, transitive, and closed under
--- one function at arguments that are equal one by one.
+-- The least congruence, over terms of these forms, that holds these merges. It is reflexive, symmetric and transitive, and closed under one function
+-- at arguments that are equal one by one.
 pub data IsEqual (ts : List TermShape) (ms : List Merge) : ℕ → ℕ → Type 0 where
   merged : (k : ℕ) (m : Merge) → slice_get ms k ≡ Some m → IsEqual ts ms m.left.0 m.right.0
   itself : (x : ℕ) → IsEqual ts ms x x

@@ -27,8 +27,8 @@ pub struct Pending {
     pub why: Option<usize>,
 }
 
-/// One class gets the name of another: a term of each, why the two are equal, and how many users and what weight the class
-/// had that keeps its name.
+/// One class gets the name of another. It has a term of each, why these are equal, and how many users and what weight the class had that keeps its
+/// name.
 #[derive(Clone, Copy, Drop)]
 pub struct Join {
     pub from: usize,

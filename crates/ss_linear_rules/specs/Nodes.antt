@@ -61,7 +61,7 @@ abbrev pub origins_at : List (ℕ × ℤ) → List ℕ → List (ℕ × ℤ)
 origins_at os [] = []
 origins_at os (k ∷ ks) = slice_index_or os k no_origin ∷ origins_at os ks
 
--- the number of a term, where nodes have these labels: that of the first node less that of its own; a term without a node has none
+-- The number of a term, by the labels of nodes: that of the first less that of its own. A term without a node has no label, which counts as 0.
 abbrev pub number_of : List Term → List ℤ → Term → ℤ
 number_of xs ls t = label ls 0 -ℤ label ls (suc (place xs t))
 

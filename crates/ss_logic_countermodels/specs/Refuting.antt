@@ -131,7 +131,7 @@ abbrev pub place_among : {X : Type 0} → (X → Bool) → List X → ℕ
 place_among is [] = 0
 place_among is (x ∷ xs) = if is x then 0 else suc (place_among is xs)
 
--- the model with these classes of the terms of a list and these truth values of what is told in it, each by first occurrence
+-- The model with these classes of the terms of a list and these truth values of what is told in it. Both are by first occurrence.
 abbrev pub model_of : List Formula → List ℕ → List Bool → Model
 model_of fs classes truths = record {
   class = λ t. slice_index_or classes (place_among (same_term t) (terms fs)) 0;

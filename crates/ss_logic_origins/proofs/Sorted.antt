@@ -1,4 +1,4 @@
--- Where a trigger of a well formed `forall` matches a well sorted term or a well formed atom, what stands for the bound names has their sorts.
+-- A trigger of a well formed `forall` matches a well sorted term or a well formed atom. Then what stands for the bound names has their sorts.
 use Rattle.std.proofs.Common.{◌≡◌, ℕ, zero, suc, ◌<◌, List, [], ◌∷◌, ◌++◌, length, true, false, not, ◌&&◌, Option, Some, None, refl, sym, ◌∙◌, ap, subst, ⊎_elim, arith}
 use Rattle.std.specs.Prelude.{replicate, option_and_then, if◌then◌else◌}
 use Rattle.std.specs.List.{list_any}

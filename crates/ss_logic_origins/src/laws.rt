@@ -7,7 +7,7 @@ ghost use Rattle.ss_logic_means.specs.Scenes.{AreInvariants};
 ghost use Rattle.ss_logic_means.specs.Sorts.{AreWellFormed};
 ghost use Rattle.ss_logic_origins.specs.Origins.{Choice, Origin, AreAccepted, AreOrigins};
 
-/// Where the premises and the goal are well formed, and a derivation may make the choices, each formula that comes from them is well formed.
+/// Where premises and goal are well formed, and a derivation may make the choices, each formula that comes from them is well formed.
 pub fn what_comes_from_well_formed_formulas_is_well_formed()
     ensures { (cs : List ClassTree) → AreInvariants cs → (premises : List Formula) (goal : Formula) → AreWellFormed cs [] (goal ∷ premises) → (choices : List Choice) → AreAccepted cs premises goal choices → (fs : List Formula) (origins : List Origin) → AreOrigins cs premises goal choices fs origins → AreWellFormed cs [] fs }
 {}

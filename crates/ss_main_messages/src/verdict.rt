@@ -63,7 +63,7 @@ fn unproved_message(
     message(alloc, file, source, unproved.place, error.as_str())
 }
 
-// Adds what a model gives to the locals, where it gives them something.
+// Adds what a model gives to locals and fields, where it gives them something.
 fn push_values(text: &mut String, values: Option<&String>) -> Result<(), AllocError> {
     match values {
         Some(values) if !values.is_empty() => {
@@ -100,7 +100,7 @@ fn with_values(
     Ok(text)
 }
 
-/// The messages of a verdict, one for each of its lines, with the values that the models of the verdict give to locals. The limits are those of
+/// The messages of a verdict, one for each of its lines, with the values that its models give to locals and fields. The limits are those of
 /// the verdict.
 pub fn verdict_messages(
     alloc: Global,

@@ -1,4 +1,4 @@
-//! The values that models give to the locals of a program, as texts for a person.
+//! The values that models give to the locals and fields of a program, as texts for a person.
 #![tactic(auto)]
 
 mod texts;

@@ -1,4 +1,4 @@
-// Values of locals in models.
+// Values of locals and of fields in models.
 
 ghost use Rattle.std.specs.Prelude.{OnOk, IfOk, length};
 ghost use Rattle.ss_core.specs.View as view;
@@ -7,15 +7,15 @@ ghost use Rattle.ss_terms.specs.Forms.{HasFormulas, IsBankOf, IsGrown};
 ghost use Rattle.ss_vcgen_builder.specs.Builder.{IsPlaced};
 ghost use Rattle.ss_vcgen.specs.Built.{IsWithin};
 
-use ss_core::{Body, Core};
-use ss_report_values::{Reading, values_text};
+use ss_core::Core;
+use ss_report_values::{Position, Reading, values_text};
 use ss_rules::{GroundStop, ground};
 use ss_rules_occurring::{atoms, terms};
 use ss_search::Countered;
-use ss_terms::{Bank, FormulaId, TermId};
+use ss_terms::{Bank, FormulaId};
 use ss_top::read_program;
 use ss_top_words::Limits;
-use ss_vcgen::{Listed, Obligations, Positions, locate};
+use ss_vcgen::{Listed, Located, Obligations, Positions, locate};
 use std::alloc::{AllocError, Global};
 
 // How many obligations have their values told.
@@ -27,10 +27,10 @@ fn values_of(
     bank: &Bank,
     formulas: &[FormulaId],
     classes: &[usize],
-    body: &Body,
-    locals: &[Option<TermId>],
+    position: &Position<'_>,
 ) -> Result<String, AllocError>
-    requires { HasFormulas bank.now formulas.now }
+    requires formulas { HasFormulas bank.now formulas.now }
+    requires limits { IsWithinLimits (view.classes position.now.core.now.classes) }
 {
     let atoms = atoms(alloc, bank, formulas)?;
     let terms = terms(alloc, bank, &atoms.list)?;
@@ -38,7 +38,7 @@ fn values_of(
         terms: &terms.list,
         classes,
     };
-    values_text(alloc, bank, &reading, body, locals)
+    values_text(alloc, bank, &reading, position)
 }
 
 // The values in a model that refutes the ground form of an obligation.
@@ -49,7 +49,7 @@ fn text_of(
     core: &Core,
     listed: &Listed,
     classes: &[usize],
-    locals: &[Option<TermId>],
+    located: &Located,
     limits: Limits,
 ) -> Result<String, AllocError>
     requires bank { IsBankOf (view.classes core.now.classes) bank.old }
@@ -61,6 +61,12 @@ fn text_of(
     let Some(body) = core.bodies.get(listed.body.0 as usize) else {
         return Ok(String::new(alloc));
     };
+    let position = Position {
+        core,
+        body,
+        locals: &located.locals,
+        store: located.store,
+    };
     let obligation = listed.obligation(trail);
     let Limits {
         rounds,
@@ -68,7 +74,7 @@ fn text_of(
         ..
     } = limits;
     match ground(alloc, bank, core, &obligation, rounds, instances) {
-        Ok(formulas) => values_of(alloc, bank, &formulas, classes, body, locals),
+        Ok(formulas) => values_of(alloc, bank, &formulas, classes, &position),
         Err(GroundStop::TooMany { .. }) => Ok(String::new(alloc)),
         Err(GroundStop::Memory) => Err(AllocError),
     }
@@ -91,7 +97,7 @@ fn text_at(
     obligations: &mut Obligations,
     core: &Core,
     one: &Countered,
-    locals: &[Option<TermId>],
+    located: &Located,
     limits: Limits,
 ) -> Result<String, AllocError>
     requires bank { IsBankOf (view.classes core.now.classes) obligations.old.bank }
@@ -111,7 +117,7 @@ fn text_at(
         core,
         listed,
         &one.model.classes,
-        locals,
+        located,
         limits,
     )
 }
@@ -128,21 +134,21 @@ fn texts_of(
     let numbers = told_numbers(alloc, countered)?;
     let Positions {
         mut obligations,
-        locals,
+        located,
     } = locate(alloc, core, numbers)?;
     let mut texts = Vec::new(alloc);
-    for place in 0..locals.len() {
+    for place in 0..located.len() {
         if let Some(one) = countered.get(place) {
-            let text = text_at(alloc, &mut obligations, core, one, &locals[place], limits)?;
+            let text = text_at(alloc, &mut obligations, core, one, &located[place], limits)?;
             texts.push(text)?;
         }
     }
     Ok(texts)
 }
 
-/// The values that the models give to the locals of the program of a source, as `x = 3, b = True`: a text for each of the first twenty
-/// obligations that a model refutes, in their order. It is empty where no local has a value there. The limits are those of the verdict. An
-/// error is want of memory.
+/// The values that the models give to the locals and fields of the program of a source, as `x = 3, this.n = 5`. There is a text for each of the first
+/// twenty obligations that a model refutes, in their order. It is empty where none has a value there. The limits are those of the verdict.
+/// An error is want of memory.
 pub fn model_texts(
     alloc: Global,
     source: &[u8],

@@ -13,7 +13,7 @@ use std::alloc::{AllocError, Global};
 pub enum Status {
     /// The command did its work: the program was verified, and where it was run, its run is done.
     Ended,
-    /// A model refutes the ground form of each of the first obligations, of which there is one at least; for the second a budget wasn't enough.
+    /// A model refutes the ground form of each of the first obligations, and there is one at least. For the second a budget wasn't enough.
     Unproved {
         countered: Vec<Countered>,
         undecided: Vec<Undecided>,

@@ -1,12 +1,18 @@
--- What stands in a class, and where a term stands.
-use Rattle.std.proofs.Common.{◌≡◌, ℕ, zero, suc, ◌==◌, ◌+◌, ◌<◌, ◌≤◌, List, [], ◌∷◌, length, drop, get_or, Bool, true, false, Option, Some, None, refl, sym, ◌∙◌, ap, arith, if◌then◌else◌}
-use Rattle.std.proofs.lemmas.List.{drop_more}
+-- Literals of classes, and places of terms, of those from a place on.
+use Rattle.std.proofs.Common.{◌≡◌, ℕ, suc, ◌==◌, ◌+◌, ◌<◌, ◌≤◌, List, [], ◌∷◌, length, drop, get_or, Bool, true, false, cond, Option, Some, None, refl, sym, ◌∙◌, ap, zero-add, arith, if◌then◌else◌}
+use Rattle.std.specs.Prelude.{nat_eq, unwrap_or}
+use Rattle.std.proofs.lemmas.Bool.{eqb-true, eqb-false, eq-eqb, ne_eqb}
+use Rattle.std.proofs.lemmas.List.{drop_more, drop_all}
+use Rattle.indexmap.specs.IndexMap.{get}
 use Rattle.ss_logic.specs.Terms.{Symbol, Number, Fixed, Null, ClassName, Constant, Add, Subtract, Multiply, Quotient, Remainder, Field, Element, Length, TypeOf, Level, Owner, Pair, Next, Set, Put, Unpack, Pack, Capture, Join, New, NewArray, MakeReady, Term, App, Terms, term_then, terms_from}
 use Rattle.ss_logic.specs.Equal.{same_term}
 use Rattle.ss_logic_countermodels.specs.Refuting.{place_among}
 use Rattle.ss_terms.specs.declared.forms.TermId.{TermId}
-use Rattle.ss_terms.specs.Forms.{Forms, term_at, terms_at}
+use Rattle.ss_terms.specs.Forms.{Forms, term_at, terms_at, HasTerm}
+use Rattle.ss_terms.specs.Apart.{AreApart}
 use Rattle.ss_report_values.specs.declared.literals.Value.{Value}
+use Rattle.ss_report_values.specs.declared.index.Places.{Places}
+use Rattle.ss_report_values.specs.Index.{ArePlaces}
 use Rattle.ss_report_values.specs.Literals.{value_of, value_or, value_where, value_in}
 
 applied : (f : Symbol) (t : Term) (ts : Terms) → None ≡ value_of (App f (term_then t ts))
@@ -42,6 +48,8 @@ pub no_value : (b : Forms) (f : Symbol) (ts : List TermId) → 1 ≤ length ts �
 no_value b f [] h = absurd (omega arith)
 no_value b f (t ∷ ts) h = applied f (term_at b t) (terms_from (terms_at b ts))
 
+-- ---- the first literal of a class
+
 module _ (b : Forms) (n : ℕ) where
   abbrev From : ℕ → List TermId → List ℕ → Option Value
   From i ts ns = value_in (terms_at b (drop i ts)) (drop i ns) n
@@ -50,36 +58,40 @@ module _ (b : Forms) (n : ℕ) where
       From i ts ns ≡ value_or (value_where (get_or ns i 0 == n) (term_at b (get_or ts i d))) (From (i + 1) ts ns)
   opened ts ns i d h k = ap (λ xs. value_in (terms_at b xs) (drop i ns) n) (drop_more ts i d h) ∙ ap (λ ks. value_in (term_at b (get_or ts i d) ∷ terms_at b (drop (i + 1) ts)) ks n) (drop_more ns i 0 k)
 
-  -- a literal in the class is found, and else the next one counts
-  pub value_here : (ts : List TermId) (ns : List ℕ) (i : ℕ) (d : TermId) (v : Value) → i < length ts → i < length ns → Some v ≡ value_where (get_or ns i 0 == n) (term_at b (get_or ts i d)) → Some v ≡ From i ts ns
-  value_here ts ns i d v h k e = sym (opened ts ns i d h k ∙ ap (λ o. value_or o (From (i + 1) ts ns)) (sym e))
+  -- a literal at the place counts for its class, and else the next one does
+  pub value_put : (ts : List TermId) (ns : List ℕ) (i : ℕ) (d : TermId) (v : Value) (o : Option Value) → i < length ts → i < length ns → Some v ≡ value_of (term_at b (get_or ts i d)) → o ≡ cond (get_or ns i 0 == n) (Some v) (From (i + 1) ts ns) → o ≡ From i ts ns
+  value_put ts ns i d v o h k is e = e ∙ by (get_or ns i 0 == n) ∙ sym (opened ts ns i d h k)
+    where
+      by : (x : Bool) → cond x (Some v) (From (i + 1) ts ns) ≡ value_or (value_where x (term_at b (get_or ts i d))) (From (i + 1) ts ns)
+      by true = ap (λ w. value_or w (From (i + 1) ts ns)) is
+      by false = refl
 
-  pub none_here : (ts : List TermId) (ns : List ℕ) (i : ℕ) (d : TermId) → i < length ts → i < length ns → None ≡ value_where (get_or ns i 0 == n) (term_at b (get_or ts i d)) → From i ts ns ≡ From (i + 1) ts ns
-  none_here ts ns i d h k e = opened ts ns i d h k ∙ ap (λ o. value_or o (From (i + 1) ts ns)) (sym e)
-
-  no_terms_left : (ts : List TermId) (i : ℕ) → length ts ≤ i → drop i ts ≡ []
-  no_terms_left [] zero h = refl
-  no_terms_left [] (suc i) h = refl
-  no_terms_left (t ∷ ts) zero h = absurd (omega arith)
-  no_terms_left (t ∷ ts) (suc i) h = no_terms_left ts i (omega arith)
-
-  no_classes_left : (ns : List ℕ) (i : ℕ) → length ns ≤ i → drop i ns ≡ []
-  no_classes_left [] zero h = refl
-  no_classes_left [] (suc i) h = refl
-  no_classes_left (k ∷ ns) zero h = absurd (omega arith)
-  no_classes_left (k ∷ ns) (suc i) h = no_classes_left ns i (omega arith)
+  pub none_put : (ts : List TermId) (ns : List ℕ) (i : ℕ) (d : TermId) → i < length ts → i < length ns → None ≡ value_of (term_at b (get_or ts i d)) → From (i + 1) ts ns ≡ From i ts ns
+  none_put ts ns i d h k is = by (get_or ns i 0 == n) ∙ sym (opened ts ns i d h k)
+    where
+      by : (x : Bool) → From (i + 1) ts ns ≡ value_or (value_where x (term_at b (get_or ts i d))) (From (i + 1) ts ns)
+      by true = ap (λ w. value_or w (From (i + 1) ts ns)) is
+      by false = refl
 
   no_class : (ts : List Term) → None ≡ value_in ts [] n
   no_class [] = refl
   no_class (t ∷ ts) = refl
 
-  pub none_left : (ts : List TermId) (ns : List ℕ) (i : ℕ) → length ts ≤ i → None ≡ From i ts ns
-  none_left ts ns i h = sym (ap (λ xs. value_in (terms_at b xs) (drop i ns) n) (no_terms_left ts i h))
+  -- from the end on there is none
+  pub none_at_end : (ts : List TermId) (ns : List ℕ) (i : ℕ) → length ts ≤ i → None ≡ From i ts ns
+  none_at_end ts ns i h = sym (ap (λ xs. value_in (terms_at b xs) (drop i ns) n) (drop_all i ts h))
 
-  pub none_left_there : (ts : List TermId) (ns : List ℕ) (i : ℕ) → length ns ≤ i → None ≡ From i ts ns
-  none_left_there ts ns i h = no_class (terms_at b (drop i ts)) ∙ sym (ap (λ ks. value_in (terms_at b (drop i ts)) ks n) (no_classes_left ns i h))
+  pub none_past : (ts : List TermId) (ns : List ℕ) (i : ℕ) → length ns ≤ i → None ≡ From i ts ns
+  none_past ts ns i h = no_class (terms_at b (drop i ts)) ∙ sym (ap (λ ks. value_in (terms_at b (drop i ts)) ks n) (drop_all i ns h))
 
 -- ---- places
+
+swapped : (m n : ℕ) → (m == n) ≡ (n == m)
+swapped m n = by (m == n) refl
+  where
+    by : (v : Bool) → (m == n) ≡ v → (m == n) ≡ (n == m)
+    by true e = e ∙ sym (eq-eqb n m (sym (eqb-true m n e)))
+    by false e = e ∙ sym (ne_eqb n m (λ k. eqb-false m n e (sym k)))
 
 module _ (b : Forms) (x : Term) where
   abbrev Place : List TermId → ℕ
@@ -88,21 +100,31 @@ module _ (b : Forms) (x : Term) where
   place_opened : (ts : List TermId) (i : ℕ) (d : TermId) → i < length ts → Place (drop i ts) ≡ (if same_term x (term_at b (get_or ts i d)) then 0 else suc (Place (drop (i + 1) ts)))
   place_opened ts i d h = ap Place (drop_more ts i d h)
 
-  pub place_here : (ts : List TermId) (i n : ℕ) (d : TermId) (v : Bool) → i < length ts → i + Place (drop i ts) ≡ n → v ≡ same_term x (term_at b (get_or ts i d)) → v ≡ true → i ≡ n
-  place_here ts i n d v h e is t =
-      let p : Place (drop i ts) ≡ 0 = place_opened ts i d h ∙ ap (λ s. if s then 0 else suc (Place (drop (i + 1) ts))) (sym is ∙ t) in
-      omega arith
+  -- the term at the place stands there, and else it stands behind it
+  place_here : (ts : List TermId) (i : ℕ) (d : TermId) (v : Bool) (old new : Option ℕ) → i < length ts → v ≡ same_term x (term_at b (get_or ts i d)) → new ≡ cond v (Some i) old → unwrap_or old (length ts) ≡ (i + 1) + Place (drop (i + 1) ts) → unwrap_or new (length ts) ≡ i + Place (drop i ts)
+  place_here ts i d true old new h is e known =
+      let p : Place (drop i ts) ≡ 0 = place_opened ts i d h ∙ ap (λ s. if s then 0 else suc (Place (drop (i + 1) ts))) (sym is) in
+      let q : i ≡ i + Place (drop i ts) = omega arith in
+      ap (λ (o : Option ℕ). unwrap_or o (length ts)) e ∙ q
+  place_here ts i d false old new h is e known =
+      let p : Place (drop i ts) ≡ suc (Place (drop (i + 1) ts)) = place_opened ts i d h ∙ ap (λ s. if s then 0 else suc (Place (drop (i + 1) ts))) (sym is) in
+      let q : (i + 1) + Place (drop (i + 1) ts) ≡ i + Place (drop i ts) = omega arith in
+      ap (λ (o : Option ℕ). unwrap_or o (length ts)) e ∙ known ∙ q
 
-  pub place_later : (ts : List TermId) (i n : ℕ) (d : TermId) (v : Bool) → i < length ts → i + Place (drop i ts) ≡ n → v ≡ same_term x (term_at b (get_or ts i d)) → v ≡ false → (i + 1) + Place (drop (i + 1) ts) ≡ n
-  place_later ts i n d v h e is f =
-      let p : Place (drop i ts) ≡ suc (Place (drop (i + 1) ts)) = place_opened ts i d h ∙ ap (λ s. if s then 0 else suc (Place (drop (i + 1) ts))) (sym is ∙ f) in
-      omega arith
+  pub place_past : (ts : List TermId) (i : ℕ) → length ts ≤ i → Place (drop i ts) ≡ 0
+  place_past ts i h = ap Place (drop_all i ts h)
 
-  none_after : (ts : List TermId) (i : ℕ) → length ts ≤ i → Place (drop i ts) ≡ 0
-  none_after [] zero h = refl
-  none_after [] (suc i) h = refl
-  none_after (t ∷ ts) zero h = absurd (omega arith)
-  none_after (t ∷ ts) (suc i) h = none_after ts i (omega arith)
+pub place_put : (b : Forms) → AreApart b → (ts : List TermId) (i : ℕ) (d t : TermId) (old new : Option ℕ) → i < length ts → HasTerm b (get_or ts i d) → HasTerm b t → new ≡ cond ((get_or ts i d).0 == t.0) (Some i) old →
+    unwrap_or old (length ts) ≡ (i + 1) + place_among (same_term (term_at b t)) (terms_at b (drop (i + 1) ts)) → unwrap_or new (length ts) ≡ i + place_among (same_term (term_at b t)) (terms_at b (drop i ts))
+place_put b apart ts i d t old new h there has e known = place_here b (term_at b t) ts i d ((get_or ts i d).0 == t.0) old new h (swapped (get_or ts i d).0 t.0 ∙ apart.terms t (get_or ts i d) has there) e known
 
-  pub place_past : (ts : List TermId) (i n : ℕ) → length ts ≤ i → i + Place (drop i ts) ≡ n → i ≡ n
-  place_past ts i n h e = let p : Place (drop i ts) ≡ 0 = none_after ts i h in omega arith
+-- no place is known at the end
+pub no_places : (b : Forms) (ts : List TermId) (t : TermId) (o : Option ℕ) → o ≡ None → unwrap_or o (length ts) ≡ length ts + place_among (same_term (term_at b t)) (terms_at b (drop (length ts) ts))
+no_places b ts t o e =
+    let p : place_among (same_term (term_at b t)) (terms_at b (drop (length ts) ts)) ≡ 0 = place_past b (term_at b t) ts (length ts) (omega arith) in
+    let q : length ts ≡ length ts + place_among (same_term (term_at b t)) (terms_at b (drop (length ts) ts)) = omega arith in
+    ap (λ (m : Option ℕ). unwrap_or m (length ts)) e ∙ q
+
+-- what is looked up is the place
+pub looked_up : (b : Forms) (ts : List TermId) (p : Places) (t : TermId) (o : Option ℕ) (at : ℕ) → ArePlaces b ts 0 p → HasTerm b t → get nat_eq p.places t.0 ≡ o → at ≡ unwrap_or o (length ts) → at ≡ place_among (same_term (term_at b t)) (terms_at b ts)
+looked_up b ts p t o at h l e is = is ∙ ap (λ (m : Option ℕ). unwrap_or m (length ts)) (sym e) ∙ h t l ∙ zero-add (place_among (same_term (term_at b t)) (terms_at b ts))

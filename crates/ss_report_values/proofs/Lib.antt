@@ -1,3 +1,4 @@
 pub mod Classes
 pub mod Once
 pub mod Only
+pub mod Told

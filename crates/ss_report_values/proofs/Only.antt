@@ -15,7 +15,7 @@ use Rattle.ss_report_values.proofs.Once.{Once, terms_once}
 
 -- ---- what holds of all holds of one
 
-all_at : (p : Term → Bool) (ts : List Term) (t : Term) → list_all p ts ≡ true → list_any (same_term t) ts ≡ true → p t ≡ true
+pub all_at : (p : Term → Bool) (ts : List Term) (t : Term) → list_all p ts ≡ true → list_any (same_term t) ts ≡ true → p t ≡ true
 all_at p [] t h at = cc
 all_at p (u ∷ ts) t h at =
     let q = and_parts (p u) (list_all p ts) h in
@@ -95,7 +95,7 @@ place_at (u ∷ ts) (suc i) t o h =
     other false e = refl
     other true e = absurd (false≢true (sym o.0 ∙ ap (λ x. list_any (same_term x) ts) (sym (equal_terms t u e)) ∙ occurs_at ts i t h))
 
-class_at_place : (ns : List ℕ) (i n : ℕ) → slice_get ns i ≡ Some n → slice_index_or ns i 0 ≡ n
+pub class_at_place : (ns : List ℕ) (i n : ℕ) → slice_get ns i ≡ Some n → slice_index_or ns i 0 ≡ n
 class_at_place [] i n h = cc
 class_at_place (k ∷ ns) zero n h = cc
 class_at_place (k ∷ ns) (suc i) n h = class_at_place ns i n h

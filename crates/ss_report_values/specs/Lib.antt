@@ -1,2 +1,4 @@
 pub mod Literals
+pub mod Index
+pub mod Fields
 pub mod Said

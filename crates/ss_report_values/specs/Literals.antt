@@ -26,6 +26,10 @@ value_in [] ns n = None
 value_in (t ∷ ts) [] n = None
 value_in (t ∷ ts) (k ∷ ns) n = value_or (value_where (k == n) t) (value_in ts ns n)
 
--- the value in the class of the term; nothing where the term doesn't stand among them
+-- the class of the term; nothing where the term doesn't stand among them
+abbrev pub class_at : List Term → List ℕ → Term → Option ℕ
+class_at ts ns t = slice_get ns (place_among (same_term t) ts)
+
+-- the value in the class of the term
 abbrev pub value_at : List Term → List ℕ → Term → Option Value
-value_at ts ns t = option_and_then (value_in ts ns) (slice_get ns (place_among (same_term t) ts))
+value_at ts ns t = option_and_then (value_in ts ns) (class_at ts ns t)

@@ -1,135 +1,233 @@
-// Values of locals as a text.
+// Values of locals and of fields as a text.
 
+ghost use Rattle.ss_core.specs.Chain.{IsWithinLimits};
+ghost use Rattle.ss_core.specs.View as view;
 ghost use Rattle.ss_terms.specs.Forms.{HasTerms};
+ghost use Rattle.ss_report_values.specs.Index.{IsIndex};
 
+use crate::fields::{FieldValue, Fields};
+use crate::index::Index;
 use crate::literals::{Reading, Value};
-use ss_core::{Body, Local};
-use ss_terms::{Bank, TermId};
+use crate::named::{Named, Position, named_locals};
+use crate::telling::Telling;
+use ss_core::{ClassId, Classes, Field, FieldId, MOST_LEVELS, Ty};
+use ss_terms::Bank;
 use std::alloc::{AllocError, Global};
 
-// How many values are told.
-const MOST_VALUES: usize = 20;
-
-/// A local that has a value.
-#[derive(Clone, Copy)]
-struct Valued<'a> {
-    name: &'a str,
-    value: Value,
-}
-
-// What a term is, where the bank has it.
-fn value_of(bank: &Bank, reading: &Reading<'_>, term: TermId) -> Option<Value>
-    requires { HasTerms bank.now reading.now.terms.now }
+// What the term of a local is, where the bank has it.
+fn value_of(bank: &Bank, reading: &Reading<'_>, index: &Index, local: &Named<'_>) -> Option<Value>
+    requires { IsIndex bank.now reading.now index.now }
 {
-    if bank.has_term(term) {
-        reading.value_at(bank, term)
+    if bank.has_term(local.term) {
+        index.value_at(bank, reading, local.term)
     } else {
         None
     }
 }
 
-// Adds those of the locals that have a value, where the first stands for the first of these terms.
-fn add_valued<'a>(
-    valued: &mut Vec<Valued<'a>>,
-    bank: &Bank,
-    reading: &Reading<'_>,
-    locals: &'a [Local],
-    terms: &[Option<TermId>],
-) -> Result<(), AllocError>
-    requires { HasTerms bank.now reading.now.terms.now }
+// The class of the object that a local refers to; nothing where its value is told.
+fn object_of(bank: &Bank, reading: &Reading<'_>, index: &Index, local: &Named<'_>) -> Option<usize>
+    requires { IsIndex bank.now reading.now index.now }
 {
-    for number in 0..locals.len() {
-        if let Some(Some(term)) = terms.get(number) {
-            if let Some(value) = value_of(bank, reading, *term) {
-                let name = locals[number].name.as_str();
-                valued.push(Valued { name, value })?;
-            }
+    if value_of(bank, reading, index, local).is_some() {
+        return None;
+    }
+    if bank.has_term(local.term) {
+        index.class_of(bank, reading, local.term)
+    } else {
+        None
+    }
+}
+
+// Whether one of the fields has this name.
+fn has_field(fields: &[Field], name: &str) -> bool {
+    for field in fields {
+        if field.name.as_str() == name {
+            return true;
         }
     }
-    Ok(())
+    false
 }
 
-// How many locals stand before the parameters: one, where the body has `this`.
-fn this_count(body: &Body) -> usize {
-    if body.flags.is_static { 0 } else { 1 }
+// Whether a class declares a field of this name.
+fn declares(classes: &Classes, class: ClassId, name: &str) -> bool {
+    match classes.declared(class) {
+        Some(found) => has_field(&found.fields, name),
+        None => false,
+    }
 }
 
-// The locals that have a value: `this` has no name.
-fn valued_locals<'a>(
+// Whether the name of a field means in objects of a class the one that `declaring` has: the nearest class counts.
+fn is_meant(classes: &Classes, class: ClassId, declaring: ClassId, name: &str) -> bool {
+    let mut level = class;
+    for _i in 0..MOST_LEVELS {
+        if declares(classes, level, name) {
+            return level == declaring;
+        }
+        match classes.level_above(level) {
+            Some(above) => level = above,
+            None => return false,
+        }
+    }
+    false
+}
+
+// The name of a field, where objects of the type have it and mean it by the name.
+fn field_name<'a>(classes: &'a Classes, ty: Ty, field: FieldId) -> Option<&'a str>
+    requires { IsWithinLimits (view.classes classes.now) }
+{
+    let Ty::Ref { class, .. } = ty else {
+        return None;
+    };
+    let (declaring, found) = classes.field(field)?;
+    let name = found.name.as_str();
+    if is_meant(classes, class, declaring, name) {
+        Some(name)
+    } else {
+        None
+    }
+}
+
+impl Telling {
+    // Tells the locals that have a value.
+    fn tell_locals(
+        &mut self,
+        bank: &Bank,
+        reading: &Reading<'_>,
+        index: &Index,
+        named: &[Named<'_>],
+    ) -> Result<(), AllocError>
+        requires { IsIndex bank.now reading.now index.now }
+    {
+        let mut rest = named;
+        while let [first, others @ ..] = rest {
+            if let Some(value) = value_of(bank, reading, index, first) {
+                if first.is_told(others) {
+                    self.tell(first.name, None, value)?;
+                }
+            }
+            rest = others;
+        }
+        Ok(())
+    }
+
+    // Tells a field of an object, where it has a name there.
+    fn tell_field(
+        &mut self,
+        classes: &Classes,
+        local: &Named<'_>,
+        value: &FieldValue,
+    ) -> Result<(), AllocError>
+        requires { IsWithinLimits (view.classes classes.now) }
+    {
+        match field_name(classes, local.ty, FieldId(value.field)) {
+            Some(name) => self.tell(local.name, Some(name), value.value),
+            None => Ok(()),
+        }
+    }
+
+    // Tells the fields of the objects of a class, each once; those of others may stand behind them.
+    fn tell_fields(
+        &mut self,
+        classes: &Classes,
+        local: &Named<'_>,
+        object: usize,
+        values: &[FieldValue],
+    ) -> Result<(), AllocError>
+        requires { IsWithinLimits (view.classes classes.now) }
+    {
+        let mut last = None;
+        for value in values {
+            if value.object != object {
+                return Ok(());
+            }
+            if last != Some(value.field) {
+                self.tell_field(classes, local, value)?;
+            }
+            last = Some(value.field);
+        }
+        Ok(())
+    }
+
+    // Tells the fields of the objects that locals refer to.
+    fn tell_objects(
+        &mut self,
+        classes: &Classes,
+        bank: &Bank,
+        reading: &Reading<'_>,
+        index: &Index,
+        fields: &Fields,
+        named: &[Named<'_>],
+    ) -> Result<(), AllocError>
+        requires index { IsIndex bank.now reading.now index.now }
+        requires limits { IsWithinLimits (view.classes classes.now) }
+    {
+        let mut rest = named;
+        while let [first, others @ ..] = rest {
+            if self.is_full() {
+                return Ok(());
+            }
+            if let Some(object) = object_of(bank, reading, index, first) {
+                let values = fields.of(object);
+                if !values.is_empty() && first.is_told(others) {
+                    self.tell_fields(classes, first, object, values)?;
+                }
+            }
+            rest = others;
+        }
+        Ok(())
+    }
+
+    // Tells the locals, and then the fields of the objects to which they refer.
+    fn tell_all(
+        &mut self,
+        bank: &Bank,
+        reading: &Reading<'_>,
+        index: &Index,
+        position: &Position<'_>,
+    ) -> Result<(), AllocError>
+        requires index { IsIndex bank.now reading.now index.now }
+        requires terms { HasTerms bank.now reading.now.terms.now }
+        requires limits { IsWithinLimits (view.classes position.now.core.now.classes) }
+    {
+        let named = named_locals(self.alloc, position)?;
+        self.tell_locals(bank, reading, index, &named)?;
+        let fields = Fields::at(self.alloc, bank, reading, index, position.store)?;
+        let classes = &position.core.classes;
+        self.tell_objects(classes, bank, reading, index, &fields, &named)
+    }
+}
+
+// The text of what is told.
+fn told(
     alloc: Global,
     bank: &Bank,
     reading: &Reading<'_>,
-    body: &'a Body,
-    terms: &[Option<TermId>],
-) -> Result<Vec<Valued<'a>>, AllocError>
-    requires { HasTerms bank.now reading.now.terms.now }
+    index: &Index,
+    position: &Position<'_>,
+) -> Result<String, AllocError>
+    requires index { IsIndex bank.now reading.now index.now }
+    requires terms { HasTerms bank.now reading.now.terms.now }
+    requires limits { IsWithinLimits (view.classes position.now.core.now.classes) }
 {
-    let mut valued = Vec::new(alloc);
-    let named = terms.get(this_count(body)..).unwrap_or(&[]);
-    add_valued(&mut valued, bank, reading, &body.params, named)?;
-    let others = named.get(body.params.len()..).unwrap_or(&[]);
-    add_valued(&mut valued, bank, reading, &body.locals, others)?;
-    Ok(valued)
-}
-
-fn push_value(text: &mut String, alloc: Global, value: Value) -> Result<(), AllocError> {
-    match value {
-        Value::Number(n) => text.push_str(&n.to_string(alloc)?),
-        Value::Truth(true) => text.push_str("True"),
-        Value::Truth(false) => text.push_str("False"),
-        Value::Null => text.push_str("null"),
-    }
-}
-
-// Whether the name is that of a local of the program, and no other behind it has it, as the copy of a parameter does.
-fn is_told(name: &str, others: &[Valued<'_>]) -> bool {
-    for other in others {
-        if other.name == name {
-            return false;
-        }
-    }
-    !name.is_empty()
-}
-
-fn push_valued(text: &mut String, alloc: Global, valued: Valued<'_>) -> Result<(), AllocError> {
-    if !text.is_empty() {
-        text.push_str(", ")?;
-    }
-    text.push_str(valued.name)?;
-    text.push_str(" = ")?;
-    push_value(text, alloc, valued.value)
-}
-
-// The values, as `x = 3, b = True, p = null`; of many the first.
-fn text_of(alloc: Global, valued: &[Valued<'_>]) -> Result<String, AllocError> {
-    let mut text = String::new(alloc);
-    let mut count: usize = 0;
-    let mut rest = valued;
-    while let [first, others @ ..] = rest {
-        if count == MOST_VALUES {
-            text.push_str(", ..")?;
-            return Ok(text);
-        }
-        if is_told(first.name, others) {
-            push_valued(&mut text, alloc, *first)?;
-            count = count.saturating_add(1);
-        }
-        rest = others;
-    }
+    let mut telling = Telling::new(alloc);
+    telling.tell_all(bank, reading, index, position)?;
+    let Telling { text, .. } = telling;
     Ok(text)
 }
 
-/// The values that a model gives to the locals of a body, as `x = 3, b = True, p = null`: of those for whose terms a literal stands in the
-/// class. `terms` are the locals' terms by their numbers. An error is want of memory.
+/// The values that a model gives at a position, as `x = 3, b = True, p = null, this.n = 5`. They are those of locals for whose terms a
+/// literal stands in the class, and behind them those of fields. A field is told where a term reads it of an equal object in an equal
+/// store, and a literal stands in that term's class. An error is want of memory.
 pub fn values_text(
     alloc: Global,
     bank: &Bank,
     reading: &Reading<'_>,
-    body: &Body,
-    terms: &[Option<TermId>],
+    position: &Position<'_>,
 ) -> Result<String, AllocError>
-    requires { HasTerms bank.now reading.now.terms.now }
+    requires terms { HasTerms bank.now reading.now.terms.now }
+    requires limits { IsWithinLimits (view.classes position.now.core.now.classes) }
 {
-    let valued = valued_locals(alloc, bank, reading, body, terms)?;
-    text_of(alloc, &valued)
+    let index = Index::new(alloc, bank, reading)?;
+    told(alloc, bank, reading, &index, position)
 }

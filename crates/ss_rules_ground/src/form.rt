@@ -164,9 +164,9 @@ fn go_on(
     )
 }
 
-/// The ground form of an obligation after so many rounds, where it has at most `limit` formulas, and where each formula of it comes from.
-/// Where the premises and the goal are well formed, the lines that make the choices are steps of a derivation. An error is want of memory;
-/// what the bank had before stays.
+/// The ground form of an obligation after so many rounds, and where each formula of it comes from. None where it has more than `limit` formulas.
+/// Where the premises and the goal are well formed, the lines that make the choices are steps of a derivation. An error is want of memory; what the
+/// bank had before stays.
 pub fn ground_with_origins(
     alloc: Global,
     bank: &mut Bank,

@@ -1,4 +1,4 @@
--- The instances of a `forall` of a list come from it, at terms of the sorts of its bound names where the list is well formed.
+-- The instances of a `forall` of a list come from it. Where the list is well formed, they are at terms of the sorts of its bound names.
 use Rattle.std.proofs.Common.{◌≡◌, ℕ, ◌<◌, List, [], ◌∷◌, length, get_or, filter, Bool, true, false, ◌&&◌, refl, sym, ◌∙◌, ap, subst, ⊎_elim, Result, Ok, Err, Vec, Global}
 use Rattle.std.specs.Prelude.{filter_map, flat_map, OnOk, if◌then◌else◌}
 use Rattle.std.specs.List.{Contains}

@@ -1,5 +1,4 @@
-//! The formulas with which a ground form starts: premises and the denied goal, where fresh constants stand for what an `exists` says
-//! that there is.
+//! The formulas with which a ground form starts: premises and the denied goal. Fresh constants stand for what an `exists` says that there is.
 #![tactic(auto)]
 
 mod constants;

@@ -21,7 +21,7 @@ use ss_rules_origins::Origin;
 use ss_terms::{Bank, FormulaId};
 use std::alloc::{AllocError, Global};
 
-/// Instances that were made, in the order in which they were asked for: what was asked for, and the formula that each says, where its
+/// Instances that were made, in the order in which they were asked for. Each has what was asked for, and the formula that it says, where its
 /// arguments fit the rule.
 #[derive(Drop)]
 pub struct Made {

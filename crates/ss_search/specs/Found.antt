@@ -4,7 +4,8 @@ use Rattle.ss_core.specs.Tree.{ClassTree}
 use Rattle.ss_logic.specs.Formulas.{Formula}
 use Rattle.ss_logic_ground.specs.Ground.{ground_form}
 use Rattle.ss_logic_countermodels.specs.declared.Countermodel.{Countermodel}
-use Rattle.ss_logic_countermodels.specs.Refuting.{RefutesGround}
+use Rattle.ss_logic_countermodels.specs.Refuting.{Model, Refutes, RefutesGround}
+use Rattle.ss_deriv.specs.declared.line.Line.{Line}
 use Rattle.ss_search_procedure_rules.specs.Closed.{AreEnough}
 use Rattle.ss_search.specs.declared.answers.Options.{Options}
 use Rattle.ss_search.specs.declared.answers.Found.{Found}
@@ -25,6 +26,20 @@ pub record IsShort (cs : List ClassTree) (p : Options) (premises : List Formula)
   pub ground : ground_form cs premises goal p.rounds p.instances ≡ Some formulas
   pub short : AreEnough cs formulas p.splits → ⊥
 
+-- The ground form keeps to the limit of the options, no model refutes it, and their splits are enough for it.
+pub record HasNoModelWithin (cs : List ClassTree) (p : Options) (premises : List Formula) (goal : Formula) : Type 0 where
+  pub formulas : List Formula
+  pub ground : ground_form cs premises goal p.rounds p.instances ≡ Some formulas
+  pub none : (m : Model) → Refutes cs m formulas → ⊥
+  pub enough : AreEnough cs formulas p.splits
+
+-- ---- the answers
+
+-- where a derivation was found, this holds of its lines
+abbrev pub IfProved : Found → (List Line → Type 0) → Type 0
+IfProved (found.Proved d) P = P d
+IfProved _ P = Unit {0}
+
 -- where a model was found, this holds of it
 abbrev pub IfCountered : Found → (Countermodel → Type 0) → Type 0
 IfCountered (found.Countered m) P = P m
@@ -39,3 +54,9 @@ IfSpent _ P = Unit {0}
 abbrev pub IfTooMany : Found → (ℕ → Type 0) → Type 0
 IfTooMany (found.TooMany limit) P = P limit
 IfTooMany _ P = Unit {0}
+
+-- a derivation was found, or memory ran out
+abbrev pub IsProvedOrMemory : Found → Type 0
+IsProvedOrMemory (found.Proved d) = Unit {0}
+IsProvedOrMemory found.Memory = Unit {0}
+IsProvedOrMemory _ = ⊥

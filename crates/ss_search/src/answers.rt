@@ -17,7 +17,7 @@ pub struct Options {
 /// What was found of one obligation.
 #[derive(Drop)]
 pub enum Found {
-    /// Lines that may derive it.
+    /// Lines that derive it.
     Proved(Derivation),
     /// A model that refutes its ground form.
     Countered(Countermodel),
@@ -25,8 +25,6 @@ pub enum Found {
     Spent { splits: u64 },
     /// Its ground form has more formulas than this.
     TooMany { limit: u32 },
-    /// None of these. That this doesn't come is not proved.
-    Lost,
     Memory,
 }
 

@@ -1,5 +1,5 @@
-//! The search for a derivation of an obligation, or for a model that refutes it. Nothing trusts the derivation: it is checked elsewhere. A model
-//! is answered only where it was found to refute the ground form.
+//! The search for a derivation of an obligation, or for a model that refutes its ground form. A derivation is answered only where it derives the
+//! obligation, and that a budget isn't enough only where it isn't.
 #![tactic(auto)]
 
 mod answers;

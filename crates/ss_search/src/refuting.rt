@@ -1,18 +1,24 @@
-// Obligations for which no derivation was found.
+// Obligations for which the engine finds no derivation.
 
-ghost use Rattle.std.specs.Prelude.{◌≡◌, List, Some, None, IfOk, IfSome};
+ghost use Rattle.std.specs.Prelude.{◌≡◌, List, [], ◌∷◌, Some, None, IfOk, IfSome};
 ghost use Rattle.ss_core.specs.Tree.{ClassTree};
 ghost use Rattle.ss_core.specs.View as view;
 ghost use Rattle.ss_core.specs.Chain.{IsWithinLimits};
-ghost use Rattle.ss_terms.specs.Forms.{formula_at, formulas_at, HasFormula, HasFormulas, IsBankOf, IsGrown};
+ghost use Rattle.ss_logic_means.specs.Scenes.{AreInvariants};
+ghost use Rattle.ss_logic_means.specs.Sorts.{AreWellFormed};
+ghost use Rattle.ss_logic_derivations.specs.Steps.{Derives};
 ghost use Rattle.ss_logic_countermodels.specs.Refuting.{Refutes, model_of};
+ghost use Rattle.ss_terms.specs.Forms.{formula_at, formulas_at, HasFormula, HasFormulas, IsBankOf, IsGrown};
+ghost use Rattle.ss_deriv.specs.Lines.{lines_of};
 ghost use Rattle.ss_search_procedure_rules.specs.Closed.{AreEnough};
-ghost use Rattle.ss_search.specs.Found.{IfCountered, IfSpent, IfTooMany, IsRefutedBy, IsShort, IsOver};
+ghost use Rattle.ss_search_procedure.specs.Ground.{IsGroundOf};
+ghost use Rattle.ss_search.specs.Found.{IfProved, IfCountered, IfSpent, IfTooMany, IsRefutedBy, IsShort, IsOver};
 
 use crate::answers::{Found, Options};
-use ss_core::Core;
+use ss_core::{Classes, Core};
 use ss_logic_countermodels::Countermodel;
-use ss_rules::{GroundStop, ground};
+use ss_rules::{GroundStop, ground_with_origins};
+use ss_rules_ground::Grounded;
 use ss_search_candidates::find_candidate;
 use ss_search_models::{countermodel, told};
 use ss_search_procedure::{Settled, settle_by};
@@ -29,8 +35,11 @@ pub(crate) fn refute(
 ) -> Found
     requires bank { IsBankOf (view.classes program.now.classes) bank.old }
     requires limits { IsWithinLimits (view.classes program.now.classes) }
+    requires invariants { AreInvariants (view.classes program.now.classes) }
     requires premises { HasFormulas bank.old obligation.now.premises.now }
     requires goal { HasFormula bank.old obligation.now.goal }
+    requires formed { AreWellFormed (view.classes program.now.classes) [] (formula_at bank.old obligation.now.goal ∷ formulas_at bank.old obligation.now.premises.now) }
+    ensures proved { IfProved result (λ d. Derives (view.classes program.now.classes) (formulas_at bank.old obligation.now.premises.now) (formula_at bank.old obligation.now.goal) (lines_of bank.new d)) }
     ensures countered { IfCountered result (IsRefutedBy (view.classes program.now.classes) options.now (formulas_at bank.old obligation.now.premises.now) (formula_at bank.old obligation.now.goal)) }
     ensures spent { IfSpent result (IsShort (view.classes program.now.classes) options.now (formulas_at bank.old obligation.now.premises.now) (formula_at bank.old obligation.now.goal)) }
     ensures too_many { IfTooMany result (IsOver (view.classes program.now.classes) options.now (formulas_at bank.old obligation.now.premises.now) (formula_at bank.old obligation.now.goal)) }
@@ -41,24 +50,35 @@ pub(crate) fn refute(
         splits,
         instances,
     } = *options;
-    match ground(alloc, bank, program, obligation, rounds, instances) {
-        Ok(formulas) => find_model(alloc, bank, &formulas, splits),
+    match ground_with_origins(alloc, bank, program, obligation, rounds, instances) {
+        Ok(grounded) => find_model(alloc, bank, &program.classes, obligation, &grounded, splits),
         Err(GroundStop::TooMany { limit }) => Found::TooMany { limit },
         Err(GroundStop::Memory) => Found::Memory,
     }
 }
 
-// Searches for a model that refutes the formulas, and lets the procedure decide where none is found.
-fn find_model(alloc: Global, bank: &mut Bank, formulas: &[FormulaId], splits: u64) -> Found
-    requires { HasFormulas bank.old formulas.now }
-    ensures countered { (cs : List ClassTree) → IsBankOf cs bank.old → IfCountered result (λ m. Refutes cs (model_of (formulas_at bank.old formulas.now) m.classes.items m.truth.items) (formulas_at bank.old formulas.now)) }
-    ensures spent { (cs : List ClassTree) → IsBankOf cs bank.old → IfSpent result (λ n. (n ≡ splits) × (AreEnough cs (formulas_at bank.old formulas.now) splits → ⊥)) }
+// Searches for a model that refutes the ground form, and lets the procedure decide where none is found.
+fn find_model(
+    alloc: Global,
+    bank: &mut Bank,
+    classes: &Classes,
+    obligation: &Obligation<'_>,
+    grounded: &Grounded,
+    splits: u64,
+) -> Found
+    requires bank { IsBankOf (view.classes classes.now) bank.old }
+    requires premises { HasFormulas bank.old obligation.now.premises.now }
+    requires goal { HasFormula bank.old obligation.now.goal }
+    requires grounded { IsGroundOf (view.classes classes.now) (formulas_at bank.old obligation.now.premises.now) (formula_at bank.old obligation.now.goal) bank.old grounded.now }
+    ensures proved { IfProved result (λ d. Derives (view.classes classes.now) (formulas_at bank.old obligation.now.premises.now) (formula_at bank.old obligation.now.goal) (lines_of bank.new d)) }
+    ensures countered { IfCountered result (λ m. Refutes (view.classes classes.now) (model_of (formulas_at bank.old grounded.now.formulas.items) m.classes.items m.truth.items) (formulas_at bank.old grounded.now.formulas.items)) }
+    ensures spent { IfSpent result (λ n. (n ≡ splits) × (AreEnough (view.classes classes.now) (formulas_at bank.old grounded.now.formulas.items) splits → ⊥)) }
     ensures too_many { IfTooMany result (λ limit. ⊥) }
     ensures grown { IsGrown bank.old bank.new }
 {
-    match candidate_model(alloc, bank, formulas) {
+    match candidate_model(alloc, bank, &grounded.formulas) {
         Ok(Some(model)) => Found::Countered(model),
-        Ok(None) => decide(alloc, bank, formulas, splits),
+        Ok(None) => decide(alloc, bank, classes, obligation, grounded, splits),
         Err(_) => Found::Memory,
     }
 }
@@ -79,20 +99,40 @@ fn candidate_model(
     }
 }
 
-// What the procedure finds of the formulas.
-fn decide(alloc: Global, bank: &Bank, formulas: &[FormulaId], splits: u64) -> Found
-    requires { HasFormulas bank.now formulas.now }
-    ensures countered { (cs : List ClassTree) → IsBankOf cs bank.now → IfCountered result (λ m. Refutes cs (model_of (formulas_at bank.now formulas.now) m.classes.items m.truth.items) (formulas_at bank.now formulas.now)) }
-    ensures spent { (cs : List ClassTree) → IsBankOf cs bank.now → IfSpent result (λ n. (n ≡ splits) × (AreEnough cs (formulas_at bank.now formulas.now) splits → ⊥)) }
+// What the procedure finds of the ground form.
+fn decide(
+    alloc: Global,
+    bank: &mut Bank,
+    classes: &Classes,
+    obligation: &Obligation<'_>,
+    grounded: &Grounded,
+    splits: u64,
+) -> Found
+    requires bank { IsBankOf (view.classes classes.now) bank.old }
+    requires premises { HasFormulas bank.old obligation.now.premises.now }
+    requires goal { HasFormula bank.old obligation.now.goal }
+    requires grounded { IsGroundOf (view.classes classes.now) (formulas_at bank.old obligation.now.premises.now) (formula_at bank.old obligation.now.goal) bank.old grounded.now }
+    ensures proved { IfProved result (λ d. Derives (view.classes classes.now) (formulas_at bank.old obligation.now.premises.now) (formula_at bank.old obligation.now.goal) (lines_of bank.new d)) }
+    ensures countered { IfCountered result (λ m. Refutes (view.classes classes.now) (model_of (formulas_at bank.old grounded.now.formulas.items) m.classes.items m.truth.items) (formulas_at bank.old grounded.now.formulas.items)) }
+    ensures spent { IfSpent result (λ n. (n ≡ splits) × (AreEnough (view.classes classes.now) (formulas_at bank.old grounded.now.formulas.items) splits → ⊥)) }
     ensures too_many { IfTooMany result (λ limit. ⊥) }
+    ensures grown { IsGrown bank.old bank.new }
 {
-    let Ok(choices) = told(alloc, bank, formulas) else {
+    let Ok(choices) = told(alloc, bank, &grounded.formulas) else {
         return Found::Memory;
     };
-    match settle_by(alloc, bank, formulas, &choices.list, splits) {
+    match settle_by(
+        alloc,
+        bank,
+        classes,
+        obligation,
+        grounded,
+        &choices.list,
+        splits,
+    ) {
+        Ok(Settled::Closed(derivation)) => Found::Proved(derivation),
         Ok(Settled::Countered(model)) => Found::Countered(model),
         Ok(Settled::Spent) => Found::Spent { splits },
-        Ok(Settled::Closed) => Found::Lost,
         Err(_) => Found::Memory,
     }
 }

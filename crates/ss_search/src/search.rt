@@ -1,14 +1,20 @@
 // The obligations of a program, one after the other.
 
-ghost use Rattle.std.specs.Prelude.{◌≡◌, None, IfOk};
+ghost use Rattle.std.specs.Prelude.{◌≡◌, [], ◌∷◌, None, IfOk, IfSome};
 ghost use Rattle.ss_core.specs.View as view;
 ghost use Rattle.ss_core.specs.Chain.{IsWithinLimits};
+ghost use Rattle.ss_logic_means.specs.Scenes.{AreInvariants};
+ghost use Rattle.ss_logic_means.specs.Sorts.{AreWellFormed};
+ghost use Rattle.ss_logic_derivations.specs.Steps.{Derives};
 ghost use Rattle.ss_terms.specs.Forms.{formula_at, formulas_at, HasFormula, HasFormulas, IsBankOf, IsGrown};
-ghost use Rattle.ss_search.specs.Found.{IfCountered, IfSpent, IfTooMany, IsRefutedBy, IsShort, IsOver};
+ghost use Rattle.ss_deriv.specs.Lines.{lines_of};
+ghost use Rattle.ss_search.specs.Found.{IfProved, IfCountered, IfSpent, IfTooMany, IsRefutedBy, IsShort, IsOver, HasNoModelWithin, IsProvedOrMemory};
 
 use crate::answers::{Found, Options};
 use crate::refuting::refute;
+use ss_check::{CheckStop, check};
 use ss_core::{Classes, Core};
+use ss_deriv::Derivation;
 use ss_search_engine::{Answer, Engine, Limits};
 use ss_terms::{Bank, Obligation};
 use std::alloc::{AllocError, Global};
@@ -37,6 +43,28 @@ fn with_splits(limits: Limits, splits: u64) -> Limits {
     }
 }
 
+// The derivation, where the checker accepts it.
+fn accepted(
+    alloc: Global,
+    bank: &mut Bank,
+    program: &Core,
+    obligation: &Obligation<'_>,
+    derivation: Derivation,
+) -> Result<Option<Derivation>, AllocError>
+    requires bank { IsBankOf (view.classes program.now.classes) bank.old }
+    requires limits { IsWithinLimits (view.classes program.now.classes) }
+    requires premises { HasFormulas bank.old obligation.now.premises.now }
+    requires goal { HasFormula bank.old obligation.now.goal }
+    ensures derives { IfOk result (λ o. IfSome o (λ d. Derives (view.classes program.now.classes) (formulas_at bank.old obligation.now.premises.now) (formula_at bank.old obligation.now.goal) (lines_of bank.new d))) }
+    ensures grown { IsGrown bank.old bank.new }
+{
+    match check(alloc, bank, program, obligation, &derivation) {
+        Ok(()) => Ok(Some(derivation)),
+        Err(CheckStop::BadStep { .. }) => Ok(None),
+        Err(CheckStop::Memory) => Err(AllocError),
+    }
+}
+
 /// What the search keeps from one obligation of a program to the next.
 #[derive(Drop)]
 pub struct Search {
@@ -53,7 +81,8 @@ impl Search {
         Ok(Search { alloc, engine })
     }
 
-    /// Searches for a derivation of an obligation; and where none is found, for a model that refutes its ground form.
+    /// Searches for a derivation of an obligation whose premises and goal are well formed. Where none is found, it makes the ground form, and
+    /// decides of that as far as the options go.
     pub fn prove(
         &mut self,
         bank: &mut Bank,
@@ -63,23 +92,49 @@ impl Search {
     ) -> Found
         requires bank { IsBankOf (view.classes program.now.classes) bank.old }
         requires limits { IsWithinLimits (view.classes program.now.classes) }
+        requires invariants { AreInvariants (view.classes program.now.classes) }
         requires premises { HasFormulas bank.old obligation.now.premises.now }
         requires goal { HasFormula bank.old obligation.now.goal }
+        requires formed { AreWellFormed (view.classes program.now.classes) [] (formula_at bank.old obligation.now.goal ∷ formulas_at bank.old obligation.now.premises.now) }
+        ensures proved { IfProved result (λ d. Derives (view.classes program.now.classes) (formulas_at bank.old obligation.now.premises.now) (formula_at bank.old obligation.now.goal) (lines_of bank.new d)) }
         ensures countered { IfCountered result (IsRefutedBy (view.classes program.now.classes) options.now (formulas_at bank.old obligation.now.premises.now) (formula_at bank.old obligation.now.goal)) }
         ensures spent { IfSpent result (IsShort (view.classes program.now.classes) options.now (formulas_at bank.old obligation.now.premises.now) (formula_at bank.old obligation.now.goal)) }
         ensures too_many { IfTooMany result (IsOver (view.classes program.now.classes) options.now (formulas_at bank.old obligation.now.premises.now) (formula_at bank.old obligation.now.goal)) }
+        ensures complete { HasNoModelWithin (view.classes program.now.classes) options.now (formulas_at bank.old obligation.now.premises.now) (formula_at bank.old obligation.now.goal) → IsProvedOrMemory result }
         ensures grown { IsGrown bank.old bank.new }
     {
         let alloc = self.alloc;
-        match self.derive(bank, &program.classes, obligation, options.splits) {
-            Ok(Answer::Proved(derivation)) => Found::Proved(derivation),
-            Ok(Answer::Stuck) => refute(alloc, bank, program, obligation, options),
+        match self.derive(bank, program, obligation, options.splits) {
+            Ok(Some(derivation)) => Found::Proved(derivation),
+            Ok(None) => refute(alloc, bank, program, obligation, options),
             Err(_) => Found::Memory,
         }
     }
 
-    // Searches for a derivation, and again with more where the search was stopped.
+    // Searches for a derivation that the checker accepts.
     fn derive(
+        &mut self,
+        bank: &mut Bank,
+        program: &Core,
+        obligation: &Obligation<'_>,
+        splits: u64,
+    ) -> Result<Option<Derivation>, AllocError>
+        requires bank { IsBankOf (view.classes program.now.classes) bank.old }
+        requires limits { IsWithinLimits (view.classes program.now.classes) }
+        requires premises { HasFormulas bank.old obligation.now.premises.now }
+        requires goal { HasFormula bank.old obligation.now.goal }
+        ensures derives { IfOk result (λ o. IfSome o (λ d. Derives (view.classes program.now.classes) (formulas_at bank.old obligation.now.premises.now) (formula_at bank.old obligation.now.goal) (lines_of bank.new d))) }
+        ensures grown { IsGrown bank.old bank.new }
+    {
+        let alloc = self.alloc;
+        match self.run_engine(bank, &program.classes, obligation, splits)? {
+            Answer::Proved(derivation) => accepted(alloc, bank, program, obligation, derivation),
+            Answer::Stuck => Ok(None),
+        }
+    }
+
+    // What the engine finds, and again with more where the search was stopped.
+    fn run_engine(
         &mut self,
         bank: &mut Bank,
         classes: &Classes,
@@ -109,7 +164,7 @@ impl Search {
     }
 }
 
-/// Searches for a derivation of one obligation alone; and where none is found, for a model that refutes its ground form.
+/// Decides of one obligation alone, as `Search::prove` does.
 pub fn prove(
     alloc: Global,
     bank: &mut Bank,
@@ -119,11 +174,15 @@ pub fn prove(
 ) -> Found
     requires bank { IsBankOf (view.classes program.now.classes) bank.old }
     requires limits { IsWithinLimits (view.classes program.now.classes) }
+    requires invariants { AreInvariants (view.classes program.now.classes) }
     requires premises { HasFormulas bank.old obligation.now.premises.now }
     requires goal { HasFormula bank.old obligation.now.goal }
+    requires formed { AreWellFormed (view.classes program.now.classes) [] (formula_at bank.old obligation.now.goal ∷ formulas_at bank.old obligation.now.premises.now) }
+    ensures proved { IfProved result (λ d. Derives (view.classes program.now.classes) (formulas_at bank.old obligation.now.premises.now) (formula_at bank.old obligation.now.goal) (lines_of bank.new d)) }
     ensures countered { IfCountered result (IsRefutedBy (view.classes program.now.classes) options.now (formulas_at bank.old obligation.now.premises.now) (formula_at bank.old obligation.now.goal)) }
     ensures spent { IfSpent result (IsShort (view.classes program.now.classes) options.now (formulas_at bank.old obligation.now.premises.now) (formula_at bank.old obligation.now.goal)) }
     ensures too_many { IfTooMany result (IsOver (view.classes program.now.classes) options.now (formulas_at bank.old obligation.now.premises.now) (formula_at bank.old obligation.now.goal)) }
+    ensures complete { HasNoModelWithin (view.classes program.now.classes) options.now (formulas_at bank.old obligation.now.premises.now) (formula_at bank.old obligation.now.goal) → IsProvedOrMemory result }
     ensures grown { IsGrown bank.old bank.new }
 {
     match Search::new(alloc, bank) {

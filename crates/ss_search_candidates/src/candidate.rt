@@ -19,7 +19,7 @@ const FIRST_SPLITS: usize = 3_000;
 
 const LAST_SPLITS: usize = 20_000;
 
-/// A class for each term of a bank, and a truth value for each pair of a formula and its negation, of the one that stands first.
+/// A class for each term of a bank, and a truth value for each pair of a formula and its negation. It is that of the one that stands first.
 #[derive(Drop)]
 pub struct Candidate {
     pub classes: Vec<usize>,

@@ -23,7 +23,7 @@ struct Weighted {
     constant: i128,
 }
 
-/// What a fact says: a sum of classes, or that sum with the other sign, and a number are together 0 or at most 0.
+/// What a fact says. A sum of classes, or that sum with the other sign, and a number are together 0 or at most 0.
 #[derive(Drop)]
 pub(crate) struct Keyed {
     key: Vec<i128>,

@@ -7,8 +7,8 @@ use Rattle.ss_search_clashes.specs.declared.signatures.Said.{Said}
 use Rattle.ss_search_clashes.specs.Numbered.{class_of, differs, HasNoClash}
 use Rattle.ss_search_clashes.specs.Says.{Key, Says, Sayings, said_of, IsSaid}
 
--- Of the first so many known formulas none says that two terms of one class differ, and what they say stands in the table, each of it once
--- and with the place of one that says it.
+-- Of the first so many known formulas none says that two terms of one class differ. What they say stands in the table, each of it once, with the
+-- place of one that says it.
 pub record Tabulates (b : Forms) (class : Classing) (known : List FormulaId) (so_many : ℕ) (said : Sayings) : Type 0 where
   pub different : (i : ℕ) (f : FormulaId) → i < so_many → slice_get known i ≡ Some f → differs class (formula_at b f) ≡ false
   pub stands : (i : ℕ) (f : FormulaId) → i < so_many → slice_get known i ≡ Some f → (k : Key) (holds : Bool) → Says b class (formula_at b f) k holds → IsSaid said k holds

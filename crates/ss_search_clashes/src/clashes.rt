@@ -21,8 +21,8 @@ use std::alloc::{AllocError, Global};
 pub enum Clash {
     /// The known formula says that two terms of one class differ.
     Differs(usize),
-    /// The known formulas are an atom and a negated atom of one name at arguments in the same classes, or a quantified formula
-    /// and its negation.
+    /// One of the known formulas denies the other. They are an atom and a negated atom of one name at arguments in the same classes, or a quantified
+    /// formula and its negation.
     Opposed(usize, usize),
     /// These different values are in one class.
     Values(TermId, TermId),

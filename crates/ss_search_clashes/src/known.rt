@@ -21,8 +21,8 @@ use std::marker::Model;
 pub enum Against {
     /// It says that two terms of one class differ.
     Classes,
-    /// The known formula at this place is an atom and it a negated atom of one name at arguments in the same classes, or the
-    /// other way round, or they are a quantified formula and its negation.
+    /// The known formula at this place denies it. They are an atom and a negated atom of one name at arguments in the same classes, or a quantified
+    /// formula and its negation.
     Known(usize),
 }
 

@@ -79,8 +79,8 @@ fn equal_values(
     end(shown.lines, place, place)
 }
 
-/// Lines that close the case in which so many formulas are known, those of a clash among them, and those of the merges at their
-/// reasons. An error is want of memory.
+/// Lines that close the case in which so many formulas are known. Among these are those of a clash, and those of the merges at their reasons. An
+/// error is want of memory.
 pub fn close(
     alloc: Global,
     bank: &Bank,

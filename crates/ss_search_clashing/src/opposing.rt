@@ -1,4 +1,4 @@
-// Lines that close a case in which a literal and a negated one of its name are known at equal arguments, or a formula and its negation.
+// Lines that close a case in which two opposed formulas are known. They are a formula and its negation, or literals of one name at equal arguments.
 
 ghost use Rattle.std.specs.Prelude.{◌≡◌, Bool, IfOk};
 ghost use Rattle.ss_logic.specs.Terms.{Terms, terms_from};

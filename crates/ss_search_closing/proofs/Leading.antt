@@ -1,4 +1,4 @@
--- How a case goes on: by a fact, by the one part of an `or` that isn't closed, by a formula or its negation, and by what was chosen.
+-- How a case goes on: by a fact, the open part of an `or`, one side of a cut, or a choice.
 use Rattle.std.proofs.Common.{◌≡◌, ℕ, zero, suc, List, [], ◌∷◌, ◌++◌, length, Some, true, refl, sym, ◌∙◌, ap, subst, append_assoc}
 use Rattle.std.specs.Prelude.{slice_get, ◌==◌, ◌&&◌}
 use Rattle.ss_core.specs.Tree.{ClassTree}

@@ -38,16 +38,16 @@ pub record AddsUsed (b : Forms) (ms : List Merge) (count : ℕ) (ss : Sums) (p :
   pub used : uses ss (length before) ≡ true → Adds b ms count p old new before after
   pub unused : uses ss (length before) ≡ false → (new ≡ old) × ((place : ℕ) × (after ≡ before ++ place ∷ []))
 
--- What is written: wherever facts stand at the first places, the lines lead on, and behind the facts those of the equalities that the
--- sums use stand at the others.
+-- What is written. The lines lead on to what they make known. Where the facts stand at the first places, the equalities that the sums use stand at
+-- the others.
 pub record AreWritten (b : Forms) (ms : List Merge) (count : ℕ) (ss : Sums) (places : List ℕ) (ps : Pairs) (own : List ℕ) (lines : List Line) : Type 0 where
   pub leads : (cs : List ClassTree) (premises : List Formula) (goal : Formula) (known : List Formula) → AreKnown cs b ms count known → AreWellFormed cs [] (equalities_at b ps) →
       Leads cs premises goal known (lines_of b lines) (known ++ facts_said (lines_of b lines)) []
   pub stand : (known facts : List Formula) → length known ≡ count → StandAt known facts places ss → StandAt (known ++ facts_said (lines_of b lines)) (facts ++ equalities_at b ps) own ss
   pub long : length own ≡ length places + length ps
 
--- The lines close a case wherever so many formulas are known, the equalities of the merges among them, and sums of facts among them and
--- of these equalities end in what is false.
+-- The lines close a case in which so many formulas are known, among them the equalities of the merges. Sums of facts among them and of the equalities
+-- of the pairs end in what is false.
 pub record CloseWith (b : Forms) (ms : List Merge) (count : ℕ) (places : List ℕ) (ps : Pairs) (ss : Sums) (lines : List Line) : Type 0 where
   pub closes : (cs : List ClassTree) (premises : List Formula) (goal : Formula) (known facts : List Formula) → AreKnown cs b ms count known → StandAt known facts places ss → AreWellFormed cs [] (facts ++ equalities_at b ps) →
       Refute cs (facts ++ equalities_at b ps) ss → Closes cs premises goal known (lines_of b lines)

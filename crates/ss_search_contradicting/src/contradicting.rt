@@ -137,9 +137,9 @@ pub fn contradict(
     Ok(written.lines)
 }
 
-/// Lines that close a case in which facts and equalities contradict each other by sums; none only where no sum of one or two of them, or
-/// of differences, does. `places` has the place of each fact among so many known formulas. The equalities follow by congruence from those of the
-/// merges, which are known at their reasons. An error is want of memory.
+/// Lines that close a case in which facts and equalities contradict each other by sums. None only where no sum of one or two of them, or of
+/// differences, does. `places` has the place of each fact among so many known formulas. The equalities follow by congruence from those of the merges,
+/// which are known at their reasons. An error is want of memory.
 pub fn close_contradiction(
     alloc: Global,
     bank: &Bank,

@@ -21,7 +21,7 @@ pub enum Answer {
     Stuck,
 }
 
-/// A split of which a case is open: its block, the fact and the formula of its `or`, the place and the fact of the open case,
+/// A split of which a case is open. It has its block, the fact and the formula of its `or`, and the place and the fact of the open case. It also has
 /// what stood when it was opened, how many hypotheses had been handed over before, and the place of its clause.
 #[derive(Clone, Copy)]
 pub(crate) struct Split {
@@ -59,8 +59,8 @@ pub struct Engine {
     pub(crate) literals_first: bool,
     // From which clause on, in their order, an open one is looked for.
     pub(crate) scan_from: usize,
-    // How often a case of the `or` of each pair was refuted, where cases of ground formulas are gone through, the clauses of which one was,
-    // and how many were.
+    // Where cases of ground formulas are gone through, how often a case of the `or` of each pair was refuted. Then the clauses of which one was, and
+    // how many cases were.
     pub(crate) weights: Vec<usize>,
     pub(crate) heavy: Vec<usize>,
     pub(crate) refuted: usize,
@@ -146,7 +146,7 @@ impl Engine {
         self.finish(bank, program, step)
     }
 
-    // Makes the premises and the denied goal known.
+    // Makes the premises and the denied goal known. Numbers are looked at once all are known.
     fn begin(
         &mut self,
         bank: &mut Bank,
@@ -159,7 +159,9 @@ impl Engine {
         ensures grown { IsGrown bank.old bank.new }
     {
         self.restart_for(premises);
+        self.state.has_numbers = false;
         let step = self.learn_front(bank, program, premises)?;
+        self.state.has_numbers = true;
         if let Step::Conflict(_) = &step {
             return Ok(step);
         }

@@ -38,10 +38,9 @@ impl Engine {
         &self.state
     }
 
-    /// Makes the formulas known, and goes through cases to one in which each known `or` has a part that is known, with no other
-    /// instance. The classes of the atoms and of the terms in them are told apart. Whether there is such a case within so many splits.
-    /// Nothing else was known to the search. Numbers are looked at once the clauses of which cases
-    /// were refuted are met, and at the end.
+    /// Makes the formulas known, and goes through cases to one in which each known `or` has a part that is known. No other instance is made. The
+    /// classes of the atoms and of the terms in them are told apart. Whether there is such a case within so many splits. Nothing else was known to
+    /// the search. Numbers are looked at once the clauses of which cases were refuted are met, and at the end.
     pub fn satisfy(
         &mut self,
         bank: &Bank,
@@ -230,8 +229,8 @@ impl Engine {
         best
     }
 
-    // Whether a part of an `or` that isn't settled is known, or denies something of which nothing is known: what isn't known is made false, but
-    // for comparisons of numbers.
+    // Whether a part of an `or` that isn't settled is known, or denies something of which nothing is known. What isn't known is made false, but for
+    // comparisons of numbers.
     fn is_met(&self, bank: &Bank, formula: usize) -> bool {
         if self.state.nodes.has_held_part(bank, formula) {
             return true;

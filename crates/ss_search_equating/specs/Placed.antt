@@ -35,7 +35,7 @@ pub record AddsChains (b : Forms) (added : List tree.Line) (known : ℕ) (old ne
   pub lines : lines_of b new ≡ lines_of b old ++ added
   pub places : after ≡ before ++ numbers (known + length old) (length added)
 
--- how the equality of a join becomes known: it is that of a merge, or a line on the arguments that differ and then one on the terms
+-- How the equality of a join becomes known. It is that of a merge, or lines on the arguments that differ come first, and then one on the terms.
 pub record IsPlaced (b : Forms) (fs : List TermShape) (ms : List Merge) (es : List Join) (places : List ℕ) (known : ℕ) (e : Join) (old new : List Line) (place : ℕ) : Type 0 where
   pub by_merge : (k : ℕ) (m : Merge) → e.why ≡ Some k → slice_get ms k ≡ Some m → (lines_of b new ≡ lines_of b old) × (place ≡ m.because)
   pub by_arguments : (xs ys : List TermId) → IsCongruence fs e xs ys →

@@ -42,8 +42,7 @@ pub record AreKnown (cs : List ClassTree) (b : Forms) (ms : List Merge) (count :
   pub many : length known ≡ count
   pub merges : (k : ℕ) (m : Merge) → slice_get ms k ≡ Some m → IsKnown cs b known m ⊎ AreNames b m
 
--- The lines make known what they say, and at this place the fact: wherever the equalities of the merges are known, and what is given
--- besides.
+-- Where the equalities of the merges are known, and what is given besides, the lines make known what they say. The fact stands at this place then.
 pub record MakeKnown (b : Forms) (ms : List Merge) (count : ℕ) (Given : List ClassTree → List Formula → Type 0) (fact : Formula) (lines : List Line) (place : ℕ) : Type 0 where
   pub leads : (cs : List ClassTree) (premises : List Formula) (goal : Formula) (known : List Formula) → AreKnown cs b ms count known → Given cs known →
       Leads cs premises goal known (lines_of b lines) (known ++ facts_said (lines_of b lines)) []
@@ -56,7 +55,7 @@ pub record AreEqual (c : Standing) (xs ys : List TermId) : Type 0 where
   pub long : length xs ≡ length ys
   pub equal : (i : ℕ) (x y : TermId) → slice_get xs i ≡ Some x → slice_get ys i ≡ Some y → IsEqual c.terms c.merges x.0 y.0
 
--- At this place a literal of the first terms is known, and well formed, and the formula with this number is the same of the others.
+-- At this place a literal of the first terms is known, and well formed. The formula with this number is the same of the others.
 pub record IsLiteralAt (cs : List ClassTree) (b : Forms) (known : List Formula) (place : ℕ) (xs : List TermId) (f : FormulaId) (ys : List TermId) : Type 0 where
   pub sign : Bool
   pub predicate : Predicate

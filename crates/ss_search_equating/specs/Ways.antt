@@ -14,7 +14,7 @@ abbrev pub gone : List Join → ℕ → List ℕ → Option ℕ
 gone es x [] = Some x
 gone es x (j ∷ js) = option_and_then (λ e. option_and_then (λ y. gone es y js) (across x e)) (slice_get es j)
 
--- over the join n, where one term is in the class with this name that it renames, or in the one whose name it gives
+-- over the join n: the first term is in the class with this name, which the join renames, or whose name it gives
 abbrev pub over : (ℕ → ℕ → List ℕ) → ℕ → Option Join → ℕ → ℕ → ℕ → List ℕ
 over before n None class x y = []
 over before n (Some e) class x y = if class == e.from then before x e.left ++ n ∷ before e.right y else before x e.right ++ n ∷ before e.left y

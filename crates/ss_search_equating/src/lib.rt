@@ -1,5 +1,5 @@
-//! Lines of a derivation that make known what follows by congruence from known equalities: each is on terms that are equal, by the
-//! joins of their classes.
+//! Lines of a derivation that make known what follows by congruence from known equalities. Each is on terms that are equal, by the joins of their
+//! classes.
 #![tactic(auto)]
 
 mod ends;

@@ -78,9 +78,9 @@ fn model(
     }
 }
 
-/// The model that a candidate is, where it refutes the formulas. `classes` is a class for each term, by the terms' numbers, and 0 past
-/// its end. `truths` is a truth value for each pair of a formula and its negation, by half of their numbers, and false past its end: that of
-/// the atom or the `forall`. An error is want of memory.
+/// The model that a candidate is, where it refutes the formulas. `classes` is a class for each term, by the terms' numbers, and 0 past its end.
+/// `truths` is a truth value for each pair of a formula and its negation, by half of their numbers, and false past its end. It is that of the atom or
+/// the `forall`. An error is want of memory.
 pub fn countermodel(
     alloc: Global,
     bank: &Bank,

@@ -1,5 +1,5 @@
-//! A checker of models: whether a candidate makes each formula of a list come out true, keeps equality, functions and values apart, and
-//! meets what sums say of numbers.
+//! A checker of models: whether a candidate makes each formula of a list come out true. It has to respect equality, functions and different values
+//! too, and what sums say of numbers.
 #![tactic(auto)]
 
 mod agreeing;

@@ -12,7 +12,7 @@ use Rattle.ss_terms.specs.Forms.{formula_at}
 use Rattle.ss_search_procedure.specs.declared.settling.Settled.{Settled}
 use Rattle.ss_search_procedure.specs.declared.settling.Settled.TheVariants as settled
 use Rattle.ss_search_procedure.specs.declared.setting.Settling.{Settling}
-use Rattle.ss_search_procedure.specs.Choices.{settled_ones, IsSetting}
+use Rattle.ss_search_procedure.specs.Choices.{bank_of, settled_ones, IsSetting}
 use Rattle.ss_search_procedure.specs.Answers.{IfCountered}
 
 closed_to : (cs : List ClassTree) (fs : List Formula) (d depth : ℕ) → d ≤ depth → Closed cs d fs → Closed cs depth fs
@@ -33,9 +33,9 @@ not_enough cs fs reached limit depth stays i few many enough = ⊎_elim
 
 -- there are as many choices as are told
 pub as_many : (s : Settling) → IsSetting s → length s.choices.now ≡ length (told (settled_ones s))
-as_many s h = sym (length-map s.choices.now (formula_at s.bank.now)) ∙ ap length h.choices
+as_many s h = sym (length-map s.choices.now (formula_at (bank_of s))) ∙ ap length h.choices
 
 pub nothing_countered : (P : Countermodel → Type 0) (x : Settled) → IfCountered (λ m. ⊥) x → IfCountered P x
-nothing_countered P settled.Closed h = tt
+nothing_countered P (settled.Closed d) h = tt
 nothing_countered P (settled.Countered m) h = absurd h
 nothing_countered P settled.Spent h = tt

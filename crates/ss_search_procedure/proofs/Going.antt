@@ -1,30 +1,28 @@
--- What is known goes on.
-use Rattle.std.proofs.Common.{◌≡◌, ℕ, zero, suc, ◌≤◌, List, [], ◌∷◌, ◌++◌, length, take, Result, Ok, Err, refl, sym, ◌∙◌, ap, subst, ◌⊎◌, ⊎_elim, arith}
-use Rattle.std.specs.Prelude.{OnOk}
+-- What is reached goes on.
+use Rattle.std.proofs.Common.{◌≡◌, ◌<◌, ◌≤◌, List, [], ◌∷◌, ◌++◌, length, refl, sym, ◌∙◌, ap, subst, ◌⊎◌, ⊎_elim, arith}
 use Rattle.std.specs.List.{Contains}
-use Rattle.std.proofs.lemmas.List.{take-take, take_at, take_all, length-take, length-map}
-use Rattle.std.proofs.lemmas.List.Elements.{Contains-append_cases}
+use Rattle.std.proofs.lemmas.Bool.{cases_lt}
+use Rattle.std.proofs.lemmas.List.{length-map}
+use Rattle.ss_core.specs.Tree.{ClassTree}
 use Rattle.ss_logic.specs.Formulas.{Formula, Formulas, Literal, And, Or, Forall, Exists, no_formulas, formula_then, neg, neg_all}
 use Rattle.ss_logic.proofs.Truth.{neg_neg}
 use Rattle.ss_logic_countermodels.specs.Refuting.{told_in, all_told_in}
 use Rattle.ss_terms.specs.Forms.{formula_at}
-use Rattle.ss_search_procedure_rules.specs.Closed.{Includes, OccursIn}
-use Rattle.ss_search_procedure_rules.proofs.Lists.{contains_head, contains_cons, contains_none, contains_split}
-use Rattle.ss_search_reached.specs.declared.reached.Reached.{Reached}
-use Rattle.ss_search_reached.specs.Known.{IsReached}
+use Rattle.ss_deriv.specs.declared.line.Line.{Line}
+use Rattle.ss_deriv.specs.Lines.{lines_of}
+use Rattle.ss_search_closing.specs.Closing.{Closes}
+use Rattle.ss_search_procedure_rules.specs.Closed.{Includes}
+use Rattle.ss_search_procedure_rules.proofs.Lists.{contains_none, contains_split}
+use Rattle.ss_search_procedure_rules.proofs.Occurring.{from_collected}
+use Rattle.ss_search_path.proofs.Going.{goes_nowhere, goes_through, path_goes}
+use Rattle.ss_search_path.specs.Paths.{IsSame, IsPath}
+use Rattle.ss_search_reached.specs.Following.{Occur}
+use Rattle.ss_search_reached.proofs.Fronts.{front_long, front_includes, front_as_long}
+use Rattle.ss_search_reaching.specs.declared.reaching.Reaching.{Reaching}
+use Rattle.ss_search_reaching.specs.Reaching.{facts_of, Grows, ReachesFrom}
+use Rattle.ss_search_reaching.proofs.Learning.{nothing_grows, grows_more}
 use Rattle.ss_search_procedure.specs.declared.setting.Settling.{Settling}
-use Rattle.ss_search_procedure.specs.Choices.{chosen, facts, IsState, IsAmong, GoesOn}
-
-contains_take : {A : Type 0} (n : ℕ) (xs : List A) (x : A) → Contains (take n xs) x → Contains xs x
-contains_take zero xs x h = absurd (contains_none x h)
-contains_take (suc n) [] x h = h
-contains_take (suc n) (y ∷ xs) x h = ⊎_elim (λ e. subst (Contains (y ∷ xs)) e (contains_head y xs)) (λ k. contains_cons y xs x (contains_take n xs x k)) (contains_split y (take n xs) x h)
-
-front_long : {A : Type 0} (xs ys : List A) → take (length xs) ys ≡ xs → length xs ≤ length ys
-front_long xs ys e = let l = sym (length-take (length xs) ys) ∙ ap length e in omega (arith, l)
-
-front_includes : {A : Type 0} (xs ys : List A) → take (length xs) ys ≡ xs → Includes ys xs
-front_includes xs ys e x h = contains_take (length xs) ys x (subst (λ zs. Contains zs x) (sym e) h)
+use Rattle.ss_search_procedure.specs.Choices.{bank_of, settled_ones, reached_in, IsSetting, IsState, IsAmong, GoesOn, IsShown, ReachesBy, ClosesBy, HasLed}
 
 -- a formula and its negation tell the same
 mutual
@@ -39,64 +37,83 @@ mutual
   all_told_neg no_formulas = refl
   all_told_neg (formula_then f fs) = ap (λ gs. gs ++ all_told_in (neg_all fs)) (told_neg f) ∙ ap (λ gs. told_in f ++ gs) (all_told_neg fs)
 
--- ---- results
-
-pub ok_then : {A E P Q : Type 0} (r : Result A E) → (P → Q) → OnOk r P → OnOk r Q
-ok_then (Ok x) f h = f h
-ok_then (Err z) f h = tt
-
-pub ok_any : {A E P : Type 0} (r : Result A E) → P → OnOk r P
-ok_any (Ok x) h = h
-ok_any (Err z) h = tt
-
 -- ---- what goes on
 
 module _ (s : Settling) where
-  pub includes : (old new : Reached) → GoesOn s old new → Includes (facts s new) (facts s old)
-  includes old new g = front_includes (facts s old) (facts s new) g.front
+  pub includes : (old new : Reaching) → GoesOn s old new → Includes (reached_in s new) (reached_in s old)
+  includes old new g = front_includes (reached_in s old) (reached_in s new) g.grows.reached.front
 
-  pub longer : (old new : Reached) → GoesOn s old new → length old.known.items ≤ length new.known.items
+  pub longer : (old new : Reaching) → GoesOn s old new → length old.reached.known.items ≤ length new.reached.known.items
   longer old new g =
-      let l = front_long (facts s old) (facts s new) g.front in
-      omega (arith, l, length-map old.known.items (formula_at s.bank.now), length-map new.known.items (formula_at s.bank.now))
+      let l = front_long (reached_in s old) (reached_in s new) g.grows.reached.front in
+      omega (arith, l, length-map old.reached.known.items (formula_at (bank_of s)), length-map new.reached.known.items (formula_at (bank_of s)))
 
-  pub stays : (r : Reached) → IsState s r → GoesOn s r r
-  stays r h = record { state = h; front = take_all (length (facts s r)) (facts s r) (omega arith) }
+  -- where a formula is new there are more
+  pub much_longer : (old new : Reaching) (f : Formula) → GoesOn s old new → Contains (reached_in s new) f → (Contains (reached_in s old) f → ⊥) → length old.reached.known.items < length new.reached.known.items
+  much_longer old new f g there unknown = ⊎_elim
+      (λ (h : length old.reached.known.items < length new.reached.known.items). h)
+      (λ (h : length new.reached.known.items ≤ length old.reached.known.items).
+      let few : length (reached_in s new) ≤ length (reached_in s old) =
+      omega (arith, h, length-map old.reached.known.items (formula_at (bank_of s)), length-map new.reached.known.items (formula_at (bank_of s))) in
+      absurd (unknown (subst (λ fs. Contains fs f) (front_as_long (reached_in s old) (reached_in s new) g.grows.reached.front few) there)))
+      (cases_lt (length old.reached.known.items) (length new.reached.known.items))
 
-  pub goes_same : (old new : Reached) → IsState s new → facts s new ≡ facts s old → GoesOn s old new
-  goes_same old new h e = record { state = h; front = ap (take (length (facts s old))) e ∙ take_all (length (facts s old)) (facts s old) (omega arith) }
+  pub stays : (r : Reaching) → IsState s r → GoesOn s r r
+  stays r h = record { state = h; grows = nothing_grows s.given r h.reaching }
 
-  pub on_and_on : (x y z : Reached) → GoesOn s x y → GoesOn s y z → GoesOn s x z
-  on_and_on x y z g h = record {
-    state = h.state;
-    front = sym (take-take (length (facts s x)) (length (facts s y)) (facts s z) (front_long (facts s x) (facts s y) g.front)) ∙ ap (take (length (facts s x))) h.front ∙ g.front;
-  }
+  pub on_and_on : (x y z : Reaching) → GoesOn s x y → GoesOn s y z → GoesOn s x z
+  on_and_on x y z g h = record { state = h.state; grows = grows_more s.given x y z g.grows h.grows }
 
-  pub on_reach : (old new : Reached) → IsState s old → IsReached s.bank.now new → take (length (facts s old)) (facts s new) ≡ facts s old →
-      ((p : Formula) → OccursIn (facts s new) p → OccursIn (facts s old) p) → GoesOn s old new
-  on_reach old new h reached front occurs = record { state = record { reached = reached; choices = λ p o. h.choices p (occurs p o) }; front = front }
-
-  pub on_add : (old new : Reached) (f : Formula) → IsState s old → IsAmong s f → IsReached s.bank.now new → facts s new ≡ facts s old ++ f ∷ [] → GoesOn s old new
-  on_add old new f h among reached e = record {
+  -- what grows without what is new goes on
+  pub on_grows : (old new : Reaching) → IsState s old → Grows s.given old new → GoesOn s old new
+  on_grows old new h g = record {
     state = record {
-      reached = reached;
-      choices = λ p o. by p o.0 o.2 (Contains-append_cases (facts s old) (f ∷ []) o.0 (subst (λ fs. Contains fs o.0) e o.1));
+      reaching = g.state;
+      choices = λ p o. h.choices p (g.reached.occurs p o);
+      known = λ x c. front_includes (reached_in s old) (reached_in s new) g.reached.front x (h.known x c);
     };
-    front = ap (take (length (facts s old))) e ∙ take_at (facts s old) (f ∷ []) (length (facts s old)) refl;
+    grows = g;
   }
-    where
-      by : (p g : Formula) → Contains (told_in g) p → Contains (facts s old) g ⊎ Contains (f ∷ []) g → Contains (chosen s) p
-      by p g t c = ⊎_elim
-          (λ a. h.choices p (g, a, t))
-          (λ a. ⊎_elim (λ e. among.told p (subst (λ x. Contains (told_in x) p) (sym e) t)) (λ n. absurd (contains_none g n)) (contains_split f [] g a))
-          c
 
   pub among_negation : (f g : Formula) → g ≡ neg f → IsAmong s f → IsAmong s g
   among_negation f g e h = record { told = λ x t. h.told x (subst (λ gs. Contains gs x) (told_neg f) (subst (λ k. Contains (told_in k) x) e t)) }
 
-  -- what was added is taken back
-  pub taken_back : (old new after : Reached) (mark : ℕ) → GoesOn s old new → mark ≡ length old.known.items → facts s after ≡ take mark (facts s new) → facts s after ≡ facts s old
-  taken_back old new after mark g m e = e ∙ ap (λ n. take n (facts s new)) (m ∙ sym (length-map old.known.items (formula_at s.bank.now))) ∙ g.front
+  pub among_occurs : IsSetting s → (r : Reaching) → IsState s r → (f : Formula) → IsAmong s f → Occur (reached_in s r) (f ∷ [])
+  among_occurs h r state f among p o =
+      let told : Contains (told_in f) p = ⊎_elim (λ e. subst (λ g. Contains (told_in g) p) (sym e) o.2) (λ n. absurd (contains_none o.0 n)) (contains_split f [] o.0 o.1) in
+      let from = from_collected told_in (settled_ones s) p (subst (λ fs. Contains fs p) h.choices (among.told p told)) in
+      (from.0, state.known from.0 from.1, from.2)
 
-  pub state_back : (old after : Reached) → IsState s old → IsReached s.bank.now after → facts s after ≡ facts s old → IsState s after
-  state_back old after h reached e = record { reached = reached; choices = λ p o. h.choices p (o.0, subst (λ fs. Contains fs o.0) e o.1, o.2) }
+  -- ---- what is shown
+
+  pub reaches_nothing : (r : Reaching) → ReachesBy s r r
+  reaches_nothing r cs premises goal h = record { shows = h.shows; goes_on = goes_nowhere cs premises goal (bank_of s) r.path r.path (record { before = refl; behind = refl; known = refl }) }
+
+  pub reaches_on : (x y z : Reaching) → ReachesBy s x y → ReachesBy s y z → ReachesBy s x z
+  reaches_on x y z one two cs premises goal h =
+      let a = one cs premises goal h in
+      let b = two cs premises goal (record { bank = h.bank; formed = h.formed; shows = a.shows }) in
+      record { shows = b.shows; goes_on = goes_through cs premises goal (bank_of s) x.path y.path z.path a.goes_on b.goes_on }
+
+  pub reaches_from : (old new : Reaching) → ReachesFrom s.given old new → ReachesBy s old new
+  reaches_from old new r cs premises goal h = r cs premises goal h.shows
+
+  -- what is shown still, where the path is the same
+  pub reaches_same : (old new : Reaching) → IsSame old.path new.path → ((cs : List ClassTree) → IsShown cs s old → IsShown cs s new) → ReachesBy s old new
+  reaches_same old new same shown cs premises goal h = record { shows = (shown cs h).shows; goes_on = goes_nowhere cs premises goal (bank_of s) old.path new.path same }
+
+  pub shown_on : (old new : Reaching) → ReachesBy s old new → (cs : List ClassTree) → IsShown cs s old → IsShown cs s new
+  shown_on old new r cs h = record { bank = h.bank; formed = h.formed; shows = (r cs [] (And no_formulas) h).shows }
+
+  -- lines that close the case from a later state close it from an earlier one
+  pub closes_on : (x y z : Reaching) (lines : List Line) → ReachesBy s x y → ClosesBy s y z lines → ClosesBy s x z lines
+  closes_on x y z lines to closes cs premises goal h = closes cs premises goal (shown_on x y to cs h)
+
+  -- ---- from nothing
+
+  pub led_on : (cs : List ClassTree) (premises : List Formula) (goal : Formula) (old new : Reaching) → HasLed cs premises goal s old → ReachesBy s old new → IsPath cs premises goal (bank_of s) [] new.path
+  led_on cs premises goal old new led to = path_goes cs premises goal (bank_of s) [] old.path new.path led.path (to cs premises goal led.shown).goes_on
+
+  pub led_to_end : (old new : Reaching) (lines : List Line) → ((cs : List ClassTree) × (premises : List Formula) × (goal : Formula) × HasLed cs premises goal s old) → ReachesBy s old new → ClosesBy s old new lines →
+      (cs : List ClassTree) × (premises : List Formula) × (goal : Formula) × IsPath cs premises goal (bank_of s) [] new.path × Closes cs premises goal (facts_of s.given new) (lines_of (bank_of s) lines)
+  led_to_end old new lines led to closes = (led.0, led.1, led.2, led_on led.0 led.1 led.2 old new led.3 to, closes led.0 led.1 led.2 led.3.shown)

@@ -1,6 +1,9 @@
 pub mod Going
+pub mod Sides
+pub mod Undoing
 pub mod Steps
 pub mod Tried
 pub mod Deciding
 pub mod Limits
 pub mod Enough
+pub mod Beginning

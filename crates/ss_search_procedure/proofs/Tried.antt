@@ -1,9 +1,8 @@
 -- What was tried, and what stays open.
-use Rattle.std.proofs.Common.{◌≡◌, ℕ, suc, ◌+◌, ◌-◌, ◌<◌, ◌≤◌, List, [], ◌∷◌, ◌++◌, length, take, get_or, Bool, true, false, not, refl, sym, ◌∙◌, ap, subst, inr, ◌⊎◌, ⊎_elim}
+use Rattle.std.proofs.Common.{ℕ, suc, ◌+◌, ◌-◌, ◌<◌, ◌≤◌, List, [], ◌∷◌, length, take, get_or, sym, ◌∙◌, ap, subst, inr, ◌⊎◌, ⊎_elim}
 use Rattle.std.specs.List.{Contains}
-use Rattle.std.proofs.lemmas.Bool.{true≢false}
 use Rattle.std.proofs.lemmas.List.{take_more, take_all, map-append}
-use Rattle.std.proofs.lemmas.List.Elements.{Contains-append_left, Contains-append_cases, Contains-push}
+use Rattle.std.proofs.lemmas.List.Elements.{Contains-append_cases}
 use Rattle.ss_core.specs.Tree.{ClassTree}
 use Rattle.ss_logic.specs.Formulas.{Formula, neg}
 use Rattle.ss_logic.proofs.Truth.{neg_neg}
@@ -12,9 +11,9 @@ use Rattle.ss_terms.specs.Forms.{Forms, formula_at, formulas_at}
 use Rattle.ss_search_procedure_rules.specs.Closed.{Includes, IsStable, StaysOpen}
 use Rattle.ss_search_procedure_rules.proofs.Lists.{contains_none, contains_split}
 use Rattle.ss_search_procedure_rules.proofs.Open.{open_isn't_closed}
-use Rattle.ss_search_reached.specs.declared.reached.Reached.{Reached}
+use Rattle.ss_search_reaching.specs.declared.reaching.Reaching.{Reaching}
 use Rattle.ss_search_procedure.specs.declared.setting.Settling.{Settling}
-use Rattle.ss_search_procedure.specs.Choices.{chosen, facts, first_chosen, IsState, GoesOn, IsTried, AreTried}
+use Rattle.ss_search_procedure.specs.Choices.{chosen, reached_in, first_chosen, IsState, IsTried, AreTried}
 
 -- ---- by choices, one after the other
 
@@ -33,27 +32,20 @@ all_of_them b P fs i h all p c = all p (subst (λ gs. Contains (formulas_at b gs
 -- ---- what was tried
 
 module _ (s : Settling) (cs : List ClassTree) where
-  pub tried : (depth : ℕ) (old new : Reached) (p : Formula) → GoesOn s old new → Includes (facts s new) (facts s old ++ p ∷ []) → StaysOpen cs depth (facts s new) → IsTried cs depth (facts s old) p
-  tried depth old new p g more stays = inr (inr (λ c. open_isn't_closed cs depth (facts s new) stays (p ∷ facts s old) with_it c))
+  pub tried : (depth : ℕ) (old new : Reaching) (p : Formula) → Includes (reached_in s new) (reached_in s old) → Contains (reached_in s new) p → StaysOpen cs depth (reached_in s new) → IsTried cs depth (reached_in s old) p
+  tried depth old new p more there stays = inr (inr (λ c. open_isn't_closed cs depth (reached_in s new) stays (p ∷ reached_in s old) with_it c))
     where
-      with_it : Includes (facts s new) (p ∷ facts s old)
-      with_it x h = more x (⊎_elim
-          (λ e. subst (Contains (facts s old ++ p ∷ [])) e (Contains-push (facts s old) p))
-          (λ k. Contains-append_left (facts s old) (p ∷ []) x k)
-          (contains_split p (facts s old) x h))
+      with_it : Includes (reached_in s new) (p ∷ reached_in s old)
+      with_it x h = ⊎_elim (λ e. subst (Contains (reached_in s new)) e there) (λ k. more x k) (contains_split p (reached_in s old) x h)
 
-  pub nothing_follows : (depth : ℕ) (r : Reached) → IsStable cs (facts s r) → IsState s r → ((p : Formula) → Contains (chosen s) p → AreTried cs depth (facts s r) p) → StaysOpen cs (suc depth) (facts s r)
+  pub nothing_follows : (depth : ℕ) (r : Reaching) → IsStable cs (reached_in s r) → IsState s r → ((p : Formula) → Contains (chosen s) p → AreTried cs depth (reached_in s r) p) → StaysOpen cs (suc depth) (reached_in s r)
   nothing_follows depth r stable has h = (
     stable,
     λ p c. ⊎_elim
         (λ o. (h p (has.choices p o)).0)
-        (λ o. subst (IsTried cs depth (facts s r)) (neg_neg p) (h (neg p) (has.choices (neg p) o)).1)
+        (λ o. subst (IsTried cs depth (reached_in s r)) (neg_neg p) (h (neg p) (has.choices (neg p) o)).1)
         c,
   )
 
   pub none_tried : (depth : ℕ) (known : List Formula) (p : Formula) → Contains (first_chosen s 0) p → AreTried cs depth known p
   none_tried depth known p c = absurd (contains_none p c)
-
-pub was_open : (b : Bool) → not b ≡ false → b ≡ true
-was_open true e = refl
-was_open false e = absurd (true≢false e)

@@ -5,6 +5,9 @@ mod nested;
 mod powers;
 mod setting;
 mod settling;
+mod starting;
 mod total;
+mod trials;
 
-pub use settling::{Settled, settle_by};
+pub use settling::Settled;
+pub use starting::settle_by;

@@ -6,115 +6,140 @@ ghost use Rattle.ss_core.specs.Tree.{ClassTree};
 ghost use Rattle.ss_logic.specs.Formulas.{Formula, neg};
 ghost use Rattle.ss_terms.specs.Forms.{formula_at, HasFormula, IsBankOf};
 ghost use Rattle.ss_search_procedure_rules.specs.Closed.{IsStable, StaysOpen};
-ghost use Rattle.ss_search_reached.specs.Known.{IsReached};
-ghost use Rattle.ss_search_procedure.specs.Choices.{chosen, facts, IsSetting, IsState, IsAmong, GoesOn, IsUnknown, IsOpenChoice, IsTried, AreTried};
+ghost use Rattle.ss_search_reaching.specs.Reaching.{IsReaching};
+ghost use Rattle.ss_search_procedure.specs.Choices.{bank_of, chosen, reached_in, IsSetting, IsState, IsSide, GoesOn, IsUnknown, IsOpenChoice, IsTried, AreTried, ReachesBy, ClosesBy, IsLast};
 
 use crate::setting::Settling;
-use ss_search_reached::Reached;
+use ss_deriv::Line;
+use ss_search_reaching::Reaching;
 use ss_terms::FormulaId;
 use std::alloc::AllocError;
 
 impl Settling<'_> {
-    /// Whether a formula or its negation is known.
-    pub(crate) fn is_decided(&self, reached: &Reached, p: FormulaId) -> bool
-        requires reached { IsReached self.now.bank.now reached.now }
-        requires formula { HasFormula self.now.bank.now p }
-        ensures yes { result ≡ true → Contains (facts self.now reached.now) (formula_at self.now.bank.now p) ⊎ Contains (facts self.now reached.now) (neg (formula_at self.now.bank.now p)) }
-        ensures no { result ≡ false → IsUnknown (facts self.now reached.now) (formula_at self.now.bank.now p) }
+    /// Whether a formula or its negation is reached.
+    pub(crate) fn is_decided(&self, reaching: &Reaching, p: FormulaId) -> bool
+        requires state { IsReaching self.now.given reaching.now }
+        requires formula { HasFormula (bank_of self.now) p }
+        ensures yes { result ≡ true → Contains (reached_in self.now reaching.now) (formula_at (bank_of self.now) p) ⊎ Contains (reached_in self.now reaching.now) (neg (formula_at (bank_of self.now) p)) }
+        ensures no { result ≡ false → IsUnknown (reached_in self.now reaching.now) (formula_at (bank_of self.now) p) }
     {
-        if reached.knows(self.bank, p) {
+        if reaching.reached.knows(self.given.bank, p) {
             return true;
         }
-        let other = self.bank.negation(p);
-        reached.knows(self.bank, other)
+        let other = self.given.bank.negation(p);
+        reaching.reached.knows(self.given.bank, other)
     }
 
-    /// Makes known what follows by splits nested this deep. Whether that is open: false where it is closed.
+    /// Makes known what follows by splits nested this deep. Lines that close the case at the end of the path; none where it is open.
     #[cycle(nested)]
-    pub(crate) fn lower(&self, reached: &mut Reached, depth: usize) -> Result<bool, AllocError>
+    pub(crate) fn lower(
+        &self,
+        reaching: &mut Reaching,
+        depth: usize,
+    ) -> Result<Option<Vec<Line>>, AllocError>
         requires setting { IsSetting self.now }
-        requires state { IsState self.now reached.old }
-        ensures goes_on { OnOk result (GoesOn self.now reached.old reached.new) }
-        ensures stays_open { (cs : List ClassTree) → IsBankOf cs self.now.bank.now → IfOk result (λ is_open. is_open ≡ true → StaysOpen cs depth (facts self.now reached.new)) }
+        requires state { IsState self.now reaching.old }
+        ensures goes_on { OnOk result (GoesOn self.now reaching.old reaching.new) }
+        ensures stays_open { (cs : List ClassTree) → IsBankOf cs (bank_of self.now) → IfOk result (λ o. o ≡ None → StaysOpen cs depth (reached_in self.now reaching.new)) }
+        ensures reaches { OnOk result (ReachesBy self.now reaching.old reaching.new) }
+        ensures closes { IfOk result (λ o. IfSome o (λ v. ClosesBy self.now reaching.old reaching.new v.items)) }
     {
-        if !reached.reach(self.alloc, self.bank)? {
-            return Ok(false);
+        if let Some(lines) = reaching.reach(&self.given)? {
+            return Ok(Some(lines));
         }
         if depth == 0 {
-            return Ok(true);
+            return Ok(None);
         }
-        self.settle_choices(reached, depth - 1)
+        self.settle_choices(reaching, depth - 1)
     }
 
     // Adds the negation of each choice that is closed at this depth, and what follows, until there is none.
     #[cycle(nested)]
-    fn settle_choices(&self, reached: &mut Reached, depth: usize) -> Result<bool, AllocError>
+    fn settle_choices(
+        &self,
+        reaching: &mut Reaching,
+        depth: usize,
+    ) -> Result<Option<Vec<Line>>, AllocError>
         requires setting { IsSetting self.now }
-        requires state { IsState self.now reached.old }
-        requires stable { (cs : List ClassTree) → IsBankOf cs self.now.bank.now → IsStable cs (facts self.now reached.old) }
-        ensures goes_on { OnOk result (GoesOn self.now reached.old reached.new) }
-        ensures stays_open { (cs : List ClassTree) → IsBankOf cs self.now.bank.now → IfOk result (λ is_open. is_open ≡ true → StaysOpen cs (suc depth) (facts self.now reached.new)) }
+        requires state { IsState self.now reaching.old }
+        requires stable { (cs : List ClassTree) → IsBankOf cs (bank_of self.now) → IsStable cs (reached_in self.now reaching.old) }
+        ensures goes_on { OnOk result (GoesOn self.now reaching.old reaching.new) }
+        ensures stays_open { (cs : List ClassTree) → IsBankOf cs (bank_of self.now) → IfOk result (λ o. o ≡ None → StaysOpen cs (suc depth) (reached_in self.now reaching.new)) }
+        ensures reaches { OnOk result (ReachesBy self.now reaching.old reaching.new) }
+        ensures closes { IfOk result (λ o. IfSome o (λ v. ClosesBy self.now reaching.old reaching.new v.items)) }
     {
-        while let Some(p) = self.closed_choice(reached, depth)? {
-            let other = self.bank.negation(p);
-            reached.add(self.bank, other)?;
-            if !reached.reach(self.alloc, self.bank)? {
-                return Ok(false);
+        while let Some(p) = self.closed_choice(reaching, depth)? {
+            let other = self.given.bank.negation(p);
+            self.learn_last(reaching, other)?;
+            if let Some(lines) = reaching.reach(&self.given)? {
+                return Ok(Some(lines));
             }
         }
-        Ok(true)
+        Ok(None)
     }
 
-    // A choice, or the negation of one, that is closed at this depth, where there is one.
+    // A choice, or the negation of one, that is closed at this depth, where there is one. What denies it is the last fact then.
     #[cycle(nested)]
     fn closed_choice(
         &self,
-        reached: &mut Reached,
+        reaching: &mut Reaching,
         depth: usize,
     ) -> Result<Option<FormulaId>, AllocError>
         requires setting { IsSetting self.now }
-        requires state { IsState self.now reached.old }
-        ensures state { OnOk result (IsState self.now reached.new) }
-        ensures same { OnOk result (facts self.now reached.new ≡ facts self.now reached.old) }
-        ensures found { IfOk result (λ o. IfSome o (IsOpenChoice self.now reached.old)) }
-        ensures none { (cs : List ClassTree) → IsBankOf cs self.now.bank.now → IfOk result (λ o. o ≡ None → (p : Formula) → Contains (chosen self.now) p → AreTried cs depth (facts self.now reached.old) p) }
+        requires state { IsState self.now reaching.old }
+        ensures goes_on { OnOk result (GoesOn self.now reaching.old reaching.new) }
+        ensures same { OnOk result (reached_in self.now reaching.new ≡ reached_in self.now reaching.old) }
+        ensures found { IfOk result (λ o. IfSome o (IsOpenChoice self.now reaching.old)) }
+        ensures none { (cs : List ClassTree) → IsBankOf cs (bank_of self.now) → IfOk result (λ o. o ≡ None → (p : Formula) → Contains (chosen self.now) p → AreTried cs depth (reached_in self.now reaching.old) p) }
+        ensures reaches { OnOk result (ReachesBy self.now reaching.old reaching.new) }
+        ensures denied { IfOk result (λ o. IfSome o (λ p. IsLast (bank_of self.now) (neg (formula_at (bank_of self.now) p)) reaching.new.path)) }
     {
         for p in self.choices {
-            if self.is_closed(reached, depth, *p)? {
+            if self.is_closed(reaching, depth, *p)? {
                 return Ok(Some(*p));
             }
-            let other = self.bank.negation(*p);
-            if self.is_closed(reached, depth, other)? {
+            let other = self.given.bank.negation(*p);
+            if self.is_closed(reaching, depth, other)? {
                 return Ok(Some(other));
             }
         }
         Ok(None)
     }
 
-    // Whether the formula, where it is known too, is closed at this depth. Where it is known or denied already the answer is no.
+    // Whether the formula, where it is reached too, is closed at this depth: then its negation is the last fact. Where it is reached or
+    // denied already the answer is no.
     #[cycle(nested)]
     fn is_closed(
         &self,
-        reached: &mut Reached,
+        reaching: &mut Reaching,
         depth: usize,
         p: FormulaId,
     ) -> Result<bool, AllocError>
         requires setting { IsSetting self.now }
-        requires state { IsState self.now reached.old }
-        requires formula { HasFormula self.now.bank.now p }
-        requires told { IsAmong self.now (formula_at self.now.bank.now p) }
-        ensures state { OnOk result (IsState self.now reached.new) }
-        ensures same { OnOk result (facts self.now reached.new ≡ facts self.now reached.old) }
-        ensures closed { IfOk result (λ closed. closed ≡ true → IsUnknown (facts self.now reached.old) (formula_at self.now.bank.now p)) }
-        ensures tried { (cs : List ClassTree) → IsBankOf cs self.now.bank.now → IfOk result (λ closed. closed ≡ false → IsTried cs depth (facts self.now reached.old) (formula_at self.now.bank.now p)) }
+        requires state { IsState self.now reaching.old }
+        requires formula { HasFormula (bank_of self.now) p }
+        requires side { IsSide self.now (formula_at (bank_of self.now) p) }
+        ensures goes_on { OnOk result (GoesOn self.now reaching.old reaching.new) }
+        ensures same { OnOk result (reached_in self.now reaching.new ≡ reached_in self.now reaching.old) }
+        ensures closed { IfOk result (λ closed. closed ≡ true → IsUnknown (reached_in self.now reaching.old) (formula_at (bank_of self.now) p)) }
+        ensures tried { (cs : List ClassTree) → IsBankOf cs (bank_of self.now) → IfOk result (λ closed. closed ≡ false → IsTried cs depth (reached_in self.now reaching.old) (formula_at (bank_of self.now) p)) }
+        ensures reaches { OnOk result (ReachesBy self.now reaching.old reaching.new) }
+        ensures denied { IfOk result (λ closed. closed ≡ true → IsLast (bank_of self.now) (neg (formula_at (bank_of self.now) p)) reaching.new.path) }
     {
-        if self.is_decided(reached, p) {
+        if self.is_decided(reaching, p) {
             return Ok(false);
         }
-        let mark = reached.mark();
-        reached.add(self.bank, p)?;
-        let is_open = self.lower(reached, depth)?;
-        reached.undo(self.bank, mark);
-        Ok(!is_open)
+        let marks = reaching.mark();
+        self.suppose(reaching, p)?;
+        match self.lower(reaching, depth)? {
+            Some(lines) => {
+                self.deny(reaching, marks, p, lines)?;
+                Ok(true)
+            }
+            None => {
+                self.take_back(reaching, marks, p);
+                Ok(false)
+            }
+        }
     }
 }

@@ -1,13 +1,12 @@
 // What is settled.
 
-use ss_terms::{Bank, FormulaId};
-use std::alloc::Global;
+use ss_search_standing::Given;
+use ss_terms::FormulaId;
 
-/// Formulas of a bank, and the atoms and quantified formulas that occur in them.
+/// Formulas of a bank with what they come from, and the atoms and quantified formulas that occur in them.
 #[derive(Clone, Copy)]
 pub(crate) struct Settling<'a> {
-    pub(crate) alloc: Global,
-    pub(crate) bank: &'a Bank,
+    pub(crate) given: Given<'a>,
     pub(crate) formulas: &'a [FormulaId],
     pub(crate) choices: &'a [FormulaId],
 }

@@ -1,107 +1,120 @@
 // All splits, one choice after the other.
 
-ghost use Rattle.std.specs.Prelude.{◌≡◌, ◌≤◌, ◌<◌, List, length, IfOk, IfSome, OnOk};
-ghost use Rattle.std.specs.List.{Contains};
+ghost use Rattle.std.specs.Prelude.{◌≤◌, ◌<◌, List, length, IfOk, OnOk};
 ghost use Rattle.ss_core.specs.Tree.{ClassTree};
 ghost use Rattle.ss_logic_countermodels.specs.Refuting.{Refutes, model_of};
 ghost use Rattle.ss_terms.specs.Forms.{formula_at, HasFormula, IsBankOf};
-ghost use Rattle.ss_search_procedure_rules.specs.Closed.{Includes};
 ghost use Rattle.ss_search_reached.specs.Following.{IsOpen};
-ghost use Rattle.ss_search_procedure.specs.Choices.{settled_ones, chosen, first_chosen, facts, IsSetting, IsState, GoesOn, AreDecided, IsNext};
+ghost use Rattle.ss_search_procedure.specs.Choices.{bank_of, settled_ones, chosen, first_chosen, reached_in, IsSetting, IsState, IsSide, GoesOn, AreDecided, IsNext, ReachesBy, ClosesBy, IsLast};
+ghost use Rattle.ss_search_procedure.specs.Answers.{IfModel, IfLines};
 
 use crate::setting::Settling;
+use ss_deriv::Line;
 use ss_logic_countermodels::Countermodel;
-use ss_search_reached::Reached;
+use ss_search_reaching::Reaching;
 use ss_terms::FormulaId;
 use std::alloc::AllocError;
 
+/// What all splits end in: a model, or lines that close the case at the end of the path.
+#[derive(Drop)]
+pub(crate) enum Decided {
+    Model(Countermodel),
+    Closed(Vec<Line>),
+}
+
 impl Settling<'_> {
-    // The model that what is known is, where of each choice one side is.
-    fn model(&self, reached: &Reached) -> Result<Option<Countermodel>, AllocError>
+    // The model that what is reached is, where of each choice one side is.
+    fn model(&self, reaching: &Reaching) -> Result<Decided, AllocError>
         requires setting { IsSetting self.now }
-        requires state { IsState self.now reached.now }
-        requires known { Includes (facts self.now reached.now) (settled_ones self.now) }
-        requires decided { AreDecided (facts self.now reached.now) (chosen self.now) }
-        requires is_open { (cs : List ClassTree) → IsBankOf cs self.now.bank.now → IsOpen cs self.now.bank.now reached.now }
-        ensures { (cs : List ClassTree) → IsBankOf cs self.now.bank.now → IfOk result (λ o. IfSome o (λ m. Refutes cs (model_of (settled_ones self.now) m.classes.items m.truth.items) (settled_ones self.now))) }
+        requires state { IsState self.now reaching.now }
+        requires decided { AreDecided (reached_in self.now reaching.now) (chosen self.now) }
+        requires is_open { (cs : List ClassTree) → IsBankOf cs (bank_of self.now) → IsOpen cs (bank_of self.now) reaching.now.reached }
+        ensures model { (cs : List ClassTree) → IsBankOf cs (bank_of self.now) → IfOk result (IfModel (λ m. Refutes cs (model_of (settled_ones self.now) m.classes.items m.truth.items) (settled_ones self.now))) }
+        ensures lines { IfOk result (IfLines (λ lines. ⊥)) }
     {
-        let model = reached.model(self.alloc, self.bank, self.formulas, self.choices)?;
-        Ok(Some(model))
+        let given = &self.given;
+        let model = reaching
+            .reached
+            .model(given.alloc, given.bank, self.formulas, self.choices)?;
+        Ok(Decided::Model(model))
     }
 
-    /// A model of the formulas, where of the first so many choices one side is known.
+    /// A model of the formulas, or closing lines, where of the first so many choices one side is reached.
     #[cycle(deciding)]
     pub(crate) fn decide(
         &self,
-        reached: &mut Reached,
+        reaching: &mut Reaching,
         decided: usize,
-    ) -> Result<Option<Countermodel>, AllocError>
+    ) -> Result<Decided, AllocError>
         requires setting { IsSetting self.now }
-        requires state { IsState self.now reached.old }
-        requires known { Includes (facts self.now reached.old) (settled_ones self.now) }
-        requires decided { AreDecided (facts self.now reached.old) (first_chosen self.now decided) }
+        requires state { IsState self.now reaching.old }
+        requires decided { AreDecided (reached_in self.now reaching.old) (first_chosen self.now decided) }
         requires few { decided ≤ length self.now.choices.now }
-        ensures goes_on { OnOk result (GoesOn self.now reached.old reached.new) }
-        ensures model { (cs : List ClassTree) → IsBankOf cs self.now.bank.now → IfOk result (λ o. IfSome o (λ m. Refutes cs (model_of (settled_ones self.now) m.classes.items m.truth.items) (settled_ones self.now))) }
+        ensures goes_on { OnOk result (GoesOn self.now reaching.old reaching.new) }
+        ensures model { (cs : List ClassTree) → IsBankOf cs (bank_of self.now) → IfOk result (IfModel (λ m. Refutes cs (model_of (settled_ones self.now) m.classes.items m.truth.items) (settled_ones self.now))) }
+        ensures reaches { IfOk result (IfLines (λ lines. ReachesBy self.now reaching.old reaching.new)) }
+        ensures closes { IfOk result (IfLines (ClosesBy self.now reaching.old reaching.new)) }
     {
-        if !reached.reach(self.alloc, self.bank)? {
-            return Ok(None);
+        if let Some(lines) = reaching.reach(&self.given)? {
+            return Ok(Decided::Closed(lines));
         }
         if decided < self.choices.len() {
-            self.split(reached, decided)
+            self.split(reaching, decided)
         } else {
-            self.model(reached)
+            self.model(reaching)
         }
     }
 
     // The same, where some choice is left.
     #[cycle(deciding)]
-    fn split(
-        &self,
-        reached: &mut Reached,
-        decided: usize,
-    ) -> Result<Option<Countermodel>, AllocError>
+    fn split(&self, reaching: &mut Reaching, decided: usize) -> Result<Decided, AllocError>
         requires setting { IsSetting self.now }
-        requires state { IsState self.now reached.old }
-        requires known { Includes (facts self.now reached.old) (settled_ones self.now) }
-        requires decided { AreDecided (facts self.now reached.old) (first_chosen self.now decided) }
+        requires state { IsState self.now reaching.old }
+        requires decided { AreDecided (reached_in self.now reaching.old) (first_chosen self.now decided) }
         requires few { decided < length self.now.choices.now }
-        ensures goes_on { OnOk result (GoesOn self.now reached.old reached.new) }
-        ensures model { (cs : List ClassTree) → IsBankOf cs self.now.bank.now → IfOk result (λ o. IfSome o (λ m. Refutes cs (model_of (settled_ones self.now) m.classes.items m.truth.items) (settled_ones self.now))) }
+        ensures goes_on { OnOk result (GoesOn self.now reaching.old reaching.new) }
+        ensures model { (cs : List ClassTree) → IsBankOf cs (bank_of self.now) → IfOk result (IfModel (λ m. Refutes cs (model_of (settled_ones self.now) m.classes.items m.truth.items) (settled_ones self.now))) }
+        ensures reaches { IfOk result (IfLines (λ lines. ReachesBy self.now reaching.old reaching.new)) }
+        ensures closes { IfOk result (IfLines (ClosesBy self.now reaching.old reaching.new)) }
     {
         let p = self.choices[decided];
-        if self.is_decided(reached, p) {
-            return self.decide(reached, decided + 1);
+        if self.is_decided(reaching, p) {
+            return self.decide(reaching, decided + 1);
         }
-        let other = self.bank.negation(p);
-        let mark = reached.mark();
-        if let Some(model) = self.with_side(reached, decided, p)? {
-            return Ok(Some(model));
+        let other = self.given.bank.negation(p);
+        let marks = reaching.mark();
+        self.suppose(reaching, p)?;
+        match self.decide(reaching, decided + 1)? {
+            Decided::Model(model) => Ok(Decided::Model(model)),
+            Decided::Closed(lines) => {
+                self.deny(reaching, marks, p, lines)?;
+                self.with_side(reaching, decided, other)
+            }
         }
-        reached.undo(self.bank, mark);
-        self.with_side(reached, decided, other)
     }
 
-    // The same, where this side of the next choice is known too.
+    // The same, where this side of the next choice is the last fact.
     #[cycle(deciding)]
     fn with_side(
         &self,
-        reached: &mut Reached,
+        reaching: &mut Reaching,
         decided: usize,
         side: FormulaId,
-    ) -> Result<Option<Countermodel>, AllocError>
+    ) -> Result<Decided, AllocError>
         requires setting { IsSetting self.now }
-        requires state { IsState self.now reached.old }
-        requires known { Includes (facts self.now reached.old) (settled_ones self.now) }
-        requires decided { AreDecided (facts self.now reached.old) (first_chosen self.now decided) }
+        requires state { IsState self.now reaching.old }
+        requires decided { AreDecided (reached_in self.now reaching.old) (first_chosen self.now decided) }
         requires few { decided < length self.now.choices.now }
-        requires side { HasFormula self.now.bank.now side }
-        requires next { IsNext self.now decided (formula_at self.now.bank.now side) }
-        requires new { Contains (facts self.now reached.old) (formula_at self.now.bank.now side) → ⊥ }
-        ensures goes_on { OnOk result (GoesOn self.now reached.old reached.new) }
-        ensures model { (cs : List ClassTree) → IsBankOf cs self.now.bank.now → IfOk result (λ o. IfSome o (λ m. Refutes cs (model_of (settled_ones self.now) m.classes.items m.truth.items) (settled_ones self.now))) }
+        requires formula { HasFormula (bank_of self.now) side }
+        requires side { IsSide self.now (formula_at (bank_of self.now) side) }
+        requires next { IsNext self.now decided (formula_at (bank_of self.now) side) }
+        requires last { IsLast (bank_of self.now) (formula_at (bank_of self.now) side) reaching.old.path }
+        ensures goes_on { OnOk result (GoesOn self.now reaching.old reaching.new) }
+        ensures model { (cs : List ClassTree) → IsBankOf cs (bank_of self.now) → IfOk result (IfModel (λ m. Refutes cs (model_of (settled_ones self.now) m.classes.items m.truth.items) (settled_ones self.now))) }
+        ensures reaches { IfOk result (IfLines (λ lines. ReachesBy self.now reaching.old reaching.new)) }
+        ensures closes { IfOk result (IfLines (ClosesBy self.now reaching.old reaching.new)) }
     {
-        reached.add(self.bank, side)?;
-        self.decide(reached, decided + 1)
+        self.learn_last(reaching, side)?;
+        self.decide(reaching, decided + 1)
     }
 }

@@ -1,4 +1,4 @@
--- What is told in a formula is told in itself and in its negation, and a list has it where it has one of the two.
+-- What is told in a formula is told in itself and in its negation. A list has it where it has one of the two.
 use Rattle.std.proofs.Common.{◌≡◌, List, [], ◌∷◌, Bool, true, false, refl, sym, subst, ⊎_elim}
 use Rattle.std.specs.Prelude.{◌==◌}
 use Rattle.std.specs.Bool.{beq}

@@ -25,7 +25,7 @@ pub record Fits (fs : List Formula) : Type 0 where
   pub model : Model
   pub agrees : Agrees model fs
 
--- The formula isn't refuted where these are known: a literal fits them, of an `and` no part is refuted, of an `or` some part isn't.
+-- The formula isn't refuted beside these: a literal fits them, of an `and` no part is refuted, of an `or` some part isn't.
 abbrev mutual
   pub MayHold : List Formula → Formula → Type 0
   MayHold known (Literal sign p ts) = Fits (Literal sign p ts ∷ known)
@@ -74,8 +74,8 @@ OccursIn fs p = (f : Formula) × Contains fs f × Contains (told_in f) p
 abbrev pub IsChoice : List Formula → Formula → Type 0
 IsChoice fs p = OccursIn fs p ⊎ OccursIn fs (neg p)
 
--- Closed by splits nested this deep. A split has one side that is closed by splits nested less deep, so a chain of splits of which each
--- has a side that is closed without a split stands at depth 1. A choice that is known needs no split, and may stand here as well.
+-- Closed by splits nested this deep. A split has one side that is closed by splits nested less deep. So a chain of splits stands at depth 1, where
+-- each has a side that is closed without a split. A choice that is known needs no split, and may stand here as well.
 pub data Closed (cs : List ClassTree) : ℕ → List Formula → Type 0 where
   at_once : {depth : ℕ} {fs : List Formula} → IsClosed cs fs → Closed cs depth fs
   by_split : {depth : ℕ} {fs : List Formula} (p : Formula) → IsChoice fs p → Closed cs depth (p ∷ fs) → Closed cs (suc depth) (neg p ∷ fs) → Closed cs (suc depth) fs

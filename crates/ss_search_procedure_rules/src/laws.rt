@@ -17,8 +17,8 @@ pub fn what_stays_open_is_not_closed()
     ensures { (cs : List ClassTree) (depth : ℕ) (reached fs : List Formula) → StaysOpen cs depth reached → Includes reached fs → Closed cs depth fs → ⊥ }
 {}
 
-/// Where a stable list has, of each atom and quantified formula that occurs in it, that or its negation, its model is one of each list of
-/// its formulas that has no other facts. (The facts have an equality in one order: that in which its terms first occur.)
+/// Let a stable list have, of each atom and quantified formula that occurs in it, that or its negation. Then its model is one of each list of its
+/// formulas that has no other facts. (The facts have an equality in one order: that in which its terms first occur.)
 pub fn what_is_stable_and_total_has_a_model()
     ensures { (cs : List ClassTree) (reached fs : List Formula) → (stable : IsStable cs reached) → IsTotal reached → Includes reached fs → Includes (facts_of cs stable.model (basics reached)) (facts_of cs stable.model fs) → Refutes cs stable.model fs }
 {}
@@ -33,8 +33,8 @@ pub fn what_has_fitting_classes_fits()
     ensures { (class : Classing) (known : List Formula) → FitsClasses class known → Fits known }
 {}
 
-/// Where no sum of facts is a contradiction, and they have the known literals and the equalities of whole numbers of one class, such classes
-/// are a model that refutes.
+/// Let facts have the known literals and the equalities of whole numbers of one class, and let no sum of them be a contradiction. Then classes that
+/// contradict none of these literals are a model that refutes.
 pub fn what_has_no_contradicting_sum_refutes()
     ensures { (cs : List ClassTree) (class : Classing) (known facts : List Formula) → FitsClasses class known → Includes facts known → ((s t : Term) → Contains (terms known) s → Contains (terms known) t → is_whole cs s ≡ true → is_whole cs t ≡ true → class s ≡ class t → (s ≡ t) ⊎ Contains facts (equal s t)) → (Two cs facts → ⊥) → Refutes cs (model_by class known) known }
 {}

@@ -2,7 +2,7 @@
 use Rattle.std.proofs.Common.{◌≡◌, ℕ, ◌+◌, ◌<◌, List, [], ◌∷◌, ◌++◌, length, map, take, get_or, Bool, true, false, eqb, refl, sym, ◌∙◌, ap, subst, inl, inr, ◌⊎◌, ⊎_elim, arith}
 use Rattle.std.specs.List.{Contains}
 use Rattle.std.proofs.lemmas.Bool.{true≢false, eqb-true}
-use Rattle.std.proofs.lemmas.List.{map-append, append-nil}
+use Rattle.std.proofs.lemmas.List.{map-append}
 use Rattle.std.proofs.lemmas.List.Elements.{Contains-append_left, Contains-append_right, Contains-append_cases}
 use Rattle.std.proofs.lemmas.Option.{slice_get-get_or}
 use Rattle.ss_bit_set.specs.declared.bit_set.BitSet.{BitSet}
@@ -15,10 +15,8 @@ use Rattle.ss_rules_occurring.specs.Found.{AreMarked, formula_number}
 use Rattle.ss_search_procedure_rules.specs.Closed.{Includes, basics, IsMet, TwoMayHold}
 use Rattle.ss_search_procedure_rules.proofs.Lists.{contains_none, map_from, map_to, any_at}
 use Rattle.ss_search_reached.specs.declared.looking.Looking.{Looking}
-use Rattle.ss_search_reached.specs.declared.units.Branch.{Branch}
-use Rattle.ss_search_reached.specs.declared.units.Branch.TheVariants as branch
 use Rattle.ss_search_reached.specs.Following.{Occur, IsOpenBranch, AreUnits}
-use Rattle.ss_search_reached.specs.Looks.{known_at, HoldsFrom, is_closed, unit_of, IsBranch}
+use Rattle.ss_search_reached.specs.Looks.{known_at, HoldsFrom, IsPartOf}
 use Rattle.ss_search_reached.proofs.Lists.{single, one_more, HasFormulas-push, has_formula, part_there, told_of_part, occur_append, contains_get}
 use Rattle.ss_search_reached.proofs.Holding.{two_hold}
 
@@ -44,26 +42,22 @@ module _ (s : Looking) (fs : List FormulaId) where
   abbrev parts : Formulas
   parts = formulas_from (formulas_at s.bank.now fs)
 
-  pub met_branch : IsMet (known_at s) parts → IsBranch s (Or parts) branch.Open
+  pub met_branch : IsMet (known_at s) parts → IsOpenBranch (known_at s) (known_at s) (Or parts)
   met_branch h gs e = inl (subst (IsMet (known_at s)) (or_parts parts gs e) h)
 
-  pub open_branch : (i j : ℕ) → HoldsFrom s fs 0 i → HoldsFrom s fs (i + 1) j → IsBranch s (Or parts) branch.Open
+  pub open_branch : (i j : ℕ) → HoldsFrom s fs 0 i → HoldsFrom s fs (i + 1) j → IsOpenBranch (known_at s) (known_at s) (Or parts)
   open_branch i j p q gs e = inr (subst (TwoMayHold (basics (known_at s))) (or_parts parts gs e)
       (let d : FormulaId = record { 0 = 0 } in
       let a = slice_get-get_or fs i d p.within in
       let b = slice_get-get_or fs j d q.within in
       two_hold s.bank.now (basics (known_at s)) fs i j (get_or fs i d) (get_or fs j d) (let l = q.later in omega (arith, l)) a b (p.holds (get_or fs i d) a) (q.holds (get_or fs j d) b)))
 
-  pub one_branch : (part : FormulaId) → HasFormulas s.bank.now fs → Contains fs part → IsBranch s (Or parts) (branch.One part)
+  pub one_branch : (part : FormulaId) → HasFormulas s.bank.now fs → Contains fs part → IsPartOf s (Or parts) part
   one_branch part has c = (
     has_formula s.bank.now fs part has c,
     λ gs e. subst (λ xs. Contains (formula_list xs) (formula_at s.bank.now part)) (or_parts parts gs e) (part_there s.bank.now fs part c),
     λ p o. (Or parts, (0, omega arith, refl), told_of_part parts (formula_at s.bank.now part) p (part_there s.bank.now fs part c) (subst (λ x. Contains (told_in x) p) (sym (single (formula_at s.bank.now part) o.0 o.1)) o.2)),
   )
-
--- what is no `or` is open
-pub no_branch : (s : Looking) (f : Formula) → ((fs : Formulas) → f ≡ Or fs → ⊥) → IsBranch s f branch.Open
-no_branch s f h fs e = absurd (h fs e)
 
 abbrev pub is_or : Formula → Bool
 is_or (Or fs) = true
@@ -72,11 +66,9 @@ is_or (And fs) = false
 is_or (Forall ss f) = false
 is_or (Exists ss f) = false
 
-pub other_branch : (s : Looking) (f g : Formula) → f ≡ g → is_or g ≡ false → IsBranch s f branch.Open
-other_branch s f g e n = no_branch s f (λ fs k. true≢false (sym (ap is_or (sym e ∙ k)) ∙ n))
-
-pub or_branch : (s : Looking) (f : FormulaId) (fs : List FormulaId) (br : Branch) → formula_at s.bank.now f ≡ Or (formulas_from (formulas_at s.bank.now fs)) → IsBranch s (Or (formulas_from (formulas_at s.bank.now fs))) br → IsBranch s (formula_at s.bank.now f) br
-or_branch s f fs br e h = subst (λ x. IsBranch s x br) (sym e) h
+-- what is no `or` is open
+pub other_branch : (s : Looking) (f g : Formula) → f ≡ g → is_or g ≡ false → IsOpenBranch (known_at s) (known_at s) f
+other_branch s f g e n fs k = absurd (true≢false (sym (ap is_or (sym e ∙ k)) ∙ n))
 
 -- ---- all of them
 
@@ -118,20 +110,22 @@ module _ (s : Looking) where
   pub no_units : (units : List FormulaId) → units ≡ [] → AreUnits b known (take 0 known) units
   no_units units e = subst (AreUnits b known (take 0 known)) (sym e) (record { has = tt; occur = λ p o. absurd (contains_none o.0 o.1); branches = λ f c. absurd (contains_none f c) })
 
-  pub more_branches : (i : ℕ) (d : FormulaId) (units after : List FormulaId) (br : Branch) → i < length known → AreUnits b known (take i known) units → IsBranch s (formula_at b (get_or known i d)) br → is_closed br ≡ false →
-      after ≡ units ++ unit_of br → AreUnits b known (take (i + 1) known) after
-  more_branches i d units after branch.Closed h u br n e = absurd (true≢false n)
-  more_branches i d units after (branch.One part) h u br n e = subst (AreUnits b known (take (i + 1) known)) (sym e) (record {
-    has = HasFormulas-push b units part u.has br.0;
+  -- a part follows of the next formula
+  pub one_follows : (i : ℕ) (d : FormulaId) (units : List FormulaId) (part : FormulaId) → i < length known → AreUnits b known (take i known) units → IsPartOf s (formula_at b (get_or known i d)) part → AreUnits b known (take (i + 1) known) (units ++ part ∷ [])
+  one_follows i d units part h u is = record {
+    has = HasFormulas-push b units part u.has is.0;
     occur = subst (Occur (formulas_at b known)) (sym (map-append (formula_at b) units (part ∷ [])))
         (occur_append (formulas_at b known) (formulas_at b units) (formula_at b part ∷ []) u.occur
-        (λ p o. let r = br.2 p o in (formula_at b (get_or known i d), map_to (formula_at b) known (get_or known i d) (contains_get known i d h), subst (λ x. Contains (told_in x) p) (sym (single (formula_at b (get_or known i d)) r.0 r.1)) r.2)));
+        (λ p o. let r = is.2 p o in (formula_at b (get_or known i d), map_to (formula_at b) known (get_or known i d) (contains_get known i d h), subst (λ x. Contains (told_in x) p) (sym (single (formula_at b (get_or known i d)) r.0 r.1)) r.2)));
     branches = seen_more i d (IsOpenBranch (formulas_at b known) (all_with (units ++ part ∷ []))) h
         (λ f c. open_more (formulas_at b known) (all_with units) (all_with (units ++ part ∷ [])) f (more_units units part) (u.branches f c))
-        (λ fs is. inl (formula_at b part, br.1 fs is, last_unit units part));
-  })
-  more_branches i d units after branch.Open h u br n e = subst (AreUnits b known (take (i + 1) known)) (sym (e ∙ append-nil units)) (record {
+        (λ fs e. inl (formula_at b part, is.1 fs e, last_unit units part));
+  }
+
+  -- nothing does
+  pub none_follows : (i : ℕ) (d : FormulaId) (units : List FormulaId) → i < length known → AreUnits b known (take i known) units → IsOpenBranch (formulas_at b known) (formulas_at b known) (formula_at b (get_or known i d)) → AreUnits b known (take (i + 1) known) units
+  none_follows i d units h u is = record {
     has = u.has;
     occur = u.occur;
-    branches = seen_more i d (IsOpenBranch (formulas_at b known) (all_with units)) h u.branches (open_more (formulas_at b known) (formulas_at b known) (all_with units) (formula_at b (get_or known i d)) (known_there units) br);
-  })
+    branches = seen_more i d (IsOpenBranch (formulas_at b known) (all_with units)) h u.branches (open_more (formulas_at b known) (formulas_at b known) (all_with units) (formula_at b (get_or known i d)) (known_there units) is);
+  }

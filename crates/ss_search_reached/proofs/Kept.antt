@@ -78,7 +78,7 @@ more_merged b ts ms ns fs e h f c x y is = let r = h f c x y is in (r.0, r.1, r.
 
 -- ---- counts of merges
 
-at_push : (counts : List ℕ) (n d k : ℕ) → k ≤ length counts → slice_index_or (counts ++ n ∷ []) k d ≡ slice_index_or counts k n
+pub at_push : (counts : List ℕ) (n d k : ℕ) → k ≤ length counts → slice_index_or (counts ++ n ∷ []) k d ≡ slice_index_or counts k n
 at_push [] n d zero h = refl
 at_push [] n d (suc k) h = absurd (omega (arith, h))
 at_push (c ∷ cs) n d zero h = refl
@@ -90,7 +90,7 @@ past_push [] n d (suc k) h = refl
 past_push (c ∷ cs) n d zero h = absurd (omega (arith, h))
 past_push (c ∷ cs) n d (suc k) h = past_push cs n d k (omega (arith, h))
 
-at_length : (counts : List ℕ) (d : ℕ) → slice_index_or counts (length counts) d ≡ d
+pub at_length : (counts : List ℕ) (d : ℕ) → slice_index_or counts (length counts) d ≡ d
 at_length [] d = refl
 at_length (c ∷ cs) d = at_length cs d
 
@@ -98,10 +98,10 @@ begins_long : (ms ns : List Merge) → take (length ms) ns ≡ ms → length ms 
 begins_long ms ns e = let l = sym (length-take (length ms) ns) ∙ ap length e in omega (arith, l)
 
 module _ (b : Forms) (known : List FormulaId) (counts : List ℕ) (s : Standing) (kept : AreKept b known counts s) where
-  abbrev at : ℕ → ℕ
+  abbrev pub at : ℕ → ℕ
   at k = merges_at counts s.merges k
 
-  at_now : at (length known) ≡ length s.merges
+  pub at_now : at (length known) ≡ length s.merges
   at_now = ap at (sym kept.long) ∙ at_length counts (length s.merges)
 
   at_most : (k : ℕ) → k ≤ length known → at k ≤ length s.merges
@@ -166,13 +166,13 @@ module _ (b : Forms) (known : List FormulaId) (counts : List ℕ) (s : Standing)
 
 -- one less is known
 module _ (b : Forms) (known : List FormulaId) (f : FormulaId) (counts : List ℕ) (n : ℕ) (s : Standing) (kept : AreKept b (known ++ f ∷ []) (counts ++ n ∷ []) s) where
-  abbrev was : ℕ → ℕ
+  abbrev pub was : ℕ → ℕ
   was k = merges_at (counts ++ n ∷ []) s.merges k
 
-  as_long : length counts ≡ length known
+  pub as_long : length counts ≡ length known
   as_long = let l = kept.long in omega (arith, l, length_push known f, length_push counts n)
 
-  was_last : was (length known) ≡ n
+  pub was_last : was (length known) ≡ n
   was_last = ap was (sym as_long) ∙ at_push counts n (length s.merges) (length counts) (omega arith) ∙ at_length counts n
 
   before_last : (k : ℕ) → k ≤ length known → was k ≤ n

@@ -4,12 +4,14 @@ pub mod Marks
 pub mod Forms
 pub mod Names
 pub mod Kept
+pub mod Remembering
 pub mod Trials
 pub mod More
 pub mod Spread
 pub mod Holding
 pub mod Branches
 pub mod Groups
+pub mod Links
 pub mod Sums
 pub mod Stable
 pub mod Turns

@@ -42,26 +42,15 @@ module _ (b : Forms) where
 and_parts : (fs gs : Formulas) → And fs ≡ And gs → fs ≡ gs
 and_parts fs gs e = cc
 
-or_parts : (fs gs : Formulas) → Or fs ≡ Or gs → fs ≡ gs
-or_parts fs gs e = cc
-
 module _ (b : Forms) (known : List Formula) (f : FormulaId) (parts : List FormulaId) where
   pub and_occur : formula_at b f ≡ And (formulas_from (formulas_at b parts)) → Contains known (formula_at b f) → Occur known (formulas_at b parts)
   and_occur e c = subst (Occur known) (list_back (formulas_at b parts))
-      (occur_parts known (formula_at b f) (formulas_from (formulas_at b parts)) c (λ p t. subst (λ x. Contains (told_in x) p) (sym e) t))
-
-  pub or_occur : formula_at b f ≡ Or (formulas_from (formulas_at b parts)) → Contains known (formula_at b f) → Occur known (formulas_at b parts)
-  or_occur e c = subst (Occur known) (list_back (formulas_at b parts))
       (occur_parts known (formula_at b f) (formulas_from (formulas_at b parts)) c (λ p t. subst (λ x. Contains (told_in x) p) (sym e) t))
 
   pub and_spread : formula_at b f ≡ And (formulas_from (formulas_at b parts)) → Includes known (formulas_at b parts) → IsSpread known (formula_at b f)
   and_spread e i fs is =
       let same : formulas_from (formulas_at b parts) ≡ fs = and_parts (formulas_from (formulas_at b parts)) fs (sym e ∙ is) in
       subst (λ gs. Includes known (formula_list gs)) same (subst (Includes known) (sym (list_back (formulas_at b parts))) i)
-
-  -- a part of a known `or`
-  pub part_occurs : (part : FormulaId) → formula_at b f ≡ Or (formulas_from (formulas_at b parts)) → Contains known (formula_at b f) → Contains parts part → Occur known (formula_at b part ∷ [])
-  part_occurs part e c k p o = or_occur e c p (formula_at b part, map_to (formula_at b) parts part k, subst (λ x. Contains (told_in x) p) (sym (single (formula_at b part) o.0 o.1)) o.2)
 
 abbrev pub is_and : Formula → Bool
 is_and (And fs) = true

@@ -1,6 +1,5 @@
 -- What follows in one turn, and when nothing more does.
-use Rattle.std.proofs.Common.{◌≡◌, eqb, ℕ, ◌-◌, ◌*◌, ◌<◌, ◌≤◌, List, length, map, take, Option, Some, None, sym, ◌∙◌, ap, subst, ◌⊎◌, ⊎_elim, arith}
-use Rattle.std.specs.Prelude.{IfSome}
+use Rattle.std.proofs.Common.{◌≡◌, eqb, ℕ, ◌-◌, ◌*◌, ◌<◌, ◌≤◌, List, length, map, take, sym, ◌∙◌, ap, subst, ◌⊎◌, ⊎_elim, arith}
 use Rattle.std.specs.List.{Contains, IsDistinct}
 use Rattle.std.proofs.Math.Nat.{eq-or-lt_of_le}
 use Rattle.std.proofs.lemmas.List.{length-map}
@@ -60,9 +59,6 @@ module _ (b : Forms) (before spread asked last : Reached) (g : Grows b before sp
   from_spread : Grows b spread last
   from_spread = grows_on b spread asked last (grows_alike b spread asked reached known) h
 
-  pub turned : Grows b before last
-  turned = grows_on b before spread last g from_spread
-
   -- where it adds nothing, what is known is open
   module _ (as_long : length last.known.items ≡ length before.known.items) where
     spread_is : known_in b last ≡ known_in b spread
@@ -81,10 +77,6 @@ module _ (b : Forms) (before spread asked last : Reached) (g : Grows b before sp
     }
 
 -- ---- classes that are the same
-
-pub some_always : {A : Type 0} (o : Option A) (P : Type 0) → P → IfSome o (λ x. P)
-some_always None P h = tt
-some_always (Some x) P h = h
 
 pub one_class : (b : Forms) (s : Standing) (classes : List ℕ) → AreFormsOf b s.terms → AreClassesOf s.terms s.merges classes → AreOneName b s.terms s.merges → AreOneClass b classes
 one_class b s classes forms same names x y hx hy nx ny =

@@ -1,5 +1,5 @@
 -- Terms in groups by their classes, and pairs of them.
-use Rattle.std.specs.Prelude.{◌≡◌, ◌⊎◌, ℕ, ◌<◌, List, [], map, true, slice_index_or, Vec}
+use Rattle.std.specs.Prelude.{◌≡◌, ◌⊎◌, ℕ, ◌<◌, List, [], ◌∷◌, ◌++◌, map, true, slice_index_or, Vec}
 use Rattle.std.specs.List.{Contains}
 use Rattle.std.specs.declared.alloc.Global.{Global}
 use Rattle.ss_core.specs.Tree.{ClassTree}
@@ -7,6 +7,8 @@ use Rattle.ss_logic.specs.Terms.{Term}
 use Rattle.ss_logic_countermodels.specs.Refuting.{is_whole}
 use Rattle.ss_terms.specs.declared.forms.TermId.{TermId}
 use Rattle.ss_terms.specs.Forms.{Forms, term_at, HasTerm}
+use Rattle.ss_linear.specs.Contradictions.{equalities_at}
+use Rattle.ss_linear.specs.Met.{Follow}
 use Rattle.ss_equality_rules.specs.Equal.{class_number}
 use Rattle.ss_search_procedure_rules.specs.Closed.{Includes}
 
@@ -30,10 +32,14 @@ pub record ArePaired (ss ts : List TermId) (old new : Pairs) : Type 0 where
   pub all : (s t : TermId) → Contains ss s → Contains ts t → (s.0 ≡ t.0) ⊎ Contains new (s, t)
   pub only : (p : TermId × TermId) → Contains new p → Contains old p ⊎ (Contains ss p.0 × Contains ts p.1)
 
+-- the terms of each pair are among these, and in one class
+abbrev pub AreAmong : List ℕ → List TermId → Pairs → Type 0
+AreAmong classes ts ps = (p : TermId × TermId) → Contains ps p → Contains ts p.0 × Contains ts p.1 × (class_number classes p.0 ≡ class_number classes p.1)
+
 -- the pairs of different terms of one class
 pub record ArePairs (classes : List ℕ) (ts : List TermId) (ps : Pairs) : Type 0 where
   pub all : (s t : TermId) → Contains ts s → Contains ts t → class_number classes s ≡ class_number classes t → (s.0 ≡ t.0) ⊎ Contains ps (s, t)
-  pub only : (p : TermId × TermId) → Contains ps p → Contains ts p.0 × Contains ts p.1 × (class_number classes p.0 ≡ class_number classes p.1)
+  pub only : AreAmong classes ts ps
 
 -- those of the first so many groups
 pub record ArePairsBelow (gs : List (List TermId)) (n : ℕ) (ps : Pairs) : Type 0 where
@@ -63,3 +69,28 @@ pub record IsWholeIn (cs : List ClassTree) (b : Forms) (xs : List Term) (t : Ter
 pub record AreWholePairs (cs : List ClassTree) (b : Forms) (classes : List ℕ) (xs : List Term) (ps : Pairs) : Type 0 where
   pub all : (s t : Term) → Contains xs s → Contains xs t → is_whole cs s ≡ true → is_whole cs t ≡ true → IsPairIn b classes ps s t
   pub only : (p : TermId × TermId) → Contains ps p → IsWholeIn cs b xs p.0 × IsWholeIn cs b xs p.1
+
+-- ---- neighbours
+
+-- each term with the next one
+abbrev pub neighbours : List TermId → Pairs
+neighbours [] = []
+neighbours (s ∷ []) = []
+neighbours (s ∷ t ∷ ts) = (s, t) ∷ neighbours (t ∷ ts)
+
+abbrev pub neighbours_in : List (List TermId) → Pairs
+neighbours_in [] = []
+neighbours_in (g ∷ gs) = neighbours g ++ neighbours_in gs
+
+-- the neighbours in groups by classes
+pub record AreChained (classes : List ℕ) (ts : List TermId) (ps : Pairs) : Type 0 where
+  pub groups : List (List TermId)
+  pub grouped : AreGrouped classes ts groups
+  pub links : ps ≡ neighbours_in groups
+
+-- Pairs of these terms that are whole numbers. Where their equalities are so at some numbers, those of each two of one class are.
+pub record AreWholeLinks (cs : List ClassTree) (b : Forms) (classes : List ℕ) (xs : List Term) (ps : Pairs) : Type 0 where
+  pub only : (p : TermId × TermId) → Contains ps p → IsWholeIn cs b xs p.0 × IsWholeIn cs b xs p.1
+  pub pairs : Pairs
+  pub are : AreWholePairs cs b classes xs pairs
+  pub follow : Follow cs (equalities_at b pairs) (equalities_at b ps)

@@ -27,12 +27,16 @@ is_name (App f ts) = false
 abbrev pub AreOneName : Forms → List TermShape → List Merge → Type 0
 AreOneName b ts ms = (s t : TermId) → HasTerm b s → HasTerm b t → is_name (term_at b s) ≡ true → is_name (term_at b t) ≡ true → IsEqual ts ms s.0 t.0
 
+-- both sides of each merge are such names
+abbrev pub AreOfNames : Forms → List Merge → Type 0
+AreOfNames b ms = (k : ℕ) (m : Merge) → slice_get ms k ≡ Some m → (is_name (term_at b m.left) ≡ true) × (is_name (term_at b m.right) ≡ true)
+
 -- how many merges there were before the known formula at this place; at the end, how many there are
 abbrev pub merges_at : List ℕ → List Merge → ℕ → ℕ
 merges_at counts ms k = slice_index_or counts k (length ms)
 
--- The known equalities are merged, those among the first so many by the merges that there were then; and the names that nothing binds
--- before all of them.
+-- The known equalities are merged, those among the first so many by the merges that there were then. The names that nothing binds are merged before
+-- all of them.
 pub record AreKept (b : Forms) (known : List FormulaId) (counts : List ℕ) (s : Standing) : Type 0 where
   pub forms : AreFormsOf b s.terms
   pub long : length counts ≡ length known
@@ -51,3 +55,9 @@ pub record IsReached (b : Forms) (r : Reached) : Type 0 where
 abbrev pub AreMergesWith : Forms → Formula → ℕ → List Merge → List Merge → Type 0
 AreMergesWith b f because old new = (k : ℕ) (m : Merge) → slice_get new k ≡ Some m →
     (slice_get old k ≡ Some m) ⊎ ((m.because ≡ because) × (f ≡ Literal true Equal (term_then (term_at b m.left) (term_then (term_at b m.right) no_terms))))
+
+-- The merges and their counts stay in front of what is added. What is known next has the merges before it that there were.
+pub record Remembers (old new : Reached) : Type 0 where
+  pub counts : take (length old.merges.items) new.merges.items ≡ old.merges.items
+  pub begins : take (length old.congruence.merges) new.congruence.merges ≡ old.congruence.merges
+  pub next : merges_at new.merges.items new.congruence.merges (length old.known.items) ≡ length old.congruence.merges

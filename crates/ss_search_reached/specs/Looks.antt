@@ -1,5 +1,5 @@
 -- Looks at formulas beside known ones, whose classes and literals stand in a table.
-use Rattle.std.specs.Prelude.{◌≡◌, ℕ, ◌<◌, ◌≤◌, List, [], ◌∷◌, length, map, Bool, true, false, Some, slice_get}
+use Rattle.std.specs.Prelude.{◌≡◌, ℕ, ◌<◌, ◌≤◌, List, [], ◌∷◌, length, map, true, Some, slice_get}
 use Rattle.std.specs.List.{Contains}
 use Rattle.ss_bit_set.specs.Marked.{marked}
 use Rattle.ss_logic.specs.Formulas.{Formula, Formulas, Or, formula_list}
@@ -12,9 +12,6 @@ use Rattle.ss_search_clashes.specs.Tables.{IsTable}
 use Rattle.ss_search_procedure_rules.specs.Closed.{basics, MayHold, OccursIn}
 use Rattle.ss_search_reached.specs.declared.looking.Looking.{Looking}
 use Rattle.ss_search_reached.specs.declared.outcomes.Outcomes.{Outcomes}
-use Rattle.ss_search_reached.specs.declared.units.Branch.{Branch}
-use Rattle.ss_search_reached.specs.declared.units.Branch.TheVariants as branch
-use Rattle.ss_search_reached.specs.Following.{IsOpenBranch}
 
 -- the known formulas
 abbrev pub known_at : Looking → List Formula
@@ -42,18 +39,6 @@ pub record HoldsFrom (s : Looking) (fs : List FormulaId) (from i : ℕ) : Type 0
   pub within : i < length fs
   pub holds : (f : FormulaId) → slice_get fs i ≡ Some f → IsHolding s f
 
--- what a known formula is: a branch that is closed; one with a single part; or one that is open
-abbrev pub IsBranch : Looking → Formula → Branch → Type 0
-IsBranch s f branch.Closed = Unit {0}
-IsBranch s f (branch.One part) = HasFormula s.bank.now part × ((fs : Formulas) → f ≡ Or fs → Contains (formula_list fs) (formula_at s.bank.now part)) × ((p : Formula) → OccursIn (formula_at s.bank.now part ∷ []) p → OccursIn (f ∷ []) p)
-IsBranch s f branch.Open = IsOpenBranch (known_at s) (known_at s) f
-
-abbrev pub is_closed : Branch → Bool
-is_closed branch.Closed = true
-is_closed (branch.One part) = false
-is_closed branch.Open = false
-
-abbrev pub unit_of : Branch → List FormulaId
-unit_of branch.Closed = []
-unit_of (branch.One part) = part ∷ []
-unit_of branch.Open = []
+-- this part follows of the formula, where all others are refuted
+abbrev pub IsPartOf : Looking → Formula → FormulaId → Type 0
+IsPartOf s f part = HasFormula s.bank.now part × ((fs : Formulas) → f ≡ Or fs → Contains (formula_list fs) (formula_at s.bank.now part)) × ((p : Formula) → OccursIn (formula_at s.bank.now part ∷ []) p → OccursIn (f ∷ []) p)

@@ -29,25 +29,6 @@ pub fn is_basic(bank: &Bank, f: FormulaId) -> bool
     }
 }
 
-/// The literals and quantified formulas among formulas.
-pub(crate) fn basics(
-    alloc: Global,
-    bank: &Bank,
-    fs: &[FormulaId],
-) -> Result<Vec<FormulaId>, AllocError>
-    requires { HasFormulas bank.now fs.now }
-    ensures has { IfOk result (λ v. HasFormulas bank.now v.items) }
-    ensures basics { IfOk result (λ v. formulas_at bank.now v.items ≡ closed.basics (formulas_at bank.now fs.now)) }
-{
-    let mut basics = Vec::new(alloc);
-    for f in fs {
-        if is_basic(bank, *f) {
-            basics.push(*f)?;
-        }
-    }
-    Ok(basics)
-}
-
 fn is_whole_sort(sort: Sort) -> bool
     ensures { result ≡ same_sort sort sorts.Whole }
 {

@@ -1,21 +1,14 @@
-// Equalities of whole numbers of one class, and sums.
+// Pairs of whole numbers of one class.
 
-ghost use Rattle.std.specs.Prelude.{◌≡◌, ◌<◌, ◌∷◌, ◌++◌, ℕ, List, [], length, slice_index_or, slice_set, true, IfOk, OnOk};
+ghost use Rattle.std.specs.Prelude.{◌≡◌, ◌<◌, ◌∷◌, ◌++◌, ℕ, List, [], length, slice_index_or, slice_set, IfOk, OnOk};
 ghost use Rattle.ss_core.specs.Tree.{ClassTree};
 ghost use Rattle.ss_terms.specs.Forms.{formulas_at, HasFormulas, IsBankOf};
 ghost use Rattle.ss_equality_rules.specs.Equal as words;
 ghost use Rattle.ss_logic_ground.specs.Occurring as spec;
 ghost use Rattle.ss_linear.specs.Contradictions.{HasPairs};
-ghost use Rattle.ss_search_clashes.specs.Numbered.{class_of};
-ghost use Rattle.ss_search_procedure_rules.specs.Closed as closed;
-ghost use Rattle.ss_search_reached.specs.Known.{known_in, IsReached};
-ghost use Rattle.ss_search_reached.specs.Following.{HasNoSum};
 ghost use Rattle.ss_search_reached.specs.Groups.{lists_in, AreGrouped, ArePaired, ArePairs, AreOfOneClass, AreWholePairs};
 
-use crate::basics::{basics, whole_terms};
-use crate::reached::Reached;
-use ss_linear::refute_with;
-use ss_search_clashes::classes_are_of_terms;
+use crate::basics::whole_terms;
 use ss_terms::{Bank, FormulaId, TermId};
 use std::alloc::{AllocError, Global};
 
@@ -48,8 +41,12 @@ fn put(groups: &mut Vec<Vec<TermId>>, number: usize, t: TermId) -> Result<(), Al
     Ok(())
 }
 
-// The terms in groups by their classes.
-fn group(alloc: Global, classes: &[usize], ts: &[TermId]) -> Result<Vec<Vec<TermId>>, AllocError>
+/// The terms in groups by their classes.
+pub(crate) fn group(
+    alloc: Global,
+    classes: &[usize],
+    ts: &[TermId],
+) -> Result<Vec<Vec<TermId>>, AllocError>
     ensures { IfOk result (λ v. AreGrouped classes.now ts.now (lists_in v.items)) }
 {
     let mut groups = Vec::new(alloc);
@@ -124,18 +121,4 @@ pub fn whole_pairs(
 {
     let terms = whole_terms(alloc, bank, fs)?;
     pairs(alloc, classes, &terms)
-}
-
-impl Reached {
-    /// Whether no sum contradicts the known literals and the equalities of whole numbers of one class.
-    pub(crate) fn has_no_sum(&self, alloc: Global, bank: &Bank) -> Result<bool, AllocError>
-        requires { IsReached bank.now self.now }
-        ensures { (cs : List ClassTree) → IsBankOf cs bank.now → IfOk result (λ none. none ≡ true → HasNoSum cs (class_of bank.now self.now.classes.items) (closed.basics (known_in bank.now self.now))) }
-    {
-        classes_are_of_terms(bank);
-        let basics = basics(alloc, bank, &self.known)?;
-        let pairs = whole_pairs(alloc, bank, &self.classes, &basics)?;
-        let sums = refute_with(alloc, bank, &basics, &pairs)?;
-        Ok(sums.is_none())
-    }
 }

@@ -1,12 +1,13 @@
 // Whether formulas may hold beside known ones.
 
-ghost use Rattle.std.specs.Prelude.{◌≡◌, ◌≤◌, ◌*◌, ◌∷◌, length, true, IfOk, IfSome, OnOk};
+ghost use Rattle.std.specs.Prelude.{◌≡◌, ◌≤◌, ◌*◌, ◌∷◌, length, map, true, IfOk, IfSome, OnOk};
 ghost use Rattle.ss_logic.specs.Terms.{term_then, no_terms};
 ghost use Rattle.ss_logic.specs.Formulas.{Equal, Literal, formulas_from};
 ghost use Rattle.ss_terms.specs.Forms.{formula_at, formulas_at, term_at, HasFormula, HasFormulas, HasTerm, AreBelow};
+ghost use Rattle.ss_rules_occurring.specs.Found.{AreMarked, formula_number};
 ghost use Rattle.ss_equality_rules.specs.Equal.{AreFormsOf};
 ghost use Rattle.ss_search_clashes.specs.Numbered.{class_of, AreMerged, HasNoClash};
-ghost use Rattle.ss_search_procedure_rules.specs.Closed.{is_basic, basics, AllMayHold, SomeMayHold, Fits};
+ghost use Rattle.ss_search_procedure_rules.specs.Closed.{is_basic, basics, IsMet, AllMayHold, SomeMayHold, Fits};
 ghost use Rattle.ss_search_reached.specs.Looks.{known_at, IsLooking, IsHolding, AreHolding, HoldsFrom};
 
 use crate::outcomes::Outcomes;
@@ -28,6 +29,21 @@ pub struct Looking<'a> {
 }
 
 impl Looking<'_> {
+    /// Whether one of the formulas is known.
+    pub fn is_met(&self, fs: &[FormulaId]) -> bool
+        requires formulas { HasFormulas self.now.bank.now fs.now }
+        requires known { HasFormulas self.now.bank.now self.now.known.now }
+        requires marked { AreMarked self.now.numbers.now (map formula_number self.now.known.now) }
+        ensures { result ≡ true → IsMet (known_at self.now) (formulas_from (formulas_at self.now.bank.now fs.now)) }
+    {
+        for f in fs {
+            if self.numbers.has(f.0) {
+                return true;
+            }
+        }
+        false
+    }
+
     // Whether nothing contradicts the known formulas and one more, at the classes of the congruence.
     fn fits(&self, congruence: &Congruence, f: FormulaId) -> Result<bool, AllocError>
         requires formulas { HasFormulas self.now.bank.now self.now.known.now }

@@ -10,7 +10,7 @@ ghost use Rattle.ss_terms.specs.Forms.{term_at, formula_at, HasTerm, HasFormula}
 ghost use Rattle.ss_equality_rules.specs.Equal.{AreFormsOf, IsEqual};
 ghost use Rattle.ss_search_clashes.specs.Numbered.{AreMerged};
 ghost use Rattle.ss_search_reached.specs.Known as words;
-ghost use Rattle.ss_search_reached.specs.Known.{known_in, AreOneName, IsReached, AreMergesWith};
+ghost use Rattle.ss_search_reached.specs.Known.{known_in, merges_at, AreOneName, AreOfNames, IsReached, AreMergesWith, Remembers};
 
 use ss_bit_set::BitSet;
 use ss_equality::Congruence;
@@ -79,6 +79,7 @@ fn merge_name(
     ensures terms { OnOk result (congruence.new.terms ≡ congruence.old.terms) }
     ensures begins { OnOk result (take (length congruence.old.merges) congruence.new.merges ≡ congruence.old.merges) }
     ensures named { OnOk result (words.is_name (term_at bank.now t) ≡ true → IsEqual congruence.new.terms congruence.new.merges first.0 t.0) }
+    ensures of_names { OnOk result (words.is_name (term_at bank.now first) ≡ true → AreOfNames bank.now congruence.old.merges → AreOfNames bank.now congruence.new.merges) }
 {
     bank.numbers_are_apart();
     if !is_name(bank, t) {
@@ -93,6 +94,7 @@ fn merge_names(congruence: &mut Congruence, bank: &Bank) -> Result<(), AllocErro
     requires { AreFormsOf bank.now congruence.old.terms }
     ensures terms { OnOk result (congruence.new.terms ≡ congruence.old.terms) }
     ensures names { OnOk result (AreOneName bank.now congruence.new.terms congruence.new.merges) }
+    ensures of_names { OnOk result (AreOfNames bank.now congruence.old.merges → AreOfNames bank.now congruence.new.merges) }
 {
     let Some(first) = first_name(bank) else {
         return Ok(());
@@ -133,6 +135,7 @@ impl Reached {
     pub fn new(alloc: Global, bank: &Bank) -> Result<Self, AllocError>
         ensures reached { IfOk result (IsReached bank.now) }
         ensures known { IfOk result (λ r. known_in bank.now r ≡ []) }
+        ensures names { IfOk result (λ r. AreOfNames bank.now r.congruence.merges) }
     {
         let mut congruence = Congruence::new(alloc);
         congruence.ready(bank)?;
@@ -163,19 +166,6 @@ impl Reached {
         self.numbers.has(f.0)
     }
 
-    /// One more formula is known.
-    pub fn add(&mut self, bank: &Bank, f: FormulaId) -> Result<(), AllocError>
-        requires reached { IsReached bank.now self.old }
-        requires formula { HasFormula bank.now f }
-        requires new { Contains (known_in bank.now self.old) (formula_at bank.now f) → ⊥ }
-        ensures reached { OnOk result (IsReached bank.now self.new) }
-        ensures known { OnOk result (known_in bank.now self.new ≡ known_in bank.now self.old ++ formula_at bank.now f ∷ []) }
-        ensures classes { OnOk result (self.new.classes.items ≡ self.old.classes.items) }
-    {
-        let because = self.known.len();
-        self.add_because(bank, f, because)
-    }
-
     /// One more formula is known. Where it is an equality that holds, it is merged for this reason.
     pub fn add_because(
         &mut self,
@@ -191,6 +181,7 @@ impl Reached {
         ensures known { OnOk result (known_in bank.now self.new ≡ known_in bank.now self.old ++ formula_at bank.now f ∷ []) }
         ensures classes { OnOk result (self.new.classes.items ≡ self.old.classes.items) }
         ensures reasons { OnOk result (AreMergesWith bank.now (formula_at bank.now f) because self.old.congruence.merges self.new.congruence.merges) }
+        ensures remembers { OnOk result (Remembers self.old self.new) }
     {
         bank.numbers_are_apart();
         let mark = self.congruence.mark();
@@ -219,6 +210,8 @@ impl Reached {
         requires some { 0 < length self.old.known.items }
         ensures reached { IsReached bank.now self.new }
         ensures known { (f : FormulaId) × (self.old.known.items ≡ self.new.known.items ++ f ∷ []) }
+        ensures merges { self.new.congruence.merges ≡ take (merges_at self.old.merges.items self.old.congruence.merges (length self.new.known.items)) self.old.congruence.merges }
+        ensures counts { self.new.merges.items ≡ take (length self.new.known.items) self.old.merges.items }
     {
         let _ = bank;
         let Some(f) = self.known.pop() else {
@@ -237,6 +230,8 @@ impl Reached {
         requires few { to ≤ length self.old.known.items }
         ensures reached { IsReached bank.now self.new }
         ensures known { known_in bank.now self.new ≡ take to (known_in bank.now self.old) }
+        ensures merges { self.new.congruence.merges ≡ take (merges_at self.old.merges.items self.old.congruence.merges to) self.old.congruence.merges }
+        ensures counts { self.new.merges.items ≡ take to self.old.merges.items }
     {
         while self.known.len() > to {
             self.forget(bank);

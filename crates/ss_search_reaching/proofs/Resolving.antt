@@ -14,6 +14,7 @@ use Rattle.ss_equality_rules.specs.Equal.{Standing}
 use Rattle.ss_equality_rules.proofs.Lists.{there}
 use Rattle.ss_search_procedure_rules.specs.Closed.{basics, MayHold}
 use Rattle.ss_search_reached.specs.Looks as looks
+use Rattle.ss_search_reached.specs.Looks.{IsPartOf}
 use Rattle.ss_search_reached.specs.declared.looking.Looking.{Looking}
 use Rattle.ss_search_reached.proofs.Branches.{open_branch}
 use Rattle.ss_search_reached.proofs.Fronts.{front_push}
@@ -28,7 +29,7 @@ use Rattle.ss_search_refuting.proofs.Parts.{part_stands, as_many, count_is}
 use Rattle.ss_search_reaching.specs.declared.branches.Beside.{Beside}
 use Rattle.ss_search_reaching.specs.declared.branches.Resolved.{Resolved}
 use Rattle.ss_search_reaching.specs.declared.branches.Resolved.TheVariants as resolved
-use Rattle.ss_search_reaching.specs.Units.{IsBeside, IsPartOf, IsResolved, part_of, UnitFrom}
+use Rattle.ss_search_reaching.specs.Units.{IsBeside, IsResolved, part_of, UnitFrom}
 
 -- the elements before one, it, and those behind it
 split_at : {A : Type 0} (xs : List A) (i : ℕ) (x : A) → slice_get xs i ≡ Some x → xs ≡ take i xs ++ x ∷ drop (suc i) xs

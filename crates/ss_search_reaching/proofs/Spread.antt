@@ -33,7 +33,13 @@ module _ (g : Given) (r : Reaching) (p : Path) (kept : take (length r.path.known
       }
 
   pub longer_grows : (new : Reaching) → Grows g (on_path r p) new → Grows g r new
-  longer_grows new h = record { state = h.state; reached = h.reached; facts = front_trans r.path.known.items p.known.items new.path.known.items kept h.facts }
+  longer_grows new h = record {
+    state = h.state;
+    reached = h.reached;
+    standings = h.standings;
+    merges = h.merges;
+    facts = front_trans r.path.known.items p.known.items new.path.known.items kept h.facts;
+  }
 
 -- what stands and is an `and` is a fact
 pub and_stands : (cs : List ClassTree) (g : Given) (facts : List Formula) (s : Standing) (fs : Formulas) → Stands cs g facts s (And fs) → IsOpenedFact cs g facts (place_of s) (start_of s) (And fs)

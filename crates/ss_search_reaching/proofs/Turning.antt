@@ -1,30 +1,27 @@
 -- What follows in a turn, and where it stands.
-use Rattle.std.proofs.Common.{◌≡◌, ℕ, zero, suc, ◌+◌, ◌<◌, List, [], ◌∷◌, ◌++◌, length, map, take, get_or, true, Result, Ok, Err, Option, Some, None, refl, sym, ◌∙◌, ap, subst, inl, inr, ⊎_elim, Vec, Global, arith}
+use Rattle.std.proofs.Common.{◌≡◌, ℕ, zero, suc, ◌+◌, ◌<◌, List, [], ◌∷◌, ◌++◌, length, map, take, get_or, true, Result, Ok, Err, Option, Some, None, refl, sym, ◌∙◌, ap, subst, ⊎_elim, Vec, Global, arith}
 use Rattle.std.specs.Prelude.{slice_get, IfNone, IfOk, OnOk}
 use Rattle.std.proofs.lemmas.Bool.{false≢true}
-use Rattle.std.proofs.lemmas.List.{length-map, map_push, map-append}
-use Rattle.std.proofs.lemmas.List.Elements.{Contains-append_left, Contains-append_right, Contains-append_cases}
-use Rattle.std.specs.List.{Contains}
+use Rattle.std.proofs.lemmas.List.{length-map, map_push}
 use Rattle.ss_core.specs.Tree.{ClassTree}
 use Rattle.ss_logic.specs.Formulas.{Formula, is_well_formed}
 use Rattle.ss_equality_rules.proofs.Lists.{pushed}
 use Rattle.ss_terms.specs.declared.forms.FormulaId.{FormulaId}
-use Rattle.ss_terms.specs.Forms.{Forms, formula_at, formulas_at}
+use Rattle.ss_terms.specs.Forms.{Forms, formula_at}
 use Rattle.ss_deriv.specs.declared.line.Line.{Line}
 use Rattle.ss_deriv.specs.Lines.{lines_of}
 use Rattle.ss_equality_rules.specs.declared.Merge.{Merge}
 use Rattle.ss_equality_rules.specs.Equal as equal
 use Rattle.ss_equality_rules.specs.Equal.{AreClassesOf}
-use Rattle.ss_search_procedure_rules.specs.Closed.{is_basic, Includes}
-use Rattle.ss_search_procedure_rules.proofs.Lists.{map_from, map_to}
-use Rattle.ss_logic_countermodels.specs.Refuting.{told_in}
+use Rattle.ss_search_procedure_rules.specs.Closed.{is_basic}
 use Rattle.ss_search_closing.specs.Closing.{Closes}
+use Rattle.ss_search_reached.proofs.Branches.{one_follows, none_follows}
 use Rattle.ss_search_reached.proofs.Fronts.{front_itself}
+use Rattle.ss_search_reached.proofs.Remembering.{remembers_alike}
 use Rattle.ss_search_reached.proofs.Turns.{no_shorter, still_reached, grows_alike}
 use Rattle.ss_search_clashing.specs.Cases.{AreAt, CloseCase}
 use Rattle.ss_search_reached.specs.declared.looking.Looking.{Looking}
-use Rattle.ss_search_reached.specs.Following.{Occur, IsOpenBranch, AreUnits}
-use Rattle.ss_search_reached.proofs.Lists.{single, one_more, HasFormulas-push, occur_append, contains_get}
+use Rattle.ss_search_reached.specs.Following.{AreUnits}
 use Rattle.ss_search_equating.specs.Said.{AreKnown}
 use Rattle.ss_search_whole_sums.specs.WholeSums.{AreBasicsAt}
 use Rattle.ss_search_path.specs.declared.path.Path.{Path}
@@ -48,7 +45,7 @@ use Rattle.ss_search_reaching.proofs.Spread.{longer_shows}
 use Rattle.ss_search_reaching.specs.declared.turns.Turn.{Turn}
 use Rattle.ss_search_reaching.specs.declared.turns.Turn.TheVariants as turn
 use Rattle.ss_search_reaching.specs.Units as units
-use Rattle.ss_search_reaching.specs.Units.{IsPartOf, IsResolved, formulas_in, AllStand, UnitFrom, UnitGuarded, UnitStanding}
+use Rattle.ss_search_reaching.specs.Units.{IsResolved, formulas_in, AllStand, UnitFrom, UnitGuarded, UnitStanding}
 use Rattle.ss_search_reaching.specs.Turns.{IfOpen, IfFollows, IsAdded, LeadsTo, UnitsFrom, Turns, TurnFrom}
 
 abbrev pub Pairs : Type 0
@@ -177,8 +174,7 @@ module _ (p : Beside) (ms : List Merge) (standings : List Standing) (old now new
   turn_ends (resolved.One part t) more v added one = let no : Some v ≡ None = added.0 in cc
   turn_ends resolved.Open more v added one = let no : Some v ≡ None = added.0 in cc
 
-open_more : (known fs gs : List Formula) (f : Formula) → Includes gs fs → IsOpenBranch known fs f → IsOpenBranch known gs f
-open_more known fs gs f i h xs e = ⊎_elim (λ m. inl (m.0, m.1, i m.0 m.2)) (λ t. inr t) (h xs e)
+-- ---- what follows of the known formulas that were looked at
 
 module _ (s : Looking) where
   abbrev b : Forms
@@ -187,50 +183,12 @@ module _ (s : Looking) where
   abbrev known : List FormulaId
   known = s.known.now
 
-  abbrev all_with : List FormulaId → List Formula
-  all_with fs = formulas_at b known ++ formulas_at b fs
-
-  more_there : (fs : List FormulaId) (u : FormulaId) → Includes (all_with (fs ++ u ∷ [])) (all_with fs)
-  more_there fs u f c = subst (λ gs. Contains (formulas_at b known ++ gs) f) (sym (map-append (formula_at b) fs (u ∷ [])))
-      (⊎_elim
-      (λ k. Contains-append_left (formulas_at b known) (formulas_at b fs ++ formulas_at b (u ∷ [])) f k)
-      (λ k. Contains-append_right (formulas_at b known) (formulas_at b fs ++ formulas_at b (u ∷ [])) f (Contains-append_left (formulas_at b fs) (formulas_at b (u ∷ [])) f k))
-      (Contains-append_cases (formulas_at b known) (formulas_at b fs) f c))
-
-  last_there : (fs : List FormulaId) (u : FormulaId) → Contains (all_with (fs ++ u ∷ [])) (formula_at b u)
-  last_there fs u = Contains-append_right (formulas_at b known) (formulas_at b (fs ++ u ∷ [])) (formula_at b u)
-      (map_to (formula_at b) (fs ++ u ∷ []) u (Contains-append_right fs (u ∷ []) u (0, omega arith, refl)))
-
-  seen_more : (i : ℕ) (d : FormulaId) (P : Formula → Type 0) → i < length known → ((f : Formula) → Contains (formulas_at b (take i known)) f → P f) → P (formula_at b (get_or known i d)) → (f : Formula) → Contains (formulas_at b (take (i + 1) known)) f → P f
-  seen_more i d P h first here f c =
-      let r = map_from (formula_at b) (take (i + 1) known) f c in
-      subst P r.2 (one_more (λ g. P (formula_at b g)) known i d h (λ g k. first (formula_at b g) (map_to (formula_at b) (take i known) g k)) here r.0 r.1)
-
-  one_follows : (i : ℕ) (d : FormulaId) (fs after : List FormulaId) (part : FormulaId) → i < length known → AreUnits b known (take i known) fs → IsPartOf s (formula_at b (get_or known i d)) part → after ≡ fs ++ part ∷ [] → AreUnits b known (take (i + 1) known) after
-  one_follows i d fs after part h u is e = subst (AreUnits b known (take (i + 1) known)) (sym e) (record {
-    has = HasFormulas-push b fs part u.has is.0;
-    occur = subst (Occur (formulas_at b known)) (sym (map-append (formula_at b) fs (part ∷ [])))
-        (occur_append (formulas_at b known) (formulas_at b fs) (formula_at b part ∷ []) u.occur
-        (λ p o. let r = is.2 p o in (formula_at b (get_or known i d), map_to (formula_at b) known (get_or known i d) (contains_get known i d h), subst (λ x. Contains (told_in x) p) (sym (single (formula_at b (get_or known i d)) r.0 r.1)) r.2)));
-    branches = seen_more i d (IsOpenBranch (formulas_at b known) (all_with (fs ++ part ∷ []))) h
-        (λ f c. open_more (formulas_at b known) (all_with fs) (all_with (fs ++ part ∷ [])) f (more_there fs part) (u.branches f c))
-        (λ gs e2. inl (formula_at b part, is.1 gs e2, last_there fs part));
-  })
-
-  none_follows : (i : ℕ) (d : FormulaId) (fs : List FormulaId) → i < length known → AreUnits b known (take i known) fs → IsOpenBranch (formulas_at b known) (formulas_at b known) (formula_at b (get_or known i d)) → AreUnits b known (take (i + 1) known) fs
-  none_follows i d fs h u is = record {
-    has = u.has;
-    occur = u.occur;
-    branches = seen_more i d (IsOpenBranch (formulas_at b known) (all_with fs)) h u.branches
-        (open_more (formulas_at b known) (formulas_at b known) (all_with fs) (formula_at b (get_or known i d)) (λ f c. Contains-append_left (formulas_at b known) (formulas_at b fs) f c) is);
-  }
-
   pub next_units : (i : ℕ) (d : FormulaId) (us more : List (FormulaId × Standing)) (u : Resolved) → i < length known → AreUnits b known (take i known) (formulas_in us) → IsResolved s (formula_at b (get_or known i d)) u → IsAdded u us more None →
       AreUnits b known (take (i + 1) known) (formulas_in more)
   next_units i d us more (resolved.Closed lines) h are is added = let no : None ≡ Some lines = added in cc
   next_units i d us more (resolved.One part t) h are is added =
-      one_follows i d (formulas_in us) (formulas_in more) part h are is (ap formulas_in added.1 ∙ map_push (λ (w : FormulaId × Standing). w.0) us (part, t))
-  next_units i d us more resolved.Open h are is added = subst (λ (ws : List (FormulaId × Standing)). AreUnits b known (take (i + 1) known) (formulas_in ws)) (sym added.1) (none_follows i d (formulas_in us) h are is)
+      subst (AreUnits b known (take (i + 1) known)) (sym (ap formulas_in added.1 ∙ map_push (λ (w : FormulaId × Standing). w.0) us (part, t))) (one_follows s i d (formulas_in us) part h are is)
+  next_units i d us more resolved.Open h are is added = subst (λ (ws : List (FormulaId × Standing)). AreUnits b known (take (i + 1) known) (formulas_in ws)) (sym added.1) (none_follows s i d (formulas_in us) h are is)
 
 -- ---- one turn: spread, then asked what follows, and that is learnt
 
@@ -296,7 +254,13 @@ module _ (g : Given) (old : Reaching) (k : equal.Standing) (path : Path) where
   pub asked_grows : IsReaching g old → k ≡ old.reached.congruence → take (length old.path.known.items) path.known.items ≡ old.path.known.items → Grows g old asked_state
   asked_grows h e kept =
       let r = still_reached g.bank.now old.reached asked_state.reached h.reached refl refl refl e in
-      record { state = record { reached = r; long = h.long; places = h.places }; reached = grows_alike g.bank.now old.reached asked_state.reached r refl; facts = kept }
+      record {
+        state = record { reached = r; long = h.long; places = h.places };
+        reached = grows_alike g.bank.now old.reached asked_state.reached r refl;
+        standings = front_itself old.standings.items;
+        merges = remembers_alike g.bank.now old.reached asked_state.reached h.reached refl e;
+        facts = kept;
+      }
 
   -- what is shown stays so, and each known formula stands as is said
   pub asked_shows : (cs : List ClassTree) → k ≡ old.reached.congruence → take (length old.path.known.items) path.known.items ≡ old.path.known.items → Shows cs g old → Shows cs g asked_state
@@ -342,7 +306,13 @@ module _ (g : Given) (old : Reaching) (ns : Vec ℕ Global) where
 
   pub reclassed_turns : (new : Reaching) (t : Turn) → Turns g reclassed new t → Turns g old new t
   reclassed_turns new t h = record {
-    grows = record { state = h.grows.state; reached = record { reached = h.grows.reached.reached; front = h.grows.reached.front; occurs = h.grows.reached.occurs }; facts = h.grows.facts };
+    grows = record {
+      state = h.grows.state;
+      reached = record { reached = h.grows.reached.reached; front = h.grows.reached.front; occurs = h.grows.reached.occurs };
+      standings = h.grows.standings;
+      merges = record { counts = h.grows.merges.counts; begins = h.grows.merges.begins; next = h.grows.merges.next };
+      facts = h.grows.facts;
+    };
     known = h.known;
     follows = reclassed_follows t h.follows;
   }
@@ -353,7 +323,17 @@ module _ (g : Given) (old : Reaching) (ns : Vec ℕ Global) where
   pub clash_turns : (lines : Vec Line Global) → IsReaching g old → Turns g old reclassed (turn.Closed lines)
   clash_turns lines h =
       let state = reclassed_state h in
-      record { grows = record { state = state; reached = grows_alike g.bank.now old.reached reclassed.reached state.reached refl; facts = front_itself old.path.known.items }; known = refl; follows = tt }
+      record {
+        grows = record {
+          state = state;
+          reached = grows_alike g.bank.now old.reached reclassed.reached state.reached refl;
+          standings = front_itself old.standings.items;
+          merges = remembers_alike g.bank.now old.reached reclassed.reached h.reached refl refl;
+          facts = front_itself old.path.known.items;
+        };
+        known = refl;
+        follows = tt;
+      }
 
   pub clash_from : (lines : Vec Line Global) (count : ℕ) (fs : List FormulaId) (places : List ℕ) → count ≡ length old.path.known.items → fs ≡ old.reached.known.items → places ≡ old.places.items → IsReaching g old →
       CloseCase g.bank.now old.reached.congruence.merges count (λ cs facts. AreAt cs g.bank.now facts fs places) lines.items → TurnFrom g old reclassed (turn.Closed lines)

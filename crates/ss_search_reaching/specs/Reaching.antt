@@ -7,7 +7,7 @@ use Rattle.ss_deriv.specs.Lines.{lines_of}
 use Rattle.ss_search_closing.specs.Closing.{Closes}
 use Rattle.ss_search_equating.specs.Said.{AreKnown}
 use Rattle.ss_search_path.specs.Paths.{known_on, GoesOn}
-use Rattle.ss_search_reached.specs.Known.{known_in, IsReached}
+use Rattle.ss_search_reached.specs.Known.{known_in, IsReached, Remembers}
 use Rattle.ss_search_reached.specs.Following as following
 use Rattle.ss_search_standing.specs.declared.standing.Given.{Given}
 use Rattle.ss_search_standing.specs.declared.standing.Standing.{Standing}
@@ -15,7 +15,7 @@ use Rattle.ss_search_standing.specs.declared.standing.Standing.TheVariants.{Fact
 use Rattle.ss_search_standing.specs.Standing.{AreStanding}
 use Rattle.ss_search_reaching.specs.declared.reaching.Reaching.{Reaching}
 
--- the place of a fact; of what is guarded any number
+-- The place of a fact. What is guarded is an `or`, which isn't asked at its place, so any number does.
 abbrev pub place_of : Standing → ℕ
 place_of (Fact place from) = place
 place_of (Guarded origin) = 0
@@ -39,10 +39,12 @@ pub record Shows (cs : List ClassTree) (g : Given) (r : Reaching) : Type 0 where
   pub standing : AreStanding cs g (facts_of g r) (reached_of g r) r.standings.items
   pub merges : AreKnown cs g.bank.now r.reached.congruence.merges (length (facts_of g r)) (facts_of g r)
 
--- what is reached grows, and so do the facts
+-- What is reached grows, and so do the facts. The standings and the merges stay in front of those that are added.
 pub record Grows (g : Given) (old new : Reaching) : Type 0 where
   pub state : IsReaching g new
   pub reached : following.Grows g.bank.now old.reached new.reached
+  pub standings : take (length old.standings.items) new.standings.items ≡ old.standings.items
+  pub merges : Remembers old.reached new.reached
   pub facts : take (length old.path.known.items) new.path.known.items ≡ old.path.known.items
 
 -- ---- from a state that shows what is reached
@@ -59,7 +61,7 @@ ReachesFrom g old new = (cs : List ClassTree) (premises : List Formula) (goal : 
 abbrev pub ClosesFrom : Given → Reaching → Reaching → List Line → Type 0
 ClosesFrom g old new lines = (cs : List ClassTree) (premises : List Formula) (goal : Formula) → Shows cs g old → Closes cs premises goal (facts_of g new) (lines_of g.bank.now lines)
 
--- the first choice that opens a fact; of what is guarded any number
+-- The first choice that opens a fact. Of what is guarded any number does likewise.
 abbrev pub start_of : Standing → ℕ
 start_of (Fact place from) = from
 start_of (Guarded origin) = 0

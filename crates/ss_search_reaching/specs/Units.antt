@@ -1,19 +1,17 @@
 -- What reached `or`s are beside the literals of a table, with lines.
-use Rattle.std.specs.Prelude.{◌≡◌, ℕ, List, [], ◌∷◌, map, Option, Some, None, slice_get}
-use Rattle.std.specs.List.{Contains}
+use Rattle.std.specs.Prelude.{◌≡◌, ℕ, List, map, Option, Some, None, slice_get}
 use Rattle.ss_core.specs.Tree.{ClassTree}
-use Rattle.ss_logic.specs.Formulas.{Formula, Formulas, Or, formula_list}
+use Rattle.ss_logic.specs.Formulas.{Formula}
 use Rattle.ss_terms.specs.declared.forms.FormulaId.{FormulaId}
-use Rattle.ss_terms.specs.Forms.{formula_at, HasFormula}
+use Rattle.ss_terms.specs.Forms.{formula_at}
 use Rattle.ss_deriv.specs.Lines.{lines_of}
 use Rattle.ss_equality_rules.specs.declared.Merge.{Merge}
 use Rattle.ss_equality_rules.specs.Equal as equal
-use Rattle.ss_search_procedure_rules.specs.Closed.{OccursIn}
 use Rattle.ss_search_closing.specs.Closing.{Closes}
 use Rattle.ss_search_path.specs.declared.path.Path.{Path}
 use Rattle.ss_search_path.specs.Paths.{known_on, GoesOn}
 use Rattle.ss_search_reached.specs.declared.looking.Looking.{Looking}
-use Rattle.ss_search_reached.specs.Looks.{known_at, IsLooking}
+use Rattle.ss_search_reached.specs.Looks.{known_at, IsLooking, IsPartOf}
 use Rattle.ss_search_reached.specs.Following.{IsOpenBranch}
 use Rattle.ss_search_standing.specs.declared.standing.Given.{Given}
 use Rattle.ss_search_standing.specs.declared.standing.Standing.{Standing}
@@ -29,10 +27,6 @@ pub record IsBeside (p : Beside) (c : equal.Standing) : Type 0 where
   pub refuting : IsRefuting p.refuting c
   pub bank : p.looking.bank.now ≡ bank_of p.refuting
   pub known : p.looking.known.now ≡ p.refuting.known.now
-
--- this part follows of the formula, where all others are refuted
-abbrev pub IsPartOf : Looking → Formula → FormulaId → Type 0
-IsPartOf s f part = HasFormula s.bank.now part × ((fs : Formulas) → f ≡ Or fs → Contains (formula_list fs) (formula_at s.bank.now part)) × ((p : Formula) → OccursIn (formula_at s.bank.now part ∷ []) p → OccursIn (f ∷ []) p)
 
 -- what the formula is beside the known ones
 abbrev pub IsResolved : Looking → Formula → Resolved → Type 0

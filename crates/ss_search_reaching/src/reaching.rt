@@ -1,12 +1,13 @@
 // What is reached, and where it stands.
 
-ghost use Rattle.std.specs.Prelude.{◌≡◌, ◌≤◌, ◌∷◌, [], List, length, take, OnOk};
+ghost use Rattle.std.specs.Prelude.{◌≡◌, ◌≤◌, ◌∷◌, ◌++◌, [], List, length, take, IfOk, OnOk};
 ghost use Rattle.std.specs.List.{Contains};
 ghost use Rattle.ss_core.specs.Tree.{ClassTree};
 ghost use Rattle.ss_terms.specs.Forms.{formula_at, HasFormula};
-ghost use Rattle.ss_search_path.specs.Paths.{IsMark, IsSame};
+ghost use Rattle.ss_search_path.specs.Paths.{known_on, IsMark, IsSame};
+ghost use Rattle.ss_search_reached.specs.Known.{merges_at};
 ghost use Rattle.ss_search_reached.specs.Following.{Occur};
-ghost use Rattle.ss_search_standing.specs.Standing.{Stands};
+ghost use Rattle.ss_search_standing.specs.Standing.{AreChosen, Stands};
 ghost use Rattle.ss_search_reaching.specs.Reaching as spec;
 ghost use Rattle.ss_search_reaching.specs.Reaching.{facts_of, reached_of, IsReaching, Shows, Grows};
 
@@ -44,6 +45,48 @@ fn place_of(standing: Standing) -> usize
 }
 
 impl Reaching {
+    /// Nothing is reached yet. An error is want of memory.
+    pub fn new(given: &Given<'_>, path: Path) -> Result<Self, AllocError>
+        ensures state { IfOk result (IsReaching given.now) }
+        ensures nothing { IfOk result (λ r. reached_of given.now r ≡ []) }
+        ensures path { IfOk result (λ r. IsSame path r.path) }
+        ensures shows { IfOk result (λ r. (cs : List ClassTree) → AreChosen cs given.now (known_on given.now.bank.now path) → Shows cs given.now r) }
+    {
+        let reached = Reached::new(given.alloc, given.bank)?;
+        let standings = Vec::new(given.alloc);
+        let places = Vec::new(given.alloc);
+        Ok(Reaching {
+            reached,
+            standings,
+            places,
+            path,
+        })
+    }
+
+    /// One more formula is reached, that stands among the facts. An error is want of memory.
+    pub fn enter(
+        &mut self,
+        given: &Given<'_>,
+        f: FormulaId,
+        standing: Standing,
+    ) -> Result<(), AllocError>
+        requires state { IsReaching given.now self.old }
+        requires formula { HasFormula given.now.bank.now f }
+        requires new { Contains (reached_of given.now self.old) (formula_at given.now.bank.now f) → ⊥ }
+        ensures state { OnOk result (IsReaching given.now self.new) }
+        ensures known { OnOk result (reached_of given.now self.new ≡ reached_of given.now self.old ++ formula_at given.now.bank.now f ∷ []) }
+        ensures grows { OnOk result (Occur (reached_of given.now self.old) (formula_at given.now.bank.now f ∷ []) → Grows given.now self.old self.new) }
+        ensures classes { OnOk result (self.new.reached.classes.items ≡ self.old.reached.classes.items) }
+        ensures path { OnOk result (IsSame self.old.path self.new.path) }
+        ensures shows { OnOk result ((cs : List ClassTree) → Shows cs given.now self.old → Stands cs given.now (facts_of given.now self.old) standing (formula_at given.now.bank.now f) → Shows cs given.now self.new) }
+    {
+        let place = place_of(standing);
+        self.reached.add_because(given.bank, f, place)?;
+        self.standings.push(standing)?;
+        self.places.push(place)?;
+        Ok(())
+    }
+
     /// A formula that stands among the facts is reached from now on, where it wasn't before. An error is want of memory.
     pub fn learn(
         &mut self,
@@ -64,11 +107,7 @@ impl Reaching {
         if self.reached.knows(given.bank, f) {
             return Ok(());
         }
-        let place = place_of(standing);
-        self.reached.add_because(given.bank, f, place)?;
-        self.standings.push(standing)?;
-        self.places.push(place)?;
-        Ok(())
+        self.enter(given, f, standing)
     }
 
     /// Marks to which `forget` and `undo` take back.
@@ -89,6 +128,8 @@ impl Reaching {
         ensures state { IsReaching given.now self.new }
         ensures reached { reached_of given.now self.new ≡ take marks.reached (reached_of given.now self.old) }
         ensures standings { self.new.standings.items ≡ take marks.reached self.old.standings.items }
+        ensures merges { self.new.reached.congruence.merges ≡ take (merges_at self.old.reached.merges.items self.old.reached.congruence.merges marks.reached) self.old.reached.congruence.merges }
+        ensures counts { self.new.reached.merges.items ≡ take marks.reached self.old.reached.merges.items }
         ensures path { IsSame self.old.path self.new.path }
     {
         self.reached.undo(given.bank, marks.reached);

@@ -33,7 +33,7 @@ use ss_search_whole_sums::close_whole_sums;
 use ss_terms::{Formula, FormulaId};
 use std::alloc::AllocError;
 
-/// What follows of all reached `or`s: lines that close the case at the end of the path, or formulas, each with how it stands there.
+/// What follows of all reached `or`s: lines that close the case at the end of the path, or formulas with how they stand there.
 #[derive(Drop)]
 pub(crate) enum Turn {
     Closed(Vec<Line>),
@@ -206,7 +206,7 @@ impl Reaching {
         Ok(())
     }
 
-    // Lines that close the case by a sum of the reached literals and the equalities of whole numbers of one class; none only where none does.
+    // Lines that close the case by a sum of the reached literals and the equalities of whole numbers of one class. None only where no sum does.
     fn sums(&self, given: &Given<'_>) -> Result<Option<Vec<Line>>, AllocError>
         requires state { IsReaching given.now self.now }
         requires classes { AreClassesOf self.now.reached.congruence.terms self.now.reached.congruence.merges self.now.reached.classes.items }

@@ -202,8 +202,8 @@ impl Refuting<'_> {
         }
     }
 
-    /// Lines that close the case in which so many facts are known, the known formulas at their places and this literal or quantified
-    /// formula at its own; none only where it may hold.
+    /// Lines that close the case in which so many facts are known, the known formulas at their places and this one at its own. It is a literal or a
+    /// quantified formula. None only where it may hold.
     pub(crate) fn basic(
         &self,
         congruence: &mut Congruence,

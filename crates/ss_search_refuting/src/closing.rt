@@ -62,8 +62,8 @@ impl Refuting<'_> {
         self.basic(congruence, count, fact)
     }
 
-    /// Lines that close the case at the end of the path, where the formula is the fact at a place, opened by the choices from one on. The
-    /// path goes on to its end. None only where the formula may hold: a caller then takes the path back.
+    /// Lines that close the case at the end of the path. The formula is the fact at a place, opened by the choices from one on. The path goes on to
+    /// its end. None only where the formula may hold: a caller then takes the path back.
     #[cycle(closing)]
     pub fn known(
         &self,
@@ -196,7 +196,7 @@ impl Refuting<'_> {
         }
     }
 
-    /// The cases of parts of the fact at a place, which is an `or`, from one part on and before another: those up to the first that isn't
+    /// The cases of parts of the fact at a place, which is an `or`, from one part on and before another. They are those up to the first that isn't
     /// closed. The part of the reached formula may hold there. The path stays. The parts are below a number.
     #[cycle(closing)]
     pub fn cases(

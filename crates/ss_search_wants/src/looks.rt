@@ -168,9 +168,9 @@ pub(crate) fn is_non_null(program: &Classes, field: usize) -> bool {
     }
 }
 
-pub(crate) fn has_invariants(program: &Classes, place: usize) -> bool {
-    match program.list.get(place) {
-        Some(class) => !class.invariants.is_empty(),
+pub(crate) fn has_invariants(program: &Classes, class: ClassId) -> bool {
+    match program.declared(class) {
+        Some(found) => !found.invariants.is_empty(),
         None => false,
     }
 }

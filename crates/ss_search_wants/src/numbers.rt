@@ -5,7 +5,7 @@ use crate::looks::{
     member, terms_at,
 };
 use crate::typed::good_field;
-use ss_core::{ClassId, Classes};
+use ss_core::{ClassId, Classes, MOST_LEVELS};
 use ss_search_classes::{
     ELEMENT, EQUAL, FIELD, LENGTH, LEVEL, NONE, NUMBER, QUOTIENT, REMAINDER, TYPE, argument,
     is_term, is_whole, node_head, of_term, pair_argument, term_argument, term_head,
@@ -97,10 +97,7 @@ fn invariants_at(
     if level == NONE {
         return Ok(());
     }
-    for place in 0..program.list.len() {
-        invariant_at(state, bank, program, (store, object, level), place)?;
-    }
-    Ok(())
+    invariants_at_level(state, bank, program, (store, object, level))
 }
 
 /// Makes the instances of the rule on invariants at each level that is there. Whether there was one.
@@ -126,28 +123,107 @@ fn invariants_of(
         return Ok(());
     }
     let object = term_argument(bank, level, 1);
+    invariants_at_level(state, bank, program, (store, object, level))
+}
+
+// The invariants of the classes at which an object with this level may be packed.
+fn invariants_at_level(
+    state: &mut State,
+    bank: &Bank,
+    program: &Classes,
+    at: (usize, usize, usize),
+) -> Result<(), AllocError> {
+    let (store, object, level) = at;
+    let literal = class_literal(state, bank, level);
+    if literal != NONE {
+        return invariants_from(state, program, (store, object), class_id(bank, literal));
+    }
+    if member(state, bank, of_term(level), TYPE, 0) != NONE {
+        return all_invariants(state, program, (store, object));
+    }
+    for place in 0..state.asked.sub_count() {
+        let bound = bound_of(state, bank, level, place);
+        if bound != NONE {
+            invariants_from(state, program, (store, object), class_id(bank, bound))?;
+        }
+    }
+    Ok(())
+}
+
+// The bound of a level by what is asked for at this place, where it is known to hold, or NONE.
+fn bound_of(state: &State, bank: &Bank, level: usize, place: usize) -> usize {
+    let pair = state.asked.sub(place);
+    let below = of_term(pair_argument(bank, pair, 0));
+    if !state.equal.are_equal(below, of_term(level)) {
+        return NONE;
+    }
+    let known = class_literal(state, bank, pair_argument(bank, pair, 1));
+    if known != NONE && state.equal.mark_of(bank, pair) == Some(true) {
+        known
+    } else {
+        NONE
+    }
+}
+
+// The invariants of all classes.
+fn all_invariants(
+    state: &mut State,
+    program: &Classes,
+    at: (usize, usize),
+) -> Result<(), AllocError> {
     for place in 0..program.list.len() {
-        invariant_at(state, bank, program, (store, object, level), place)?;
+        let number = place.saturating_mul(2).saturating_add(4);
+        invariant_at(state, program, at, class_numbered(number))?;
+    }
+    Ok(())
+}
+
+// The invariants of a class and of those above it.
+fn invariants_from(
+    state: &mut State,
+    program: &Classes,
+    at: (usize, usize),
+    class: ClassId,
+) -> Result<(), AllocError> {
+    let mut level = class;
+    for _ in 0..MOST_LEVELS {
+        invariants_beside(state, program, at, level)?;
+        match program.level_above(level) {
+            Some(above) => level = above,
+            None => return Ok(()),
+        }
+    }
+    Ok(())
+}
+
+// The invariants of a class and of those that stand beside it.
+fn invariants_beside(
+    state: &mut State,
+    program: &Classes,
+    at: (usize, usize),
+    class: ClassId,
+) -> Result<(), AllocError> {
+    invariant_at(state, program, at, class)?;
+    if let Some(found) = program.declared(class) {
+        for beside in &found.also {
+            invariant_at(state, program, at, *beside)?;
+        }
     }
     Ok(())
 }
 
 fn invariant_at(
     state: &mut State,
-    bank: &Bank,
     program: &Classes,
-    at: (usize, usize, usize),
-    place: usize,
+    at: (usize, usize),
+    class: ClassId,
 ) -> Result<(), AllocError> {
-    let (store, object, level) = at;
-    let number = place.saturating_mul(2).saturating_add(4);
-    if has_invariants(program, place)
-        && may_be_packed(state, bank, program, level, class_numbered(number))
-    {
-        let wanted = terms_at(object, NONE, NONE).of_class(number);
-        good_once(state, (GoodName::Invariants, NONE), store, wanted)?;
+    if !has_invariants(program, class) {
+        return Ok(());
     }
-    Ok(())
+    let (store, object) = at;
+    let wanted = terms_at(object, NONE, NONE).of_class(class.0 as usize);
+    good_once(state, (GoodName::Invariants, NONE), store, wanted)
 }
 
 // The level of an object in a store, where it is asked for, or NONE.
@@ -168,34 +244,6 @@ fn level_of(state: &State, bank: &Bank, store: usize, object: usize) -> usize {
         at = before;
     }
     NONE
-}
-
-// Whether a bound of a level is known by which an object may be packed at a class.
-fn may_be_packed(
-    state: &State,
-    bank: &Bank,
-    program: &Classes,
-    level: usize,
-    class: ClassId,
-) -> bool {
-    let literal = class_literal(state, bank, level);
-    if literal != NONE {
-        return program.is_subclass(class_id(bank, literal), class);
-    }
-    for place in 0..state.asked.sub_count() {
-        let pair = state.asked.sub(place);
-        let known = class_literal(state, bank, pair_argument(bank, pair, 1));
-        if known != NONE
-            && state.equal.mark_of(bank, pair) == Some(true)
-            && state
-                .equal
-                .are_equal(of_term(pair_argument(bank, pair, 0)), of_term(level))
-            && program.is_subclass(class_id(bank, known), class)
-        {
-            return true;
-        }
-    }
-    member(state, bank, of_term(level), TYPE, 0) != NONE
 }
 
 fn length(state: &mut State, bank: &Bank, node: usize) -> Result<(), AllocError> {

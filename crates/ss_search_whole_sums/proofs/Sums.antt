@@ -1,6 +1,6 @@
 -- Pairs of whole numbers of one class, and what closes a case with sums of them.
-use Rattle.std.proofs.Common.{◌≡◌, ℕ, zero, suc, ◌<◌, List, [], ◌∷◌, ◌++◌, length, true, Option, Some, None, sym, ◌∙◌, subst}
-use Rattle.std.specs.Prelude.{slice_get, IfSome, IfNone}
+use Rattle.std.proofs.Common.{◌≡◌, ℕ, zero, suc, ◌<◌, List, [], ◌∷◌, length, true, Some, sym, ◌∙◌, subst}
+use Rattle.std.specs.Prelude.{slice_get}
 use Rattle.std.specs.List.{Contains}
 use Rattle.ss_core.specs.Tree.{ClassTree}
 use Rattle.ss_logic.specs.declared.Sort.TheVariants as sort
@@ -11,7 +11,6 @@ use Rattle.ss_logic_means.specs.Sorts.{AreWellFormed}
 use Rattle.ss_logic_means.proofs.Sorting.{more_formed}
 use Rattle.ss_logic_ground.specs.Occurring.{terms}
 use Rattle.ss_logic_origins.proofs.Formed.{each_formed, terms_sorted}
-use Rattle.ss_linear_rules.specs.Two.{Two}
 use Rattle.ss_terms.specs.declared.forms.TermId.{TermId}
 use Rattle.ss_terms.specs.declared.forms.FormulaId.{FormulaId}
 use Rattle.ss_terms.specs.Forms.{Forms, term_at, formulas_at, HasTerm}
@@ -21,15 +20,11 @@ use Rattle.ss_equality_rules.specs.declared.Merge.{Merge}
 use Rattle.ss_equality_rules.specs.Equal.{Standing, AreFormsOf, AreClassesOf}
 use Rattle.ss_search_equating.proofs.Sorts.{formed_equal}
 use Rattle.ss_search_contradicting.specs.Contradicting.{ArePairsEqual, CloseFacts}
-use Rattle.ss_search_clashes.specs.Numbered.{class_of, IsClassing}
-use Rattle.ss_search_procedure_rules.specs.Closed.{basics}
 use Rattle.ss_search_procedure_rules.proofs.Lists.{contains_head, contains_cons}
-use Rattle.ss_search_reached.specs.Groups.{Pairs, AreOfOneClass, IsWholeIn, AreWholePairs}
-use Rattle.ss_search_reached.specs.Following.{HasNoSum}
+use Rattle.ss_search_reached.specs.Groups.{Pairs, AreOfOneClass, IsWholeIn}
 use Rattle.ss_search_reached.proofs.Lists.{contains_at}
-use Rattle.ss_search_reached.proofs.Sums.{no_sum}
-use Rattle.ss_search_whole_sums.specs.WholeSums.{basic_ones, basic_places, CloseSums}
-use Rattle.ss_search_whole_sums.proofs.Basics.{ones_are, ones_at, ones_formed}
+use Rattle.ss_search_whole_sums.specs.WholeSums.{basic_ones, basic_places, CloseSums, CloseFormed}
+use Rattle.ss_search_whole_sums.proofs.Basics.{ones_at, ones_formed}
 
 -- ---- pairs
 
@@ -63,25 +58,15 @@ module _ (cs : List ClassTree) (b : Forms) (fs : List Formula) (formed : AreWell
 
 -- ---- what closes a case
 
-pub closes_shown : (cs : List ClassTree) (b : Forms) (ms : List Merge) (count : ℕ) (fs : List FormulaId) (places : List ℕ) (classes : List ℕ) (ps : Pairs) (lines : List Line) → length places ≡ length fs →
-    AreWholePairs cs b classes (terms (formulas_at b (basic_ones b fs))) ps → CloseFacts cs b ms count (basic_ones b fs) (basic_places b fs places) ps lines → CloseSums cs b ms count fs places lines
-closes_shown cs b ms count fs places classes ps lines l pairs close = record {
-  closes = λ premises goal known are shown.
-      let formed = ones_formed b cs known fs places l shown in
-      close.closes premises goal known are (ones_at b cs known fs places l shown)
-      (more_formed cs [] (formulas_at b (basic_ones b fs)) (equalities_at b ps) formed (pairs_formed cs b (formulas_at b (basic_ones b fs)) formed ps pairs.only));
+pub closes_formed : (cs : List ClassTree) (b : Forms) (ms : List Merge) (count : ℕ) (facts : List FormulaId) (places : List ℕ) (ps : Pairs) (lines : List Line) →
+    ((p : TermId × TermId) → Contains ps p → IsWholeIn cs b (terms (formulas_at b facts)) p.0 × IsWholeIn cs b (terms (formulas_at b facts)) p.1) → CloseFacts cs b ms count facts places ps lines → CloseFormed cs b ms count facts places lines
+closes_formed cs b ms count facts places ps lines only close = record {
+  closes = λ premises goal known are at formed.
+      close.closes premises goal known are at (more_formed cs [] (formulas_at b facts) (equalities_at b ps) formed (pairs_formed cs b (formulas_at b facts) formed ps only));
 }
 
-pub has_none : (cs : List ClassTree) (b : Forms) (fs : List FormulaId) (classes : List ℕ) (ps : Pairs) → IsClassing b classes (class_of b classes) →
-    AreWholePairs cs b classes (terms (formulas_at b (basic_ones b fs))) ps → (Two cs (formulas_at b (basic_ones b fs) ++ equalities_at b ps) → ⊥) → HasNoSum cs (class_of b classes) (basics (formulas_at b fs))
-has_none cs b fs classes ps classing pairs none = no_sum cs b classes (formulas_at b fs) (basic_ones b fs) ps classing (ones_are b fs) pairs none
-
--- ---- answers
-
-pub none_then : {X : Type 0} (o : Option X) (P Q : Type 0) → (P → Q) → IfNone o P → IfNone o Q
-none_then None P Q f h = f h
-none_then (Some x) P Q f h = h
-
-pub some_then : {X : Type 0} (o : Option X) (P Q : X → Type 0) → ((x : X) → P x → Q x) → IfSome o P → IfSome o Q
-some_then None P Q f h = h
-some_then (Some x) P Q f h = f x h
+pub closes_shown : (cs : List ClassTree) (b : Forms) (ms : List Merge) (count : ℕ) (fs : List FormulaId) (places : List ℕ) (lines : List Line) → length places ≡ length fs →
+    CloseFormed cs b ms count (basic_ones b fs) (basic_places b fs places) lines → CloseSums cs b ms count fs places lines
+closes_shown cs b ms count fs places lines l close = record {
+  closes = λ premises goal known are shown. close.closes premises goal known are (ones_at b cs known fs places l shown) (ones_formed b cs known fs places l shown);
+}

@@ -7,13 +7,13 @@ ghost use Rattle.ss_equality_rules.specs.Equal.{AreFormsOf, AreClassesOf};
 ghost use Rattle.ss_search_clashes.specs.Numbered.{class_of};
 ghost use Rattle.ss_search_procedure_rules.specs.Closed as closed;
 ghost use Rattle.ss_search_reached.specs.Following.{HasNoSum};
-ghost use Rattle.ss_search_whole_sums.specs.WholeSums.{basic_ones, basic_places, CloseSums};
+ghost use Rattle.ss_search_whole_sums.specs.WholeSums.{basic_ones, basic_places, CloseSums, CloseFormed};
 
 use ss_deriv::Line;
 use ss_equality::Congruence;
 use ss_search_clashes::classes_are_of_terms;
 use ss_search_contradicting::close_contradiction;
-use ss_search_reached::{is_basic, whole_pairs};
+use ss_search_reached::{is_basic, numbers_are_seen, whole_links, whole_pairs};
 use ss_terms::{Bank, FormulaId};
 use std::alloc::{AllocError, Global};
 
@@ -60,9 +60,89 @@ fn basics(
     Ok(basics)
 }
 
-/// Lines that close a case in which known literals and equalities of whole numbers of one class contradict each other by sums; none only where
-/// no sum of one or two of them, or of differences, does. `places` has a place for each known formula, `count` is how many facts there are. An
-/// error is want of memory.
+// Lines that close the case by sums with links among whole numbers of one class, where they do.
+fn close_by_links(
+    alloc: Global,
+    bank: &Bank,
+    congruence: &Congruence,
+    classes: &[usize],
+    count: usize,
+    basics: &Placed,
+) -> Result<Option<Vec<Line>>, AllocError>
+    requires formulas { HasFormulas bank.now basics.now.formulas.items }
+    requires forms { AreFormsOf bank.now congruence.now.terms }
+    requires classes { AreClassesOf congruence.now.terms congruence.now.merges classes.now }
+    ensures { (cs : List ClassTree) → IsBankOf cs bank.now → IfOk result (λ o. IfSome o (λ v. CloseFormed cs bank.now congruence.now.merges count basics.now.formulas.items basics.now.places.items v.items)) }
+{
+    let links = whole_links(alloc, bank, classes, &basics.formulas)?;
+    close_contradiction(
+        alloc,
+        bank,
+        congruence,
+        count,
+        &basics.formulas,
+        &basics.places,
+        &links,
+    )
+}
+
+// The same with each two whole numbers of one class; none only where no sum is a contradiction.
+fn close_by_pairs(
+    alloc: Global,
+    bank: &Bank,
+    congruence: &Congruence,
+    classes: &[usize],
+    count: usize,
+    basics: &Placed,
+) -> Result<Option<Vec<Line>>, AllocError>
+    requires formulas { HasFormulas bank.now basics.now.formulas.items }
+    requires forms { AreFormsOf bank.now congruence.now.terms }
+    requires classes { AreClassesOf congruence.now.terms congruence.now.merges classes.now }
+    ensures none { (cs : List ClassTree) → IsBankOf cs bank.now → IfOk result (λ o. IfNone o (HasNoSum cs (class_of bank.now classes.now) (formulas_at bank.now basics.now.formulas.items))) }
+    ensures some { (cs : List ClassTree) → IsBankOf cs bank.now → IfOk result (λ o. IfSome o (λ v. CloseFormed cs bank.now congruence.now.merges count basics.now.formulas.items basics.now.places.items v.items)) }
+{
+    classes_are_of_terms(bank);
+    let pairs = whole_pairs(alloc, bank, classes, &basics.formulas)?;
+    close_contradiction(
+        alloc,
+        bank,
+        congruence,
+        count,
+        &basics.formulas,
+        &basics.places,
+        &pairs,
+    )
+}
+
+// The same. Each two are looked at only where links don't tell.
+fn close_basics(
+    alloc: Global,
+    bank: &Bank,
+    congruence: &Congruence,
+    classes: &[usize],
+    count: usize,
+    basics: &Placed,
+) -> Result<Option<Vec<Line>>, AllocError>
+    requires formulas { HasFormulas bank.now basics.now.formulas.items }
+    requires forms { AreFormsOf bank.now congruence.now.terms }
+    requires classes { AreClassesOf congruence.now.terms congruence.now.merges classes.now }
+    ensures none { (cs : List ClassTree) → IsBankOf cs bank.now → IfOk result (λ o. IfNone o (HasNoSum cs (class_of bank.now classes.now) (formulas_at bank.now basics.now.formulas.items))) }
+    ensures some { (cs : List ClassTree) → IsBankOf cs bank.now → IfOk result (λ o. IfSome o (λ v. CloseFormed cs bank.now congruence.now.merges count basics.now.formulas.items basics.now.places.items v.items)) }
+{
+    let seen = numbers_are_seen(alloc, bank, classes, &basics.formulas)?;
+    if seen {
+        return Ok(None);
+    }
+    let closing = close_by_links(alloc, bank, congruence, classes, count, basics)?;
+    match closing {
+        Some(lines) => Ok(Some(lines)),
+        None => close_by_pairs(alloc, bank, congruence, classes, count, basics),
+    }
+}
+
+/// Lines that close a case in which known literals and equalities of whole numbers of one class contradict each other by sums. None only where no sum
+/// of one or two of them, or of differences, does. `places` has a place for each known formula, `count` is how many facts there are. An error is want
+/// of memory.
 pub fn close_whole_sums(
     alloc: Global,
     bank: &Bank,
@@ -79,16 +159,6 @@ pub fn close_whole_sums(
     ensures none { (cs : List ClassTree) → IsBankOf cs bank.now → IfOk result (λ o. IfNone o (HasNoSum cs (class_of bank.now classes.now) (closed.basics (formulas_at bank.now known.now)))) }
     ensures some { (cs : List ClassTree) → IsBankOf cs bank.now → IfOk result (λ o. IfSome o (λ v. CloseSums cs bank.now congruence.now.merges count known.now places.now v.items)) }
 {
-    classes_are_of_terms(bank);
     let basics = basics(alloc, bank, known, places)?;
-    let pairs = whole_pairs(alloc, bank, classes, &basics.formulas)?;
-    close_contradiction(
-        alloc,
-        bank,
-        congruence,
-        count,
-        &basics.formulas,
-        &basics.places,
-        &pairs,
-    )
+    close_basics(alloc, bank, congruence, classes, count, &basics)
 }

@@ -1,3 +1,3 @@
-pub mod Kept
+pub mod Complete
 pub mod Lists
 pub mod Whole

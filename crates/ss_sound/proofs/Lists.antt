@@ -1,11 +1,12 @@
 -- Lists of obligations that are decided from the front.
-use Rattle.std.proofs.Common.{◌≡◌, ◌≢◌, ℕ, zero, suc, ◌+◌, ◌*◌, ◌<◌, ◌≤◌, List, [], ◌∷◌, ◌++◌, map, take, drop, length, Some, refl, sym, ap, ◌∙◌, subst, arith}
+use Rattle.std.proofs.Common.{◌≡◌, ◌≢◌, ℕ, zero, suc, ◌+◌, ◌*◌, ◌<◌, ◌≤◌, ◌⊎◌, inl, inr, ⊎_elim, List, [], ◌∷◌, ◌++◌, map, take, drop, length, Some, refl, sym, ap, ◌∙◌, subst, arith}
 use Rattle.std.specs.Prelude.{Result, Ok, IfOk}
 use Rattle.ss_sound.specs.declared.decision.Decision.{Decision}
 use Rattle.ss_sound.specs.declared.decision.Decision.TheVariants as decision
 use Rattle.ss_sound.specs.declared.verdict.Decided.{Decided}
 use Rattle.std.specs.List.{slice_get, slice_index_or}
 use borrow.Author.Count.{below_more}
+use Rattle.std.proofs.lemmas.Bool.{cases_eq}
 use Rattle.std.proofs.lemmas.List.{append-nil, map_push, length-map}
 use Rattle.ss_core.specs.Tree.{ClassTree}
 use Rattle.ss_logic_derivations.specs.Steps as tree
@@ -14,17 +15,18 @@ use Rattle.ss_terms.specs.Forms.{Forms, AreBelow, HasFormula, HasFormulas, IsGro
 use Rattle.ss_terms.proofs.Grown.{HasFormula-grown, formulas_at-grown}
 use Rattle.ss_vcgen_heaps.specs.Positions as oblig
 use Rattle.ss_vcgen_safe.specs.Derived.{AreDerived}
+use Rattle.ss_vcgen_formed.specs.Formed.{AreFormed}
 use Rattle.ss_vcgen_builder.specs.declared.builder.Listed.{Listed}
 use Rattle.ss_vcgen_builder.specs.Builder.{obligation_at, obligations_at, IsPlaced, AreWithin}
 use Rattle.ss_deriv.specs.declared.line.Line.{Line}
 use Rattle.ss_deriv.specs.Lines.{lines_of}
+use Rattle.ss_search.proofs.Kept.{lines_kept}
 use Rattle.ss_search.specs.declared.answers.Options.{Options}
 use Rattle.ss_search.specs.declared.answers.Countered.{Countered}
 use Rattle.ss_search.specs.declared.answers.Undecided.{Undecided}
-use Rattle.ss_sound.specs.Decided.{IsDerivedBy, IsCountered, IsOverBudget, IfDerived, IfRefuted, IfOver}
+use Rattle.ss_sound.specs.Decided.{IsWellFormed, IsDerivedBy, IsCountered, IsOverBudget, IfDerived, IfRefuted, IfOver}
 use Rattle.ss_sound.specs.Verdicts.{IsProved, IfThere, AreCountered, AreUndecided, IsNoneOf, AreDecided, derivations_of, derivations_in, countered_in, undecided_in}
 use Rattle.ss_search.specs.Listed.{countered_numbers, undecided_numbers, AreRisingFrom}
-use Rattle.ss_sound.proofs.Kept.{lines_kept}
 
 -- ---- parts of lists
 
@@ -78,6 +80,23 @@ obligations_grown a b trail n [] grown has within = refl
 obligations_grown a b trail n (x ∷ xs) grown has within =
     let first = obligation_grown a b trail x grown has within.0.goal in let others = obligations_grown a b trail n xs grown has within.1 in cc
 
+-- each obligation of a list that is well formed is well formed
+formed_of : (cs : List ClassTree) (os : List oblig.Obligation) (k : ℕ) (o : oblig.Obligation) → AreFormed cs os → slice_get os k ≡ Some o → IsWellFormed cs o
+formed_of cs [] k o h e = absurd (cc)
+formed_of cs (x ∷ xs) zero o h e = let same : x ≡ o = cc in subst (IsWellFormed cs) same (record { goal = h.1; premises = h.0 })
+formed_of cs (x ∷ xs) (suc k) o h e = formed_of cs xs k o h.2 e
+
+pub formed_at : (cs : List ClassTree) (a b : Forms) (trail : List FormulaId) (os : List Listed) (k : ℕ) (d : Listed) → IsGrown a b → HasFormulas a trail → AreWithin a (length trail) os → AreFormed cs (obligations_at a trail os) → k < length os
+    → IsWellFormed cs (obligation_at b trail (slice_index_or os k d))
+formed_at cs a b trail os k d grown has within h small =
+    let o = slice_index_or os k d in
+    let here : slice_get os k ≡ Some o = read_at os k d small in
+    let same : obligation_at b trail o ≡ obligation_at a trail o = obligation_grown a b trail o grown has (within_at a (length trail) os k o within here).goal in
+    subst (IsWellFormed cs) (sym same) (formed_of cs (obligations_at a trail os) k (obligation_at a trail o) h (tree_at a trail os k o here))
+
+pub formed_later : (cs : List ClassTree) (a b : Forms) (trail : List FormulaId) (os : List Listed) → IsGrown a b → HasFormulas a trail → AreWithin a (length trail) os → AreFormed cs (obligations_at a trail os) → AreFormed cs (obligations_at b trail os)
+formed_later cs a b trail os grown has within h = subst (AreFormed cs) (sym (obligations_grown a b trail (length trail) os grown has within)) h
+
 length-obligations_at : (b : Forms) (trail : List FormulaId) (os : List Listed) → length (obligations_at b trail os) ≡ length os
 length-obligations_at b trail os = length-map os (obligation_at b trail)
 
@@ -108,6 +127,26 @@ none_last : (ks : List ℕ) (n k : ℕ) → IsNoneOf (ks ++ n ∷ []) k → n �
 none_last [] n k h = h.0
 none_last (x ∷ xs) n k h = none_last xs n k h.1
 
+-- numbers that are all below are none of them the bound
+not_below : (k n : ℕ) → k < n → k ≢ n
+not_below k n less e = omega arith
+
+none_bound : (n : ℕ) (ks : List ℕ) → AreNumbersBelow n ks → IsNoneOf ks n
+none_bound n [] h = tt
+none_bound n (k ∷ ks) h = (not_below k n h.0, none_bound n ks h.1)
+
+none_push : (ks : List ℕ) (n k : ℕ) → n ≢ k → IsNoneOf ks k → IsNoneOf (ks ++ n ∷ []) k
+none_push [] n k differs h = (differs, tt)
+none_push (x ∷ xs) n k differs h = (h.0, none_push xs n k differs h.1)
+
+-- two lists that have no number in common, and one more that is above those of the second
+apart_push : (ks ms : List ℕ) (n k : ℕ) → IsNoneOf ks k ⊎ IsNoneOf ms k → AreNumbersBelow n ms → IsNoneOf (ks ++ n ∷ []) k ⊎ IsNoneOf ms k
+apart_push ks ms n k h below =
+    ⊎_elim (λ same. inr (subst (λ j. IsNoneOf ms j) same (none_bound n ms below))) (λ differs. ⊎_elim (λ free. inl (none_push ks n k differs free)) (λ clear. inr clear) h) (cases_eq n k)
+
+turned : {A B : Type 0} → A ⊎ B → B ⊎ A
+turned h = ⊎_elim (λ a. inr a) (λ b. inl b) h
+
 countered_more : (ls : List Countered) (l : Countered) (n : ℕ) → l.obligation ≡ n → countered_numbers (ls ++ l ∷ []) ≡ countered_numbers ls ++ n ∷ []
 countered_more ls l n e = map_push (λ x. x.obligation) ls l ∙ ap (λ k. countered_numbers ls ++ k ∷ []) e
 
@@ -124,6 +163,9 @@ module _ (low n : ℕ) (ks more : List ℕ) (e : more ≡ ks ++ n ∷ []) where
 
   pushed_front : (k : ℕ) → IsNoneOf more k → IsNoneOf ks k
   pushed_front k h = none_front ks n k (subst (λ ns. IsNoneOf ns k) e h)
+
+  pushed_apart : (ms : List ℕ) (k : ℕ) → IsNoneOf ks k ⊎ IsNoneOf ms k → AreNumbersBelow n ms → IsNoneOf more k ⊎ IsNoneOf ms k
+  pushed_apart ms k h below = rw e (apart_push ks ms n k h below)
 
   pushed_last : IsNoneOf more n → ⊥
   pushed_last h = none_last ks n n (subst (λ ns. IsNoneOf ns n) e h) refl
@@ -178,7 +220,7 @@ module _ (cs : List ClassTree) (p : Options) where
 
   pub decided_none : (os : List oblig.Obligation) (b : Forms) → IsDecidedTo os 0 b [] [] []
   decided_none os b = record {
-    decided = record { are_countered = tt; are_undecided = tt; countered_rise = tt; undecided_rise = tt; others = λ k o small e clean none. absurd (omega arith) };
+    decided = record { are_countered = tt; are_undecided = tt; countered_rise = tt; undecided_rise = tt; apart = λ k. inl tt; others = λ k o small e clean none. absurd (omega arith) };
     countered_below = tt;
     undecided_below = tt;
     derived = λ e d. tt;
@@ -193,6 +235,7 @@ module _ (cs : List ClassTree) (p : Options) where
             are_undecided = h.decided.are_undecided;
             countered_rise = h.decided.countered_rise;
             undecided_rise = h.decided.undecided_rise;
+            apart = h.decided.apart;
             others = λ k x small at clean none. below_more P n (λ j less y here free clear. h.decided.others j y less here free clear)
                 (λ y here free clear. let same : o ≡ y = cc in subst (IsProved cs) same (lines_of b d, new)) k small x at clean none;
           };
@@ -214,6 +257,7 @@ module _ (cs : List ClassTree) (p : Options) where
             are_undecided = h.decided.are_undecided;
             countered_rise = pushed_rise 0 n (countered_numbers ms) (countered_numbers (ms ++ l ∷ [])) numbers (omega arith) h.decided.countered_rise h.countered_below;
             undecided_rise = h.decided.undecided_rise;
+            apart = λ k. pushed_apart 0 n (countered_numbers ms) (countered_numbers (ms ++ l ∷ [])) numbers (undecided_numbers us) k (h.decided.apart k) h.undecided_below;
             others = λ k x small here clean none. below_more P n
                 (λ j less y there free clear. h.decided.others j y less there (pushed_front 0 n (countered_numbers ms) (countered_numbers (ms ++ l ∷ [])) numbers j free) clear)
                 (λ y there free clear. absurd (pushed_last 0 n (countered_numbers ms) (countered_numbers (ms ++ l ∷ [])) numbers free)) k small x here clean none;
@@ -232,6 +276,7 @@ module _ (cs : List ClassTree) (p : Options) where
             are_undecided = undecided_push os us l h.decided.are_undecided (rw (at, e) why);
             countered_rise = h.decided.countered_rise;
             undecided_rise = pushed_rise 0 n (undecided_numbers us) (undecided_numbers (us ++ l ∷ [])) numbers (omega arith) h.decided.undecided_rise h.undecided_below;
+            apart = λ k. turned (pushed_apart 0 n (undecided_numbers us) (undecided_numbers (us ++ l ∷ [])) numbers (countered_numbers ms) k (turned (h.decided.apart k)) h.countered_below);
             others = λ k x small here clean none. below_more P n
                 (λ j less y there free clear. h.decided.others j y less there free (pushed_front 0 n (undecided_numbers us) (undecided_numbers (us ++ l ∷ [])) numbers j clear))
                 (λ y there free clear. absurd (pushed_last 0 n (undecided_numbers us) (undecided_numbers (us ++ l ∷ [])) numbers clear)) k small x here clean none;

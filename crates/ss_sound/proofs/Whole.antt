@@ -30,5 +30,4 @@ pub verified_safe : {A B : Type 0} (v : Verdict) (c : CoreTree) (xs : List A) (y
 verified_safe (verdict.Verified es) c xs ys ds formed os lines e h found = is_safe c formed os lines e (h found.1 found.2)
 verified_safe (verdict.Unproved ms us) c xs ys ds formed os lines e h found = tt
 verified_safe (verdict.Undecided us) c xs ys ds formed os lines e h found = tt
-verified_safe verdict.Lost c xs ys ds formed os lines e h found = tt
 verified_safe verdict.Memory c xs ys ds formed os lines e h found = tt

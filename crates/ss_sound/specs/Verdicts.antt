@@ -1,5 +1,5 @@
 -- The answers of verification.
-use Rattle.std.specs.Prelude.{◌≡◌, ◌≢◌, ℕ, ◌+◌, ◌<◌, ◌≤◌, List, [], ◌∷◌, map, length, Option, Some, None, slice_get}
+use Rattle.std.specs.Prelude.{◌≡◌, ◌≢◌, ℕ, ◌<◌, ◌⊎◌, List, [], ◌∷◌, map, length, Option, Some, None, slice_get}
 use Rattle.ss_core.specs.Tree.{ClassTree}
 use Rattle.ss_logic_derivations.specs.Steps as tree
 use Rattle.ss_vcgen_heaps.specs.Positions.{Obligation}
@@ -9,6 +9,7 @@ use Rattle.ss_deriv.specs.Lines.{lines_of}
 use Rattle.ss_search.specs.declared.answers.Options.{Options}
 use Rattle.ss_search.specs.declared.answers.Countered.{Countered}
 use Rattle.ss_search.specs.declared.answers.Undecided.{Undecided}
+use Rattle.ss_search.specs.Found.{HasNoModelWithin}
 use Rattle.ss_search.specs.Listed.{countered_numbers, undecided_numbers, AreRisingFrom}
 use Rattle.ss_sound.specs.Decided.{IsDerivedBy, IsCountered, IsOverBudget}
 use Rattle.ss_sound.specs.declared.decision.Decision.{Decision}
@@ -60,12 +61,13 @@ abbrev pub IsNoneOf : List ℕ → ℕ → Type 0
 IsNoneOf [] k = Unit {0}
 IsNoneOf (n ∷ ns) k = (n ≢ k) × IsNoneOf ns k
 
--- What is listed has its cause, in rising order; and each other one of the first `count` obligations has a derivation.
+-- What is listed has its cause, in rising order, and none is in both lists. Each other one of the first `count` obligations has a derivation.
 pub record AreDecided (cs : List ClassTree) (p : Options) (os : List Obligation) (count : ℕ) (countered : List Countered) (undecided : List Undecided) : Type 0 where
   pub are_countered : AreCountered cs p os countered
   pub are_undecided : AreUndecided cs p os undecided
   pub countered_rise : AreRisingFrom 0 (countered_numbers countered)
   pub undecided_rise : AreRisingFrom 0 (undecided_numbers undecided)
+  pub apart : (k : ℕ) → IsNoneOf (countered_numbers countered) k ⊎ IsNoneOf (undecided_numbers undecided) k
   pub others : (k : ℕ) (o : Obligation) → k < count → slice_get os k ≡ Some o → IsNoneOf (countered_numbers countered) k → IsNoneOf (undecided_numbers undecided) k → IsProved cs o
 
 -- a model refutes one obligation at least; each that is listed has its cause, and each other one has a derivation
@@ -73,12 +75,25 @@ pub record IsUnproved (cs : List ClassTree) (p : Options) (os : List Obligation)
   pub some : countered ≢ []
   pub decided : AreDecided cs p os (length os) countered undecided
 
--- no model is at hand, and one obligation at least isn't decided; for each that is listed its budget isn't enough, and each other one has a derivation
+-- No model is at hand, and one obligation at least isn't decided. For each that is listed its budget isn't enough, and each other one has a
+-- derivation.
 pub record IsUndecided (cs : List ClassTree) (p : Options) (os : List Obligation) (undecided : List Undecided) : Type 0 where
   pub some : undecided ≢ []
   pub decided : AreDecided cs p os (length os) [] undecided
 
+-- ---- completeness
+
+-- Of each the ground form has no more formulas than the options allow, no model refutes it, and the splits are enough for it.
+abbrev pub AllHaveNoModelWithin : List ClassTree → Options → List Obligation → Type 0
+AllHaveNoModelWithin cs p [] = Unit {0}
+AllHaveNoModelWithin cs p (o ∷ os) = HasNoModelWithin cs p o.premises o.goal × AllHaveNoModelWithin cs p os
+
 -- ---- the answers
+
+abbrev pub IsVerifiedOrMemory : Verdict → Type 0
+IsVerifiedOrMemory (verdict.Verified ds) = Unit {0}
+IsVerifiedOrMemory verdict.Memory = Unit {0}
+IsVerifiedOrMemory _ = ⊥
 
 abbrev pub IfVerified : Verdict → (List (List Line) → Type 0) → Type 0
 IfVerified (verdict.Verified ds) P = P ds.items

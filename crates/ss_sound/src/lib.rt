@@ -1,5 +1,4 @@
-//! Verification of a core program: each obligation is given a derivation that the checker accepts, a model that refutes it, or the budget that
-//! ran out.
+//! Verification of a core program: each obligation is given a derivation, a model that refutes it, or the budget that ran out.
 #![tactic(auto)]
 
 mod decision;

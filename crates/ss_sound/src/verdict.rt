@@ -6,24 +6,26 @@ ghost use Rattle.ss_core.specs.Chain.{IsWithinLimits};
 ghost use Rattle.ss_store_rules.specs.Formed.{IsFormed};
 ghost use Rattle.ss_vcgen_heaps.specs.Obligations as oblig;
 ghost use Rattle.ss_vcgen_safe.specs.Derived.{AreDerived};
+ghost use Rattle.ss_vcgen_formed.specs.Formed.{AreFormed};
+ghost use Rattle.ss_logic_means.specs.Scenes.{AreInvariants};
 ghost use Rattle.ss_vcgen_builder.specs.Builder.{obligations_at, AreWithin};
 ghost use Rattle.ss_vcgen.specs.Built.{trees, IsWithin};
 ghost use Rattle.ss_terms.specs.Forms.{IsBankOf, IsGrown, HasFormulas};
 ghost use Rattle.ss_sound.specs.Safe.{IsSafe};
-ghost use Rattle.ss_sound.specs.Verdicts.{AreDecided, IsUnproved, IsUndecided, IfVerified, IfUnproved, IfUndecided, derivations_of, derivations_in, countered_in, undecided_in};
+ghost use Rattle.ss_sound.specs.Verdicts.{AreDecided, IsUnproved, IsUndecided, AllHaveNoModelWithin, IsVerifiedOrMemory, IfVerified, IfUnproved, IfUndecided, derivations_of, derivations_in, countered_in, undecided_in};
 
-use crate::decision::{Decision, Stop, decide};
+use crate::decision::{Decision, decide};
 use ss_core::Core;
 use ss_deriv::Derivation;
 use ss_search::{Countered, Options, Search, Undecided};
 use ss_terms::{Bank, FormulaId};
 use ss_vcgen::{Listed, Obligations};
-use std::alloc::Global;
+use std::alloc::{AllocError, Global};
 
 /// The answer of verification.
 #[derive(Drop)]
 pub enum Verdict {
-    /// Each obligation has a derivation that the checker accepted. These are they, over the bank of the obligations.
+    /// Each obligation has a derivation. These are they, over the bank of the obligations.
     Verified(Vec<Derivation>),
     /// A model refutes each of the first of these, of which there is one at least; for the second a budget wasn't enough. Every other one has a
     /// derivation.
@@ -33,8 +35,6 @@ pub enum Verdict {
     },
     /// For these a budget wasn't enough, and every other one has a derivation.
     Undecided(Vec<Undecided>),
-    /// Of an obligation neither a derivation nor a cause was found. That this doesn't come is not proved.
-    Lost,
     Memory,
 }
 
@@ -48,7 +48,7 @@ struct Decided {
 
 impl Decided {
     // Adds what was found of the obligation of this number.
-    fn add(&mut self, number: usize, decision: Decision) -> Result<(), Stop>
+    fn add(&mut self, number: usize, decision: Decision) -> Result<(), AllocError>
         ensures derivations { OnOk result (self.new.derivations.items ≡ self.old.derivations.items ++ derivations_in decision) }
         ensures countered { OnOk result (self.new.countered.items ≡ self.old.countered.items ++ countered_in number decision) }
         ensures undecided { OnOk result (self.new.undecided.items ≡ self.old.undecided.items ++ undecided_in number decision) }
@@ -91,7 +91,8 @@ impl Decided {
     }
 }
 
-/// Decides each obligation of a program, in order. Nothing is assumed of the search: each derivation is checked.
+/// Decides each obligation of a program, in order. Where the ground form of each has no model, and the options are enough for it, the program is
+/// verified.
 pub fn verify(
     alloc: Global,
     program: &Core,
@@ -107,6 +108,7 @@ pub fn verify(
     ensures safe { IfVerified result (λ _. IsSafe (view.core program.now)) }
     ensures unproved { IfUnproved result (IsUnproved (view.classes program.now.classes) options.now (oblig.obligations (view.core program.now))) }
     ensures undecided { IfUndecided result (IsUndecided (view.classes program.now.classes) options.now (oblig.obligations (view.core program.now))) }
+    ensures complete { AllHaveNoModelWithin (view.classes program.now.classes) options.now (oblig.obligations (view.core program.now)) → IsVerifiedOrMemory result }
     ensures obligations { trees obligations.new ≡ trees obligations.old }
     ensures list { obligations.new.list ≡ obligations.old.list }
     ensures grown { IsGrown obligations.old.bank obligations.new.bank }
@@ -114,12 +116,11 @@ pub fn verify(
     let Obligations { bank, trail, list } = obligations;
     match decide_all(alloc, bank, program, trail, list, options) {
         Ok(decided) => decided.verdict(),
-        Err(Stop::Lost) => Verdict::Lost,
-        Err(Stop::Memory) => Verdict::Memory,
+        Err(_) => Verdict::Memory,
     }
 }
 
-// What is found of each obligation.
+// What is found of each obligation. An error is want of memory.
 fn decide_all(
     alloc: Global,
     bank: &mut Bank,
@@ -127,18 +128,18 @@ fn decide_all(
     trail: &[FormulaId],
     list: &[Listed],
     options: &Options,
-) -> Result<Decided, Stop>
+) -> Result<Decided, AllocError>
     requires bank { IsBankOf (view.classes program.now.classes) bank.old }
     requires limits { IsWithinLimits (view.classes program.now.classes) }
+    requires invariants { AreInvariants (view.classes program.now.classes) }
     requires trail { HasFormulas bank.old trail.now }
     requires list { AreWithin bank.old (length trail.now) list.now }
+    requires formed { AreFormed (view.classes program.now.classes) (obligations_at bank.old trail.now list.now) }
     ensures decided { IfOk result (λ d. AreDecided (view.classes program.now.classes) options.now (obligations_at bank.old trail.now list.now) (length list.now) d.countered.items d.undecided.items) }
     ensures derived { IfOk result (λ d. d.countered.items ≡ [] → d.undecided.items ≡ [] → AreDerived (view.classes program.now.classes) (obligations_at bank.old trail.now list.now) (derivations_of bank.new d.derivations.items)) }
     ensures grown { IsGrown bank.old bank.new }
 {
-    let Ok(mut search) = Search::new(alloc, bank) else {
-        return Err(Stop::Memory);
-    };
+    let mut search = Search::new(alloc, bank)?;
     decide_each(alloc, &mut search, bank, program, trail, list, options)
 }
 
@@ -151,11 +152,13 @@ fn decide_each(
     trail: &[FormulaId],
     list: &[Listed],
     options: &Options,
-) -> Result<Decided, Stop>
+) -> Result<Decided, AllocError>
     requires bank { IsBankOf (view.classes program.now.classes) bank.old }
     requires limits { IsWithinLimits (view.classes program.now.classes) }
+    requires invariants { AreInvariants (view.classes program.now.classes) }
     requires trail { HasFormulas bank.old trail.now }
     requires list { AreWithin bank.old (length trail.now) list.now }
+    requires formed { AreFormed (view.classes program.now.classes) (obligations_at bank.old trail.now list.now) }
     ensures decided { IfOk result (λ d. AreDecided (view.classes program.now.classes) options.now (obligations_at bank.old trail.now list.now) (length list.now) d.countered.items d.undecided.items) }
     ensures derived { IfOk result (λ d. d.countered.items ≡ [] → d.undecided.items ≡ [] → AreDerived (view.classes program.now.classes) (obligations_at bank.old trail.now list.now) (derivations_of bank.new d.derivations.items)) }
     ensures grown { IsGrown bank.old bank.new }
@@ -166,7 +169,7 @@ fn decide_each(
         undecided: Vec::new(alloc),
     };
     for (number, listed) in list.iter().enumerate() {
-        let decision = decide(alloc, search, bank, program, trail, listed, options)?;
+        let decision = decide(search, bank, program, trail, listed, options)?;
         decided.add(number, decision)?;
     }
     Ok(decided)

@@ -1,5 +1,5 @@
-//! Tests of equality by congruence: what follows from merges, what is left when they are taken back, the reasons that are told, and
-//! 100,000 terms in one class.
+//! Tests of equality by congruence: what follows from merges, and what is left when they are taken back. Also the reasons that are told, and 100,000
+//! terms in one class.
 #![tactic(auto)]
 
 #[cfg(test)]

@@ -9,8 +9,8 @@ use ss_terms::{Bank, Symbol, TermId};
 use std::alloc::{AllocError, Global};
 use std::test::Fail;
 
-// A merge and its reason; all but so many merges are taken back; whether two terms are equal; the reasons why they are, as a sum
-// of powers of two, or 0 where they aren't equal; how many merges stand.
+// A merge and its reason; all but so many merges are taken back; whether two terms are equal. The reasons why they are, as a sum of powers of two, or
+// 0 where they aren't equal; how many merges stand.
 #[derive(Clone, Copy, Drop)]
 enum Step {
     Merge(TermId, TermId, usize),

@@ -1,9 +1,10 @@
 // The classes of the tests.
 
-ghost use Rattle.std.specs.Prelude.{◌≡◌, length, nat_le, IsTrue};
+ghost use Rattle.std.specs.Prelude.{◌≡◌, ◌==◌, length, nat_le, IsTrue};
 ghost use Rattle.std.specs.List.{list_all};
 ghost use Rattle.ss_core.specs.View as view;
 ghost use Rattle.ss_core.specs.Chain.{IsWithinLimits};
+ghost use Rattle.ss_logic_means.specs.Scenes.{AreInvariants};
 
 use ss_core::{
     BodyId, Class, ClassId, Classes, Core, Expr, Field, FieldId, Kind, Link, Mark, Operator, Place,
@@ -59,9 +60,9 @@ fn not_negative(alloc: Global) -> Result<Expr, AllocError> {
     Ok(Expr::Chain(place, zero, links))
 }
 
-// Class 4, a node: 0 `int`, 1 `bool`, 2 `[Rep]` a node, 3 `[Peer]` a node that isn't null, 4 a leaf. Its number isn't negative.
+// Class 4 is a node, with these invariants. Its fields are 0 `int`, 1 `bool`, 2 `[Rep]` a node, 3 `[Peer]` a node that isn't null, 4 a leaf.
 // Class 6, a leaf, below it: 5 `[Rep] object[]`, which isn't null. Class 8 has no field. An object of class 10 counts as 8 too.
-fn fill(alloc: Global, list: &mut Vec<Class>) -> Result<(), AllocError> {
+fn fill(alloc: Global, list: &mut Vec<Class>, invariants: Vec<Expr>) -> Result<(), AllocError> {
     let node = [
         (Ty::Int, Mark::Plain),
         (Ty::Bool, Mark::Plain),
@@ -69,8 +70,6 @@ fn fill(alloc: Global, list: &mut Vec<Class>) -> Result<(), AllocError> {
         (reference(4, true), Mark::Peer),
         (reference(6, false), Mark::Plain),
     ];
-    let lowest = not_negative(alloc)?;
-    let invariants = vec![in alloc; lowest]?;
     add(alloc, list, 0, &[], &node, invariants)?;
     let array = [(reference(3, true), Mark::Rep)];
     add(alloc, list, 4, &[], &array, Vec::new(alloc))?;
@@ -78,15 +77,27 @@ fn fill(alloc: Global, list: &mut Vec<Class>) -> Result<(), AllocError> {
     add(alloc, list, 0, &[ClassId(8)], &[], Vec::new(alloc))
 }
 
-/// The classes, in a program without bodies.
-pub fn program(alloc: Global) -> Result<Core, AllocError> {
+// The classes, in a program without bodies.
+fn program_with(alloc: Global, invariants: Vec<Expr>) -> Result<Core, AllocError> {
     let mut list = Vec::new(alloc);
-    fill(alloc, &mut list)?;
+    fill(alloc, &mut list, invariants)?;
     Ok(Core {
         classes: Classes { list },
         bodies: Vec::new(alloc),
         main: BodyId(0),
     })
+}
+
+/// The classes, where the number of a node isn't negative.
+pub fn program(alloc: Global) -> Result<Core, AllocError> {
+    let lowest = not_negative(alloc)?;
+    let invariants = vec![in alloc; lowest]?;
+    program_with(alloc, invariants)
+}
+
+/// The same classes without an invariant.
+pub fn plain_program(alloc: Global) -> Result<Core, AllocError> {
+    program_with(alloc, Vec::new(alloc))
 }
 
 /// The goal, where the premises are true. What the check is about doesn't matter.
@@ -125,4 +136,28 @@ pub fn are_few(classes: &Classes) -> bool
     ensures { IsTrue result → IsWithinLimits (view.classes classes.now) }
 {
     classes.list.len() <= 4096 && have_few_fields(classes)
+}
+
+fn has_no_invariant(class: &Class) -> bool
+    ensures { result ≡ (length (view.class_of class.now).invariants == 0) }
+{
+    class.invariants.len() == 0
+}
+
+fn have_no_invariants(classes: &Classes) -> bool
+    ensures { result ≡ list_all (λ c. length c.invariants == 0) (view.classes classes.now) }
+{
+    for class in &classes.list {
+        if !has_no_invariant(class) {
+            return false;
+        }
+    }
+    true
+}
+
+/// Whether no class has an invariant.
+pub fn are_plain(classes: &Classes) -> bool
+    ensures { IsTrue result → AreInvariants (view.classes classes.now) }
+{
+    have_no_invariants(classes)
 }

@@ -1,7 +1,10 @@
 // Terms and formulas of a bank, read from texts.
 
-ghost use Rattle.std.specs.Prelude.{◌≡◌, IsTrue};
-ghost use Rattle.ss_terms.specs.Forms.{HasTerms, HasFormula, HasFormulas};
+ghost use Rattle.std.specs.Prelude.{◌≡◌, [], List, true, IsTrue};
+ghost use Rattle.ss_core.specs.Tree.{ClassTree};
+ghost use Rattle.ss_logic.specs.Formulas.{is_well_formed};
+ghost use Rattle.ss_logic_means.specs.Sorts.{AreWellFormed};
+ghost use Rattle.ss_terms.specs.Forms.{formula_at, formulas_at, HasTerms, HasFormula, HasFormulas, IsBankOf};
 
 use crate::words::{Head, bound_name, bound_sort, head_of, leaf, with_word};
 use ss_logic::Sort;
@@ -25,6 +28,25 @@ pub fn has_formulas(bank: &Bank, fs: &[FormulaId]) -> bool
     match fs {
         [] => true,
         [f, fs @ ..] => bank.has_formula(*f) && has_formulas(bank, fs),
+    }
+}
+
+/// Whether a number stands for a well formed formula of the bank.
+pub fn is_formed(bank: &Bank, f: FormulaId) -> bool
+    ensures has { IsTrue result → HasFormula bank.now f }
+    ensures formed { IsTrue result → (cs : List ClassTree) → IsBankOf cs bank.now → is_well_formed cs [] (formula_at bank.now f) ≡ true }
+{
+    bank.has_formula(f) && bank.is_well_formed(f)
+}
+
+/// Whether each number stands for a well formed formula of the bank.
+pub fn are_formed(bank: &Bank, fs: &[FormulaId]) -> bool
+    ensures has { IsTrue result → HasFormulas bank.now fs.now }
+    ensures formed { IsTrue result → (cs : List ClassTree) → IsBankOf cs bank.now → AreWellFormed cs [] (formulas_at bank.now fs.now) }
+{
+    match fs {
+        [] => true,
+        [f, fs @ ..] => is_formed(bank, *f) && are_formed(bank, fs),
     }
 }
 

@@ -3,12 +3,13 @@
 ghost use Rattle.std.specs.Prelude.{◌≡◌};
 ghost use Rattle.ss_core.specs.View as view;
 ghost use Rattle.ss_core.specs.Chain.{IsWithinLimits};
+ghost use Rattle.ss_logic_means.specs.Scenes.{AreInvariants};
 ghost use Rattle.ss_terms.specs.Forms.{IsBankOf};
 
-use crate::classes::{are_few, obligation, program};
+use crate::classes::{are_few, are_plain, obligation, plain_program};
 use crate::derivations::read_formula;
 use crate::lines::first_word;
-use crate::reader::has_formulas;
+use crate::reader::{are_formed, has_formulas, is_formed};
 use ss_check::check;
 use ss_core::Core;
 use ss_deriv::{Derivation, Line};
@@ -167,21 +168,27 @@ fn accepted(
     }
 }
 
-// Searches once.
-fn search_for(alloc: Global, bank: &mut Bank, program: &Core, obligation: &Obligation<'_>) -> Found
+// Searches once, where the obligation is well formed.
+fn search_for(
+    alloc: Global,
+    bank: &mut Bank,
+    program: &Core,
+    obligation: &Obligation<'_>,
+) -> Option<Found>
     requires bank { IsBankOf (view.classes program.now.classes) bank.old }
     requires limits { IsWithinLimits (view.classes program.now.classes) }
+    requires invariants { AreInvariants (view.classes program.now.classes) }
     ensures { bank.new.fields ≡ bank.old.fields }
 {
-    if !has_formulas(bank, obligation.premises) || !bank.has_formula(obligation.goal) {
-        return Found::Lost;
+    if !are_formed(bank, obligation.premises) || !is_formed(bank, obligation.goal) {
+        return None;
     }
     let options = Options {
         rounds: 2,
         splits: 200_000,
         instances: 50_000,
     };
-    prove(alloc, bank, program, obligation, &options)
+    Some(prove(alloc, bank, program, obligation, &options))
 }
 
 fn answer_to(
@@ -192,6 +199,7 @@ fn answer_to(
 ) -> Result<Answer, AllocError>
     requires bank { IsBankOf (view.classes program.now.classes) bank.old }
     requires limits { IsWithinLimits (view.classes program.now.classes) }
+    requires invariants { AreInvariants (view.classes program.now.classes) }
     ensures { bank.new.fields ≡ bank.old.fields }
 {
     let premises = asked.premises.as_slice();
@@ -200,8 +208,10 @@ fn answer_to(
     };
     let obligation = obligation(premises, *goal);
     match search_for(alloc, bank, program, &obligation) {
-        Found::Proved(derivation) => Ok(accepted(alloc, bank, program, &obligation, &derivation)),
-        Found::Countered(_) => Ok(Answer::Countered),
+        Some(Found::Proved(derivation)) => {
+            Ok(accepted(alloc, bank, program, &obligation, &derivation))
+        }
+        Some(Found::Countered(_)) => Ok(Answer::Countered),
         _ => Ok(Answer::Other),
     }
 }
@@ -210,6 +220,7 @@ fn answer_to(
 fn first_other(alloc: Global, bank: &mut Bank, program: &Core) -> Result<Option<usize>, AllocError>
     requires bank { IsBankOf (view.classes program.now.classes) bank.old }
     requires limits { IsWithinLimits (view.classes program.now.classes) }
+    requires invariants { AreInvariants (view.classes program.now.classes) }
     ensures { bank.new.fields ≡ bank.old.fields }
 {
     let mut asked = Asked::new(alloc);
@@ -230,8 +241,9 @@ fn first_other(alloc: Global, bank: &mut Bank, program: &Core) -> Result<Option<
 #[test]
 fn obligations_are_decided(rt: HostRuntime) -> Result<(), Fail> {
     let alloc = rt.alloc();
-    let program = program(alloc)?;
+    let program = plain_program(alloc)?;
     assert!(rt; are_few(&program.classes));
+    assert!(rt; are_plain(&program.classes));
     let mut bank = Bank::new(alloc, field_sorts(alloc, &program.classes)?);
     assert!(rt; first_other(alloc, &mut bank, &program)?.is_none());
     Ok(())

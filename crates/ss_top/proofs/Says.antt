@@ -17,7 +17,8 @@ use Rattle.ss_vcgen_heaps.specs.Obligations.{obligations}
 use Rattle.ss_search.specs.declared.answers.Countered.{Countered}
 use Rattle.ss_search.specs.declared.answers.Undecided.{Undecided}
 use Rattle.ss_sound.specs.Safe.{IsSafe}
-use Rattle.ss_sound.specs.Verdicts.{IsUnproved, IsUndecided}
+use Rattle.ss_sound.specs.Verdicts.{IsUnproved, IsUndecided, AllHaveNoModelWithin}
+use Rattle.ss_sound.proofs.Complete.{not_unproved, not_undecided}
 use Rattle.ss_report.specs.declared.status.Status.{Status}
 use Rattle.ss_report.specs.declared.status.Status.TheVariants as status
 use Rattle.ss_report.specs.Verdict.{verdict_text}
@@ -35,10 +36,10 @@ use Rattle.ss_top.specs.declared.source.Goal.TheVariants as asked_for
 use Rattle.ss_top.specs.Sources.{Means, Gives}
 use Rattle.ss_top_words.specs.Words.{Asked}
 use Rattle.ss_top.specs.Runs.{HasRun, FailsAt}
-use Rattle.ss_top.specs.Answers.{OfSource, OfFile, verified_line, options_of, IsHeadline, IsToldVerified, IsExpanded, IsToldUnproved, IsToldUndecided, AreListed, IsVerifiedInPart, IsToldInPart, IsExpandedInPart, IsWrittenInPart, IsVerify, IsRun, IsRunUnverified, IsExpand, Verifies, command_of_goal, IfRefused, IfUnproved, IfUndecided, IfStopped, IfFailed, ReadsOnly, IsVerified, IsSilent, HasEnded, IsSpent, IsStopped, IsUnadmitted, Says, answer_to}
+use Rattle.ss_top.specs.Answers.{OfSource, OfFile, verified_line, options_of, IsHeadline, IsToldVerified, IsExpanded, IsToldUnproved, IsToldUndecided, AreListed, IsVerifiedInPart, IsToldInPart, IsExpandedInPart, IsWrittenInPart, IsVerify, IsRun, IsRunUnverified, IsExpand, Verifies, command_of_goal, IfRefused, IfUnproved, IfUndecided, IfStopped, IfFailed, ReadsOnly, IsVerified, IsSilent, IsWithinReach, WhereWithinReach, Concludes, HasEnded, IsSpent, IsStopped, IsUnadmitted, Says, answer_to}
 use Rattle.ss_store_rules.specs.Formed.{IsFormed}
 use Rattle.ss_top.proofs.Limits.{accepted_formed}
-use Rattle.ss_top.proofs.Meanings.{one_core}
+use Rattle.ss_top.proofs.Meanings.{one_core, no_fault}
 use Rattle.ss_top.proofs.Whole.{OfSource-map}
 
 pub told_verified : (c : CoreTree) (old new : Option (List ℕ)) (source : List ℕ) → Means source c → IsSafe c → Grew old new verified_line → IsToldVerified old new source
@@ -313,6 +314,61 @@ Says-undecided a old new status.WriteFault told h = tt
 Says-undecided a old new status.Memory told h = tt
 Says-undecided a old new status.BadWords told h = tt
 Says-undecided a old new status.ReadFault told h = tt
+
+-- ---- what isn't said where the program is within reach
+
+spent_of_run : (c : Command) (steps : ℕ) (input : List ℤ) (old new : Option (List ℕ)) (source : List ℕ) → IsSpent c steps input old new source → IsVerify c → ⊥
+spent_of_run command.Verify steps input old new source x v = x
+spent_of_run command.Run steps input old new source x v = v
+spent_of_run command.RunUnverified steps input old new source x v = v
+spent_of_run command.Expand steps input old new source x v = v
+
+stopped_of_run : (at : Place) (c : Command) (steps : ℕ) (input : List ℤ) (old new : Option (List ℕ)) (source : List ℕ) → IsStopped at c steps input old new source → IsVerify c → ⊥
+stopped_of_run at command.Verify steps input old new source x v = x
+stopped_of_run at command.Run steps input old new source x v = v
+stopped_of_run at command.RunUnverified steps input old new source x v = v
+stopped_of_run at command.Expand steps input old new source x v = v
+
+failed_of_run : (c : Command) → IsRunUnverified c → IsVerify c → ⊥
+failed_of_run command.Verify x v = x
+failed_of_run command.Run x v = v
+failed_of_run command.RunUnverified x v = v
+failed_of_run command.Expand x v = v
+
+unadmitted_of_run : (c : Command) (input : List ℤ) (old new : Option (List ℕ)) (source : List ℕ) → IsUnadmitted c input old new source → IsVerify c → ⊥
+unadmitted_of_run command.Verify input old new source x v = x
+unadmitted_of_run command.Run input old new source x v = v
+unadmitted_of_run command.RunUnverified input old new source x v = v
+unadmitted_of_run command.Expand input old new source x v = v
+
+-- the obligations of whatever program the source means are such
+all_within : (l : Limits) (source : List ℕ) (c : CoreTree) → Means source c → IsWithinReach l source → AllHaveNoModelWithin c.classes (options_of l) (obligations c)
+all_within l source c m reach = subst (λ (d : CoreTree). AllHaveNoModelWithin d.classes (options_of l) (obligations d)) (one_core source reach.program c reach.means m) reach.within
+
+concludes : (l : Limits) (steps : ℕ) (input : List ℤ) (old new : Option (List ℕ)) (st : Status) (c : Command) (source : List ℕ) → Says l steps input old new st c source → IsWithinReach l source → Concludes st c
+concludes l steps input old new status.Ended c source h reach = tt
+concludes l steps input old new status.StepsSpent c source h reach = spent_of_run c steps input old new source h
+concludes l steps input old new (status.Stopped at) c source h reach = stopped_of_run at c steps input old new source h
+concludes l steps input old new (status.Failed kind at) c source h reach = failed_of_run c h.0
+concludes l steps input old new status.NotAdmitted c source h reach = unadmitted_of_run c input old new source h
+concludes l steps input old new (status.Unproved ms us) c source h reach =
+    let x = h.1 in not_unproved (x.program).classes (options_of l) (obligations x.program) ms.items us.items (all_within l source x.program x.means reach) x.unproved
+concludes l steps input old new (status.Undecided us) c source h reach =
+    let x = h.1 in not_undecided (x.program).classes (options_of l) (obligations x.program) us.items (all_within l source x.program x.means reach) x.verdict
+concludes l steps input old new (status.SourceRefused rule at) c source h reach = no_fault source reach.program rule at reach.means h.0
+concludes l steps input old new status.WriteFault c source h reach = tt
+concludes l steps input old new status.Memory c source h reach = tt
+concludes l steps input old new status.BadWords c source h reach = tt
+concludes l steps input old new status.ReadFault c source h reach = tt
+
+pub Says-complete : (a : Asked) (old new : Option (List ℕ)) (st : Status) (told : List ℕ → Told) (words : Option Asked) → words ≡ Some a → OfSource (told a.file) (SaysOf a old new st) → WhereWithinReach words told (Concludes st)
+Says-complete a old new st told words named h = λ b source asks holds reach.
+    let both : Some b ≡ Some a = sym asks ∙ named in
+    let same : b ≡ a = cc in
+    let here : told a.file ≡ Some (Some source) = subst (λ (x : Asked). told x.file ≡ Some (Some source)) same holds in
+    let said : SaysOf a old new st source = subst (λ (t : Told). OfSource t (SaysOf a old new st)) here h in
+    let within : IsWithinReach a.limits source = subst (λ (x : Asked). IsWithinReach x.limits source) same reach in
+    subst (λ (x : Asked). Concludes st x.command) (sym same) (concludes a.limits a.steps a.input old new st a.command source said within)
 
 nothing_in : (told : Told) (P : List ℕ → Type 0) (Q : Type 0) → ((source : List ℕ) → P source → Q) → OfSource told P → Q
 nothing_in None P Q f h = f h.0 h.1

@@ -12,7 +12,7 @@ use Rattle.ss_search.specs.declared.answers.Countered.{Countered}
 use Rattle.ss_search.specs.declared.answers.Undecided.{Undecided}
 use Rattle.ss_search.specs.declared.answers.Options.{Options}
 use Rattle.ss_sound.specs.Safe.{IsSafe}
-use Rattle.ss_sound.specs.Verdicts.{IsUnproved, IsUndecided}
+use Rattle.ss_sound.specs.Verdicts.{IsUnproved, IsUndecided, AllHaveNoModelWithin}
 use Rattle.ss_report.specs.declared.status.Status.{Status}
 use Rattle.ss_report.specs.declared.status.Status.TheVariants as status
 use Rattle.ss_report.specs.Verdict.{verdict_text}
@@ -54,7 +54,7 @@ abbrev pub verified_line : List ℕ
 verified_line = codes "verified" ++ 10 ∷ []
 
 -- The headline: the source is accepted, and its program is safe. For every admitted input and after every number of steps no check of its
--- run has failed, and its state is good: each object meets the invariants of all class levels at which it is packed.
+-- run has failed, and its state is good. So each object meets the invariants of all class levels at which it is packed.
 pub record IsHeadline (source : List ℕ) : Type 0 where
   pub program : CoreTree
   pub means : Means source program
@@ -71,15 +71,15 @@ pub record IsToldVerified (old new : Option (List ℕ)) (source : List ℕ) : Ty
 abbrev pub options_of : Limits → Options
 options_of l = record { rounds = l.rounds; splits = l.splits; instances = l.instances }
 
--- The first of the listed obligations are refuted by their models, for the others the limits aren't enough, and all that aren't listed are
--- valid. The sink took exactly the text of the verdict.
+-- The first of the listed obligations are refuted by their models, and for the others the limits aren't enough. Each that isn't listed has a
+-- derivation. The sink took exactly the text of the verdict.
 pub record IsToldUnproved (limits : Limits) (countered : List Countered) (undecided : List Undecided) (old new : Option (List ℕ)) (source : List ℕ) : Type 0 where
   pub program : CoreTree
   pub means : Means source program
   pub unproved : IsUnproved program.classes (options_of limits) (obligations program) countered undecided
   pub took : Grew old new (verdict_text program (obligations program) countered undecided)
 
--- for the listed obligations the limits aren't enough, and all others are valid; the sink took exactly the text of the verdict
+-- For the listed obligations the limits aren't enough, and each other one has a derivation. The sink took exactly the text of the verdict.
 pub record IsToldUndecided (limits : Limits) (undecided : List Undecided) (old new : Option (List ℕ)) (source : List ℕ) : Type 0 where
   pub program : CoreTree
   pub means : Means source program
@@ -210,6 +210,34 @@ answer_to front.Memory = status.Memory
 abbrev pub command_of_goal : Goal → Command
 command_of_goal goal.Verdict = command.Verify
 command_of_goal goal.Run = command.Run
+
+-- ---- completeness
+
+-- The source is accepted. The ground form of each obligation of its program has no more formulas than the limits allow, and no model refutes it. The
+-- splits are enough for it.
+pub record IsWithinReach (limits : Limits) (source : List ℕ) : Type 0 where
+  pub program : CoreTree
+  pub means : Means source program
+  pub within : AllHaveNoModelWithin program.classes (options_of limits) (obligations program)
+
+-- where the words ask for a file whose bytes are told, and these are within reach, this holds of the command
+abbrev pub WhereWithinReach : Option Asked → (List ℕ → Told) → (Command → Type 0) → Type 0
+WhereWithinReach words told P = (a : Asked) (source : List ℕ) → words ≡ Some a → told a.file ≡ Some (Some source) → IsWithinReach a.limits source → P a.command
+
+-- The answer is neither 1, 4 nor 7. To `verify` it is 0, unless the words, the file, the output or memory fail.
+abbrev pub Concludes : Status → Command → Type 0
+Concludes status.Ended c = Unit {0}
+Concludes status.StepsSpent c = IsVerify c → ⊥
+Concludes (status.Stopped at) c = IsVerify c → ⊥
+Concludes (status.Failed kind at) c = IsVerify c → ⊥
+Concludes status.NotAdmitted c = IsVerify c → ⊥
+Concludes (status.Unproved countered undecided) c = ⊥
+Concludes (status.Undecided undecided) c = ⊥
+Concludes (status.SourceRefused rule at) c = ⊥
+Concludes status.WriteFault c = Unit {0}
+Concludes status.Memory c = Unit {0}
+Concludes status.BadWords c = Unit {0}
+Concludes status.ReadFault c = Unit {0}
 
 -- ---- what an answer says of a source that was read
 

@@ -158,8 +158,7 @@ fn answer_program<S: Sink>(
         Verdict::Undecided(undecided) => {
             tell_undecided(alloc, asked, source, program, &obligations, undecided, out)
         }
-        // Lost was never seen, and there is no answer for it but the one that may always come.
-        Verdict::Lost | Verdict::Memory => Status::Memory,
+        Verdict::Memory => Status::Memory,
     }
 }
 

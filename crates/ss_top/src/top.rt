@@ -4,7 +4,7 @@ ghost use Rattle.std.specs.Prelude.{◌≡◌, ◌<◌, ◌≤◌, ◌⊎◌, �
 ghost use Rattle.ss_io.specs.Outside.{Rose, Grew};
 ghost use Rattle.ss_top_sources.specs.Sources.{IsRefused};
 ghost use Rattle.ss_top.specs.Runs.{HasRun, FailsAt};
-ghost use Rattle.ss_top.specs.Answers.{asked_by, file_of, OfFile, IsHeadline, IsToldVerified, IsExpanded, IsSpent, IsStopped, IsUnadmitted, IsToldUnproved, IsToldUndecided, IsWrittenInPart, IsVerify, IsRun, IsRunUnverified, IsExpand, Verifies, IfRefused, IfUnproved, IfUndecided, IfStopped, IfFailed, IsVerified, IsSilent, ReadsOnly};
+ghost use Rattle.ss_top.specs.Answers.{asked_by, file_of, OfFile, IsHeadline, IsToldVerified, IsExpanded, IsSpent, IsStopped, IsUnadmitted, IsToldUnproved, IsToldUndecided, IsWrittenInPart, IsVerify, IsRun, IsRunUnverified, IsExpand, Verifies, IfRefused, IfUnproved, IfUndecided, IfStopped, IfFailed, IsVerified, IsSilent, WhereWithinReach, Concludes, ReadsOnly};
 
 use crate::source::answer_source;
 use ss_io::{Files, ReadStop, Sink};
@@ -13,10 +13,10 @@ use ss_report::Status;
 use ss_top_words::read_words;
 use std::alloc::Global;
 
-/// Does what the words say: `verify FILE` verifies the program of the file and writes the verdict, `run FILE` verifies
-/// it and runs it where it is verified, `run FILE --unverified` runs it with all its checks, and `expand FILE` writes its core
-/// program. Verification searches as far as `--rounds`, `--splits` and `--instances` say. A run has as many steps as `--steps` says, and the
-/// numbers behind FILE are its input.
+/// Does what the words say. `verify FILE` verifies the program of the file and writes the verdict. `run FILE` verifies it and runs it where
+/// it is verified, and `run FILE --unverified` runs it with all its checks. `expand FILE` writes its core program. Verification searches
+/// as far as `--rounds`, `--splits` and `--instances` say. A run has as many steps as `--steps` says, and the numbers behind FILE are its
+/// input.
 pub fn specsharp<F: Files, S: Sink>(
     alloc: Global,
     words: &[String],
@@ -38,6 +38,8 @@ pub fn specsharp<F: Files, S: Sink>(
     ensures not_admitted { result ≡ Status.NotAdmitted → OfFile (asked_by words.now) (F.told files.old) (λ asked source. IsUnadmitted asked.command asked.input (S.taken out.old) (S.taken out.new) source) }
     ensures unproved { IfUnproved result (λ countered undecided. OfFile (asked_by words.now) (F.told files.old) (λ asked source. Verifies asked.command × IsToldUnproved asked.limits countered undecided (S.taken out.old) (S.taken out.new) source)) }
     ensures undecided { IfUndecided result (λ undecided. OfFile (asked_by words.now) (F.told files.old) (λ asked source. Verifies asked.command × IsToldUndecided asked.limits undecided (S.taken out.old) (S.taken out.new) source)) }
+
+    ensures complete { WhereWithinReach (asked_by words.now) (F.told files.old) (Concludes result) }
 
     ensures write_fault { result ≡ Status.WriteFault → Rose (S.faults out.old) (S.faults out.new) }
     ensures written { result ≡ Status.WriteFault → OfFile (asked_by words.now) (F.told files.old) (λ asked source. IsWrittenInPart asked.limits asked.steps asked.input (S.taken out.old) (S.taken out.new) asked.command source) }

@@ -63,7 +63,7 @@ with_number Rounds o n = record o { rounds = Some n; wants = None }
 with_number Splits o n = record o { splits = Some n; wants = None }
 with_number Instances o n = record o { instances = Some n; wants = None }
 
--- a word is positional, or it is taken as an option or its value, with what has been said then; or it can't stand there
+-- A word is positional, or it is taken as an option or its value, with what has been said then. Or it can't stand there.
 pub data Taken : Type 0 where
   Positional : Taken
   TakenAs : Options → Taken
@@ -155,7 +155,7 @@ read_all r (word ∷ words) = read_all (read_next r word) words
 
 -- ---- the command
 
--- a command, the name of its file, how far verification searches, and of a run how many steps it has at most and its input
+-- a command, the name of its file, how far verification searches, and of a run its most steps and its input
 pub record Asked : Type 0 where
   pub command : Command
   pub file : List ℕ
@@ -239,8 +239,8 @@ complete None r = None
 complete (Some c) None = None
 complete (Some c) (Some r) = if is_some r.options.wants then None else asked_by c r
 
--- What the words ask for, or nothing where they aren't those of a command: `verify FILE` with `--rounds`, `--splits` and `--instances`, `run FILE` with
--- these, `--steps`, `--unverified` and the numbers of an input, and `expand FILE`.
+-- What the words ask for, or nothing where they aren't those of a command. `verify FILE` takes `--rounds`, `--splits` and `--instances`. `run FILE`
+-- takes these, `--steps`, `--unverified` and the numbers of an input. `expand FILE` takes no option.
 abbrev pub asked : List (List ℕ) → Option Asked
 asked [] = None
 asked (word ∷ words) = complete (command_named word) (read_all (Some first_reading) words)

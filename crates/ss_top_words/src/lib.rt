@@ -40,7 +40,7 @@ pub struct Limits {
     pub instances: u32,
 }
 
-/// What the words ask for: a command, its file, how far verification searches, and of a run how many steps it has at most and its input.
+/// What the words ask for: a command, its file, how far verification searches, and of a run its most steps and its input.
 #[derive(Drop)]
 pub struct Asked<'w> {
     pub command: Command,

@@ -147,5 +147,6 @@ pub(crate) fn behind_all(
         watch.see(builder)?;
         behind(builder, walk, stmt, watch)?;
     }
+    watch.see(builder)?;
     Ok(())
 }

@@ -12,3 +12,4 @@ mod watch;
 pub use list::Obligations;
 pub use programs::{Positions, locate, obligations};
 pub use ss_vcgen_builder::Listed;
+pub use watch::Located;

@@ -10,10 +10,10 @@ ghost use Rattle.ss_vcgen.specs.Built.{trees, IsWithin};
 
 use crate::bodies::add_body;
 use crate::list::Obligations;
-use crate::watch::Watch;
+use crate::watch::{Located, Watch};
 use ss_bit_set::BitSet;
 use ss_core::{BodyId, Core};
-use ss_terms::{Bank, Symbol, TermId, field_sorts};
+use ss_terms::{Bank, Symbol, field_sorts};
 use ss_vcgen_builder::{Builder, Counters, Guard, Listed};
 use ss_vcgen_known::{Fields, Known};
 use std::alloc::{AllocError, Global};
@@ -88,15 +88,15 @@ pub fn obligations(alloc: Global, core: &Core) -> Result<Obligations, AllocError
     watched(alloc, core, &mut watch)
 }
 
-/// What the locals stand for at obligations, and all obligations.
+/// All obligations, and where some of them stand.
 #[derive(Drop)]
 pub struct Positions {
     pub obligations: Obligations,
-    /// Of each obligation that was asked for, in order, the locals at the statement that it belongs to; one without a value is None.
-    pub locals: Vec<Vec<Option<TermId>>>,
+    /// Of each obligation that was asked for, in order, where the statement stands that it belongs to.
+    pub located: Vec<Located>,
 }
 
-/// The same, and what the locals stand for at the obligations of these numbers, which rise. An error is want of memory.
+/// The same, and where the statements stand to which the obligations of these numbers belong. The numbers rise. An error is want of memory.
 pub fn locate(alloc: Global, core: &Core, numbers: Vec<usize>) -> Result<Positions, AllocError>
     requires { IsWithinLimits (view.classes core.now.classes) }
     ensures exact { IfOk result (λ p. trees p.obligations ≡ tree.obligations (view.core core.now)) }
@@ -107,7 +107,7 @@ pub fn locate(alloc: Global, core: &Core, numbers: Vec<usize>) -> Result<Positio
     let obligations = watched(alloc, core, &mut watch)?;
     Ok(Positions {
         obligations,
-        locals: watch.found,
+        located: watch.found,
     })
 }
 

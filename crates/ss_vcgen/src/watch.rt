@@ -1,19 +1,27 @@
-// What the locals stand for where obligations are listed.
+// Where the statements stand to which obligations belong.
 
 use ss_terms::TermId;
 use ss_vcgen_builder::Builder;
 use std::alloc::{AllocError, Global};
 
-/// The obligations that are watched, by their numbers in the program, and what the locals stood for at the statements of the first of them.
+/// Where a statement stands: what the locals stand for by their numbers, a local without a value for nothing, and the store.
+#[derive(Drop)]
+pub struct Located {
+    pub locals: Vec<Option<TermId>>,
+    pub store: TermId,
+}
+
+/// The obligations that are watched, by their numbers in the program, and where the statements of the first of them stand.
 #[derive(Drop)]
 pub(crate) struct Watch {
     alloc: Global,
     numbers: Vec<usize>,
-    pub(crate) found: Vec<Vec<Option<TermId>>>,
+    pub(crate) found: Vec<Located>,
     // The obligations of the bodies before.
     before: usize,
-    // The locals at the last statement.
-    last: Vec<Option<TermId>>,
+    // The locals and the store at the last statement; before the first one nothing is listed.
+    locals: Vec<Option<TermId>>,
+    store: TermId,
 }
 
 impl Watch {
@@ -24,7 +32,8 @@ impl Watch {
             numbers,
             found: Vec::new(alloc),
             before: 0,
-            last: Vec::new(alloc),
+            locals: Vec::new(alloc),
+            store: TermId(0),
         }
     }
 
@@ -39,17 +48,20 @@ impl Watch {
         listed
     }
 
-    /// Looks at the position before a statement: what was listed since the last one was listed by it.
+    /// Looks at the position before a statement, or behind the last one of a list. What was listed since the last look belongs to the
+    /// position where that was.
     pub(crate) fn see(&mut self, builder: &Builder) -> Result<(), AllocError> {
         if self.found.len() >= self.numbers.len() {
             return Ok(());
         }
         let count = self.before.saturating_add(builder.list.len());
         for _ in self.found.len()..self.listed(count) {
-            let locals = Vec::from_slice(self.alloc, &self.last)?;
-            self.found.push(locals)?;
+            let locals = Vec::from_slice(self.alloc, &self.locals)?;
+            let store = self.store;
+            self.found.push(Located { locals, store })?;
         }
-        self.last = Vec::from_slice(self.alloc, &builder.locals)?;
+        self.locals = Vec::from_slice(self.alloc, &builder.locals)?;
+        self.store = builder.store;
         Ok(())
     }
 

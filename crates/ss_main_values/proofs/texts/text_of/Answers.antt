@@ -11,5 +11,5 @@ ground-requires-clause-premises c =
 pub ground-requires-clause-goal : goal.ground-requires-clause-goal
 ground-requires-clause-goal c = rw c.obligation-obligation.ensures.goal c.requires.placed.goal
 
-pub values_of-requires : goal.values_of-requires
-values_of-requires c = rw c.deref-in-Ok.ensures.value c.in-Ok.ensures.in_bank
+pub values_of-requires-clause-formulas : goal.values_of-requires-clause-formulas
+values_of-requires-clause-formulas c = rw c.deref-in-Ok.ensures.value c.in-Ok.ensures.in_bank

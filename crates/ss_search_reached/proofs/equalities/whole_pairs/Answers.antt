@@ -12,7 +12,7 @@ returns-clause-has c =
     let b = c.args.bank.now in
     let ts = c.deref.result.now in
     IfOk-weaker c.pairs.result (λ v. ArePairs c.args.classes.now ts v.items) (λ v. HasPairs b v.items)
-    (λ v h. has_pairs b c.args.classes.now ts v.items (subst (HasTerms b) (sym c.deref.ensures.value) c.in_ok-terms.ensures.has) h)
+    (λ v h. has_pairs b c.args.classes.now ts v.items (subst (HasTerms b) (sym c.deref.ensures.value) c.in_ok-terms.ensures.has) h.only)
     c.pairs.ensures
 
 pub returns-clause-pairs : goal.returns-clause-pairs
@@ -27,4 +27,4 @@ returns-clause-pairs c = λ cs of.
 pub returns-clause-one_class : goal.returns-clause-one_class
 returns-clause-one_class c =
     let ts = c.deref.result.now in
-    IfOk-weaker c.pairs.result (λ v. ArePairs c.args.classes.now ts v.items) (λ v. AreOfOneClass c.args.classes.now v.items) (λ v h. of_one_class c.args.classes.now ts v.items h) c.pairs.ensures
+    IfOk-weaker c.pairs.result (λ v. ArePairs c.args.classes.now ts v.items) (λ v. AreOfOneClass c.args.classes.now v.items) (λ v h. of_one_class c.args.classes.now ts v.items h.only) c.pairs.ensures

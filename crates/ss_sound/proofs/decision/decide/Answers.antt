@@ -11,6 +11,9 @@ decide_lent-requires-clause-premises c =
 pub decide_lent-requires-clause-goal : goal.decide_lent-requires-clause-goal
 decide_lent-requires-clause-goal c = rw c.obligation-obligation.ensures.goal c.requires.placed.goal
 
+pub decide_lent-requires-clause-formed : goal.decide_lent-requires-clause-formed
+decide_lent-requires-clause-formed c = rw (c.obligation-obligation.ensures.premises, c.obligation-obligation.ensures.goal) (c.requires.formed.goal, c.requires.formed.premises)
+
 pub returns-clause-derived : goal.returns-clause-derived
 returns-clause-derived c = rw (c.obligation-obligation.ensures.premises, c.obligation-obligation.ensures.goal) at c.decide_lent.ensures.derived
 

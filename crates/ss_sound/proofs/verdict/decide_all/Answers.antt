@@ -1,7 +1,7 @@
 use Rattle.std.proofs.Common.{length}
 use Rattle.ss_core.specs.View.{classes}
-use Rattle.ss_terms.proofs.Grown.{HasFormulas-grown}
-use Rattle.ss_sound.proofs.Lists.{within_later, decided_before, derived_before}
+use Rattle.ss_terms.proofs.Grown.{HasFormulas-grown, IsGrown-then}
+use Rattle.ss_sound.proofs.Lists.{within_later, formed_later, decided_before, derived_before}
 use Rattle.ss_sound.proofs.verdict.decide_all.Goals as goal
 
 pub returns-clause-decided : goal.returns-clause-decided
@@ -15,3 +15,9 @@ decide_each-requires-clause-trail c = HasFormulas-grown c.args.bank.now c.new.ne
 
 pub decide_each-requires-clause-list : goal.decide_each-requires-clause-list
 decide_each-requires-clause-list c = within_later c.args.bank.now c.new.new.bank (length c.args.trail.now) c.args.list.now c.new.ensures c.requires.list
+
+pub decide_each-requires-clause-formed : goal.decide_each-requires-clause-formed
+decide_each-requires-clause-formed c = formed_later (classes c.args.program.now.classes) c.args.bank.now c.new.new.bank c.args.trail.now c.args.list.now c.new.ensures c.requires.trail c.requires.list c.requires.formed
+
+pub returns-clause-grown : goal.returns-clause-grown
+returns-clause-grown c = IsGrown-then c.args.bank.now c.new.new.bank c.decide_each.new.bank c.new.ensures c.decide_each.ensures.grown

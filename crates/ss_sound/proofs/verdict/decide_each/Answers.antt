@@ -1,7 +1,7 @@
 use Rattle.std.proofs.Common.{length}
 use Rattle.ss_core.specs.View.{classes}
 use Rattle.ss_terms.proofs.Grown.{HasFormulas-grown, IsBankOf-grown, IsGrown-then}
-use Rattle.ss_sound.proofs.Lists.{placed_at, step_found}
+use Rattle.ss_sound.proofs.Lists.{placed_at, formed_at, step_found}
 use Rattle.ss_sound.proofs.verdict.decide_each.Goals as goal
 
 pub decide-requires-clause-bank : goal.decide-requires-clause-bank
@@ -13,6 +13,10 @@ decide-requires-clause-trail c = HasFormulas-grown c.args.bank.now c.loop-number
 pub decide-requires-clause-placed : goal.decide-requires-clause-placed
 decide-requires-clause-placed c = placed_at c.args.bank.now c.loop-number.bank (length c.args.trail.now) c.args.list.now c.loop-number.number _ c.loop-number.invariant.grown c.requires.list c.loop-number-test.true
 
+pub decide-requires-clause-formed : goal.decide-requires-clause-formed
+decide-requires-clause-formed c =
+    formed_at (classes c.args.program.now.classes) c.args.bank.now c.loop-number.bank c.args.trail.now c.args.list.now c.loop-number.number _ c.loop-number.invariant.grown c.requires.trail c.requires.list c.requires.formed c.loop-number-test.true
+
 pub loop-number-preserved : goal.loop-number-preserved
 loop-number-preserved c = record {
   grown = IsGrown-then c.args.bank.now c.loop-number.bank c.decide.new.bank c.loop-number.invariant.grown c.decide.ensures.grown;
@@ -21,3 +25,9 @@ loop-number-preserved c = record {
       c.add.new.self.countered.items c.add.new.self.undecided.items c.add.new.self.derivations.items c.in_ok-decision.was c.decide.ensures.grown c.in_ok-add.ensures.derivations c.in_ok-add.ensures.countered c.in_ok-add.ensures.undecided
       c.decide.ensures.derived c.decide.ensures.refuted c.decide.ensures.over;
 }
+
+pub returns-in_err-decision-clause-grown : goal.returns-in_err-decision-clause-grown
+returns-in_err-decision-clause-grown c = IsGrown-then c.args.bank.now c.loop-number.bank c.decide.new.bank c.loop-number.invariant.grown c.decide.ensures.grown
+
+pub returns-in_err-add-clause-grown : goal.returns-in_err-add-clause-grown
+returns-in_err-add-clause-grown c = IsGrown-then c.args.bank.now c.loop-number.bank c.decide.new.bank c.loop-number.invariant.grown c.decide.ensures.grown

@@ -4,7 +4,7 @@ use Rattle.ss_top_words.specs.Views.{asked_of}
 use Rattle.ss_top.specs.Answers.{asked_by, file_of, file_named, OfSource}
 use Rattle.ss_top.proofs.Inputs.{asked_has_input}
 use Rattle.ss_top.proofs.Whole.{Says-source}
-use Rattle.ss_top.proofs.Says.{SaysOf, Says-refused, Says-headline, Says-verified, Says-ended, Says-ran, Says-expanded, Says-steps_spent, Says-stopped, Says-failed, Says-not_admitted, Says-unproved, Says-undecided, reads_only, Says-silent, Says-written, Says-memory, Says-not}
+use Rattle.ss_top.proofs.Says.{SaysOf, Says-refused, Says-headline, Says-verified, Says-ended, Says-ran, Says-expanded, Says-steps_spent, Says-stopped, Says-failed, Says-not_admitted, Says-unproved, Says-undecided, Says-complete, reads_only, Says-silent, Says-written, Says-memory, Says-not}
 use Rattle.ss_top.proofs.top.specsharp.Given.{Over}
 use Rattle.ss_top.proofs.top.specsharp.Goals as goal
 
@@ -75,6 +75,9 @@ returns-in-Ok-clause-unproved g c = rw (named g c) (Says-unproved (the_asked g c
 
 pub returns-in-Ok-clause-undecided : goal.returns-in-Ok-clause-undecided
 returns-in-Ok-clause-undecided g c = rw (named g c) (Says-undecided (the_asked g c) (g.S.Sink.taken c.args.out.now) (g.S.Sink.taken c.answer_source.new.out) c.answer_source.result (g.F.Files.told c.args.files.now) (said g c))
+
+pub returns-in-Ok-clause-complete : goal.returns-in-Ok-clause-complete
+returns-in-Ok-clause-complete g c = Says-complete (the_asked g c) (g.S.Sink.taken c.args.out.now) (g.S.Sink.taken c.answer_source.new.out) c.answer_source.result (g.F.Files.told c.args.files.now) (asked_by c.args.words.now) (named g c) (said g c)
 
 pub returns-in-Ok-clause-written : goal.returns-in-Ok-clause-written
 returns-in-Ok-clause-written g c = rw (named g c) (Says-written (the_asked g c) (g.S.Sink.taken c.args.out.now) (g.S.Sink.taken c.answer_source.new.out) c.answer_source.result (g.F.Files.told c.args.files.now) (said g c))

@@ -4,7 +4,7 @@ use Rattle.ss_core.specs.Tree.{ClassTree}
 use Rattle.ss_logic.specs.Formulas.{Formula}
 use Rattle.ss_terms.specs.Forms.{IsBankOf}
 use Rattle.ss_search_procedure_rules.specs.Closed.{IsStable}
-use Rattle.ss_search_procedure.specs.Choices.{facts, first_chosen, IsState, AreTried, GoesOn}
+use Rattle.ss_search_procedure.specs.Choices.{bank_of, reached_in, first_chosen, AreTried, GoesOn, ReachesBy}
 use Rattle.ss_search_procedure.proofs.setting.Settling.+nested.Given as goal
 
 abbrev pub decreases-lower : goal.decreases-lower
@@ -21,16 +21,18 @@ decreases-is_closed l = 4 * l.depth + 1
 
 abbrev pub invariant-settle_choices-loop-p : goal.invariant-settle_choices-loop-p
 invariant-settle_choices-loop-p l = record {
-  on : GoesOn l.self l.initial.reached l.reached;
-  stable : (cs : List ClassTree) → IsBankOf cs l.self.bank.now → IsStable cs (facts l.self l.reached);
+  on : GoesOn l.self l.initial.reaching l.reaching;
+  stable : (cs : List ClassTree) → IsBankOf cs (bank_of l.self) → IsStable cs (reached_in l.self l.reaching);
+  reaches : ReachesBy l.self l.initial.reaching l.reaching;
 }
 
 abbrev pub decreases-settle_choices-loop-p : goal.decreases-settle_choices-loop-p
-decreases-settle_choices-loop-p l = length l.self.bank.now.formulas * 2 - length l.reached.known.items
+decreases-settle_choices-loop-p l = length (bank_of l.self).formulas * 2 - length l.reaching.reached.known.items
 
 abbrev pub invariant-closed_choice-loop-p : goal.invariant-closed_choice-loop-p
 invariant-closed_choice-loop-p l = record {
-  state : IsState l.self l.reached;
-  same : facts l.self l.reached ≡ facts l.self l.initial.reached;
-  tried : (cs : List ClassTree) → IsBankOf cs l.self.bank.now → (p : Formula) → Contains (first_chosen l.self l.p-index) p → AreTried cs l.depth (facts l.self l.initial.reached) p;
+  on : GoesOn l.self l.initial.reaching l.reaching;
+  same : reached_in l.self l.reaching ≡ reached_in l.self l.initial.reaching;
+  tried : (cs : List ClassTree) → IsBankOf cs (bank_of l.self) → (p : Formula) → Contains (first_chosen l.self l.p-index) p → AreTried cs l.depth (reached_in l.self l.initial.reaching) p;
+  reaches : ReachesBy l.self l.initial.reaching l.reaching;
 }

@@ -4,6 +4,7 @@ use Rattle.ss_search_clashes.specs.Numbered.{AreMerged}
 use Rattle.ss_terms.specs.Forms.{formula_at}
 use Rattle.ss_search_reached.specs.Known.{AreMergesWith}
 use Rattle.ss_search_reached.proofs.More.{more_reached, known_more}
+use Rattle.ss_search_reached.proofs.Remembering.{remembers_push}
 use Rattle.ss_search_reached.proofs.reached.Reached.add_because.Goals as goal
 
 pub returns-clause-reached : goal.returns-clause-reached
@@ -25,3 +26,10 @@ pub returns-clause-reasons : goal.returns-clause-reasons
 returns-clause-reasons c =
     let old = c.args.self.now in
     subst (λ (s : Standing). AreMergesWith c.args.bank.now (formula_at c.args.bank.now c.args.f) c.args.because old.congruence.merges s.merges) (sym c.in_ok-enter.ensures.congruence) c.in_ok-merge_sides.ensures.reasons
+
+pub returns-clause-remembers : goal.returns-clause-remembers
+returns-clause-remembers c =
+    let old = c.args.self.now in
+    let e = c.in_ok-enter.ensures in
+    remembers_push c.args.bank.now old c.enter.new.self c.requires.reached (e.merges ∙ c.in_ok-push.ensures.items ∙ ap (λ n. old.merges.items ++ n ∷ []) c.mark-mark.ensures)
+    (ap (λ (s : Standing). take (length old.congruence.merges) s.merges) e.congruence ∙ c.in_ok-merge_sides.ensures.begins)

@@ -5,7 +5,7 @@ use Rattle.ss_search_reached.specs.declared.reached.Reached.{Reached}
 use Rattle.ss_search_reached.specs.Known.{AreKept}
 use Rattle.ss_search_reached.proofs.Marks.{less_listed, last_marked}
 use Rattle.ss_search_reached.proofs.Kept.{few_merges}
-use Rattle.ss_search_reached.proofs.More.{less_reached}
+use Rattle.ss_search_reached.proofs.More.{less_reached, merges_less, counts_less}
 use Rattle.ss_search_reached.proofs.reached.Reached.forget.Goals as goal
 
 pub returns-in_default : goal.returns-in_default
@@ -34,4 +34,6 @@ returns c =
     record {
       reached = less_reached c.args.bank.now old new c.in-Some.f c.in-Some-pop.mark c.requires.reached c.in-Some.ensures.items c.take_out.ensures c.in-Some-pop.ensures.items c.undo.ensures;
       known = (c.in-Some.f, c.in-Some.ensures.items);
+      merges = merges_less c.args.bank.now old new c.in-Some.f c.in-Some-pop.mark c.requires.reached c.in-Some.ensures.items c.take_out.ensures c.in-Some-pop.ensures.items c.undo.ensures;
+      counts = counts_less c.args.bank.now old new c.in-Some.f c.in-Some-pop.mark c.requires.reached c.in-Some.ensures.items c.take_out.ensures c.in-Some-pop.ensures.items;
     }

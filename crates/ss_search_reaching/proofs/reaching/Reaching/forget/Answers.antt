@@ -22,5 +22,7 @@ returns c =
       };
       reached = c.undo.ensures.known;
       standings = c.truncate.ensures.items;
+      merges = c.undo.ensures.merges;
+      counts = c.undo.ensures.counts;
       path = record { before = refl; behind = refl; known = refl };
     }

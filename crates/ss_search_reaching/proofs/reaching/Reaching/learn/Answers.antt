@@ -1,12 +1,16 @@
-use Rattle.std.proofs.Common.{length, refl, sym, ◌∙◌, ap, arith}
-use Rattle.std.proofs.lemmas.List.{length_push}
+use Rattle.std.proofs.Common.{List, refl, sym, ◌∙◌, subst}
+use Rattle.std.specs.List.{Contains}
 use Rattle.std.proofs.lemmas.Bool.{false≢true}
-use Rattle.ss_search_reaching.specs.declared.reaching.Reaching.{Reaching}
-use Rattle.ss_search_reaching.proofs.Learning.{nothing_grows, learnt_grows, learnt_known, learnt_shows}
+use Rattle.std.proofs.lemmas.List.Elements.{Contains-push}
+use Rattle.ss_logic.specs.Formulas.{Formula}
+use Rattle.ss_terms.specs.Forms.{formula_at}
+use Rattle.ss_search_reached.proofs.Names.{ok_then}
+use Rattle.ss_search_reaching.specs.Reaching.{reached_of}
+use Rattle.ss_search_reaching.proofs.Learning.{nothing_grows, is_longer}
 use Rattle.ss_search_reaching.proofs.reaching.Reaching.learn.Goals as goal
 
-pub add_because-requires-clause-new : goal.add_because-requires-clause-new
-add_because-requires-clause-new c = λ h. false≢true (sym c.if-knows.false ∙ c.knows.ensures.1 h)
+pub enter-requires-clause-new : goal.enter-requires-clause-new
+enter-requires-clause-new c = λ h. false≢true (sym c.if-knows.false ∙ c.knows.ensures.1 h)
 
 pub returns-then-knows : goal.returns-then-knows
 returns-then-knows c = record {
@@ -18,17 +22,21 @@ returns-then-knows c = record {
   shows = λ cs h stands. h;
 }
 
-pub returns : goal.returns
-returns c =
+pub returns-clause-grows : goal.returns-clause-grows
+returns-clause-grows c = ok_then c.enter.result (λ h. h c.requires.occurs) c.enter.ensures.grows
+
+pub returns-clause-known : goal.returns-clause-known
+returns-clause-known c =
+    let f = formula_at c.args.given.now.bank.now c.args.f in
+    ok_then c.enter.result (λ h. subst (λ (fs : List Formula). Contains fs f) (sym h) (Contains-push (reached_of c.args.given.now c.args.self.now) f)) c.enter.ensures.known
+
+pub returns-clause-still : goal.returns-clause-still
+returns-clause-still c =
     let g = c.args.given.now in
-    let old = c.args.self.now in
-    let e = c.in_ok-add_because.ensures in
-    let new : Reaching = record { reached = c.add_because.new.self; standings = c.push.new.self; places = c.push-2.new.self; path = old.path } in
-    record {
-      grows = learnt_grows g old new c.args.f c.args.standing c.place_of-place.result c.requires.state refl c.place_of-place.ensures e.reached e.numbers e.known c.in_ok-push.ensures.items c.in_ok-push-2.ensures.items c.requires.occurs;
-      known = learnt_known g old new c.args.f c.args.standing c.place_of-place.result c.requires.state refl c.place_of-place.ensures e.reached e.numbers e.known c.in_ok-push.ensures.items c.in_ok-push-2.ensures.items;
-      classes = e.classes;
-      path = record { before = refl; behind = refl; known = refl };
-      still = λ long. absurd (let a = ap length e.numbers in omega (arith, long, a, length_push old.reached.known.items c.args.f));
-      shows = learnt_shows g old new c.args.f c.args.standing c.place_of-place.result c.requires.state refl c.place_of-place.ensures e.reached e.numbers e.known c.in_ok-push.ensures.items c.in_ok-push-2.ensures.items e.reasons;
-    }
+    ok_then c.enter.result (λ h long. absurd (is_longer g c.args.self.now c.enter.new.self (formula_at g.bank.now c.args.f) h long)) c.enter.ensures.known
+
+pub returns-clause-path : goal.returns-clause-path
+returns-clause-path c = c.enter.ensures.path
+
+pub returns-clause-shows : goal.returns-clause-shows
+returns-clause-shows c = c.enter.ensures.shows

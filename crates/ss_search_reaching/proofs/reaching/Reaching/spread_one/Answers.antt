@@ -16,7 +16,7 @@ use Rattle.ss_search_standing.specs.Standing.{IsOpenedFact}
 use Rattle.ss_search_standing.proofs.Facts.{some_same}
 use Rattle.ss_search_refuting.specs.Refuting.{and_of}
 use Rattle.ss_search_reaching.specs.Reaching.{place_of, facts_of, reached_of}
-use Rattle.ss_search_reaching.proofs.Learning.{reaches_itself}
+use Rattle.ss_search_reaching.proofs.Learning.{nothing_grows, reaches_itself}
 use Rattle.ss_search_reaching.proofs.Spread.{and_reaches}
 use Rattle.ss_search_reaching.proofs.reaching.Reaching.spread_one.Goals as goal
 
@@ -76,6 +76,9 @@ returns-in-And-clause-reaches c =
     (subst (λ (n : ℕ). IsOpenedFact cs g (facts_of g old) n p.result.1 (and_of b fs)) (sym p.ensures.place)
     (subst (λ (n : ℕ). IsOpenedFact cs g (facts_of g old) (place_of s) n (and_of b fs)) (sym p.ensures.start) fact)))) c.spread_and.ensures.reaches
 
+pub returns-in-Or-clause-grows : goal.returns-in-Or-clause-grows
+returns-in-Or-clause-grows c = nothing_grows c.args.given.now c.args.self.now c.requires.state
+
 pub returns-in-Or-clause-spread : goal.returns-in-Or-clause-spread
 returns-in-Or-clause-spread c = λ f at.
     let g = c.args.given.now in
@@ -87,6 +90,9 @@ returns-in-Or-clause-spread c = λ f at.
 
 pub returns-in-Or-clause-reaches : goal.returns-in-Or-clause-reaches
 returns-in-Or-clause-reaches c = reaches_itself c.args.given.now c.args.self.now
+
+pub returns-in-Literal-clause-grows : goal.returns-in-Literal-clause-grows
+returns-in-Literal-clause-grows c = nothing_grows c.args.given.now c.args.self.now c.requires.state
 
 pub returns-in-Literal-clause-spread : goal.returns-in-Literal-clause-spread
 returns-in-Literal-clause-spread c = λ f at.
@@ -100,6 +106,9 @@ returns-in-Literal-clause-spread c = λ f at.
 pub returns-in-Literal-clause-reaches : goal.returns-in-Literal-clause-reaches
 returns-in-Literal-clause-reaches c = reaches_itself c.args.given.now c.args.self.now
 
+pub returns-in-Forall-clause-grows : goal.returns-in-Forall-clause-grows
+returns-in-Forall-clause-grows c = nothing_grows c.args.given.now c.args.self.now c.requires.state
+
 pub returns-in-Forall-clause-spread : goal.returns-in-Forall-clause-spread
 returns-in-Forall-clause-spread c = λ f at.
     let g = c.args.given.now in
@@ -111,6 +120,9 @@ returns-in-Forall-clause-spread c = λ f at.
 
 pub returns-in-Forall-clause-reaches : goal.returns-in-Forall-clause-reaches
 returns-in-Forall-clause-reaches c = reaches_itself c.args.given.now c.args.self.now
+
+pub returns-in-Exists-clause-grows : goal.returns-in-Exists-clause-grows
+returns-in-Exists-clause-grows c = nothing_grows c.args.given.now c.args.self.now c.requires.state
 
 pub returns-in-Exists-clause-spread : goal.returns-in-Exists-clause-spread
 returns-in-Exists-clause-spread c = λ f at.
