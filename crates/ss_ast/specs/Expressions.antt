@@ -5,8 +5,8 @@ use Rattle.ss_ast.specs.declared.expr.Name.{Name}
 use Rattle.ss_ast.specs.declared.expr.TypeName.{TypeName}
 use Rattle.ss_ast.specs.declared.expr.TypeName.TheVariants as named
 use Rattle.ss_ast.specs.declared.expr.TypeRef.{TypeRef}
-use Rattle.ss_ast.specs.declared.expr.Operator.{Operator}
-use Rattle.ss_ast.specs.declared.expr.Quantifier.{Quantifier}
+use Rattle.ss_core.specs.declared.expr.Operator.{Operator}
+use Rattle.ss_core.specs.declared.expr.Quantifier.{Quantifier}
 use Rattle.ss_ast.specs.declared.expr.Expr.{Expr}
 use Rattle.ss_ast.specs.declared.expr.Expr.TheFolds.{fold-Expr}
 use Rattle.ss_ast.specs.declared.expr.Expr.TheOpen as shape

@@ -1,6 +1,6 @@
 // Expressions. The place of a part is that of its first byte.
 
-use ss_core::Place;
+use ss_core::{Operator, Place, Quantifier};
 
 /// A name where it is written.
 #[derive(Drop)]
@@ -27,30 +27,6 @@ pub struct TypeRef {
     pub is_array: bool,
     /// `!` is written at the end.
     pub non_null: bool,
-}
-
-/// An operator that groups to the left.
-#[derive(Clone, Copy, Debug, PartialEq, Eq)]
-pub enum Operator {
-    Or,
-    And,
-    Equal,
-    NotEqual,
-    Less,
-    LessEqual,
-    Greater,
-    GreaterEqual,
-    Add,
-    Subtract,
-    Multiply,
-    Divide,
-    Remainder,
-}
-
-#[derive(Clone, Copy, Debug, PartialEq, Eq)]
-pub enum Quantifier {
-    Forall,
-    Exists,
 }
 
 /// An expression.

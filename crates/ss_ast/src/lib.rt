@@ -10,7 +10,8 @@ pub use class::{
     BaseCall, ClassDecl, Clause, Constructor, Member, MemberKind, Method, Modified, Modifier,
     ModifierWord, Param, Program,
 };
-pub use expr::{Expr, Link, Name, Operator, Postfix, Quantifier, TypeName, TypeRef};
+pub use expr::{Expr, Link, Name, Postfix, TypeName, TypeRef};
+pub use ss_core::{Operator, Quantifier};
 pub use stmt::{
     AssignOperator, Block, Declaration, Declarator, ForInit, Simple, StepOperator, Stmt,
 };

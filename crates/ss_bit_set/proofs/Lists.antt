@@ -3,11 +3,8 @@ use Rattle.std.proofs.Common.{◌≡◌, ◌≢◌, ℕ, zero, suc, ◌<◌, ◌
 use Rattle.std.proofs.lemmas.Bool.{cases_eq, eq-eqb, ne_eqb}
 use Rattle.std.proofs.lemmas.List.{get_or-set_same, get_or-set_other}
 use Rattle.ss_paths.specs.Sets.{none, put}
+use Rattle.ss_paths.proofs.Among.{same_sets}
 use Rattle.ss_bit_set.specs.Marked.{listed}
-
--- sets with the same numbers are the same
-pub same_sets : {f g : ℕ → Bool} → ((x : ℕ) → f x ≡ g x) → f ≡ g
-same_sets h = λ i x. h x i
 
 pub listed_nil : listed [] ≡ none
 unfolding listed none

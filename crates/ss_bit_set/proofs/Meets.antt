@@ -4,7 +4,8 @@ use Rattle.std.specs.Prelude.{if◌then◌else◌, ◌&&◌}
 use Rattle.std.proofs.lemmas.Bool.{cases_eq, cases_lt, eq-eqb, ne_eqb, lt-ltb, le-ltb}
 use Rattle.ss_paths.specs.Sets.{Set, put, both}
 use Rattle.ss_bit_set.specs.Marked.{listed, met_below}
-use Rattle.ss_bit_set.proofs.Lists.{same_sets, listed_past}
+use Rattle.ss_paths.proofs.Among.{same_sets}
+use Rattle.ss_bit_set.proofs.Lists.{listed_past}
 
 and_false : (b : Bool) → (b && false) ≡ false
 and_false true = refl

@@ -1,8 +1,8 @@
 // A set as a list of truth values.
 
-ghost use Rattle.std.specs.Prelude.{◌≡◌, ◌<◌, IfOk, length, false, if◌then◌else◌};
-ghost use Rattle.ss_paths.specs.Sets.{none, put, both};
-ghost use Rattle.ss_bit_set.specs.Marked.{marked};
+ghost use Rattle.std.specs.Prelude.{◌≡◌, ◌<◌, IfOk, OnOk, length, false, if◌then◌else◌};
+ghost use Rattle.ss_paths.specs.Sets.{none, put, both, among};
+ghost use Rattle.ss_bit_set.specs.Marked.{marked, with_all};
 
 use std::alloc::{AllocError, Global};
 
@@ -21,6 +21,15 @@ impl BitSet {
         BitSet {
             list: Vec::new(alloc),
         }
+    }
+
+    /// The set of these numbers.
+    pub fn of(alloc: Global, numbers: &[usize]) -> Result<BitSet, AllocError>
+        ensures { IfOk result (λ m. marked m ≡ among numbers.now) }
+    {
+        let mut found = BitSet::new(alloc);
+        found.put_all(numbers, true)?;
+        Ok(found)
     }
 
     /// Whether the number is in the set.
@@ -53,6 +62,16 @@ impl BitSet {
     {
         while self.list.len() <= number {
             self.list.push(false)?;
+        }
+        Ok(())
+    }
+
+    /// Puts each of the numbers into the set, or takes it out.
+    pub fn put_all(&mut self, numbers: &[usize], is_in: bool) -> Result<(), AllocError>
+        ensures { OnOk result (marked self.new ≡ with_all numbers.now is_in (marked self.old)) }
+    {
+        for number in numbers {
+            self.put(*number, is_in)?;
         }
         Ok(())
     }

@@ -33,6 +33,10 @@ levels_from cs (suc n) t = t ∷ (if t == 0 then [] else levels_from cs n (above
 unfoldable pub most_levels : ℕ
 most_levels = 64
 
+-- how many classes stand at most between a class and `object`, itself counted
+abbrev pub most_above : ℕ
+most_above = 63
+
 unfoldable pub levels : List ClassTree → ℕ → List ℕ
 levels cs t = levels_from cs most_levels t
 
@@ -121,6 +125,7 @@ fields_of (Some c) = c.fields
 unfoldable pub field_count : List ClassTree → ℕ → ℕ
 field_count cs t = sum_by (λ level. length (fields_of (declared cs level))) (levels cs t)
 
+-- how many classes a program declares at most, and how many fields an object has at most
 abbrev pub most_classes : ℕ
 most_classes = 4096
 

@@ -4,10 +4,20 @@ ghost use Rattle.std.specs.Prelude.{◌≡◌, ◌≤◌, length, option_map, sl
 ghost use Rattle.ss_core.specs.View.{classes, class_of, field_of};
 
 use crate::class::{Class, Classes, Field};
+use crate::class_kind::ClassKind;
 use crate::names::{ClassId, FieldId};
 
 /// How many levels a class has at most: itself and 63 above it.
 pub const MOST_LEVELS: u8 = 64;
+
+/// How many classes stand at most between a class and `object`, itself counted.
+pub const MOST_ABOVE: usize = 63;
+
+/// How many classes a program declares at most.
+pub const MOST_CLASSES: usize = 4096;
+
+/// How many fields an object has at most.
+pub const MOST_FIELDS: usize = 1024;
 
 impl Class {
     ghost use Rattle.std.specs.Prelude.{◌==◌};
@@ -31,10 +41,10 @@ impl Classes {
     pub fn declared(&self, t: ClassId) -> Option<&Class>
         ensures { option_map (λ c. class_of c.now) result ≡ declared (classes self.now) t.0 }
     {
-        if t.0 < 4 || t.0 % 2 != 0 {
-            return None;
+        match t.kind() {
+            ClassKind::Declared(place) => self.list.get(place),
+            _ => None,
         }
-        self.list.get((t.0 as usize - 4) / 2)
     }
 
     /// The class above: `object` where the class isn't declared.

@@ -5,13 +5,17 @@
 mod body;
 mod chain;
 mod class;
+mod class_kind;
 mod expr;
 mod names;
+mod rules;
 mod stmt;
 
 pub use body::{Body, BodyFlags, Core, Local, Modifies};
-pub use chain::MOST_LEVELS;
+pub use chain::{MOST_ABOVE, MOST_CLASSES, MOST_FIELDS, MOST_LEVELS};
 pub use class::{Class, Classes, Entry, Field};
+pub use class_kind::{ClassKind, declared_place, is_array_number};
 pub use expr::{DefaultCondition, Expr, Link, Operator, OwnerTest, Quantifier, StateWord, Step};
 pub use names::{BodyId, ClassId, FieldId, FrontStop, Kind, Mark, Place, Ty};
+pub use rules::Rule;
 pub use stmt::{Callee, Exposed, Loop, Stmt};

@@ -1,5 +1,10 @@
 // Places, numbers, marks, types and kinds, and why a source is refused.
 
+ghost use Rattle.std.specs.Prelude.{◌≡◌};
+ghost use Rattle.ss_core.specs.declared.names.FrontStop.TheVariants.{Memory};
+
+use std::alloc::AllocError;
+
 /// A place in a source: a line, from 1, and in it a byte, from 1.
 #[derive(Clone, Copy, Debug, PartialEq, Eq)]
 pub struct Place {
@@ -73,4 +78,12 @@ pub enum Kind {
 pub enum FrontStop {
     Refused { rule: u16, place: Place },
     Memory,
+}
+
+impl From<AllocError> for FrontStop {
+    ghost from_gives = { λ _ stop. stop ≡ Memory };
+
+    fn from(_error: AllocError) -> FrontStop {
+        FrontStop::Memory
+    }
 }

@@ -2,7 +2,10 @@
 use Rattle.std.proofs.Common.{◌≡◌, ℕ, ◌-◌, drop, List, [], ◌∷◌, ◌++◌, length, Option, Some, None, Result, Ok, Err, true, false, refl, sym, ap, subst, ◌∙◌, arith, inl, inr}
 use Rattle.std.proofs.lemmas.List.{append-nil, length-append}
 use Rattle.ss_core.specs.declared.names.Place.{Place}
+use Rattle.ss_core.specs.declared.names.FrontStop.{FrontStop}
 use Rattle.ss_core.specs.declared.names.FrontStop.TheVariants as front
+use Rattle.ss_core.specs.declared.rules.Rule.TheVariants as rule
+use Rattle.ss_core.specs.Rules.{rule_number}
 use Rattle.ss_ast.specs.declared.token.Symbol.TheVariants as symbol
 use Rattle.ss_ast.specs.declared.token.Token.{Token}
 use Rattle.ss_ast.specs.Programs.{ClassTree, ProgramTree}
@@ -27,7 +30,7 @@ use Rattle.ss_grammar_programs.specs.Parser.{declarations, program}
 use Rattle.ss_grammar_programs.proofs.Pieces.{classes_set, end_in}
 use Rattle.ss_grammar_programs.proofs.Rounds.{none_seen}
 use Rattle.ss_grammar_programs.proofs.Programs.{declarations_to, declarations_find, program_finds}
-use Rattle.ss_decls.specs.Answer.{IsProgram, Stopped, AfterEnd, Refusal, ProgramAnswer}
+use Rattle.ss_decls.specs.Answer.{IsProgram, Stopped, AfterEnd, Refusal, ProgramAnswer, rule_at}
 
 -- a front of a list is all that stands before the rest
 same_front : {T : Type 0} (a b rest : List T) → a ++ rest ≡ b ++ rest → a ≡ b
@@ -171,15 +174,27 @@ module _ (tokens : List Token) where
   pub whole_is : (cs : List ClassTree) (rest behind : List Token) (p : Place) → declarations 64 all ≡ Ok (cs, pieces rest) → seen the_end (pieces rest) ≡ Some (p, pieces behind) → length behind ≡ 0 → IsProgram 64 all (program_of cs p)
   whole_is cs rest behind p e s n = whole_program all cs (pieces rest) e p (s ∙ ap (λ z. Some (p, z)) (no_pieces behind n))
 
-  pub more_is : (cs : List ClassTree) (rest behind : List Token) (p : Place) → declarations 64 all ≡ Ok (cs, pieces rest) → seen the_end (pieces rest) ≡ Some (p, pieces behind) → (length behind ≡ 0 → ⊥) → Refusal 10 all (pieces behind)
-  more_is cs rest [] p e s n = absurd (n refl)
-  more_is cs rest (t ∷ z) p e s n = inl (refl, more_stopped all cs (pieces rest) e p (AToken (tok t)) (pieces z) s, more_before all cs (pieces rest) e p (AToken (tok t)) (pieces z) s)
+  more_refused : (cs : List ClassTree) (rest behind : List Token) (p : Place) → declarations 64 all ≡ Ok (cs, pieces rest) → seen the_end (pieces rest) ≡ Some (p, pieces behind) → (length behind ≡ 0 → ⊥) → Refusal (rule_number rule.Unexpected) all (pieces behind)
+  more_refused cs rest [] p e s n = absurd (n refl)
+  more_refused cs rest (t ∷ z) p e s n = inl (refl, more_stopped all cs (pieces rest) e p (AToken (tok t)) (pieces z) s, more_before all cs (pieces rest) e p (AToken (tok t)) (pieces z) s)
 
-  pub brace_is : (cs : List ClassTree) (rest : List Token) (x : Place × List Piece) → declarations 64 all ≡ Ok (cs, pieces rest) → seen the_end (pieces rest) ≡ None → seen (the symbol.CloseBrace) (pieces rest) ≡ Some x → Refusal 12 all (pieces rest)
-  brace_is cs rest x e s b = inr (inr (refl, other_stopped all cs (pieces rest) e s, brace_after all cs (pieces rest) e x b))
+  -- what stands in place of a class or the end of the text, a `}` or something else
+  place_refused : (cs : List ClassTree) (rest : List Token) → declarations 64 all ≡ Ok (cs, pieces rest) → seen the_end (pieces rest) ≡ None → (b : Option (Place × List Piece)) → seen (the symbol.CloseBrace) (pieces rest) ≡ b → Refusal (rule_number (rule_at b)) all (pieces rest)
+  place_refused cs rest e s (Some x) b = inr (inr (refl, other_stopped all cs (pieces rest) e s, brace_after all cs (pieces rest) e x b))
+  place_refused cs rest e s None b = inl (refl, other_stopped all cs (pieces rest) e s, no_brace all cs (pieces rest) e b)
 
-  pub other_is : (cs : List ClassTree) (rest : List Token) → declarations 64 all ≡ Ok (cs, pieces rest) → seen the_end (pieces rest) ≡ None → seen (the symbol.CloseBrace) (pieces rest) ≡ None → Refusal 10 all (pieces rest)
-  other_is cs rest e s b = inl (refl, other_stopped all cs (pieces rest) e s, no_brace all cs (pieces rest) e b)
+  answered : (n : ℕ) (rest : List Piece) (r : FrontStop) → Refusal n all rest → r ≡ front.Refused n (first_place rest) → ProgramAnswer tokens (Err r)
+  answered n rest r h is =
+      let a : ProgramAnswer tokens (Err (front.Refused n (first_place rest))) = (rest, refl, h) in
+      subst (λ (x : FrontStop). ProgramAnswer tokens (Err x)) (sym is) a
+
+  pub more_is : (cs : List ClassTree) (rest behind : List Token) (p : Place) (r : FrontStop) → declarations 64 all ≡ Ok (cs, pieces rest) → seen the_end (pieces rest) ≡ Some (p, pieces behind) → (length behind ≡ 0 → ⊥)
+      → r ≡ front.Refused (rule_number rule.Unexpected) (first_place (pieces behind)) → ProgramAnswer tokens (Err r)
+  more_is cs rest behind p r e s n = answered (rule_number rule.Unexpected) (pieces behind) r (more_refused cs rest behind p e s n)
+
+  pub other_is : (cs : List ClassTree) (rest : List Token) (r : FrontStop) → declarations 64 all ≡ Ok (cs, pieces rest) → seen the_end (pieces rest) ≡ None
+      → r ≡ front.Refused (rule_number (rule_at (seen (the symbol.CloseBrace) (pieces rest)))) (first_place (pieces rest)) → ProgramAnswer tokens (Err r)
+  other_is cs rest r e s = answered (rule_number (rule_at (seen (the symbol.CloseBrace) (pieces rest)))) (pieces rest) r (place_refused cs rest e s (seen (the symbol.CloseBrace) (pieces rest)) refl)
 
   abbrev place_left : ℕ → Place
   place_left n = first_place (pieces (drop (length tokens - n) tokens))
@@ -187,16 +202,16 @@ module _ (tokens : List Token) where
   placed : (f rest : List Piece) → all ≡ f ++ rest → first_place rest ≡ place_left (length rest)
   placed f rest e = ap first_place (behind_is tokens 0 f rest (omega arith) e)
 
-  refusal : (f : Fault) (rest : List Piece) → declarations 64 all ≡ Err (f, rest) → ProgramAnswer tokens (Err (front.Refused (rule_of f) (place_left (length rest))))
+  refusal : (f : Fault) (rest : List Piece) → declarations 64 all ≡ Err (f, rest) → ProgramAnswer tokens (Err (front.Refused (rule_number (rule_of f)) (place_left (length rest))))
   refusal Expected rest e = let s = fault_stopped all rest e in (rest, placed s.front rest s.parts, inl (refl, s, fault_before all rest e))
   refusal TooDeep rest e = let g = fault_deep all rest e in (rest, placed g.front rest g.parts, inr (inl (refl, g)))
 
-  pub faulty : (f : Fault) (n : ℕ) → Fails (stop.Fault f n) (declarations 64 all) → ProgramAnswer tokens (Err (front.Refused (rule_of f) (place_left n)))
+  pub faulty : (f : Fault) (n : ℕ) → Fails (stop.Fault f n) (declarations 64 all) → ProgramAnswer tokens (Err (front.Refused (rule_number (rule_of f)) (place_left n)))
   faulty f n g = look (declarations 64 all) refl g
     where
-      look : (r : Result (List ClassTree × List Piece) (Fault × List Piece)) → declarations 64 all ≡ r → Fails (stop.Fault f n) r → ProgramAnswer tokens (Err (front.Refused (rule_of f) (place_left n)))
+      look : (r : Result (List ClassTree × List Piece) (Fault × List Piece)) → declarations 64 all ≡ r → Fails (stop.Fault f n) r → ProgramAnswer tokens (Err (front.Refused (rule_number (rule_of f)) (place_left n)))
       look (Ok x) e q = absurd q
       look (Err d) e q =
           let a = refusal d.0 d.1 e in
-          subst (λ (k : ℕ). ProgramAnswer tokens (Err (front.Refused (rule_of f) (place_left k)))) q.1
-          (subst (λ (c : Fault). ProgramAnswer tokens (Err (front.Refused (rule_of c) (place_left (length d.1))))) q.0 a)
+          subst (λ (k : ℕ). ProgramAnswer tokens (Err (front.Refused (rule_number (rule_of f)) (place_left k)))) q.1
+          (subst (λ (c : Fault). ProgramAnswer tokens (Err (front.Refused (rule_number (rule_of c)) (place_left (length d.1))))) q.0 a)

@@ -9,7 +9,7 @@ ghost use Rattle.ss_grammar_expressions.specs.Heads.{is, the, pieces, postfix_he
 ghost use Rattle.ss_grammar_programs.specs.Again.{another};
 ghost use Rattle.ss_grammar_programs.specs.Grammar.{push_behind};
 ghost use Rattle.ss_grammar_programs.specs.Parser.{dot_step, index_step, call_step, step, modified_from, modified_term, modifies};
-ghost use Rattle.ss_parser_expressions.specs.View.{postfix_tree};
+ghost use Rattle.ss_ast.specs.Parts.{postfix_behind};
 ghost use Rattle.ss_decls.specs.View.{step_of};
 
 use ss_ast::{Expr, Modified, Postfix, Symbol, Token, TokenKind};
@@ -134,7 +134,7 @@ fn path_of(
     first: Box<Expr>,
     postfixes: Vec<Postfix>,
 ) -> Result<Expr, AllocError>
-    ensures { IfOk result (λ e. expr_tree e ≡ grouped place (expr_tree first.value) (map postfix_tree postfixes.items)) }
+    ensures { IfOk result (λ e. expr_tree e ≡ grouped place (expr_tree first.value) (map postfix_behind postfixes.items)) }
 {
     let path = build::path(alloc, place, first, postfixes)?;
     Ok(Box::into_inner(path))

@@ -1,5 +1,5 @@
 -- What the parts of chains and paths add to the places where `this` stands.
-use Rattle.std.proofs.Common.{◌≡◌, ◌++◌, ℕ, List, [], ◌∷◌, map, Bool, true, false, Vec, Box, Global, String, string_bytes, refl, sym, ap, ◌∙◌, append_assoc, append-nil}
+use Rattle.std.proofs.Common.{◌≡◌, ◌++◌, ℕ, List, [], ◌∷◌, map, Bool, true, false, Vec, Box, Global, String, refl, sym, ap, ◌∙◌, append_assoc, append-nil}
 use Rattle.std.specs.Prelude.{◌&&◌, Option}
 use Rattle.ss_core.specs.declared.names.Place.{Place}
 use Rattle.ss_core.specs.declared.names.Ty.{Ty}
@@ -9,16 +9,16 @@ use Rattle.ss_typed.specs.declared.expr.TypedLink.{TypedLink}
 use Rattle.ss_typed.specs.declared.expr.TypedStep.{TypedStep}
 use Rattle.ss_typed.specs.declared.expr.TypedExpr.TheFolds.{fold-roll-TypedExpr}
 use Rattle.ss_typed.specs.declared.expr.TypedExpr.TheViews as view
-use Rattle.ss_typed.specs.declared.expr.TypedExpr.TheVariants.{rolls-Quantified, rolls-Base}
+use Rattle.ss_typed.specs.declared.expr.TypedExpr.TheVariants.{rolls-Base}
 use Rattle.ss_typed.specs.declared.expr.TypedExpr.TheOpen as shape
 use Rattle.ss_typed.specs.declared.expr.TypedExpr.TheOpen.{TypedLink-F, TypedStep-F}
-use Rattle.ss_typed.specs.Tree.{ExprTree, FieldOf, QuantifiedOf, BaseOf, arguments}
+use Rattle.ss_typed.specs.Tree.{ExprTree, FieldOf, BaseOf, arguments}
 use Rattle.ss_typed.specs.View.{Behind, grouped, expr_step, link_step, step_step, expr}
 use Rattle.ss_typed.specs.Shapes.{is_this}
 use Rattle.ss_delayed_rules.specs.Escapes.{Use, ForFields, NotAtAll, may_read, uses, uses_each}
 use Rattle.ss_typed.specs.Parts.{link_behind, step_behind}
-use Rattle.ss_typed.proofs.Grouping.{chain_is, link_shape, path_is, step_shape}
-use Rattle.ss_paths_assigned.proofs.Forms.{no_this_behind}
+use Rattle.ss_typed.proofs.Grouping.{chain_is, link_shape, path_is, step_shape, quantified_is}
+use Rattle.ss_typed.proofs.OwnFields.{no_this_behind}
 use Rattle.ss_delayed.specs.Parts.{nowhere, nothing, link_uses, links_uses, step_uses, steps_uses, is_field, is_allowed_read, unless}
 
 -- ---- chains
@@ -110,9 +110,6 @@ path_found u p first steps e l m x y b f0 f1 f2 is x_is y_is l_is m_is b_is f1_i
     ∙ ap (λ z. f0 ++ uses u (expr z)) (sym is)
 
 -- ---- quantifiers and calls of `base`
-
-quantified_is : (p : Place) (q : Quantifier) (n : String Global) (low high m : Box TypedExpr Global) → expr (view.Quantified p q n low high m) ≡ QuantifiedOf p q (string_bytes n) (expr low.value) (expr high.value) (expr m.value)
-quantified_is p q n low high m = ap expr (sym (rolls-Quantified p q n low high m)) ∙ fold-roll-TypedExpr ExprTree Behind Behind expr_step link_step step_step (shape.Quantified p q n low high m)
 
 three_added : (f0 f1 f2 f3 a b c : List Place) → f1 ≡ f0 ++ a → f2 ≡ f1 ++ b → f3 ≡ f2 ++ c → f3 ≡ f0 ++ (a ++ b ++ c)
 three_added f0 f1 f2 f3 a b c x y z =

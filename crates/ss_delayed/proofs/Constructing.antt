@@ -12,7 +12,8 @@ use Rattle.ss_paths.specs.Paths.{faults_in}
 use Rattle.ss_paths.specs.Assigned.{Assigned, assigned_flow, assigned_first, assigned_by_initializers}
 use Rattle.ss_delayed_rules.specs.Escapes.{NotAtAll, uses_each, uses_along}
 use Rattle.ss_delayed_rules.specs.Opening.{opening, written_base}
-use Rattle.ss_delayed_rules.specs.Constructors.{escapes, unassigned_faults, closing_brace, end_check, end_faults, arguments_of, place_of_base, undelayed_faults}
+use Rattle.ss_delayed_rules.specs.Constructors.{escapes, unassigned_faults, end_check, end_faults, arguments_of, place_of_base, undelayed_faults}
+use Rattle.ss_typed.specs.Shapes.{closing_brace}
 use Rattle.ss_delayed.specs.Walked.{Known, walked_in, walked_along, ended_in}
 use Rattle.ss_delayed.specs.Openings.{opening_faults}
 use Rattle.ss_delayed.proofs.Blocks.{block_shown}

@@ -10,10 +10,12 @@ use Rattle.ss_core.specs.Chain.{declared, above_of}
 use Rattle.ss_typed.specs.declared.program.TypedClass.{TypedClass}
 use Rattle.ss_typed.specs.Tree.{TypedTree}
 use Rattle.ss_typed.specs.View.{members}
-use Rattle.ss_paths.specs.Fields.{class_place, fields_in, own_fields, fields_of_members}
+use Rattle.ss_paths.specs.Fields.{fields_in, own_fields, fields_of_members}
+use Rattle.ss_typed.specs.Lookups.{class_place, constructor_of}
 use Rattle.ss_paths.specs.Sets.{Set}
 use Rattle.ss_paths.specs.Assigned.{assigned_by_initializers}
-use Rattle.ss_delayed_rules.specs.Constructors.{at, are_assigned_from, is_delayed_body, constructor_of, unassigned_faults, base_faults}
+use Rattle.ss_typed.specs.Constructors.{is_delayed_body}
+use Rattle.ss_delayed_rules.specs.Constructors.{unassigned, base_not_delayed, at, are_assigned_from, unassigned_faults, base_faults}
 use Rattle.ss_delayed_rules.specs.Program.{implied_faults}
 use Rattle.ss_paths_assigned.specs.Started.{started}
 use Rattle.ss_paths_assigned.proofs.Places.{initializers_are}
@@ -33,12 +35,12 @@ declared_is cs k = rw (at_least_four k, eq-eqb ((4 + 2 * k) % 2) 0 (even k)) (ap
 
 pub empty_is : (p : TypedTree) (k : ℕ) (q : Place) → empty_faults p k q ≡ unassigned_faults p (4 + 2 * k) q (Some (assigned_by_initializers p (4 + 2 * k))) ++ base_faults p (4 + 2 * k) q
 empty_is p k q =
-    ap (λ (j : ℕ). (if are_assigned_from (started (fields_of_members (slice_get p.members j))) 0 (fields_in (slice_get p.classes j)) then [] else at 40 q ∷ []) ++ above_faults (slice_get p.classes k)) (sym (place_is k))
-    ∙ ap (λ (s : Set). (if are_assigned_from s 0 (own_fields p (4 + 2 * k)) then [] else at 40 q ∷ []) ++ above_faults (slice_get p.classes k)) (sym (initializers_are p (4 + 2 * k)))
+    ap (λ (j : ℕ). (if are_assigned_from (started (fields_of_members (slice_get p.members j))) 0 (fields_in (slice_get p.classes j)) then [] else at unassigned q ∷ []) ++ above_faults (slice_get p.classes k)) (sym (place_is k))
+    ∙ ap (λ (s : Set). (if are_assigned_from s 0 (own_fields p (4 + 2 * k)) then [] else at unassigned q ∷ []) ++ above_faults (slice_get p.classes k)) (sym (initializers_are p (4 + 2 * k)))
     ∙ ap (λ (o : Option core.ClassTree). unassigned_faults p (4 + 2 * k) q (Some (assigned_by_initializers p (4 + 2 * k))) ++ above_faults o) (sym (declared_is p.classes k))
   where
     above_faults : Option core.ClassTree → List Fault
-    above_faults o = if is_delayed_body (constructor_of p (above_of o)) then [] else at 42 q ∷ []
+    above_faults o = if is_delayed_body (constructor_of p (above_of o)) then [] else at base_not_delayed q ∷ []
 
 -- a class without a written constructor
 pub implied_found : (p : TypedTree) (k : ℕ) (c : TypedClass) (f0 f1 : List Fault) → c.constructor ≡ None → f1 ≡ f0 ++ empty_faults p k c.place → f1 ≡ f0 ++ implied_faults p (4 + 2 * k) (members c)

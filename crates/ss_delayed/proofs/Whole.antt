@@ -6,7 +6,7 @@ use Rattle.ss_typed.specs.declared.program.TypedClass.{TypedClass}
 use Rattle.ss_typed.specs.declared.program.Typed.{Typed}
 use Rattle.ss_typed.specs.Tree.{TypedTree}
 use Rattle.ss_typed.specs.View.{body, members, typed}
-use Rattle.ss_paths_assigned.proofs.Loops.{drop_next}
+use Rattle.ss_ast.proofs.Loops.{drop_next}
 use Rattle.ss_delayed_rules.specs.Program.{classes_faults, body_faults, bodies_faults, construction_faults}
 
 -- one more body

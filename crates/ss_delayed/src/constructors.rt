@@ -1,12 +1,13 @@
 // The faults of constructors.
 
-ghost use Rattle.std.specs.Prelude.{◌≡◌, ◌≤◌, ◌++◌, [], ◌∷◌, OnOk, length, map, option_map, option_and_then, slice_get, take, if◌then◌else◌};
+ghost use Rattle.std.specs.Prelude.{◌≡◌, ◌≤◌, ◌++◌, [], ◌∷◌, OnOk, length, map, option_map, take, if◌then◌else◌};
 ghost use Rattle.ss_typed.specs.Tree.{stmt_trees};
 ghost use Rattle.ss_typed.specs.View.{base, body, stmt_of, typed};
-ghost use Rattle.ss_paths.specs.Fields.{class_place};
+ghost use Rattle.ss_typed.specs.Lookups.{constructor_of};
 ghost use Rattle.ss_delayed_rules.specs.Escapes.{NotAtAll, uses_each, uses_in_all, uses_along};
 ghost use Rattle.ss_delayed_rules.specs.Opening.{written_base};
-ghost use Rattle.ss_delayed_rules.specs.Constructors.{at, escapes, is_delayed_body, written_constructor, constructor_of, base_faults, end_faults, arguments_of, delayed_faults, place_of_base, undelayed_faults, constructor_faults};
+ghost use Rattle.ss_typed.specs.Constructors.{is_delayed_body};
+ghost use Rattle.ss_delayed_rules.specs.Constructors.{base_not_delayed, at, escapes, base_faults, end_faults, arguments_of, delayed_faults, place_of_base, undelayed_faults, constructor_faults};
 ghost use Rattle.ss_delayed.specs.Parts.{use_of};
 ghost use Rattle.ss_delayed.specs.Openings.{base_of, opening_faults};
 
@@ -15,10 +16,10 @@ use crate::escapes::{Use, find_in_each};
 use crate::noting::{note_base, note_escapes, note_unassigned};
 use crate::opening::{BaseCall, count_opening, written_base};
 use crate::statements::{find_along, find_in, find_in_all};
-use ss_core::{BodyId, ClassId, Place};
+use ss_core::{ClassId, Place};
 use ss_faults::Fault;
-use ss_paths_assigned::{Fields, assigned_by_initializers, assigned_first, members_at};
-use ss_typed::{Typed, TypedBase, TypedBody};
+use ss_paths_assigned::{Fields, assigned_by_initializers, assigned_first};
+use ss_typed::{Typed, TypedBase, TypedBody, constructor_of};
 use std::alloc::{AllocError, Global};
 
 // ---- base constructors
@@ -33,35 +34,6 @@ fn is_delayed_body(constructor: Option<&TypedBody>) -> bool
     }
 }
 
-fn body_at(program: &Typed, number: BodyId) -> Option<&TypedBody>
-    ensures { option_map (λ b. body b.now) result ≡ slice_get (typed program.now).bodies number.0 }
-{
-    program.bodies.get(number.0 as usize)
-}
-
-fn constructor_at(program: &Typed, class: ClassId) -> Option<&TypedBody>
-    ensures { option_map (λ b. body b.now) result
-        ≡ option_and_then (slice_get (typed program.now).bodies) (written_constructor (slice_get (typed program.now).members (class_place class.0))) }
-{
-    match members_at(program, class) {
-        Some(members) => match members.constructor {
-            Some(number) => body_at(program, number),
-            None => None,
-        },
-        None => None,
-    }
-}
-
-// The written constructor of a class.
-fn constructor_of(program: &Typed, class: ClassId) -> Option<&TypedBody>
-    ensures { option_map (λ b. body b.now) result ≡ constructor_of (typed program.now) class.0 }
-{
-    match program.classes.declared(class) {
-        Some(_) => constructor_at(program, class),
-        None => None,
-    }
-}
-
 /// Notes that the constructor of the class above isn't delayed, where that is so.
 pub fn check_above(
     program: &Typed,
@@ -69,7 +41,7 @@ pub fn check_above(
     place: Place,
     found: &mut Vec<Fault>,
 ) -> Result<(), AllocError>
-    ensures { OnOk result (found.new.items ≡ found.old.items ++ (if is_delayed_body (constructor_of (typed program.now) above.0) then [] else at 42 place ∷ [])) }
+    ensures { OnOk result (found.new.items ≡ found.old.items ++ (if is_delayed_body (constructor_of (typed program.now) above.0) then [] else at base_not_delayed place ∷ [])) }
 {
     let is_delayed = is_delayed_body(constructor_of(program, above));
     note_base(is_delayed, place, found)?;
@@ -233,7 +205,7 @@ fn check_not_delayed(
 ) -> Result<(), AllocError>
     ensures { OnOk result (found.new.items ≡ found.old.items ++ undelayed_faults (typed fields.now.program.now) (body constructor.now)) }
 {
-    let count = count_opening(alloc, fields, constructor)?;
+    let count = count_opening(fields, constructor);
     check_first_uses(alloc, constructor, count, found)?;
     let place = place_of_base(constructor, written_base(constructor));
     check_opening(alloc, fields, constructor, count, place, found)?;

@@ -1,48 +1,45 @@
 // Faults that are noted.
 
 ghost use Rattle.std.specs.Prelude.{◌≡◌, ◌++◌, [], ◌∷◌, ◌||◌, not, OnOk, map, option_map, if◌then◌else◌};
+ghost use Rattle.ss_core.specs.Rules.{rule_number};
 ghost use Rattle.ss_core.specs.View.{class_of, field_of};
 ghost use Rattle.ss_typed.specs.View.{typed};
 ghost use Rattle.ss_bit_set.specs.Marked.{marked};
 ghost use Rattle.ss_paths.specs.Fields.{is_non_null, fields_in};
-ghost use Rattle.ss_delayed_rules.specs.Constructors.{at, escapes, are_assigned_from, are_assigned, unassigned_faults};
+ghost use Rattle.ss_delayed_rules.specs.Constructors.{unassigned, base_not_delayed, at, escapes, are_assigned_from, are_assigned, unassigned_faults};
 ghost use Rattle.ss_delayed.specs.Walked.{known_of};
 
 use ss_bit_set::BitSet;
-use ss_core::{Class, ClassId, Field, Place};
+use ss_core::{Class, ClassId, Field, Place, Rule};
 use ss_faults::Fault;
 use ss_paths_assigned::{Assigned, class_at, is_non_null};
 use ss_typed::Typed;
 use std::alloc::AllocError;
 
-// The numbers of the rules.
-const UNASSIGNED: u16 = 40;
-
-const THIS_ESCAPES: u16 = 41;
-
-const BASE_NOT_DELAYED: u16 = 42;
-
 // Notes a fault of this rule, unless something holds.
 fn note_unless(
     holds: bool,
-    rule: u16,
+    rule: Rule,
     place: Place,
     found: &mut Vec<Fault>,
 ) -> Result<(), AllocError>
-    ensures { OnOk result (found.new.items ≡ found.old.items ++ (if holds then [] else at rule place ∷ [])) }
+    ensures { OnOk result (found.new.items ≡ found.old.items ++ (if holds then [] else at (rule_number rule) place ∷ [])) }
 {
     if holds {
         return Ok(());
     }
-    found.push(Fault { rule, place })?;
+    found.push(Fault {
+        rule: rule.number(),
+        place,
+    })?;
     Ok(())
 }
 
 /// Notes that a base constructor isn't delayed, unless it is.
 pub fn note_base(is_delayed: bool, place: Place, found: &mut Vec<Fault>) -> Result<(), AllocError>
-    ensures { OnOk result (found.new.items ≡ found.old.items ++ (if is_delayed then [] else at 42 place ∷ [])) }
+    ensures { OnOk result (found.new.items ≡ found.old.items ++ (if is_delayed then [] else at base_not_delayed place ∷ [])) }
 {
-    note_unless(is_delayed, BASE_NOT_DELAYED, place, found)?;
+    note_unless(is_delayed, Rule::BaseNotDelayed, place, found)?;
     Ok(())
 }
 
@@ -51,7 +48,7 @@ pub fn note_escapes(places: &[Place], found: &mut Vec<Fault>) -> Result<(), Allo
     ensures { OnOk result (found.new.items ≡ found.old.items ++ escapes places.now) }
 {
     for place in places {
-        note_unless(false, THIS_ESCAPES, *place, found)?;
+        note_unless(false, Rule::ThisEscapes, *place, found)?;
     }
     Ok(())
 }
@@ -107,7 +104,7 @@ pub fn note_unassigned(
 {
     note_unless(
         are_assigned(program, class, known),
-        UNASSIGNED,
+        Rule::Unassigned,
         place,
         found,
     )?;
@@ -122,8 +119,8 @@ pub fn note_unset(
     found: &mut Vec<Fault>,
 ) -> Result<(), AllocError>
     ensures { OnOk result (found.new.items ≡ found.old.items
-        ++ (if are_assigned_from (marked own.now) 0 (fields_in (option_map (λ c. class_of c.now) class.entry)) then [] else at 40 place ∷ [])) }
+        ++ (if are_assigned_from (marked own.now) 0 (fields_in (option_map (λ c. class_of c.now) class.entry)) then [] else at unassigned place ∷ [])) }
 {
-    note_unless(are_all_set(own, class), UNASSIGNED, place, found)?;
+    note_unless(are_all_set(own, class), Rule::Unassigned, place, found)?;
     Ok(())
 }

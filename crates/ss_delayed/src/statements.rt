@@ -9,8 +9,9 @@ ghost use Rattle.ss_delayed.specs.Parts.{use_of, target_uses};
 use crate::escapes::{Use, find_in_each, find_uses};
 use ss_ast::AssignOperator;
 use ss_core::Place;
-use ss_paths_assigned::own_field;
-use ss_typed::{TypedBlock, TypedDeclarator, TypedExpr, TypedInit, TypedSimple, TypedStmt};
+use ss_typed::{
+    TypedBlock, TypedDeclarator, TypedExpr, TypedInit, TypedSimple, TypedStmt, own_field,
+};
 use std::alloc::AllocError;
 
 // ---- expressions

@@ -1,12 +1,17 @@
 -- Constructors (OOPSLA 2003). A delayed one doesn't let its `this` out, and ends with each non-null field of its class assigned; its base
 -- constructor is delayed too. One that isn't assigns them before `base(..)`, by expressions without `this`.
-use Rattle.std.specs.Prelude.{ℕ, List, [], ◌∷◌, ◌++◌, map, Bool, true, false, not, ◌&&◌, ◌||◌, ◌+◌, if◌then◌else◌, Option, Some, None, slice_get, option_and_then}
+use Rattle.std.specs.Prelude.{ℕ, List, [], ◌∷◌, ◌++◌, map, Bool, true, false, not, ◌&&◌, ◌||◌, ◌+◌, if◌then◌else◌, Option, Some, None}
 use Rattle.ss_core.specs.declared.names.Place.{Place}
+use Rattle.ss_core.specs.declared.rules.Rule.TheVariants as rule
+use Rattle.ss_core.specs.Rules.{rule_number}
 use Rattle.ss_faults.specs.declared.Fault.{Fault}
 use Rattle.ss_core.specs.Tree as core
-use Rattle.ss_core.specs.Chain.{above, declared}
-use Rattle.ss_typed.specs.Tree.{ExprTree, Arguments, NoMore, DeclaratorTree, SimpleTree, BaseTree, BlockTree, BlockOf, BodyTree, MembersTree, TypedTree}
-use Rattle.ss_paths.specs.Fields.{is_non_null, own_fields, field_numbers, class_place}
+use Rattle.ss_core.specs.Chain.{above}
+use Rattle.ss_typed.specs.Tree.{ExprTree, Arguments, NoMore, DeclaratorTree, SimpleTree, BaseTree, BodyTree, TypedTree}
+use Rattle.ss_typed.specs.Shapes.{closing_brace}
+use Rattle.ss_typed.specs.Constructors.{is_delayed_body}
+use Rattle.ss_paths.specs.Fields.{is_non_null, own_fields, field_numbers}
+use Rattle.ss_typed.specs.Lookups.{constructor_of}
 use Rattle.ss_paths.specs.Sets.{Set}
 use Rattle.ss_paths.specs.Paths.{Check, at_end, behind_block, faults_in}
 use Rattle.ss_paths.specs.Assigned.{Assigned, assigned_flow, assigned_by_initializers, assigned_first}
@@ -15,16 +20,16 @@ use Rattle.ss_delayed_rules.specs.Opening.{opening, written_base}
 
 -- the numbers of the rules
 abbrev pub unassigned : ℕ
-unassigned = 40
+unassigned = rule_number rule.Unassigned
 
 abbrev pub this_escapes : ℕ
-this_escapes = 41
+this_escapes = rule_number rule.ThisEscapes
 
 abbrev pub base_not_delayed : ℕ
-base_not_delayed = 42
+base_not_delayed = rule_number rule.BaseNotDelayed
 
 abbrev pub at : ℕ → Place → Fault
-at rule p = record { rule = rule; place = p }
+at n p = record { rule = n; place = p }
 
 abbrev pub escapes : List Place → List Fault
 escapes ps = map (at this_escapes) ps
@@ -46,23 +51,8 @@ unassigned_faults p t q a = if are_assigned p t a then [] else at unassigned q �
 
 -- ---- delayed constructors
 
--- the constructor of the class is delayed: one that isn't written is, and that of `object`
-abbrev pub is_delayed_body : Option BodyTree → Bool
-is_delayed_body None = true
-is_delayed_body (Some b) = b.flags.delayed
-
-abbrev pub written_constructor : Option MembersTree → Option ℕ
-written_constructor None = None
-written_constructor (Some c) = c.constructor
-
-abbrev pub constructor_of : TypedTree → ℕ → Option BodyTree
-constructor_of p t = option_and_then (slice_get p.bodies) (option_and_then (λ (c : core.ClassTree). written_constructor (slice_get p.members (class_place t))) (declared p.classes t))
-
 abbrev pub base_faults : TypedTree → ℕ → Place → List Fault
 base_faults p t q = if is_delayed_body (constructor_of p (above p.classes t)) then [] else at base_not_delayed q ∷ []
-
-abbrev pub closing_brace : BlockTree → Place
-closing_brace (BlockOf q ss end) = end
 
 -- each path ends with the fields assigned; the fault stands at the closing brace, wherever a path ends
 abbrev pub end_check : TypedTree → ℕ → Place → Check Assigned

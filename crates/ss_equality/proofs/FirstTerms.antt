@@ -36,7 +36,7 @@ first_more b k ts ts' n f e is small = subst (AreFirstFormsOf b (k + 1)) (sym e)
 })
 
 pub first_all : (b : Forms) (k : ℕ) (ts : List TermShape) → AreFirstFormsOf b k ts → k ≡ length b.terms → AreFormsOf b ts
-first_all b k ts f e = record { all = f.all ∙ e; built = f.built; below = f.below }
+first_all b k ts f e = subst (λ (n : ℕ). AreFirstFormsOf b n ts) e f
 
 pub all_numbers : (fs : List TermShape) (es : List Join) (sigs : List Signature) (ps : List Pending) → es ≡ [] → sigs ≡ [] → ps ≡ [] → IsOnTheWay fs [] es sigs ps (numbers 0 (length fs - 0))
 all_numbers fs es sigs ps a b c =

@@ -8,7 +8,7 @@ use Rattle.ss_equality_rules.specs.declared.Merge.{Merge}
 use Rattle.ss_equality_rules.specs.declared.Stand.{Stand}
 use Rattle.ss_equality_rules.specs.declared.Join.{Join}
 use Rattle.ss_terms.specs.Bank.{number}
-use Rattle.ss_equality_rules.specs.Equal.{IsEqual, Standing, AreFormsOf, class_number, AreClassesOf}
+use Rattle.ss_equality_rules.specs.Equal.{IsEqual, Equations, AreFormsOf, class_number, AreClassesOf}
 use Rattle.ss_equality_rules.specs.Names.{name, IsLog}
 use Rattle.ss_equality_rules.specs.Classes.{Classed}
 use Rattle.ss_equality_rules.specs.Whole.{Signature, AreApart, AreCaused, IsWhole, IsOnTheWay, Goes, Begins, IsKept, merges_of, joins_at}
@@ -86,8 +86,8 @@ taken_to fs fs' ss ss' es es' sigs sigs' to s kept at inside a b c d =
     (subst (λ x. IsKept fs (take to ss) (take (joins_at ss es to) es) x) (sym (d ∙ ap (λ n. take n sigs) (sym (signatures_there ss (length sigs) to s at))))
     (undone_kept fs ss es sigs kept to inside))))
 
-pub same_standing : (a b : List TermShape) (ms ns : List Merge) → a ≡ b → ms ≡ ns → ◌≡◌ {A = Standing} (record { terms = a; merges = ms }) (record { terms = b; merges = ns })
-same_standing a b ms ns p q = ap (λ x. let s : Standing = record { terms = x; merges = ms } in s) p ∙ ap (λ x. let s : Standing = record { terms = b; merges = x } in s) q
+pub same_standing : (a b : List TermShape) (ms ns : List Merge) → a ≡ b → ms ≡ ns → ◌≡◌ {A = Equations} (record { terms = a; merges = ms }) (record { terms = b; merges = ns })
+same_standing a b ms ns p q = ap (λ x. let s : Equations = record { terms = x; merges = ms } in s) p ∙ ap (λ x. let s : Equations = record { terms = b; merges = x } in s) q
 
 pub merges_taken : (ss ss' : List Stand) (to : ℕ) → ss' ≡ take to ss → merges_of ss' ≡ take to (merges_of ss)
 merges_taken ss ss' to e = ap merges_of e ∙ sym (take-map (λ s. s.merge) to ss)
@@ -96,12 +96,12 @@ pub merges_long : (ss : List Stand) → length (merges_of ss) ≡ length ss
 merges_long ss = length-map ss (λ s. s.merge)
 
 -- the terms are there, or there is neither a term nor a merge
-pub not_begun : (b : Forms) (v : Standing) → (v ≡ record { terms = []; merges = [] }) ⊎ AreFormsOf b v.terms → (v.terms ≡ [] → v.merges ≡ []) → length v.terms ≡ 0 → v.merges ≡ []
-not_begun b v (inl e) empty h = ap (λ (z : Standing). z.merges) e
+pub not_begun : (b : Forms) (v : Equations) → (v ≡ record { terms = []; merges = [] }) ⊎ AreFormsOf b v.terms → (v.terms ≡ [] → v.merges ≡ []) → length v.terms ≡ 0 → v.merges ≡ []
+not_begun b v (inl e) empty h = ap (λ (z : Equations). z.merges) e
 not_begun b v (inr f) empty h = empty (nil_from_length v.terms h)
 
-pub is_begun : (b : Forms) (v : Standing) → (v ≡ record { terms = []; merges = [] }) ⊎ AreFormsOf b v.terms → length v.terms ≢ 0 → AreFormsOf b v.terms
-is_begun b v (inl e) h = absurd (h (ap (λ (z : Standing). length z.terms) e))
+pub is_begun : (b : Forms) (v : Equations) → (v ≡ record { terms = []; merges = [] }) ⊎ AreFormsOf b v.terms → length v.terms ≢ 0 → AreFormsOf b v.terms
+is_begun b v (inl e) h = absurd (h (ap (λ (z : Equations). length z.terms) e))
 is_begun b v (inr f) h = f
 
 -- one more merge was settled

@@ -2,7 +2,7 @@
 
 ghost use Rattle.std.specs.Prelude.{◌≡◌, ℕ, ◌<◌, ◌≤◌, ◌↔◌, ◌∷◌, ◌++◌, ◌⊎◌, [], Some, length, take, slice_get, option_map, IsTrue, IfOk, OnOk, OnErr};
 ghost use Rattle.ss_terms.specs.Forms.{HasTerm};
-ghost use Rattle.ss_equality_rules.specs.Equal.{IsEqual, chosen, AreFormsOf, AreClassesOf};
+ghost use Rattle.ss_equality_rules.specs.Equal.{IsEqual, with_reasons, AreFormsOf, AreClassesOf};
 ghost use Rattle.ss_equality_rules.specs.Names.{name, IsLog};
 ghost use Rattle.ss_equality_rules.specs.Whole.{AreCaused};
 
@@ -25,10 +25,10 @@ pub struct Congruence {
 }
 
 impl Model for Congruence {
-    ghost use Rattle.ss_equality_rules.specs.Equal.{Standing};
+    ghost use Rattle.ss_equality_rules.specs.Equal.{Equations};
     ghost use Rattle.ss_equality_rules.specs.Whole.{IsKept, merges_of};
 
-    ghost Value = { Standing };
+    ghost Value = { Equations };
 
     ghost view = { λ c. record { terms = c.classes.forms; merges = merges_of c.stands.items } };
 
@@ -187,7 +187,7 @@ impl Congruence {
     /// Reasons of merges from which two equal terms are equal. An error is want of memory.
     pub fn explain(&self, x: TermId, y: TermId) -> Result<Vec<usize>, AllocError>
         requires { IsEqual self.now.terms self.now.merges x.0 y.0 }
-        ensures { IfOk result (λ v. IsEqual self.now.terms (chosen v.items self.now.merges) x.0 y.0) }
+        ensures { IfOk result (λ v. IsEqual self.now.terms (with_reasons v.items self.now.merges) x.0 y.0) }
     {
         let _joins = self.classes.join_count();
         let _signatures = self.signatures.len();

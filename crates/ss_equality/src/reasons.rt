@@ -4,7 +4,7 @@ ghost use Rattle.std.specs.Prelude.{◌≡◌, ◌≢◌, ℕ, ◌<◌, ◌≤�
 ghost use Rattle.ss_terms.specs.declared.forms.TermId.{TermId};
 ghost use Rattle.ss_equality_rules.specs.declared.Join.{Join};
 ghost use Rattle.ss_equality_rules.specs.declared.Pair.{Pair};
-ghost use Rattle.ss_equality_rules.specs.Equal.{IsEqual, chosen};
+ghost use Rattle.ss_equality_rules.specs.Equal.{IsEqual, with_reasons};
 ghost use Rattle.ss_equality_rules.specs.Names as names;
 ghost use Rattle.ss_equality_rules.specs.Names.{Has, name, HasNoEnd};
 ghost use Rattle.ss_equality_rules.specs.Whole.{AreCaused, merges_of};
@@ -196,7 +196,7 @@ pub(crate) fn reasons(
 ) -> Result<Vec<usize>, AllocError>
     requires same { name classes.now.log x ≡ name classes.now.log y }
     requires caused { AreCaused classes.now.forms (merges_of merges.now) classes.now.log }
-    ensures { IfOk result (λ v. IsEqual classes.now.forms (chosen v.items (merges_of merges.now)) x y) }
+    ensures { IfOk result (λ v. IsEqual classes.now.forms (with_reasons v.items (merges_of merges.now)) x y) }
 {
     let mut told = no_joins(alloc, classes.join_count())?;
     let mut reasons = Vec::new(alloc);

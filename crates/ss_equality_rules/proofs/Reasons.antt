@@ -8,7 +8,7 @@ use Rattle.ss_terms.specs.Forms.{TermShape}
 use Rattle.ss_equality_rules.specs.declared.Merge.{Merge}
 use Rattle.ss_equality_rules.specs.declared.Join.{Join}
 use Rattle.ss_equality_rules.specs.declared.Pair.{Pair}
-use Rattle.ss_equality_rules.specs.Equal.{IsEqual, merged, itself, back, through, applied, chosen}
+use Rattle.ss_equality_rules.specs.Equal.{IsEqual, merged, itself, back, through, applied, with_reasons}
 use Rattle.ss_equality_rules.specs.Names.{Has, name, named, IsLog}
 use Rattle.ss_equality_rules.specs.Whole.{AreCongruent, IsMergeOf, IsCause, AreCaused}
 use Rattle.ss_equality_rules.specs.Reasons.{Holds, Follow, Rests, Tells, TellsBeside, IsWhyTold}
@@ -215,21 +215,21 @@ any_has reasons b h = by reasons h.at h.is
     by (r ∷ rs) zero e = let same : r ≡ b = cc in ap (λ t. t || list_any (λ z. eqb z b) rs) (eq-eqb r b same)
     by (r ∷ rs) (suc k) e = or_true (eqb r b) (list_any (λ z. eqb z b) rs) (by rs k e)
 
-chosen_has : (reasons : List ℕ) (ms : List Merge) (k : ℕ) (m : Merge) → slice_get ms k ≡ Some m → Has reasons m.because → Has (chosen reasons ms) m
-chosen_has reasons [] k m at h = cc
-chosen_has reasons (d ∷ ms) zero m at h =
+with_reasons_has : (reasons : List ℕ) (ms : List Merge) (k : ℕ) (m : Merge) → slice_get ms k ≡ Some m → Has reasons m.because → Has (with_reasons reasons ms) m
+with_reasons_has reasons [] k m at h = cc
+with_reasons_has reasons (d ∷ ms) zero m at h =
     let same : d ≡ m = cc in
     let is : list_any (λ r. eqb r d.because) reasons ≡ true = any_has reasons d.because (subst (λ z. Has reasons z.because) (sym same) h) in
-    subst (λ b. Has (cond b (d ∷ chosen reasons ms) (chosen reasons ms)) m) (sym is) (subst (λ z. Has (d ∷ chosen reasons ms) z) same (has_first d (chosen reasons ms)))
-chosen_has reasons (d ∷ ms) (suc k) m at h = by (list_any (λ r. eqb r d.because) reasons) (chosen_has reasons ms k m at h)
+    subst (λ b. Has (cond b (d ∷ with_reasons reasons ms) (with_reasons reasons ms)) m) (sym is) (subst (λ z. Has (d ∷ with_reasons reasons ms) z) same (has_first d (with_reasons reasons ms)))
+with_reasons_has reasons (d ∷ ms) (suc k) m at h = by (list_any (λ r. eqb r d.because) reasons) (with_reasons_has reasons ms k m at h)
   where
-    by : (b : Bool) → Has (chosen reasons ms) m → Has (cond b (d ∷ chosen reasons ms) (chosen reasons ms)) m
-    by true g = has_more d (chosen reasons ms) m g
+    by : (b : Bool) → Has (with_reasons reasons ms) m → Has (cond b (d ∷ with_reasons reasons ms) (with_reasons reasons ms)) m
+    by true g = has_more d (with_reasons reasons ms) m g
     by false g = g
 
-pub all_told : (fs : List TermShape) (ms : List Merge) (es : List Join) (x y : ℕ) (told : List Bool) (reasons : List ℕ) → Rests fs ms es x y [] told reasons → name es x ≡ name es y → IsEqual fs (chosen reasons ms) x y
-all_told fs ms es x y told reasons r same = r.sides (chosen reasons ms)
-    (record { holds = λ k m at h. let c = chosen_has reasons ms k m at h in merged c.at m c.is })
+pub all_told : (fs : List TermShape) (ms : List Merge) (es : List Join) (x y : ℕ) (told : List Bool) (reasons : List ℕ) → Rests fs ms es x y [] told reasons → name es x ≡ name es y → IsEqual fs (with_reasons reasons ms) x y
+all_told fs ms es x y told reasons r same = r.sides (with_reasons reasons ms)
+    (record { holds = λ k m at h. let c = with_reasons_has reasons ms k m at h in merged c.at m c.is })
     (length es)
     (record { follow = λ p k. absurd (has_none p k) })
     (whole_log es x ∙ same ∙ sym (whole_log es y))

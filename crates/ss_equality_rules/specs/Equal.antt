@@ -18,20 +18,18 @@ pub data IsEqual (ts : List TermShape) (ms : List Merge) : ℕ → ℕ → Type 
       length xs ≡ length ys → ((i : ℕ) (a b : TermId) → slice_get xs i ≡ Some a → slice_get ys i ≡ Some b → IsEqual ts ms a.0 b.0) → IsEqual ts ms x y
 
 -- the merges that have one of these reasons
-abbrev pub chosen : List ℕ → List Merge → List Merge
-chosen reasons ms = filter (λ m. list_any (λ r. r == m.because) reasons) ms
+abbrev pub with_reasons : List ℕ → List Merge → List Merge
+with_reasons reasons ms = filter (λ m. list_any (λ r. r == m.because) reasons) ms
 
--- these are the forms of the bank's terms, in the order of their numbers
-pub record AreFormsOf (b : Forms) (ts : List TermShape) : Type 0 where
-  pub all : length ts ≡ length b.terms
-  pub built : (t : ℕ) (n : TermShape) → slice_get ts t ≡ Some n → term_at b (number t) ≡ term_of (term_at b) n
-  pub below : (t : ℕ) (n : TermShape) → slice_get ts t ≡ Some n → TermBelow t n
-
--- the forms of the first so many terms
+-- these are the forms of the bank's first so many terms, in the order of their numbers
 pub record AreFirstFormsOf (b : Forms) (so_many : ℕ) (ts : List TermShape) : Type 0 where
   pub all : length ts ≡ so_many
   pub built : (t : ℕ) (n : TermShape) → slice_get ts t ≡ Some n → term_at b (number t) ≡ term_of (term_at b) n
   pub below : (t : ℕ) (n : TermShape) → slice_get ts t ≡ Some n → TermBelow t n
+
+-- the forms of all its terms
+abbrev pub AreFormsOf : Forms → List TermShape → Type 0
+AreFormsOf b ts = AreFirstFormsOf b (length b.terms) ts
 
 -- the class of a number; past the end of the list 0
 abbrev pub class_number : List ℕ → TermId → ℕ
@@ -42,6 +40,6 @@ abbrev pub AreClassesOf : List TermShape → List Merge → List ℕ → Type 0
 AreClassesOf ts ms classes = (x y : ℕ) → x < length ts → y < length ts → (class_number classes (number x) ≡ class_number classes (number y)) ↔ IsEqual ts ms x y
 
 -- what a congruence says: the forms of the terms, none before the first merge, and the merges that stand
-pub record Standing : Type 0 where
+pub record Equations : Type 0 where
   pub terms : List TermShape
   pub merges : List Merge

@@ -12,7 +12,9 @@ use Rattle.ss_tables.specs.Words.{is_state_read}
 use Rattle.ss_tables.specs.Statics.{static}
 use Rattle.ss_typed.specs.Tree.{ExprTree, LocalOf, IffOf, ImpliesOf, BinaryOf, IsOf, AsOf, NegateOf, NotOf, CastOf, FieldOf, ElementOf, LengthOf, QuantifiedOf}
 use Rattle.ss_resolver_rules.specs.Numbers.{class_in}
-use Rattle.ss_resolver_rules.specs.Names.{Known, Variable, BoundName, Env, known, within}
+use Rattle.ss_resolver_rules.specs.Names.{Env, known, within}
+use Rattle.ss_resolver_rules.specs.declared.known.Known.{Known}
+use Rattle.ss_resolver_rules.specs.declared.known.Known.TheVariants.{Variable, BoundName}
 use Rattle.ss_resolver_rules.specs.Expressions.{this, read_field, known_or_field, field_behind, member, expr, call, args}
 use Rattle.ss_expand_admissible.proofs.OwnReads.{is_asked, called_asked}
 

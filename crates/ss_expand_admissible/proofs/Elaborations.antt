@@ -13,6 +13,7 @@ use Rattle.ss_ast.specs.Programs.{ProgramTree}
 use Rattle.ss_typed.specs.Tree.{ExprTree, ThisOf, ResultOf, IffOf, ImpliesOf, BinaryOf, IsOf, AsOf, NegateOf, NotOf, CastOf, FieldOf, ElementOf, LengthOf, OldOf, QuantifiedOf, StateOf, OwnersOf}
 use Rattle.ss_typed.specs.Shapes.{is_this}
 use Rattle.ss_owners_rules.specs.Words.{NoWord, allows_state, unless, misplaced}
+use Rattle.ss_core.specs.Marks.{is_rep, is_rep_or_peer}
 use Rattle.ss_owners_rules.specs.Admissible as written
 use Rattle.ss_owners_rules.specs.Admissible.{field_marks, smallest, inadmissible}
 use Rattle.ss_resolver_rules.specs.Programs.{resolved}
@@ -25,16 +26,6 @@ use Rattle.ss_expand_admissible.proofs.Classes.{classes, fields_stay}
 use Rattle.ss_expand_admissible.proofs.OwnReads.{own_reads}
 
 -- ---- marks
-
-rep_stays : (m : Mark) → written.is_rep m ≡ true → store.is_rep m ≡ true
-rep_stays mark.Plain h = h
-rep_stays mark.Rep h = h
-rep_stays mark.Peer h = h
-
-rep_or_peer_stays : (m : Mark) → written.is_rep_or_peer m ≡ true → store.is_rep_or_peer m ≡ true
-rep_or_peer_stays mark.Plain h = h
-rep_or_peer_stays mark.Rep h = h
-rep_or_peer_stays mark.Peer h = h
 
 mark_in : (o : Option DeclaredField) → unwrap_or (option_map (λ (d : DeclaredField). d.field.mark) o) mark.Plain ≡ mark_of_field o
 mark_in None = refl
@@ -94,16 +85,16 @@ module _ (p : ProgramTree) (t : ℕ) (ns : Numbers) where
   owned_stays : (x : ExprTree) → own_reads (is_field_of p t) x ≡ true → written.is_owned_path marks x ≡ true → store.is_owned_path (classes p) t (plain ns x) ≡ true
   owned_stays (FieldOf q e f u) r h =
       let reads = and_parts (not (is_this e) || is_field_of p t f) (own_reads (is_field_of p t) e) r in
-      let own = is_own_field (classes p) t (plain ns e) f && store.is_rep (field_mark (classes p) f) in
-      let path = store.is_owned_path (classes p) t (plain ns e) && store.is_rep_or_peer (field_mark (classes p) f) in
+      let own = is_own_field (classes p) t (plain ns e) f && is_rep (field_mark (classes p) f) in
+      let path = store.is_owned_path (classes p) t (plain ns e) && is_rep_or_peer (field_mark (classes p) f) in
       ⊎_elim
       (λ first.
-      let both = and_parts (is_this e) (written.is_rep (written.field_mark marks f)) first in
-      or_left own path (and_from _ (store.is_rep (field_mark (classes p) f)) (own_field e f reads.0 both.0) (ap store.is_rep (sym (mark_stays f)) ∙ rep_stays (written.field_mark marks f) both.1)))
+      let both = and_parts (is_this e) (is_rep (written.field_mark marks f)) first in
+      or_left own path (and_from _ (is_rep (field_mark (classes p) f)) (own_field e f reads.0 both.0) (ap is_rep (sym (mark_stays f)) ∙ both.1)))
       (λ further.
-      let both = and_parts (written.is_owned_path marks e) (written.is_rep_or_peer (written.field_mark marks f)) further in
-      or_right own path (and_from _ (store.is_rep_or_peer (field_mark (classes p) f)) (owned_stays e reads.1 both.0) (ap store.is_rep_or_peer (sym (mark_stays f)) ∙ rep_or_peer_stays (written.field_mark marks f) both.1)))
-      (or_cases (is_this e && written.is_rep (written.field_mark marks f)) (written.is_owned_path marks e && written.is_rep_or_peer (written.field_mark marks f)) h)
+      let both = and_parts (written.is_owned_path marks e) (is_rep_or_peer (written.field_mark marks f)) further in
+      or_right own path (and_from _ (is_rep_or_peer (field_mark (classes p) f)) (owned_stays e reads.1 both.0) (ap is_rep_or_peer (sym (mark_stays f)) ∙ both.1)))
+      (or_cases (is_this e && is_rep (written.field_mark marks f)) (written.is_owned_path marks e && is_rep_or_peer (written.field_mark marks f)) h)
   owned_stays x r h = absurd (false≢true h)
 
   -- ---- every expression

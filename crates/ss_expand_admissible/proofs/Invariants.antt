@@ -1,13 +1,13 @@
 -- The invariants of the elaboration of a program without faults of names and ownership are admissible.
-use Rattle.std.proofs.Common.{◌≡◌, ◌≢◌, ℕ, zero, suc, ◌+◌, ◌*◌, List, [], ◌∷◌, ◌++◌, map, Bool, true, Option, Some, None, refl, sym, ◌∙◌, ap, subst, arith}
-use Rattle.std.specs.Prelude.{slice_get}
+use Rattle.std.proofs.Common.{◌≡◌, ℕ, zero, suc, ◌+◌, ◌*◌, List, [], ◌∷◌, ◌++◌, map, Bool, true, Option, Some, None, refl, sym, ◌∙◌, ap, subst, arith}
+use Rattle.std.specs.Prelude.{option_and_then, slice_get}
 use Rattle.std.specs.List.{list_all}
 use Rattle.std.proofs.lemmas.Option.{same_Some}
-use Rattle.std.proofs.lemmas.Bool.{and_parts, and_from, eq-eqb, ne_eqb}
+use Rattle.std.proofs.lemmas.Bool.{and_parts, and_from}
 use Rattle.std.proofs.lemmas.List.Folds.{list_all-append}
 use Rattle.ss_core.specs.Tree as core
 use Rattle.ss_core.specs.Chain.{declared}
-use Rattle.ss_core.proofs.Declared.{declared_place}
+use Rattle.ss_core.proofs.Declared.{declared_at, declared_place}
 use Rattle.ss_ast.specs.Expressions.{NameTree}
 use Rattle.ss_ast.specs.Programs.{MemberKindTree, FieldsOf, InvariantOf, MethodOf, ConstructorOf, MemberTree, ClassTree, ProgramTree}
 use Rattle.ss_typed.specs.Tree.{InvariantTree, MembersTree, TypedTree}
@@ -20,7 +20,7 @@ use Rattle.ss_resolver_names_rules.specs.Programs.{program_faults}
 use Rattle.ss_resolver_rules.specs.Names.{Env, class_env}
 use Rattle.ss_resolver_rules.specs.Expressions.{expr}
 use Rattle.ss_resolver_rules.specs.Programs.{each, class, members, invariants_of_kind, invariants_in, resolved}
-use Rattle.ss_expand_rules.specs.Program.{members_from, members_of}
+use Rattle.ss_typed.specs.Lookups.{class_place, members_of}
 use Rattle.ss_expand_rules.specs.Numbers.{plain}
 use Rattle.ss_expand_rules.specs.Elaborated.{invariant_numbers, class_of, classes_from}
 use Rattle.ss_expand_rules.specs.Elaborated as elaborated
@@ -66,17 +66,10 @@ all_sound p t (i ∷ is) r h =
 
 -- ---- where the members of a class stand
 
-members_at : (f : ℕ → ClassTree → MembersTree) (u j : ℕ) (cs : List ClassTree) (i : ℕ) (c : ClassTree) → slice_get cs i ≡ Some c → members_from u (each f j cs) (u + 2 * i) ≡ Some (f (j + i) c)
-members_at f u j [] i c h = absurd (let x : ⊥ = cc in x)
-members_at f u j (d ∷ cs) zero c h =
-    let here : u ≡ u + 2 * 0 = omega arith in
-    let n : j + 0 ≡ j = omega arith in
-    rw (eq-eqb u (u + 2 * 0) here, n) (ap (λ y. Some (f j y)) (same_Some _ _ h))
-members_at f u j (d ∷ cs) (suc i) c h =
-    let apart : u ≢ u + 2 * suc i = λ e. omega arith in
-    let e : u + 2 * suc i ≡ u + 2 + 2 * i = omega arith in
-    let n : j + suc i ≡ j + 1 + i = omega arith in
-    rw (ne_eqb u (u + 2 * suc i) apart, e, n) (members_at f (u + 2) (j + 1) cs i c h)
+each_at : {A : Type 0} (f : ℕ → ClassTree → A) (j : ℕ) (cs : List ClassTree) (i : ℕ) (c : ClassTree) → slice_get cs i ≡ Some c → slice_get (each f j cs) i ≡ Some (f (j + i) c)
+each_at f j [] i c h = absurd (let x : ⊥ = cc in x)
+each_at f j (d ∷ cs) zero c h = let n : j + 0 ≡ j = omega arith in rw n (ap (λ y. Some (f j y)) (same_Some _ _ h))
+each_at f j (d ∷ cs) (suc i) c h = let n : j + suc i ≡ j + 1 + i = omega arith in rw n (each_at f (j + 1) cs i c h)
 
 faultless_at : (q : TypedTree) (f : ℕ → ClassTree → MembersTree) (u j : ℕ) (cs : List ClassTree) (i : ℕ) (c : ClassTree) → slice_get cs i ≡ Some c → classes_faults q u (each f j cs) ≡ [] → invariants_faults (field_marks q.classes) (f (j + i) c).invariants ≡ []
 faultless_at q f u j [] i c e h = absurd (let x : ⊥ = cc in x)
@@ -105,7 +98,12 @@ module _ (p : ProgramTree) (h : program_faults p ≡ []) (g : ownership_faults (
   of_class : (k : ℕ) (c : ClassTree) → slice_get p.classes k ≡ Some c → list_all (is_admissible (classes p) (4 + 2 * k)) (elaborated.invariants_in (members_of (resolved p) (4 + 2 * k))) ≡ true
   of_class k c there =
       let z : 0 + k ≡ k = omega arith in
-      let ms : members_of (resolved p) (4 + 2 * k) ≡ Some (members p.classes k c) = members_at (members p.classes) 4 0 p.classes k c there ∙ ap (λ n. Some (members p.classes n c)) z in
+      let place : class_place (4 + 2 * k) ≡ k = omega arith in
+      let ms : members_of (resolved p) (4 + 2 * k) ≡ Some (members p.classes k c) =
+      ap (option_and_then (λ (x : core.ClassTree). slice_get (resolved p).members (class_place (4 + 2 * k)))) (declared_at (resolved p).classes k ∙ each_at (class p.classes) 0 p.classes k c there)
+      ∙ ap (slice_get (resolved p).members) place
+      ∙ each_at (members p.classes) 0 p.classes k c there
+      ∙ ap (λ n. Some (members p.classes n c)) z in
       let faults : invariants_faults (field_marks (resolved p).classes) (members p.classes k c).invariants ≡ [] =
       ap (λ n. invariants_faults (field_marks (resolved p).classes) (members p.classes n c).invariants) (sym z) ∙ faultless_at (resolved p) (members p.classes) 0 0 p.classes k c there no_faults in
       let reads = members_read (is_field_of p (4 + 2 * k)) (class_env p.classes k) (λ n f e. field_below p h k c there n f e) c.members in

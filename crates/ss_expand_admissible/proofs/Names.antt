@@ -13,7 +13,7 @@ use Rattle.ss_ast.specs.Programs.{ClassTree, ProgramTree}
 use Rattle.ss_tables.specs.Members.{FieldTree, fields_in, field_in, methods_in, constructors_in}
 use Rattle.ss_tables.specs.Classes.{Declared, declared_in, or_else, first_field, field_of, members_in, members_at, above_in, steps_above, chain, class_number}
 use Rattle.ss_tables.specs.Scopes.{class_scope}
-use Rattle.ss_resolver_names_rules.specs.declared.fault.Rule.TheVariants as rule
+use Rattle.ss_core.specs.declared.rules.Rule.TheVariants as rule
 use Rattle.ss_resolver_names_rules.specs.Faults.{fault, unless, twice_among, class_faults}
 use Rattle.ss_resolver_names_rules.specs.Members.{members_faults, member_names, faults_at, constructor_faults, override_faults}
 use Rattle.ss_resolver_names_rules.specs.Programs.{most_classes, most_levels, ends, is_deep, depth_faults, fields_faults, methods_faults, bodies_faults, comes_back, is_first_of_cycle, above_faults, class_faults_of, classes_faults, mains_in, class_names, program_faults}

@@ -20,7 +20,9 @@ use Rattle.ss_typed.specs.Tree.{ExprTree, IffOf, ImpliesOf, BinaryOf, IsOf, AsOf
 use Rattle.ss_typed.specs.Tree as typed
 use Rattle.ss_typed.specs.Shapes.{is_this}
 use Rattle.ss_resolver_rules.specs.Numbers.{field_id, class_in}
-use Rattle.ss_resolver_rules.specs.Names.{Known, Variable, BoundName, Env, known, within}
+use Rattle.ss_resolver_rules.specs.Names.{Env, known, within}
+use Rattle.ss_resolver_rules.specs.declared.known.Known.{Known}
+use Rattle.ss_resolver_rules.specs.declared.known.Known.TheVariants.{Variable, BoundName}
 use Rattle.ss_resolver_rules.specs.Expressions.{this, read_field, known_or_field, field_behind, state_word, third_class, member, method_call, base_call, owner_question, call_of, question, called_behind, called_bare, expr, call, args}
 
 -- Each field that is read of `this` passes the test. What a call or a word of conditions holds isn't looked at.

@@ -7,11 +7,11 @@ use Rattle.std.proofs.lemmas.List.Folds.{list_all-append}
 use Rattle.std.proofs.lemmas.Bool.{and_parts, and_from, or_cases, or_parts, or_left, or_right, ne_eqb, false≢true}
 use Rattle.ss_core.specs.declared.names.Place.{Place}
 use Rattle.ss_core.specs.declared.names.Mark.{Mark}
-use Rattle.ss_core.specs.declared.names.Mark.TheVariants as mark
 use Rattle.ss_ast.specs.Expressions.{NameTree}
 use Rattle.ss_ast.specs.Programs.{MemberKindTree, FieldsOf, InvariantOf, MethodOf, ConstructorOf, MemberTree, ClassTree, ProgramTree}
 use Rattle.ss_typed.specs.Tree.{ExprTree, ThisOf, LocalOf, BoundOf, IffOf, ImpliesOf, BinaryOf, IsOf, AsOf, NegateOf, NotOf, CastOf, FieldOf, ElementOf, LengthOf, OldOf, QuantifiedOf, StateOf, OwnersOf, NewOf, NewArrayOf, CallOf, StaticOf, BaseOf, InvariantTree, MembersTree}
 use Rattle.ss_typed.specs.Shapes.{is_this}
+use Rattle.ss_core.specs.Marks.{is_rep, is_rep_or_peer}
 use Rattle.ss_owners_rules.specs.Admissible as written
 use Rattle.ss_owners_rules.specs.Admissible.{field_marks, smallest, inadmissible}
 use Rattle.ss_resolver_rules.specs.Names.{Env, class_env}
@@ -27,16 +27,6 @@ use Rattle.ss_expand_admissible.specs.Laws.{RefusesNoMore}
 use Rattle.ss_expand_admissible.proofs.Classes.{classes}
 use Rattle.ss_expand_admissible.proofs.Elaborations.{is_field_of, mark_stays}
 use Rattle.ss_expand_admissible.proofs.Bare.{is_bare, HasNoLocal, expr_bare}
-
-rep_was : (m : Mark) → store.is_rep m ≡ true → written.is_rep m ≡ true
-rep_was mark.Plain h = h
-rep_was mark.Rep h = h
-rep_was mark.Peer h = h
-
-rep_or_peer_was : (m : Mark) → store.is_rep_or_peer m ≡ true → written.is_rep_or_peer m ≡ true
-rep_or_peer_was mark.Plain h = h
-rep_or_peer_was mark.Rep h = h
-rep_or_peer_was mark.Peer h = h
 
 this_was : (x : ExprTree) → is_bare x ≡ true → store.is_this (plain invariant_numbers x) ≡ true → is_this x ≡ true
 this_was (ThisOf p t) b h = refl
@@ -59,11 +49,11 @@ this_none ms x h = absurd (false≢true h)
 path_none : (ms : List Mark) (x : ExprTree) → written.is_owned_path ms x ≡ true → inadmissible ms x ≡ []
 path_none ms (FieldOf p e f t) h =
     ⊎_elim
-    (λ first. let this = (and_parts (is_this e) (written.is_rep (written.field_mark ms f)) first).0 in
+    (λ first. let this = (and_parts (is_this e) (is_rep (written.field_mark ms f)) first).0 in
     small_none (is_this e || written.is_owned_path ms e) p (inadmissible ms e) (or_left (is_this e) (written.is_owned_path ms e) this) (this_none ms e this))
-    (λ further. let path = (and_parts (written.is_owned_path ms e) (written.is_rep_or_peer (written.field_mark ms f)) further).0 in
+    (λ further. let path = (and_parts (written.is_owned_path ms e) (is_rep_or_peer (written.field_mark ms f)) further).0 in
     small_none (is_this e || written.is_owned_path ms e) p (inadmissible ms e) (or_right (is_this e) (written.is_owned_path ms e) path) (path_none ms e path))
-    (or_cases (is_this e && written.is_rep (written.field_mark ms f)) (written.is_owned_path ms e && written.is_rep_or_peer (written.field_mark ms f)) h)
+    (or_cases (is_this e && is_rep (written.field_mark ms f)) (written.is_owned_path ms e && is_rep_or_peer (written.field_mark ms f)) h)
 path_none ms x h = absurd (false≢true h)
 
 module _ (p : ProgramTree) (t : ℕ) where
@@ -76,14 +66,14 @@ module _ (p : ProgramTree) (t : ℕ) where
       let own = is_own_field (classes p) t (plain invariant_numbers e) f in
       let path = store.is_owned_path (classes p) t (plain invariant_numbers e) in
       let same = mark_stays p t invariant_numbers f in
-      let first = is_this e && written.is_rep (written.field_mark marks f) in
-      let further = written.is_owned_path marks e && written.is_rep_or_peer (written.field_mark marks f) in
+      let first = is_this e && is_rep (written.field_mark marks f) in
+      let further = written.is_owned_path marks e && is_rep_or_peer (written.field_mark marks f) in
       ⊎_elim
-      (λ one. let both = and_parts own (store.is_rep m) one in
-      or_left first further (and_from (is_this e) _ (this_was e b (and_parts (store.is_this (plain invariant_numbers e)) (is_field_of p t f) both.0).0) (ap written.is_rep same ∙ rep_was m both.1)))
-      (λ more. let both = and_parts path (store.is_rep_or_peer m) more in
-      or_right first further (and_from (written.is_owned_path marks e) _ (path_was e b both.0) (ap written.is_rep_or_peer same ∙ rep_or_peer_was m both.1)))
-      (or_cases (own && store.is_rep m) (path && store.is_rep_or_peer m) h)
+      (λ one. let both = and_parts own (is_rep m) one in
+      or_left first further (and_from (is_this e) _ (this_was e b (and_parts (store.is_this (plain invariant_numbers e)) (is_field_of p t f) both.0).0) (ap is_rep same ∙ both.1)))
+      (λ more. let both = and_parts path (is_rep_or_peer m) more in
+      or_right first further (and_from (written.is_owned_path marks e) _ (path_was e b both.0) (ap is_rep_or_peer same ∙ both.1)))
+      (or_cases (own && is_rep m) (path && is_rep_or_peer m) h)
   path_was x b h = absurd (false≢true h)
 
   abbrev IsKept : ExprTree → Type 0

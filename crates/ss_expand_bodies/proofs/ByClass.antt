@@ -7,7 +7,8 @@ use Rattle.std.proofs.lemmas.Bool.Decides.{nat_tests}
 use Rattle.std.proofs.lemmas.List.{get_or-map, length-map, length-drop}
 use Rattle.ss_core.specs.Tree.{ClassTree, EntryTree}
 use Rattle.ss_typed.specs.Tree.{TypedTree}
-use Rattle.ss_expand_rules.specs.Program.{Origin, Constructor, Method, is_own, body_at, table, methods_from, bodies_from, bodies, same_origin}
+use Rattle.ss_expand_rules.specs.Program.{Origin, Constructor, Method, is_own, table, methods_from, bodies_from, bodies, same_origin}
+use Rattle.ss_typed.specs.Lookups.{body_at}
 use Rattle.ss_expand_bodies.specs.declared.origins.Origin as code
 use Rattle.ss_expand_bodies.specs.Origins.{origin_of, class_in, IsByClass}
 

@@ -1,3 +1,2 @@
 pub mod ByClass
 pub mod Meant
-pub mod Members

@@ -9,6 +9,7 @@ ghost use Rattle.ss_expand_expressions.specs.Sources.{stmts_of};
 ghost use Rattle.ss_expand_bodies.specs.Exposes.{opened_of};
 
 use ss_core::{ClassId, Exposed, Place, Stmt};
+use ss_expand_expressions::add_stmt;
 use ss_typed::TypedBody;
 use std::alloc::{AllocError, Global};
 
@@ -53,7 +54,7 @@ pub fn add_pack_this(code: &mut Vec<Stmt>, body: &TypedBody, place: Place) -> Re
         → OnOk result (stmts_of code.new ≡ stmts_of code.old ++ statements.pack_this s place) }
 {
     if body.flags.ctor {
-        code.push(Stmt::Pack(place, 0, body.class))?;
+        add_stmt(code, Stmt::Pack(place, 0, body.class))?;
     }
     Ok(())
 }
@@ -64,7 +65,7 @@ pub fn add_packs(code: &mut Vec<Stmt>, exposes: &[Opened]) -> Result<(), AllocEr
 {
     let mut rest = exposes;
     while let Some((last, before)) = rest.split_last() {
-        code.push(pack_of(*last))?;
+        add_stmt(code, pack_of(*last))?;
         rest = before;
     }
     Ok(())

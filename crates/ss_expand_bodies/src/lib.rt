@@ -17,8 +17,8 @@ pub use contracts::{add_plain, list_terms};
 pub use defaults::{conditions, default_entry, default_exit, first_param};
 pub use exposes::{Opened, add_pack_this, add_packs, list_exposed, pack_of};
 pub use lookups::{
-    above_of, body_at, constructor_of, declared_at, field_at, has_delayed_constructor,
-    is_declared_by, is_own, is_wrapped, members_of, method_at, params_in, table,
+    above_of, declared_at, field_at, has_delayed_constructor, is_declared_by, is_own, is_wrapped,
+    method_at, params_in, table,
 };
 pub use named::{add_copies, add_locals, add_params, add_temporaries};
 pub use numbering::{first_copy, numbers, numbers_from};

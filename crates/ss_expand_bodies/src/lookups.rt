@@ -1,23 +1,17 @@
 // What is looked up in a resolved program.
 
-ghost use Rattle.std.specs.Prelude.{◌≡◌, ◌≤◌, length, map, option_map, slice_get};
+ghost use Rattle.std.specs.Prelude.{◌≡◌, ◌≤◌, length, map, option_map};
 ghost use Rattle.ss_core.specs.View as core;
 ghost use Rattle.ss_core.specs.Chain.{in_class, most_classes};
 ghost use Rattle.ss_typed.specs.Tree.{ParamTree};
 ghost use Rattle.ss_typed.specs.View as typed;
 ghost use Rattle.ss_expand_rules.specs.Program as elab;
+ghost use Rattle.ss_typed.specs.Lookups as asked;
 ghost use Rattle.ss_expand_rules.specs.Simple as simple;
 ghost use Rattle.ss_expand_rules.specs.Contracts as contracts;
 
-use ss_core::{BodyId, ClassId, Entry, Field, FieldId};
-use ss_typed::{Typed, TypedBody, TypedClass, TypedParam};
-
-/// The written body of this number.
-pub fn body_at(program: &Typed, number: BodyId) -> Option<&TypedBody>
-    ensures { option_map (λ b. typed.body b.now) result ≡ elab.body_at (typed.typed program.now) number.0 }
-{
-    program.bodies.get(number.0 as usize)
-}
+use ss_core::{ClassId, Entry, Field, FieldId};
+use ss_typed::{Typed, TypedBody, TypedParam, body_at, constructor_of};
 
 /// The class above.
 pub fn above_of(program: &Typed, class: ClassId) -> ClassId
@@ -54,39 +48,9 @@ pub fn field_at(program: &Typed, field: FieldId) -> Option<(ClassId, &Field)>
     program.classes.field(field)
 }
 
-// What the class at this place of the list has beside its entry in the table of classes.
-fn members_at(program: &Typed, place: usize) -> Option<&TypedClass>
-    ensures { option_map (λ m. typed.members m.now) result ≡ slice_get (map typed.members program.now.members.items) place }
-{
-    program.members.get(place)
-}
-
-/// What the class has beside its entry in the table of classes.
-pub fn members_of(program: &Typed, class: ClassId) -> Option<&TypedClass>
-    ensures { option_map (λ m. typed.members m.now) result ≡ elab.members_of (typed.typed program.now) class.0 }
-{
-    if class.0 < 4 || class.0 % 2 != 0 {
-        return None;
-    }
-    members_at(program, (class.0 as usize - 4) / 2)
-}
-
-/// The constructor that the class writes.
-pub fn constructor_of(program: &Typed, class: ClassId) -> Option<&TypedBody>
-    ensures { option_map (λ b. typed.body b.now) result ≡ elab.constructor_of (typed.typed program.now) class.0 }
-{
-    match members_of(program, class) {
-        Some(members) => match members.constructor {
-            Some(number) => body_at(program, number),
-            None => None,
-        },
-        None => None,
-    }
-}
-
 /// The parameters of the body, where there is one.
 pub fn params_in(body: Option<&TypedBody>) -> &[TypedParam]
-    ensures { map (λ (q : ParamTree). q.ty) (map typed.param result.now) ≡ elab.param_types_in (option_map (λ b. typed.body b.now) body.entry) }
+    ensures { map (λ (q : ParamTree). q.ty) (map typed.param result.now) ≡ asked.param_types_in (option_map (λ b. typed.body b.now) body.entry) }
 {
     match body {
         Some(body) => body.params.as_slice(),

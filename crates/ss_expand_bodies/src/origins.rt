@@ -9,9 +9,9 @@ ghost use Rattle.ss_typed.specs.View as typed;
 ghost use Rattle.ss_expand_rules.specs.Program as elab;
 ghost use Rattle.ss_expand_bodies.specs.Origins.{origin_of, origins_of, class_in, IsByClass};
 
-use crate::lookups::{body_at, is_own, table};
+use crate::lookups::{is_own, table};
 use ss_core::{BodyId, ClassId, Entry};
-use ss_typed::{Typed, TypedBody};
+use ss_typed::{Typed, TypedBody, body_at};
 use std::alloc::{AllocError, Global};
 
 /// What a body of the core program is.

@@ -11,12 +11,12 @@ ghost use Rattle.ss_expand_rules.specs.Numbers as elab_numbers;
 ghost use Rattle.ss_expand_expressions.specs.Views.{numbers_of};
 ghost use Rattle.ss_expand_bodies.specs.Origins.{origin_of};
 
-use crate::lookups::{body_at, is_own, members_of, table};
+use crate::lookups::{is_own, table};
 use crate::numbering::numbers_from;
 use crate::origins::{Origin, number_among, number_of_written};
 use ss_core::{BodyId, Class, ClassId, Classes, Entry, Expr, Field};
 use ss_expand_expressions::{Numbers, plain};
-use ss_typed::{Typed, TypedClass, TypedInvariant};
+use ss_typed::{Typed, TypedClass, TypedInvariant, body_at, members_of};
 use std::alloc::{AllocError, Global};
 
 // The body of the core program for what a class has at this place of its table, where this written body stands.

@@ -8,6 +8,7 @@ ghost use Rattle.ss_expand_rules.specs.Bodies as bodies;
 ghost use Rattle.ss_expand_expressions.specs.Sources.{stmts_of};
 
 use ss_core::{BodyFlags, BodyId, Callee, ClassId, Expr, Place, Stmt, Ty};
+use ss_expand_expressions::add_stmt;
 use ss_typed::{TypedFlags, TypedParam, class_type};
 use std::alloc::{AllocError, Global};
 
@@ -81,6 +82,25 @@ fn returned(place: Place, outcome: Option<usize>) -> Option<Expr>
     }
 }
 
+// Adds the assignment of `this` to the local.
+fn add_this(code: &mut Vec<Stmt>, place: Place, x: usize) -> Result<(), AllocError>
+    ensures { OnOk result (stmts_of code.new ≡ stmts_of code.old ++ AssignStmt place x (LocalExpr place 0) ∷ []) }
+{
+    add_stmt(code, Stmt::Assign(place, x, Expr::Local(place, 0)))
+}
+
+// Adds the unpack of the local at the class.
+fn add_unpack(
+    code: &mut Vec<Stmt>,
+    place: Place,
+    class: ClassId,
+    x: usize,
+) -> Result<(), AllocError>
+    ensures { OnOk result (stmts_of code.new ≡ stmts_of code.old ++ UnpackStmt place x class.0 ∷ []) }
+{
+    add_stmt(code, Stmt::Unpack(place, x, class))
+}
+
 // Adds the beginning of an `expose` of `this` at the class, in the local.
 fn add_opening(
     code: &mut Vec<Stmt>,
@@ -90,8 +110,8 @@ fn add_opening(
 ) -> Result<(), AllocError>
     ensures { OnOk result (stmts_of code.new ≡ stmts_of code.old ++ AssignStmt place x (LocalExpr place 0) ∷ UnpackStmt place x class.0 ∷ []) }
 {
-    code.push(Stmt::Assign(place, x, Expr::Local(place, 0)))?;
-    code.push(Stmt::Unpack(place, x, class))?;
+    add_this(code, place, x)?;
+    add_unpack(code, place, class, x)?;
     Ok(())
 }
 
@@ -105,8 +125,24 @@ fn add_call(
 ) -> Result<(), AllocError>
     ensures { OnOk result (stmts_of code.new ≡ stmts_of code.old ++ CallStmt place outcome (Base body.0) (core.exprs arguments.items) ∷ []) }
 {
-    code.push(Stmt::Call(place, outcome, Callee::Base(body), arguments))?;
-    Ok(())
+    add_stmt(
+        code,
+        Stmt::Call(place, outcome, Callee::Base(body), arguments),
+    )
+}
+
+// Adds the pack of the local at the class.
+fn add_pack(code: &mut Vec<Stmt>, place: Place, class: ClassId, x: usize) -> Result<(), AllocError>
+    ensures { OnOk result (stmts_of code.new ≡ stmts_of code.old ++ PackStmt place x class.0 ∷ []) }
+{
+    add_stmt(code, Stmt::Pack(place, x, class))
+}
+
+// Adds the return of the local, where there is one.
+fn add_return(code: &mut Vec<Stmt>, place: Place, outcome: Option<usize>) -> Result<(), AllocError>
+    ensures { OnOk result (stmts_of code.new ≡ stmts_of code.old ++ ReturnStmt place (bodies.returned place outcome) ∷ []) }
+{
+    add_stmt(code, Stmt::Return(place, returned(place, outcome)))
 }
 
 // Adds its end, and the return of the local, where there is one.
@@ -119,8 +155,8 @@ fn add_closing(
 ) -> Result<(), AllocError>
     ensures { OnOk result (stmts_of code.new ≡ stmts_of code.old ++ PackStmt place x class.0 ∷ ReturnStmt place (bodies.returned place outcome) ∷ []) }
 {
-    code.push(Stmt::Pack(place, x, class))?;
-    code.push(Stmt::Return(place, returned(place, outcome)))?;
+    add_pack(code, place, class, x)?;
+    add_return(code, place, outcome)?;
     Ok(())
 }
 

@@ -1,5 +1,2 @@
-pub mod Loops
 pub mod Shapes
 pub mod Behind
-pub mod Forms
-pub mod Noting

@@ -9,7 +9,6 @@ mod expressions;
 mod joined;
 mod kinds;
 mod locals;
-mod mentions;
 mod operands;
 mod operators;
 mod sources;
@@ -25,8 +24,7 @@ pub use joined::{
 };
 pub use kinds::{is_lazy, is_lazy_link, is_lazy_operator};
 pub use locals::Numbers;
-pub use mentions::mentions_this;
 pub use operands::{Operand, begin_lazy, end_lazy, keep};
 pub use operators::{compound, default_of, step_operator};
-pub use sources::{Source, dropped, in_local, in_temporary, next, put, valued};
-pub use types::{any_object, class_of_type, link_type, step_type, temporary_type, type_of};
+pub use sources::{Source, add_stmt, dropped, in_local, in_temporary, next, put, valued};
+pub use types::{any_object, class_of_type, temporary_type};

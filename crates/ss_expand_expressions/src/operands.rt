@@ -1,6 +1,6 @@
 // Operands of operations with a call inside, once they are lifted.
 
-ghost use Rattle.std.specs.Prelude.{◌≡◌, ◌++◌, ◌∷◌, [], IfOk, List};
+ghost use Rattle.std.specs.Prelude.{◌≡◌, ◌++◌, ◌∷◌, [], IfOk, OnOk, List};
 ghost use Rattle.ss_core.specs.declared.names.Ty.{Ty};
 ghost use Rattle.ss_core.specs.Tree as tree;
 ghost use Rattle.ss_core.specs.View as core;
@@ -11,7 +11,7 @@ ghost use Rattle.ss_expand_expressions.specs.Sources.{source_of, stmts_of, lifte
 ghost use Rattle.ss_expand_expressions.specs.Operands.{IsOperand, IsBegun, IsEnded};
 
 use crate::locals::Numbers;
-use crate::sources::{Source, in_local, in_temporary, next, put, valued};
+use crate::sources::{Source, add_stmt, in_local, in_temporary, next, put, valued};
 use crate::types::temporary_type;
 use ss_core::{Expr, Place, Stmt, Ty};
 use std::alloc::{AllocError, Global};
@@ -69,6 +69,19 @@ pub fn begin_lazy(
     Ok(x)
 }
 
+// Adds an `if` without another side.
+fn add_if(
+    alloc: Global,
+    code: &mut Vec<Stmt>,
+    place: Place,
+    test: Expr,
+    inner: Vec<Stmt>,
+) -> Result<(), AllocError>
+    ensures { OnOk result (stmts_of code.new ≡ stmts_of code.old ++ tree.IfStmt place (core.expr test) (core.code_of (stmts_of inner)) tree.NoCode ∷ []) }
+{
+    add_stmt(code, Stmt::If(place, test, inner, Vec::new(alloc)))
+}
+
 /// Ends a lazy operation at this place: where the test holds, the code of the right side, which stands at its own place, is done, and
 /// its value put into the same temporary.
 pub fn end_lazy(
@@ -84,7 +97,7 @@ pub fn end_lazy(
     ensures { IfOk result (λ r. IsEnded place (core.expr test) x right (stmts_of inner) (source_of source) (stmts_of code.old) (stmts_of code.new) (source_of r)) }
 {
     let mut inner = inner;
-    inner.push(put(right, x, source))?;
-    code.push(Stmt::If(place, test, inner, Vec::new(alloc)))?;
+    add_stmt(&mut inner, put(right, x, source))?;
+    add_if(alloc, code, place, test, inner)?;
     Ok(Source::Pure(Expr::Local(place, x)))
 }

@@ -1,6 +1,6 @@
 // Where values come from, and the statements that keep or drop them.
 
-ghost use Rattle.std.specs.Prelude.{◌≡◌, ◌++◌, ◌∷◌, [], IfOk, MatchOption};
+ghost use Rattle.std.specs.Prelude.{◌≡◌, ◌++◌, ◌∷◌, [], IfOk, OnOk, MatchOption};
 ghost use Rattle.ss_typed.specs.Tree.{ExprTree};
 ghost use Rattle.ss_core.specs.View as core;
 ghost use Rattle.ss_expand_rules.specs.Calls as calls;
@@ -9,7 +9,7 @@ ghost use Rattle.ss_expand_rules.specs.Lifting as lifting;
 ghost use Rattle.ss_expand_rules.specs.Simple as simple;
 ghost use Rattle.ss_typed.specs.Types as types;
 ghost use Rattle.ss_expand_expressions.specs.Views.{numbers_of};
-ghost use Rattle.ss_expand_expressions.specs.Sources.{source_of, lifted_by, valued_by};
+ghost use Rattle.ss_expand_expressions.specs.Sources.{source_of, stmts_of, lifted_by, valued_by};
 
 use crate::locals::Numbers;
 use crate::types::{any_object, temporary_type};
@@ -59,6 +59,14 @@ pub fn next(numbers: &Numbers, made: &[Ty]) -> Result<usize, AllocError>
         .ok_or(AllocError)
 }
 
+/// Adds a statement.
+pub fn add_stmt(code: &mut Vec<Stmt>, statement: Stmt) -> Result<(), AllocError>
+    ensures { OnOk result (stmts_of code.new ≡ stmts_of code.old ++ core.stmt_of statement ∷ []) }
+{
+    code.push(statement)?;
+    Ok(())
+}
+
 /// Puts the value into a local that is a new temporary of this type.
 pub fn in_local(
     code: &mut Vec<Stmt>,
@@ -70,7 +78,7 @@ pub fn in_local(
 ) -> Result<Expr, AllocError>
     ensures { IfOk result (λ e. valued_by code.new made.new e ≡ lifting.in_local place x ty (lifted_by code.old made.old source)) }
 {
-    code.push(put(place, x, source))?;
+    add_stmt(code, put(place, x, source))?;
     made.push(ty)?;
     Ok(Expr::Local(place, x))
 }

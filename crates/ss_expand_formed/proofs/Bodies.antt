@@ -6,7 +6,8 @@ use Rattle.std.proofs.lemmas.Option.{same_Some}
 use Rattle.ss_core.specs.Tree as core
 use Rattle.ss_core.specs.Chain.{declared}
 use Rattle.ss_typed.specs.Tree.{BodyTree, MembersTree, TypedTree}
-use Rattle.ss_expand_rules.specs.Program.{body_at, method_at, members_of, constructor_in, Origin, Constructor, Method, is_declared_by, bodies, constructor_of}
+use Rattle.ss_expand_rules.specs.Program.{method_at, Origin, Constructor, Method, is_declared_by, bodies}
+use Rattle.ss_typed.specs.Lookups.{body_at, constructor_in, constructor_of, members_of}
 use Rattle.ss_expand_rules.specs.Constructors.{implicit_constructor}
 use Rattle.ss_expand_rules.specs.Contracts.{declarations}
 use Rattle.ss_expand_rules.specs.Bodies.{written_body, wrapper_body}

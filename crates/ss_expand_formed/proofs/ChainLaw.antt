@@ -22,7 +22,7 @@ use Rattle.ss_tables.specs.Classes.{class_named, above_written, above_in, above,
 use Rattle.ss_tables.specs.Types.{array_type, named_type}
 use Rattle.ss_tables.specs.Scopes.{class_scope}
 use Rattle.ss_typed.specs.Tree.{TypedTree}
-use Rattle.ss_resolver_names_rules.specs.declared.fault.Rule.TheVariants as rule
+use Rattle.ss_core.specs.declared.rules.Rule.TheVariants as rule
 use Rattle.ss_resolver_names_rules.specs.Faults.{fault, twice_among, type_name_faults, type_faults, class_faults}
 use Rattle.ss_resolver_names_rules.specs.Members.{member_names, constructor_faults, override_faults, initials_faults, kind_faults, members_faults}
 use Rattle.ss_resolver_names_rules.specs.Programs.{most_levels, depth_faults, above_faults, is_first_of_cycle, fields_faults, methods_faults, bodies_faults, class_faults_of, program_faults}

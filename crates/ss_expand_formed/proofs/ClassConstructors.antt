@@ -11,7 +11,8 @@ use Rattle.ss_ast.specs.Programs.{ClassTree, ProgramTree}
 use Rattle.ss_tables.specs.Members.{ConstructorTree, constructors_in}
 use Rattle.ss_typed.specs.Tree.{BodyTree, MembersTree, TypedTree}
 use Rattle.ss_resolver_rules.specs.Programs.{constructor_body, written_constructor, members, resolved}
-use Rattle.ss_expand_rules.specs.Program.{body_at, table, members_of, Origin, Constructor, Method, is_own, methods_from, bodies_of_class, bodies_from, bodies, same_origin}
+use Rattle.ss_expand_rules.specs.Program.{table, Origin, Constructor, Method, is_own, methods_from, bodies_of_class, bodies_from, bodies, same_origin}
+use Rattle.ss_typed.specs.Lookups.{body_at, members_of}
 use Rattle.ss_expand_rules.specs.Elaborated.{body_of}
 use Rattle.ss_store_rules.specs.Typed.{is_constructor_of}
 use Rattle.ss_expand_formed.specs.Laws.{core_of, HaveConstructors}

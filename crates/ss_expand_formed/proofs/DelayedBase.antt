@@ -16,13 +16,14 @@ use Rattle.ss_resolver_rules.specs.Numbers.{number_or_object}
 use Rattle.ss_resolver_rules.specs.Programs.{constructor_body, class, members, resolved}
 use Rattle.ss_resolver_rules.specs.Programs as resolver
 use Rattle.ss_resolver_names_rules.specs.Programs.{program_faults}
-use Rattle.ss_paths.specs.Fields.{class_place}
+use Rattle.ss_typed.specs.Lookups.{body_at, constructor_in, constructor_of, members_of}
 use Rattle.ss_paths.specs.Assigned.{assigned_by_initializers}
 use Rattle.ss_delayed_rules.specs.Escapes.{ForFields, NotAtAll, uses_each, uses_in, uses_in_all}
 use Rattle.ss_delayed_rules.specs.Constructors as delayed
-use Rattle.ss_delayed_rules.specs.Constructors.{escapes, unassigned_faults, is_delayed_body, base_faults, base_not_delayed, arguments_of, end_faults, delayed_faults, undelayed_faults, constructor_faults}
+use Rattle.ss_typed.specs.Constructors.{is_delayed_body}
+use Rattle.ss_delayed_rules.specs.Constructors.{escapes, unassigned_faults, base_faults, base_not_delayed, arguments_of, end_faults, delayed_faults, undelayed_faults, constructor_faults}
 use Rattle.ss_delayed_rules.specs.Program.{initializers_faults, implied_faults, classes_faults, body_faults, bodies_faults, construction_faults}
-use Rattle.ss_expand_rules.specs.Program.{body_at, table, members_of, constructor_in, constructor_of, Origin, Constructor, bodies, same_origin}
+use Rattle.ss_expand_rules.specs.Program.{table, Origin, Constructor, bodies, same_origin}
 use Rattle.ss_expand_rules.specs.Elaborated.{implicit_in, or_implicit, constructor_alone, body_of}
 use Rattle.ss_store_rules.specs.Typed.{is_constructor_of}
 use Rattle.ss_store_rules.specs.Typed as store
@@ -76,35 +77,27 @@ module _ (p : ProgramTree) (faultless : program_faults p ≡ []) where
       ap (λ o. is_delayed_constructor (option_map (constructor_alone (resolved p)) (or_implicit (resolved p) (4 + 2 * j) o))) b ∙ ap is_delayed_body (sym b)
 
   -- it is delayed where the phase of construction takes it so
-  same_delayed : (j : ℕ) (c : ClassTree) → slice_get p.classes j ≡ Some c → (ds : List ConstructorTree) → constructors_in c.members ≡ ds → is_delayed_constructor (body_of (resolved p) (Constructor (4 + 2 * j))) ≡ is_delayed_body (delayed.constructor_of (resolved p) (4 + 2 * j))
+  same_delayed : (j : ℕ) (c : ClassTree) → slice_get p.classes j ≡ Some c → (ds : List ConstructorTree) → constructors_in c.members ≡ ds → is_delayed_constructor (body_of (resolved p) (Constructor (4 + 2 * j))) ≡ is_delayed_body (constructor_of (resolved p) (4 + 2 * j))
   same_delayed j c at ds is =
       let t = 4 + 2 * j in
-      let place : class_place t ≡ j = omega arith in
-      let z : 0 + j ≡ j = omega arith in
-      let m : slice_get (resolved p).members j ≡ Some (members p.classes j c) = each_at (members p.classes) 0 p.classes j c at ∙ ap (λ n. Some (members p.classes n c)) z in
-      let theirs : delayed.constructor_of (resolved p) t ≡ option_and_then (slice_get (resolved p).bodies) (resolver.written_constructor p.classes j ds) =
-      ap (λ o. option_and_then (slice_get (resolved p).bodies) (option_and_then (λ (x : core.ClassTree). delayed.written_constructor (slice_get (resolved p).members (class_place t))) o)) (class_at p j c at)
-      ∙ ap (λ n. option_and_then (slice_get (resolved p).bodies) (delayed.written_constructor (slice_get (resolved p).members n))) place
-      ∙ ap (λ o. option_and_then (slice_get (resolved p).bodies) (delayed.written_constructor o)) m
-      ∙ ap (λ xs. option_and_then (slice_get (resolved p).bodies) (resolver.written_constructor p.classes j xs)) is in
       let ours : constructor_of (resolved p) t ≡ option_and_then (slice_get (resolved p).bodies) (resolver.written_constructor p.classes j ds) =
       ap (constructor_in (resolved p)) (members_at p j c at) ∙ ap (λ xs. option_and_then (slice_get (resolved p).bodies) (resolver.written_constructor p.classes j xs)) is in
-      ap (λ o. is_delayed_constructor (option_map (constructor_alone (resolved p)) (or_implicit (resolved p) t o))) ours ∙ by_written j c at ds is ∙ ap is_delayed_body (sym theirs)
+      ap (λ o. is_delayed_constructor (option_map (constructor_alone (resolved p)) (or_implicit (resolved p) t o))) ours ∙ by_written j c at ds is ∙ ap is_delayed_body (sym ours)
 
   -- where the phase has no fault of the constructor above
-  base_delayed : (k : ℕ) → k < length p.classes → (o : Option ℕ) → above p.classes k ≡ o → is_delayed_body (delayed.constructor_of (resolved p) (number_or_object o)) ≡ true →
+  base_delayed : (k : ℕ) → k < length p.classes → (o : Option ℕ) → above p.classes k ≡ o → is_delayed_body (constructor_of (resolved p) (number_or_object o)) ≡ true →
       (number_or_object o == 0 || is_delayed_constructor (store.constructor_of (core_of p) (number_or_object o))) ≡ true
   base_delayed k l None e h = refl
   base_delayed k l (Some j) e h =
       let c = tree_at p.classes j (above_within p.classes k j e) in
       or_right (4 + 2 * j == 0) _ (ap is_delayed_constructor (constructor_found j c.0 c.1) ∙ same_delayed j c.0 c.1 (constructors_in c.0.members) refl ∙ h)
 
-  no_base_fault : (t : ℕ) (q : Place) → base_faults (resolved p) t q ≡ [] → is_delayed_body (delayed.constructor_of (resolved p) (chain.above (resolved p).classes t)) ≡ true
+  no_base_fault : (t : ℕ) (q : Place) → base_faults (resolved p) t q ≡ [] → is_delayed_body (constructor_of (resolved p) (chain.above (resolved p).classes t)) ≡ true
   no_base_fault t q h =
       ⊎_elim
       (λ yes. yes)
       (λ other. absurd (let bad : delayed.at base_not_delayed q ∷ [] ≡ [] = rw other at h in let z : ⊥ = cc in z))
-      (cases_Bool (is_delayed_body (delayed.constructor_of (resolved p) (chain.above (resolved p).classes t))))
+      (cases_Bool (is_delayed_body (constructor_of (resolved p) (chain.above (resolved p).classes t))))
 
   -- a class without such a fault
   class_base : (k : ℕ) → k < length p.classes → (q : Place) → base_faults (resolved p) (4 + 2 * k) q ≡ [] →
@@ -112,7 +105,7 @@ module _ (p : ProgramTree) (faultless : program_faults p ≡ []) where
   class_base k l q h =
       let c = tree_at p.classes k l in
       let over : chain.above (resolved p).classes (4 + 2 * k) ≡ number_or_object (above p.classes k) = ap chain.above_of (class_at p k c.0 c.1) in
-      let d = subst (λ u. is_delayed_body (delayed.constructor_of (resolved p) u) ≡ true) over (no_base_fault (4 + 2 * k) q h) in
+      let d = subst (λ u. is_delayed_body (constructor_of (resolved p) u) ≡ true) over (no_base_fault (4 + 2 * k) q h) in
       subst (λ u. (u == 0 || is_delayed_constructor (store.constructor_of (core_of p) u)) ≡ true) (sym (up p faultless k l)) (base_delayed k l (above p.classes k) refl d)
 
   -- ---- faults of construction

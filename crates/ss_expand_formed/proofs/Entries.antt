@@ -9,7 +9,8 @@ use Rattle.ss_core.specs.Tree as core
 use Rattle.ss_core.specs.Chain.{declared}
 use Rattle.ss_ast.specs.Programs.{ClassTree, ProgramTree}
 use Rattle.ss_tables.specs.Classes.{members_in, members_at, above, chain_from, chain}
-use Rattle.ss_resolver_rules.specs.Numbers.{method_id, names_of, is_listed, method_names, declared_entry, overridden, added, table_along, table}
+use Rattle.ss_resolver_names_rules.specs.Faults.{is_listed}
+use Rattle.ss_resolver_rules.specs.Numbers.{method_id, names_of, method_names, declared_entry, overridden, added, table_along, table}
 use Rattle.ss_resolver_rules.specs.Programs.{resolved}
 use Rattle.ss_expand_rules.specs.Program as program
 use Rattle.ss_expand_rules.specs.Program.{table_in}

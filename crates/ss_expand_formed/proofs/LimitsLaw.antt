@@ -15,7 +15,7 @@ use Rattle.ss_tables.specs.Members.{FieldTree, fields_in, methods_in, constructo
 use Rattle.ss_tables.specs.Classes.{members_in, members_at, above, steps_above, chain_from}
 use Rattle.ss_tables.specs.Scopes.{class_scope}
 use Rattle.std.proofs.lemmas.Option.{slice_get_within}
-use Rattle.ss_resolver_names_rules.specs.declared.fault.Rule.TheVariants as rule
+use Rattle.ss_core.specs.declared.rules.Rule.TheVariants as rule
 use Rattle.ss_resolver_names_rules.specs.Faults.{fault, unless, twice_among}
 use Rattle.ss_resolver_names_rules.specs.Members.{member_names, faults_at, constructor_faults, override_faults, members_faults}
 use Rattle.ss_resolver_names_rules.specs.Programs.{most_classes, most_fields, inherited_fields, depth_faults, above_faults, field_limit_faults, fields_faults, methods_faults, bodies_faults, class_faults_of, classes_faults, class_names, mains_in, program_faults}

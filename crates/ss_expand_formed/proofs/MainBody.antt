@@ -17,16 +17,17 @@ use Rattle.ss_tables.specs.Types.{array_type}
 use Rattle.ss_core.specs.declared.names.Ty.TheVariants as ty
 use Rattle.ss_ast.specs.declared.class.Modifier.{Modifier}
 use Rattle.ss_typed.specs.Tree.{BodyTree, TypedTree}
-use Rattle.ss_resolver_names_rules.specs.declared.fault.Rule.TheVariants as rule
-use Rattle.ss_resolver_names_rules.specs.Faults.{fault, unless, is_listed as is_before, with_name, twice, twice_among}
+use Rattle.ss_core.specs.declared.rules.Rule.TheVariants as rule
+use Rattle.ss_resolver_names_rules.specs.Faults.{fault, unless, is_listed, with_name, twice, twice_among}
 use Rattle.ss_resolver_names_rules.specs.Members.{kind_names, member_names, faults_at, same_type_name, constructor_faults, override_faults, members_faults}
 use Rattle.ss_resolver_names_rules.specs.Programs.{takes_input, is_main, mains_in, class_names, most_classes, depth_faults, above_faults, fields_faults, methods_faults, bodies_faults, class_faults_of, classes_faults, program_faults}
 use Rattle.ss_tables.specs.Members as tables
 use Rattle.ss_tables.specs.Scopes.{class_scope}
 use Rattle.ss_resolver_rules.specs.Names.{Env}
-use Rattle.ss_resolver_rules.specs.Numbers.{type_id, method_id, is_listed, method_names}
+use Rattle.ss_resolver_rules.specs.Numbers.{type_id, method_id, method_names}
 use Rattle.ss_resolver_rules.specs.Programs.{param, method_env, method_body, main_from, resolved}
-use Rattle.ss_expand_rules.specs.Program.{body_at, table, table_in, method_at, Method, is_declared_by, is_own, place_in, number_of, number_of_written}
+use Rattle.ss_expand_rules.specs.Program.{table, table_in, method_at, Method, is_declared_by, is_own, place_in, number_of, number_of_written}
+use Rattle.ss_typed.specs.Lookups.{body_at}
 use Rattle.ss_expand_rules.specs.Contracts.{declarations}
 use Rattle.ss_expand_rules.specs.Bodies.{param_of, written_body}
 use Rattle.ss_expand_rules.specs.Elaborated.{body_of, elaborated}
@@ -40,27 +41,27 @@ use Rattle.ss_expand_formed.proofs.Numbered.{OfMethod, numbered}
 
 -- ---- names of members stand once
 
-still : (t : List ℕ) (before : List (List ℕ)) (u : List ℕ) → is_before before t ≡ true → is_before (with_name before u) t ≡ true
+still : (t : List ℕ) (before : List (List ℕ)) (u : List ℕ) → is_listed before t ≡ true → is_listed (with_name before u) t ≡ true
 still t before u l =
     ⊎_elim
     (λ yes. rw yes l)
-    (λ other. rw other (list_any-append (bytes_eq t) before (u ∷ []) ∙ or_left (is_before before t) _ l))
-    (cases_Bool (is_before before u))
+    (λ other. rw other (list_any-append (bytes_eq t) before (u ∷ []) ∙ or_left (is_listed before t) _ l))
+    (cases_Bool (is_listed before u))
 
-now_listed : (before : List (List ℕ)) (u : List ℕ) → is_before (with_name before u) u ≡ true
+now_listed : (before : List (List ℕ)) (u : List ℕ) → is_listed (with_name before u) u ≡ true
 now_listed before u =
     ⊎_elim
     (λ yes. rw yes yes)
-    (λ other. rw other (list_any-append (bytes_eq u) before (u ∷ []) ∙ or_right (is_before before u) _ (or_left (bytes_eq u u) false ((bytes_eq-Decides u u).1 refl))))
-    (cases_Bool (is_before before u))
+    (λ other. rw other (list_any-append (bytes_eq u) before (u ∷ []) ∙ or_right (is_listed before u) _ (or_left (bytes_eq u u) false ((bytes_eq-Decides u u).1 refl))))
+    (cases_Bool (is_listed before u))
 
 -- what is listed before doesn't come again
-not_again : (t : List ℕ) (before : List (List ℕ)) (ns : List NameTree) → twice_among before ns ≡ [] → is_before before t ≡ true → (i : ℕ) (n : NameTree) → slice_get ns i ≡ Some n → n.text ≡ t → ⊥
+not_again : (t : List ℕ) (before : List (List ℕ)) (ns : List NameTree) → twice_among before ns ≡ [] → is_listed before t ≡ true → (i : ℕ) (n : NameTree) → slice_get ns i ≡ Some n → n.text ≡ t → ⊥
 not_again t before [] h l i n e same = let z : ⊥ = cc in z
 not_again t before (x ∷ ns) h l zero n e same =
     let both = none_left (twice before x) (twice_among (with_name before x.text) ns) h in
     let it : x.text ≡ t = ap (λ (y : NameTree). y.text) (same_Some _ _ e) ∙ same in
-    let listed : is_before before x.text ≡ true = subst (λ u. is_before before u ≡ true) (sym it) l in
+    let listed : is_listed before x.text ≡ true = subst (λ u. is_listed before u ≡ true) (sym it) l in
     let bad : fault rule.Twice x.place ≡ [] = rw listed at both.0 in
     let z : ⊥ = cc in z
 not_again t before (x ∷ ns) h l (suc i) n e same =
@@ -204,7 +205,7 @@ find_main all k (c ∷ cs) some = look (find is_main (methods_in c.members)) ref
 
 -- ---- its heading
 
-input_type : (cs : List ClassTree) (non_null : Bool) (n : TypeNameTree) → same_type_name n IntType ≡ true → are_main_params (record { name = []; ty = unwrap_or (array_type cs non_null n) ty.Null; captured = false } ∷ []) ≡ true
+input_type : (cs : List ClassTree) (non_null : Bool) (n : TypeNameTree) → same_type_name IntType n ≡ true → are_main_params (record { name = []; ty = unwrap_or (array_type cs non_null n) ty.Null; captured = false } ∷ []) ≡ true
 input_type cs non_null IntType h = refl
 input_type cs non_null BoolType h = absurd (false≢true h)
 input_type cs non_null ObjectType h = absurd (false≢true h)
@@ -213,7 +214,7 @@ input_type cs non_null (ClassType n) h = absurd (false≢true h)
 main_params : (e : Env) (ps : List ParamTree) → takes_input ps ≡ true → are_main_params (map param_of (map (param e) ps)) ≡ true
 main_params e [] h = refl
 main_params e (q ∷ []) h =
-    let both = and_parts q.ty.is_array (same_type_name q.ty.name IntType) h in
+    let both = and_parts q.ty.is_array (same_type_name IntType q.ty.name) h in
     rw both.0 (input_type e.scope.classes q.ty.non_null q.ty.name both.1)
 main_params e (q ∷ r ∷ qs) h = absurd (false≢true h)
 

@@ -12,7 +12,8 @@ use Rattle.ss_ast.specs.Programs.{ClassTree, ProgramTree}
 use Rattle.ss_tables.specs.Members.{ConstructorTree, constructors_in}
 use Rattle.ss_typed.specs.Tree.{BodyTree, TypedTree}
 use Rattle.ss_resolver_rules.specs.Programs.{constructor_body, written_constructor, class, members, resolved}
-use Rattle.ss_expand_rules.specs.Program.{body_at, table, method_at, members_of, constructor_in, constructor_of, Origin, Constructor, Method, is_declared_by, is_own, methods_from, bodies_of_class, bodies_from, bodies, same_origin, number_of}
+use Rattle.ss_expand_rules.specs.Program.{table, method_at, Origin, Constructor, Method, is_declared_by, is_own, methods_from, bodies_of_class, bodies_from, bodies, same_origin, number_of}
+use Rattle.ss_typed.specs.Lookups.{body_at, constructor_in, constructor_of, members_of}
 use Rattle.ss_expand_rules.specs.Constructors.{implicit_constructor}
 use Rattle.ss_expand_rules.specs.Contracts.{declarations}
 use Rattle.ss_expand_rules.specs.Bodies.{written_body, wrapper_body}

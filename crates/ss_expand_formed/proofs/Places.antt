@@ -1,10 +1,9 @@
 -- Where the classes, members and bodies of a resolved program stand.
-use Rattle.std.proofs.Common.{◌≡◌, ◌≢◌, ℕ, zero, suc, ◌+◌, ◌*◌, ◌<◌, List, [], ◌∷◌, ◌++◌, length, map, take, true, Some, refl, sym, ◌∙◌, ap, arith, length-append}
-use Rattle.std.specs.Prelude.{slice_get, option_map, sum_by}
+use Rattle.std.proofs.Common.{◌≡◌, ℕ, zero, suc, ◌+◌, ◌*◌, ◌<◌, List, [], ◌∷◌, ◌++◌, length, map, take, true, Some, refl, sym, ◌∙◌, ap, arith, length-append}
+use Rattle.std.specs.Prelude.{slice_get, option_map, option_and_then, sum_by}
 use Rattle.std.specs.List.{list_any}
 use Rattle.std.specs.Str.{bytes_eq}
 use Rattle.std.proofs.lemmas.Option.{same_Some, slice_get_within, slice_get-map}
-use Rattle.std.proofs.lemmas.Bool.{eq-eqb, ne_eqb}
 use Rattle.std.proofs.lemmas.List.{length-map}
 use Rattle.std.proofs.lemmas.List.Sums.{sum_by-cons}
 use Rattle.ss_core.specs.Tree as core
@@ -13,10 +12,10 @@ use Rattle.ss_core.proofs.Declared.{declared_at, declared_place}
 use Rattle.ss_ast.specs.Programs.{MemberTree, ClassTree, ProgramTree}
 use Rattle.ss_tables.specs.Members.{MethodTree, ConstructorTree, methods_in, constructors_in}
 use Rattle.ss_tables.specs.Classes.{members_in}
-use Rattle.ss_typed.specs.Tree.{MembersTree}
-use Rattle.ss_resolver_rules.specs.Numbers.{body_count, constructor_id, method_place, method_id, is_listed, method_names}
+use Rattle.ss_resolver_names_rules.specs.Faults.{is_listed}
+use Rattle.ss_resolver_rules.specs.Numbers.{body_count, constructor_id, method_place, method_id, method_names}
 use Rattle.ss_resolver_rules.specs.Programs.{constructor_body, method_body, bodies_of, bodies_from, each, class, members, resolved}
-use Rattle.ss_expand_rules.specs.Program.{body_at, members_from, members_of}
+use Rattle.ss_typed.specs.Lookups.{class_place, body_at, members_of}
 use Rattle.ss_expand_formed.proofs.Searching.{at_front, at_back, place_found, any-map}
 
 -- ---- classes and members
@@ -31,27 +30,20 @@ each_is f j [] i y h = absurd (let z : ⊥ = cc in z)
 each_is f j (x ∷ cs) zero y h = let n : j + 0 ≡ j = omega arith in (x, refl, rw n (sym (same_Some _ _ h)))
 each_is f j (x ∷ cs) (suc i) y h = let n : j + suc i ≡ j + 1 + i = omega arith in let r = each_is f (j + 1) cs i y h in (r.0, r.1, rw n r.2)
 
-members_from_at : (f : ℕ → ClassTree → MembersTree) (u j : ℕ) (cs : List ClassTree) (i : ℕ) (c : ClassTree) → slice_get cs i ≡ Some c → members_from u (each f j cs) (u + 2 * i) ≡ Some (f (j + i) c)
-members_from_at f u j [] i c h = absurd (let z : ⊥ = cc in z)
-members_from_at f u j (x ∷ cs) zero c h =
-    let here : u ≡ u + 2 * 0 = omega arith in
-    let n : j + 0 ≡ j = omega arith in
-    rw (eq-eqb u (u + 2 * 0) here, n) (ap (λ y. Some (f j y)) (same_Some _ _ h))
-members_from_at f u j (x ∷ cs) (suc i) c h =
-    let apart : u ≢ u + 2 * suc i = omega arith in
-    let e : u + 2 * suc i ≡ u + 2 + 2 * i = omega arith in
-    let n : j + suc i ≡ j + 1 + i = omega arith in
-    rw (ne_eqb u (u + 2 * suc i) apart, e, n) (members_from_at f (u + 2) (j + 1) cs i c h)
-
 module _ (p : ProgramTree) (k : ℕ) (c : ClassTree) (there : slice_get p.classes k ≡ Some c) where
   from_zero : 0 + k ≡ k
   from_zero = omega arith
 
-  pub members_at : members_of (resolved p) (4 + 2 * k) ≡ Some (members p.classes k c)
-  members_at = members_from_at (members p.classes) 4 0 p.classes k c there ∙ ap (λ n. Some (members p.classes n c)) from_zero
-
   pub class_at : declared (resolved p).classes (4 + 2 * k) ≡ Some (class p.classes k c)
   class_at = declared_at (resolved p).classes k ∙ each_at (class p.classes) 0 p.classes k c there ∙ ap (λ n. Some (class p.classes n c)) from_zero
+
+  pub members_at : members_of (resolved p) (4 + 2 * k) ≡ Some (members p.classes k c)
+  members_at =
+      let place : class_place (4 + 2 * k) ≡ k = omega arith in
+      ap (option_and_then (λ (x : core.ClassTree). slice_get (resolved p).members (class_place (4 + 2 * k)))) class_at
+      ∙ ap (slice_get (resolved p).members) place
+      ∙ each_at (members p.classes) 0 p.classes k c there
+      ∙ ap (λ n. Some (members p.classes n c)) from_zero
 
 -- a declared class is one of the source
 pub record IsSource (p : ProgramTree) (t : ℕ) (c : core.ClassTree) : Type 0 where

@@ -11,7 +11,8 @@ use Rattle.ss_ast.specs.Programs.{ClassTree}
 use Rattle.ss_tables.specs.Members.{MethodTree, ConstructorTree, methods_in, constructors_in}
 use Rattle.ss_typed.specs.Tree.{BodyTree, TypedTree}
 use Rattle.ss_resolver_rules.specs.Programs.{constructor_body, method_body, bodies_of, bodies_from, each}
-use Rattle.ss_expand_rules.specs.Program.{body_at, table_in, table, method_at}
+use Rattle.ss_expand_rules.specs.Program.{table_in, table, method_at}
+use Rattle.ss_typed.specs.Lookups.{body_at}
 use Rattle.ss_expand_rules.specs.Elaborated.{classes_from, elaborated}
 
 pub method_is : (p : TypedTree) (e : Option core.EntryTree) (b : BodyTree) → option_and_then (λ (x : core.EntryTree). body_at p x.body) e ≡ Some b → (n : ℕ) × (body_at p n ≡ Some b)

@@ -10,7 +10,8 @@ use Rattle.ss_ast.specs.Programs.{ClassTree, ProgramTree}
 use Rattle.ss_tables.specs.Classes.{members_at, above, steps_above, chain_from}
 use Rattle.ss_typed.specs.Tree.{TypedTree}
 use Rattle.ss_resolver_names_rules.specs.Programs.{program_faults}
-use Rattle.ss_resolver_rules.specs.Numbers.{number_or_object, names_of, is_listed, method_names, overridden, added, table_along, table}
+use Rattle.ss_resolver_names_rules.specs.Faults.{is_listed}
+use Rattle.ss_resolver_rules.specs.Numbers.{number_or_object, names_of, method_names, overridden, added, table_along, table}
 use Rattle.ss_resolver_rules.specs.Programs.{resolved}
 use Rattle.ss_expand_rules.specs.Program.{entries_from}
 use Rattle.ss_store_rules.specs.Typed.{table_of}

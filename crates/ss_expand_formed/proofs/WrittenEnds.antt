@@ -26,9 +26,9 @@ use Rattle.ss_resolver_rules.specs.Statements.{behind_first, past, declared_in, 
 use Rattle.ss_resolver_rules.specs.Programs as resolver
 use Rattle.ss_resolver_rules.specs.Programs.{method_env, bodies_of, bodies_from, resolved}
 use Rattle.ss_expand_rules.specs.Ends.{is_always, can_end, block_can_end, all_can_end}
-use Rattle.ss_typed.specs.Shapes.{is_true}
+use Rattle.ss_typed.specs.Shapes.{is_true, closing_brace as closing, in_block}
 use Rattle.ss_expand_rules.specs.Program.{table, Origin}
-use Rattle.ss_expand_rules.specs.Constructors.{implicit_constructor, before_all, in_block, constructor_stmts, closing_brace as closing}
+use Rattle.ss_expand_rules.specs.Constructors.{implicit_constructor, before_all, constructor_stmts}
 use Rattle.ss_expand_rules.specs.Bodies.{with_return, statements, setting, temporary_count, copying, code}
 use Rattle.ss_store_rules.specs.Paths.{reaches_end}
 use Rattle.ss_expand_formed.specs.Laws.{core_of, EndsInReturn}

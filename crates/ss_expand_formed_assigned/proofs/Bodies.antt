@@ -1,6 +1,6 @@
 -- Elaborated bodies read what is assigned, where the resolved ones read what is in scope.
-use Rattle.std.proofs.Common.{◌≡◌, ℕ, suc, ◌+◌, ◌≤◌, ◌<◌, List, [], ◌∷◌, ◌++◌, length, Bool, true, false, Option, Some, None, refl, ◌∙◌, ap, arith, ⊎_elim}
-use Rattle.std.specs.Prelude.{◌&&◌, ◌||◌, ◌==◌, not, nat_le, nat_lt, slice_get, unwrap_or, option_to_list, if◌then◌else◌}
+use Rattle.std.proofs.Common.{◌≡◌, ℕ, zero, suc, ◌+◌, ◌≤◌, ◌<◌, List, [], ◌∷◌, ◌++◌, length, Bool, true, false, Option, Some, None, refl, ◌∙◌, ap, arith, ⊎_elim}
+use Rattle.std.specs.Prelude.{◌&&◌, ◌||◌, not, nat_le, nat_lt, slice_get, unwrap_or, option_to_list, if◌then◌else◌}
 use Rattle.std.specs.List.{list_all}
 use Rattle.std.proofs.lemmas.Bool.{and_parts, and_from, or_left, cases_Bool, le-leb, lt-ltb, leb-true, ltb-true, false≢true}
 use Rattle.std.proofs.lemmas.List.{length-map, length-append}
@@ -14,12 +14,15 @@ use Rattle.ss_core.specs.Tree.{LocalExpr, AssignStmt, CallStmt, UnpackStmt, Pack
 use Rattle.ss_core.specs.Chain.{DeclaredField}
 use Rattle.ss_typed.specs.Tree.{ExprTree, BlockTree, BlockOf, StmtTree, StmtTrees, Before, ParamTree, BaseTree, MembersTree, BodyTree, TypedTree, ReturnOf}
 use Rattle.ss_typed.specs.Tree as typed
-use Rattle.ss_expand_rules.specs.Program.{field_at, members_from, members_of, above_of, number_in_table}
+use Rattle.ss_expand_rules.specs.Program.{field_at, above_of, number_in_table}
+use Rattle.ss_typed.specs.Lookups.{members_of}
+use Rattle.ss_typed.proofs.ByClass.{of_members}
 use Rattle.ss_expand_rules.specs.Numbers.{number}
 use Rattle.ss_expand_rules.specs.Contracts.{first_param}
 use Rattle.ss_expand_rules.specs.Lifting.{Pure, Called}
-use Rattle.ss_expand_rules.specs.Constructors.{before_all, in_block, closing_brace, initialize, initializers_from, initializers_in, is_initial, behind_initial, base_alone, with_base, constructor_stmts}
-use Rattle.ss_typed.specs.Shapes.{has_base}
+use Rattle.ss_paths.specs.Opening.{is_first}
+use Rattle.ss_expand_rules.specs.Constructors.{before_all, initialize, initializers_from, initializers_in, behind_initial, base_alone, with_base, constructor_stmts}
+use Rattle.ss_typed.specs.Shapes.{closing_brace, in_block, has_base}
 use Rattle.ss_expand_rules.specs.Bodies.{block_assigns, this_meant, meant_from, first_copy, meant, numbers, copying_from, copying, with_return, statements, setting, code_with, temporary_count, written_body, own_params, wrapper_result, returned, first_of_wrapper, wrapper_body, param_of}
 use Rattle.ss_store_rules.specs.Locals.{this_types, types_of, local_types, argument_count, is_argument}
 use Rattle.ss_store_rules.specs.Assigned.{reads_what_is_assigned}
@@ -63,13 +66,23 @@ module _ (own : ℕ → Bool) where
     behind_read m t b typed.NoMore h = refl
     behind_read m t b (Before x xs) h =
         let both = and_parts (stmt_reads own m x) (all_read own (behind m x) xs) h in
-        on_either (λ (z : StmtTrees). all_read own m z ≡ true) (is_initial p t x) (Before x (behind_initial p t (base_alone b) xs)) (Before (base_alone b) (Before x xs)) (and_from _ _ both.0 (behind_read (behind m x) t b xs both.1)) h
+        on_either (λ (z : StmtTrees). all_read own m z ≡ true) (is_first p t x) (Before x (behind_initial p t (base_alone b) xs)) (Before (base_alone b) (Before x xs)) (and_from _ _ both.0 (behind_read (behind m x) t b xs both.1)) h
 
     with_base_read : (m : May) (b : BodyTree) (base : Option BaseTree) → base_read m base ≡ true → (ss : StmtTrees) → all_read own m ss ≡ true → all_read own m (with_base p b base ss) ≡ true
     with_base_read m b (Some base) g ss h = and_from _ _ g h
     with_base_read m b None g ss h =
         on_either (λ (z : StmtTrees). all_read own m z ≡ true) (has_base ss) ss (if b.flags.delayed then Before (base_alone b) ss else behind_initial p b.class (base_alone b) ss) h
         (on_either (λ (z : StmtTrees). all_read own m z ≡ true) b.flags.delayed (Before (base_alone b) ss) (behind_initial p b.class (base_alone b) ss) h (behind_read m b.class b ss h))
+
+    abbrev may_members : Option MembersTree → Bool
+    may_members None = true
+    may_members (Some c) = members_read c
+
+    members_found : (cs : List MembersTree) (i : ℕ) → list_all members_read cs ≡ true → may_members (slice_get cs i) ≡ true
+    members_found [] zero h = refl
+    members_found [] (suc i) h = refl
+    members_found (c ∷ cs) zero h = (and_parts (members_read c) (list_all members_read cs) h).0
+    members_found (c ∷ cs) (suc i) h = members_found cs i (and_parts (members_read c) (list_all members_read cs) h).1
 
     module _ (m : May) (this : m.this ≡ true) (more : StmtTrees) (behind_them : all_read own m more ≡ true) where
       one_read : (t n : ℕ) (f : typed.FieldTree) (e : Option ExprTree) → may_read in_class e ≡ true → (d : Option DeclaredField) (rest : StmtTrees) → all_read own m (before_all rest more) ≡ true → all_read own m (before_all (initialize t n f e d rest) more) ≡ true
@@ -83,19 +96,9 @@ module _ (own : ℕ → Bool) where
           let both = and_parts (may_read in_class f.initial) (list_all (λ (z : typed.FieldTree). may_read in_class z.initial) fs) h in
           one_read t n f f.initial both.0 (field_at p n) (initializers_from p t (n + 1) fs) (fields_read t (n + 1) fs both.1)
 
-      abbrev may_members : Option MembersTree → Bool
-      may_members None = true
-      may_members (Some c) = members_read c
-
       initial_read : (t : ℕ) (c : Option MembersTree) → may_members c ≡ true → all_read own m (before_all (initializers_in p t c) more) ≡ true
       initial_read t None h = behind_them
       initial_read t (Some c) h = fields_read t _ c.fields h
-
-      members_found : (t : ℕ) (cs : List MembersTree) (u : ℕ) → list_all members_read cs ≡ true → may_members (members_from t cs u) ≡ true
-      members_found t [] u h = refl
-      members_found t (c ∷ cs) u h =
-          let both = and_parts (members_read c) (list_all members_read cs) h in
-          on_either (λ (z : Option MembersTree). may_members z ≡ true) (t == u) (Some c) (members_from (t + 2) cs u) both.0 (members_found (t + 2) cs u both.1)
 
     statements_read : (m : May) (b : BodyTree) → list_all members_read p.members ≡ true → (b.flags.ctor ≡ true → m.this ≡ true) → base_read m b.base ≡ true → block_reads own m b.block ≡ true → all_read own m (statements p b) ≡ true
     statements_read m b ms this base h =
@@ -107,7 +110,7 @@ module _ (own : ℕ → Bool) where
         ctor_read true i inner =
             let ss = with_base p b b.base (in_block b.block) in
             let last = with_base_read m b b.base base (in_block b.block) inner in
-            initial_read m (i refl) ss last b.class (members_of p b.class) (members_found m (i refl) ss last 4 p.members b.class ms)
+            initial_read m (i refl) ss last b.class (members_of p b.class) (of_members (λ (z : Option MembersTree). may_members z ≡ true) refl p b.class (λ j. members_found p.members j ms))
         ctor_read false i inner = inner
 
 -- ---- numbers

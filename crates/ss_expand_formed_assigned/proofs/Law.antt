@@ -36,7 +36,9 @@ use Rattle.ss_resolver_types_expressions.specs.Statements as types
 use Rattle.ss_resolver_types_expressions.specs.Members as members_of
 use Rattle.ss_resolver_types_expressions.specs.Programs as types_of
 use Rattle.ss_resolver_types_expressions.specs.Programs.{type_faults}
-use Rattle.ss_resolver_rules.specs.Names.{Known, Variable, BoundName, Env, known, class_env, declare_param, declare_params}
+use Rattle.ss_resolver_rules.specs.Names.{Env, known, class_env, declare_param, declare_params}
+use Rattle.ss_resolver_rules.specs.declared.known.Known.{Known}
+use Rattle.ss_resolver_rules.specs.declared.known.Known.TheVariants.{Variable, BoundName}
 use Rattle.ss_resolver_rules.specs.Numbers.{type_id}
 use Rattle.ss_resolver_rules.specs.Expressions.{expr}
 use Rattle.ss_resolver_rules.specs.Statements.{block}

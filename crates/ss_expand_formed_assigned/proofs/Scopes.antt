@@ -16,7 +16,10 @@ use Rattle.ss_tables.specs.Words.{is_state_read}
 use Rattle.ss_tables.specs.Statics.{Receiver, TheConsole, TheOwner, TheBase, AClass, AValue, Callee, AMethod, APrint, AWord, ABase, NoCallee, receiver, static, name_callee, member_callee, result_type}
 use Rattle.ss_typed.specs.Tree.{ExprTree, LengthOf, StateOf, OwnersOf, StaticOf, CallOf}
 use Rattle.ss_typed.specs.Tree as typed
-use Rattle.ss_resolver_rules.specs.Names.{Known, Variable, BoundName, Known_names, Env, known_in, known_among, known, with_known, enter, declare, declare_all, within}
+use Rattle.ss_resolver_rules.specs.Names.{Known_names, Env, known, enter, declare, declare_all, within}
+use Rattle.ss_resolver_rules.specs.declared.known.Known.{Known}
+use Rattle.ss_resolver_rules.specs.declared.known.Known.TheVariants.{Variable, BoundName}
+use Rattle.ss_tables.specs.Named.{named_in, named_among, with_named}
 use Rattle.ss_resolver_rules.specs.Numbers.{type_id, class_in, method_id, table_place}
 use Rattle.ss_resolver_rules.specs.Expressions.{this, read_field, known_or_field, field_behind, state_word, third_class, member, method_call, base_call, owner_question, call_of, question, called_behind, called_bare, expr, call, args}
 use Rattle.ss_resolver_rules.specs.Statements as rules
@@ -98,12 +101,12 @@ has m (Some (Variable x t)) = m.locals x
 has m (Some (BoundName k)) = true
 
 -- one more name of an innermost scope
-pub known_append : (ls : Known_names) (x : List ℕ) (k : Known) (n : List ℕ) → known_in (ls ++ (x, k) ∷ []) n ≡ or_else (known_in ls n) (if bytes_eq n x then Some k else None)
+pub known_append : (ls : Known_names) (x : List ℕ) (k : Known) (n : List ℕ) → named_in (ls ++ (x, k) ∷ []) n ≡ or_else (named_in ls n) (if bytes_eq n x then Some k else None)
 known_append [] x k n = refl
 known_append (l ∷ ls) x k n = by (bytes_eq n l.0) (known_append ls x k n)
   where
-    by : (b : Bool) → known_in (ls ++ (x, k) ∷ []) n ≡ or_else (known_in ls n) (if bytes_eq n x then Some k else None) →
-        (if b then Some l.1 else known_in (ls ++ (x, k) ∷ []) n) ≡ or_else (if b then Some l.1 else known_in ls n) (if bytes_eq n x then Some k else None)
+    by : (b : Bool) → named_in (ls ++ (x, k) ∷ []) n ≡ or_else (named_in ls n) (if bytes_eq n x then Some k else None) →
+        (if b then Some l.1 else named_in (ls ++ (x, k) ∷ []) n) ≡ or_else (if b then Some l.1 else named_in ls n) (if bytes_eq n x then Some k else None)
     by true h = refl
     by false h = h
 
@@ -121,12 +124,12 @@ module _ (m : May) (next : ℕ) (t : Ty) (outer : Option Known) where
   either_has (Some k) new h g = has_more m next (Some k) h
   either_has None new h g = g h
 
-  one_has : (ls : Known_names) (x n : List ℕ) → has m (or_else (known_in ls n) outer) ≡ true → has (with_local m next) (or_else (known_in (with_known ls x (Variable next t)) n) outer) ≡ true
+  one_has : (ls : Known_names) (x n : List ℕ) → has m (or_else (named_in ls n) outer) ≡ true → has (with_local m next) (or_else (named_in (with_named ls x (Variable next t)) n) outer) ≡ true
   one_has ls x n h =
-      on_either (λ (z : Known_names). has (with_local m next) (or_else (known_in z n) outer) ≡ true) (is_some (known_in ls x)) ls (ls ++ (x, Variable next t) ∷ [])
-      (has_more m next (or_else (known_in ls n) outer) h)
+      on_either (λ (z : Known_names). has (with_local m next) (or_else (named_in z n) outer) ≡ true) (is_some (named_in ls x)) ls (ls ++ (x, Variable next t) ∷ [])
+      (has_more m next (or_else (named_in ls n) outer) h)
       (subst (λ k. has (with_local m next) (or_else k outer) ≡ true) (sym (known_append ls x (Variable next t) n))
-      (either_has (known_in ls n) (if bytes_eq n x then Some (Variable next t) else None) h (new_has (bytes_eq n x))))
+      (either_has (named_in ls n) (if bytes_eq n x then Some (Variable next t) else None) h (new_has (bytes_eq n x))))
 
 module _ (low : ℕ) where
   -- `this`, `result` and every variable in scope may be read, and more locals are behind the arguments
@@ -155,7 +158,7 @@ module _ (low : ℕ) where
   pub one_scoped : (m : May) (e : Env) (t : TypeTree) (x : NameTree) → Scoped m e → Scoped (with_local m e.next) (declare e t x)
   one_scoped m e t x h =
       let l = h.above in
-      record { this = h.this; result = h.result; names = λ n. one_has m e.next (type_id e.scope.classes t) (known_among e.outer n) e.inner x.text n (h.names n); above = omega arith }
+      record { this = h.this; result = h.result; names = λ n. one_has m e.next (type_id e.scope.classes t) (named_among e.outer n) e.inner x.text n (h.names n); above = omega arith }
 
   -- ---- expressions
 

@@ -15,10 +15,13 @@ use Rattle.ss_ast.specs.Programs.{ParamTree}
 use Rattle.ss_tables.specs.Classes.{or_else}
 use Rattle.ss_tables.specs.Types.{written_type}
 use Rattle.ss_tables.specs.Scopes as scopes
-use Rattle.ss_tables.specs.Scopes.{Local, Locals, Scope, local_in, local_among, with_local as with_name, declare_local, behind_init}
+use Rattle.ss_tables.specs.Scopes.{Local, Locals, Scope, declare_local, behind_init}
+use Rattle.ss_tables.specs.Named.{named_in, with_named}
 use Rattle.ss_tables.specs.Statics.{Receiver, TheConsole, TheOwner, TheBase, AClass, AValue, receiver, static, count}
 use Rattle.ss_typed.specs.Tree.{ExprTree, DeclaratorTree, StmtTree, DeclareOf, InitTree, DeclareFirst, SimpleFirst}
-use Rattle.ss_resolver_rules.specs.Names.{Known as Name, Variable, Known_names, Env, known_in, with_known, enter, declare, declare_all, declare_param, declare_params}
+use Rattle.ss_resolver_rules.specs.Names.{Known_names, Env, enter, declare, declare_all, declare_param, declare_params}
+use Rattle.ss_resolver_rules.specs.declared.known.Known.{Known as Name}
+use Rattle.ss_resolver_rules.specs.declared.known.Known.TheVariants.{Variable}
 use Rattle.ss_resolver_rules.specs.Numbers.{type_id}
 use Rattle.ss_resolver_rules.specs.Expressions.{expr, args}
 use Rattle.ss_resolver_rules.specs.Statements as rules
@@ -43,28 +46,28 @@ use Rattle.ss_expand_formed_assigned.proofs.Statics.{quiet, refusing, Match, eit
 
 -- ---- names in scope
 
-local_append : (ls : Locals) (x : List ℕ) (l : Local) (n : List ℕ) → local_in (ls ++ (x, l) ∷ []) n ≡ or_else (local_in ls n) (if bytes_eq n x then Some l else None)
+local_append : (ls : Locals) (x : List ℕ) (l : Local) (n : List ℕ) → named_in (ls ++ (x, l) ∷ []) n ≡ or_else (named_in ls n) (if bytes_eq n x then Some l else None)
 local_append [] x l n = refl
 local_append (k ∷ ls) x l n = by (bytes_eq n k.0) (local_append ls x l n)
   where
-    by : (b : Bool) → local_in (ls ++ (x, l) ∷ []) n ≡ or_else (local_in ls n) (if bytes_eq n x then Some l else None) →
-        (if b then Some k.1 else local_in (ls ++ (x, l) ∷ []) n) ≡ or_else (if b then Some k.1 else local_in ls n) (if bytes_eq n x then Some l else None)
+    by : (b : Bool) → named_in (ls ++ (x, l) ∷ []) n ≡ or_else (named_in ls n) (if bytes_eq n x then Some l else None) →
+        (if b then Some k.1 else named_in (ls ++ (x, l) ∷ []) n) ≡ or_else (if b then Some k.1 else named_in ls n) (if bytes_eq n x then Some l else None)
     by true h = refl
     by false h = h
 
-module _ (ls : Known_names) (ks : Locals) (x : List ℕ) (k : Name) (l : Local) (h : (n : List ℕ) → is_some (known_in ls n) ≡ is_some (local_in ks n)) where
+module _ (ls : Known_names) (ks : Locals) (x : List ℕ) (k : Name) (l : Local) (h : (n : List ℕ) → is_some (named_in ls n) ≡ is_some (named_in ks n)) where
   new_some : (b : Bool) → is_some (if b then Some k else None) ≡ is_some (if b then Some l else None)
   new_some true = refl
   new_some false = refl
 
-  one_inner : (n : List ℕ) → is_some (known_in (with_known ls x k) n) ≡ is_some (local_in (with_name ks x l) n)
-  one_inner n = by (is_some (known_in ls x)) ∙ ap (λ b. is_some (local_in (if b then ks else ks ++ (x, l) ∷ []) n)) (h x)
+  one_inner : (n : List ℕ) → is_some (named_in (with_named ls x k) n) ≡ is_some (named_in (with_named ks x l) n)
+  one_inner n = by (is_some (named_in ls x)) ∙ ap (λ b. is_some (named_in (if b then ks else ks ++ (x, l) ∷ []) n)) (h x)
     where
-      by : (b : Bool) → is_some (known_in (if b then ls else ls ++ (x, k) ∷ []) n) ≡ is_some (local_in (if b then ks else ks ++ (x, l) ∷ []) n)
+      by : (b : Bool) → is_some (named_in (if b then ls else ls ++ (x, k) ∷ []) n) ≡ is_some (named_in (if b then ks else ks ++ (x, l) ∷ []) n)
       by true = h n
       by false =
           ap is_some (known_append ls x k n)
-          ∙ either_some (known_in ls n) (if bytes_eq n x then Some k else None) (local_in ks n) (if bytes_eq n x then Some l else None) (h n) (new_some (bytes_eq n x))
+          ∙ either_some (named_in ls n) (if bytes_eq n x then Some k else None) (named_in ks n) (if bytes_eq n x then Some l else None) (h n) (new_some (bytes_eq n x))
           ∙ sym (ap is_some (local_append ks x l n))
 
 declare_match : (e : Env) (t : TypeTree) (x : NameTree) → Match e → Match (declare e t x)

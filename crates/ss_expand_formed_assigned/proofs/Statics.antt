@@ -15,12 +15,15 @@ use Rattle.ss_tables.specs.Members.{FieldTree, MethodTree, is_static}
 use Rattle.ss_tables.specs.Classes.{Declared, or_else, class_named, field_of, method_of, is_array_number, declared_place}
 use Rattle.ss_tables.specs.Types.{class_of, element_type}
 use Rattle.ss_tables.specs.Words.{is_console, is_owner, is_print, is_owner_word, is_state_read, is_state_call, is_state_word, is_length}
-use Rattle.ss_tables.specs.Scopes.{Local, Scope, local_in, local_among, local_named}
+use Rattle.ss_tables.specs.Scopes.{Local, Scope, local_named}
+use Rattle.ss_tables.specs.Named.{named_in, named_among}
 use Rattle.ss_tables.specs.Statics.{Receiver, TheConsole, TheOwner, TheBase, AClass, AValue, Callee, AMethod, APrint, AWord, NoCallee, is_member, is_of_kind, may_have_levels, constructor_params, receiver, static, count, type_of_local, type_of_field, unless_refused, read_type, method_callee, member_callee, owner_count, called_with, call_type}
 use Rattle.ss_faults.specs.declared.Fault.{Fault}
 use Rattle.ss_typed.specs.Tree.{ExprTree, OwnersOf}
 use Rattle.ss_typed.specs.Tree as typed
-use Rattle.ss_resolver_rules.specs.Names.{Known, Variable, BoundName, Env, known_in, known_among, known, enter, within}
+use Rattle.ss_resolver_rules.specs.Names.{Env, known, enter, within}
+use Rattle.ss_resolver_rules.specs.declared.known.Known.{Known}
+use Rattle.ss_resolver_rules.specs.declared.known.Known.TheVariants.{Variable, BoundName}
 use Rattle.ss_resolver_rules.specs.Numbers.{class_in}
 use Rattle.ss_resolver_rules.specs.Expressions.{this, read_field, known_or_field, third_class, owner_question, called_behind, called_bare, expr, args}
 use Rattle.ss_resolver_types_expressions.specs.Faults.{bad_type, fault_where}
@@ -43,8 +46,8 @@ refusing s = record s { refuses_members = true; refuses_this = true }
 
 -- a name in scope is one for the resolver too
 pub record Match (e : Env) : Type 0 where
-  pub inner : (n : List ℕ) → is_some (known_in e.inner n) ≡ is_some (local_in e.scope.inner n)
-  pub outer : (n : List ℕ) → is_some (known_among e.outer n) ≡ is_some (local_among e.scope.outer n)
+  pub inner : (n : List ℕ) → is_some (named_in e.inner n) ≡ is_some (named_in e.scope.inner n)
+  pub outer : (n : List ℕ) → is_some (named_among e.outer n) ≡ is_some (named_among e.scope.outer n)
 
 pub either_some : {A B : Type 0} (a c : Option A) (b d : Option B) → is_some a ≡ is_some b → is_some c ≡ is_some d → is_some (or_else a c) ≡ is_some (or_else b d)
 either_some (Some a) c (Some b) d h g = refl
@@ -53,7 +56,7 @@ either_some (Some a) c None d h g = absurd (false≢true (sym h))
 either_some None c (Some b) d h g = absurd (false≢true h)
 
 matched : (e : Env) → Match e → (n : List ℕ) → is_some (known e n) ≡ is_some (local_named e.scope n)
-matched e h n = either_some (known_in e.inner n) (known_among e.outer n) (local_in e.scope.inner n) (local_among e.scope.outer n) (h.inner n) (h.outer n)
+matched e h n = either_some (named_in e.inner n) (named_among e.outer n) (named_in e.scope.inner n) (named_among e.scope.outer n) (h.inner n) (h.outer n)
 
 pub enter_match : (e : Env) → Match e → Match (enter e)
 enter_match e h = record { inner = λ n. refl; outer = matched e h }

@@ -1,5 +1,5 @@
 -- Each body of a resolved program without faults of types has no `base(..)`, or is a constructor that begins with one.
-use Rattle.std.proofs.Common.{◌≡◌, ℕ, ◌+◌, ◌*◌, List, [], ◌++◌, true, false, Some, None, Option, refl, sym, subst, inl, inr, ◌⊎◌}
+use Rattle.std.proofs.Common.{◌≡◌, ◌∙◌, ℕ, ◌+◌, ◌*◌, List, [], ◌++◌, true, false, Some, None, Option, refl, sym, subst, inl, inr, ◌⊎◌}
 use Rattle.std.specs.Prelude.{◌||◌, slice_get, option_map, is_some, is_none}
 use Rattle.ss_core.specs.declared.names.Place.{Place}
 use Rattle.ss_ast.specs.Statements as written
@@ -16,20 +16,21 @@ use Rattle.ss_resolver_rules.specs.Programs as resolver
 use Rattle.ss_resolver_types_expressions.specs.Statements.{block_faults}
 use Rattle.ss_resolver_types_expressions.specs.Members.{title_faults, params_faults, written_base, implied_base, block_calls_base, clauses_faults, constructor_body, constructor_block, result_faults, method_body, method_scope, end_faults}
 use Rattle.ss_resolver_types_expressions.specs.Programs.{type_faults}
-use Rattle.ss_expand_rules.specs.Program.{body_at}
-use Rattle.ss_expand_rules.specs.Constructors.{in_block, initializers, is_initial, with_base, implicit_constructor}
+use Rattle.ss_typed.specs.Lookups.{body_at}
+use Rattle.ss_expand_rules.specs.Constructors.{initializers, with_base, implicit_constructor}
+use Rattle.ss_typed.specs.Shapes.{in_block}
 use Rattle.ss_expand_formed.proofs.Facts.{none_left}
 use Rattle.ss_expand_formed_construction.proofs.Statements.{InAll}
 use Rattle.ss_expand_formed_construction.proofs.Free.{Anything}
 use Rattle.ss_expand_formed_construction.proofs.Bases.{Free, block_free, no_more_first, none_or_one}
-use Rattle.ss_expand_formed_construction.proofs.Begins.{Begins, BeginsWhole, base_or, with_base_begins, constructor_begins}
+use Rattle.ss_expand_formed_construction.proofs.Begins.{Begins, BeginsWhole, Owned, base_or, with_base_begins, constructor_begins}
 use Rattle.ss_expand_formed_construction.proofs.OwnFields.{OnlyOwn, initializers_own}
 use Rattle.ss_expand_formed_construction.proofs.FirstFields.{in_constructor, before_own}
-use Rattle.ss_expand_formed_construction.proofs.Numbering.{same_first}
+use Rattle.ss_expand_formed_construction.proofs.Numbering.{same_fields}
 use Rattle.ss_expand_formed.proofs.Places.{source_of}
 use Rattle.ss_core.specs.Tree as core
 use Rattle.ss_core.specs.Chain.{declared}
-use Rattle.ss_delayed_rules.specs.Opening.{is_first, before_base, opening_of}
+use Rattle.ss_delayed_rules.specs.Opening.{before_base, opening_of}
 use Rattle.ss_delayed_rules.specs.Constructors.{arguments_of}
 use Rattle.ss_expand_formed_construction.proofs.Sources.{of_each, constructor_none, method_none}
 
@@ -46,17 +47,20 @@ pub record Builds (p : TypedTree) (b : BodyTree) : Type 0 where
 abbrev pub IsBuilt : TypedTree → BodyTree → Type 0
 IsBuilt p b = BuildsNothing b ⊎ Builds p b
 
+number_owned : (q : TypedTree) (k : ℕ) → Owned q (4 + 2 * k)
+number_owned q k f h = same_fields q k f ∙ h
+
 block_begins : (p : ProgramTree) (k : ℕ) (c : ClassTree) → slice_get p.classes k ≡ Some c → (ps : List ParamTree) (base : Option BaseCallTree) (x : written.BlockTree) (b : BodyTree) → b.class ≡ 4 + 2 * k → constructor_block k (param_scope p.classes k ps) (is_none base) x ≡ [] →
     Begins (resolved p) b (opening_of (resolved p) b.class (option_map (base_of (param_env p.classes k false ps)) base) (in_block (block (param_env p.classes k false ps) x))) (arguments_of (base_or (option_map (base_of (param_env p.classes k false ps)) base) (in_block (block (param_env p.classes k false ps) x)))) NoMore (in_block (block (param_env p.classes k false ps) x)) (with_base (resolved p) b (option_map (base_of (param_env p.classes k false ps)) base) (in_block (block (param_env p.classes k false ps) x)))
 block_begins p k c at ps None (written.BlockOf q xs z) b is h =
     let s = scopes.enter (param_scope p.classes k ps) in
     let e = names.enter (param_env p.classes k false ps) in
-    with_base_begins (resolved p) b (λ x. subst (λ t. is_initial (resolved p) t x ≡ is_first (resolved p) t x) (sym is) (same_first (resolved p) k x)) None (stmts e xs) (λ n. none_or_one k s e xs h)
+    with_base_begins (resolved p) b (subst (Owned (resolved p)) (sym is) (number_owned (resolved p) k)) None (stmts e xs) (λ n. none_or_one k s e xs h)
     (λ n found. subst (λ t. OnlyOwn (resolved p) t (before_base (stmts e xs))) (sym is) (before_own p k c at e s (in_constructor p k ps) xs h found)) (λ o i. absurd (let y : ⊥ = cc in y))
 block_begins p k c at ps (Some base) (written.BlockOf q xs z) b is h =
     let s = scopes.enter (param_scope p.classes k ps) in
     let e = names.enter (param_env p.classes k false ps) in
-    with_base_begins (resolved p) b (λ x. subst (λ t. is_initial (resolved p) t x ≡ is_first (resolved p) t x) (sym is) (same_first (resolved p) k x)) (Some (base_of (param_env p.classes k false ps) base)) (stmts e xs) (λ n. absurd (let y : ⊥ = cc in y))
+    with_base_begins (resolved p) b (subst (Owned (resolved p)) (sym is) (number_owned (resolved p) k)) (Some (base_of (param_env p.classes k false ps) base)) (stmts e xs) (λ n. absurd (let y : ⊥ = cc in y))
     (λ n. absurd (let y : ⊥ = cc in y)) (λ o i. no_more_first k s e xs h)
 
 module _ (p : ProgramTree) (none : type_faults p ≡ []) where
@@ -89,5 +93,5 @@ implicit_built p t y there q =
       static = refl;
       result = refl;
       begins = constructor_begins (resolved p) b own
-          (with_base_begins (resolved p) b (λ x. subst (λ u. is_initial (resolved p) u x ≡ is_first (resolved p) u x) (sym s.number) (same_first (resolved p) s.place x)) None (in_block b.block) (λ n. inl tt) (λ n found. tt) (λ o i. absurd (let z : ⊥ = cc in z)));
+          (with_base_begins (resolved p) b (subst (Owned (resolved p)) (sym s.number) (number_owned (resolved p) s.place)) None (in_block b.block) (λ n. inl tt) (λ n found. tt) (λ o i. absurd (let z : ⊥ = cc in z)));
     }

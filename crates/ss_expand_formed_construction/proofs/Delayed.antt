@@ -1,5 +1,5 @@
 -- What the elaboration calls above a class, and whether that is delayed, is what a formed program takes it for.
-use Rattle.std.proofs.Common.{◌≡◌, ℕ, zero, suc, ◌+◌, ◌*◌, ◌<◌, ◌≤◌, List, [], ◌∷◌, length, Bool, true, false, Option, Some, None, refl, sym, ◌∙◌, ap, subst, arith, ⊎_elim}
+use Rattle.std.proofs.Common.{◌≡◌, ℕ, zero, suc, ◌+◌, ◌*◌, ◌<◌, List, [], ◌∷◌, length, Bool, true, false, Option, Some, None, refl, sym, ◌∙◌, ap, subst, arith, ⊎_elim}
 use Rattle.std.specs.Prelude.{◌||◌, ◌==◌, slice_get, find, filter_map, option_map, option_and_then, if◌then◌else◌}
 use Rattle.std.specs.List.{cons_option}
 use Rattle.std.proofs.lemmas.Bool.{cases_Bool, ne_eqb}
@@ -7,13 +7,14 @@ use Rattle.ss_core.specs.Chain as chain
 use Rattle.ss_ast.specs.Programs.{ClassTree, ProgramTree}
 use Rattle.ss_tables.specs.Members.{ConstructorTree, constructors_in}
 use Rattle.ss_tables.specs.Classes.{above}
-use Rattle.ss_typed.specs.Tree.{MembersTree}
 use Rattle.ss_resolver_rules.specs.Numbers.{number_or_object}
 use Rattle.ss_resolver_rules.specs.Programs.{class, members, resolved}
 use Rattle.ss_resolver_rules.specs.Programs as resolver
 use Rattle.ss_resolver_names_rules.specs.Programs.{program_faults}
-use Rattle.ss_expand_rules.specs.Program.{above_of, body_at, members_from, members_of, constructor_in, constructor_of, Constructor, bodies, same_origin}
-use Rattle.ss_expand_rules.specs.Simple.{is_delayed_in, has_delayed_constructor}
+use Rattle.ss_expand_rules.specs.Program.{above_of, Constructor, bodies, same_origin}
+use Rattle.ss_typed.specs.Lookups.{body_at, constructor_in, constructor_of, members_of}
+use Rattle.ss_typed.specs.Constructors.{is_delayed_body}
+use Rattle.ss_expand_rules.specs.Simple.{has_delayed_constructor}
 use Rattle.ss_expand_rules.specs.Elaborated.{implicit_in, or_implicit, constructor_alone, body_of}
 use Rattle.ss_store_rules.specs.Typed.{is_constructor_of}
 use Rattle.ss_store_rules.specs.Typed as store
@@ -42,14 +43,9 @@ tree_at [] k l = absurd (omega arith)
 tree_at (c ∷ cs) zero l = (c, refl)
 tree_at (c ∷ cs) (suc k) l = tree_at cs k (omega arith)
 
--- `object` has no members
-object_without : (t : ℕ) (ms : List MembersTree) → 4 ≤ t → members_from t ms 0 ≡ None
-object_without t [] l = refl
-object_without t (m ∷ ms) l = rw (ne_eqb t 0 (λ e. omega arith)) (object_without (t + 2) ms (omega arith))
-
 -- the constructor of `object` counts as delayed
 pub ready_below_object : (p : ProgramTree) → has_delayed_constructor (resolved p) 0 ≡ true
-ready_below_object p = ap (λ m. is_delayed_in (constructor_in (resolved p) m)) (object_without 4 (resolved p).members (omega arith))
+ready_below_object p = refl
 
 module _ (p : ProgramTree) (faultless : program_faults p ≡ []) where
   constructor_found : (j : ℕ) (c : ClassTree) → slice_get p.classes j ≡ Some c → store.constructor_of (core_of p) (4 + 2 * j) ≡ body_of (resolved p) (Constructor (4 + 2 * j))
@@ -60,14 +56,14 @@ module _ (p : ProgramTree) (faultless : program_faults p ≡ []) where
       ∙ ap (option_and_then (body_of (resolved p))) (f.1 ∙ ap Some (same_is o f.0 f.2))
 
   by_written : (j : ℕ) (c : ClassTree) → slice_get p.classes j ≡ Some c → (ds : List ConstructorTree) → constructors_in c.members ≡ ds →
-      is_delayed_constructor (option_map (constructor_alone (resolved p)) (or_implicit (resolved p) (4 + 2 * j) (option_and_then (body_at (resolved p)) (resolver.written_constructor p.classes j ds)))) ≡ is_delayed_in (option_and_then (body_at (resolved p)) (resolver.written_constructor p.classes j ds))
+      is_delayed_constructor (option_map (constructor_alone (resolved p)) (or_implicit (resolved p) (4 + 2 * j) (option_and_then (body_at (resolved p)) (resolver.written_constructor p.classes j ds)))) ≡ is_delayed_body (option_and_then (body_at (resolved p)) (resolver.written_constructor p.classes j ds))
   by_written j c at [] is =
       let t = 4 + 2 * j in
       ap (λ o. is_delayed_constructor (option_map (constructor_alone (resolved p)) (implicit_in t o (members_of (resolved p) t)))) (class_at p j c at)
       ∙ ap (λ o. is_delayed_constructor (option_map (constructor_alone (resolved p)) (implicit_in t (Some (class p.classes j c)) o))) (members_at p j c at)
   by_written j c at (d ∷ ds) is =
       let b = constructor_at p j c at d ds is in
-      ap (λ o. is_delayed_constructor (option_map (constructor_alone (resolved p)) (or_implicit (resolved p) (4 + 2 * j) o))) b ∙ ap is_delayed_in (sym b)
+      ap (λ o. is_delayed_constructor (option_map (constructor_alone (resolved p)) (or_implicit (resolved p) (4 + 2 * j) o))) b ∙ ap is_delayed_body (sym b)
 
   class_delayed : (j : ℕ) (c : ClassTree) → slice_get p.classes j ≡ Some c → is_delayed_constructor (store.constructor_of (core_of p) (4 + 2 * j)) ≡ has_delayed_constructor (resolved p) (4 + 2 * j)
   class_delayed j c at =
@@ -76,14 +72,14 @@ module _ (p : ProgramTree) (faultless : program_faults p ≡ []) where
       ap is_delayed_constructor (constructor_found j c at)
       ∙ ap (λ o. is_delayed_constructor (option_map (constructor_alone (resolved p)) (or_implicit (resolved p) t o))) ours
       ∙ by_written j c at (constructors_in c.members) refl
-      ∙ ap is_delayed_in (sym ours)
+      ∙ ap is_delayed_body (sym ours)
 
   over : (k : ℕ) → k < length p.classes → above_of (resolved p) (4 + 2 * k) ≡ number_or_object (above p.classes k)
   over k l = let c = tree_at p.classes k l in ap chain.above_of (class_at p k c.0 c.1)
 
   -- the constructor above, where that of `object` counts as delayed
   delayed_above : (k : ℕ) → k < length p.classes → (o : Option ℕ) → above p.classes k ≡ o → (number_or_object o == 0 || is_delayed_constructor (store.constructor_of (core_of p) (number_or_object o))) ≡ has_delayed_constructor (resolved p) (number_or_object o)
-  delayed_above k l None e = ap (λ m. is_delayed_in (constructor_in (resolved p) m)) (sym (object_without 4 (resolved p).members (omega arith)))
+  delayed_above k l None e = refl
   delayed_above k l (Some j) e =
       let c = tree_at p.classes j (above_within p.classes k j e) in
       ap (λ b. b || is_delayed_constructor (store.constructor_of (core_of p) (4 + 2 * j))) (ne_eqb (4 + 2 * j) 0 (λ z. omega arith)) ∙ class_delayed j c.0 c.1

@@ -5,7 +5,7 @@ use Rattle.std.proofs.lemmas.Bool.{cases_Bool, and_from, or_left, or_right}
 use Rattle.std.proofs.lemmas.Option.{same_Some}
 use Rattle.ss_core.specs.declared.names.Place.{Place}
 use Rattle.ss_core.specs.Tree as core
-use Rattle.ss_core.specs.Chain.{declared, DeclaredField, all_fields}
+use Rattle.ss_core.specs.Chain.{declared, DeclaredField}
 use Rattle.ss_core.specs.View.{code_of}
 use Rattle.ss_ast.specs.Expressions as text
 use Rattle.ss_ast.specs.Programs.{ParamTree, BaseCallTree, ClassTree, ProgramTree}
@@ -19,11 +19,14 @@ use Rattle.ss_delayed_rules.specs.Program.{initializers_faults, implied_faults, 
 use Rattle.ss_resolver_rules.specs.Names.{Env, class_env}
 use Rattle.ss_resolver_rules.specs.Expressions.{expr}
 use Rattle.ss_resolver_rules.specs.Programs.{base_of, param_env, constructor_body, field_member, members, resolved}
-use Rattle.ss_expand_rules.specs.Program.{field_at, above_of, body_at, table, Origin}
+use Rattle.ss_expand_rules.specs.Program.{field_at, above_of, table, Origin}
+use Rattle.ss_typed.specs.Lookups.{body_at}
 use Rattle.ss_expand_rules.specs.Statements.{stmts}
 use Rattle.ss_expand_rules.specs.Contracts.{first_param, declarations}
-use Rattle.ss_expand_rules.specs.Constructors.{before_all, in_block, closing_brace, initialize, initializers_from, fields_before, initializers_in, initializers, is_initial, behind_initial, base_alone, with_base, implicit_constructor}
-use Rattle.ss_typed.specs.Shapes.{has_base}
+use Rattle.ss_paths.specs.Fields.{field_numbers}
+use Rattle.ss_paths.specs.Opening.{is_first}
+use Rattle.ss_expand_rules.specs.Constructors.{before_all, initialize, initializers_from, initializers_in, initializers, behind_initial, base_alone, with_base, implicit_constructor}
+use Rattle.ss_typed.specs.Shapes.{closing_brace, in_block, has_base}
 use Rattle.ss_expand_rules.specs.Bodies.{first_copy, copying_from, copying, statements, setting, temporary_count, code, written_body}
 use Rattle.ss_store_rules.specs.Locals.{each}
 use Rattle.ss_store_rules.specs.Construction.{if_delayed, keeps_this_in}
@@ -56,7 +59,7 @@ module _ (G : typed.SimpleTree → Type 0) (F : ExprTree → Type 0) where
 
   along_run : (p : TypedTree) (t : ℕ) (s : StmtTree) (ss : StmtTrees) → At G F s → Along G F ss → Along G F (behind_initial p t s ss)
   along_run p t s NoMore h g = (h, tt)
-  along_run p t s (Before x xs) h g = where_chosen (Along G F) (is_initial p t x) (Before x (behind_initial p t s xs)) (Before s (Before x xs)) (λ yes. (g.0, along_run p t s xs h g.1)) (λ no. (h, g))
+  along_run p t s (Before x xs) h g = where_chosen (Along G F) (is_first p t x) (Before x (behind_initial p t s xs)) (Before s (Before x xs)) (λ yes. (g.0, along_run p t s xs h g.1)) (λ no. (h, g))
 
   pub along_base : (p : TypedTree) (b : BodyTree) (base : Option BaseTree) (ss : StmtTrees) → ((q : Place) → G (BaseCallOf q (delayed.arguments_of base))) → ((q : Place) → G (BaseCallOf q typed.Arguments.NoMore)) → Along G F ss → Along G F (with_base p b base ss)
   along_base p b (Some base) ss given none h = (given base.place, h)
@@ -117,7 +120,7 @@ module _ (p : ProgramTree) (none : classes_faults (resolved p) 0 (resolved p).me
       let z : 0 + k ≡ k = omega arith in
       let there : slice_get q.members k ≡ Some (members p.classes k c) = each_at (members p.classes) 0 p.classes k c at ∙ ap (λ n. Some (members p.classes n c)) z in
       let faultless = class_none q 0 q.members k (members p.classes k c) none there in
-      subst (λ m. Along (FineSimple u) (Fine u) (initializers_in q (4 + 2 * k) m)) (sym (members_at p k c at)) (from_fine (fields_before (4 + 2 * k) (all_fields q.classes)) (fields_in c.members) faultless)
+      subst (λ m. Along (FineSimple u) (Fine u) (initializers_in q (4 + 2 * k) m)) (sym (members_at p k c at)) (from_fine (field_numbers q (4 + 2 * k)).first (fields_in c.members) faultless)
 
 -- ---- the code of a delayed constructor
 

@@ -4,9 +4,9 @@ pub mod Simple
 pub mod Statements
 pub mod Free
 pub mod Bases
+pub mod Numbering
 pub mod OwnFields
 pub mod FirstFields
-pub mod Numbering
 pub mod Begins
 pub mod Sources
 pub mod Openings

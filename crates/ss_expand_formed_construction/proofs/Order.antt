@@ -16,7 +16,8 @@ use Rattle.ss_expand_rules.specs.Lifting.{Setting}
 use Rattle.ss_expand_rules.specs.Simple.{simple}
 use Rattle.ss_expand_rules.specs.Statements.{stmts}
 use Rattle.ss_expand_rules.specs.Contracts.{first_param, declarations}
-use Rattle.ss_expand_rules.specs.Constructors.{in_block, closing_brace, constructor_stmts, implicit_constructor}
+use Rattle.ss_expand_rules.specs.Constructors.{constructor_stmts, implicit_constructor}
+use Rattle.ss_typed.specs.Shapes.{closing_brace, in_block}
 use Rattle.ss_expand_rules.specs.Bodies.{first_copy, copying_from, copying, with_return, statements, setting, temporary_count, code, written_body}
 use Rattle.ss_store_rules.specs.Construction.{is_base_or_ready, wants_base, wants_ready, starts_in_order}
 use Rattle.ss_expand_formed.specs.Laws.{core_of}

@@ -1,35 +1,42 @@
 -- What a constructor assigns before `base(..)` are fields of its class.
-use Rattle.std.proofs.Common.{◌≡◌, ◌≢◌, ℕ, zero, suc, ◌+◌, ◌*◌, ◌<◌, List, [], ◌∷◌, ◌++◌, length, map, take, Bool, true, false, Option, Some, None, refl, sym, ◌∙◌, ap, subst, arith, ⊎_elim}
+use Rattle.std.proofs.Common.{◌≡◌, ℕ, zero, suc, ◌+◌, ◌*◌, ◌<◌, List, [], ◌∷◌, ◌++◌, length, map, take, Bool, true, false, Option, Some, None, refl, sym, ◌∙◌, ap, subst, arith, ⊎_elim}
 use Rattle.std.specs.Prelude.{◌&&◌, ◌||◌, slice_get, sum_by, is_some, if◌then◌else◌}
 use Rattle.std.specs.List.{position_or_len}
 use Rattle.std.specs.Str.{bytes_eq}
 use Rattle.std.proofs.lemmas.Slice.Eq.{bytes_eq-Decides}
-use Rattle.std.proofs.lemmas.Bool.{cases_Bool, and_from, eq-eqb, ne_eqb, false≢true}
+use Rattle.std.proofs.lemmas.Bool.{cases_Bool, and_from, eq-eqb, false≢true}
 use Rattle.std.proofs.lemmas.List.{length-map}
 use Rattle.std.proofs.lemmas.List.Folds.{find_at}
 use Rattle.std.proofs.lemmas.List.Sums.{sum_by-cons}
 use Rattle.std.proofs.lemmas.Option.{same_Some}
 use Rattle.ss_core.specs.declared.names.Place.{Place}
 use Rattle.ss_core.specs.Tree as core
-use Rattle.ss_core.specs.Chain.{DeclaredField, in_class, fields_of_class, fields_from, all_fields}
+use Rattle.ss_core.specs.Chain.{DeclaredField, in_class}
 use Rattle.ss_ast.specs.Programs.{ParamTree, ClassTree, ProgramTree}
 use Rattle.ss_tables.specs.Members.{FieldTree, fields_in, field_in}
 use Rattle.ss_tables.specs.Classes.{declared_in, or_else, members_in, members_at, chain_from, first_field, field_of, above}
-use Rattle.ss_tables.specs.Scopes.{Scope, Locals, local_in, local_among, local_named, with_local, class_scope, param_scope, enter}
+use Rattle.ss_tables.specs.Scopes.{Scope, Locals, local_named, class_scope, param_scope, enter}
+use Rattle.ss_tables.specs.Named.{named_in, with_named}
 use Rattle.ss_tables.specs.Scopes as scopes
 use Rattle.ss_typed.specs.Tree.{ExprTree, ThisOf, FieldOf, SimpleTree, AssignOf, StepOf, StmtTree, SimpleOf, StmtTrees, NoMore, Before, MembersTree, TypedTree}
 use Rattle.ss_typed.specs.Tree as typed
 use Rattle.ss_resolver_rules.specs.Numbers.{field_count, field_place, field_id}
-use Rattle.ss_resolver_rules.specs.Names.{Known, Variable, Known_names, Env, known_in, known_among, known, with_known, class_env, declare_param, declare_params}
+use Rattle.ss_resolver_rules.specs.Names.{Known_names, Env, known, class_env, declare_param, declare_params}
+use Rattle.ss_resolver_rules.specs.declared.known.Known.{Known}
+use Rattle.ss_resolver_rules.specs.declared.known.Known.TheVariants.{Variable}
 use Rattle.ss_resolver_rules.specs.Names as names
 use Rattle.ss_resolver_rules.specs.Expressions.{this, read_field}
 use Rattle.ss_resolver_rules.specs.Programs.{class, field, each, field_member, resolved}
 use Rattle.ss_expand_rules.specs.Program.{field_at}
 use Rattle.ss_typed.specs.Shapes.{is_this}
-use Rattle.ss_expand_rules.specs.Constructors.{initialize, initializers_from, fields_before, initializers_in, initializers, is_declared_in}
+use Rattle.ss_paths.specs.Fields as paths
+use Rattle.ss_paths.specs.Fields.{field_numbers}
+use Rattle.ss_typed.specs.Lookups.{class_place}
+use Rattle.ss_expand_rules.specs.Constructors.{initialize, initializers_from, initializers_in, initializers}
 use Rattle.ss_expand_admissible.proofs.Classes as classes
 use Rattle.ss_expand_formed.proofs.Searching.{place_found, any_at}
 use Rattle.ss_expand_formed.proofs.Places.{members_at as members_there}
+use Rattle.ss_expand_formed_construction.proofs.Numbering.{is_declared_in}
 
 -- ---- assignments of fields of a class
 
@@ -63,34 +70,29 @@ module _ (p : ProgramTree) where
 
   -- ---- beginnings of fields
 
-  skipped : (n t : ℕ) (fs : List core.FieldTree) (rest : List DeclaredField) → n ≢ t → fields_before t (fields_of_class n fs ++ rest) ≡ length fs + fields_before t rest
-  skipped n t [] rest other = omega arith
-  skipped n t (f ∷ fs) rest other = let one = skipped n t fs rest other in rw (ne_eqb n t other) (omega arith)
-
-  -- the number of the first field of a class that has one
-  pub first_number : (all : List ClassTree) (j n : ℕ) (cs : List ClassTree) (k : ℕ) (c : ClassTree) → slice_get cs k ≡ Some c → (g : FieldTree) (gs : List FieldTree) → fields_in c.members ≡ g ∷ gs →
-      fields_before (n + 2 * k) (fields_from n (each (class all) j cs)) ≡ sum_by field_count (take k cs)
-  first_number all j n [] k c h g gs is = absurd (let z : ⊥ = cc in z)
-  first_number all j n (d ∷ cs) zero c h g gs is =
-      let same : fields_in d.members ≡ g ∷ gs = ap (λ (x : ClassTree). fields_in x.members) (same_Some _ _ h) ∙ is in
-      let here : n ≡ n + 2 * 0 = omega arith in
-      rw (same, eq-eqb n (n + 2 * 0) here) refl
-  first_number all j n (d ∷ cs) (suc k) c h g gs is =
-      let t = n + 2 * suc k in
-      let next : n + 2 * suc k ≡ n + 2 + 2 * k = omega arith in
-      let other : n ≢ t = λ e. omega arith in
-      let sum = sum_by-cons field_count d (take k cs) in
-      let size : length (class all j d).fields ≡ field_count d = length-map (fields_in d.members) (field all) in
-      let rest : fields_before t (fields_from (n + 2) (each (class all) (j + 1) cs)) ≡ sum_by field_count (take k cs) = rw next (first_number all (j + 1) (n + 2) cs k c h g gs is) in
-      let one = skipped n t (class all j d).fields (fields_from (n + 2) (each (class all) (j + 1) cs)) other in
+  counts : (all : List ClassTree) (j : ℕ) (cs : List ClassTree) (k : ℕ) → sum_by paths.field_count (take k (each (class all) j cs)) ≡ sum_by field_count (take k cs)
+  counts all j [] zero = refl
+  counts all j [] (suc k) = refl
+  counts all j (x ∷ cs) zero = refl
+  counts all j (x ∷ cs) (suc k) =
+      let one = sum_by-cons paths.field_count (class all j x) (take k (each (class all) (j + 1) cs)) in
+      let other = sum_by-cons field_count x (take k cs) in
+      let size : length (class all j x).fields ≡ field_count x = length-map (fields_in x.members) (field all) in
+      let rest = counts all (j + 1) cs k in
       omega arith
+
+  -- the number of the first field of a class
+  pub first_number : (k : ℕ) → (field_numbers q (4 + 2 * k)).first ≡ sum_by field_count (take k p.classes)
+  first_number k =
+      let place : class_place (4 + 2 * k) ≡ k = omega arith in
+      ap (λ i. sum_by paths.field_count (take i q.classes)) place ∙ counts p.classes 0 p.classes k
 
   module _ (k : ℕ) (c : ClassTree) (at : slice_get p.classes k ≡ Some c) where
     abbrev t : ℕ
     t = 4 + 2 * k
 
-    abbrev first : ℕ
-    first = sum_by field_count (take k p.classes)
+    abbrev begin : ℕ
+    begin = sum_by field_count (take k p.classes)
 
     abbrev made : FieldTree → typed.FieldTree
     made f = field_member (class_env p.classes k) f
@@ -101,7 +103,7 @@ module _ (p : ProgramTree) where
     initialize_own f m (Some e) (Some d) is own more h = (own, h)
 
     -- from a place of the class on
-    from_own : (i f : ℕ) (gs : List FieldTree) → f ≡ first + i → ((j : ℕ) (g : FieldTree) → slice_get gs j ≡ Some g → slice_get (fields_in c.members) (i + j) ≡ Some g) → OnlyOwn q t (initializers_from q t f (map made gs))
+    from_own : (i f : ℕ) (gs : List FieldTree) → f ≡ begin + i → ((j : ℕ) (g : FieldTree) → slice_get gs j ≡ Some g → slice_get (fields_in c.members) (i + j) ≡ Some g) → OnlyOwn q t (initializers_from q t f (map made gs))
     from_own i f [] is there = tt
     from_own i f (g ∷ gs) is there =
         let here : i + 0 ≡ i = omega arith in
@@ -110,11 +112,10 @@ module _ (p : ProgramTree) where
         initialize_own f (made g) (made g).initial (field_at q f) refl own (initializers_from q t (f + 1) (map made gs))
         (from_own (i + 1) (f + 1) gs (omega arith) (λ j x e. let next : i + suc j ≡ i + 1 + j = omega arith in subst (λ y. slice_get (fields_in c.members) y ≡ Some x) next (there (suc j) x e)))
 
-    all_own : (gs : List FieldTree) → fields_in c.members ≡ gs → OnlyOwn q t (initializers_from q t (fields_before t (all_fields q.classes)) (map made gs))
-    all_own [] is = tt
-    all_own (g ∷ gs) is =
-        let number = first_number p.classes 0 4 p.classes k c at g gs is in
-        from_own 0 (fields_before t (all_fields q.classes)) (g ∷ gs) (omega arith) (λ j x e. let z : 0 + j ≡ j = omega arith in rw z (ap (λ fs. slice_get fs j) is ∙ e))
+    all_own : (gs : List FieldTree) → fields_in c.members ≡ gs → OnlyOwn q t (initializers_from q t (field_numbers q t).first (map made gs))
+    all_own gs is =
+        let start : begin + 0 ≡ begin = omega arith in
+        from_own 0 (field_numbers q t).first gs (first_number k ∙ sym start) (λ j x e. let z : 0 + j ≡ j = omega arith in rw z (ap (λ fs. slice_get fs j) is ∙ e))
 
     pub initializers_own : OnlyOwn q t (initializers q t)
     initializers_own = subst (λ m. OnlyOwn q t (initializers_in q t m)) (sym (members_there p k c at)) (all_own (fields_in c.members) refl)
@@ -123,9 +124,9 @@ module _ (p : ProgramTree) where
 
 -- where no local has a name, none is known by it
 abbrev pub SameNames : Known_names → Locals → Type 0
-SameNames ks ls = (n : List ℕ) → is_some (known_in ks n) ≡ is_some (local_in ls n)
+SameNames ks ls = (n : List ℕ) → is_some (named_in ks n) ≡ is_some (named_in ls n)
 
-known_end : (ks : Known_names) (m : List ℕ) (k : Known) (n : List ℕ) → is_some (known_in (ks ++ (m, k) ∷ []) n) ≡ (is_some (known_in ks n) || bytes_eq n m)
+known_end : (ks : Known_names) (m : List ℕ) (k : Known) (n : List ℕ) → is_some (named_in (ks ++ (m, k) ∷ []) n) ≡ (is_some (named_in ks n) || bytes_eq n m)
 known_end [] m k n = by (bytes_eq n m)
   where
     by : (b : Bool) → is_some (if b then Some k else None) ≡ b
@@ -133,11 +134,11 @@ known_end [] m k n = by (bytes_eq n m)
     by false = refl
 known_end (x ∷ ks) m k n = by (known_end ks m k n) (bytes_eq n x.0)
   where
-    by : is_some (known_in (ks ++ (m, k) ∷ []) n) ≡ (is_some (known_in ks n) || bytes_eq n m) → (b : Bool) → is_some (if b then Some x.1 else known_in (ks ++ (m, k) ∷ []) n) ≡ (is_some (if b then Some x.1 else known_in ks n) || bytes_eq n m)
+    by : is_some (named_in (ks ++ (m, k) ∷ []) n) ≡ (is_some (named_in ks n) || bytes_eq n m) → (b : Bool) → is_some (if b then Some x.1 else named_in (ks ++ (m, k) ∷ []) n) ≡ (is_some (if b then Some x.1 else named_in ks n) || bytes_eq n m)
     by rest true = refl
     by rest false = rest
 
-local_end : (ls : Locals) (m : List ℕ) (l : scopes.Local) (n : List ℕ) → is_some (local_in (ls ++ (m, l) ∷ []) n) ≡ (is_some (local_in ls n) || bytes_eq n m)
+local_end : (ls : Locals) (m : List ℕ) (l : scopes.Local) (n : List ℕ) → is_some (named_in (ls ++ (m, l) ∷ []) n) ≡ (is_some (named_in ls n) || bytes_eq n m)
 local_end [] m l n = by (bytes_eq n m)
   where
     by : (b : Bool) → is_some (if b then Some l else None) ≡ b
@@ -145,16 +146,16 @@ local_end [] m l n = by (bytes_eq n m)
     by false = refl
 local_end (x ∷ ls) m l n = by (local_end ls m l n) (bytes_eq n x.0)
   where
-    by : is_some (local_in (ls ++ (m, l) ∷ []) n) ≡ (is_some (local_in ls n) || bytes_eq n m) → (b : Bool) → is_some (if b then Some x.1 else local_in (ls ++ (m, l) ∷ []) n) ≡ (is_some (if b then Some x.1 else local_in ls n) || bytes_eq n m)
+    by : is_some (named_in (ls ++ (m, l) ∷ []) n) ≡ (is_some (named_in ls n) || bytes_eq n m) → (b : Bool) → is_some (if b then Some x.1 else named_in (ls ++ (m, l) ∷ []) n) ≡ (is_some (if b then Some x.1 else named_in ls n) || bytes_eq n m)
     by rest true = refl
     by rest false = rest
 
-one_more : (ks : Known_names) (ls : Locals) (m : List ℕ) (k : Known) (l : scopes.Local) → SameNames ks ls → SameNames (with_known ks m k) (with_local ls m l)
+one_more : (ks : Known_names) (ls : Locals) (m : List ℕ) (k : Known) (l : scopes.Local) → SameNames ks ls → SameNames (with_named ks m k) (with_named ls m l)
 one_more ks ls m k l h n =
     ⊎_elim
-    (λ (yes : is_some (known_in ks m) ≡ true). let too : is_some (local_in ls m) ≡ true = sym (h m) ∙ yes in rw (yes, too) (h n))
-    (λ (other : is_some (known_in ks m) ≡ false). let too : is_some (local_in ls m) ≡ false = sym (h m) ∙ other in rw (other, too) (known_end ks m k n ∙ ap (λ b. b || bytes_eq n m) (h n) ∙ sym (local_end ls m l n)))
-    (cases_Bool (is_some (known_in ks m)))
+    (λ (yes : is_some (named_in ks m) ≡ true). let too : is_some (named_in ls m) ≡ true = sym (h m) ∙ yes in rw (yes, too) (h n))
+    (λ (other : is_some (named_in ks m) ≡ false). let too : is_some (named_in ls m) ≡ false = sym (h m) ∙ other in rw (other, too) (known_end ks m k n ∙ ap (λ b. b || bytes_eq n m) (h n) ∙ sym (local_end ls m l n)))
+    (cases_Bool (is_some (named_in ks m)))
 
 -- the parameters of a constructor
 pub record Agree (e : Env) (s : Scope) : Type 0 where
@@ -172,8 +173,8 @@ params_agree e s (x ∷ ps) h =
 pub none_known : (e : Env) (s : Scope) (n : List ℕ) → Agree e s → local_named (enter s) n ≡ None → known (names.enter e) n ≡ None
 none_known e s n h none =
     let same = h.inner n in
-    let here : local_in s.inner n ≡ None = alone (local_in s.inner n) (rw h.outside at none) in
-    let nothing : known_in e.inner n ≡ None = none_of (known_in e.inner n) (same ∙ ap is_some here) in
+    let here : named_in s.inner n ≡ None = alone (named_in s.inner n) (rw h.outside at none) in
+    let nothing : named_in e.inner n ≡ None = none_of (named_in e.inner n) (same ∙ ap is_some here) in
     rw (h.around, nothing) refl
   where
     alone : (o : Option scopes.Local) → or_else None (or_else o None) ≡ None → o ≡ None

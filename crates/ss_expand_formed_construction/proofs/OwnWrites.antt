@@ -14,7 +14,6 @@ use Rattle.ss_typed.specs.Tree.{ExprTree, ThisOf, IntOf, FieldOf, BinaryOf, Argu
 use Rattle.ss_expand_rules.specs.Program.{field_at}
 use Rattle.ss_expand_rules.specs.Calls.{has_call}
 use Rattle.ss_typed.specs.Shapes.{place_of}
-use Rattle.ss_expand_rules.specs.Constructors.{is_declared_in}
 use Rattle.ss_expand_rules.specs.Lifting.{Setting, value}
 use Rattle.ss_expand_rules.specs.Code.{Coded}
 use Rattle.ss_expand_rules.specs.Simple.{write_of, assign_settled, settle, assign_behind, step_operator, simple}
@@ -22,6 +21,7 @@ use Rattle.ss_expand_rules.specs.Statements.{stmts}
 use Rattle.ss_expand_formed_locals.proofs.Shape.{Code, each-append}
 use Rattle.ss_expand_formed_construction.proofs.Choices.{where_chosen}
 use Rattle.ss_expand_formed_construction.proofs.Lifts.{Keeps, Runs, value_fits}
+use Rattle.ss_expand_formed_construction.proofs.Numbering.{is_declared_in}
 use Rattle.ss_expand_formed_construction.proofs.OwnFields.{is_own, OnlyOwn}
 
 -- the property holds of what is assigned

@@ -13,7 +13,10 @@ use Rattle.ss_ast.specs.Statements as written
 use Rattle.ss_tables.specs.Statics.{Receiver, TheConsole, TheOwner, TheBase, AClass, AValue, receiver, static}
 use Rattle.ss_typed.specs.Tree.{ExprTree, LocalOf, IffOf, ImpliesOf, BinaryOf, IsOf, AsOf, NegateOf, NotOf, CastOf, FieldOf, ElementOf, LengthOf, OldOf, QuantifiedOf, StateOf, OwnersOf, NewOf, NewArrayOf, CallOf, StaticOf, BaseOf, Arguments, NoMore, Argument, SimpleTree, AssignOf, StepOf, AloneOf, PrintOf, PrintTextOf, BaseCallOf}
 use Rattle.ss_resolver_rules.specs.Numbers.{type_id}
-use Rattle.ss_resolver_rules.specs.Names.{Known, Variable, BoundName, Known_names, Env, known_in, with_known, enter, declare, declare_all}
+use Rattle.ss_resolver_rules.specs.Names.{Known_names, Env, enter, declare, declare_all}
+use Rattle.ss_resolver_rules.specs.declared.known.Known.{Known}
+use Rattle.ss_resolver_rules.specs.declared.known.Known.TheVariants.{Variable, BoundName}
+use Rattle.ss_tables.specs.Named.{named_in, with_named}
 use Rattle.ss_resolver_rules.specs.Expressions.{expr, args}
 use Rattle.ss_resolver_rules.specs.Statements as rules
 use Rattle.ss_resolver_rules.specs.Statements.{declared_by, declared_first, declared_in_block, declared_in, past, behind, declarators, printed, print, is_line, call_alone, alone, simple, first, behind_first, block, stmt, stmts}
@@ -73,13 +76,13 @@ module _ (low : ℕ) where
   all_numbers_more : (n m : ℕ) → n ≤ m → (ls : List Known_names) → list_all (have_numbers low n) ls ≡ true → list_all (have_numbers low m) ls ≡ true
   all_numbers_more n m l ls h = all_more (have_numbers low n) (have_numbers low m) (numbers_more n m l) ls h
 
-  with_known_numbered : (n : ℕ) (ls : Known_names) (x : List ℕ) (k : Known) → have_numbers low n ls ≡ true → has_number low n k ≡ true → have_numbers low n (with_known ls x k) ≡ true
+  with_known_numbered : (n : ℕ) (ls : Known_names) (x : List ℕ) (k : Known) → have_numbers low n ls ≡ true → has_number low n k ≡ true → have_numbers low n (with_named ls x k) ≡ true
   with_known_numbered n ls x k h g =
-      on_either (λ (z : Known_names). have_numbers low n z ≡ true) (is_some (known_in ls x)) ls (ls ++ (x, k) ∷ []) h
+      on_either (λ (z : Known_names). have_numbers low n z ≡ true) (is_some (named_in ls x)) ls (ls ++ (x, k) ∷ []) h
       (list_all-append (λ (l : List ℕ × Known). has_number low n l.1) ls ((x, k) ∷ []) ∙ rw (h, g) refl)
 
   -- what is known behind one more local
-  one_more : (e : Env) → is_numbered low e ≡ true → low ≤ e.next → (x : List ℕ) (t : Ty) → (have_numbers low (e.next + 1) (with_known e.inner x (Variable e.next t)) && list_all (have_numbers low (e.next + 1)) e.outer) ≡ true
+  one_more : (e : Env) → is_numbered low e ≡ true → low ≤ e.next → (x : List ℕ) (t : Ty) → (have_numbers low (e.next + 1) (with_named e.inner x (Variable e.next t)) && list_all (have_numbers low (e.next + 1)) e.outer) ≡ true
   one_more e h l x t =
       let both = and_parts (have_numbers low e.next e.inner) (list_all (have_numbers low e.next) e.outer) h in
       let new = and_from _ _ (le-leb low e.next l) (lt-ltb e.next (e.next + 1) (omega arith)) in

@@ -10,7 +10,7 @@ use Rattle.ss_typed.specs.Tree.{BodyTree}
 use Rattle.ss_resolver_rules.specs.Programs.{constructor_body, method_body, bodies_of, bodies_from, resolved}
 use Rattle.ss_resolver_types_expressions.specs.Members.{surplus_words, implied_base, constructor_faults, method_faults, method_body as body_of_method, kind_faults, member_faults}
 use Rattle.ss_resolver_types_expressions.specs.Programs.{members_faults, has_constructor, class_faults, classes_faults, type_faults}
-use Rattle.ss_expand_rules.specs.Program.{body_at}
+use Rattle.ss_typed.specs.Lookups.{body_at}
 use Rattle.ss_expand_formed.proofs.Facts.{none_left}
 use Rattle.ss_expand_formed.proofs.Entries.{map_from, append_from}
 

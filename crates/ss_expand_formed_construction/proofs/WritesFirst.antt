@@ -10,8 +10,8 @@ use Rattle.ss_ast.specs.Programs.{ClassTree, ProgramTree}
 use Rattle.ss_ast.specs.declared.stmt.AssignOperator.TheVariants as operator
 use Rattle.ss_tables.specs.Members.{ConstructorTree}
 use Rattle.ss_typed.specs.Tree.{ExprTree, ThisOf, FieldOf, SimpleTree, AssignOf, StepOf, BaseCallOf, BlockTree, BlockOf, InBlock, DeclareOf, SimpleOf, IfOf, IfElseOf, WhileOf, ForOf, ReturnOf, AssertOf, AssumeOf, ExposeOf, EmptyOf, StmtTrees, NoMore, Before, BaseTree, BodyTree, TypedTree}
-use Rattle.ss_paths.specs.Assigned.{statements, assigned_by_initializers, assigned_flow}
-use Rattle.ss_typed.specs.Shapes.{has_base, is_base}
+use Rattle.ss_paths.specs.Assigned.{assigned_by_initializers, assigned_flow}
+use Rattle.ss_typed.specs.Shapes.{has_base, in_block, is_base}
 use Rattle.ss_paths.specs.Fields.{field_numbers}
 use Rattle.ss_paths.specs.Paths.{at_end}
 use Rattle.ss_delayed_rules.specs.Escapes.{NotAtAll, uses_each, uses_in_all, uses_along}
@@ -20,7 +20,8 @@ use Rattle.ss_delayed_rules.specs.Constructors.{escapes, unassigned_faults, argu
 use Rattle.ss_delayed_rules.specs.Program.{classes_faults, body_faults, bodies_faults, construction_faults}
 use Rattle.ss_resolver_rules.specs.Programs.{param_env, constructor_body, resolved}
 use Rattle.ss_resolver_types_expressions.specs.Programs.{type_faults}
-use Rattle.ss_expand_rules.specs.Program.{body_at, table, Origin}
+use Rattle.ss_expand_rules.specs.Program.{table, Origin}
+use Rattle.ss_typed.specs.Lookups.{body_at}
 use Rattle.ss_expand_rules.specs.Contracts.{declarations}
 use Rattle.ss_expand_rules.specs.Constructors.{before_all, initializers}
 use Rattle.ss_expand_rules.specs.Simple.{has_delayed_constructor}
@@ -67,7 +68,7 @@ module _ (G : SimpleTree → Type 0) (F : ExprTree → Type 0) where
   opening_along p t (Some base) ss h = tt
   opening_along p t None ss h = where_chosen (Along G F) (has_base ss) (before_base ss) (first_run p t ss) (λ yes. front_along ss h) (λ no. run_along p t ss h)
 
-statements_along : (b : BlockTree) → InAll OtherSimple Other b → Along OtherSimple Other (statements b)
+statements_along : (b : BlockTree) → InAll OtherSimple Other b → Along OtherSimple Other (in_block b)
 statements_along (BlockOf q ss end) h = h
 
 base_others : (base : Option BaseTree) (ss : StmtTrees) → Others (arguments_of base) → Along OtherSimple Other ss → Others (arguments_of (base_or base ss))
@@ -173,8 +174,8 @@ module _ (p : ProgramTree) (none : classes_faults (resolved p) 0 (resolved p).me
       let first = (none_left (escapes (uses_along NotAtAll (opening q b) ++ uses_each NotAtAll (arguments_of (written_base b)))) (unassigned_faults q b.class (place_of_base b (written_base b)) (at_end (assigned_flow (field_numbers q b.class)) (opening q b) (Some (assigned_by_initializers q b.class)))) mine).0 in
       let both = none_left (uses_along NotAtAll (opening q b)) (uses_each NotAtAll (arguments_of (written_base b))) (no_escapes (uses_along NotAtAll (opening q b) ++ uses_each NotAtAll (arguments_of (written_base b))) first) in
       let others = statements_along b.block (block_other e i d.body) in
-      let open_others = opening_along OtherSimple Other q b.class b.base (statements b.block) others in
-      let given : Others (arguments_of (written_base b)) = subst (λ o. Others (arguments_of o)) (sym (written_is b b.base)) (base_others b.base (statements b.block) (base_other e i d.base) others) in
+      let open_others = opening_along OtherSimple Other q b.class b.base (in_block b.block) others in
+      let given : Others (arguments_of (written_base b)) = subst (λ o. Others (arguments_of o)) (sym (written_is b b.base)) (base_others b.base (in_block b.block) (base_other e i d.base) others) in
       record {
         front = along_before (FineSimple NotAtAll) (Fine NotAtAll) (initializers q b.class) (opening q b) (initializers_fine p none NotAtAll k c at) (stmts_fine NotAtAll (opening q b) both.0 open_others);
         args = record { unused = both.1; locals = given };

@@ -8,12 +8,14 @@ use Rattle.ss_core.specs.Tree as core
 use Rattle.ss_core.specs.Tree.{LocalExpr, AssignStmt, CallStmt, BaseConstructor, ReadyStmt}
 use Rattle.ss_core.specs.View.{code_of}
 use Rattle.ss_typed.specs.Tree.{Arguments, BaseCallOf, SimpleOf, ReturnOf, StmtTrees, NoMore, Before, BlockTree, ParamTree, BodyTree, TypedTree}
-use Rattle.ss_expand_rules.specs.Program.{above_of, constructor_of, param_types_in, Constructor, number_of}
+use Rattle.ss_expand_rules.specs.Program.{above_of, Constructor, number_of}
+use Rattle.ss_typed.specs.Lookups.{constructor_of, param_types_in}
 use Rattle.ss_expand_rules.specs.Lifting.{Setting, Listed, arguments_of}
 use Rattle.ss_expand_rules.specs.Code.{Coded}
 use Rattle.ss_expand_rules.specs.Simple.{has_delayed_constructor, ready_behind, base_with, base_of, simple}
 use Rattle.ss_expand_rules.specs.Statements.{stmts}
-use Rattle.ss_expand_rules.specs.Constructors.{before_all, closing_brace}
+use Rattle.ss_expand_rules.specs.Constructors.{before_all}
+use Rattle.ss_typed.specs.Shapes.{closing_brace}
 use Rattle.ss_expand_rules.specs.Bodies.{block_assigns, copying_from, copying, statements, setting, temporary_count, code}
 use Rattle.ss_store_rules.specs.Locals.{each}
 use Rattle.ss_expand_formed_locals.proofs.Shape.{Code}

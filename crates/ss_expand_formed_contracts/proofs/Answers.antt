@@ -26,7 +26,7 @@ use Rattle.ss_resolver_names_rules.specs.Expressions.{expr_faults, has_member, b
 use Rattle.ss_resolver_types_expressions.specs.Wants.{AnInt, ABool, AReference, AnArray, ClassName, known, wrong}
 use Rattle.ss_resolver_types_expressions.specs.Calls.{Around, Called, Taking, Refused, Unknown, called, called_member, called_owner, asks_level, is_wrong_call, argument_wants, whole_call}
 use Rattle.ss_resolver_types_expressions.specs.Expressions.{AsValue, BeforeDot, AsCallee, used_member, is_wrong_read, is_no_read, reads_method, is_method_name, is_question, condition_faults, is_name, argument, faults, argument_faults, no_class}
-use Rattle.ss_resolver_rules.specs.Names.{BoundName}
+use Rattle.ss_resolver_rules.specs.declared.known.Known.TheVariants.{BoundName}
 use Rattle.ss_resolver_rules.specs.Numbers.{class_in}
 use Rattle.ss_resolver_rules.specs.Expressions.{read_field, field_behind, state_word, member, third_class, owner_question, called_behind, expr, args}
 use Rattle.ss_expand_formed.proofs.Facts.{none_left, or_false, not_false}

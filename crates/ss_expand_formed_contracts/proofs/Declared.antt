@@ -20,7 +20,8 @@ use Rattle.ss_resolver_types_expressions.specs.Programs.{type_faults}
 use Rattle.ss_resolver_rules.specs.Numbers.{table}
 use Rattle.ss_resolver_rules.specs.Programs.{constructor_body, method_body, bodies_of, bodies_from, resolved}
 use Rattle.ss_expand_rules.specs.Program as program
-use Rattle.ss_expand_rules.specs.Program.{body_at, method_at, table_in, is_declared_by}
+use Rattle.ss_expand_rules.specs.Program.{method_at, table_in, is_declared_by}
+use Rattle.ss_typed.specs.Lookups.{body_at}
 use Rattle.ss_expand_rules.specs.Contracts.{where_declared, declared_at, declarations}
 use Rattle.ss_store_rules.specs.Changes.{is_array}
 use Rattle.ss_expand_formed.specs.Laws.{core_of}

@@ -21,7 +21,7 @@ use Rattle.ss_resolver_names_rules.specs.Programs.{program_faults}
 use Rattle.ss_resolver_types_expressions.specs.Programs.{type_faults}
 use Rattle.ss_resolver_rules.specs.Programs.{resolved}
 use Rattle.ss_expand_rules.specs.Numbers.{plain, all_plain}
-use Rattle.ss_expand_rules.specs.Program.{body_at}
+use Rattle.ss_typed.specs.Lookups.{body_at}
 use Rattle.ss_expand_rules.specs.Contracts.{conditions, default_entry, default_exit, entry_of_first, modifies_of_first, all_exits}
 use Rattle.ss_store_rules.specs.Changes.{is_array}
 use Rattle.ss_store_rules.specs.Typed.{is_local, is_entry, is_exit, is_default_of}

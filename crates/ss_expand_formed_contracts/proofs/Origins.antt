@@ -7,7 +7,8 @@ use Rattle.ss_core.specs.Chain.{declared}
 use Rattle.ss_ast.specs.Programs.{ProgramTree}
 use Rattle.ss_typed.specs.Tree.{BodyTree, MembersTree, TypedTree}
 use Rattle.ss_resolver_rules.specs.Programs.{resolved}
-use Rattle.ss_expand_rules.specs.Program.{body_at, method_at, members_of, constructor_of, Origin, Constructor, Method, is_declared_by, is_wrapped, is_own}
+use Rattle.ss_expand_rules.specs.Program.{method_at, Origin, Constructor, Method, is_declared_by, is_wrapped, is_own}
+use Rattle.ss_typed.specs.Lookups.{body_at, constructor_of, members_of}
 use Rattle.ss_expand_rules.specs.Constructors.{implicit_constructor}
 use Rattle.ss_expand_rules.specs.Contracts.{declarations}
 use Rattle.ss_store_rules.specs.Typed as store

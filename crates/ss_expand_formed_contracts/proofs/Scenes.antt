@@ -7,14 +7,17 @@ use Rattle.ss_ast.specs.Expressions.{TypeTree}
 use Rattle.ss_ast.specs.Programs.{ParamTree, ClassTree, ProgramTree}
 use Rattle.ss_tables.specs.Classes.{class_number}
 use Rattle.ss_tables.specs.Types.{written_type}
-use Rattle.ss_tables.specs.Scopes.{Scope, Local, Locals, local_in, with_local, class_scope}
+use Rattle.ss_tables.specs.Scopes.{Scope, Local, Locals, class_scope}
+use Rattle.ss_tables.specs.Named.{named_in, with_named}
 use Rattle.ss_tables.specs.Scopes as scopes
 use Rattle.ss_tables.specs.Statics.{result_type}
 use Rattle.ss_typed.specs.Types.{class_type}
 use Rattle.ss_resolver_names_rules.specs.Faults.{type_faults, twice_in}
 use Rattle.ss_resolver_names_rules.specs.Members.{params_faults, written_type_faults}
 use Rattle.ss_resolver_names_rules.specs.Programs.{program_faults}
-use Rattle.ss_resolver_rules.specs.Names.{Known, Variable, Known_names, Env, known_in, with_known, declare_param, declare_params}
+use Rattle.ss_resolver_rules.specs.Names.{Known_names, Env, declare_param, declare_params}
+use Rattle.ss_resolver_rules.specs.declared.known.Known.{Known}
+use Rattle.ss_resolver_rules.specs.declared.known.Known.TheVariants.{Variable}
 use Rattle.ss_resolver_rules.specs.Numbers.{type_id}
 use Rattle.ss_expand_formed.proofs.Facts.{none_left}
 use Rattle.ss_expand_formed.proofs.ChainLaw.{type_known}
@@ -28,12 +31,12 @@ use Rattle.ss_expand_formed_expressions.proofs.Places.{At, IsPlace}
 -- in the scope
 abbrev pub names_behind : List ClassTree → Locals → List ParamTree → Locals
 names_behind cs ls [] = ls
-names_behind cs ls (p ∷ ps) = names_behind cs (with_local ls p.name.text (record { ty = written_type cs p.ty; is_param = true })) ps
+names_behind cs ls (p ∷ ps) = names_behind cs (with_named ls p.name.text (record { ty = written_type cs p.ty; is_param = true })) ps
 
 -- and with numbers, from n on
 abbrev pub numbers_behind : List ClassTree → Known_names → ℕ → List ParamTree → Known_names
 numbers_behind cs ks n [] = ks
-numbers_behind cs ks n (p ∷ ps) = numbers_behind cs (with_known ks p.name.text (Variable n (type_id cs p.ty))) (n + 1) ps
+numbers_behind cs ks n (p ∷ ps) = numbers_behind cs (with_named ks p.name.text (Variable n (type_id cs p.ty))) (n + 1) ps
 
 abbrev pub next_behind : ℕ → List ParamTree → ℕ
 next_behind n [] = n
@@ -74,8 +77,8 @@ appended types [] (m ∷ ks) l k h name g = absurd h
 appended types (n ∷ ls) [] l k h name g = absurd h
 appended types (n ∷ ls) (m ∷ ks) l k h name g = (h.0, h.1, appended types ls ks l k h.2 name g)
 
-more_alike : (types : List Ty) (ls : Locals) (ks : Known_names) (x : List ℕ) (l : Local) (k : Known) → Alike types 0 ls ks → Stands types 0 l k → Alike types 0 (with_local ls x l) (with_known ks x k)
-more_alike types ls ks x l k h g = by (local_in ls x) (known_in ks x) (meets_in types 0 ls ks x h)
+more_alike : (types : List Ty) (ls : Locals) (ks : Known_names) (x : List ℕ) (l : Local) (k : Known) → Alike types 0 ls ks → Stands types 0 l k → Alike types 0 (with_named ls x l) (with_named ks x k)
+more_alike types ls ks x l k h g = by (named_in ls x) (named_in ks x) (meets_in types 0 ls ks x h)
   where
     by : (o : Option Local) (q : Option Known) → Meets types 0 o q → Alike types 0 (if is_some o then ls else ls ++ (x, l) ∷ []) (if is_some q then ks else ks ++ (x, k) ∷ [])
     by None None m = appended types ls ks (x, l) (x, k) h refl g
@@ -90,7 +93,7 @@ behind_alike cs types n ls ks [] h there at = h
 behind_alike cs types n ls ks (p ∷ ps) h there at =
     let zero_more : n + 0 ≡ n = omega arith in
     let here : slice_get types n ≡ Some (type_id cs p.ty) = ap (slice_get types) (sym zero_more) ∙ at 0 p refl in
-    behind_alike cs types (n + 1) (with_local ls p.name.text (record { ty = written_type cs p.ty; is_param = true })) (with_known ks p.name.text (Variable n (type_id cs p.ty))) ps
+    behind_alike cs types (n + 1) (with_named ls p.name.text (record { ty = written_type cs p.ty; is_param = true })) (with_named ks p.name.text (Variable n (type_id cs p.ty))) ps
     (more_alike types ls ks p.name.text (record { ty = written_type cs p.ty; is_param = true }) (Variable n (type_id cs p.ty)) h (there 0 p refl, here))
     (λ i q e. there (suc i) q e)
     (λ i q e. let s : n + 1 + i ≡ n + suc i = omega arith in ap (slice_get types) s ∙ at (suc i) q e)

@@ -16,7 +16,8 @@ use Rattle.ss_tables.specs.Members.{FieldTree, MethodTree, is_static}
 use Rattle.ss_tables.specs.Classes.{Declared, is_array_number, declared_place, field_of, above}
 use Rattle.ss_tables.specs.Types.{class_of}
 use Rattle.ss_tables.specs.Words.{is_length, is_state_read, is_state_call, is_state_word}
-use Rattle.ss_tables.specs.Scopes.{Scope, Local, local_in, local_among, local_named}
+use Rattle.ss_tables.specs.Scopes.{Scope, Local, local_named}
+use Rattle.ss_tables.specs.Named.{named_in, named_among}
 use Rattle.ss_tables.specs.Statics.{Receiver, TheConsole, TheOwner, TheBase, AClass, AValue, Callee, AMethod, APrint, AWord, ABase, NoCallee, receiver, name_callee, member_callee, result_type}
 use Rattle.ss_tables.specs.Statics as statics
 use Rattle.ss_typed.specs.Tree.{ExprTree, LocalOf, ModifiedTree, OneOf, AllOf, ElementsOf, BodyTree}
@@ -34,7 +35,9 @@ use Rattle.ss_resolver_types_expressions.specs.Expressions.{AsValue, BeforeDot, 
 use Rattle.ss_resolver_types_expressions.specs.Statements.{Body, is_target, is_length_of}
 use Rattle.ss_resolver_types_expressions.specs.Members as types
 use Rattle.ss_resolver_types_expressions.specs.Members.{is_field_term}
-use Rattle.ss_resolver_rules.specs.Names.{Env, Known, Variable, BoundName, known_in, known_among}
+use Rattle.ss_resolver_rules.specs.Names.{Env}
+use Rattle.ss_resolver_rules.specs.declared.known.Known.{Known}
+use Rattle.ss_resolver_rules.specs.declared.known.Known.TheVariants.{Variable, BoundName}
 use Rattle.ss_resolver_rules.specs.Names as env
 use Rattle.ss_resolver_rules.specs.Numbers.{type_id, class_in, method_id, table_place}
 use Rattle.ss_resolver_rules.specs.Expressions.{this, read_field, known_or_field, field_behind, state_word, third_class, member, method_call, base_call, owner_question, place_or_own, called_behind, called_bare, call, expr, args}
@@ -216,7 +219,7 @@ module _ (p : ProgramTree) (faultless : program_faults p ≡ []) (x : Context) (
 
   name_field : (q : Place) (n : List ℕ) → is_none (local_named scope_here n) ≡ true → IsFieldRead (expr (env_at p a) (NameOf q n))
   name_field q n h =
-      let met = meets_else x.locals a.bound (local_in a.names n) (local_among a.more_names n) (known_in a.numbers n) (known_among a.more_numbers n) (meets_in x.locals a.bound a.names a.numbers n place.inner) (meets_among x.locals a.bound a.more_names a.more_numbers n place.outer) in
+      let met = meets_else x.locals a.bound (named_in a.names n) (named_among a.more_names n) (named_in a.numbers n) (named_among a.more_numbers n) (meets_in x.locals a.bound a.names a.numbers n place.inner) (meets_among x.locals a.bound a.more_names a.more_numbers n place.outer) in
       let none = none_known x.locals a.bound (local_named scope_here n) (env.known (env_at p a) n) met h in
       record { where_read = q; of = this (env_at p a) q; field = field_of p.classes a.class n; is = ap (known_or_field (env_at p a) q n) none }
 

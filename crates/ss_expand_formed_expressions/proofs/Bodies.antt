@@ -15,7 +15,7 @@ use Rattle.ss_resolver_types_expressions.specs.Members as types
 use Rattle.ss_resolver_types_expressions.specs.Programs.{type_faults}
 use Rattle.ss_resolver_types_expressions.specs.Programs as phases
 use Rattle.ss_resolver_rules.specs.Programs.{method_body, constructor_body, bodies_of, bodies_from, resolved}
-use Rattle.ss_expand_rules.specs.Program.{body_at}
+use Rattle.ss_typed.specs.Lookups.{body_at}
 use Rattle.ss_expand_formed.proofs.Facts.{none_left}
 use Rattle.ss_expand_formed.proofs.ChainLaw.{none_at}
 

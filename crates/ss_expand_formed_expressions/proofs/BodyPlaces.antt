@@ -27,7 +27,7 @@ use Rattle.ss_resolver_types_expressions.specs.Members as types
 use Rattle.ss_resolver_rules.specs.Names.{Env}
 use Rattle.ss_resolver_rules.specs.Numbers.{type_id}
 use Rattle.ss_resolver_rules.specs.Programs.{param, method_env, param_env, method_body, constructor_body, resolved}
-use Rattle.ss_expand_rules.specs.Program.{body_at}
+use Rattle.ss_typed.specs.Lookups.{body_at}
 use Rattle.ss_store_rules.specs.Typed.{is_local}
 use Rattle.ss_expand_formed.specs.Laws.{core_of}
 use Rattle.ss_expand_formed.proofs.Facts.{none_left, all_at}

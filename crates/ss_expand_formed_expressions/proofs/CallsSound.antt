@@ -30,7 +30,7 @@ use Rattle.ss_resolver_types_expressions.specs.Expressions.{AsValue, faults, arg
 use Rattle.ss_resolver_rules.specs.Numbers.{number_or_object, class_id, class_in, array_class, type_id, method_id, table_place}
 use Rattle.ss_resolver_rules.specs.Expressions.{method_call, expr, args}
 use Rattle.ss_resolver_rules.specs.Programs.{method_env, method_body, resolved}
-use Rattle.ss_expand_rules.specs.Program.{body_at, constructor_of, param_types_in}
+use Rattle.ss_typed.specs.Lookups.{body_at, constructor_of, param_types_in}
 use Rattle.ss_expand_rules.specs.Program as program
 use Rattle.ss_expand_rules.specs.Lifting.{static_class, class_of_type}
 use Rattle.ss_store_rules.specs.Types.{has_fitting, has_class}

@@ -9,12 +9,15 @@ use Rattle.ss_ast.specs.Programs.{ParamTree, ProgramTree}
 use Rattle.ss_tables.specs.Members.{MethodTree, ConstructorTree, is_static}
 use Rattle.ss_tables.specs.Classes.{class_number}
 use Rattle.ss_tables.specs.Types.{written_type}
-use Rattle.ss_tables.specs.Scopes.{Scope, Local, Locals, local_in, class_scope, with_local}
+use Rattle.ss_tables.specs.Scopes.{Scope, Local, Locals, class_scope}
+use Rattle.ss_tables.specs.Named.{named_in, with_named}
 use Rattle.ss_tables.specs.Scopes as scopes
 use Rattle.ss_typed.specs.Tree.{BodyTree}
 use Rattle.ss_typed.specs.Tree as typed
 use Rattle.ss_typed.specs.Types.{class_type}
-use Rattle.ss_resolver_rules.specs.Names.{Known, Variable, Known_names, known_in, with_known, declare_params}
+use Rattle.ss_resolver_rules.specs.Names.{Known_names, declare_params}
+use Rattle.ss_resolver_rules.specs.declared.known.Known.{Known}
+use Rattle.ss_resolver_rules.specs.declared.known.Known.TheVariants.{Variable}
 use Rattle.ss_resolver_rules.specs.Numbers.{type_id}
 use Rattle.ss_resolver_rules.specs.Programs.{param_env, method_env, result_env}
 use Rattle.ss_expand_formed_expressions.proofs.Fit.{Context}
@@ -36,9 +39,9 @@ module _ (types : List Ty) (k : ℕ) where
   alike_append (o ∷ os) [] n l m h g = absurd h
   alike_append (o ∷ os) (q ∷ qs) n l m h g = (h.0, h.1, alike_append os qs n l m h.2 g)
 
-  pub alike_with : (ls : Locals) (ms : Known_names) (n : List ℕ) (l : Local) (m : Known) → Alike types k ls ms → Stands types k l m → Alike types k (with_local ls n l) (with_known ms n m)
+  pub alike_with : (ls : Locals) (ms : Known_names) (n : List ℕ) (l : Local) (m : Known) → Alike types k ls ms → Stands types k l m → Alike types k (with_named ls n l) (with_named ms n m)
   alike_with ls ms n l m h g =
-      subst (λ b. Alike types k (with_local ls n l) (if b then ms else ms ++ (n, m) ∷ [])) (meets_some (local_in ls n) (known_in ms n) (meets_in types k ls ms n h)) (by (is_some (local_in ls n)))
+      subst (λ b. Alike types k (with_named ls n l) (if b then ms else ms ++ (n, m) ∷ [])) (meets_some (named_in ls n) (named_in ms n) (meets_in types k ls ms n h)) (by (is_some (named_in ls n)))
     where
       by : (b : Bool) → Alike types k (if b then ls else ls ++ (n, l) ∷ []) (if b then ms else ms ++ (n, m) ∷ [])
       by true = h
@@ -69,8 +72,8 @@ module _ (p : ProgramTree) where
   -- behind a local of this type, which may be a parameter
   abbrev pub with_at : Bool → At → TypeTree → List ℕ → At
   with_at is_param a t n = record a {
-    names = with_local a.names n (record { ty = written_type p.classes t; is_param = is_param });
-    numbers = with_known a.numbers n (Variable a.next (type_id p.classes t));
+    names = with_named a.names n (record { ty = written_type p.classes t; is_param = is_param });
+    numbers = with_named a.numbers n (Variable a.next (type_id p.classes t));
     next = a.next + 1;
   }
 

@@ -16,7 +16,8 @@ use Rattle.ss_tables.specs.Members.{FieldTree}
 use Rattle.ss_tables.specs.Classes.{Declared, field_of, method_of, is_array_number, declared_place}
 use Rattle.ss_tables.specs.Types.{class_of}
 use Rattle.ss_tables.specs.Words.{is_state_read, is_state_call, is_length}
-use Rattle.ss_tables.specs.Scopes.{Local, local_in, local_among, local_named}
+use Rattle.ss_tables.specs.Scopes.{Local, local_named}
+use Rattle.ss_tables.specs.Named.{named_in, named_among}
 use Rattle.ss_tables.specs.Statics.{is_known, type_of_field, type_of_local, unless_refused, name_type, field_type, member_type}
 use Rattle.ss_tables.specs.Statics as statics
 use Rattle.ss_typed.specs.Tree.{ExprTree, StateOf, LengthOf}
@@ -26,7 +27,9 @@ use Rattle.ss_resolver_names_rules.specs.Expressions.{declares, has_member, expr
 use Rattle.ss_resolver_names_rules.specs.Programs.{program_faults}
 use Rattle.ss_resolver_types_expressions.specs.Calls.{without_members}
 use Rattle.ss_resolver_types_expressions.specs.Expressions.{is_method_name, reads_method, name_faults}
-use Rattle.ss_resolver_rules.specs.Names.{Known, Variable, BoundName, known_in, known_among, known}
+use Rattle.ss_resolver_rules.specs.Names.{known}
+use Rattle.ss_resolver_rules.specs.declared.known.Known.{Known}
+use Rattle.ss_resolver_rules.specs.declared.known.Known.TheVariants.{Variable, BoundName}
 use Rattle.ss_resolver_rules.specs.Numbers.{class_in}
 use Rattle.ss_resolver_rules.specs.Expressions.{this, read_field, known_or_field, field_behind, state_word, member, expr}
 use Rattle.ss_resolver_rules.specs.Programs.{resolved}
@@ -91,7 +94,7 @@ module _ (p : ProgramTree) (faultless : program_faults p ≡ []) (x : Context) (
   -- ---- bare names
 
   met : (a : At) → IsPlace p x static lacks answer a → (n : List ℕ) → Meets x.locals a.bound (local_named (scope_at p a) n) (known (env_at p a) n)
-  met a place n = meets_else x.locals a.bound (local_in a.names n) (local_among a.more_names n) (known_in a.numbers n) (known_among a.more_numbers n) (meets_in x.locals a.bound a.names a.numbers n place.inner) (meets_among x.locals a.bound a.more_names a.more_numbers n place.outer)
+  met a place n = meets_else x.locals a.bound (named_in a.names n) (named_among a.more_names n) (named_in a.numbers n) (named_among a.more_numbers n) (meets_in x.locals a.bound a.names a.numbers n place.inner) (meets_among x.locals a.bound a.more_names a.more_numbers n place.outer)
 
   abbrev NameRead : At → Place → List ℕ → Option Local → Option Known → Type 0
   NameRead a q n l m = ReadOf a (this (env_at p a) q) (known_or_field (env_at p a) q n m) (if is_some l then type_of_local l else unless_refused false (type_of_field p.classes (field_of p.classes a.class n)))

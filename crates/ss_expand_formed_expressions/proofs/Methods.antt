@@ -18,9 +18,11 @@ use Rattle.ss_typed.specs.Tree.{BodyTree}
 use Rattle.ss_typed.specs.Tree as typed
 use Rattle.ss_resolver_names_rules.specs.Programs.{program_faults}
 use Rattle.ss_resolver_rules.specs.Names.{Env}
-use Rattle.ss_resolver_rules.specs.Numbers.{type_id, names_of, is_listed, method_names, declared_entry, overridden, added, table_along, table, table_place, method_place, method_id, constructor_id}
+use Rattle.ss_resolver_names_rules.specs.Faults.{is_listed}
+use Rattle.ss_resolver_rules.specs.Numbers.{type_id, names_of, method_names, declared_entry, overridden, added, table_along, table, table_place, method_place, method_id, constructor_id}
 use Rattle.ss_resolver_rules.specs.Programs.{param, method_env, param_env, method_body, constructor_body, written_constructor, resolved}
-use Rattle.ss_expand_rules.specs.Program.{body_at, table_in, constructor_in, constructor_of, param_types_in}
+use Rattle.ss_expand_rules.specs.Program.{table_in}
+use Rattle.ss_typed.specs.Lookups.{body_at, constructor_in, constructor_of, param_types_in}
 use Rattle.ss_expand_rules.specs.Program as program
 use Rattle.ss_tables.specs.Members as tables
 use Rattle.ss_expand_formed.specs.Laws.{core_of}

@@ -5,8 +5,11 @@ use Rattle.std.specs.Str.{bytes_eq}
 use Rattle.ss_core.specs.declared.names.Ty.{Ty}
 use Rattle.ss_core.specs.declared.names.Ty.TheVariants as ty
 use Rattle.ss_tables.specs.Classes.{or_else}
-use Rattle.ss_tables.specs.Scopes.{Local, Locals, local_in, local_among}
-use Rattle.ss_resolver_rules.specs.Names.{Known, Variable, BoundName, Known_names, known_in, known_among}
+use Rattle.ss_tables.specs.Scopes.{Local, Locals}
+use Rattle.ss_tables.specs.Named.{named_in, named_among}
+use Rattle.ss_resolver_rules.specs.Names.{Known_names}
+use Rattle.ss_resolver_rules.specs.declared.known.Known.{Known}
+use Rattle.ss_resolver_rules.specs.declared.known.Known.TheVariants.{Variable, BoundName}
 
 -- the locals of a body by number have these types
 module _ (types : List Ty) where
@@ -57,13 +60,13 @@ module _ (types : List Ty) where
   meets_if k true l m o q h g = h
   meets_if k false l m o q h g = g
 
-  pub meets_in : (k : ℕ) (ls : Locals) (ms : Known_names) (n : List ℕ) → Alike k ls ms → Meets k (local_in ls n) (known_in ms n)
+  pub meets_in : (k : ℕ) (ls : Locals) (ms : Known_names) (n : List ℕ) → Alike k ls ms → Meets k (named_in ls n) (named_in ms n)
   meets_in k [] [] n h = tt
   meets_in k [] (m ∷ ms) n h = absurd h
   meets_in k (l ∷ ls) [] n h = absurd h
   meets_in k (l ∷ ls) (m ∷ ms) n h =
-      subst (λ z. Meets k (if bytes_eq n l.0 then Some l.1 else local_in ls n) (if bytes_eq n z then Some m.1 else known_in ms n)) h.0
-      (meets_if k (bytes_eq n l.0) l.1 m.1 (local_in ls n) (known_in ms n) h.1 (meets_in k ls ms n h.2))
+      subst (λ z. Meets k (if bytes_eq n l.0 then Some l.1 else named_in ls n) (if bytes_eq n z then Some m.1 else named_in ms n)) h.0
+      (meets_if k (bytes_eq n l.0) l.1 m.1 (named_in ls n) (named_in ms n) h.1 (meets_in k ls ms n h.2))
 
   pub meets_else : (k : ℕ) (l o : Option Local) (m q : Option Known) → Meets k l m → Meets k o q → Meets k (or_else l o) (or_else m q)
   meets_else k None o None q h g = g
@@ -71,8 +74,8 @@ module _ (types : List Ty) where
   meets_else k (Some l) o None q h g = absurd h
   meets_else k (Some l) o (Some m) q h g = h
 
-  pub meets_among : (k : ℕ) (ls : List Locals) (ms : List Known_names) (n : List ℕ) → AllAlike k ls ms → Meets k (local_among ls n) (known_among ms n)
+  pub meets_among : (k : ℕ) (ls : List Locals) (ms : List Known_names) (n : List ℕ) → AllAlike k ls ms → Meets k (named_among ls n) (named_among ms n)
   meets_among k [] [] n h = tt
   meets_among k [] (m ∷ ms) n h = absurd h
   meets_among k (l ∷ ls) [] n h = absurd h
-  meets_among k (l ∷ ls) (m ∷ ms) n h = meets_else k (local_in l n) (local_among ls n) (known_in m n) (known_among ms n) (meets_in k l m n h.0) (meets_among k ls ms n h.1)
+  meets_among k (l ∷ ls) (m ∷ ms) n h = meets_else k (named_in l n) (named_among ls n) (named_in m n) (named_among ms n) (meets_in k l m n h.0) (meets_among k ls ms n h.1)

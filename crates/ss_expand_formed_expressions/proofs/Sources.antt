@@ -7,8 +7,8 @@ use Rattle.ss_core.specs.declared.names.Ty.{Ty}
 use Rattle.ss_core.specs.declared.names.Ty.TheVariants as ty
 use Rattle.ss_core.specs.Tree as core
 use Rattle.ss_core.specs.Chain.{is_class}
-use Rattle.ss_ast.specs.declared.expr.Operator.{Operator}
-use Rattle.ss_ast.specs.declared.expr.Operator.TheVariants as op
+use Rattle.ss_core.specs.declared.expr.Operator.{Operator}
+use Rattle.ss_core.specs.declared.expr.Operator.TheVariants as op
 use Rattle.ss_ast.specs.Expressions.{NameTree, TypeTree, Arguments, NoMore, Argument, IffOf, ImpliesOf, BinaryOf, IsOf, AsOf, NegateOf, NotOf, CastOf, MemberOf, ElementOf, CallOf, NumberOf, TextOf, TruthOf, NullOf, ThisOf, BaseOf, ResultOf, NameOf, ParenOf, OldOf, NewOf, NewArrayOf, QuantifiedOf}
 use Rattle.ss_ast.specs.Expressions as text
 use Rattle.ss_ast.specs.Programs.{ClassTree, ProgramTree}
@@ -29,9 +29,9 @@ use Rattle.ss_resolver_types_expressions.specs.Wants.{Want, AnInt, ABool, ARefer
 use Rattle.ss_resolver_types_expressions.specs.Wants as wants
 use Rattle.ss_resolver_types_expressions.specs.Calls.{Around, without_members, has_no_members, called, called_member, is_wrong_call, argument_wants, whole_call}
 use Rattle.ss_resolver_types_expressions.specs.Expressions.{AsValue, BeforeDot, AsCallee, operand_faults, operand, comparison_faults, are_unlike, no_class, word_faults, used_member, is_wrong_read, is_no_read, reads_method, is_question, condition_faults, faults, argument_faults, is_number_type}
-use Rattle.ss_resolver_rules.specs.Names.{BoundName}
+use Rattle.ss_resolver_rules.specs.declared.known.Known.TheVariants.{BoundName}
 use Rattle.ss_resolver_rules.specs.Numbers.{class_in, written_class}
-use Rattle.ss_resolver_rules.specs.Expressions.{operator, as_int, expr, args}
+use Rattle.ss_resolver_rules.specs.Expressions.{as_int, expr, args}
 use Rattle.ss_resolver_rules.specs.Programs.{resolved}
 use Rattle.ss_store_rules.specs.Numbers.{fits}
 use Rattle.ss_store_rules.specs.Types.{is_int, is_bool, is_reference, where_typed, are_comparable, operation_type}
@@ -64,21 +64,6 @@ fits_number (negsuc n) = by (nat_lt 2147483647 n) refl
     by false e = within_bits n e
 
 -- ---- operators
-
-operation_is : (o : Operator) → typed.operation_type (operator o) ≡ statics.operation_type o
-operation_is op.Or = refl
-operation_is op.And = refl
-operation_is op.Equal = refl
-operation_is op.NotEqual = refl
-operation_is op.Less = refl
-operation_is op.LessEqual = refl
-operation_is op.Greater = refl
-operation_is op.GreaterEqual = refl
-operation_is op.Add = refl
-operation_is op.Subtract = refl
-operation_is op.Multiply = refl
-operation_is op.Divide = refl
-operation_is op.Remainder = refl
 
 alike_comparable : (t u : Ty) → are_alike t u ≡ true → (is_int (Some t) && is_int (Some u) || is_bool (Some t) && is_bool (Some u) || is_reference (Some t) && is_reference (Some u)) ≡ true
 alike_comparable ty.Int ty.Int h = refl
@@ -325,9 +310,9 @@ module _ (p : ProgramTree) (faultless : program_faults p ≡ []) (x : Context) (
 
   -- ---- operations
 
-  binary_by : (c : Bool) (a : At) (q : Place) (o : Operator) (y z : text.ExprTree) → Is c a y → Is c a z → operation_type (operator o) (type_of (expr (env_at p a) y)) (type_of (expr (env_at p a) z)) ≡ Some (typed.operation_type (operator o)) → Is c a (BinaryOf q o y z)
+  binary_by : (c : Bool) (a : At) (q : Place) (o : Operator) (y z : text.ExprTree) → Is c a y → Is c a z → operation_type o (type_of (expr (env_at p a) y)) (type_of (expr (env_at p a) z)) ≡ Some (typed.operation_type o) → Is c a (BinaryOf q o y z)
   binary_by c a q o y z s r is = record {
-    typed = λ u e. ap Some (operation_is o) ∙ e;
+    typed = λ u e. e;
     valued = refl;
     fit = (s.fit, r.fit, is);
     calls = λ e. two_calls (s.calls e) (r.calls e);
@@ -363,7 +348,7 @@ module _ (p : ProgramTree) (faultless : program_faults p ≡ []) (x : Context) (
           let l = none_left (misfit p.classes AnInt (known (T a) y)) _ g in
           rw (wanted_int p x static lacks answer c a y (wanted_in AnInt y ihy hy l.0), wanted_int p x static lacks answer c a z (wanted_in AnInt z ihz hz l.1)) refl
 
-      of_operator : (k : Operator) → faults (A c a) AsValue y ≡ [] → faults (A c a) AsValue z ≡ [] → operand_faults p.classes q (operand k) (known (T a) y) (known (T a) z) ≡ [] → operation_type (operator k) (type_of (expr (env_at p a) y)) (type_of (expr (env_at p a) z)) ≡ Some (typed.operation_type (operator k))
+      of_operator : (k : Operator) → faults (A c a) AsValue y ≡ [] → faults (A c a) AsValue z ≡ [] → operand_faults p.classes q (operand k) (known (T a) y) (known (T a) z) ≡ [] → operation_type k (type_of (expr (env_at p a) y)) (type_of (expr (env_at p a) z)) ≡ Some (typed.operation_type k)
       of_operator op.Or hy hz g = bools ty.Bool hy hz g
       of_operator op.And hy hz g = bools ty.Bool hy hz g
       of_operator op.Equal hy hz g = rw (compared c a q y z hy hz (ihy hy) (ihz hz) g) refl

@@ -17,7 +17,8 @@ use Rattle.ss_delayed_rules.specs.Constructors.{escapes, are_assigned, unassigne
 use Rattle.ss_delayed_rules.specs.Program.{classes_faults, body_faults, bodies_faults, construction_faults}
 use Rattle.ss_resolver_rules.specs.Programs.{constructor_body, resolved}
 use Rattle.ss_resolver_types_expressions.specs.Programs.{type_faults}
-use Rattle.ss_expand_rules.specs.Program.{field_at, body_at, table, Origin}
+use Rattle.ss_expand_rules.specs.Program.{field_at, table, Origin}
+use Rattle.ss_typed.specs.Lookups.{body_at}
 use Rattle.ss_expand_rules.specs.Contracts.{first_param, declarations}
 use Rattle.ss_expand_rules.specs.Constructors.{before_all, initializers}
 use Rattle.ss_expand_rules.specs.Lifting.{Setting}

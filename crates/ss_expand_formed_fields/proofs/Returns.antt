@@ -19,7 +19,8 @@ use Rattle.ss_paths.specs.Fields.{Numbers, field_numbers, is_among, own_fields}
 use Rattle.ss_paths.specs.Assigned.{Assigned, assigned_by, assigned_by_initializers, assigned_first, assigned_flow}
 use Rattle.ss_paths.specs.Paths as source
 use Rattle.ss_delayed_rules.specs.Escapes.{ForFields, NotAtAll, uses_each, uses_in, uses_in_all}
-use Rattle.ss_delayed_rules.specs.Constructors.{escapes, are_assigned_from, are_assigned, unassigned_faults, end_check, end_faults, base_faults, arguments_of, closing_brace, delayed_faults, undelayed_faults}
+use Rattle.ss_delayed_rules.specs.Constructors.{escapes, are_assigned_from, are_assigned, unassigned_faults, end_check, end_faults, base_faults, arguments_of, delayed_faults, undelayed_faults}
+use Rattle.ss_typed.specs.Shapes.{closing_brace, in_block}
 use Rattle.ss_delayed_rules.specs.Constructors as delayed
 use Rattle.ss_delayed_rules.specs.Constructors.{unassigned}
 use Rattle.ss_delayed_rules.specs.Program.{initializers_faults, implied_faults, classes_faults, body_faults, bodies_faults, construction_faults}
@@ -27,10 +28,11 @@ use Rattle.ss_resolver_names_rules.specs.Programs.{program_faults}
 use Rattle.ss_resolver_rules.specs.Programs.{constructor_body, members, resolved}
 use Rattle.ss_resolver_rules.specs.Programs as resolver
 use Rattle.ss_resolver_types_expressions.specs.Programs.{type_faults}
-use Rattle.ss_expand_rules.specs.Program.{field_at, body_at, table, Origin, above_of, constructor_in, constructor_of}
+use Rattle.ss_expand_rules.specs.Program.{field_at, table, Origin, above_of}
+use Rattle.ss_typed.specs.Lookups.{body_at, constructor_in, constructor_of}
 use Rattle.ss_expand_rules.specs.Contracts.{declarations}
-use Rattle.ss_expand_rules.specs.Constructors.{before_all, in_block, initializers, implicit_constructor}
-use Rattle.ss_expand_rules.specs.Constructors as expand
+use Rattle.ss_expand_rules.specs.Constructors.{before_all, initializers, implicit_constructor}
+use Rattle.ss_typed.specs.Shapes as shapes
 use Rattle.ss_expand_rules.specs.Lifting.{Setting}
 use Rattle.ss_expand_rules.specs.Simple.{simple}
 use Rattle.ss_expand_rules.specs.Statements.{stmts}
@@ -107,7 +109,7 @@ module _ (q : TypedTree) (b : BodyTree) (r : Builds q b) (none : end_faults q b 
   check = end_check q b.class (closing_brace b.block)
 
   abbrev last : StmtTrees
-  last = Before (ReturnOf (expand.closing_brace b.block) None) NoMore
+  last = Before (ReturnOf (shapes.closing_brace b.block) None) NoMore
 
   whole_none : source.faults_along flow check (before_all (in_block b.block) last) (Some (assigned_first q b)) ≡ []
   whole_none =

@@ -3,7 +3,6 @@ use Rattle.std.proofs.Common.{◌≡◌, ℕ, zero, suc, ◌+◌, ◌-◌, ◌*�
 use Rattle.std.specs.Prelude.{◌&&◌, ◌||◌, ◌==◌, not, nat_le, nat_lt, slice_get, sum_by, option_map, is_some, if◌then◌else◌}
 use Rattle.std.proofs.lemmas.Bool.{cases_Bool, and_parts, and_from, eq-eqb, leb-true, ltb-true, le-leb, lt-ltb, false≢true}
 use Rattle.std.proofs.lemmas.List.{length-map}
-use Rattle.std.proofs.lemmas.List.Sums.{sum_by-cons}
 use Rattle.std.proofs.lemmas.Option.{same_Some, slice_get-map}
 use Rattle.ss_core.specs.declared.names.Ty.{Ty}
 use Rattle.ss_core.specs.declared.names.Ty.TheVariants as ty
@@ -15,23 +14,24 @@ use Rattle.ss_typed.specs.Tree.{ExprTree, StmtTrees, NoMore, Before, TypedTree}
 use Rattle.ss_typed.specs.Tree as typed
 use Rattle.ss_paths.specs.Sets.{Set, put}
 use Rattle.ss_paths.specs.Fields as paths
-use Rattle.ss_paths.specs.Fields.{Numbers, class_place, own_fields, written_fields, field_numbers, is_among}
+use Rattle.ss_paths.specs.Fields.{Numbers, own_fields, written_fields, field_numbers, is_among}
+use Rattle.ss_typed.specs.Lookups.{class_place}
 use Rattle.ss_paths.specs.Assigned.{Assigned, starts_with_value, has_initializer, assigned_by_initializers, assigned_flow}
 use Rattle.ss_paths.specs.Paths as source
 use Rattle.ss_delayed_rules.specs.Constructors.{are_assigned_from, are_assigned, unassigned_faults, unassigned}
 use Rattle.ss_delayed_rules.specs.Constructors as delayed
 use Rattle.ss_resolver_rules.specs.Names.{class_env}
 use Rattle.ss_resolver_rules.specs.Numbers.{field_count}
-use Rattle.ss_resolver_rules.specs.Programs.{each, class, field, field_member, members, resolved}
+use Rattle.ss_resolver_rules.specs.Programs.{class, field, field_member, members, resolved}
 use Rattle.ss_expand_rules.specs.Program.{field_at}
-use Rattle.ss_expand_rules.specs.Constructors.{is_declared_in, initialize, initializers_from, fields_before, initializers_in, initializers}
+use Rattle.ss_expand_rules.specs.Constructors.{initialize, initializers_from, initializers_in, initializers}
 use Rattle.ss_store_rules.specs.Good as good
 use Rattle.ss_store_rules.specs.Construction.{has_fields_from}
 use Rattle.ss_expand_admissible.proofs.Classes as classes
 use Rattle.ss_expand_formed.specs.Laws.{core_of}
 use Rattle.ss_expand_formed.proofs.Places.{each_at, members_at}
 use Rattle.ss_expand_formed_construction.proofs.OwnFields.{own_at, first_number}
-use Rattle.ss_expand_formed_construction.proofs.Numbering.{same_fields}
+use Rattle.ss_expand_formed_construction.proofs.Numbering.{is_declared_in, same_fields}
 use Rattle.ss_expand_formed_fields.proofs.Mild.{Fields}
 
 -- ---- a list of fields that have their values
@@ -73,17 +73,6 @@ no_unassigned p t q a h =
     (λ no. absurd (let bad : delayed.at unassigned q ∷ [] ≡ [] = rw no at h in let z : ⊥ = cc in z))
     (cases_Bool (are_assigned p t a))
 
-counts : (all : List ClassTree) (j : ℕ) (cs : List ClassTree) (k : ℕ) → sum_by paths.field_count (take k (each (class all) j cs)) ≡ sum_by field_count (take k cs)
-counts all j [] zero = refl
-counts all j [] (suc k) = refl
-counts all j (x ∷ cs) zero = refl
-counts all j (x ∷ cs) (suc k) =
-    let one = sum_by-cons paths.field_count (class all j x) (take k (each (class all) (j + 1) cs)) in
-    let other = sum_by-cons field_count x (take k cs) in
-    let size : length (class all j x).fields ≡ field_count x = length-map (fields_in x.members) (field all) in
-    let rest = counts all (j + 1) cs k in
-    omega arith
-
 module _ (p : ProgramTree) (k : ℕ) (c : ClassTree) (at : slice_get p.classes k ≡ Some c) where
   abbrev q : TypedTree
   q = resolved p
@@ -100,11 +89,6 @@ module _ (p : ProgramTree) (k : ℕ) (c : ClassTree) (at : slice_get p.classes k
       let z : 0 + k ≡ k = omega arith in
       ap (λ i. paths.fields_in (slice_get q.classes i)) place ∙ ap paths.fields_in (each_at (class p.classes) 0 p.classes k c at ∙ ap (λ i. Some (class p.classes i c)) z)
 
-  pub first_is : n.first ≡ sum_by field_count (take k p.classes)
-  first_is =
-      let place : class_place t ≡ k = omega arith in
-      ap (λ i. sum_by paths.field_count (take i q.classes)) place ∙ counts p.classes 0 p.classes k
-
   -- a field that the class declares is one of its own
   own_field : (f : ℕ) (d : DeclaredField) → field_at q f ≡ Some d → (d.class == t) ≡ true → (i : ℕ) × (f ≡ n.first + i) × (slice_get (own_fields q t) i ≡ Some d.field)
   own_field f d there own =
@@ -117,7 +101,7 @@ module _ (p : ProgramTree) (k : ℕ) (c : ClassTree) (at : slice_get p.classes k
       let g = at_place (fields_in c.members) i (omega arith) in
       let number : f ≡ n.first + i = omega arith in
       let here : field_at q (sum_by field_count (take k p.classes) + i) ≡ Some (in_class t (field p.classes g.0)) = own_at p k c at i g.0 g.1 in
-      let same = first_is in
+      let same = first_number p k in
       let one : Some d ≡ Some (in_class t (field p.classes g.0)) = sym there ∙ ap (field_at q) (number ∙ ap (λ x. x + i) same) ∙ here in
       (i, number, ap (λ fs. slice_get fs i) own_is ∙ slice_get-map (field p.classes) (fields_in c.members) i ∙ ap (option_map (field p.classes)) g.1 ∙ sym (ap (λ (x : DeclaredField). Some x.field) (same_Some _ _ one)))
     where
@@ -210,13 +194,10 @@ module _ (p : ProgramTree) (k : ℕ) (c : ClassTree) (at : slice_get p.classes k
   abbrev none : Assigned
   none = record { own = λ i. false; above = false }
 
-  all_begun : (gs : List FieldTree) → fields_in c.members ≡ gs → Begun (map made gs) (fields_before t (all_fields q.classes)) 0 none
-  all_begun [] is = record { state = none; is = refl; grows = λ i h. h; has = λ i h. absurd (false≢true h) }
-  all_begun (g ∷ gs) is =
-      let number : fields_before t (all_fields q.classes) ≡ sum_by field_count (take k p.classes) = first_number p p.classes 0 4 p.classes k c at g gs is in
-      let same = first_is in
-      let size : n.count ≡ length (g ∷ gs) = ap length own_is ∙ length-map (fields_in c.members) (field p.classes) ∙ ap length is in
-      begins_from 0 (fields_before t (all_fields q.classes)) (g ∷ gs) none (omega arith) (omega arith)
+  all_begun : (gs : List FieldTree) → fields_in c.members ≡ gs → Begun (map made gs) n.first 0 none
+  all_begun gs is =
+      let size : n.count ≡ length gs = ap length own_is ∙ length-map (fields_in c.members) (field p.classes) ∙ ap length is in
+      begins_from 0 n.first gs none (omega arith) (omega arith)
 
   -- each field that begins with a value has one
   pub record Started : Type 0 where

@@ -40,9 +40,10 @@ use Rattle.ss_resolver_rules.specs.Names.{Env}
 use Rattle.ss_resolver_rules.specs.Expressions.{expr, args}
 use Rattle.ss_resolver_rules.specs.Statements.{Declared, declared_in_block, block, local}
 use Rattle.ss_resolver_rules.specs.Programs.{param, param_env, method_env, locals, base_of, method_body, constructor_body, written_constructor, resolved}
-use Rattle.ss_expand_rules.specs.Program.{body_at, above_of, constructor_in, constructor_of, param_types_in}
-use Rattle.ss_expand_rules.specs.Constructors.{in_block, implicit_constructor}
-use Rattle.ss_typed.specs.Shapes.{has_base}
+use Rattle.ss_expand_rules.specs.Program.{above_of}
+use Rattle.ss_typed.specs.Lookups.{body_at, constructor_in, constructor_of, param_types_in}
+use Rattle.ss_expand_rules.specs.Constructors.{implicit_constructor}
+use Rattle.ss_typed.specs.Shapes.{in_block, has_base}
 use Rattle.ss_expand_rules.specs.Contracts.{first_param}
 use Rattle.ss_expand_rules.specs.Bodies.{statements}
 use Rattle.ss_expand_formed.specs.Laws.{core_of}

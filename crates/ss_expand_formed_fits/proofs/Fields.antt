@@ -31,8 +31,9 @@ use Rattle.ss_resolver_rules.specs.Numbers.{type_id, field_count}
 use Rattle.ss_resolver_rules.specs.Names.{class_env}
 use Rattle.ss_resolver_rules.specs.Expressions.{expr}
 use Rattle.ss_resolver_rules.specs.Programs.{field, field_member, resolved}
+use Rattle.ss_paths.specs.Fields.{field_numbers}
 use Rattle.ss_expand_rules.specs.Program.{field_at}
-use Rattle.ss_expand_rules.specs.Constructors.{initial_assignment, initialize, initializers_from, fields_before, initializers_in, initializers}
+use Rattle.ss_expand_rules.specs.Constructors.{initial_assignment, initialize, initializers_from, initializers_in, initializers}
 use Rattle.ss_expand_formed.specs.Laws.{core_of}
 use Rattle.ss_expand_formed.proofs.Facts.{none_left}
 use Rattle.ss_expand_formed.proofs.ChainLaw.{none_at, type_known}
@@ -142,11 +143,10 @@ module _ (p : ProgramTree) (faultless : program_faults p ≡ []) (typed_well : p
       subst (λ d. InAll (initialize t f (made g) (made g).initial d (initializers_from P t (f + 1) (map made gs)))) (sym field_is)
       (initialized f g field_is fine g.initial fine.names fine.types (field_worded p owned k c at i g mine) (initializers_from P t (f + 1) (map made gs)) rest)
 
-  all_fit : (gs : List FieldTree) → fields_in c.members ≡ gs → InAll (initializers_from P t (fields_before t (all_fields P.classes)) (map made gs))
-  all_fit [] is = tt
-  all_fit (g ∷ gs) is =
-      let number = first_number p p.classes 0 4 p.classes k c at g gs is in
-      from_fit 0 (fields_before t (all_fields P.classes)) (g ∷ gs) (omega arith) (λ j y e. let z : 0 + j ≡ j = omega arith in rw z (ap (λ fs. slice_get fs j) is ∙ e))
+  all_fit : (gs : List FieldTree) → fields_in c.members ≡ gs → InAll (initializers_from P t (field_numbers P t).first (map made gs))
+  all_fit gs is =
+      let start : first_field + 0 ≡ first_field = omega arith in
+      from_fit 0 (field_numbers P t).first gs (first_number p k ∙ sym start) (λ j y e. let z : 0 + j ≡ j = omega arith in rw z (ap (λ fs. slice_get fs j) is ∙ e))
 
   -- the fields of the class begin with what fits
   pub initializers_fit : InAll (initializers P t)

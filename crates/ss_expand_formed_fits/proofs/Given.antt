@@ -20,7 +20,8 @@ use Rattle.ss_resolver_types_expressions.specs.Expressions.{AsValue, faults, arg
 use Rattle.ss_resolver_types_expressions.specs.Statements.{Outcome, conditions}
 use Rattle.ss_resolver_rules.specs.Expressions.{expr, args}
 use Rattle.ss_resolver_rules.specs.Programs.{resolved}
-use Rattle.ss_expand_rules.specs.Program.{above_of, constructor_of, param_types_in}
+use Rattle.ss_expand_rules.specs.Program.{above_of}
+use Rattle.ss_typed.specs.Lookups.{constructor_of, param_types_in}
 use Rattle.ss_store_rules.specs.Types.{has_fitting}
 use Rattle.ss_expand_formed.specs.Laws.{core_of}
 use Rattle.ss_expand_formed.proofs.Facts.{none_left}

@@ -19,8 +19,7 @@ use Rattle.ss_resolver_types_expressions.specs.Members.{constructor_body, base_c
 use Rattle.ss_resolver_rules.specs.Names.{Env}
 use Rattle.ss_resolver_rules.specs.Statements.{declared_in_block, declared_in, declared_in_all, behind, block, stmt, stmts}
 use Rattle.ss_resolver_rules.specs.Programs.{resolved}
-use Rattle.ss_expand_rules.specs.Constructors.{in_block}
-use Rattle.ss_typed.specs.Shapes.{has_base, is_base}
+use Rattle.ss_typed.specs.Shapes.{in_block, has_base, is_base}
 use Rattle.ss_expand_formed.specs.Laws.{core_of}
 use Rattle.ss_expand_formed.proofs.Facts.{none_left, or_false}
 use Rattle.ss_expand_formed_expressions.proofs.Fit.{Context}

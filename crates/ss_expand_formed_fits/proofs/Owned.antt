@@ -12,7 +12,7 @@ use Rattle.ss_owners_rules.specs.Attributes.{on_field, on_body, bad_attributes}
 use Rattle.ss_owners_rules.specs.Program.{of_words, of_attributes, field_faults, fields_faults, invariants_faults, class_faults, classes_faults, params_faults, misplaced_modified, misplaced_base, misplaced_body, body_faults, bodies_faults, ownership_faults}
 use Rattle.ss_resolver_rules.specs.Names.{Env, class_env}
 use Rattle.ss_resolver_rules.specs.Programs.{class, field, members, field_member, resolved}
-use Rattle.ss_expand_rules.specs.Program.{body_at}
+use Rattle.ss_typed.specs.Lookups.{body_at}
 use Rattle.ss_expand_formed.proofs.Facts.{none_left}
 use Rattle.ss_expand_formed.proofs.Places.{each_at}
 

@@ -14,11 +14,14 @@ use Rattle.ss_tables.specs.Members.{FieldTree}
 use Rattle.ss_tables.specs.Classes.{Declared, class_named, class_number, array_number, is_array_number, declared_place, field_of}
 use Rattle.ss_tables.specs.Types.{reference, named_type, array_type, written_type, class_of, element_type}
 use Rattle.ss_tables.specs.Words.{is_state_read, is_state_call, is_length}
-use Rattle.ss_tables.specs.Scopes.{Scope, Local, local_in, local_among, local_named}
+use Rattle.ss_tables.specs.Scopes.{Scope, Local, local_named}
+use Rattle.ss_tables.specs.Named.{named_in, named_among}
 use Rattle.ss_tables.specs.Statics.{Receiver, TheConsole, TheOwner, TheBase, AClass, AValue, receiver, type_of_field, type_of_local, unless_refused, field_type, member_type, read_type}
 use Rattle.ss_tables.specs.Statics as statics
 use Rattle.ss_resolver_types_expressions.specs.Statements.{is_target}
-use Rattle.ss_resolver_rules.specs.Names.{Known, Variable, BoundName, known_in, known_among, known}
+use Rattle.ss_resolver_rules.specs.Names.{known}
+use Rattle.ss_resolver_rules.specs.declared.known.Known.{Known}
+use Rattle.ss_resolver_rules.specs.declared.known.Known.TheVariants.{Variable, BoundName}
 use Rattle.ss_expand_formed.specs.Laws.{core_of}
 use Rattle.ss_expand_formed_expressions.proofs.Fit.{Context}
 use Rattle.ss_expand_formed_expressions.proofs.Names.{Meets, meets_in, meets_among, meets_else}
@@ -102,7 +105,7 @@ type_known C (ty.Ref c n) other class = class c.0 n refl
 
 module _ (p : ProgramTree) (x : Context) (is_known : IsKnown p x) (static lacks answer : Bool) (a : At) (place : IsPlace p x static lacks answer a) where
   met : (n : List ℕ) → Meets x.locals a.bound (local_named (scope_at p a) n) (known (env_at p a) n)
-  met n = meets_else x.locals a.bound (local_in a.names n) (local_among a.more_names n) (known_in a.numbers n) (known_among a.more_numbers n) (meets_in x.locals a.bound a.names a.numbers n place.inner) (meets_among x.locals a.bound a.more_names a.more_numbers n place.outer)
+  met n = meets_else x.locals a.bound (named_in a.names n) (named_among a.more_names n) (named_in a.numbers n) (named_among a.more_numbers n) (meets_in x.locals a.bound a.names a.numbers n place.inner) (meets_among x.locals a.bound a.more_names a.more_numbers n place.outer)
 
   name_not_null : (f : Option Ty) → (f ≡ Some ty.Null → ⊥) → (l : Option Local) (m : Option Known) → Meets x.locals a.bound l m → (if is_some l then type_of_local l else f) ≡ Some ty.Null → ⊥
   name_not_null f other None m h e = other e

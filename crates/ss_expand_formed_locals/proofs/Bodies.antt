@@ -1,8 +1,8 @@
 -- The code of each body of an elaborated program has its shape, in the numbers that the body has.
 use Rattle.std.proofs.Common.{◌≡◌, ℕ, zero, suc, ◌+◌, ◌-◌, ◌≤◌, ◌<◌, List, [], ◌∷◌, ◌++◌, length, map, Bool, true, false, Option, Some, None, refl, sym, ◌∙◌, ap, subst, arith, ⊎_elim}
-use Rattle.std.specs.Prelude.{◌&&◌, ◌||◌, ◌==◌, nat_le, nat_lt, slice_get, unwrap_or, if◌then◌else◌, option_to_list}
+use Rattle.std.specs.Prelude.{◌&&◌, ◌==◌, nat_le, nat_lt, slice_get, unwrap_or, if◌then◌else◌, option_to_list}
 use Rattle.std.specs.List.{list_all}
-use Rattle.std.proofs.lemmas.Bool.{and_parts, and_from, cases_Bool, cases_lt, or_left, or_right, eq-eqb, le-leb, lt-ltb, leb-true, ltb-true, false≢true}
+use Rattle.std.proofs.lemmas.Bool.{and_parts, and_from, cases_Bool, cases_lt, eq-eqb, le-leb, lt-ltb, leb-true, ltb-true}
 use Rattle.std.proofs.lemmas.List.{length-map, length-append}
 use Rattle.std.proofs.lemmas.Option.{slice_get_past}
 use Rattle.ss_core.specs.declared.names.Place.{Place}
@@ -19,12 +19,17 @@ use Rattle.ss_typed.specs.Tree as typed
 use Rattle.ss_resolver_rules.specs.Statements.{declared_in_block, local}
 use Rattle.ss_resolver_rules.specs.Names.{Env, class_env}
 use Rattle.ss_resolver_rules.specs.Programs.{param, param_env, method_env, method_body, constructor_body, resolved}
-use Rattle.ss_expand_rules.specs.Program.{field_at, members_of, table, Origin, above_of, number_in_table}
+use Rattle.ss_expand_rules.specs.Program.{field_at, table, Origin, above_of, number_in_table}
+use Rattle.ss_typed.specs.Lookups.{members_of}
 use Rattle.ss_expand_rules.specs.Numbers.{number}
 use Rattle.ss_expand_rules.specs.Contracts.{first_param, declarations}
-use Rattle.ss_expand_rules.specs.Constructors.{before_all, in_block, closing_brace, initialize, initializers_from, initializers_in, initializers, is_initial, behind_initial, base_alone, with_base, constructor_stmts, implicit_constructor}
-use Rattle.ss_typed.specs.Shapes.{has_base}
-use Rattle.ss_expand_rules.specs.Bodies.{is_local, simple_assigns, begin_assigns, step_assigns, assigns, block_assigns, any_assigns, assigned_from, assigned_params, meant_from, first_copy, meant, results, numbers, copies, temporaries_from, copying_from, with_return, statements, setting, code_with, temporary_types, temporary_count, code, written_body, own_params, wrapper_types, wrapper_result, returned, wrapper_code, first_of_wrapper, wrapper_body, param_of, copy_of}
+use Rattle.ss_paths.specs.Opening.{is_first}
+use Rattle.ss_expand_rules.specs.Constructors.{before_all, initialize, initializers_from, initializers_in, initializers, behind_initial, base_alone, with_base, constructor_stmts, implicit_constructor}
+use Rattle.ss_typed.specs.Shapes.{closing_brace, in_block, has_base, local_of}
+use Rattle.ss_typed.specs.Assigned.{listed, put_locals, first_locals, step_locals, assigned, assigned_along}
+use Rattle.ss_paths.specs.Sets.{among}
+use Rattle.ss_paths.proofs.Among.{among_left, among_right, among_itself}
+use Rattle.ss_expand_rules.specs.Bodies.{block_assigns, assigned_from, assigned_params, meant_from, first_copy, meant, results, numbers, copies, temporaries_from, copying_from, with_return, statements, setting, code_with, temporary_types, temporary_count, code, written_body, own_params, wrapper_types, wrapper_result, returned, wrapper_code, first_of_wrapper, wrapper_body, param_of, copy_of}
 use Rattle.ss_store_rules.specs.Locals.{targets_only, this_types, argument_types, types_of, local_types, argument_count, result_number}
 use Rattle.ss_store_rules.specs.Typed.{body_at}
 use Rattle.ss_expand_rules.specs.Lifting.{Opened}
@@ -42,59 +47,57 @@ use Rattle.ss_expand_formed_locals.proofs.Resolving.{params_numbered, block_in}
 
 -- ---- what passes where a local is assigned
 
-local_passes : (f h : ℕ → Bool) (e : ExprTree) → ((x : ℕ) → f x ≡ true → is_local x e ≡ true → h x ≡ true) → target_passes f e ≡ true → target_passes h e ≡ true
-local_passes f h (LocalOf p x t) more i = more x i (eq-eqb x x refl)
+local_passes : (f h : ℕ → Bool) (e : ExprTree) → ((x : ℕ) → f x ≡ true → among (listed (local_of e)) x ≡ true → h x ≡ true) → target_passes f e ≡ true → target_passes h e ≡ true
+local_passes f h (LocalOf p x t) more i = more x i (among_itself x [])
 local_passes f h e more i = refl
 
-simple_more : (f h : ℕ → Bool) (s : SimpleTree) → ((x : ℕ) → f x ≡ true → simple_assigns x s ≡ true → h x ≡ true) → simple_passes f s ≡ true → simple_passes h s ≡ true
+simple_more : (f h : ℕ → Bool) (s : SimpleTree) → ((x : ℕ) → f x ≡ true → among (put_locals s) x ≡ true → h x ≡ true) → simple_passes f s ≡ true → simple_passes h s ≡ true
 simple_more f h (AssignOf target o e) more i = local_passes f h target more i
 simple_more f h (StepOf target o) more i = local_passes f h target more i
 simple_more f h s more i = refl
-
-any_of : (a b c : Bool) → (a ≡ true → (a || b || c) ≡ true) × (b ≡ true → (a || b || c) ≡ true) × (c ≡ true → (a || b || c) ≡ true)
-any_of true b c = (λ h. refl, λ h. refl, λ h. refl)
-any_of false true c = (λ h. refl, λ h. refl, λ h. refl)
-any_of false false c = (λ h. absurd (false≢true h), λ h. absurd (false≢true h), λ h. h)
 
 module _ (f g h k : ℕ → Bool) (declared : (x : ℕ) → g x ≡ true → k x ≡ true) where
   declared_more : (ds : List DeclaratorTree) → declared_pass g ds ≡ true → declared_pass k ds ≡ true
   declared_more ds i = all_more (λ (d : DeclaratorTree). g d.local) (λ (d : DeclaratorTree). k d.local) (λ d j. declared d.local j) ds i
 
-  begin_more : (b : Option InitTree) → ((x : ℕ) → f x ≡ true → begin_assigns x b ≡ true → h x ≡ true) → begin_passes f g b ≡ true → begin_passes h k b ≡ true
+  begin_more : (b : Option InitTree) → ((x : ℕ) → f x ≡ true → among (first_locals b) x ≡ true → h x ≡ true) → begin_passes f g b ≡ true → begin_passes h k b ≡ true
   begin_more None more i = refl
   begin_more (Some (DeclareFirst ds)) more i = declared_more ds i
   begin_more (Some (SimpleFirst s)) more i = simple_more f h s more i
 
-  step_more : (s : Option SimpleTree) → ((x : ℕ) → f x ≡ true → step_assigns x s ≡ true → h x ≡ true) → advance_passes f s ≡ true → advance_passes h s ≡ true
+  step_more : (s : Option SimpleTree) → ((x : ℕ) → f x ≡ true → among (step_locals s) x ≡ true → h x ≡ true) → advance_passes f s ≡ true → advance_passes h s ≡ true
   step_more None more i = refl
   step_more (Some s) more i = simple_more f h s more i
 
   mutual
-    stmt_more : (s : StmtTree) → ((x : ℕ) → f x ≡ true → assigns x s ≡ true → h x ≡ true) → stmt_passes f g s ≡ true → stmt_passes h k s ≡ true
+    stmt_more : (s : StmtTree) → ((x : ℕ) → f x ≡ true → among (assigned s) x ≡ true → h x ≡ true) → stmt_passes f g s ≡ true → stmt_passes h k s ≡ true
     stmt_more (InBlock b) more i = block_more b more i
     stmt_more (DeclareOf ds) more i = declared_more ds i
     stmt_more (SimpleOf s) more i = simple_more f h s more i
     stmt_more (IfOf p e a) more i = stmt_more a more i
     stmt_more (IfElseOf p e a b) more i =
         let both = and_parts (stmt_passes f g a) (stmt_passes f g b) i in
-        and_from _ _ (stmt_more a (λ x y z. more x y (or_left _ _ z)) both.0) (stmt_more b (λ x y z. more x y (or_right _ _ z)) both.1)
+        and_from _ _ (stmt_more a (λ x y z. more x y (among_left (assigned a) (assigned b) x z)) both.0) (stmt_more b (λ x y z. more x y (among_right (assigned a) (assigned b) x z)) both.1)
     stmt_more (WhileOf p e is a) more i = stmt_more a more i
     stmt_more (ForOf p b e s is a) more i =
         let both = and_parts (begin_passes f g b) (advance_passes f s && stmt_passes f g a) i in
         let rest = and_parts (advance_passes f s) (stmt_passes f g a) both.1 in
-        let any = λ (x : ℕ). any_of (begin_assigns x b) (step_assigns x s) (assigns x a) in
-        and_from _ _ (begin_more b (λ x y z. more x y ((any x).0 z)) both.0) (and_from _ _ (step_more s (λ x y z. more x y ((any x).1 z)) rest.0) (stmt_more a (λ x y z. more x y ((any x).2 z)) rest.1))
+        let first = first_locals b in
+        let others = assigned a ++ step_locals s in
+        and_from _ _ (begin_more b (λ x y z. more x y (among_left first others x z)) both.0)
+        (and_from _ _ (step_more s (λ x y z. more x y (among_right first others x (among_right (assigned a) (step_locals s) x z))) rest.0)
+        (stmt_more a (λ x y z. more x y (among_right first others x (among_left (assigned a) (step_locals s) x z))) rest.1))
     stmt_more (ExposeOf p e t b) more i = block_more b more i
     stmt_more s more i = refl
 
     pub block_more : (b : BlockTree) → ((x : ℕ) → f x ≡ true → block_assigns x b ≡ true → h x ≡ true) → block_passes f g b ≡ true → block_passes h k b ≡ true
     block_more (BlockOf p ss end) more i = all_of_more ss more i
 
-    all_of_more : (ss : StmtTrees) → ((x : ℕ) → f x ≡ true → any_assigns x ss ≡ true → h x ≡ true) → all_pass f g ss ≡ true → all_pass h k ss ≡ true
+    all_of_more : (ss : StmtTrees) → ((x : ℕ) → f x ≡ true → among (assigned_along ss) x ≡ true → h x ≡ true) → all_pass f g ss ≡ true → all_pass h k ss ≡ true
     all_of_more NoMore more i = refl
     all_of_more (Before s ss) more i =
         let both = and_parts (stmt_passes f g s) (all_pass f g ss) i in
-        and_from _ _ (stmt_more s (λ x y z. more x y (or_left _ _ z)) both.0) (all_of_more ss (λ x y z. more x y (or_right _ _ z)) both.1)
+        and_from _ _ (stmt_more s (λ x y z. more x y (among_left (assigned s) (assigned_along ss) x z)) both.0) (all_of_more ss (λ x y z. more x y (among_right (assigned s) (assigned_along ss) x z)) both.1)
 
 -- ---- what a parameter is meant by
 
@@ -199,7 +202,7 @@ module _ (f g : ℕ → Bool) (p : TypedTree) where
   behind_initial_passes t s NoMore h i = and_from _ _ h refl
   behind_initial_passes t s (Before x xs) h i =
       let both = and_parts (stmt_passes f g x) (all_pass f g xs) i in
-      on_either (λ (z : StmtTrees). all_pass f g z ≡ true) (is_initial p t x) (Before x (behind_initial p t s xs)) (Before s (Before x xs))
+      on_either (λ (z : StmtTrees). all_pass f g z ≡ true) (is_first p t x) (Before x (behind_initial p t s xs)) (Before s (Before x xs))
       (and_from _ _ both.0 (behind_initial_passes t s xs h both.1))
       (and_from _ _ h i)
 

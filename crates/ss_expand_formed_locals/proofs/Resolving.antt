@@ -17,7 +17,10 @@ use Rattle.ss_tables.specs.Classes.{Declared, or_else, field_of, is_array_number
 use Rattle.ss_tables.specs.Words.{is_state_read}
 use Rattle.ss_tables.specs.Statics.{Receiver, TheConsole, TheOwner, TheBase, AClass, AValue, receiver, static}
 use Rattle.ss_typed.specs.Tree.{ExprTree, LocalOf, LengthOf, StateOf}
-use Rattle.ss_resolver_rules.specs.Names.{Known, Variable, BoundName, Known_names, Env, known_in, known_among, known, with_known, enter, declare, declare_all, declare_param, declare_params}
+use Rattle.ss_resolver_rules.specs.Names.{Known_names, Env, known, enter, declare, declare_all, declare_param, declare_params}
+use Rattle.ss_resolver_rules.specs.declared.known.Known.{Known}
+use Rattle.ss_resolver_rules.specs.declared.known.Known.TheVariants.{Variable, BoundName}
+use Rattle.ss_tables.specs.Named.{named_in, named_among, with_named}
 use Rattle.ss_resolver_rules.specs.Numbers.{type_id, class_in}
 use Rattle.ss_resolver_rules.specs.Expressions.{this, read_field, known_or_field, field_behind, state_word, member, expr, call, args}
 use Rattle.ss_resolver_rules.specs.Statements as rules
@@ -65,27 +68,27 @@ module _ (low : ℕ) where
   may_have n None = true
   may_have n (Some k) = has_number low n k
 
-  in_scope : (n : ℕ) (ls : Known_names) (x : List ℕ) → have_numbers low n ls ≡ true → may_have n (known_in ls x) ≡ true
+  in_scope : (n : ℕ) (ls : Known_names) (x : List ℕ) → have_numbers low n ls ≡ true → may_have n (named_in ls x) ≡ true
   in_scope n [] x h = refl
   in_scope n (l ∷ ls) x h =
       let both = and_parts (has_number low n l.1) (have_numbers low n ls) h in
-      on_either (λ (k : Option Known). may_have n k ≡ true) (bytes_eq x l.0) (Some l.1) (known_in ls x) both.0 (in_scope n ls x both.1)
+      on_either (λ (k : Option Known). may_have n k ≡ true) (bytes_eq x l.0) (Some l.1) (named_in ls x) both.0 (in_scope n ls x both.1)
 
   in_either : (n : ℕ) (a b : Option Known) → may_have n a ≡ true → may_have n b ≡ true → may_have n (or_else a b) ≡ true
   in_either n (Some k) b h g = h
   in_either n None b h g = g
 
-  in_scopes : (n : ℕ) (ls : List Known_names) (x : List ℕ) → list_all (have_numbers low n) ls ≡ true → may_have n (known_among ls x) ≡ true
+  in_scopes : (n : ℕ) (ls : List Known_names) (x : List ℕ) → list_all (have_numbers low n) ls ≡ true → may_have n (named_among ls x) ≡ true
   in_scopes n [] x h = refl
   in_scopes n (l ∷ ls) x h =
       let both = and_parts (have_numbers low n l) (list_all (have_numbers low n) ls) h in
-      in_either n (known_in l x) (known_among ls x) (in_scope n l x both.0) (in_scopes n ls x both.1)
+      in_either n (named_in l x) (named_among ls x) (in_scope n l x both.0) (in_scopes n ls x both.1)
 
   -- what a name stands for
   pub known_numbered : (e : Env) → is_numbered low e ≡ true → (x : List ℕ) → may_have e.next (known e x) ≡ true
   known_numbered e h x =
       let both = and_parts (have_numbers low e.next e.inner) (list_all (have_numbers low e.next) e.outer) h in
-      in_either e.next (known_in e.inner x) (known_among e.outer x) (in_scope e.next e.inner x both.0) (in_scopes e.next e.outer x both.1)
+      in_either e.next (named_in e.inner x) (named_among e.outer x) (in_scope e.next e.inner x both.0) (in_scopes e.next e.outer x both.1)
 
   field_passes : (f : ℕ → Bool) (e : Env) (p : Place) (o : ExprTree) (d : Option (Declared FieldTree)) → target_passes f (read_field e p o d) ≡ true
   field_passes f e p o None = refl
@@ -138,13 +141,13 @@ module _ (low : ℕ) where
 
   -- ---- more names
 
-  with_known_numbered : (n : ℕ) (ls : Known_names) (x : List ℕ) (k : Known) → have_numbers low n ls ≡ true → has_number low n k ≡ true → have_numbers low n (with_known ls x k) ≡ true
+  with_known_numbered : (n : ℕ) (ls : Known_names) (x : List ℕ) (k : Known) → have_numbers low n ls ≡ true → has_number low n k ≡ true → have_numbers low n (with_named ls x k) ≡ true
   with_known_numbered n ls x k h g =
-      on_either (λ (z : Known_names). have_numbers low n z ≡ true) (is_some (known_in ls x)) ls (ls ++ (x, k) ∷ []) h
+      on_either (λ (z : Known_names). have_numbers low n z ≡ true) (is_some (named_in ls x)) ls (ls ++ (x, k) ∷ []) h
       (list_all-append (λ (l : List ℕ × Known). has_number low n l.1) ls ((x, k) ∷ []) ∙ rw (h, g) refl)
 
   -- what is known behind one more local
-  one_more : (e : Env) → is_numbered low e ≡ true → low ≤ e.next → (x : List ℕ) (t : Ty) → (have_numbers low (e.next + 1) (with_known e.inner x (Variable e.next t)) && list_all (have_numbers low (e.next + 1)) e.outer) ≡ true
+  one_more : (e : Env) → is_numbered low e ≡ true → low ≤ e.next → (x : List ℕ) (t : Ty) → (have_numbers low (e.next + 1) (with_named e.inner x (Variable e.next t)) && list_all (have_numbers low (e.next + 1)) e.outer) ≡ true
   one_more e h l x t =
       let both = and_parts (have_numbers low e.next e.inner) (list_all (have_numbers low e.next) e.outer) h in
       let new = and_from _ _ (le-leb low e.next l) (lt-ltb e.next (e.next + 1) (omega arith)) in

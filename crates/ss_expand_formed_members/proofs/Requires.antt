@@ -18,7 +18,8 @@ use Rattle.ss_delayed_rules.specs.Program.{classes_faults, body_faults, bodies_f
 use Rattle.ss_resolver_rules.specs.Names.{Env, class_env}
 use Rattle.ss_resolver_rules.specs.Programs.{entry_in, param, param_env, method_body, constructor_body, resolved}
 use Rattle.ss_expand_rules.specs.Numbers.{Numbers, plain, all_plain}
-use Rattle.ss_expand_rules.specs.Program.{table, method_at, body_at, Origin}
+use Rattle.ss_expand_rules.specs.Program.{table, method_at, Origin}
+use Rattle.ss_typed.specs.Lookups.{body_at}
 use Rattle.ss_expand_rules.specs.Contracts.{first_param, conditions, default_entry}
 use Rattle.ss_expand_rules.specs.Bodies.{contract_numbers, written_body}
 use Rattle.ss_store_rules.specs.Locals.{is_default}

@@ -13,7 +13,8 @@ use Rattle.ss_typed.specs.Types.{type_of}
 use Rattle.ss_expand_rules.specs.Numbers.{plain_arguments}
 use Rattle.ss_expand_rules.specs.Calls.{has_call, have_call}
 use Rattle.ss_typed.specs.Shapes.{is_this, place_of}
-use Rattle.ss_expand_rules.specs.Program.{above_of, constructor_of, param_types_in}
+use Rattle.ss_expand_rules.specs.Program.{above_of}
+use Rattle.ss_typed.specs.Lookups.{constructor_of, param_types_in}
 use Rattle.ss_expand_rules.specs.Code.{Coded, nothing, then_code}
 use Rattle.ss_expand_rules.specs.Lifting.{Opened, Setting, Lifted, Listed, next, temporary_type, any_object, in_temporaries, right_side, value, arguments_of}
 use Rattle.ss_expand_rules.specs.Simple.{assign_settled, Settled, settle_lifted, settle_part, settle, assign_behind, assign, update, assignment, step_operator, declared_as, declare, print, ready_behind, base_with, base_of, simple}

@@ -18,7 +18,8 @@ use Rattle.ss_nonnull_rules.specs.NonNull as source
 use Rattle.ss_nonnull_rules.specs.Faults as faults
 use Rattle.ss_nonnull_rules.specs.Program.{site_of, only_fields}
 use Rattle.ss_expand_rules.specs.Contracts.{first_param}
-use Rattle.ss_expand_rules.specs.Constructors.{before_all, in_block, closing_brace, constructor_stmts}
+use Rattle.ss_expand_rules.specs.Constructors.{before_all, constructor_stmts}
+use Rattle.ss_typed.specs.Shapes.{closing_brace, in_block}
 use Rattle.ss_expand_rules.specs.Lifting.{Pure}
 use Rattle.ss_expand_rules.specs.Bodies.{block_assigns, assigned_from, assigned_params, first_copy, meant, results, copies, temporaries_from, copying_from, copying, with_return, statements, code_with, temporary_types, temporary_count, written_body}
 use Rattle.ss_store_rules.specs.Locals.{this_types, types_of, local_types}

@@ -35,7 +35,8 @@ use Rattle.ss_expand_formed_known.proofs.Kept.{spares, facts_kept}
 use Rattle.ss_expand_formed_nulls.specs.Fitting.{Frame, setting, implied, wants_no_more, enters_with, fits, all_fit, Agrees, Covers, HasMade}
 use Rattle.ss_expand_formed_nulls.proofs.Growing.{begins_append, operand_begins, lifted_of_begins, lifted_begins}
 use Rattle.ss_expand_formed_nulls.proofs.New.{each_more, spared, too_low}
-use Rattle.ss_expand_formed_nulls.proofs.Plain.{not_none, either_is, either_left, either_right, implied_true, on_set, local_of, says_mine, plain_says, plain_never}
+use Rattle.ss_paths.proofs.Among.{either_left, either_right}
+use Rattle.ss_expand_formed_nulls.proofs.Plain.{not_none, either_is, implied_true, on_set, local_of, says_mine, plain_says, plain_never}
 use Rattle.ss_expand_formed_nulls.proofs.Putting.{source_says, source_enters, source_is_this, Runs, runs_nothing}
 use Rattle.ss_expand_formed_nulls.proofs.Lifted.{ns, at, never_in, core_never, Lifts, Held, made_before, not_this, lifted_of_known, operand_known, unary_known, binary_known, Lazy, lazily_known}
 

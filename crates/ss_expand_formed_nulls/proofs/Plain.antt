@@ -38,14 +38,6 @@ pub either_is : (f g : Set) (x : ℕ) → either f g x ≡ true → (f x || g x)
 unfolding either
 either_is f g x h = h
 
-pub either_left : (f g : Set) (x : ℕ) → f x ≡ true → either f g x ≡ true
-unfolding either
-either_left f g x h = or_left _ _ h
-
-pub either_right : (f g : Set) (x : ℕ) → g x ≡ true → either f g x ≡ true
-unfolding either
-either_right f g x h = or_right _ _ h
-
 pub implied_true : (a b : Bool) → implied a b ≡ true → a ≡ true → b ≡ true
 implied_true true b h i = h
 implied_true false b h i = absurd (false≢true i)

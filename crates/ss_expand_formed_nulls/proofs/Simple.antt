@@ -26,7 +26,8 @@ use Rattle.ss_nonnull_rules.specs.Facts.{is_null}
 use Rattle.ss_nonnull_rules.specs.Faults.{inside, inside_if, wanted, wanted_if, handed_to_base, constructor_parameters, null_fault, starts, done_faults, null_check}
 use Rattle.ss_expand_rules.specs.Numbers.{number}
 use Rattle.ss_typed.specs.Shapes.{place_of}
-use Rattle.ss_expand_rules.specs.Program.{above_of, constructor_of, param_types_in, Constructor, number_of}
+use Rattle.ss_expand_rules.specs.Program.{above_of, Constructor, number_of}
+use Rattle.ss_typed.specs.Lookups.{constructor_of, param_types_in}
 use Rattle.ss_expand_rules.specs.Lifting.{Opened, Source, Pure, Created, CreatedArray, Called, Listed, right_side, value, arguments_of}
 use Rattle.ss_expand_rules.specs.Simple.{update, assignment, step_operator, default_of, declared_as, declare, drop_result, print, has_delayed_constructor, ready_behind, base_with, base_of, simple}
 use Rattle.ss_store_rules.specs.Typed.{callee_of}

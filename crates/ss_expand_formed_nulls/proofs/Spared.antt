@@ -18,7 +18,8 @@ use Rattle.ss_typed.specs.Types.{type_of}
 use Rattle.ss_expand_rules.specs.Numbers.{number, plain, plain_arguments}
 use Rattle.ss_expand_rules.specs.Calls.{has_call, have_call}
 use Rattle.ss_typed.specs.Shapes.{is_this, place_of}
-use Rattle.ss_expand_rules.specs.Program.{field_at, above_of, constructor_of, param_types_in}
+use Rattle.ss_expand_rules.specs.Program.{field_at, above_of}
+use Rattle.ss_typed.specs.Lookups.{constructor_of, param_types_in}
 use Rattle.ss_expand_rules.specs.Code.{Coded, nothing, then_code}
 use Rattle.ss_expand_rules.specs.Lifting.{Opened, Setting, Source, Pure, Created, CreatedArray, Called, put, Lifted, Valued, Listed, unlifted, next, temporary_type, any_object, valued_from, lifted, in_temporaries, right_side, value, arguments_of}
 use Rattle.ss_expand_rules.specs.Simple.{write_of, write, assign_settled, Settled, settle_lifted, settle_part, settle, assign_behind, assign, update, assignment, step_operator, declared_as, declare, drop_result, print, has_delayed_constructor, ready_behind, base_with, base_of, simple}

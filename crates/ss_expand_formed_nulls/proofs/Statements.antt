@@ -10,10 +10,12 @@ use Rattle.ss_core.specs.View.{code_of}
 use Rattle.ss_typed.specs.Tree.{ExprTree, BoolOf, SimpleTree, InitTree, DeclareFirst, SimpleFirst, BlockTree, BlockOf, StmtTree, InBlock, DeclareOf, SimpleOf, IfOf, IfElseOf, WhileOf, ForOf, ReturnOf, AssertOf, AssumeOf, ExposeOf, EmptyOf, StmtTrees, Before}
 use Rattle.ss_typed.specs.Tree as typed
 use Rattle.ss_typed.specs.Types.{type_of}
+use Rattle.ss_typed.specs.Assigned.{assigned, step_locals}
+use Rattle.ss_paths.specs.Sets.{among}
 use Rattle.ss_paths.specs.Paths as phase
 use Rattle.ss_paths.specs.Paths.{faults_at, faults_in, faults_along, first_faults, step_faults}
 use Rattle.ss_nonnull_rules.specs.NonNull as source
-use Rattle.ss_nonnull_rules.specs.Facts.{forgotten, step_puts, assigns}
+use Rattle.ss_nonnull_rules.specs.Facts.{forgotten}
 use Rattle.ss_nonnull_rules.specs.Faults.{inside, wanted_if, returned_faults, null_check}
 use Rattle.ss_expand_rules.specs.Numbers.{number, all_plain}
 use Rattle.ss_typed.specs.Shapes.{is_true, place_of}
@@ -177,7 +179,7 @@ module _ (z : Frame) (agrees : Agrees z) (builds : Builds z) where
 
   -- the statement of a loop assigns no local that it doesn't assign in the phase
   abbrev Leaves : List Opened → StmtTree → Option SimpleTree → Code → Type 0
-  Leaves os a step xs = (x : ℕ) → z.locals x ≡ true → assigns a x ≡ false → step_puts step x ≡ false → Spares (number z.numbers x) xs
+  Leaves os a step xs = (x : ℕ) → z.locals x ≡ true → among (assigned a) x ≡ false → among (step_locals step) x ≡ false → Spares (number z.numbers x) xs
 
   loops : (os : List Opened) (p : Place) (is : List ExprTree) (e : Option ExprTree) (turn : List Ty → Coded) (a : StmtTree) (step : Option SimpleTree) (k : source.Known) (made : List Ty) → may_fit z e ≡ true → inside z.site (Some (at_head a step k)) (phase.test_of p e) ≡ [] →
       Turns turn (source.known_tested (phase.test_of p e) true (at_head a step k)) → Codes turn → Leaves os a step (loop_while (setting z os) p is e turn made).code → Statement (loop_while (setting z os) p is e turn) made k (phase.left (along z agrees) (phase.test_of p e) (at_head a step k))

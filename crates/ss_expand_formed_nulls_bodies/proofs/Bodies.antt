@@ -10,10 +10,12 @@ use Rattle.ss_typed.specs.Tree.{BlockTree, BlockOf, ReturnOf, StmtTrees, NoMore,
 use Rattle.ss_nonnull_rules.specs.Program.{null_faults}
 use Rattle.ss_resolver_names_rules.specs.Programs.{program_faults}
 use Rattle.ss_resolver_rules.specs.Programs.{resolved}
-use Rattle.ss_expand_rules.specs.Program.{body_at, above_of, method_at, table, Origin, Method, is_declared_by, number_in_table}
+use Rattle.ss_expand_rules.specs.Program.{above_of, method_at, table, Origin, Method, is_declared_by, number_in_table}
+use Rattle.ss_typed.specs.Lookups.{body_at}
 use Rattle.ss_expand_rules.specs.Contracts.{first_param, declarations}
 use Rattle.ss_expand_rules.specs.Bodies.{with_return, statements, written_body, wrapper_body}
-use Rattle.ss_expand_rules.specs.Constructors.{before_all, in_block, closing_brace, constructor_stmts}
+use Rattle.ss_expand_rules.specs.Constructors.{before_all, constructor_stmts}
+use Rattle.ss_typed.specs.Shapes.{closing_brace, in_block}
 use Rattle.ss_store_rules.specs.Typed as store
 use Rattle.ss_store_rules.specs.NonNull.{keeps_nulls_out}
 use Rattle.ss_expand_formed.specs.Laws.{core_of}

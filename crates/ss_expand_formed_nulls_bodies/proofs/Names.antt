@@ -13,7 +13,8 @@ use Rattle.ss_paths.specs.Fields as fields
 use Rattle.ss_nonnull_rules.specs.NonNull as source
 use Rattle.ss_nonnull_rules.specs.Faults as faults
 use Rattle.ss_nonnull_rules.specs.Faults.{parameters, body_of_entry, body_in_table, class_of, method_of, constructor_parameters}
-use Rattle.ss_expand_rules.specs.Program.{body_at, above_of, table_in, method_at, constructor_of, param_types_in}
+use Rattle.ss_expand_rules.specs.Program.{above_of, table_in, method_at}
+use Rattle.ss_typed.specs.Lookups.{body_at, constructor_of, param_types_in}
 use Rattle.ss_expand_rules.specs.Numbers.{number}
 use Rattle.ss_expand_rules.specs.Contracts.{first_param, is_reference}
 use Rattle.ss_expand_rules.specs.Lifting.{class_of_type}
@@ -65,12 +66,8 @@ given o ts r k = implied_same (source.is_non_null_type r) (is_non_null_type (res
 -- ---- parameters, as the phase looks them up
 
 module _ (P : TypedTree) where
-  params_of : (o : Option BodyTree) → faults.types_of o ≡ param_types_in o
-  params_of None = refl
-  params_of (Some b) = refl
-
   pub body_params : (n : ℕ) → parameters P (Some n) ≡ param_types_in (body_at P n)
-  body_params n = params_of (body_at P n)
+  body_params n = refl
 
   pub written_params : (o : Option ℕ) → parameters P o ≡ param_types_in (option_and_then (body_at P) o)
   written_params None = refl

@@ -1,6 +1,6 @@
 -- What the elaboration of a program without faults of names has of what its bodies name.
 use Rattle.std.proofs.Common.{◌≡◌, ℕ, zero, suc, ◌+◌, ◌*◌, List, [], ◌∷◌, ◌++◌, map, Bool, true, false, Option, Some, None, refl, sym, ◌∙◌, ap, subst, arith, ⊎_elim}
-use Rattle.std.specs.Prelude.{◌==◌, slice_get, option_and_then, if◌then◌else◌}
+use Rattle.std.specs.Prelude.{◌==◌, slice_get, if◌then◌else◌}
 use Rattle.std.specs.List.{list_all}
 use Rattle.std.proofs.lemmas.Bool.{and_parts, false≢true}
 use Rattle.std.proofs.lemmas.Option.{slice_get_within}
@@ -13,18 +13,18 @@ use Rattle.ss_tables.specs.Members.{MethodTree, is_static}
 use Rattle.ss_tables.specs.Classes.{above}
 use Rattle.ss_typed.specs.Tree.{BodyTree, TypedTree}
 use Rattle.ss_typed.specs.Tree as typed
-use Rattle.ss_paths.specs.Fields.{class_place}
-use Rattle.ss_nonnull_rules.specs.Faults as faults
-use Rattle.ss_nonnull_rules.specs.Faults.{parameters, constructor_of_members, constructor_parameters}
+use Rattle.ss_typed.specs.Lookups.{body_at, constructor_in, constructor_of, param_types_in}
+use Rattle.ss_typed.specs.Constructors.{written_constructor}
+use Rattle.ss_nonnull_rules.specs.Faults.{parameters, constructor_parameters}
 use Rattle.ss_resolver_names_rules.specs.Programs.{program_faults}
 use Rattle.ss_resolver_rules.specs.Numbers.{number_or_object}
 use Rattle.ss_resolver_rules.specs.Programs.{members, param_env, method_env, resolved}
-use Rattle.ss_expand_rules.specs.Program.{body_at, above_of, constructor_in, constructor_of, param_types_in}
+use Rattle.ss_expand_rules.specs.Program.{above_of}
 use Rattle.ss_store_rules.specs.Typed.{is_local}
 use Rattle.ss_expand_formed.specs.Laws.{core_of}
 use Rattle.ss_expand_formed.proofs.Facts.{all_at}
 use Rattle.ss_expand_formed.proofs.Entries.{map_from, append_from}
-use Rattle.ss_expand_formed.proofs.Places.{each_at, members_at, class_at}
+use Rattle.ss_expand_formed.proofs.Places.{members_at, class_at}
 use Rattle.ss_expand_formed.proofs.Resolved.{number_declared}
 use Rattle.ss_expand_formed.proofs.Cycles.{above_within}
 use Rattle.ss_expand_formed.proofs.ChainLaw.{size}
@@ -49,18 +49,9 @@ module _ (p : ProgramTree) where
 
   -- ---- parameters of constructors
 
-  members_found : (k : ℕ) (c : ClassTree) → slice_get p.classes k ≡ Some c → faults.members_of P (4 + 2 * k) ≡ Some (members p.classes k c)
-  members_found k c at =
-      let place : class_place (4 + 2 * k) ≡ k = omega arith in
-      let z : 0 + k ≡ k = omega arith in
-      ap (option_and_then (λ (x : core.ClassTree). slice_get P.members (class_place (4 + 2 * k)))) (class_at p k c at)
-      ∙ ap (slice_get P.members) place
-      ∙ each_at (members p.classes) 0 p.classes k c at
-      ∙ ap (λ n. Some (members p.classes n c)) z
-
   class_takes : (k : ℕ) (c : ClassTree) → slice_get p.classes k ≡ Some c → constructor_parameters P (4 + 2 * k) ≡ param_types_in (constructor_of P (4 + 2 * k))
   class_takes k c at =
-      ap (λ m. parameters P (constructor_of_members m)) (members_found k c at)
+      ap (λ m. parameters P (written_constructor m)) (members_at p k c at)
       ∙ written_params P (members p.classes k c).constructor
       ∙ sym (ap (λ m. param_types_in (constructor_in P m)) (members_at p k c at))
 

@@ -12,7 +12,8 @@ use Rattle.ss_typed.specs.Types.{type_of}
 use Rattle.ss_paths.specs.Fields as fields
 use Rattle.ss_nonnull_rules.specs.NonNull as source
 use Rattle.ss_nonnull_rules.specs.Facts.{is_null}
-use Rattle.ss_expand_rules.specs.Program.{above_of, constructor_of, param_types_in}
+use Rattle.ss_expand_rules.specs.Program.{above_of}
+use Rattle.ss_typed.specs.Lookups.{constructor_of, param_types_in}
 use Rattle.ss_expand_rules.specs.Numbers.{number}
 use Rattle.ss_expand_rules.specs.Contracts.{first_param, is_reference}
 use Rattle.ss_expand_rules.specs.Statements.{result_type}

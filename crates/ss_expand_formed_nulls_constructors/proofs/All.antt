@@ -6,6 +6,7 @@ use Rattle.std.proofs.lemmas.Option.{same_Some}
 use Rattle.ss_core.specs.declared.names.Place.{Place}
 use Rattle.ss_core.specs.Tree as core
 use Rattle.ss_core.specs.Chain.{declared}
+use Rattle.ss_core.specs.Kinds.{class_number}
 use Rattle.ss_ast.specs.Programs.{ClassTree, ProgramTree}
 use Rattle.ss_typed.specs.Tree.{StmtTree, SimpleOf, StmtTrees, NoMore, Before, MembersTree, BodyTree, TypedTree}
 use Rattle.ss_paths.specs.Fields.{own_fields, is_among, field_numbers}
@@ -15,16 +16,16 @@ use Rattle.ss_nonnull_rules.specs.NonNull as source
 use Rattle.ss_nonnull_rules.specs.Faults.{null_check}
 use Rattle.ss_nonnull_rules.specs.Overrides.{override_faults}
 use Rattle.ss_nonnull_rules.specs.Program as nulls
-use Rattle.ss_nonnull_rules.specs.Program.{class_number, site_of, only_fields, base_faults, null_faults}
-use Rattle.ss_delayed_rules.specs.Opening.{is_first, opening}
+use Rattle.ss_nonnull_rules.specs.Program.{site_of, only_fields, base_faults, null_faults}
+use Rattle.ss_delayed_rules.specs.Opening.{opening}
 use Rattle.ss_delayed_rules.specs.Program as delayed
 use Rattle.ss_delayed_rules.specs.Program.{construction_faults}
 use Rattle.ss_resolver_names_rules.specs.Programs.{program_faults}
 use Rattle.ss_resolver_types_expressions.specs.Programs.{type_faults}
 use Rattle.ss_resolver_rules.specs.Programs.{members, resolved}
-use Rattle.ss_expand_rules.specs.Program.{body_at}
+use Rattle.ss_typed.specs.Lookups.{body_at}
 use Rattle.ss_expand_rules.specs.Contracts.{first_param}
-use Rattle.ss_expand_rules.specs.Constructors.{before_all, initializers, is_initial, implicit_constructor}
+use Rattle.ss_expand_rules.specs.Constructors.{before_all, initializers, implicit_constructor}
 use Rattle.ss_expand_rules.specs.Bodies.{statements, written_body}
 use Rattle.ss_store_rules.specs.NonNull.{keeps_nulls_out}
 use Rattle.ss_expand_formed.specs.Laws.{core_of}
@@ -33,7 +34,6 @@ use Rattle.ss_expand_formed.proofs.Places.{each_at, source_of}
 use Rattle.ss_expand_formed_construction.proofs.Statements.{Along}
 use Rattle.ss_expand_formed_construction.proofs.ReadLocals.{Other, OtherSimple}
 use Rattle.ss_expand_formed_construction.proofs.Sources.{of_each}
-use Rattle.ss_expand_formed_construction.proofs.Numbering.{same_first}
 use Rattle.ss_expand_formed_construction.proofs.Delayed.{ready_below_object}
 use Rattle.ss_expand_formed_construction.proofs.Keeping.{along_before, body_none}
 use Rattle.ss_expand_formed_construction.proofs.OwnFields.{OnlyOwn}
@@ -141,12 +141,11 @@ module _ (p : ProgramTree) (faultless : program_faults p ≡ []) (types : type_f
     early_keeps_nulls_out : (n k : ℕ) (tree : ClassTree) (b : BodyTree) (bs : List BodyTree) → body_at q n ≡ Some b → IsConstructor p k tree b → b.flags.delayed ≡ false → NamesOthers b → WritesFirst q b → Fitting b bs → keeps_nulls_out (core_of p) (written_body q b bs) ≡ true
     early_keeps_nulls_out n k tree b bs at is early others writes fitting =
         let own = λ (f : ℕ). is_among (field_numbers q b.class) f in
-        let same : (x : StmtTree) → is_initial q b.class x ≡ is_first q b.class x = λ x. subst (λ t. is_initial q t x ≡ is_first q t x) (sym is.class) (same_first q k x) in
         let mine = own_among p faultless k tree is.there b is.class is.static bs in
         let first = initializers_initial p construction k tree is.there b.class is.class own mine in
         let whole : OnlyOwn q b.class (before_all (initializers q b.class) (opening q b)) = ⊎_elim (λ (r : BuildsNothing b). absurd (false≢true (sym r.ctor ∙ is.ctor))) (λ (r : Builds q b). subst (OnlyOwn q b.class) (r.begins.as_early early) r.begins.own) (all_built p types n b at) in
-        let front = initial_of q b.class own mine (opening q b) (own_behind q b.class (initializers q b.class) (opening q b) whole) (front_fine q b same others writes) in
-        early_keeps (core_of p) p k tree b is bs early (ready_below_object p) same fitting first front (given_fine q b others writes)
+        let front = initial_of q b.class own mine (opening q b) (own_behind q b.class (initializers q b.class) (opening q b) whole) (front_fine q b others writes) in
+        early_keeps (core_of p) p k tree b is bs early (ready_below_object p) fitting first front (given_fine q b others writes)
 
     -- ---- each of them
 

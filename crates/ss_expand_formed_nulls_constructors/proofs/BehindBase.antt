@@ -10,7 +10,8 @@ use Rattle.ss_core.specs.View.{code_of}
 use Rattle.ss_typed.specs.Tree.{Arguments, BaseCallOf, SimpleOf, StmtTrees, Before, BodyTree, TypedTree}
 use Rattle.ss_nonnull_rules.specs.NonNull as source
 use Rattle.ss_nonnull_rules.specs.Faults.{handed_to_base}
-use Rattle.ss_expand_rules.specs.Program.{above_of, constructor_of, param_types_in, Constructor, number_of}
+use Rattle.ss_expand_rules.specs.Program.{above_of, Constructor, number_of}
+use Rattle.ss_typed.specs.Lookups.{constructor_of, param_types_in}
 use Rattle.ss_expand_rules.specs.Lifting.{Setting, arguments_of}
 use Rattle.ss_expand_rules.specs.Code.{Coded}
 use Rattle.ss_expand_rules.specs.Simple.{has_delayed_constructor, ready_behind, base_with, base_of}

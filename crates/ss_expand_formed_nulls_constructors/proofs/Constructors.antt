@@ -10,8 +10,8 @@ use Rattle.ss_typed.specs.Tree.{Arguments, BaseCallOf, StmtTree, SimpleOf, Retur
 use Rattle.ss_typed.specs.Tree as typed
 use Rattle.ss_paths.specs.Sets.{none}
 use Rattle.ss_paths.specs.Fields.{is_among, field_numbers, own_fields}
-use Rattle.ss_paths.specs.Assigned.{Assigned, has_field, statements, assigned_by_initializers, assigned_first}
-use Rattle.ss_typed.specs.Shapes.{has_base}
+use Rattle.ss_paths.specs.Assigned.{Assigned, has_field, assigned_by_initializers, assigned_first}
+use Rattle.ss_typed.specs.Shapes.{has_base, closing_brace, in_block}
 use Rattle.ss_paths.specs.Paths as phase
 use Rattle.ss_nonnull_rules.specs.NonNull as source
 use Rattle.ss_nonnull_rules.specs.Faults as faults
@@ -19,12 +19,12 @@ use Rattle.ss_nonnull_rules.specs.Faults.{handed_to_base, null_check}
 use Rattle.ss_nonnull_rules.specs.Program as nulls
 use Rattle.ss_nonnull_rules.specs.Program.{site_of, initializer_site, only_fields, base_faults}
 use Rattle.ss_delayed_rules.specs.Escapes.{NotAtAll}
-use Rattle.ss_delayed_rules.specs.Opening.{is_first, first_run, before_base, opening_of, opening, base_in, written_base}
+use Rattle.ss_delayed_rules.specs.Opening.{first_run, before_base, opening_of, opening, base_in, written_base}
 use Rattle.ss_delayed_rules.specs.Constructors.{arguments_of}
 use Rattle.ss_resolver_rules.specs.Programs.{members, resolved}
 use Rattle.ss_expand_rules.specs.Simple.{has_delayed_constructor}
 use Rattle.ss_expand_rules.specs.Contracts.{first_param}
-use Rattle.ss_expand_rules.specs.Constructors.{before_all, in_block, closing_brace, initializers, is_initial, behind_initial, base_alone, with_base}
+use Rattle.ss_expand_rules.specs.Constructors.{before_all, initializers, behind_initial, base_alone, with_base}
 use Rattle.ss_expand_rules.specs.Bodies as bodies
 use Rattle.ss_expand_rules.specs.Bodies.{temporary_count, written_body}
 use Rattle.ss_store_rules.specs.NonNull.{known_at_entry, keeps_nulls_out}
@@ -43,7 +43,7 @@ use Rattle.ss_expand_formed_nulls_constructors.proofs.BehindBase.{behind_base}
 use Rattle.ss_expand_formed_nulls_constructors.proofs.Refit.{refit_base}
 use Rattle.ss_expand_formed_nulls_constructors.proofs.Initial.{OnlyInitial, initial_simple, initial_fit}
 use Rattle.ss_expand_formed_nulls_constructors.proofs.Initializers.{own_less, behind_initializers}
-use Rattle.ss_expand_formed_nulls_constructors.proofs.Splits.{same_statements, split_at_base, split_at_run}
+use Rattle.ss_expand_formed_nulls_constructors.proofs.Splits.{split_at_base, split_at_run}
 
 -- its statements: the beginnings of fields, `base(..)` and the block, and a return
 pub parts_of : (q : TypedTree) (b : BodyTree) → b.flags.ctor ≡ true → b.result ≡ None → bodies.statements q b ≡ before_all (initializers q b.class) (before_all (with_base q b b.base (in_block b.block)) (Before (ReturnOf (closing_brace b.block) None) NoMore))
@@ -141,7 +141,7 @@ module _ (c : core.CoreTree) (p : ProgramTree) (k : ℕ) (tree : ClassTree) (b :
         ⊎_elim
         (λ yes.
         let is_block : with_base q b None ss ≡ ss = ap (λ (w : Bool). if w then ss else if b.flags.delayed then Before (base_alone b) ss else behind_initial q b.class (base_alone b) ss) yes in
-        let found : has_base (statements b.block) ≡ true = ap has_base (same_statements b.block) ∙ yes in
+        let found : has_base ss ≡ true = yes in
         let less : Less v first initialized = record { facts = λ x i. i; fields = λ f o h. own_less v.site.numbers f first.fields initialized.fields (λ i own. own) (λ above. absurd (false≢true (sym (ap not found) ∙ above))) h } in
         let mine = subst (λ xs. all_fitting v (before_all xs last) ≡ true) is_block g in
         subst (λ xs. HoldFrom v initialized (before_all xs last)) (sym is_block) (from_less v first initialized (before_all ss last) less (all_hold v (agree fields false builds) builds first (before_all ss last) mine block_pure)))
@@ -167,7 +167,7 @@ module _ (c : core.CoreTree) (p : ProgramTree) (k : ℕ) (tree : ClassTree) (b :
       by true e i = own (f - (field_numbers q b.class).first) i
       by false e i = absurd (false≢true e)
 
-  module _ (early : b.flags.delayed ≡ false) (object : has_delayed_constructor q 0 ≡ true) (same : (x : StmtTree) → is_initial q b.class x ≡ is_first q b.class x) where
+  module _ (early : b.flags.delayed ≡ false) (object : has_delayed_constructor q 0 ≡ true) where
     abbrev own : ℕ → Bool
     own f = is_among (field_numbers q b.class) f
 
@@ -226,7 +226,7 @@ module _ (c : core.CoreTree) (p : ProgramTree) (k : ℕ) (tree : ClassTree) (b :
     -- nothing writes it: it is implied behind the first assignments
     implied_called : OnlyInitial own (first_run q b.class ss) → all_fitting behind (before_all (behind_initial q b.class (base_alone b) ss) last) ≡ true → HoldFrom before initialized (before_all (behind_initial q b.class (base_alone b) ss) last)
     implied_called only g =
-        let r = split_at_run q b.class same (base_alone b) ss in
+        let r = split_at_run q b.class (base_alone b) ss in
         let front = first_run q b.class ss in
         let seen = before_all r.rest last in
         let more = Before (base_alone b) seen in
@@ -257,6 +257,5 @@ module _ (c : core.CoreTree) (p : ProgramTree) (k : ℕ) (tree : ClassTree) (b :
     pub early_keeps : all_fitting behind (bodies.statements q b) ≡ true → OnlyInitial own (initializers q b.class) → OnlyInitial own (opening q b) → AreFine NotAtAll (arguments_of (written_base b)) → keeps_nulls_out c (written_body q b bs) ≡ true
     early_keeps fit begin only fine =
         let parts = fitting_parts behind (initializers q b.class) (before_all (with_base q b b.base ss) last) (subst (λ xs. all_fitting behind xs ≡ true) statements_are fit) in
-        let front : OnlyInitial own (opening_of q b.class b.base ss) = subst (λ xs. OnlyInitial own (opening_of q b.class b.base xs)) (same_statements b.block) only in
-        let given : AreFine NotAtAll (arguments_of (base_or b.base ss)) = subst (λ o. AreFine NotAtAll (arguments_of o)) (written_is b b.base ∙ ap (base_or b.base) (same_statements b.block)) fine in
-        whole own false builds_before refl (initial_before (initializers q b.class) begin parts.0) (early_rest b.base is.base front given parts.1)
+        let given : AreFine NotAtAll (arguments_of (base_or b.base ss)) = subst (λ o. AreFine NotAtAll (arguments_of o)) (written_is b b.base) fine in
+        whole own false builds_before refl (initial_before (initializers q b.class) begin parts.0) (early_rest b.base is.base only given parts.1)

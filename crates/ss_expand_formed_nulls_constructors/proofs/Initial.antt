@@ -11,11 +11,11 @@ use Rattle.ss_typed.specs.Types.{type_of}
 use Rattle.ss_paths.specs.Fields as fields
 use Rattle.ss_delayed_rules.specs.Escapes.{NotAtAll}
 use Rattle.ss_expand_rules.specs.Program.{field_at}
-use Rattle.ss_expand_rules.specs.Constructors.{is_declared_in}
 use Rattle.ss_store_rules.specs.Changes.{field_type}
 use Rattle.ss_store_rules.specs.Good.{is_non_null}
 use Rattle.ss_expand_formed_construction.proofs.Statements.{Along}
 use Rattle.ss_expand_formed_construction.proofs.Bases.{OnlySimple}
+use Rattle.ss_expand_formed_construction.proofs.Numbering.{is_declared_in}
 use Rattle.ss_expand_formed_construction.proofs.OwnFields.{OnlyOwn}
 use Rattle.ss_expand_formed_construction.proofs.Uses.{Fine}
 use Rattle.ss_expand_formed_construction.proofs.Fine.{FineSimple}

@@ -4,7 +4,7 @@ use Rattle.std.specs.Prelude.{◌&&◌, ◌==◌, nat_le, nat_lt, slice_get, sum
 use Rattle.std.proofs.lemmas.Bool.{and_parts, and_from, cases_lt, eq-eqb, ltb-true, le-leb, lt-ltb, false≢true}
 use Rattle.std.proofs.lemmas.List.{length-map}
 use Rattle.std.proofs.lemmas.Option.{slice_get-map}
-use Rattle.ss_core.specs.Chain.{DeclaredField, in_class, all_fields}
+use Rattle.ss_core.specs.Chain.{DeclaredField, in_class}
 use Rattle.ss_ast.specs.Programs.{ClassTree, ProgramTree}
 use Rattle.ss_ast.specs.declared.stmt.AssignOperator.TheVariants as operator
 use Rattle.ss_tables.specs.Members.{FieldTree, fields_in}
@@ -21,11 +21,11 @@ use Rattle.ss_resolver_rules.specs.Names.{class_env}
 use Rattle.ss_resolver_rules.specs.Numbers.{field_count}
 use Rattle.ss_resolver_rules.specs.Programs.{field, field_member, members, resolved}
 use Rattle.ss_expand_rules.specs.Program.{field_at}
-use Rattle.ss_expand_rules.specs.Constructors.{before_all, initialize, initializers_from, fields_before, initializers_in, initializers}
+use Rattle.ss_expand_rules.specs.Constructors.{before_all, initialize, initializers_from, initializers_in, initializers}
 use Rattle.ss_expand_formed.proofs.Facts.{none_left}
 use Rattle.ss_expand_formed.proofs.Places.{members_at}
 use Rattle.ss_expand_formed_construction.proofs.OwnFields.{own_at, first_number}
-use Rattle.ss_expand_formed_fields.proofs.Starts.{own_is, first_is, fields_are}
+use Rattle.ss_expand_formed_fields.proofs.Starts.{own_is, fields_are}
 use Rattle.ss_expand_formed_nulls.specs.Fitting.{Frame, simple_fits, all_fitting, Agrees, Builds}
 use Rattle.ss_expand_formed_nulls.specs.Bodies.{nothing_known}
 use Rattle.ss_expand_formed_nulls_constructors.proofs.Seams.{Less, HoldFrom, from_less, behind_simple}
@@ -137,7 +137,7 @@ module _ (p : ProgramTree) (k : ℕ) (c : ClassTree) (at : slice_get p.classes k
         let here : j + 0 ≡ j = omega arith in
         let mine : slice_get (fields_in c.members) j ≡ Some g = subst (λ i. slice_get (fields_in c.members) i ≡ Some g) here (there 0 g refl) in
         let d = in_class t (field p.classes g) in
-        let first = first_is p k c at in
+        let first = first_number p k in
         let found : field_at q f ≡ Some d = ap (field_at q) (is ∙ ap (λ i. i + j) first) ∙ own_at p k c at j g mine in
         let begins : ns.first ≡ n.first = ap (λ (s : Numbers). s.first) numbers_are in
         let count : ns.count ≡ n.count = ap (λ (s : Numbers). s.count) numbers_are in
@@ -152,15 +152,12 @@ module _ (p : ProgramTree) (k : ℕ) (c : ClassTree) (at : slice_get p.classes k
         subst (λ (o : Option DeclaredField). all_fitting z (initialize t f (made g) (made g).initial o rest) ≡ true → HoldFrom z (begun j) (before_all (initialize t f (made g) (made g).initial o rest) more)) (sym found)
         (λ i. one (made g) (made g).initial d j f rest more (starts_at j g mine) (and_from (nat_le ns.first f) (nat_lt (f - ns.first) ns.count) low inside) place both.0 i later) fit
 
-    from_first : (gs : List FieldTree) → fields_in c.members ≡ gs → nulls.initializers_from q t 0 (map made gs) (map (field p.classes) gs) ≡ [] → all_fitting z (initializers_from q t (fields_before t (all_fields q.classes)) (map made gs)) ≡ true → (more : StmtTrees) → HoldFrom z (begun (length gs)) more →
-        HoldFrom z (begun 0) (before_all (initializers_from q t (fields_before t (all_fields q.classes)) (map made gs)) more)
-    from_first [] is clean fit more go = go
-    from_first (g ∷ gs) is clean fit more go =
-        let number : fields_before t (all_fields q.classes) ≡ sum_by field_count (take k p.classes) = first_number p p.classes 0 4 p.classes k c at g gs is in
-        let first = first_is p k c at in
-        let size : n.count ≡ length (g ∷ gs) = ap length (own_is p k c at) ∙ length-map (fields_in c.members) (field p.classes) ∙ ap length is in
-        let zero_more : 0 + length (g ∷ gs) ≡ length (g ∷ gs) = omega arith in
-        from_place 0 (fields_before t (all_fields q.classes)) (g ∷ gs) (omega arith) (omega arith) (λ i x e. let y : 0 + i ≡ i = omega arith in rw y (ap (λ fs. slice_get fs i) is ∙ e)) clean fit more (subst (λ i. HoldFrom z (begun i) more) (sym zero_more) go)
+    from_first : (gs : List FieldTree) → fields_in c.members ≡ gs → nulls.initializers_from q t 0 (map made gs) (map (field p.classes) gs) ≡ [] → all_fitting z (initializers_from q t n.first (map made gs)) ≡ true → (more : StmtTrees) → HoldFrom z (begun (length gs)) more →
+        HoldFrom z (begun 0) (before_all (initializers_from q t n.first (map made gs)) more)
+    from_first gs is clean fit more go =
+        let size : n.count ≡ length gs = ap length (own_is p k c at) ∙ length-map (fields_in c.members) (field p.classes) ∙ ap length is in
+        let zero_more : 0 + length gs ≡ length gs = omega arith in
+        from_place 0 n.first gs (omega arith) (omega arith) (λ i x e. let y : 0 + i ≡ i = omega arith in rw y (ap (λ fs. slice_get fs i) is ∙ e)) clean fit more (subst (λ i. HoldFrom z (begun i) more) (sym zero_more) go)
 
     pub behind_initializers : nulls.initializers_from q t 0 (members p.classes k c).fields (own_fields q t) ≡ [] → all_fitting z (initializers q t) ≡ true → (more : StmtTrees) → HoldFrom z all_initialized more → HoldFrom z nothing_known (before_all (initializers q t) more)
     behind_initializers clean fit more go =

@@ -16,7 +16,8 @@ use Rattle.ss_delayed_rules.specs.Program.{construction_faults}
 use Rattle.ss_resolver_names_rules.specs.Programs.{program_faults}
 use Rattle.ss_resolver_types_expressions.specs.Programs.{type_faults}
 use Rattle.ss_resolver_rules.specs.Programs.{resolved}
-use Rattle.ss_expand_rules.specs.Program.{body_at, table, constructor_of, Origin}
+use Rattle.ss_expand_rules.specs.Program.{table, Origin}
+use Rattle.ss_typed.specs.Lookups.{body_at, constructor_of}
 use Rattle.ss_expand_rules.specs.Contracts.{declarations}
 use Rattle.ss_expand_rules.specs.Constructors.{implicit_constructor}
 use Rattle.ss_expand_rules.specs.Bodies.{statements, written_body}

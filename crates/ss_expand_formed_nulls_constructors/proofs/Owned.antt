@@ -18,7 +18,6 @@ use Rattle.ss_delayed_rules.specs.Escapes.{ForFields}
 use Rattle.ss_resolver_names_rules.specs.Programs.{program_faults}
 use Rattle.ss_resolver_rules.specs.Programs.{resolved}
 use Rattle.ss_expand_rules.specs.Program.{above_of, field_at}
-use Rattle.ss_expand_rules.specs.Constructors.{is_declared_in}
 use Rattle.ss_expand_rules.specs.Bodies.{written_body}
 use Rattle.ss_store_rules.specs.Changes.{class_of_field}
 use Rattle.ss_store_rules.specs.NonNull.{is_field_above}
@@ -28,7 +27,7 @@ use Rattle.ss_expand_formed.proofs.Facts.{not_true}
 use Rattle.ss_expand_formed.proofs.Resolved.{number_declared}
 use Rattle.ss_expand_formed.proofs.ChainLaw.{size, has_chain}
 use Rattle.ss_expand_formed_construction.proofs.Delayed.{is_above}
-use Rattle.ss_expand_formed_construction.proofs.Numbering.{same_fields}
+use Rattle.ss_expand_formed_construction.proofs.Numbering.{is_declared_in, same_fields}
 use Rattle.ss_expand_formed_expressions.proofs.Fit.{IsRead}
 use Rattle.ss_expand_formed_expressions.proofs.Environments.{param_types, context_of}
 use Rattle.ss_expand_formed_nulls.specs.Fitting.{Builds}

@@ -14,7 +14,8 @@ use Rattle.ss_paths.specs.Fields as fields
 use Rattle.ss_typed.specs.Shapes.{is_this}
 use Rattle.ss_nonnull_rules.specs.NonNull as source
 use Rattle.ss_delayed_rules.specs.Escapes.{ForFields, uses, uses_in_all, uses_if, uses_left, uses_declared, uses_done, uses_first, uses_step, uses_at, uses_in, uses_along}
-use Rattle.ss_expand_rules.specs.Program.{above_of, constructor_of, param_types_in}
+use Rattle.ss_expand_rules.specs.Program.{above_of}
+use Rattle.ss_typed.specs.Lookups.{constructor_of, param_types_in}
 use Rattle.ss_expand_rules.specs.Numbers.{number}
 use Rattle.ss_expand_rules.specs.Statements.{result_type}
 use Rattle.ss_store_rules.specs.Changes.{field_type}

@@ -14,8 +14,9 @@ use Rattle.ss_typed.specs.Shapes.{is_this}
 use Rattle.ss_nonnull_rules.specs.Facts.{is_null}
 use Rattle.ss_nonnull_rules.specs.Faults.{parameters, class_of, method_of, constructor_parameters}
 use Rattle.ss_delayed_rules.specs.Escapes.{Use, ForFields, NotAtAll, may_read, uses, uses_each}
-use Rattle.ss_expand_rules.specs.Program as written
-use Rattle.ss_expand_rules.specs.Program.{above_of, body_at, method_at, param_types_in, Constructor, number_of, number_of_written}
+use Rattle.ss_typed.specs.Lookups as lookups
+use Rattle.ss_expand_rules.specs.Program.{above_of, method_at, Constructor, number_of, number_of_written}
+use Rattle.ss_typed.specs.Lookups.{body_at, param_types_in}
 use Rattle.ss_expand_rules.specs.Numbers.{plain}
 use Rattle.ss_expand_rules.specs.Lifting.{static_class}
 use Rattle.ss_expand_rules.specs.Bodies.{temporary_count}
@@ -117,7 +118,7 @@ module _ (c : core.CoreTree) (p : TypedTree) (b : BodyTree) (bs : List BodyTree)
       refit (LengthOf q e) f g h = refit e (fine u e f.unused f.locals) (λ m. (g m).0) h
       refit (NewOf q t es) f g h =
           let i = and_parts (enters_with (constructor_of c t) (constructor_parameters p t)) (all_fit free es) h in
-          and_from _ _ i.0 (refit_all es (record { unused = f.unused; locals = f.locals }) (λ m. (param_types_in (written.constructor_of p t), (g m).1)) i.1)
+          and_from _ _ i.0 (refit_all es (record { unused = f.unused; locals = f.locals }) (λ m. (param_types_in (lookups.constructor_of p t), (g m).1)) i.1)
       refit (NewArrayOf q t e) f g h = refit e (fine u e f.unused f.locals) (λ m. (g m).0) h
       refit (CallOf q e k t es) f g h =
           let callee = callee_of c free.body (Dispatched (NullExpr q) (static_class e) k) in

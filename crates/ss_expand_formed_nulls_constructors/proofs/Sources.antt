@@ -7,19 +7,21 @@ use Rattle.ss_ast.specs.declared.stmt.AssignOperator.TheVariants as operator
 use Rattle.ss_typed.specs.Tree.{ThisOf, FieldOf, AssignOf, StmtTree, SimpleOf, ReturnOf, StmtTrees, NoMore, Before, BlockTree, BlockOf, BaseTree, BodyTree, TypedTree}
 use Rattle.ss_delayed_rules.specs.Escapes.{Use, ForFields, NotAtAll, uses_each, uses_in, uses_in_all, uses_at, uses_along}
 use Rattle.ss_paths.specs.Fields.{field_numbers}
-use Rattle.ss_paths.specs.Assigned.{statements, assigned_by_initializers, assigned_flow}
+use Rattle.ss_paths.specs.Assigned.{assigned_by_initializers, assigned_flow}
 use Rattle.ss_paths.specs.Paths.{at_end}
-use Rattle.ss_delayed_rules.specs.Opening.{is_first, opening, written_base}
+use Rattle.ss_delayed_rules.specs.Opening.{opening, written_base}
 use Rattle.ss_delayed_rules.specs.Constructors.{escapes, end_faults, base_faults, arguments_of, unassigned_faults, place_of_base, delayed_faults, undelayed_faults}
 use Rattle.ss_delayed_rules.specs.Program.{classes_faults, body_faults}
 use Rattle.ss_resolver_rules.specs.Programs.{param_env, resolved}
-use Rattle.ss_expand_rules.specs.Program.{body_at, field_at}
-use Rattle.ss_expand_rules.specs.Constructors.{before_all, in_block, closing_brace, initializers, is_declared_in, is_initial, behind_initial, base_alone, with_base}
-use Rattle.ss_typed.specs.Shapes.{has_base}
+use Rattle.ss_expand_rules.specs.Program.{field_at}
+use Rattle.ss_typed.specs.Lookups.{body_at}
+use Rattle.ss_expand_rules.specs.Constructors.{before_all, initializers, behind_initial, base_alone, with_base}
+use Rattle.ss_typed.specs.Shapes.{closing_brace, in_block, has_base}
 use Rattle.ss_expand_formed.proofs.Facts.{none_left}
 use Rattle.ss_expand_formed_construction.proofs.Choices.{where_chosen}
 use Rattle.ss_expand_formed_construction.proofs.Statements.{InAll, Along}
 use Rattle.ss_expand_formed_construction.proofs.Sources.{of_each}
+use Rattle.ss_expand_formed_construction.proofs.Numbering.{is_declared_in}
 use Rattle.ss_expand_formed_construction.proofs.OwnFields.{initializers_own}
 use Rattle.ss_expand_formed_construction.proofs.ReadLocals.{Other, Others, OtherSimple, block_other}
 use Rattle.ss_expand_formed_construction.proofs.Keeping.{along_before, along_block, along_base, no_escapes, initializers_fine, params_inside, base_other}
@@ -27,7 +29,7 @@ use Rattle.ss_expand_formed_construction.proofs.Begins.{written_is}
 use Rattle.ss_expand_formed_construction.proofs.Uses.{Fine, AreFine}
 use Rattle.ss_expand_formed_construction.proofs.Fine.{FineSimple, stmts_fine}
 use Rattle.ss_expand_formed_nulls_constructors.proofs.Initial.{OnlyInitial, initial_of}
-use Rattle.ss_expand_formed_nulls_constructors.proofs.Splits.{same_statements, along_opening, given_others}
+use Rattle.ss_expand_formed_nulls_constructors.proofs.Splits.{along_opening, given_others}
 
 -- ---- lists of statements
 
@@ -82,15 +84,15 @@ writes_first q b h ctor early =
 
 module _ (q : TypedTree) (b : BodyTree) where
   -- what stands before `base(..)` in the block, and its arguments, are without `this`
-  pub front_fine : ((x : StmtTree) → is_initial q b.class x ≡ is_first q b.class x) → NamesOthers b → WritesFirst q b → Along (FineSimple NotAtAll) (Fine NotAtAll) (opening q b)
-  front_fine same others h =
-      let block = subst (Along OtherSimple Other) (sym (same_statements b.block)) (along_block OtherSimple Other b.block others.block) in
-      stmts_fine NotAtAll (opening q b) h.front (along_opening OtherSimple Other q b.class (base_alone b) same b.base (statements b.block) block)
+  pub front_fine : NamesOthers b → WritesFirst q b → Along (FineSimple NotAtAll) (Fine NotAtAll) (opening q b)
+  front_fine others h =
+      let block = along_block OtherSimple Other b.block others.block in
+      stmts_fine NotAtAll (opening q b) h.front (along_opening OtherSimple Other q b.class (base_alone b) b.base (in_block b.block) block)
 
   pub given_fine : NamesOthers b → WritesFirst q b → AreFine NotAtAll (arguments_of (written_base b))
   given_fine others h =
-      let block = subst (Along OtherSimple Other) (sym (same_statements b.block)) (along_block OtherSimple Other b.block others.block) in
-      record { unused = h.given; locals = subst (λ o. Others (arguments_of o)) (sym (written_is b b.base)) (given_others b.base (statements b.block) others.given block) }
+      let block = along_block OtherSimple Other b.block others.block in
+      record { unused = h.given; locals = subst (λ o. Others (arguments_of o)) (sym (written_is b b.base)) (given_others b.base (in_block b.block) others.given block) }
 
   abbrev last : StmtTrees
   last = Before (ReturnOf (closing_brace b.block) None) NoMore

@@ -3,20 +3,16 @@ use Rattle.std.proofs.Common.{◌≡◌, ℕ, Bool, true, false, Option, Some, N
 use Rattle.std.specs.Prelude.{◌||◌, if◌then◌else◌}
 use Rattle.std.proofs.lemmas.Bool.{cases_Bool, false≢true}
 use Rattle.ss_core.specs.declared.names.Place.{Place}
-use Rattle.ss_typed.specs.Tree.{ExprTree, Arguments, SimpleTree, BaseCallOf, BlockTree, BlockOf, StmtTree, SimpleOf, StmtTrees, NoMore, Before, BaseTree, TypedTree}
-use Rattle.ss_paths.specs.Assigned.{statements}
+use Rattle.ss_typed.specs.Tree.{ExprTree, Arguments, SimpleTree, BaseCallOf, StmtTree, SimpleOf, StmtTrees, NoMore, Before, BaseTree, TypedTree}
 use Rattle.ss_typed.specs.Shapes.{has_base, is_base}
 use Rattle.ss_delayed_rules.specs.Opening.{is_first, first_run, before_base, opening_of, base_in}
 use Rattle.ss_delayed_rules.specs.Constructors.{arguments_of}
-use Rattle.ss_expand_rules.specs.Constructors.{before_all, in_block, is_initial, behind_initial}
+use Rattle.ss_expand_rules.specs.Constructors.{before_all, behind_initial}
 use Rattle.ss_expand_formed.proofs.Facts.{or_false}
 use Rattle.ss_expand_formed_construction.proofs.Choices.{where_chosen}
 use Rattle.ss_expand_formed_construction.proofs.Statements.{Along}
 use Rattle.ss_expand_formed_construction.proofs.Begins.{base_or}
 use Rattle.ss_expand_formed_construction.proofs.ReadLocals.{Other, Others, OtherSimple}
-
-pub same_statements : (b : BlockTree) → statements b ≡ in_block b
-same_statements (BlockOf q ss end) = refl
 
 -- ---- a written `base(..)`
 
@@ -59,20 +55,20 @@ pub record SplitAtRun (p : TypedTree) (t : ℕ) (s : StmtTree) (ss : StmtTrees) 
   pub is : ss ≡ before_all (first_run p t ss) rest
   pub base : behind_initial p t s ss ≡ before_all (first_run p t ss) (Before s rest)
 
-pub split_at_run : (p : TypedTree) (t : ℕ) → ((x : StmtTree) → is_initial p t x ≡ is_first p t x) → (s : StmtTree) (ss : StmtTrees) → SplitAtRun p t s ss
-split_at_run p t same s NoMore = record { rest = NoMore; is = refl; base = refl }
-split_at_run p t same s (Before x ss) = by (is_first p t x) refl (split_at_run p t same s ss)
+pub split_at_run : (p : TypedTree) (t : ℕ) (s : StmtTree) (ss : StmtTrees) → SplitAtRun p t s ss
+split_at_run p t s NoMore = record { rest = NoMore; is = refl; base = refl }
+split_at_run p t s (Before x ss) = by (is_first p t x) refl (split_at_run p t s ss)
   where
     by : (v : Bool) → is_first p t x ≡ v → SplitAtRun p t s ss → SplitAtRun p t s (Before x ss)
     by true e r = record {
       rest = r.rest;
       is = ap (Before x) r.is ∙ sym (ap (λ (v : Bool). before_all (if v then Before x (first_run p t ss) else NoMore) r.rest) e);
-      base = ap (λ (v : Bool). if v then Before x (behind_initial p t s ss) else Before s (Before x ss)) (same x ∙ e) ∙ ap (Before x) r.base ∙ sym (ap (λ (v : Bool). before_all (if v then Before x (first_run p t ss) else NoMore) (Before s r.rest)) e);
+      base = ap (λ (v : Bool). if v then Before x (behind_initial p t s ss) else Before s (Before x ss)) e ∙ ap (Before x) r.base ∙ sym (ap (λ (v : Bool). before_all (if v then Before x (first_run p t ss) else NoMore) (Before s r.rest)) e);
     }
     by false e r = record {
       rest = Before x ss;
       is = sym (ap (λ (v : Bool). before_all (if v then Before x (first_run p t ss) else NoMore) (Before x ss)) e);
-      base = ap (λ (v : Bool). if v then Before x (behind_initial p t s ss) else Before s (Before x ss)) (same x ∙ e) ∙ sym (ap (λ (v : Bool). before_all (if v then Before x (first_run p t ss) else NoMore) (Before s (Before x ss))) e);
+      base = ap (λ (v : Bool). if v then Before x (behind_initial p t s ss) else Before s (Before x ss)) e ∙ sym (ap (λ (v : Bool). before_all (if v then Before x (first_run p t ss) else NoMore) (Before s (Before x ss))) e);
     }
 
 -- ---- what holds along a block holds of its parts
@@ -83,12 +79,12 @@ module _ (G : SimpleTree → Type 0) (F : ExprTree → Type 0) where
   along_parts (Before x xs) ys h = let rest = along_parts xs ys h.1 in ((h.0, rest.0), rest.1)
 
   -- of what stands before `base(..)`
-  pub along_opening : (p : TypedTree) (t : ℕ) (s : StmtTree) → ((x : StmtTree) → is_initial p t x ≡ is_first p t x) → (base : Option BaseTree) (ss : StmtTrees) → Along G F ss → Along G F (opening_of p t base ss)
-  along_opening p t s same (Some o) ss h = tt
-  along_opening p t s same None ss h =
+  pub along_opening : (p : TypedTree) (t : ℕ) (s : StmtTree) (base : Option BaseTree) (ss : StmtTrees) → Along G F ss → Along G F (opening_of p t base ss)
+  along_opening p t s (Some o) ss h = tt
+  along_opening p t s None ss h =
       where_chosen (Along G F) (has_base ss) (before_base ss) (first_run p t ss)
       (λ yes. let r = split_at_base ss yes in (along_parts (before_base ss) (Before (SimpleOf (BaseCallOf r.place r.given)) r.rest) (subst (Along G F) r.is h)).0)
-      (λ no. let r = split_at_run p t same s ss in (along_parts (first_run p t ss) r.rest (subst (Along G F) r.is h)).0)
+      (λ no. let r = split_at_run p t s ss in (along_parts (first_run p t ss) r.rest (subst (Along G F) r.is h)).0)
 
 none_in : (ss : StmtTrees) → has_base ss ≡ false → base_in ss ≡ None
 none_in NoMore h = refl

@@ -5,9 +5,11 @@ use Rattle.ss_core.specs.declared.names.Ty.{Ty}
 use Rattle.ss_core.specs.Tree as core
 use Rattle.ss_typed.specs.Tree.{BlockTree, BlockOf, StmtTree, ReturnOf, StmtTrees, NoMore, Before, BaseTree, BodyTree, TypedTree}
 use Rattle.ss_typed.specs.Tree as typed
-use Rattle.ss_expand_rules.specs.Program.{above_of, constructor_of, param_types_in}
-use Rattle.ss_expand_rules.specs.Constructors.{before_all, in_block, closing_brace, initializers, is_initial, behind_initial, base_alone, with_base, constructor_stmts}
-use Rattle.ss_typed.specs.Shapes.{has_base}
+use Rattle.ss_expand_rules.specs.Program.{above_of}
+use Rattle.ss_typed.specs.Lookups.{constructor_of, param_types_in}
+use Rattle.ss_paths.specs.Opening.{is_first}
+use Rattle.ss_expand_rules.specs.Constructors.{before_all, initializers, behind_initial, base_alone, with_base, constructor_stmts}
+use Rattle.ss_typed.specs.Shapes.{closing_brace, in_block, has_base}
 use Rattle.ss_expand_rules.specs.Contracts.{first_param}
 use Rattle.ss_expand_rules.specs.Bodies.{with_return, statements}
 use Rattle.ss_expand_formed_construction.proofs.Choices.{where_chosen}
@@ -35,7 +37,7 @@ module _ (p : TypedTree) (C : List core.ClassTree) (b : BodyTree) where
 
   behind_in : (t : ℕ) (s : StmtTree) (ss : StmtTrees) → OneInBody s → InBody ss → InBody (behind_initial p t s ss)
   behind_in t s NoMore h g = (h, tt)
-  behind_in t s (Before x xs) h g = where_chosen InBody (is_initial p t x) (Before x (behind_initial p t s xs)) (Before s (Before x xs)) (λ yes. (g.0, behind_in t s xs h g.1)) (λ no. (h, g))
+  behind_in t s (Before x xs) h g = where_chosen InBody (is_first p t x) (Before x (behind_initial p t s xs)) (Before s (Before x xs)) (λ yes. (g.0, behind_in t s xs h g.1)) (λ no. (h, g))
 
   base_in : (base : Option BaseTree) (ss : StmtTrees) → b.flags.ctor ≡ true → ((x : BaseTree) → base ≡ Some x → GivenAbove x.arguments) → (base ≡ None → has_base ss ≡ false → GivenAbove typed.Arguments.NoMore) → InBody ss → InBody (with_base p b base ss)
   base_in (Some x) ss ctor given none h = ((ctor, given x refl), h)

@@ -11,7 +11,8 @@ use Rattle.ss_core.specs.Chain.{is_declared, declared, above, fields_of_class, f
 use Rattle.ss_ast.specs.Programs.{ClassTree, ProgramTree}
 use Rattle.ss_typed.specs.Tree.{BodyTree, MembersTree, TypedTree}
 use Rattle.ss_resolver_rules.specs.Programs.{resolved}
-use Rattle.ss_expand_rules.specs.Program.{constructor_of, param_types_in, bodies, Constructor, same_origin, number_of}
+use Rattle.ss_expand_rules.specs.Program.{bodies, Constructor, same_origin, number_of}
+use Rattle.ss_typed.specs.Lookups.{constructor_of, param_types_in}
 use Rattle.ss_expand_rules.specs.Elaborated.{constructor_alone, implicit_in, or_implicit, body_of, classes_from, elaborated}
 use Rattle.ss_store_rules.specs.Locals.{types_of}
 use Rattle.ss_store_rules.specs.Typed.{is_constructor_of}

@@ -11,7 +11,8 @@ use Rattle.ss_typed.specs.Tree.{BodyTree, TypedTree}
 use Rattle.ss_resolver_names_rules.specs.Programs.{program_faults}
 use Rattle.ss_resolver_rules.specs.Numbers.{number_or_object}
 use Rattle.ss_resolver_rules.specs.Programs.{resolved}
-use Rattle.ss_expand_rules.specs.Program.{above_of, constructor_of, param_types_in, Constructor, number_of}
+use Rattle.ss_expand_rules.specs.Program.{above_of, Constructor, number_of}
+use Rattle.ss_typed.specs.Lookups.{constructor_of, param_types_in}
 use Rattle.ss_expand_rules.specs.Bodies.{written_body}
 use Rattle.ss_store_rules.specs.Typed.{callee_of}
 use Rattle.ss_expand_formed.specs.Laws.{core_of}

@@ -10,7 +10,8 @@ use Rattle.ss_typed.specs.Tree.{ExprTree, IffOf, ImpliesOf, BinaryOf, IsOf, AsOf
 use Rattle.ss_typed.specs.Tree as typed
 use Rattle.ss_typed.specs.Types.{type_of}
 use Rattle.ss_owners_rules.specs.Words.{Allowed, NoWord, OfEntry, misplaced, misplaced_each}
-use Rattle.ss_expand_rules.specs.Program.{above_of, constructor_of, param_types_in}
+use Rattle.ss_expand_rules.specs.Program.{above_of}
+use Rattle.ss_typed.specs.Lookups.{constructor_of, param_types_in}
 use Rattle.ss_expand_rules.specs.Calls.{has_call}
 use Rattle.ss_expand_rules.specs.Statements.{exposed_class}
 use Rattle.ss_store_rules.specs.Changes.{below}

@@ -10,10 +10,12 @@ use Rattle.ss_ast.specs.Programs.{ClassTree, ProgramTree}
 use Rattle.ss_tables.specs.Classes.{members_in, members_at, above}
 use Rattle.ss_typed.specs.Tree.{BodyTree, TypedTree}
 use Rattle.ss_resolver_names_rules.specs.Programs.{program_faults}
-use Rattle.ss_resolver_rules.specs.Numbers.{number_or_object, method_id, names_of, is_listed, method_names, declared_entry, overridden, added, table}
+use Rattle.ss_resolver_names_rules.specs.Faults.{is_listed}
+use Rattle.ss_resolver_rules.specs.Numbers.{number_or_object, method_id, names_of, method_names, declared_entry, overridden, added, table}
 use Rattle.ss_resolver_rules.specs.Programs.{resolved}
 use Rattle.ss_expand_rules.specs.Program as program
-use Rattle.ss_expand_rules.specs.Program.{body_at, method_at, above_of, table_in, param_types_in, Method, is_declared_by, is_wrapped, is_own, number_in_table}
+use Rattle.ss_expand_rules.specs.Program.{method_at, above_of, table_in, Method, is_declared_by, is_wrapped, is_own, number_in_table}
+use Rattle.ss_typed.specs.Lookups.{body_at, param_types_in}
 use Rattle.ss_store_rules.specs.Typed.{callee_of}
 use Rattle.ss_expand_formed.specs.Laws.{core_of}
 use Rattle.ss_expand_formed.proofs.Facts.{not_true}

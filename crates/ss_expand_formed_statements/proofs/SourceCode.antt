@@ -1,9 +1,9 @@
 -- Each expression of the code of a source without faults fits, has no word of conditions, and has no call in a quantifier.
-use Rattle.std.proofs.Common.{◌≡◌, ℕ, ◌+◌, List, [], ◌∷◌, ◌++◌, length, map, Bool, true, false, Option, Some, None, refl, sym, ◌∙◌, ap, subst, arith, ⊎_elim}
-use Rattle.std.specs.Prelude.{◌&&◌, ◌||◌, ◌==◌, not, is_some, is_none, option_and_then, codes, if◌then◌else◌}
+use Rattle.std.proofs.Common.{◌≡◌, ℕ, List, [], ◌∷◌, ◌++◌, length, map, Bool, true, false, Option, Some, None, refl, sym, ◌∙◌, ap, subst, arith}
+use Rattle.std.specs.Prelude.{◌&&◌, ◌||◌, not, is_some, is_none, option_and_then, codes, if◌then◌else◌}
 use Rattle.std.specs.List.{list_all}
 use Rattle.std.specs.Str.{bytes_eq}
-use Rattle.std.proofs.lemmas.Bool.{and_from, eqb-true, cases_Bool, false≢true, true≢false}
+use Rattle.std.proofs.lemmas.Bool.{and_from, false≢true, true≢false}
 use Rattle.ss_core.specs.declared.names.Place.{Place}
 use Rattle.ss_core.specs.declared.names.Ty.{Ty}
 use Rattle.ss_core.specs.declared.names.Ty.TheVariants as ty
@@ -11,8 +11,8 @@ use Rattle.ss_core.specs.Tree as core
 use Rattle.ss_core.specs.Tree.{SameOwner, OwnedAt}
 use Rattle.ss_core.specs.Chain.{is_type}
 use Rattle.ss_core.specs.Chain as chain
-use Rattle.ss_ast.specs.declared.expr.Operator.{Operator}
-use Rattle.ss_ast.specs.declared.expr.Quantifier.{Quantifier}
+use Rattle.ss_core.specs.declared.expr.Operator.{Operator}
+use Rattle.ss_core.specs.declared.expr.Quantifier.{Quantifier}
 use Rattle.ss_ast.specs.Expressions.{NameTree, TypeTree, Arguments, NoMore, Argument, IffOf, ImpliesOf, BinaryOf, IsOf, AsOf, NegateOf, NotOf, CastOf, MemberOf, ElementOf, CallOf, ResultOf, NameOf, BaseOf, ParenOf, OldOf, NewOf, NewArrayOf, QuantifiedOf}
 use Rattle.ss_ast.specs.Expressions as text
 use Rattle.ss_ast.specs.Programs.{ParamTree, ClassTree, ProgramTree}
@@ -34,12 +34,15 @@ use Rattle.ss_resolver_types_expressions.specs.Faults.{bad_type}
 use Rattle.ss_resolver_types_expressions.specs.Wants.{Want, AnInt, ABool, AReference, AnArray, AnyValue, OfType, ClassName, Known, known, has_no_value, gives_nothing, is_unsuited, misfit, wrong}
 use Rattle.ss_resolver_types_expressions.specs.Calls.{Around, Called, Taking, Refused, Unknown, param_wants, wants_above, base_wants, called_console, called_method, called_on_class, called_on_declared, called_on_object, called_name, called_member, called_value, constructed, method_or_field, without_members, has_no_members, class_of_known, asks_level, is_wrong_call, argument_wants, whole_call}
 use Rattle.ss_resolver_types_expressions.specs.Expressions.{AsValue, BeforeDot, AsCallee, no_class, operand, operand_faults, is_question, condition_faults, faults, faults_as, argument_faults}
-use Rattle.ss_resolver_rules.specs.Names.{Known as KnownName, Variable, BoundName, Env}
+use Rattle.ss_resolver_rules.specs.Names.{Env}
+use Rattle.ss_resolver_rules.specs.declared.known.Known.{Known as KnownName}
+use Rattle.ss_resolver_rules.specs.declared.known.Known.TheVariants.{Variable, BoundName}
 use Rattle.ss_resolver_rules.specs.Names as names_of
 use Rattle.ss_resolver_rules.specs.Numbers.{number_or_object, class_in, type_id, method_id, table_place}
 use Rattle.ss_resolver_rules.specs.Expressions.{this, read_field, known_or_field, bare_name, field_behind, state_word, member, third_class, method_call, base_call, place_or_own, state_question, first_class, owner_question, called_behind, called_bare, expr, args}
 use Rattle.ss_resolver_rules.specs.Programs.{resolved}
-use Rattle.ss_expand_rules.specs.Program.{above_of, members_from, constructor_in, constructor_of, param_types_in}
+use Rattle.ss_expand_rules.specs.Program.{above_of}
+use Rattle.ss_typed.specs.Lookups.{constructor_of, param_types_in}
 use Rattle.ss_expand_formed.specs.Laws.{core_of}
 use Rattle.ss_expand_formed.proofs.Facts.{none_left, or_false}
 use Rattle.ss_expand_formed.proofs.Places.{class_at}
@@ -206,13 +209,6 @@ owner_words e q n (Argument z (Argument v es)) h = by (bytes_eq n (codes "Same")
         ((has_answer false z && (has_answer false v && have_answer false es)) ≡ true) × (can_lift (if b then OwnersOf q SameOwner (expr e z) (expr e v) else OwnersOf q (OwnedAt (third_class e (Argument z (Argument v es)))) (expr e z) (expr e v)) ≡ true)
     by true g = absurd (let w : ⊥ = cc in w)
     by false g = absurd (let w : ⊥ = cc in w)
-
--- `object` has no members
-no_members : (t : ℕ) (ms : List typed.MembersTree) → members_from (t + 1) ms 0 ≡ None
-no_members t [] = refl
-no_members t (m ∷ ms) =
-    let e : t + 1 + 2 ≡ t + 2 + 1 = omega arith in
-    ⊎_elim (λ yes. absurd (let z = eqb-true (t + 1) 0 yes in omega arith)) (λ other. rw other (rw e (no_members (t + 2) ms))) (cases_Bool (t + 1 == 0))
 
 or_assoc : (a b c : Bool) → (a || (b || c)) ≡ true → (a || b || c) ≡ true
 or_assoc true b c h = refl
@@ -676,7 +672,7 @@ module _ (p : ProgramTree) (faultless : program_faults p ≡ []) (x : Context) (
         by : (o : Option ℕ) → above p.classes a.class ≡ o → is_wrong_call (count es) (Taking (wants_above p.classes o)) ≡ false → argument_faults A (argument_wants (count es) (Taking (wants_above p.classes o))) es ≡ [] → FitGiven es (param_types_in (constructor_of (resolved p) (above_of (resolved p) x.class)))
         by None e w g =
             let none : param_types_in (constructor_of (resolved p) (above_of (resolved p) x.class)) ≡ [] =
-            ap (λ t. param_types_in (constructor_of (resolved p) t)) (over ∙ ap number_or_object e) ∙ ap (λ m. param_types_in (constructor_in (resolved p) m)) (no_members 3 (resolved p).members) in
+            ap (λ t. param_types_in (constructor_of (resolved p) t)) (over ∙ ap number_or_object e) in
             subst (FitGiven es) (sym none) (arguments_of outside es [] refl w g names words)
         by (Some j) e w g =
             let c = class_there p.classes j (above_within p.classes a.class j e) in

@@ -17,7 +17,8 @@ use Rattle.ss_typed.specs.Tree.{BodyTree, TypedTree}
 use Rattle.ss_resolver_names_rules.specs.Programs.{program_faults}
 use Rattle.ss_resolver_rules.specs.Numbers.{body_count, constructor_id, method_place, method_id, method_names}
 use Rattle.ss_resolver_rules.specs.Programs.{constructor_body, method_body, bodies_of, bodies_from, resolved}
-use Rattle.ss_expand_rules.specs.Program.{body_at, param_types_in, number_of_written}
+use Rattle.ss_expand_rules.specs.Program.{number_of_written}
+use Rattle.ss_typed.specs.Lookups.{body_at, param_types_in}
 use Rattle.ss_expand_rules.specs.Bodies.{written_body}
 use Rattle.ss_store_rules.specs.Typed.{where_body, callee_of}
 use Rattle.ss_expand_formed.specs.Laws.{core_of}

@@ -16,10 +16,12 @@ use Rattle.ss_ast.specs.Programs.{ClassTree, ProgramTree}
 use Rattle.ss_tables.specs.Classes.{members_in, members_at, chain_from}
 use Rattle.ss_typed.specs.Tree.{BodyTree, TypedTree}
 use Rattle.ss_resolver_names_rules.specs.Programs.{program_faults}
-use Rattle.ss_resolver_rules.specs.Numbers.{method_id, names_of, is_listed, method_names, declared_entry, overridden, added, table_along, table}
+use Rattle.ss_resolver_names_rules.specs.Faults.{is_listed}
+use Rattle.ss_resolver_rules.specs.Numbers.{method_id, names_of, method_names, declared_entry, overridden, added, table_along, table}
 use Rattle.ss_resolver_rules.specs.Programs.{method_body, resolved}
 use Rattle.ss_expand_rules.specs.Program as program
-use Rattle.ss_expand_rules.specs.Program.{body_at, method_at, table_in, param_types_in, Origin, Constructor, Method, is_own, number_of, number_of_written, entry_number, entries_from, number_in_table, entry_number_in}
+use Rattle.ss_expand_rules.specs.Program.{method_at, table_in, Origin, Constructor, Method, is_own, number_of, number_of_written, entry_number, entries_from, number_in_table, entry_number_in}
+use Rattle.ss_typed.specs.Lookups.{body_at, param_types_in}
 use Rattle.ss_expand_rules.specs.Contracts.{declarations}
 use Rattle.ss_expand_rules.specs.Bodies.{written_body}
 use Rattle.ss_store_rules.specs.Locals.{types_of}

@@ -16,7 +16,8 @@ use Rattle.ss_typed.specs.Tree.{ExprTree, IntOf, BoolOf, NullOf, ThisOf, LocalOf
 use Rattle.ss_typed.specs.Types.{class_type, type_of, element_type}
 use Rattle.ss_typed.specs.Types as typed
 use Rattle.ss_owners_rules.specs.Words.{NoWord, misplaced}
-use Rattle.ss_expand_rules.specs.Program.{above_of, body_at, method_at, constructor_of, param_types_in, number_of, number_of_written, number_in_table, Constructor}
+use Rattle.ss_expand_rules.specs.Program.{above_of, method_at, number_of, number_of_written, number_in_table, Constructor}
+use Rattle.ss_typed.specs.Lookups.{body_at, constructor_of, param_types_in}
 use Rattle.ss_expand_rules.specs.Numbers.{Numbers, number, plain}
 use Rattle.ss_expand_rules.specs.Calls.{has_call}
 use Rattle.ss_expand_rules.specs.Lifting.{Opened, Setting, nullable, temporary_type}

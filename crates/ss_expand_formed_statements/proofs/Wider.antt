@@ -5,7 +5,8 @@ use Rattle.ss_core.specs.declared.names.Ty.{Ty}
 use Rattle.ss_core.specs.Tree as core
 use Rattle.ss_typed.specs.Tree.{ExprTree, IntOf, BoolOf, NullOf, ThisOf, LocalOf, ResultOf, BoundOf, IffOf, ImpliesOf, BinaryOf, IsOf, AsOf, NegateOf, NotOf, CastOf, FieldOf, ElementOf, LengthOf, OldOf, QuantifiedOf, StateOf, OwnersOf, NewOf, NewArrayOf, CallOf, StaticOf, BaseOf, Arguments, NoMore, Argument, TypedTree}
 use Rattle.ss_typed.specs.Types.{class_type}
-use Rattle.ss_expand_rules.specs.Program.{above_of, method_at, param_types_in}
+use Rattle.ss_expand_rules.specs.Program.{above_of, method_at}
+use Rattle.ss_typed.specs.Lookups.{param_types_in}
 use Rattle.ss_expand_formed_expressions.proofs.Fit.{Context, IsCallee, Fit, Fits}
 
 pub record Wider (x y : Context) : Type 0 where

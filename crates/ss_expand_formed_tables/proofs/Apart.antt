@@ -13,11 +13,11 @@ use Rattle.ss_ast.specs.Expressions.{NameTree}
 use Rattle.ss_ast.specs.Programs.{MemberKindTree, FieldsOf, InvariantOf, MethodOf, ConstructorOf, MemberTree, ClassTree, ProgramTree}
 use Rattle.ss_tables.specs.Members.{MethodTree, methods_of_kind, methods_in}
 use Rattle.ss_tables.specs.Classes.{members_in, members_at, chain}
-use Rattle.ss_resolver_names_rules.specs.declared.fault.Rule.TheVariants as rule
-use Rattle.ss_resolver_names_rules.specs.Faults.{fault, is_listed as is_before, with_name, twice, twice_among}
+use Rattle.ss_core.specs.declared.rules.Rule.TheVariants as rule
+use Rattle.ss_resolver_names_rules.specs.Faults.{fault, is_listed, with_name, twice, twice_among}
 use Rattle.ss_resolver_names_rules.specs.Members.{kind_names, member_names}
 use Rattle.ss_resolver_names_rules.specs.Programs.{program_faults}
-use Rattle.ss_resolver_rules.specs.Numbers.{names_of, is_listed, method_names, declared_entry, overridden, added, table_along, table}
+use Rattle.ss_resolver_rules.specs.Numbers.{names_of, method_names, declared_entry, overridden, added, table_along, table}
 use Rattle.ss_expand_formed.proofs.Facts.{none_left}
 use Rattle.ss_expand_formed.proofs.Searching.{any_at, filtered_from}
 use Rattle.ss_expand_formed.proofs.Entries.{append_from}
@@ -66,27 +66,27 @@ apart_append (x ∷ xs) ys hx hy other =
 
 -- ---- names of methods
 
-still : (t : List ℕ) (before : List (List ℕ)) (u : List ℕ) → is_before before t ≡ true → is_before (with_name before u) t ≡ true
+still : (t : List ℕ) (before : List (List ℕ)) (u : List ℕ) → is_listed before t ≡ true → is_listed (with_name before u) t ≡ true
 still t before u l =
     ⊎_elim
     (λ yes. rw yes l)
-    (λ other. rw other (list_any-append (bytes_eq t) before (u ∷ []) ∙ or_left (is_before before t) _ l))
-    (cases_Bool (is_before before u))
+    (λ other. rw other (list_any-append (bytes_eq t) before (u ∷ []) ∙ or_left (is_listed before t) _ l))
+    (cases_Bool (is_listed before u))
 
-now_listed : (before : List (List ℕ)) (u : List ℕ) → is_before (with_name before u) u ≡ true
+now_listed : (before : List (List ℕ)) (u : List ℕ) → is_listed (with_name before u) u ≡ true
 now_listed before u =
     ⊎_elim
     (λ yes. rw yes yes)
-    (λ other. rw other (list_any-append (bytes_eq u) before (u ∷ []) ∙ or_right (is_before before u) _ (or_left (bytes_eq u u) false ((bytes_eq-Decides u u).1 refl))))
-    (cases_Bool (is_before before u))
+    (λ other. rw other (list_any-append (bytes_eq u) before (u ∷ []) ∙ or_right (is_listed before u) _ (or_left (bytes_eq u u) false ((bytes_eq-Decides u u).1 refl))))
+    (cases_Bool (is_listed before u))
 
 -- what is listed before doesn't come again
-not_again : (t : List ℕ) (before : List (List ℕ)) (ns : List NameTree) → twice_among before ns ≡ [] → is_before before t ≡ true → (i : ℕ) (n : NameTree) → slice_get ns i ≡ Some n → n.text ≡ t → ⊥
+not_again : (t : List ℕ) (before : List (List ℕ)) (ns : List NameTree) → twice_among before ns ≡ [] → is_listed before t ≡ true → (i : ℕ) (n : NameTree) → slice_get ns i ≡ Some n → n.text ≡ t → ⊥
 not_again t before [] h l i n e same = let z : ⊥ = cc in z
 not_again t before (x ∷ ns) h l zero n e same =
     let both = none_left (twice before x) (twice_among (with_name before x.text) ns) h in
     let it : x.text ≡ t = ap (λ (y : NameTree). y.text) (same_Some _ _ e) ∙ same in
-    let listed : is_before before x.text ≡ true = subst (λ u. is_before before u ≡ true) (sym it) l in
+    let listed : is_listed before x.text ≡ true = subst (λ u. is_listed before u ≡ true) (sym it) l in
     let bad : fault rule.Twice x.place ≡ [] = rw listed at both.0 in
     let z : ⊥ = cc in z
 not_again t before (x ∷ ns) h l (suc i) n e same =

@@ -20,7 +20,7 @@ use Rattle.ss_paths.specs.Fields.{is_non_null}
 use Rattle.ss_nonnull_rules.specs.NonNull.{is_non_null_type}
 use Rattle.ss_nonnull_rules.specs.Overrides as nulls
 use Rattle.ss_nonnull_rules.specs.Overrides.{body_named, agrees_with}
-use Rattle.ss_resolver_names_rules.specs.declared.fault.Rule.TheVariants as rule
+use Rattle.ss_core.specs.declared.rules.Rule.TheVariants as rule
 use Rattle.ss_resolver_names_rules.specs.Faults.{fault, unless}
 use Rattle.ss_resolver_names_rules.specs.Members.{same_type_name, agree, same_type, same_result, same_mark, same_params, same_marks, only_ensures, may_override, fits_inherited, override_faults}
 use Rattle.ss_resolver_names_rules.specs.Programs.{program_faults}

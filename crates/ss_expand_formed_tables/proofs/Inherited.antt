@@ -22,10 +22,12 @@ use Rattle.ss_nonnull_rules.specs.Overrides as nulls
 use Rattle.ss_nonnull_rules.specs.Overrides.{body_named, agrees_with, bad_override_type}
 use Rattle.ss_nonnull_rules.specs.Program.{base_faults, body_faults, bodies_faults, classes_faults, null_faults}
 use Rattle.ss_resolver_names_rules.specs.Programs.{program_faults}
-use Rattle.ss_resolver_rules.specs.Numbers.{number_or_object, names_of, is_listed, method_names, method_place, method_id, declared_entry, overridden, added, table_along, table}
+use Rattle.ss_resolver_names_rules.specs.Faults.{is_listed}
+use Rattle.ss_resolver_rules.specs.Numbers.{number_or_object, names_of, method_names, method_place, method_id, declared_entry, overridden, added, table_along, table}
 use Rattle.ss_resolver_rules.specs.Programs.{method_body, resolved}
 use Rattle.ss_expand_rules.specs.Program as program
-use Rattle.ss_expand_rules.specs.Program.{body_at, method_at, table_in, is_declared_by}
+use Rattle.ss_expand_rules.specs.Program.{method_at, table_in, is_declared_by}
+use Rattle.ss_typed.specs.Lookups.{body_at}
 use Rattle.ss_expand_rules.specs.Contracts.{where_declared, declared_at as declares, declarations}
 use Rattle.ss_expand_formed.proofs.Facts.{none_left}
 use Rattle.ss_expand_formed.proofs.Searching.{at_front, at_back, find_some, any_at, filtered_from}

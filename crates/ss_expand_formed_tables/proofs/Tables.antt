@@ -16,10 +16,12 @@ use Rattle.ss_tables.specs.Classes.{members_in, members_at, above}
 use Rattle.ss_typed.specs.Tree.{ExprTree, IntOf, ParamTree, BodyTree}
 use Rattle.ss_nonnull_rules.specs.Program.{null_faults}
 use Rattle.ss_resolver_names_rules.specs.Programs.{program_faults}
-use Rattle.ss_resolver_rules.specs.Numbers.{number_or_object, is_listed, method_names, declared_entry, overridden, added, table}
+use Rattle.ss_resolver_names_rules.specs.Faults.{is_listed}
+use Rattle.ss_resolver_rules.specs.Numbers.{number_or_object, method_names, declared_entry, overridden, added, table}
 use Rattle.ss_resolver_rules.specs.Programs.{method_body, resolved}
 use Rattle.ss_expand_rules.specs.Program as program
-use Rattle.ss_expand_rules.specs.Program.{body_at, method_at, table_in, members_of, Method, is_declared_by, is_wrapped, is_own, place_in, written, number_of, number_of_written, entry_number, entries_from}
+use Rattle.ss_expand_rules.specs.Program.{method_at, table_in, Method, is_declared_by, is_wrapped, is_own, place_in, written, number_of, number_of_written, entry_number, entries_from}
+use Rattle.ss_typed.specs.Lookups.{body_at, members_of}
 use Rattle.ss_expand_rules.specs.Numbers.{Numbers, plain, all_plain}
 use Rattle.ss_expand_rules.specs.Contracts.{first_param, is_reference, where_asked, of_argument, of_param, of_params, default_entry, default_exit, conditions, entry_of_first, all_exits, declared_at as declares, declarations}
 use Rattle.ss_expand_rules.specs.Bodies.{written_body, wrapper_body}

@@ -12,7 +12,8 @@ use Rattle.ss_resolver_names_rules.specs.Programs.{program_faults}
 use Rattle.ss_resolver_types_expressions.specs.Programs.{type_faults}
 use Rattle.ss_resolver_rules.specs.Programs.{resolved}
 use Rattle.ss_owners_rules.specs.Program.{ownership_faults}
-use Rattle.ss_expand_rules.specs.Program.{table, constructor_of, Origin}
+use Rattle.ss_expand_rules.specs.Program.{table, Origin}
+use Rattle.ss_typed.specs.Lookups.{constructor_of}
 use Rattle.ss_expand_rules.specs.Contracts.{declarations}
 use Rattle.ss_expand_rules.specs.Constructors.{implicit_constructor}
 use Rattle.ss_expand_rules.specs.Bodies.{statements, written_body, wrapper_body}

@@ -1,5 +1,5 @@
 -- The locals of each body of an elaborated program have types of the table.
-use Rattle.std.proofs.Common.{◌≡◌, ℕ, ◌+◌, ◌*◌, ◌<◌, List, [], ◌∷◌, ◌++◌, length, map, Bool, true, false, Option, Some, None, refl, ◌∙◌, arith}
+use Rattle.std.proofs.Common.{◌≡◌, ℕ, zero, suc, ◌+◌, ◌*◌, ◌<◌, List, [], ◌∷◌, ◌++◌, length, map, Bool, true, false, Option, Some, None, refl, ◌∙◌, arith}
 use Rattle.std.specs.Prelude.{◌&&◌, ◌==◌, nat_le, slice_get, option_map, option_to_list, ◌%◌, if◌then◌else◌}
 use Rattle.std.specs.List.{list_all}
 use Rattle.std.proofs.lemmas.Bool.{and_parts, and_from, leb-true, lt-ltb}
@@ -20,11 +20,14 @@ use Rattle.ss_resolver_rules.specs.Names.{Env, class_env}
 use Rattle.ss_resolver_rules.specs.Numbers.{type_id}
 use Rattle.ss_resolver_rules.specs.Expressions.{expr}
 use Rattle.ss_resolver_rules.specs.Programs.{param_env, method_env, base_of, field, class, field_member, members, each, resolved}
-use Rattle.ss_expand_rules.specs.Program.{field_at, members_from, members_of, table, Origin}
+use Rattle.ss_expand_rules.specs.Program.{field_at, table, Origin}
+use Rattle.ss_typed.specs.Lookups.{members_of}
+use Rattle.ss_typed.proofs.ByClass.{of_members}
 use Rattle.ss_expand_rules.specs.Statements.{result_type}
 use Rattle.ss_expand_rules.specs.Contracts.{first_param, declarations}
-use Rattle.ss_expand_rules.specs.Constructors.{before_all, in_block, closing_brace, initialize, initializers_from, initializers_in, initializers, is_initial, behind_initial, base_alone, with_base, constructor_stmts, implicit_constructor}
-use Rattle.ss_typed.specs.Shapes.{has_base}
+use Rattle.ss_paths.specs.Opening.{is_first}
+use Rattle.ss_expand_rules.specs.Constructors.{before_all, initialize, initializers_from, initializers_in, initializers, behind_initial, base_alone, with_base, constructor_stmts, implicit_constructor}
+use Rattle.ss_typed.specs.Shapes.{closing_brace, in_block, has_base}
 use Rattle.ss_expand_rules.specs.Bodies.{block_assigns, assigned_from, copy_of, copies, temporaries_from, with_return, statements, setting, temporary_types, written_body, wrapper_types}
 use Rattle.ss_store_rules.specs.Typed.{is_local}
 use Rattle.ss_expand_formed.specs.Laws.{core_of}
@@ -76,17 +79,17 @@ module _ (cs : List core.ClassTree) where
     initial_typed t c None h = refl
     initial_typed t c (Some m) h = fields_typed t _ c m.fields h
 
-    members_found : (t : ℕ) (ms : List MembersTree) (u : ℕ) → list_all members_typed ms ≡ true → may_members (members_from t ms u) ≡ true
-    members_found t [] u h = refl
-    members_found t (m ∷ ms) u h =
-        let both = and_parts (members_typed m) (list_all members_typed ms) h in
-        on_either (λ (z : Option MembersTree). may_members z ≡ true) (t == u) (Some m) (members_from (t + 2) ms u) both.0 (members_found (t + 2) ms u both.1)
+    members_found : (ms : List MembersTree) (i : ℕ) → list_all members_typed ms ≡ true → may_members (slice_get ms i) ≡ true
+    members_found [] zero h = refl
+    members_found [] (suc i) h = refl
+    members_found (m ∷ ms) zero h = (and_parts (members_typed m) (list_all members_typed ms) h).0
+    members_found (m ∷ ms) (suc i) h = members_found ms i (and_parts (members_typed m) (list_all members_typed ms) h).1
 
     behind_typed : (t : ℕ) (s : StmtTree) (ss : StmtTrees) → stmt_typed cs s ≡ true → all_typed cs ss ≡ true → all_typed cs (behind_initial p t s ss) ≡ true
     behind_typed t s NoMore h g = and_from _ _ h refl
     behind_typed t s (Before x xs) h g =
         let both = and_parts (stmt_typed cs x) (all_typed cs xs) g in
-        on_either (λ (z : StmtTrees). all_typed cs z ≡ true) (is_initial p t x) (Before x (behind_initial p t s xs)) (Before s (Before x xs)) (and_from _ _ both.0 (behind_typed t s xs h both.1)) (and_from _ _ h g)
+        on_either (λ (z : StmtTrees). all_typed cs z ≡ true) (is_first p t x) (Before x (behind_initial p t s xs)) (Before s (Before x xs)) (and_from _ _ both.0 (behind_typed t s xs h both.1)) (and_from _ _ h g)
 
     with_base_typed : (b : BodyTree) (base : Option BaseTree) → base_typed base ≡ true → (ss : StmtTrees) → all_typed cs ss ≡ true → all_typed cs (with_base p b base ss) ≡ true
     with_base_typed b (Some base) g ss h = and_from _ _ g h
@@ -106,7 +109,7 @@ module _ (cs : List core.ClassTree) where
         let inner = in_block_typed b.block h in
         with_return_typed b b.result (if b.flags.ctor then constructor_stmts p b else in_block b.block)
         (on_either (λ (z : StmtTrees). all_typed cs z ≡ true) b.flags.ctor (constructor_stmts p b) (in_block b.block)
-        (typed-append (initializers p b.class) (with_base p b b.base (in_block b.block)) (initial_typed b.class c (members_of p b.class) (members_found 4 p.members b.class ms)) (with_base_typed b b.base base (in_block b.block) inner))
+        (typed-append (initializers p b.class) (with_base p b b.base (in_block b.block)) (initial_typed b.class c (members_of p b.class) (of_members (λ (z : Option MembersTree). may_members z ≡ true) refl p b.class (λ i. members_found p.members i ms))) (with_base_typed b b.base base (in_block b.block) inner))
         inner)
 
 -- ---- locals

@@ -21,7 +21,10 @@ use Rattle.ss_tables.specs.Types.{class_of, named_type, array_type, written_type
 use Rattle.ss_tables.specs.Words.{is_state_read}
 use Rattle.ss_tables.specs.Statics.{Receiver, TheConsole, TheOwner, TheBase, AClass, AValue, Callee, AMethod, APrint, AWord, ABase, NoCallee, receiver, static, result_type, name_callee, member_callee}
 use Rattle.ss_typed.specs.Tree.{ExprTree, LengthOf, StateOf, OwnersOf, CallOf, StaticOf, Arguments, NoMore, Argument}
-use Rattle.ss_resolver_rules.specs.Names.{Known, Variable, BoundName, Known_names, Env, known_in, known_among, known, with_known, enter, declare, declare_all, declare_param, declare_params, within}
+use Rattle.ss_resolver_rules.specs.Names.{Known_names, Env, known, enter, declare, declare_all, declare_param, declare_params, within}
+use Rattle.ss_resolver_rules.specs.declared.known.Known.{Known}
+use Rattle.ss_resolver_rules.specs.declared.known.Known.TheVariants.{Variable, BoundName}
+use Rattle.ss_tables.specs.Named.{named_in, named_among, with_named}
 use Rattle.ss_resolver_rules.specs.Numbers.{number_or_object, class_id, type_id, class_in, array_class, method_id, table_place}
 use Rattle.ss_resolver_rules.specs.Expressions.{this, read_field, known_or_field, field_behind, state_word, third_class, member, method_call, base_call, owner_question, place_or_own, call_of, question, called_behind, called_bare, expr, call, args}
 use Rattle.ss_resolver_rules.specs.Statements.{declared_in_block, declared_in, past, behind, declarators, is_line, printed, print, call_alone, alone, simple, first, behind_first, block, stmt, stmts}
@@ -110,24 +113,24 @@ module _ (p : ProgramTree) where
     pub inner : names_fit e.inner ≡ true
     pub outer : list_all names_fit e.outer ≡ true
 
-  in_scope : (ls : Known_names) (x : List ℕ) → names_fit ls ≡ true → may_fit (known_in ls x) ≡ true
+  in_scope : (ls : Known_names) (x : List ℕ) → names_fit ls ≡ true → may_fit (named_in ls x) ≡ true
   in_scope [] x h = refl
   in_scope (l ∷ ls) x h =
       let both = and_parts (known_fits l.1) (names_fit ls) h in
-      on_either (λ (k : Option Known). may_fit k ≡ true) (bytes_eq x l.0) (Some l.1) (known_in ls x) both.0 (in_scope ls x both.1)
+      on_either (λ (k : Option Known). may_fit k ≡ true) (bytes_eq x l.0) (Some l.1) (named_in ls x) both.0 (in_scope ls x both.1)
 
   in_either : (a b : Option Known) → may_fit a ≡ true → may_fit b ≡ true → may_fit (or_else a b) ≡ true
   in_either (Some k) b h g = h
   in_either None b h g = g
 
-  in_scopes : (ls : List Known_names) (x : List ℕ) → list_all names_fit ls ≡ true → may_fit (known_among ls x) ≡ true
+  in_scopes : (ls : List Known_names) (x : List ℕ) → list_all names_fit ls ≡ true → may_fit (named_among ls x) ≡ true
   in_scopes [] x h = refl
   in_scopes (l ∷ ls) x h =
       let both = and_parts (names_fit l) (list_all names_fit ls) h in
-      in_either (known_in l x) (known_among ls x) (in_scope l x both.0) (in_scopes ls x both.1)
+      in_either (named_in l x) (named_among ls x) (in_scope l x both.0) (in_scopes ls x both.1)
 
   known_name_fits : (e : Env) → Fits e → (x : List ℕ) → may_fit (known e x) ≡ true
-  known_name_fits e h x = in_either (known_in e.inner x) (known_among e.outer x) (in_scope e.inner x h.inner) (in_scopes e.outer x h.outer)
+  known_name_fits e h x = in_either (named_in e.inner x) (named_among e.outer x) (in_scope e.inner x h.inner) (in_scopes e.outer x h.outer)
 
   -- ---- names and members
 
@@ -280,9 +283,9 @@ module _ (p : ProgramTree) where
 
   -- ---- environments
 
-  with_known_fits : (ls : Known_names) (x : List ℕ) (k : Known) → names_fit ls ≡ true → known_fits k ≡ true → names_fit (with_known ls x k) ≡ true
+  with_known_fits : (ls : Known_names) (x : List ℕ) (k : Known) → names_fit ls ≡ true → known_fits k ≡ true → names_fit (with_named ls x k) ≡ true
   with_known_fits ls x k h g =
-      on_either (λ (z : Known_names). names_fit z ≡ true) (is_some (known_in ls x)) ls (ls ++ (x, k) ∷ []) h
+      on_either (λ (z : Known_names). names_fit z ≡ true) (is_some (named_in ls x)) ls (ls ++ (x, k) ∷ []) h
       (list_all-append (λ (l : List ℕ × Known). known_fits l.1) ls ((x, k) ∷ []) ∙ rw (h, g) refl)
 
   enter_fits : (e : Env) → Fits e → Fits (enter e)

@@ -19,6 +19,7 @@ use Rattle.ss_typed.specs.declared.expr.TypedStep.{TypedStep}
 use Rattle.ss_typed.specs.Tree.{ExprTree, IffOf, ImpliesOf, BinaryOf, NegateOf, NotOf, CastOf, NewOf, NewArrayOf, CallOf, StaticOf, BaseOf, Arguments, Argument, arguments}
 use Rattle.ss_typed.specs.View.{expr, exprs}
 use Rattle.ss_expand_rules.specs.Program as program
+use Rattle.ss_typed.specs.Lookups as lookups
 use Rattle.ss_expand_rules.specs.Calls.{has_call, have_call, is_lazy_operator}
 use Rattle.ss_typed.specs.Shapes.{place_of}
 use Rattle.ss_expand_rules.specs.Numbers.{plain}
@@ -27,7 +28,8 @@ use Rattle.ss_core.specs.declared.names.Ty.TheVariants as ty
 use Rattle.ss_typed.specs.Parts.{link_behind, linked, step_behind, stepped}
 use Rattle.ss_expand_expressions.specs.Sources.{lifted_behind, valued_behind, listed_behind}
 use Rattle.ss_expand_expressions.specs.Operands.{valued_as}
-use Rattle.ss_expand_expressions.proofs.Loops.{drop_item, map_append}
+use Rattle.std.proofs.lemmas.List.{map-append}
+use Rattle.ss_ast.proofs.Loops.{drop_item}
 use Rattle.ss_typed.proofs.Grouping.{chain_is, path_is}
 use Rattle.ss_expand_lifting.specs.Operations.{is_and, size_of, test_of, receiver_of, values_of}
 use Rattle.ss_expand_lifting.proofs.Joins.{lifted_as, listed_as, with_call, unlifted_behind, strict_operation, lazy_operation, negated_with, negated_without, unary_behind, unary_kept, binary_kept, array_behind, begun_behind, lazily_behind, receiver_and_arguments, listed_onto, one_more_argument, no_more_arguments}
@@ -107,7 +109,7 @@ path_lifts s p first steps e x ls rest n before now r types made is xs lss rs ca
     ∙ ap (lifted_behind before) (with_call s (expr e) types call)
 
 pub new_lifts : (s : Setting) (p : Place) (c : ClassId) (es : Vec TypedExpr Global) (e : TypedExpr) (xs : List TypedExpr) (ts : List Ty) (before now : List core.StmtTree) (vs : List core.ExprTree) (types made : List Ty)
-    → e ≡ variant.New p c es → xs ≡ es.items → ts ≡ program.param_types_in (program.constructor_of s.program c.0)
+    → e ≡ variant.New p c es → xs ≡ es.items → ts ≡ lookups.param_types_in (lookups.constructor_of s.program c.0)
     → listed_as now vs made ≡ listed_behind before (arguments_of s ts (arguments (exprs xs)) types)
     → lifted_as now (Created p c.0 vs) made ≡ lifted_behind before (lifted s (expr e) types)
 new_lifts s p c es e xs ts before now vs types made is list t h =
@@ -125,7 +127,7 @@ new_array_lifts s p c a e x before now v types made is xs h =
     ∙ ap (λ z. lifted_behind before (lifted s z types)) (sym (ap expr is ∙ new_array_is p c a))
 
 pub static_lifts : (s : Setting) (p : Place) (n : BodyId) (t : Option Ty) (es : Vec TypedExpr Global) (e : TypedExpr) (xs : List TypedExpr) (ts : List Ty) (m : ℕ) (before now : List core.StmtTree) (vs : List core.ExprTree) (types made : List Ty)
-    → e ≡ variant.Static p n t es → xs ≡ es.items → ts ≡ program.param_types_in (program.body_at s.program n.0) → m ≡ program.number_of_written s.program n.0
+    → e ≡ variant.Static p n t es → xs ≡ es.items → ts ≡ lookups.param_types_in (lookups.body_at s.program n.0) → m ≡ program.number_of_written s.program n.0
     → listed_as now vs made ≡ listed_behind before (arguments_of s ts (arguments (exprs xs)) types)
     → lifted_as now (Called p (Static m) vs) made ≡ lifted_behind before (lifted s (expr e) types)
 static_lifts s p n t es e xs ts m before now vs types made is list q k h =
@@ -136,13 +138,13 @@ static_lifts s p n t es e xs ts m before now vs types made is list q k h =
     ∙ ap (λ z. lifted_behind before (lifted s z types)) (sym (ap expr is ∙ static_is p n t es))
 
 pub base_lifts : (s : Setting) (p : Place) (m : ℕ) (t : Option Ty) (es : Vec TypedExpr Global) (e : TypedExpr) (xs : List TypedExpr) (ts : List Ty) (a n : ℕ) (before now : List core.StmtTree) (vs : List core.ExprTree) (types made : List Ty)
-    → e ≡ variant.Base p m t es → xs ≡ es.items → a ≡ program.above_of s.program s.body.class → ts ≡ program.param_types_in (program.method_at s.program a m) → n ≡ program.number_in_table s.program a m
+    → e ≡ variant.Base p m t es → xs ≡ es.items → a ≡ program.above_of s.program s.body.class → ts ≡ lookups.param_types_in (program.method_at s.program a m) → n ≡ program.number_in_table s.program a m
     → listed_as now vs made ≡ listed_behind before (arguments_of s ts (arguments (exprs xs)) types)
     → lifted_as now (Called p (Base n) vs) made ≡ lifted_behind before (lifted s (expr e) types)
 base_lifts s p m t es e xs ts a n before now vs types made is list above q k h =
     ap (called (Called p (Base n))) h
     ∙ ap (λ z. lifted_behind before (called (Called p (Base z)) (arguments_of s ts (arguments (exprs xs)) types))) (k ∙ ap (λ z. program.number_in_table s.program z m) above)
-    ∙ ap (λ z. lifted_behind before (called (Called p (Base (program.number_in_table s.program (program.above_of s.program s.body.class) m))) (arguments_of s z (arguments (exprs xs)) types))) (q ∙ ap (λ z. program.param_types_in (program.method_at s.program z m)) above)
+    ∙ ap (λ z. lifted_behind before (called (Called p (Base (program.number_in_table s.program (program.above_of s.program s.body.class) m))) (arguments_of s z (arguments (exprs xs)) types))) (q ∙ ap (λ z. lookups.param_types_in (program.method_at s.program z m)) above)
     ∙ ap (λ z. lifted_behind before (lifted s (BaseOf p m t (arguments (exprs z))) types)) list
     ∙ ap (λ z. lifted_behind before (lifted s z types)) (sym (ap expr is ∙ base_is p m t es))
 
@@ -180,7 +182,7 @@ pub argument_joins : (s : Setting) (es : List TypedExpr) (i : ℕ) (x : TypedExp
     → listed_onto now (view.exprs ws) (in_temporaries s us (arguments (exprs (drop (i + 1) es))) made) ≡ listed_onto before (view.exprs vs) (in_temporaries s ts (arguments (exprs (drop i es))) types)
 argument_joins s es i x ts us w before now vs ws v types made lt g first others more h =
     ap (λ z. listed_onto now (view.exprs z) (in_temporaries s us (arguments (exprs (drop (i + 1) es))) made)) more
-    ∙ ap (λ z. listed_onto now z (in_temporaries s us (arguments (exprs (drop (i + 1) es))) made)) (map_append view.expr vs (v ∷ []))
+    ∙ ap (λ z. listed_onto now z (in_temporaries s us (arguments (exprs (drop (i + 1) es))) made)) (map-append view.expr vs (v ∷ []))
     ∙ ap (λ z. listed_onto now (view.exprs vs ++ view.expr v ∷ []) (in_temporaries s z (arguments (exprs (drop (i + 1) es))) made)) others
     ∙ ap (λ k. listed_onto now (view.exprs vs ++ view.expr v ∷ []) (in_temporaries s (other_types ts) (arguments (exprs (drop k es))) made)) (add-one i)
     ∙ one_more_argument s ts (expr x) (arguments (exprs (drop (suc i) es))) before now (view.exprs vs) (view.expr v) types made (h ∙ ap (λ z. valued_behind before (operand s.numbers z (expr x) (lifted s (expr x)) types)) first)

@@ -20,7 +20,7 @@ use Rattle.ss_typed.specs.Parts.{link_behind, linked, step_behind, stepped}
 use Rattle.ss_expand_expressions.specs.Sources.{lifted_behind}
 use Rattle.ss_expand_expressions.specs.Operands.{IsOperand}
 use Rattle.ss_expand_expressions.specs.declared.operands.Operand.{Operand}
-use Rattle.ss_expand_expressions.proofs.Loops.{drop_item}
+use Rattle.ss_ast.proofs.Loops.{drop_item}
 use Rattle.ss_expand_expressions.proofs.Shapes.{links_keep, steps_keep, linked_next, stepped_next}
 use Rattle.ss_typed.proofs.Grouping.{link_shape, step_shape}
 use Rattle.ss_expand_lifting.specs.Fronts.{link_begins, step_begins, LinksGoOn, StepsGoOn}

@@ -1,11 +1,11 @@
 -- What stands behind the beginning of a chain or a path is smaller than the whole.
-use Rattle.std.proofs.Common.{◌≡◌, ◌<◌, ◌≤◌, ℕ, zero, suc, List, [], ◌∷◌, Vec, Box, Global, drop, ap, rules, arith}
-use Rattle.std.proofs.lemmas.Grind.{common_steps}
+use Rattle.std.proofs.Common.{◌≡◌, ◌<◌, ◌≤◌, ℕ, zero, suc, List, [], ◌∷◌, Vec, Box, Global, drop, ap, arith}
 use Rattle.ss_core.specs.declared.names.Place.{Place}
-use Rattle.ss_typed.specs.declared.expr.TypedExpr.{TypedExpr, the_lemmas}
+use Rattle.ss_typed.specs.declared.expr.TypedExpr.{TypedExpr}
 use Rattle.ss_typed.specs.declared.expr.TypedExpr.TheViews as view
 use Rattle.ss_typed.specs.declared.expr.TypedLink.{TypedLink}
 use Rattle.ss_typed.specs.declared.expr.TypedStep.{TypedStep}
+use Rattle.ss_typed.proofs.Falls.{links_fall as all_links_fall, steps_fall as all_steps_fall}
 use Rattle.ss_typed.proofs.expr.TypedExpr.TheLaws as expr_laws
 use Rattle.ss_typed.proofs.expr.TypedLink.TheLaws as link_laws
 use Rattle.ss_typed.proofs.expr.TypedStep.TheLaws as step_laws
@@ -16,14 +16,6 @@ most_behind w [] zero = omega arith
 most_behind w [] (suc n) = omega arith
 most_behind w (x ∷ xs) zero = omega arith
 most_behind w (x ∷ xs) (suc n) = let h : most w (drop n xs) ≤ most w xs = most_behind w xs n in omega arith
-
-all_links_fall : (p : Place) (first : Box TypedExpr Global) (links : Vec TypedLink Global) (e : TypedExpr) (ls : List TypedLink)
-    → e ≡ view.Chain p first links → ls ≡ links.items → most (λ (x : TypedLink). link_laws.the_size x) ls < expr_laws.the_size e
-all_links_fall p first links e ls is ls_is = first_of (search (rules, the_lemmas), grind (arith, common_steps, the_lemmas))
-
-all_steps_fall : (p : Place) (first : Box TypedExpr Global) (steps : Vec TypedStep Global) (e : TypedExpr) (ls : List TypedStep)
-    → e ≡ view.Path p first steps → ls ≡ steps.items → most (λ (x : TypedStep). step_laws.the_size x) ls < expr_laws.the_size e
-all_steps_fall p first steps e ls is ls_is = first_of (search (rules, the_lemmas), grind (arith, common_steps, the_lemmas))
 
 pub links_fall : (p : Place) (first : Box TypedExpr Global) (links : Vec TypedLink Global) (e : TypedExpr) (ls rest : List TypedLink) (n : ℕ)
     → e ≡ view.Chain p first links → ls ≡ links.items → rest ≡ drop n ls → most (λ (x : TypedLink). link_laws.the_size x) rest < expr_laws.the_size e

@@ -1,5 +1,6 @@
 -- Compound assignments, declarations, printing and `base(..)`, behind the code before them.
 use Rattle.std.proofs.Common.{◌≡◌, ℕ, Option, Some, None, List, [], ◌∷◌, ◌++◌, Bool, true, false, cond, refl, ap, sym, ◌∙◌, append_assoc}
+use Rattle.std.specs.Global.{Box}
 use Rattle.std.specs.Prelude.{◌||◌, ◌==◌}
 use Rattle.std.proofs.lemmas.List.{append-nil}
 use Rattle.ss_core.specs.declared.names.Place.{Place}
@@ -10,7 +11,8 @@ use Rattle.ss_core.specs.Tree.{BinaryExpr, PrintStmt, CallStmt, BaseConstructor}
 use Rattle.ss_typed.specs.declared.expr.TypedExpr.{TypedExpr}
 use Rattle.ss_typed.specs.View.{expr}
 use Rattle.ss_typed.specs.Tree.{ExprTree, BinaryOf, Arguments, DeclaratorTree}
-use Rattle.ss_expand_rules.specs.Program.{number_of, constructor_of, param_types_in, Constructor}
+use Rattle.ss_expand_rules.specs.Program.{number_of, Constructor}
+use Rattle.ss_typed.specs.Lookups.{constructor_of, param_types_in}
 use Rattle.ss_expand_rules.specs.Numbers.{plain}
 use Rattle.ss_expand_rules.specs.Calls.{has_call}
 use Rattle.ss_typed.specs.Shapes.{place_of}
@@ -80,7 +82,7 @@ value_assigned s target e types (left.Element p part i) h n = element_assigned s
 value_assigned s target e types left.Other h n = sym (assign_other s target e types h)
 
 -- the left side that stands for another
-pub kept_target : (e : ExprTree) (now : List core.StmtTree) (made : List Ty) (t u : Option TypedExpr) (s : Settled)
+pub kept_target : (e : ExprTree) (now : List core.StmtTree) (made : List Ty) (t u : Option (Box TypedExpr)) (s : Settled)
     → t ≡ u → settled_as_is now (settled_target e t) made ≡ s → settled_as_is now (settled_target e u) made ≡ s
 kept_target e now made t u s h k = ap (λ x. settled_as_is now (settled_target e x) made) (sym h) ∙ k
 

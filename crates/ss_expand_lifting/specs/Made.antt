@@ -1,6 +1,6 @@
 -- Statements that have been made, and left sides that have been settled.
 use Rattle.std.specs.Prelude.{List, ◌++◌, Option, Some, None}
-use Rattle.std.specs.Global.{Vec}
+use Rattle.std.specs.Global.{Vec, Box}
 use Rattle.ss_core.specs.declared.names.Ty.{Ty}
 use Rattle.ss_core.specs.Tree as core
 use Rattle.ss_typed.specs.declared.expr.TypedExpr.{TypedExpr}
@@ -24,9 +24,9 @@ abbrev pub settled_behind : List core.StmtTree → Settled → Settled
 settled_behind code s = record s { code = code ++ s.code }
 
 -- what stands for a left side: one that was made anew, or itself
-abbrev pub settled_target : ExprTree → Option TypedExpr → ExprTree
+abbrev pub settled_target : ExprTree → Option (Box TypedExpr) → ExprTree
 settled_target e None = e
-settled_target e (Some t) = expr t
+settled_target e (Some t) = expr t.value
 
 -- what a declared local begins with
 abbrev pub initial_of : Setting → DeclaratorTree → Option ExprTree → List Ty → Lifted

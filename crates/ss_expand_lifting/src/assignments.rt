@@ -24,7 +24,7 @@ use crate::lefts::{Left, left_of, plain_part};
 use crate::lifting::{lift_operand, lift_operation};
 use crate::operations::are_kept;
 use crate::settings::Setting;
-use crate::settled::{field_path, settle};
+use crate::settled::{boxed, field_path, settle, this_of};
 use ss_ast::{AssignOperator, StepOperator};
 use ss_core::{Expr, FieldId, Operator, Place, Stmt, Ty};
 use ss_expand_bodies::field_at;
@@ -385,7 +385,7 @@ pub fn assign_field(
         ≡ after (stmts_of code.old.statements) (elab.simple (setting_of setting.now)
         (tree.AssignOf (tree.FieldOf place (tree.ThisOf place setting.now.body.now.class.0) field.0 ty) operator.Set (typed.expr e.now)) made.old.items)) }
 {
-    let this = TypedExpr::This(place, setting.body.class);
+    let this = boxed(alloc, this_of(place, setting.body.class))?;
     let target = field_path(alloc, place, this, field, ty)?;
     assign(alloc, setting, &target, e, code, made)?;
     Ok(())

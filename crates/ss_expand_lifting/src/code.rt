@@ -5,6 +5,7 @@ ghost use Rattle.ss_core.specs.View.{stmt_of};
 ghost use Rattle.ss_expand_expressions.specs.Sources.{stmts_of};
 
 use ss_core::Stmt;
+use ss_expand_expressions::add_stmt;
 use std::alloc::{AllocError, Global};
 
 /// Statements that have been made so far.
@@ -27,7 +28,6 @@ impl Code {
     pub fn add(&mut self, statement: Stmt) -> Result<(), AllocError>
         ensures { OnOk result (stmts_of self.new.statements ≡ stmts_of self.old.statements ++ stmt_of statement ∷ []) }
     {
-        self.statements.push(statement)?;
-        Ok(())
+        add_stmt(&mut self.statements, statement)
     }
 }

@@ -7,7 +7,6 @@ ghost use Rattle.ss_core.specs.declared.names.Ty.{Ty};
 ghost use Rattle.ss_core.specs.declared.stmt.Stmt.{Stmt};
 ghost use Rattle.ss_core.specs.Tree as core;
 ghost use Rattle.ss_typed.specs.Tree.{ExprTree};
-ghost use Rattle.ss_typed.specs.Types.{type_of};
 ghost use Rattle.ss_expand_rules.specs.Calls as calls;
 ghost use Rattle.ss_expand_rules.specs.Lifting as elab;
 ghost use Rattle.ss_expand_rules.specs.Numbers.{plain};
@@ -17,12 +16,12 @@ ghost use Rattle.ss_expand_expressions.specs.Sources.{source_of};
 ghost use Rattle.ss_expand_expressions.specs.Operands.{IsOperand};
 ghost use Rattle.ss_expand_lifting.specs.Fronts.{IsLinkFront, IsStepFront, link_begins, step_begins};
 
-use ss_core::{Link, Place, Ty};
+use ss_core::{Link, Place};
 use ss_expand_expressions::{
-    Numbers, Operand, PlainSteps, Source, is_lazy_link, link_has_call, link_type, plain_links,
-    plain_steps, step_has_call, step_type, whole_chain, whole_path,
+    Numbers, Operand, PlainSteps, Source, is_lazy_link, link_has_call, plain_links, plain_steps,
+    step_has_call, whole_chain, whole_path,
 };
-use ss_typed::{TypedLink, TypedStep};
+use ss_typed::{TypedLink, TypedStep, link_type, path_type};
 use std::alloc::{AllocError, Global};
 
 /// An operand with what stands behind it before the first call.
@@ -190,17 +189,6 @@ fn with_links(
         }
         None => Ok(operand),
     }
-}
-
-// The type of a path that begins with what is of this type.
-fn path_type(first: Option<Ty>, steps: &[TypedStep]) -> Option<Ty>
-    ensures { (p : Place) → (e : ExprTree) → type_of e ≡ first → type_of (stepped p e steps.now) ≡ result }
-{
-    let mut ty = first;
-    for step in steps {
-        ty = step_type(ty, step);
-    }
-    ty
 }
 
 // An operand without calls with these steps, which have none either.

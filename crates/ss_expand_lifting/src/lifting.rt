@@ -25,16 +25,17 @@ use crate::operations::{
     operand_field, operand_is, operand_length, plain_all,
 };
 use crate::settings::Setting;
-use ss_core::{Callee, ClassId, Expr, Operator, Place, Ty};
-use ss_expand_bodies::{
-    above_of, body_at, constructor_of, method_at, number_in_table, number_of_written, params_in,
-};
+use ss_core::{Callee, Expr, Operator, Place, Ty};
+use ss_expand_bodies::{above_of, method_at, number_in_table, number_of_written, params_in};
 use ss_expand_expressions::{
     Operand, Source, any_object, begin_lazy, binary, class_of_type, element_of, end_lazy,
     first_type, has_call, have_call, iff_of, is_lazy, is_lazy_link, is_lazy_operator, keep,
-    link_type, other_params, plain, step_type, type_of, valued,
+    other_params, plain, valued,
 };
-use ss_typed::{TypedExpr, TypedLink, TypedParam, TypedStep, place_of};
+use ss_typed::{
+    TypedExpr, TypedLink, TypedParam, TypedStep, body_at, constructor_of, link_type, place_of,
+    step_type, type_of,
+};
 use std::alloc::{AllocError, Global};
 
 /// What the expression is lifted to, behind the code so far. Without a call it stays as it is.

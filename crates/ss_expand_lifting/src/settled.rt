@@ -21,14 +21,12 @@ use crate::lefts::{Left, Part, left_of, part_operand};
 use crate::lifting::lift_operand;
 use crate::settings::Setting;
 use ss_core::{ClassId, FieldId, Place, Ty};
-use ss_expand_expressions::{
-    Operand, any_object, class_of_type, in_local, next, temporary_type, type_of,
-};
-use ss_typed::{TypedExpr, TypedStep, is_this, place_of};
+use ss_expand_expressions::{Operand, any_object, class_of_type, in_local, next, temporary_type};
+use ss_typed::{TypedExpr, TypedStep, is_this, place_of, type_of};
 use std::alloc::{AllocError, Global};
 
-// `this`
-fn this_of(place: Place, class: ClassId) -> TypedExpr
+/// `this`
+pub(crate) fn this_of(place: Place, class: ClassId) -> TypedExpr
     ensures { typed.expr result ≡ tree.ThisOf place class.0 }
 {
     TypedExpr::This(place, class)
@@ -48,6 +46,13 @@ fn this_again(e: &TypedExpr) -> TypedExpr
     this_of(place_of(e), class_of_type(type_of(e)))
 }
 
+/// The expression in a box.
+pub(crate) fn boxed(alloc: Global, e: TypedExpr) -> Result<Box<TypedExpr>, AllocError>
+    ensures { IfOk result (λ r. typed.expr r.value ≡ typed.expr e) }
+{
+    Ok(Box::new(alloc, e)?)
+}
+
 // A path with these steps.
 fn path_with(place: Place, first: Box<TypedExpr>, steps: Vec<TypedStep>) -> TypedExpr
     ensures { typed.expr result ≡ stepped place (typed.expr first.value) steps.items }
@@ -59,25 +64,25 @@ fn path_with(place: Place, first: Box<TypedExpr>, steps: Vec<TypedStep>) -> Type
 fn with_step(
     alloc: Global,
     place: Place,
-    e: TypedExpr,
+    e: Box<TypedExpr>,
     step: TypedStep,
-) -> Result<TypedExpr, AllocError>
-    ensures { IfOk result (λ r. typed.expr r ≡ step_behind step place (typed.expr e)) }
+) -> Result<Box<TypedExpr>, AllocError>
+    ensures { IfOk result (λ r. typed.expr r.value ≡ step_behind step place (typed.expr e.value)) }
 {
     let mut steps = Vec::new(alloc);
     steps.push(step)?;
-    Ok(path_with(place, Box::new(alloc, e)?, steps))
+    Ok(boxed(alloc, path_with(place, e, steps))?)
 }
 
 /// `o.f`
 pub(crate) fn field_path(
     alloc: Global,
     place: Place,
-    object: TypedExpr,
+    object: Box<TypedExpr>,
     field: FieldId,
     ty: Ty,
-) -> Result<TypedExpr, AllocError>
-    ensures { IfOk result (λ r. typed.expr r ≡ tree.FieldOf place (typed.expr object) field.0 ty) }
+) -> Result<Box<TypedExpr>, AllocError>
+    ensures { IfOk result (λ r. typed.expr r.value ≡ tree.FieldOf place (typed.expr object.value) field.0 ty) }
 {
     with_step(alloc, place, object, TypedStep::Field(field, ty))
 }
@@ -86,31 +91,34 @@ pub(crate) fn field_path(
 fn element_path(
     alloc: Global,
     place: Place,
-    array: TypedExpr,
-    index: TypedExpr,
-) -> Result<TypedExpr, AllocError>
-    ensures { IfOk result (λ r. typed.expr r ≡ tree.ElementOf place (typed.expr array) (typed.expr index)) }
+    array: Box<TypedExpr>,
+    index: Box<TypedExpr>,
+) -> Result<Box<TypedExpr>, AllocError>
+    ensures { IfOk result (λ r. typed.expr r.value ≡ tree.ElementOf place (typed.expr array.value) (typed.expr index.value)) }
 {
-    with_step(alloc, place, array, TypedStep::Element(index))
+    let step = TypedStep::Element(Box::into_inner(index));
+    with_step(alloc, place, array, step)
 }
 
 // Puts what has been lifted into a temporary, which stands for it from then on.
 fn settle_operand(
+    alloc: Global,
     setting: &Setting<'_>,
     operand: Operand,
     code: &mut Code,
     made: &mut Vec<Ty>,
-) -> Result<TypedExpr, AllocError>
+) -> Result<Box<TypedExpr>, AllocError>
     ensures { (e : ExprTree) → (before : List core.StmtTree) → (kinds : List Ty)
         → IsOperand (setting_of setting.now) e before kinds code.old.statements made.old operand
-        → IfOk result (λ t. settled_by code.new made.new (typed.expr t) ≡ settled_behind before (elab.settle_lifted (setting_of setting.now) e (lifting.right_side (setting_of setting.now) e kinds))) }
+        → IfOk result (λ t. settled_by code.new made.new (typed.expr t.value) ≡ settled_behind before (elab.settle_lifted (setting_of setting.now) e (lifting.right_side (setting_of setting.now) e kinds))) }
 {
     let x = next(setting.numbers, made)?;
     let ty = temporary_type(any_object(), operand.ty);
     let place = operand.place;
     in_local(&mut code.statements, made, place, x, ty, operand.source)?;
     let settled = local_of(place, x, ty);
-    Ok(settled)
+    let kept = boxed(alloc, settled)?;
+    Ok(kept)
 }
 
 // An index, or an object without steps, in a temporary; `this` stays.
@@ -120,16 +128,17 @@ fn settle_whole(
     e: &TypedExpr,
     code: &mut Code,
     made: &mut Vec<Ty>,
-) -> Result<TypedExpr, AllocError>
-    ensures { IfOk result (λ t. settled_by code.new made.new (typed.expr t)
+) -> Result<Box<TypedExpr>, AllocError>
+    ensures { IfOk result (λ t. settled_by code.new made.new (typed.expr t.value)
         ≡ settled_behind (stmts_of code.old.statements) (elab.settle_part (setting_of setting.now) (typed.expr e.now) made.old.items)) }
 {
     if is_this(e) {
         let this = this_again(e);
-        return Ok(this);
+        let kept = boxed(alloc, this)?;
+        return Ok(kept);
     }
     let operand = lift_operand(alloc, setting, e, code, made)?;
-    let settled = settle_operand(setting, operand, code, made)?;
+    let settled = settle_operand(alloc, setting, operand, code, made)?;
     Ok(settled)
 }
 
@@ -140,8 +149,8 @@ fn settle_part(
     part: Part<'_>,
     code: &mut Code,
     made: &mut Vec<Ty>,
-) -> Result<TypedExpr, AllocError>
-    ensures { IfOk result (λ t. settled_by code.new made.new (typed.expr t)
+) -> Result<Box<TypedExpr>, AllocError>
+    ensures { IfOk result (λ t. settled_by code.new made.new (typed.expr t.value)
         ≡ settled_behind (stmts_of code.old.statements) (elab.settle_part (setting_of setting.now) (part_tree part.entry) made.old.items)) }
 {
     if part.steps.is_empty() {
@@ -149,7 +158,7 @@ fn settle_part(
         return Ok(settled);
     }
     let operand = part_operand(alloc, setting, part, code, made)?;
-    let settled = settle_operand(setting, operand, code, made)?;
+    let settled = settle_operand(alloc, setting, operand, code, made)?;
     Ok(settled)
 }
 
@@ -161,7 +170,7 @@ pub(crate) fn settle(
     target: &TypedExpr,
     code: &mut Code,
     made: &mut Vec<Ty>,
-) -> Result<Option<TypedExpr>, AllocError>
+) -> Result<Option<Box<TypedExpr>>, AllocError>
     ensures { IfOk result (λ t. settled_by code.new made.new (settled_target (typed.expr target.now) t)
         ≡ settled_behind (stmts_of code.old.statements) (elab.settle (setting_of setting.now) (typed.expr target.now) made.old.items)) }
 {

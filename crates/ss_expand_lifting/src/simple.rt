@@ -7,7 +7,7 @@ ghost use Rattle.ss_typed.specs.Tree as tree;
 ghost use Rattle.ss_typed.specs.View as typed;
 ghost use Rattle.ss_expand_rules.specs.Code.{after};
 ghost use Rattle.ss_expand_rules.specs.Lifting as lifting;
-ghost use Rattle.ss_expand_rules.specs.Program as program;
+ghost use Rattle.ss_typed.specs.Lookups as lookups;
 ghost use Rattle.ss_expand_rules.specs.Simple as elab;
 ghost use Rattle.ss_expand_expressions.specs.Sources.{stmts_of, source_of, lifted_by, lifted_behind};
 ghost use Rattle.ss_expand_lifting.specs.Settings.{setting_of};
@@ -18,11 +18,9 @@ use crate::code::Code;
 use crate::lifting::{arguments, right_side, value};
 use crate::settings::Setting;
 use ss_core::{BodyId, Callee, ClassId, Expr, Place, Stmt, Ty};
-use ss_expand_bodies::{
-    Origin, above_of, constructor_of, has_delayed_constructor, number_among, params_in,
-};
+use ss_expand_bodies::{Origin, above_of, has_delayed_constructor, number_among, params_in};
 use ss_expand_expressions::{Source, default_of, dropped};
-use ss_typed::{TypedDeclarator, TypedExpr, TypedSimple};
+use ss_typed::{TypedDeclarator, TypedExpr, TypedSimple, constructor_of};
 use std::alloc::{AllocError, Global};
 
 // What a declared local begins with.
@@ -189,7 +187,7 @@ fn base_with(
 ) -> Result<(), AllocError>
     ensures { OnOk result (coded_by code.new made.new
         ≡ after (stmts_of code.old.statements) (elab.base_with (setting_of setting.now) place above.0
-        (lifting.arguments_of (setting_of setting.now) (program.param_types_in (program.constructor_of (typed.typed setting.now.program.now) above.0)) (tree.arguments (typed.exprs es.now)) made.old.items))) }
+        (lifting.arguments_of (setting_of setting.now) (lookups.param_types_in (lookups.constructor_of (typed.typed setting.now.program.now) above.0)) (tree.arguments (typed.exprs es.now)) made.old.items))) }
 {
     let params = params_in(constructor_of(setting.program, above));
     let values = arguments(alloc, setting, params, es, code, made)?;

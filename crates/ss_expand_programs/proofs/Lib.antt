@@ -1,5 +1,4 @@
 pub mod Codes
 pub mod Lists
 pub mod Chain
-pub mod Fields
 pub mod Wholes

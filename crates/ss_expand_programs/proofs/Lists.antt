@@ -1,24 +1,25 @@
 -- Lists of statements, one behind the other.
 use Rattle.std.proofs.Common.{◌≡◌, ℕ, suc, ◌+◌, List, [], ◌∷◌, ◌++◌, take, drop, cond, Bool, true, false, Option, Some, None, refl, ap, sym, ◌∙◌, append_assoc, true≢false, arith, ◌-◌, length}
-use Rattle.std.specs.Prelude.{if◌then◌else◌, not, ◌&&◌}
+use Rattle.std.specs.Prelude.{if◌then◌else◌, ◌&&◌}
 use Rattle.std.specs.List.{prefix_len}
 use Rattle.std.proofs.lemmas.List.{append-nil, take_all, length-drop}
-use Rattle.ss_ast.specs.declared.stmt.AssignOperator.TheVariants as operator
 use Rattle.ss_core.specs.declared.names.Ty.{Ty}
-use Rattle.ss_core.specs.Chain.{DeclaredField, all_fields}
+use Rattle.ss_core.specs.Chain.{DeclaredField}
 use Rattle.ss_core.specs.Tree.{ReturnStmt}
 use Rattle.ss_typed.specs.Tree as typed
-use Rattle.ss_typed.specs.Tree.{ExprTree, FieldOf, AssignOf, SimpleOf, ReturnOf, StmtTree, StmtTrees, NoMore, Before, stmt_trees, FieldTree, MembersTree, TypedTree}
-use Rattle.ss_typed.specs.Shapes.{is_this, mentions_this}
-use Rattle.ss_expand_rules.specs.Program.{field_at, members_of}
+use Rattle.ss_typed.specs.Tree.{ExprTree, SimpleOf, ReturnOf, StmtTree, StmtTrees, NoMore, Before, stmt_trees, FieldTree, MembersTree, TypedTree}
+use Rattle.ss_typed.specs.Shapes.{closing_brace}
+use Rattle.ss_paths.specs.Fields.{field_numbers}
+use Rattle.ss_paths.specs.Opening.{is_first}
+use Rattle.ss_expand_rules.specs.Program.{field_at}
+use Rattle.ss_typed.specs.Lookups.{members_of}
 use Rattle.ss_expand_rules.specs.Code.{Coded, nothing, after, then_code}
 use Rattle.ss_expand_rules.specs.Lifting.{Setting}
 use Rattle.ss_expand_rules.specs.Simple.{base_call}
 use Rattle.ss_expand_rules.specs.Ends.{can_end, all_can_end}
-use Rattle.ss_expand_rules.specs.Constructors.{before_all, closing_brace, initialize, initializers_from, initializers_in, initializers, fields_before, is_declared_in, is_initial, behind_initial, base_alone}
+use Rattle.ss_expand_rules.specs.Constructors.{before_all, initialize, initializers_from, initializers_in, initializers, behind_initial, base_alone}
 use Rattle.ss_expand_rules.specs.Bodies.{with_return}
 use Rattle.ss_expand_rules.specs.Statements.{packs, stmt, stmts}
-use Rattle.ss_expand_programs.specs.Constructing.{own_field, is_own_field}
 use Rattle.ss_expand_programs.specs.Written.{last_return_of}
 use Rattle.ss_expand_programs.proofs.Codes.{Code, coded, one_then}
 
@@ -66,45 +67,37 @@ all_written s r ss c0 c1 c2 m0 m1 reached e1 e e2 =
 
 -- ---- the assignments with which a block begins
 
-own_where : (b : Bool) (p : TypedTree) (t f : ℕ) (last : Bool) → (is_own_field p t (if b then Some f else None) && last) ≡ ((b && is_declared_in t (field_at p f)) && last)
-own_where true p t f last = refl
-own_where false p t f last = refl
-
-pub initial_is : (p : TypedTree) (t : ℕ) (target e : ExprTree) → (is_own_field p t (own_field target) && not (mentions_this e)) ≡ is_initial p t (SimpleOf (AssignOf target operator.Set e))
-initial_is p t (FieldOf q o f u) e = own_where (is_this o) p t f (not (mentions_this e))
-initial_is p t target e = refl
-
-initial_ends : (p : TypedTree) (t : ℕ) (s : StmtTree) → is_initial p t s ≡ true → can_end s ≡ true
+initial_ends : (p : TypedTree) (t : ℕ) (s : StmtTree) → is_first p t s ≡ true → can_end s ≡ true
 initial_ends p t (SimpleOf x) h = refl
 initial_ends p t s h = absurd (true≢false (sym h))
 
-split_one : (b : Bool) (p : TypedTree) (t : ℕ) (s x : StmtTree) (ss : List StmtTree) → is_initial p t s ≡ b
-    → behind_initial p t x (stmt_trees ss) ≡ before_all (stmt_trees (take (prefix_len (is_initial p t) ss) ss)) (Before x (stmt_trees (drop (prefix_len (is_initial p t) ss) ss)))
+split_one : (b : Bool) (p : TypedTree) (t : ℕ) (s x : StmtTree) (ss : List StmtTree) → is_first p t s ≡ b
+    → behind_initial p t x (stmt_trees ss) ≡ before_all (stmt_trees (take (prefix_len (is_first p t) ss) ss)) (Before x (stmt_trees (drop (prefix_len (is_first p t) ss) ss)))
     → (if b then Before s (behind_initial p t x (stmt_trees ss)) else Before x (Before s (stmt_trees ss)))
-    ≡ before_all (stmt_trees (take (cond b (1 + prefix_len (is_initial p t) ss) 0) (s ∷ ss))) (Before x (stmt_trees (drop (cond b (1 + prefix_len (is_initial p t) ss) 0) (s ∷ ss))))
+    ≡ before_all (stmt_trees (take (cond b (1 + prefix_len (is_first p t) ss) 0) (s ∷ ss))) (Before x (stmt_trees (drop (cond b (1 + prefix_len (is_first p t) ss) 0) (s ∷ ss))))
 split_one true p t s x ss h k =
-    let n = prefix_len (is_initial p t) ss in
+    let n = prefix_len (is_first p t) ss in
     let more : 1 + n ≡ suc n = omega arith in
     ap (Before s) k ∙ ap (λ m. before_all (stmt_trees (take m (s ∷ ss))) (Before x (stmt_trees (drop m (s ∷ ss))))) (sym more)
 split_one false p t s x ss h k = refl
 
 pub split_initial : (p : TypedTree) (t : ℕ) (x : StmtTree) (ss : List StmtTree)
-    → behind_initial p t x (stmt_trees ss) ≡ before_all (stmt_trees (take (prefix_len (is_initial p t) ss) ss)) (Before x (stmt_trees (drop (prefix_len (is_initial p t) ss) ss)))
+    → behind_initial p t x (stmt_trees ss) ≡ before_all (stmt_trees (take (prefix_len (is_first p t) ss) ss)) (Before x (stmt_trees (drop (prefix_len (is_first p t) ss) ss)))
 split_initial p t x [] = refl
-split_initial p t x (s ∷ ss) = split_one (is_initial p t s) p t s x ss refl (split_initial p t x ss)
+split_initial p t x (s ∷ ss) = split_one (is_first p t s) p t s x ss refl (split_initial p t x ss)
 
-front_one : (b : Bool) (p : TypedTree) (t : ℕ) (s : StmtTree) (ss : List StmtTree) → is_initial p t s ≡ b
-    → all_can_end (stmt_trees (take (prefix_len (is_initial p t) ss) ss)) ≡ true
-    → all_can_end (stmt_trees (take (cond b (1 + prefix_len (is_initial p t) ss) 0) (s ∷ ss))) ≡ true
+front_one : (b : Bool) (p : TypedTree) (t : ℕ) (s : StmtTree) (ss : List StmtTree) → is_first p t s ≡ b
+    → all_can_end (stmt_trees (take (prefix_len (is_first p t) ss) ss)) ≡ true
+    → all_can_end (stmt_trees (take (cond b (1 + prefix_len (is_first p t) ss) 0) (s ∷ ss))) ≡ true
 front_one true p t s ss h k =
-    let n = prefix_len (is_initial p t) ss in
+    let n = prefix_len (is_first p t) ss in
     let more : 1 + n ≡ suc n = omega arith in
     ap (λ m. all_can_end (stmt_trees (take m (s ∷ ss)))) more ∙ ap (λ b. b && all_can_end (stmt_trees (take n ss))) (initial_ends p t s h) ∙ k
 front_one false p t s ss h k = refl
 
-pub front_ends : (p : TypedTree) (t : ℕ) (ss : List StmtTree) → all_can_end (stmt_trees (take (prefix_len (is_initial p t) ss) ss)) ≡ true
+pub front_ends : (p : TypedTree) (t : ℕ) (ss : List StmtTree) → all_can_end (stmt_trees (take (prefix_len (is_first p t) ss) ss)) ≡ true
 front_ends p t [] = refl
-front_ends p t (s ∷ ss) = front_one (is_initial p t s) p t s ss refl (front_ends p t ss)
+front_ends p t (s ∷ ss) = front_one (is_first p t s) p t s ss refl (front_ends p t ss)
 
 -- ---- `base()` between statements
 
@@ -140,7 +133,7 @@ fields_end p t f (m ∷ ms) = initialize_ends t f m m.initial (field_at p f) (in
 
 members_end : (p : TypedTree) (t : ℕ) (m : Option MembersTree) → all_can_end (initializers_in p t m) ≡ true
 members_end p t None = refl
-members_end p t (Some m) = fields_end p t (fields_before t (all_fields p.classes)) m.fields
+members_end p t (Some m) = fields_end p t (field_numbers p t).first m.fields
 
 -- their end can be reached
 pub behind_initializers : (p : TypedTree) (t : ℕ) (more : StmtTrees) → all_can_end more ≡ all_can_end (before_all (initializers p t) more)

@@ -5,7 +5,8 @@ use Rattle.ss_core.specs.Tree as core
 use Rattle.ss_core.specs.Tree.{ReturnStmt}
 use Rattle.ss_typed.specs.Tree.{StmtTrees, BodyTree, TypedTree}
 use Rattle.ss_expand_rules.specs.Lifting.{Setting}
-use Rattle.ss_expand_rules.specs.Constructors.{in_block, closing_brace, constructor_stmts}
+use Rattle.ss_expand_rules.specs.Constructors.{constructor_stmts}
+use Rattle.ss_typed.specs.Shapes.{closing_brace, in_block}
 use Rattle.ss_expand_rules.specs.Statements.{packs}
 
 -- without the last return

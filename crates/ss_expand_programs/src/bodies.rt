@@ -8,7 +8,7 @@ ghost use Rattle.ss_typed.specs.Tree.{stmt_trees};
 ghost use Rattle.ss_typed.specs.View as typed;
 ghost use Rattle.ss_expand_rules.specs.Bodies as bodies;
 ghost use Rattle.ss_expand_rules.specs.Code.{after};
-ghost use Rattle.ss_expand_rules.specs.Constructors as constructors;
+ghost use Rattle.ss_typed.specs.Shapes as shapes;
 ghost use Rattle.ss_expand_rules.specs.Ends as ends;
 ghost use Rattle.ss_expand_rules.specs.Numbers as elab;
 ghost use Rattle.ss_expand_rules.specs.Program as elab_program;
@@ -35,7 +35,7 @@ use std::alloc::{AllocError, Global};
 
 // The statements of a block.
 fn statements_of(block: &TypedBlock) -> &[TypedStmt]
-    ensures { stmt_trees (map typed.stmt_of result.now) ≡ constructors.in_block (typed.block block.now) }
+    ensures { stmt_trees (map typed.stmt_of result.now) ≡ shapes.in_block (typed.block block.now) }
 {
     &block.statements
 }
@@ -64,7 +64,7 @@ fn add_own(
 
 // The place of its closing brace.
 fn closing_brace(block: &TypedBlock) -> Place
-    ensures { result ≡ constructors.closing_brace (typed.block block.now) }
+    ensures { result ≡ shapes.closing_brace (typed.block block.now) }
 {
     block.end
 }
@@ -145,6 +145,13 @@ fn temporary_types(
     Ok(made)
 }
 
+// Adds the copy of a parameter.
+fn add_copy(code: &mut Code, place: Place, copy: usize, x: usize) -> Result<(), AllocError>
+    ensures { OnOk result (stmts_of code.new.statements ≡ stmts_of code.old.statements ++ AssignStmt place copy (LocalExpr place x) ∷ []) }
+{
+    code.add(Stmt::Assign(place, copy, Expr::Local(place, x)))
+}
+
 // Adds the copy of a parameter that is assigned. The result is the number of the next copy.
 fn add_copied(
     code: &mut Code,
@@ -157,8 +164,7 @@ fn add_copied(
     ensures next { IfOk result (λ n. n ≡ cond assigned (copy + 1) copy) }
 {
     if assigned {
-        code.statements
-            .push(Stmt::Assign(place, copy, Expr::Local(place, x)))?;
+        add_copy(code, place, copy, x)?;
         copy.checked_add(1).ok_or(AllocError)
     } else {
         Ok(copy)

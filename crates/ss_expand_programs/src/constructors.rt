@@ -52,7 +52,7 @@ fn add_with_implied(
         ≡ after (stmts_of code.old.statements) (statements.stmts (setting_of setting.now) (with_implied (typed.typed setting.now.program.now) (typed.body setting.now.body.now) (constructors.base_alone (typed.body setting.now.body.now)) (stmt_trees (map typed.stmt_of stmts.now))) made.old.items)) }
     ensures ends { IfOk result (λ reached. reached ≡ ends.all_can_end (with_implied (typed.typed setting.now.program.now) (typed.body setting.now.body.now) (constructors.base_alone (typed.body setting.now.body.now)) (stmt_trees (map typed.stmt_of stmts.now)))) }
 {
-    let length = front_length(setting.program, setting.body, stmts);
+    let length = front_length(alloc, setting.program, setting.body, stmts)?;
     let front = &stmts[..length];
     let others = &stmts[length..];
     let reached = add_base_between(alloc, setting, front, others, code, made)?;

@@ -16,9 +16,9 @@ ghost use Rattle.ss_expand_programs.specs.Opening.{opened_by, object_of, opening
 
 use ss_core::{ClassId, Place, Stmt, Ty};
 use ss_expand_bodies::{Opened, pack_of};
-use ss_expand_expressions::{any_object, class_of_type, in_local, next, temporary_type, type_of};
+use ss_expand_expressions::{any_object, class_of_type, in_local, next, temporary_type};
 use ss_expand_lifting::{Code, Setting, right_side};
-use ss_typed::{TypedExpr, place_of};
+use ss_typed::{TypedExpr, place_of, type_of};
 use std::alloc::{AllocError, Global};
 
 // The class at which it is: the static class of the object, where none is written.

@@ -1,22 +1,23 @@
 // The beginnings of fields, at the front of a constructor.
 
-ghost use Rattle.std.specs.Prelude.{◌≡◌, ◌≤◌, ◌+◌, IfOk, OnOk, length, map, option_map};
-ghost use Rattle.ss_core.specs.Chain.{all_fields, in_class, most_classes};
+ghost use Rattle.std.specs.Prelude.{◌≡◌, ◌+◌, IfOk, OnOk, map, option_map};
+ghost use Rattle.ss_core.specs.Chain.{in_class};
 ghost use Rattle.ss_core.specs.View as core;
 ghost use Rattle.ss_typed.specs.Tree.{StmtTrees, Before};
 ghost use Rattle.ss_typed.specs.View as typed;
+ghost use Rattle.ss_paths.specs.Fields.{field_numbers};
 ghost use Rattle.ss_expand_rules.specs.Code.{after};
 ghost use Rattle.ss_expand_rules.specs.Constructors as constructors;
 ghost use Rattle.ss_expand_rules.specs.Program as elab;
 ghost use Rattle.ss_expand_rules.specs.Statements as statements;
 ghost use Rattle.ss_expand_expressions.specs.Sources.{stmts_of};
 ghost use Rattle.ss_expand_lifting.specs.Settings.{setting_of};
-ghost use Rattle.ss_expand_programs.specs.Constructing.{declares_some};
 
-use ss_core::{Class, ClassId, Field, FieldId, Place, Ty};
-use ss_expand_bodies::{field_at, members_of};
+use ss_core::{ClassId, Field, FieldId, Place, Ty};
+use ss_expand_bodies::field_at;
 use ss_expand_lifting::{Code, Setting, assign_field};
-use ss_typed::{Typed, TypedClass, TypedExpr, TypedField};
+use ss_paths_assigned::Fields;
+use ss_typed::{Typed, TypedClass, TypedExpr, TypedField, members_of};
 use std::alloc::{AllocError, Global};
 
 // Adds the assignment with which the field of `this` begins.
@@ -109,20 +110,6 @@ fn add_fields(
     Ok(())
 }
 
-// Whether it is the class, and declares fields.
-fn declares_fields(number: u16, class: ClassId, declared: &Class) -> bool
-    ensures { result ≡ declares_some number class.0 (core.class_of declared.now).fields }
-{
-    number == class.0 && !declared.fields.is_empty()
-}
-
-// So many fields and those of the class. There is no room for so many that the sum doesn't fit.
-fn fields_with(fields: usize, declared: &Class) -> Result<usize, AllocError>
-    ensures { IfOk result (λ n. n ≡ fields + length (core.class_of declared.now).fields) }
-{
-    fields.checked_add(declared.fields.len()).ok_or(AllocError)
-}
-
 // The count as the number of a field. There is no room for so many that it doesn't fit.
 fn as_number(fields: usize) -> Result<u32, AllocError>
     ensures { IfOk result (λ n. n ≡ fields) }
@@ -133,29 +120,13 @@ fn as_number(fields: usize) -> Result<u32, AllocError>
     }
 }
 
-// How many fields the classes declare that stand before this one in the table, where it declares some.
-fn count_before(program: &Typed, class: ClassId) -> Result<usize, AllocError>
-    requires few_classes { length (core.classes program.now.classes) ≤ most_classes }
-    ensures { IfOk result (λ n. n ≡ constructors.fields_before class.0 (all_fields (core.classes program.now.classes))) }
+// The number of the first field of a class.
+fn first_field(alloc: Global, program: &Typed, class: ClassId) -> Result<u32, AllocError>
+    ensures { IfOk result (λ n. n ≡ (field_numbers (typed.typed program.now) class.0).first) }
 {
-    let mut fields = 0usize;
-    let mut number = 4u16;
-    for declared in &program.classes.list {
-        if declares_fields(number, class, declared) {
-            return Ok(fields);
-        }
-        fields = fields_with(fields, declared)?;
-        number += 2;
-    }
-    Ok(fields)
-}
-
-// The number of its first field.
-fn first_field(program: &Typed, class: ClassId) -> Result<u32, AllocError>
-    requires few_classes { length (core.classes program.now.classes) ≤ most_classes }
-    ensures { IfOk result (λ n. n ≡ constructors.fields_before class.0 (all_fields (core.classes program.now.classes))) }
-{
-    as_number(count_before(program, class)?)
+    let fields = Fields::new(alloc, program)?;
+    let first = as_number(fields.numbers(class).first)?;
+    Ok(first)
 }
 
 // Adds the assignments of the fields of a class.
@@ -171,7 +142,7 @@ fn add_members(
 {
     match members {
         Some(members) => {
-            let first = first_field(setting.program, setting.body.class)?;
+            let first = first_field(alloc, setting.program, setting.body.class)?;
             add_fields(alloc, setting, first, &members.fields, code, made)?;
             Ok(())
         }

@@ -14,7 +14,7 @@ ghost use Rattle.ss_expand_programs.specs.Returns.{returned_value};
 
 use ss_core::{Expr, Place, Stmt, Ty};
 use ss_expand_bodies::{add_pack_this, add_packs};
-use ss_expand_expressions::{any_object, in_local, next};
+use ss_expand_expressions::{any_object, in_temporary};
 use ss_expand_lifting::{Code, Setting, right_side, value};
 use ss_typed::{TypedExpr, place_of};
 use std::alloc::{AllocError, Global};
@@ -64,10 +64,10 @@ fn kept_result(
         ≡ valued_behind (stmts_of code.old.statements) (statements.kept_result (setting_of setting.now) (typed.expr e.now) (lifting.right_side (setting_of setting.now) (typed.expr e.now) made.old.items))) }
 {
     let source = right_side(alloc, setting, e, code, made)?;
-    let x = next(setting.numbers, made)?;
     let ty = result_type(setting.body.result);
     let place = place_of(e);
-    let kept = in_local(&mut code.statements, made, place, x, ty, source)?;
+    let before = &mut code.statements;
+    let kept = in_temporary(setting.numbers, before, made, place, ty, source)?;
     Ok(kept)
 }
 

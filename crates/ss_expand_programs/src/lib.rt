@@ -13,6 +13,5 @@ mod leaving;
 mod looping;
 mod program;
 mod statements;
-mod targets;
 
 pub use program::expand;

@@ -1,11 +1,12 @@
 // Branches and loops, once their parts are written.
 
-ghost use Rattle.std.specs.Prelude.{◌≡◌, ◌++◌, ◌∷◌, [], IfOk, OnOk, map, option_map, if◌then◌else◌};
-ghost use Rattle.ss_core.specs.Tree.{AssertStmt, AssumeStmt, IfStmt, LoopStmt};
+ghost use Rattle.std.specs.Prelude.{◌≡◌, ◌++◌, ◌∷◌, [], IfOk, OnOk, map, option_map, if◌then◌else◌, true};
+ghost use Rattle.ss_core.specs.Tree.{AssertStmt, AssumeStmt, BoolExpr, IfStmt, LoopStmt};
 ghost use Rattle.ss_core.specs.View as core;
 ghost use Rattle.ss_typed.specs.View as typed;
 ghost use Rattle.ss_expand_rules.specs.Numbers as elab;
 ghost use Rattle.ss_expand_rules.specs.Code.{after, nothing};
+ghost use Rattle.ss_expand_rules.specs.Lifting as lifting;
 ghost use Rattle.ss_expand_rules.specs.Statements as statements;
 ghost use Rattle.ss_expand_expressions.specs.Views.{numbers_of};
 ghost use Rattle.ss_expand_expressions.specs.Sources.{stmts_of, valued_by, valued_behind};
@@ -49,16 +50,40 @@ pub fn add_assume(
     code.add(Stmt::Assume(place, e))
 }
 
+// The expression in a box.
+fn boxed(alloc: Global, e: Expr) -> Result<Box<Expr>, AllocError>
+    ensures { IfOk result (λ r. core.expr r.value ≡ core.expr e) }
+{
+    Ok(Box::new(alloc, e)?)
+}
+
+/// The value in a box.
+pub fn boxed_value(
+    alloc: Global,
+    setting: &Setting<'_>,
+    e: &TypedExpr,
+    code: &mut Code,
+    made: &mut Vec<Ty>,
+) -> Result<Box<Expr>, AllocError>
+    ensures { IfOk result (λ v. valued_by code.new.statements made.new v.value
+        ≡ valued_behind (stmts_of code.old.statements) (lifting.value (setting_of setting.now) (typed.expr e.now) made.old.items)) }
+{
+    let value = value(alloc, setting, e, code, made)?;
+    let kept = boxed(alloc, value)?;
+    Ok(kept)
+}
+
 /// Adds an `if` with these two sides.
 pub fn add_branch(
     code: &mut Code,
     place: Place,
-    test: Expr,
+    test: Box<Expr>,
     one: Code,
     other: Code,
 ) -> Result<(), AllocError>
-    ensures { OnOk result (stmts_of code.new.statements ≡ stmts_of code.old.statements ++ IfStmt place (core.expr test) (core.code_of (stmts_of one.statements)) (core.code_of (stmts_of other.statements)) ∷ []) }
+    ensures { OnOk result (stmts_of code.new.statements ≡ stmts_of code.old.statements ++ IfStmt place (core.expr test.value) (core.code_of (stmts_of one.statements)) (core.code_of (stmts_of other.statements)) ∷ []) }
 {
+    let test = Box::into_inner(test);
     code.add(Stmt::If(place, test, one.statements, other.statements))
 }
 
@@ -80,16 +105,16 @@ fn loop_of(
     place: Place,
     invariants: Vec<Expr>,
     prelude: Code,
-    test: Expr,
+    test: Box<Expr>,
     turn: Code,
     exposes: Vec<Exposed>,
 ) -> Stmt
-    ensures { core.stmt_of result ≡ LoopStmt place (core.exprs invariants.items) (core.code_of (stmts_of prelude.statements)) (core.expr test) (core.code_of (stmts_of turn.statements)) (map core.exposed_tree exposes.items) }
+    ensures { core.stmt_of result ≡ LoopStmt place (core.exprs invariants.items) (core.code_of (stmts_of prelude.statements)) (core.expr test.value) (core.code_of (stmts_of turn.statements)) (map core.exposed_tree exposes.items) }
 {
     Stmt::Loop(Loop {
         invariants,
         prelude: prelude.statements,
-        test,
+        test: Box::into_inner(test),
         body: turn.statements,
         place,
         exposes,
@@ -104,16 +129,23 @@ pub fn add_loop(
     place: Place,
     invariants: &[TypedExpr],
     prelude: Code,
-    test: Expr,
+    test: Box<Expr>,
     turn: Code,
 ) -> Result<(), AllocError>
-    ensures { OnOk result (stmts_of code.new.statements ≡ stmts_of code.old.statements ++ LoopStmt place (elab.all_plain (numbers_of setting.now.numbers.now) (typed.exprs invariants.now)) (core.code_of (stmts_of prelude.statements)) (core.expr test) (core.code_of (stmts_of turn.statements)) (map statements.exposed (map opened_of setting.now.exposes.items)) ∷ []) }
+    ensures { OnOk result (stmts_of code.new.statements ≡ stmts_of code.old.statements ++ LoopStmt place (elab.all_plain (numbers_of setting.now.numbers.now) (typed.exprs invariants.now)) (core.code_of (stmts_of prelude.statements)) (core.expr test.value) (core.code_of (stmts_of turn.statements)) (map statements.exposed (map opened_of setting.now.exposes.items)) ∷ []) }
 {
     let invariants = invariants_of(alloc, setting, invariants)?;
     let exposes = list_exposed(alloc, &setting.exposes)?;
     let made = loop_of(place, invariants, prelude, test, turn, exposes);
     code.add(made)?;
     Ok(())
+}
+
+// The literal `true`, in a box.
+fn boxed_true(alloc: Global, place: Place) -> Result<Box<Expr>, AllocError>
+    ensures { IfOk result (λ r. core.expr r.value ≡ BoolExpr place true) }
+{
+    Ok(boxed(alloc, Expr::Bool(place, true))?)
 }
 
 /// The test of a `for`, which without one is `true`.
@@ -124,13 +156,16 @@ pub fn test_of(
     test: &Option<TypedExpr>,
     code: &mut Code,
     made: &mut Vec<Ty>,
-) -> Result<Expr, AllocError>
-    ensures { IfOk result (λ v. valued_by code.new.statements made.new v
+) -> Result<Box<Expr>, AllocError>
+    ensures { IfOk result (λ v. valued_by code.new.statements made.new v.value
         ≡ valued_behind (stmts_of code.old.statements) (tested (setting_of setting.now) place (option_map typed.expr test.now) made.old.items)) }
 {
     match test {
-        Some(e) => value(alloc, setting, e, code, made),
-        None => Ok(Expr::Bool(place, true)),
+        Some(e) => boxed_value(alloc, setting, e, code, made),
+        None => {
+            let test = boxed_true(alloc, place)?;
+            Ok(test)
+        }
     }
 }
 

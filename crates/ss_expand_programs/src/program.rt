@@ -19,10 +19,9 @@ use crate::declarations::declarations;
 use crate::inherited::wrapper_body;
 use ss_core::{Body, Class, ClassId, Core, Place};
 use ss_expand_bodies::{
-    Origin, constructor_of, elaborate_classes, is_declared_by, list_bodies, members_of, method_at,
-    number_of_written,
+    Origin, elaborate_classes, is_declared_by, list_bodies, method_at, number_of_written,
 };
-use ss_typed::{Typed, TypedBlock, TypedBody, TypedClass, TypedFlags};
+use ss_typed::{Typed, TypedBlock, TypedBody, TypedClass, TypedFlags, constructor_of, members_of};
 use std::alloc::{AllocError, Global};
 
 // A block without statements, all of which stands at this place.

@@ -14,10 +14,12 @@ ghost use Rattle.ss_expand_programs.specs.Loops.{turn_of};
 
 use crate::exposing::{close, open, within};
 use crate::leaving::leave;
-use crate::looping::{add_assert, add_assume, add_branch, add_loop, advance_where, begin, test_of};
+use crate::looping::{
+    add_assert, add_assume, add_branch, add_loop, advance_where, begin, boxed_value, test_of,
+};
 use ss_core::{ClassId, Place, Ty};
 use ss_expand_expressions::can_end;
-use ss_expand_lifting::{Code, Setting, declare, simple_statement, value};
+use ss_expand_lifting::{Code, Setting, declare, simple_statement};
 use ss_typed::{TypedBlock, TypedExpr, TypedInit, TypedSimple, TypedStmt};
 use std::alloc::{AllocError, Global};
 
@@ -56,7 +58,7 @@ fn add_stmt(
             Ok(true)
         }
         TypedStmt::If(place, e, first, Some(second)) => {
-            let test = value(alloc, setting, e, code, made)?;
+            let test = boxed_value(alloc, setting, e, code, made)?;
             let mut one = Code::new(alloc);
             let first_ends = add_stmt(alloc, setting, first, &mut one, made)?;
             let mut other = Code::new(alloc);
@@ -107,7 +109,7 @@ fn add_if(
     ensures { OnOk result (coded_by code.new made.new
         ≡ after (stmts_of code.old.statements) (statements.branch place (lifting.value (setting_of setting.now) (typed.expr e.now) made.old.items) (statements.stmt (setting_of setting.now) (typed.stmt_of first.now)) nothing)) }
 {
-    let test = value(alloc, setting, e, code, made)?;
+    let test = boxed_value(alloc, setting, e, code, made)?;
     let mut one = Code::new(alloc);
     add_stmt(alloc, setting, first, &mut one, made)?;
     let other = Code::new(alloc);
@@ -131,7 +133,7 @@ fn add_while(
         ≡ after (stmts_of code.old.statements) (statements.loop (setting_of setting.now) place (typed.exprs invariants.now) (typed.expr e.now) (statements.stmt (setting_of setting.now) (typed.stmt_of turn.now)) made.old.items)) }
 {
     let mut prelude = Code::new(alloc);
-    let test = value(alloc, setting, e, &mut prelude, made)?;
+    let test = boxed_value(alloc, setting, e, &mut prelude, made)?;
     let mut inner = Code::new(alloc);
     add_stmt(alloc, setting, turn, &mut inner, made)?;
     add_loop(

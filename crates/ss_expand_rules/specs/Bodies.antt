@@ -1,5 +1,5 @@
 -- Bodies of the core program: written ones, and wrappers.
-use Rattle.std.specs.Prelude.{ℕ, ◌+◌, ◌==◌, List, [], ◌∷◌, ◌++◌, map, length, codes, decimal, Bool, true, false, ◌||◌, if◌then◌else◌, Option, Some, None}
+use Rattle.std.specs.Prelude.{ℕ, ◌+◌, List, [], ◌∷◌, ◌++◌, map, length, codes, decimal, Bool, true, false, if◌then◌else◌, Option, Some, None}
 use Rattle.ss_core.specs.declared.names.Place.{Place}
 use Rattle.ss_core.specs.declared.names.Ty.{Ty}
 use Rattle.ss_core.specs.declared.body.BodyFlags.{BodyFlags}
@@ -7,54 +7,24 @@ use Rattle.ss_core.specs.Tree as core
 use Rattle.ss_core.specs.Tree.{LocalExpr, Base, AssignStmt, CallStmt, UnpackStmt, PackStmt, ReturnStmt, LocalTree}
 use Rattle.ss_core.specs.View.{code_of}
 use Rattle.ss_typed.specs.declared.body.TypedFlags.{TypedFlags}
-use Rattle.ss_typed.specs.Tree.{ExprTree, LocalOf, SimpleTree, AssignOf, StepOf, InitTree, DeclareFirst, SimpleFirst, BlockTree, BlockOf, StmtTree, InBlock, SimpleOf, IfOf, IfElseOf, WhileOf, ForOf, ReturnOf, ExposeOf, StmtTrees, ParamTree, BodyTree, TypedTree}
+use Rattle.ss_typed.specs.Tree.{BlockTree, ReturnOf, StmtTrees, ParamTree, BodyTree, TypedTree}
 use Rattle.ss_typed.specs.Tree as typed
 use Rattle.ss_typed.specs.Types.{class_type}
+use Rattle.ss_typed.specs.Assigned.{assigned_in}
+use Rattle.ss_paths.specs.Sets.{among}
 use Rattle.ss_expand_rules.specs.Program.{above_of, number_in_table}
 use Rattle.ss_expand_rules.specs.Numbers.{Numbers, uncopied}
 use Rattle.ss_expand_rules.specs.Lifting.{Setting}
 use Rattle.ss_expand_rules.specs.Code.{Coded}
 use Rattle.ss_expand_rules.specs.Statements.{stmts}
-use Rattle.ss_expand_rules.specs.Constructors.{before_all, in_block, closing_brace, constructor_stmts}
+use Rattle.ss_expand_rules.specs.Constructors.{before_all, constructor_stmts}
+use Rattle.ss_typed.specs.Shapes.{closing_brace, in_block}
 use Rattle.ss_expand_rules.specs.Contracts.{first_param, entry_conditions, exit_conditions, named_terms}
 
 -- ---- which parameters a body assigns, in statements that are dropped too
 
-abbrev pub is_local : ℕ → ExprTree → Bool
-is_local x (LocalOf p y t) = y == x
-is_local x e = false
-
-abbrev pub simple_assigns : ℕ → SimpleTree → Bool
-simple_assigns x (AssignOf target o e) = is_local x target
-simple_assigns x (StepOf target o) = is_local x target
-simple_assigns x s = false
-
-abbrev pub begin_assigns : ℕ → Option InitTree → Bool
-begin_assigns x None = false
-begin_assigns x (Some (DeclareFirst ds)) = false
-begin_assigns x (Some (SimpleFirst s)) = simple_assigns x s
-
-abbrev pub step_assigns : ℕ → Option SimpleTree → Bool
-step_assigns x None = false
-step_assigns x (Some s) = simple_assigns x s
-
-abbrev mutual
-  pub assigns : ℕ → StmtTree → Bool
-  assigns x (InBlock b) = block_assigns x b
-  assigns x (SimpleOf s) = simple_assigns x s
-  assigns x (IfOf p e a) = assigns x a
-  assigns x (IfElseOf p e a b) = assigns x a || assigns x b
-  assigns x (WhileOf p e is a) = assigns x a
-  assigns x (ForOf p i e s is a) = begin_assigns x i || step_assigns x s || assigns x a
-  assigns x (ExposeOf p e t b) = block_assigns x b
-  assigns x s = false
-
-  pub block_assigns : ℕ → BlockTree → Bool
-  block_assigns x (BlockOf p ss end) = any_assigns x ss
-
-  pub any_assigns : ℕ → StmtTrees → Bool
-  any_assigns x typed.NoMore = false
-  any_assigns x (typed.Before s ss) = assigns x s || any_assigns x ss
+abbrev pub block_assigns : ℕ → BlockTree → Bool
+block_assigns x b = among (assigned_in b) x
 
 -- the parameters that the block assigns; the first has the number x
 abbrev pub assigned_from : BlockTree → ℕ → List ParamTree → List ParamTree

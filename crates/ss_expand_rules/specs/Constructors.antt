@@ -1,26 +1,23 @@
 -- What a constructor has beside its block: the beginnings of fields, and a call of the constructor of the class above.
-use Rattle.std.specs.Prelude.{ℕ, ◌+◌, ◌==◌, List, [], ◌∷◌, Bool, true, false, not, ◌&&◌, ◌||◌, if◌then◌else◌, Option, Some, None}
+use Rattle.std.specs.Prelude.{ℕ, ◌+◌, List, [], ◌∷◌, true, false, if◌then◌else◌, Option, Some, None}
 use Rattle.ss_core.specs.declared.names.Place.{Place}
 use Rattle.ss_ast.specs.declared.stmt.AssignOperator.TheVariants as operator
 use Rattle.ss_core.specs.Tree as core
-use Rattle.ss_core.specs.Chain.{DeclaredField, all_fields}
+use Rattle.ss_core.specs.Chain.{DeclaredField}
 use Rattle.ss_typed.specs.declared.body.TypedFlags.{TypedFlags}
-use Rattle.ss_typed.specs.Tree.{ExprTree, ThisOf, FieldOf, Arguments, SimpleTree, AssignOf, BaseCallOf, BlockTree, BlockOf, StmtTree, SimpleOf, StmtTrees, BaseTree, BodyTree, FieldTree, MembersTree, TypedTree}
+use Rattle.ss_typed.specs.Tree.{ExprTree, ThisOf, FieldOf, Arguments, SimpleTree, AssignOf, BaseCallOf, BlockOf, StmtTree, SimpleOf, StmtTrees, BaseTree, BodyTree, FieldTree, MembersTree, TypedTree}
 use Rattle.ss_typed.specs.Tree as typed
-use Rattle.ss_expand_rules.specs.Program.{field_at, members_of}
-use Rattle.ss_typed.specs.Shapes.{has_base, is_this, mentions_this}
+use Rattle.ss_expand_rules.specs.Program.{field_at}
+use Rattle.ss_typed.specs.Lookups.{members_of}
+use Rattle.ss_typed.specs.Shapes.{has_base, in_block}
+use Rattle.ss_paths.specs.Fields.{field_numbers}
+use Rattle.ss_paths.specs.Opening.{is_first}
 
 -- ---- lists of statements
 
 abbrev pub before_all : StmtTrees → StmtTrees → StmtTrees
 before_all typed.NoMore more = more
 before_all (typed.Before s ss) more = typed.Before s (before_all ss more)
-
-abbrev pub in_block : BlockTree → StmtTrees
-in_block (BlockOf p ss end) = ss
-
-abbrev pub closing_brace : BlockTree → Place
-closing_brace (BlockOf p ss end) = end
 
 -- ---- field initializers
 
@@ -38,14 +35,9 @@ abbrev pub initializers_from : TypedTree → ℕ → ℕ → List FieldTree → 
 initializers_from p t f [] = typed.NoMore
 initializers_from p t f (m ∷ ms) = initialize t f m m.initial (field_at p f) (initializers_from p t (f + 1) ms)
 
--- how many fields the classes below number t declare: the number of the first field of the class t
-abbrev pub fields_before : ℕ → List DeclaredField → ℕ
-fields_before t [] = 0
-fields_before t (d ∷ ds) = if d.class == t then 0 else 1 + fields_before t ds
-
 abbrev pub initializers_in : TypedTree → ℕ → Option MembersTree → StmtTrees
 initializers_in p t None = typed.NoMore
-initializers_in p t (Some m) = initializers_from p t (fields_before t (all_fields p.classes)) m.fields
+initializers_in p t (Some m) = initializers_from p t (field_numbers p t).first m.fields
 
 -- Field initializers: initial assignments at the front of the constructor, in order.
 abbrev pub initializers : TypedTree → ℕ → StmtTrees
@@ -53,19 +45,10 @@ initializers p t = initializers_in p t (members_of p t)
 
 -- ---- the implicit base call
 
-abbrev pub is_declared_in : ℕ → Option DeclaredField → Bool
-is_declared_in t None = false
-is_declared_in t (Some d) = d.class == t
-
--- an assignment to a field of the class t, whose right side is without `this`
-abbrev pub is_initial : TypedTree → ℕ → StmtTree → Bool
-is_initial p t (SimpleOf (AssignOf (FieldOf q o f u) operator.Set e)) = is_this o && is_declared_in t (field_at p f) && not (mentions_this e)
-is_initial p t s = false
-
--- behind the longest run of such assignments at the front
+-- behind the longest run of assignments to fields of the class at the front
 abbrev pub behind_initial : TypedTree → ℕ → StmtTree → StmtTrees → StmtTrees
 behind_initial p t s typed.NoMore = typed.Before s typed.NoMore
-behind_initial p t s (typed.Before first ss) = if is_initial p t first then typed.Before first (behind_initial p t s ss) else typed.Before s (typed.Before first ss)
+behind_initial p t s (typed.Before first ss) = if is_first p t first then typed.Before first (behind_initial p t s ss) else typed.Before s (typed.Before first ss)
 
 -- `base()`, at the constructor's name
 abbrev pub base_alone : BodyTree → StmtTree

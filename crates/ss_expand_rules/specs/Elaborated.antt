@@ -3,7 +3,8 @@ use Rattle.std.specs.Prelude.{ℕ, ◌+◌, List, [], ◌∷◌, map, filter_map
 use Rattle.ss_core.specs.Tree as core
 use Rattle.ss_core.specs.Chain.{declared}
 use Rattle.ss_typed.specs.Tree.{BodyTree, InvariantTree, MembersTree, TypedTree}
-use Rattle.ss_expand_rules.specs.Program.{members_of, constructor_of, method_at, Origin, Constructor, Method, is_declared_by, bodies, number_of_written, entries_from}
+use Rattle.ss_expand_rules.specs.Program.{method_at, Origin, Constructor, Method, is_declared_by, bodies, number_of_written, entries_from}
+use Rattle.ss_typed.specs.Lookups.{constructor_of, members_of}
 use Rattle.ss_expand_rules.specs.Numbers.{Numbers, plain}
 use Rattle.ss_expand_rules.specs.Constructors.{implicit_constructor}
 use Rattle.ss_expand_rules.specs.Contracts.{declarations}

@@ -11,7 +11,8 @@ use Rattle.ss_core.specs.Tree.{LocalExpr, NullExpr, FieldExpr, ElementExpr, Leng
 use Rattle.ss_core.specs.View.{code_of}
 use Rattle.ss_typed.specs.Tree.{ExprTree, IffOf, ImpliesOf, BinaryOf, IsOf, AsOf, NegateOf, NotOf, CastOf, FieldOf, ElementOf, LengthOf, NewOf, NewArrayOf, CallOf, StaticOf, BaseOf, Arguments, NoMore, Argument, BodyTree, TypedTree}
 use Rattle.ss_typed.specs.Types.{class_type, type_of}
-use Rattle.ss_expand_rules.specs.Program.{above_of, method_at, body_at, constructor_of, param_types_in, number_of_written, number_in_table}
+use Rattle.ss_expand_rules.specs.Program.{above_of, method_at, number_of_written, number_in_table}
+use Rattle.ss_typed.specs.Lookups.{body_at, constructor_of, param_types_in}
 use Rattle.ss_expand_rules.specs.Numbers.{Numbers, plain, plain_arguments}
 use Rattle.ss_expand_rules.specs.Calls.{has_call, have_call, is_lazy}
 use Rattle.ss_typed.specs.Shapes.{place_of}

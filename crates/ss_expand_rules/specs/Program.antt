@@ -1,14 +1,11 @@
 -- What is looked up in a resolved program, and the bodies of the core program in their order.
-use Rattle.std.specs.Prelude.{ℕ, ◌+◌, ◌==◌, List, [], ◌∷◌, ◌++◌, map, Bool, false, not, ◌&&◌, ◌||◌, if◌then◌else◌, Option, Some, None, option_and_then, unwrap_or, position, slice_get}
-use Rattle.ss_core.specs.declared.names.Ty.{Ty}
+use Rattle.std.specs.Prelude.{ℕ, ◌+◌, ◌==◌, List, [], ◌∷◌, ◌++◌, Bool, false, not, ◌&&◌, ◌||◌, if◌then◌else◌, Option, Some, None, option_and_then, unwrap_or, position, slice_get}
 use Rattle.ss_core.specs.Tree.{ClassTree, EntryTree}
 use Rattle.ss_core.specs.Chain.{declared, above, DeclaredField, all_fields}
-use Rattle.ss_typed.specs.Tree.{ParamTree, BodyTree, MembersTree, TypedTree}
+use Rattle.ss_typed.specs.Tree.{BodyTree, TypedTree}
+use Rattle.ss_typed.specs.Lookups.{body_at}
 
 -- ---- look-ups
-
-abbrev pub body_at : TypedTree → ℕ → Option BodyTree
-body_at p n = slice_get p.bodies n
 
 abbrev pub above_of : TypedTree → ℕ → ℕ
 above_of p t = above p.classes t
@@ -28,26 +25,6 @@ method_at p t m = option_and_then (λ e. body_at p e.body) (slice_get (table p t
 -- the field of this number, with the class that declares it
 abbrev pub field_at : TypedTree → ℕ → Option DeclaredField
 field_at p f = slice_get (all_fields p.classes) f
-
--- the members of these classes, of which the first has the number t, that has the number u
-abbrev pub members_from : ℕ → List MembersTree → ℕ → Option MembersTree
-members_from t [] u = None
-members_from t (m ∷ ms) u = if t == u then Some m else members_from (t + 2) ms u
-
-abbrev pub members_of : TypedTree → ℕ → Option MembersTree
-members_of p t = members_from 4 p.members t
-
-abbrev pub constructor_in : TypedTree → Option MembersTree → Option BodyTree
-constructor_in p None = None
-constructor_in p (Some m) = option_and_then (body_at p) m.constructor
-
--- the constructor that the class writes
-abbrev pub constructor_of : TypedTree → ℕ → Option BodyTree
-constructor_of p t = constructor_in p (members_of p t)
-
-abbrev pub param_types_in : Option BodyTree → List Ty
-param_types_in None = []
-param_types_in (Some b) = map (λ (q : ParamTree). q.ty) b.params
 
 -- ---- bodies of the core program
 

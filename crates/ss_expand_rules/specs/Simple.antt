@@ -1,5 +1,5 @@
 -- Assignments, declarations, calls alone and printing.
-use Rattle.std.specs.Prelude.{ℕ, pos, ◌==◌, List, [], ◌∷◌, ◌++◌, Bool, true, false, ◌||◌, if◌then◌else◌, Option, Some, None}
+use Rattle.std.specs.Prelude.{ℕ, pos, ◌==◌, List, [], ◌∷◌, ◌++◌, Bool, false, ◌||◌, if◌then◌else◌, Option, Some, None}
 use Rattle.ss_core.specs.declared.names.Place.{Place}
 use Rattle.ss_ast.specs.declared.stmt.AssignOperator.{AssignOperator}
 use Rattle.ss_ast.specs.declared.stmt.AssignOperator.TheVariants as operator
@@ -12,9 +12,11 @@ use Rattle.ss_core.specs.declared.expr.Operator.TheVariants as op
 use Rattle.ss_core.specs.Tree as core
 use Rattle.ss_core.specs.Tree.{IntExpr, BoolExpr, NullExpr, AssignStmt, WriteStmt, WriteElementStmt, NewStmt, NewArrayStmt, CallStmt, BaseConstructor, ReadyStmt, PrintStmt, PrintTextStmt}
 use Rattle.ss_core.specs.Chain.{DeclaredField}
-use Rattle.ss_typed.specs.Tree.{ExprTree, IntOf, LocalOf, FieldOf, ElementOf, BinaryOf, Arguments, BodyTree, TypedTree, DeclaratorTree, SimpleTree, AssignOf, StepOf, AloneOf, PrintOf, PrintTextOf, BaseCallOf}
+use Rattle.ss_typed.specs.Constructors.{is_delayed_body}
+use Rattle.ss_typed.specs.Tree.{ExprTree, IntOf, LocalOf, FieldOf, ElementOf, BinaryOf, Arguments, TypedTree, DeclaratorTree, SimpleTree, AssignOf, StepOf, AloneOf, PrintOf, PrintTextOf, BaseCallOf}
 use Rattle.ss_typed.specs.Types.{type_of}
-use Rattle.ss_expand_rules.specs.Program.{above_of, field_at, constructor_of, param_types_in, Constructor, number_of}
+use Rattle.ss_expand_rules.specs.Program.{above_of, field_at, Constructor, number_of}
+use Rattle.ss_typed.specs.Lookups.{constructor_of, param_types_in}
 use Rattle.ss_expand_rules.specs.Numbers.{number, plain}
 use Rattle.ss_expand_rules.specs.Calls.{has_call}
 use Rattle.ss_typed.specs.Shapes.{is_this, place_of}
@@ -145,13 +147,9 @@ print s p (Some e) line made = print_value p line (value s e made)
 
 -- ---- `base(..)`
 
-abbrev pub is_delayed_in : Option BodyTree → Bool
-is_delayed_in None = true
-is_delayed_in (Some b) = b.flags.delayed
-
 -- the constructor of the class is delayed; a class without one has a delayed one, and so has `object`
 abbrev pub has_delayed_constructor : TypedTree → ℕ → Bool
-has_delayed_constructor p t = is_delayed_in (constructor_of p t)
+has_delayed_constructor p t = is_delayed_body (constructor_of p t)
 
 -- Ready behind a delayed base: in a constructor that isn't delayed, `this` is ready once a delayed base constructor is done.
 abbrev pub ready_behind : Setting → Place → ℕ → List core.StmtTree

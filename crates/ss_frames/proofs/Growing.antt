@@ -1,5 +1,5 @@
 -- What is made of a call, as the bank grows.
-use Rattle.std.proofs.Common.{◌≡◌, ℕ, zero, suc, ◌+◌, ◌<◌, List, [], ◌∷◌, ◌++◌, length, map, take, get_or, refl, sym, ◌∙◌, ap, subst, arith}
+use Rattle.std.proofs.Common.{◌≡◌, ℕ, zero, suc, ◌+◌, ◌<◌, ◌≤◌, List, [], ◌∷◌, ◌++◌, length, map, take, get_or, refl, sym, ◌∙◌, ap, subst, arith}
 use Rattle.std.proofs.lemmas.List.{take_more, map_push}
 use Rattle.ss_core.specs.declared.names.ClassId.{ClassId}
 use Rattle.ss_logic.specs.declared.Sort.TheVariants as sort
@@ -7,7 +7,7 @@ use Rattle.ss_logic.specs.Terms.{Term, Element, app}
 use Rattle.ss_logic_rules.specs.Shapes.{equal, allocated, ready, group, owner_of}
 use Rattle.ss_logic.specs.Formulas.{Formula, And, Or, neg, neg_all, formulas_from, formula_then}
 use Rattle.ss_logic_frames.specs.Frames as logic
-use Rattle.ss_logic_frames.specs.Frames.{NamesField, NamesAll, NamesUpto, NamesElements, OwnerTerm, is_named, unless, and_of, in_group_of, owned_by}
+use Rattle.ss_logic_frames.specs.Frames.{NamesField, NamesAll, NamesUpto, NamesElements, OwnerTerm, is_named, unless, or_of, and_of, in_group_of, owned_by}
 use Rattle.ss_terms.specs.declared.forms.TermId.{TermId}
 use Rattle.ss_terms.specs.declared.forms.FormulaId.{FormulaId}
 use Rattle.ss_terms.specs.Forms.{Forms, term_at, formula_at, formulas_at, HasTerm, HasFormula, HasFormulas, AreBelow, IsGrown}
@@ -120,6 +120,15 @@ next_made P b c xs i d x fs after f is at g made one e =
     ap (map P) (take_more xs i d at) ∙ map_push P (take i xs) (get_or xs i d) ∙ ap (λ y. map P (take i xs) ++ P y ∷ []) (sym is) in
     let h = AreMade-append c fs (f ∷ []) (map P (take i xs)) (P x ∷ []) (AreMade-grown b c g fs _ made) (AreMade-one c f (P x) one) in
     AreMade-as c (fs ++ f ∷ []) after _ e (h.0, h.1 ∙ sym same)
+
+-- the last alone, where there is no other
+pub unless_none : (b : Forms) (fs : List FormulaId) (x : Formula) → length fs ≤ 0 → unless (formulas_at b fs) x ≡ x
+unless_none b [] x l = refl
+unless_none b (f ∷ fs) x l = absurd (omega arith)
+
+pub unless_some : (b : Forms) (fs : List FormulaId) (x : Formula) → 1 ≤ length fs → unless (formulas_at b fs) x ≡ or_of (formulas_at b fs ++ x ∷ [])
+unless_some b [] x l = absurd (omega arith)
+unless_some b (f ∷ fs) x l = refl
 
 -- one of these, or the last
 pub unless_parts : (b : Forms) (parts : List FormulaId) (last : FormulaId) (all : List FormulaId) → HasFormulas b parts → HasFormula b last → all ≡ parts ++ last ∷ [] →

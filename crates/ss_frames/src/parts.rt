@@ -1,14 +1,14 @@
 // Formulas with one more part, and lists of formulas.
 
 ghost use Rattle.std.specs.Prelude.{◌≡◌, ◌++◌, [], ◌∷◌, IfOk};
-ghost use Rattle.ss_logic_frames.specs.Frames.{unless};
+ghost use Rattle.ss_logic_frames.specs.Frames.{or_of, unless};
 ghost use Rattle.ss_terms.specs.Forms.{formula_at, formulas_at, HasFormula, HasFormulas, IsGrown};
 ghost use Rattle.ss_frames.specs.Calls.{IsMade};
 
 use ss_terms::{Bank, FormulaId};
 use std::alloc::{AllocError, Global};
 
-// One of these, or the last.
+// One of these, or the last; the last alone, where there is no other.
 pub(crate) fn unless(
     alloc: Global,
     b: &mut Bank,
@@ -18,6 +18,24 @@ pub(crate) fn unless(
     requires parts { HasFormulas b.old parts.now }
     requires last { HasFormula b.old last }
     ensures at { IfOk result (λ f. IsMade b.new f (unless (formulas_at b.old parts.now) (formula_at b.old last))) }
+    ensures grown { IsGrown b.old b.new }
+{
+    match parts {
+        [] => Ok(last),
+        [_, ..] => either(alloc, b, parts, last),
+    }
+}
+
+// One of these, or the last.
+fn either(
+    alloc: Global,
+    b: &mut Bank,
+    parts: &[FormulaId],
+    last: FormulaId,
+) -> Result<FormulaId, AllocError>
+    requires parts { HasFormulas b.old parts.now }
+    requires last { HasFormula b.old last }
+    ensures at { IfOk result (λ f. IsMade b.new f (or_of (formulas_at b.old parts.now ++ formula_at b.old last ∷ []))) }
     ensures grown { IsGrown b.old b.new }
 {
     let all = joined(alloc, parts, &[last])?;

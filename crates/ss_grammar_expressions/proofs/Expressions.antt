@@ -5,7 +5,7 @@ use Rattle.ss_core.specs.declared.names.Place.{Place}
 use Rattle.ss_ast.specs.declared.token.Word.TheVariants as word
 use Rattle.ss_ast.specs.declared.token.Symbol.{Symbol}
 use Rattle.ss_ast.specs.declared.token.Symbol.TheVariants as symbol
-use Rattle.ss_ast.specs.declared.expr.Quantifier.{Quantifier}
+use Rattle.ss_core.specs.declared.expr.Quantifier.{Quantifier}
 use Rattle.ss_ast.specs.Tokens.{AWord, ASymbol, AName}
 use Rattle.ss_ast.specs.Expressions.{NameTree, IntType, ExprTree, MemberOf, ElementOf, CallOf, BaseOf, OldOf, NewOf, NewArrayOf, QuantifiedOf, Behind, arguments}
 use Rattle.ss_grammar.specs.Language.{Done, Take, Maybe, Bind, Many}

@@ -5,7 +5,7 @@ use Rattle.ss_ast.specs.declared.token.Word.{Word}
 use Rattle.ss_ast.specs.declared.token.Symbol.{Symbol}
 use Rattle.ss_ast.specs.declared.token.Symbol.TheVariants as symbol
 use Rattle.ss_ast.specs.declared.token.Word.TheVariants as word
-use Rattle.ss_ast.specs.declared.expr.Quantifier.{Quantifier}
+use Rattle.ss_core.specs.declared.expr.Quantifier.{Quantifier}
 use Rattle.ss_ast.specs.Tokens.{Kind, AWord, ASymbol, AName, ANumber, AText, AnEnd}
 use Rattle.ss_ast.specs.Expressions.{NameTree, TypeNameTree, TypeTree, ExprTree, Behind, BaseOf, OldOf, QuantifiedOf}
 use Rattle.ss_grammar.specs.Language.{Done, After, Take, Maybe, Bind, Times, Many}

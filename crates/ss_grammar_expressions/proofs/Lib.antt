@@ -11,3 +11,5 @@ pub mod Whole
 pub mod Tied
 pub mod Kept
 pub mod Written
+pub mod Back
+pub mod Plain

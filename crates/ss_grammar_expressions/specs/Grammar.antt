@@ -8,7 +8,7 @@ use Rattle.std.specs.Prelude.{ℕ, zero, suc, Bool, true, false, List, [], ◌�
 use Rattle.ss_core.specs.declared.names.Place.{Place}
 use Rattle.ss_ast.specs.declared.token.Word.TheVariants as word
 use Rattle.ss_ast.specs.declared.token.Symbol.TheVariants as symbol
-use Rattle.ss_ast.specs.declared.expr.Quantifier.{Quantifier}
+use Rattle.ss_core.specs.declared.expr.Quantifier.{Quantifier}
 use Rattle.ss_ast.specs.Expressions.{NameTree, ClassType, TypeTree, ExprTree, IffOf, ImpliesOf, BinaryOf, IsOf, AsOf, NegateOf, NotOf, CastOf, MemberOf, ElementOf, CallOf, BaseOf, NumberOf, NameOf, ParenOf, OldOf, NewOf, NewArrayOf, QuantifiedOf, Behind, arguments}
 use Rattle.ss_grammar.specs.Language.{Done, Take, Maybe, Bind, Many}
 use Rattle.ss_grammar_expressions.specs.First.{Nothing, Choose, Only, Here}

@@ -5,10 +5,10 @@ use Rattle.ss_ast.specs.declared.token.Word.{Word}
 use Rattle.ss_ast.specs.declared.token.Word.TheVariants as word
 use Rattle.ss_ast.specs.declared.token.Symbol.{Symbol}
 use Rattle.ss_ast.specs.declared.token.Symbol.TheVariants as symbol
-use Rattle.ss_ast.specs.declared.expr.Operator.{Operator}
-use Rattle.ss_ast.specs.declared.expr.Operator.TheVariants as operator
-use Rattle.ss_ast.specs.declared.expr.Quantifier.{Quantifier}
-use Rattle.ss_ast.specs.declared.expr.Quantifier.TheVariants as quantifier
+use Rattle.ss_core.specs.declared.expr.Operator.{Operator}
+use Rattle.ss_core.specs.declared.expr.Operator.TheVariants as operator
+use Rattle.ss_core.specs.declared.expr.Quantifier.{Quantifier}
+use Rattle.ss_core.specs.declared.expr.Quantifier.TheVariants as quantifier
 use Rattle.ss_ast.specs.Tokens.{Kind, AWord, ASymbol, AName, ANumber, AText, AnEnd, Tok, tok, word_number}
 use Rattle.ss_ast.specs.declared.token.Token.{Token}
 use Rattle.ss_ast.specs.Expressions.{NameTree, TypeNameTree, IntType, BoolType, ObjectType, ClassType, ExprTree, NumberOf, TextOf, TruthOf, NullOf, ThisOf, BaseOf, ResultOf, NameOf}

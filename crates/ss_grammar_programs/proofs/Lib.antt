@@ -8,3 +8,4 @@ pub mod Members
 pub mod Programs
 pub mod Written
 pub mod Terms
+pub mod Plain

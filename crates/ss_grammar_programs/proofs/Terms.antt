@@ -1,16 +1,16 @@
--- A term of a `modifies` clause, whose end is told by its tokens, is one of the plain productions.
+-- A term of a `modifies` clause, whose end is told by its tokens, is one of the plain productions, and each of these is such a term.
 use Rattle.std.proofs.Common.{◌≡◌, ℕ, zero, suc, List, [], ◌∷◌, ◌++◌, Option, Some, None, Bool, true, false, refl, sym, ap, subst, ◌∙◌, append_assoc}
 use Rattle.std.proofs.lemmas.List.{append-nil}
 use Rattle.ss_core.specs.declared.names.Place.{Place}
 use Rattle.ss_ast.specs.declared.token.Symbol.{Symbol}
 use Rattle.ss_ast.specs.declared.token.Symbol.TheVariants as symbol
 use Rattle.ss_ast.specs.Tokens.{Kind, AWord, ASymbol, AName, ANumber, AText, AnEnd}
-use Rattle.ss_ast.specs.Expressions.{ExprTree, Behind, MemberOf, ElementOf, CallOf, arguments}
+use Rattle.ss_ast.specs.Expressions.{NameTree, ExprTree, Behind, MemberOf, ElementOf, CallOf, arguments}
 use Rattle.ss_ast.specs.Programs.{ModifiedTree, AllOf, ElementsOf, OneOf}
 use Rattle.ss_grammar.specs.Language.{Done, After, Take, Maybe, Bind, Times, Many, Inside}
 use Rattle.ss_grammar_expressions.specs.First.{Chosen, Choose, Here}
-use Rattle.ss_grammar_expressions.specs.Heads.{Piece, AToken, LeftOut, place_at, is, found, the, PostfixHead, DotHead, IndexHead, CallHead, postfix_head}
-use Rattle.ss_grammar_expressions.specs.Grammar.{TheExpression, Parts, NoParts, AtLevel, AnyName, ArgsEnd, IndexEnd, PostfixBehind, Postfixes, joined}
+use Rattle.ss_grammar_expressions.specs.Heads.{Piece, AToken, LeftOut, place_at, is, found, the, a_name, PostfixHead, DotHead, IndexHead, CallHead, postfix_head, Head, unary_head}
+use Rattle.ss_grammar_expressions.specs.Grammar.{TheExpression, Parts, NoParts, AtLevel, AnyName, ArgsEnd, IndexEnd, PostfixBehind, Postfixes, joined, UnaryBehind, Unary, WholeExpression}
 use Rattle.ss_grammar_statements.specs.Grammar.{Prim}
 use Rattle.ss_grammar_programs.specs.Again.{AtMost, Again}
 use Rattle.ss_grammar_programs.specs.Grammar.{AtDepth, Reached, Path, Whole, path_goes, Step, stepped, modified, DotStep, IndexStep, StepBehind, AnyStep, ModifiedFrom, Modified}
@@ -192,3 +192,233 @@ is_term d (t ∷ us) m q =
     let e : q.back ≡ b.front = b.parts ∙ ap (λ y. b.front ++ y) b.goes_on.0 ∙ append-nil b.front in
     let r : Read d (place_at t) q.first b.front b.first = reads d b.reads.0 (place_at t) q.first b.front b.first b.reads.1 in
     finish d t us q.first q.front q.back q.parts q.reads m b.first (subst (λ (y : List Piece). Read d (place_at t) q.first y b.first) (sym e) r) b.goes_on.1
+
+-- ---- the other way: what doesn't begin with a `*`
+
+abbrev NoStar : List Piece → Type 0
+NoStar [] = Unit {0}
+NoStar (u ∷ us) = is (the symbol.Star) u ≡ false
+
+past : {A : Type 0} (L M : List Piece → A → Type 0) (us : List Piece) (v : A) → NoStar us → M us v → Choose (is (the symbol.Star)) L M us v
+past L M [] v e m = m
+past L M (u ∷ us) v e m = subst (λ (b : Bool). Chosen b L M (u ∷ us) v) (sym e) m
+
+name_no_star : (us back : List Piece) (n : NameTree) → AnyName us n → NoStar (us ++ back)
+name_no_star [] back n q = absurd q
+name_no_star (LeftOut ∷ us) back n q = absurd q
+name_no_star (AToken t ∷ us) back n q = at t.kind t.place q
+  where
+    at : (c : Kind) (p : Place) → After (a_name (AToken (record { kind = c; place = p }))) Done us n → is (the symbol.Star) (AToken (record { kind = c; place = p })) ≡ false
+    at (AName x) p q = refl
+    at (AWord w) p q = absurd q
+    at (ASymbol s) p q = absurd q
+    at (ANumber x) p q = absurd q
+    at (AText x) p q = absurd q
+    at AnEnd p q = absurd q
+
+symbol_no_star : (p : Place) (s : Symbol) (K : Head → List Piece → ExprTree → Type 0) (us : List Piece) (e : ExprTree) → After (unary_head (AToken (record { kind = ASymbol s; place = p }))) K us e → is (the symbol.Star) (AToken (record { kind = ASymbol s; place = p })) ≡ false
+symbol_no_star p symbol.Minus K us e q = refl
+symbol_no_star p symbol.Bang K us e q = refl
+symbol_no_star p symbol.Open K us e q = refl
+symbol_no_star p _ K us e q = absurd q
+
+unary_no_star : (w : Piece) (K : Head → List Piece → ExprTree → Type 0) (us : List Piece) (e : ExprTree) → After (unary_head w) K us e → is (the symbol.Star) w ≡ false
+unary_no_star LeftOut K us e q = absurd q
+unary_no_star (AToken t) K us e q = at t.kind t.place q
+  where
+    at : (c : Kind) (p : Place) → After (unary_head (AToken (record { kind = c; place = p }))) K us e → is (the symbol.Star) (AToken (record { kind = c; place = p })) ≡ false
+    at (ASymbol s) p q = symbol_no_star p s K us e q
+    at (AWord w) p q = refl
+    at (AName x) p q = refl
+    at (ANumber x) p q = refl
+    at (AText x) p q = refl
+    at AnEnd p q = refl
+
+whole_no_star : (o : Bool) (V : Parts) (us back : List Piece) (e : ExprTree) → WholeExpression o V us e → NoStar (us ++ back)
+whole_no_star o V [] back e q = absurd q
+whole_no_star o V (u ∷ us) back e q = subst (λ (y : List Piece). NoStar (y ++ back)) (sym q.parts) (at q.front q.reads)
+  where
+    at : (ws : List Piece) → Unary o V ws q.first → NoStar ((ws ++ q.back) ++ back)
+    at [] r = absurd r
+    at (w ∷ ws) r = unary_no_star w (UnaryBehind o V) ws q.first r
+
+expression_no_star : (d : ℕ) (us back : List Piece) (e : ExprTree) → AtLevel d TheExpression us e → NoStar (us ++ back)
+expression_no_star zero us back e q = whole_no_star false NoParts us back e q
+expression_no_star (suc d) us back e q = whole_no_star true (AtLevel d) us back e q
+
+-- ---- what a postfix does, as a step
+
+abbrev as_path : Behind → Step
+as_path f = λ q b. Path (f q b)
+
+as_step : {X : Type 0} (L : List Piece → X → Type 0) (g : X → Behind) (us : List Piece) (f : Behind) → Bind L (λ x. Done (g x)) us f → Bind L (λ x. Done (as_path (g x))) us (as_path f)
+as_step L g us f q = record { first = q.first; front = q.front; back = q.back; parts = q.parts; reads = q.reads; goes_on = (q.goes_on.0, ap as_path q.goes_on.1) }
+
+dot_back : (us : List Piece) (f : Behind) → Bind AnyName (λ n. Done (λ (p : Place) (a : ExprTree). MemberOf p a n)) us f → DotStep us (as_path f)
+dot_back us f q =
+    past (Take (the symbol.Star) (λ _. Done (λ (p : Place) (a : ExprTree). Whole (AllOf a)))) (Bind AnyName (λ n. Done (λ (p : Place) (a : ExprTree). Path (MemberOf p a n)))) us (as_path f)
+    (subst NoStar (sym q.parts) (name_no_star q.front q.back q.first q.reads))
+    (as_step AnyName (λ n p a. MemberOf p a n) us f q)
+
+index_back : (d : ℕ) (us : List Piece) (f : Behind) → Bind (IndexEnd (AtLevel d TheExpression)) (λ i. Done (λ (p : Place) (a : ExprTree). ElementOf p a i)) us f → IndexStep d us (as_path f)
+index_back d us f q =
+    let r = q.reads in
+    past (Take (the symbol.Star) (λ _. Take (the symbol.CloseBracket) (λ _. Done (λ (p : Place) (a : ExprTree). Whole (ElementsOf a))))) (Bind (IndexEnd (AtLevel d TheExpression)) (λ i. Done (λ (p : Place) (a : ExprTree). Path (ElementOf p a i)))) us (as_path f)
+    (subst NoStar (sym (q.parts ∙ ap (λ y. y ++ q.back) r.parts ∙ append_assoc r.front r.back q.back)) (expression_no_star d r.front (r.back ++ q.back) r.first r.reads))
+    (as_step (IndexEnd (AtLevel d TheExpression)) (λ i p a. ElementOf p a i) us f q)
+
+step_back : (d : ℕ) (h : PostfixHead) (us : List Piece) (f : Behind) → Does d h us f → StepBehind d h us (as_path f)
+step_back zero DotHead us f q = dot_back us f q
+step_back (suc d) DotHead us f q = dot_back us f q
+step_back zero IndexHead us f q = absurd q
+step_back (suc d) IndexHead us f q = index_back d us f q
+step_back zero CallHead us f q = absurd q
+step_back (suc d) CallHead us f q = as_step (ArgsEnd (AtLevel d TheExpression)) (λ es p a. CallOf p a (arguments es)) us f q
+
+-- ---- steps one after the other
+
+abbrev Steps : ℕ → Place → ℕ → Reached → List Piece → Reached → Type 0
+Steps d p n x = AtMost path_goes (AnyStep d) (stepped p) n x
+
+abbrev Goes : ℕ → Place → ExprTree → List Piece → Reached → Type 0
+Goes d p a ts r = (n : ℕ) × Steps d p n (Path a) ts r
+
+step_more : (d k : ℕ) (p : Place) (a : ExprTree) (t : Piece) (h : PostfixHead) (front back : List Piece) (s : Step) (r : Reached) → postfix_head t ≡ Some h → StepBehind d h front s → Steps d p k (s p a) back r → Steps d p (suc k) (Path a) (t ∷ (front ++ back)) r
+step_more d k p a t h front back s r e q m =
+    subst (λ (x : Option PostfixHead). Chosen (found x) (Bind (AnyStep d) (λ g. Steps d p k (stepped p (Path a) g))) (Done (Path a)) (t ∷ (front ++ back)) r) (sym e) (record {
+      first = s;
+      front = t ∷ front;
+      back = back;
+      parts = refl;
+      reads = subst (λ (x : Option PostfixHead). After x (StepBehind d) front s) (sym e) q;
+      goes_on = m;
+    })
+
+module _ (d : ℕ) (K : PostfixHead → List Piece → Behind → Type 0) (does : (h : PostfixHead) (us : List Piece) (f : Behind) → K h us f → StepBehind d h us (as_path f)) (p : Place) where
+  further : (n : ℕ) (a b : ExprTree) (t : Piece) (us rest : List Piece) (r : Reached) → ((c : ExprTree) (vs : List Piece) → Times postfix_head K (joined p) n c vs b → Goes d p c (vs ++ rest) r) → After (postfix_head t) (λ h. Bind (K h) (λ f. Times postfix_head K (joined p) n (joined p a h f))) us b → Goes d p a (t ∷ (us ++ rest)) r
+  further n a b t us rest r again q = at (postfix_head t) refl q
+    where
+      at : (x : Option PostfixHead) → postfix_head t ≡ x → After x (λ h. Bind (K h) (λ f. Times postfix_head K (joined p) n (joined p a h f))) us b → Goes d p a (t ∷ (us ++ rest)) r
+      at None e w = absurd w
+      at (Some h) e w =
+          let g = again (w.first p a) w.back w.goes_on in
+          let i : us ++ rest ≡ w.front ++ (w.back ++ rest) = ap (λ y. y ++ rest) w.parts ∙ append_assoc w.front w.back rest in
+          (suc g.0, subst (λ (y : List Piece). Steps d p (suc g.0) (Path a) (t ∷ y) r) (sym i) (step_more d g.0 p a t h w.front (w.back ++ rest) (as_path w.first) r e (does h w.front w.first w.reads) g.1))
+
+  extend : (n m : ℕ) (a b : ExprTree) (ts rest : List Piece) (r : Reached) → Times postfix_head K (joined p) n a ts b → Steps d p m (Path b) rest r → Goes d p a (ts ++ rest) r
+  extend zero m a b ts rest r q s = (m, subst (λ (y : List Piece). Steps d p m (Path a) (y ++ rest) r) (sym q.0) (subst (λ (x : ExprTree). Steps d p m (Path x) rest r) q.1 s))
+  extend (suc n) m a b [] rest r q s = (m, subst (λ (x : ExprTree). Steps d p m (Path x) rest r) q s)
+  extend (suc n) m a b (t ∷ us) rest r q s = further n a b t us rest r (λ c vs w. extend n m c b vs rest r w s) q
+
+path_then : (d m : ℕ) (p : Place) (a b : ExprTree) (ts rest : List Piece) (r : Reached) → PostfixesAt d p a ts b → Steps d p m (Path b) rest r → Goes d p a (ts ++ rest) r
+path_then zero m p a b ts rest r q s = extend zero (PostfixBehind false NoParts) (step_back zero) p q.0 m a b ts rest r q.1 s
+path_then (suc d) m p a b ts rest r q s = extend (suc d) (PostfixBehind true (AtLevel d)) (step_back (suc d)) p q.0 m a b ts rest r q.1 s
+
+-- ---- what ends a term
+
+-- where a token is there, it is the one that is looked for
+taken : {A B : Type 0} (f : Piece → Option B) (K : B → List Piece → A → Type 0) (M : List Piece → A → Type 0) (us : List Piece) (v : A) → Take f K us v → Choose (is f) (Take f K) M us v
+taken f K M [] v q = absurd q
+taken {A} {B} f K M (u ∷ us) v q = at (f u) refl q
+  where
+    at : (x : Option B) → f u ≡ x → After x K us v → Choose (is f) (Take f K) M (u ∷ us) v
+    at None e r = absurd r
+    at (Some b) e r = subst (λ (o : Option B). Chosen (found o) (Take f K) M (u ∷ us) v) (sym e) q
+
+dot_symbol_is : (p : Place) (s : Symbol) (z : Place) → the symbol.Dot (AToken (record { kind = ASymbol s; place = p })) ≡ Some z → postfix_head (AToken (record { kind = ASymbol s; place = p })) ≡ Some DotHead
+dot_symbol_is p symbol.Dot z e = refl
+dot_symbol_is p _ z e = absurd cc
+
+dot_is : (t : Piece) (z : Place) → the symbol.Dot t ≡ Some z → postfix_head t ≡ Some DotHead
+dot_is LeftOut z e = absurd cc
+dot_is (AToken t) z e = at t.kind t.place e
+  where
+    at : (c : Kind) (p : Place) → the symbol.Dot (AToken (record { kind = c; place = p })) ≡ Some z → postfix_head (AToken (record { kind = c; place = p })) ≡ Some DotHead
+    at (ASymbol s) p e = dot_symbol_is p s z e
+    at (AWord w) p e = absurd cc
+    at (AName n) p e = absurd cc
+    at (ANumber n) p e = absurd cc
+    at (AText n) p e = absurd cc
+    at AnEnd p e = absurd cc
+
+bracket_symbol_is : (p : Place) (s : Symbol) (z : Place) → the symbol.OpenBracket (AToken (record { kind = ASymbol s; place = p })) ≡ Some z → postfix_head (AToken (record { kind = ASymbol s; place = p })) ≡ Some IndexHead
+bracket_symbol_is p symbol.OpenBracket z e = refl
+bracket_symbol_is p _ z e = absurd cc
+
+bracket_is : (t : Piece) (z : Place) → the symbol.OpenBracket t ≡ Some z → postfix_head t ≡ Some IndexHead
+bracket_is LeftOut z e = absurd cc
+bracket_is (AToken t) z e = at t.kind t.place e
+  where
+    at : (c : Kind) (p : Place) → the symbol.OpenBracket (AToken (record { kind = c; place = p })) ≡ Some z → postfix_head (AToken (record { kind = c; place = p })) ≡ Some IndexHead
+    at (ASymbol s) p e = bracket_symbol_is p s z e
+    at (AWord w) p e = absurd cc
+    at (AName n) p e = absurd cc
+    at (ANumber n) p e = absurd cc
+    at (AText n) p e = absurd cc
+    at AnEnd p e = absurd cc
+
+abbrev all_step : Step
+all_step = λ q c. Whole (AllOf c)
+
+abbrev elements_step : Step
+elements_step = λ q c. Whole (ElementsOf c)
+
+-- the last step, which is the whole rest
+last_step : (d : ℕ) (p : Place) (b : ExprTree) (t : Piece) (h : PostfixHead) (us : List Piece) (s : Step) (w : ModifiedTree) → s p b ≡ Whole w → postfix_head t ≡ Some h → StepBehind d h us s → Steps d p (suc zero) (Path b) (t ∷ us) (Whole w)
+last_step d p b t h us s w i e q = subst (λ (y : List Piece). Steps d p (suc zero) (Path b) (t ∷ y) (Whole w)) (append-nil us) (step_more d zero p b t h us [] s (Whole w) e q (refl, sym i))
+
+ends_in_all : (d : ℕ) (p : Place) (b : ExprTree) (ts : List Piece) (m : ModifiedTree) → AllBehind b ts m → Steps d p (suc zero) (Path b) ts (Whole (AllOf b)) × (m ≡ AllOf b)
+ends_in_all d p b [] m q = absurd q
+ends_in_all d p b (t ∷ us) m q = at (the symbol.Dot t) refl q
+  where
+    at : (x : Option Place) → the symbol.Dot t ≡ x → After x (λ _. Take (the symbol.Star) (λ _. Done (AllOf b))) us m → Steps d p (suc zero) (Path b) (t ∷ us) (Whole (AllOf b)) × (m ≡ AllOf b)
+    at None e r = absurd r
+    at (Some z) e r =
+        let k = token_end (the symbol.Star) (AllOf b) all_step us [] m r refl in
+        let s : Take (the symbol.Star) (λ _. Done all_step) us all_step = subst (λ (y : List Piece). Take (the symbol.Star) (λ _. Done all_step) y all_step) (append-nil us) k.0 in
+        (last_step d p b t DotHead us all_step (AllOf b) refl (dot_is t z e) (taken (the symbol.Star) (λ _. Done all_step) (Bind AnyName (λ n. Done (λ (q : Place) (c : ExprTree). Path (MemberOf q c n)))) us all_step s), k.1)
+
+ends_in_elements : (d : ℕ) (p : Place) (b : ExprTree) (ts : List Piece) (m : ModifiedTree) → ElementsBehind d b ts m → Steps d p (suc zero) (Path b) ts (Whole (ElementsOf b)) × (m ≡ ElementsOf b)
+ends_in_elements d p b [] m q = absurd q
+ends_in_elements zero p b (t ∷ us) m q = at (the symbol.OpenBracket t) q
+  where
+    at : (x : Option Place) → After x (λ _. Inside (λ _. Take (the symbol.Star) (λ _. Take (the symbol.CloseBracket) (λ _. Done (ElementsOf b)))) zero) us m → Steps zero p (suc zero) (Path b) (t ∷ us) (Whole (ElementsOf b)) × (m ≡ ElementsOf b)
+    at None r = absurd r
+    at (Some z) r = absurd r
+ends_in_elements (suc d) p b (t ∷ us) m q = at (the symbol.OpenBracket t) refl q
+  where
+    at : (x : Option Place) → the symbol.OpenBracket t ≡ x → After x (λ _. Take (the symbol.Star) (λ _. Take (the symbol.CloseBracket) (λ _. Done (ElementsOf b)))) us m → Steps (suc d) p (suc zero) (Path b) (t ∷ us) (Whole (ElementsOf b)) × (m ≡ ElementsOf b)
+    at None e r = absurd r
+    at (Some z) e r =
+        let k = two_end (the symbol.Star) (the symbol.CloseBracket) (ElementsOf b) elements_step us [] m r refl in
+        let s : Take (the symbol.Star) (λ _. Take (the symbol.CloseBracket) (λ _. Done elements_step)) us elements_step = subst (λ (y : List Piece). Take (the symbol.Star) (λ _. Take (the symbol.CloseBracket) (λ _. Done elements_step)) y elements_step) (append-nil us) k.0 in
+        (last_step (suc d) p b t IndexHead us elements_step (ElementsOf b) refl (bracket_is t z e) (taken (the symbol.Star) (λ _. Take (the symbol.CloseBracket) (λ _. Done elements_step)) (Bind (IndexEnd (AtLevel d TheExpression)) (λ i. Done (λ (q : Place) (c : ExprTree). Path (ElementOf q c i)))) us elements_step s), k.1)
+
+-- ---- the whole term
+
+finish_back : (d : ℕ) (p : Place) (a : ExprTree) (ts : List Piece) (m : ModifiedTree) (r : Reached) → Goes d p a ts r → m ≡ modified r → ModifiedFrom p a d ts m
+finish_back d p a ts m r g i = record { first = r; front = ts; back = []; parts = sym (append-nil ts); reads = g; goes_on = (refl, i) }
+
+one_back : (d : ℕ) (p : Place) (a : ExprTree) (ts : List Piece) (m : ModifiedTree) → Bind (PostfixesAt d p a) (λ b. Done (OneOf b)) ts m → ModifiedFrom p a d ts m
+one_back d p a ts m q =
+    let i : ts ≡ q.front ++ [] = q.parts ∙ ap (λ y. q.front ++ y) q.goes_on.0 in
+    finish_back d p a ts m (Path q.first) (subst (λ (y : List Piece). Goes d p a y (Path q.first)) (sym i) (path_then d zero p a q.first q.front [] (Path q.first) q.reads (refl, refl))) q.goes_on.1
+
+all_back : (d : ℕ) (p : Place) (a : ExprTree) (ts : List Piece) (m : ModifiedTree) → Bind (PostfixesAt d p a) AllBehind ts m → ModifiedFrom p a d ts m
+all_back d p a ts m q =
+    let s = ends_in_all d p q.first q.back m q.goes_on in
+    finish_back d p a ts m (Whole (AllOf q.first)) (subst (λ (y : List Piece). Goes d p a y (Whole (AllOf q.first))) (sym q.parts) (path_then d (suc zero) p a q.first q.front q.back (Whole (AllOf q.first)) q.reads s.0)) s.1
+
+elements_back : (d : ℕ) (p : Place) (a : ExprTree) (ts : List Piece) (m : ModifiedTree) → Bind (PostfixesAt d p a) (ElementsBehind d) ts m → ModifiedFrom p a d ts m
+elements_back d p a ts m q =
+    let s = ends_in_elements d p q.first q.back m q.goes_on in
+    finish_back d p a ts m (Whole (ElementsOf q.first)) (subst (λ (y : List Piece). Goes d p a y (Whole (ElementsOf q.first))) (sym q.parts) (path_then d (suc zero) p a q.first q.front q.back (Whole (ElementsOf q.first)) q.reads s.0)) s.1
+
+behind_path : (d : ℕ) (K : ExprTree → List Piece → ModifiedTree → Type 0) → ((p : Place) (a : ExprTree) (us : List Piece) (m : ModifiedTree) → Bind (PostfixesAt d p a) K us m → ModifiedFrom p a d us m) → (ts : List Piece) (m : ModifiedTree) → PathThen d K ts m → Modified d ts m
+behind_path d K f [] m q = absurd q
+behind_path d K f (t ∷ us) m q = record { first = q.first; front = q.front; back = q.back; parts = q.parts; reads = q.reads; goes_on = f (place_at t) q.first q.back m q.goes_on }
+
+pub term_is_modified : (d : ℕ) (ts : List Piece) (m : ModifiedTree) → Term d ts m → Modified d ts m
+term_is_modified d ts m (all q) = behind_path d AllBehind (all_back d) ts m q
+term_is_modified d ts m (elements q) = behind_path d (ElementsBehind d) (elements_back d) ts m q
+term_is_modified d ts m (one q) = behind_path d (λ a. Done (OneOf a)) (one_back d) ts m q

@@ -29,3 +29,13 @@ pub fn a_member_is_one_of_five()
 pub fn a_modified_term_is_one_of_three()
     ensures { (d : ℕ) (ts : List Piece) (m : ModifiedTree) → Modified d ts m → Term d ts m }
 {}
+
+/// Each of these three is such a term.
+pub fn each_term_is_modified()
+    ensures { (d : ℕ) (ts : List Piece) (m : ModifiedTree) → Term d ts m → Modified d ts m }
+{}
+
+/// Each of these five is such a member.
+pub fn each_of_five_is_a_member()
+    ensures { (d : ℕ) (ts : List Piece) (k : MemberKindTree) → Plainly d ts k → MemberKind d ts k }
+{}

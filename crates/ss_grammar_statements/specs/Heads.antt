@@ -5,7 +5,7 @@ use Rattle.ss_ast.specs.declared.token.Word.{Word}
 use Rattle.ss_ast.specs.declared.token.Word.TheVariants as word
 use Rattle.ss_ast.specs.declared.token.Symbol.{Symbol}
 use Rattle.ss_ast.specs.declared.token.Symbol.TheVariants as symbol
-use Rattle.ss_ast.specs.declared.expr.Quantifier.{Quantifier}
+use Rattle.ss_core.specs.declared.expr.Quantifier.{Quantifier}
 use Rattle.ss_ast.specs.declared.stmt.AssignOperator.{AssignOperator}
 use Rattle.ss_ast.specs.declared.stmt.AssignOperator.TheVariants as assign
 use Rattle.ss_ast.specs.declared.stmt.StepOperator.{StepOperator}

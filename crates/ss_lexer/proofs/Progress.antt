@@ -9,7 +9,7 @@ use Rattle.ss_ast.specs.Tokens.{Kind, AnEnd, Tok}
 use Rattle.ss_lexer.specs.declared.pieces.Form.{Form}
 use Rattle.ss_lexer.specs.declared.lexer.Lexer.{Lexer}
 use Rattle.ss_lexer.specs.Pieces.{IsFirst, Meaning, Nothing, Means, Breaks, is_minus, behind_operand, behind_sign, meaning}
-use Rattle.ss_lexer.specs.Reading.{Answer, with_token, Reads, at_end, between, token, fault, start, next_place, place_after, without_mark, IsReadAs, Answers}
+use Rattle.ss_lexer.specs.Reading.{Answer, with_token, Reads, at_end, between, token, fault, start, next_place, place_after, without_mark, most_bytes, IsReadAs, Answers}
 use Rattle.ss_lexer.specs.Steps.{state, Took}
 
 -- these tokens, and then an answer
@@ -125,14 +125,14 @@ ends source old rest ts s none is =
     let at = s.whole (Ok (record { kind = AnEnd; place = old.place } ∷ [])) (subst (λ r. Reads old.place s.before r (Ok (record { kind = AnEnd; place = old.place } ∷ []))) (sym none) at_end) in
     subst (λ x. Reads start [] source (Ok x)) (sym is) at
 
-pub read_as : (bytes : List ℕ) (a : Answer) → length bytes ≤ 1048576 → Reads start [] (without_mark bytes) a → IsReadAs bytes a
-read_as bytes a few r = rw (le-ltb 1048576 (length bytes) few) r
+pub read_as : (bytes : List ℕ) (a : Answer) → length bytes ≤ most_bytes → Reads start [] (without_mark bytes) a → IsReadAs bytes a
+read_as bytes a few r = rw (le-ltb most_bytes (length bytes) few) r
 
 -- the parts that a split makes
 pub first_parts : (f : Form) (n : ℕ) (rest text behind : List ℕ) → IsFirst rest f (take n rest) (drop n rest) → text ≡ take n rest → behind ≡ drop n rest → IsFirst rest f text behind
 first_parts f n rest text behind first t b = subst (λ x. IsFirst rest f x behind) (sym t) (subst (λ x. IsFirst rest f (take n rest) x) (sym b) first)
 
-pub stops_as : (U : Type 0) (bytes : List ℕ) (old new : Lexer) (f : Form) (text rest behind : List ℕ) (first : IsFirst rest f text behind) (s : Stands (without_mark bytes) old rest) (e : FrontStop) → length bytes ≤ 1048576 → Took {U = U} (meaning old.signed f text) text old new (Err e) → Answers bytes (Err e)
+pub stops_as : (U : Type 0) (bytes : List ℕ) (old new : Lexer) (f : Form) (text rest behind : List ℕ) (first : IsFirst rest f text behind) (s : Stands (without_mark bytes) old rest) (e : FrontStop) → length bytes ≤ most_bytes → Took {U = U} (meaning old.signed f text) text old new (Err e) → Answers bytes (Err e)
 stops_as U bytes old new f text rest behind first s (stop.Refused rule p) few took = read_as bytes (Err (rule, p)) few (stops (without_mark bytes) old new f text rest behind first s U rule p took)
 stops_as U bytes old new f text rest behind first s stop.Memory few took = tt
 

@@ -11,7 +11,7 @@ use Rattle.ss_ast.specs.declared.token.Token.{Token}
 use Rattle.ss_ast.specs.Tokens.{Kind, AnEnd, toks}
 use Rattle.ss_lexer.specs.declared.pieces.Form.{Form}
 use Rattle.ss_lexer.specs.Pieces.{form_of, IsFirst, Meaning, Nothing, Means, Breaks, behind_sign, meaning, too_long}
-use Rattle.ss_lexer.specs.Reading.{Answer, with_token, Reads, at_end, between, token, fault, start, place_after, without_mark, IsReadAs, Answers, IsAnswer}
+use Rattle.ss_lexer.specs.Reading.{Answer, with_token, Reads, at_end, between, token, fault, start, place_after, without_mark, most_bytes, IsReadAs, Answers, IsAnswer}
 
 -- ---- the piece at the front
 
@@ -110,7 +110,7 @@ one_reading {p} {before} {source} (token f text rest k first m x) b r =
 one_reading {p} {before} {source} (fault f text rest rule n first m) b r = sym (moved p before source b f text rest (Breaks rule n) first m r)
 
 pub one_answer : (bytes : List ℕ) (a b : Answer) → IsReadAs bytes a → IsReadAs bytes b → a ≡ b
-one_answer bytes a b x y = by (nat_lt 1048576 (length bytes)) x y
+one_answer bytes a b x y = by (nat_lt most_bytes (length bytes)) x y
   where
     by : (long : Bool) → MatchBool long (a ≡ Err (too_long, start)) (Reads start [] (without_mark bytes) a) → MatchBool long (b ≡ Err (too_long, start)) (Reads start [] (without_mark bytes) b) → a ≡ b
     by true x y = x ∙ sym y

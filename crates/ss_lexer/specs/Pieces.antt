@@ -2,6 +2,8 @@
 use Rattle.std.specs.Prelude.{ℕ, ◌≡◌, ◌==◌, ◌&&◌, nat_le, Bool, true, false, not, if◌then◌else◌, List, [], ◌∷◌, ◌++◌, length, Option, Some, None, IsSome, codes}
 use Rattle.std.specs.List.{list_all}
 use Rattle.std.specs.Str.Lossy.{utf8_valid_len}
+use Rattle.ss_core.specs.declared.rules.Rule.TheVariants as rule
+use Rattle.ss_core.specs.Rules.{rule_number}
 use Rattle.ss_ast.specs.declared.token.Word.{Word}
 use Rattle.ss_ast.specs.declared.token.Word.TheVariants as word
 use Rattle.ss_ast.specs.declared.token.Symbol.{Symbol}
@@ -67,21 +69,21 @@ pub data Meaning : Type 0 where
   Means : Kind → Meaning
   Breaks : ℕ → ℕ → Meaning
 
--- the rules
+-- the numbers of the rules
 abbrev pub bad_byte : ℕ
-bad_byte = 1
+bad_byte = rule_number rule.BadByte
 
 abbrev pub open_comment : ℕ
-open_comment = 2
+open_comment = rule_number rule.OpenComment
 
 abbrev pub open_string : ℕ
-open_string = 3
+open_string = rule_number rule.OpenString
 
 abbrev pub big_number : ℕ
-big_number = 4
+big_number = rule_number rule.BigNumber
 
 abbrev pub too_long : ℕ
-too_long = 5
+too_long = rule_number rule.TooLong
 
 abbrev pub word_or_name : Option Word → List ℕ → Kind
 word_or_name (Some w) text = AWord w

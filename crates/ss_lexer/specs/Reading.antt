@@ -52,9 +52,13 @@ pub data Reads : Place → List Kind → List ℕ → Answer → Type 0 where
       IsFirst source f text rest → meaning (behind_sign before) f text ≡ Breaks rule n →
       Reads p before source (Err (rule, place_after p (take n text)))
 
--- what the bytes are read as; more than 1048576 are too long, whatever they are
+-- how many bytes a source has at most
+abbrev pub most_bytes : ℕ
+most_bytes = 1048576
+
+-- what the bytes are read as; more than that are too long, whatever they are
 abbrev pub IsReadAs : List ℕ → Answer → Type 0
-IsReadAs bytes a = MatchBool (nat_lt 1048576 (length bytes)) (a ≡ Err (too_long, start)) (Reads start [] (without_mark bytes) a)
+IsReadAs bytes a = MatchBool (nat_lt most_bytes (length bytes)) (a ≡ Err (too_long, start)) (Reads start [] (without_mark bytes) a)
 
 -- The bytes have these tokens; the first fault in them breaks this rule at this place.
 abbrev pub HasTokens : List ℕ → List Tok → Type 0

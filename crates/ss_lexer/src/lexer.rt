@@ -6,10 +6,10 @@ ghost use Rattle.ss_lexer.specs.Pieces.{meaning, form_of};
 ghost use Rattle.ss_lexer.specs.Reading.{next_place, place_after, without_mark, Answer, IsReadAs, IsAnswer, Answers};
 ghost use Rattle.ss_lexer.specs.Steps.{state, pushed, Took};
 
-use crate::meaning::{Meaning, TOO_LONG, ends_operand, is_minus, meaning_of};
+use crate::meaning::{Meaning, ends_operand, is_minus, meaning_of};
 use crate::pieces::{Form, first_piece};
 use ss_ast::{Token, TokenKind};
-use ss_core::{FrontStop, Place};
+use ss_core::{FrontStop, Place, Rule};
 use std::alloc::{AllocError, Global};
 
 /// The most bytes that a source may have.
@@ -122,7 +122,7 @@ fn read_tokens(alloc: Global, bytes: &[u8]) -> Result<Vec<Token>, FrontStop>
     let start = Place { line: 1, column: 1 };
     if bytes.len() > MAX_BYTES {
         return Err(FrontStop::Refused {
-            rule: TOO_LONG,
+            rule: Rule::TooLong.number(),
             place: start,
         });
     }

@@ -11,6 +11,7 @@ use crate::literals::{escapes_length, name_of, number_value, string_value, utf8_
 use crate::pieces::Form;
 use crate::spelling::word_of;
 use ss_ast::{Symbol, TokenKind, Word};
+use ss_core::Rule;
 use std::alloc::{AllocError, Global};
 
 /// What a piece is in a source.
@@ -19,19 +20,9 @@ pub enum Meaning {
     /// It only separates tokens.
     Nothing,
     Token(TokenKind),
-    /// A rule is broken, behind so many of its bytes.
+    /// The rule of this number is broken, behind so many of its bytes.
     Fault(u16, usize),
 }
-
-pub const BAD_BYTE: u16 = 1;
-
-pub const OPEN_COMMENT: u16 = 2;
-
-pub const OPEN_STRING: u16 = 3;
-
-pub const BIG_NUMBER: u16 = 4;
-
-pub const TOO_LONG: u16 = 5;
 
 // What the piece means, where 2147483648 may stand in it or may not.
 pub fn meaning_of(
@@ -47,13 +38,13 @@ pub fn meaning_of(
     match form {
         Form::Space => Ok(Meaning::Nothing),
         Form::Comment => Ok(comment_meaning(text)),
-        Form::OpenComment => Ok(Meaning::Fault(OPEN_COMMENT, 0)),
+        Form::OpenComment => Ok(Meaning::Fault(Rule::OpenComment.number(), 0)),
         Form::Word => Ok(Meaning::Token(word_meaning(alloc, text)?)),
         Form::Number => Ok(number_meaning(signed, text)),
         Form::Text => string_meaning(alloc, text),
-        Form::OpenText => Ok(Meaning::Fault(OPEN_STRING, 0)),
+        Form::OpenText => Ok(Meaning::Fault(Rule::OpenString.number(), 0)),
         Form::Symbol(symbol) => Ok(Meaning::Token(TokenKind::Symbol(symbol))),
-        Form::Stray => Ok(Meaning::Fault(BAD_BYTE, 0)),
+        Form::Stray => Ok(Meaning::Fault(Rule::BadByte.number(), 0)),
     }
 }
 
@@ -65,7 +56,7 @@ fn comment_meaning(text: &[u8]) -> Meaning
     if sound == text.len() {
         Meaning::Nothing
     } else {
-        Meaning::Fault(BAD_BYTE, sound)
+        Meaning::Fault(Rule::BadByte.number(), sound)
     }
 }
 
@@ -85,7 +76,7 @@ fn number_meaning(signed: bool, text: &[u8]) -> Meaning
 {
     match number_value(text) {
         Some(n) if n < 2_147_483_648 || signed => Meaning::Token(TokenKind::Number(n)),
-        _ => Meaning::Fault(BIG_NUMBER, 0),
+        _ => Meaning::Fault(Rule::BigNumber.number(), 0),
     }
 }
 
@@ -96,7 +87,7 @@ fn string_meaning(alloc: Global, text: &[u8]) -> Result<Meaning, AllocError>
 {
     let sound = utf8_length(text).min(escapes_length(text));
     if sound != text.len() {
-        return Ok(Meaning::Fault(BAD_BYTE, sound));
+        return Ok(Meaning::Fault(Rule::BadByte.number(), sound));
     }
     let value = string_value(alloc, &text[1..text.len() - 1])?;
     Ok(Meaning::Token(TokenKind::Text(value)))

@@ -20,7 +20,7 @@ use Rattle.ss_linear_sums.specs.declared.forms.Part.{Part}
 use Rattle.ss_linear_sums.specs.declared.forms.SumFact.{SumFact}
 use Rattle.ss_linear_sums.specs.Linear as linear
 use Rattle.ss_linear_sums.specs.Linear.{HasParts, IsFactOf}
-use Rattle.ss_linear_rules.specs.Two.{is_one, is_less_one, parts_left, are_apart, is_difference, fact_at}
+use Rattle.ss_linear_rules.specs.Two.{is_one, is_less_one, parts_left, are_opposite, is_difference, fact_at}
 use Rattle.ss_linear_rules.specs.Few.{AreZero, one_at}
 use Rattle.ss_linear_rules.specs.Valued.{parts_at}
 use Rattle.ss_linear_rules.specs.Nodes.{end_value}
@@ -204,7 +204,7 @@ and_turned true false h = h
 and_turned false b h = let no : ⊥ = cc in absurd no
 
 -- two parts in the other order
-pub flipped : (b : Forms) (p q : Part) (r : Option Ends) → IfSome r (λ e. ((is_one q.coefficient && is_less_one p.coefficient) ≡ true) × AreEnds b (linear.parts_at b (q ∷ p ∷ [])) e) → IfSome r (λ e. (are_apart (linear.parts_at b (p ∷ q ∷ [])) ≡ true) × AreEnds b (linear.parts_at b (p ∷ q ∷ [])) e)
+pub flipped : (b : Forms) (p q : Part) (r : Option Ends) → IfSome r (λ e. ((is_one q.coefficient && is_less_one p.coefficient) ≡ true) × AreEnds b (linear.parts_at b (q ∷ p ∷ [])) e) → IfSome r (λ e. (are_opposite (linear.parts_at b (p ∷ q ∷ [])) ≡ true) × AreEnds b (linear.parts_at b (p ∷ q ∷ [])) e)
 flipped b p q None h = tt
 flipped b p q (Some e) h = (
   or_right (is_one p.coefficient && is_less_one q.coefficient) (is_less_one p.coefficient && is_one q.coefficient) (and_turned (is_one q.coefficient) (is_less_one p.coefficient) h.0),
@@ -239,10 +239,10 @@ pub and_right : (a b : Bool) → (a && b) ≡ true → b ≡ true
 and_right true b h = h
 and_right false b h = let no : ⊥ = cc in absurd no
 
-pub some_ends : (b : Forms) (r : Option Ends) (all left : List Part) (small : Bool) → small ≡ true → linear.parts_at b left ≡ parts_left (linear.parts_at b all) → IfSome r (λ e. (are_apart (linear.parts_at b left) ≡ true) × AreEnds b (linear.parts_at b left) e) → IfSome r (λ e. ((are_apart (parts_left (linear.parts_at b all)) && small) ≡ true) × AreEnds b (linear.parts_at b all) e)
+pub some_ends : (b : Forms) (r : Option Ends) (all left : List Part) (small : Bool) → small ≡ true → linear.parts_at b left ≡ parts_left (linear.parts_at b all) → IfSome r (λ e. (are_opposite (linear.parts_at b left) ≡ true) × AreEnds b (linear.parts_at b left) e) → IfSome r (λ e. ((are_opposite (parts_left (linear.parts_at b all)) && small) ≡ true) × AreEnds b (linear.parts_at b all) e)
 some_ends b None all left small s is h = tt
 some_ends b (Some e) all left small s is h = (
-  both_true (are_apart (parts_left (linear.parts_at b all))) small (ap are_apart (sym is) ∙ h.0) s,
+  both_true (are_opposite (parts_left (linear.parts_at b all))) small (ap are_opposite (sym is) ∙ h.0) s,
   ends_left b all e (subst (λ (ps : List (Term × ℤ)). AreEnds b ps e) is h.1),
 )
 

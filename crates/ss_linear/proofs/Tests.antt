@@ -13,7 +13,7 @@ use Rattle.ss_linear_rules.specs.Few.{IsNone, AreZero}
 use Rattle.ss_linear_rules.specs.Valued.{sum_at, IsMetBy, IsMetAt, MeetsDifferences}
 use Rattle.ss_linear_rules.proofs.Few.{gives_false, none_weighted, none_other, none_without, none_second, two_false}
 use Rattle.ss_linear_rules.proofs.Values.{some_is, met_false}
-use Rattle.ss_linear.specs.Contradictions.{IsContradiction, IsTested, IsFreeOf, IsFreeAlone, IsFree, IsClear, IsFirst, IsBeside, IsOther, IsAt}
+use Rattle.ss_linear.specs.Contradictions.{IsContradiction, IsTested, IsFreeOf, IsFreeAlone, IsFreeOfAll, IsFree, IsClear, IsContradictionOr}
 
 -- ---- numbers with signs
 
@@ -64,17 +64,17 @@ first_without cs known i j w u e = none_without cs known (j, w) ((i, u) ∷ []) 
 pub clear_without : (cs : List ClassTree) (known : List Formula) (v : Term → ℤ) (i : ℕ) → fact_at cs known i ≡ None → IsClear cs known v i
 clear_without cs known v i e = inr (λ w x. none_without cs known (i, w) [] e, λ j. (λ w u x y. first_without cs known j i w u e, λ w u x y. second_without cs known j i w u e))
 
-pub beside : {E : Type 0} (cs : List ClassTree) (known : List Formula) (i : ℕ) (r : Result (Option (Vec (ℕ × ℤ) Global)) E) → ((j : ℕ) → IsFreeOf cs known i j) → IfOk r (IsFirst cs known i) → IfOk r (IsBeside cs known i)
+pub beside : {E : Type 0} (cs : List ClassTree) (known : List Formula) (i : ℕ) (r : Result (Option (Vec (ℕ × ℤ) Global)) E) → ((j : ℕ) → IsFreeOf cs known i j) → IfOk r (IsContradictionOr cs known ((j : ℕ) → IsFreeOf cs known j i)) → IfOk r (IsContradictionOr cs known (IsFreeOfAll cs known i))
 beside cs known i (Ok (Some ps)) second h = h
 beside cs known i (Ok None) second h = λ j. (second j, h j)
 beside cs known i (Err e) second h = tt
 
-pub at_any : {E : Type 0} (cs : List ClassTree) (known : List Formula) (i : ℕ) (r : Result (Option (Vec (ℕ × ℤ) Global)) E) → IsFreeAlone cs known i → IfOk r (IsBeside cs known i) → IfOk r (IsOther cs known i)
+pub at_any : {E : Type 0} (cs : List ClassTree) (known : List Formula) (i : ℕ) (r : Result (Option (Vec (ℕ × ℤ) Global)) E) → IsFreeAlone cs known i → IfOk r (IsContradictionOr cs known (IsFreeOfAll cs known i)) → IfOk r (IsContradictionOr cs known (IsFreeAlone cs known i × IsFreeOfAll cs known i))
 at_any cs known i (Ok (Some ps)) alone h = h
 at_any cs known i (Ok None) alone h = (alone, h)
 at_any cs known i (Err e) alone h = tt
 
-pub at_other : {E : Type 0} (cs : List ClassTree) (known : List Formula) (v : Term → ℤ) (i : ℕ) (r : Result (Option (Vec (ℕ × ℤ) Global)) E) → IfOk r (IsOther cs known i) → IfOk r (IsAt cs known v i)
+pub at_other : {E : Type 0} (cs : List ClassTree) (known : List Formula) (v : Term → ℤ) (i : ℕ) (r : Result (Option (Vec (ℕ × ℤ) Global)) E) → IfOk r (IsContradictionOr cs known (IsFreeAlone cs known i × IsFreeOfAll cs known i)) → IfOk r (IsContradictionOr cs known (IsClear cs known v i))
 at_other cs known v i (Ok (Some ps)) h = h
 at_other cs known v i (Ok None) h = inr h
 at_other cs known v i (Err e) h = tt

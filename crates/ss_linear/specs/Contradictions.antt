@@ -26,15 +26,19 @@ summed s = (s.divisor, s.parts.items)
 abbrev pub sums_of : List Sum → List (ℤ × List (ℕ × ℤ))
 sums_of ss = map summed ss
 
+-- pairs of terms of a bank
+abbrev pub Pairs : Type 0
+Pairs = List (TermId × TermId)
+
 -- that two terms are equal
 abbrev pub equality_at : Forms → TermId × TermId → Formula
 equality_at b p = equal (term_at b p.0) (term_at b p.1)
 
-abbrev pub equalities_at : Forms → List (TermId × TermId) → List Formula
+abbrev pub equalities_at : Forms → Pairs → List Formula
 equalities_at b ps = map (equality_at b) ps
 
 -- the bank has both terms of each pair
-abbrev pub HasPairs : Forms → List (TermId × TermId) → Type 0
+abbrev pub HasPairs : Forms → Pairs → Type 0
 HasPairs b ps = AllByRecursion (λ p. HasTerm b p.0 × HasTerm b p.1) ps
 
 -- the bank has the terms of the facts
@@ -73,39 +77,19 @@ IsFreeOf cs known i j = (w u : ℤ) → IsUnit w → IsUnit u → IsNone cs know
 abbrev pub IsFreeAlone : List ClassTree → List Formula → ℕ → Type 0
 IsFreeAlone cs known i = (w : ℤ) → IsUnit w → IsNone cs known ((i, w) ∷ [])
 
--- nor with another one
+-- nor together with another one, in any order
+abbrev pub IsFreeOfAll : List ClassTree → List Formula → ℕ → Type 0
+IsFreeOfAll cs known i = (j : ℕ) → IsFreeOf cs known i j × IsFreeOf cs known j i
+
+-- the same in this order
 abbrev pub IsFree : List ClassTree → List Formula → ℕ → Type 0
 IsFree cs known i = IsFreeAlone cs known i × ((j : ℕ) → IsFreeOf cs known i j)
 
 -- It is so at these numbers, or it is no contradiction by itself, nor with another one in any order.
 abbrev pub IsClear : List ClassTree → List Formula → (Term → ℤ) → ℕ → Type 0
-IsClear cs known v i = IsMetAt cs known v i ⊎ (IsFreeAlone cs known i × ((j : ℕ) → IsFreeOf cs known i j × IsFreeOf cs known j i))
+IsClear cs known v i = IsMetAt cs known v i ⊎ (IsFreeAlone cs known i × IsFreeOfAll cs known i)
 
--- a contradiction, or what is so without one
-abbrev pub IsPair : List ClassTree → List Formula → ℕ → ℕ → Option (Vec (ℕ × ℤ) Global) → Type 0
-IsPair cs known i j (Some ps) = IsContradiction cs known ps.items
-IsPair cs known i j None = IsFreeOf cs known i j
-
-abbrev pub IsSecond : List ClassTree → List Formula → ℕ → Option (Vec (ℕ × ℤ) Global) → Type 0
-IsSecond cs known i (Some ps) = IsContradiction cs known ps.items
-IsSecond cs known i None = (j : ℕ) → IsFreeOf cs known i j
-
-abbrev pub IsFirst : List ClassTree → List Formula → ℕ → Option (Vec (ℕ × ℤ) Global) → Type 0
-IsFirst cs known i (Some ps) = IsContradiction cs known ps.items
-IsFirst cs known i None = (j : ℕ) → IsFreeOf cs known j i
-
-abbrev pub IsBeside : List ClassTree → List Formula → ℕ → Option (Vec (ℕ × ℤ) Global) → Type 0
-IsBeside cs known i (Some ps) = IsContradiction cs known ps.items
-IsBeside cs known i None = (j : ℕ) → IsFreeOf cs known i j × IsFreeOf cs known j i
-
-abbrev pub IsOther : List ClassTree → List Formula → ℕ → Option (Vec (ℕ × ℤ) Global) → Type 0
-IsOther cs known i (Some ps) = IsContradiction cs known ps.items
-IsOther cs known i None = IsFreeAlone cs known i × ((j : ℕ) → IsFreeOf cs known i j × IsFreeOf cs known j i)
-
-abbrev pub IsAt : List ClassTree → List Formula → (Term → ℤ) → ℕ → Option (Vec (ℕ × ℤ) Global) → Type 0
-IsAt cs known v i (Some ps) = IsContradiction cs known ps.items
-IsAt cs known v i None = IsClear cs known v i
-
-abbrev pub IsFew : List ClassTree → List Formula → (Term → ℤ) → Option (Vec (ℕ × ℤ) Global) → Type 0
-IsFew cs known v (Some ps) = IsContradiction cs known ps.items
-IsFew cs known v None = (i : ℕ) → IsClear cs known v i
+-- weights with which known facts are a contradiction; or this is so, where there are none
+abbrev pub IsContradictionOr : List ClassTree → List Formula → Type 0 → Option (Vec (ℕ × ℤ) Global) → Type 0
+IsContradictionOr cs known P (Some ps) = IsContradiction cs known ps.items
+IsContradictionOr cs known P None = P

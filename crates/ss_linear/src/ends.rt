@@ -41,8 +41,8 @@ fn is_small(n: i128) -> bool
 
 // The one term of a part.
 fn one_end(p: Part) -> Option<Ends>
-    ensures none { (b : Forms) → IfNone result (two.are_apart (linear.parts_at b (p ∷ [])) ≡ false) }
-    ensures some { (b : Forms) → HasParts b (p ∷ []) → IfSome result (λ e. (two.are_apart (linear.parts_at b (p ∷ [])) ≡ true) × AreEnds b (linear.parts_at b (p ∷ [])) e) }
+    ensures none { (b : Forms) → IfNone result (two.are_opposite (linear.parts_at b (p ∷ [])) ≡ false) }
+    ensures some { (b : Forms) → HasParts b (p ∷ []) → IfSome result (λ e. (two.are_opposite (linear.parts_at b (p ∷ [])) ≡ true) × AreEnds b (linear.parts_at b (p ∷ [])) e) }
 {
     if is_one(p.coefficient) {
         Some(Ends {
@@ -76,8 +76,8 @@ fn two_ends(p: Part, q: Part) -> Option<Ends>
 
 // The terms of two parts, in either order.
 fn either_ends(p: Part, q: Part) -> Option<Ends>
-    ensures none { (b : Forms) → IfNone result (two.are_apart (linear.parts_at b (p ∷ q ∷ [])) ≡ false) }
-    ensures some { (b : Forms) → HasParts b (p ∷ q ∷ []) → IfSome result (λ e. (two.are_apart (linear.parts_at b (p ∷ q ∷ [])) ≡ true) × AreEnds b (linear.parts_at b (p ∷ q ∷ [])) e) }
+    ensures none { (b : Forms) → IfNone result (two.are_opposite (linear.parts_at b (p ∷ q ∷ [])) ≡ false) }
+    ensures some { (b : Forms) → HasParts b (p ∷ q ∷ []) → IfSome result (λ e. (two.are_opposite (linear.parts_at b (p ∷ q ∷ [])) ≡ true) × AreEnds b (linear.parts_at b (p ∷ q ∷ [])) e) }
 {
     match two_ends(p, q) {
         Some(ends) => Some(ends),
@@ -87,8 +87,8 @@ fn either_ends(p: Part, q: Part) -> Option<Ends>
 
 // The terms of two parts and others.
 fn ends_of_two(p: Part, q: Part, rest: &[Part]) -> Option<Ends>
-    ensures none { (b : Forms) → IfNone result (two.are_apart (linear.parts_at b (p ∷ q ∷ rest.now)) ≡ false) }
-    ensures some { (b : Forms) → HasParts b (p ∷ q ∷ rest.now) → IfSome result (λ e. (two.are_apart (linear.parts_at b (p ∷ q ∷ rest.now)) ≡ true) × AreEnds b (linear.parts_at b (p ∷ q ∷ rest.now)) e) }
+    ensures none { (b : Forms) → IfNone result (two.are_opposite (linear.parts_at b (p ∷ q ∷ rest.now)) ≡ false) }
+    ensures some { (b : Forms) → HasParts b (p ∷ q ∷ rest.now) → IfSome result (λ e. (two.are_opposite (linear.parts_at b (p ∷ q ∷ rest.now)) ≡ true) × AreEnds b (linear.parts_at b (p ∷ q ∷ rest.now)) e) }
 {
     match rest {
         [] => either_ends(p, q),
@@ -98,8 +98,8 @@ fn ends_of_two(p: Part, q: Part, rest: &[Part]) -> Option<Ends>
 
 // The terms of a part and others.
 fn ends_of_one(p: Part, rest: &[Part]) -> Option<Ends>
-    ensures none { (b : Forms) → IfNone result (two.are_apart (linear.parts_at b (p ∷ rest.now)) ≡ false) }
-    ensures some { (b : Forms) → HasParts b (p ∷ rest.now) → IfSome result (λ e. (two.are_apart (linear.parts_at b (p ∷ rest.now)) ≡ true) × AreEnds b (linear.parts_at b (p ∷ rest.now)) e) }
+    ensures none { (b : Forms) → IfNone result (two.are_opposite (linear.parts_at b (p ∷ rest.now)) ≡ false) }
+    ensures some { (b : Forms) → HasParts b (p ∷ rest.now) → IfSome result (λ e. (two.are_opposite (linear.parts_at b (p ∷ rest.now)) ≡ true) × AreEnds b (linear.parts_at b (p ∷ rest.now)) e) }
 {
     match rest {
         [] => one_end(p),
@@ -109,8 +109,8 @@ fn ends_of_one(p: Part, rest: &[Part]) -> Option<Ends>
 
 // The terms of parts that have coefficients.
 fn ends_of(parts: &[Part]) -> Option<Ends>
-    ensures none { (b : Forms) → IfNone result (two.are_apart (linear.parts_at b parts.now) ≡ false) }
-    ensures some { (b : Forms) → HasParts b parts.now → IfSome result (λ e. (two.are_apart (linear.parts_at b parts.now) ≡ true) × AreEnds b (linear.parts_at b parts.now) e) }
+    ensures none { (b : Forms) → IfNone result (two.are_opposite (linear.parts_at b parts.now) ≡ false) }
+    ensures some { (b : Forms) → HasParts b parts.now → IfSome result (λ e. (two.are_opposite (linear.parts_at b parts.now) ≡ true) × AreEnds b (linear.parts_at b parts.now) e) }
 {
     match parts {
         [] => Some(Ends {
@@ -123,8 +123,8 @@ fn ends_of(parts: &[Part]) -> Option<Ends>
 
 /// The terms of which a sum is the difference, where it is one, with a number below 2 ^ 64 in size.
 pub(crate) fn find_ends(alloc: Global, sum: &LinearSum) -> Result<Option<Ends>, AllocError>
-    ensures none { (b : Forms) → IfOk result (λ o. IfNone o ((two.are_apart (two.parts_left (linear.parts_at b sum.now.parts.items)) && nat_lt (unsigned_abs sum.now.constant) (2 ^ 64)) ≡ false)) }
-    ensures some { (b : Forms) → HasParts b sum.now.parts.items → IfOk result (λ o. IfSome o (λ e. ((two.are_apart (two.parts_left (linear.parts_at b sum.now.parts.items)) && nat_lt (unsigned_abs sum.now.constant) (2 ^ 64)) ≡ true) × AreEnds b (linear.parts_at b sum.now.parts.items) e)) }
+    ensures none { (b : Forms) → IfOk result (λ o. IfNone o ((two.are_opposite (two.parts_left (linear.parts_at b sum.now.parts.items)) && nat_lt (unsigned_abs sum.now.constant) (2 ^ 64)) ≡ false)) }
+    ensures some { (b : Forms) → HasParts b sum.now.parts.items → IfOk result (λ o. IfSome o (λ e. ((two.are_opposite (two.parts_left (linear.parts_at b sum.now.parts.items)) && nat_lt (unsigned_abs sum.now.constant) (2 ^ 64)) ≡ true) × AreEnds b (linear.parts_at b sum.now.parts.items) e)) }
 {
     if is_small(sum.constant) {
         let left = parts_left(alloc, &sum.parts)?;

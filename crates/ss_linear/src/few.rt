@@ -10,7 +10,7 @@ ghost use Rattle.ss_linear_rules.specs.Two as two;
 ghost use Rattle.ss_linear_rules.specs.Two.{IsUnit};
 ghost use Rattle.ss_linear_rules.specs.Few.{IsNone, AreZero, one_at};
 ghost use Rattle.ss_linear_rules.specs.Valued.{parts_at};
-ghost use Rattle.ss_linear.specs.Contradictions.{HaveParts, IsTested, AreWeights, IsWeight, IsPair, IsSecond, IsFirst, IsBeside, IsOther, IsAt, IsFew};
+ghost use Rattle.ss_linear.specs.Contradictions.{HaveParts, IsTested, AreWeights, IsWeight, IsFreeOf, IsFreeAlone, IsFreeOfAll, IsClear, IsContradictionOr};
 ghost use Rattle.ss_linear_network.specs.Made.{AreNodesOf, numbers_at};
 ghost use Rattle.ss_linear.specs.Results.{AreFacts};
 
@@ -284,7 +284,7 @@ fn of_facts(
     requires facts { HaveParts bank.now facts.now }
     requires parts { HasParts bank.now a.now.sum.parts.items }
     requires others { HasParts bank.now b.now.sum.parts.items }
-    ensures { (cs : List ClassTree) (known : List Formula) → AreFacts cs bank.now known facts.now → two.fact_at cs known i ≡ Some (linear.fact_at bank.now a.now) → two.fact_at cs known j ≡ Some (linear.fact_at bank.now b.now) → IfOk result (IsPair cs known i j) }
+    ensures { (cs : List ClassTree) (known : List Formula) → AreFacts cs bank.now known facts.now → two.fact_at cs known i ≡ Some (linear.fact_at bank.now a.now) → two.fact_at cs known j ≡ Some (linear.fact_at bank.now b.now) → IfOk result (IsContradictionOr cs known (IsFreeOf cs known i j)) }
 {
     if !may_meet(bank, a, b) {
         return Ok(None);
@@ -308,7 +308,7 @@ fn with_other(
     requires facts { HaveParts bank.now facts.now }
     requires parts { HasParts bank.now a.now.sum.parts.items }
     requires others { IfSome other.now (λ f. HasParts bank.now f.sum.parts.items) }
-    ensures { (cs : List ClassTree) (known : List Formula) → AreFacts cs bank.now known facts.now → two.fact_at cs known i ≡ Some (linear.fact_at bank.now a.now) → IsFactOf bank.now other.now (two.fact_at cs known j) → IfOk result (IsPair cs known i j) }
+    ensures { (cs : List ClassTree) (known : List Formula) → AreFacts cs bank.now known facts.now → two.fact_at cs known i ≡ Some (linear.fact_at bank.now a.now) → IsFactOf bank.now other.now (two.fact_at cs known j) → IfOk result (IsContradictionOr cs known (IsFreeOf cs known i j)) }
 {
     match other {
         Some(b) => of_facts(alloc, bank, facts, a, b, i, j),
@@ -326,7 +326,7 @@ fn with_second(
 ) -> Result<Option<Vec<(usize, i64)>>, AllocError>
     requires facts { HaveParts bank.now facts.now }
     requires parts { HasParts bank.now a.now.sum.parts.items }
-    ensures { (cs : List ClassTree) (known : List Formula) → AreFacts cs bank.now known facts.now → two.fact_at cs known i ≡ Some (linear.fact_at bank.now a.now) → IfOk result (IsSecond cs known i) }
+    ensures { (cs : List ClassTree) (known : List Formula) → AreFacts cs bank.now known facts.now → two.fact_at cs known i ≡ Some (linear.fact_at bank.now a.now) → IfOk result (IsContradictionOr cs known ((j : ℕ) → IsFreeOf cs known i j)) }
 {
     for (j, other) in facts.iter().enumerate() {
         match with_other(alloc, bank, facts, a, other, i, j)? {
@@ -350,7 +350,7 @@ fn before(
     requires facts { HaveParts bank.now facts.now }
     requires parts { HasParts bank.now a.now.sum.parts.items }
     requires others { IfSome other.now (λ f. HasParts bank.now f.sum.parts.items) }
-    ensures { (cs : List ClassTree) (known : List Formula) → AreFacts cs bank.now known facts.now → two.fact_at cs known i ≡ Some (linear.fact_at bank.now a.now) → IsFactOf bank.now other.now (two.fact_at cs known j) → IfOk result (IsPair cs known j i) }
+    ensures { (cs : List ClassTree) (known : List Formula) → AreFacts cs bank.now known facts.now → two.fact_at cs known i ≡ Some (linear.fact_at bank.now a.now) → IsFactOf bank.now other.now (two.fact_at cs known j) → IfOk result (IsContradictionOr cs known (IsFreeOf cs known j i)) }
 {
     match other {
         Some(b) => of_facts(alloc, bank, facts, b, a, j, i),
@@ -368,7 +368,7 @@ fn with_first(
 ) -> Result<Option<Vec<(usize, i64)>>, AllocError>
     requires facts { HaveParts bank.now facts.now }
     requires parts { HasParts bank.now a.now.sum.parts.items }
-    ensures { (cs : List ClassTree) (known : List Formula) → AreFacts cs bank.now known facts.now → two.fact_at cs known i ≡ Some (linear.fact_at bank.now a.now) → IfOk result (IsFirst cs known i) }
+    ensures { (cs : List ClassTree) (known : List Formula) → AreFacts cs bank.now known facts.now → two.fact_at cs known i ≡ Some (linear.fact_at bank.now a.now) → IfOk result (IsContradictionOr cs known ((j : ℕ) → IsFreeOf cs known j i)) }
 {
     for (j, other) in facts.iter().enumerate() {
         match before(alloc, bank, facts, a, other, i, j)? {
@@ -389,7 +389,7 @@ fn with_any(
 ) -> Result<Option<Vec<(usize, i64)>>, AllocError>
     requires facts { HaveParts bank.now facts.now }
     requires parts { HasParts bank.now a.now.sum.parts.items }
-    ensures { (cs : List ClassTree) (known : List Formula) → AreFacts cs bank.now known facts.now → two.fact_at cs known i ≡ Some (linear.fact_at bank.now a.now) → IfOk result (IsBeside cs known i) }
+    ensures { (cs : List ClassTree) (known : List Formula) → AreFacts cs bank.now known facts.now → two.fact_at cs known i ≡ Some (linear.fact_at bank.now a.now) → IfOk result (IsContradictionOr cs known (IsFreeOfAll cs known i)) }
 {
     match with_second(alloc, bank, facts, i, a)? {
         Some(parts) => Ok(Some(parts)),
@@ -407,7 +407,7 @@ fn of_other(
 ) -> Result<Option<Vec<(usize, i64)>>, AllocError>
     requires facts { HaveParts bank.now facts.now }
     requires parts { HasParts bank.now a.now.sum.parts.items }
-    ensures { (cs : List ClassTree) (known : List Formula) → AreFacts cs bank.now known facts.now → two.fact_at cs known i ≡ Some (linear.fact_at bank.now a.now) → IfOk result (IsOther cs known i) }
+    ensures { (cs : List ClassTree) (known : List Formula) → AreFacts cs bank.now known facts.now → two.fact_at cs known i ≡ Some (linear.fact_at bank.now a.now) → IfOk result (IsContradictionOr cs known (IsFreeAlone cs known i × IsFreeOfAll cs known i)) }
 {
     match of_one(alloc, bank, facts, i)? {
         Some(w) => Ok(Some(one(alloc, (i, w))?)),
@@ -427,7 +427,7 @@ fn of_fact(
     requires facts { HaveParts bank.now facts.now }
     requires nodes { AreNodesOf bank.now numbers.now.nodes }
     requires parts { HasParts bank.now a.now.sum.parts.items }
-    ensures { (cs : List ClassTree) (known : List Formula) → AreFacts cs bank.now known facts.now → two.fact_at cs known i ≡ Some (linear.fact_at bank.now a.now) → IfOk result (IsAt cs known (numbers_at bank.now numbers.now) i) }
+    ensures { (cs : List ClassTree) (known : List Formula) → AreFacts cs bank.now known facts.now → two.fact_at cs known i ≡ Some (linear.fact_at bank.now a.now) → IfOk result (IsContradictionOr cs known (IsClear cs known (numbers_at bank.now numbers.now) i)) }
 {
     if is_met(bank, numbers, a) {
         Ok(None)
@@ -448,7 +448,7 @@ fn of_place(
     requires facts { HaveParts bank.now facts.now }
     requires nodes { AreNodesOf bank.now numbers.now.nodes }
     requires first { IfSome first.now (λ f. HasParts bank.now f.sum.parts.items) }
-    ensures { (cs : List ClassTree) (known : List Formula) → AreFacts cs bank.now known facts.now → IsFactOf bank.now first.now (two.fact_at cs known i) → IfOk result (IsAt cs known (numbers_at bank.now numbers.now) i) }
+    ensures { (cs : List ClassTree) (known : List Formula) → AreFacts cs bank.now known facts.now → IsFactOf bank.now first.now (two.fact_at cs known i) → IfOk result (IsContradictionOr cs known (IsClear cs known (numbers_at bank.now numbers.now) i)) }
 {
     match first {
         Some(a) => of_fact(alloc, bank, facts, i, a, numbers),
@@ -466,7 +466,7 @@ pub(crate) fn of_few(
 ) -> Result<Option<Vec<(usize, i64)>>, AllocError>
     requires facts { HaveParts bank.now facts.now }
     requires nodes { AreNodesOf bank.now numbers.now.nodes }
-    ensures { (cs : List ClassTree) (known : List Formula) → AreFacts cs bank.now known facts.now → IfOk result (IsFew cs known (numbers_at bank.now numbers.now)) }
+    ensures { (cs : List ClassTree) (known : List Formula) → AreFacts cs bank.now known facts.now → IfOk result (IsContradictionOr cs known ((i : ℕ) → IsClear cs known (numbers_at bank.now numbers.now) i)) }
 {
     for (i, first) in facts.iter().enumerate() {
         match of_place(alloc, bank, facts, i, first, numbers)? {

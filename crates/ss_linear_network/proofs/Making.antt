@@ -21,7 +21,7 @@ use Rattle.ss_terms.specs.Forms.{Forms, term_at, terms_at, HasTerm, HasTerms, Ar
 use Rattle.ss_terms.specs.Apart.{AreApart}
 use Rattle.ss_linear_paths.specs.declared.edges.Edge.{Edge}
 use Rattle.ss_linear_paths.specs.Edges.{label, HasNodes, AreSmall}
-use Rattle.ss_linear_rules.specs.Two.{fact_at, is_difference, parts_left, are_apart}
+use Rattle.ss_linear_rules.specs.Two.{fact_at, is_difference, parts_left, are_opposite}
 use Rattle.ss_linear_rules.specs.Valued.{fact_value, parts_at}
 use Rattle.ss_linear_rules.specs.Nodes.{place, node_number, AreOnce, IsEnd, IsEdgeOf, HasEdges, IsNetwork, no_origin, origins_at}
 use Rattle.ss_linear_rules.proofs.Networks.{edge_still, end_still, end_number, end_inside, place_most, place_first, place_past, place_last, once_pushed, got_last, got_place, none_once, zip_weaker}
@@ -225,7 +225,7 @@ module _ (b : Forms) (cs : List ClassTree) (known : List Formula) (k : ℕ) (d :
 
   small : unsigned_abs d.constant < 2 ^ 64
   small =
-      let s : nat_lt (unsigned_abs h.fact.sum.constant) (2 ^ 64) ≡ true = and_right (are_apart (parts_left h.fact.sum.parts)) (nat_lt (unsigned_abs h.fact.sum.constant) (2 ^ 64)) h.difference in
+      let s : nat_lt (unsigned_abs h.fact.sum.constant) (2 ^ 64) ≡ true = and_right (are_opposite (parts_left h.fact.sum.parts)) (nat_lt (unsigned_abs h.fact.sum.constant) (2 ^ 64)) h.difference in
       subst (λ (z : ℤ). unsigned_abs z < 2 ^ 64) h.constant (ltb-true (unsigned_abs h.fact.sum.constant) (2 ^ 64) s)
 
   forth_edge : IsEdgeOf cs known xs (record { from = m; to = n; weight = pos 0 -ℤ d.constant }) (k, pos 1)

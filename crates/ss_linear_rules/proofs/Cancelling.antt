@@ -14,7 +14,7 @@ use Rattle.ss_logic_rules.specs.Shapes.{when, number, at_most}
 use Rattle.ss_logic_rules.proofs.Options.{and_then_some, if_some}
 use Rattle.ss_logic_sums.specs.Sums.{is_within, checked, plus_times, is_zero, LinearSum, number_sum, add_part, add_parts, add_times, SumFact, is_weight, add_weighted, weighted, divided, sum_term, bounded, sum_of}
 use Rattle.ss_logic_sums.proofs.Numbers.{one_times, times_zero, zero_is, sum_zero}
-use Rattle.ss_linear_rules.specs.Two.{IsFalse, is_one, is_less_one, parts_left, are_apart, is_difference, fact_at, IsUnit}
+use Rattle.ss_linear_rules.specs.Two.{IsFalse, is_one, is_less_one, parts_left, are_opposite, is_difference, fact_at, IsUnit}
 use Rattle.ss_linear_rules.specs.Few.{one_at}
 use Rattle.ss_linear_rules.specs.Valued.{parts_at, sum_at, fact_value, total, IsUsed}
 use Rattle.ss_linear_rules.proofs.Values.{some_is, by_one, add_times_value}
@@ -132,7 +132,7 @@ two_parts y z h =
     (λ a. let b = and_both (is_less_one y) (is_one z) a in (unit_in y (inr (less_one_is y b.0)), unit_in z (inl (one_is z b.1))))
     (or_either (is_one y && is_less_one z) (is_less_one y && is_one z) h)
 
-apart_light : (w : ℤ) (ps : List (Term × ℤ)) → IsUnit w → are_apart ps ≡ true → AreLight w ps 2
+apart_light : (w : ℤ) (ps : List (Term × ℤ)) → IsUnit w → are_opposite ps ≡ true → AreLight w ps 2
 apart_light w [] u h = tt
 apart_light w (p ∷ []) u h = (1, 1, refl, times_in w p.1 1 u (unit_part p.1 h), tt)
 apart_light w (p ∷ q ∷ []) u h =
@@ -158,7 +158,7 @@ small_in (negsuc n) h = let l : suc n < 2 ^ 64 = ltb-true (suc n) (2 ^ 64) h in 
 
 add_times_some : (a : LinearSum) (w : ℤ) (fact : SumFact) (m : ℕ) → IsUnit w → is_difference fact ≡ true → AreIn (2 * m) a.parts → IsIn (m * 2 ^ 64) a.constant → m + 1 < 2 ^ 63 → (b : LinearSum) × (add_times a w fact.sum ≡ Some b) × AreIn (2 * (m + 1)) b.parts × IsIn ((m + 1) * 2 ^ 64) b.constant
 add_times_some a w fact m u d parts constant l =
-    let both = and_both (are_apart (parts_left fact.sum.parts)) (nat_lt (unsigned_abs fact.sum.constant) (2 ^ 64)) d in
+    let both = and_both (are_opposite (parts_left fact.sum.parts)) (nat_lt (unsigned_abs fact.sum.constant) (2 ^ 64)) d in
     let ps = add_parts_some w fact.sum.parts a.parts (2 * m) 2 (left_light w fact.sum.parts 2 (apart_light w (parts_left fact.sum.parts) u both.0)) parts (omega arith) in
     let small : IsIn (2 ^ 64) (w *ℤ fact.sum.constant) = times_in w fact.sum.constant (2 ^ 64) u (small_in fact.sum.constant both.1) in
     let k : plus_times a.constant w fact.sum.constant ≡ Some (a.constant +ℤ (w *ℤ fact.sum.constant)) = plus_times_some a.constant w fact.sum.constant (m * 2 ^ 64) (2 ^ 64) constant small (omega arith) in (

@@ -36,15 +36,15 @@ parts_left [] = []
 parts_left (p ∷ ps) = if is_zero p.1 then parts_left ps else p ∷ parts_left ps
 
 -- none, or one with coefficient 1 or -1, or two with 1 and -1
-abbrev pub are_apart : List (Term × ℤ) → Bool
-are_apart [] = true
-are_apart (p ∷ []) = is_one p.1 || is_less_one p.1
-are_apart (p ∷ q ∷ []) = is_one p.1 && is_less_one q.1 || is_less_one p.1 && is_one q.1
-are_apart (p ∷ q ∷ r ∷ ps) = false
+abbrev pub are_opposite : List (Term × ℤ) → Bool
+are_opposite [] = true
+are_opposite (p ∷ []) = is_one p.1 || is_less_one p.1
+are_opposite (p ∷ q ∷ []) = is_one p.1 && is_less_one q.1 || is_less_one p.1 && is_one q.1
+are_opposite (p ∷ q ∷ r ∷ ps) = false
 
 -- such parts, and a number below 2 ^ 64 in size
 abbrev pub is_difference : SumFact → Bool
-is_difference fact = are_apart (parts_left fact.sum.parts) && nat_lt (unsigned_abs fact.sum.constant) (2 ^ 64)
+is_difference fact = are_opposite (parts_left fact.sum.parts) && nat_lt (unsigned_abs fact.sum.constant) (2 ^ 64)
 
 -- ---- one or two facts, or differences
 

@@ -1,6 +1,6 @@
 -- Models of ground forms: a class for each term, and a truth value for each atom and each quantified formula. A model refutes an
 -- obligation where every formula of the ground form comes out true at it.
-use Rattle.std.specs.Prelude.{◌≡◌, ℕ, suc, List, [], ◌∷◌, ◌++◌, map, filter, flat_map, Bool, true, false, not, ◌&&◌, ◌||◌, ◌==◌, if◌then◌else◌, Some}
+use Rattle.std.specs.Prelude.{◌≡◌, ℕ, suc, List, [], ◌∷◌, ◌++◌, length, map, filter, flat_map, Bool, true, false, not, ◌&&◌, ◌||◌, ◌==◌, if◌then◌else◌, Some}
 use Rattle.std.specs.List.{slice_index_or, list_all}
 use Rattle.std.specs.Bool.{beq}
 use Rattle.ss_logic.specs.declared.Sort.TheVariants as sort
@@ -138,8 +138,15 @@ model_of fs classes truths = record {
   truth = λ f. slice_index_or truths (place_among (same_formula f) (told fs)) false;
 }
 
+-- The lists have a class for each term of the formulas and a truth value for each formula that is told in them, no more. As a model they
+-- refute the formulas.
+pub record IsCountermodel (cs : List ClassTree) (fs : List Formula) (c : Countermodel) : Type 0 where
+  pub classes : length c.classes.items ≡ length (terms fs)
+  pub truth : length c.truth.items ≡ length (told fs)
+  pub refutes : Refutes cs (model_of fs c.classes.items c.truth.items) fs
+
 -- The model refutes the obligation: it refutes its ground form after this many rounds, which has no more than `limit` formulas.
 pub record RefutesGround (cs : List ClassTree) (premises : List Formula) (goal : Formula) (rounds limit : ℕ) (c : Countermodel) : Type 0 where
   pub formulas : List Formula
   pub ground : ground_form cs premises goal rounds limit ≡ Some formulas
-  pub refutes : Refutes cs (model_of formulas c.classes.items c.truth.items) formulas
+  pub refutes : IsCountermodel cs formulas c

@@ -73,10 +73,12 @@ module _ (cs : List ClassTree) (m : Structure) where
 
   -- `unless` says that the formula is true where none of the others is
   unless_from : (e : List Value) (fs : List Formula) (f : Formula) → (None e fs → True cs m e f) → True cs m e (unless fs f)
-  unless_from e fs f h = λ n. let p = none_parts e fs (f ∷ []) n in p.1.0 (h p.0)
+  unless_from e [] f h = h tt
+  unless_from e (g ∷ gs) f h = λ n. let p = none_parts e (g ∷ gs) (f ∷ []) n in p.1.0 (h p.0)
 
   unless_to : (e : List Value) (fs : List Formula) (f : Formula) → True cs m e (unless fs f) → None e fs → True cs m e f
-  unless_to e fs f t n = formula_stable cs m e f (λ k. t (none_both e fs (f ∷ []) n (k, tt)))
+  unless_to e [] f t n = t
+  unless_to e (g ∷ gs) f t n = formula_stable cs m e f (λ k. t (none_both e (g ∷ gs) (f ∷ []) n (k, tt)))
 
   -- none of them is true exactly where all their negations are
   none_negs : (e : List Value) (fs : List Formula) → None e fs → All e (map neg fs)

@@ -63,9 +63,10 @@ and_of fs = And (formulas_from fs)
 abbrev pub or_of : List Formula → Formula
 or_of fs = Or (formulas_from fs)
 
--- either of them, or the last
+-- either of them, or the last; the last alone, where there is no other
 abbrev pub unless : List Formula → Formula → Formula
-unless fs f = or_of (fs ++ f ∷ [])
+unless [] f = f
+unless (g ∷ gs) f = or_of (g ∷ gs ++ f ∷ [])
 
 abbrev pub iff : Formula → Formula → Formula
 iff f g = or_of (and_of (f ∷ g ∷ []) ∷ and_of (neg f ∷ neg g ∷ []) ∷ [])

@@ -16,7 +16,8 @@ use Rattle.ss_store_rules.specs.Changes.{field_class, field_mark}
 use Rattle.ss_store_rules.specs.Types.{is_bool, type_of}
 use Rattle.ss_store_rules.specs.Typed.{invariant_types, is_invariant}
 use Rattle.ss_store_rules.specs.Good.{has_type, is_of_class, IsReady}
-use Rattle.ss_store_rules.specs.Admissible.{is_this, is_rep, is_rep_or_peer, is_own_field, is_owned_path, is_admissible, invariants}
+use Rattle.ss_store_rules.specs.Admissible.{is_this, is_own_field, is_owned_path, is_admissible, invariants}
+use Rattle.ss_core.specs.Marks.{is_rep, is_rep_or_peer}
 use Rattle.ss_store_rules.specs.Values as run
 use Rattle.ss_logic.specs.declared.Sort.TheVariants as sort
 use Rattle.ss_logic.specs.Values.{reference, class_name, Thing, Heap, Value, whole, truth, thing, store, sort_of_value, as_thing, as_store, is_allocated, Structure}

@@ -1,5 +1,5 @@
 -- Steps that halt.
-use Rattle.std.proofs.Common.{◌≡◌, List, Bool, true, false, if◌then◌else◌, Result, Ok, Err, IfOk, refl, sym, ap, ◌∙◌, subst}
+use Rattle.std.proofs.Common.{◌≡◌, List, Bool, true, false, if◌then◌else◌, Result, Ok, Err, refl, sym, ap, ◌∙◌}
 use Rattle.ss_core.specs.declared.names.Kind.{Kind}
 use Rattle.ss_core.specs.declared.names.Place.{Place}
 use Rattle.ss_store_rules.specs.declared.Value.{Value}
@@ -31,7 +31,3 @@ values_halt halt.WriteFault r next m e = absurd e
 pub ensured : (holds : Bool) (k : Kind) (at : Place) (r : Result Unit Halt) (u : Unit) → r ≡ (if holds then Ok tt else Err (halt.Fails k at)) → r ≡ Ok u → holds ≡ true
 ensured true k at r u is ok = refl
 ensured false k at r u is ok = let e : Err (halt.Fails k at) ≡ Ok u = sym is ∙ ok in absurd (cc)
-
--- what was made, where memory didn't fail
-pub of_made : {X Y : Type 0} (r : Result X Y) (v : X) (P : X → Type 0) → IfOk r P → r ≡ Ok v → P v
-of_made {X} {Y} r v P h e = subst (λ (x : Result X Y). IfOk x P) e h

@@ -10,7 +10,7 @@ ghost use Rattle.ss_machine.specs.Moves.{Does, doing, here, AreBehind, Enters, I
 
 use crate::frame::{Frame, Target, locals_at_entry};
 use crate::halt::{Halt, ensure};
-use crate::machine::{Machine, or_memory};
+use crate::machine::Machine;
 use crate::values::{put, set_local, this};
 use ss_core::{Body, BodyId, Callee, ClassId, Core, Expr, Kind, Place};
 use ss_core_bodies::{body_at, constructor_of, method_at};
@@ -47,7 +47,7 @@ impl<'a> Machine<'a> {
         ensures { AreBehind first result (steps.values_of (view.exprs es.now) (here core.now self.now)) }
     {
         let mut values = Vec::new(alloc);
-        or_memory(values.push(first))?;
+        values.push(first)?;
         self.push_all(core, es, &mut values)?;
         Ok(values)
     }
@@ -56,9 +56,10 @@ impl<'a> Machine<'a> {
     fn push(&mut self, frame: Frame<'a>) -> Result<(), Halt>
         ensures { Enters result frame.entry self.old self.new }
     {
-        or_memory(self.stores.enter())?;
+        self.stores.enter()?;
         let waiting = std::mem::replace(&mut self.top, frame);
-        or_memory(self.below.push(waiting))
+        self.below.push(waiting)?;
+        Ok(())
     }
 
     // A body is entered where its conditions at entry hold; one that isn't there is passed over.
@@ -80,7 +81,7 @@ impl<'a> Machine<'a> {
         let Some(body) = body else {
             return Ok(());
         };
-        let locals = or_memory(locals_at_entry(body, arguments))?;
+        let locals = locals_at_entry(body, arguments)?;
         let holds = self.stores.all_hold_at_entry(core, &body.entry, &locals);
         ensure(holds, Kind::Precondition, place)?;
         self.push(Frame::at_entry(alloc, body, locals, into))
@@ -206,7 +207,7 @@ impl<'a> Machine<'a> {
             self.new }
     {
         let mut arguments = self.with_arguments(alloc, core, Value::Null, es)?;
-        let o = or_memory(self.stores.new_object(core, class))?;
+        let o = self.stores.new_object(core, class)?;
         set_local(&mut arguments, 0, Value::Obj(o));
         let body = constructor_of(core, class);
         self.enter(

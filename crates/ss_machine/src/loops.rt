@@ -11,7 +11,7 @@ ghost use Rattle.ss_machine.specs.Moves.{Does, doing};
 
 use crate::frame::Behind;
 use crate::halt::{Halt, ensure};
-use crate::machine::{Machine, or_memory};
+use crate::machine::Machine;
 use crate::values::{as_bool, is_same, local};
 use ss_core::{ClassId, Core, Exposed, Expr, Kind, Loop, Place, Stmt};
 use ss_store_rules::Value;
@@ -44,7 +44,7 @@ impl<'a> Machine<'a> {
     {
         let mut objects = Vec::new(alloc);
         for x in exposes {
-            or_memory(objects.push(local(&self.top.locals, x.local)))?;
+            objects.push(local(&self.top.locals, x.local))?;
         }
         Ok(objects)
     }

@@ -35,17 +35,6 @@ pub fn value_or_halt(found: Result<Value, Undefined>) -> Result<Value, Halt>
     }
 }
 
-// Want of memory halts the run.
-pub fn or_memory<T: Drop, E: Drop>(made: Result<T, E>) -> Result<T, Halt>
-    ensures made { IfOk result (λ v. made ≡ Ok v) }
-    ensures memory { OnErr result (result ≡ Err Halt.Memory) }
-{
-    match made {
-        Ok(value) => Ok(value),
-        Err(_) => Err(Halt::Memory),
-    }
-}
-
 // A refused change is a check that fails; want of memory halts the run.
 pub fn or_fails(changed: Result<(), ChangeStop>, place: Place) -> Result<(), Halt>
     ensures { FailsAs result changed place }
@@ -83,7 +72,7 @@ impl<'a> Machine<'a> {
     {
         for e in es {
             let value = self.eval(core, e)?;
-            or_memory(all.push(value))?;
+            all.push(value)?;
         }
         Ok(())
     }
@@ -113,17 +102,17 @@ impl<'a> Machine<'a> {
         ensures kept { IfOk result (λ b. b ≡ frame.is_kept (span (view.core core.now) (running self.now) self.now.stores.now outside.now)) }
         ensures memory { OnErr result (result ≡ Err Halt.Memory) }
     {
-        or_memory(
-            self.stores
-                .is_kept(core, self.top.body, &self.top.locals, outside),
-        )
+        let kept = self
+            .stores
+            .is_kept(core, self.top.body, &self.top.locals, outside)?;
+        Ok(kept)
     }
 
     // Goes into a block; what is left waits behind it.
     pub fn go_into(&mut self, block: &'a [Stmt]) -> Result<(), Halt>
         ensures { IsInto result (dues (view.block block.now)) self.old self.new }
     {
-        or_memory(self.top.wait_behind())?;
+        self.top.wait_behind()?;
         self.top.code = block;
         Ok(())
     }
@@ -132,8 +121,8 @@ impl<'a> Machine<'a> {
     pub fn go_to(&mut self, behind: Behind<'a>, block: &'a [Stmt]) -> Result<(), Halt>
         ensures { IsInto result (dues (view.block block.now) ++ dues_behind behind.entry) self.old self.new }
     {
-        or_memory(self.top.wait_behind())?;
-        or_memory(self.top.wait(behind))?;
+        self.top.wait_behind()?;
+        self.top.wait(behind)?;
         self.top.code = block;
         Ok(())
     }
@@ -145,7 +134,7 @@ impl<'a> Machine<'a> {
         ensures frames { (running self.new ≡ running self.old) × (waiting self.new ≡ waiting self.old) }
     {
         match object {
-            Value::Obj(o) => or_memory(self.stores.set_ready(core, o)),
+            Value::Obj(o) => Ok(self.stores.set_ready(core, o)?),
             _ => Ok(()),
         }
     }

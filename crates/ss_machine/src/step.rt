@@ -13,7 +13,7 @@ ghost use Rattle.ss_machine.specs.Pieces.{PieceIs};
 use crate::calls::Site;
 use crate::frame::Due;
 use crate::halt::{Halt, ensure};
-use crate::machine::{Machine, or_memory};
+use crate::machine::Machine;
 use crate::printing;
 use ss_core::{Core, Expr, Kind, Place, Stmt};
 use ss_io::Sink;
@@ -39,7 +39,7 @@ impl<'a> Machine<'a> {
         ensures cause { HasCause result (S.faults out.old) (S.faults out.new) }
     {
         let value = self.eval(core, e)?;
-        let piece = or_memory(printing::line_of(alloc, value, newline))?;
+        let piece = printing::line_of(alloc, value, newline)?;
         printing::write(&piece, out)
     }
 
@@ -77,7 +77,7 @@ impl<'a> Machine<'a> {
         ensures pieces { PieceIs result (going self.now (steps.line text.now newline)) (S.pieces out.old) (S.pieces out.new) }
         ensures cause { HasCause result (S.faults out.old) (S.faults out.new) }
     {
-        let piece = or_memory(printing::line(alloc, text, newline))?;
+        let piece = printing::line(alloc, text, newline)?;
         printing::write(&piece, out)
     }
 

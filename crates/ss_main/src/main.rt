@@ -99,6 +99,7 @@ fn tell<R: Eprint + AllocGlobal>(rt: &R, explanation: Result<String, AllocError>
         let _ = eprint!(rt; "{text}");
     }
     if let Ok(line) = status_line(rt.alloc(), status) {
+        let line = str::from_utf8(&line).unwrap_or("");
         if !line.is_empty() {
             let _ = eprintln!(rt; "{line}");
         }

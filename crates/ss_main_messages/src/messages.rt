@@ -43,13 +43,8 @@ pub fn unread_message(alloc: Global, file: &str, why: Unread) -> Result<String, 
 fn heading(alloc: Global, file: &str, place: Place) -> Result<String, AllocError>
     ensures { IfOk result (λ text. string_bytes text ≡ heading_of file.now place) }
 {
-    let mut text = String::from_str(alloc, file)?;
-    text.push_str(":")?;
-    text.push_str(&place.line.to_string(alloc)?)?;
-    text.push_str(":")?;
-    text.push_str(&place.column.to_string(alloc)?)?;
-    text.push_str(": ")?;
-    Ok(text)
+    let Place { line, column } = place;
+    format!(in alloc; "{file}:{line}:{column}: ")
 }
 
 /// The file, the place and what is said of it, and below them the line of the source with a mark.
@@ -73,11 +68,7 @@ pub(crate) fn message(
 pub(crate) fn error(alloc: Global, name: &str, said: &str) -> Result<String, AllocError>
     ensures { IfOk result (λ text. string_bytes text ≡ error_of name.now said.now) }
 {
-    let mut text = String::from_str(alloc, "error[")?;
-    text.push_str(name)?;
-    text.push_str("]: ")?;
-    text.push_str(said)?;
-    Ok(text)
+    format!(in alloc; "error[{name}]: {said}")
 }
 
 // Whether a byte stands in comments and strings alone, or nowhere.

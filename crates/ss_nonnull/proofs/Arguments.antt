@@ -8,7 +8,8 @@ use Rattle.ss_typed.specs.Tree.{ExprTree, Arguments, NoMore, Argument, arguments
 use Rattle.ss_typed.specs.View.{expr}
 use Rattle.ss_nonnull_rules.specs.NonNull.{Site, Known}
 use Rattle.ss_nonnull_rules.specs.Faults.{inside, handed, wanted_if}
-use Rattle.ss_nonnull_facts.proofs.Loops.{drop_item, drop_past}
+use Rattle.std.proofs.lemmas.List.{drop_all}
+use Rattle.ss_ast.proofs.Loops.{drop_item}
 
 no_arguments : (s : Site) (k : Option Known) (ts : List Ty) → handed s k NoMore ts ≡ []
 no_arguments s k [] = refl
@@ -43,5 +44,5 @@ pub all_done : (s : Site) (k : Option Known) (ts : List Ty) (list : List TypedEx
 all_done s k ts list i f total l h =
     sym (append-nil f)
     ∙ ap (λ (x : List Fault). f ++ x) (sym (no_arguments s k (drop i ts)))
-    ∙ ap (λ (es : List TypedExpr). f ++ handed s k (arguments (map expr es)) (drop i ts)) (sym (drop_past list i l))
+    ∙ ap (λ (es : List TypedExpr). f ++ handed s k (arguments (map expr es)) (drop i ts)) (sym (drop_all i list l))
     ∙ h

@@ -6,17 +6,20 @@ use Rattle.std.proofs.lemmas.Bool.{cases_eq, cases_lt, eq-eqb, ne_eqb, lt-ltb, l
 use Rattle.ss_faults.specs.declared.Fault.{Fault}
 use Rattle.ss_core.specs.declared.names.Ty.{Ty}
 use Rattle.ss_core.specs.Tree as core
+use Rattle.ss_core.specs.Kinds.{class_number}
 use Rattle.ss_typed.specs.declared.program.TypedField.{TypedField}
 use Rattle.ss_typed.specs.declared.program.TypedClass.{TypedClass}
 use Rattle.ss_typed.specs.Tree.{FieldTree, MembersTree, TypedTree}
 use Rattle.ss_typed.specs.View.{field, members}
 use Rattle.ss_paths.specs.Sets.{Set, none, put}
-use Rattle.ss_paths.specs.Fields.{class_place, field_count, fields_in, own_fields, written_fields, fields_of_members}
+use Rattle.ss_paths.specs.Fields.{field_count, fields_in, own_fields, written_fields, fields_of_members}
+use Rattle.ss_typed.specs.Lookups.{class_place}
 use Rattle.ss_paths.specs.Assigned.{starts_with_value, has_initializer}
 use Rattle.ss_nonnull_rules.specs.NonNull.{Site, Known}
-use Rattle.ss_nonnull_rules.specs.Program.{initializer_site, initializer_faults, initializers_from, class_number, classes_faults}
-use Rattle.ss_nonnull_facts.proofs.Assigning.{same_sets}
-use Rattle.ss_nonnull_facts.proofs.Loops.{drop_item, drop_past}
+use Rattle.ss_nonnull_rules.specs.Program.{initializer_site, initializer_faults, initializers_from, classes_faults}
+use Rattle.ss_paths.proofs.Among.{same_sets}
+use Rattle.std.proofs.lemmas.List.{drop_all}
+use Rattle.ss_ast.proofs.Loops.{drop_item}
 use Rattle.ss_nonnull.specs.Paths.{with_begun}
 use Rattle.ss_nonnull.specs.Initial.{begun_below, begun_with, initial_faults, type_of_field, each_initial, site_with, class_faults}
 
@@ -110,7 +113,7 @@ one_initial s list gs i f t k f0 f1 total within is t_is k_is q h =
 pub all_initial : (s : Site) (list : List TypedField) (gs : List core.FieldTree) (i : ℕ) (f total : List Fault) → length list ≤ i
     → f ++ each_initial s (map field list) i (map field (drop i list)) (drop i gs) ≡ total → f ≡ total
 all_initial s list gs i f total l h =
-    sym (append-nil f) ∙ ap (λ (xs : List TypedField). f ++ each_initial s (map field list) i (map field xs) (drop i gs)) (sym (drop_past list i l)) ∙ h
+    sym (append-nil f) ∙ ap (λ (xs : List TypedField). f ++ each_initial s (map field list) i (map field xs) (drop i gs)) (sym (drop_all i list l)) ∙ h
 
 -- ---- as they are defined
 
@@ -158,7 +161,7 @@ one_class p list i c first f0 f1 total all_are within is first_is q h =
 pub all_classes : (p : TypedTree) (list : List TypedClass) (i : ℕ) (f total : List Fault) → length list ≤ i
     → f ++ classes_faults p i (map members (drop i list)) ≡ total → f ≡ total
 all_classes p list i f total l h =
-    sym (append-nil f) ∙ ap (λ (xs : List TypedClass). f ++ classes_faults p i (map members xs)) (sym (drop_past list i l)) ∙ h
+    sym (append-nil f) ∙ ap (λ (xs : List TypedClass). f ++ classes_faults p i (map members xs)) (sym (drop_all i list l)) ∙ h
 
 pub class_noted : (p : TypedTree) (k first n count : ℕ) (s : Site) (fs us : List FieldTree) (o : Option core.ClassTree) (f0 f1 : List Fault)
     → o ≡ slice_get p.classes k → count ≡ length (fields_in o) → n ≡ class_number k → s ≡ site_with p n (record { first = first; count = count }) → us ≡ fs

@@ -1,5 +1,4 @@
 pub mod Seeing
-pub mod Falls
 pub mod Walking
 pub mod Arguments
 pub mod Points

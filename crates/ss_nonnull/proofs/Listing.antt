@@ -2,9 +2,8 @@
 use Rattle.std.proofs.Common.{◌≡◌, ◌≢◌, ℕ, Bool, true, false, List, [], ◌∷◌, ◌++◌, refl, sym, ap, ◌∙◌, ⊎_elim}
 use Rattle.std.specs.Prelude.{◌==◌, ◌||◌}
 use Rattle.std.proofs.lemmas.Bool.{cases_eq, eq-eqb, ne_eqb}
-use Rattle.ss_paths.specs.Sets.{Set, none, only, either}
-use Rattle.ss_nonnull_facts.specs.Locals.{among}
-use Rattle.ss_nonnull_facts.proofs.Assigning.{same_sets, among_append, either_none, either_assoc}
+use Rattle.ss_paths.specs.Sets.{Set, none, only, either, among}
+use Rattle.ss_paths.proofs.Among.{same_sets, among_append, either_none, either_assoc}
 
 -- the first of a list is the one that is looked for, or it isn't
 pub first_is : (x y : ℕ) (xs ys : List ℕ) → xs ≡ y ∷ ys → y ≡ x → true ≡ among xs x

@@ -1,19 +1,20 @@
 -- Methods by name.
 use Rattle.std.proofs.Common.{◌≡◌, ◌≢◌, ◌+◌, ◌<◌, ◌≤◌, ℕ, suc, length, map, drop, get_or, List, [], ◌∷◌, Bool, true, false, Option, Some, None, cond, refl, sym, ap, ◌∙◌, add-one}
-use Rattle.std.specs.Prelude.{slice_get, option_and_then, find, ◌&&◌, ◌==◌, ◌-◌, ◌/◌, ◌%◌, nat_le}
+use Rattle.std.specs.Prelude.{slice_get, option_and_then, find, ◌&&◌}
 use Rattle.std.specs.Bool.{beq}
 use Rattle.std.specs.Str.{bytes_eq}
 use Rattle.ss_core.specs.Tree as core
-use Rattle.ss_core.specs.Chain.{declared}
 use Rattle.ss_typed.specs.declared.body.TypedParam.{TypedParam}
 use Rattle.ss_typed.specs.View.{param}
 use Rattle.ss_paths.specs.Fields.{is_non_null}
 use Rattle.ss_nonnull_rules.specs.Faults.{body_of_entry}
 use Rattle.ss_nonnull_rules.specs.Overrides.{body_named, agree}
-use Rattle.ss_tables_lookup.specs.Places.{found, places_of}
+use Rattle.ss_tables_lookup.specs.Places.{places_of}
+use Rattle.ss_tables.specs.Named.{named_in}
 use Rattle.ss_tables_lookup.proofs.Noted.{first_item}
-use Rattle.ss_nonnull_facts.proofs.Loops.{drop_item, drop_past}
-use Rattle.ss_nonnull.specs.Names.{entry_names, declared_place}
+use Rattle.std.proofs.lemmas.List.{drop_all}
+use Rattle.ss_ast.proofs.Loops.{drop_item}
+use Rattle.ss_nonnull.specs.Names.{entry_names}
 
 -- the first entry of this name has the body under it
 named_is : (es : List core.EntryTree) (n : List ℕ) → body_named es n ≡ body_of_entry (find (λ (e : core.EntryTree). bytes_eq n e.name) es)
@@ -25,14 +26,14 @@ named_is (e ∷ es) n = at (bytes_eq n e.name) (named_is es n)
     at true h = refl
     at false h = h
 
-pub named_found : (es : List core.EntryTree) (n : List ℕ) → body_of_entry (option_and_then (slice_get es) (found (places_of (entry_names es)) n)) ≡ body_named es n
+pub named_found : (es : List core.EntryTree) (n : List ℕ) → body_of_entry (option_and_then (slice_get es) (named_in (places_of (entry_names es)) n)) ≡ body_named es n
 named_found es n = ap body_of_entry (first_item (λ (e : core.EntryTree). e.name) n es) ∙ sym (named_is es n)
 
-pub named_here : (es : List core.EntryTree) (n : List ℕ) (o r : Option ℕ) (k : ℕ) → o ≡ found (places_of (entry_names es)) n → o ≡ Some k → r ≡ body_of_entry (slice_get es k) → r ≡ body_named es n
+pub named_here : (es : List core.EntryTree) (n : List ℕ) (o r : Option ℕ) (k : ℕ) → o ≡ named_in (places_of (entry_names es)) n → o ≡ Some k → r ≡ body_of_entry (slice_get es k) → r ≡ body_named es n
 named_here es n o r k is some q =
     q ∙ ap (λ (x : Option ℕ). body_of_entry (option_and_then (slice_get es) x)) (sym some ∙ is) ∙ named_found es n
 
-pub named_nowhere : (es : List core.EntryTree) (n : List ℕ) (o : Option ℕ) → o ≡ found (places_of (entry_names es)) n → o ≡ None → None ≡ body_named es n
+pub named_nowhere : (es : List core.EntryTree) (n : List ℕ) (o : Option ℕ) → o ≡ named_in (places_of (entry_names es)) n → o ≡ None → None ≡ body_named es n
 named_nowhere es n o is none = ap (λ (x : Option ℕ). body_of_entry (option_and_then (slice_get es) x)) (sym none ∙ is) ∙ named_found es n
 
 -- ---- parameters
@@ -75,15 +76,6 @@ pub all_agree : (xs ys : List TypedParam) (i : ℕ) (a total : Bool) → length 
     → (a && agree (map param (drop i xs)) (map param (drop i ys))) ≡ total → a ≡ total
 all_agree xs ys i a total l m h =
     sym (and_true a)
-    ∙ ap (λ (zs : List TypedParam). a && agree (map param zs) []) (sym (drop_past xs i l))
-    ∙ ap (λ (zs : List TypedParam). a && agree (map param (drop i xs)) (map param zs)) (sym (drop_past ys i m))
+    ∙ ap (λ (zs : List TypedParam). a && agree (map param zs) []) (sym (drop_all i xs l))
+    ∙ ap (λ (zs : List TypedParam). a && agree (map param (drop i xs)) (map param zs)) (sym (drop_all i ys m))
     ∙ h
-
--- ---- classes by number
-
-at_test : (cs : List core.ClassTree) (b : Bool) (n : ℕ) → cond b (slice_get cs n) None ≡ option_and_then (slice_get cs) (cond b (Some n) None)
-at_test cs true n = refl
-at_test cs false n = refl
-
-pub declared_at : (cs : List core.ClassTree) (t : ℕ) → declared cs t ≡ option_and_then (slice_get cs) (declared_place t)
-declared_at cs t = at_test cs (nat_le 4 t && t % 2 == 0) ((t - 4) / 2)

@@ -12,8 +12,9 @@ use Rattle.ss_nonnull_rules.specs.Faults.{starts, inside, wanted_if}
 use Rattle.ss_core.specs.declared.names.Ty.{Ty}
 use Rattle.ss_typed.specs.Types.{type_of}
 use Rattle.ss_nonnull.proofs.Seeing.{joined}
-use Rattle.ss_nonnull_facts.specs.Locals.{local_of}
-use Rattle.ss_nonnull_facts.proofs.Loops.{drop_item, drop_past}
+use Rattle.ss_typed.specs.Shapes.{local_of}
+use Rattle.std.proofs.lemmas.List.{drop_all}
+use Rattle.ss_ast.proofs.Loops.{drop_item}
 use Rattle.ss_nonnull.specs.Paths.{with_fact, assigned_known, fields_known, starts_never}
 use Rattle.ss_nonnull.specs.Walks.{known_behind_all, all_faults}
 
@@ -64,12 +65,12 @@ one_noted s list i d k l f0 f1 total within is q noted h =
 pub all_known : (s : Site) (list : List TypedDeclarator) (i : ℕ) (k total : Option Known) → length list ≤ i
     → known_behind_all s (map declarator (drop i list)) k ≡ total → k ≡ total
 all_known s list i k total l h =
-    sym (none_known s k) ∙ ap (λ (ds : List TypedDeclarator). known_behind_all s (map declarator ds) k) (sym (drop_past list i l)) ∙ h
+    sym (none_known s k) ∙ ap (λ (ds : List TypedDeclarator). known_behind_all s (map declarator ds) k) (sym (drop_all i list l)) ∙ h
 
 pub all_noted : (s : Site) (list : List TypedDeclarator) (i : ℕ) (k : Option Known) (f total : List Fault) → length list ≤ i
     → f ++ all_faults s (map declarator (drop i list)) k ≡ total → f ≡ total
 all_noted s list i k f total l h =
-    sym (append-nil f) ∙ ap (λ (ds : List TypedDeclarator). f ++ all_faults s (map declarator ds) k) (sym (drop_past list i l)) ∙ h
+    sym (append-nil f) ∙ ap (λ (ds : List TypedDeclarator). f ++ all_faults s (map declarator ds) k) (sym (drop_all i list l)) ∙ h
 
 -- ---- assignments
 

@@ -1,5 +1,5 @@
 -- What is seen of an expression, part by part.
-use Rattle.std.proofs.Common.{◌≡◌, ◌++◌, ℕ, List, Bool, true, false, Option, Some, None, cond, refl, sym, ap, ◌∙◌, append_assoc}
+use Rattle.std.proofs.Common.{◌≡◌, ◌++◌, ℕ, List, Bool, true, false, Option, Some, None, refl, sym, ap, ◌∙◌, append_assoc}
 use Rattle.std.specs.Prelude.{option_map}
 use Rattle.ss_core.specs.declared.names.Place.{Place}
 use Rattle.ss_faults.specs.declared.Fault.{Fault}
@@ -7,24 +7,20 @@ use Rattle.ss_core.specs.declared.names.Ty.{Ty}
 use Rattle.ss_core.specs.declared.names.Ty.TheVariants as ty
 use Rattle.ss_core.specs.declared.expr.Operator.{Operator}
 use Rattle.ss_core.specs.declared.expr.Operator.TheVariants as op
-use Rattle.ss_typed.specs.Tree.{ExprTree, LocalOf, BinaryOf, IsOf, AsOf, FieldOf, ElementOf, LengthOf, CallOf, Arguments}
+use Rattle.ss_typed.specs.Tree.{ExprTree, BinaryOf, IsOf, AsOf, FieldOf, ElementOf, LengthOf, CallOf, Arguments}
 use Rattle.ss_typed.specs.Types.{class_type}
-use Rattle.ss_paths.specs.Sets.{Set, none, only}
-use Rattle.ss_nonnull_rules.specs.Facts.{the_local, is_null}
+use Rattle.ss_typed.specs.Assigned.{listed}
+use Rattle.ss_paths.specs.Sets.{only, among}
+use Rattle.ss_paths.proofs.Among.{either_none}
+use Rattle.ss_nonnull_rules.specs.Facts.{the_one}
 use Rattle.ss_nonnull_rules.specs.NonNull.{Site, Known, known_right}
 use Rattle.ss_nonnull_rules.specs.Faults.{inside, handed, wanted_if, parameters, method_of, class_of}
-use Rattle.ss_nonnull_facts.specs.Locals.{among, listed, local_of}
-use Rattle.ss_nonnull_facts.proofs.Assigning.{either_none}
-use Rattle.ss_nonnull.specs.Seen.{Seen, seen, plain, telling, the_one, class_tested, operated, field_read, element_read, called, lacking, learnt_at, side_of, Leads}
+use Rattle.ss_nonnull.specs.Seen.{Seen, seen, plain, class_tested, operated, field_read, element_read, called, lacking, learnt_at, side_of, Leads}
 use Rattle.ss_nonnull.specs.Paths.{told}
 
 pub one_among : (x : Option ℕ) → among (listed x) ≡ the_one x
 one_among None = refl
 one_among (Some x) = either_none (only x)
-
-pub local_is : (e : ExprTree) → the_one (local_of e) ≡ the_local e
-local_is (LocalOf p x t) = refl
-local_is e = refl
 
 -- one list behind another
 pub joined : (before mid now x y : List Fault) → mid ≡ before ++ x → now ≡ mid ++ y → now ≡ before ++ (x ++ y)
@@ -35,8 +31,8 @@ joined before mid now x y p q = q ∙ ap (λ (l : List Fault). l ++ y) p ∙ app
 pub operated_is : (s : Site) (k l m : Option Known) (p : Place) (o : Operator) (a b : ExprTree) → operated p o (seen s k a) (seen s l b) ≡ seen s m (BinaryOf p o a b)
 operated_is s k l m p op.And a b = refl
 operated_is s k l m p op.Or a b = refl
-operated_is s k l m p op.NotEqual a b = ap (λ (f : Set). telling p (cond (is_null b) f none) none) (local_is a)
-operated_is s k l m p op.Equal a b = ap (λ (f : Set). telling p none (cond (is_null b) f none)) (local_is a)
+operated_is s k l m p op.NotEqual a b = refl
+operated_is s k l m p op.Equal a b = refl
 operated_is s k l m p op.Less a b = refl
 operated_is s k l m p op.LessEqual a b = refl
 operated_is s k l m p op.Greater a b = refl
@@ -89,7 +85,7 @@ pub tested_leads : (s : Site) (k : Option Known) (f : List Fault) (from to : See
     → to ≡ class_tested p from → Leads s k f from f to (λ (e : ExprTree). IsOf p e t)
 tested_leads s k f from to p t q = record {
   on = λ e before w. record {
-    is = q ∙ ap (class_tested p) w.is ∙ ap (λ (g : Set). telling p g none) (local_is e);
+    is = q ∙ ap (class_tested p) w.is;
     noted = w.noted;
   };
 }

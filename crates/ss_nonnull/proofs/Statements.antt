@@ -6,15 +6,15 @@ use Rattle.ss_faults.specs.declared.Fault.{Fault}
 use Rattle.ss_typed.specs.declared.stmt.TypedStmt.{TypedStmt}
 use Rattle.ss_typed.specs.Tree.{ExprTree, SimpleTree, InitTree, StmtTree, IfOf, IfElseOf, WhileOf, ForOf, BlockOf, StmtTrees, NoMore, Before, stmt_trees}
 use Rattle.ss_typed.specs.View.{stmt_of}
-use Rattle.ss_paths.specs.Sets.{Set}
+use Rattle.ss_paths.specs.Sets.{Set, among}
 use Rattle.ss_paths.specs.Paths.{met, test_of}
 use Rattle.ss_typed.specs.Shapes.{is_true}
-use Rattle.ss_nonnull_rules.specs.Facts.{says, assigns}
+use Rattle.ss_nonnull_rules.specs.Facts.{says}
 use Rattle.ss_nonnull_rules.specs.NonNull.{Site, Known, known_flow}
 use Rattle.ss_nonnull_rules.specs.Faults.{inside}
-use Rattle.ss_nonnull_facts.specs.Locals.{among, assigned, step_locals}
-use Rattle.ss_nonnull_facts.proofs.Assigning.{either_none, assigned_is, assigned_with_step}
-use Rattle.ss_nonnull_facts.proofs.Loops.{drop_item, drop_past}
+use Rattle.ss_typed.specs.Assigned.{assigned, step_locals}
+use Rattle.std.proofs.lemmas.List.{drop_all}
+use Rattle.ss_ast.proofs.Loops.{drop_item}
 use Rattle.ss_nonnull.specs.Seen.{Seen, seen}
 use Rattle.ss_nonnull.specs.Paths.{told, untold, met_paths, left_by}
 use Rattle.ss_nonnull.specs.Walks.{known_behind, known_behind_block, known_at_end, known_behind_first, known_at_head, stmt_faults, along_faults, heading_faults, step_faults_of, test_seen, test_faults}
@@ -23,11 +23,11 @@ use Rattle.ss_nonnull.proofs.Seeing.{joined}
 -- ---- heads of loops
 
 pub head_is : (st : StmtTree) (xs : List ℕ) (k l : Option Known) → xs ≡ assigned st → l ≡ option_map (untold (among xs)) k → l ≡ known_at_head st None k
-head_is st xs k l is q = q ∙ ap (λ (g : Set). option_map (untold g) k) (ap among is ∙ assigned_is st ∙ sym (either_none (assigns st)))
+head_is st xs k l is q = q ∙ ap (λ (g : Set). option_map (untold g) k) (ap among (is ∙ sym (append-nil (assigned st))))
 
 pub head_of_for_is : (st : StmtTree) (step : Option SimpleTree) (xs : List ℕ) (k l : Option Known)
     → xs ≡ assigned st ++ step_locals step → l ≡ option_map (untold (among xs)) k → l ≡ known_at_head st step k
-head_of_for_is st step xs k l is q = q ∙ ap (λ (g : Set). option_map (untold g) k) (ap among is ∙ assigned_with_step st step)
+head_of_for_is st step xs k l is q = q ∙ ap (λ (g : Set). option_map (untold g) k) (ap among is)
 
 -- ---- single statements
 
@@ -180,9 +180,9 @@ one_noted s list i st k l f0 f1 total within is q noted h =
 
 pub all_known : (s : Site) (list : List TypedStmt) (i : ℕ) (k total : Option Known) → length list ≤ i
     → known_at_end s (stmt_trees (map stmt_of (drop i list))) k ≡ total → k ≡ total
-all_known s list i k total l h = ap (λ (ss : List TypedStmt). known_at_end s (stmt_trees (map stmt_of ss)) k) (sym (drop_past list i l)) ∙ h
+all_known s list i k total l h = ap (λ (ss : List TypedStmt). known_at_end s (stmt_trees (map stmt_of ss)) k) (sym (drop_all i list l)) ∙ h
 
 pub all_noted : (s : Site) (list : List TypedStmt) (i : ℕ) (k : Option Known) (f total : List Fault) → length list ≤ i
     → f ++ along_faults s (stmt_trees (map stmt_of (drop i list))) k ≡ total → f ≡ total
 all_noted s list i k f total l h =
-    sym (append-nil f) ∙ ap (λ (ss : List TypedStmt). f ++ along_faults s (stmt_trees (map stmt_of ss)) k) (sym (drop_past list i l)) ∙ h
+    sym (append-nil f) ∙ ap (λ (ss : List TypedStmt). f ++ along_faults s (stmt_trees (map stmt_of ss)) k) (sym (drop_all i list l)) ∙ h

@@ -1,5 +1,5 @@
 -- The parts of a chain and of a path, one after the other.
-use Rattle.std.proofs.Common.{◌≡◌, ◌++◌, ◌+◌, ◌<◌, ◌≤◌, ℕ, length, take, get_or, map, List, [], ◌∷◌, Option, Vec, Box, Global, sym, ap, subst, refl, ◌∙◌, add-one}
+use Rattle.std.proofs.Common.{◌≡◌, ◌++◌, ◌+◌, ◌<◌, ◌≤◌, ℕ, length, take, get_or, map, List, Option, Vec, Box, Global, sym, ap, subst, ◌∙◌}
 use Rattle.ss_core.specs.declared.names.Place.{Place}
 use Rattle.ss_typed.specs.declared.expr.TypedExpr.{TypedExpr}
 use Rattle.ss_typed.specs.declared.expr.TypedExpr.TheViews as view
@@ -11,8 +11,8 @@ use Rattle.ss_faults.specs.declared.Fault.{Fault}
 use Rattle.ss_nonnull_rules.specs.NonNull.{Site, Known}
 use Rattle.ss_nonnull_rules.specs.Faults.{inside}
 use Rattle.ss_typed.specs.Parts.{link_behind, step_behind}
-use Rattle.ss_nonnull_facts.proofs.Loops.{take_item, take_whole, map_append}
-use Rattle.ss_typed.proofs.Grouping.{chain_is, path_is}
+use Rattle.std.proofs.lemmas.List.{take_all}
+use Rattle.ss_typed.proofs.Grouping.{chain_is, path_is, grouped_more}
 use Rattle.ss_nonnull.specs.Seen.{Seen, seen, IsSeen, Leads}
 
 pub chain_walked : (s : Site) (k : Option Known) (f0 f1 f2 : List Fault) (v0 v1 : Seen) (p : Place) (first : Box TypedExpr Global) (links : Vec TypedLink Global) (e f : TypedExpr) (ls : List TypedLink)
@@ -46,18 +46,6 @@ leads_by s k f0 f1 from to a b same leads = record {
   on = λ e before w. subst (λ (t : ExprTree). IsSeen s k before f1 to t) (sym (same e)) (leads.on e before w);
 }
 
-grouped_push : (at : Place) (e : ExprTree) (bs : List Behind) (b : Behind) → grouped at e (bs ++ b ∷ []) ≡ b at (grouped at e bs)
-grouped_push at e [] b = refl
-grouped_push at e (x ∷ bs) b = grouped_push at (x at e) bs b
-
--- one more part behind those that a loop has gone over
-grouped_more : {X : Type 0} (behind : X → Behind) (at : Place) (e : ExprTree) (xs : List X) (i : ℕ) (x : X) → i < length xs → x ≡ get_or xs i x
-    → grouped at e (map behind (take (i + 1) xs)) ≡ behind x at (grouped at e (map behind (take i xs)))
-grouped_more behind at e xs i x l g =
-    ap (λ ys. grouped at e (map behind ys)) (ap (λ k. take k xs) (add-one i) ∙ take_item xs i x l g)
-    ∙ ap (grouped at e) (map_append behind (take i xs) (x ∷ []))
-    ∙ grouped_push at e (map behind (take i xs)) (behind x)
-
 pub part_leads : {X : Type 0} (behind : X → Behind) (s : Site) (k : Option Known) (f0 f1 f2 : List Fault) (v0 v1 v2 : Seen) (p : Place) (xs : List X) (i : ℕ) (x : X)
     → i < length xs → x ≡ get_or xs i x
     → Leads s k f1 v1 f2 v2 (behind x p)
@@ -72,7 +60,7 @@ part_leads behind s k f0 f1 f2 v0 v1 v2 p xs i x l is part so_far = record {
 -- where all parts are gone over
 pub parts_led : {X : Type 0} (behind : X → Behind) (s : Site) (k : Option Known) (f0 f1 : List Fault) (v0 v1 : Seen) (p : Place) (xs : List X) (i : ℕ) → length xs ≤ i
     → Leads s k f0 v0 f1 v1 (λ (e : ExprTree). grouped p e (map behind (take i xs))) → Leads s k f0 v0 f1 v1 (λ (e : ExprTree). grouped p e (map behind xs))
-parts_led {X = X} behind s k f0 f1 v0 v1 p xs i l h = subst (λ (ys : List X). Leads s k f0 v0 f1 v1 (λ (e : ExprTree). grouped p e (map behind ys))) (take_whole xs i l) h
+parts_led {X = X} behind s k f0 f1 v0 v1 p xs i l h = subst (λ (ys : List X). Leads s k f0 v0 f1 v1 (λ (e : ExprTree). grouped p e (map behind ys))) (take_all i xs l) h
 
 -- before the first part
 pub no_parts : {X : Type 0} (behind : X → Behind) (s : Site) (k : Option Known) (f : List Fault) (v : Seen) (p : Place) (xs : List X) → Leads s k f v f v (λ (e : ExprTree). grouped p e (map behind (take 0 xs)))

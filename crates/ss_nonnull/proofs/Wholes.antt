@@ -6,7 +6,7 @@ use Rattle.ss_typed.specs.Tree.{BodyTree, TypedTree}
 use Rattle.ss_typed.specs.View.{body}
 use Rattle.ss_nonnull_rules.specs.NonNull.{Site}
 use Rattle.ss_nonnull_rules.specs.Program.{site_of, body_faults, bodies_faults}
-use Rattle.ss_nonnull_facts.proofs.Loops.{drop_item}
+use Rattle.ss_ast.proofs.Loops.{drop_item}
 use Rattle.ss_nonnull.specs.Initial.{base_call_faults, code_faults, faults_in_body}
 use Rattle.ss_nonnull.proofs.Seeing.{joined}
 

@@ -4,7 +4,7 @@ use Rattle.ss_bit_set.specs.Marked.{marked}
 use Rattle.ss_paths_assigned.specs.Codes.{numbers_of, assigned_of}
 use Rattle.ss_typed.specs.View.{typed}
 use Rattle.ss_nonnull_rules.specs.NonNull.{Site, Known}
-use Rattle.ss_nonnull_facts.specs.Locals.{among}
+use Rattle.ss_paths.specs.Sets.{among}
 use Rattle.ss_nonnull.specs.declared.known.Known.{Known as CodeKnown}
 use Rattle.ss_nonnull.specs.declared.site.Site.{Site as CodeSite}
 use Rattle.ss_nonnull.specs.declared.seen.Seen.{Seen as CodeSeen}

@@ -3,13 +3,14 @@ use Rattle.std.specs.Prelude.{ℕ, suc, List, [], ◌∷◌, ◌++◌, true, fal
 use Rattle.ss_faults.specs.declared.Fault.{Fault}
 use Rattle.ss_core.specs.declared.names.Ty.{Ty}
 use Rattle.ss_core.specs.Tree as core
+use Rattle.ss_core.specs.Kinds.{class_number}
 use Rattle.ss_typed.specs.Tree.{ExprTree, FieldTree, BaseTree, BodyTree, TypedTree}
 use Rattle.ss_paths.specs.Sets.{Set}
 use Rattle.ss_paths.specs.Fields.{Numbers, fields_in}
 use Rattle.ss_paths.specs.Assigned.{starts_with_value, assigned_by_initializers, assigned_first}
 use Rattle.ss_nonnull_rules.specs.NonNull.{Site, Known}
 use Rattle.ss_nonnull_rules.specs.Faults.{handed_to_base}
-use Rattle.ss_nonnull_rules.specs.Program.{only_fields, initializer_faults, class_number, site_of}
+use Rattle.ss_nonnull_rules.specs.Program.{only_fields, initializer_faults, site_of}
 use Rattle.ss_nonnull.specs.Walks.{block_faults}
 
 -- the first n of these fields have begun with a value, where they do

@@ -1,5 +1,5 @@
 -- The methods of the tables of classes by name.
-use Rattle.std.specs.Prelude.{ℕ, List, [], ◌∷◌, Bool, map, ◌==◌, ◌&&◌, ◌-◌, ◌/◌, ◌%◌, nat_le, if◌then◌else◌, Option, Some, None}
+use Rattle.std.specs.Prelude.{ℕ, List, [], ◌∷◌, Bool, map, if◌then◌else◌}
 use Rattle.ss_core.specs.Tree as core
 use Rattle.ss_tables_lookup.specs.Places.{Places, places_of}
 use Rattle.ss_core.specs.declared.names.Place.{Place}
@@ -11,10 +11,6 @@ entry_names es = map (λ (e : core.EntryTree). e.name) es
 
 abbrev pub table_names : core.ClassTree → Places
 table_names c = places_of (entry_names c.table)
-
--- the place of a declared class in the list of classes, by its number
-abbrev pub declared_place : ℕ → Option ℕ
-declared_place t = if nat_le 4 t && t % 2 == 0 then Some ((t - 4) / 2) else None
 
 abbrev pub mark_fault : Bool → Place → List Fault
 mark_fault agrees p = if agrees then [] else record { rule = bad_override_type; place = p } ∷ []

@@ -8,13 +8,12 @@ use Rattle.ss_core.specs.declared.expr.Operator.{Operator}
 use Rattle.ss_core.specs.declared.expr.Operator.TheVariants as op
 use Rattle.ss_typed.specs.Tree.{ExprTree}
 use Rattle.ss_typed.specs.Types.{type_of, class_type, element_of}
-use Rattle.ss_paths.specs.Sets.{Set, none, only, either}
+use Rattle.ss_paths.specs.Sets.{Set, none, either}
 use Rattle.ss_paths.specs.Fields.{is_non_null}
-use Rattle.ss_typed.specs.Shapes.{is_this, is_true, place_of}
-use Rattle.ss_nonnull_rules.specs.Facts.{is_null, says}
+use Rattle.ss_typed.specs.Shapes.{is_this, is_true, local_of, place_of}
+use Rattle.ss_nonnull_rules.specs.Facts.{is_null, the_one, says}
 use Rattle.ss_nonnull_rules.specs.NonNull.{Site, Known, knows, has_its_field, is_never_null, is_non_null_type}
 use Rattle.ss_nonnull_rules.specs.Faults.{null_fault, inside}
-use Rattle.ss_nonnull_facts.specs.Locals.{local_of}
 
 pub record Seen : Type 0 where
   pub place : Place
@@ -82,10 +81,6 @@ negated p v = telling p v.fails v.holds
 -- `old(..)`
 abbrev pub aged : Place → Seen → Seen
 aged p v = plain p v.ty v.never_null
-
-abbrev pub the_one : Option ℕ → Set
-the_one None = none
-the_one (Some x) = only x
 
 abbrev pub class_tested : Place → Seen → Seen
 class_tested p v = telling p (the_one v.local) none

@@ -130,7 +130,7 @@ pub fn check(
             Ok(value(alloc, *place, Ty::Bool))
         }
         TypedExpr::New(place, class, list) => {
-            let entered = constructor(site.program, class.0 as usize);
+            let entered = constructor(site.program, *class);
             check_arguments(alloc, site, known, found, entered, list)?;
             Ok(made(alloc, *place, *class))
         }

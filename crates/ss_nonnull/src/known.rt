@@ -3,7 +3,7 @@
 ghost use Rattle.std.specs.Prelude.{◌≡◌, Some, IfOk, option_map};
 ghost use Rattle.ss_typed.specs.View.{simple_of};
 ghost use Rattle.ss_paths_assigned.specs.Codes.{numbers_of};
-ghost use Rattle.ss_nonnull_facts.specs.Locals.{among};
+ghost use Rattle.ss_paths.specs.Sets.{among};
 ghost use Rattle.ss_nonnull_rules.specs.NonNull.{knows, has_its_field, known_met};
 ghost use Rattle.ss_nonnull.specs.Codes.{known_of, path_of, site_of};
 ghost use Rattle.ss_nonnull.specs.Paths.{told, untold, with_fact, with_left, assigned_known, fields_known, with_begun, met_paths, left_by};
@@ -12,7 +12,6 @@ use crate::site::Site;
 use ss_ast::AssignOperator;
 use ss_bit_set::BitSet;
 use ss_core::FieldId;
-use ss_nonnull_facts::put_all;
 use ss_paths_assigned::{Assigned, Numbers};
 use ss_typed::TypedSimple;
 use std::alloc::AllocError;
@@ -34,20 +33,20 @@ impl Known {
     }
 
     // These locals aren't null.
-    #[tactic(auto, using(ss_nonnull_facts::proofs::Assigning::all_in))]
+    #[tactic(auto, using(ss_bit_set::proofs::All::all_in))]
     fn learn(&mut self, locals: &[usize]) -> Result<(), AllocError>
         ensures { IfOk result (λ u. known_of self.new ≡ told (among locals.now) (known_of self.old)) }
     {
-        put_all(&mut self.facts, locals, true)?;
+        self.facts.put_all(locals, true)?;
         Ok(())
     }
 
     // These locals may be null.
-    #[tactic(auto, using(ss_nonnull_facts::proofs::Assigning::all_out))]
+    #[tactic(auto, using(ss_bit_set::proofs::All::all_out))]
     fn forget(&mut self, locals: &[usize]) -> Result<(), AllocError>
         ensures { IfOk result (λ u. known_of self.new ≡ untold (among locals.now) (known_of self.old)) }
     {
-        put_all(&mut self.facts, locals, false)?;
+        self.facts.put_all(locals, false)?;
         Ok(())
     }
 

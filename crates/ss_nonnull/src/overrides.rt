@@ -8,28 +8,28 @@ ghost use Rattle.ss_core.specs.Chain.{declared};
 ghost use Rattle.ss_typed.specs.View.{typed, body, param};
 ghost use Rattle.ss_nonnull_rules.specs.Faults.{table_of, body_of_entry};
 ghost use Rattle.ss_nonnull_rules.specs.Overrides.{body_named, overridden, agree, agrees_with, override_faults};
-ghost use Rattle.ss_tables_lookup.specs.Places.{places_of, found};
-ghost use Rattle.ss_nonnull.specs.Names.{entry_names, table_names, declared_place, mark_fault};
+ghost use Rattle.ss_tables_lookup.specs.Places.{places_of};
+ghost use Rattle.ss_nonnull.specs.Names.{entry_names, table_names, mark_fault};
 
-use ss_core::{BodyId, Class, Entry, Place};
+use ss_core::{BodyId, Class, ClassId, Entry, Place, Rule};
 use ss_faults::Fault;
-use ss_nonnull_facts::{above, body_at, body_of_entry, entry_at, is_non_null, is_non_null_type};
-use ss_tables_lookup::Places;
-use ss_typed::{Typed, TypedBody, TypedParam};
+use ss_nonnull_facts::{body_of_entry, entry_at, is_non_null, is_non_null_type};
+use ss_tables_lookup::NameMap;
+use ss_typed::{Typed, TypedBody, TypedParam, body_at};
 use std::alloc::{AllocError, Global};
 
 // The methods of a class's table by name, each by its first place.
-fn names_of(alloc: Global, entries: &[Entry]) -> Result<Places, AllocError>
+fn names_of(alloc: Global, entries: &[Entry]) -> Result<NameMap<usize>, AllocError>
     ensures { IfOk result (λ p. p ≡ places_of (entry_names (map entry_of entries.now))) }
 {
-    let mut places = Places::new(alloc);
+    let mut places = NameMap::new(alloc);
     for (place, entry) in entries.iter().enumerate() {
         places.note(alloc, entry.name.as_str(), place)?;
     }
     Ok(places)
 }
 
-fn table_names(alloc: Global, class: &Class) -> Result<Places, AllocError>
+fn table_names(alloc: Global, class: &Class) -> Result<NameMap<usize>, AllocError>
     ensures { IfOk result (λ p. p ≡ table_names (class_of class.now)) }
 {
     let places = names_of(alloc, &class.table)?;
@@ -37,7 +37,7 @@ fn table_names(alloc: Global, class: &Class) -> Result<Places, AllocError>
 }
 
 /// The methods of each class by name.
-pub fn all_names(alloc: Global, list: &[Class]) -> Result<Vec<Places>, AllocError>
+pub fn all_names(alloc: Global, list: &[Class]) -> Result<Vec<NameMap<usize>>, AllocError>
     ensures { IfOk result (λ v. v.items ≡ map table_names (map class_of list.now)) }
 {
     let mut tables = Vec::new(alloc);
@@ -48,7 +48,7 @@ pub fn all_names(alloc: Global, list: &[Class]) -> Result<Vec<Places>, AllocErro
 }
 
 // The body under this name in the table of a class, whose methods have these places.
-fn body_named(class: &Class, names: &Places, name: &str) -> Option<BodyId>
+fn body_named(class: &Class, names: &NameMap<usize>, name: &str) -> Option<BodyId>
     requires { names.now ≡ table_names (class_of class.now) }
     ensures { option_map (λ n. n.0) result ≡ body_named (class_of class.now).table name.now }
 {
@@ -58,16 +58,6 @@ fn body_named(class: &Class, names: &Places, name: &str) -> Option<BodyId>
     }
 }
 
-// The place of a declared class in the list of classes.
-fn declared_place(class: usize) -> Option<usize>
-    ensures { result ≡ declared_place class }
-{
-    if class < 4 || class % 2 != 0 {
-        return None;
-    }
-    Some((class - 4) / 2)
-}
-
 // The class at this place, and the names of its table.
 fn class_at(program: &Typed, place: usize) -> Option<&Class>
     ensures { option_map (λ c. class_of c.now) result ≡ slice_get (typed program.now).classes place }
@@ -75,14 +65,14 @@ fn class_at(program: &Typed, place: usize) -> Option<&Class>
     program.classes.list.get(place)
 }
 
-fn names_at(names: &[Places], place: usize) -> Option<&Places>
+fn names_at(names: &[NameMap<usize>], place: usize) -> Option<&NameMap<usize>>
     ensures { option_map (λ p. p.now) result ≡ slice_get names.now place }
 {
     names.get(place)
 }
 
 // The body under this name in the table of a class, where there is one.
-fn find_body(class: Option<&Class>, names: Option<&Places>, name: &str) -> Option<BodyId>
+fn find_body(class: Option<&Class>, names: Option<&NameMap<usize>>, name: &str) -> Option<BodyId>
     requires { option_map (λ p. p.now) names ≡ option_map table_names (option_map (λ c. class_of c.now) class) }
     ensures { option_map (λ n. n.0) result ≡ body_named (table_of (option_map (λ c. class_of c.now) class.entry)) name.now }
 {
@@ -95,7 +85,7 @@ fn find_body(class: Option<&Class>, names: Option<&Places>, name: &str) -> Optio
     }
 }
 
-fn named_at(program: &Typed, names: &[Places], place: usize, name: &str) -> Option<BodyId>
+fn named_at(program: &Typed, names: &[NameMap<usize>], place: usize, name: &str) -> Option<BodyId>
     requires { names.now ≡ map table_names (typed program.now).classes }
     ensures { option_map (λ n. n.0) result ≡ body_named (table_of (slice_get (typed program.now).classes place)) name.now }
 {
@@ -103,11 +93,11 @@ fn named_at(program: &Typed, names: &[Places], place: usize, name: &str) -> Opti
 }
 
 // The same, by the class's number.
-fn named_in(program: &Typed, names: &[Places], class: usize, name: &str) -> Option<BodyId>
+fn named_in(program: &Typed, names: &[NameMap<usize>], class: ClassId, name: &str) -> Option<BodyId>
     requires { names.now ≡ map table_names (typed program.now).classes }
-    ensures { option_map (λ n. n.0) result ≡ body_named (table_of (declared (typed program.now).classes class)) name.now }
+    ensures { option_map (λ n. n.0) result ≡ body_named (table_of (declared (typed program.now).classes class.0)) name.now }
 {
-    match declared_place(class) {
+    match class.place() {
         Some(place) => named_at(program, names, place, name),
         None => None,
     }
@@ -125,13 +115,13 @@ fn body_under(program: &Typed, number: Option<BodyId>) -> Option<&TypedBody>
 // The method that it overrides.
 fn overridden<'p>(
     program: &'p Typed,
-    names: &[Places],
+    names: &[NameMap<usize>],
     checked: &TypedBody,
 ) -> Option<&'p TypedBody>
     requires { names.now ≡ map table_names (typed program.now).classes }
     ensures { option_map (λ b. body b.now) result ≡ overridden (typed program.now) (body checked.now) }
 {
-    let class = above(&program.classes, usize::from(checked.class.0));
+    let class = program.classes.above(checked.class);
     let number = named_in(program, names, class, checked.name.as_str());
     body_under(program, number)
 }
@@ -184,16 +174,20 @@ fn agrees_with(checked: &TypedBody, other: Option<&TypedBody>) -> bool
 fn note_mark(found: &mut Vec<Fault>, agrees: bool, place: Place) -> Result<(), AllocError>
     ensures { OnOk result (found.new.items ≡ found.old.items ++ mark_fault agrees place) }
 {
-    if !agrees {
-        found.push(Fault { rule: 31, place })?;
+    if agrees {
+        return Ok(());
     }
+    found.push(Fault {
+        rule: Rule::BadOverrideType.number(),
+        place,
+    })?;
     Ok(())
 }
 
 /// Notes a method that has types other than the one that it overrides by `!`.
 pub fn check_override(
     program: &Typed,
-    names: &[Places],
+    names: &[NameMap<usize>],
     found: &mut Vec<Fault>,
     checked: &TypedBody,
 ) -> Result<(), AllocError>

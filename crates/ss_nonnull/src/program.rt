@@ -12,14 +12,14 @@ use crate::overrides::{all_names, check_override};
 use ss_core::FrontStop;
 use ss_faults::{Fault, answer, first_fault};
 use ss_paths_assigned::Fields;
-use ss_tables_lookup::Places;
+use ss_tables_lookup::NameMap;
 use ss_typed::{Typed, TypedBody};
 use std::alloc::{AllocError, Global};
 
 fn check_whole(
     alloc: Global,
     fields: &Fields<'_>,
-    names: &[Places],
+    names: &[NameMap<usize>],
     found: &mut Vec<Fault>,
     checked: &TypedBody,
 ) -> Result<(), AllocError>
@@ -35,7 +35,7 @@ fn check_whole(
 fn check_all(
     alloc: Global,
     fields: &Fields<'_>,
-    names: &[Places],
+    names: &[NameMap<usize>],
     found: &mut Vec<Fault>,
     list: &[TypedBody],
 ) -> Result<(), AllocError>

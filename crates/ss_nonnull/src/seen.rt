@@ -1,15 +1,16 @@
 // What the walk over an expression says of it.
 
 ghost use Rattle.std.specs.Prelude.{◌≡◌, ◌++◌, if◌then◌else◌, Some, IfOk, OnOk, List, option_map};
-ghost use Rattle.ss_nonnull_facts.specs.Locals.{among, listed};
-ghost use Rattle.ss_paths.specs.Sets.{none, only, either};
+ghost use Rattle.ss_typed.specs.Assigned.{listed};
+ghost use Rattle.ss_paths.specs.Sets.{none, only, either, among};
+ghost use Rattle.ss_nonnull_rules.specs.Facts.{the_one};
 ghost use Rattle.ss_nonnull.specs.Paths.{told};
 ghost use Rattle.ss_nonnull.specs.Codes.{path_of, site_of, seen_of};
-ghost use Rattle.ss_nonnull.specs.Seen.{plain, literal, null_literal, this_object, local_read, negated, aged, the_one, telling, class_tested, compared_by, operated, is_set, field_read, element_read, called, fault_where, lacks, lacking, learnt_at, side_of};
+ghost use Rattle.ss_nonnull.specs.Seen.{plain, literal, null_literal, this_object, local_read, negated, aged, telling, class_tested, compared_by, operated, is_set, field_read, element_read, called, fault_where, lacks, lacking, learnt_at, side_of};
 
 use crate::known::{Known, has_its_field, knows, learned};
 use crate::site::Site;
-use ss_core::{ClassId, FieldId, Operator, Place, Ty};
+use ss_core::{ClassId, FieldId, Operator, Place, Rule, Ty};
 use ss_faults::Fault;
 use ss_nonnull_facts::{is_non_null, is_non_null_type};
 use ss_typed::{class_type, element_of};
@@ -313,9 +314,13 @@ fn is_lacking(ty: Ty, seen: &Seen) -> bool
 pub fn note_null(found: &mut Vec<Fault>, is_fault: bool, place: Place) -> Result<(), AllocError>
     ensures { OnOk result (found.new.items ≡ found.old.items ++ fault_where is_fault place) }
 {
-    if is_fault {
-        found.push(Fault { rule: 30, place })?;
+    if !is_fault {
+        return Ok(());
     }
+    found.push(Fault {
+        rule: Rule::MayBeNull.number(),
+        place,
+    })?;
     Ok(())
 }
 

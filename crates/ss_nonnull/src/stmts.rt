@@ -3,7 +3,7 @@
 ghost use Rattle.std.specs.Prelude.{◌≡◌, ◌++◌, None, IfOk, OnOk, map, option_map};
 ghost use Rattle.ss_typed.specs.Tree.{stmt_trees};
 ghost use Rattle.ss_typed.specs.View.{simple_of, block, stmt_of};
-ghost use Rattle.ss_nonnull_facts.specs.Locals.{assigned, step_locals};
+ghost use Rattle.ss_typed.specs.Assigned.{assigned, step_locals};
 ghost use Rattle.ss_nonnull.specs.Codes.{path_of, site_of};
 ghost use Rattle.ss_nonnull.specs.Walks.{known_behind, known_behind_block, known_at_end, known_at_head, stmt_faults, block_faults, along_faults};
 
@@ -14,8 +14,7 @@ use crate::simple::{
 };
 use crate::site::Site;
 use ss_faults::Fault;
-use ss_nonnull_facts::{assigned_in_loop, assigned_within};
-use ss_typed::{TypedBlock, TypedSimple, TypedStmt};
+use ss_typed::{TypedBlock, TypedSimple, TypedStmt, assigned_in_loop, assigned_within};
 use std::alloc::{AllocError, Global};
 
 // At the head of a `while`.

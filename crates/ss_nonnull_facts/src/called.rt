@@ -3,14 +3,15 @@
 ghost use Rattle.std.specs.Prelude.{◌≡◌, List, map, Option, None, option_map, slice_get};
 ghost use Rattle.ss_core.specs.View.{classes, class_of, entry_of};
 ghost use Rattle.ss_core.specs.Chain.{declared, above};
-ghost use Rattle.ss_paths.specs.Fields.{class_place};
+ghost use Rattle.ss_typed.specs.Lookups.{param_types_in};
 ghost use Rattle.ss_typed.specs.View.{typed, body, members, param};
-ghost use Rattle.ss_nonnull_rules.specs.Faults.{types_of, parameters, body_of_entry, table_of, body_in_table, method_of, constructor_of_members, members_of, constructor_parameters};
+ghost use Rattle.ss_typed.specs.Constructors.{written_constructor};
+ghost use Rattle.ss_nonnull_rules.specs.Faults.{parameters, body_of_entry, table_of, body_in_table, method_of, constructor_parameters};
 ghost use Rattle.ss_nonnull_rules.specs.Faults.{class_of as class_of_type};
 ghost use Rattle.ss_nonnull_facts.specs.Called.{called_types};
 
-use ss_core::{BodyId, Class, Classes, Entry, Ty};
-use ss_typed::{Typed, TypedBody, TypedClass, TypedParam};
+use ss_core::{BodyId, Class, ClassId, Classes, Entry, Ty, declared_place};
+use ss_typed::{Typed, TypedBody, TypedClass, TypedParam, body_at, members_of};
 
 /// What a call enters: a body with these parameters, or none that is known.
 #[derive(Clone, Copy)]
@@ -19,58 +20,35 @@ pub enum Called<'p> {
     Nothing,
 }
 
-/// The declared class of this number.
-pub fn declared(list: &Classes, class: usize) -> Option<&Class>
+// The class at this place of the list.
+fn class_at(list: &Classes, place: usize) -> Option<&Class>
+    ensures { option_map (λ c. class_of c.now) result ≡ slice_get (classes list.now) place }
+{
+    list.list.get(place)
+}
+
+// The declared class of this number, which may be past those of `ClassId`.
+fn declared(list: &Classes, class: usize) -> Option<&Class>
     ensures { option_map (λ c. class_of c.now) result ≡ declared (classes list.now) class }
 {
-    if class < 4 || class % 2 != 0 {
-        return None;
-    }
-    list.list.get((class - 4) / 2)
-}
-
-/// The class above: `object` where the class isn't declared.
-pub fn above(list: &Classes, class: usize) -> usize
-    ensures { result ≡ above (classes list.now) class }
-{
-    match declared(list, class) {
-        Some(class) => usize::from(class.above.0),
-        None => 0,
-    }
-}
-
-// The place of a declared class in the list of classes.
-fn class_place(class: usize) -> usize
-    ensures { result ≡ class_place class }
-{
-    class.saturating_sub(4) / 2
-}
-
-fn members_at(program: &Typed, place: usize) -> Option<&TypedClass>
-    ensures { option_map (λ c. members c.now) result ≡ slice_get (typed program.now).members place }
-{
-    program.members.get(place)
-}
-
-/// What is declared under this number, beside its entry in the table of classes.
-pub fn members_of(program: &Typed, class: usize) -> Option<&TypedClass>
-    ensures { option_map (λ c. members c.now) result ≡ members_of (typed program.now) class }
-{
-    match declared(&program.classes, class) {
-        Some(_) => members_at(program, class_place(class)),
+    match declared_place(class) {
+        Some(place) => class_at(list, place),
         None => None,
     }
 }
 
-/// The body of this number.
-pub fn body_at(program: &Typed, number: BodyId) -> Option<&TypedBody>
-    ensures { option_map (λ b. body b.now) result ≡ slice_get (typed program.now).bodies number.0 }
+/// The class above: `object` where the class isn't declared.
+pub fn above(list: &Classes, class: usize) -> ClassId
+    ensures { result.0 ≡ above (classes list.now) class }
 {
-    program.bodies.get(number.0 as usize)
+    match declared(list, class) {
+        Some(class) => class.above,
+        None => ClassId(0),
+    }
 }
 
 fn called_by(called: Option<&TypedBody>) -> Called<'_>
-    ensures { called_types result ≡ types_of (option_map (λ b. body b.now) called.entry) }
+    ensures { called_types result ≡ param_types_in (option_map (λ b. body b.now) called.entry) }
 {
     match called {
         Some(called) => Called::Method(&called.params),
@@ -106,10 +84,10 @@ pub fn body_of_entry(entry: Option<&Entry>) -> Option<BodyId>
 }
 
 // The body at this place of the table of the class.
-fn body_in_table(program: &Typed, class: usize, place: usize) -> Option<BodyId>
-    ensures { option_map (λ n. n.0) result ≡ body_in_table (typed program.now) class place }
+fn body_in_table(program: &Typed, class: ClassId, place: usize) -> Option<BodyId>
+    ensures { option_map (λ n. n.0) result ≡ body_in_table (typed program.now) class.0 place }
 {
-    match declared(&program.classes, class) {
+    match program.classes.declared(class) {
         Some(class) => body_of_entry(entry_at(class, place)),
         None => None,
     }
@@ -121,7 +99,7 @@ pub fn method_of(program: &Typed, receiver: Option<Ty>, place: usize) -> Called<
 {
     match receiver {
         Some(Ty::Ref { class, .. }) => {
-            static_method(program, body_in_table(program, usize::from(class.0), place))
+            static_method(program, body_in_table(program, class, place))
         }
         Some(Ty::Int | Ty::Bool | Ty::Null) | None => Called::Nothing,
     }
@@ -137,8 +115,8 @@ pub fn base_method(program: &Typed, class: usize, place: usize) -> Called<'_>
     )
 }
 
-fn constructor_of_members(class: Option<&TypedClass>) -> Option<BodyId>
-    ensures { option_map (λ n. n.0) result ≡ constructor_of_members (option_map (λ c. members c.now) class.entry) }
+fn written_constructor(class: Option<&TypedClass>) -> Option<BodyId>
+    ensures { option_map (λ n. n.0) result ≡ written_constructor (option_map (λ c. members c.now) class.entry) }
 {
     match class {
         Some(class) => class.constructor,
@@ -147,10 +125,10 @@ fn constructor_of_members(class: Option<&TypedClass>) -> Option<BodyId>
 }
 
 /// The constructor of the class, where one is written.
-pub fn constructor(program: &Typed, class: usize) -> Called<'_>
-    ensures { called_types result ≡ constructor_parameters (typed program.now) class }
+pub fn constructor(program: &Typed, class: ClassId) -> Called<'_>
+    ensures { called_types result ≡ constructor_parameters (typed program.now) class.0 }
 {
-    static_method(program, constructor_of_members(members_of(program, class)))
+    static_method(program, written_constructor(members_of(program, class)))
 }
 
 fn param_at(params: &[TypedParam], place: usize) -> Option<&TypedParam>

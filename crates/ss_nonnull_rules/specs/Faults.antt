@@ -1,21 +1,25 @@
 -- A value that may be null stands where none is wanted.
-use Rattle.std.specs.Prelude.{ℕ, ◌==◌, List, [], ◌∷◌, ◌++◌, map, Bool, true, false, not, ◌&&◌, if◌then◌else◌, Option, Some, None, option_map, is_some, option_and_then, slice_get}
+use Rattle.std.specs.Prelude.{ℕ, ◌==◌, List, [], ◌∷◌, ◌++◌, Bool, true, false, not, ◌&&◌, if◌then◌else◌, Option, Some, None, option_map, is_some, slice_get}
 use Rattle.ss_core.specs.declared.names.Place.{Place}
+use Rattle.ss_core.specs.declared.rules.Rule.TheVariants as rule
+use Rattle.ss_core.specs.Rules.{rule_number}
 use Rattle.ss_faults.specs.declared.Fault.{Fault}
 use Rattle.ss_core.specs.declared.names.Ty.{Ty}
 use Rattle.ss_core.specs.declared.names.Ty.TheVariants as ty
 use Rattle.ss_core.specs.Tree as core
 use Rattle.ss_core.specs.Chain.{above, declared}
-use Rattle.ss_typed.specs.Tree.{ExprTree, IntOf, BoolOf, NullOf, ThisOf, LocalOf, ResultOf, BoundOf, FieldOf, ElementOf, LengthOf, NegateOf, NotOf, BinaryOf, ImpliesOf, IffOf, IsOf, AsOf, CastOf, OldOf, QuantifiedOf, StateOf, OwnersOf, NewOf, NewArrayOf, CallOf, StaticOf, BaseOf, Arguments, NoMore, Argument, DeclaratorTree, SimpleTree, AssignOf, StepOf, AloneOf, BaseCallOf, PrintOf, PrintTextOf, BodyTree, ParamTree, MembersTree, TypedTree}
+use Rattle.ss_typed.specs.Constructors.{written_constructor}
+use Rattle.ss_typed.specs.Tree.{ExprTree, IntOf, BoolOf, NullOf, ThisOf, LocalOf, ResultOf, BoundOf, FieldOf, ElementOf, LengthOf, NegateOf, NotOf, BinaryOf, ImpliesOf, IffOf, IsOf, AsOf, CastOf, OldOf, QuantifiedOf, StateOf, OwnersOf, NewOf, NewArrayOf, CallOf, StaticOf, BaseOf, Arguments, NoMore, Argument, DeclaratorTree, SimpleTree, AssignOf, StepOf, AloneOf, BaseCallOf, PrintOf, PrintTextOf, TypedTree}
 use Rattle.ss_typed.specs.Shapes.{place_of}
 use Rattle.ss_typed.specs.Types.{type_of}
-use Rattle.ss_paths.specs.Fields.{is_non_null, class_place}
+use Rattle.ss_paths.specs.Fields.{is_non_null}
+use Rattle.ss_typed.specs.Lookups.{body_at, members_of, param_types_in}
 use Rattle.ss_paths.specs.Paths.{Check}
 use Rattle.ss_nonnull_rules.specs.NonNull.{Site, Known, is_never_null, known_right}
 
 -- the number of the rule
 abbrev pub may_be_null : ℕ
-may_be_null = 30
+may_be_null = rule_number rule.MayBeNull
 
 abbrev pub null_fault : Place → Fault
 null_fault p = record { rule = may_be_null; place = p }
@@ -30,14 +34,10 @@ wanted_if s k e (Some t) = wanted s k e t
 
 -- ---- what a call hands over
 
-abbrev pub types_of : Option BodyTree → List Ty
-types_of None = []
-types_of (Some b) = map (λ (x : ParamTree). x.ty) b.params
-
 -- the types of the parameters of a body
 abbrev pub parameters : TypedTree → Option ℕ → List Ty
 parameters p None = []
-parameters p (Some n) = types_of (slice_get p.bodies n)
+parameters p (Some n) = param_types_in (body_at p n)
 
 abbrev pub body_of_entry : Option core.EntryTree → Option ℕ
 body_of_entry None = None
@@ -60,17 +60,9 @@ abbrev pub method_of : TypedTree → Option ℕ → ℕ → Option ℕ
 method_of p None m = None
 method_of p (Some t) m = body_in_table p t m
 
-abbrev pub constructor_of_members : Option MembersTree → Option ℕ
-constructor_of_members None = None
-constructor_of_members (Some c) = c.constructor
-
--- what is declared under this number, beside its entry in the table of classes
-abbrev pub members_of : TypedTree → ℕ → Option MembersTree
-members_of p t = option_and_then (λ (c : core.ClassTree). slice_get p.members (class_place t)) (declared p.classes t)
-
 -- the types of the parameters of the constructor of the class; one that isn't written has none
 abbrev pub constructor_parameters : TypedTree → ℕ → List Ty
-constructor_parameters p t = parameters p (constructor_of_members (members_of p t))
+constructor_parameters p t = parameters p (written_constructor (members_of p t))
 
 -- ---- inside an expression
 

@@ -4,6 +4,8 @@ use Rattle.std.specs.Bool.{beq}
 use Rattle.std.specs.Str.{bytes_eq}
 use Rattle.ss_faults.specs.declared.Fault.{Fault}
 use Rattle.ss_core.specs.declared.names.Ty.{Ty}
+use Rattle.ss_core.specs.declared.rules.Rule.TheVariants as rule
+use Rattle.ss_core.specs.Rules.{rule_number}
 use Rattle.ss_core.specs.Tree as core
 use Rattle.ss_core.specs.Chain.{above, declared}
 use Rattle.ss_typed.specs.Tree.{ParamTree, BodyTree, TypedTree}
@@ -33,7 +35,7 @@ agrees_with b (Some c) = agree b.params c.params && beq (is_non_null_type b.resu
 
 -- the number of the rule
 abbrev pub bad_override_type : ℕ
-bad_override_type = 31
+bad_override_type = rule_number rule.BadOverrideType
 
 -- a constructor overrides nothing
 abbrev pub override_faults : TypedTree → BodyTree → List Fault

@@ -1,9 +1,10 @@
 -- The faults of null of a whole program.
-use Rattle.std.specs.Prelude.{ℕ, ◌+◌, ◌*◌, ◌==◌, List, [], ◌∷◌, ◌++◌, Bool, true, false, ◌&&◌, nat_lt, if◌then◌else◌, Option, Some, None, is_some, slice_get}
+use Rattle.std.specs.Prelude.{ℕ, ◌+◌, ◌==◌, List, [], ◌∷◌, ◌++◌, Bool, true, false, ◌&&◌, nat_lt, if◌then◌else◌, Option, Some, None, is_some, slice_get}
 use Rattle.ss_core.specs.declared.names.Place.{Place}
 use Rattle.ss_faults.specs.declared.Fault.{Fault}
 use Rattle.ss_core.specs.declared.names.Ty.{Ty}
 use Rattle.ss_core.specs.Tree as core
+use Rattle.ss_core.specs.Kinds.{class_number}
 use Rattle.ss_typed.specs.Tree.{ExprTree, BaseTree, FieldTree, BodyTree, MembersTree, TypedTree}
 use Rattle.ss_paths.specs.Fields.{own_fields, field_numbers}
 use Rattle.ss_paths.specs.Paths.{faults_in}
@@ -50,10 +51,6 @@ abbrev pub body_faults : TypedTree → BodyTree → List Fault
 body_faults p b = override_faults p b ++ base_faults p b b.base ++ faults_in (known_flow (site_of p b)) (null_check (site_of p b)) b.block (only_fields (assigned_first p b))
 
 -- ---- the program
-
--- the number of the class at this place of the list
-abbrev pub class_number : ℕ → ℕ
-class_number k = 4 + 2 * k
 
 -- the initializers of these classes, the first of which stands at place k of the list
 abbrev pub classes_faults : TypedTree → ℕ → List MembersTree → List Fault

@@ -1,19 +1,17 @@
 -- What the parts of chains and paths add to the places of words.
-use Rattle.std.proofs.Common.{◌≡◌, ◌++◌, List, [], ◌∷◌, map, Vec, Box, Global, String, string_bytes, refl, sym, ap, ◌∙◌, append_assoc, append-nil}
+use Rattle.std.proofs.Common.{◌≡◌, ◌++◌, List, [], ◌∷◌, map, Vec, Box, Global, String, refl, sym, ap, ◌∙◌, append_assoc, append-nil}
 use Rattle.ss_core.specs.declared.names.Place.{Place}
 use Rattle.ss_core.specs.declared.expr.Quantifier.{Quantifier}
 use Rattle.ss_typed.specs.declared.expr.TypedExpr.{TypedExpr}
 use Rattle.ss_typed.specs.declared.expr.TypedLink.{TypedLink}
 use Rattle.ss_typed.specs.declared.expr.TypedStep.{TypedStep}
-use Rattle.ss_typed.specs.declared.expr.TypedExpr.TheFolds.{fold-roll-TypedExpr}
 use Rattle.ss_typed.specs.declared.expr.TypedExpr.TheViews as view
-use Rattle.ss_typed.specs.declared.expr.TypedExpr.TheVariants.{rolls-Quantified}
 use Rattle.ss_typed.specs.declared.expr.TypedExpr.TheOpen as shape
 use Rattle.ss_typed.specs.declared.expr.TypedExpr.TheOpen.{TypedLink-F, TypedStep-F}
-use Rattle.ss_typed.specs.Tree.{ExprTree, QuantifiedOf}
-use Rattle.ss_typed.specs.View.{Behind, grouped, expr_step, link_step, step_step, expr}
+use Rattle.ss_typed.specs.Tree.{ExprTree}
+use Rattle.ss_typed.specs.View.{Behind, grouped, link_step, step_step, expr}
 use Rattle.ss_typed.specs.Parts.{link_behind, step_behind}
-use Rattle.ss_typed.proofs.Grouping.{chain_is, link_shape, path_is, step_shape}
+use Rattle.ss_typed.proofs.Grouping.{chain_is, link_shape, path_is, step_shape, quantified_is}
 use Rattle.ss_owners_rules.specs.Words.{Allowed, misplaced}
 use Rattle.ss_owners.specs.Parts.{nowhere, nothing, link_words, links_words, step_words, steps_words}
 
@@ -23,9 +21,6 @@ joined f0 f1 f2 x y p q = q ∙ ap (λ (l : List Place). l ++ y) p ∙ append_as
 
 pub three_joined : (f0 f1 f2 f3 a b c : List Place) → f1 ≡ f0 ++ a → f2 ≡ f1 ++ b → f3 ≡ f2 ++ c → f3 ≡ f0 ++ (a ++ b ++ c)
 three_joined f0 f1 f2 f3 a b c x y z = joined f0 f2 f3 (a ++ b) c (joined f0 f1 f2 a b x y) z
-
-pub quantified_is : (p : Place) (q : Quantifier) (n : String Global) (low high m : Box TypedExpr Global) → expr (view.Quantified p q n low high m) ≡ QuantifiedOf p q (string_bytes n) (expr low.value) (expr high.value) (expr m.value)
-quantified_is p q n low high m = ap expr (sym (rolls-Quantified p q n low high m)) ∙ fold-roll-TypedExpr ExprTree Behind Behind expr_step link_step step_step (shape.Quantified p q n low high m)
 
 -- ---- chains
 

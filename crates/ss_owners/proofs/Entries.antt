@@ -15,7 +15,7 @@ use Rattle.ss_typed.specs.declared.program.Typed.{Typed}
 use Rattle.ss_typed.specs.View.{field, invariant_of, members, typed}
 use Rattle.ss_paths.specs.Fields.{fields_in}
 use Rattle.ss_owners_rules.specs.Admissible.{field_marks}
-use Rattle.ss_paths_assigned.proofs.Loops.{drop_next}
+use Rattle.ss_ast.proofs.Loops.{drop_next}
 use Rattle.ss_owners_rules.specs.Program.{field_faults, fields_faults, invariants_faults, class_faults}
 
 -- one more field

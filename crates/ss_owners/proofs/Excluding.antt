@@ -6,7 +6,8 @@ use Rattle.std.proofs.lemmas.List.Folds.{list_any-append}
 use Rattle.ss_core.specs.declared.names.Place.{Place}
 use Rattle.ss_ast.specs.declared.expr.Name.{Name}
 use Rattle.ss_ast.specs.Expressions.{NameTree, name_tree}
-use Rattle.ss_paths_assigned.proofs.Loops.{drop_next, take_next, map_append}
+use Rattle.std.proofs.lemmas.List.{map-append}
+use Rattle.ss_ast.proofs.Loops.{drop_next, take_next}
 use Rattle.ss_owners_rules.specs.Attributes.{Names, excludes, is_excluded, is_bad, bad_behind}
 use Rattle.ss_owners.specs.Bearers.{places_if}
 
@@ -15,7 +16,7 @@ or_false true = refl
 or_false false = refl
 
 passed_next : (bs : List Name) (i : ℕ) (x : Name) → i < length bs → x ≡ get_or bs i x → map name_tree (take (i + 1) bs) ≡ map name_tree (take i bs) ++ name_tree x ∷ []
-passed_next bs i x l e = ap (map name_tree) (take_next bs i x l e) ∙ map_append name_tree (take i bs) (x ∷ [])
+passed_next bs i x l e = ap (map name_tree) (take_next bs i x l e) ∙ map-append name_tree (take i bs) (x ∷ [])
 
 excluded_next : (n : List ℕ) (bs : List Name) (i : ℕ) (x : Name) → i < length bs → x ≡ get_or bs i x
     → is_excluded (map name_tree (take (i + 1) bs)) n ≡ (is_excluded (map name_tree (take i bs)) n || excludes (string_bytes x.text) n)

@@ -6,7 +6,7 @@ use Rattle.ss_core.specs.declared.class.Classes.{Classes}
 use Rattle.ss_core.specs.View.{class_of, classes}
 use Rattle.ss_core.specs.Tree.{ClassTree, FieldTree}
 use Rattle.ss_core.specs.Chain.{DeclaredField, fields_of_class, fields_from}
-use Rattle.ss_paths_assigned.proofs.Loops.{map_append}
+use Rattle.std.proofs.lemmas.List.{map-append}
 use Rattle.ss_owners_rules.specs.Admissible.{field_marks}
 use Rattle.ss_owners.specs.Marked.{marks_of, marks_in}
 
@@ -20,7 +20,7 @@ own_marks t (f ∷ fs) = ap (λ (ms : List Mark). f.mark ∷ ms) (own_marks t fs
 marks_from : (t : ℕ) (cs : List ClassTree) → map mark_in (fields_from t cs) ≡ marks_in cs
 marks_from t [] = refl
 marks_from t (c ∷ cs) =
-    map_append mark_in (fields_of_class t c.fields) (fields_from (t + 2) cs)
+    map-append mark_in (fields_of_class t c.fields) (fields_from (t + 2) cs)
     ∙ ap (λ (ms : List Mark). ms ++ map mark_in (fields_from (t + 2) cs)) (own_marks t c.fields)
     ∙ ap (λ (ms : List Mark). marks_of c.fields ++ ms) (marks_from (t + 2) cs)
 

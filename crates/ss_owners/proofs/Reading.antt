@@ -13,13 +13,13 @@ use Rattle.ss_typed.specs.declared.expr.TypedExpr.TheOpen.{TypedLink-F}
 use Rattle.ss_typed.specs.Tree.{ExprTree}
 use Rattle.ss_typed.specs.View.{Behind, grouped, link_step, expr}
 use Rattle.ss_typed.specs.Parts.{link_behind, step_behind}
-use Rattle.ss_typed.proofs.Grouping.{chain_is, chain_some, grouped_more, link_shape}
-use Rattle.ss_paths_assigned.proofs.Loops.{take_whole}
+use Rattle.ss_typed.proofs.Grouping.{chain_is, chain_some, grouped_more, link_shape, quantified_is}
+use Rattle.std.proofs.lemmas.List.{take_all}
 use Rattle.ss_owners_rules.specs.Admissible.{inadmissible}
 use Rattle.ss_owners.specs.declared.reads.Reached.{Reached}
 use Rattle.ss_owners.specs.Parts.{nowhere, nothing}
 use Rattle.ss_owners.specs.Reads.{reached, nothing_reached, link_reads, links_reads, IsRead, Leads}
-use Rattle.ss_owners.proofs.Added.{joined, three_joined, quantified_is}
+use Rattle.ss_owners.proofs.Added.{joined, three_joined}
 
 -- ---- chains
 
@@ -83,7 +83,7 @@ step_leads ms start f0 f1 f2 v0 v1 v2 p xs i x l is part so_far = record {
 
 pub steps_led : (ms : List Mark) (start : ℕ) (f0 f1 : List Place) (v0 v1 : Reached) (p : Place) (xs : List TypedStep) (i : ℕ) → length xs ≤ i
     → Leads ms start f0 v0 f1 v1 (λ (e : ExprTree). grouped p e (map step_behind (take i xs))) → Leads ms start f0 v0 f1 v1 (λ (e : ExprTree). grouped p e (map step_behind xs))
-steps_led ms start f0 f1 v0 v1 p xs i l h = subst (λ (ys : List TypedStep). Leads ms start f0 v0 f1 v1 (λ (e : ExprTree). grouped p e (map step_behind ys))) (take_whole xs i l) h
+steps_led ms start f0 f1 v0 v1 p xs i l h = subst (λ (ys : List TypedStep). Leads ms start f0 v0 f1 v1 (λ (e : ExprTree). grouped p e (map step_behind ys))) (take_all i xs l) h
 
 -- ---- quantifiers
 

@@ -6,7 +6,8 @@ use Rattle.ss_typed.specs.declared.expr.TypedLink.{TypedLink}
 use Rattle.ss_typed.specs.Tree.{ExprTree}
 use Rattle.ss_typed.specs.Shapes.{is_this}
 use Rattle.ss_typed.specs.Parts.{link_behind}
-use Rattle.ss_owners_rules.specs.Admissible.{field_mark, is_rep, is_rep_or_peer, is_owned_path, is_untyped, inadmissible}
+use Rattle.ss_owners_rules.specs.Admissible.{field_mark, is_owned_path, is_untyped, inadmissible}
+use Rattle.ss_core.specs.Marks.{is_rep, is_rep_or_peer}
 use Rattle.ss_owners.specs.declared.reads.Reached.{Reached}
 use Rattle.ss_owners.specs.Parts.{nowhere, nothing}
 

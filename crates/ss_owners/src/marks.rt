@@ -2,7 +2,8 @@
 
 ghost use Rattle.std.specs.Prelude.{◌≡◌, ◌++◌, IfOk, OnOk, map};
 ghost use Rattle.ss_core.specs.View.{class_of, classes, field_of};
-ghost use Rattle.ss_owners_rules.specs.Admissible.{field_mark, field_marks, is_rep, is_rep_or_peer};
+ghost use Rattle.ss_owners_rules.specs.Admissible.{field_mark, field_marks};
+ghost use Rattle.ss_core.specs.Marks.{is_rep, is_rep_or_peer};
 ghost use Rattle.ss_owners.specs.Marked.{marks_of, marks_in};
 
 use ss_core::{Class, Classes, Field, FieldId, Mark};

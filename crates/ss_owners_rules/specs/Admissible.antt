@@ -3,6 +3,7 @@ use Rattle.std.specs.Prelude.{ℕ, List, [], ◌∷◌, ◌++◌, Bool, true, fa
 use Rattle.ss_core.specs.declared.names.Place.{Place}
 use Rattle.ss_core.specs.declared.names.Mark.{Mark}
 use Rattle.ss_core.specs.declared.names.Mark.TheVariants as mark
+use Rattle.ss_core.specs.Marks.{is_rep, is_rep_or_peer}
 use Rattle.ss_core.specs.Tree.{ClassTree}
 use Rattle.ss_core.specs.Chain.{DeclaredField, all_fields}
 use Rattle.ss_typed.specs.Tree.{ExprTree, ResultOf, FieldOf, ElementOf, LengthOf, NegateOf, NotOf, BinaryOf, ImpliesOf, IffOf, IsOf, AsOf, CastOf, OldOf, QuantifiedOf, StateOf, OwnersOf, NewOf, NewArrayOf, CallOf, StaticOf, BaseOf, Arguments, NoMore, Argument}
@@ -16,16 +17,6 @@ field_marks cs = map (λ (d : DeclaredField). d.field.mark) (all_fields cs)
 
 abbrev pub field_mark : List Mark → ℕ → Mark
 field_mark ms f = unwrap_or (slice_get ms f) mark.Plain
-
-abbrev pub is_rep : Mark → Bool
-is_rep mark.Plain = false
-is_rep mark.Rep = true
-is_rep mark.Peer = false
-
-abbrev pub is_rep_or_peer : Mark → Bool
-is_rep_or_peer mark.Plain = false
-is_rep_or_peer mark.Rep = true
-is_rep_or_peer mark.Peer = true
 
 -- A path to what `this` owns: first a rep field of `this`, then rep and peer fields, and nothing but fields.
 abbrev pub is_owned_path : List Mark → ExprTree → Bool

@@ -2,6 +2,8 @@
 use Rattle.std.specs.Prelude.{ℕ, ◌+◌, List, [], ◌∷◌, ◌++◌, map, Option, Some, None, slice_get}
 use Rattle.ss_core.specs.declared.names.Mark.{Mark}
 use Rattle.ss_core.specs.declared.names.Place.{Place}
+use Rattle.ss_core.specs.declared.rules.Rule.TheVariants as rule
+use Rattle.ss_core.specs.Rules.{rule_number}
 use Rattle.ss_faults.specs.declared.Fault.{Fault}
 use Rattle.ss_core.specs.Tree as core
 use Rattle.ss_typed.specs.Tree.{ParamTree, ModifiedTree, OneOf, AllOf, ElementsOf, BaseTree, BodyTree, FieldTree, InvariantTree, MembersTree, TypedTree}
@@ -12,16 +14,16 @@ use Rattle.ss_owners_rules.specs.Attributes.{on_field, on_param, on_body, on_inv
 
 -- the numbers of the rules
 abbrev pub not_admissible : ℕ
-not_admissible = 50
+not_admissible = rule_number rule.NotAdmissible
 
 abbrev pub misplaced_word : ℕ
-misplaced_word = 51
+misplaced_word = rule_number rule.MisplacedWord
 
 abbrev pub bad_attribute : ℕ
-bad_attribute = 52
+bad_attribute = rule_number rule.BadAttribute
 
 abbrev pub at : ℕ → Place → Fault
-at rule p = record { rule = rule; place = p }
+at n p = record { rule = n; place = p }
 
 abbrev pub of_reads : List Place → List Fault
 of_reads ps = map (at not_admissible) ps

@@ -1,8 +1,8 @@
 -- Loops, operators and postfixes one by one.
-use Rattle.std.proofs.Common.{◌≡◌, ℕ, zero, suc, ◌+◌, ◌-◌, ◌<◌, ◌≤◌, List, [], ◌∷◌, ◌++◌, length, Option, Some, Result, Ok, Err, refl, sym, ap, subst, arith}
+use Rattle.std.proofs.Common.{◌≡◌, ℕ, zero, suc, ◌+◌, ◌-◌, ◌<◌, ◌≤◌, List, [], ◌∷◌, length, Option, Some, Result, Ok, Err, refl, sym, ap, subst, arith}
 use Rattle.ss_core.specs.declared.names.Place.{Place}
 use Rattle.ss_ast.specs.declared.token.Token.{Token}
-use Rattle.ss_ast.specs.Expressions.{ExprTree, Behind, grouped}
+use Rattle.ss_ast.specs.Expressions.{ExprTree}
 use Rattle.ss_grammar.specs.declared.fault.Fault.{Fault}
 use Rattle.ss_grammar.specs.declared.fault.Stop.{Stop}
 use Rattle.ss_grammar.specs.declared.fault.Stop.TheVariants as stop
@@ -36,10 +36,6 @@ pieces_fewer a b le = omega (arith, pieces_length a, pieces_length b)
 
 pub pieces_less : (a b : List Token) → length a < length b → length (pieces a) < length (pieces b)
 pieces_less a b lt = omega (arith, pieces_length a, pieces_length b)
-
-pub grouped_push : (p : Place) (e : ExprTree) (bs : List Behind) (b : Behind) → grouped p e (bs ++ b ∷ []) ≡ b p (grouped p e bs)
-grouped_push p e [] b = refl
-grouped_push p e (x ∷ bs) b = grouped_push p (x p e) bs b
 
 module _ (d : ℕ) (w : Inner) where
   operand_link : (k : ℕ) (p : Place) (a : ExprTree) (ts : List Piece) → chain d w (suc k) p a ts ≡ (chain d w k p a ts >>= λ x. times (link_head (suc k)) (link_behind d w (operand d w k)) (joins d w p) (length x.1) x.0 x.1)

@@ -13,6 +13,7 @@ use Rattle.ss_grammar.specs.Stops.{Fails}
 use Rattle.ss_grammar_expressions.specs.Heads.{Piece, AToken, pieces}
 use Rattle.ss_grammar_expressions.specs.Ends.{is_end, is_end_kind, TakesNoEnd}
 use Rattle.ss_grammar_expressions.specs.Parser.{Gets}
+use Rattle.ss_core.specs.Rules.{rule_number}
 use Rattle.ss_parser_expressions.specs.Answer.{first_place, PartAnswer, EndsText, rule_of}
 use Rattle.ss_parser_expressions.proofs.Loops.{pieces_length}
 
@@ -77,16 +78,16 @@ module _ {X A : Type 0} (L : ℕ → List Piece → A → Type 0) (view : X → 
       let some : 0 < length (pieces rest) = left_over tokens at a.front (pieces rest) le ends a.parts (kept 64 a.front (view e) a.reads) in
       omega (arith, some, pieces_length rest, le)
 
-  refusal : (f : Fault) (rest : List Piece) → Finds L 64 ts (Err (f, rest)) → PartAnswer L view tokens at (Err (front.Refused (rule_of f) (first_place (pieces (drop (length tokens - length rest) tokens)))))
+  refusal : (f : Fault) (rest : List Piece) → Finds L 64 ts (Err (f, rest)) → PartAnswer L view tokens at (Err (front.Refused (rule_number (rule_of f)) (first_place (pieces (drop (length tokens - length rest) tokens)))))
   refusal Expected rest g = (rest, ap first_place (behind_is tokens at g.front rest (omega (arith, le)) g.parts), inl (refl, g))
   refusal TooDeep rest g = (rest, ap first_place (behind_is tokens at g.front rest (omega (arith, le)) g.parts), inr (refl, g))
 
-  pub faulty : (f : Fault) (n : ℕ) → Fails (stop.Fault f n) (read ts) → PartAnswer L view tokens at (Err (front.Refused (rule_of f) (first_place (pieces (drop (length tokens - n) tokens)))))
+  pub faulty : (f : Fault) (n : ℕ) → Fails (stop.Fault f n) (read ts) → PartAnswer L view tokens at (Err (front.Refused (rule_number (rule_of f)) (first_place (pieces (drop (length tokens - n) tokens)))))
   faulty f n g = look (read ts) finds g
     where
-      look : (r : Result (A × List Piece) (Fault × List Piece)) → Finds L 64 ts r → Fails (stop.Fault f n) r → PartAnswer L view tokens at (Err (front.Refused (rule_of f) (first_place (pieces (drop (length tokens - n) tokens)))))
+      look : (r : Result (A × List Piece) (Fault × List Piece)) → Finds L 64 ts r → Fails (stop.Fault f n) r → PartAnswer L view tokens at (Err (front.Refused (rule_number (rule_of f)) (first_place (pieces (drop (length tokens - n) tokens)))))
       look (Ok x) h q = absurd q
       look (Err e) h q =
           let a = refusal e.0 e.1 h in
-          subst (λ (k : ℕ). PartAnswer L view tokens at (Err (front.Refused (rule_of f) (first_place (pieces (drop (length tokens - k) tokens)))))) q.1
-          (subst (λ (c : Fault). PartAnswer L view tokens at (Err (front.Refused (rule_of c) (first_place (pieces (drop (length tokens - length e.1) tokens)))))) q.0 a)
+          subst (λ (k : ℕ). PartAnswer L view tokens at (Err (front.Refused (rule_number (rule_of f)) (first_place (pieces (drop (length tokens - k) tokens)))))) q.1
+          (subst (λ (c : Fault). PartAnswer L view tokens at (Err (front.Refused (rule_number (rule_of c)) (first_place (pieces (drop (length tokens - length e.1) tokens)))))) q.0 a)

@@ -1,10 +1,7 @@
 -- What the values of the code stand for.
 use Rattle.std.specs.Prelude.{List, [], ◌∷◌, Bool, false}
 use Rattle.ss_core.specs.declared.names.Place.{Place}
-use Rattle.ss_ast.specs.declared.expr.Link.{Link}
-use Rattle.ss_ast.specs.declared.expr.Postfix.{Postfix}
-use Rattle.ss_ast.specs.declared.expr.Expr.TheFolds.{fold-Link, fold-Postfix}
-use Rattle.ss_ast.specs.Expressions.{ExprTree, Behind, expr_step, link_step, postfix_step, expr_tree, type_tree, type_name_tree}
+use Rattle.ss_ast.specs.Expressions.{expr_tree, type_tree, type_name_tree}
 use Rattle.ss_grammar_expressions.specs.Heads.{LinkHead, Operation, IsHead, AsHead, TypeHead, Ranked, Head, NegateHead, NotHead, OpenHead, Leaf, OldHead, NewHead, QuantifierHead}
 use Rattle.ss_grammar_expressions.specs.Grammar.{Enclosed, AType, AnExpr}
 use Rattle.ss_parser_expressions.specs.declared.heads.Start.{Start}
@@ -17,12 +14,6 @@ use Rattle.ss_parser_expressions.specs.declared.heads.UnaryStart.{UnaryStart}
 use Rattle.ss_parser_expressions.specs.declared.heads.UnaryStart.TheVariants as unary
 use Rattle.ss_parser_expressions.specs.declared.build.Inside.{Inside}
 use Rattle.ss_parser_expressions.specs.declared.build.Inside.TheVariants as inside
-
-abbrev pub link_tree : Link → Behind
-link_tree = fold-Link ExprTree Behind Behind expr_step link_step postfix_step
-
-abbrev pub postfix_tree : Postfix → Behind
-postfix_tree = fold-Postfix ExprTree Behind Behind expr_step link_step postfix_step
 
 abbrev pub start_of : Start → TypeHead
 start_of s = record { place = s.place; name = type_name_tree s.name }

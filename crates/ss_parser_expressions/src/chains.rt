@@ -6,7 +6,8 @@ ghost use Rattle.ss_grammar.specs.Reading.{times};
 ghost use Rattle.ss_grammar.specs.Stops.{Gives};
 ghost use Rattle.ss_grammar_expressions.specs.Heads.{pieces, link_head};
 ghost use Rattle.ss_grammar_expressions.specs.Parser.{below, joins, link_behind, chain, operand};
-ghost use Rattle.ss_parser_expressions.specs.View.{link_tree, joint_of};
+ghost use Rattle.ss_ast.specs.Parts.{link_behind as link_tree};
+ghost use Rattle.ss_parser_expressions.specs.View.{joint_of};
 
 use crate::build;
 use crate::heads::{Joint, next_joint};

@@ -7,7 +7,8 @@ ghost use Rattle.ss_grammar.specs.Stops.{Gives, GivesMore};
 ghost use Rattle.ss_grammar_expressions.specs.First.{tokened};
 ghost use Rattle.ss_grammar_expressions.specs.Heads.{pieces, postfix_head};
 ghost use Rattle.ss_grammar_expressions.specs.Parser.{below, postfix, postfixes, new, old, new_end};
-ghost use Rattle.ss_parser_expressions.specs.View.{postfix_tree, start_of};
+ghost use Rattle.ss_ast.specs.Parts.{postfix_behind as postfix_tree};
+ghost use Rattle.ss_parser_expressions.specs.View.{start_of};
 
 use crate::arguments::{parse_args_end, parse_index_end, parse_paren_end};
 use crate::build;

@@ -2,11 +2,12 @@
 
 ghost use Rattle.std.specs.Prelude.{◌≡◌, ◌-◌, length, drop};
 ghost use Rattle.ss_core.specs.declared.names.FrontStop.TheVariants.{Refused};
+ghost use Rattle.ss_core.specs.Rules.{rule_number};
 ghost use Rattle.ss_grammar_expressions.specs.Heads.{pieces};
 ghost use Rattle.ss_parser_expressions.specs.Answer.{first_place, rule_of};
 
 use ss_ast::Token;
-use ss_core::{FrontStop, Place};
+use ss_core::{FrontStop, Place, Rule};
 use ss_grammar::fault::Fault;
 
 // The place of the token with so many left, itself included.
@@ -21,13 +22,22 @@ fn place_left(tokens: &[Token], left: usize) -> Place
     }
 }
 
+// The rule that a fault breaks.
+fn rule_of(fault: Fault) -> Rule
+    ensures { result ≡ rule_of fault }
+{
+    match fault {
+        Fault::Expected => Rule::Unexpected,
+        Fault::TooDeep => Rule::TooDeep,
+    }
+}
+
 /// The refusal at the token with so many left.
 pub fn refused(tokens: &[Token], fault: Fault, left: usize) -> FrontStop
-    ensures { result ≡ Refused (rule_of fault) (first_place (pieces (drop (length tokens.now - left) tokens.now))) }
+    ensures { result ≡ Refused (rule_number (rule_of fault)) (first_place (pieces (drop (length tokens.now - left) tokens.now))) }
 {
-    let place = place_left(tokens, left);
-    match fault {
-        Fault::Expected => FrontStop::Refused { rule: 10, place },
-        Fault::TooDeep => FrontStop::Refused { rule: 11, place },
+    FrontStop::Refused {
+        rule: rule_of(fault).number(),
+        place: place_left(tokens, left),
     }
 }

@@ -1,8 +1,8 @@
 -- The fields of the `this` of a constructor that have their values on every path to a point (OOPSLA 2003).
 use Rattle.std.specs.Prelude.{ℕ, ◌==◌, ◌+◌, ◌-◌, Bool, true, false, not, ◌&&◌, ◌||◌, if◌then◌else◌, Option, Some, None, is_some, slice_get, nat_le}
 use Rattle.ss_ast.specs.declared.stmt.AssignOperator.TheVariants as assign
-use Rattle.ss_typed.specs.Tree.{ExprTree, FieldOf, SimpleTree, AssignOf, BaseCallOf, BlockTree, BlockOf, StmtTree, SimpleOf, StmtTrees, NoMore, Before, BodyTree, FieldTree, TypedTree}
-use Rattle.ss_typed.specs.Shapes.{has_base, is_this}
+use Rattle.ss_typed.specs.Tree.{ExprTree, FieldOf, SimpleTree, AssignOf, BaseCallOf, BodyTree, FieldTree, TypedTree}
+use Rattle.ss_typed.specs.Shapes.{has_base, in_block, is_this}
 use Rattle.ss_paths.specs.Sets.{Set, put, both}
 use Rattle.ss_paths.specs.Fields.{Numbers, is_among, written_fields}
 use Rattle.ss_paths.specs.Paths.{Flow}
@@ -46,9 +46,6 @@ abbrev pub starts_with_value : Option FieldTree → Bool
 starts_with_value None = false
 starts_with_value (Some f) = is_some f.initial
 
-abbrev pub statements : BlockTree → StmtTrees
-statements (BlockOf p ss end) = ss
-
 -- the field at this place of the class has an initializer
 unfoldable pub has_initializer : TypedTree → ℕ → Set
 has_initializer p t i = starts_with_value (slice_get (written_fields p t) i)
@@ -60,4 +57,4 @@ assigned_by_initializers p t = record { own = has_initializer p t; above = false
 -- At the beginning of the block. `: base(..)` has been called, or the `base(..)` that is implied where none is written: where that one comes
 -- behind the first assignments, these read no field of `this`, so it makes no difference.
 abbrev pub assigned_first : TypedTree → BodyTree → Assigned
-assigned_first p b = record (assigned_by_initializers p b.class) { above = not (has_base (statements b.block)) }
+assigned_first p b = record (assigned_by_initializers p b.class) { above = not (has_base (in_block b.block)) }

@@ -2,3 +2,4 @@ pub mod Sets
 pub mod Paths
 pub mod Fields
 pub mod Assigned
+pub mod Opening

@@ -1,5 +1,5 @@
 -- Sets of numbers.
-use Rattle.std.specs.Prelude.{ℕ, ◌==◌, Bool, false, not, ◌&&◌, ◌||◌, if◌then◌else◌}
+use Rattle.std.specs.Prelude.{ℕ, ◌==◌, List, [], ◌∷◌, Bool, false, not, ◌&&◌, ◌||◌, if◌then◌else◌}
 
 abbrev pub Set : Type 0
 Set = ℕ → Bool
@@ -22,3 +22,8 @@ without f g x = f x && not (g x)
 -- with the number or without it
 unfoldable pub put : ℕ → Bool → Set → Set
 put x is_in f y = if x == y then is_in else f y
+
+-- the numbers of a list
+abbrev pub among : List ℕ → Set
+among [] = none
+among (x ∷ xs) = either (only x) (among xs)

@@ -11,7 +11,7 @@ use Rattle.ss_typed.specs.Tree.{FieldTree, TypedTree}
 use Rattle.ss_paths_assigned.specs.Numbered.{firsts_from}
 use Rattle.ss_paths_assigned.specs.Started.{started}
 use Rattle.ss_bit_set.specs.Marked.{listed}
-use Rattle.ss_bit_set.proofs.Lists.{same_sets}
+use Rattle.ss_paths.proofs.Among.{same_sets}
 
 pub firsts_length : (n : ℕ) (cs : List ClassTree) → length (firsts_from n cs) ≡ length cs + 1
 firsts_length n [] = refl

@@ -1,4 +1,3 @@
-pub mod Shapes
 pub mod Numbered
 pub mod Codes
 pub mod Started

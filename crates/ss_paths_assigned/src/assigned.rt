@@ -6,11 +6,10 @@ ghost use Rattle.ss_typed.specs.View.{expr, simple_of};
 ghost use Rattle.ss_paths.specs.Assigned.{has_field, own_assigned, assigned_by, both_assigned};
 
 use crate::fields::Numbers;
-use crate::shapes::own_field;
 use ss_ast::AssignOperator;
 use ss_bit_set::BitSet;
 use ss_core::FieldId;
-use ss_typed::{TypedExpr, TypedSimple};
+use ss_typed::{TypedExpr, TypedSimple, own_field};
 use std::alloc::AllocError;
 
 /// The fields that have their values on every path to a point.

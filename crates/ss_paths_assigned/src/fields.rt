@@ -4,11 +4,12 @@ ghost use Rattle.std.specs.Prelude.{◌≡◌, ◌++◌, ◌+◌, List, ◌∷�
 ghost use Rattle.ss_core.specs.Tree.{ClassTree};
 ghost use Rattle.ss_core.specs.View.{class_of, classes};
 ghost use Rattle.ss_typed.specs.View.{members, typed};
-ghost use Rattle.ss_paths.specs.Fields.{is_non_null, class_place, fields_in, field_count, field_numbers, is_among};
+ghost use Rattle.ss_paths.specs.Fields.{is_non_null, fields_in, field_count, field_numbers, is_among};
+ghost use Rattle.ss_typed.specs.Lookups.{class_place};
 ghost use Rattle.ss_paths_assigned.specs.Numbered.{firsts_from};
 
 use ss_core::{Class, ClassId, FieldId, Ty};
-use ss_typed::{Typed, TypedClass};
+use ss_typed::{Typed, TypedClass, class_place};
 use std::alloc::{AllocError, Global};
 
 /// Whether a value of the type is never null.
@@ -38,13 +39,6 @@ impl Numbers {
         let number = field.0 as usize;
         self.first <= number && number - self.first < self.count
     }
-}
-
-// The place of a declared class in the list of classes.
-fn class_place(class: ClassId) -> usize
-    ensures { result ≡ class_place class.0 }
-{
-    (class.0 as usize).saturating_sub(4) / 2
 }
 
 /// The entry of a class in the table of classes.

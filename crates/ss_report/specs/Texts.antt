@@ -31,6 +31,10 @@ kind_name kind.WriteCommitted = codes "WriteCommitted"
 kind_name kind.RepOwner = codes "RepOwner"
 kind_name kind.PeerOwner = codes "PeerOwner"
 
+-- the text of the verdict that a program is verified
+abbrev pub verified_line : List ℕ
+verified_line = codes "verified" ++ 10 ∷ []
+
 abbrev pub place_text : Place → List ℕ
 place_text at = decimal at.line ++ codes ":" ++ decimal at.column
 

@@ -7,7 +7,9 @@ use Rattle.ss_vcgen_heaps.specs.Positions.{Obligation}
 use Rattle.ss_search.specs.declared.answers.Countered.{Countered}
 use Rattle.ss_search.specs.declared.answers.Undecided.{Undecided}
 use Rattle.ss_search.specs.declared.answers.Budget.{Budget}
-use Rattle.ss_report.specs.Texts.{not_proved_line, undecided_line}
+use Rattle.ss_search.specs.declared.answers.Verdict.{Verdict}
+use Rattle.ss_search.specs.declared.answers.Verdict.TheVariants as verdict
+use Rattle.ss_report.specs.Texts.{verified_line, not_proved_line, undecided_line}
 
 -- ---- what is listed, by the number of the obligation
 
@@ -40,5 +42,12 @@ lines_from c cs us k [] = []
 lines_from c cs us k (o ∷ os) = line_of c o (is_countered cs k) (budget_of us k) ++ lines_from c cs us (k + 1) os
 
 -- a line for each listed obligation, in order of number
-abbrev pub verdict_text : CoreTree → List Obligation → List Countered → List Undecided → List ℕ
-verdict_text c os cs us = lines_from c cs us 0 os
+abbrev pub listed_text : CoreTree → List Obligation → List Countered → List Undecided → List ℕ
+listed_text c os cs us = lines_from c cs us 0 os
+
+-- The text of a verdict: that the program is verified, or what is listed. Want of memory has no text, and nothing is written for it.
+abbrev pub verdict_text : CoreTree → List Obligation → Verdict → List ℕ
+verdict_text c os (verdict.Verified ds) = verified_line
+verdict_text c os (verdict.Unproved countered undecided) = listed_text c os countered.items undecided.items
+verdict_text c os (verdict.Undecided undecided) = listed_text c os [] undecided.items
+verdict_text c os verdict.Memory = []

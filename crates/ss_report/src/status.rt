@@ -1,9 +1,9 @@
 // How a run of the program ends.
 
-ghost use Rattle.std.specs.Prelude.{◌≡◌, IfOk, string_bytes};
+ghost use Rattle.std.specs.Prelude.{◌≡◌, IfOk};
 ghost use Rattle.ss_report.specs.Status.{failed_text, refused_text, stopped_text, status_text};
 
-use crate::texts::{kind_name, place_text};
+use crate::texts::kind_name;
 use ss_core::{Kind, Place};
 use ss_search::{Countered, Undecided};
 use std::alloc::{AllocError, Global};
@@ -73,49 +73,46 @@ impl Status {
     }
 }
 
-fn refused_line(alloc: Global, rule: u16, place: Place) -> Result<String, AllocError>
-    ensures { IfOk result (λ line. string_bytes line ≡ refused_text rule place) }
+fn refused_line(alloc: Global, rule: u16, place: Place) -> Result<Vec<u8>, AllocError>
+    ensures { IfOk result (λ line. line.items ≡ refused_text rule place) }
 {
-    let mut line = String::from_str(alloc, "refused ")?;
-    line.push_str(&rule.to_string(alloc)?)?;
-    line.push_str(" at ")?;
-    line.push_str(&place_text(alloc, place)?)?;
-    Ok(line)
+    let Place { line, column } = place;
+    let text = format!(in alloc; "refused {rule} at {line}:{column}")?;
+    Ok(text.into_bytes())
 }
 
-fn stopped_line(alloc: Global, place: Place) -> Result<String, AllocError>
-    ensures { IfOk result (λ line. string_bytes line ≡ stopped_text place) }
+fn stopped_line(alloc: Global, place: Place) -> Result<Vec<u8>, AllocError>
+    ensures { IfOk result (λ line. line.items ≡ stopped_text place) }
 {
-    let mut line = String::from_str(alloc, "stopped at ")?;
-    line.push_str(&place_text(alloc, place)?)?;
-    Ok(line)
+    let Place { line, column } = place;
+    let text = format!(in alloc; "stopped at {line}:{column}")?;
+    Ok(text.into_bytes())
 }
 
-fn failed_line(alloc: Global, kind: Kind, place: Place) -> Result<String, AllocError>
-    ensures { IfOk result (λ line. string_bytes line ≡ failed_text kind place) }
+fn failed_line(alloc: Global, kind: Kind, place: Place) -> Result<Vec<u8>, AllocError>
+    ensures { IfOk result (λ line. line.items ≡ failed_text kind place) }
 {
-    let mut line = String::from_str(alloc, "failed: ")?;
-    line.push_str(kind_name(kind))?;
-    line.push_str(" at ")?;
-    line.push_str(&place_text(alloc, place)?)?;
-    Ok(line)
+    let kind = kind_name(kind);
+    let Place { line, column } = place;
+    let text = format!(in alloc; "failed: {kind} at {line}:{column}")?;
+    Ok(text.into_bytes())
 }
 
-/// What is said of a status on standard error, without the line end; nothing of Ended.
-pub fn status_line(alloc: Global, status: &Status) -> Result<String, AllocError>
-    ensures { IfOk result (λ line. string_bytes line ≡ status_text status.now) }
+/// What is said of a status on standard error, without the line end; nothing of Ended. An error is want of memory.
+pub fn status_line(alloc: Global, status: &Status) -> Result<Vec<u8>, AllocError>
+    ensures { IfOk result (λ line. line.items ≡ status_text status.now) }
 {
     match status {
-        Status::Ended => Ok(String::new(alloc)),
-        Status::Unproved { .. } => String::from_str(alloc, "unproved"),
-        Status::BadWords => String::from_str(alloc, "bad words"),
-        Status::ReadFault => String::from_str(alloc, "read fault"),
+        Status::Ended => Ok(Vec::new(alloc)),
+        Status::Unproved { .. } => Vec::from_slice(alloc, b"unproved"),
+        Status::BadWords => Vec::from_slice(alloc, b"bad words"),
+        Status::ReadFault => Vec::from_slice(alloc, b"read fault"),
         Status::SourceRefused { rule, place } => refused_line(alloc, *rule, *place),
-        Status::WriteFault => String::from_str(alloc, "write fault"),
-        Status::Memory => String::from_str(alloc, "out of memory"),
-        Status::Undecided { .. } => String::from_str(alloc, "undecided"),
-        Status::NotAdmitted => String::from_str(alloc, "input not admitted"),
-        Status::StepsSpent => String::from_str(alloc, "steps spent"),
+        Status::WriteFault => Vec::from_slice(alloc, b"write fault"),
+        Status::Memory => Vec::from_slice(alloc, b"out of memory"),
+        Status::Undecided { .. } => Vec::from_slice(alloc, b"undecided"),
+        Status::NotAdmitted => Vec::from_slice(alloc, b"input not admitted"),
+        Status::StepsSpent => Vec::from_slice(alloc, b"steps spent"),
         Status::Failed { kind, place } => failed_line(alloc, *kind, *place),
         Status::Stopped { place } => stopped_line(alloc, *place),
     }

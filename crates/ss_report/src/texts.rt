@@ -127,8 +127,8 @@ pub(crate) fn push_undecided(
     Ok(())
 }
 
-/// The line and the column of a place, with a colon between them.
-pub(crate) fn place_text(alloc: Global, place: Place) -> Result<String, AllocError>
+// The line and the column of a place, with a colon between them.
+fn place_text(alloc: Global, place: Place) -> Result<String, AllocError>
     ensures { IfOk result (λ text. string_bytes text ≡ place_words place) }
 {
     let mut text = place.line.to_string(alloc)?;

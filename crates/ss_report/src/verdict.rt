@@ -6,12 +6,12 @@ ghost use Rattle.ss_terms.specs.declared.forms.FormulaId.{FormulaId};
 ghost use Rattle.ss_terms.specs.Forms.{Forms};
 ghost use Rattle.ss_vcgen_builder.specs.Builder.{obligation_at, obligations_at};
 ghost use Rattle.ss_vcgen.specs.Built.{trees};
-ghost use Rattle.ss_search.specs.Listed.{countered_numbers, undecided_numbers, AreRisingFrom};
-ghost use Rattle.ss_report.specs.Verdict.{verdict_text as verdict_of, line_of, is_countered, budget_of, class_of_body, name_of_body};
+ghost use Rattle.ss_search.specs.Listed.{countered_numbers, countered_of, undecided_numbers, undecided_of, AreRisingFrom};
+ghost use Rattle.ss_report.specs.Verdict.{verdict_text as verdict_of, listed_text as lines_of, line_of, is_countered, budget_of, class_of_body, name_of_body};
 
 use crate::texts::{push_not_proved, push_undecided};
 use ss_core::{BodyId, Core};
-use ss_search::{Budget, Countered, Undecided};
+use ss_search::{Budget, Countered, Undecided, Verdict};
 use ss_vcgen::{Listed, Obligations};
 use std::alloc::{AllocError, Global};
 
@@ -103,7 +103,7 @@ fn next_undecided(rest: &[Undecided], number: usize) -> (Option<Budget>, &[Undec
 }
 
 // The lines of the listed obligations of a list.
-fn verdict_lines(
+fn listed_lines(
     alloc: Global,
     program: &Core,
     list: &[Listed],
@@ -112,7 +112,7 @@ fn verdict_lines(
 ) -> Result<String, AllocError>
     requires countered { AreRisingFrom 0 (countered_numbers countered.now) }
     requires undecided { AreRisingFrom 0 (undecided_numbers undecided.now) }
-    ensures { (b : Forms) (trail : List FormulaId) → IfOk result (λ text. string_bytes text ≡ verdict_of (view.core program.now) (obligations_at b trail list.now) countered.now undecided.now) }
+    ensures { (b : Forms) (trail : List FormulaId) → IfOk result (λ text. string_bytes text ≡ lines_of (view.core program.now) (obligations_at b trail list.now) countered.now undecided.now) }
 {
     let mut text = String::new(alloc);
     let mut countered = countered;
@@ -127,17 +127,42 @@ fn verdict_lines(
     Ok(text)
 }
 
-/// The text of a verdict: a line for each listed obligation, in order of number. An error is want of memory.
-pub fn verdict_text(
+// The lines of the listed obligations, as bytes.
+fn listed_text(
     alloc: Global,
     program: &Core,
     obligations: &Obligations,
     countered: &[Countered],
     undecided: &[Undecided],
-) -> Result<String, AllocError>
+) -> Result<Vec<u8>, AllocError>
     requires countered { AreRisingFrom 0 (countered_numbers countered.now) }
     requires undecided { AreRisingFrom 0 (undecided_numbers undecided.now) }
-    ensures { IfOk result (λ text. string_bytes text ≡ verdict_of (view.core program.now) (trees obligations.now) countered.now undecided.now) }
+    ensures { IfOk result (λ text. text.items ≡ lines_of (view.core program.now) (trees obligations.now) countered.now undecided.now) }
 {
-    verdict_lines(alloc, program, &obligations.list, countered, undecided)
+    let text = listed_lines(alloc, program, &obligations.list, countered, undecided)?;
+    Ok(text.into_bytes())
+}
+
+/// The text of a verdict: the line `verified`, or a line for each listed obligation, in order of number. An error is want of memory.
+pub fn verdict_text(
+    alloc: Global,
+    program: &Core,
+    obligations: &Obligations,
+    verdict: &Verdict,
+) -> Result<Vec<u8>, AllocError>
+    requires countered { AreRisingFrom 0 (countered_numbers (countered_of verdict.now)) }
+    requires undecided { AreRisingFrom 0 (undecided_numbers (undecided_of verdict.now)) }
+    ensures { IfOk result (λ text. text.items ≡ verdict_of (view.core program.now) (trees obligations.now) verdict.now) }
+{
+    match verdict {
+        Verdict::Verified(_) => Vec::from_slice(alloc, b"verified\n"),
+        Verdict::Unproved {
+            countered,
+            undecided,
+        } => listed_text(alloc, program, obligations, countered, undecided),
+        Verdict::Undecided(undecided) => {
+            listed_text(alloc, program, obligations, &[], undecided)
+        }
+        Verdict::Memory => Ok(Vec::new(alloc)),
+    }
 }

@@ -17,7 +17,7 @@ use Rattle.ss_core.specs.View.{Behind, grouped, expr, expr_step, link_step, step
 use Rattle.ss_report_core.specs.Exprs.{expr_text, head_text, state_text, owners_text}
 use Rattle.ss_report_core.specs.Behinds.{link_behind, step_behind, links_text, steps_text, word_before, word_behind, owners_before, owners_behind}
 use Rattle.ss_report_core.proofs.Chains.{chain_text, path_text}
-use Rattle.ss_report_core.proofs.Written.{two_written, three_written}
+use Rattle.ss_report_core.proofs.Written.{two_written}
 
 chain_is : (p : Place) (first : Box Expr) (links : Vec Link) → expr (Chain p first links) ≡ grouped p (expr first.value) (map link_behind links.items)
 chain_is p first links = ap expr (sym (rolls-Chain p first links)) ∙ fold-roll-Expr ExprTree Behind Behind expr_step link_step step_step (shape.Chain p first links)
@@ -28,11 +28,11 @@ path_is p first steps = ap expr (sym (rolls-Path p first steps)) ∙ fold-roll-E
 quantified_is : (p : Place) (q : Quantifier) (n : String Global) (low high m : Box Expr) → expr (Quantified p q n low high m) ≡ QuantifiedExpr p q (string_bytes n) (expr low.value) (expr high.value) (expr m.value)
 quantified_is p q n low high m = ap expr (sym (rolls-Quantified p q n low high m)) ∙ fold-roll-Expr ExprTree Behind Behind expr_step link_step step_step (shape.Quantified p q n low high m)
 
-pub chain_done : {T E : Type 0} (r : Result T E) (cs : List ClassTree) (names : List (List ℕ)) (p : Place) (first : Box Expr) (links : Vec Link) (e f : Expr) (ls : List Link) (n : ℕ) (o0 o1 o2 new : List ℕ)
+pub chain_done : {T E : Type 0} (r : Result T E) (cs : List ClassTree) (names : List (List ℕ)) (p : Place) (first : Box Expr) (links : Vec Link) (e f : Expr) (ls : List Link) (n : ℕ) (o0 o1 new : List ℕ)
     → e ≡ Chain p first links → n ≡ length links.items → f ≡ first.value → ls ≡ links.items
-    → o1 ≡ o0 ++ replicate n 40 → o2 ≡ o1 ++ expr_text cs names (expr f) → OnOk r (new ≡ o2 ++ links_text cs names (map link_behind ls))
+    → o1 ≡ o0 ++ (replicate n 40 ++ expr_text cs names (expr f)) → OnOk r (new ≡ o1 ++ links_text cs names (map link_behind ls))
     → OnOk r (new ≡ o0 ++ expr_text cs names (expr e))
-chain_done r cs names p first links e f ls n o0 o1 o2 new is n_is f_is ls_is e1 e2 h =
+chain_done r cs names p first links e f ls n o0 o1 new is n_is f_is ls_is e1 h =
     let whole : expr_text cs names (expr e) ≡ replicate n 40 ++ (expr_text cs names (expr f) ++ links_text cs names (map link_behind ls)) =
     ap (λ (x : Expr). expr_text cs names (expr x)) is
     ∙ ap (expr_text cs names) (chain_is p first links)
@@ -40,7 +40,8 @@ chain_done r cs names p first links e f ls n o0 o1 o2 new is n_is f_is ls_is e1 
     ∙ ap (λ k. replicate k 40 ++ (expr_text cs names (expr first.value) ++ links_text cs names (map link_behind links.items))) (sym n_is)
     ∙ ap (λ (x : Expr). replicate n 40 ++ (expr_text cs names (expr x) ++ links_text cs names (map link_behind links.items))) (sym f_is)
     ∙ ap (λ (xs : List Link). replicate n 40 ++ (expr_text cs names (expr f) ++ links_text cs names (map link_behind xs))) (sym ls_is) in
-    three_written r new o0 o1 o2 (replicate n 40) (expr_text cs names (expr f)) (links_text cs names (map link_behind ls)) (expr_text cs names (expr e)) e1 e2 whole h
+    two_written r new o0 o1 (replicate n 40 ++ expr_text cs names (expr f)) (links_text cs names (map link_behind ls)) (expr_text cs names (expr e)) e1
+    (whole ∙ sym (append_assoc (replicate n 40) (expr_text cs names (expr f)) (links_text cs names (map link_behind ls)))) h
 
 pub path_done : {T E : Type 0} (r : Result T E) (cs : List ClassTree) (names : List (List ℕ)) (p : Place) (first : Box Expr) (steps : Vec Step) (e f : Expr) (ss : List Step) (o0 o1 new : List ℕ)
     → e ≡ Path p first steps → f ≡ first.value → ss ≡ steps.items
@@ -62,15 +63,15 @@ in_parts cs names q name low high bound m = head_text names q name ++ expr_text 
 joined : (o0 o1 o2 a b : List ℕ) → o1 ≡ o0 ++ a → o2 ≡ o1 ++ b → o2 ≡ o0 ++ (a ++ b)
 joined o0 o1 o2 a b e1 e2 = e2 ∙ ap (λ o. o ++ b) e1 ∙ append_assoc o0 a b
 
-behind : (o w x y z : List ℕ) → (((o ++ w) ++ x) ++ y) ++ z ≡ o ++ (((w ++ x) ++ y) ++ z)
+behind : (o w x y z : List ℕ) → (o ++ w) ++ ((x ++ y) ++ z) ≡ o ++ (((w ++ x) ++ y) ++ z)
 behind o w x y z = simp append_assoc
 
-pub quantified_done : {T E : Type 0} (r : Result T E) (cs : List ClassTree) (names : List (List ℕ)) (p : Place) (q : Quantifier) (n : String Global) (low high m : Box Expr) (e l h x : Expr) (name bound o0 o1 o2 o3 o4 new : List ℕ)
+pub quantified_done : {T E : Type 0} (r : Result T E) (cs : List ClassTree) (names : List (List ℕ)) (p : Place) (q : Quantifier) (n : String Global) (low high m : Box Expr) (e l h x : Expr) (name bound o0 o1 o2 new : List ℕ)
     → e ≡ Quantified p q n low high m → name ≡ string_bytes n → l ≡ low.value → h ≡ high.value → bound ≡ string_bytes n → x ≡ m.value
-    → o1 ≡ o0 ++ head_text names q name → o2 ≡ o1 ++ expr_text cs names (expr l) → o3 ≡ o2 ++ codes ": " → o4 ≡ o3 ++ expr_text cs names (expr h)
-    → OnOk r (new ≡ o4 ++ codes "); " ++ expr_text cs (names ++ bound ∷ []) (expr x) ++ codes "}")
+    → o1 ≡ o0 ++ (head_text names q name ++ expr_text cs names (expr l) ++ codes ": ") → o2 ≡ o1 ++ expr_text cs names (expr h)
+    → OnOk r (new ≡ o2 ++ (codes "); " ++ expr_text cs (names ++ bound ∷ []) (expr x) ++ codes "}"))
     → OnOk r (new ≡ o0 ++ expr_text cs names (expr e))
-quantified_done r cs names p q n low high m e l h x name bound o0 o1 o2 o3 o4 new is name_is l_is h_is bound_is x_is e1 e2 e3 e4 last =
+quantified_done r cs names p q n low high m e l h x name bound o0 o1 o2 new is name_is l_is h_is bound_is x_is e1 e2 last =
     let a = head_text names q name in
     let b = expr_text cs names (expr l) in
     let d = expr_text cs names (expr h) in
@@ -83,9 +84,9 @@ quantified_done r cs names p q n low high m e l h x name bound o0 o1 o2 o3 o4 ne
     ∙ ap (λ (y : Expr). in_parts cs names q name l y (string_bytes n) m.value) (sym h_is)
     ∙ ap (λ y. in_parts cs names q name l h y m.value) (sym bound_is)
     ∙ ap (λ (y : Expr). in_parts cs names q name l h bound y) (sym x_is) in
-    let written = joined o0 o3 o4 ((a ++ b) ++ codes ": ") d (joined o0 o2 o3 (a ++ b) (codes ": ") (joined o0 o1 o2 a b e1 e2) e3) e4 in
-    let all : o4 ++ codes "); " ++ y ++ codes "}" ≡ o0 ++ expr_text cs names (expr e) =
-    ap (λ o. o ++ codes "); " ++ y ++ codes "}") written
+    let written = joined o0 o1 o2 ((a ++ b) ++ codes ": ") d e1 e2 in
+    let all : o2 ++ ((codes "); " ++ y) ++ codes "}") ≡ o0 ++ expr_text cs names (expr e) =
+    ap (λ o. o ++ ((codes "); " ++ y) ++ codes "}")) written
     ∙ behind o0 (((a ++ b) ++ codes ": ") ++ d) (codes "); ") y (codes "}")
     ∙ ap (λ t. o0 ++ t) (sym whole) in
     subst (λ t. OnOk r (new ≡ t)) all last
@@ -111,33 +112,33 @@ owners_parts : (cs : List ClassTree) (w : OwnersTree) (a b : List ℕ) → owner
 owners_parts cs SameOwner a b = simp append_assoc
 owners_parts cs (OwnedAt t) a b = simp append_assoc
 
-pub state_done : {T E : Type 0} (r : Result T E) (cs : List ClassTree) (names : List (List ℕ)) (p : Place) (w : StateWord) (a : Box Expr) (e x : Expr) (before o0 o1 o2 new : List ℕ)
-    → e ≡ State p w a → x ≡ a.value → before ≡ word_before (word_tree w)
-    → o1 ≡ o0 ++ before → o2 ≡ o1 ++ expr_text cs names (expr x) → OnOk r (new ≡ o2 ++ word_behind cs (word_tree w))
-    → OnOk r (new ≡ o0 ++ expr_text cs names (expr e))
-state_done r cs names p w a e x before o0 o1 o2 new is x_is before_is e1 e2 h =
-    let whole : expr_text cs names (expr e) ≡ word_before (word_tree w) ++ (expr_text cs names (expr x) ++ word_behind cs (word_tree w)) =
+pub state_done : {T E : Type 0} (r : Result T E) (cs : List ClassTree) (names : List (List ℕ)) (p : Place) (w : StateWord) (a : Box Expr) (e x : Expr) (o new : List ℕ)
+    → e ≡ State p w a → x ≡ a.value → OnOk r (new ≡ o ++ (word_before (word_tree w) ++ expr_text cs names (expr x) ++ word_behind cs (word_tree w)))
+    → OnOk r (new ≡ o ++ expr_text cs names (expr e))
+state_done r cs names p w a e x o new is x_is h =
+    let before = word_before (word_tree w) in
+    let rest = word_behind cs (word_tree w) in
+    let whole : expr_text cs names (expr e) ≡ (before ++ expr_text cs names (expr x)) ++ rest =
     ap (λ (y : Expr). expr_text cs names (expr y)) is
     ∙ ap (expr_text cs names) (state_is p w a)
     ∙ ap (λ (y : Expr). state_text cs (word_tree w) (expr_text cs names (expr y))) (sym x_is)
-    ∙ state_parts cs (word_tree w) (expr_text cs names (expr x)) in
-    three_written r new o0 o1 o2 (word_before (word_tree w)) (expr_text cs names (expr x)) (word_behind cs (word_tree w)) (expr_text cs names (expr e)) (e1 ∙ ap (λ t. o0 ++ t) before_is) e2 whole h
+    ∙ state_parts cs (word_tree w) (expr_text cs names (expr x))
+    ∙ sym (append_assoc before (expr_text cs names (expr x)) rest) in
+    subst (λ t. OnOk r (new ≡ o ++ t)) (sym whole) h
 
-pub owners_done : {T E : Type 0} (r : Result T E) (cs : List ClassTree) (names : List (List ℕ)) (p : Place) (w : OwnerTest) (a b : Box Expr) (e x y : Expr) (before o0 o1 o2 o3 o4 new : List ℕ)
+pub owners_done : {T E : Type 0} (r : Result T E) (cs : List ClassTree) (names : List (List ℕ)) (p : Place) (w : OwnerTest) (a b : Box Expr) (e x y : Expr) (before o0 o1 new : List ℕ)
     → e ≡ Owners p w a b → x ≡ a.value → y ≡ b.value → before ≡ owners_before (owners_tree w)
-    → o1 ≡ o0 ++ before → o2 ≡ o1 ++ expr_text cs names (expr x) → o3 ≡ o2 ++ codes ", " → o4 ≡ o3 ++ expr_text cs names (expr y) → OnOk r (new ≡ o4 ++ owners_behind cs (owners_tree w))
+    → o1 ≡ o0 ++ (before ++ expr_text cs names (expr x) ++ codes ", ") → OnOk r (new ≡ o1 ++ (expr_text cs names (expr y) ++ owners_behind cs (owners_tree w)))
     → OnOk r (new ≡ o0 ++ expr_text cs names (expr e))
-owners_done r cs names p w a b e x y before o0 o1 o2 o3 o4 new is x_is y_is before_is e1 e2 e3 e4 h =
+owners_done r cs names p w a b e x y before o0 o1 new is x_is y_is before_is e1 h =
+    let first = owners_before (owners_tree w) in
     let ax = expr_text cs names (expr x) in
-    let ay = expr_text cs names (expr y) in
-    let rest = owners_behind cs (owners_tree w) in
-    let whole : expr_text cs names (expr e) ≡ owners_before (owners_tree w) ++ (ax ++ (codes ", " ++ (ay ++ rest))) =
+    let rest = expr_text cs names (expr y) ++ owners_behind cs (owners_tree w) in
+    let whole : expr_text cs names (expr e) ≡ ((first ++ ax) ++ codes ", ") ++ rest =
     ap (λ (z : Expr). expr_text cs names (expr z)) is
     ∙ ap (expr_text cs names) (owners_are p w a b)
     ∙ ap (λ (z : Expr). owners_text cs (owners_tree w) (expr_text cs names (expr z)) (expr_text cs names (expr b.value))) (sym x_is)
     ∙ ap (λ (z : Expr). owners_text cs (owners_tree w) ax (expr_text cs names (expr z))) (sym y_is)
-    ∙ owners_parts cs (owners_tree w) ax ay in
-    two_written r new o0 o1 (owners_before (owners_tree w)) (ax ++ (codes ", " ++ (ay ++ rest))) (expr_text cs names (expr e)) (e1 ∙ ap (λ t. o0 ++ t) before_is) whole
-    (two_written r new o1 o2 ax (codes ", " ++ (ay ++ rest)) (ax ++ (codes ", " ++ (ay ++ rest))) e2 refl
-    (two_written r new o2 o3 (codes ", ") (ay ++ rest) (codes ", " ++ (ay ++ rest)) e3 refl
-    (two_written r new o3 o4 ay rest (ay ++ rest) e4 refl h)))
+    ∙ owners_parts cs (owners_tree w) ax (expr_text cs names (expr y))
+    ∙ sym (append_assoc (first ++ ax) (codes ", ") rest ∙ append_assoc first ax (codes ", " ++ rest)) in
+    two_written r new o0 o1 ((first ++ ax) ++ codes ", ") rest (expr_text cs names (expr e)) (e1 ∙ ap (λ t. o0 ++ ((t ++ ax) ++ codes ", ")) before_is) whole h

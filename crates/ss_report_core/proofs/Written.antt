@@ -30,16 +30,13 @@ opened o0 out more i e before =
     let next : i + 1 ≡ suc i = omega arith in
     e ∙ ap (λ o. o ++ 40 ∷ []) before ∙ append_assoc o0 (replicate i 40) (40 ∷ []) ∙ ap (λ ys. o0 ++ ys) (one_more_open i [] ∙ ap (λ ys. 40 ∷ ys) (append-nil (replicate i 40)) ∙ ap (λ n. replicate n 40) (sym next))
 
-regrouped : (o i k n t p a y e : List ℕ) → ((((((o ++ i) ++ k) ++ n) ++ t) ++ p) ++ a) ++ (y ++ e) ≡ o ++ ((i ++ (((((k ++ n) ++ t) ++ p) ++ a) ++ y)) ++ e)
+regrouped : (o i k n t p a y e : List ℕ) → (((o ++ (i ++ k)) ++ n) ++ t) ++ ((p ++ a) ++ (y ++ e)) ≡ o ++ ((i ++ (((((k ++ n) ++ t) ++ p) ++ a) ++ y)) ++ e)
 regrouped o i k n t p a y e = simp append_assoc
 
 -- the line of an object or an array that is made, part by part
-pub made_line : {T E : Type 0} (r : Result T E) (o0 o1 o2 o3 o4 o5 o6 new i k n t p a y e : List ℕ) → o1 ≡ o0 ++ i → o2 ≡ o1 ++ k → o3 ≡ o2 ++ n → o4 ≡ o3 ++ t → o5 ≡ o4 ++ p → o6 ≡ o5 ++ a
-    → OnOk r (new ≡ o6 ++ (y ++ e)) → OnOk r (new ≡ o0 ++ ((i ++ (((((k ++ n) ++ t) ++ p) ++ a) ++ y)) ++ e))
-made_line r o0 o1 o2 o3 o4 o5 o6 new i k n t p a y e e1 e2 e3 e4 e5 e6 h =
-    let d2 = e2 ∙ ap (λ o. o ++ k) e1 in
-    let d3 = e3 ∙ ap (λ o. o ++ n) d2 in
-    let d4 = e4 ∙ ap (λ o. o ++ t) d3 in
-    let d5 = e5 ∙ ap (λ o. o ++ p) d4 in
-    let d6 = e6 ∙ ap (λ o. o ++ a) d5 in
-    subst (λ ys. OnOk r (new ≡ ys)) (ap (λ o. o ++ (y ++ e)) d6 ∙ regrouped o0 i k n t p a y e) h
+pub made_line : {T E : Type 0} (r : Result T E) (o0 o1 o2 o3 new i k n t p a y e : List ℕ) → o1 ≡ o0 ++ (i ++ k) → o2 ≡ o1 ++ n → o3 ≡ o2 ++ t
+    → OnOk r (new ≡ o3 ++ ((p ++ a) ++ (y ++ e))) → OnOk r (new ≡ o0 ++ ((i ++ (((((k ++ n) ++ t) ++ p) ++ a) ++ y)) ++ e))
+made_line r o0 o1 o2 o3 new i k n t p a y e e1 e2 e3 h =
+    let d2 = e2 ∙ ap (λ o. o ++ n) e1 in
+    let d3 = e3 ∙ ap (λ o. o ++ t) d2 in
+    subst (λ ys. OnOk r (new ≡ ys)) (ap (λ o. o ++ ((p ++ a) ++ (y ++ e))) d3 ∙ regrouped o0 i k n t p a y e) h

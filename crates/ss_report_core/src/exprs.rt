@@ -10,9 +10,9 @@ ghost use Rattle.ss_report_core.specs.Behinds.{link_behind, step_behind, link_te
 ghost use Rattle.ss_report_core.specs.Behinds as behinds;
 
 use crate::fields::field_name;
-use crate::names::push_class;
+use crate::joins::{push_both, push_class_between};
 use crate::scene::Scene;
-use crate::scopes::{push_bound, push_bytes, push_local};
+use crate::scopes::{push_bound, push_local};
 use crate::words::{bool_text, null_mark, operator_text, push_int, quantifier_text};
 use ss_core::{ClassId, Classes, Expr, Link, OwnerTest, Quantifier, StateWord, Step};
 use std::alloc::{AllocError, Global};
@@ -27,29 +27,21 @@ pub(crate) fn push_expr(
 ) -> Result<(), AllocError>
     ensures { OnOk result (out.new.items ≡ out.old.items ++ texts.expr_text (classes_of scene.now.program.now) (names_in scene.now) (view.expr e.now)) }
 {
-    let classes = &scene.program.whole.classes;
     match e {
         Expr::Int(_, n) => push_int(alloc, out, *n),
         Expr::Bool(_, b) => out.extend_from_slice(bool_text(*b)),
         Expr::Null(_) => out.extend_from_slice(b"null"),
         Expr::Local(_, x) => push_local(alloc, out, scene, *x),
         Expr::Iff(_, a, b) => {
-            out.extend_from_slice(b"(")?;
-            push_expr(alloc, out, scene, a)?;
-            out.extend_from_slice(b" <==> ")?;
-            push_expr(alloc, out, scene, b)?;
-            out.extend_from_slice(b")")
+            push_between(alloc, out, scene, b"(", a, b" <==> ")?;
+            push_between(alloc, out, scene, b"", b, b")")
         }
         Expr::Implies(_, a, b) => {
-            out.extend_from_slice(b"(")?;
-            push_expr(alloc, out, scene, a)?;
-            out.extend_from_slice(b" ==> ")?;
-            push_expr(alloc, out, scene, b)?;
-            out.extend_from_slice(b")")
+            push_between(alloc, out, scene, b"(", a, b" ==> ")?;
+            push_between(alloc, out, scene, b"", b, b")")
         }
         Expr::Chain(_, first, links) => {
-            push_opens(out, links.len())?;
-            push_expr(alloc, out, scene, first)?;
+            push_opened(alloc, out, scene, links.len(), first)?;
             push_links(alloc, out, scene, links)
         }
         Expr::Negate(_, a) => push_between(alloc, out, scene, b"(- ", a, b")"),
@@ -61,31 +53,22 @@ pub(crate) fn push_expr(
         }
         Expr::Old(_, a) => push_between(alloc, out, scene, b"old(", a, b")"),
         Expr::Quantified(_, quantifier, name, low, high, member) => {
-            push_head(alloc, out, scene, *quantifier, name)?;
-            push_expr(alloc, out, scene, low)?;
-            out.extend_from_slice(b": ")?;
+            push_low(alloc, out, scene, *quantifier, name, low)?;
             push_expr(alloc, out, scene, high)?;
             push_member(alloc, out, scene, name, member)
         }
-        Expr::State(_, word, a) => {
-            out.extend_from_slice(word_before(*word))?;
-            push_expr(alloc, out, scene, a)?;
-            push_word(out, classes, *word)
-        }
+        Expr::State(_, word, a) => push_state(alloc, out, scene, *word, a),
         Expr::Owners(_, test, a, b) => {
-            out.extend_from_slice(owners_before(*test))?;
-            push_expr(alloc, out, scene, a)?;
-            out.extend_from_slice(b", ")?;
-            push_expr(alloc, out, scene, b)?;
-            push_owners(out, classes, *test)
+            push_between(alloc, out, scene, owners_before(*test), a, b", ")?;
+            push_owned(alloc, out, scene, *test, b)
         }
         Expr::Default(_, _) => Ok(()),
     }
 }
 
-// An expression between two texts.
+/// An expression between two texts.
 #[cycle(expr)]
-fn push_between(
+pub(crate) fn push_between(
     alloc: Global,
     out: &mut Vec<u8>,
     scene: &Scene<'_>,
@@ -111,9 +94,8 @@ fn push_cast(
 ) -> Result<(), AllocError>
     ensures { OnOk result (out.new.items ≡ out.old.items ++ (codes "((" ++ class_name (classes_of scene.now.program.now) t.0 ++ texts.null_mark non_null ++ codes ") " ++ texts.expr_text (classes_of scene.now.program.now) (names_in scene.now) (view.expr e.now) ++ codes ")")) }
 {
-    out.extend_from_slice(b"((")?;
-    push_class(out, &scene.program.whole.classes, t)?;
-    out.extend_from_slice(null_mark(non_null))?;
+    let classes = &scene.program.whole.classes;
+    push_class_between(out, classes, b"((", t, null_mark(non_null))?;
     push_between(alloc, out, scene, b") ", e, b")")
 }
 
@@ -125,6 +107,21 @@ fn push_opens(out: &mut Vec<u8>, count: usize) -> Result<(), AllocError>
         out.extend_from_slice(b"(")?;
     }
     Ok(())
+}
+
+// This many open parentheses, and an expression.
+#[cycle(expr)]
+fn push_opened(
+    alloc: Global,
+    out: &mut Vec<u8>,
+    scene: &Scene<'_>,
+    count: usize,
+    e: &Expr,
+) -> Result<(), AllocError>
+    ensures { OnOk result (out.new.items ≡ out.old.items ++ (replicate count 40 ++ texts.expr_text (classes_of scene.now.program.now) (names_in scene.now) (view.expr e.now))) }
+{
+    push_opens(out, count)?;
+    push_expr(alloc, out, scene, e)
 }
 
 #[cycle(expr)]
@@ -155,20 +152,10 @@ fn push_link(
     let classes = &scene.program.whole.classes;
     match link {
         Link::Operation(operator, e) => {
-            out.extend_from_slice(operator_text(*operator))?;
-            push_expr(alloc, out, scene, e)?;
-            out.extend_from_slice(b")")
+            push_between(alloc, out, scene, operator_text(*operator), e, b")")
         }
-        Link::Is(t) => {
-            out.extend_from_slice(b" is ")?;
-            push_class(out, classes, *t)?;
-            out.extend_from_slice(b")")
-        }
-        Link::As(t) => {
-            out.extend_from_slice(b" as ")?;
-            push_class(out, classes, *t)?;
-            out.extend_from_slice(b")")
-        }
+        Link::Is(t) => push_class_between(out, classes, b" is ", *t, b")"),
+        Link::As(t) => push_class_between(out, classes, b" as ", *t, b")"),
     }
 }
 
@@ -197,15 +184,8 @@ fn push_step(
     ensures { OnOk result (out.new.items ≡ out.old.items ++ step_text (classes_of scene.now.program.now) (names_in scene.now) (step_behind step.now)) }
 {
     match step {
-        Step::Field(f) => {
-            out.extend_from_slice(b".")?;
-            out.extend_from_slice(field_name(scene.program, *f))
-        }
-        Step::Element(e) => {
-            out.extend_from_slice(b"[")?;
-            push_expr(alloc, out, scene, e)?;
-            out.extend_from_slice(b"]")
-        }
+        Step::Field(f) => push_both(out, b".", field_name(scene.program, *f)),
+        Step::Element(e) => push_between(alloc, out, scene, b"[", e, b"]"),
         Step::Length => out.extend_from_slice(b".Length"),
     }
 }
@@ -224,6 +204,22 @@ fn push_head(
     out.extend_from_slice(b"{int ")?;
     push_bound(alloc, out, scene, name)?;
     out.extend_from_slice(b" in (")
+}
+
+// A quantifier up to its second bound.
+#[cycle(expr)]
+fn push_low(
+    alloc: Global,
+    out: &mut Vec<u8>,
+    scene: &Scene<'_>,
+    quantifier: Quantifier,
+    name: &str,
+    low: &Expr,
+) -> Result<(), AllocError>
+    ensures { OnOk result (out.new.items ≡ out.old.items ++ (texts.head_text (names_in scene.now) quantifier name.now ++ texts.expr_text (classes_of scene.now.program.now) (names_in scene.now) (view.expr low.now) ++ codes ": ")) }
+{
+    push_head(alloc, out, scene, quantifier, name)?;
+    push_between(alloc, out, scene, b"", low, b": ")
 }
 
 // These names, and behind them one more.
@@ -248,7 +244,7 @@ fn push_member(
     name: &str,
     member: &Expr,
 ) -> Result<(), AllocError>
-    ensures { OnOk result (out.new.items ≡ out.old.items ++ codes "); " ++ texts.expr_text (classes_of scene.now.program.now) (names_in scene.now ++ name.now ∷ []) (view.expr member.now) ++ codes "}") }
+    ensures { OnOk result (out.new.items ≡ out.old.items ++ (codes "); " ++ texts.expr_text (classes_of scene.now.program.now) (names_in scene.now ++ name.now ∷ []) (view.expr member.now) ++ codes "}")) }
 {
     let bound = with_name(alloc, scene.bound, name)?;
     let inner = Scene {
@@ -256,9 +252,38 @@ fn push_member(
         locals: scene.locals,
         bound: &bound,
     };
-    out.extend_from_slice(b"); ")?;
-    push_expr(alloc, out, &inner, member)?;
-    push_bytes(out, b"}")
+    push_between(alloc, out, &inner, b"); ", member, b"}")
+}
+
+// A question about the state of the object that an expression gives.
+#[cycle(expr)]
+fn push_state(
+    alloc: Global,
+    out: &mut Vec<u8>,
+    scene: &Scene<'_>,
+    word: StateWord,
+    e: &Expr,
+) -> Result<(), AllocError>
+    ensures { OnOk result (out.new.items ≡ out.old.items ++ (behinds.word_before (view.word_tree word) ++ texts.expr_text (classes_of scene.now.program.now) (names_in scene.now) (view.expr e.now) ++ behinds.word_behind (classes_of scene.now.program.now) (view.word_tree word))) }
+{
+    out.extend_from_slice(word_before(word))?;
+    push_expr(alloc, out, scene, e)?;
+    push_word(out, &scene.program.whole.classes, word)
+}
+
+// The second of two objects whose owners are compared, and what stands behind it.
+#[cycle(expr)]
+fn push_owned(
+    alloc: Global,
+    out: &mut Vec<u8>,
+    scene: &Scene<'_>,
+    test: OwnerTest,
+    e: &Expr,
+) -> Result<(), AllocError>
+    ensures { OnOk result (out.new.items ≡ out.old.items ++ (texts.expr_text (classes_of scene.now.program.now) (names_in scene.now) (view.expr e.now) ++ behinds.owners_behind (classes_of scene.now.program.now) (view.owners_tree test))) }
+{
+    push_expr(alloc, out, scene, e)?;
+    push_owners(out, &scene.program.whole.classes, test)
 }
 
 // What stands before the text of the object that is asked.
@@ -283,16 +308,8 @@ fn push_word(out: &mut Vec<u8>, classes: &Classes, word: StateWord) -> Result<()
         StateWord::Consistent => out.extend_from_slice(b".IsConsistent"),
         StateWord::Committed => out.extend_from_slice(b".IsCommitted"),
         StateWord::New => out.extend_from_slice(b".IsNew"),
-        StateWord::Level(t) => {
-            out.extend_from_slice(b".IsLevel(")?;
-            push_class(out, classes, t)?;
-            out.extend_from_slice(b")")
-        }
-        StateWord::Packed(t) => {
-            out.extend_from_slice(b".IsPacked(")?;
-            push_class(out, classes, t)?;
-            out.extend_from_slice(b")")
-        }
+        StateWord::Level(t) => push_class_between(out, classes, b".IsLevel(", t, b")"),
+        StateWord::Packed(t) => push_class_between(out, classes, b".IsPacked(", t, b")"),
         StateWord::Unowned => out.extend_from_slice(b")"),
     }
 }
@@ -312,10 +329,6 @@ fn push_owners(out: &mut Vec<u8>, classes: &Classes, test: OwnerTest) -> Result<
 {
     match test {
         OwnerTest::Same => out.extend_from_slice(b")"),
-        OwnerTest::Is(t) => {
-            out.extend_from_slice(b", ")?;
-            push_class(out, classes, t)?;
-            out.extend_from_slice(b")")
-        }
+        OwnerTest::Is(t) => push_class_between(out, classes, b", ", t, b")"),
     }
 }

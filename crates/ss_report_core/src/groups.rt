@@ -24,10 +24,7 @@ fn place_of(t: ClassId) -> Option<usize>
     ensures declared { (k : ℕ) → result ≡ Some k → t.0 ≡ 4 + 2 * k }
     ensures undeclared { result ≡ None → (k : ℕ) → t.0 ≢ 4 + 2 * k }
 {
-    if t.0 < 4 || t.0 % 2 == 1 {
-        return None;
-    }
-    Some((t.0 as usize - 4) / 2)
+    t.place()
 }
 
 // One more body; one of no declared class is left out.

@@ -4,6 +4,7 @@
 mod exprs;
 mod fields;
 mod groups;
+mod joins;
 mod locals;
 mod names;
 mod scene;

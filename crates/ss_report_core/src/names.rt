@@ -56,7 +56,7 @@ pub(crate) fn push_class(out: &mut Vec<u8>, classes: &Classes, t: ClassId) -> Re
     if t.0 == 0 {
         return out.extend_from_slice(b"object");
     }
-    if t.0 == 2 || t.0 % 2 == 1 {
+    if t.is_array() {
         push_element(out, classes, t)?;
         return out.extend_from_slice(b"[]");
     }

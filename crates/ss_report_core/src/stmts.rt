@@ -9,11 +9,12 @@ ghost use Rattle.ss_report_core.specs.Stmts as texts;
 ghost use Rattle.ss_report_core.specs.Scenes.{core_of, classes_of, names_in};
 ghost use Rattle.ss_report_core.specs.Behinds.{loop_of};
 
-use crate::exprs::push_expr;
+use crate::exprs::{push_between, push_expr};
 use crate::fields::field_name;
+use crate::joins::{push_both, push_class_between};
 use crate::names::{body_name, method_name, push_class, push_element, push_title_of};
 use crate::scene::Scene;
-use crate::scopes::{push_bytes, push_local};
+use crate::scopes::push_local;
 use crate::words::{print_word, push_literal};
 use ss_core::{Callee, ClassId, Expr, FieldId, Loop, Stmt};
 use std::alloc::{AllocError, Global};
@@ -22,8 +23,7 @@ use std::alloc::{AllocError, Global};
 fn push_fixed(out: &mut Vec<u8>, indent: &[u8], text: &[u8]) -> Result<(), AllocError>
     ensures { OnOk result (out.new.items ≡ out.old.items ++ texts.line indent.now text.now) }
 {
-    out.extend_from_slice(indent)?;
-    out.extend_from_slice(text)?;
+    push_both(out, indent, text)?;
     out.extend_from_slice(b"\n")
 }
 
@@ -39,9 +39,7 @@ fn push_worded(
     ensures { OnOk result (out.new.items ≡ out.old.items ++ texts.line indent.now (word.now ++ expr_text (classes_of scene.now.program.now) (names_in scene.now) (view.expr e.now))) }
 {
     out.extend_from_slice(indent)?;
-    out.extend_from_slice(word)?;
-    push_expr(alloc, out, scene, e)?;
-    out.extend_from_slice(b"\n")
+    push_between(alloc, out, scene, word, e, b"\n")
 }
 
 // An expression behind a blank, where there is one.
@@ -95,6 +93,20 @@ fn push_args(
     }
 }
 
+// The arguments in parentheses, and the end of the line.
+fn push_arguments(
+    alloc: Global,
+    out: &mut Vec<u8>,
+    scene: &Scene<'_>,
+    args: &[Expr],
+) -> Result<(), AllocError>
+    ensures { OnOk result (out.new.items ≡ out.old.items ++ (codes "(" ++ texts.args_text (core_of scene.now.program.now) (names_in scene.now) (map view.expr args.now) ++ codes ")\n")) }
+{
+    out.extend_from_slice(b"(")?;
+    push_args(alloc, out, scene, args)?;
+    out.extend_from_slice(b")\n")
+}
+
 // The local that keeps a result.
 fn push_kept(
     alloc: Global,
@@ -113,6 +125,20 @@ fn push_kept(
     }
 }
 
+// The indentation, and the local that keeps a result.
+fn push_start(
+    alloc: Global,
+    out: &mut Vec<u8>,
+    scene: &Scene<'_>,
+    indent: &[u8],
+    kept: Option<usize>,
+) -> Result<(), AllocError>
+    ensures { OnOk result (out.new.items ≡ out.old.items ++ (indent.now ++ texts.kept_text (names_in scene.now) kept)) }
+{
+    out.extend_from_slice(indent)?;
+    push_kept(alloc, out, scene, kept)
+}
+
 // What a call enters.
 fn push_callee(
     alloc: Global,
@@ -125,15 +151,11 @@ fn push_callee(
     let whole = scene.program.whole;
     match callee {
         Callee::Dispatched(e, t, m) => {
-            push_expr(alloc, out, scene, e)?;
-            out.extend_from_slice(b".")?;
+            push_between(alloc, out, scene, b"", e, b".")?;
             out.extend_from_slice(method_name(&whole.classes, *t, *m))
         }
         Callee::Static(n) => push_title_of(out, &whole.classes, &whole.bodies, *n),
-        Callee::Base(n) => {
-            out.extend_from_slice(b"base.")?;
-            out.extend_from_slice(body_name(&whole.bodies, *n))
-        }
+        Callee::Base(n) => push_both(out, b"base.", body_name(&whole.bodies, *n)),
         Callee::Constructor(_) => out.extend_from_slice(b"base"),
     }
 }
@@ -159,7 +181,7 @@ fn push_assign(
 {
     out.extend_from_slice(indent)?;
     push_local(alloc, out, scene, x)?;
-    push_worded(alloc, out, scene, b"", b" = ", e)
+    push_between(alloc, out, scene, b" = ", e, b"\n")
 }
 
 fn push_write(
@@ -173,11 +195,9 @@ fn push_write(
 ) -> Result<(), AllocError>
     ensures { OnOk result (out.new.items ≡ out.old.items ++ texts.line indent.now (expr_text (classes_of scene.now.program.now) (names_in scene.now) (view.expr object.now) ++ codes "." ++ names.field_name (classes_of scene.now.program.now) field.0 ++ codes " = " ++ expr_text (classes_of scene.now.program.now) (names_in scene.now) (view.expr value.now))) }
 {
-    out.extend_from_slice(indent)?;
-    push_expr(alloc, out, scene, object)?;
-    out.extend_from_slice(b".")?;
+    push_between(alloc, out, scene, indent, object, b".")?;
     out.extend_from_slice(field_name(scene.program, field))?;
-    push_worded(alloc, out, scene, b"", b" = ", value)
+    push_between(alloc, out, scene, b" = ", value, b"\n")
 }
 
 fn push_write_element(
@@ -191,11 +211,9 @@ fn push_write_element(
 ) -> Result<(), AllocError>
     ensures { OnOk result (out.new.items ≡ out.old.items ++ texts.line indent.now (expr_text (classes_of scene.now.program.now) (names_in scene.now) (view.expr array.now) ++ codes "[" ++ expr_text (classes_of scene.now.program.now) (names_in scene.now) (view.expr index.now) ++ codes "] = " ++ expr_text (classes_of scene.now.program.now) (names_in scene.now) (view.expr value.now))) }
 {
-    out.extend_from_slice(indent)?;
-    push_expr(alloc, out, scene, array)?;
-    out.extend_from_slice(b"[")?;
+    push_between(alloc, out, scene, indent, array, b"[")?;
     push_expr(alloc, out, scene, index)?;
-    push_worded(alloc, out, scene, b"", b"] = ", value)
+    push_between(alloc, out, scene, b"] = ", value, b"\n")
 }
 
 fn push_new(
@@ -209,13 +227,10 @@ fn push_new(
 ) -> Result<(), AllocError>
     ensures { OnOk result (out.new.items ≡ out.old.items ++ texts.line indent.now (texts.kept_text (names_in scene.now) kept ++ codes "new " ++ names.class_name (classes_of scene.now.program.now) t.0 ++ codes "(" ++ texts.args_text (core_of scene.now.program.now) (names_in scene.now) (map view.expr args.now) ++ codes ")")) }
 {
-    out.extend_from_slice(indent)?;
-    push_kept(alloc, out, scene, kept)?;
+    push_start(alloc, out, scene, indent, kept)?;
     out.extend_from_slice(b"new ")?;
     push_class(out, &scene.program.whole.classes, t)?;
-    out.extend_from_slice(b"(")?;
-    push_args(alloc, out, scene, args)?;
-    push_bytes(out, b")\n")
+    push_arguments(alloc, out, scene, args)
 }
 
 fn push_new_array(
@@ -229,13 +244,10 @@ fn push_new_array(
 ) -> Result<(), AllocError>
     ensures { OnOk result (out.new.items ≡ out.old.items ++ texts.line indent.now (texts.kept_text (names_in scene.now) kept ++ codes "new " ++ names.element_name (classes_of scene.now.program.now) t.0 ++ codes "[" ++ expr_text (classes_of scene.now.program.now) (names_in scene.now) (view.expr count.now) ++ codes "]")) }
 {
-    out.extend_from_slice(indent)?;
-    push_kept(alloc, out, scene, kept)?;
+    push_start(alloc, out, scene, indent, kept)?;
     out.extend_from_slice(b"new ")?;
     push_element(out, &scene.program.whole.classes, t)?;
-    out.extend_from_slice(b"[")?;
-    push_expr(alloc, out, scene, count)?;
-    push_bytes(out, b"]\n")
+    push_between(alloc, out, scene, b"[", count, b"]\n")
 }
 
 fn push_call(
@@ -249,12 +261,9 @@ fn push_call(
 ) -> Result<(), AllocError>
     ensures { OnOk result (out.new.items ≡ out.old.items ++ texts.line indent.now (texts.kept_text (names_in scene.now) kept ++ texts.callee_text (core_of scene.now.program.now) (names_in scene.now) (view.callee_tree callee.now) ++ codes "(" ++ texts.args_text (core_of scene.now.program.now) (names_in scene.now) (map view.expr args.now) ++ codes ")")) }
 {
-    out.extend_from_slice(indent)?;
-    push_kept(alloc, out, scene, kept)?;
+    push_start(alloc, out, scene, indent, kept)?;
     push_callee(alloc, out, scene, callee)?;
-    out.extend_from_slice(b"(")?;
-    push_args(alloc, out, scene, args)?;
-    out.extend_from_slice(b")\n")
+    push_arguments(alloc, out, scene, args)
 }
 
 // A line of a word, a local, another word and a class.
@@ -270,12 +279,9 @@ fn push_change(
 ) -> Result<(), AllocError>
     ensures { OnOk result (out.new.items ≡ out.old.items ++ texts.line indent.now (before.now ++ names.local_text (names_in scene.now) x ++ between.now ++ names.class_name (classes_of scene.now.program.now) t.0)) }
 {
-    out.extend_from_slice(indent)?;
-    out.extend_from_slice(before)?;
+    push_both(out, indent, before)?;
     push_local(alloc, out, scene, x)?;
-    out.extend_from_slice(between)?;
-    push_class(out, &scene.program.whole.classes, t)?;
-    out.extend_from_slice(b"\n")
+    push_class_between(out, &scene.program.whole.classes, between, t, b"\n")
 }
 
 // A line of a word and, where there is one, an expression.
@@ -289,8 +295,7 @@ fn push_optional(
 ) -> Result<(), AllocError>
     ensures { OnOk result (out.new.items ≡ out.old.items ++ texts.line indent.now (word.now ++ texts.behind_blank (core_of scene.now.program.now) (names_in scene.now) (option_map view.expr e.now))) }
 {
-    out.extend_from_slice(indent)?;
-    out.extend_from_slice(word)?;
+    push_both(out, indent, word)?;
     push_behind_blank(alloc, out, scene, e)?;
     out.extend_from_slice(b"\n")
 }
@@ -303,8 +308,7 @@ fn push_print_text(
 ) -> Result<(), AllocError>
     ensures { OnOk result (out.new.items ≡ out.old.items ++ texts.line indent.now (texts.print_word newline ++ codes " " ++ texts.literal text.now)) }
 {
-    out.extend_from_slice(indent)?;
-    out.extend_from_slice(print_word(newline))?;
+    push_both(out, indent, print_word(newline))?;
     out.extend_from_slice(b" ")?;
     push_literal(out, text)?;
     out.extend_from_slice(b"\n")
@@ -354,8 +358,7 @@ fn push_stmt(
         Stmt::If(_, e, a, b) => {
             push_worded(alloc, out, scene, indent, b"if ", e)?;
             push_branch(alloc, out, scene, indent, b"then", a)?;
-            push_branch(alloc, out, scene, indent, b"else", b)?;
-            push_fixed(out, indent, b"done")
+            push_else(alloc, out, scene, indent, b)
         }
         Stmt::Loop(l) => push_loop(alloc, out, scene, indent, l),
         Stmt::Unpack(_, x, t) => {
@@ -401,6 +404,21 @@ fn push_branch(
 {
     push_fixed(out, indent, word)?;
     push_deeper(alloc, out, scene, indent, code)
+}
+
+// The second branch of an `if`, and its end.
+#[cycle(stmt)]
+fn push_else(
+    alloc: Global,
+    out: &mut Vec<u8>,
+    scene: &Scene<'_>,
+    indent: &[u8],
+    code: &[Stmt],
+) -> Result<(), AllocError>
+    ensures { OnOk result (out.new.items ≡ out.old.items ++ (texts.line indent.now (codes "else") ++ texts.code_text (core_of scene.now.program.now) (names_in scene.now) (texts.deeper indent.now) (view.block code.now) ++ texts.line indent.now (codes "done"))) }
+{
+    push_branch(alloc, out, scene, indent, b"else", code)?;
+    push_fixed(out, indent, b"done")
 }
 
 // The head of a loop: its line and its invariants.

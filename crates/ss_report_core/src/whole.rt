@@ -6,11 +6,12 @@ ghost use Rattle.ss_core.specs.View as view;
 ghost use Rattle.ss_report_core.specs.Groups as grouped;
 ghost use Rattle.ss_report_core.specs.Names as names;
 ghost use Rattle.ss_report_core.specs.Scenes.{core_of, classes_of};
-ghost use Rattle.ss_report_core.specs.Stmts.{line};
+ghost use Rattle.ss_report_core.specs.Stmts.{line, deeper, code_text};
 ghost use Rattle.ss_report_core.specs.Text as texts;
 
 use crate::groups::bodies_by_class;
-use crate::names::{push_class, push_title};
+use crate::joins::{push_both, push_class_between};
+use crate::names::push_title;
 use crate::scene::{Locals, Program, Scene};
 use crate::scopes::push_bytes;
 use crate::stmts::push_code;
@@ -26,6 +27,24 @@ fn push_title_line(out: &mut Vec<u8>, program: &Program<'_>, body: &Body) -> Res
     out.extend_from_slice(b"\n")
 }
 
+// The statements of a body, one level deep.
+fn push_statements(
+    alloc: Global,
+    out: &mut Vec<u8>,
+    program: &Program<'_>,
+    body: &Body,
+) -> Result<(), AllocError>
+    ensures { OnOk result (out.new.items ≡ out.old.items ++ code_text (core_of program.now) (names.local_names (view.body body.now)) (deeper []) (view.body body.now).code) }
+{
+    let locals = Locals::new(alloc, body)?;
+    let scene = Scene {
+        program,
+        locals: &locals,
+        bound: &[],
+    };
+    push_code(alloc, out, &scene, b"  ", &body.code)
+}
+
 fn push_body(
     alloc: Global,
     out: &mut Vec<u8>,
@@ -34,14 +53,8 @@ fn push_body(
 ) -> Result<(), AllocError>
     ensures { OnOk result (out.new.items ≡ out.old.items ++ texts.body_text (core_of program.now) (view.body body.now)) }
 {
-    let locals = Locals::new(alloc, body)?;
-    let scene = Scene {
-        program,
-        locals: &locals,
-        bound: &[],
-    };
     push_title_line(out, program, body)?;
-    push_code(alloc, out, &scene, b"  ", &body.code)?;
+    push_statements(alloc, out, program, body)?;
     push_bytes(out, b"end\n")
 }
 
@@ -67,11 +80,8 @@ fn push_class_line(
 ) -> Result<(), AllocError>
     ensures { OnOk result (out.new.items ≡ out.old.items ++ grouped.class_line (core_of program.now) (view.class_of class.now)) }
 {
-    out.extend_from_slice(b"class ")?;
-    out.extend_from_slice(class.name.as_bytes())?;
-    out.extend_from_slice(b" : ")?;
-    push_class(out, &program.whole.classes, class.above)?;
-    out.extend_from_slice(b"\n")
+    push_both(out, b"class ", class.name.as_bytes())?;
+    push_class_between(out, &program.whole.classes, b" : ", class.above, b"\n")
 }
 
 // The line of a class, and these bodies.

@@ -1,12 +1,13 @@
 -- A program without a fault of names has few classes.
 use Rattle.std.specs.Prelude.{◌==◌}
 use Rattle.std.specs.Option.{option_or}
-use Rattle.std.proofs.Common.{◌≡◌, ◌≤◌, ◌+◌, ℕ, zero, suc, List, [], ◌∷◌, ◌++◌, length, map, drop, Option, Some, None, refl, sym, ap, ◌∙◌, subst, arith}
+use Rattle.std.proofs.Common.{◌≡◌, ◌≤◌, ◌+◌, ℕ, zero, suc, List, [], ◌∷◌, ◌++◌, length, drop, Option, Some, None, refl, sym, ap, ◌∙◌, subst, arith}
+use Rattle.std.proofs.lemmas.List.{length-map}
 use Rattle.ss_ast.specs.Expressions.{NameTree}
 use Rattle.ss_ast.specs.Programs.{ClassTree, ProgramTree}
 use Rattle.ss_faults.specs.declared.Fault.{Fault}
 use Rattle.ss_faults.specs.First as faults
-use Rattle.ss_resolver_names_rules.specs.declared.fault.Rule.TheVariants as rule
+use Rattle.ss_core.specs.declared.rules.Rule.TheVariants as rule
 use Rattle.ss_resolver_names_rules.specs.Faults.{unless, fault, twice_among}
 use Rattle.ss_resolver_names_rules.specs.Members.{faults_at}
 use Rattle.ss_resolver_names_rules.specs.Programs.{first_name_fault, program_faults, classes_faults, class_names, mains_in, most_classes}
@@ -33,10 +34,6 @@ drop_empty [] n h = omega arith
 drop_empty (x ∷ xs) zero h = absurd (let e : x ∷ xs ≡ [] = h in cc)
 drop_empty (x ∷ xs) (suc n) h = let l = drop_empty xs n h in omega (arith, l)
 
-map_length : {X Y : Type 0} (f : X → Y) (xs : List X) → length (map f xs) ≡ length xs
-map_length f [] = refl
-map_length f (x ∷ xs) = ap suc (map_length f xs)
-
 each_length : {A : Type 0} (f : ℕ → ClassTree → A) (k : ℕ) (cs : List ClassTree) → length (each f k cs) ≡ length cs
 each_length f k [] = refl
 each_length f k (c ∷ cs) = ap suc (each_length f (k + 1) cs)
@@ -61,7 +58,7 @@ few_classes p h =
     let first = front_empty (twice ++ limit) classes (front_empty (twice ++ limit ++ classes) mains all) in
     let none = limit_faults (drop most_classes names) (back_empty twice limit first) in
     let l = few names (drop_empty names most_classes none) in
-    let written = map_length (λ (c : ClassTree). c.name) p.classes in
+    let written = length-map p.classes (λ (c : ClassTree). c.name) in
     let made = each_length (class p.classes) 0 p.classes in
     subst (λ n. n ≤ 4096) (written ∙ sym made) l
 

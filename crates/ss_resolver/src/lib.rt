@@ -14,17 +14,23 @@ use ss_resolver_limits::first_limit_fault;
 use ss_resolver_names::check_names;
 use ss_resolver_programs::resolve_program;
 use ss_resolver_types::first_type_fault;
+use ss_tables_lookup::Tables;
 use ss_typed::Typed;
 use std::alloc::{AllocError, Global};
 
 // The first fault of names; where there is none the first fault of types.
-fn source_fault(alloc: Global, program: &Program) -> Result<Option<Fault>, AllocError>
+fn source_fault(
+    alloc: Global,
+    tables: &Tables<'_>,
+    program: &Program,
+) -> Result<Option<Fault>, AllocError>
+    requires { tables.now ≡ program.now.classes.items }
     ensures { IfOk result (λ f. f ≡ source_fault (program_tree program.now)) }
 {
-    if let Some(fault) = check_names(alloc, program)? {
+    if let Some(fault) = check_names(alloc, tables, program)? {
         return Ok(Some(fault));
     }
-    first_type_fault(alloc, program)
+    first_type_fault(alloc, tables, program)
 }
 
 // The resolved program, where its elaborated bodies are within the limit.
@@ -45,13 +51,34 @@ fn check_limit(alloc: Global, program: &Program, resolved: Typed) -> Result<Type
 }
 
 // A program without a fault of names or types.
-fn resolve_faultless(alloc: Global, program: &Program) -> Result<Typed, FrontStop>
-    requires { source_fault (program_tree program.now) ≡ None }
+fn resolve_faultless<'p>(
+    alloc: Global,
+    tables: &Tables<'p>,
+    program: &'p Program,
+) -> Result<Typed, FrontStop>
+    requires faultless { source_fault (program_tree program.now) ≡ None }
+    requires tables { tables.now ≡ program.now.classes.items }
     ensures { Resolves (program_tree program.now) result }
 {
-    match resolve_program(alloc, program) {
-        Ok(resolved) => check_limit(alloc, program, resolved),
-        Err(_) => Err(FrontStop::Memory),
+    let resolved = resolve_program(alloc, tables, program)?;
+    check_limit(alloc, program, resolved)
+}
+
+// A program with these tables.
+fn resolve_by<'p>(
+    alloc: Global,
+    tables: &Tables<'p>,
+    program: &'p Program,
+) -> Result<Typed, FrontStop>
+    requires { tables.now ≡ program.now.classes.items }
+    ensures { Resolves (program_tree program.now) result }
+{
+    match source_fault(alloc, tables, program)? {
+        None => resolve_faultless(alloc, tables, program),
+        Some(fault) => Err(FrontStop::Refused {
+            rule: fault.rule,
+            place: fault.place,
+        }),
     }
 }
 
@@ -60,12 +87,6 @@ fn resolve_faultless(alloc: Global, program: &Program) -> Result<Typed, FrontSto
 pub fn resolve(alloc: Global, program: &Program) -> Result<Typed, FrontStop>
     ensures { Resolves (program_tree program.now) result }
 {
-    match source_fault(alloc, program) {
-        Ok(None) => resolve_faultless(alloc, program),
-        Ok(Some(fault)) => Err(FrontStop::Refused {
-            rule: fault.rule,
-            place: fault.place,
-        }),
-        Err(_) => Err(FrontStop::Memory),
-    }
+    let tables = Tables::new(alloc, &program.classes)?;
+    resolve_by(alloc, &tables, program)
 }

@@ -1,21 +1,18 @@
 -- One more part of a chain or a path is resolved.
-use Rattle.std.proofs.Common.{ℕ, length, ◌≡◌, ◌+◌, ◌-◌, true, List, Option, Some, option_map, refl, sym, ap, ◌∙◌, map, arith}
+use Rattle.std.proofs.Common.{ℕ, length, ◌≡◌, ◌+◌, ◌-◌, true, List, Option, refl, sym, ap, ◌∙◌, map, arith}
 use Rattle.std.specs.Prelude.{option_and_then}
 use Rattle.ss_core.specs.declared.names.Place.{Place}
-use Rattle.ss_ast.specs.declared.expr.Operator.{Operator as WrittenOperator}
 use Rattle.ss_core.specs.declared.names.Ty.{Ty}
-use Rattle.ss_core.specs.declared.names.Ty.TheVariants as ty
 use Rattle.ss_core.specs.declared.expr.Operator.{Operator}
 use Rattle.ss_ast.specs.Expressions.{TypeTree, arguments}
 use Rattle.ss_ast.specs.Expressions as text
-use Rattle.ss_tables.specs.Types.{written_type, array_type, class_of, element_type, nullable}
+use Rattle.ss_tables.specs.Types.{written_type, array_type, class_of, element_type}
 use Rattle.ss_tables.specs.Statics.{Receiver, static, receiver, call_type, called_with, count, cast_type}
-use Rattle.ss_tables.specs.Statics as statics
 use Rattle.ss_typed.specs.Tree.{ExprTree, BinaryOf, IsOf, AsOf, ElementOf}
 use Rattle.ss_typed.specs.Tree as typed
 use Rattle.ss_resolver_rules.specs.Names.{Env}
 use Rattle.ss_resolver_rules.specs.Numbers.{class_id, written_class, array_class}
-use Rattle.ss_resolver_rules.specs.Expressions.{operator, expr, call}
+use Rattle.ss_resolver_rules.specs.Expressions.{expr, call}
 use Rattle.ss_resolver_expressions.specs.Scenes.{Part, AnOther, part, part_value, part_type, part_callee, part_called}
 use Rattle.ss_resolver_expressions.specs.Around.{Around, within_member, behind_member}
 use Rattle.ss_resolver_expressions.proofs.PartIs.{value_is, type_is, callee_is, called_is, args_are, count_is}
@@ -52,28 +49,26 @@ pub new_array_done : (e : Env) (p q : Place) (n : text.TypeNameTree) (t : text.E
 new_array_done e p q n t size whole k y h j w z =
     ap (λ v. AnOther v whole) z ∙ ap (AnOther (array_type e.scope.classes true n)) (w ∙ ap (λ k. typed.NewArrayOf p k size) j ∙ ap (typed.NewArrayOf p (array_class e.scope.classes n)) h)
 
-pub operation_done : (e : Env) (p : Place) (t u : text.ExprTree) (o : WrittenOperator) (x : Part) (left right whole : ExprTree) (r : Operator) (y : Ty)
-    → x ≡ part e t → left ≡ part_value e x → right ≡ expr e u → r ≡ operator o → whole ≡ BinaryOf p r left right → y ≡ statics.operation_type o
-    → AnOther (Some y) whole ≡ part e (text.BinaryOf p o t u)
-operation_done e p t u o x left right whole r y h l i j w z =
+pub operation_done : (e : Env) (p : Place) (t u : text.ExprTree) (o : Operator) (x : Part) (left right whole : ExprTree)
+    → x ≡ part e t → left ≡ part_value e x → right ≡ expr e u → whole ≡ BinaryOf p o left right
+    → whole ≡ expr e (text.BinaryOf p o t u)
+operation_done e p t u o x left right whole h l i w =
     let same = read e t x left h l in
-    ap (λ v. AnOther (Some y) v) (w ∙ ap (λ r. BinaryOf p r left right) j ∙ ap (λ a. BinaryOf p (operator o) a right) same ∙ ap (λ b. BinaryOf p (operator o) (expr e t) b) i)
-    ∙ ap (λ y. AnOther (Some y) (BinaryOf p (operator o) (expr e t) (expr e u))) z
+    w ∙ ap (λ a. BinaryOf p o a right) same ∙ ap (λ b. BinaryOf p o (expr e t) b) i
 
 pub is_done : (e : Env) (p : Place) (t : text.ExprTree) (c : TypeTree) (x : Part) (left whole : ExprTree) (k : ℕ)
     → x ≡ part e t → left ≡ part_value e x → k ≡ written_class e.scope.classes c → whole ≡ IsOf p left k
-    → AnOther (Some ty.Bool) whole ≡ part e (text.IsOf p t c)
+    → whole ≡ expr e (text.IsOf p t c)
 is_done e p t c x left whole k h l j w =
     let same = read e t x left h l in
-    ap (λ v. AnOther (Some ty.Bool) v) (w ∙ ap (λ k. IsOf p left k) j ∙ ap (λ a. IsOf p a (written_class e.scope.classes c)) same)
+    w ∙ ap (λ k. IsOf p left k) j ∙ ap (λ a. IsOf p a (written_class e.scope.classes c)) same
 
-pub as_done : (e : Env) (p : Place) (t : text.ExprTree) (c : TypeTree) (x : Part) (left whole : ExprTree) (k : ℕ) (y : Option Ty)
-    → x ≡ part e t → left ≡ part_value e x → k ≡ written_class e.scope.classes c → whole ≡ AsOf p left k → y ≡ option_map nullable (cast_type (written_type e.scope.classes c))
-    → AnOther y whole ≡ part e (text.AsOf p t c)
-as_done e p t c x left whole k y h l j w z =
+pub as_done : (e : Env) (p : Place) (t : text.ExprTree) (c : TypeTree) (x : Part) (left whole : ExprTree) (k : ℕ)
+    → x ≡ part e t → left ≡ part_value e x → k ≡ written_class e.scope.classes c → whole ≡ AsOf p left k
+    → whole ≡ expr e (text.AsOf p t c)
+as_done e p t c x left whole k h l j w =
     let same = read e t x left h l in
-    ap (λ v. AnOther y v) (w ∙ ap (λ k. AsOf p left k) j ∙ ap (λ a. AsOf p a (written_class e.scope.classes c)) same)
-    ∙ ap (λ y. AnOther y (AsOf p (expr e t) (written_class e.scope.classes c))) z
+    w ∙ ap (λ k. AsOf p left k) j ∙ ap (λ a. AsOf p a (written_class e.scope.classes c)) same
 
 pub element_done : (e : Env) (p : Place) (t u : text.ExprTree) (x : Part) (object index whole : ExprTree) (y z : Option Ty)
     → x ≡ part e t → object ≡ part_value e x → index ≡ expr e u → whole ≡ ElementOf p object index → z ≡ part_type e x → y ≡ option_and_then element_type (option_and_then class_of z)

@@ -1,10 +1,4 @@
-pub mod Named
-pub mod Built
 pub mod PartIs
-pub mod Grouping
 pub mod Loops
-pub mod Pathed
 pub mod Done
-pub mod Falls
-pub mod TypedParts
 pub mod Walked

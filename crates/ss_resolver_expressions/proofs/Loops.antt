@@ -1,19 +1,6 @@
 -- Lists that loops go down.
-use Rattle.std.proofs.Common.{ℕ, zero, suc, ◌≡◌, ◌<◌, ◌≤◌, ◌+◌, List, [], ◌∷◌, ◌++◌, length, take, drop, map, get_or, refl, sym, ap, ◌∙◌, arith, append_assoc, append-nil, add-one}
-
-pub drop_item : {X : Type 0} (xs : List X) (i : ℕ) (x : X) → i < length xs → x ≡ get_or xs i x → drop i xs ≡ x ∷ drop (suc i) xs
-drop_item [] i x l e = absurd (omega arith)
-drop_item (y ∷ ys) zero x l e = ap (λ z. z ∷ ys) (sym e)
-drop_item (y ∷ ys) (suc i) x l e = drop_item ys i x (omega arith) e
-
-pub take_item : {X : Type 0} (xs : List X) (i : ℕ) (x : X) → i < length xs → x ≡ get_or xs i x → take (suc i) xs ≡ take i xs ++ x ∷ []
-take_item [] i x l e = absurd (omega arith)
-take_item (y ∷ ys) zero x l e = ap (λ z. z ∷ []) (sym e)
-take_item (y ∷ ys) (suc i) x l e = ap (λ z. y ∷ z) (take_item ys i x (omega arith) e)
-
-pub map_append : {X Y : Type 0} (f : X → Y) (xs ys : List X) → map f (xs ++ ys) ≡ map f xs ++ map f ys
-map_append f [] ys = refl
-map_append f (x ∷ xs) ys = ap (λ z. f x ∷ z) (map_append f xs ys)
+use Rattle.std.proofs.Common.{ℕ, zero, suc, ◌≡◌, ◌<◌, ◌≤◌, ◌+◌, List, [], ◌∷◌, ◌++◌, length, drop, map, get_or, refl, sym, ap, ◌∙◌, arith, append_assoc, append-nil, add-one}
+use Rattle.ss_ast.proofs.Loops.{drop_item}
 
 pub map_twice : {X Y Z : Type 0} (f : Y → Z) (g : X → Y) (xs : List X) → map (λ x. f (g x)) xs ≡ map f (map g xs)
 map_twice f g [] = refl
@@ -21,12 +8,6 @@ map_twice f g (x ∷ xs) = ap (λ ys. f (g x) ∷ ys) (map_twice f g xs)
 
 pub none_yet : {X Y Z : Type 0} (f : Y → Z) (g : X → Y) (out : List Z) (xs : List X) → out ≡ [] → out ++ map (λ x. f (g x)) xs ≡ map f (map g xs)
 none_yet f g out xs e = ap (λ ys. ys ++ map (λ x. f (g x)) xs) e ∙ map_twice f g xs
-
-pub take_all : {X : Type 0} (xs : List X) (i : ℕ) → length xs ≤ i → take i xs ≡ xs
-take_all [] zero l = refl
-take_all [] (suc i) l = refl
-take_all (x ∷ xs) zero l = absurd (omega arith)
-take_all (x ∷ xs) (suc i) l = ap (λ ys. x ∷ ys) (take_all xs i (omega arith))
 
 -- one item more of a list that is built beside the rest
 pub one_more : {X Y : Type 0} (f : X → Y) (out out' all : List Y) (xs : List X) (i : ℕ) (x : X) (y : Y) → i < length xs → x ≡ get_or xs i x → y ≡ f x → out' ≡ out ++ y ∷ []

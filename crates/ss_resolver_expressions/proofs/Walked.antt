@@ -1,13 +1,14 @@
 -- Facts of the code's walk over an expression, joined. What is known at a place is the same before and behind each part.
-use Rattle.std.proofs.Common.{ℕ, ◌≡◌, ◌<◌, ◌≤◌, ◌+◌, ◌++◌, length, take, drop, get_or, map, List, [], ◌∷◌, Some, Vec, Box, Global, sym, ap, subst, ◌∙◌}
+use Rattle.std.proofs.Common.{ℕ, ◌≡◌, ◌<◌, ◌≤◌, ◌+◌, ◌++◌, length, take, drop, get_or, map, List, [], ◌∷◌, Option, Some, Vec, Box, Global, refl, sym, ap, subst, ◌∙◌}
 use Rattle.ss_core.specs.declared.names.Place.{Place}
+use Rattle.ss_core.specs.declared.names.Ty.{Ty}
 use Rattle.ss_core.specs.declared.names.Ty.TheVariants as ty
 use Rattle.ss_ast.specs.declared.expr.Expr.{Expr}
 use Rattle.ss_ast.specs.declared.expr.Name.{Name}
 use Rattle.ss_ast.specs.declared.expr.TypeName.{TypeName}
 use Rattle.ss_ast.specs.declared.expr.TypeRef.{TypeRef}
-use Rattle.ss_ast.specs.declared.expr.Quantifier.{Quantifier}
-use Rattle.ss_ast.specs.declared.expr.Operator.{Operator}
+use Rattle.ss_core.specs.declared.expr.Quantifier.{Quantifier}
+use Rattle.ss_core.specs.declared.expr.Operator.{Operator}
 use Rattle.ss_ast.specs.declared.expr.Expr.TheViews as view
 use Rattle.ss_ast.specs.declared.expr.Expr.TheVariants as plain
 use Rattle.ss_ast.specs.declared.expr.Link.{Link}
@@ -16,17 +17,18 @@ use Rattle.ss_ast.specs.declared.expr.Postfix.{Postfix}
 use Rattle.ss_ast.specs.declared.expr.Postfix.TheVariants as postfix
 use Rattle.ss_ast.specs.Expressions.{Behind, grouped, arguments, expr_tree, name_tree, type_tree, type_name_tree}
 use Rattle.ss_ast.specs.Expressions as text
+use Rattle.ss_tables.specs.Statics.{static}
 use Rattle.ss_typed.specs.Tree as typed
 use Rattle.ss_resolver_rules.specs.Names.{within}
-use Rattle.ss_resolver_rules.specs.Expressions.{expr, quantified_by, class_named_by}
+use Rattle.ss_resolver_rules.specs.Expressions.{expr, class_named_by}
 use Rattle.ss_resolver_expressions.specs.declared.scene.Scene.{Scene}
 use Rattle.ss_resolver_expressions.specs.Around.{Around, within_member, behind_member}
-use Rattle.ss_resolver_expressions.specs.Behinds.{link_behind, postfix_behind}
+use Rattle.ss_ast.specs.Parts.{link_behind, postfix_behind}
 use Rattle.ss_resolver_expressions.specs.Scenes.{Part, AnOther, env_of, part, part_value}
 use Rattle.ss_resolver_expressions.proofs.PartIs.{value_is}
-use Rattle.ss_resolver_expressions.proofs.Pathed.{grouped_more}
-use Rattle.ss_resolver_expressions.proofs.Loops.{drop_item, take_all}
-use Rattle.ss_resolver_expressions.proofs.Grouping as shapes
+use Rattle.ss_ast.proofs.Grouping.{grouped_more}
+use Rattle.std.proofs.lemmas.List.{take_all}
+use Rattle.ss_ast.proofs.Grouping as shapes
 use Rattle.ss_resolver_expressions.proofs.Done.{member_left}
 
 -- ---- the same part where as much is known
@@ -155,10 +157,10 @@ new_array_walked s n p q c size e f a y is f_is h whole =
 pub quantified_walked : (s : Scene) (n m k : Around) (p : Place) (q : Quantifier) (name : Name) (low high member : Box Expr Global) (e f g h : Expr) (u v w : typed.ExprTree) (y : Part)
     → e ≡ view.Quantified p q name low high member → f ≡ low.value → g ≡ high.value → h ≡ member.value → m ≡ n → k ≡ m
     → u ≡ expr (env_of s n) (expr_tree f) → v ≡ expr (env_of s m) (expr_tree g) → w ≡ expr (within (env_of s k) (name_tree name)) (expr_tree h)
-    → y ≡ AnOther (Some ty.Bool) (typed.QuantifiedOf p (quantified_by q) (name_tree name).text u v w)
+    → y ≡ AnOther (Some ty.Bool) (typed.QuantifiedOf p q (name_tree name).text u v w)
     → y ≡ part (env_of s n) (expr_tree e)
 quantified_walked s n m k p q name low high member e f g h u v w y is f_is g_is h_is first second i j l whole =
-    let made : typed.ExprTree → typed.ExprTree → typed.ExprTree → Part = λ a b c. AnOther (Some ty.Bool) (typed.QuantifiedOf p (quantified_by q) (name_tree name).text a b c) in
+    let made : typed.ExprTree → typed.ExprTree → typed.ExprTree → Part = λ a b c. AnOther (Some ty.Bool) (typed.QuantifiedOf p q (name_tree name).text a b c) in
     let x : Expr → typed.ExprTree = λ a. expr (env_of s n) (expr_tree a) in
     let inside : Expr → typed.ExprTree = λ a. expr (within (env_of s n) (name_tree name)) (expr_tree a) in
     whole
@@ -183,21 +185,30 @@ member_kept n m k j letters entered same done = done ∙ ap behind_member (same 
 
 -- ---- what stands behind
 
-pub operation_walked : (s : Scene) (n m : Around) (p : Place) (o : Operator) (b : Expr) (l : Link) (right : typed.ExprTree) (x y : Part) (t : text.ExprTree)
+-- a link, which gives what it makes a type
+linked : (s : Scene) (n : Around) (u v : text.ExprTree) (y : typed.ExprTree) (k : Option Ty) → u ≡ v → AnOther (static (env_of s n).scope v) (expr (env_of s n) v) ≡ part (env_of s n) v
+    → k ≡ static (env_of s n).scope u → y ≡ expr (env_of s n) v → AnOther k y ≡ part (env_of s n) u
+linked s n u v y k is other known made =
+    ap (λ t. AnOther t y) (known ∙ ap (static (env_of s n).scope) is) ∙ ap (AnOther (static (env_of s n).scope v)) made ∙ other ∙ ap (part (env_of s n)) (sym is)
+
+pub operation_walked : (s : Scene) (n m : Around) (p : Place) (o : Operator) (b : Expr) (l : Link) (right y : typed.ExprTree) (x : Part) (k : Option Ty) (t : text.ExprTree)
     → l ≡ link.Operation o b → m ≡ n → right ≡ expr (env_of s n) (expr_tree b)
-    → ((t u : text.ExprTree) → x ≡ part (env_of s m) t → right ≡ expr (env_of s m) u → y ≡ part (env_of s m) (text.BinaryOf p o t u))
-    → x ≡ part (env_of s n) t → y ≡ part (env_of s n) (link_behind l p t)
-operation_walked s n m p o b l right x y t is same r whole h =
-    here s n m y (text.BinaryOf p o t (expr_tree b)) (link_behind l p t) same (ap (λ (l : Link). link_behind l p t) is ∙ shapes.operation_is o b p t)
-    (whole t (expr_tree b) (back s n m x t same h) (back_tree s n m right (expr_tree b) same r))
+    → ((t u : text.ExprTree) → x ≡ part (env_of s m) t → right ≡ expr (env_of s m) u → y ≡ expr (env_of s m) (text.BinaryOf p o t u))
+    → k ≡ static (env_of s n).scope (link_behind l p t) → x ≡ part (env_of s n) t → AnOther k y ≡ part (env_of s n) (link_behind l p t)
+operation_walked s n m p o b l right y x k t is same r whole known h =
+    let made = whole t (expr_tree b) (back s n m x t same h) (back_tree s n m right (expr_tree b) same r) in
+    linked s n (link_behind l p t) (text.BinaryOf p o t (expr_tree b)) y k (ap (λ (l : Link). link_behind l p t) is ∙ shapes.operation_is o b p t) refl known
+    (here_tree s n m y (text.BinaryOf p o t (expr_tree b)) same made)
 
-pub is_walked : (s : Scene) (n : Around) (p : Place) (c : TypeRef) (l : Link) (y : Part) (t : text.ExprTree)
-    → l ≡ link.Is c → y ≡ part (env_of s n) (text.IsOf p t (type_tree c)) → y ≡ part (env_of s n) (link_behind l p t)
-is_walked s n p c l y t is h = h ∙ ap (part (env_of s n)) (sym (ap (λ (l : Link). link_behind l p t) is ∙ shapes.is_is c p t))
+pub is_walked : (s : Scene) (n : Around) (p : Place) (c : TypeRef) (l : Link) (y : typed.ExprTree) (k : Option Ty) (t : text.ExprTree)
+    → l ≡ link.Is c → k ≡ static (env_of s n).scope (link_behind l p t) → y ≡ expr (env_of s n) (text.IsOf p t (type_tree c)) → AnOther k y ≡ part (env_of s n) (link_behind l p t)
+is_walked s n p c l y k t is known made =
+    linked s n (link_behind l p t) (text.IsOf p t (type_tree c)) y k (ap (λ (l : Link). link_behind l p t) is ∙ shapes.is_is c p t) refl known made
 
-pub as_walked : (s : Scene) (n : Around) (p : Place) (c : TypeRef) (l : Link) (y : Part) (t : text.ExprTree)
-    → l ≡ link.As c → y ≡ part (env_of s n) (text.AsOf p t (type_tree c)) → y ≡ part (env_of s n) (link_behind l p t)
-as_walked s n p c l y t is h = h ∙ ap (part (env_of s n)) (sym (ap (λ (l : Link). link_behind l p t) is ∙ shapes.as_is c p t))
+pub as_walked : (s : Scene) (n : Around) (p : Place) (c : TypeRef) (l : Link) (y : typed.ExprTree) (k : Option Ty) (t : text.ExprTree)
+    → l ≡ link.As c → k ≡ static (env_of s n).scope (link_behind l p t) → y ≡ expr (env_of s n) (text.AsOf p t (type_tree c)) → AnOther k y ≡ part (env_of s n) (link_behind l p t)
+as_walked s n p c l y k t is known made =
+    linked s n (link_behind l p t) (text.AsOf p t (type_tree c)) y k (ap (λ (l : Link). link_behind l p t) is ∙ shapes.as_is c p t) refl known made
 
 pub member_walked : (s : Scene) (n : Around) (p : Place) (name : Name) (l : Postfix) (y : Part) (t : text.ExprTree)
     → l ≡ postfix.Member name → y ≡ part (env_of s n) (text.MemberOf p t (name_tree name)) → y ≡ part (env_of s n) (postfix_behind l p t)
@@ -238,4 +249,4 @@ one_more_part behind s n m p xs i item first x y same l g longer so_far t h =
 pub all_parts : {X : Type 0} (behind : X → Behind) (s : Scene) (n : Around) (p : Place) (xs : List X) (i : ℕ) (first x : Part) → length xs ≤ i
     → ((t : text.ExprTree) → first ≡ part (env_of s n) t → x ≡ part (env_of s n) (grouped p t (map behind (take i xs))))
     → (t : text.ExprTree) → first ≡ part (env_of s n) t → x ≡ part (env_of s n) (grouped p t (map behind xs))
-all_parts {X = X} behind s n p xs i first x l so_far t h = so_far t h ∙ ap (λ (ys : List X). part (env_of s n) (grouped p t (map behind ys))) (take_all xs i l)
+all_parts {X = X} behind s n p xs i first x l so_far t h = so_far t h ∙ ap (λ (ys : List X). part (env_of s n) (grouped p t (map behind ys))) (take_all i xs l)

@@ -1,4 +1,2 @@
-pub mod Known
 pub mod Around
 pub mod Scenes
-pub mod Behinds

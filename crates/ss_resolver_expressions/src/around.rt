@@ -1,14 +1,13 @@
 // What is known at a place within a body.
 
-ghost use Rattle.std.specs.Prelude.{◌≡◌, OnOk, option_map};
-ghost use Rattle.ss_tables_scopes.specs.Locals.{local_of};
-ghost use Rattle.ss_resolver_expressions.specs.Known.{known_of, found};
+ghost use Rattle.std.specs.Prelude.{◌≡◌, OnOk};
+ghost use Rattle.ss_tables.specs.Named.{named};
 ghost use Rattle.ss_resolver_expressions.specs.Around.{none_around, entered, left, with_local, within_member, behind_member};
 
-use crate::known::{KnownName, KnownNames};
 use ss_core::Ty;
+use ss_resolver_rules::Known;
 use ss_tables_lookup::StaticType;
-use ss_tables_scopes::{LocalInfo, Scopes};
+use ss_tables_scopes::{LocalInfo, NameScopes, Scopes};
 use std::alloc::{AllocError, Global};
 use std::marker::Model;
 
@@ -16,7 +15,7 @@ use std::marker::Model;
 #[derive(Drop)]
 pub struct LocalNames {
     names: Scopes,
-    numbered: KnownNames,
+    numbered: NameScopes<Known>,
     next: usize,
     bound: usize,
 }
@@ -35,8 +34,8 @@ impl LocalNames {
         ensures { result ≡ none_around first }
     {
         LocalNames {
-            names: Scopes::new(alloc),
-            numbered: KnownNames::new(alloc),
+            names: NameScopes::new(alloc),
+            numbered: NameScopes::new(alloc),
             next: first,
             bound: 0,
         }
@@ -50,8 +49,8 @@ impl LocalNames {
     }
 
     /// What a name stands for.
-    pub fn find(&self, name: &str) -> Option<KnownName>
-        ensures { option_map known_of result ≡ found self.now.numbered name.now }
+    pub fn find(&self, name: &str) -> Option<Known>
+        ensures { result ≡ named self.now.numbered name.now }
     {
         self.numbered.find(name)
     }
@@ -88,10 +87,10 @@ impl LocalNames {
         local: LocalInfo,
         ty: Ty,
     ) -> Result<(), AllocError>
-        ensures { OnOk result (self.new ≡ with_local self.old name.now (local_of local) ty) }
+        ensures { OnOk result (self.new ≡ with_local self.old name.now local ty) }
     {
         self.names.declare(alloc, name, local)?;
-        let known = KnownName::Variable(self.next, ty);
+        let known = Known::Variable(self.next, ty);
         self.numbered.declare(alloc, name, known)?;
         self.next = self.next.checked_add(1).ok_or(AllocError)?;
         Ok(())
@@ -108,7 +107,7 @@ impl LocalNames {
         };
         self.names.declare(alloc, name, local)?;
         self.numbered
-            .declare(alloc, name, KnownName::Bound(self.bound))?;
+            .declare(alloc, name, Known::BoundName(self.bound))?;
         self.bound = self.bound.checked_add(1).ok_or(AllocError)?;
         Ok(())
     }

@@ -6,16 +6,15 @@ ghost use Rattle.ss_tables.specs.Classes.{class_number};
 ghost use Rattle.ss_tables_lookup.specs.Views.{declared_field};
 ghost use Rattle.ss_typed.specs.Tree.{ThisOf};
 ghost use Rattle.ss_typed.specs.View as view;
-ghost use Rattle.ss_resolver_expressions.specs.Known.{known_of};
 ghost use Rattle.ss_resolver_expressions.specs.Around.{Around};
 ghost use Rattle.ss_resolver_expressions.specs.Scenes.{env_of};
 ghost use Rattle.ss_resolver_rules.specs.Expressions.{read_field, known_or_field, bare_name, field_behind, state_word, state_question, member};
 
 use crate::around::LocalNames;
 use crate::build::{add_step, boxed, null_tree};
-use crate::known::KnownName;
 use crate::scene::Scene;
 use ss_core::{ClassId, Place, StateWord};
+use ss_resolver_rules::Known;
 use ss_resolver_tables::{class_number, field_id, type_id};
 use ss_tables_lookup::{FieldRef, declared_place, is_array_number};
 use ss_tables_scopes::is_state_read;
@@ -58,16 +57,13 @@ fn known_or_field(
     scene: &Scene<'_, '_>,
     place: Place,
     name: &str,
-    known: Option<KnownName>,
+    known: Option<Known>,
 ) -> Result<Box<TypedExpr>, AllocError>
-    ensures { (a : Around) → IfOk result (λ e. view.expr e.value ≡ known_or_field (env_of scene.now a) place name.now (option_map known_of known)) }
+    ensures { (a : Around) → IfOk result (λ e. view.expr e.value ≡ known_or_field (env_of scene.now a) place name.now known) }
 {
     match known {
-        Some(KnownName::Variable(number, ty)) => Ok(boxed(
-            alloc,
-            TypedExpr::Local(place, number, ty),
-        )?),
-        Some(KnownName::Bound(number)) => Ok(boxed(alloc, TypedExpr::Bound(place, number))?),
+        Some(Known::Variable(number, ty)) => Ok(boxed(alloc, TypedExpr::Local(place, number, ty))?),
+        Some(Known::BoundName(number)) => Ok(boxed(alloc, TypedExpr::Bound(place, number))?),
         None => {
             let field = scene.within.tables.field_of(scene.within.class, name);
             let object = boxed(alloc, this(scene, place))?;

@@ -4,7 +4,7 @@ ghost use Rattle.std.specs.Prelude.{◌≡◌, ◌++◌, ◌∷◌, [], IfOk, On
 ghost use Rattle.ss_typed.specs.Tree.{NullOf};
 ghost use Rattle.ss_typed.specs.View as view;
 ghost use Rattle.ss_typed.specs.View.{grouped};
-ghost use Rattle.ss_resolver_expressions.specs.Behinds.{typed_link, typed_step};
+ghost use Rattle.ss_typed.specs.Parts.{link_behind as typed_link, step_behind as typed_step};
 
 use ss_core::Place;
 use ss_typed::{TypedExpr, TypedLink, TypedStep};

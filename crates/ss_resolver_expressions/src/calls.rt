@@ -10,9 +10,8 @@ ghost use Rattle.ss_tables.specs.Types.{class_of};
 ghost use Rattle.ss_tables_lookup.specs.Views.{type_of};
 ghost use Rattle.ss_typed.specs.Tree.{StateOf, OwnersOf};
 ghost use Rattle.ss_resolver_rules.specs.Names.{Env};
-ghost use Rattle.ss_tables.specs.Members.{is_static};
 ghost use Rattle.ss_tables_lookup.specs.Classes.{trees};
-ghost use Rattle.ss_tables_lookup.specs.Views.{method_tree, declared_method};
+ghost use Rattle.ss_tables_lookup.specs.Views.{declared_method};
 ghost use Rattle.ss_tables_scopes.specs.Views.{receiver_of, callee_of};
 ghost use Rattle.ss_typed.specs.View as view;
 ghost use Rattle.ss_resolver_expressions.specs.Around.{Around};
@@ -22,11 +21,10 @@ ghost use Rattle.ss_resolver_rules.specs.Expressions.{first_class, third_class, 
 use crate::bare::{state_question, this};
 use crate::build::{add_step, boxed, null_tree};
 use crate::scene::Scene;
-use ss_ast::ModifierWord;
 use ss_core::{ClassId, OwnerTest, Place, StateWord};
 use ss_resolver_tables::{method_id, result_type, table_place};
-use ss_tables_lookup::{MethodRef, StaticType, declared_place};
-use ss_tables_scopes::{Callee, Receiver, class_of_type};
+use ss_tables_lookup::{MethodRef, StaticType};
+use ss_tables_scopes::{Callee, Receiver, class_of_type, is_static, place_of_class};
 use ss_typed::{TypedExpr, TypedStep};
 use std::alloc::{AllocError, Global};
 
@@ -35,16 +33,6 @@ use std::alloc::{AllocError, Global};
 pub struct Asked {
     pub first: ClassId,
     pub third: ClassId,
-}
-
-/// Whether a method is static: of several words the first counts.
-pub fn is_static(method: MethodRef<'_>) -> bool
-    ensures { result ≡ is_static (method_tree method.entry) }
-{
-    match method.member.modifiers.first() {
-        Some(modifier) => modifier.word == ModifierWord::Static,
-        None => false,
-    }
 }
 
 // A call of a method of the class with this number, on an object where the method isn't static.
@@ -96,20 +84,11 @@ fn base_call(
     )
 }
 
-fn place_of(class: Option<usize>) -> Option<usize>
-    ensures { result ≡ option_and_then declared_place class }
-{
-    match class {
-        Some(class) => declared_place(class),
-        None => None,
-    }
-}
-
 // The class in which a method of a value of this type is looked up.
 fn class_of_value(scene: &Scene<'_, '_>, ty: Option<StaticType>) -> usize
     ensures { (a : Around) → result ≡ place_or_own (env_of scene.now a) (option_and_then declared_place (option_and_then class_of (option_map type_of ty))) }
 {
-    match place_of(class_of_type(ty)) {
+    match place_of_class(class_of_type(ty)) {
         Some(class) => class,
         None => scene.within.class,
     }

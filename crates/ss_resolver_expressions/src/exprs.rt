@@ -7,7 +7,7 @@ ghost use Rattle.ss_resolver_rules.specs.Names.{within};
 ghost use Rattle.ss_resolver_rules.specs.Expressions as resolved;
 ghost use Rattle.ss_resolver_rules.specs.Expressions.{class_named_by};
 ghost use Rattle.ss_resolver_expressions.specs.Scenes.{env_of, part, part_view, numbers_of};
-ghost use Rattle.ss_resolver_expressions.specs.Behinds.{link_behind, postfix_behind};
+ghost use Rattle.ss_ast.specs.Parts.{link_behind, postfix_behind};
 
 use crate::around::LocalNames;
 use crate::build::add_value;
@@ -21,6 +21,7 @@ use crate::wholes::{
 };
 use ss_ast::{Expr, Link, Name, Postfix};
 use ss_core::Place;
+use ss_tables_scopes::link_type;
 use ss_typed::TypedExpr;
 use std::alloc::{AllocError, Global};
 
@@ -197,19 +198,20 @@ fn walk_link<'p>(
         → IfOk result (λ r. part_view r ≡ part (env_of scene.now around.old) (link_behind link.now place t)) }
     ensures kept { OnOk result (around.new ≡ around.old) }
 {
+    let known = link_type(scene.within, link);
     match link {
         Link::Operation(operator, operand) => {
             let right = resolve_boxed(alloc, scene, around, operand)?;
-            let longer = operation(alloc, scene, around, place, before, *operator, right)?;
-            Ok(longer)
+            let whole = operation(alloc, scene, around, place, before, *operator, right)?;
+            Ok(Part::Other(known, whole))
         }
         Link::Is(ty) => {
-            let longer = is_of(alloc, scene, around, place, before, ty)?;
-            Ok(longer)
+            let whole = is_of(alloc, scene, around, place, before, ty)?;
+            Ok(Part::Other(known, whole))
         }
         Link::As(ty) => {
-            let longer = as_of(alloc, scene, around, place, before, ty)?;
-            Ok(longer)
+            let whole = as_of(alloc, scene, around, place, before, ty)?;
+            Ok(Part::Other(known, whole))
         }
     }
 }

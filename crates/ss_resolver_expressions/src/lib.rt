@@ -7,17 +7,15 @@ mod build;
 mod calls;
 mod exprs;
 mod finishing;
-mod known;
 mod leaves;
 mod parts;
 mod scene;
 mod wholes;
 
 pub use around::LocalNames;
-pub use calls::{Asked, is_static};
+pub use calls::Asked;
 pub use exprs::{resolve, resolve_boxed, resolve_given, resolve_values, walk, walk_postfixes};
 pub use finishing::called;
-pub use known::{KnownName, KnownNames};
 pub use leaves::asked_of;
 pub use parts::Part;
 pub use scene::Scene;

@@ -16,16 +16,14 @@ use crate::around::LocalNames;
 use crate::bare::this;
 use crate::build::{add_link, add_step, add_value, boxed};
 use crate::finishing::{called, finish, part_call_type, part_class};
-use crate::leaves::{
-    as_int, asked_of, operation_type, quantified, resolve_operator, type_of_as, type_of_element,
-};
+use crate::leaves::{as_int, asked_of, quantified};
 use crate::parts::{Part, part_type};
 use crate::scene::Scene;
 use ss_ast::{Name, Operator, Quantifier, TypeName, TypeRef};
 use ss_core::{ClassId, Place};
 use ss_resolver_tables::{array_class, class_id, written_class};
 use ss_tables_lookup::StaticType;
-use ss_tables_scopes::{cast_type, new_type};
+use ss_tables_scopes::{new_type, type_of_cast, type_of_element};
 use ss_typed::{TypedExpr, TypedLink, TypedStep};
 use std::alloc::{AllocError, Global};
 
@@ -227,7 +225,7 @@ pub(crate) fn cast<'p>(
 {
     let tables = scene.within.tables;
     let class = written_class(tables, ty);
-    let known = cast_type(tables.written_type(ty));
+    let known = type_of_cast(tables, ty);
     let whole = cast_value(alloc, place, class, ty.non_null, inner)?;
     Ok(Part::Other(known, whole))
 }
@@ -277,7 +275,7 @@ pub(crate) fn quantified_part<'p>(
     high: Box<TypedExpr>,
     member: Box<TypedExpr>,
 ) -> Result<Part<'p>, AllocError>
-    ensures { IfOk result (λ r. part_view r ≡ AnOther (Some ty.Bool) (typed.QuantifiedOf place (resolved.quantified_by quantifier) (name_tree name.now).text (view.expr low.value) (view.expr high.value) (view.expr member.value))) }
+    ensures { IfOk result (λ r. part_view r ≡ AnOther (Some ty.Bool) (typed.QuantifiedOf place quantifier (name_tree name.now).text (view.expr low.value) (view.expr high.value) (view.expr member.value))) }
 {
     let whole = quantified(alloc, place, quantifier, name, low, high, member)?;
     Ok(Part::Other(Some(StaticType::Bool), whole))
@@ -285,59 +283,59 @@ pub(crate) fn quantified_part<'p>(
 
 // ---- with what stands behind the first part
 
-pub(crate) fn operation<'p>(
+/// An operation.
+pub(crate) fn operation(
     alloc: Global,
     scene: &Scene<'_, '_>,
     around: &LocalNames,
     place: Place,
-    before: Part<'p>,
+    before: Part<'_>,
     operator: Operator,
     right: Box<TypedExpr>,
-) -> Result<Part<'p>, AllocError>
+) -> Result<Box<TypedExpr>, AllocError>
     ensures { (t : ExprTree) → (u : ExprTree) → part_view before.entry ≡ part (env_of scene.now around.now) t → view.expr right.value ≡ resolved.expr (env_of scene.now around.now) u
-        → IfOk result (λ r. part_view r ≡ part (env_of scene.now around.now) (BinaryOf place operator t u)) }
+        → IfOk result (λ r. view.expr r.value ≡ resolved.expr (env_of scene.now around.now) (BinaryOf place operator t u)) }
 {
     let left = finish(alloc, scene, around, before)?;
-    let meant = resolve_operator(operator);
-    let ty = operation_type(operator);
-    let link = TypedLink::Operation(meant, Box::into_inner(right));
+    let link = TypedLink::Operation(operator, Box::into_inner(right));
     let whole = add_link(alloc, place, left, link)?;
-    Ok(Part::Other(Some(ty), whole))
+    Ok(whole)
 }
 
-pub(crate) fn is_of<'p>(
+/// `is T` behind an expression.
+pub(crate) fn is_of(
     alloc: Global,
     scene: &Scene<'_, '_>,
     around: &LocalNames,
     place: Place,
-    before: Part<'p>,
+    before: Part<'_>,
     ty: &TypeRef,
-) -> Result<Part<'p>, AllocError>
+) -> Result<Box<TypedExpr>, AllocError>
     ensures { (t : ExprTree) → part_view before.entry ≡ part (env_of scene.now around.now) t
-        → IfOk result (λ r. part_view r ≡ part (env_of scene.now around.now) (IsOf place t (type_tree ty.now))) }
+        → IfOk result (λ r. view.expr r.value ≡ resolved.expr (env_of scene.now around.now) (IsOf place t (type_tree ty.now))) }
 {
     let left = finish(alloc, scene, around, before)?;
     let class = written_class(scene.within.tables, ty);
     let whole = add_link(alloc, place, left, TypedLink::Is(class))?;
-    Ok(Part::Other(Some(StaticType::Bool), whole))
+    Ok(whole)
 }
 
-pub(crate) fn as_of<'p>(
+/// `as T` behind an expression.
+pub(crate) fn as_of(
     alloc: Global,
     scene: &Scene<'_, '_>,
     around: &LocalNames,
     place: Place,
-    before: Part<'p>,
+    before: Part<'_>,
     ty: &TypeRef,
-) -> Result<Part<'p>, AllocError>
+) -> Result<Box<TypedExpr>, AllocError>
     ensures { (t : ExprTree) → part_view before.entry ≡ part (env_of scene.now around.now) t
-        → IfOk result (λ r. part_view r ≡ part (env_of scene.now around.now) (AsOf place t (type_tree ty.now))) }
+        → IfOk result (λ r. view.expr r.value ≡ resolved.expr (env_of scene.now around.now) (AsOf place t (type_tree ty.now))) }
 {
-    let known = type_of_as(scene, ty);
     let left = finish(alloc, scene, around, before)?;
     let class = written_class(scene.within.tables, ty);
     let whole = add_link(alloc, place, left, TypedLink::As(class))?;
-    Ok(Part::Other(known, whole))
+    Ok(whole)
 }
 
 pub(crate) fn element<'p>(

@@ -3,7 +3,7 @@ use Rattle.std.specs.Prelude.{List, [], ◌∷◌, ◌++◌, length, nat_le, Opt
 use Rattle.ss_core.specs.Tree.{BodyTree}
 use Rattle.ss_faults.specs.declared.Fault.{Fault}
 use Rattle.ss_faults.specs.First.{first_fault}
-use Rattle.ss_resolver_names_rules.specs.declared.fault.Rule.TheVariants as rule
+use Rattle.ss_core.specs.declared.rules.Rule.TheVariants as rule
 use Rattle.ss_resolver_names_rules.specs.Faults.{Faults, fault}
 use Rattle.ss_resolver_names_rules.specs.Programs.{most_locals}
 use Rattle.ss_typed.specs.Tree.{TypedTree}

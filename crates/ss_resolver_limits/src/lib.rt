@@ -7,10 +7,10 @@ ghost use Rattle.ss_typed.specs.View.{typed};
 ghost use Rattle.ss_expand_programs.specs.Limits.{HasFewClasses};
 ghost use Rattle.ss_resolver_limits.specs.Limits.{body_faults, bodies_faults, limit_faults, first_limit_fault};
 
-use ss_core::Body;
+use ss_core::{Body, Rule};
 use ss_expand_programs::expand;
 use ss_faults::{Fault, first_fault};
-use ss_resolver_names_rules::{MOST_LOCALS, Rule};
+use ss_resolver_names_rules::MOST_LOCALS;
 use ss_typed::Typed;
 use std::alloc::{AllocError, Global};
 

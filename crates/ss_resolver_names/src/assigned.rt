@@ -4,16 +4,17 @@ ghost use Rattle.std.specs.Prelude.{◌≡◌, map, OnOk, option_map};
 ghost use Rattle.ss_ast.specs.Expressions.{expr_tree};
 ghost use Rattle.ss_ast.specs.Statements.{simple_tree, for_init_tree, block_tree, stmt_tree, stmt_trees};
 ghost use Rattle.ss_tables.specs.Scopes.{enter, behind, behind_init};
-ghost use Rattle.ss_tables_scopes.specs.Names.{left};
-ghost use Rattle.ss_tables_scopes.specs.Locals.{local_of};
+ghost use Rattle.ss_tables.specs.Named.{left};
 ghost use Rattle.ss_tables_scopes.specs.Views.{scope_of};
 ghost use Rattle.ss_resolver_names_rules.specs.Locals.{if_param, target_param, simple_params, init_params, step_params, stmt_params, block_params, stmts_params};
 ghost use Rattle.ss_resolver_scoping.specs.Views.{names_of};
 
 use indexmap::IndexSet;
 use ss_ast::{Block, Expr, ForInit, Simple, Stmt};
-use ss_resolver_scoping::{bare_name, declare_declaration, declare_init, note_name};
-use ss_tables_scopes::{LocalInfo, Scopes, Within};
+use ss_resolver_scoping::{bare_name, note_name};
+use ss_tables_scopes::{
+    LocalInfo, Scopes, Within, declare_declaration, declare_init, is_parameter,
+};
 use std::alloc::{AllocError, Global};
 
 // Notes the name of a local that is a parameter.
@@ -23,11 +24,11 @@ fn note_if_param(
     name: &str,
     local: Option<LocalInfo>,
 ) -> Result<(), AllocError>
-    ensures { OnOk result (names_of names.new.keys ≡ if_param (names_of names.old.keys) name.now (option_map local_of local)) }
+    ensures { OnOk result (names_of names.new.keys ≡ if_param (names_of names.old.keys) name.now local) }
 {
     match local {
         Some(local) => {
-            if local.is_param {
+            if is_parameter(local) {
                 return note_name(alloc, names, name);
             }
             Ok(())

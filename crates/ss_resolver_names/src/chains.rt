@@ -6,12 +6,10 @@ ghost use Rattle.ss_tables.specs.Classes.{steps_above, members_at};
 ghost use Rattle.ss_tables_lookup.specs.Classes.{trees};
 ghost use Rattle.ss_resolver_names_rules.specs.Programs.{ends, is_deep, inherited_fields, is_first_of_cycle};
 
+use ss_core::MOST_ABOVE;
 use ss_resolver_scoping::plus;
 use ss_tables_lookup::Tables;
 use std::alloc::AllocError;
-
-// How many classes stand at most between a class and `object`, itself counted.
-const MOST_LEVELS: usize = 63;
 
 // The class so many steps above.
 fn steps_above(tables: &Tables<'_>, steps: usize, class: usize) -> Option<usize>
@@ -41,7 +39,7 @@ pub fn ends(tables: &Tables<'_>, class: usize) -> bool
 pub fn is_deep(tables: &Tables<'_>, class: usize) -> bool
     ensures { result ≡ is_deep (trees tables.now) class }
 {
-    steps_above(tables, MOST_LEVELS, class).is_some() && ends(tables, class)
+    steps_above(tables, MOST_ABOVE, class).is_some() && ends(tables, class)
 }
 
 /// Whether one comes back to a class, going up over later ones alone.

@@ -15,15 +15,12 @@ ghost use Rattle.ss_resolver_scoping.specs.Views.{names_of};
 use crate::chains::{ends, inherited_fields, is_deep, is_first_of_cycle};
 use indexmap::IndexSet;
 use ss_ast::{ClassDecl, Declarator, Member, MemberKind, Name};
-use ss_core::Place;
+use ss_core::{MOST_FIELDS, Place, Rule};
 use ss_faults::Fault;
 use ss_resolver_names_members::{add, check_class};
-use ss_resolver_names_rules::Rule;
 use ss_resolver_scoping::{is_listed, note_name, plus};
 use ss_tables_lookup::{ConstructorRef, FieldRef, MethodRef, Tables};
 use std::alloc::{AllocError, Global};
-
-const MOST_FIELDS: usize = 1024;
 
 const MOST_METHODS: usize = 1024;
 

@@ -14,12 +14,13 @@ use crate::assigned::note_block;
 use crate::declared::block_locals;
 use indexmap::IndexSet;
 use ss_ast::{Block, Name};
+use ss_core::Rule;
 use ss_faults::Fault;
 use ss_resolver_names_members::add;
-use ss_resolver_names_rules::{MOST_LOCALS, Rule};
-use ss_resolver_scoping::{declare_params, plus};
+use ss_resolver_names_rules::MOST_LOCALS;
+use ss_resolver_scoping::plus;
 use ss_tables_lookup::{ConstructorRef, MethodRef, Shelf, Tables};
-use ss_tables_scopes::{Scopes, Within};
+use ss_tables_scopes::{NameScopes, Scopes, Within, declare_params};
 use std::alloc::{AllocError, Global};
 
 // How many parameters a block assigns.
@@ -66,7 +67,7 @@ fn method_locals(
         refuses_this: false,
         outcome: None,
     };
-    let mut locals = Scopes::new(alloc);
+    let mut locals = NameScopes::new(alloc);
     declare_params(alloc, within, &mut locals, &method.method.params)?;
     locals_in(alloc, within, &mut locals, &method.method.body)
 }
@@ -87,7 +88,7 @@ fn constructor_locals(
         refuses_this: false,
         outcome: None,
     };
-    let mut locals = Scopes::new(alloc);
+    let mut locals = NameScopes::new(alloc);
     declare_params(alloc, within, &mut locals, &constructor.constructor.params)?;
     locals_in(alloc, within, &mut locals, &constructor.constructor.body)
 }

@@ -1,9 +1,8 @@
 // Overrides.
 
 ghost use Rattle.std.specs.Prelude.{◌≡◌, ◌++◌, ◌&&◌, codes, map, OnOk, option_map};
-ghost use Rattle.ss_ast.specs.Expressions.{IntType, BoolType, ObjectType, ClassType, name_tree, type_tree, type_name_tree};
+ghost use Rattle.ss_ast.specs.Expressions.{BoolType, ObjectType, ClassType, name_tree, type_tree, type_name_tree};
 ghost use Rattle.ss_ast.specs.Programs.{param_tree, clause_tree};
-ghost use Rattle.ss_tables.specs.Members.{has_attribute};
 ghost use Rattle.ss_tables.specs.Classes.{inherited_method};
 ghost use Rattle.ss_resolver_names_rules.specs.Faults.{fault, unless};
 ghost use Rattle.ss_tables_lookup.specs.Views.{method_tree, declared_method};
@@ -11,21 +10,13 @@ ghost use Rattle.ss_resolver_names_rules.specs.Members.{agree, same_type_name, s
 ghost use Rattle.ss_tables_lookup.specs.Classes.{trees};
 
 use ss_ast::{Clause, Name, Param, TypeName, TypeRef};
+use ss_core::Rule;
 use ss_faults::Fault;
 use ss_resolver_names_members::add_unless;
-use ss_resolver_names_rules::Rule;
-use ss_resolver_scoping::{is_open, is_override};
+use ss_resolver_scoping::is_int;
 use ss_tables_lookup::{MethodRef, Tables};
+use ss_tables_scopes::{has_attribute, is_open_word, is_override_word};
 use std::alloc::AllocError;
-
-fn is_int(name: &TypeName) -> bool
-    ensures { result ≡ same_type_name IntType (type_name_tree name.now) }
-{
-    match name {
-        TypeName::Int => true,
-        TypeName::Bool | TypeName::Object | TypeName::Class(_) => false,
-    }
-}
 
 fn is_bool(name: &TypeName) -> bool
     ensures { result ≡ same_type_name BoolType (type_name_tree name.now) }
@@ -89,17 +80,6 @@ fn same_result(left: &Option<TypeRef>, right: &Option<TypeRef>) -> bool
     }
 }
 
-fn has_attribute(name: &str, attributes: &[Name]) -> bool
-    ensures { result ≡ has_attribute name.now (map name_tree attributes.now) }
-{
-    for attribute in attributes {
-        if name == attribute.text.as_str() {
-            return true;
-        }
-    }
-    false
-}
-
 fn same_mark(name: &str, left: &[Name], right: &[Name]) -> bool
     ensures { result ≡ same_mark name.now (map name_tree left.now) (map name_tree right.now) }
 {
@@ -151,7 +131,7 @@ fn only_ensures(clauses: &[Clause]) -> bool
 fn may_override(method: MethodRef<'_>, inherited: MethodRef<'_>) -> bool
     ensures { result ≡ may_override (method_tree method.entry) (method_tree inherited.entry) }
 {
-    is_open(&inherited.member.modifiers)
+    is_open_word(&inherited.member.modifiers)
         && same_params(&method.method.params, &inherited.method.params)
         && same_result(&method.method.returns, &inherited.method.returns)
         && same_marks(&method.member.attributes, &inherited.member.attributes)
@@ -163,13 +143,13 @@ fn fits_inherited(method: MethodRef<'_>, inherited: Option<(usize, MethodRef<'_>
 {
     match inherited {
         Some((_, inherited)) => {
-            if is_override(&method.member.modifiers) {
+            if is_override_word(&method.member.modifiers) {
                 may_override(method, inherited)
             } else {
                 false
             }
         }
-        None => !is_override(&method.member.modifiers),
+        None => !is_override_word(&method.member.modifiers),
     }
 }
 

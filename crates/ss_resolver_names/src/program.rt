@@ -1,8 +1,7 @@
 // The faults of names in a program, and the first of them.
 
 ghost use Rattle.std.specs.Prelude.{◌≡◌, ◌++◌, [], ◌<◌, Some, length, map, drop, count_by, slice_get, OnOk, IfOk, if◌then◌else◌};
-ghost use Rattle.ss_ast.specs.Expressions.{IntType, type_name_tree};
-ghost use Rattle.ss_ast.specs.Programs.{param_tree, class_tree, program_tree};
+ghost use Rattle.ss_ast.specs.Programs.{class_tree, program_tree};
 ghost use Rattle.ss_tables.specs.Members.{methods_in};
 ghost use Rattle.ss_tables.specs.Classes.{members_at};
 ghost use Rattle.ss_tables_lookup.specs.Shelves.{shelf};
@@ -10,9 +9,9 @@ ghost use Rattle.ss_tables_lookup.specs.Shelved.{shelf_of};
 ghost use Rattle.ss_tables_lookup.specs.Views.{method_tree};
 ghost use Rattle.ss_tables_lookup.specs.Classes.{trees};
 ghost use Rattle.ss_resolver_names_rules.specs.Faults.{twice_among};
-ghost use Rattle.ss_resolver_names_rules.specs.Members.{faults_at, same_type_name};
+ghost use Rattle.ss_resolver_names_rules.specs.Members.{faults_at};
 ghost use Rattle.ss_resolver_names_rules.specs.Headings.{heading_faults};
-ghost use Rattle.ss_resolver_names_rules.specs.Programs.{most_classes, class_faults_of, classes_faults, takes_input, is_main, mains_in, class_names, program_faults, first_name_fault};
+ghost use Rattle.ss_resolver_names_rules.specs.Programs.{most_classes, class_faults_of, classes_faults, is_main, mains_in, class_names, program_faults, first_name_fault};
 
 use crate::classes::{
     check_above, check_constructors, check_depth, check_fields, check_member_names, check_methods,
@@ -21,15 +20,13 @@ use crate::classes::{
 use crate::counts::check_bodies;
 use crate::overrides::check_overrides;
 use indexmap::IndexSet;
-use ss_ast::{ClassDecl, Param, Program, TypeName};
+use ss_ast::{ClassDecl, Program};
+use ss_core::{MOST_CLASSES, Rule};
 use ss_faults::{Fault, first_fault};
 use ss_resolver_names_members::{add, add_unless, check_members};
-use ss_resolver_names_rules::Rule;
-use ss_resolver_scoping::{is_static, plus};
+use ss_resolver_scoping::{is_main, plus};
 use ss_tables_lookup::{MethodRef, Shelf, Tables};
 use std::alloc::{AllocError, Global};
-
-const MOST_CLASSES: usize = 4096;
 
 // The faults of a class beside those of its members.
 fn check_heading(
@@ -142,35 +139,6 @@ fn check_class_limit(faults: &mut Vec<Fault>, classes: &[ClassDecl]) -> Result<(
     add_classes(faults, past_limit(classes))
 }
 
-// Whether a type is `int`.
-fn is_int(name: &TypeName) -> bool
-    ensures { result ≡ same_type_name (type_name_tree name.now) IntType }
-{
-    match name {
-        TypeName::Int => true,
-        TypeName::Bool | TypeName::Object | TypeName::Class(_) => false,
-    }
-}
-
-fn takes_input(params: &[Param]) -> bool
-    ensures { result ≡ takes_input (map param_tree params.now) }
-{
-    match params {
-        [] => true,
-        [only] => only.ty.is_array && is_int(&only.ty.name),
-        [_, _, ..] => false,
-    }
-}
-
-fn is_main(method: MethodRef<'_>) -> bool
-    ensures { result ≡ is_main (method_tree method.entry) }
-{
-    method.method.name.text.as_str() == "Main"
-        && is_static(&method.member.modifiers)
-        && method.method.returns.is_none()
-        && takes_input(&method.method.params)
-}
-
 // Counts a method that is `Main`.
 fn count_main(method: MethodRef<'_>) -> usize
     ensures { result ≡ (if is_main (method_tree method.entry) then 1 else 0) }
@@ -211,24 +179,33 @@ fn count_mains(tables: &Tables<'_>) -> Result<usize, AllocError>
 }
 
 // Every fault of names in a program.
-fn program_faults(alloc: Global, program: &Program) -> Result<Vec<Fault>, AllocError>
+fn program_faults(
+    alloc: Global,
+    tables: &Tables<'_>,
+    program: &Program,
+) -> Result<Vec<Fault>, AllocError>
+    requires { tables.now ≡ program.now.classes.items }
     ensures { IfOk result (λ v. v.items ≡ program_faults (program_tree program.now)) }
 {
-    let tables = Tables::new(alloc, &program.classes)?;
     let mut faults = Vec::new(alloc);
     check_class_names(alloc, &mut faults, &program.classes)?;
     check_class_limit(&mut faults, &program.classes)?;
-    check_classes(alloc, &tables, &mut faults, &program.classes)?;
-    let has_one = count_mains(&tables)? == 1;
+    check_classes(alloc, tables, &mut faults, &program.classes)?;
+    let has_one = count_mains(tables)? == 1;
     add_unless(&mut faults, has_one, Rule::NoMain, program.last)?;
     Ok(faults)
 }
 
 /// The first fault of names in a program: the one at the earliest place, and of two there the one of the lower rule; None where
-/// there is none. The error is want of memory.
-pub fn check_names(alloc: Global, program: &Program) -> Result<Option<Fault>, AllocError>
+/// there is none. The tables are those of its classes. The error is want of memory.
+pub fn check_names(
+    alloc: Global,
+    tables: &Tables<'_>,
+    program: &Program,
+) -> Result<Option<Fault>, AllocError>
+    requires { tables.now ≡ program.now.classes.items }
     ensures { IfOk result (λ f. f ≡ first_name_fault (program_tree program.now)) }
 {
-    let faults = program_faults(alloc, program)?;
+    let faults = program_faults(alloc, tables, program)?;
     Ok(first_fault(&faults))
 }

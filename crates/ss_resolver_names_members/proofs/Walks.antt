@@ -11,7 +11,7 @@ use Rattle.ss_tables.specs.Scopes.{Scope, local_named}
 use Rattle.ss_tables.specs.Statics.{Receiver, TheConsole, TheOwner, TheBase, AClass, AValue, is_member, is_known, class_or_value, name_receiver, name_type, read_type, member_callee, call_type, receiver, static, callee}
 use Rattle.ss_resolver_names_rules.specs.Faults.{Faults, unless, unknown}
 use Rattle.ss_resolver_names_rules.specs.Expressions.{has_member, before_dot, read_faults, called_faults, callee_faults, asked_class, class_argument, class_named_by, expr_faults, arguments_faults}
-use Rattle.ss_resolver_names_rules.specs.Prefixes.{Prefix, ABareName, prefix_value, prefix_receiver, prefix_callee, prefix_asked, bare_place, member_pending, pending, member_called, called, asked, dotted, prefix, settled}
+use Rattle.ss_resolver_names_rules.specs.Prefixes.{Prefix, ABareName, AnOther, prefix_value, prefix_receiver, prefix_callee, prefix_asked, bare_place, member_pending, pending, member_called, called, asked, dotted, prefix, settled}
 use Rattle.ss_resolver_scoping.proofs.Readings.{receiver_is}
 use Rattle.ss_resolver_names_members.proofs.Appending.{one_more, two_more}
 
@@ -133,3 +133,7 @@ call_noted s p e es found old mid new x o b d c =
 -- a link reads what stands before it
 pub link_noted : (s : Scope) (e : ExprTree) (found old mid new y : Faults) (x : Prefix) → old ≡ found ++ settled s e → x ≡ prefix s e → mid ≡ old ++ pending s x → new ≡ mid ++ y → new ≡ found ++ (expr_faults s e ++ y)
 link_noted s e found old mid new y x o b d n = one_more found mid new (expr_faults s e) y (read_noted s e found old mid x o b d) n
+
+-- an expression that begins nothing, by a form of it that says so
+pub link_begun : (s : Scope) (u v : ExprTree) (t : Option Ty) → u ≡ v → AnOther (static s v) ≡ prefix s v → t ≡ static s u → AnOther t ≡ prefix s u
+link_begun s u v t is begun h = ap AnOther h ∙ ap (λ w. AnOther (static s w)) is ∙ begun ∙ ap (prefix s) (sym is)

@@ -10,9 +10,8 @@ ghost use Rattle.ss_resolver_scoping.specs.Views.{prefix_view};
 ghost use Rattle.ss_tables_lookup.specs.Classes.{trees};
 
 use ss_ast::{Name, TypeName, TypeRef};
-use ss_core::Place;
+use ss_core::{Place, Rule};
 use ss_faults::Fault;
-use ss_resolver_names_rules::Rule;
 use ss_resolver_scoping::{Prefix, has_member, is_inherited};
 use ss_tables_lookup::Tables;
 use ss_tables_scopes::{

@@ -8,7 +8,6 @@ ghost use Rattle.ss_tables.specs.Types.{written_type};
 ghost use Rattle.ss_tables.specs.Scopes.{declare, declare_params, class_scope};
 ghost use Rattle.ss_resolver_names_rules.specs.Faults.{type_faults, twice_in};
 ghost use Rattle.ss_tables_scopes.specs.Names.{Names};
-ghost use Rattle.ss_tables.specs.Statics.{result_type};
 ghost use Rattle.ss_tables_lookup.specs.Views.{type_of};
 ghost use Rattle.ss_resolver_names_rules.specs.Members.{params_faults, modified_expr, modified_faults, clause_faults, clauses_faults, written_type_faults, base_faults, initials_faults, in_method, body_faults, kind_faults, members_faults};
 ghost use Rattle.ss_tables_scopes.specs.Views.{scope_of};
@@ -22,9 +21,8 @@ use ss_ast::{
     Modifier, Param, TypeRef,
 };
 use ss_faults::Fault;
-use ss_resolver_scoping::{declare_param, is_static};
 use ss_tables_lookup::{StaticType, Tables};
-use ss_tables_scopes::{Scopes, Within};
+use ss_tables_scopes::{NameScopes, Scopes, Within, declare_param, is_static_word, result_type};
 use std::alloc::{AllocError, Global};
 
 // A parameter.
@@ -151,15 +149,6 @@ fn check_result(
     }
 }
 
-fn result_type(tables: &Tables<'_>, ty: &Option<TypeRef>) -> Option<StaticType>
-    ensures { option_map type_of result ≡ result_type (trees tables.now) (option_map type_tree ty.now) }
-{
-    match ty {
-        Some(ty) => tables.written_type(ty),
-        None => None,
-    }
-}
-
 fn check_base(
     alloc: Global,
     within: Within<'_, '_>,
@@ -224,7 +213,7 @@ fn check_method(
 {
     check_result(within.tables, faults, &method.returns)?;
     let outcome = result_type(within.tables, &method.returns);
-    let inner = in_method(within, is_static(words), outcome);
+    let inner = in_method(within, is_static_word(words), outcome);
     check_body(
         alloc,
         inner,
@@ -277,7 +266,7 @@ fn check_member(
         refuses_this: false,
         outcome: None,
     };
-    let mut locals = Scopes::new(alloc);
+    let mut locals = NameScopes::new(alloc);
     match &member.kind {
         MemberKind::Fields(declaration) => {
             check_type(tables, faults, &declaration.ty)?;

@@ -6,15 +6,15 @@ ghost use Rattle.ss_ast.specs.Statements.{declarator_tree, declaration_tree, sim
 ghost use Rattle.ss_tables.specs.Scopes.{enter, behind, behind_init, declare_all, declare_local};
 ghost use Rattle.ss_resolver_names_rules.specs.Faults.{twice_in};
 ghost use Rattle.ss_resolver_names_rules.specs.Statements.{faults_of_all, faults_of_any, named_class_faults, declarators_faults, declaration_faults, simple_faults, faults_of_any_simple, init_faults, heading_faults, stmt_faults, block_faults, stmts_faults};
-ghost use Rattle.ss_tables_scopes.specs.Names.{left};
+ghost use Rattle.ss_tables.specs.Named.{left};
 ghost use Rattle.ss_tables_scopes.specs.Views.{scope_of};
 ghost use Rattle.ss_tables_lookup.specs.Classes.{trees};
 
 use crate::found::{add, check_class, check_type};
 use crate::walk::check;
 use ss_ast::{Block, Declaration, Declarator, Expr, ForInit, Name, Simple, Stmt, TypeRef};
+use ss_core::Rule;
 use ss_faults::Fault;
-use ss_resolver_names_rules::Rule;
 use ss_tables_lookup::Tables;
 use ss_tables_scopes::{LocalInfo, Scopes, Within};
 use std::alloc::{AllocError, Global};

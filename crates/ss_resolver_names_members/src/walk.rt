@@ -12,7 +12,8 @@ ghost use Rattle.ss_tables_scopes.specs.Views.{scope_of};
 ghost use Rattle.ss_resolver_names_rules.specs.Faults.{Faults, class_faults, type_name_faults, type_faults};
 ghost use Rattle.ss_resolver_names_rules.specs.Expressions.{expr_faults, class_named_by, argument_faults, behind_argument, arguments_faults};
 ghost use Rattle.ss_resolver_names_rules.specs.Prefixes.{AnOther, prefix, settled};
-ghost use Rattle.ss_resolver_scoping.specs.Views.{link_behind, postfix_behind, prefix_view};
+ghost use Rattle.ss_ast.specs.Parts.{link_behind, postfix_behind};
+ghost use Rattle.ss_resolver_scoping.specs.Views.{prefix_view};
 
 use crate::found::{
     add_asked, add_called, add_dotted, add_pending, check_class, check_type, check_type_name,
@@ -21,11 +22,13 @@ use ss_ast::{Expr, Link, Name, Postfix, TypeName, TypeRef};
 use ss_core::Place;
 use ss_faults::Fault;
 use ss_resolver_scoping::{
-    Prefix, bare_place, operation_type, prefix_asked, prefix_callee, prefix_receiver, prefix_value,
-    type_of_as, type_of_cast, type_of_element,
+    Prefix, bare_place, prefix_asked, prefix_callee, prefix_receiver, prefix_value,
 };
 use ss_tables_lookup::StaticType;
-use ss_tables_scopes::{LocalInfo, Scopes, Within, call_type, called_with, count, new_type};
+use ss_tables_scopes::{
+    LocalInfo, Scopes, Within, call_type, called_with, count, link_type, new_type, type_of_cast,
+    type_of_element,
+};
 use std::alloc::{AllocError, Global};
 
 // A dot and a name behind the beginning of a path.
@@ -132,7 +135,7 @@ fn walk_cast<'a>(
 {
     check_type(within.tables, faults, ty)?;
     check(alloc, within, locals, faults, e)?;
-    Ok(Prefix::Value(type_of_cast(within, ty)))
+    Ok(Prefix::Value(type_of_cast(within.tables, ty)))
 }
 
 // An expression in parentheses, or inside `old`.
@@ -275,18 +278,19 @@ fn walk_link<'a>(
     ensures kept { OnOk result (locals.new ≡ locals.old) }
 {
     add_pending(within, locals, faults, before)?;
+    let known = link_type(within, link);
     match link {
-        Link::Operation(operator, operand) => {
+        Link::Operation(_, operand) => {
             check(alloc, within, locals, faults, operand)?;
-            Ok(Prefix::Value(Some(operation_type(*operator))))
+            Ok(Prefix::Value(known))
         }
         Link::Is(ty) => {
             check_type(within.tables, faults, ty)?;
-            Ok(Prefix::Value(Some(StaticType::Bool)))
+            Ok(Prefix::Value(known))
         }
         Link::As(ty) => {
             check_type(within.tables, faults, ty)?;
-            Ok(Prefix::Value(type_of_as(within, ty)))
+            Ok(Prefix::Value(known))
         }
     }
 }

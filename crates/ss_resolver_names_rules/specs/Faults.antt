@@ -3,21 +3,15 @@ use Rattle.std.specs.Prelude.{ℕ, Bool, ◌==◌, ◌&&◌, ◌||◌, nat_lt, L
 use Rattle.std.specs.List.{list_any}
 use Rattle.std.specs.Str.{bytes_eq}
 use Rattle.ss_core.specs.declared.names.Place.{Place}
-use Rattle.ss_resolver_names_rules.specs.declared.fault.Rule.{Rule}
-use Rattle.ss_resolver_names_rules.specs.declared.fault.Rule.TheVariants as rule
+use Rattle.ss_core.specs.declared.rules.Rule.{Rule}
+use Rattle.ss_core.specs.declared.rules.Rule.TheVariants as rule
+use Rattle.ss_core.specs.Rules.{rule_number}
 use Rattle.ss_faults.specs.declared.Fault.{Fault}
 use Rattle.ss_ast.specs.Expressions.{NameTree, TypeNameTree, IntType, BoolType, ObjectType, ClassType, TypeTree}
 use Rattle.ss_ast.specs.Programs.{ClassTree}
 use Rattle.ss_tables.specs.Classes.{class_named}
-use Rattle.ss_tables.specs.Scopes.{Locals, local_in}
-
-abbrev pub rule_number : Rule → ℕ
-rule_number rule.Unknown = 20
-rule_number rule.Twice = 21
-rule_number rule.Cycle = 22
-rule_number rule.BadOverride = 23
-rule_number rule.NoMain = 25
-rule_number rule.Limit = 27
+use Rattle.ss_tables.specs.Scopes.{Locals}
+use Rattle.ss_tables.specs.Named.{named_in}
 
 abbrev pub Faults : Type 0
 Faults = List Fault
@@ -49,7 +43,7 @@ twice_among before (n ∷ ns) = twice before n ++ twice_among (with_name before 
 
 -- a local whose scope has its name already
 abbrev pub twice_in : Locals → NameTree → Faults
-twice_in ls n = if is_some (local_in ls n.text) then fault rule.Twice n.place else []
+twice_in ls n = if is_some (named_in ls n.text) then fault rule.Twice n.place else []
 
 -- ---- names of classes
 

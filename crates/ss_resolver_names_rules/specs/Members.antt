@@ -11,8 +11,8 @@ use Rattle.ss_tables.specs.Classes.{Declared, inherited_method}
 use Rattle.ss_tables.specs.Types.{written_type}
 use Rattle.ss_tables.specs.Scopes.{Scope, declare, declare_params}
 use Rattle.ss_tables.specs.Statics.{result_type}
-use Rattle.ss_resolver_names_rules.specs.declared.fault.Rule.{Rule}
-use Rattle.ss_resolver_names_rules.specs.declared.fault.Rule.TheVariants as rule
+use Rattle.ss_core.specs.declared.rules.Rule.{Rule}
+use Rattle.ss_core.specs.declared.rules.Rule.TheVariants as rule
 use Rattle.ss_resolver_names_rules.specs.Faults.{Faults, fault, unless, twice_in, type_faults}
 use Rattle.ss_resolver_names_rules.specs.Expressions.{expr_faults}
 use Rattle.ss_resolver_names_rules.specs.Statements.{faults_of_all, faults_of_any, block_faults}

@@ -1,12 +1,13 @@
 -- Faults of classes and programs, limits, and the first fault of the phase of names.
 use Rattle.std.specs.Prelude.{ℕ, zero, suc, ◌+◌, ◌==◌, ◌&&◌, not, nat_le, nat_lt, Bool, true, false, List, [], ◌∷◌, ◌++◌, map, length, drop, sum_by, count_by, Option, Some, None, is_some, codes, if◌then◌else◌}
 use Rattle.std.specs.Str.{bytes_eq}
+use Rattle.ss_core.specs.Chain as chain
 use Rattle.ss_ast.specs.Expressions.{NameTree, IntType}
 use Rattle.ss_ast.specs.Programs.{ParamTree, ClassTree, ProgramTree}
 use Rattle.ss_tables.specs.Members.{FieldTree, MethodTree, ConstructorTree, fields_in, methods_in, constructors_in, is_static}
 use Rattle.ss_tables.specs.Classes.{above, steps_above, chain_above, members_at}
 use Rattle.ss_tables.specs.Scopes.{class_scope, param_scope}
-use Rattle.ss_resolver_names_rules.specs.declared.fault.Rule.TheVariants as rule
+use Rattle.ss_core.specs.declared.rules.Rule.TheVariants as rule
 use Rattle.ss_faults.specs.declared.Fault.{Fault}
 use Rattle.ss_faults.specs.First.{first_fault}
 use Rattle.ss_resolver_names_rules.specs.Faults.{Faults, fault, unless, twice_among, class_faults}
@@ -16,14 +17,14 @@ use Rattle.ss_resolver_names_rules.specs.Members.{members_faults, member_names, 
 -- ---- limits
 
 unfoldable pub most_classes : ℕ
-most_classes = 4096
+most_classes = chain.most_classes
 
 -- how many classes stand at most between a class and `object`, itself counted
 unfoldable pub most_levels : ℕ
-most_levels = 63
+most_levels = chain.most_above
 
 unfoldable pub most_fields : ℕ
-most_fields = 1024
+most_fields = chain.most_fields
 
 unfoldable pub most_methods : ℕ
 most_methods = 1024
@@ -117,7 +118,7 @@ classes_faults cs k (c ∷ rest) = class_faults_of cs k c ++ classes_faults cs (
 -- no parameter, or one of the type `int[]` or `int[]!`
 abbrev pub takes_input : List ParamTree → Bool
 takes_input [] = true
-takes_input (p ∷ []) = p.ty.is_array && same_type_name p.ty.name IntType
+takes_input (p ∷ []) = p.ty.is_array && same_type_name IntType p.ty.name
 takes_input (p ∷ q ∷ ps) = false
 
 abbrev pub is_main : MethodTree → Bool

@@ -2,9 +2,5 @@
 //! whether there is one `Main`, and what is past a limit. The definitions stand in `specs/`.
 #![tactic(auto)]
 
-mod fault;
-
-pub use fault::Rule;
-
 /// How many locals a body has at most.
 pub const MOST_LOCALS: usize = 4096;

@@ -5,7 +5,7 @@ use Rattle.ss_ast.specs.Programs.{ClauseTree, clause_tree, RequiresOf, EnsuresOf
 use Rattle.ss_typed.specs.Tree.{ExprTree, ModifiedTree}
 use Rattle.ss_resolver_rules.specs.Names.{Env}
 use Rattle.ss_resolver_rules.specs.Programs.{modified, entry_in, exit_in, modifies_in, with_terms}
-use Rattle.ss_resolver_expressions.proofs.Loops.{drop_item}
+use Rattle.ss_ast.proofs.Loops.{drop_item}
 use Rattle.ss_resolver_programs.specs.Terms.{joined}
 
 pub entry_more : (e : Env) (c : ClauseTree) (cs : List ClauseTree) → entry_in e (c ∷ cs) ≡ entry_in e (c ∷ []) ++ entry_in e cs

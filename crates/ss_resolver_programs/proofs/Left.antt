@@ -1,18 +1,19 @@
 -- A scope that is left gives back the names, and the next local comes behind those that were declared within.
-use Rattle.std.proofs.Common.{ℕ, suc, ◌≡◌, ◌+◌, List, [], ◌∷◌, ◌++◌, length, map, Option, Some, None, refl, sym, ap, subst, ◌∙◌, arith, length-append}
+use Rattle.std.proofs.Common.{ℕ, ◌≡◌, ◌+◌, List, [], ◌∷◌, ◌++◌, length, Option, Some, None, refl, sym, ap, subst, ◌∙◌, arith, length-append}
+use Rattle.std.proofs.lemmas.List.{length-map}
 use Rattle.ss_ast.specs.Expressions.{TypeTree}
 use Rattle.ss_ast.specs.Statements.{DeclaratorTree, DeclarationTree, ForInitTree, StmtTree, stmt_trees}
 use Rattle.ss_ast.specs.Statements as text
-use Rattle.ss_tables.specs.Scopes.{Locals}
+use Rattle.ss_tables.specs.Named.{Scoped}
+use Rattle.ss_tables.specs.Named as scoped
 use Rattle.ss_tables_scopes.specs.Names.{Names}
-use Rattle.ss_tables_scopes.specs.Names as names
-use Rattle.ss_resolver_rules.specs.Names.{Env, Known_names, enter, declare, declare_all, behind_declaration}
+use Rattle.ss_resolver_rules.specs.Names.{Env, enter, declare, declare_all, behind_declaration}
+use Rattle.ss_resolver_rules.specs.declared.known.Known.{Known}
 use Rattle.ss_resolver_rules.specs.Statements.{declared_by, declared_first, declared_in, declared_in_all, past, behind, behind_first}
-use Rattle.ss_resolver_expressions.specs.Known.{Numbered}
-use Rattle.ss_resolver_expressions.specs.Known as known
 use Rattle.ss_resolver_expressions.specs.Around.{Around, entered, left}
 use Rattle.ss_resolver_expressions.specs.Scenes.{env_of}
 use Rattle.ss_resolver_expressions.specs.declared.scene.Scene.{Scene}
+use Rattle.ss_resolver_scoping.proofs.Leaving.{left_again}
 use Rattle.ss_resolver_programs.specs.Behind.{behind_all}
 
 -- the names around are the same, and so many more locals are declared
@@ -36,15 +37,11 @@ grows_all : (t : TypeTree) (ds : List DeclaratorTree) (e : Env) → Grows e (dec
 grows_all t [] e = grows_none e
 grows_all t (d ∷ ds) e = grows_more e (declare e t d.name) (declare_all (declare e t d.name) t ds) 1 (length ds) _ (record { same = refl; next = refl }) (grows_all t ds (declare e t d.name)) (omega arith)
 
-map_length : {X Y : Type 0} (f : X → Y) (xs : List X) → length (map f xs) ≡ length xs
-map_length f [] = refl
-map_length f (x ∷ xs) = ap suc (map_length f xs)
-
 counted : (e f : Env) (m n : ℕ) → m ≡ n → Grows e f m → Grows e f n
 counted e f m n h g = record { same = g.same; next = g.next ∙ ap (λ k. e.next + k) h }
 
 grows_declaration : (e : Env) (d : DeclarationTree) → Grows e (behind_declaration e d) (length (declared_by d))
-grows_declaration e d = counted e (behind_declaration e d) _ _ (sym (map_length _ d.declarators)) (grows_all d.ty d.declarators e)
+grows_declaration e d = counted e (behind_declaration e d) _ _ (sym (length-map d.declarators _)) (grows_all d.ty d.declarators e)
 
 grows_first : (e : Env) (i : Option ForInitTree) → Grows e (behind_first e i) (length (declared_first i))
 grows_first e None = grows_none e
@@ -73,21 +70,15 @@ grows_behind_all (s ∷ ss) e =
 
 -- ---- leaving
 
-left_names : (a b : Names) → b.outer ≡ a.inner ∷ a.outer → names.left b ≡ a
-left_names a b h = ap (λ (o : List Locals). names.left (record b { outer = o })) h
-
-left_numbered : (a b : Numbered) → b.outer ≡ a.inner ∷ a.outer → known.left b ≡ a
-left_numbered a b h = ap (λ (o : List Known_names). known.left (record b { outer = o })) h
-
-around_with : Names → Numbered → ℕ → ℕ → Around
+around_with : Names → Scoped Known → ℕ → ℕ → Around
 around_with names numbered next bound = record { names = names; numbered = numbered; next = next; bound = bound }
 
 left_scope : (s : Scene) (a b c : Around) (n : ℕ) → c ≡ left b → Grows (enter (env_of s a)) (env_of s b) n → env_of s c ≡ record (env_of s a) { next = a.next + n }
 unfolding around_with
 left_scope s a b c n h g =
     ap (env_of s) h
-    ∙ ap (λ x. env_of s (around_with x (known.left b.numbered) b.next b.bound)) (left_names a.names b.names (ap (λ (e : Env). e.scope.outer) g.same))
-    ∙ ap (λ x. env_of s (around_with a.names x b.next b.bound)) (left_numbered a.numbered b.numbered (ap (λ (e : Env). e.outer) g.same))
+    ∙ ap (λ x. env_of s (around_with x (scoped.left b.numbered) b.next b.bound)) (left_again b.names a.names (ap (λ (e : Env). e.scope.outer) g.same))
+    ∙ ap (λ x. env_of s (around_with a.names x b.next b.bound)) (left_again b.numbered a.numbered (ap (λ (e : Env). e.outer) g.same))
     ∙ ap (λ x. env_of s (around_with a.names a.numbered x b.bound)) g.next
     ∙ ap (λ x. env_of s (around_with a.names a.numbered (a.next + n) x)) (ap (λ (e : Env). e.bound) g.same)
 

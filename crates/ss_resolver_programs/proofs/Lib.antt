@@ -1,5 +1,4 @@
 pub mod Alones
-pub mod Grouping
 pub mod Clauses
 pub mod Left
 pub mod Beginnings

@@ -1,8 +1,9 @@
 -- A program without faults of names is within the limits.
-use Rattle.std.proofs.Common.{ℕ, zero, suc, ◌≡◌, ◌+◌, ◌-◌, ◌*◌, ◌≤◌, Bool, true, false, List, [], ◌∷◌, ◌++◌, length, map, drop, None, refl, ap, sym, ◌∙◌, arith}
+use Rattle.std.proofs.Common.{ℕ, zero, suc, ◌≡◌, ◌+◌, ◌-◌, ◌*◌, ◌≤◌, Bool, true, false, List, [], ◌∷◌, ◌++◌, length, map, drop, None, refl, sym, ◌∙◌, arith}
 use Rattle.std.specs.Prelude.{sum_by, nat_lt, ◌==◌, if◌then◌else◌}
 use Rattle.std.proofs.lemmas.Bool.{ltb-true}
 use Rattle.std.proofs.lemmas.List.Sums.{sum_by-cons}
+use Rattle.std.proofs.lemmas.List.{length-map}
 use Rattle.ss_core.specs.declared.names.Place.{Place}
 use Rattle.ss_ast.specs.Expressions.{NameTree}
 use Rattle.ss_ast.specs.Programs.{ClassTree, ProgramTree}
@@ -10,8 +11,8 @@ use Rattle.ss_tables.specs.Members.{FieldTree, MethodTree, ConstructorTree, fiel
 use Rattle.ss_tables.specs.Scopes.{class_scope}
 use Rattle.ss_faults.specs.declared.Fault.{Fault}
 use Rattle.ss_faults.specs.First.{first_fault}
-use Rattle.ss_resolver_names_rules.specs.declared.fault.Rule.{Rule}
-use Rattle.ss_resolver_names_rules.specs.declared.fault.Rule.TheVariants as rule
+use Rattle.ss_core.specs.declared.rules.Rule.{Rule}
+use Rattle.ss_core.specs.declared.rules.Rule.TheVariants as rule
 use Rattle.ss_resolver_names_rules.specs.Faults.{fault, unless, twice_among}
 use Rattle.ss_resolver_names_rules.specs.Members.{member_names, faults_at, constructor_faults, override_faults, members_faults}
 use Rattle.ss_resolver_names_rules.specs.Programs.{most_classes, most_fields, most_methods, depth_faults, above_faults, field_limit_faults, ends, inherited_fields, fields_faults, methods_faults, bodies_faults, class_faults_of, classes_faults, class_names, mains_in, program_faults, first_name_fault}
@@ -31,10 +32,6 @@ back_empty (x ∷ xs) ys h = absurd cc
 none_first : (fs : List Fault) → first_fault fs ≡ None → fs ≡ []
 none_first [] h = refl
 none_first (f ∷ fs) h = absurd cc
-
-map_length : {X Y : Type 0} (f : X → Y) (xs : List X) → length (map f xs) ≡ length xs
-map_length f [] = refl
-map_length f (x ∷ xs) = ap suc (map_length f xs)
 
 no_names : (r : Rule) (ns : List NameTree) → faults_at r ns ≡ [] → length ns ≡ 0
 no_names r [] h = refl
@@ -66,12 +63,12 @@ few_fields cs k c h = let n = few_left (if ends cs k then inherited_fields cs k 
 few_methods : (ms : List MethodTree) → methods_faults ms ≡ [] → length ms ≤ 1024
 unfolding most_methods
 few_methods ms h =
-    dropped 1024 ms (sym (map_length (λ (m : MethodTree). m.name) (drop 1024 ms)) ∙ no_names rule.Limit (map (λ (m : MethodTree). m.name) (drop 1024 ms)) h)
+    dropped 1024 ms (sym (length-map (drop 1024 ms) (λ (m : MethodTree). m.name)) ∙ no_names rule.Limit (map (λ (m : MethodTree). m.name) (drop 1024 ms)) h)
 
 one_constructor : (ds : List ConstructorTree) → constructor_faults ds ≡ [] → length ds ≤ 1
 one_constructor [] h = omega arith
 one_constructor (d ∷ ds) h =
-    let n = sym (map_length (λ (x : ConstructorTree). x.name) ds) ∙ no_names rule.Twice (map (λ (x : ConstructorTree). x.name) ds) h in
+    let n = sym (length-map ds (λ (x : ConstructorTree). x.name)) ∙ no_names rule.Twice (map (λ (x : ConstructorTree). x.name) ds) h in
     omega (arith, n)
 
 record Few (c : ClassTree) : Type 0 where
@@ -120,7 +117,7 @@ few_classes : (cs : List ClassTree) → faults_at rule.Limit (drop most_classes 
 unfolding most_classes
 few_classes cs h =
     let n = dropped 4096 (class_names cs) (no_names rule.Limit (drop 4096 (class_names cs)) h) in
-    omega (arith, n, map_length (λ (c : ClassTree). c.name) cs)
+    omega (arith, n, length-map cs (λ (c : ClassTree). c.name))
 
 -- ---- programs
 

@@ -3,33 +3,17 @@ use Rattle.std.proofs.Common.{ℕ, ◌≡◌, ◌-◌, ◌++◌, List, [], ◌�
 use Rattle.std.specs.Prelude.{◌==◌, Option, Some, None, IfSome, IfNone}
 use Rattle.ss_core.specs.declared.names.Place.{Place}
 use Rattle.ss_core.specs.declared.names.FieldId.{FieldId}
-use Rattle.ss_core.specs.declared.names.Ty.{Ty}
-use Rattle.ss_typed.specs.declared.expr.TypedExpr.{TypedExpr}
 use Rattle.ss_typed.specs.declared.expr.TypedLink.{TypedLink}
 use Rattle.ss_typed.specs.declared.expr.TypedStep.{TypedStep}
-use Rattle.ss_typed.specs.declared.expr.TypedExpr.TheFolds.{fold_out-TypedLink, fold-roll-TypedStep}
 use Rattle.ss_typed.specs.declared.expr.TypedExpr.TheOpen as shape
 use Rattle.ss_typed.specs.declared.expr.TypedExpr.TheOpen.{TypedLink-F}
-use Rattle.ss_typed.specs.declared.expr.TypedStep.TheVariants as step
-use Rattle.ss_typed.specs.Tree.{ExprTree, FieldOf, ElementOf, OneOf, AllOf}
-use Rattle.ss_typed.specs.View.{Behind, grouped, expr, expr_step, link_step, step_step}
+use Rattle.ss_typed.specs.Tree.{ExprTree, OneOf, AllOf}
+use Rattle.ss_typed.specs.View.{Behind, grouped, link_step}
 use Rattle.ss_resolver_rules.specs.Programs.{one_of}
-use Rattle.ss_resolver_expressions.specs.Behinds.{typed_link, typed_step}
-
-pub field_is : (f : FieldId) (t : Ty) (at : Place) (e : ExprTree) → typed_step (step.Field f t) at e ≡ FieldOf at e f.0 t
-field_is f t at e = ap (λ (s : TypedStep). typed_step s at e) (sym (step.rolls-Field f t)) ∙ ap (λ (b : Behind). b at e) (fold-roll-TypedStep ExprTree Behind Behind expr_step link_step step_step (shape.Field f t))
-
-pub element_is : (i : TypedExpr) (at : Place) (e : ExprTree) → typed_step (step.Element i) at e ≡ ElementOf at e (expr i)
-element_is i at e = ap (λ (s : TypedStep). typed_step s at e) (sym (step.rolls-Element i)) ∙ ap (λ (b : Behind). b at e) (fold-roll-TypedStep ExprTree Behind Behind expr_step link_step step_step (shape.Element i))
+use Rattle.ss_typed.specs.Parts.{link_behind as typed_link, step_behind as typed_step}
+use Rattle.ss_typed.proofs.Grouping.{link_shape, stepped_push}
 
 -- ---- chains
-
-record LinkShape (l : TypedLink) : Type 0 where
-  shape_of : TypedLink-F ExprTree Behind Behind
-  is : typed_link l ≡ link_step shape_of
-
-link_shape : (l : TypedLink) → LinkShape l
-link_shape l = record { shape_of = _; is = fold_out-TypedLink ExprTree Behind Behind expr_step link_step step_step l }
 
 other_link : (s : TypedLink-F ExprTree Behind Behind) (at : Place) (t : ExprTree) → one_of (link_step s at t) ≡ AllOf (link_step s at t)
 other_link (shape.Operation op e) at t = refl
@@ -37,14 +21,10 @@ other_link (shape.Is u) at t = refl
 other_link (shape.As u) at t = refl
 
 pub other_chain : (at : Place) (t : ExprTree) (l : TypedLink) (ls : List TypedLink) → one_of (grouped at t (map typed_link (l ∷ ls))) ≡ AllOf (grouped at t (map typed_link (l ∷ ls)))
-other_chain at t l [] = subst (λ (b : Behind). one_of (b at t) ≡ AllOf (b at t)) (sym (link_shape l).is) (other_link (link_shape l).shape_of at t)
+other_chain at t l [] = subst (λ (b : Behind). one_of (b at t) ≡ AllOf (b at t)) (sym (link_shape l).is) (other_link (link_shape l).shape at t)
 other_chain at t l (m ∷ ls) = other_chain at (typed_link l at t) m ls
 
 -- ---- the last step
-
-pub grouped_last : (at : Place) (t : ExprTree) (ss : List TypedStep) (s : TypedStep) → grouped at t (map typed_step (ss ++ s ∷ [])) ≡ typed_step s at (grouped at t (map typed_step ss))
-grouped_last at t [] s = refl
-grouped_last at t (x ∷ ss) s = grouped_last at (typed_step x at t) ss s
 
 take_front : {X : Type 0} (xs ys : List X) → take (length xs) (xs ++ ys) ≡ xs
 take_front [] ys = refl
@@ -61,7 +41,7 @@ pub last_reads : (ss front : List TypedStep) (last : TypedStep) → ss ≡ front
     → (at : Place) (o : ExprTree) → one_of (grouped at o (map typed_step ss)) ≡ OneOf (grouped at o (map typed_step (take (length ss - 1) ss))) f
 last_reads ss front last h f k at o =
     ap (λ zs. one_of (grouped at o (map typed_step zs))) h
-    ∙ ap one_of (grouped_last at o front last)
+    ∙ ap one_of (stepped_push at o front last)
     ∙ k at (grouped at o (map typed_step front))
     ∙ ap (λ zs. OneOf (grouped at o (map typed_step zs)) f) (sym (front_taken ss front last h))
 
@@ -69,7 +49,7 @@ last_reads ss front last h f k at o =
 pub last_other : (ss front : List TypedStep) (last : TypedStep) → ss ≡ front ++ last ∷ [] → ((at : Place) (o : ExprTree) → one_of (typed_step last at o) ≡ AllOf (typed_step last at o))
     → (at : Place) (o : ExprTree) → one_of (grouped at o (map typed_step ss)) ≡ AllOf (grouped at o (map typed_step ss))
 last_other ss front last h k at o =
-    let e = ap (λ zs. grouped at o (map typed_step zs)) h ∙ grouped_last at o front last in
+    let e = ap (λ zs. grouped at o (map typed_step zs)) h ∙ stepped_push at o front last in
     ap one_of e ∙ k at (grouped at o (map typed_step front)) ∙ ap (λ t. AllOf t) (sym e)
 
 -- a chain with at least one link

@@ -19,14 +19,14 @@ ghost use Rattle.ss_resolver_programs.specs.Parts.{param_in, AreParts};
 use crate::contracts::{resolve_base, resolve_entry, resolve_exit, resolve_modifies};
 use crate::decls::declare_params;
 use crate::locals::list_locals;
-use crate::marks::{copy_names, has_attribute};
+use crate::marks::copy_names;
 use crate::stmts::resolve_block;
 use ss_ast::{Block, Clause, Param, TypeRef};
 use ss_core::Local;
-use ss_resolver_expressions::{LocalNames, Scene, is_static};
+use ss_resolver_expressions::{LocalNames, Scene};
 use ss_resolver_tables::{class_number, declared_result, type_id};
 use ss_tables_lookup::{ConstructorRef, MethodRef, StaticType, Tables};
-use ss_tables_scopes::Within;
+use ss_tables_scopes::{Within, has_attribute, is_static};
 use ss_typed::{
     TypedBase, TypedBlock, TypedBody, TypedExpr, TypedFlags, TypedModifies, TypedParam,
 };

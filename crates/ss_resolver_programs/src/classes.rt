@@ -1,6 +1,6 @@
 // Classes.
 
-ghost use Rattle.std.specs.Prelude.{◌≡◌, ◌++◌, ◌∷◌, [], ◌<◌, IfOk, OnOk, length, map, option_map, slice_get, None, false};
+ghost use Rattle.std.specs.Prelude.{◌≡◌, ◌++◌, ◌∷◌, [], ◌<◌, IfOk, OnOk, length, map, option_map, None, false};
 ghost use Rattle.ss_ast.specs.Expressions.{name_tree};
 ghost use Rattle.ss_ast.specs.Programs.{member_tree, class_tree};
 ghost use Rattle.ss_core.specs.View as class_view;
@@ -26,7 +26,7 @@ use crate::whole::Whole;
 use ss_ast::{ClassDecl, Member, MemberKind, Name};
 use ss_core::{BodyId, Class, ClassId, Entry, Field, Mark};
 use ss_resolver_expressions::{LocalNames, Scene, resolve_boxed};
-use ss_resolver_tables::{MethodTable, Slot, constructor_id, number_or_object, type_id};
+use ss_resolver_tables::{Slot, constructor_id, number_or_object, table_at, type_id};
 use ss_tables_lookup::{FieldRef, Shelf, Tables};
 use ss_typed::{TypedClass, TypedExpr, TypedField, TypedInvariant};
 use std::alloc::{AllocError, Global};
@@ -109,12 +109,6 @@ fn entries(alloc: Global, slots: &[Slot<'_>]) -> Result<Vec<Entry>, AllocError>
         add_entry(alloc, &mut list, *slot)?;
     }
     Ok(list)
-}
-
-fn table_at<'t, 'p>(list: &'t [MethodTable<'p>], class: usize) -> Option<&'t MethodTable<'p>>
-    ensures { option_map (λ t. t.now) result ≡ slice_get list.now class }
-{
-    list.get(class)
 }
 
 // The table of a class.

@@ -2,7 +2,7 @@
 
 ghost use Rattle.std.specs.Prelude.{◌≡◌, ◌++◌, ◌∷◌, [], IfSome, IfNone, map, option_map, false};
 ghost use Rattle.ss_ast.specs.Expressions.{CallOf, grouped, arguments, expr_tree};
-ghost use Rattle.ss_resolver_expressions.specs.Behinds.{postfix_behind};
+ghost use Rattle.ss_ast.specs.Parts.{postfix_behind};
 ghost use Rattle.ss_resolver_programs.specs.Forms.{is_call, text_of};
 
 use ss_ast::{Expr, Postfix};

@@ -2,22 +2,9 @@
 
 ghost use Rattle.std.specs.Prelude.{◌≡◌, ◌++◌, ◌∷◌, [], IfOk, OnOk, map};
 ghost use Rattle.ss_ast.specs.Expressions.{name_tree};
-ghost use Rattle.ss_tables.specs.Members.{has_attribute};
 
 use ss_ast::Name;
 use std::alloc::{AllocError, Global};
-
-/// Whether an attribute of this name is written.
-pub(crate) fn has_attribute(name: &str, attributes: &[Name]) -> bool
-    ensures { result ≡ has_attribute name.now (map name_tree attributes.now) }
-{
-    for attribute in attributes {
-        if name == attribute.text.as_str() {
-            return true;
-        }
-    }
-    false
-}
 
 fn copy_name(alloc: Global, name: &Name) -> Result<Name, AllocError>
     ensures { IfOk result (λ n. name_tree n ≡ name_tree name.now) }

@@ -248,7 +248,7 @@ fn resolve_whole<'p>(
     })
 }
 
-// The same by the tables of its classes alone, where the numbers are known to fit.
+// The same where the numbers are known to fit.
 fn resolve_numbered<'p>(
     alloc: Global,
     tables: &Tables<'p>,
@@ -270,19 +270,15 @@ fn resolve_numbered<'p>(
     resolve_whole(alloc, &whole, program)
 }
 
-// The same where the numbers are known to fit.
-fn resolve_within(alloc: Global, program: &Program) -> Result<Typed, AllocError>
-    requires { IsWithinLimits (program_tree program.now).classes }
+/// The resolved program that a program with these tables and without faults of names means. The error is want of memory.
+pub fn resolve_program<'p>(
+    alloc: Global,
+    tables: &Tables<'p>,
+    program: &'p Program,
+) -> Result<Typed, AllocError>
+    requires faultless { first_name_fault (program_tree program.now) ≡ None }
+    requires tables { tables.now ≡ program.now.classes.items }
     ensures { IfOk result (λ t. view.typed t ≡ resolved.resolved (program_tree program.now)) }
 {
-    let tables = Tables::new(alloc, &program.classes)?;
-    resolve_numbered(alloc, &tables, program)
-}
-
-/// The resolved program that a program without faults of names means. The error is want of memory.
-pub fn resolve_program(alloc: Global, program: &Program) -> Result<Typed, AllocError>
-    requires { first_name_fault (program_tree program.now) ≡ None }
-    ensures { IfOk result (λ t. view.typed t ≡ resolved.resolved (program_tree program.now)) }
-{
-    resolve_within(alloc, program)
+    resolve_numbered(alloc, tables, program)
 }

@@ -9,7 +9,7 @@ ghost use Rattle.ss_typed.specs.View as view;
 ghost use Rattle.ss_resolver_rules.specs.Expressions.{args};
 ghost use Rattle.ss_resolver_rules.specs.Statements.{is_line, printed, print, alone, behind_first};
 ghost use Rattle.ss_resolver_rules.specs.Statements as resolved;
-ghost use Rattle.ss_resolver_expressions.specs.Behinds.{postfix_behind};
+ghost use Rattle.ss_ast.specs.Parts.{postfix_behind};
 ghost use Rattle.ss_resolver_expressions.specs.Scenes.{env_of, part, part_view, part_called};
 ghost use Rattle.ss_resolver_programs.specs.Alone.{kind_behind, kind_of, part_alone};
 ghost use Rattle.ss_resolver_programs.specs.Boxes as boxes;

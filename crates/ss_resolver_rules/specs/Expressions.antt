@@ -3,17 +3,9 @@
 use Rattle.std.specs.Prelude.{ℕ, ℤ, pos, negsuc, int_lt, Bool, true, false, List, [], ◌∷◌, Option, Some, None, option_and_then, codes, if◌then◌else◌}
 use Rattle.std.specs.Str.{bytes_eq}
 use Rattle.ss_core.specs.declared.names.Place.{Place}
-use Rattle.ss_ast.specs.declared.expr.Operator.{Operator as WrittenOperator}
-use Rattle.ss_ast.specs.declared.expr.Operator.TheVariants as written
-use Rattle.ss_ast.specs.declared.expr.Quantifier.{Quantifier as WrittenQuantifier}
-use Rattle.ss_ast.specs.declared.expr.Quantifier.TheVariants as quantifier
 use Rattle.ss_ast.specs.Expressions.{NameTree, TypeTree, TypeNameTree, Arguments, NoMore, Argument}
 use Rattle.ss_ast.specs.Expressions as text
 use Rattle.ss_core.specs.declared.names.Ty.{Ty}
-use Rattle.ss_core.specs.declared.expr.Operator.{Operator}
-use Rattle.ss_core.specs.declared.expr.Operator.TheVariants as op
-use Rattle.ss_core.specs.declared.expr.Quantifier.{Quantifier}
-use Rattle.ss_core.specs.declared.expr.Quantifier.TheVariants as bound_by
 use Rattle.ss_core.specs.Tree.{WordTree, Consistent, Committed, New, Level, Packed, Unowned, SameOwner, OwnedAt}
 use Rattle.ss_tables.specs.Members.{FieldTree, MethodTree, is_static}
 use Rattle.ss_tables.specs.Classes.{Declared, above, class_number, field_of, is_array_number, declared_place, array_number}
@@ -23,22 +15,9 @@ use Rattle.ss_tables.specs.Statics.{Receiver, TheConsole, TheOwner, TheBase, ACl
 use Rattle.ss_typed.specs.Tree.{ExprTree, IntOf, BoolOf, NullOf, ThisOf, LocalOf, ResultOf, BoundOf, IffOf, ImpliesOf, BinaryOf, IsOf, AsOf, NegateOf, NotOf, CastOf, FieldOf, ElementOf, LengthOf, OldOf, QuantifiedOf, StateOf, OwnersOf, NewOf, NewArrayOf, CallOf, StaticOf, BaseOf}
 use Rattle.ss_typed.specs.Tree as typed
 use Rattle.ss_resolver_rules.specs.Numbers.{class_id, type_id, class_in, written_class, array_class, field_id, method_id, table_place}
-use Rattle.ss_resolver_rules.specs.Names.{Known, Variable, BoundName, Env, known, within}
-
-abbrev pub operator : WrittenOperator → Operator
-operator written.Or = op.Or
-operator written.And = op.And
-operator written.Equal = op.Equal
-operator written.NotEqual = op.NotEqual
-operator written.Less = op.Less
-operator written.LessEqual = op.LessEqual
-operator written.Greater = op.Greater
-operator written.GreaterEqual = op.GreaterEqual
-operator written.Add = op.Add
-operator written.Subtract = op.Subtract
-operator written.Multiply = op.Multiply
-operator written.Divide = op.Divide
-operator written.Remainder = op.Remainder
+use Rattle.ss_resolver_rules.specs.Names.{Env, known, within}
+use Rattle.ss_resolver_rules.specs.declared.known.Known.{Known}
+use Rattle.ss_resolver_rules.specs.declared.known.Known.TheVariants.{Variable, BoundName}
 
 -- A number that is no `int` counts as the largest one. A source has none: its literals end at 2147483647, and the one behind a
 -- minus at 2147483648.
@@ -47,10 +26,6 @@ as_int n =
     if int_lt (pos 2147483647) n then pos 2147483647
     else if int_lt n (negsuc 2147483647) then pos 2147483647
     else n
-
-abbrev pub quantified_by : WrittenQuantifier → Quantifier
-quantified_by quantifier.Forall = bound_by.Forall
-quantified_by quantifier.Exists = bound_by.Exists
 
 -- ---- names and members
 
@@ -178,7 +153,7 @@ abbrev mutual
   expr e (text.NotOf p a) = NotOf p (expr e a)
   expr e (text.IffOf p a b) = IffOf p (expr e a) (expr e b)
   expr e (text.ImpliesOf p a b) = ImpliesOf p (expr e a) (expr e b)
-  expr e (text.BinaryOf p o a b) = BinaryOf p (operator o) (expr e a) (expr e b)
+  expr e (text.BinaryOf p o a b) = BinaryOf p o (expr e a) (expr e b)
   expr e (text.IsOf p a t) = IsOf p (expr e a) (written_class e.scope.classes t)
   expr e (text.AsOf p a t) = AsOf p (expr e a) (written_class e.scope.classes t)
   expr e (text.CastOf p t a) = CastOf p (written_class e.scope.classes t) t.non_null (expr e a)
@@ -187,7 +162,7 @@ abbrev mutual
   expr e (text.CallOf p f es) = call e p es (args e es) f
   expr e (text.NewOf p n es) = NewOf p (class_id e.scope.classes n.text) (args e es)
   expr e (text.NewArrayOf p q t n) = NewArrayOf p (array_class e.scope.classes t) (expr e n)
-  expr e (text.QuantifiedOf p q n low high a) = QuantifiedOf p (quantified_by q) n.text (expr e low) (expr e high) (expr (within e n) a)
+  expr e (text.QuantifiedOf p q n low high a) = QuantifiedOf p q n.text (expr e low) (expr e high) (expr (within e n) a)
 
   -- a call of what is written before its arguments
   pub call : Env → Place → Arguments → typed.Arguments → text.ExprTree → ExprTree

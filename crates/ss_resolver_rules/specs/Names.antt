@@ -1,23 +1,19 @@
 -- What a bare name stands for at a place, with its number.
-use Rattle.std.specs.Prelude.{ℕ, suc, ◌+◌, Bool, true, false, List, [], ◌∷◌, Option, Some, None, is_some, ◌++◌, if◌then◌else◌}
-use Rattle.std.specs.Str.{bytes_eq}
-use Rattle.ss_core.specs.declared.names.Ty.{Ty}
+use Rattle.std.specs.Prelude.{ℕ, ◌+◌, List, [], ◌∷◌, Option}
 use Rattle.ss_ast.specs.Expressions.{NameTree, TypeTree}
 use Rattle.ss_ast.specs.Statements.{DeclaratorTree, DeclarationTree}
 use Rattle.ss_ast.specs.Programs.{ParamTree, ClassTree}
 use Rattle.ss_tables.specs.Classes.{or_else}
+use Rattle.ss_tables.specs.Named.{Named, named_in, named_among, with_named}
 use Rattle.ss_tables.specs.Scopes.{Scope, class_scope, declare_local, within_quantifier}
 use Rattle.ss_tables.specs.Scopes as scopes
+use Rattle.ss_resolver_rules.specs.declared.known.Known.{Known}
+use Rattle.ss_resolver_rules.specs.declared.known.Known.TheVariants.{Variable, BoundName}
 use Rattle.ss_resolver_rules.specs.Numbers.{type_id}
 
-pub data Known : Type 0 where
-  -- a parameter or a local, by its number
-  Variable : ℕ → Ty → Known
-  -- the name of a quantifier: how many stand around it
-  BoundName : ℕ → Known
-
+-- what the names of a scope stand for
 abbrev pub Known_names : Type 0
-Known_names = List (List ℕ × Known)
+Known_names = Named Known
 
 -- what is known at a place: which names are in scope, the numbers of the locals among them, the number of the next local, and how
 -- many quantifiers stand around the place
@@ -29,21 +25,9 @@ pub record Env : Type 0 where
   pub next : ℕ
   pub bound : ℕ
 
-abbrev pub known_in : Known_names → List ℕ → Option Known
-known_in [] n = None
-known_in (l ∷ ls) n = if bytes_eq n l.0 then Some l.1 else known_in ls n
-
-abbrev pub known_among : List Known_names → List ℕ → Option Known
-known_among [] n = None
-known_among (ls ∷ outer) n = or_else (known_in ls n) (known_among outer n)
-
 -- the innermost scope that has the name decides
 abbrev pub known : Env → List ℕ → Option Known
-known e n = or_else (known_in e.inner n) (known_among e.outer n)
-
--- one more name; a second one of a name in one scope isn't meant by it
-abbrev pub with_known : Known_names → List ℕ → Known → Known_names
-with_known ls n k = if is_some (known_in ls n) then ls else ls ++ (n, k) ∷ []
+known e n = or_else (named_in e.inner n) (named_among e.outer n)
 
 -- within a class, where `this` is the local 0 and no other local stands
 abbrev pub class_env : List ClassTree → ℕ → Env
@@ -55,7 +39,7 @@ enter e = record e { scope = scopes.enter e.scope; inner = []; outer = e.inner �
 
 -- one more local
 abbrev pub declare : Env → TypeTree → NameTree → Env
-declare e t n = record e { scope = declare_local e.scope t n; inner = with_known e.inner n.text (Variable e.next (type_id e.scope.classes t)); next = e.next + 1 }
+declare e t n = record e { scope = declare_local e.scope t n; inner = with_named e.inner n.text (Variable e.next (type_id e.scope.classes t)); next = e.next + 1 }
 
 abbrev pub declare_all : Env → TypeTree → List DeclaratorTree → Env
 declare_all e t [] = e
@@ -65,7 +49,7 @@ abbrev pub behind_declaration : Env → DeclarationTree → Env
 behind_declaration e d = declare_all e d.ty d.declarators
 
 abbrev pub declare_param : Env → ParamTree → Env
-declare_param e p = record e { scope = scopes.declare_params e.scope (p ∷ []); inner = with_known e.inner p.name.text (Variable e.next (type_id e.scope.classes p.ty)); next = e.next + 1 }
+declare_param e p = record e { scope = scopes.declare_params e.scope (p ∷ []); inner = with_named e.inner p.name.text (Variable e.next (type_id e.scope.classes p.ty)); next = e.next + 1 }
 
 -- the parameters of a body
 abbrev pub declare_params : Env → List ParamTree → Env

@@ -1,13 +1,13 @@
 -- The numbers of classes, fields and bodies, each in order of declaration over the program, and the tables of methods. What
 -- isn't there has the number 0; in a source without faults everything is there.
-use Rattle.std.specs.Prelude.{ℕ, zero, suc, ◌+◌, Bool, true, false, not, List, [], ◌∷◌, ◌++◌, length, map, filter, take, sum_by, Option, Some, None, option_map, option_and_then, unwrap_or, position, if◌then◌else◌}
-use Rattle.std.specs.List.{list_any}
+use Rattle.std.specs.Prelude.{ℕ, zero, suc, ◌+◌, true, not, List, [], ◌∷◌, ◌++◌, length, map, filter, take, sum_by, Option, Some, None, option_map, option_and_then, unwrap_or, position, if◌then◌else◌}
 use Rattle.std.specs.Str.{bytes_eq}
 use Rattle.ss_core.specs.declared.names.Ty.{Ty}
 use Rattle.ss_core.specs.declared.names.Ty.TheVariants as ty
 use Rattle.ss_core.specs.Tree.{EntryTree}
 use Rattle.ss_ast.specs.Expressions.{NameTree, TypeTree, TypeNameTree}
 use Rattle.ss_ast.specs.Programs.{MemberTree, ClassTree}
+use Rattle.ss_resolver_names_rules.specs.Faults.{is_listed}
 use Rattle.ss_tables.specs.Members.{FieldTree, MethodTree, ConstructorTree, fields_in, methods_in, constructors_in}
 use Rattle.ss_tables.specs.Classes.{Declared, class_named, class_number, chain, members_at}
 use Rattle.ss_tables.specs.Types.{written_type, array_type, class_of}
@@ -70,9 +70,6 @@ method_id cs k n = constructor_id cs k + (length (constructors_in (members_at cs
 
 abbrev pub names_of : List EntryTree → List (List ℕ)
 names_of es = map (λ (e : EntryTree). e.name) es
-
-abbrev pub is_listed : List (List ℕ) → List ℕ → Bool
-is_listed ns n = list_any (bytes_eq n) ns
 
 abbrev pub method_names : List MemberTree → List (List ℕ)
 method_names ms = map (λ (m : MethodTree). m.name.text) (methods_in ms)

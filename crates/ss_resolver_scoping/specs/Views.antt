@@ -2,21 +2,12 @@
 use Rattle.std.specs.Prelude.{List, ℕ, Option, map, option_map, string_bytes, String}
 use Rattle.std.specs.Borrow.{Bor}
 use Rattle.std.specs.declared.alloc.Global.{Global}
-use Rattle.ss_ast.specs.declared.expr.Link.{Link}
-use Rattle.ss_ast.specs.declared.expr.Postfix.{Postfix}
-use Rattle.ss_ast.specs.declared.expr.Expr.TheFolds.{fold-Link, fold-Postfix}
-use Rattle.ss_ast.specs.Expressions.{ExprTree, Behind, expr_step, link_step, postfix_step, name_tree}
+use Rattle.ss_ast.specs.Expressions.{name_tree}
 use Rattle.ss_tables_lookup.specs.Views.{type_of}
 use Rattle.ss_tables_scopes.specs.Views.{receiver_of}
 use Rattle.ss_resolver_scoping.specs.declared.prefix.Prefix.{Prefix as PrefixCode}
 use Rattle.ss_resolver_scoping.specs.declared.prefix.Prefix.TheVariants as prefix
 use Rattle.ss_resolver_names_rules.specs.Prefixes.{Prefix, ABareName, ABaseWord, AMember, AnOther}
-
-abbrev pub link_behind : Link → Behind
-link_behind = fold-Link ExprTree Behind Behind expr_step link_step postfix_step
-
-abbrev pub postfix_behind : Postfix → Behind
-postfix_behind = fold-Postfix ExprTree Behind Behind expr_step link_step postfix_step
 
 abbrev pub prefix_view : PrefixCode → Prefix
 prefix_view (prefix.Name p n) = ABareName p (string_bytes n.now)

@@ -7,16 +7,17 @@ use Rattle.std.specs.Str.{bytes_eq}
 use Rattle.ss_ast.specs.Programs.{MemberTree, ClassTree}
 use Rattle.ss_tables.specs.Members.{FieldTree, MethodTree, fields_in, methods_in, constructors_in, method_in}
 use Rattle.ss_tables.specs.Classes.{members_in, members_at}
-use Rattle.ss_tables_lookup.specs.Places.{found}
+use Rattle.ss_tables.specs.Named.{named_in}
 use Rattle.ss_tables_lookup.specs.Shelves.{Shelf, shelf}
 use Rattle.ss_tables_lookup.proofs.Noted.{first_place, place_within}
 use Rattle.std.proofs.lemmas.Iterator.Adapters.{position_from-zero}
 use Rattle.ss_tables_lookup.specs.Places.{places_of}
 use Rattle.ss_core.specs.Tree.{EntryTree}
+use Rattle.ss_resolver_names_rules.specs.Faults.{is_listed}
 use Rattle.ss_resolver_rules.specs.Numbers.{names_of, overridden, declared_entry}
 use Rattle.ss_resolver_tables.specs.Slots.{new_among}
 use Rattle.std.proofs.Common.{add-one}
-use Rattle.ss_resolver_rules.specs.Numbers.{field_count, body_count, field_place, field_id, constructor_id, method_place, method_id, method_names, is_listed}
+use Rattle.ss_resolver_rules.specs.Numbers.{field_count, body_count, field_place, field_id, constructor_id, method_place, method_id, method_names}
 use Rattle.ss_resolver_tables.specs.Starts.{starts_from, start_at}
 
 -- ---- what comes before a class
@@ -58,17 +59,17 @@ method_within cs k n = within_whole body_count (λ ms. length (constructors_in m
 
 -- ---- what a shelf says
 
-pub field_place_shelved : (cs : List ClassTree) (k : ℕ) (n : List ℕ) (s : Shelf) → Some s ≡ option_map (shelf cs) (slice_get cs k) → unwrap_or (found s.field_places n) 0 ≡ field_place (members_at cs k) n
+pub field_place_shelved : (cs : List ClassTree) (k : ℕ) (n : List ℕ) (s : Shelf) → Some s ≡ option_map (shelf cs) (slice_get cs k) → unwrap_or (named_in s.field_places n) 0 ≡ field_place (members_at cs k) n
 field_place_shelved cs k n s e = at (slice_get cs k) e
   where
-    at : (o : Option ClassTree) → Some s ≡ option_map (shelf cs) o → unwrap_or (found s.field_places n) 0 ≡ field_place (members_in o) n
+    at : (o : Option ClassTree) → Some s ≡ option_map (shelf cs) o → unwrap_or (named_in s.field_places n) 0 ≡ field_place (members_in o) n
     at None e = absurd cc
     at (Some c) e = rw (ap (λ o. unwrap_or o s) e) (ap (λ o. unwrap_or o 0) (first_place (λ (f : FieldTree). f.name.text) n (fields_in c.members)))
 
-pub method_place_shelved : (cs : List ClassTree) (k : ℕ) (n : List ℕ) (s : Shelf) → Some s ≡ option_map (shelf cs) (slice_get cs k) → unwrap_or (found s.method_places n) 0 ≡ method_place (members_at cs k) n
+pub method_place_shelved : (cs : List ClassTree) (k : ℕ) (n : List ℕ) (s : Shelf) → Some s ≡ option_map (shelf cs) (slice_get cs k) → unwrap_or (named_in s.method_places n) 0 ≡ method_place (members_at cs k) n
 method_place_shelved cs k n s e = at (slice_get cs k) e
   where
-    at : (o : Option ClassTree) → Some s ≡ option_map (shelf cs) o → unwrap_or (found s.method_places n) 0 ≡ method_place (members_in o) n
+    at : (o : Option ClassTree) → Some s ≡ option_map (shelf cs) o → unwrap_or (named_in s.method_places n) 0 ≡ method_place (members_in o) n
     at None e = absurd cc
     at (Some c) e = rw (ap (λ o. unwrap_or o s) e) (ap (λ o. unwrap_or o 0) (first_place (λ (m : MethodTree). m.name.text) n (methods_in c.members)))
 
@@ -115,7 +116,7 @@ any_named : {A : Type 0} (name : A → List ℕ) (n : List ℕ) (xs : List A) �
 any_named name n [] = refl
 any_named name n (x ∷ xs) = ap (λ b. bytes_eq n (name x) || b) (any_named name n xs)
 
-pub place_listed : (es : List EntryTree) (n : List ℕ) → is_some (found (places_of (names_of es)) n) ≡ is_listed (names_of es) n
+pub place_listed : (es : List EntryTree) (n : List ℕ) → is_some (named_in (places_of (names_of es)) n) ≡ is_listed (names_of es) n
 place_listed es n =
     ap is_some (first_place (λ (e : EntryTree). e.name) n es ∙ position_from-zero (λ (e : EntryTree). bytes_eq n e.name) es)
     ∙ any_from (λ (e : EntryTree). bytes_eq n e.name) 0 es

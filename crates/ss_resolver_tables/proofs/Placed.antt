@@ -5,14 +5,14 @@ use Rattle.std.proofs.lemmas.Option.{slice_get_past}
 use Rattle.ss_core.specs.Tree.{EntryTree}
 use Rattle.ss_ast.specs.Programs.{ClassTree}
 use Rattle.ss_tables.specs.Classes.{chain_from}
-use Rattle.ss_tables_lookup.specs.Places.{found}
+use Rattle.ss_tables.specs.Named.{named_in}
 use Rattle.ss_tables_lookup.proofs.Noted.{first_place}
 use Rattle.ss_resolver_tables.specs.declared.slots.MethodTable.{MethodTable}
 use Rattle.ss_resolver_rules.specs.Numbers.{table_along, table, table_place}
 use Rattle.ss_resolver_tables.specs.Slots.{AreTables}
 
-pub placed : (cs : List ClassTree) (ts : List MethodTable) (k : ℕ) (t : MethodTable) (n : List ℕ) → AreTables cs ts → slice_get ts k ≡ Some t → unwrap_or (found t.places n) 0 ≡ table_place cs k n
-placed cs ts k t n are at = ap (λ ps. unwrap_or (found ps n) 0) (are.each k t at).places ∙ ap (λ o. unwrap_or o 0) (first_place (λ (e : EntryTree). e.name) n (table cs k))
+pub placed : (cs : List ClassTree) (ts : List MethodTable) (k : ℕ) (t : MethodTable) (n : List ℕ) → AreTables cs ts → slice_get ts k ≡ Some t → unwrap_or (named_in t.places n) 0 ≡ table_place cs k n
+placed cs ts k t n are at = ap (λ ps. unwrap_or (named_in ps n) 0) (are.each k t at).places ∙ ap (λ o. unwrap_or o 0) (first_place (λ (e : EntryTree). e.name) n (table cs k))
 
 -- past the classes there is no table
 alone_from : (cs : List ClassTree) (k count : ℕ) → slice_get cs k ≡ None → table_along cs (chain_from cs count (Some k)) ≡ []

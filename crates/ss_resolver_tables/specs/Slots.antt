@@ -6,7 +6,8 @@ use Rattle.ss_tables_lookup.specs.Places.{Places, places_of}
 use Rattle.ss_resolver_tables.specs.declared.starts.Starts.{Starts}
 use Rattle.ss_resolver_tables.specs.declared.slots.Slot.{Slot}
 use Rattle.ss_resolver_tables.specs.declared.slots.MethodTable.{MethodTable}
-use Rattle.ss_resolver_rules.specs.Numbers.{field_count, body_count, names_of, is_listed, declared_entry, table}
+use Rattle.ss_resolver_names_rules.specs.Faults.{is_listed}
+use Rattle.ss_resolver_rules.specs.Numbers.{field_count, body_count, names_of, declared_entry, table}
 use Rattle.ss_resolver_tables.specs.Starts.{starts_from}
 
 -- how many the classes before each have, and how many all have

@@ -8,7 +8,7 @@ mod types;
 
 pub use slots::{MethodTable, Slot, constructor_id, field_id, method_id};
 pub use starts::{Starts, body_starts, field_starts};
-pub use tables::{method_tables, table_place};
+pub use tables::{method_tables, table_at, table_place};
 pub use types::{
     array_class, class_id, class_number, declared_result, number_or_object, result_type, type_id,
     written_class, written_type,

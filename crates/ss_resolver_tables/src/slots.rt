@@ -14,7 +14,7 @@ ghost use Rattle.ss_resolver_tables.specs.Slots as slots;
 
 use crate::starts::Starts;
 use ss_core::{BodyId, FieldId};
-use ss_tables_lookup::{MethodRef, Places, Tables};
+use ss_tables_lookup::{MethodRef, NameMap, Tables};
 use std::alloc::{AllocError, Global};
 
 /// A method in a table: its name, and the written body.
@@ -28,7 +28,7 @@ pub struct Slot<'p> {
 #[derive(Drop)]
 pub struct MethodTable<'p> {
     pub slots: Vec<Slot<'p>>,
-    pub places: Places,
+    pub places: NameMap<usize>,
 }
 
 // How many fields the classes before this one have.
@@ -169,7 +169,7 @@ fn add_method<'p>(
     tables: &Tables<'p>,
     bodies: &Starts,
     class: usize,
-    above: &Places,
+    above: &NameMap<usize>,
     name: &'p str,
 ) -> Result<(), AllocError>
     requires starts { AreStarts body_count (trees tables.now) bodies.now }
@@ -189,7 +189,7 @@ pub(crate) fn add_methods<'p>(
     tables: &Tables<'p>,
     bodies: &Starts,
     class: usize,
-    above: &Places,
+    above: &NameMap<usize>,
     methods: &[MethodRef<'p>],
 ) -> Result<(), AllocError>
     requires starts { AreStarts body_count (trees tables.now) bodies.now }

@@ -10,14 +10,14 @@ ghost use Rattle.ss_resolver_tables.specs.Slots.{AreStarts, slots_of, IsTable, A
 
 use crate::slots::{MethodTable, Slot, add_methods, overridden_slots};
 use crate::starts::Starts;
-use ss_tables_lookup::{Places, Tables};
+use ss_tables_lookup::{NameMap, Tables};
 use std::alloc::{AllocError, Global};
 
 // The first place of each name in a table.
-fn slot_places(alloc: Global, slots: &[Slot<'_>]) -> Result<Places, AllocError>
+fn slot_places(alloc: Global, slots: &[Slot<'_>]) -> Result<NameMap<usize>, AllocError>
     ensures { IfOk result (λ p. p ≡ places_of (names_of (slots_of slots.now))) }
 {
-    let mut places = Places::new(alloc);
+    let mut places = NameMap::new(alloc);
     for (place, slot) in slots.iter().enumerate() {
         places.note(alloc, slot.name, place)?;
     }
@@ -30,7 +30,7 @@ fn add_own<'p>(
     tables: &Tables<'p>,
     bodies: &Starts,
     class: usize,
-    above: &Places,
+    above: &NameMap<usize>,
 ) -> Result<(), AllocError>
     requires starts { AreStarts body_count (trees tables.now) bodies.now }
     requires few { sum_by body_count (trees tables.now) < 2 ^ 32 }
@@ -108,7 +108,7 @@ fn table_along<'p>(
 {
     let mut table = MethodTable {
         slots: Vec::new(alloc),
-        places: Places::new(alloc),
+        places: NameMap::new(alloc),
     };
     let mut first = classes.len();
     while first > 0 {
@@ -137,7 +137,8 @@ pub fn method_tables<'p>(
     Ok(list)
 }
 
-fn table_at<'t, 'p>(list: &'t [MethodTable<'p>], class: usize) -> Option<&'t MethodTable<'p>>
+/// The table of the class at this place.
+pub fn table_at<'t, 'p>(list: &'t [MethodTable<'p>], class: usize) -> Option<&'t MethodTable<'p>>
     ensures { option_map (λ t. t.now) result ≡ slice_get list.now class }
 {
     list.get(class)

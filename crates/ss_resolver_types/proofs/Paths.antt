@@ -9,9 +9,9 @@ use Rattle.ss_ast.specs.declared.expr.Expr.TheOpen.{Postfix-F}
 use Rattle.ss_ast.specs.declared.expr.Postfix.{Postfix}
 use Rattle.ss_ast.specs.Expressions.{ExprTree, Behind, grouped, postfix_step, Arguments, CallOf, BaseOf, name_tree, expr_tree}
 use Rattle.ss_tables.specs.Scopes.{Scope}
-use Rattle.ss_resolver_types_expressions.specs.Views.{postfix_behind}
+use Rattle.ss_ast.specs.Parts.{postfix_behind}
 use Rattle.ss_resolver_types_expressions.specs.Members.{is_this, has_field, is_own_field}
-use Rattle.ss_resolver_types_expressions.proofs.Grouping.{postfix_shape, path_is}
+use Rattle.ss_ast.proofs.Grouping.{postfix_shape, path_is}
 use Rattle.ss_resolver_types.specs.Bodies.{is_base, base_arguments}
 
 this_behind : (x : Postfix-F ExprTree Behind Behind) (at : Place) (t : ExprTree) → is_this (postfix_step x at t) ≡ false

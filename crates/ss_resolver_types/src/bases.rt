@@ -8,7 +8,7 @@ ghost use Rattle.ss_tables.specs.Scopes.{local_named};
 ghost use Rattle.ss_tables_lookup.specs.Classes.{trees};
 ghost use Rattle.ss_tables_scopes.specs.Names.{Names};
 ghost use Rattle.ss_tables_scopes.specs.Views.{scope_of};
-ghost use Rattle.ss_resolver_types_expressions.specs.Views.{postfix_behind};
+ghost use Rattle.ss_ast.specs.Parts.{postfix_behind};
 ghost use Rattle.ss_resolver_types_expressions.specs.Members.{base_call, is_this, has_field, is_own_field, is_first_assignment, calls_base};
 ghost use Rattle.ss_resolver_types.specs.Bodies.{is_base, base_arguments};
 

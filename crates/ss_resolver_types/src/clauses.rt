@@ -1,9 +1,8 @@
 // Contracts and parameters.
 
-ghost use Rattle.std.specs.Prelude.{◌≡◌, ◌++◌, ◌∷◌, [], OnOk, map, option_map};
+ghost use Rattle.std.specs.Prelude.{◌≡◌, ◌++◌, OnOk, map, option_map};
 ghost use Rattle.ss_ast.specs.Expressions.{expr_tree, type_tree};
 ghost use Rattle.ss_ast.specs.Programs.{OneOf, param_tree, modified_tree, clause_tree};
-ghost use Rattle.ss_tables.specs.Scopes.{declare_params};
 ghost use Rattle.ss_tables_scopes.specs.Views.{scope_of};
 ghost use Rattle.ss_tables_lookup.specs.Views.{type_of};
 ghost use Rattle.ss_resolver_types_expressions.specs.Wants.{ABool};
@@ -20,7 +19,7 @@ use ss_resolver_types_expressions::{
     Around, Head, Want, check_as, note_bad_type, note_mark, place_of,
 };
 use ss_tables_lookup::StaticType;
-use ss_tables_scopes::{LocalInfo, Scopes, Within};
+use ss_tables_scopes::Scopes;
 use std::alloc::{AllocError, Global};
 
 // Whether `modifies` may name it as a field.
@@ -203,35 +202,4 @@ pub fn note_result(found: &mut Vec<Fault>, ty: &Option<TypeRef>) -> Result<(), A
         Some(ty) => note_mark(found, ty),
         None => Ok(()),
     }
-}
-
-// A parameter comes into scope.
-fn declare_param(
-    alloc: Global,
-    within: Within<'_, '_>,
-    locals: &mut Scopes,
-    param: &Param,
-) -> Result<(), AllocError>
-    ensures { OnOk result (scope_of within.entry locals.new ≡ declare_params (scope_of within.entry locals.old) (param_tree param.now ∷ [])) }
-{
-    let known = LocalInfo {
-        ty: within.tables.written_type(&param.ty),
-        is_param: true,
-    };
-    locals.declare(alloc, param.name.text.as_str(), known)
-}
-
-/// Parameters come into scope.
-pub fn declare_params(
-    alloc: Global,
-    within: Within<'_, '_>,
-    locals: &mut Scopes,
-    params: &[Param],
-) -> Result<(), AllocError>
-    ensures { OnOk result (scope_of within.entry locals.new ≡ declare_params (scope_of within.entry locals.old) (map param_tree params.now)) }
-{
-    for param in params {
-        declare_param(alloc, within, locals, param)?;
-    }
-    Ok(())
 }

@@ -5,7 +5,6 @@ ghost use Rattle.ss_ast.specs.declared.class.Modifier.{Modifier};
 ghost use Rattle.ss_ast.specs.Expressions.{arguments, expr_tree, name_tree, type_tree};
 ghost use Rattle.ss_ast.specs.Statements.{declarator_tree, declaration_tree, block_tree, stmt_tree, stmt_trees};
 ghost use Rattle.ss_ast.specs.Programs.{param_tree, clause_tree, base_call_tree, member_kind_tree, member_tree, class_tree};
-ghost use Rattle.ss_tables.specs.Members.{is_static_word, word_of};
 ghost use Rattle.ss_tables.specs.Scopes.{param_scope, behind};
 ghost use Rattle.ss_tables_lookup.specs.Classes.{trees};
 ghost use Rattle.ss_tables_lookup.specs.Views.{type_of};
@@ -21,12 +20,12 @@ ghost use Rattle.ss_resolver_types.specs.Bodies as bodies;
 
 use crate::bases::{base_call, calls_base, is_first_assignment};
 use crate::body::{Body, Outcome};
-use crate::clauses::{check_clauses, declare_params, note_params, note_result, type_of_result};
+use crate::clauses::{check_clauses, note_params, note_result, type_of_result};
 use crate::simple::check_initial;
 use crate::stmts::{check_block, check_stmt};
 use ss_ast::{
     BaseCall, Block, ClassDecl, Constructor, Declaration, Declarator, Expr, Member, MemberKind,
-    Method, Modifier, ModifierWord, Name, Stmt, TypeRef,
+    Method, Modifier, Name, Stmt, TypeRef,
 };
 use ss_core::Place;
 use ss_faults::Fault;
@@ -35,7 +34,7 @@ use ss_resolver_types_expressions::{
     note_mark, takes_nothing,
 };
 use ss_tables_lookup::Tables;
-use ss_tables_scopes::{Scopes, Within};
+use ss_tables_scopes::{NameScopes, Scopes, Within, declare_params, is_static_word};
 use std::alloc::{AllocError, Global};
 
 // ---- words
@@ -67,18 +66,6 @@ fn note_surplus(found: &mut Vec<Fault>, member: &Member) -> Result<(), AllocErro
         MemberKind::Fields(_) | MemberKind::Invariant(_) | MemberKind::Constructor(_) => {
             note_words(found, &member.modifiers)
         }
-    }
-}
-
-fn is_static(words: &[Modifier]) -> bool
-    ensures { result ≡ is_static_word (word_of words.now) }
-{
-    match words.first() {
-        Some(modifier) => match modifier.word {
-            ModifierWord::Static => true,
-            ModifierWord::Virtual | ModifierWord::Override => false,
-        },
-        None => false,
     }
 }
 
@@ -124,7 +111,7 @@ fn check_declared(
         in_condition: false,
         lacks_result: false,
     };
-    let mut locals = Scopes::new(alloc);
+    let mut locals = NameScopes::new(alloc);
     note_mark(found, &declaration.ty)?;
     check_fields(
         alloc,
@@ -158,7 +145,7 @@ fn check_invariant(
         in_condition: true,
         lacks_result: false,
     };
-    let mut locals = Scopes::new(alloc);
+    let mut locals = NameScopes::new(alloc);
     check_as(alloc, &around, &mut locals, found, Want::ABool, e)?;
     Ok(())
 }
@@ -200,7 +187,7 @@ fn check_inner(
         ++ (clauses_faults (bodies.body_of body.now) (method_scope (trees body.now.within.tables.now) body.now.within.class (bodies.body_of body.now) (map param_tree method.now.params.items)) (map clause_tree method.now.clauses.items)
         ++ block_faults (bodies.body_of body.now) (method_scope (trees body.now.within.tables.now) body.now.within.class (bodies.body_of body.now) (map param_tree method.now.params.items)) (block_tree method.now.body))) }
 {
-    let mut locals = Scopes::new(alloc);
+    let mut locals = NameScopes::new(alloc);
     declare_params(alloc, body.within, &mut locals, &method.params)?;
     check_clauses(alloc, body, &mut locals, found, &method.clauses)?;
     check_block(alloc, body, &mut locals, found, &method.body)
@@ -220,7 +207,7 @@ fn check_method(
         (map param_tree method.now.params.items) (map clause_tree method.now.clauses.items) (block_tree method.now.body)) }
 {
     let outcome = outcome_of(tables, &method.returns);
-    let is_static = is_static(words);
+    let is_static = is_static_word(words);
     let body = Body {
         within: Within {
             tables,
@@ -443,7 +430,7 @@ fn check_constructed(
         ++ bodies.built_faults body.now.within.class (param_scope (trees body.now.within.tables.now) body.now.within.class (map param_tree constructor.now.params.items))
         (option_map base_call_tree constructor.now.base) (map clause_tree constructor.now.clauses.items) (block_tree constructor.now.body))) }
 {
-    let mut locals = Scopes::new(alloc);
+    let mut locals = NameScopes::new(alloc);
     declare_params(alloc, body.within, &mut locals, &constructor.params)?;
     check_bases(alloc, body, &mut locals, found, constructor)?;
     check_built(alloc, body, &mut locals, found, constructor)

@@ -80,12 +80,16 @@ fn check_classes(
     Ok(())
 }
 
-/// The first fault of the phase of types in a program, None where there is none.
-pub fn first_type_fault(alloc: Global, program: &Program) -> Result<Option<Fault>, AllocError>
+/// The first fault of the phase of types in a program with these tables, None where there is none.
+pub fn first_type_fault(
+    alloc: Global,
+    tables: &Tables<'_>,
+    program: &Program,
+) -> Result<Option<Fault>, AllocError>
+    requires { tables.now ≡ program.now.classes.items }
     ensures { IfOk result (λ f. f ≡ first_type_fault (program_tree program.now)) }
 {
-    let tables = Tables::new(alloc, &program.classes)?;
     let mut found = Vec::new(alloc);
-    check_classes(alloc, &tables, &mut found, &program.classes)?;
+    check_classes(alloc, tables, &mut found, &program.classes)?;
     Ok(first_fault(&found))
 }

@@ -12,7 +12,8 @@ use Rattle.ss_resolver_types_expressions.specs.Calls.{Around, Called, whole_call
 use Rattle.ss_resolver_types_expressions.specs.Expressions.{argument_faults, argument_where, argument, wanted, is_name, is_text, condition_faults}
 use Rattle.ss_resolver_types_expressions.specs.Heads.{names_class, is_printed, call_faults}
 use Rattle.ss_resolver_types_expressions.proofs.Endings.{joined}
-use Rattle.ss_resolver_types_expressions.proofs.Loops.{drop_item, drop_past}
+use Rattle.std.proofs.lemmas.List.{drop_all}
+use Rattle.ss_ast.proofs.Loops.{drop_item}
 
 no_arguments : (a : Around) (ws : List Want) → argument_faults a ws NoMore ≡ []
 no_arguments a [] = refl
@@ -45,7 +46,7 @@ pub all_done : (a : Around) (ws : List Want) (list : List Expr) (i : ℕ) (f tot
 all_done a ws list i f total l h =
     sym (append-nil f)
     ∙ ap (λ x. f ++ x) (sym (no_arguments a (drop i ws)))
-    ∙ ap (λ es. f ++ argument_faults a (drop i ws) (arguments (map expr_tree es))) (sym (drop_past list i l))
+    ∙ ap (λ es. f ++ argument_faults a (drop i ws) (arguments (map expr_tree es))) (sym (drop_all i list l))
     ∙ h
 
 -- ---- what is wanted of an argument

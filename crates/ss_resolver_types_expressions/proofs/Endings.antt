@@ -1,20 +1,25 @@
 -- Paths read from the left have the faults of expressions, and as much is known of them.
-use Rattle.std.proofs.Common.{◌≡◌, ◌++◌, ◌+◌, ℕ, ◌<◌, length, take, get_or, map, List, [], ◌∷◌, Bool, Some, option_and_then, refl, sym, ap, ◌∙◌, append_assoc, append-nil, add-one}
+use Rattle.std.proofs.Common.{◌≡◌, ◌++◌, ◌+◌, ℕ, List, [], ◌∷◌, Bool, Option, option_and_then, refl, sym, ap, subst, ◌∙◌, append_assoc, append-nil}
 use Rattle.std.specs.Prelude.{not}
 use Rattle.ss_core.specs.declared.names.Place.{Place}
-use Rattle.ss_ast.specs.declared.expr.Operator.{Operator}
-use Rattle.ss_ast.specs.Expressions.{NameTree, TypeTree, ExprTree, Arguments, Behind, grouped, BinaryOf, IsOf, AsOf, MemberOf, ElementOf, CallOf, BaseOf, NameOf}
-use Rattle.ss_core.specs.declared.names.Ty.TheVariants as ty
+use Rattle.ss_core.specs.declared.names.Ty.{Ty}
+use Rattle.ss_core.specs.declared.expr.Operator.{Operator}
+use Rattle.ss_ast.specs.declared.expr.Expr.{Expr}
+use Rattle.ss_ast.specs.declared.expr.TypeRef.{TypeRef}
+use Rattle.ss_ast.specs.declared.expr.Link.{Link}
+use Rattle.ss_ast.specs.declared.expr.Link.TheVariants as link
+use Rattle.ss_ast.specs.Expressions.{NameTree, TypeTree, ExprTree, Arguments, BinaryOf, IsOf, AsOf, MemberOf, ElementOf, CallOf, BaseOf, NameOf, expr_tree, type_tree}
+use Rattle.ss_ast.specs.Parts.{link_behind}
+use Rattle.ss_ast.proofs.Grouping.{operation_is, is_is, as_is}
 use Rattle.ss_tables.specs.Types.{class_of, element_type}
 use Rattle.ss_tables.specs.Scopes.{Scope}
-use Rattle.ss_tables.specs.Statics.{Callee, callee, count, operation_type, receiver, static}
+use Rattle.ss_tables.specs.Statics.{Callee, callee, count, receiver, static}
 use Rattle.ss_faults.specs.declared.Fault.{Fault}
 use Rattle.ss_resolver_types_expressions.specs.declared.heads.Form.TheVariants as form
 use Rattle.ss_resolver_types_expressions.specs.Wants.{Want, AnInt, AReference, AnArray, Known, known, misfit}
 use Rattle.ss_resolver_types_expressions.specs.Calls.{Around, Called, called, whole_call, argument_wants}
 use Rattle.ss_resolver_types_expressions.specs.Expressions.{AsValue, BeforeDot, AsCallee, faults, faults_as, word_faults, is_question, operand, operand_faults, no_class, condition_faults, argument_faults}
-use Rattle.ss_resolver_types_expressions.proofs.Loops.{take_item, map_append}
-use Rattle.ss_resolver_types_expressions.specs.Heads.{Head, AMember, AValueOf, ending, value_at, known_at, receiver_at, callee_at, called_at, rest_read, rest_dot, rest_as, IsWalked, Leads, dotted, dot_faults, element, call, call_faults, class_test_faults, as_type}
+use Rattle.ss_resolver_types_expressions.specs.Heads.{Head, AMember, AValueOf, ending, value_at, known_at, receiver_at, callee_at, called_at, rest_read, rest_dot, rest_as, IsWalked, Leads, dotted, dot_faults, element, call, call_faults, operation_faults, class_test_faults}
 
 -- ---- what is known of a head is known of the expression
 
@@ -131,7 +136,7 @@ call_walked a before f0 f1 h out f p es o w q = record {
     same_called = ap (called_at a (count es)) w.is ∙ called_is a (count es) f
 
 pub operation_walked : (a : Around) (before f0 f1 f2 f3 : List Fault) (h out : Head) (e f : ExprTree) (p : Place) (o : Operator)
-    → out ≡ AValueOf form.Other (value_at p (Some (operation_type o))) → IsWalked a before f0 h e → f1 ≡ f0 ++ rest_read a h → f2 ≡ f1 ++ faults a AsValue f
+    → out ≡ AValueOf form.Other (value_at p (static a.scope (BinaryOf p o e f))) → IsWalked a before f0 h e → f1 ≡ f0 ++ rest_read a h → f2 ≡ f1 ++ faults a AsValue f
     → f3 ≡ f2 ++ operand_faults a.scope.classes p (operand o) (known_at a.scope h) (known a.scope f)
     → IsWalked a before f3 out (BinaryOf p o e f)
 operation_walked a before f0 f1 f2 f3 h out e f p o b w q r t = record {
@@ -143,12 +148,12 @@ operation_walked a before f0 f1 f2 f3 h out e f p o b w q r t = record {
 }
 
 pub is_walked : (a : Around) (before f0 f1 : List Fault) (h out : Head) (e : ExprTree) (p : Place) (t : TypeTree)
-    → out ≡ AValueOf form.Other (value_at p (Some ty.Bool)) → IsWalked a before f0 h e → f1 ≡ f0 ++ class_test_faults a h t
+    → out ≡ AValueOf form.Other (value_at p (static a.scope (IsOf p e t))) → IsWalked a before f0 h e → f1 ≡ f0 ++ class_test_faults a h t
     → IsWalked a before f1 out (IsOf p e t)
 is_walked a before f0 f1 h out e p t o w q = record { is = o; noted = test_noted a before f0 f1 h e t w q }
 
 pub as_walked : (a : Around) (before f0 f1 : List Fault) (h out : Head) (e : ExprTree) (p : Place) (t : TypeTree)
-    → out ≡ AValueOf form.Other (value_at p (as_type a.scope t)) → IsWalked a before f0 h e → f1 ≡ f0 ++ class_test_faults a h t
+    → out ≡ AValueOf form.Other (value_at p (static a.scope (AsOf p e t))) → IsWalked a before f0 h e → f1 ≡ f0 ++ class_test_faults a h t
     → IsWalked a before f1 out (AsOf p e t)
 as_walked a before f0 f1 h out e p t o w q = record { is = o; noted = test_noted a before f0 f1 h e t w q }
 
@@ -172,32 +177,53 @@ call_leads a f0 f1 h out p es k b d n k_is b_is n_is d_is o q =
     ∙ ap (λ x. f0 ++ call_faults a p (not (is_question (callee_at a.scope h))) x es) (d_is ∙ ap (λ m. called_at a m h) n_is) in
     record { on = λ e before w. call_walked a before f0 f1 h out e p es made w found }
 
-pub operation_leads : (a : Around) (f0 f1 f2 f3 : List Fault) (h out : Head) (p : Place) (o : Operator) (f : ExprTree) (v w : Known)
-    → out ≡ AValueOf form.Other (value_at p (Some (operation_type o))) → v ≡ known_at a.scope h → f1 ≡ f0 ++ rest_read a h
-    → w ≡ known a.scope f → f2 ≡ f1 ++ faults a AsValue f → f3 ≡ f2 ++ operand_faults a.scope.classes p (operand o) v w
-    → Leads a f0 h f3 out (λ e. BinaryOf p o e f)
-operation_leads a f0 f1 f2 f3 h out p o f v w b left q right r t =
-    let operands = t ∙ ap (λ x. f2 ++ operand_faults a.scope.classes p (operand o) x w) left ∙ ap (λ x. f2 ++ operand_faults a.scope.classes p (operand o) (known_at a.scope h) x) right in
-    record { on = λ e before walked. operation_walked a before f0 f1 f2 f3 h out e f p o b walked q r operands }
+-- ---- a link more, behind any expression
 
-pub is_leads : (a : Around) (f0 f1 : List Fault) (h out : Head) (p : Place) (t : TypeTree)
-    → out ≡ AValueOf form.Other (value_at p (Some ty.Bool)) → f1 ≡ f0 ++ class_test_faults a h t → Leads a f0 h f1 out (λ e. IsOf p e t)
-is_leads a f0 f1 h out p t o q = record { on = λ e before w. is_walked a before f0 f1 h out e p t o w q }
+-- what stands behind, by its form
+led : (a : Around) (f0 f1 : List Fault) (h out : Head) (behind shape : ExprTree → ExprTree) → ((e : ExprTree) → behind e ≡ shape e)
+    → Leads a f0 h f1 out shape → Leads a f0 h f1 out behind
+led a f0 f1 h out behind shape same leads = record { on = λ e before w. subst (λ (u : ExprTree). IsWalked a before f1 out u) (sym (same e)) (leads.on e before w) }
 
-pub as_leads : (a : Around) (f0 f1 : List Fault) (h out : Head) (p : Place) (t : TypeTree)
-    → out ≡ AValueOf form.Other (value_at p (as_type a.scope t)) → f1 ≡ f0 ++ class_test_faults a h t → Leads a f0 h f1 out (λ e. AsOf p e t)
-as_leads a f0 f1 h out p t o q = record { on = λ e before w. as_walked a before f0 f1 h out e p t o w q }
+-- what is known of it, where its type is that of each expression with the link behind it
+typed : (s : Scope) (p : Place) (t : Option Ty) (out : Head) (behind shape : ExprTree → ExprTree) → ((e : ExprTree) → behind e ≡ shape e)
+    → out ≡ AValueOf form.Other (value_at p t) → ((e : ExprTree) → t ≡ static s (behind e)) → (e : ExprTree) → out ≡ AValueOf form.Other (value_at p (static s (shape e)))
+typed s p t out behind shape same made is e = made ∙ ap (λ (u : Option Ty). AValueOf form.Other (value_at p u)) (is e ∙ ap (static s) (same e))
 
--- ---- many parts
+-- the faults of an operation, noted one after another
+pub operation_noted : (a : Around) (f0 f1 f2 f3 : List Fault) (h : Head) (p : Place) (want : Option Want) (f : ExprTree) (v w : Known)
+    → v ≡ known_at a.scope h → f1 ≡ f0 ++ rest_read a h → w ≡ known a.scope f → f2 ≡ f1 ++ faults a AsValue f → f3 ≡ f2 ++ operand_faults a.scope.classes p want v w
+    → f3 ≡ f0 ++ operation_faults a p want h f
+operation_noted a f0 f1 f2 f3 h p want f v w left q right r t =
+    joined f0 f2 f3 (rest_read a h ++ faults a AsValue f) (operand_faults a.scope.classes p want (known_at a.scope h) (known a.scope f))
+    (joined f0 f1 f2 (rest_read a h) (faults a AsValue f) q r)
+    (t ∙ ap (λ x. f2 ++ operand_faults a.scope.classes p want x w) left ∙ ap (λ x. f2 ++ operand_faults a.scope.classes p want (known_at a.scope h) x) right)
 
-pub grouped_push : (at : Place) (e : ExprTree) (bs : List Behind) (b : Behind) → grouped at e (bs ++ b ∷ []) ≡ b at (grouped at e bs)
-grouped_push at e [] b = refl
-grouped_push at e (x ∷ bs) b = grouped_push at (x at e) bs b
+pub operation_leads : (a : Around) (f0 f1 : List Fault) (h out : Head) (l : Link) (p : Place) (o : Operator) (b : Expr) (t : Option Ty)
+    → l ≡ link.Operation o b → out ≡ AValueOf form.Other (value_at p t) → ((e : ExprTree) → t ≡ static a.scope (link_behind l p e))
+    → f1 ≡ f0 ++ operation_faults a p (operand o) h (expr_tree b) → Leads a f0 h f1 out (link_behind l p)
+operation_leads a f0 f1 h out l p o b t is made has_type noted =
+    let f = expr_tree b in
+    let read = f0 ++ rest_read a h in
+    let same : (e : ExprTree) → link_behind l p e ≡ BinaryOf p o e f = λ e. ap (λ (m : Link). link_behind m p e) is ∙ operation_is o b p e in
+    let put = noted ∙ regrouped f0 (rest_read a h) (faults a AsValue f) (operand_faults a.scope.classes p (operand o) (known_at a.scope h) (known a.scope f)) in
+    led a f0 f1 h out (link_behind l p) (λ e. BinaryOf p o e f) same (record {
+      on = λ e before w. operation_walked a before f0 read (read ++ faults a AsValue f) f1 h out e f p o (typed a.scope p t out (link_behind l p) (λ e. BinaryOf p o e f) same made has_type e) w refl refl put;
+    })
 
--- one more part behind those that a loop has gone over
-pub grouped_more : {X : Type 0} (behind : X → Behind) (at : Place) (e : ExprTree) (xs : List X) (i : ℕ) (x : X) → i < length xs → x ≡ get_or xs i x
-    → grouped at e (map behind (take (i + 1) xs)) ≡ behind x at (grouped at e (map behind (take i xs)))
-grouped_more behind at e xs i x l g =
-    ap (λ ys. grouped at e (map behind ys)) (ap (λ k. take k xs) (add-one i) ∙ take_item xs i x l g)
-    ∙ ap (grouped at e) (map_append behind (take i xs) (x ∷ []))
-    ∙ grouped_push at e (map behind (take i xs)) (behind x)
+pub is_leads : (a : Around) (f0 f1 : List Fault) (h out : Head) (l : Link) (p : Place) (c : TypeRef) (t : Option Ty)
+    → l ≡ link.Is c → out ≡ AValueOf form.Other (value_at p t) → ((e : ExprTree) → t ≡ static a.scope (link_behind l p e))
+    → f1 ≡ f0 ++ class_test_faults a h (type_tree c) → Leads a f0 h f1 out (link_behind l p)
+is_leads a f0 f1 h out l p c t is made has_type noted =
+    let same : (e : ExprTree) → link_behind l p e ≡ IsOf p e (type_tree c) = λ e. ap (λ (m : Link). link_behind m p e) is ∙ is_is c p e in
+    led a f0 f1 h out (link_behind l p) (λ e. IsOf p e (type_tree c)) same (record {
+      on = λ e before w. is_walked a before f0 f1 h out e p (type_tree c) (typed a.scope p t out (link_behind l p) (λ e. IsOf p e (type_tree c)) same made has_type e) w noted;
+    })
+
+pub as_leads : (a : Around) (f0 f1 : List Fault) (h out : Head) (l : Link) (p : Place) (c : TypeRef) (t : Option Ty)
+    → l ≡ link.As c → out ≡ AValueOf form.Other (value_at p t) → ((e : ExprTree) → t ≡ static a.scope (link_behind l p e))
+    → f1 ≡ f0 ++ class_test_faults a h (type_tree c) → Leads a f0 h f1 out (link_behind l p)
+as_leads a f0 f1 h out l p c t is made has_type noted =
+    let same : (e : ExprTree) → link_behind l p e ≡ AsOf p e (type_tree c) = λ e. ap (λ (m : Link). link_behind m p e) is ∙ as_is c p e in
+    led a f0 f1 h out (link_behind l p) (λ e. AsOf p e (type_tree c)) same (record {
+      on = λ e before w. as_walked a before f0 f1 h out e p (type_tree c) (typed a.scope p t out (link_behind l p) (λ e. AsOf p e (type_tree c)) same made has_type e) w noted;
+    })

@@ -1,8 +1,5 @@
-pub mod Loops
-pub mod Grouping
 pub mod Chains
 pub mod Endings
 pub mod Walks
 pub mod Arguments
 pub mod Constructors
-pub mod Falls

@@ -8,17 +8,18 @@ use Rattle.ss_ast.specs.declared.expr.Postfix.{Postfix}
 use Rattle.ss_ast.specs.Expressions.{ExprTree, Behind, grouped, expr_tree}
 use Rattle.ss_faults.specs.declared.Fault.{Fault}
 use Rattle.ss_tables.specs.Scopes.{Local}
-use Rattle.ss_tables_scopes.specs.Names.{Names, entered, left, with_name}
+use Rattle.ss_tables_scopes.specs.Names.{Names}
+use Rattle.ss_tables.specs.Named.{entered, left, with_name}
 use Rattle.ss_resolver_types_expressions.specs.declared.around.Around.{Around as CodeAround}
-use Rattle.ss_resolver_types_expressions.specs.Views.{link_behind, postfix_behind}
+use Rattle.ss_ast.specs.Parts.{link_behind, postfix_behind}
 use Rattle.ss_resolver_types_expressions.specs.Wants.{Known, known}
 use Rattle.ss_resolver_types_expressions.specs.Expressions.{AsValue, AsCallee, faults}
 use Rattle.ss_resolver_types_expressions.specs.Heads.{Head, ending, known_at, rest_read, IsWalked, Leads}
 use Rattle.ss_resolver_types_expressions.specs.Codes.{around_of}
 use Rattle.ss_resolver_types_expressions.specs.Calls.{Around}
-use Rattle.ss_resolver_types_expressions.proofs.Loops.{take_whole}
-use Rattle.ss_resolver_types_expressions.proofs.Endings.{known_is, read_noted, grouped_more}
-use Rattle.ss_resolver_types_expressions.proofs.Grouping.{chain_is, path_is}
+use Rattle.std.proofs.lemmas.List.{take_all}
+use Rattle.ss_resolver_types_expressions.proofs.Endings.{known_is, read_noted}
+use Rattle.ss_ast.proofs.Grouping.{chain_is, path_is, grouped_more}
 
 -- an expression that is walked and then settled is read
 pub known_read : (a : CodeAround) (n0 n1 : Names) (h : Head) (e : ExprTree) (v : Known) → n1 ≡ n0
@@ -80,7 +81,7 @@ part_leads behind a n0 n f0 f1 f2 h0 h1 h2 p xs i x same l is part so_far = reco
 -- where all parts are gone over
 pub parts_led : {X : Type 0} (behind : X → Behind) (a : Around) (f0 f1 : List Fault) (h0 h1 : Head) (p : Place) (xs : List X) (i : ℕ) → length xs ≤ i
     → Leads a f0 h0 f1 h1 (λ e. grouped p e (map behind (take i xs))) → Leads a f0 h0 f1 h1 (λ e. grouped p e (map behind xs))
-parts_led {X = X} behind a f0 f1 h0 h1 p xs i l h = subst (λ (ys : List X). Leads a f0 h0 f1 h1 (λ e. grouped p e (map behind ys))) (take_whole xs i l) h
+parts_led {X = X} behind a f0 f1 h0 h1 p xs i l h = subst (λ (ys : List X). Leads a f0 h0 f1 h1 (λ e. grouped p e (map behind ys))) (take_all i xs l) h
 
 -- before the first part
 pub no_parts : {X : Type 0} (behind : X → Behind) (a : Around) (f : List Fault) (h : Head) (p : Place) (xs : List X) → Leads a f h f h (λ e. grouped p e (map behind (take 0 xs)))

@@ -1,20 +1,20 @@
 -- Paths read from the left: how an expression ends decides what may still be made of it. A bare name, the word `base` and a name behind
 -- a dot may be read, stand before a dot or be called; what they are for is known only from what stands behind them.
-use Rattle.std.specs.Prelude.{◌≡◌, ℕ, Bool, List, [], ◌∷◌, ◌++◌, Option, None, option_and_then, option_map, true, false, if◌then◌else◌}
+use Rattle.std.specs.Prelude.{◌≡◌, ℕ, Bool, List, [], ◌∷◌, ◌++◌, Option, None, option_and_then, true, false, if◌then◌else◌}
 use Rattle.ss_core.specs.declared.names.Place.{Place}
 use Rattle.ss_core.specs.declared.names.Ty.{Ty}
 use Rattle.ss_ast.specs.Expressions.{NameTree, TypeTree, ExprTree, Arguments, IffOf, ImpliesOf, BinaryOf, IsOf, AsOf, NegateOf, NotOf, CastOf, MemberOf, ElementOf, CallOf, NumberOf, TextOf, TruthOf, NullOf, ThisOf, BaseOf, ResultOf, NameOf, ParenOf, OldOf, NewOf, NewArrayOf, QuantifiedOf}
 use Rattle.ss_ast.specs.Programs.{ClassTree}
-use Rattle.ss_tables.specs.Types.{class_of, element_type, nullable, written_type}
+use Rattle.ss_tables.specs.Types.{class_of, element_type}
 use Rattle.ss_tables.specs.Scopes.{Scope, within_quantifier}
-use Rattle.ss_tables.specs.Statics.{Receiver, TheBase, AValue, name_receiver, name_type, read_type, receiver, Callee, ABase, NoCallee, name_callee, member_callee, count, called_with, call_type, callee, cast_type, static}
+use Rattle.ss_tables.specs.Statics.{Receiver, TheBase, AValue, name_receiver, name_type, read_type, receiver, Callee, ABase, NoCallee, name_callee, member_callee, count, called_with, call_type, callee, static}
 use Rattle.ss_faults.specs.declared.Fault.{Fault}
 use Rattle.ss_resolver_types_expressions.specs.declared.heads.Form.{Form}
 use Rattle.ss_resolver_types_expressions.specs.declared.heads.Form.TheVariants as form
 use Rattle.ss_resolver_types_expressions.specs.Faults.{bad_type}
 use Rattle.ss_resolver_types_expressions.specs.Wants.{Want, AnInt, ABool, AReference, AnArray, AnyValue, OfType, Printable, OfDeclared, OfClass, ClassName, Known, known, misfit, gives_nothing}
 use Rattle.ss_resolver_types_expressions.specs.Calls.{Around, Called, Refused, called_name, called_member, whole_call, argument_wants}
-use Rattle.ss_resolver_types_expressions.specs.Expressions.{AsCallee, name_faults, is_value_receiver, read_faults, word_faults, is_question, condition_faults, no_class, faults, argument_faults}
+use Rattle.ss_resolver_types_expressions.specs.Expressions.{AsCallee, AsValue, name_faults, is_value_receiver, read_faults, word_faults, is_question, operand_faults, condition_faults, no_class, faults, argument_faults}
 
 pub data Head : Type 0 where
   ABareName : Place → List ℕ → Head
@@ -161,8 +161,9 @@ abbrev pub call_faults : Around → Place → Bool → Called → Arguments → 
 call_faults a p is_call c es =
     condition_faults a p is_call ++ whole_call p (count es) c ++ argument_faults a (argument_wants (count es) c) es
 
+-- those of an operation besides its first operand's where it is called, with what both are to be and the second operand
+abbrev pub operation_faults : Around → Place → Option Want → Head → ExprTree → List Fault
+operation_faults a p want h e = rest_read a h ++ faults a AsValue e ++ operand_faults a.scope.classes p want (known_at a.scope h) (known a.scope e)
+
 abbrev pub class_test_faults : Around → Head → TypeTree → List Fault
 class_test_faults a h t = rest_as a AReference h ++ no_class t
-
-abbrev pub as_type : Scope → TypeTree → Option Ty
-as_type s t = option_map nullable (cast_type (written_type s.classes t))

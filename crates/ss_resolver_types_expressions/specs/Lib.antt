@@ -1,4 +1,3 @@
-pub mod Views
 pub mod Faults
 pub mod Wants
 pub mod Calls

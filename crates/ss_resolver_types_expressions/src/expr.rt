@@ -1,28 +1,26 @@
 // Expressions: the faults within them, and what is known of them.
 
 ghost use Rattle.std.specs.Prelude.{◌≡◌, ◌++◌, ◌&&◌, true, List, IfOk, OnOk, map, option_map};
-ghost use Rattle.ss_ast.specs.Expressions.{ExprTree, BinaryOf, ElementOf, CallOf, grouped, expr_tree, name_tree, type_tree, arguments};
+ghost use Rattle.ss_ast.specs.Expressions.{ExprTree, ElementOf, CallOf, grouped, expr_tree, name_tree, type_tree, arguments};
 ghost use Rattle.ss_ast.specs.Programs.{ClassTree};
 ghost use Rattle.ss_tables_scopes.specs.Names.{Names};
 ghost use Rattle.ss_tables_scopes.specs.Views.{callee_of};
 ghost use Rattle.ss_tables_lookup.specs.Classes.{trees};
 ghost use Rattle.ss_tables_lookup.specs.Views.{type_of};
-ghost use Rattle.ss_resolver_types_expressions.specs.Views.{link_behind, postfix_behind};
+ghost use Rattle.ss_ast.specs.Parts.{link_behind, postfix_behind};
 ghost use Rattle.ss_resolver_types_expressions.specs.Faults.{call_in_condition, fault_where};
 ghost use Rattle.ss_resolver_types_expressions.specs.Wants.{AnInt, ABool, AReference, known, bare};
 ghost use Rattle.ss_resolver_types_expressions.specs.Calls.{wants_of, whole_call, argument_wants};
-ghost use Rattle.ss_resolver_types_expressions.specs.Expressions.{AsValue, AsCallee, faults, faults_as, argument_where, argument_faults, condition_faults, no_class, is_text};
-ghost use Rattle.ss_resolver_types_expressions.specs.Heads.{ending, value_at, AValueOf, Leads, names_class, is_printed, within_bound, call, call_faults};
+ghost use Rattle.ss_resolver_types_expressions.specs.Expressions.{AsValue, AsCallee, faults, faults_as, argument_where, argument_faults, condition_faults, no_class, is_text, operand};
+ghost use Rattle.ss_resolver_types_expressions.specs.Heads.{ending, value_at, AValueOf, Leads, names_class, is_printed, within_bound, call, operation_faults, call_faults};
 ghost use Rattle.ss_resolver_types_expressions.specs.Codes.{want_of, known_of, around_of, called_of, head_of};
 
 use crate::around::Around;
 use crate::calls::{Called, call_new, is_wrong_call, want_at};
 use crate::heads::{
-    Form, Head, called_at, callee_at, settle, settle_as, value, walk_as, walk_dot, walk_is,
+    Form, Head, called_at, callee_at, note_class_test, settle, settle_as, value, walk_dot,
 };
-use crate::operations::{
-    gives_nothing, is_question, note_no_class, note_operands, operation_type, type_of_element,
-};
+use crate::operations::{gives_nothing, is_question, note_no_class, note_operands};
 use crate::shapes::{is_name, is_text, place_within};
 use crate::wants::{Known, Want, note_bad_type, note_call, note_misfit};
 use ss_ast::{Expr, Link, Name, Operator, Postfix, TypeRef};
@@ -30,7 +28,8 @@ use ss_core::Place;
 use ss_faults::Fault;
 use ss_tables_lookup::{StaticType, Tables};
 use ss_tables_scopes::{
-    Callee, LocalInfo, Scopes, call_type, called_with, cast_type, count, new_type,
+    Callee, LocalInfo, Scopes, call_type, called_with, count, link_type, new_type, type_of_cast,
+    type_of_element,
 };
 use std::alloc::{AllocError, Global};
 
@@ -178,7 +177,7 @@ pub fn walk<'e>(
         }
         Expr::Cast(place, ty, inner) => {
             check_cast(alloc, around, locals, found, ty, inner)?;
-            Ok(other(*place, cast_type(around.within.tables.written_type(ty))))
+            Ok(other(*place, type_of_cast(around.within.tables, ty)))
         }
         Expr::Path(place, first, postfixes) => {
             let head = walk(alloc, around, locals, found, first)?;
@@ -370,43 +369,43 @@ fn walk_link<'e>(
         (link_behind link.now place)) }
     ensures same { OnOk result (locals.new ≡ locals.old) }
 {
+    let known = link_type(around.within, link);
+    let longer = other(place, known);
     match link {
         Link::Operation(operator, right) => {
-            let longer = walk_operation(
-                alloc, around, locals, found, place, head, *operator, right,
-            )?;
+            check_operation(alloc, around, locals, found, place, head, *operator, right)?;
             Ok(longer)
         }
         Link::Is(ty) => {
-            let longer = walk_is(around, locals, found, place, head, ty)?;
+            note_class_test(around, locals, found, head, ty)?;
             Ok(longer)
         }
         Link::As(ty) => {
-            let longer = walk_as(around, locals, found, place, head, ty)?;
+            note_class_test(around, locals, found, head, ty)?;
             Ok(longer)
         }
     }
 }
 
+// An operation behind its first operand.
 #[cycle(expr)]
-fn walk_operation<'e>(
+fn check_operation(
     alloc: Global,
     around: &Around<'_, '_>,
     locals: &mut Scopes,
     found: &mut Vec<Fault>,
     place: Place,
-    head: Head<'e>,
+    head: Head<'_>,
     operator: Operator,
-    operand: &'e Expr,
-) -> Result<Head<'e>, AllocError>
-    ensures walked { IfOk result (λ h. Leads (around_of around.now locals.old) found.old.items (head_of head.entry) found.new.items (head_of h)
-        (λ (e : ExprTree). BinaryOf place operator e (expr_tree operand.now))) }
+    second: &Expr,
+) -> Result<(), AllocError>
+    ensures noted { OnOk result (found.new.items ≡ found.old.items ++ operation_faults (around_of around.now locals.old) place (operand operator) (head_of head.entry) (expr_tree second.now)) }
     ensures same { OnOk result (locals.new ≡ locals.old) }
 {
     let left = settle(around, locals, found, head)?;
-    let right = check(alloc, around, locals, found, operand)?;
+    let right = check(alloc, around, locals, found, second)?;
     note_operands(around.within.tables, found, place, operator, left, right)?;
-    Ok(other(place, Some(operation_type(operator))))
+    Ok(())
 }
 
 // The postfixes of a path, behind what it begins with.

@@ -1,27 +1,25 @@
 // Paths, read from the left.
 
 ghost use Rattle.std.specs.Prelude.{◌≡◌, ◌++◌, IfOk, OnOk, None, option_map};
-ghost use Rattle.ss_ast.specs.Expressions.{ExprTree, MemberOf, IsOf, AsOf, name_tree, type_tree};
+ghost use Rattle.ss_ast.specs.Expressions.{ExprTree, MemberOf, name_tree, type_tree};
 ghost use Rattle.ss_tables_lookup.specs.Classes.{trees};
 ghost use Rattle.ss_tables_lookup.specs.Views.{type_of};
 ghost use Rattle.ss_tables_scopes.specs.Views.{receiver_of, callee_of};
 ghost use Rattle.ss_tables.specs.Statics.{name_receiver};
 ghost use Rattle.ss_resolver_types_expressions.specs.Expressions.{is_misused, is_method_name, reads_method, is_no_read, is_wrong_read, word_faults, is_value_receiver};
 ghost use Rattle.ss_resolver_types_expressions.specs.Heads.{value_at, known_at, receiver_at, callee_at, called_at, rest_read, rest_dot, rest_as, class_test_faults, dotted, dot_faults, Leads};
-ghost use Rattle.ss_tables.specs.Statics as statics;
-ghost use Rattle.ss_tables.specs.Types.{nullable, written_type};
 ghost use Rattle.ss_resolver_types_expressions.specs.Codes.{want_of, known_of, around_of, called_of, head_of};
 
 use crate::around::Around;
 use crate::calls::{Called, call_member, call_name, class_of_known, has_no_members};
-use crate::operations::{note_no_class, nullable_type};
+use crate::operations::note_no_class;
 use crate::wants::{Known, Want, note_bad_type, note_misfit};
 use ss_ast::{Name, TypeRef};
 use ss_core::Place;
 use ss_faults::Fault;
 use ss_tables_lookup::{StaticType, Tables, declared_place};
 use ss_tables_scopes::{
-    Callee, Receiver, Scopes, cast_type, is_state_call, is_state_read, member_callee, name_callee,
+    Callee, Receiver, Scopes, is_state_call, is_state_read, member_callee, name_callee,
     name_receiver, name_type, read_type,
 };
 use std::alloc::AllocError;
@@ -343,8 +341,8 @@ pub fn walk_dot<'e>(
     Ok(longer)
 }
 
-// Notes that it is no reference, and a type that no reference has.
-fn note_class_test(
+/// Notes that it is no reference, and a type that no reference has.
+pub fn note_class_test(
     around: &Around<'_, '_>,
     locals: &Scopes,
     found: &mut Vec<Fault>,
@@ -355,44 +353,4 @@ fn note_class_test(
 {
     settle_as(around, locals, found, Want::AReference, head)?;
     note_no_class(found, ty)
-}
-
-/// `is T` behind an expression.
-pub fn walk_is<'e>(
-    around: &Around<'_, '_>,
-    locals: &Scopes,
-    found: &mut Vec<Fault>,
-    place: Place,
-    head: Head<'_>,
-    ty: &TypeRef,
-) -> Result<Head<'e>, AllocError>
-    ensures { IfOk result (λ h. Leads (around_of around.now locals.now) found.old.items (head_of head.entry) found.new.items (head_of h)
-        (λ (e : ExprTree). IsOf place e (type_tree ty.now))) }
-{
-    note_class_test(around, locals, found, head, ty)?;
-    Ok(Head::Value(Form::Other, value(place, Some(StaticType::Bool))))
-}
-
-// The type of `as T`.
-fn as_type(tables: &Tables<'_>, ty: &TypeRef) -> Option<StaticType>
-    ensures { option_map type_of result ≡ option_map nullable (statics.cast_type (written_type (trees tables.now) (type_tree ty.now))) }
-{
-    nullable_type(cast_type(tables.written_type(ty)))
-}
-
-/// `as T` behind an expression.
-pub fn walk_as<'e>(
-    around: &Around<'_, '_>,
-    locals: &Scopes,
-    found: &mut Vec<Fault>,
-    place: Place,
-    head: Head<'_>,
-    ty: &TypeRef,
-) -> Result<Head<'e>, AllocError>
-    ensures { IfOk result (λ h. Leads (around_of around.now locals.now) found.old.items (head_of head.entry) found.new.items (head_of h)
-        (λ (e : ExprTree). AsOf place e (type_tree ty.now))) }
-{
-    note_class_test(around, locals, found, head, ty)?;
-    let result_type = as_type(around.within.tables, ty);
-    Ok(Head::Value(Form::Other, value(place, result_type)))
 }

@@ -1,12 +1,10 @@
-// Types and operators.
+// Operands and calls.
 
-ghost use Rattle.std.specs.Prelude.{◌≡◌, ◌++◌, OnOk, option_map, option_and_then};
+ghost use Rattle.std.specs.Prelude.{◌≡◌, ◌++◌, OnOk, option_map};
 ghost use Rattle.ss_ast.specs.Expressions.{type_tree, type_name_tree};
 ghost use Rattle.ss_tables_lookup.specs.Classes.{trees};
 ghost use Rattle.ss_tables_lookup.specs.Views.{type_of};
 ghost use Rattle.ss_tables_scopes.specs.Views.{callee_of};
-ghost use Rattle.ss_tables.specs.Types.{class_of, element_type, nullable};
-ghost use Rattle.ss_tables.specs.Statics.{operation_type};
 ghost use Rattle.ss_resolver_types_expressions.specs.Wants.{gives_nothing};
 ghost use Rattle.ss_resolver_types_expressions.specs.Expressions.{no_class, mark_faults, is_number_name, is_number_type, operand, operand_faults, comparison_faults, are_unlike, is_question};
 ghost use Rattle.ss_resolver_types_expressions.specs.Codes.{want_of, known_of};
@@ -15,8 +13,8 @@ use crate::wants::{Known, Want, are_alike, note_bad_type, note_misfit};
 use ss_ast::{Operator, TypeName, TypeRef};
 use ss_core::Place;
 use ss_faults::Fault;
-use ss_tables_lookup::{StaticType, Tables, element_type, nullable};
-use ss_tables_scopes::{Callee, class_of_type};
+use ss_tables_lookup::{StaticType, Tables};
+use ss_tables_scopes::Callee;
 use std::alloc::AllocError;
 
 fn is_number_name(name: &TypeName) -> bool
@@ -79,27 +77,6 @@ pub fn operand(operator: Operator) -> Option<Want>
     }
 }
 
-/// The type of an operation.
-pub fn operation_type(operator: Operator) -> StaticType
-    ensures { type_of result ≡ operation_type operator }
-{
-    match operator {
-        Operator::Or
-        | Operator::And
-        | Operator::Equal
-        | Operator::NotEqual
-        | Operator::Less
-        | Operator::LessEqual
-        | Operator::Greater
-        | Operator::GreaterEqual => StaticType::Bool,
-        Operator::Add
-        | Operator::Subtract
-        | Operator::Multiply
-        | Operator::Divide
-        | Operator::Remainder => StaticType::Int,
-    }
-}
-
 fn note_comparison(
     tables: &Tables<'_>,
     found: &mut Vec<Fault>,
@@ -144,26 +121,6 @@ fn note_wanted(
             note_misfit(tables, found, want, right)
         }
         None => note_comparison(tables, found, place, left, right),
-    }
-}
-
-/// The type of the elements of a value of this type.
-pub fn type_of_element(ty: Option<StaticType>) -> Option<StaticType>
-    ensures { option_map type_of result ≡ option_and_then element_type (option_and_then class_of (option_map type_of ty)) }
-{
-    match class_of_type(ty) {
-        Some(class) => element_type(class),
-        None => None,
-    }
-}
-
-/// The same type with null.
-pub fn nullable_type(ty: Option<StaticType>) -> Option<StaticType>
-    ensures { option_map type_of result ≡ option_map nullable (option_map type_of ty) }
-{
-    match ty {
-        Some(ty) => Some(nullable(ty)),
-        None => None,
     }
 }
 

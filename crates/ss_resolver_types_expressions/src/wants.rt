@@ -8,7 +8,7 @@ ghost use Rattle.ss_resolver_types_expressions.specs.Faults.{bad_type, call_in_c
 ghost use Rattle.ss_resolver_types_expressions.specs.Wants.{is_below, is_int, is_bool, is_reference, is_array, is_object_of, is_declared, may_stand_for, are_alike, suits, is_unsuited, misfit, in_chain, is_null, stands_above};
 ghost use Rattle.ss_resolver_types_expressions.specs.Codes.{want_of, known_of};
 
-use ss_core::Place;
+use ss_core::{Place, Rule};
 use ss_faults::Fault;
 use ss_tables_lookup::{StaticType, Tables, class_of, declared_place, is_array_number};
 use std::alloc::AllocError;
@@ -198,9 +198,13 @@ pub fn note_bad_type(
 ) -> Result<(), AllocError>
     ensures { OnOk result (faults.new.items ≡ faults.old.items ++ fault_where is_fault (bad_type place)) }
 {
-    if is_fault {
-        faults.push(Fault { rule: 24, place })?;
+    if !is_fault {
+        return Ok(());
     }
+    faults.push(Fault {
+        rule: Rule::BadType.number(),
+        place,
+    })?;
     Ok(())
 }
 
@@ -208,9 +212,13 @@ pub fn note_bad_type(
 pub fn note_call(faults: &mut Vec<Fault>, is_fault: bool, place: Place) -> Result<(), AllocError>
     ensures { OnOk result (faults.new.items ≡ faults.old.items ++ fault_where is_fault (call_in_condition place)) }
 {
-    if is_fault {
-        faults.push(Fault { rule: 26, place })?;
+    if !is_fault {
+        return Ok(());
     }
+    faults.push(Fault {
+        rule: Rule::CallInCondition.number(),
+        place,
+    })?;
     Ok(())
 }
 
@@ -218,9 +226,13 @@ pub fn note_call(faults: &mut Vec<Fault>, is_fault: bool, place: Place) -> Resul
 pub fn note_end(faults: &mut Vec<Fault>, is_fault: bool, place: Place) -> Result<(), AllocError>
     ensures { OnOk result (faults.new.items ≡ faults.old.items ++ fault_where is_fault (no_return place)) }
 {
-    if is_fault {
-        faults.push(Fault { rule: 28, place })?;
+    if !is_fault {
+        return Ok(());
     }
+    faults.push(Fault {
+        rule: Rule::NoReturn.number(),
+        place,
+    })?;
     Ok(())
 }
 

@@ -122,7 +122,7 @@ fn element_of_class(
 
 // The class of the array of this declared class, by its place.
 fn array_class(k: usize) -> u16
-    requires { k < 4096 }
+    requires { k < most_classes }
     ensures { result ≡ 5 + 2 * k }
 {
     5 + 2 * k as u16

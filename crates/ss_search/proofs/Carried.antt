@@ -38,7 +38,7 @@ pub proved_or_memory : (r : Found) (cs : List ClassTree) (p : Options) (premises
 proved_or_memory (found.Proved d) cs p premises goal countered spent over h = tt
 proved_or_memory (found.Countered m) cs p premises goal countered spent over h =
     let model = model_of countered.formulas m.classes.items m.truth.items in
-    h.none model (subst (Refutes cs model) (same_list _ countered.formulas h.formulas countered.ground h.ground) countered.refutes)
+    h.none model (subst (Refutes cs model) (same_list _ countered.formulas h.formulas countered.ground h.ground) countered.refutes.refutes)
 proved_or_memory (found.Spent splits) cs p premises goal countered spent over h =
     spent.short (subst (λ fs. AreEnough cs fs p.splits) (same_list _ h.formulas spent.formulas h.ground spent.ground) h.enough)
 proved_or_memory (found.TooMany limit) cs p premises goal countered spent over h = not_both _ h.formulas over.1 h.ground

@@ -50,3 +50,19 @@ pub struct Undecided {
     pub obligation: usize,
     pub cause: Budget,
 }
+
+/// What is found of the obligations of a program.
+#[derive(Drop)]
+pub enum Verdict {
+    /// Each obligation has a derivation. These are they, over the bank of the obligations.
+    Verified(Vec<Derivation>),
+    /// A model refutes each of the first of these, of which there is one at least; for the second a budget wasn't enough. Every other one has a
+    /// derivation.
+    Unproved {
+        countered: Vec<Countered>,
+        undecided: Vec<Undecided>,
+    },
+    /// For these a budget wasn't enough, and every other one has a derivation.
+    Undecided(Vec<Undecided>),
+    Memory,
+}

@@ -6,6 +6,6 @@ mod answers;
 mod refuting;
 mod search;
 
-pub use answers::{Budget, Countered, Found, Options, Undecided};
+pub use answers::{Budget, Countered, Found, Options, Undecided, Verdict};
 pub use search::{Search, prove};
 pub use ss_logic_countermodels::Countermodel;

@@ -7,7 +7,7 @@ ghost use Rattle.ss_core.specs.Chain.{IsWithinLimits};
 ghost use Rattle.ss_logic_means.specs.Scenes.{AreInvariants};
 ghost use Rattle.ss_logic_means.specs.Sorts.{AreWellFormed};
 ghost use Rattle.ss_logic_derivations.specs.Steps.{Derives};
-ghost use Rattle.ss_logic_countermodels.specs.Refuting.{Refutes, model_of};
+ghost use Rattle.ss_logic_countermodels.specs.Refuting.{IsCountermodel};
 ghost use Rattle.ss_terms.specs.Forms.{formula_at, formulas_at, HasFormula, HasFormulas, IsBankOf, IsGrown};
 ghost use Rattle.ss_deriv.specs.Lines.{lines_of};
 ghost use Rattle.ss_search_procedure_rules.specs.Closed.{AreEnough};
@@ -71,7 +71,7 @@ fn find_model(
     requires goal { HasFormula bank.old obligation.now.goal }
     requires grounded { IsGroundOf (view.classes classes.now) (formulas_at bank.old obligation.now.premises.now) (formula_at bank.old obligation.now.goal) bank.old grounded.now }
     ensures proved { IfProved result (λ d. Derives (view.classes classes.now) (formulas_at bank.old obligation.now.premises.now) (formula_at bank.old obligation.now.goal) (lines_of bank.new d)) }
-    ensures countered { IfCountered result (λ m. Refutes (view.classes classes.now) (model_of (formulas_at bank.old grounded.now.formulas.items) m.classes.items m.truth.items) (formulas_at bank.old grounded.now.formulas.items)) }
+    ensures countered { IfCountered result (IsCountermodel (view.classes classes.now) (formulas_at bank.old grounded.now.formulas.items)) }
     ensures spent { IfSpent result (λ n. (n ≡ splits) × (AreEnough (view.classes classes.now) (formulas_at bank.old grounded.now.formulas.items) splits → ⊥)) }
     ensures too_many { IfTooMany result (λ limit. ⊥) }
     ensures grown { IsGrown bank.old bank.new }
@@ -90,7 +90,7 @@ fn candidate_model(
     formulas: &[FormulaId],
 ) -> Result<Option<Countermodel>, AllocError>
     requires { HasFormulas bank.old formulas.now }
-    ensures refutes { (cs : List ClassTree) → IsBankOf cs bank.old → IfOk result (λ o. IfSome o (λ m. Refutes cs (model_of (formulas_at bank.old formulas.now) m.classes.items m.truth.items) (formulas_at bank.old formulas.now))) }
+    ensures refutes { (cs : List ClassTree) → IsBankOf cs bank.old → IfOk result (λ o. IfSome o (IsCountermodel cs (formulas_at bank.old formulas.now))) }
     ensures grown { IsGrown bank.old bank.new }
 {
     match find_candidate(alloc, bank, formulas)? {
@@ -113,12 +113,12 @@ fn decide(
     requires goal { HasFormula bank.old obligation.now.goal }
     requires grounded { IsGroundOf (view.classes classes.now) (formulas_at bank.old obligation.now.premises.now) (formula_at bank.old obligation.now.goal) bank.old grounded.now }
     ensures proved { IfProved result (λ d. Derives (view.classes classes.now) (formulas_at bank.old obligation.now.premises.now) (formula_at bank.old obligation.now.goal) (lines_of bank.new d)) }
-    ensures countered { IfCountered result (λ m. Refutes (view.classes classes.now) (model_of (formulas_at bank.old grounded.now.formulas.items) m.classes.items m.truth.items) (formulas_at bank.old grounded.now.formulas.items)) }
+    ensures countered { IfCountered result (IsCountermodel (view.classes classes.now) (formulas_at bank.old grounded.now.formulas.items)) }
     ensures spent { IfSpent result (λ n. (n ≡ splits) × (AreEnough (view.classes classes.now) (formulas_at bank.old grounded.now.formulas.items) splits → ⊥)) }
     ensures too_many { IfTooMany result (λ limit. ⊥) }
     ensures grown { IsGrown bank.old bank.new }
 {
-    let Ok(choices) = told(alloc, bank, &grounded.formulas) else {
+    let Ok(decisions) = told(alloc, bank, &grounded.formulas) else {
         return Found::Memory;
     };
     match settle_by(
@@ -127,7 +127,7 @@ fn decide(
         classes,
         obligation,
         grounded,
-        &choices.list,
+        &decisions.list,
         splits,
     ) {
         Ok(Settled::Closed(derivation)) => Found::Proved(derivation),

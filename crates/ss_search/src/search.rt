@@ -33,7 +33,7 @@ const SECOND: Limits = Limits {
     trials: 60_000,
 };
 
-// The limits, with no more splits than these. A literal that is tried is a split, too.
+// The limits, with no more splits than these, and no more literals that are tried. How many instances may be made stays.
 fn with_splits(limits: Limits, splits: u64) -> Limits {
     let most = usize::try_from(splits).unwrap_or(usize::MAX);
     Limits {

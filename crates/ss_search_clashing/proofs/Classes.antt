@@ -8,7 +8,7 @@ use Rattle.ss_terms.specs.declared.forms.FormulaId.{FormulaId}
 use Rattle.ss_terms.specs.Forms.{Forms, term_at, terms_at, HasTerm, HasTerms, HasFormula, HasFormulas}
 use Rattle.ss_terms.specs.Apart.{AreApart}
 use Rattle.ss_terms.proofs.Parts.{AreTermsBelow-get, AreBelow-get}
-use Rattle.ss_equality_rules.specs.Equal.{Standing, IsEqual, AreFormsOf, class_number, AreClassesOf}
+use Rattle.ss_equality_rules.specs.Equal.{Equations, IsEqual, AreFormsOf, class_number, AreClassesOf}
 use Rattle.ss_equality_rules.proofs.Lists.{maps_length, maps_at}
 use Rattle.ss_search_procedure_rules.specs.Clashes.{classes_in}
 use Rattle.ss_search_clashes.specs.Numbered.{class_of, IsClassing}
@@ -21,7 +21,7 @@ term_inside b xs i x h at = subst (λ (t : TermId). t.0 < length b.terms) (get_o
 pub formula_inside : (b : Forms) (fs : List FormulaId) (i : ℕ) (f : FormulaId) → HasFormulas b fs → slice_get fs i ≡ Some f → HasFormula b f
 formula_inside b fs i f h at = subst (λ (g : FormulaId). g.0 < length b.formulas * 2) (get_or_from_slice_get fs i f f at) (AreBelow-get (length b.formulas * 2) fs i f h (slice_get_within fs i f at))
 
-module _ (b : Forms) (apart : AreApart b) (c : Standing) (forms : AreFormsOf b c.terms) (classes : List ℕ) (are : AreClassesOf c.terms c.merges classes) where
+module _ (b : Forms) (apart : AreApart b) (c : Equations) (forms : AreFormsOf b c.terms) (classes : List ℕ) (are : AreClassesOf c.terms c.merges classes) where
   classing : IsClassing b classes (class_of b classes)
   classing = is_classing b classes apart
 

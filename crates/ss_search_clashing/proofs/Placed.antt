@@ -9,7 +9,7 @@ use Rattle.ss_terms.specs.declared.forms.FormulaId.{FormulaId}
 use Rattle.ss_terms.specs.Forms.{Forms, formula_at}
 use Rattle.ss_deriv.specs.declared.line.Line.{Line}
 use Rattle.ss_equality_rules.specs.declared.Merge.{Merge}
-use Rattle.ss_equality_rules.specs.Equal.{Standing}
+use Rattle.ss_equality_rules.specs.Equal.{Equations}
 use Rattle.ss_search_procedure_rules.specs.Closed.{is_basic}
 use Rattle.ss_search_procedure_rules.specs.Clashes.{Classing}
 use Rattle.ss_search_clashes.specs.declared.clashes.Clash.{Clash}
@@ -28,7 +28,7 @@ pub weaker_case : (b : Forms) (ms : List Merge) (count : ℕ) (Needs Given : Lis
     CloseCase b ms count Needs lines → CloseCase b ms count Given lines
 weaker_case b ms count Needs Given lines enough h = record { closes = λ cs premises goal known are given. h.closes cs premises goal known are (enough cs known given) }
 
-weaker_classes : (b : Forms) (c : Standing) (P Q : Classing → Type 0) → ((class : Classing) → P class → Q class) → AtClasses b c P → AtClasses b c Q
+weaker_classes : (b : Forms) (c : Equations) (P Q : Classing → Type 0) → ((class : Classing) → P class → Q class) → AtClasses b c P → AtClasses b c Q
 weaker_classes b c P Q f h = record { classes = h.classes; are = h.are; holds = f (class_of b h.classes) h.holds }
 
 -- ---- at their places
@@ -69,7 +69,7 @@ module _ (b : Forms) (class : Classing) (known : List FormulaId) where
 
 -- ---- what they say, at the classes of a congruence
 
-module _ (b : Forms) (c : Standing) where
+module _ (b : Forms) (c : Equations) where
   abbrev pub DiffersAt : FormulaId → Type 0
   DiffersAt f = AtClasses b c (λ class. differs class (formula_at b f) ≡ true)
 

@@ -7,7 +7,7 @@ use Rattle.ss_terms.specs.Forms.{Forms, formula_at}
 use Rattle.ss_deriv.specs.declared.line.Line.{Line}
 use Rattle.ss_deriv.specs.Lines.{lines_of}
 use Rattle.ss_equality_rules.specs.declared.Merge.{Merge}
-use Rattle.ss_equality_rules.specs.Equal.{Standing, AreClassesOf}
+use Rattle.ss_equality_rules.specs.Equal.{Equations, AreClassesOf}
 use Rattle.ss_search_procedure_rules.specs.Closed.{is_basic}
 use Rattle.ss_search_procedure_rules.specs.Clashes.{Classing}
 use Rattle.ss_search_clashes.specs.Numbered.{class_of, is_opposed}
@@ -20,7 +20,7 @@ abbrev pub AreOpposed : Classing → Formula → Formula → Type 0
 AreOpposed class f g = (is_opposed class f g ≡ true) ⊎ (is_opposed class g f ≡ true)
 
 -- this holds at the classes of the congruence
-pub record AtClasses (b : Forms) (c : Standing) (P : Classing → Type 0) : Type 0 where
+pub record AtClasses (b : Forms) (c : Equations) (P : Classing → Type 0) : Type 0 where
   pub classes : List ℕ
   pub are : AreClassesOf c.terms c.merges classes
   pub holds : P (class_of b classes)

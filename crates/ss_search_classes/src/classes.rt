@@ -1,7 +1,8 @@
 // Which nodes are equal, by equalities and by congruence, with the facts that say so. Everything can be taken back.
 
 use crate::question::{
-    NONE, argument, arity, first_of, is_term, is_value, node_head, of_pair, of_term, same_head,
+    ADD, MULTIPLY, NONE, argument, arity, first_of, is_term, is_value, node_head, of_pair, of_term,
+    same_head,
 };
 use ss_terms::Bank;
 use std::alloc::{AllocError, Global};
@@ -10,20 +11,24 @@ use std::mem;
 /// In place of a fact: two nodes have one head and equal arguments.
 pub const CONGRUENT: usize = NONE - 1;
 
-/// What is kept of a node: its class, the next member of it in a ring, one step of the equalities that joined the class, and
-/// the last use, atom and inequality in which the term stands. What is kept of a class stands at the node that it is named by:
-/// its weight, how many inequalities its members stand in, and its literal.
+/// What is kept of a node: its class, the next member of it in a ring, one step of the equalities that joined the class, the
+/// literal that it is by a fact that joined no class, with that fact, and the last use, atom and inequality in which the term
+/// stands. What is kept of a class stands at the node that it is named by: its weight, how many members it has, how it stood when
+/// they were last asked for, how many inequalities they stand in, and its literal.
 #[derive(Clone, Copy)]
 struct Node {
-    is_there: bool,
     class: usize,
     next: usize,
     to: usize,
     fact: usize,
+    value: usize,
+    value_fact: usize,
     uses: usize,
     atoms: usize,
     aparts: usize,
     weight: usize,
+    members: usize,
+    swept: usize,
     apart_count: usize,
     literal: usize,
 }
@@ -60,6 +65,7 @@ struct Pending {
 #[derive(Clone, Copy)]
 enum Change {
     Merge(Merge),
+    Value(usize),
     There(usize),
     Use(usize),
     Atom(usize),
@@ -105,9 +111,13 @@ pub struct Event {
 
 const LISTS: usize = 65_536;
 
-/// The classes of equal nodes.
+// How many links are gone from a node to one that is a literal by a fact.
+const MOST_LINKS: usize = 16;
+
+/// The classes of equal nodes. A node that is there has its place among those that are kept; else its place is NONE.
 #[derive(Drop)]
 pub struct Classes {
+    places: Vec<usize>,
     nodes: Vec<Node>,
     uses: Vec<Entry>,
     atoms: Vec<Entry>,
@@ -120,21 +130,26 @@ pub struct Classes {
     waiting: Vec<usize>,
     pending: Vec<Pending>,
     merges: usize,
+    // The sums, differences and products that are there.
+    sums: Vec<usize>,
     yes: usize,
     no: usize,
 }
 
 fn empty_node(number: usize) -> Node {
     Node {
-        is_there: false,
         class: number,
         next: number,
         to: NONE,
         fact: NONE,
+        value: NONE,
+        value_fact: NONE,
         uses: NONE,
         atoms: NONE,
         aparts: NONE,
         weight: 1,
+        members: 1,
+        swept: NONE,
         apart_count: 0,
         literal: NONE,
     }
@@ -144,6 +159,7 @@ impl Classes {
     /// No node. The terms `true` and `false` are these.
     pub fn new(alloc: Global, yes: usize, no: usize) -> Self {
         Classes {
+            places: Vec::new(alloc),
             nodes: Vec::new(alloc),
             uses: Vec::new(alloc),
             atoms: Vec::new(alloc),
@@ -156,21 +172,55 @@ impl Classes {
             waiting: Vec::new(alloc),
             pending: Vec::new(alloc),
             merges: 0,
+            sums: Vec::new(alloc),
             yes: of_term(yes),
             no: of_term(no),
         }
     }
 
+    fn place(&self, number: usize) -> usize {
+        match self.places.get(number) {
+            Some(place) => *place,
+            None => NONE,
+        }
+    }
+
     fn node(&self, number: usize) -> Node {
-        match self.nodes.get(number) {
+        match self.nodes.get(self.place(number)) {
             Some(node) => *node,
             None => empty_node(number),
         }
     }
 
     fn put(&mut self, number: usize, node: Node) {
-        if let Some(place) = self.nodes.get_mut(number) {
+        let at = self.place(number);
+        if let Some(place) = self.nodes.get_mut(at) {
             *place = node;
+        }
+    }
+
+    // A node that isn't there is kept from now on.
+    fn keep(&mut self, number: usize, node: Node) -> Result<(), AllocError> {
+        for _ in self.places.len()..number.saturating_add(1) {
+            self.places.push(NONE)?;
+        }
+        let at = self.nodes.len();
+        if let Some(place) = self.places.get_mut(number) {
+            *place = at;
+        }
+        self.nodes.push(node)?;
+        self.trail.push(Change::There(number))?;
+        Ok(())
+    }
+
+    // The node that was kept last isn't there any more.
+    fn leave(&mut self, number: usize) {
+        let _ = self.nodes.pop();
+        if is_term(number) && self.sums.last().copied() == Some(number / 2) {
+            let _ = self.sums.pop();
+        }
+        if let Some(place) = self.places.get_mut(number) {
+            *place = NONE;
         }
     }
 
@@ -196,7 +246,7 @@ impl Classes {
 
     /// Whether a node is there.
     pub fn is_there(&self, number: usize) -> bool {
-        self.node(number).is_there
+        self.place(number) != NONE
     }
 
     /// The name of a node's class.
@@ -209,12 +259,37 @@ impl Classes {
         self.node(self.class(number)).literal
     }
 
+    /// How many members a node's class has.
+    pub fn members(&self, number: usize) -> usize {
+        self.node(self.class(number)).members
+    }
+
+    /// Whether a node's class stands in another way than it did when this was asked last.
+    pub fn sweep(&mut self, number: usize, stamp: usize) -> bool {
+        let class = self.class(number);
+        let mut node = self.node(class);
+        if node.swept == stamp {
+            return false;
+        }
+        node.swept = stamp;
+        self.put(class, node);
+        true
+    }
+
+    /// The sum, difference or product at a place among those that are there, or NONE.
+    pub fn sum(&self, place: usize) -> usize {
+        match self.sums.get(place) {
+            Some(term) => *term,
+            None => NONE,
+        }
+    }
+
     /// The next member of a node's class.
     pub fn next(&self, number: usize) -> usize {
         self.node(number).next
     }
 
-    /// How many nodes there may be.
+    /// How many nodes are there.
     pub fn len(&self) -> usize {
         self.nodes.len()
     }
@@ -311,16 +386,15 @@ impl Classes {
     }
 
     fn enter(&mut self, bank: &Bank, number: usize) -> Result<(), AllocError> {
-        for at in self.nodes.len()..number.saturating_add(1) {
-            self.nodes.push(empty_node(at))?;
-        }
         let mut node = empty_node(number);
-        node.is_there = true;
         if is_term(number) && is_value(bank, number / 2) {
             node.literal = number;
         }
-        self.put(number, node);
-        self.trail.push(Change::There(number))?;
+        self.keep(number, node)?;
+        let kind = node_head(bank, number).kind;
+        if kind >= ADD && kind <= MULTIPLY {
+            self.sums.push(number / 2)?;
+        }
         let count = arity(bank, number);
         for place in 0..count {
             self.add_use(of_term(argument(bank, number, place)), number)?;
@@ -617,6 +691,7 @@ impl Classes {
 
     fn merge_one(&mut self, bank: &Bank, pending: Pending) -> Result<Option<Conflict>, AllocError> {
         if self.class(pending.left) == self.class(pending.right) {
+            self.keep_value(pending)?;
             return Ok(None);
         }
         let merge = self.merge_of(pending);
@@ -636,6 +711,26 @@ impl Classes {
         self.look_at_moved()
     }
 
+    // A fact that a node is the literal of its class, where that was known without it: paths to the literal are shorter by it.
+    fn keep_value(&mut self, pending: Pending) -> Result<(), AllocError> {
+        let literal = self.literal(pending.left);
+        let number = if pending.right == literal {
+            pending.left
+        } else {
+            pending.right
+        };
+        let mut node = self.node(number);
+        let is_of_literal = pending.left == literal || pending.right == literal;
+        if pending.fact == CONGRUENT || !is_of_literal || node.value != NONE {
+            return Ok(());
+        }
+        self.trail.push(Change::Value(number))?;
+        node.value = literal;
+        node.value_fact = pending.fact;
+        self.put(number, node);
+        Ok(())
+    }
+
     fn join(&mut self, merge: Merge) -> Result<(), AllocError> {
         self.trail.push(Change::Merge(merge))?;
         self.turn(merge.linked);
@@ -644,6 +739,7 @@ impl Classes {
         let below = self.node(merge.lower);
         let mut node = self.node(merge.upper);
         node.weight = node.weight.saturating_add(below.weight);
+        node.members = node.members.saturating_add(below.members);
         node.apart_count = node.apart_count.saturating_add(below.apart_count);
         if node.literal == NONE {
             node.literal = below.literal;
@@ -804,7 +900,8 @@ impl Classes {
         for _ in to..self.trail.len() {
             match self.trail.pop() {
                 Some(Change::Merge(merge)) => self.take_back(merge),
-                Some(Change::There(number)) => self.put(number, empty_node(number)),
+                Some(Change::Value(number)) => self.drop_value(number),
+                Some(Change::There(number)) => self.leave(number),
                 Some(Change::Use(number)) => self.drop_use(number),
                 Some(Change::Atom(number)) => self.drop_atom(number),
                 Some(Change::Apart(number)) => self.drop_apart(number),
@@ -812,6 +909,13 @@ impl Classes {
                 None => break,
             }
         }
+    }
+
+    fn drop_value(&mut self, number: usize) {
+        let mut node = self.node(number);
+        node.value = NONE;
+        node.value_fact = NONE;
+        self.put(number, node);
     }
 
     fn drop_sign(&mut self) {
@@ -859,6 +963,7 @@ impl Classes {
         let below = self.node(merge.lower);
         let mut node = self.node(merge.upper);
         node.weight = node.weight.saturating_sub(below.weight);
+        node.members = node.members.saturating_sub(below.members);
         node.apart_count = node.apart_count.saturating_sub(below.apart_count);
         node.literal = merge.literal;
         self.put(merge.upper, node);
@@ -895,8 +1000,47 @@ impl Classes {
         at
     }
 
-    /// Adds the steps on the path from one node to another of its class.
-    pub fn path(&self, x: usize, y: usize, steps: &mut Vec<Step>) -> Result<(), AllocError> {
+    // How many of the first links from a node lead to one that a fact older than another says is this literal.
+    fn links_to_value(&self, number: usize, literal: usize, before: usize) -> Option<usize> {
+        let mut at = number;
+        for links in 0..MOST_LINKS {
+            let node = self.node(at);
+            if at == literal || node.to == literal {
+                return None;
+            }
+            if node.value == literal && node.value_fact < before {
+                return Some(links);
+            }
+            at = node.to;
+        }
+        None
+    }
+
+    /// Adds the steps on the path from one node to another of its class. Where a fact older than another one says of a node near the first that it is
+    /// the other, which is a literal, the path ends with that fact. Whether it does.
+    pub fn path(
+        &self,
+        x: usize,
+        y: usize,
+        before: usize,
+        steps: &mut Vec<Step>,
+    ) -> Result<bool, AllocError> {
+        let Some(links) = self.links_to_value(x, y, before) else {
+            self.linked_path(x, y, steps)?;
+            return Ok(false);
+        };
+        self.climb(x, links, steps)?;
+        let last = self.skip(x, links);
+        steps.push(Step {
+            from: last,
+            to: y,
+            fact: self.node(last).value_fact,
+        })?;
+        Ok(true)
+    }
+
+    // The same by links alone.
+    fn linked_path(&self, x: usize, y: usize, steps: &mut Vec<Step>) -> Result<(), AllocError> {
         let (up, down) = (self.depth(x), self.depth(y));
         let mut above = up.saturating_sub(down);
         let mut below = down.saturating_sub(up);

@@ -21,7 +21,7 @@ pub struct Keys {
     entries: Vec<Entry>,
 }
 
-const LISTS: usize = 4096;
+const LISTS: usize = 65_536;
 
 fn list_of(first: usize, second: usize, third: usize) -> usize {
     let mixed = first

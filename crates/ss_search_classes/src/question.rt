@@ -365,6 +365,27 @@ pub fn part_count(bank: &Bank, f: usize) -> usize {
     }
 }
 
+/// Whether there is a formula of this number that isn't well formed: in what is known, a name in it is unbound.
+pub fn has_unbound(bank: &Bank, f: usize) -> bool {
+    bank.has_formula(FormulaId(f)) && !bank.is_well_formed(FormulaId(f))
+}
+
+/// Whether an `and` is delayed: it stands for an `and` with an unbound name, which is its first part, at the term that its second part names.
+pub fn is_delayed(bank: &Bank, f: usize) -> bool {
+    has_unbound(bank, delayed_whole(bank, f))
+}
+
+/// The `and` that a delayed one stands for at a term.
+pub fn delayed_whole(bank: &Bank, f: usize) -> usize {
+    part_at(bank, f, 0)
+}
+
+/// The term at which a delayed `and` stands for another one, or NONE.
+pub fn delayed_term(bank: &Bank, f: usize) -> usize {
+    let named = part_at(bank, part_at(bank, f, 1), 0);
+    pair_argument(bank, pair_of(named), 0)
+}
+
 /// The body of a quantified formula, or NONE.
 pub fn body_of(bank: &Bank, f: usize) -> usize {
     match formula_at(bank, f) {

@@ -95,13 +95,15 @@ impl Engine {
     // Whether what is asked for asks for an instance of a stage.
     fn works(&mut self, bank: &Bank, program: &Classes, stage: usize) -> Result<bool, AllocError> {
         let has_worked = work(&mut self.state, bank, program, stage)?;
-        Ok(has_worked || !self.state.equal.is_settled())
+        Ok(self.state.open_bundles(bank)? || has_worked || !self.state.equal.is_settled())
     }
 
-    // Looks ahead, and opens the cases of a clause where that finds nothing.
+    // Looks ahead. Where that finds nothing, all parts of a long `or` of the goal are asked for, and then the cases of a clause are opened.
     fn look_or_split(&mut self, bank: &Bank, place: usize) -> Result<Closed, AllocError> {
         if self.look_ahead(bank)? {
             self.after_look(bank)
+        } else if self.state.ask_parts(bank, place)? {
+            Ok(Closed::Next(Step::Goes))
         } else {
             self.open_split(bank, place)
         }
@@ -112,7 +114,8 @@ impl Engine {
         if self.look_ahead(bank)? {
             return self.after_look(bank);
         }
-        if self.state.widen(bank)?
+        if self.state.open_rest(bank)?
+            || self.state.widen(bank)?
             || use_positions(&mut self.state, bank)?
             || use_levels(&mut self.state, bank, program)?
         {
@@ -302,7 +305,7 @@ impl Engine {
             Step::Conflict(conflict) => self.end_trial(bank, (literal, case), start, conflict),
             _ => {
                 self.state.drop_pending();
-                self.state.undo(start);
+                self.state.undo_trial(start);
                 Ok(false)
             }
         }
@@ -318,7 +321,7 @@ impl Engine {
         let (literal, case) = tried;
         let first = self.state.close_conflict(bank, conflict)?;
         let block = self.wrap_newer(bank, case, first)?;
-        self.state.undo(start);
+        self.state.undo_trial(start);
         if self.state.newest() == Some(case) {
             self.state.learn_cut(literal, case, block)?;
         } else {

@@ -36,7 +36,8 @@ impl Engine {
     fn choice_of(&self, bank: &Bank, of_goal: bool) -> usize {
         let mut best = NONE;
         let mut fewest = NONE;
-        for place in 0..self.state.asked.clause_count() {
+        for at in 0..self.state.asked.live_count() {
+            let place = self.state.asked.live(at);
             let clause = self.state.asked.clause(place);
             if of_goal && clause.origin != 2 || !self.is_open_clause(bank, clause.formula) {
                 continue;
@@ -58,7 +59,8 @@ impl Engine {
 
     // A relevant clause of truth values of the program alone: which way was taken.
     fn join_choice(&self, bank: &Bank) -> usize {
-        for place in 0..self.state.asked.clause_count() {
+        for at in 0..self.state.asked.live_count() {
+            let place = self.state.asked.live(at);
             let clause = self.state.asked.clause(place);
             if self.is_open_clause(bank, clause.formula) && self.is_join(bank, clause.formula) {
                 return place;
@@ -85,11 +87,11 @@ impl Engine {
         if self.quiet == self.state.progress {
             return Ok(false);
         }
-        let count = self.state.asked.clause_count();
+        let count = self.state.asked.live_count();
         let from = self.look_from;
         for turn in 0..count {
             let place = turned(from, turn, count);
-            let clause = self.state.asked.clause(place);
+            let clause = self.state.asked.clause(self.state.asked.live(place));
             if self.is_open_clause(bank, clause.formula)
                 && self.state.nodes.open_count(clause.formula) <= 4
                 && self.look_in(bank, clause.formula)?

@@ -80,19 +80,30 @@ fn first_fresh(bank: &Bank) -> usize {
     fresh
 }
 
-// Whether the known premises are in front of these.
+// At how many places known premises are compared with others.
+const COMPARED: usize = 32;
+
+// Whether the known premises are in front of these, as far as a few places tell: the last one, and others at equal distances. Where they aren't, a
+// checker refuses what is found.
 fn is_front(front: &[usize], premises: &[FormulaId]) -> bool {
-    for (place, number) in front.iter().enumerate() {
-        match premises.get(place) {
-            Some(premise) => {
-                if premise.0 != *number {
-                    return false;
-                }
-            }
-            None => return false,
+    let step = (front.len() / COMPARED).saturating_add(1);
+    for turn in 0..COMPARED {
+        if !is_same_at(front, premises, turn.saturating_mul(step)) {
+            return false;
         }
     }
-    true
+    is_same_at(front, premises, front.len().saturating_sub(1))
+}
+
+// Whether the premise at a place is the known one, where there is one.
+fn is_same_at(front: &[usize], premises: &[FormulaId], place: usize) -> bool {
+    let Some(number) = front.get(place) else {
+        return true;
+    };
+    match premises.get(place) {
+        Some(premise) => premise.0 == *number,
+        None => false,
+    }
 }
 
 impl Engine {
@@ -264,6 +275,7 @@ impl Engine {
         if let Some(premise) = premises.get(number) {
             self.front.push(premise.0)?;
         }
+        self.state.drop_settled();
         self.base = self.state.mark();
         Ok(step)
     }
@@ -271,6 +283,8 @@ impl Engine {
     fn restart(&mut self) {
         self.base = first_mark();
         self.forget();
+        self.state.heads.forget();
+        self.state.forget_pieces();
         self.front.truncate(0);
         self.state.fresh = self.base_fresh;
     }

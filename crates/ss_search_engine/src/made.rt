@@ -8,8 +8,8 @@ use crate::engine::Engine;
 use ss_core::Classes;
 use ss_search_classes::{EXISTS, NONE, kind_of, pair_of};
 use ss_search_made::{
-    Arguments, arguments_of, atom_made, choice_made, constants_of, good_made, inst_made, rule_made,
-    term_made, terms_alone,
+    Arguments, arguments_of, atom_made, choice_made, constants_of, delayed_made, good_made,
+    inst_made, piece_made, rule_made, term_made, terms_alone,
 };
 use ss_search_proof::{GoodName, Reason, RuleKind, Said};
 use ss_search_state::{Request, Wanted};
@@ -69,6 +69,18 @@ impl Engine {
         match request.wanted {
             Wanted::Choose(formula, fact) => self.make_choice(bank, program, formula, fact),
             Wanted::Inst(formula, fact) => self.make_inst(bank, program, request, (formula, fact)),
+            Wanted::Whole(formula, fact) => self.make_whole(
+                bank,
+                program,
+                request,
+                (formula, fact),
+            ),
+            Wanted::Piece(delayed, place) => self.make_piece(
+                bank,
+                program,
+                request,
+                (delayed, place),
+            ),
             Wanted::Rule(rule) => self.make_rule(bank, program, request, rule),
             Wanted::Good(rule, store, fact) => self.make_good(
                 bank,
@@ -153,19 +165,63 @@ impl Engine {
         requires limits { IsWithinLimits (view.classes program.now) }
         ensures grown { IsGrown bank.old bank.new }
     {
+        if !self.state.delays(bank, forall.0) {
+            return self.make_whole(bank, program, request, forall);
+        }
+        let numbers = terms_alone(self.state.alloc, arguments_in(request))?;
+        let made = delayed_made(self.state.alloc, bank, program, forall.0, &numbers)?;
+        self.learn_inst(bank, made, forall.1, &numbers)
+    }
+
+    // The instance, with nothing delayed.
+    fn make_whole(
+        &mut self,
+        bank: &mut Bank,
+        program: &Classes,
+        request: Request,
+        forall: (usize, usize),
+    ) -> Result<(), AllocError>
+        requires bank { IsBankOf (view.classes program.now) bank.old }
+        requires limits { IsWithinLimits (view.classes program.now) }
+        ensures grown { IsGrown bank.old bank.new }
+    {
         let numbers = terms_alone(self.state.alloc, arguments_in(request))?;
         let made = inst_made(self.state.alloc, bank, program, forall.0, &numbers)?;
-        self.learn_inst(made, forall.1, &numbers)
+        self.learn_inst(bank, made, forall.1, &numbers)
     }
 
     fn learn_inst(
         &mut self,
+        bank: &Bank,
         made: usize,
         fact: usize,
         numbers: &[usize],
     ) -> Result<(), AllocError> {
+        if made == NONE {
+            return Ok(());
+        }
         let range = self.state.keep(numbers)?;
-        self.learn_made(made, Reason::Inst(fact, range))
+        let learned = self
+            .state
+            .learn(Said::Formula(made), Reason::Inst(fact, range), 1)?;
+        self.state.add_delayed(bank, learned)
+    }
+
+    // The part of a delayed `and` at a place.
+    fn make_piece(
+        &mut self,
+        bank: &mut Bank,
+        program: &Classes,
+        request: Request,
+        part: (usize, usize),
+    ) -> Result<(), AllocError>
+        requires bank { IsBankOf (view.classes program.now) bank.old }
+        requires limits { IsWithinLimits (view.classes program.now) }
+        ensures grown { IsGrown bank.old bank.new }
+    {
+        let made = piece_made(self.state.alloc, bank, program, part.0, part.1)?;
+        self.state.nodes.grow(bank)?;
+        self.state.add_piece(part, made, request.first)
     }
 
     fn make_choice(

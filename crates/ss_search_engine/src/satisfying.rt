@@ -50,6 +50,7 @@ impl Engine {
         splits: usize,
     ) -> Result<bool, AllocError> {
         self.state.has_numbers = false;
+        self.state.nodes.look_at_all();
         self.literals_first = true;
         self.state.left.splits = splits;
         self.state.nodes.grow(bank)?;

@@ -16,7 +16,7 @@ use Rattle.ss_deriv.specs.declared.line.Line.{Line}
 use Rattle.ss_deriv.specs.Lines.{lines_of}
 use Rattle.ss_equality_rules.specs.declared.Merge.{Merge}
 use Rattle.ss_equality_rules.specs.declared.Join.{Join}
-use Rattle.ss_equality_rules.specs.Equal.{Standing, IsEqual, AreFormsOf}
+use Rattle.ss_equality_rules.specs.Equal.{Equations, IsEqual, AreFormsOf}
 use Rattle.ss_equality_rules.specs.Names.{Has, name, IsLog}
 use Rattle.ss_equality_rules.specs.Whole.{AreCaused, numbers}
 use Rattle.ss_equality_rules.proofs.Lists.{has_pushed, has_none}
@@ -40,7 +40,7 @@ one_pair es x y same = record {
     by zero a c p q = let one : x ≡ a = cc in let two : y ≡ c = cc in ap (λ (t : TermId). name es t.0) (sym one) ∙ same ∙ ap (λ (t : TermId). name es t.0) two
     by (suc i) a c p q = cc
 
-pub all_pairs : (s : Standing) (es : List Join) (xs ys : List TermId) → ((x y : ℕ) → IsEqual s.terms s.merges x y → name es x ≡ name es y) → AreEqual s xs ys → ArePaired es xs ys
+pub all_pairs : (s : Equations) (es : List Join) (xs ys : List TermId) → ((x y : ℕ) → IsEqual s.terms s.merges x y → name es x ≡ name es y) → AreEqual s xs ys → ArePaired es xs ys
 all_pairs s es xs ys named are = record { long = are.long; same = λ i x y p q. named x.0 y.0 (are.equal i x y p q) }
 
 module _ (b : Forms) (apart : AreApart b) (fs : List TermShape) (forms : AreFormsOf b fs) (ms : List Merge) (terms : ℕ) (es : List Join) (log : IsLog terms es) (caused : AreCaused fs ms es) (count : ℕ)

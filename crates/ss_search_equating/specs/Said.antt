@@ -12,7 +12,7 @@ use Rattle.ss_terms.specs.Forms.{Forms, term_at, terms_at, formula_at}
 use Rattle.ss_deriv.specs.declared.line.Line.{Line}
 use Rattle.ss_deriv.specs.Lines.{lines_of}
 use Rattle.ss_equality_rules.specs.declared.Merge.{Merge}
-use Rattle.ss_equality_rules.specs.Equal.{Standing, IsEqual}
+use Rattle.ss_equality_rules.specs.Equal.{Equations, IsEqual}
 use Rattle.ss_search_closing.specs.Leading.{Leads}
 
 -- the formula that a line of equalities makes known
@@ -51,7 +51,7 @@ pub record MakeKnown (b : Forms) (ms : List Merge) (count : ℕ) (Given : List C
 -- ---- literals
 
 -- the terms of two lists are equal, one by one
-pub record AreEqual (c : Standing) (xs ys : List TermId) : Type 0 where
+pub record AreEqual (c : Equations) (xs ys : List TermId) : Type 0 where
   pub long : length xs ≡ length ys
   pub equal : (i : ℕ) (x y : TermId) → slice_get xs i ≡ Some x → slice_get ys i ≡ Some y → IsEqual c.terms c.merges x.0 y.0
 

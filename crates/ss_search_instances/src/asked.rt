@@ -24,12 +24,16 @@ pub struct Marks {
     list: usize,
     relevant: usize,
     clauses: usize,
+    live: usize,
     foralls: usize,
     goods: usize,
     subs: usize,
+    bundles: usize,
+    goals: usize,
 }
 
-/// What is asked for and what is known, in the order in which it came.
+/// What is asked for and what is known, in the order in which it came. Of the clauses some are live: the places of those for which there may be
+/// something left to do. The bundles are the long `and`s that instances say; of the long `or`s of the goal the number stands alone.
 #[derive(Drop)]
 pub struct Asked {
     marks: Vec<bool>,
@@ -37,9 +41,12 @@ pub struct Asked {
     relevant_marks: Vec<bool>,
     relevant: Vec<usize>,
     clauses: Vec<Clause>,
+    live: Vec<usize>,
     foralls: Vec<Held>,
     goods: Vec<Held>,
     subs: Vec<usize>,
+    bundles: Vec<Held>,
+    goals: usize,
 }
 
 fn set_mark(marks: &mut Vec<bool>, place: usize, value: bool) -> Result<(), AllocError> {
@@ -65,7 +72,7 @@ fn mark_at(marks: &[bool], place: usize) -> bool {
     }
 }
 
-fn at(list: &[usize], place: usize) -> usize {
+fn place_at(list: &[usize], place: usize) -> usize {
     match list.get(place) {
         Some(number) => *number,
         None => NONE,
@@ -89,9 +96,12 @@ impl Marks {
             list: 0,
             relevant: 0,
             clauses: 0,
+            live: 0,
             foralls: 0,
             goods: 0,
             subs: 0,
+            bundles: 0,
+            goals: 0,
         }
     }
 }
@@ -105,9 +115,12 @@ impl Asked {
             relevant_marks: Vec::new(alloc),
             relevant: Vec::new(alloc),
             clauses: Vec::new(alloc),
+            live: Vec::new(alloc),
             foralls: Vec::new(alloc),
             goods: Vec::new(alloc),
             subs: Vec::new(alloc),
+            bundles: Vec::new(alloc),
+            goals: 0,
         }
     }
 
@@ -117,9 +130,12 @@ impl Asked {
             list: self.list.len(),
             relevant: self.relevant.len(),
             clauses: self.clauses.len(),
+            live: self.live.len(),
             foralls: self.foralls.len(),
             goods: self.goods.len(),
             subs: self.subs.len(),
+            bundles: self.bundles.len(),
+            goals: self.goals,
         }
     }
 
@@ -141,9 +157,12 @@ impl Asked {
             }
         }
         self.clauses.truncate(marks.clauses);
+        self.live.truncate(marks.live);
         self.foralls.truncate(marks.foralls);
         self.goods.truncate(marks.goods);
         self.subs.truncate(marks.subs);
+        self.bundles.truncate(marks.bundles);
+        self.goals = marks.goals;
     }
 
     /// Whether a node is asked for.
@@ -161,6 +180,11 @@ impl Asked {
         Ok(true)
     }
 
+    /// How many nodes are asked for, and clauses relevant.
+    pub fn size(&self) -> usize {
+        self.list.len().saturating_add(self.relevant.len())
+    }
+
     /// How many nodes are asked for.
     pub fn len(&self) -> usize {
         self.list.len()
@@ -168,7 +192,7 @@ impl Asked {
 
     /// A node that is asked for, or NONE.
     pub fn node(&self, place: usize) -> usize {
-        at(&self.list, place)
+        place_at(&self.list, place)
     }
 
     /// Whether the clause of a pair is relevant.
@@ -187,8 +211,31 @@ impl Asked {
 
     /// One more clause.
     pub fn add_clause(&mut self, clause: Clause) -> Result<(), AllocError> {
+        self.live.push(self.clauses.len())?;
         self.clauses.push(clause)?;
         Ok(())
+    }
+
+    /// How many clauses are live.
+    pub fn live_count(&self) -> usize {
+        self.live.len()
+    }
+
+    /// The place of a live clause, or NONE.
+    pub fn live(&self, at: usize) -> usize {
+        place_at(&self.live, at)
+    }
+
+    /// This clause is live here, in place of another one.
+    pub fn put_live(&mut self, at: usize, clause: usize) {
+        if let Some(place) = self.live.get_mut(at) {
+            *place = clause;
+        }
+    }
+
+    /// Only the first clauses are live.
+    pub fn cut_live(&mut self, to: usize) {
+        self.live.truncate(to);
     }
 
     /// How many clauses there are.
@@ -269,6 +316,32 @@ impl Asked {
 
     /// The pair of the literal at a place.
     pub fn sub(&self, place: usize) -> usize {
-        at(&self.subs, place)
+        place_at(&self.subs, place)
+    }
+
+    /// One more bundle.
+    pub fn add_bundle(&mut self, bundle: Held) -> Result<(), AllocError> {
+        self.bundles.push(bundle)?;
+        Ok(())
+    }
+
+    /// How many bundles there are.
+    pub fn bundle_count(&self) -> usize {
+        self.bundles.len()
+    }
+
+    /// The bundle at a place.
+    pub fn bundle(&self, place: usize) -> Held {
+        held_at(&self.bundles, place)
+    }
+
+    /// One more long `or` of the goal.
+    pub fn add_goal(&mut self) {
+        self.goals = self.goals.saturating_add(1);
+    }
+
+    /// Whether there is a long `or` of the goal.
+    pub fn has_goal(&self) -> bool {
+        self.goals > 0
     }
 }

@@ -1,14 +1,15 @@
 // The reads by which a `forall` is asked for an instance.
 
 use ss_search_classes::{
-    ALLOCATED, AND, BOUND, COMMITTED, CONSTANT, ELEMENT, EXISTS, FIELD, FORALL, LEVEL, LITERAL,
-    NONE, OR, OWNER, READY, argument, arity, body_of, bound_count, first_of, is_closed, kind_of,
-    node_head, of_pair, of_term, pair_of, part_at, part_count, term_argument, term_head,
+    ALLOCATED, AND, BOUND, COMMITTED, CONSTANT, ELEMENT, EXISTS, FIELD, FORALL, Head, Keys, LEVEL,
+    LITERAL, NONE, OR, OWNER, READY, argument, arity, body_of, bound_count, first_of, is_closed,
+    kind_of, node_head, of_pair, of_term, pair_of, part_at, part_count, term_argument, term_head,
 };
 use ss_terms::Bank;
 use std::alloc::{AllocError, Global};
 
-/// A read of a kind over a store, at an object or array and an index; these are bound names or closed terms.
+/// A read of a kind over a store, at an object or array and an index; these are bound names or closed terms. Beside it stand the
+/// `forall` of which it is a head, and the next head of this kind, with this number, over this store.
 #[derive(Clone, Copy)]
 pub struct Pattern {
     pub kind: usize,
@@ -16,44 +17,69 @@ pub struct Pattern {
     pub store: usize,
     pub object: usize,
     pub index: usize,
+    pub forall: usize,
+    pub next: usize,
 }
 
-/// Where the heads of a formula stand.
-#[derive(Clone, Copy)]
-struct Place {
-    is_made: bool,
-    from: usize,
-    to: usize,
-}
-
-/// The heads of each `forall` that was asked for.
+/// The heads of each `forall` that was asked for: those of one stand together, those of one kind, number and store are linked.
 #[derive(Drop)]
 pub struct Heads {
     alloc: Global,
-    places: Vec<Place>,
+    ranges: Vec<(usize, usize)>,
     patterns: Vec<Pattern>,
+    // Where the range of a `forall` stands, and the first and the last head of a kind, with a number, over a store. Of the `and` of a
+    // `forall`: in which part each read over the newest store stands, and this store.
+    places: Keys,
     found: Vec<Pattern>,
     formulas: Vec<usize>,
     nodes: Vec<usize>,
 }
+
+// The keys of the range of a `forall`, of first heads and of last ones. The kind of a head is added.
+const RANGE: usize = 1000;
+
+const FIRST: usize = 2000;
+
+const LAST: usize = 3000;
+
+// The keys of the parts of an `and` in which reads stand, and of their store. The kind of a read is added.
+const PLACE: usize = 4000;
+
+const STORE: usize = 5000;
 
 impl Heads {
     /// None.
     pub fn new(alloc: Global) -> Self {
         Heads {
             alloc,
-            places: Vec::new(alloc),
+            ranges: Vec::new(alloc),
             patterns: Vec::new(alloc),
+            places: Keys::new(alloc),
             found: Vec::new(alloc),
             formulas: Vec::new(alloc),
             nodes: Vec::new(alloc),
         }
     }
 
+    /// Forgets all heads.
+    pub fn forget(&mut self) {
+        self.ranges.truncate(0);
+        self.patterns.truncate(0);
+        self.places.undo(0);
+    }
+
+    /// How many heads there are.
+    pub fn len(&self) -> usize {
+        self.patterns.len()
+    }
+
     /// Where the heads of a `forall` stand.
     pub fn range(&self, forall: usize) -> (usize, usize) {
-        match self.places.get(pair_of(forall)) {
-            Some(place) => (place.from, place.to),
+        match self
+            .ranges
+            .get(self.places.value(RANGE, pair_of(forall), 0))
+        {
+            Some(range) => *range,
             None => (0, 0),
         }
     }
@@ -68,40 +94,39 @@ impl Heads {
                 store: NONE,
                 object: NONE,
                 index: NONE,
+                forall: NONE,
+                next: NONE,
             },
         }
     }
 
-    fn is_made(&self, pair: usize) -> bool {
-        match self.places.get(pair) {
-            Some(place) => place.is_made,
-            None => false,
-        }
+    /// The place of the first head of a kind, with a number, over a store, or NONE.
+    pub fn first(&self, head: Head, store: usize) -> usize {
+        self.places
+            .value(FIRST.saturating_add(head.kind), head.number, store)
+    }
+
+    /// The place of the first part of a `forall`'s `and` in which a read with this head stands, or NONE.
+    pub fn place(&self, head: Head, whole: usize) -> usize {
+        self.places
+            .value(PLACE.saturating_add(head.kind), head.number, whole)
+    }
+
+    /// The newest store that is read in a `forall`'s `and`, or NONE.
+    pub fn store(&self, whole: usize) -> usize {
+        self.places.value(STORE, whole, 0)
     }
 
     /// Finds the heads of a `forall`, once.
     pub fn make(&mut self, bank: &Bank, forall: usize) -> Result<(), AllocError> {
         let pair = pair_of(forall);
-        if self.is_made(pair) {
+        if self.places.value(RANGE, pair, 0) != NONE {
             return Ok(());
-        }
-        for _ in self.places.len()..pair.saturating_add(1) {
-            self.places.push(Place {
-                is_made: false,
-                from: 0,
-                to: 0,
-            })?;
         }
         let from = self.patterns.len();
         self.find(bank, forall)?;
-        let to = self.patterns.len();
-        if let Some(place) = self.places.get_mut(pair) {
-            *place = Place {
-                is_made: true,
-                from,
-                to,
-            };
-        }
+        self.places.add(RANGE, pair, 0, self.ranges.len())?;
+        self.ranges.push((from, self.patterns.len()))?;
         Ok(())
     }
 
@@ -120,11 +145,12 @@ impl Heads {
             for place in 0..part_count(bank, last) {
                 self.found.truncate(0);
                 self.collect(bank, part_at(bank, last, place), names)?;
-                self.keep(bank, newest)?;
+                self.note(last, newest, place)?;
+                self.keep(forall, newest)?;
             }
             Ok(())
         } else {
-            self.keep(bank, newest)
+            self.keep(forall, newest)
         }
     }
 
@@ -179,9 +205,28 @@ impl Heads {
             store: argument(bank, node, 0),
             object: argument(bank, node, 1),
             index: argument(bank, node, 2),
+            forall: NONE,
+            next: NONE,
         };
         if is_closed(bank, pattern.store) && covers(bank, pattern, names) {
             self.found.push(pattern)?;
+        }
+        Ok(())
+    }
+
+    // The reads over the newest store that were found stand in this part of an `and`.
+    fn note(&mut self, whole: usize, newest: usize, part: usize) -> Result<(), AllocError> {
+        if self.store(whole) == NONE {
+            self.places.add(STORE, whole, 0, newest)?;
+        }
+        for at in 0..self.found.len() {
+            let Some(pattern) = self.found.get(at).copied() else {
+                break;
+            };
+            let kind = PLACE.saturating_add(pattern.kind);
+            if pattern.store == newest && self.places.value(kind, pattern.number, whole) == NONE {
+                self.places.add(kind, pattern.number, whole, part)?;
+            }
         }
         Ok(())
     }
@@ -197,18 +242,36 @@ impl Heads {
         newest
     }
 
-    // Keeps the reads over the newest store, without `alloc` and `own` where others are left.
-    fn keep(&mut self, bank: &Bank, newest: usize) -> Result<(), AllocError> {
-        let _ = bank;
+    // Keeps the reads over the newest store as heads of a `forall`, without `alloc` and `own` where others are left.
+    fn keep(&mut self, forall: usize, newest: usize) -> Result<(), AllocError> {
         let most = self.most_telling(newest);
         for place in 0..self.found.len() {
-            let Some(pattern) = self.found.get(place).copied() else {
+            let Some(mut pattern) = self.found.get(place).copied() else {
                 break;
             };
             if pattern.store == newest && telling(pattern.kind) >= most {
-                self.patterns.push(pattern)?;
+                pattern.forall = forall;
+                self.add(pattern)?;
             }
         }
+        Ok(())
+    }
+
+    // One more head, behind those of its kind, number and store.
+    fn add(&mut self, pattern: Pattern) -> Result<(), AllocError> {
+        let at = self.patterns.len();
+        let (number, store) = (pattern.number, pattern.store);
+        let last = LAST.saturating_add(pattern.kind);
+        let before = self.places.value(last, number, store);
+        match self.patterns.get_mut(before) {
+            Some(other) => other.next = at,
+            None => {
+                let first = FIRST.saturating_add(pattern.kind);
+                self.places.add(first, number, store, at)?;
+            }
+        }
+        self.places.add(last, number, store, at)?;
+        self.patterns.push(pattern)?;
         Ok(())
     }
 

@@ -5,6 +5,6 @@
 mod made;
 
 pub use made::{
-    Arguments, arguments_of, atom_made, choice_made, constants_of, good_made, inst_made, rule_made,
-    term_made, terms_alone,
+    Arguments, arguments_of, atom_made, choice_made, constants_of, delayed_made, good_made,
+    inst_made, piece_made, rule_made, term_made, terms_alone,
 };

@@ -3,14 +3,14 @@
 ghost use Rattle.std.specs.Prelude.{IfOk, IfSome, IsTrue};
 ghost use Rattle.ss_core.specs.Chain.{IsWithinLimits};
 ghost use Rattle.ss_core.specs.View as view;
-ghost use Rattle.ss_terms.specs.Forms.{HasTerms, IsGrown, IsBankOf};
+ghost use Rattle.ss_terms.specs.Forms.{HasTerms, HasFormulas, IsGrown, IsBankOf};
 
 use ss_core::Classes;
 use ss_rules_instances::{good_instance, instance};
 use ss_rules_invariants::invariants;
 use ss_search_classes::{
-    FORALL, NONE, body_of, bound_count, bound_sort, code_of_sort, is_closed, kind_of, opposite,
-    sort_at,
+    FORALL, NONE, body_of, bound_count, bound_sort, code_of_sort, delayed_term, delayed_whole,
+    is_closed, kind_of, opposite, part_at, part_count, sort_at,
 };
 use ss_search_proof::{GoodName, RuleKind, good_of, name_of};
 use ss_terms::{Bank, FormulaId, Predicate, Symbol, TermId};
@@ -43,6 +43,16 @@ fn has_terms(bank: &Bank, ts: &[TermId]) -> bool
     match ts {
         [] => true,
         [t, ts @ ..] => bank.has_term(*t) && has_terms(bank, ts),
+    }
+}
+
+// Whether the bank has each formula.
+fn has_formulas(bank: &Bank, fs: &[FormulaId]) -> bool
+    ensures { IsTrue result → HasFormulas bank.now fs.now }
+{
+    match fs {
+        [] => true,
+        [f, fs @ ..] => bank.has_formula(*f) && has_formulas(bank, fs),
     }
 }
 
@@ -236,6 +246,164 @@ pub fn inst_made(
     Ok(made.0)
 }
 
+/// The body of a `forall` at a term, with the `and` at its end delayed, or NONE. The body is an `or`.
+pub fn delayed_made(
+    alloc: Global,
+    bank: &mut Bank,
+    program: &Classes,
+    formula: usize,
+    numbers: &[usize],
+) -> Result<usize, AllocError>
+    requires bank { IsBankOf (view.classes program.now) bank.old }
+    requires limits { IsWithinLimits (view.classes program.now) }
+    ensures grown { IsGrown bank.old bank.new }
+{
+    let body = body_of(bank, formula);
+    if !fits(bank, formula, numbers) {
+        return Ok(NONE);
+    }
+    let parts = parts_made(alloc, bank, program, body, numbers)?;
+    or_made(bank, &parts)
+}
+
+// The parts of an `or` at a term, of which the last one, an `and`, is delayed.
+fn parts_made(
+    alloc: Global,
+    bank: &mut Bank,
+    program: &Classes,
+    or: usize,
+    numbers: &[usize],
+) -> Result<Vec<FormulaId>, AllocError>
+    requires bank { IsBankOf (view.classes program.now) bank.old }
+    requires limits { IsWithinLimits (view.classes program.now) }
+    ensures grown { IsGrown bank.old bank.new }
+{
+    let count = part_count(bank, or).saturating_sub(1);
+    let whole = part_at(bank, or, count);
+    let mut parts = conditions_made(alloc, bank, program, (or, count), numbers)?;
+    let last = delay_made(alloc, bank, whole, numbers)?;
+    parts.push(FormulaId(last))?;
+    Ok(parts)
+}
+
+// The first parts of an `or` at terms.
+fn conditions_made(
+    alloc: Global,
+    bank: &mut Bank,
+    program: &Classes,
+    parts: (usize, usize),
+    numbers: &[usize],
+) -> Result<Vec<FormulaId>, AllocError>
+    requires bank { IsBankOf (view.classes program.now) bank.old }
+    requires limits { IsWithinLimits (view.classes program.now) }
+    ensures grown { IsGrown bank.old bank.new }
+{
+    let mut made = Vec::new(alloc);
+    for place in 0..parts.1 {
+        let part = part_at(bank, parts.0, place);
+        let part = put_made(alloc, bank, program, part, numbers)?;
+        made.push(FormulaId(part))?;
+    }
+    Ok(made)
+}
+
+// The `and` that stands for another one at a term, or NONE.
+fn delay_made(
+    alloc: Global,
+    bank: &mut Bank,
+    whole: usize,
+    numbers: &[usize],
+) -> Result<usize, AllocError>
+    ensures grown { IsGrown bank.old bank.new }
+{
+    let named = named_made(alloc, bank, numbers)?;
+    and_made(bank, &[FormulaId(whole), FormulaId(named)])
+}
+
+// The `and` that names the first term, or NONE.
+fn named_made(alloc: Global, bank: &mut Bank, numbers: &[usize]) -> Result<usize, AllocError>
+    ensures grown { IsGrown bank.old bank.new }
+{
+    let itself = itself_made(alloc, bank, numbers)?;
+    and_made(bank, &[FormulaId(itself)])
+}
+
+// That the first term is itself, or NONE.
+fn itself_made(alloc: Global, bank: &mut Bank, numbers: &[usize]) -> Result<usize, AllocError>
+    ensures grown { IsGrown bank.old bank.new }
+{
+    let Some(number) = numbers.first().copied() else {
+        return Ok(NONE);
+    };
+    let Some(terms) = terms_of(alloc, bank, &[number, number])? else {
+        return Ok(NONE);
+    };
+    let made = bank.atom(true, Predicate::Equal, &terms)?;
+    Ok(made.0)
+}
+
+// All of these, or NONE where they aren't there.
+fn and_made(bank: &mut Bank, parts: &[FormulaId]) -> Result<usize, AllocError>
+    ensures grown { IsGrown bank.old bank.new }
+{
+    if !has_formulas(bank, parts) {
+        return Ok(NONE);
+    }
+    let made = bank.and(parts)?;
+    Ok(made.0)
+}
+
+// One of these, or NONE where they aren't there.
+fn or_made(bank: &mut Bank, parts: &[FormulaId]) -> Result<usize, AllocError>
+    ensures grown { IsGrown bank.old bank.new }
+{
+    if !has_formulas(bank, parts) {
+        return Ok(NONE);
+    }
+    let made = bank.or(parts)?;
+    Ok(made.0)
+}
+
+/// The part of a delayed `and` at a place, or NONE.
+pub fn piece_made(
+    alloc: Global,
+    bank: &mut Bank,
+    program: &Classes,
+    delayed: usize,
+    place: usize,
+) -> Result<usize, AllocError>
+    requires bank { IsBankOf (view.classes program.now) bank.old }
+    requires limits { IsWithinLimits (view.classes program.now) }
+    ensures grown { IsGrown bank.old bank.new }
+{
+    let part = part_at(bank, delayed_whole(bank, delayed), place);
+    let term = delayed_term(bank, delayed);
+    put_made(alloc, bank, program, part, &[term])
+}
+
+// A formula at these terms, or NONE.
+fn put_made(
+    alloc: Global,
+    bank: &mut Bank,
+    program: &Classes,
+    formula: usize,
+    numbers: &[usize],
+) -> Result<usize, AllocError>
+    requires bank { IsBankOf (view.classes program.now) bank.old }
+    requires limits { IsWithinLimits (view.classes program.now) }
+    ensures grown { IsGrown bank.old bank.new }
+{
+    let Some(terms) = terms_of(alloc, bank, numbers)? else {
+        return Ok(NONE);
+    };
+    let found = FormulaId(formula);
+    if !bank.has_formula(found) {
+        return Ok(NONE);
+    }
+    let made = put(alloc, bank, program, &terms, found)?;
+    Ok(made.0)
+}
+
 /// New constants for the names that an `exists` binds.
 pub fn constants_of(
     alloc: Global,
@@ -282,15 +450,8 @@ fn such_made(
     requires limits { IsWithinLimits (view.classes program.now) }
     ensures grown { IsGrown bank.old bank.new }
 {
-    let Some(constants) = terms_of(alloc, bank, numbers)? else {
-        return Ok(NONE);
-    };
-    let body = FormulaId(body_of(bank, formula));
-    if !bank.has_formula(body) {
-        return Ok(NONE);
-    }
-    let such = put(alloc, bank, program, &constants, body)?;
-    Ok(such.0)
+    let body = body_of(bank, formula);
+    put_made(alloc, bank, program, body, numbers)
 }
 
 // One of two formulas holds. NONE where they aren't there.

@@ -1,6 +1,7 @@
 -- The model of a candidate refutes, and values have no arguments.
 use Rattle.std.proofs.Common.{◌≡◌, ℕ, ◌≤◌, List, [], ◌∷◌, length, map, Bool, true, false, refl, sym, ◌∙◌, ap, subst, arith}
 use Rattle.std.specs.List.{list_all, slice_index_or}
+use Rattle.std.proofs.lemmas.List.{length-map}
 use Rattle.ss_core.specs.Tree.{ClassTree}
 use Rattle.ss_linear_rules.specs.Two.{Two}
 use Rattle.ss_logic.specs.Terms.{Symbol, Number, Fixed, Null, ClassName, Constant, Add, Subtract, Multiply, Quotient, Remainder, Field, Element, Length, TypeOf, Level, Owner, Pair, Next, Set, Put, Unpack, Pack, Capture, Join, New, NewArray, MakeReady, Term, App, Terms, term_then, terms_from}
@@ -8,15 +9,17 @@ use Rattle.ss_logic.specs.Formulas.{Formula}
 use Rattle.ss_logic.specs.Equal.{same_term, same_formula}
 use Rattle.ss_logic_derivations.specs.Steps.{is_value}
 use Rattle.ss_logic_ground.specs.Occurring.{terms, with_terms_of_all}
-use Rattle.ss_logic_countermodels.specs.Refuting.{Model, Agrees, Refutes, comes_out, model_of, place_among, told, is_equal_inside}
+use Rattle.ss_logic_countermodels.specs.Refuting.{Model, Agrees, Refutes, IsCountermodel, comes_out, model_of, place_among, told, is_equal_inside}
+use Rattle.ss_logic_countermodels.specs.declared.Countermodel.{Countermodel}
 use Rattle.ss_terms.specs.declared.forms.TermId.{TermId}
 use Rattle.ss_terms.specs.declared.forms.FormulaId.{FormulaId}
-use Rattle.ss_terms.specs.Forms.{Forms, term_at, terms_at, formulas_at}
+use Rattle.ss_terms.specs.Forms.{Forms, term_at, terms_at, formula_at, formulas_at}
 use Rattle.ss_rules_occurring.specs.Found.{terms_of, formulas_of, Holds, HoldsTerms}
 use Rattle.ss_rules_occurring.proofs.Sought.{holds_itself}
 use Rattle.ss_rules_occurring.proofs.Stacks.{holds_terms_itself}
 use Rattle.ss_search_models.specs.declared.candidate.Candidate.{Candidate}
-use Rattle.ss_search_models.specs.Candidates.{class_number, truth_number, class_at, truth_at, model_at, IsFor}
+use Rattle.ss_equality_rules.specs.Equal.{class_number}
+use Rattle.ss_search_models.specs.Candidates.{truth_number, class_at, truth_at, model_at, IsFor}
 use Rattle.ss_search_models.specs.Facts.{facts_in}
 use Rattle.ss_search_models.proofs.Terms.{terms_told}
 use Rattle.ss_search_models.specs.Said.{are_functions_of_classes, are_atoms_of_classes, are_values_apart}
@@ -77,16 +80,25 @@ module _ (b : Forms) (c : Candidate) (fs : List Formula) (h : IsFor b c fs) wher
         (subst (λ (ts : List Term). Two cs (facts_in cs (model_at b c) (told fs) ts)) (sym h.terms) two));
   }
 
-  pub same_model : (classes : List ℕ) (truths : List Bool) → classes ≡ map (class_number c) c.terms.now.list.items → truths ≡ map (truth_number c) c.told.now.list.items → model_at b c ≡ model_of fs classes truths
+  pub same_model : (classes : List ℕ) (truths : List Bool) → classes ≡ map (class_number c.classes.now) c.terms.now.list.items → truths ≡ map (truth_number c) c.told.now.list.items → model_at b c ≡ model_of fs classes truths
   unfolding class_at truth_at
   same_model classes truths cs ts =
-      ap (λ (ts : List Term). let m : Model = record { class = λ t. slice_index_or (map (class_number c) c.terms.now.list.items) (place_among (same_term t) ts) 0; truth = truth_at b c } in m) h.terms
-      ∙ ap (λ (gs : List Formula). let m : Model = record { class = λ t. slice_index_or (map (class_number c) c.terms.now.list.items) (place_among (same_term t) (terms fs)) 0; truth = λ f. slice_index_or (map (truth_number c) c.told.now.list.items) (place_among (same_formula f) gs) false } in m) h.told
+      ap (λ (ts : List Term). let m : Model = record { class = λ t. slice_index_or (map (class_number c.classes.now) c.terms.now.list.items) (place_among (same_term t) ts) 0; truth = truth_at b c } in m) h.terms
+      ∙ ap (λ (gs : List Formula). let m : Model = record { class = λ t. slice_index_or (map (class_number c.classes.now) c.terms.now.list.items) (place_among (same_term t) (terms fs)) 0; truth = λ f. slice_index_or (map (truth_number c) c.told.now.list.items) (place_among (same_formula f) gs) false } in m) h.told
       ∙ ap (λ ns. model_of fs ns (map (truth_number c) c.told.now.list.items)) (sym cs)
       ∙ ap (λ vs. model_of fs classes vs) (sym ts)
 
-  pub refuting_model : (cs : List ClassTree) (classes : List ℕ) (truths : List Bool) → classes ≡ map (class_number c) c.terms.now.list.items → truths ≡ map (truth_number c) c.told.now.list.items → Refutes cs (model_at b c) fs → Refutes cs (model_of fs classes truths) fs
+  refuting_model : (cs : List ClassTree) (classes : List ℕ) (truths : List Bool) → classes ≡ map (class_number c.classes.now) c.terms.now.list.items → truths ≡ map (truth_number c) c.told.now.list.items → Refutes cs (model_at b c) fs → Refutes cs (model_of fs classes truths) fs
   refuting_model cs classes truths es ts r = subst (λ m. Refutes cs m fs) (same_model classes truths es ts) r
+
+  -- as lists that have as many classes and truth values
+  pub countered : (cs : List ClassTree) (m : Countermodel) → m.classes.items ≡ map (class_number c.classes.now) c.terms.now.list.items → m.truth.items ≡ map (truth_number c) c.told.now.list.items → Refutes cs (model_at b c) fs →
+      IsCountermodel cs fs m
+  countered cs m es ts r = record {
+    classes = ap length es ∙ length-map c.terms.now.list.items (class_number c.classes.now) ∙ sym (length-map c.terms.now.list.items (term_at b)) ∙ ap length h.terms;
+    truth = ap length ts ∙ length-map c.told.now.list.items (truth_number c) ∙ sym (length-map c.told.now.list.items (formula_at b)) ∙ ap length h.told;
+    refutes = refuting_model cs m.classes.items m.truth.items es ts r;
+  }
 
 pub for_formulas : (b : Forms) (c : Candidate) (fs : List Formula) (gs : List FormulaId) → Holds b c.told.now (told fs) → gs ≡ c.told.now.list.items → HoldsTerms b c.terms.now (with_terms_of_all [] (formulas_at b gs)) → IsFor b c fs
 for_formulas b c fs gs k e h = record {

@@ -12,7 +12,8 @@ use Rattle.ss_terms.specs.Apart.{AreApart}
 use Rattle.ss_terms.proofs.Same.{term_id, formula_id}
 use Rattle.ss_rules_occurring.specs.Found.{term_number, formula_number}
 use Rattle.ss_search_models.specs.declared.candidate.Candidate.{Candidate}
-use Rattle.ss_search_models.specs.Candidates.{class_number, truth_number, class_at, truth_at, HasCandidate}
+use Rattle.ss_equality_rules.specs.Equal.{class_number}
+use Rattle.ss_search_models.specs.Candidates.{truth_number, class_at, truth_at, HasCandidate}
 
 one_more : {A : Type 0} (same any : Bool) (x y d : A) (xs : List A) (p : ℕ) → (same ≡ true → x ≡ y) → slice_index_or xs p d ≡ (if any then y else d) →
     slice_index_or (x ∷ xs) (if same then 0 else suc p) d ≡ (if same || any then y else d)
@@ -36,12 +37,12 @@ formula_value b a g d f h (u ∷ us) hs =
     (λ e. ap g (formula_id u f (sym (eqb-true f.0 u.0 e)))) (formula_value b a g d f h us hs.1)
 
 module _ (b : Forms) (c : Candidate) (h : HasCandidate b c) (a : AreApart b) where
-  class_value : (t : TermId) → HasTerm b t → class_at b c (term_at b t) ≡ (if marked c.terms.now.numbers t.0 then class_number c t else 0)
+  class_value : (t : TermId) → HasTerm b t → class_at b c (term_at b t) ≡ (if marked c.terms.now.numbers t.0 then class_number c.classes.now t else 0)
   unfolding class_at
-  class_value t at = term_value b a (class_number c) 0 t at c.terms.now.list.items h.terms.has ∙ ap (λ v. if v then class_number c t else 0) (sym (h.terms.marked t.0))
+  class_value t at = term_value b a (class_number c.classes.now) 0 t at c.terms.now.list.items h.terms.has ∙ ap (λ v. if v then class_number c.classes.now t else 0) (sym (h.terms.marked t.0))
 
-  pub class_is : (t : TermId) (there : Bool) (n : ℕ) → HasTerm b t → there ≡ marked c.terms.now.numbers t.0 → n ≡ (if there then class_number c t else 0) → n ≡ class_at b c (term_at b t)
-  class_is t there n at m e = e ∙ ap (λ v. if v then class_number c t else 0) m ∙ sym (class_value t at)
+  pub class_is : (t : TermId) (there : Bool) (n : ℕ) → HasTerm b t → there ≡ marked c.terms.now.numbers t.0 → n ≡ (if there then class_number c.classes.now t else 0) → n ≡ class_at b c (term_at b t)
+  class_is t there n at m e = e ∙ ap (λ v. if v then class_number c.classes.now t else 0) m ∙ sym (class_value t at)
 
   truth_value : (f : FormulaId) → HasFormula b f → truth_at b c (formula_at b f) ≡ (if marked c.told.now.numbers f.0 then truth_number c f else false)
   unfolding truth_at

@@ -6,22 +6,18 @@ use Rattle.ss_logic.specs.Formulas.{Formula}
 use Rattle.ss_logic.specs.Equal.{same_term, same_formula}
 use Rattle.ss_logic_ground.specs.Occurring.{terms}
 use Rattle.ss_logic_countermodels.specs.Refuting.{Model, place_among, told}
-use Rattle.ss_terms.specs.declared.forms.TermId.{TermId}
 use Rattle.ss_terms.specs.declared.forms.FormulaId.{FormulaId}
 use Rattle.ss_terms.specs.Forms.{Forms}
+use Rattle.ss_equality_rules.specs.Equal.{class_number}
 use Rattle.ss_rules_occurring.specs.Found.{terms_of, formulas_of, HasFound, HasFoundTerms}
 use Rattle.ss_search_models.specs.declared.candidate.Candidate.{Candidate}
-
--- the class of a number; past the end of the list 0
-abbrev pub class_number : Candidate → TermId → ℕ
-class_number c t = unwrap_or (slice_get c.classes.now t.0) 0
 
 -- the truth value of a number; past the end of the list it is false
 abbrev pub truth_number : Candidate → FormulaId → Bool
 truth_number c f = unwrap_or (slice_get c.truths.now (f.0 / 2)) false
 
 unfoldable pub class_at : Forms → Candidate → Term → ℕ
-class_at b c t = slice_index_or (map (class_number c) c.terms.now.list.items) (place_among (same_term t) (terms_of b c.terms.now)) 0
+class_at b c t = slice_index_or (map (class_number c.classes.now) c.terms.now.list.items) (place_among (same_term t) (terms_of b c.terms.now)) 0
 
 unfoldable pub truth_at : Forms → Candidate → Formula → Bool
 truth_at b c f = slice_index_or (map (truth_number c) c.told.now.list.items) (place_among (same_formula f) (formulas_of b c.told.now)) false

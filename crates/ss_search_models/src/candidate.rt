@@ -2,7 +2,8 @@
 
 ghost use Rattle.std.specs.Prelude.{◌≡◌, map, IfOk};
 ghost use Rattle.ss_terms.specs.Forms.{term_at, terms_at, formula_at, HasTerm, HasTerms, HasFormula};
-ghost use Rattle.ss_search_models.specs.Candidates.{class_number, truth_number, class_at, truth_at, HasCandidate};
+ghost use Rattle.ss_equality_rules.specs.Equal.{class_number};
+ghost use Rattle.ss_search_models.specs.Candidates.{truth_number, class_at, truth_at, HasCandidate};
 
 use ss_logic_countermodels::Countermodel;
 use ss_rules_occurring::{FormulaList, TermList};
@@ -20,7 +21,7 @@ pub(crate) struct Candidate<'a> {
 
 impl Candidate<'_> {
     fn class_number(&self, t: TermId) -> usize
-        ensures { result ≡ class_number self.now t }
+        ensures { result ≡ class_number self.now.classes.now t }
     {
         self.classes.get(t.0).copied().unwrap_or(0)
     }
@@ -79,7 +80,7 @@ impl Candidate<'_> {
 
     // The classes of the terms, in order.
     fn listed_classes(&self, alloc: Global) -> Result<Vec<usize>, AllocError>
-        ensures { IfOk result (λ v. v.items ≡ map (class_number self.now) self.now.terms.now.list.items) }
+        ensures { IfOk result (λ v. v.items ≡ map (class_number self.now.classes.now) self.now.terms.now.list.items) }
     {
         let mut classes = Vec::new(alloc);
         for t in &self.terms.list {
@@ -101,7 +102,7 @@ impl Candidate<'_> {
 
     /// The candidate as a model. An error is want of memory.
     pub(crate) fn model(&self, alloc: Global) -> Result<Countermodel, AllocError>
-        ensures classes { IfOk result (λ m. m.classes.items ≡ map (class_number self.now) self.now.terms.now.list.items) }
+        ensures classes { IfOk result (λ m. m.classes.items ≡ map (class_number self.now.classes.now) self.now.terms.now.list.items) }
         ensures truth { IfOk result (λ m. m.truth.items ≡ map (truth_number self.now) self.now.told.now.list.items) }
     {
         let classes = self.listed_classes(alloc)?;

@@ -2,7 +2,7 @@
 
 ghost use Rattle.std.specs.Prelude.{◌≡◌, List, true, IfOk, IfSome};
 ghost use Rattle.ss_core.specs.Tree.{ClassTree};
-ghost use Rattle.ss_logic_countermodels.specs.Refuting.{Agrees, Refutes, model_of};
+ghost use Rattle.ss_logic_countermodels.specs.Refuting.{IsCountermodel, Agrees, Refutes};
 ghost use Rattle.ss_terms.specs.Forms.{formulas_at, HasFormulas, IsBankOf};
 ghost use Rattle.ss_search_models.specs.Candidates.{model_at, IsFor};
 
@@ -69,7 +69,7 @@ fn model(
 ) -> Result<Option<Countermodel>, AllocError>
     requires candidate { IsFor bank.now candidate.now (formulas_at bank.now formulas.now) }
     requires formulas { HasFormulas bank.now formulas.now }
-    ensures { (cs : List ClassTree) → IsBankOf cs bank.now → IfOk result (λ o. IfSome o (λ m. Refutes cs (model_of (formulas_at bank.now formulas.now) m.classes.items m.truth.items) (formulas_at bank.now formulas.now))) }
+    ensures { (cs : List ClassTree) → IsBankOf cs bank.now → IfOk result (λ o. IfSome o (IsCountermodel cs (formulas_at bank.now formulas.now))) }
 {
     if refutes(alloc, bank, candidate, formulas)? {
         Ok(Some(candidate.model(alloc)?))
@@ -89,7 +89,7 @@ pub fn countermodel(
     truths: &[bool],
 ) -> Result<Option<Countermodel>, AllocError>
     requires { HasFormulas bank.now formulas.now }
-    ensures { (cs : List ClassTree) → IsBankOf cs bank.now → IfOk result (λ o. IfSome o (λ m. Refutes cs (model_of (formulas_at bank.now formulas.now) m.classes.items m.truth.items) (formulas_at bank.now formulas.now))) }
+    ensures { (cs : List ClassTree) → IsBankOf cs bank.now → IfOk result (λ o. IfSome o (IsCountermodel cs (formulas_at bank.now formulas.now))) }
 {
     let told = told(alloc, bank, formulas)?;
     let terms = terms(alloc, bank, &told.list)?;

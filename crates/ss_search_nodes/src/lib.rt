@@ -3,4 +3,4 @@
 
 mod nodes;
 
-pub use nodes::{Ground, Nodes, is_held_kind, or_of};
+pub use nodes::{Ground, LONG, Nodes, is_held_kind, or_of};

@@ -3,7 +3,7 @@
 // A formula and its negation are one pair with one node, which speaks of the first of the two: an atom, an `and` or a `forall`.
 
 use ss_search_classes::{
-    AND, Classes, EQUAL, FORALL, LITERAL, NONE, OR, Why, first_of, is_first, kind_of,
+    AND, Classes, EQUAL, FORALL, LITERAL, NONE, OR, Why, first_of, is_delayed, is_first, kind_of,
     pair_argument, pair_head, pair_of, part_at, part_count, second_of,
 };
 use ss_terms::Bank;
@@ -56,6 +56,7 @@ struct Coming {
 /// What has to be taken back.
 #[derive(Clone, Copy)]
 enum Change {
+    There(usize),
     Open(usize),
     Value(usize),
     Count(usize),
@@ -63,17 +64,25 @@ enum Change {
     First(usize),
     Second(usize),
     Taken(usize),
+    Left(usize),
 }
 
-/// The nodes.
+/// How many parts an `and` or `or` has at most that isn't long.
+pub const LONG: usize = 16;
+
+/// The nodes of the pairs of which something is known or was asked, and where that of each pair stands, or NONE.
 #[derive(Drop)]
 pub struct Nodes {
+    places: Vec<usize>,
     nodes: Vec<Node>,
     parents: Vec<Parent>,
     trail: Vec<Change>,
     coming: Vec<Coming>,
     units: Vec<usize>,
     waiting: Vec<usize>,
+    // The long pairs inside others that aren't looked at, and whether there are to be none.
+    left: Vec<usize>,
+    is_thorough: bool,
 }
 
 fn empty_node() -> Node {
@@ -94,33 +103,68 @@ impl Nodes {
     /// No node.
     pub fn new(alloc: Global) -> Self {
         Nodes {
+            places: Vec::new(alloc),
             nodes: Vec::new(alloc),
             parents: Vec::new(alloc),
             trail: Vec::new(alloc),
             coming: Vec::new(alloc),
             units: Vec::new(alloc),
             waiting: Vec::new(alloc),
+            left: Vec::new(alloc),
+            is_thorough: false,
         }
     }
 
     /// Each pair of the bank that is new, with nothing known of it.
     pub fn grow(&mut self, bank: &Bank) -> Result<(), AllocError> {
-        for _ in self.nodes.len()..bank.formula_count() / 2 {
-            self.nodes.push(empty_node())?;
+        for _ in self.places.len()..bank.formula_count() / 2 {
+            self.places.push(NONE)?;
         }
         Ok(())
     }
 
+    // Where the node of a pair stands, or NONE.
+    fn place(&self, pair: usize) -> usize {
+        match self.places.get(pair) {
+            Some(place) => *place,
+            None => NONE,
+        }
+    }
+
     fn node(&self, pair: usize) -> Node {
-        match self.nodes.get(pair) {
+        match self.nodes.get(self.place(pair)) {
             Some(node) => *node,
             None => empty_node(),
         }
     }
 
     fn put(&mut self, pair: usize, node: Node) {
-        if let Some(place) = self.nodes.get_mut(pair) {
+        let at = self.place(pair);
+        if let Some(place) = self.nodes.get_mut(at) {
             *place = node;
+        }
+    }
+
+    // The pair has a node from now on.
+    fn enter(&mut self, pair: usize) -> Result<(), AllocError> {
+        let at = self.nodes.len();
+        if self.place(pair) != NONE {
+            return Ok(());
+        }
+        let Some(place) = self.places.get_mut(pair) else {
+            return Ok(());
+        };
+        *place = at;
+        self.nodes.push(empty_node())?;
+        self.trail.push(Change::There(pair))?;
+        Ok(())
+    }
+
+    // The pair, whose node is the last one, has none any more.
+    fn leave(&mut self, pair: usize) {
+        let _ = self.nodes.pop();
+        if let Some(place) = self.places.get_mut(pair) {
+            *place = NONE;
         }
     }
 
@@ -143,12 +187,16 @@ impl Nodes {
         let pair = pair_in(change);
         let mut node = self.node(pair);
         match change {
+            Change::There(_) => self.leave(pair),
             Change::Open(_) => node.is_open = false,
             Change::Value(_) => node.value = None,
             Change::Count(_) => node.count = node.count.saturating_sub(1),
             Change::First(_) => node.first = NONE,
             Change::Second(_) => node.second = NONE,
             Change::Taken(_) => node.is_taken = false,
+            Change::Left(_) => {
+                let _ = self.left.pop();
+            }
             Change::Parent(_) => {
                 if let Some(parent) = self.parents.pop() {
                     node.parents = parent.before;
@@ -194,6 +242,7 @@ impl Nodes {
     /// A formula is known by a fact.
     pub fn hold(&mut self, f: usize, fact: usize) -> Result<(), AllocError> {
         let pair = pair_of(f);
+        self.enter(pair)?;
         let mut node = self.node(pair);
         if is_first(f) {
             node.first = fact;
@@ -204,6 +253,11 @@ impl Nodes {
         }
         self.put(pair, node);
         Ok(())
+    }
+
+    /// Whether a part of an `or` was made known.
+    pub fn is_taken(&self, or: usize) -> bool {
+        self.node(pair_of(or)).is_taken
     }
 
     /// Whether there is nothing to do for an `or`: it is true, or one of its parts was made known.
@@ -226,6 +280,7 @@ impl Nodes {
 
     /// A part of the `or` of a pair was made known.
     pub fn take(&mut self, pair: usize) -> Result<(), AllocError> {
+        self.enter(pair)?;
         let mut node = self.node(pair);
         node.is_taken = true;
         self.put(pair, node);
@@ -257,7 +312,12 @@ impl Nodes {
         self.come(pair_of(f), is_first(f), Ground::Known(fact))
     }
 
-    /// Looks at a pair and at all pairs inside it.
+    /// From now on long pairs are looked at wherever they stand.
+    pub fn look_at_all(&mut self) {
+        self.is_thorough = true;
+    }
+
+    /// Looks at a pair and at all pairs inside it, but for delayed and long ones and what is inside them.
     pub fn open_all(
         &mut self,
         bank: &Bank,
@@ -269,14 +329,39 @@ impl Nodes {
             let Some(next) = self.waiting.pop() else {
                 break;
             };
-            if next < self.nodes.len() && !self.node(next).is_open {
+            if next >= self.places.len()
+                || self.node(next).is_open
+                || is_delayed(bank, first_of(next))
+            {
+                continue;
+            }
+            if next == pair || self.is_thorough || part_count(bank, first_of(next)) <= LONG {
                 self.open(bank, classes, next)?;
+            } else {
+                self.left.push(next)?;
+                self.trail.push(Change::Left(next))?;
             }
         }
         Ok(())
     }
 
+    /// Looks at the long pairs that were left. Whether there were such.
+    pub fn open_left(&mut self, bank: &Bank, classes: &mut Classes) -> Result<bool, AllocError> {
+        let mut has_opened = false;
+        for place in 0..self.left.len() {
+            let Some(pair) = self.left.get(place).copied() else {
+                break;
+            };
+            if !self.node(pair).is_open {
+                self.open_all(bank, classes, pair)?;
+                has_opened = true;
+            }
+        }
+        Ok(has_opened)
+    }
+
     fn open(&mut self, bank: &Bank, classes: &mut Classes, pair: usize) -> Result<(), AllocError> {
+        self.enter(pair)?;
         self.trail.push(Change::Open(pair))?;
         let mut node = self.node(pair);
         node.is_open = true;
@@ -336,6 +421,7 @@ impl Nodes {
 
     // The pair is a part at this place. Where it has a value, that counts at once.
     fn add_parent(&mut self, pair: usize, mut parent: Parent) -> Result<(), AllocError> {
+        self.enter(pair)?;
         let at = self.parents.len();
         let mut node = self.node(pair);
         parent.before = node.parents;
@@ -365,6 +451,7 @@ impl Nodes {
         let Some(coming) = self.coming.pop() else {
             return Ok(false);
         };
+        self.enter(coming.pair)?;
         let mut node = self.node(coming.pair);
         match node.value {
             Some(_) => Ok(true),
@@ -420,6 +507,16 @@ impl Nodes {
         NONE
     }
 
+    /// The place of the first part of an `or` that is true, or NONE.
+    pub fn first_true(&self, bank: &Bank, or: usize) -> usize {
+        for place in 0..part_count(bank, or) {
+            if self.value(part_at(bank, or, place)) == Some(true) {
+                return place;
+            }
+        }
+        NONE
+    }
+
     /// Whether a part of an `or` is known by a fact.
     pub fn has_held_part(&self, bank: &Bank, or: usize) -> bool {
         for place in 0..part_count(bank, or) {
@@ -449,6 +546,7 @@ pub fn or_of(pair: usize) -> usize {
 
 fn pair_in(change: Change) -> usize {
     match change {
+        Change::There(pair) => pair,
         Change::Open(pair) => pair,
         Change::Value(pair) => pair,
         Change::Count(pair) => pair,
@@ -456,5 +554,6 @@ fn pair_in(change: Change) -> usize {
         Change::First(pair) => pair,
         Change::Second(pair) => pair,
         Change::Taken(pair) => pair,
+        Change::Left(pair) => pair,
     }
 }

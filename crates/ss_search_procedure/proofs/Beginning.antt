@@ -25,7 +25,7 @@ use Rattle.ss_rules_ground.proofs.Noted.{grounded_later}
 use Rattle.ss_search_path.specs.declared.path.Path.{Path}
 use Rattle.ss_search_path.specs.Paths.{known_on, IsPath, IsSame}
 use Rattle.ss_search_path.proofs.Going.{goes_nowhere, path_goes}
-use Rattle.ss_search_procedure_rules.specs.Closed.{Includes}
+use Rattle.ss_logic_occurring.specs.Includes.{Includes}
 use Rattle.ss_search_procedure_rules.proofs.Lists.{contains_none}
 use Rattle.ss_search_procedure_rules.proofs.Occurring.{to_collected}
 use Rattle.ss_search_standing.specs.declared.standing.Given.{Given}
@@ -38,7 +38,7 @@ use Rattle.ss_search_reaching.specs.Reaching.{facts_of, IsReaching, Shows}
 use Rattle.ss_search_procedure.specs.declared.setting.Settling.{Settling}
 use Rattle.ss_search_procedure.specs.declared.settling.Settled.{Settled}
 use Rattle.ss_search_procedure.specs.declared.settling.Settled.TheVariants as settled
-use Rattle.ss_search_procedure.specs.Choices.{bank_of, settled_ones, chosen, reached_in, IsSetting, IsState, HasLed}
+use Rattle.ss_search_procedure.specs.Decisions.{bank_of, settled_ones, decisions_of, reached_in, IsSetting, IsState, HasLed}
 use Rattle.ss_search_procedure.specs.Answers.{IfClosed}
 use Rattle.ss_search_procedure.specs.Ground.{first_settled, IsGroundOf, AreFirst}
 use Rattle.ss_search_procedure.proofs.Tried.{one_more}
@@ -102,18 +102,18 @@ module _ (s : Settling) where
       let are : first_settled s n ≡ settled_ones s = ap (formulas_at (bank_of s)) (take_all n s.formulas.now all) in
       record {
         reaching = first.reaching;
-        choices = λ p o. subst (λ (fs : List Formula). Contains fs p) (sym h.choices) (to_collected told_in (settled_ones s) o.0 p (subst (λ (fs : List Formula). Contains fs o.0) are (first.only o.0 o.1)) o.2);
+        decisions = λ p o. subst (λ (fs : List Formula). Contains fs p) (sym h.decisions) (to_collected told_in (settled_ones s) o.0 p (subst (λ (fs : List Formula). Contains fs o.0) are (first.only o.0 o.1)) o.2);
         known = λ x c. first.known x (subst (λ (fs : List Formula). Contains fs x) (sym are) c);
       }
 
   -- ---- the path that leads there
 
   module _ (cs : List ClassTree) (premises : List Formula) (goal : Formula) where
-    settled_formed : IsSetting s → IsGround cs premises goal s.given (settled_ones s) → (p : Formula) → Contains (chosen s) p → is_well_formed cs [] p ≡ true
+    settled_formed : IsSetting s → IsGround cs premises goal s.given (settled_ones s) → (p : Formula) → Contains (decisions_of s) p → is_well_formed cs [] p ≡ true
     settled_formed h ground p c =
         told_formed cs (settled_ones s)
         (listed_formed cs premises goal (choices_in s.given) ground.formed ground.accepted ground.invariants (settled_ones s) (origins_at (bank_of s) s.given.origins.now) ground.origins) p
-        (subst (λ (fs : List Formula). Contains fs p) h.choices c)
+        (subst (λ (fs : List Formula). Contains fs p) h.decisions c)
 
     pub has_led : IsSetting s → IsBankOf cs (bank_of s) → IsGround cs premises goal s.given (settled_ones s) → (path : Path) (none all : Reaching) (standings : List Standing) → IsSame path none.path → IsSame none.path all.path →
         IsPath cs premises goal (bank_of s) [] path → Shows cs s.given none → AreStanding cs s.given (known_on (bank_of s) path) (settled_ones s) standings →
@@ -131,12 +131,12 @@ module _ (s : Settling) where
 
 -- ---- the ground form, where what the choices make known is in the bank
 
-pub is_setting : (s : Settling) (w : Grounded) → s.formulas.now ≡ w.formulas.items → HasFormulas (bank_of s) w.formulas.items → IsGiven s.given → HasFormulas (bank_of s) s.choices.now → chosen s ≡ told (formulas_at (bank_of s) w.formulas.items) → IsSetting s
+pub is_setting : (s : Settling) (w : Grounded) → s.formulas.now ≡ w.formulas.items → HasFormulas (bank_of s) w.formulas.items → IsGiven s.given → HasFormulas (bank_of s) s.decisions.now → decisions_of s ≡ told (formulas_at (bank_of s) w.formulas.items) → IsSetting s
 is_setting s w are has given has_choices told_are = record {
   given = given;
   formulas = subst (HasFormulas (bank_of s)) (sym are) has;
   in_bank = has_choices;
-  choices = told_are ∙ ap (λ (xs : List FormulaId). told (formulas_at (bank_of s) xs)) (sym are);
+  decisions = told_are ∙ ap (λ (xs : List FormulaId). told (formulas_at (bank_of s) xs)) (sym are);
 }
 
 module _ (g : Given) (fs : List FormulaId) (w : Grounded) (are : fs ≡ w.formulas.items) (choices_are : g.choices.now ≡ w.choices.items) (origins_are : g.origins.now ≡ w.origins.items) (cs : List ClassTree) (premises : List Formula) (goal : Formula)

@@ -1,4 +1,4 @@
--- Of which choices one side is known.
+-- Of which decisions one side is known.
 use Rattle.std.proofs.Common.{◌≡◌, ℕ, zero, suc, ◌+◌, ◌<◌, ◌≤◌, List, [], ◌∷◌, length, get_or, Some, true, refl, sym, subst, inl, inr, ◌⊎◌, ⊎_elim, arith, Result}
 use Rattle.std.specs.Prelude.{IfOk, slice_get}
 use Rattle.std.specs.List.{Contains}
@@ -11,14 +11,15 @@ use Rattle.ss_logic_countermodels.specs.Refuting.{told_in, all_told_in}
 use Rattle.ss_terms.specs.declared.forms.FormulaId.{FormulaId}
 use Rattle.ss_terms.specs.Forms.{formula_at, formulas_at}
 use Rattle.ss_deriv.specs.declared.line.Line.{Line}
-use Rattle.ss_search_procedure_rules.specs.Closed.{Includes, IsTotal}
+use Rattle.ss_logic_occurring.specs.Includes.{Includes}
+use Rattle.ss_search_procedure_rules.specs.Closed.{IsTotal}
 use Rattle.ss_search_procedure_rules.proofs.Lists.{contains_head, contains_cons, contains_none, contains_split}
 use Rattle.ss_search_procedure_rules.proofs.Occurring.{from_collected, to_collected}
 use Rattle.ss_search_reaching.specs.declared.reaching.Reaching.{Reaching}
 use Rattle.ss_search_procedure.specs.declared.setting.Settling.{Settling}
 use Rattle.ss_search_procedure.specs.declared.total.Decided.{Decided}
 use Rattle.ss_search_procedure.specs.declared.total.Decided.TheVariants as decided
-use Rattle.ss_search_procedure.specs.Choices.{bank_of, settled_ones, chosen, first_chosen, reached_in, IsSetting, IsState, IsAmong, AreDecided, IsNext}
+use Rattle.ss_search_procedure.specs.Decisions.{bank_of, settled_ones, decisions_of, first_decisions, reached_in, IsSetting, IsState, IsAmong, AreDecided, IsNext}
 use Rattle.ss_search_procedure.specs.Answers.{IfLines}
 use Rattle.ss_search_procedure.proofs.Going.{among_negation}
 use Rattle.ss_search_procedure.proofs.Tried.{one_more}
@@ -58,65 +59,65 @@ module _ (s : Settling) where
   there_at (f ∷ fs) zero d h = contains_head (formula_at (bank_of s) f) (formulas_at (bank_of s) fs)
   there_at (f ∷ fs) (suc i) d h = contains_cons (formula_at (bank_of s) f) (formulas_at (bank_of s) fs) (formula_at (bank_of s) (get_or fs i d)) (there_at fs i d (omega (arith, h)))
 
-  pub chosen_at : (i : ℕ) (d : FormulaId) → i < length s.choices.now → Contains (chosen s) (formula_at (bank_of s) (get_or s.choices.now i d))
-  chosen_at i d h = there_at s.choices.now i d h
+  pub chosen_at : (i : ℕ) (d : FormulaId) → i < length s.decisions.now → Contains (decisions_of s) (formula_at (bank_of s) (get_or s.decisions.now i d))
+  chosen_at i d h = there_at s.decisions.now i d h
 
   pub settled_at : (i : ℕ) (d : FormulaId) → i < length s.formulas.now → Contains (settled_ones s) (formula_at (bank_of s) (get_or s.formulas.now i d))
   settled_at i d h = there_at s.formulas.now i d h
 
-  pub none_decided : (known : List Formula) → AreDecided known (first_chosen s 0)
+  pub none_decided : (known : List Formula) → AreDecided known (first_decisions s 0)
   none_decided known p c = absurd (contains_none p c)
 
-  pub all_decided : (known : List Formula) (n : ℕ) → length s.choices.now ≤ n → AreDecided known (first_chosen s n) → AreDecided known (chosen s)
-  all_decided known n h d = subst (λ fs. AreDecided known (formulas_at (bank_of s) fs)) (take_all n s.choices.now h) d
+  pub all_decided : (known : List Formula) (n : ℕ) → length s.decisions.now ≤ n → AreDecided known (first_decisions s n) → AreDecided known (decisions_of s)
+  all_decided known n h d = subst (λ fs. AreDecided known (formulas_at (bank_of s) fs)) (take_all n s.decisions.now h) d
 
-  pub choice_among : IsSetting s → (p : Formula) → Contains (chosen s) p → IsAmong s p
+  pub choice_among : IsSetting s → (p : Formula) → Contains (decisions_of s) p → IsAmong s p
   choice_among h p c = record {
     told = λ x t.
-        let r = from_collected told_in (settled_ones s) p (subst (λ fs. Contains fs p) h.choices c) in
-        subst (Contains (chosen s)) (told_alone r.0 p r.2 x t) c;
+        let r = from_collected told_in (settled_ones s) p (subst (λ fs. Contains fs p) h.decisions c) in
+        subst (Contains (decisions_of s)) (told_alone r.0 p r.2 x t) c;
   }
 
-  pub decided_total : (r : Reaching) → IsState s r → AreDecided (reached_in s r) (chosen s) → IsTotal (reached_in s r)
-  decided_total r h d p o = d p (h.choices p o)
+  pub decided_total : (r : Reaching) → IsState s r → AreDecided (reached_in s r) (decisions_of s) → IsTotal (reached_in s r)
+  decided_total r h d p o = d p (h.decisions p o)
 
   pub decided_in_more : (known more ps : List Formula) → Includes more known → AreDecided known ps → AreDecided more ps
   decided_in_more known more ps i d p c = ⊎_elim (λ k. inl (i p k)) (λ k. inr (i (neg p) k)) (d p c)
 
-  -- the next choice is decided too
-  pub one_more_decided : (known : List Formula) (n : ℕ) (f : Formula) → IsNext s n f → AreDecided known (first_chosen s n) → Contains known f → AreDecided known (first_chosen s (n + 1))
+  -- the next decision is decided too
+  pub one_more_decided : (known : List Formula) (n : ℕ) (f : Formula) → IsNext s n f → AreDecided known (first_decisions s n) → Contains known f → AreDecided known (first_decisions s (n + 1))
   one_more_decided known n f next d c =
-      one_more (bank_of s) (λ p. Contains known p ⊎ Contains known (neg p)) s.choices.now n next.0 (slice_get_within s.choices.now n next.0 next.1) d
-      (subst (λ q. Contains known (formula_at (bank_of s) q) ⊎ Contains known (neg (formula_at (bank_of s) q))) (sym (get_or_from_slice_get s.choices.now n next.0 next.0 next.1))
+      one_more (bank_of s) (λ p. Contains known p ⊎ Contains known (neg p)) s.decisions.now n next.0 (slice_get_within s.decisions.now n next.0 next.1) d
+      (subst (λ q. Contains known (formula_at (bank_of s) q) ⊎ Contains known (neg (formula_at (bank_of s) q))) (sym (get_or_from_slice_get s.decisions.now n next.0 next.0 next.1))
       (⊎_elim (λ e. inl (subst (Contains known) e c)) (λ e. inr (subst (Contains known) e c)) next.2))
 
-  -- ---- the next choice
+  -- ---- the next decision
 
-  next_is : (n : ℕ) → n < length s.choices.now → slice_get s.choices.now n ≡ Some (get_or s.choices.now n (record { 0 = 0 }))
-  next_is n h = slice_get-get_or s.choices.now n (record { 0 = 0 }) h
+  next_is : (n : ℕ) → n < length s.decisions.now → slice_get s.decisions.now n ≡ Some (get_or s.decisions.now n (record { 0 = 0 }))
+  next_is n h = slice_get-get_or s.decisions.now n (record { 0 = 0 }) h
 
-  pub next_chosen : (n : ℕ) → n < length s.choices.now → IsNext s n (formula_at (bank_of s) (get_or s.choices.now n (record { 0 = 0 })))
-  next_chosen n h = (get_or s.choices.now n (record { 0 = 0 }), next_is n h, inl refl)
+  pub next_chosen : (n : ℕ) → n < length s.decisions.now → IsNext s n (formula_at (bank_of s) (get_or s.decisions.now n (record { 0 = 0 })))
+  next_chosen n h = (get_or s.decisions.now n (record { 0 = 0 }), next_is n h, inl refl)
 
-  pub next_negation : (n : ℕ) → n < length s.choices.now → (f : Formula) → f ≡ neg (formula_at (bank_of s) (get_or s.choices.now n (record { 0 = 0 }))) → IsNext s n f
-  next_negation n h f e = (get_or s.choices.now n (record { 0 = 0 }), next_is n h, inr e)
+  pub next_negation : (n : ℕ) → n < length s.decisions.now → (f : Formula) → f ≡ neg (formula_at (bank_of s) (get_or s.decisions.now n (record { 0 = 0 }))) → IsNext s n f
+  next_negation n h f e = (get_or s.decisions.now n (record { 0 = 0 }), next_is n h, inr e)
 
-  pub side_decided : (known : List Formula) (n : ℕ) → n < length s.choices.now →
-      Contains known (formula_at (bank_of s) (get_or s.choices.now n (record { 0 = 0 }))) ⊎ Contains known (neg (formula_at (bank_of s) (get_or s.choices.now n (record { 0 = 0 })))) →
-      AreDecided known (first_chosen s n) → AreDecided known (first_chosen s (n + 1))
+  pub side_decided : (known : List Formula) (n : ℕ) → n < length s.decisions.now →
+      Contains known (formula_at (bank_of s) (get_or s.decisions.now n (record { 0 = 0 }))) ⊎ Contains known (neg (formula_at (bank_of s) (get_or s.decisions.now n (record { 0 = 0 })))) →
+      AreDecided known (first_decisions s n) → AreDecided known (first_decisions s (n + 1))
   side_decided known n h c d = ⊎_elim
-      (λ k. one_more_decided known n (formula_at (bank_of s) (get_or s.choices.now n (record { 0 = 0 }))) (next_chosen n h) d k)
-      (λ k. one_more_decided known n (neg (formula_at (bank_of s) (get_or s.choices.now n (record { 0 = 0 })))) (next_negation n h (neg (formula_at (bank_of s) (get_or s.choices.now n (record { 0 = 0 })))) refl) d k)
+      (λ k. one_more_decided known n (formula_at (bank_of s) (get_or s.decisions.now n (record { 0 = 0 }))) (next_chosen n h) d k)
+      (λ k. one_more_decided known n (neg (formula_at (bank_of s) (get_or s.decisions.now n (record { 0 = 0 })))) (next_negation n h (neg (formula_at (bank_of s) (get_or s.decisions.now n (record { 0 = 0 })))) refl) d k)
       c
 
   pub next_among : IsSetting s → (n : ℕ) (f : Formula) → IsNext s n f → IsAmong s f
   next_among h n f next =
-      let within = slice_get_within s.choices.now n next.0 next.1 in
-      let there = subst (λ q. Contains (chosen s) (formula_at (bank_of s) q)) (get_or_from_slice_get s.choices.now n next.0 (record { 0 = 0 }) next.1) (chosen_at n (record { 0 = 0 }) within) in
+      let within = slice_get_within s.decisions.now n next.0 next.1 in
+      let there = subst (λ q. Contains (decisions_of s) (formula_at (bank_of s) q)) (get_or_from_slice_get s.decisions.now n next.0 (record { 0 = 0 }) next.1) (chosen_at n (record { 0 = 0 }) within) in
       let among = choice_among h (formula_at (bank_of s) next.0) there in
       ⊎_elim (λ e. subst (IsAmong s) (sym e) among) (λ e. among_negation s (formula_at (bank_of s) next.0) f e among) next.2
 
   -- ---- the formulas that are settled
 
   pub settled_among : IsSetting s → (f : Formula) → Contains (settled_ones s) f → IsAmong s f
-  settled_among h f c = record { told = λ p t. subst (λ fs. Contains fs p) (sym h.choices) (to_collected told_in (settled_ones s) f p c t) }
+  settled_among h f c = record { told = λ p t. subst (λ fs. Contains fs p) (sym h.decisions) (to_collected told_in (settled_ones s) f p c t) }

@@ -5,14 +5,15 @@ use Rattle.std.proofs.Math.Nat.{eq-or-lt_of_le}
 use Rattle.ss_core.specs.Tree.{ClassTree}
 use Rattle.ss_logic.specs.Formulas.{Formula}
 use Rattle.ss_logic_countermodels.specs.Refuting.{told}
-use Rattle.ss_search_procedure_rules.specs.Closed.{Includes, Closed, at_once, StaysOpen, AreEnough}
+use Rattle.ss_logic_occurring.specs.Includes.{Includes}
+use Rattle.ss_search_procedure_rules.specs.Closed.{Closed, at_once, StaysOpen, AreEnough}
 use Rattle.ss_search_procedure_rules.proofs.Open.{closed_deeper, open_isn't_closed}
 use Rattle.ss_logic_countermodels.specs.declared.Countermodel.{Countermodel}
 use Rattle.ss_terms.specs.Forms.{formula_at}
 use Rattle.ss_search_procedure.specs.declared.settling.Settled.{Settled}
 use Rattle.ss_search_procedure.specs.declared.settling.Settled.TheVariants as settled
 use Rattle.ss_search_procedure.specs.declared.setting.Settling.{Settling}
-use Rattle.ss_search_procedure.specs.Choices.{bank_of, settled_ones, IsSetting}
+use Rattle.ss_search_procedure.specs.Decisions.{bank_of, settled_ones, IsSetting}
 use Rattle.ss_search_procedure.specs.Answers.{IfCountered}
 
 closed_to : (cs : List ClassTree) (fs : List Formula) (d depth : ℕ) → d ≤ depth → Closed cs d fs → Closed cs depth fs
@@ -31,9 +32,9 @@ not_enough cs fs reached limit depth stays i few many enough = ⊎_elim
 
 -- ---- what is settled
 
--- there are as many choices as are told
-pub as_many : (s : Settling) → IsSetting s → length s.choices.now ≡ length (told (settled_ones s))
-as_many s h = sym (length-map s.choices.now (formula_at (bank_of s))) ∙ ap length h.choices
+-- there are as many decisions as are told
+pub as_many : (s : Settling) → IsSetting s → length s.decisions.now ≡ length (told (settled_ones s))
+as_many s h = sym (length-map s.decisions.now (formula_at (bank_of s))) ∙ ap length h.decisions
 
 pub nothing_countered : (P : Countermodel → Type 0) (x : Settled) → IfCountered (λ m. ⊥) x → IfCountered P x
 nothing_countered P (settled.Closed d) h = tt

@@ -11,7 +11,7 @@ use Rattle.ss_terms.specs.Forms.{formula_at}
 use Rattle.ss_deriv.specs.declared.line.Line.{Line}
 use Rattle.ss_deriv.specs.Lines.{lines_of}
 use Rattle.ss_search_closing.specs.Closing.{Closes}
-use Rattle.ss_search_procedure_rules.specs.Closed.{Includes}
+use Rattle.ss_logic_occurring.specs.Includes.{Includes}
 use Rattle.ss_search_procedure_rules.proofs.Lists.{contains_none, contains_split}
 use Rattle.ss_search_procedure_rules.proofs.Occurring.{from_collected}
 use Rattle.ss_search_path.proofs.Going.{goes_nowhere, goes_through, path_goes}
@@ -22,7 +22,7 @@ use Rattle.ss_search_reaching.specs.declared.reaching.Reaching.{Reaching}
 use Rattle.ss_search_reaching.specs.Reaching.{facts_of, Grows, ReachesFrom}
 use Rattle.ss_search_reaching.proofs.Learning.{nothing_grows, grows_more}
 use Rattle.ss_search_procedure.specs.declared.setting.Settling.{Settling}
-use Rattle.ss_search_procedure.specs.Choices.{bank_of, settled_ones, reached_in, IsSetting, IsState, IsAmong, GoesOn, IsShown, ReachesBy, ClosesBy, HasLed}
+use Rattle.ss_search_procedure.specs.Decisions.{bank_of, settled_ones, reached_in, IsSetting, IsState, IsAmong, GoesOn, IsShown, ReachesBy, ClosesBy, HasLed}
 
 -- a formula and its negation tell the same
 mutual
@@ -69,7 +69,7 @@ module _ (s : Settling) where
   on_grows old new h g = record {
     state = record {
       reaching = g.state;
-      choices = λ p o. h.choices p (g.reached.occurs p o);
+      decisions = λ p o. h.decisions p (g.reached.occurs p o);
       known = λ x c. front_includes (reached_in s old) (reached_in s new) g.reached.front x (h.known x c);
     };
     grows = g;
@@ -81,7 +81,7 @@ module _ (s : Settling) where
   pub among_occurs : IsSetting s → (r : Reaching) → IsState s r → (f : Formula) → IsAmong s f → Occur (reached_in s r) (f ∷ [])
   among_occurs h r state f among p o =
       let told : Contains (told_in f) p = ⊎_elim (λ e. subst (λ g. Contains (told_in g) p) (sym e) o.2) (λ n. absurd (contains_none o.0 n)) (contains_split f [] o.0 o.1) in
-      let from = from_collected told_in (settled_ones s) p (subst (λ fs. Contains fs p) h.choices (among.told p told)) in
+      let from = from_collected told_in (settled_ones s) p (subst (λ fs. Contains fs p) h.decisions (among.told p told)) in
       (from.0, state.known from.0 from.1, from.2)
 
   -- ---- what is shown

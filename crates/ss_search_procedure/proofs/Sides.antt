@@ -1,4 +1,4 @@
--- Choices and their negations.
+-- Decisions and their negations.
 use Rattle.std.proofs.Common.{◌≡◌, List, [], ◌∷◌, true, ◌||◌, refl, sym, ◌∙◌, subst, ◌⊎◌, inl, inr, ⊎_elim}
 use Rattle.std.specs.List.{Contains}
 use Rattle.std.proofs.lemmas.List.Elements.{Contains-append_cases}
@@ -12,7 +12,7 @@ use Rattle.ss_search_procedure_rules.proofs.Lists.{contains_none, contains_split
 use Rattle.ss_search_procedure_rules.proofs.Occurring.{from_collected}
 use Rattle.ss_search_reaching.specs.declared.reaching.Reaching.{Reaching}
 use Rattle.ss_search_procedure.specs.declared.setting.Settling.{Settling}
-use Rattle.ss_search_procedure.specs.Choices.{settled_ones, chosen, IsSetting, IsAmong, IsSide, IsShown}
+use Rattle.ss_search_procedure.specs.Decisions.{settled_ones, decisions_of, IsSetting, IsAmong, IsSide, IsShown}
 use Rattle.ss_search_procedure.proofs.Going.{among_negation}
 use Rattle.ss_search_procedure.proofs.Deciding.{choice_among}
 
@@ -44,20 +44,20 @@ neg_basic (Forall ss f) h = refl
 neg_basic (Exists ss f) h = refl
 
 module _ (s : Settling) where
-  pub chosen_side : (f : Formula) → Contains (chosen s) f → IsSide s f
+  pub chosen_side : (f : Formula) → Contains (decisions_of s) f → IsSide s f
   chosen_side f c = inl c
 
   pub side_negation : (f g : Formula) → g ≡ neg f → IsSide s f → IsSide s g
   side_negation f g e h = ⊎_elim
-      (λ c. inr (subst (λ x. Contains (chosen s) (neg x)) (sym e) (subst (Contains (chosen s)) (sym (neg_neg f)) c)))
-      (λ c. inl (subst (Contains (chosen s)) (sym e) c))
+      (λ c. inr (subst (λ x. Contains (decisions_of s) (neg x)) (sym e) (subst (Contains (decisions_of s)) (sym (neg_neg f)) c)))
+      (λ c. inl (subst (Contains (decisions_of s)) (sym e) c))
       h
 
   pub side_among : IsSetting s → (f : Formula) → IsSide s f → IsAmong s f
   side_among h f side = ⊎_elim (λ c. choice_among s h f c) (λ c. among_negation s (neg f) f (sym (neg_neg f)) (choice_among s h (neg f) c)) side
 
-  chosen_basic : IsSetting s → (f : Formula) → Contains (chosen s) f → IsBasic f
-  chosen_basic h f c = let r = from_collected told_in (settled_ones s) f (subst (λ fs. Contains fs f) h.choices c) in told_basic r.0 f r.2
+  chosen_basic : IsSetting s → (f : Formula) → Contains (decisions_of s) f → IsBasic f
+  chosen_basic h f c = let r = from_collected told_in (settled_ones s) f (subst (λ fs. Contains fs f) h.decisions c) in told_basic r.0 f r.2
 
   pub side_basic : IsSetting s → (f : Formula) → IsSide s f → (is_literal f || is_quantified f) ≡ true
   side_basic h f side = ⊎_elim (λ c. chosen_basic h f c) (λ c. subst IsBasic (neg_neg f) (neg_basic (neg f) (chosen_basic h (neg f) c))) side

@@ -1,4 +1,4 @@
--- One more formula is reached, that the negation of a closed choice is.
+-- One more formula is reached, that the negation of a closed decision is.
 use Rattle.std.proofs.Common.{◌≡◌, ◌*◌, ◌-◌, ◌<◌, length, ap, subst, arith}
 use Rattle.std.specs.List.{Contains}
 use Rattle.std.proofs.lemmas.List.{length-map}
@@ -10,11 +10,11 @@ use Rattle.ss_search_reaching.specs.declared.reaching.Reaching.{Reaching}
 use Rattle.ss_search_reaching.specs.Reaching.{ReachesFrom}
 use Rattle.ss_search_reaching.specs.Reaching as reaching
 use Rattle.ss_search_procedure.specs.declared.setting.Settling.{Settling}
-use Rattle.ss_search_procedure.specs.Choices.{bank_of, reached_in, IsOpenChoice, GoesOn, ReachesBy}
+use Rattle.ss_search_procedure.specs.Decisions.{bank_of, reached_in, IsOpenDecision, GoesOn, ReachesBy}
 use Rattle.ss_search_procedure.proofs.Going.{longer, much_longer, on_and_on, on_grows, reaches_on, reaches_from}
 
--- r0 to r1: a choice was closed; to r2: its negation is reached; to r3: what follows is
-module _ (s : Settling) (r0 r1 r2 r3 : Reaching) (p other : FormulaId) (first : GoesOn s r0 r1) (same : reached_in s r1 ≡ reached_in s r0) (choice : IsOpenChoice s r0 p) (negation : formula_at (bank_of s) other ≡ neg (formula_at (bank_of s) p))
+-- r0 to r1: a decision was closed; to r2: its negation is reached; to r3: what follows is
+module _ (s : Settling) (r0 r1 r2 r3 : Reaching) (p other : FormulaId) (first : GoesOn s r0 r1) (same : reached_in s r1 ≡ reached_in s r0) (choice : IsOpenDecision s r0 p) (negation : formula_at (bank_of s) other ≡ neg (formula_at (bank_of s) p))
     (learnt : GoesOn s r1 r2) (known : Contains (reached_in s r2) (formula_at (bank_of s) other)) (grows : reaching.Grows s.given r2 r3) where
   last : GoesOn s r2 r3
   last = on_grows s r2 r3 learnt.state grows

@@ -8,14 +8,15 @@ use Rattle.ss_logic.specs.Formulas.{Formula, neg}
 use Rattle.ss_logic.proofs.Truth.{neg_neg}
 use Rattle.ss_terms.specs.declared.forms.FormulaId.{FormulaId}
 use Rattle.ss_terms.specs.Forms.{Forms, formula_at, formulas_at}
-use Rattle.ss_search_procedure_rules.specs.Closed.{Includes, IsStable, StaysOpen}
+use Rattle.ss_logic_occurring.specs.Includes.{Includes}
+use Rattle.ss_search_procedure_rules.specs.Closed.{IsSaturated, StaysOpen}
 use Rattle.ss_search_procedure_rules.proofs.Lists.{contains_none, contains_split}
 use Rattle.ss_search_procedure_rules.proofs.Open.{open_isn't_closed}
 use Rattle.ss_search_reaching.specs.declared.reaching.Reaching.{Reaching}
 use Rattle.ss_search_procedure.specs.declared.setting.Settling.{Settling}
-use Rattle.ss_search_procedure.specs.Choices.{chosen, reached_in, first_chosen, IsState, IsTried, AreTried}
+use Rattle.ss_search_procedure.specs.Decisions.{decisions_of, reached_in, first_decisions, IsState, IsTried, AreTried}
 
--- ---- by choices, one after the other
+-- ---- by decisions, one after the other
 
 -- what holds of the first formulas and of the next holds of one more
 pub one_more : (b : Forms) (P : Formula → Type 0) (fs : List FormulaId) (i : ℕ) (d : FormulaId) → i < length fs → ((p : Formula) → Contains (formulas_at b (take i fs)) p → P p) → P (formula_at b (get_or fs i d)) →
@@ -38,14 +39,14 @@ module _ (s : Settling) (cs : List ClassTree) where
       with_it : Includes (reached_in s new) (p ∷ reached_in s old)
       with_it x h = ⊎_elim (λ e. subst (Contains (reached_in s new)) e there) (λ k. more x k) (contains_split p (reached_in s old) x h)
 
-  pub nothing_follows : (depth : ℕ) (r : Reaching) → IsStable cs (reached_in s r) → IsState s r → ((p : Formula) → Contains (chosen s) p → AreTried cs depth (reached_in s r) p) → StaysOpen cs (suc depth) (reached_in s r)
-  nothing_follows depth r stable has h = (
-    stable,
+  pub nothing_follows : (depth : ℕ) (r : Reaching) → IsSaturated cs (reached_in s r) → IsState s r → ((p : Formula) → Contains (decisions_of s) p → AreTried cs depth (reached_in s r) p) → StaysOpen cs (suc depth) (reached_in s r)
+  nothing_follows depth r saturated has h = (
+    saturated,
     λ p c. ⊎_elim
-        (λ o. (h p (has.choices p o)).0)
-        (λ o. subst (IsTried cs depth (reached_in s r)) (neg_neg p) (h (neg p) (has.choices (neg p) o)).1)
+        (λ o. (h p (has.decisions p o)).0)
+        (λ o. subst (IsTried cs depth (reached_in s r)) (neg_neg p) (h (neg p) (has.decisions (neg p) o)).1)
         c,
   )
 
-  pub none_tried : (depth : ℕ) (known : List Formula) (p : Formula) → Contains (first_chosen s 0) p → AreTried cs depth known p
+  pub none_tried : (depth : ℕ) (known : List Formula) (p : Formula) → Contains (first_decisions s 0) p → AreTried cs depth known p
   none_tried depth known p c = absurd (contains_none p c)

@@ -29,7 +29,7 @@ use Rattle.ss_search_reaching.specs.declared.reaching.Marks.{Marks}
 use Rattle.ss_search_reaching.specs.Reaching.{facts_of, IsReaching, Shows, Grows}
 use Rattle.ss_search_reaching.proofs.Learning.{nothing_grows}
 use Rattle.ss_search_procedure.specs.declared.setting.Settling.{Settling}
-use Rattle.ss_search_procedure.specs.Choices.{bank_of, reached_in, IsState, GoesOn, IsShown, ReachesBy, ClosesBy, IsLast, IsTrialOf, IsAsBefore}
+use Rattle.ss_search_procedure.specs.Decisions.{bank_of, reached_in, IsState, GoesOn, IsShown, ReachesBy, ClosesBy, IsLast, IsTrialOf, IsAsBefore}
 use Rattle.ss_search_procedure.proofs.Going.{on_and_on, on_grows}
 
 -- ---- the last fact

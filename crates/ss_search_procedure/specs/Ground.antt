@@ -7,11 +7,11 @@ use Rattle.ss_logic_means.specs.Sorts.{AreWellFormed}
 use Rattle.ss_terms.specs.Forms.{Forms, formulas_at, HasFormulas}
 use Rattle.ss_rules_ground.specs.declared.form.Grounded.{Grounded}
 use Rattle.ss_rules_ground.specs.Grounds.{IsGrounded}
-use Rattle.ss_search_procedure_rules.specs.Closed.{Includes}
+use Rattle.ss_logic_occurring.specs.Includes.{Includes}
 use Rattle.ss_search_reaching.specs.declared.reaching.Reaching.{Reaching}
 use Rattle.ss_search_reaching.specs.Reaching.{IsReaching}
 use Rattle.ss_search_procedure.specs.declared.setting.Settling.{Settling}
-use Rattle.ss_search_procedure.specs.Choices.{bank_of, reached_in}
+use Rattle.ss_search_procedure.specs.Decisions.{bank_of, reached_in}
 
 -- The formulas come from this obligation. It is well formed, and so are the invariants of the classes.
 pub record IsGroundOf (cs : List ClassTree) (premises : List Formula) (goal : Formula) (b : Forms) (g : Grounded) : Type 0 where

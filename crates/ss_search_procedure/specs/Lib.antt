@@ -1,3 +1,3 @@
-pub mod Choices
+pub mod Decisions
 pub mod Answers
 pub mod Ground

@@ -1,13 +1,13 @@
-// Nested splits: what is closed with one side of a choice at less depth makes the other side known.
+// Nested splits: what is closed with one side of a decision at less depth makes the other side known.
 
 ghost use Rattle.std.specs.Prelude.{◌≡◌, ◌⊎◌, List, true, false, None, IfOk, IfSome, OnOk, suc};
 ghost use Rattle.std.specs.List.{Contains};
 ghost use Rattle.ss_core.specs.Tree.{ClassTree};
 ghost use Rattle.ss_logic.specs.Formulas.{Formula, neg};
 ghost use Rattle.ss_terms.specs.Forms.{formula_at, HasFormula, IsBankOf};
-ghost use Rattle.ss_search_procedure_rules.specs.Closed.{IsStable, StaysOpen};
+ghost use Rattle.ss_search_procedure_rules.specs.Closed.{IsSaturated, StaysOpen};
 ghost use Rattle.ss_search_reaching.specs.Reaching.{IsReaching};
-ghost use Rattle.ss_search_procedure.specs.Choices.{bank_of, chosen, reached_in, IsSetting, IsState, IsSide, GoesOn, IsUnknown, IsOpenChoice, IsTried, AreTried, ReachesBy, ClosesBy, IsLast};
+ghost use Rattle.ss_search_procedure.specs.Decisions.{bank_of, decisions_of, reached_in, IsSetting, IsState, IsSide, GoesOn, IsUnknown, IsOpenDecision, IsTried, AreTried, ReachesBy, ClosesBy, IsLast};
 
 use crate::setting::Settling;
 use ss_deriv::Line;
@@ -50,25 +50,25 @@ impl Settling<'_> {
         if depth == 0 {
             return Ok(None);
         }
-        self.settle_choices(reaching, depth - 1)
+        self.settle_decisions(reaching, depth - 1)
     }
 
-    // Adds the negation of each choice that is closed at this depth, and what follows, until there is none.
+    // Adds the negation of each decision that is closed at this depth, and what follows, until there is none.
     #[cycle(nested)]
-    fn settle_choices(
+    fn settle_decisions(
         &self,
         reaching: &mut Reaching,
         depth: usize,
     ) -> Result<Option<Vec<Line>>, AllocError>
         requires setting { IsSetting self.now }
         requires state { IsState self.now reaching.old }
-        requires stable { (cs : List ClassTree) → IsBankOf cs (bank_of self.now) → IsStable cs (reached_in self.now reaching.old) }
+        requires saturated { (cs : List ClassTree) → IsBankOf cs (bank_of self.now) → IsSaturated cs (reached_in self.now reaching.old) }
         ensures goes_on { OnOk result (GoesOn self.now reaching.old reaching.new) }
         ensures stays_open { (cs : List ClassTree) → IsBankOf cs (bank_of self.now) → IfOk result (λ o. o ≡ None → StaysOpen cs (suc depth) (reached_in self.now reaching.new)) }
         ensures reaches { OnOk result (ReachesBy self.now reaching.old reaching.new) }
         ensures closes { IfOk result (λ o. IfSome o (λ v. ClosesBy self.now reaching.old reaching.new v.items)) }
     {
-        while let Some(p) = self.closed_choice(reaching, depth)? {
+        while let Some(p) = self.closed_decision(reaching, depth)? {
             let other = self.given.bank.negation(p);
             self.learn_last(reaching, other)?;
             if let Some(lines) = reaching.reach(&self.given)? {
@@ -78,9 +78,9 @@ impl Settling<'_> {
         Ok(None)
     }
 
-    // A choice, or the negation of one, that is closed at this depth, where there is one. What denies it is the last fact then.
+    // A decision, or the negation of one, that is closed at this depth, where there is one. What denies it is the last fact then.
     #[cycle(nested)]
-    fn closed_choice(
+    fn closed_decision(
         &self,
         reaching: &mut Reaching,
         depth: usize,
@@ -89,12 +89,12 @@ impl Settling<'_> {
         requires state { IsState self.now reaching.old }
         ensures goes_on { OnOk result (GoesOn self.now reaching.old reaching.new) }
         ensures same { OnOk result (reached_in self.now reaching.new ≡ reached_in self.now reaching.old) }
-        ensures found { IfOk result (λ o. IfSome o (IsOpenChoice self.now reaching.old)) }
-        ensures none { (cs : List ClassTree) → IsBankOf cs (bank_of self.now) → IfOk result (λ o. o ≡ None → (p : Formula) → Contains (chosen self.now) p → AreTried cs depth (reached_in self.now reaching.old) p) }
+        ensures found { IfOk result (λ o. IfSome o (IsOpenDecision self.now reaching.old)) }
+        ensures none { (cs : List ClassTree) → IsBankOf cs (bank_of self.now) → IfOk result (λ o. o ≡ None → (p : Formula) → Contains (decisions_of self.now) p → AreTried cs depth (reached_in self.now reaching.old) p) }
         ensures reaches { OnOk result (ReachesBy self.now reaching.old reaching.new) }
         ensures denied { IfOk result (λ o. IfSome o (λ p. IsLast (bank_of self.now) (neg (formula_at (bank_of self.now) p)) reaching.new.path)) }
     {
-        for p in self.choices {
+        for p in self.decisions {
             if self.is_closed(reaching, depth, *p)? {
                 return Ok(Some(*p));
             }

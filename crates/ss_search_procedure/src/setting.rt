@@ -8,5 +8,5 @@ use ss_terms::FormulaId;
 pub(crate) struct Settling<'a> {
     pub(crate) given: Given<'a>,
     pub(crate) formulas: &'a [FormulaId],
-    pub(crate) choices: &'a [FormulaId],
+    pub(crate) decisions: &'a [FormulaId],
 }

@@ -4,7 +4,7 @@ ghost use Rattle.std.specs.Prelude.{◌≡◌, [], ℕ, ◌≤◌, ◌<◌, ◌*
 ghost use Rattle.ss_core.specs.Tree.{ClassTree};
 ghost use Rattle.ss_logic.specs.Formulas.{Formula};
 ghost use Rattle.ss_logic_derivations.specs.Steps.{Derives};
-ghost use Rattle.ss_logic_countermodels.specs.Refuting.{Refutes, model_of};
+ghost use Rattle.ss_logic_countermodels.specs.Refuting.{IsCountermodel};
 ghost use Rattle.ss_terms.specs.Forms.{IsBankOf};
 ghost use Rattle.ss_deriv.specs.Lines.{lines_of};
 ghost use Rattle.ss_search_closing.specs.Closing.{Closes};
@@ -12,7 +12,7 @@ ghost use Rattle.ss_search_path.specs.Paths.{IsPath};
 ghost use Rattle.ss_search_procedure_rules.specs.Closed.{AreEnough};
 ghost use Rattle.ss_search_reaching.specs.Reaching.{facts_of};
 ghost use Rattle.ss_search_procedure.specs.declared.settling.Settled.TheVariants as settled;
-ghost use Rattle.ss_search_procedure.specs.Choices.{bank_of, settled_ones, IsSetting, IsState, HasLed};
+ghost use Rattle.ss_search_procedure.specs.Decisions.{bank_of, settled_ones, IsSetting, IsState, HasLed};
 ghost use Rattle.ss_search_procedure.specs.Answers.{IfCountered, IfClosed};
 
 use crate::powers::greatest_depth;
@@ -49,13 +49,13 @@ impl Settling<'_> {
         }
     }
 
-    // All splits of the choices.
+    // All splits of the decisions.
     pub(crate) fn settle_by_all(&self, mut reaching: Reaching) -> Result<Settled, AllocError>
         requires setting { IsSetting self.now }
         requires state { IsState self.now reaching }
         requires led { (cs : List ClassTree) × (premises : List Formula) × (goal : Formula) × HasLed cs premises goal self.now reaching }
         ensures closed { (cs : List ClassTree) (premises : List Formula) (goal : Formula) → HasLed cs premises goal self.now reaching → IfOk result (IfClosed (λ d. Derives cs premises goal (lines_of (bank_of self.now) d))) }
-        ensures countered { (cs : List ClassTree) → IsBankOf cs (bank_of self.now) → IfOk result (IfCountered (λ m. Refutes cs (model_of (settled_ones self.now) m.classes.items m.truth.items) (settled_ones self.now))) }
+        ensures countered { (cs : List ClassTree) → IsBankOf cs (bank_of self.now) → IfOk result (IfCountered (IsCountermodel cs (settled_ones self.now))) }
         ensures settled { IfOk result (λ s. s ≡ settled.Spent → ⊥) }
     {
         match self.decide(&mut reaching, 0)? {
@@ -66,13 +66,13 @@ impl Settling<'_> {
 
     // The greatest depth of nested splits that is allowed.
     fn depth(&self, limit: u64) -> usize
-        requires { 0 < length self.now.choices.now }
-        ensures { (depth : ℕ) → (2 * length self.now.choices.now) ^ (2 * depth) ≤ limit → depth ≤ result }
+        requires { 0 < length self.now.decisions.now }
+        ensures { (depth : ℕ) → (2 * length self.now.decisions.now) ^ (2 * depth) ≤ limit → depth ≤ result }
     {
-        greatest_depth(2 * self.choices.len() as u64, limit)
+        greatest_depth(2 * self.decisions.len() as u64, limit)
     }
 
-    // Nested splits of choices that are too many to try all.
+    // Nested splits of decisions that are too many to try all.
     pub(crate) fn settle_nested(
         &self,
         mut reaching: Reaching,
@@ -81,8 +81,8 @@ impl Settling<'_> {
         requires setting { IsSetting self.now }
         requires state { IsState self.now reaching }
         requires led { (cs : List ClassTree) × (premises : List Formula) × (goal : Formula) × HasLed cs premises goal self.now reaching }
-        requires some { 0 < length self.now.choices.now }
-        requires many { 2 ^ length self.now.choices.now ≤ limit → ⊥ }
+        requires some { 0 < length self.now.decisions.now }
+        requires many { 2 ^ length self.now.decisions.now ≤ limit → ⊥ }
         ensures closed { (cs : List ClassTree) (premises : List Formula) (goal : Formula) → HasLed cs premises goal self.now reaching → IfOk result (IfClosed (λ d. Derives cs premises goal (lines_of (bank_of self.now) d))) }
         ensures countered { IfOk result (IfCountered (λ m. ⊥)) }
         ensures spent { (cs : List ClassTree) → IsBankOf cs (bank_of self.now) → IfOk result (λ s. s ≡ settled.Spent → AreEnough cs (settled_ones self.now) limit → ⊥) }

@@ -5,7 +5,7 @@ ghost use Rattle.ss_core.specs.Tree.{ClassTree};
 ghost use Rattle.ss_core.specs.View as view;
 ghost use Rattle.ss_logic.specs.Formulas.{Formula};
 ghost use Rattle.ss_logic_derivations.specs.Steps.{Derives};
-ghost use Rattle.ss_logic_countermodels.specs.Refuting.{Refutes, model_of, told};
+ghost use Rattle.ss_logic_countermodels.specs.Refuting.{IsCountermodel, told};
 ghost use Rattle.ss_logic_origins.specs.Origins.{chosen_by};
 ghost use Rattle.ss_terms.specs.Forms.{formula_at, formulas_at, HasFormula, HasFormulas, IsGrown, IsBankOf};
 ghost use Rattle.ss_deriv.specs.Lines.{lines_of};
@@ -16,7 +16,7 @@ ghost use Rattle.ss_search_standing.specs.Standing.{body_of, choices_in, Stands,
 ghost use Rattle.ss_search_starting.specs.Starting.{IsGround};
 ghost use Rattle.ss_search_reaching.specs.Reaching.{facts_of, Shows};
 ghost use Rattle.ss_search_procedure.specs.declared.settling.Settled.TheVariants as settled;
-ghost use Rattle.ss_search_procedure.specs.Choices.{bank_of, settled_ones, IsSetting, IsState, HasLed};
+ghost use Rattle.ss_search_procedure.specs.Decisions.{bank_of, settled_ones, IsSetting, IsState, HasLed};
 ghost use Rattle.ss_search_procedure.specs.Answers.{IfCountered, IfClosed};
 ghost use Rattle.ss_search_procedure.specs.Ground.{IsGroundOf, AreFirst};
 
@@ -89,12 +89,12 @@ impl Settling<'_> {
         Ok(reaching)
     }
 
-    // Whether all splits of the choices are allowed.
+    // Whether all splits of the decisions are allowed.
     fn are_few(&self, splits: u64) -> bool
-        ensures some { result ≡ false → 0 < length self.now.choices.now }
-        ensures many { result ≡ false → 2 ^ length self.now.choices.now ≤ splits → ⊥ }
+        ensures some { result ≡ false → 0 < length self.now.decisions.now }
+        ensures many { result ≡ false → 2 ^ length self.now.decisions.now ≤ splits → ⊥ }
     {
-        self.choices.is_empty() || is_within(2, self.choices.len(), splits)
+        self.decisions.is_empty() || is_within(2, self.decisions.len(), splits)
     }
 
     // Decides of the formulas, as the ground form of an obligation.
@@ -109,7 +109,7 @@ impl Settling<'_> {
         requires goal { HasFormula (bank_of self.now) obligation.now.goal }
         requires grounded { (cs : List ClassTree) × IsBankOf cs (bank_of self.now) × IsGround cs (formulas_at (bank_of self.now) obligation.now.premises.now) (formula_at (bank_of self.now) obligation.now.goal) self.now.given (settled_ones self.now) }
         ensures closed { (cs : List ClassTree) → IsBankOf cs (bank_of self.now) → IsGround cs (formulas_at (bank_of self.now) obligation.now.premises.now) (formula_at (bank_of self.now) obligation.now.goal) self.now.given (settled_ones self.now) → IfOk result (IfClosed (λ d. Derives cs (formulas_at (bank_of self.now) obligation.now.premises.now) (formula_at (bank_of self.now) obligation.now.goal) (lines_of (bank_of self.now) d))) }
-        ensures countered { (cs : List ClassTree) → IsBankOf cs (bank_of self.now) → IfOk result (IfCountered (λ m. Refutes cs (model_of (settled_ones self.now) m.classes.items m.truth.items) (settled_ones self.now))) }
+        ensures countered { (cs : List ClassTree) → IsBankOf cs (bank_of self.now) → IfOk result (IfCountered (IsCountermodel cs (settled_ones self.now))) }
         ensures spent { (cs : List ClassTree) → IsBankOf cs (bank_of self.now) → IfOk result (λ s. s ≡ settled.Spent → AreEnough cs (settled_ones self.now) splits → ⊥) }
     {
         let reaching = self.begin(chosen, obligation)?;
@@ -128,17 +128,17 @@ fn settle_over<'g>(
     obligation: &Obligation<'_>,
     grounded: &'g Grounded,
     said: &'g Chosen,
-    choices: &'g [FormulaId],
+    decisions: &'g [FormulaId],
     splits: u64,
 ) -> Result<Settled, AllocError>
     requires goal { HasFormula bank.now obligation.now.goal }
     requires grounded { (cs : List ClassTree) × IsBankOf cs bank.now × IsGroundOf cs (formulas_at bank.now obligation.now.premises.now) (formula_at bank.now obligation.now.goal) bank.now grounded.now }
     requires formulas { formulas_at bank.now said.now.formulas.items ≡ map chosen_by (choices_at bank.now grounded.now.choices.items) }
     requires bodies { formulas_at bank.now said.now.bodies.items ≡ map body_of (choices_at bank.now grounded.now.choices.items) }
-    requires in_bank { HasFormulas bank.now choices.now }
-    requires choices { formulas_at bank.now choices.now ≡ told (formulas_at bank.now grounded.now.formulas.items) }
+    requires in_bank { HasFormulas bank.now decisions.now }
+    requires decisions { formulas_at bank.now decisions.now ≡ told (formulas_at bank.now grounded.now.formulas.items) }
     ensures closed { (cs : List ClassTree) → IsBankOf cs bank.now → IsGroundOf cs (formulas_at bank.now obligation.now.premises.now) (formula_at bank.now obligation.now.goal) bank.now grounded.now → IfOk result (IfClosed (λ d. Derives cs (formulas_at bank.now obligation.now.premises.now) (formula_at bank.now obligation.now.goal) (lines_of bank.now d))) }
-    ensures countered { (cs : List ClassTree) → IsBankOf cs bank.now → IfOk result (IfCountered (λ m. Refutes cs (model_of (formulas_at bank.now grounded.now.formulas.items) m.classes.items m.truth.items) (formulas_at bank.now grounded.now.formulas.items))) }
+    ensures countered { (cs : List ClassTree) → IsBankOf cs bank.now → IfOk result (IfCountered (IsCountermodel cs (formulas_at bank.now grounded.now.formulas.items))) }
     ensures spent { (cs : List ClassTree) → IsBankOf cs bank.now → IfOk result (λ s. s ≡ settled.Spent → AreEnough cs (formulas_at bank.now grounded.now.formulas.items) splits → ⊥) }
 {
     let given = Given {
@@ -151,12 +151,12 @@ fn settle_over<'g>(
     let settling = Settling {
         given,
         formulas: &grounded.formulas,
-        choices,
+        decisions,
     };
     settling.settle(&said.formulas, obligation, splits)
 }
 
-/// Decides of the ground form of an obligation. The choices are its atoms and quantified formulas. As many splits of them are taken as are needed,
+/// Decides of the ground form of an obligation. The decisions are its atoms and quantified formulas. As many splits of them are taken as are needed,
 /// where so many are allowed. An error is want of memory; what the bank had before stays.
 pub fn settle_by(
     alloc: Global,
@@ -164,20 +164,20 @@ pub fn settle_by(
     classes: &Classes,
     obligation: &Obligation<'_>,
     grounded: &Grounded,
-    choices: &[FormulaId],
+    decisions: &[FormulaId],
     splits: u64,
 ) -> Result<Settled, AllocError>
     requires bank { IsBankOf (view.classes classes.now) bank.old }
     requires premises { HasFormulas bank.old obligation.now.premises.now }
     requires goal { HasFormula bank.old obligation.now.goal }
     requires grounded { IsGroundOf (view.classes classes.now) (formulas_at bank.old obligation.now.premises.now) (formula_at bank.old obligation.now.goal) bank.old grounded.now }
-    requires in_bank { HasFormulas bank.old choices.now }
-    requires choices { formulas_at bank.old choices.now ≡ told (formulas_at bank.old grounded.now.formulas.items) }
+    requires in_bank { HasFormulas bank.old decisions.now }
+    requires decisions { formulas_at bank.old decisions.now ≡ told (formulas_at bank.old grounded.now.formulas.items) }
     ensures closed { (cs : List ClassTree) → IsBankOf cs bank.old → IsGroundOf cs (formulas_at bank.old obligation.now.premises.now) (formula_at bank.old obligation.now.goal) bank.old grounded.now → IfOk result (IfClosed (λ d. Derives cs (formulas_at bank.old obligation.now.premises.now) (formula_at bank.old obligation.now.goal) (lines_of bank.new d))) }
-    ensures countered { (cs : List ClassTree) → IsBankOf cs bank.old → IfOk result (IfCountered (λ m. Refutes cs (model_of (formulas_at bank.old grounded.now.formulas.items) m.classes.items m.truth.items) (formulas_at bank.old grounded.now.formulas.items))) }
+    ensures countered { (cs : List ClassTree) → IsBankOf cs bank.old → IfOk result (IfCountered (IsCountermodel cs (formulas_at bank.old grounded.now.formulas.items))) }
     ensures spent { (cs : List ClassTree) → IsBankOf cs bank.old → IfOk result (λ s. s ≡ settled.Spent → AreEnough cs (formulas_at bank.old grounded.now.formulas.items) splits → ⊥) }
     ensures grown { IsGrown bank.old bank.new }
 {
     let said = chosen_formulas(alloc, bank, classes, &grounded.choices)?;
-    settle_over(alloc, bank, obligation, grounded, &said, choices, splits)
+    settle_over(alloc, bank, obligation, grounded, &said, decisions, splits)
 }

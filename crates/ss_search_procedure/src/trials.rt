@@ -1,4 +1,4 @@
-// Trials of choices in one path.
+// Trials of decisions in one path.
 
 ghost use Rattle.std.specs.Prelude.{List, OnOk};
 ghost use Rattle.std.specs.List.{Contains};
@@ -7,7 +7,7 @@ ghost use Rattle.ss_logic.specs.Formulas.{neg};
 ghost use Rattle.ss_terms.specs.Forms.{formula_at, HasFormula};
 ghost use Rattle.ss_search_path.specs.Paths.{IsSame, IsSupposed};
 ghost use Rattle.ss_search_reaching.specs.declared.reaching.Reaching.{Reaching};
-ghost use Rattle.ss_search_procedure.specs.Choices.{bank_of, reached_in, IsSetting, IsState, IsSide, GoesOn, IsShown, ReachesBy, ClosesBy, IsLast, IsTrialOf, IsAsBefore};
+ghost use Rattle.ss_search_procedure.specs.Decisions.{bank_of, reached_in, IsSetting, IsState, IsSide, GoesOn, IsShown, ReachesBy, ClosesBy, IsLast, IsTrialOf, IsAsBefore};
 
 use crate::setting::Settling;
 use ss_deriv::Line;
@@ -33,7 +33,7 @@ impl Settling<'_> {
         reaching.learn(&self.given, f, standing)
     }
 
-    /// A side of a choice is supposed, and reached.
+    /// A side of a decision is supposed, and reached.
     pub(crate) fn suppose(&self, reaching: &mut Reaching, p: FormulaId) -> Result<(), AllocError>
         requires setting { IsSetting self.now }
         requires state { IsState self.now reaching.old }

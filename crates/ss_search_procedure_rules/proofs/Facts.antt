@@ -14,7 +14,7 @@ use Rattle.ss_logic_rules.specs.Shapes.{equal}
 use Rattle.ss_linear_rules.specs.Two.{Two}
 use Rattle.ss_logic_ground.specs.Occurring.{with_term, with_arguments, with_terms_of, with_terms_of_all, atoms, terms}
 use Rattle.ss_logic_countermodels.specs.Refuting.{Model, Refutes, told_in, told, as_told, is_whole, equalities_of, equalities, facts_of}
-use Rattle.ss_search_procedure_rules.specs.Closed.{Includes}
+use Rattle.ss_logic_occurring.specs.Includes.{Includes}
 use Rattle.ss_search_procedure_rules.specs.Clashes.{Classing, model_by, FitsClasses}
 use Rattle.ss_search_procedure_rules.proofs.Lists.{contains_head, contains_cons, contains_split, contains_none, map_from, from_filter, any_from}
 use Rattle.ss_search_procedure_rules.proofs.Occurring.{from_collected}

@@ -1,4 +1,4 @@
--- What is stable and total is a model, and what is closed has none.
+-- What is saturated and total is a model, and what is closed has none.
 use Rattle.std.proofs.Common.{◌≡◌, List, [], ◌∷◌, Bool, true, false, not, ◌&&◌, ◌||◌, refl, sym, ◌∙◌, ap, subst, inl, inr, ◌⊎◌, ⊎_elim}
 use Rattle.std.specs.Bool.{beq}
 use Rattle.std.specs.List.{Contains}
@@ -8,7 +8,8 @@ use Rattle.ss_logic.specs.Formulas.{Formula, Formulas, Literal, And, Or, Forall,
 use Rattle.ss_logic.proofs.Truth.{neg_neg}
 use Rattle.ss_core.specs.Tree.{ClassTree}
 use Rattle.ss_logic_countermodels.specs.Refuting.{Model, Agrees, Refutes, comes_out, all_come_true, some_comes_true, told_in, all_told_in, facts_of}
-use Rattle.ss_search_procedure_rules.specs.Closed.{Includes, is_basic, basics, Fits, MayHold, AllMayHold, SomeMayHold, TwoMayHold, IsMet, IsStable, IsTotal}
+use Rattle.ss_logic_occurring.specs.Includes.{Includes}
+use Rattle.ss_search_procedure_rules.specs.Closed.{is_basic, basics, Fits, MayHold, AllMayHold, SomeMayHold, TwoMayHold, IsSatisfied, IsSaturated, IsTotal}
 use Rattle.ss_search_procedure_rules.proofs.Lists.{contains_head, contains_cons, contains_split, contains_none, contains_filter, all_at, all_from}
 use Rattle.ss_search_procedure_rules.proofs.Told.{is_told, atom_told, is_atom, Tells, model_of_fewer}
 use Rattle.ss_search_procedure_rules.proofs.Sums.{two_of_more}
@@ -63,14 +64,14 @@ two_some : (known : List Formula) (fs : Formulas) → TwoMayHold known fs → So
 two_some known no_formulas h = h
 two_some known (formula_then f fs) h = ⊎_elim (λ a. inl a.0) (λ b. inr (two_some known fs b)) h
 
--- ---- stable and total
+-- ---- saturated and total
 
-module _ (cs : List ClassTree) (reached : List Formula) (stable : IsStable cs reached) (total : IsTotal reached) where
+module _ (cs : List ClassTree) (reached : List Formula) (saturated : IsSaturated cs reached) (total : IsTotal reached) where
   abbrev m : Model
-  m = stable.model
+  m = saturated.model
 
   basic_true : (f : Formula) → is_basic f ≡ true → Contains reached f → comes_out m f ≡ true
-  basic_true f b h = all_at (comes_out m) (basics reached) f stable.refutes.agrees.true_ones (contains_filter is_basic reached f h b)
+  basic_true f b h = all_at (comes_out m) (basics reached) f saturated.refutes.agrees.true_ones (contains_filter is_basic reached f h b)
 
   -- what fits the known literals is opposed to none
   unopposed : (f g : Formula) → Fits (f ∷ basics reached) → is_basic g ≡ true → Contains reached g → neg g ≡ f → ⊥
@@ -120,11 +121,11 @@ module _ (cs : List ClassTree) (reached : List Formula) (stable : IsStable cs re
   mutual
     reached_true : (f : Formula) → Contains reached f → comes_out m f ≡ true
     reached_true (Literal sign p ts) h = basic_true (Literal sign p ts) refl h
-    reached_true (And fs) h = all_reached fs (stable.parts fs h)
+    reached_true (And fs) h = all_reached fs (saturated.parts fs h)
     reached_true (Or fs) h = ⊎_elim
         (λ a. some_met fs a)
         (λ b. some_may_true fs (λ p k. total p (Or fs, h, k)) (two_some (basics reached) fs b))
-        (stable.branches fs h)
+        (saturated.branches fs h)
     reached_true (Forall ss f) h = basic_true (Forall ss f) refl h
     reached_true (Exists ss f) h = basic_true (Exists ss f) refl h
 
@@ -134,7 +135,7 @@ module _ (cs : List ClassTree) (reached : List Formula) (stable : IsStable cs re
         (reached_true f (i f (contains_head f (formula_list fs))))
         (all_reached fs (λ g k. i g (contains_cons f (formula_list fs) g k)))
 
-    some_met : (fs : Formulas) → IsMet reached fs → some_comes_true m fs ≡ true
+    some_met : (fs : Formulas) → IsSatisfied reached fs → some_comes_true m fs ≡ true
     some_met no_formulas s = absurd (contains_none s.0 s.1)
     some_met (formula_then f fs) s = ⊎_elim
         (λ e. or_left (comes_out m f) (some_comes_true m fs) (reached_true f (subst (Contains reached) (sym e) s.2)))
@@ -158,11 +159,11 @@ module _ (cs : List ClassTree) (reached : List Formula) (stable : IsStable cs re
         (total a (g, i g h, atom_told g a k));
   }
 
-  pub agreeing : (fs : List Formula) → Includes reached fs → Agrees stable.model fs
-  agreeing fs i = model_of_fewer m (basics reached) fs (tells fs i) (all_from (comes_out m) fs (λ f k. reached_true f (i f k))) stable.refutes.agrees
+  pub agreeing : (fs : List Formula) → Includes reached fs → Agrees saturated.model fs
+  agreeing fs i = model_of_fewer m (basics reached) fs (tells fs i) (all_from (comes_out m) fs (λ f k. reached_true f (i f k))) saturated.refutes.agrees
 
-  pub is_model : (fs : List Formula) → Includes reached fs → Includes (facts_of cs stable.model (basics reached)) (facts_of cs stable.model fs) → Refutes cs stable.model fs
+  pub is_model : (fs : List Formula) → Includes reached fs → Includes (facts_of cs saturated.model (basics reached)) (facts_of cs saturated.model fs) → Refutes cs saturated.model fs
   is_model fs i facts = record {
     agrees = agreeing fs i;
-    numbers = λ t. stable.refutes.numbers (two_of_more cs (facts_of cs m fs) (facts_of cs m (basics reached)) facts t);
+    numbers = λ t. saturated.refutes.numbers (two_of_more cs (facts_of cs m fs) (facts_of cs m (basics reached)) facts t);
   }

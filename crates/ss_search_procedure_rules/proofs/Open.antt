@@ -4,7 +4,8 @@ use Rattle.std.specs.List.{Contains}
 use Rattle.ss_core.specs.Tree.{ClassTree}
 use Rattle.ss_logic.specs.Formulas.{Formula, neg}
 use Rattle.ss_logic.proofs.Truth.{neg_neg}
-use Rattle.ss_search_procedure_rules.specs.Closed.{Includes, IsStable, OccursIn, IsChoice, Closed, at_once, by_split, StaysOpen, IsTotal}
+use Rattle.ss_logic_occurring.specs.Includes.{Includes}
+use Rattle.ss_search_procedure_rules.specs.Closed.{IsSaturated, OccursIn, IsDecision, Closed, at_once, by_split, StaysOpen, IsTotal}
 use Rattle.ss_search_procedure_rules.proofs.Lists.{includes_cons, includes_all}
 
 -- ---- more formulas, greater depth
@@ -12,7 +13,7 @@ use Rattle.ss_search_procedure_rules.proofs.Lists.{includes_cons, includes_all}
 pub occurs_in_more : (fs gs : List Formula) (p : Formula) → Includes gs fs → OccursIn fs p → OccursIn gs p
 occurs_in_more fs gs p i (f, h, k) = (f, i f h, k)
 
-pub choice_of_more : (fs gs : List Formula) (p : Formula) → Includes gs fs → IsChoice fs p → IsChoice gs p
+pub choice_of_more : (fs gs : List Formula) (p : Formula) → Includes gs fs → IsDecision fs p → IsDecision gs p
 choice_of_more fs gs p i c = ⊎_elim (λ a. inl (occurs_in_more fs gs p i a)) (λ a. inr (occurs_in_more fs gs (neg p) i a)) c
 
 pub closed_with_more : (cs : List ClassTree) (depth : ℕ) (fs gs : List Formula) → Includes gs fs → Closed cs depth fs → Closed cs depth gs
@@ -27,16 +28,16 @@ closed_deeper cs (suc depth) fs (by_split p c a b) = by_split p c (closed_deeper
 
 -- ---- open
 
-stable_of : (cs : List ClassTree) (depth : ℕ) (reached : List Formula) → StaysOpen cs depth reached → IsStable cs reached
-stable_of cs zero reached s = s
-stable_of cs (suc depth) reached s = s.0
+saturated_of : (cs : List ClassTree) (depth : ℕ) (reached : List Formula) → StaysOpen cs depth reached → IsSaturated cs reached
+saturated_of cs zero reached s = s
+saturated_of cs (suc depth) reached s = s.0
 
 pub open_less_deep : (cs : List ClassTree) (depth : ℕ) (reached : List Formula) → StaysOpen cs (suc depth) reached → StaysOpen cs depth reached
 open_less_deep cs zero reached s = s.0
 open_less_deep cs (suc depth) reached s = (s.0, λ p c. ⊎_elim (λ a. inl a) (λ b. inr (⊎_elim (λ a. inl a) (λ n. inr (λ k. n (closed_deeper cs depth (p ∷ reached) k))) b)) (s.1 p c))
 
 pub open_isn't_closed : (cs : List ClassTree) (depth : ℕ) (reached : List Formula) → StaysOpen cs depth reached → (fs : List Formula) → Includes reached fs → Closed cs depth fs → ⊥
-open_isn't_closed cs depth reached s fs i (at_once n) = n reached i (stable_of cs depth reached s)
+open_isn't_closed cs depth reached s fs i (at_once n) = n reached i (saturated_of cs depth reached s)
 open_isn't_closed cs (suc depth) reached s fs i (by_split p c a b) = ⊎_elim
     (λ h. open_isn't_closed cs depth reached (open_less_deep cs depth reached s) (p ∷ fs) (includes_all p reached fs h i) a)
     (λ r. ⊎_elim
@@ -47,8 +48,8 @@ open_isn't_closed cs (suc depth) reached s fs i (by_split p c a b) = ⊎_elim
 
 -- ---- total
 
--- where of each choice one side is reached, nothing more follows at any depth
-pub total_stays_open : (cs : List ClassTree) (depth : ℕ) (reached : List Formula) → IsStable cs reached → IsTotal reached → StaysOpen cs depth reached
+-- where of each decision one side is reached, nothing more follows at any depth
+pub total_stays_open : (cs : List ClassTree) (depth : ℕ) (reached : List Formula) → IsSaturated cs reached → IsTotal reached → StaysOpen cs depth reached
 total_stays_open cs zero reached s t = s
 total_stays_open cs (suc depth) reached s t = (
   s,

@@ -8,7 +8,7 @@ use Rattle.ss_core.specs.Tree.{ClassTree}
 use Rattle.ss_logic.specs.Formulas.{Formula}
 use Rattle.ss_logic_sums.specs.Sums.{LinearSum, number_sum, sum_fact_of, add_weighted, weighted, bounded}
 use Rattle.ss_linear_rules.specs.Two.{IsDifferenceAt, IsUnit, Two}
-use Rattle.ss_search_procedure_rules.specs.Closed.{Includes}
+use Rattle.ss_logic_occurring.specs.Includes.{Includes}
 
 and_then_agree : {A B : Type 0} (f g : A → Option B) → ((x : A) → f x ≡ g x) → (o : Option A) → option_and_then f o ≡ option_and_then g o
 and_then_agree f g h None = refl

@@ -1,4 +1,4 @@
--- What is closed has no model: what a model makes true of formulas is stable and total.
+-- What is closed has no model: what a model makes true of formulas is saturated and total.
 use Rattle.std.proofs.Common.{◌≡◌, ℕ, List, [], ◌∷◌, ◌++◌, map, filter, Bool, true, false, not, refl, sym, ◌∙◌, ap, subst, inl, inr, ◌⊎◌, ⊎_elim, append_assoc}
 use Rattle.std.specs.Prelude.{flat_map, if◌then◌else◌}
 use Rattle.std.specs.List.{Contains}
@@ -11,7 +11,8 @@ use Rattle.ss_logic.specs.Equal.{same_formula, same_formula_equal}
 use Rattle.ss_logic.proofs.Truth.{neg_neg}
 use Rattle.ss_logic_ground.specs.Occurring.{with_formula, with_formulas, with_terms_of_all, atoms_in, all_atoms_in, atoms, terms}
 use Rattle.ss_logic_countermodels.specs.Refuting.{Model, Refutes, comes_out, all_come_true, some_comes_true, told_in, all_told_in, told, as_told, is_whole, equalities, facts_of}
-use Rattle.ss_search_procedure_rules.specs.Closed.{Includes, is_basic, basics, IsStable, IsTotal, Closed}
+use Rattle.ss_logic_occurring.specs.Includes.{Includes}
+use Rattle.ss_search_procedure_rules.specs.Closed.{is_basic, basics, IsSaturated, IsTotal, Closed}
 use Rattle.ss_search_procedure_rules.proofs.Lists.{contains_head, contains_cons, contains_split, contains_none, contains_filter, from_filter, map_from, map_to, map_of_fewer, all_at, all_from, any_from, flat_from, flat_to}
 use Rattle.ss_search_procedure_rules.proofs.Occurring.{from_collected, to_collected}
 use Rattle.ss_search_procedure_rules.proofs.Told.{is_told, agrees_by}
@@ -335,8 +336,8 @@ module _ (cs : List ClassTree) (m : Model) (fs : List Formula) (r : Refutes cs m
   reached_true : (g : Formula) → Contains reached g → comes_out m g ≡ true
   reached_true g h = ⊎_elim (λ k. said_true g k) (λ k. held_true g k) (reached_cases g h)
 
-  reached_stable : IsStable cs reached
-  reached_stable = record {
+  reached_saturated : IsSaturated cs reached
+  reached_saturated = record {
     parts = λ gs h g k.
         let from = held_from (And gs) (reached_part (And gs) refl h) in
         reached_held g (held_to from.0 g from.1
@@ -355,4 +356,4 @@ module _ (cs : List ClassTree) (m : Model) (fs : List Formula) (r : Refutes cs m
 
 pub closed_has_no_model : (cs : List ClassTree) (depth : ℕ) (fs : List Formula) → Closed cs depth fs → (m : Model) → Refutes cs m fs → ⊥
 closed_has_no_model cs depth fs c m r =
-    open_isn't_closed cs depth (reached cs m fs r) (total_stays_open cs depth (reached cs m fs r) (reached_stable cs m fs r) (reached_total cs m fs r)) fs (reached_all cs m fs r) c
+    open_isn't_closed cs depth (reached cs m fs r) (total_stays_open cs depth (reached cs m fs r) (reached_saturated cs m fs r) (reached_total cs m fs r)) fs (reached_all cs m fs r) c

@@ -4,11 +4,8 @@ use Rattle.std.specs.List.{Contains}
 use Rattle.ss_logic.specs.Formulas.{Formula, Formulas, Literal, And, Or, Forall, Exists, no_formulas, formula_then, formula_list, neg}
 use Rattle.ss_logic_derivations.specs.Steps.{is_literal, is_quantified}
 use Rattle.ss_core.specs.Tree.{ClassTree}
+use Rattle.ss_logic_occurring.specs.Includes.{Includes}
 use Rattle.ss_logic_countermodels.specs.Refuting.{Model, Agrees, Refutes, told_in, told}
-
--- the first list has each of the second
-abbrev pub Includes : {A : Type 0} → List A → List A → Type 0
-Includes {A} xs ys = (x : A) → Contains ys x → Contains xs x
 
 -- ---- what may hold beside known literals
 
@@ -48,37 +45,37 @@ TwoMayHold known no_formulas = ⊥
 TwoMayHold known (formula_then f fs) = (MayHold known f × SomeMayHold known fs) ⊎ TwoMayHold known fs
 
 -- one of the parts is reached
-abbrev pub IsMet : List Formula → Formulas → Type 0
-IsMet reached fs = (f : Formula) × Contains (formula_list fs) f × Contains reached f
+abbrev pub IsSatisfied : List Formula → Formulas → Type 0
+IsSatisfied reached fs = (f : Formula) × Contains (formula_list fs) f × Contains reached f
 
 -- ---- closed
 
 -- What is reached leads to nothing more, and nothing in it is refuted. Each part of a reached `and` is reached. Where all parts of a
 -- reached `or` but one are refuted, that one is reached: so one is, or two of them aren't refuted. Of the literals and what they make
 -- equal no sum is a contradiction.
-pub record IsStable (cs : List ClassTree) (reached : List Formula) : Type 0 where
+pub record IsSaturated (cs : List ClassTree) (reached : List Formula) : Type 0 where
   pub parts : (fs : Formulas) → Contains reached (And fs) → Includes reached (formula_list fs)
-  pub branches : (fs : Formulas) → Contains reached (Or fs) → IsMet reached fs ⊎ TwoMayHold (basics reached) fs
+  pub branches : (fs : Formulas) → Contains reached (Or fs) → IsSatisfied reached fs ⊎ TwoMayHold (basics reached) fs
   pub model : Model
   pub refutes : Refutes cs model (basics reached)
 
--- closed without a split: nothing that is stable has the formulas
+-- closed without a split: nothing that is saturated has the formulas
 abbrev pub IsClosed : List ClassTree → List Formula → Type 0
-IsClosed cs fs = (reached : List Formula) → Includes reached fs → IsStable cs reached → ⊥
+IsClosed cs fs = (reached : List Formula) → Includes reached fs → IsSaturated cs reached → ⊥
 
 -- an atom or quantified formula that occurs in the formulas outside quantified ones
 abbrev pub OccursIn : List Formula → Formula → Type 0
 OccursIn fs p = (f : Formula) × Contains fs f × Contains (told_in f) p
 
 -- what may be split on: one of these, or its negation
-abbrev pub IsChoice : List Formula → Formula → Type 0
-IsChoice fs p = OccursIn fs p ⊎ OccursIn fs (neg p)
+abbrev pub IsDecision : List Formula → Formula → Type 0
+IsDecision fs p = OccursIn fs p ⊎ OccursIn fs (neg p)
 
 -- Closed by splits nested this deep. A split has one side that is closed by splits nested less deep. So a chain of splits stands at depth 1, where
--- each has a side that is closed without a split. A choice that is known needs no split, and may stand here as well.
+-- each has a side that is closed without a split. A decision that is known needs no split, and may stand here as well.
 pub data Closed (cs : List ClassTree) : ℕ → List Formula → Type 0 where
   at_once : {depth : ℕ} {fs : List Formula} → IsClosed cs fs → Closed cs depth fs
-  by_split : {depth : ℕ} {fs : List Formula} (p : Formula) → IsChoice fs p → Closed cs depth (p ∷ fs) → Closed cs (suc depth) (neg p ∷ fs) → Closed cs (suc depth) fs
+  by_split : {depth : ℕ} {fs : List Formula} (p : Formula) → IsDecision fs p → Closed cs depth (p ∷ fs) → Closed cs (suc depth) (neg p ∷ fs) → Closed cs (suc depth) fs
 
 -- so many splits are enough
 abbrev pub AreEnough : List ClassTree → List Formula → ℕ → Type 0
@@ -88,12 +85,12 @@ AreEnough cs fs splits =
 
 -- ---- what isn't closed
 
--- At this depth nothing more follows: no choice that is open is closed one step less deep.
+-- At this depth nothing more follows: no decision that is open is closed one step less deep.
 abbrev pub StaysOpen : List ClassTree → ℕ → List Formula → Type 0
-StaysOpen cs zero reached = IsStable cs reached
-StaysOpen cs (suc depth) reached = IsStable cs reached ×
-    ((p : Formula) → IsChoice reached p → Contains reached p ⊎ Contains reached (neg p) ⊎ (Closed cs depth (p ∷ reached) → ⊥))
+StaysOpen cs zero reached = IsSaturated cs reached
+StaysOpen cs (suc depth) reached = IsSaturated cs reached ×
+    ((p : Formula) → IsDecision reached p → Contains reached p ⊎ Contains reached (neg p) ⊎ (Closed cs depth (p ∷ reached) → ⊥))
 
--- of each choice one side is reached
+-- of each decision one side is reached
 abbrev pub IsTotal : List Formula → Type 0
 IsTotal reached = (p : Formula) → OccursIn reached p → Contains reached p ⊎ Contains reached (neg p)

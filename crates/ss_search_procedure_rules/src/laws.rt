@@ -10,17 +10,18 @@ ghost use Rattle.ss_linear_rules.specs.Two.{Two};
 ghost use Rattle.ss_logic_ground.specs.Occurring.{terms};
 ghost use Rattle.ss_logic_countermodels.specs.Refuting.{Model, Refutes, is_whole, facts_of};
 ghost use Rattle.ss_search_procedure_rules.specs.Clashes.{Classing, model_by, FitsClasses};
-ghost use Rattle.ss_search_procedure_rules.specs.Closed.{Includes, basics, Fits, IsStable, IsTotal, Closed, StaysOpen};
+ghost use Rattle.ss_logic_occurring.specs.Includes.{Includes};
+ghost use Rattle.ss_search_procedure_rules.specs.Closed.{basics, Fits, IsSaturated, IsTotal, Closed, StaysOpen};
 
 /// Where at some depth nothing more follows from what is reached, nothing of it is closed by splits nested so deep.
 pub fn what_stays_open_is_not_closed()
     ensures { (cs : List ClassTree) (depth : ℕ) (reached fs : List Formula) → StaysOpen cs depth reached → Includes reached fs → Closed cs depth fs → ⊥ }
 {}
 
-/// Let a stable list have, of each atom and quantified formula that occurs in it, that or its negation. Then its model is one of each list of its
+/// Let a saturated list have, of each atom and quantified formula that occurs in it, that or its negation. Then its model is one of each list of its
 /// formulas that has no other facts. (The facts have an equality in one order: that in which its terms first occur.)
-pub fn what_is_stable_and_total_has_a_model()
-    ensures { (cs : List ClassTree) (reached fs : List Formula) → (stable : IsStable cs reached) → IsTotal reached → Includes reached fs → Includes (facts_of cs stable.model (basics reached)) (facts_of cs stable.model fs) → Refutes cs stable.model fs }
+pub fn what_is_saturated_and_total_has_a_model()
+    ensures { (cs : List ClassTree) (reached fs : List Formula) → (saturated : IsSaturated cs reached) → IsTotal reached → Includes reached fs → Includes (facts_of cs saturated.model (basics reached)) (facts_of cs saturated.model fs) → Refutes cs saturated.model fs }
 {}
 
 /// What is closed has no model.

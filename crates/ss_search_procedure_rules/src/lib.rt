@@ -6,6 +6,6 @@ mod laws;
 
 pub use laws::{
     what_has_fitting_classes_fits, what_has_no_contradicting_sum_refutes,
-    what_is_closed_has_no_model, what_is_stable_and_total_has_a_model,
+    what_is_closed_has_no_model, what_is_saturated_and_total_has_a_model,
     what_stays_open_is_not_closed,
 };

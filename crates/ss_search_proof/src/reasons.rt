@@ -30,6 +30,9 @@ pub struct Reasons {
     pub proof: Proof,
     closing: Vec<Closing>,
     made: Keys,
+    // The unit whose other parts are closed, by what is older, or NONE; and how often a path was short by a fact that a node is a literal.
+    before: usize,
+    shortened: usize,
 }
 
 impl Reasons {
@@ -41,6 +44,8 @@ impl Reasons {
             proof: Proof::new(alloc),
             closing: Vec::new(alloc),
             made: Keys::new(alloc),
+            before: NONE,
+            shortened: 0,
         }
     }
 
@@ -69,15 +74,66 @@ impl Reasons {
         y: usize,
         fuel: usize,
     ) -> Result<usize, AllocError> {
-        let made = self.made.value(x, y, 0);
+        let made = self.made_before(x, y, 0);
         if made != NONE {
             return Ok(made);
         }
+        let shortened = self.shortened;
         let mut numbers = Vec::new(self.alloc);
         self.add_path(bank, classes, (x, y), &mut numbers, fuel)?;
         let fact = self.chain_of(bank, (x, y), &numbers)?;
-        self.made.add(x, y, 0, fact)?;
+        self.keep_made((x, y, 0), fact, shortened)?;
         Ok(fact)
+    }
+
+    // The fact that was made for two nodes and stands here, or NONE. One on a shorter path stands only where it was made.
+    fn made_before(&mut self, x: usize, y: usize, kind: usize) -> usize {
+        let made = self.made.value(x, y, kind);
+        if made != NONE {
+            return made;
+        }
+        let made = self.made.value(x, y, self.place_of(kind));
+        if made != NONE {
+            self.shortened = self.shortened.wrapping_add(1);
+        }
+        made
+    }
+
+    // Keeps a fact that was made for two nodes, where paths had been short so often before.
+    fn keep_made(
+        &mut self,
+        key: (usize, usize, usize),
+        fact: usize,
+        shortened: usize,
+    ) -> Result<(), AllocError> {
+        let (x, y, kind) = key;
+        let third = if self.shortened == shortened {
+            kind
+        } else {
+            self.place_of(kind)
+        };
+        self.made.add(x, y, third, fact)
+    }
+
+    // The third part of the key of what is made on shorter paths.
+    fn place_of(&self, kind: usize) -> usize {
+        self.before
+            .wrapping_mul(2)
+            .wrapping_add(kind)
+            .wrapping_add(4)
+    }
+
+    // Adds the steps on the path from one node to another.
+    fn add_steps(
+        &mut self,
+        classes: &Classes,
+        sides: (usize, usize),
+        steps: &mut Vec<Step>,
+    ) -> Result<(), AllocError> {
+        if classes.path(sides.0, sides.1, self.before, steps)? {
+            self.shortened = self.shortened.wrapping_add(1);
+        }
+        Ok(())
     }
 
     // The fact that a path makes known.
@@ -108,7 +164,7 @@ impl Reasons {
         fuel: usize,
     ) -> Result<(), AllocError> {
         let mut steps = Vec::new(self.alloc);
-        classes.path(of_term(sides.0), of_term(sides.1), &mut steps)?;
+        self.add_steps(classes, (of_term(sides.0), of_term(sides.1)), &mut steps)?;
         for step in &steps {
             let fact = self.fact_of_step(bank, classes, *step, fuel)?;
             numbers.push(fact)?;
@@ -127,14 +183,15 @@ impl Reasons {
         if step.fact != CONGRUENT {
             return Ok(step.fact);
         }
-        let made = self.made.value(step.from, step.to, 1);
+        let made = self.made_before(step.from, step.to, 1);
         if made != NONE {
             return Ok(made);
         }
+        let shortened = self.shortened;
         let range = self.arguments(bank, classes, step, fuel)?;
         let said = Said::Equal(step.from / 2, step.to / 2);
         let fact = self.facts.add(said, Reason::Cong(range), 1)?;
-        self.made.add(step.from, step.to, 1, fact)?;
+        self.keep_made((step.from, step.to, 1), fact, shortened)?;
         Ok(fact)
     }
 
@@ -195,7 +252,7 @@ impl Reasons {
         literal: usize,
     ) -> Result<usize, AllocError> {
         let mut steps = Vec::new(self.alloc);
-        classes.path(of_pair(pair), literal, &mut steps)?;
+        self.add_steps(classes, (of_pair(pair), literal), &mut steps)?;
         let Some(step) = steps.get(steps.len().saturating_sub(1)).copied() else {
             return Ok(NONE);
         };
@@ -274,7 +331,7 @@ impl Reasons {
         y: usize,
     ) -> Result<usize, AllocError> {
         let mut steps = Vec::new(self.alloc);
-        classes.path(x, y, &mut steps)?;
+        self.add_steps(classes, (x, y), &mut steps)?;
         let (Some(first), Some(last)) = (steps.first().copied(), steps.last().copied()) else {
             return self.proof.open(End::Nothing);
         };
@@ -322,8 +379,10 @@ impl Reasons {
         whole: (usize, usize, usize),
     ) -> Result<usize, AllocError> {
         let block = self.proof.open(End::Split(whole.0))?;
+        self.before = whole.1;
         self.split_parts(bank, block, whole)?;
         self.close_all(bank, classes, nodes)?;
+        self.before = NONE;
         Ok(block)
     }
 

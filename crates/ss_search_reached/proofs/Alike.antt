@@ -1,5 +1,5 @@
 -- A model is known by what it gives to what occurs.
-use Rattle.std.proofs.Common.{◌≡◌, List, [], ◌∷◌, ◌++◌, map, filter, Bool, true, not, cond, ◌&&◌, ◌||◌, refl, sym, ◌∙◌, ap, subst}
+use Rattle.std.proofs.Common.{◌≡◌, ℕ, List, [], ◌∷◌, ◌++◌, map, filter, Bool, true, not, cond, ◌&&◌, ◌||◌, refl, sym, ◌∙◌, ap, subst}
 use Rattle.std.specs.Prelude.{◌==◌, if◌then◌else◌}
 use Rattle.std.specs.Bool.{beq}
 use Rattle.std.specs.List.{Contains, list_all}
@@ -28,13 +28,26 @@ filter_alike p q (x ∷ xs) e =
     let rest = filter_alike p q xs (λ y c. e y (contains_cons x xs y c)) in
     ap (λ b. cond b (x ∷ filter p xs) (filter p xs)) (e x (contains_head x xs)) ∙ ap (λ ys. cond (q x) (x ∷ ys) ys) rest
 
+map_moved : {A : Type 0} (h k : A → ℕ) (moved : ℕ → ℕ) (xs : List A) → ((x : A) → Contains xs x → h x ≡ moved (k x)) → map h xs ≡ map moved (map k xs)
+map_moved h k moved [] e = refl
+map_moved h k moved (x ∷ xs) e = ap (λ y. y ∷ map h xs) (e x (contains_head x xs)) ∙ ap (λ ys. moved (k x) ∷ ys) (map_moved h k moved xs (λ y c. e y (contains_cons x xs y c)))
+
+-- numbers that are the same only where they were are the same in lists, too
+same_moved : (moved : ℕ → ℕ) → ((a b : ℕ) → (moved a == moved b) ≡ (a == b)) → (ks ns : List ℕ) → same_classes (map moved ks) (map moved ns) ≡ same_classes ks ns
+same_moved moved once [] [] = refl
+same_moved moved once [] (n ∷ ns) = refl
+same_moved moved once (k ∷ ks) [] = refl
+same_moved moved once (k ∷ ks) (n ∷ ns) = ap (λ b. b && same_classes (map moved ks) (map moved ns)) (once k n) ∙ ap (λ b. k == n && b) (same_moved moved once ks ns)
+
 -- every two are as they were
 pairs_alike : {A : Type 0} (p q : A → A → Bool) (xs : List A) → ((x y : A) → Contains xs x → Contains xs y → p x y ≡ q x y) → list_all (λ x. list_all (q x) xs) xs ≡ true → list_all (λ x. list_all (p x) xs) xs ≡ true
 pairs_alike p q xs e h = all_from (λ x. list_all (p x) xs) xs (λ x c. all_from (p x) xs (λ y d. e x y c d ∙ all_at (q x) xs y (all_at (λ z. list_all (q z) xs) xs x h c) d))
 
-module _ (m n : Model) (fs : List Formula) (truths : (p : Formula) → Contains (told fs) p → n.truth p ≡ m.truth p) (classes : (t : Term) → Contains (terms fs) t → n.class t ≡ m.class t)
-    (inner : (f : Symbol) (ts : Terms) → Contains (terms fs) (App f ts) → (x : Term) → Contains (term_list ts) x → n.class x ≡ m.class x)
-    (outer : (sign : Bool) (p : Predicate) (ts : Terms) → Contains (told fs) (Literal sign p ts) → (x : Term) → Contains (term_list ts) x → n.class x ≡ m.class x) where
+-- also where the classes have other numbers
+module _ (m n : Model) (moved : ℕ → ℕ) (once : (a b : ℕ) → (moved a == moved b) ≡ (a == b)) (fs : List Formula) (truths : (p : Formula) → Contains (told fs) p → n.truth p ≡ m.truth p)
+    (classes : (t : Term) → Contains (terms fs) t → n.class t ≡ moved (m.class t))
+    (inner : (f : Symbol) (ts : Terms) → Contains (terms fs) (App f ts) → (x : Term) → Contains (term_list ts) x → n.class x ≡ moved (m.class x))
+    (outer : (sign : Bool) (p : Predicate) (ts : Terms) → Contains (told fs) (Literal sign p ts) → (x : Term) → Contains (term_list ts) x → n.class x ≡ moved (m.class x)) where
   mutual
     out_alike : (f : Formula) → ((p : Formula) → Contains (told_in f) p → n.truth p ≡ m.truth p) → comes_out n f ≡ comes_out m f
     out_alike (Literal sign p ts) h = ap (λ b. beq b sign) (h (Literal true p ts) (contains_head (Literal true p ts) []))
@@ -56,23 +69,27 @@ module _ (m n : Model) (fs : List Formula) (truths : (p : Formula) → Contains 
         ∙ ap (λ b. comes_out m g || b) (some_out_alike gs (λ p c. h p (Contains-append_right (told_in g) (all_told_in gs) p c)))
 
   one_class : (s t : Term) → Contains (terms fs) s → Contains (terms fs) t → (n.class s == n.class t) ≡ (m.class s == m.class t)
-  one_class s t c d = ap (λ k. k == n.class t) (classes s c) ∙ ap (λ k. m.class s == k) (classes t d)
+  one_class s t c d = ap (λ k. k == n.class t) (classes s c) ∙ ap (λ k. moved (m.class s) == k) (classes t d) ∙ once (m.class s) (m.class t)
 
-  inner_classes : (f : Symbol) (ts : Terms) → Contains (terms fs) (App f ts) → classes_of n ts ≡ classes_of m ts
-  inner_classes f ts c = map_alike n.class m.class (term_list ts) (inner f ts c)
+  inner_classes : (f : Symbol) (ts : Terms) → Contains (terms fs) (App f ts) → classes_of n ts ≡ map moved (classes_of m ts)
+  inner_classes f ts c = map_moved n.class m.class moved (term_list ts) (inner f ts c)
 
-  outer_classes : (sign : Bool) (p : Predicate) (ts : Terms) → Contains (told fs) (Literal sign p ts) → classes_of n ts ≡ classes_of m ts
-  outer_classes sign p ts c = map_alike n.class m.class (term_list ts) (outer sign p ts c)
+  outer_classes : (sign : Bool) (p : Predicate) (ts : Terms) → Contains (told fs) (Literal sign p ts) → classes_of n ts ≡ map moved (classes_of m ts)
+  outer_classes sign p ts c = map_moved n.class m.class moved (term_list ts) (outer sign p ts c)
 
   congruent_alike : (s t : Term) → Contains (terms fs) s → Contains (terms fs) t → are_congruent n s t ≡ are_congruent m s t
   congruent_alike (Bound j) t c d = refl
   congruent_alike (App f ts) (Bound k) c d = refl
   congruent_alike (App f ts) (App g us) c d =
-      ap (λ ns. same_symbol f g && same_classes ns (classes_of n us)) (inner_classes f ts c) ∙ ap (λ ns. same_symbol f g && same_classes (classes_of m ts) ns) (inner_classes g us d)
+      ap (λ ns. same_symbol f g && same_classes ns (classes_of n us)) (inner_classes f ts c)
+      ∙ ap (λ ns. same_symbol f g && same_classes (map moved (classes_of m ts)) ns) (inner_classes g us d)
+      ∙ ap (λ b. same_symbol f g && b) (same_moved moved once (classes_of m ts) (classes_of m us))
 
   alike_alike : (f g : Formula) → Contains (told fs) f → Contains (told fs) g → are_alike n f g ≡ are_alike m f g
   alike_alike (Literal r p ts) (Literal s q us) c d =
-      ap (λ ns. same_predicate p q && same_classes ns (classes_of n us)) (outer_classes r p ts c) ∙ ap (λ ns. same_predicate p q && same_classes (classes_of m ts) ns) (outer_classes s q us d)
+      ap (λ ns. same_predicate p q && same_classes ns (classes_of n us)) (outer_classes r p ts c)
+      ∙ ap (λ ns. same_predicate p q && same_classes (map moved (classes_of m ts)) ns) (outer_classes s q us d)
+      ∙ ap (λ b. same_predicate p q && b) (same_moved moved once (classes_of m ts) (classes_of m us))
   alike_alike f g c d = refl
 
   -- what is told is told without a sign
@@ -84,7 +101,8 @@ module _ (m n : Model) (fs : List Formula) (truths : (p : Formula) → Contains 
       let ts : Terms = term_then x (term_then y no_terms) in
       ap (λ b. beq b (n.class x == n.class y)) (truths (Literal true Equal ts) (subst (Contains (told fs)) (sym (told_plain sign Equal ts c)) c))
       ∙ ap (λ k. beq (m.truth (Literal true Equal ts)) (k == n.class y)) (outer sign Equal ts c x (contains_head x (y ∷ [])))
-      ∙ ap (λ k. beq (m.truth (Literal true Equal ts)) (m.class x == k)) (outer sign Equal ts c y (contains_cons x (y ∷ []) y (contains_head y [])))
+      ∙ ap (λ k. beq (m.truth (Literal true Equal ts)) (moved (m.class x) == k)) (outer sign Equal ts c y (contains_cons x (y ∷ []) y (contains_head y [])))
+      ∙ ap (beq (m.truth (Literal true Equal ts))) (once (m.class x) (m.class y))
   inside_alike f c = refl
 
   told_alike : (p : Formula) → Contains (told fs) p → as_told n p ≡ as_told m p

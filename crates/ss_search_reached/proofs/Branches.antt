@@ -12,7 +12,8 @@ use Rattle.ss_logic_countermodels.specs.Refuting.{told_in}
 use Rattle.ss_terms.specs.declared.forms.FormulaId.{FormulaId}
 use Rattle.ss_terms.specs.Forms.{Forms, formula_at, formulas_at, HasFormulas}
 use Rattle.ss_rules_occurring.specs.Found.{AreMarked, formula_number}
-use Rattle.ss_search_procedure_rules.specs.Closed.{Includes, basics, IsMet, TwoMayHold}
+use Rattle.ss_logic_occurring.specs.Includes.{Includes}
+use Rattle.ss_search_procedure_rules.specs.Closed.{basics, IsSatisfied, TwoMayHold}
 use Rattle.ss_search_procedure_rules.proofs.Lists.{contains_none, map_from, map_to, any_at}
 use Rattle.ss_search_reached.specs.declared.looking.Looking.{Looking}
 use Rattle.ss_search_reached.specs.Following.{Occur, IsOpenBranch, AreUnits}
@@ -30,7 +31,7 @@ marked_known b set known f h m =
     let g = map_from formula_number known r.0 r.1 in
     subst (λ x. Contains (formulas_at b known) (formula_at b x)) (sym (one_id f g.0 (eqb-true f.0 r.0 r.2 ∙ sym g.2))) (map_to (formula_at b) known g.0 g.1)
 
-pub met : (b : Forms) (known : List Formula) (fs : List FormulaId) (f : FormulaId) → Contains fs f → Contains known (formula_at b f) → IsMet known (formulas_from (formulas_at b fs))
+pub met : (b : Forms) (known : List Formula) (fs : List FormulaId) (f : FormulaId) → Contains fs f → Contains known (formula_at b f) → IsSatisfied known (formulas_from (formulas_at b fs))
 met b known fs f c k = (formula_at b f, part_there b fs f c, k)
 
 -- ---- one branch
@@ -42,8 +43,8 @@ module _ (s : Looking) (fs : List FormulaId) where
   abbrev parts : Formulas
   parts = formulas_from (formulas_at s.bank.now fs)
 
-  pub met_branch : IsMet (known_at s) parts → IsOpenBranch (known_at s) (known_at s) (Or parts)
-  met_branch h gs e = inl (subst (IsMet (known_at s)) (or_parts parts gs e) h)
+  pub met_branch : IsSatisfied (known_at s) parts → IsOpenBranch (known_at s) (known_at s) (Or parts)
+  met_branch h gs e = inl (subst (IsSatisfied (known_at s)) (or_parts parts gs e) h)
 
   pub open_branch : (i j : ℕ) → HoldsFrom s fs 0 i → HoldsFrom s fs (i + 1) j → IsOpenBranch (known_at s) (known_at s) (Or parts)
   open_branch i j p q gs e = inr (subst (TwoMayHold (basics (known_at s))) (or_parts parts gs e)
@@ -72,7 +73,7 @@ other_branch s f g e n fs k = absurd (true≢false (sym (ap is_or (sym e ∙ k))
 
 -- ---- all of them
 
-met_more : (known more : List Formula) (fs : Formulas) → Includes more known → IsMet known fs → IsMet more fs
+met_more : (known more : List Formula) (fs : Formulas) → Includes more known → IsSatisfied known fs → IsSatisfied more fs
 met_more known more fs i h = (h.0, h.1, i h.0 h.2)
 
 open_more : (known fs gs : List Formula) (f : Formula) → Includes gs fs → IsOpenBranch known fs f → IsOpenBranch known gs f

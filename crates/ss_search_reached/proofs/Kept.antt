@@ -11,7 +11,7 @@ use Rattle.ss_terms.specs.declared.forms.TermId.{TermId}
 use Rattle.ss_terms.specs.declared.forms.FormulaId.{FormulaId}
 use Rattle.ss_terms.specs.Forms.{Forms, TermShape, term_at, formula_at, HasTerm}
 use Rattle.ss_equality_rules.specs.declared.Merge.{Merge}
-use Rattle.ss_equality_rules.specs.Equal.{IsEqual, merged, itself, back, through, applied, Standing, AreFormsOf}
+use Rattle.ss_equality_rules.specs.Equal.{IsEqual, merged, itself, back, through, applied, Equations, AreFormsOf}
 use Rattle.ss_search_clashes.specs.Numbered.{AreMerged}
 use Rattle.ss_search_procedure_rules.proofs.Lists.{contains_none, contains_split}
 use Rattle.ss_search_reached.specs.Known.{AreOneName, merges_at, AreKept}
@@ -97,7 +97,7 @@ at_length (c ∷ cs) d = at_length cs d
 begins_long : (ms ns : List Merge) → take (length ms) ns ≡ ms → length ms ≤ length ns
 begins_long ms ns e = let l = sym (length-take (length ms) ns) ∙ ap length e in omega (arith, l)
 
-module _ (b : Forms) (known : List FormulaId) (counts : List ℕ) (s : Standing) (kept : AreKept b known counts s) where
+module _ (b : Forms) (known : List FormulaId) (counts : List ℕ) (s : Equations) (kept : AreKept b known counts s) where
   abbrev pub at : ℕ → ℕ
   at k = merges_at counts s.merges k
 
@@ -116,7 +116,7 @@ module _ (b : Forms) (known : List FormulaId) (counts : List ℕ) (s : Standing)
   all_names x y hx hy nx ny = taken_equal s.terms (at 0) s.merges (kept.names x y hx hy nx ny)
 
   -- one more is known
-  module _ (f : FormulaId) (s' : Standing) (terms : s'.terms ≡ s.terms) (begins : take (length s.merges) s'.merges ≡ s.merges) (last : AreMerged b s'.terms s'.merges (f ∷ [])) where
+  module _ (f : FormulaId) (s' : Equations) (terms : s'.terms ≡ s.terms) (begins : take (length s.merges) s'.merges ≡ s.merges) (last : AreMerged b s'.terms s'.merges (f ∷ [])) where
     abbrev at' : ℕ → ℕ
     at' k = merges_at (counts ++ length s.merges ∷ []) s'.merges k
 
@@ -165,7 +165,7 @@ module _ (b : Forms) (known : List FormulaId) (counts : List ℕ) (s : Standing)
     }
 
 -- one less is known
-module _ (b : Forms) (known : List FormulaId) (f : FormulaId) (counts : List ℕ) (n : ℕ) (s : Standing) (kept : AreKept b (known ++ f ∷ []) (counts ++ n ∷ []) s) where
+module _ (b : Forms) (known : List FormulaId) (f : FormulaId) (counts : List ℕ) (n : ℕ) (s : Equations) (kept : AreKept b (known ++ f ∷ []) (counts ++ n ∷ []) s) where
   abbrev pub was : ℕ → ℕ
   was k = merges_at (counts ++ n ∷ []) s.merges k
 
@@ -184,7 +184,7 @@ module _ (b : Forms) (known : List FormulaId) (f : FormulaId) (counts : List ℕ
       let p = past_push counts n (length s.merges) (suc (length known)) (omega (arith, as_long)) in
       omega (arith, r, p, was_last)
 
-  module _ (s' : Standing) (terms : s'.terms ≡ s.terms) (merges : s'.merges ≡ take n s.merges) where
+  module _ (s' : Equations) (terms : s'.terms ≡ s.terms) (merges : s'.merges ≡ take n s.merges) where
     as_many : length s'.merges ≡ n
     as_many = ap length merges ∙ length-take-le n s.merges few_merges
 

@@ -13,7 +13,7 @@ pub mod Branches
 pub mod Groups
 pub mod Links
 pub mod Sums
-pub mod Stable
+pub mod Saturated
 pub mod Turns
 pub mod Alike
 pub mod Total

@@ -12,7 +12,7 @@ use Rattle.ss_terms.specs.Forms.{Forms, formula_at, formulas_at, HasFormula, Has
 use Rattle.ss_terms.specs.Apart.{AreApart}
 use Rattle.ss_rules_occurring.specs.Found.{AreMarked, formula_number}
 use Rattle.ss_rules_occurring.proofs.Finding.{marked_none, marked_more}
-use Rattle.ss_equality_rules.specs.Equal.{Standing, AreFormsOf}
+use Rattle.ss_equality_rules.specs.Equal.{Equations, AreFormsOf}
 use Rattle.ss_search_clashes.specs.Numbered.{AreMerged}
 use Rattle.ss_search_reached.specs.declared.reached.Reached.{Reached}
 use Rattle.ss_search_reached.specs.Known.{known_in, AreOneName, merges_at, AreKept, IsReached}
@@ -20,7 +20,7 @@ use Rattle.ss_search_reached.proofs.Lists.{HasFormulas-push}
 use Rattle.ss_search_reached.proofs.Marks.{knows_right, less_has, less_once, less_listed, front_distinct, marked_less}
 use Rattle.ss_search_reached.proofs.Kept.{merged_none, kept_more, kept_less, as_long, was_last}
 
-kept_none : (b : Forms) (s : Standing) → AreFormsOf b s.terms → AreOneName b s.terms s.merges → AreKept b [] [] s
+kept_none : (b : Forms) (s : Equations) → AreFormsOf b s.terms → AreOneName b s.terms s.merges → AreKept b [] [] s
 kept_none b s forms names = record {
   forms = forms;
   long = refl;
@@ -80,13 +80,13 @@ module _ (b : Forms) (old new : Reached) (f : FormulaId) (n : ℕ) (h : IsReache
         has = less_has b new.known.items f (subst (HasFormulas b) known h.has);
         once = front_distinct (map formula_number new.known.items) f.0 once;
         marked = marked_less old.numbers new.numbers (map formula_number new.known.items) f.0 once numbers (less_listed old.numbers old.known.items new.known.items f known h.marked);
-        kept = kept_less b new.known.items f new.merges.items n old.congruence kept_was new.congruence (ap (λ (s : Standing). s.terms) e) (ap (λ (s : Standing). s.merges) e);
+        kept = kept_less b new.known.items f new.merges.items n old.congruence kept_was new.congruence (ap (λ (s : Equations). s.terms) e) (ap (λ (s : Equations). s.merges) e);
       }
 
   pub merges_less : new.congruence ≡ record { terms = old.congruence.terms; merges = take n old.congruence.merges } → new.congruence.merges ≡ take (merges_at old.merges.items old.congruence.merges (length new.known.items)) old.congruence.merges
   merges_less e =
       let last = ap (λ (counts : List ℕ). merges_at counts old.congruence.merges (length new.known.items)) merges ∙ was_last b new.known.items f new.merges.items n old.congruence kept_was in
-      ap (λ (s : Standing). s.merges) e ∙ ap (λ (k : ℕ). take k old.congruence.merges) (sym last)
+      ap (λ (s : Equations). s.merges) e ∙ ap (λ (k : ℕ). take k old.congruence.merges) (sym last)
 
   pub counts_less : new.merges.items ≡ take (length new.known.items) old.merges.items
   counts_less = sym (ap (take (length new.known.items)) merges ∙ take_at new.merges.items (n ∷ []) (length new.known.items) (as_long b new.known.items f new.merges.items n old.congruence kept_was))

@@ -4,7 +4,7 @@ use Rattle.std.specs.Prelude.{slice_index_or}
 use Rattle.std.proofs.lemmas.Bool.{cases_lt}
 use Rattle.std.proofs.lemmas.List.{take_all, take-take, length-take}
 use Rattle.ss_terms.specs.Forms.{Forms}
-use Rattle.ss_equality_rules.specs.Equal.{Standing}
+use Rattle.ss_equality_rules.specs.Equal.{Equations}
 use Rattle.ss_search_reached.specs.declared.reached.Reached.{Reached}
 use Rattle.ss_search_reached.specs.Known.{merges_at, IsReached, Remembers}
 use Rattle.ss_search_reached.proofs.Fronts.{front_itself, front_trans, front_push}
@@ -30,9 +30,9 @@ remembers_itself b r h = record {
 pub remembers_alike : (b : Forms) (old new : Reached) → IsReached b old → new.merges.items ≡ old.merges.items → new.congruence ≡ old.congruence → Remembers old new
 remembers_alike b old new h merges congruence = record {
   counts = ap (take (length old.merges.items)) merges ∙ front_itself old.merges.items;
-  begins = ap (λ (s : Standing). take (length old.congruence.merges) s.merges) congruence ∙ front_itself old.congruence.merges;
+  begins = ap (λ (s : Equations). take (length old.congruence.merges) s.merges) congruence ∙ front_itself old.congruence.merges;
   next = ap (λ (counts : List ℕ). merges_at counts new.congruence.merges (length old.known.items)) merges
-      ∙ ap (λ (s : Standing). merges_at old.merges.items s.merges (length old.known.items)) congruence
+      ∙ ap (λ (s : Equations). merges_at old.merges.items s.merges (length old.known.items)) congruence
       ∙ at_now b old.known.items old.merges.items old.congruence h.kept;
 }
 

@@ -15,12 +15,12 @@ use Rattle.ss_terms.specs.declared.forms.TermId.{TermId}
 use Rattle.ss_terms.specs.declared.forms.FormulaId.{FormulaId}
 use Rattle.ss_terms.specs.Forms.{Forms, term_at, terms_at, formulas_at, HasTerm, HasTerms}
 use Rattle.ss_equality_rules.specs.Equal.{class_number}
-use Rattle.ss_linear.specs.Contradictions.{equality_at, equalities_at, HasPairs}
+use Rattle.ss_linear.specs.Contradictions.{equality_at, equalities_at, HasPairs, Pairs}
 use Rattle.ss_linear.specs.Met.{Follow, AreMet}
 use Rattle.ss_linear.proofs.Seen.{both_met, no_two}
 use Rattle.ss_search_clashes.specs.Numbered.{class_of, IsClassing}
 use Rattle.ss_search_procedure_rules.proofs.Lists.{contains_filter, from_filter, contains_head, contains_cons, map_from, map_to}
-use Rattle.ss_search_reached.specs.Groups.{Pairs, AreAmong, ArePairs, AreOfOneClass, IsWholeIn, AreWholePairs, AreChained, AreWholeLinks}
+use Rattle.ss_search_reached.specs.Groups.{AreAmong, ArePairs, AreOfOneClass, IsWholeIn, AreWholePairs, AreChained, AreWholeLinks}
 use Rattle.ss_search_reached.specs.Following.{HasNoSum}
 use Rattle.ss_search_reached.proofs.Lists.{has_term}
 use Rattle.ss_search_reached.proofs.Links.{chain_among, two_of_one, all_two, two_follow}

@@ -1,8 +1,9 @@
 -- The model that is told of what is known.
 use Rattle.std.proofs.Common.{◌≡◌, ℕ, suc, ◌+◌, List, [], ◌∷◌, ◌++◌, length, map, Bool, true, false, refl, sym, ◌∙◌, ap, subst, ◌⊎◌, ⊎_elim, arith}
-use Rattle.std.specs.Prelude.{◌↔◌, slice_index_or, if◌then◌else◌}
+use Rattle.std.specs.Prelude.{◌↔◌, ◌==◌, slice_index_or, if◌then◌else◌}
 use Rattle.std.specs.List.{Contains}
-use Rattle.std.proofs.lemmas.Bool.{true≢false, false≢true, cases_Bool}
+use Rattle.std.proofs.lemmas.Bool.{true≢false, false≢true, cases_Bool, eqb-true, eq-eqb}
+use Rattle.std.proofs.lemmas.List.{length-map}
 use Rattle.std.proofs.lemmas.List.Elements.{Contains-append_left, Contains-append_right, Contains-append_cases}
 use Rattle.ss_core.specs.Tree.{ClassTree}
 use Rattle.ss_bit_set.specs.Marked.{marked}
@@ -10,7 +11,8 @@ use Rattle.ss_logic.specs.Terms.{Symbol, Term, Bound, App, Terms, no_terms, term
 use Rattle.ss_logic.specs.Formulas.{Predicate, Formula, Formulas, Literal, And, Or, Forall, Exists, no_formulas, formula_then, formulas_from, neg}
 use Rattle.ss_logic.specs.Equal.{same_term, equal_terms, same_term_equal, same_formula, equal_formulas, same_formula_equal}
 use Rattle.ss_logic_ground.specs.Occurring.{atoms_in, all_atoms_in, atoms, terms}
-use Rattle.ss_logic_countermodels.specs.Refuting.{Model, Refutes, told_in, all_told_in, told, model_of, place_among}
+use Rattle.ss_logic_countermodels.specs.declared.Countermodel.{Countermodel}
+use Rattle.ss_logic_countermodels.specs.Refuting.{Model, Refutes, IsCountermodel, told_in, all_told_in, told, model_of, place_among}
 use Rattle.ss_terms.specs.declared.forms.TermId.{TermId}
 use Rattle.ss_terms.specs.declared.forms.FormulaId.{FormulaId}
 use Rattle.ss_terms.specs.Forms.{Forms, TermShape, BoundShape, AppShape, Shape, LiteralShape, AndShape, OrShape, ForallShape, ExistsShape, ShapeBelow, predicate_of, formula_of, term_at, terms_at, term_of, formula_at, formulas_at, HasTerm, HasTerms, HasFormulas, AreTermsBelow, TermBelow}
@@ -19,36 +21,36 @@ use Rattle.ss_equality_rules.specs.Equal.{AreFormsOf, class_number}
 use Rattle.ss_terms.proofs.Sorted.{list_back}
 use Rattle.ss_equality_rules.proofs.Lists.{there}
 use Rattle.ss_search_clashes.specs.Numbered.{class_of, IsClassing}
-use Rattle.ss_search_procedure_rules.specs.Closed.{Includes, basics, IsTotal}
+use Rattle.ss_logic_occurring.specs.Includes.{Includes}
+use Rattle.ss_search_procedure_rules.specs.Closed.{basics, IsTotal}
 use Rattle.ss_search_procedure_rules.specs.Clashes.{model_by}
 use Rattle.ss_search_procedure_rules.proofs.Lists.{contains_head, contains_cons, contains_none, contains_split, map_from, map_to}
 use Rattle.ss_search_procedure_rules.proofs.Occurring.{subterms, all_subterms, terms_in, from_all, all_there, from_collected, to_collected}
 use Rattle.ss_search_reached.specs.declared.reached.Reached.{Reached}
 use Rattle.ss_search_reached.specs.Known.{known_in, is_name, IsReached}
 use Rattle.ss_search_reached.specs.Following.{AreOneClass, IsOpen}
-use Rattle.ss_search_reached.specs.Models.{HasNumber, HasArguments}
+use Rattle.ss_search_reached.specs.Models.{HasNumber, HasArguments, renumbered}
 use Rattle.ss_search_reached.proofs.Lists.{single, has_formula, has_term}
 use Rattle.ss_search_reached.proofs.Marks.{knows_right}
-use Rattle.ss_search_reached.proofs.Stable.{open_is_stable, open_model}
+use Rattle.ss_search_reached.proofs.Saturated.{open_is_saturated, open_model}
 use Rattle.ss_search_reached.proofs.Total.{known_truth, told_true, refutes_known}
 use Rattle.ss_search_reached.proofs.Alike.{refutes_alike}
 
 -- ---- what is listed by first occurrence
 
-listed_term : (h : Term → ℕ) (xs : List Term) (es : List ℕ) (t : Term) → Contains xs t → slice_index_or (map h xs ++ es) (place_among (same_term t) xs) 0 ≡ h t
-listed_term h [] es t c = absurd (contains_none t c)
-listed_term h (x ∷ xs) es t c = by (same_term t x) refl (λ k. listed_term h xs es t k)
+listed_term : (h : Term → ℕ) (xs : List Term) (t : Term) → Contains xs t → slice_index_or (map h xs) (place_among (same_term t) xs) 0 ≡ h t
+listed_term h [] t c = absurd (contains_none t c)
+listed_term h (x ∷ xs) t c = by (same_term t x) refl (λ k. listed_term h xs t k)
   where
-    by : (b : Bool) → same_term t x ≡ b → (Contains xs t → slice_index_or (map h xs ++ es) (place_among (same_term t) xs) 0 ≡ h t) →
-        slice_index_or (h x ∷ map h xs ++ es) (if b then 0 else suc (place_among (same_term t) xs)) 0 ≡ h t
+    by : (b : Bool) → same_term t x ≡ b → (Contains xs t → slice_index_or (map h xs) (place_among (same_term t) xs) 0 ≡ h t) → slice_index_or (h x ∷ map h xs) (if b then 0 else suc (place_among (same_term t) xs)) 0 ≡ h t
     by true e rest = ap h (sym (equal_terms t x e))
     by false e rest = rest (⊎_elim (λ s. absurd (false≢true (sym e ∙ same_term_equal t x (sym s)))) (λ k. k) (contains_split x xs t c))
 
-unlisted_term : (h : Term → ℕ) (xs : List Term) (e : ℕ) (t : Term) → (Contains xs t → ⊥) → slice_index_or (map h xs ++ e ∷ []) (place_among (same_term t) xs) 0 ≡ e
-unlisted_term h [] e t n = refl
-unlisted_term h (x ∷ xs) e t n = by (same_term t x) refl (unlisted_term h xs e t (λ c. n (contains_cons x xs t c)))
+unlisted_term : (h : Term → ℕ) (xs : List Term) (t : Term) → (Contains xs t → ⊥) → slice_index_or (map h xs) (place_among (same_term t) xs) 0 ≡ 0
+unlisted_term h [] t n = refl
+unlisted_term h (x ∷ xs) t n = by (same_term t x) refl (unlisted_term h xs t (λ c. n (contains_cons x xs t c)))
   where
-    by : (b : Bool) → same_term t x ≡ b → slice_index_or (map h xs ++ e ∷ []) (place_among (same_term t) xs) 0 ≡ e → slice_index_or (h x ∷ map h xs ++ e ∷ []) (if b then 0 else suc (place_among (same_term t) xs)) 0 ≡ e
+    by : (b : Bool) → same_term t x ≡ b → slice_index_or (map h xs) (place_among (same_term t) xs) 0 ≡ 0 → slice_index_or (h x ∷ map h xs) (if b then 0 else suc (place_among (same_term t) xs)) 0 ≡ 0
     by true s rest = absurd (n (subst (Contains (x ∷ xs)) (sym (equal_terms t x s)) (contains_head x xs)))
     by false s rest = rest
 
@@ -60,7 +62,32 @@ listed_formula h (x ∷ xs) p c = by (same_formula p x) refl (λ k. listed_formu
     by true e rest = ap h (sym (equal_formulas p x e))
     by false e rest = rest (⊎_elim (λ s. absurd (false≢true (sym e ∙ same_formula_equal p x (sym s)))) (λ k. k) (contains_split x xs p c))
 
--- numbers that stand for terms and formulas
+-- ---- classes by other numbers
+
+same_bool : (p q : Bool) → (p ≡ true → q ≡ true) → (q ≡ true → p ≡ true) → p ≡ q
+same_bool true q f g = sym (f refl)
+same_bool false true f g = g refl
+same_bool false false f g = refl
+
+renumbered_apart : (names a b : ℕ) → renumbered names a ≡ renumbered names b → a ≡ b
+renumbered_apart names a b e = by (a == names) (b == names) refl refl e
+  where
+    by : (p q : Bool) → (a == names) ≡ p → (b == names) ≡ q → (if p then 0 else a + 1) ≡ (if q then 0 else b + 1) → a ≡ b
+    by true true x y z = eqb-true a names x ∙ sym (eqb-true b names y)
+    by true false x y z = let w : 0 ≡ b + 1 = z in absurd (omega (arith, w))
+    by false true x y z = let w : a + 1 ≡ 0 = z in absurd (omega (arith, w))
+    by false false x y z = let w : a + 1 ≡ b + 1 = z in omega (arith, w)
+
+renumbered_once : (names a b : ℕ) → (renumbered names a == renumbered names b) ≡ (a == b)
+renumbered_once names a b = same_bool (renumbered names a == renumbered names b) (a == b)
+    (λ e. eq-eqb a b (renumbered_apart names a b (eqb-true (renumbered names a) (renumbered names b) e)))
+    (λ e. eq-eqb (renumbered names a) (renumbered names b) (ap (renumbered names) (eqb-true a b e)))
+
+renumbered_names : (names k : ℕ) → k ≡ names → renumbered names k ≡ 0
+renumbered_names names k e = ap (λ (p : Bool). if p then 0 else k + 1) (eq-eqb k names e)
+
+-- ---- numbers that stand for terms and formulas
+
 terms_mapped : (b : Forms) (h : TermId → ℕ) (g : Term → ℕ) (ts : List TermId) → HasTerms b ts → ((t : TermId) → HasTerm b t → h t ≡ g (term_at b t)) → map h ts ≡ map g (terms_at b ts)
 terms_mapped b h g [] has e = refl
 terms_mapped b h g (t ∷ ts) has e = ap (λ n. n ∷ map h ts) (e t has.0) ∙ ap (λ ns. g (term_at b t) ∷ ns) (terms_mapped b h g ts has.1 e)
@@ -189,7 +216,7 @@ module _ (cs : List ClassTree) (b : Forms) (apart : AreApart b) (r : Reached) (r
   class = class_of b r.classes.items
 
   abbrev m : Model
-  m = (open_is_stable cs b r whole).model
+  m = (open_is_saturated cs b r whole).model
 
   is : m ≡ model_by class (basics (known_in b r))
   is = open_model cs b r whole
@@ -197,8 +224,11 @@ module _ (cs : List ClassTree) (b : Forms) (apart : AreApart b) (r : Reached) (r
   class_is : (x : Term) → m.class x ≡ class x
   class_is x = ap (λ (z : Model). z.class x) is
 
+  abbrev moved : ℕ → ℕ
+  moved = renumbered last
+
   abbrev numbers : List ℕ
-  numbers = map (class_number r.classes.items) ts ++ last ∷ []
+  numbers = map (λ t. moved (class_number r.classes.items t)) ts
 
   abbrev values : List Bool
   values = map (λ f. marked r.numbers f.0) choices
@@ -206,8 +236,8 @@ module _ (cs : List ClassTree) (b : Forms) (apart : AreApart b) (r : Reached) (r
   abbrev n : Model
   n = model_of fs numbers values
 
-  numbers_are : numbers ≡ map class (terms fs) ++ last ∷ []
-  numbers_are = ap (λ ns. ns ++ last ∷ []) (terms_mapped b (class_number r.classes.items) class ts has_terms (λ t h. sym (classing.at t h)) ∙ ap (map class) these)
+  numbers_are : numbers ≡ map (λ x. moved (class x)) (terms fs)
+  numbers_are = terms_mapped b (λ t. moved (class_number r.classes.items t)) (λ x. moved (class x)) ts has_terms (λ t h. ap moved (sym (classing.at t h))) ∙ ap (map (λ x. moved (class x))) these
 
   is_choice : (f : FormulaId) → Contains choices f → Contains (told fs) (formula_at b f)
   is_choice f c = subst (λ gs. Contains gs (formula_at b f)) told_is (map_to (formula_at b) choices f c)
@@ -219,10 +249,10 @@ module _ (cs : List ClassTree) (b : Forms) (apart : AreApart b) (r : Reached) (r
   truth_of f c = ⊎_elim
       (λ k. (marks f c).1 k.0 ∙ sym k.1)
       (λ k. ⊎_elim
-      (λ t. absurd (true≢false (sym (told_true cs (known_in b r) fs class (open_is_stable cs b r whole) is whole.sums total i (formula_at b f) (is_choice f c) ((marks f c).0 t)) ∙ k.1)))
+      (λ t. absurd (true≢false (sym (told_true cs (known_in b r) fs class (open_is_saturated cs b r whole) is whole.sums total i (formula_at b f) (is_choice f c) ((marks f c).0 t)) ∙ k.1)))
       (λ e. e ∙ sym k.1)
       (cases_Bool (marked r.numbers f.0)))
-      (known_truth cs (known_in b r) fs class (open_is_stable cs b r whole) is whole.sums total i (formula_at b f) (is_choice f c))
+      (known_truth cs (known_in b r) fs class (open_is_saturated cs b r whole) is whole.sums total i (formula_at b f) (is_choice f c))
 
   values_are : values ≡ map m.truth (told fs)
   values_are = formulas_mapped b (λ f. marked r.numbers f.0) m.truth choices truth_of ∙ ap (map m.truth) told_is
@@ -230,28 +260,35 @@ module _ (cs : List ClassTree) (b : Forms) (apart : AreApart b) (r : Reached) (r
   truths : (p : Formula) → Contains (told fs) p → n.truth p ≡ m.truth p
   truths p c = ap (λ vs. slice_index_or vs (place_among (same_formula p) (told fs)) false) values_are ∙ listed_formula m.truth (told fs) p c
 
-  listed : (x : Term) → Contains (terms fs) x → n.class x ≡ m.class x
-  listed x c = ap (λ ns. slice_index_or ns (place_among (same_term x) (terms fs)) 0) numbers_are ∙ listed_term class (terms fs) (last ∷ []) x c ∙ sym (class_is x)
+  listed : (x : Term) → Contains (terms fs) x → n.class x ≡ moved (m.class x)
+  listed x c = ap (λ ns. slice_index_or ns (place_among (same_term x) (terms fs)) 0) numbers_are ∙ listed_term (λ y. moved (class y)) (terms fs) x c ∙ ap moved (sym (class_is x))
 
-  unlisted : (x : Term) → HasNumber b x → is_name x ≡ true → n.class x ≡ m.class x
+  unlisted : (x : Term) → HasNumber b x → is_name x ≡ true → n.class x ≡ moved (m.class x)
   unlisted x h name =
       ap (λ ns. slice_index_or ns (place_among (same_term x) (terms fs)) 0) numbers_are
-      ∙ unlisted_term class (terms fs) last x (λ c. true≢false (sym name ∙ no_name fs x c))
-      ∙ sym (names whole.names h.term h.has (ap is_name h.is ∙ name))
-      ∙ sym (classing.at h.term h.has) ∙ ap class h.is ∙ sym (class_is x)
+      ∙ unlisted_term (λ y. moved (class y)) (terms fs) x (λ c. true≢false (sym name ∙ no_name fs x c))
+      ∙ sym (renumbered_names last (m.class x) (class_is x ∙ ap class (sym h.is) ∙ classing.at h.term h.has ∙ names whole.names h.term h.has (ap is_name h.is ∙ name)))
 
-  either : (x : Term) → HasNumber b x → (is_name x ≡ false → Contains (terms fs) x) → n.class x ≡ m.class x
+  either : (x : Term) → HasNumber b x → (is_name x ≡ false → Contains (terms fs) x) → n.class x ≡ moved (m.class x)
   either x h there = ⊎_elim (λ e. unlisted x h e) (λ e. listed x (there e)) (cases_Bool (is_name x))
 
-  inner : (f : Symbol) (us : Terms) → Contains (terms fs) (App f us) → (x : Term) → Contains (term_list us) x → n.class x ≡ m.class x
+  inner : (f : Symbol) (us : Terms) → Contains (terms fs) (App f us) → (x : Term) → Contains (term_list us) x → n.class x ≡ moved (m.class x)
   inner f us c x d =
       let t = map_from (term_at b) ts (App f us) (subst (λ xs. Contains xs (App f us)) (sym these) c) in
       either x (inner_numbers b r.congruence.terms reached.kept.forms t.0 f us (has_term b ts t.0 has_terms t.1) t.2 x d) (inner_there fs f us c x d)
 
-  outer : (sign : Bool) (p : Predicate) (us : Terms) → Contains (told fs) (Literal sign p us) → (x : Term) → Contains (term_list us) x → n.class x ≡ m.class x
+  outer : (sign : Bool) (p : Predicate) (us : Terms) → Contains (told fs) (Literal sign p us) → (x : Term) → Contains (term_list us) x → n.class x ≡ moved (m.class x)
   outer sign p us c x d =
       let f = map_from (formula_at b) choices (Literal sign p us) (subst (λ gs. Contains gs (Literal sign p us)) (sym told_is) c) in
       either x (arguments f.0 f.1 sign p us f.2 x d) (outer_there fs sign p us c x d)
 
-  pub told_model : Refutes cs n fs
-  told_model = refutes_alike m n fs truths listed inner outer cs (refutes_known cs (known_in b r) fs class (open_is_stable cs b r whole) is whole.sums total i)
+  -- the model that the lists are
+  told_model : Refutes cs n fs
+  told_model = refutes_alike m n moved (renumbered_once last) fs truths listed inner outer cs (refutes_known cs (known_in b r) fs class (open_is_saturated cs b r whole) is whole.sums total i)
+
+  pub told_countermodel : (c : Countermodel) → c.classes.items ≡ numbers → c.truth.items ≡ values → IsCountermodel cs fs c
+  told_countermodel c ns vs = record {
+    classes = ap length ns ∙ length-map ts (λ t. moved (class_number r.classes.items t)) ∙ sym (length-map ts (term_at b)) ∙ ap length these;
+    truth = ap length vs ∙ length-map choices (λ f. marked r.numbers f.0) ∙ sym (length-map choices (formula_at b)) ∙ ap length told_is;
+    refutes = subst (λ (ks : List ℕ). Refutes cs (model_of fs ks c.truth.items) fs) (sym ns) (subst (λ (ws : List Bool). Refutes cs (model_of fs numbers ws) fs) (sym vs) told_model);
+  }

@@ -8,7 +8,8 @@ use Rattle.ss_core.specs.Tree.{ClassTree}
 use Rattle.ss_logic.specs.Formulas.{Formula, neg}
 use Rattle.ss_logic_ground.specs.Occurring.{atoms, terms}
 use Rattle.ss_logic_countermodels.specs.Refuting.{Model, Refutes, comes_out, told_in, told, as_told, is_whole, equalities, facts_of}
-use Rattle.ss_search_procedure_rules.specs.Closed.{Includes, is_basic, basics, IsStable, IsTotal}
+use Rattle.ss_logic_occurring.specs.Includes.{Includes}
+use Rattle.ss_search_procedure_rules.specs.Closed.{is_basic, basics, IsSaturated, IsTotal}
 use Rattle.ss_search_procedure_rules.specs.Clashes.{Classing, model_by}
 use Rattle.ss_search_procedure_rules.proofs.Lists.{contains_filter, from_filter, map_from, all_at}
 use Rattle.ss_search_procedure_rules.proofs.Occurring.{from_collected, terms_of_more}
@@ -22,12 +23,12 @@ not_true : (b : Bool) → not b ≡ true → b ≡ false
 not_true true e = absurd (false≢true e)
 not_true false e = refl
 
-module _ (cs : List ClassTree) (known fs : List Formula) (class : Classing) (stable : IsStable cs known) (is : stable.model ≡ model_by class (basics known)) (sums : HasNoSum cs class (basics known)) (total : IsTotal known) (i : Includes known fs) where
+module _ (cs : List ClassTree) (known fs : List Formula) (class : Classing) (saturated : IsSaturated cs known) (is : saturated.model ≡ model_by class (basics known)) (sums : HasNoSum cs class (basics known)) (total : IsTotal known) (i : Includes known fs) where
   abbrev m : Model
-  m = stable.model
+  m = saturated.model
 
   basic_true : (f : Formula) → is_basic f ≡ true → Contains known f → comes_out m f ≡ true
-  basic_true f b h = all_at (comes_out m) (basics known) f stable.refutes.agrees.true_ones (contains_filter is_basic known f h b)
+  basic_true f b h = all_at (comes_out m) (basics known) f saturated.refutes.agrees.true_ones (contains_filter is_basic known f h b)
 
   -- what is told is true where it is known, and false where its negation is
   pub known_truth : (p : Formula) → Contains (told fs) p → (Contains known p × (m.truth p ≡ true)) ⊎ (Contains known (neg p) × (m.truth p ≡ false))
@@ -55,7 +56,7 @@ module _ (cs : List ClassTree) (known fs : List Formula) (class : Classing) (sta
       (known_truth p h)
 
   terms_there : Includes (terms (basics known)) (terms fs)
-  terms_there = terms_of_more (atoms fs) (atoms (basics known)) (atoms_of_more (basics known) fs (tells cs known stable total fs i))
+  terms_there = terms_of_more (atoms fs) (atoms (basics known)) (atoms_of_more (basics known) fs (tells cs known saturated total fs i))
 
   facts_there : Includes sums.facts (facts_of cs m fs)
   facts_there f h = ⊎_elim
@@ -70,6 +71,6 @@ module _ (cs : List ClassTree) (known fs : List Formula) (class : Classing) (sta
 
   pub refutes_known : Refutes cs m fs
   refutes_known = record {
-    agrees = agreeing cs known stable total fs i;
+    agrees = agreeing cs known saturated total fs i;
     numbers = λ t. sums.none (two_of_more cs (facts_of cs m fs) sums.facts facts_there t);
   }

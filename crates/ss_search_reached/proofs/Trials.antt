@@ -10,7 +10,7 @@ use Rattle.ss_terms.specs.declared.forms.FormulaId.{FormulaId}
 use Rattle.ss_terms.specs.Forms.{Forms, TermShape, term_at, formula_at, HasTerm}
 use Rattle.ss_terms.specs.Apart.{AreApart}
 use Rattle.ss_equality_rules.specs.declared.Merge.{Merge}
-use Rattle.ss_equality_rules.specs.Equal.{IsEqual, Standing, AreFormsOf}
+use Rattle.ss_equality_rules.specs.Equal.{IsEqual, Equations, AreFormsOf}
 use Rattle.ss_equality_rules.proofs.Lists.{pushed}
 use Rattle.ss_search_clashes.specs.declared.equalities.Equality.{Equality}
 use Rattle.ss_search_clashes.specs.Numbered.{AreMerged}
@@ -42,13 +42,13 @@ denied_sides b f s is e x y k =
 
 -- ---- one more merge
 
-pub still_equal : (old new : Standing) → new.terms ≡ old.terms → take (length old.merges) new.merges ≡ old.merges → (x y : ℕ) → IsEqual old.terms old.merges x y → IsEqual new.terms new.merges x y
+pub still_equal : (old new : Equations) → new.terms ≡ old.terms → take (length old.merges) new.merges ≡ old.merges → (x y : ℕ) → IsEqual old.terms old.merges x y → IsEqual new.terms new.merges x y
 still_equal old new t e x y h = subst (λ ts. IsEqual ts new.merges x y) (sym t) (begun_equal old.terms old.merges new.merges e h)
 
 pub no_merge : (ms : List Merge) → take (length ms) ms ≡ ms
 no_merge ms = take_all (length ms) ms (omega arith)
 
-module _ (b : Forms) (apart : AreApart b) (old new : Standing) (s t : TermId) (because : ℕ) (old_forms : AreFormsOf b old.terms) (new_forms : AreFormsOf b new.terms) (e : new.merges ≡ old.merges ++ record { left = s; right = t; because = because } ∷ []) where
+module _ (b : Forms) (apart : AreApart b) (old new : Equations) (s t : TermId) (because : ℕ) (old_forms : AreFormsOf b old.terms) (new_forms : AreFormsOf b new.terms) (e : new.merges ≡ old.merges ++ record { left = s; right = t; because = because } ∷ []) where
   abbrev last : Merge
   last = record { left = s; right = t; because = because }
 
@@ -70,10 +70,10 @@ module _ (b : Forms) (apart : AreApart b) (old new : Standing) (s t : TermId) (b
   pub fewer : (mark : ℕ) → mark ≡ length old.merges → mark ≤ length new.merges
   fewer mark m = let l = length_push old.merges last in let k = ap length e in omega (arith, m, l, k)
 
-  pub taken_back : (after : Standing) (mark : ℕ) → mark ≡ length old.merges → after ≡ record { terms = new.terms; merges = take mark new.merges } → after ≡ old
+  pub taken_back : (after : Equations) (mark : ℕ) → mark ≡ length old.merges → after ≡ record { terms = new.terms; merges = take mark new.merges } → after ≡ old
   taken_back after mark m u =
-      u ∙ ap (λ (ts : List TermShape). let r : Standing = record { terms = ts; merges = take mark new.merges } in r) same_terms
-      ∙ ap (λ (ms : List Merge). let r : Standing = record { terms = old.terms; merges = ms } in r) (ap (λ n. take n new.merges) m ∙ begins)
+      u ∙ ap (λ (ts : List TermShape). let r : Equations = record { terms = ts; merges = take mark new.merges } in r) same_terms
+      ∙ ap (λ (ms : List Merge). let r : Equations = record { terms = old.terms; merges = ms } in r) (ap (λ n. take n new.merges) m ∙ begins)
 
 pub is_nothing : {A : Type 0} (o : Option A) (none : Bool) → is_some o ≡ not none → none ≡ true → o ≡ None
 is_nothing None none e t = refl

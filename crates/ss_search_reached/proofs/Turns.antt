@@ -8,9 +8,10 @@ use Rattle.ss_logic.specs.Formulas.{Formula}
 use Rattle.ss_bit_set.specs.Marked.{marked}
 use Rattle.ss_terms.specs.declared.forms.FormulaId.{FormulaId}
 use Rattle.ss_terms.specs.Forms.{Forms, formula_at, formulas_at, HasFormulas}
-use Rattle.ss_equality_rules.specs.Equal.{Standing, AreFormsOf, AreClassesOf}
+use Rattle.ss_equality_rules.specs.Equal.{Equations, AreFormsOf, AreClassesOf}
 use Rattle.ss_search_clashes.specs.Numbered.{class_of}
-use Rattle.ss_search_procedure_rules.specs.Closed.{Includes, basics, OccursIn}
+use Rattle.ss_logic_occurring.specs.Includes.{Includes}
+use Rattle.ss_search_procedure_rules.specs.Closed.{basics, OccursIn}
 use Rattle.ss_search_procedure_rules.specs.Clashes.{FitsClasses}
 use Rattle.ss_rules_occurring.specs.Found.{AreMarked, formula_number}
 use Rattle.ss_search_reached.specs.declared.reached.Reached.{Reached}
@@ -19,7 +20,7 @@ use Rattle.ss_search_reached.specs.Following.{Grows, AreSpread, IsOpenBranch, Ar
 use Rattle.ss_search_reached.proofs.Fronts.{front_long, front_itself, front_as_long}
 use Rattle.ss_search_reached.proofs.Marks.{few_known}
 use Rattle.ss_search_reached.proofs.Spread.{grows_on}
-use Rattle.ss_search_reached.proofs.Stable.{units_known}
+use Rattle.ss_search_reached.proofs.Saturated.{units_known}
 
 -- with the same that is known and kept
 pub still_reached : (b : Forms) (old new : Reached) → IsReached b old → new.known.items ≡ old.known.items → marked new.numbers ≡ marked old.numbers → new.merges.items ≡ old.merges.items → new.congruence ≡ old.congruence → IsReached b new
@@ -78,7 +79,7 @@ module _ (b : Forms) (before spread asked last : Reached) (g : Grows b before sp
 
 -- ---- classes that are the same
 
-pub one_class : (b : Forms) (s : Standing) (classes : List ℕ) → AreFormsOf b s.terms → AreClassesOf s.terms s.merges classes → AreOneName b s.terms s.merges → AreOneClass b classes
+pub one_class : (b : Forms) (s : Equations) (classes : List ℕ) → AreFormsOf b s.terms → AreClassesOf s.terms s.merges classes → AreOneName b s.terms s.merges → AreOneClass b classes
 one_class b s classes forms same names x y hx hy nx ny =
     let a = forms.all in
     (same x.0 y.0 (omega (arith, hx, a)) (omega (arith, hy, a))).1 (names x y hx hy nx ny)

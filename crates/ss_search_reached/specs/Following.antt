@@ -13,7 +13,8 @@ use Rattle.ss_terms.specs.declared.forms.FormulaId.{FormulaId}
 use Rattle.ss_terms.specs.Forms.{Forms, term_at, formulas_at, HasTerm, HasFormulas}
 use Rattle.ss_equality_rules.specs.Equal.{class_number}
 use Rattle.ss_search_clashes.specs.Numbered.{class_of}
-use Rattle.ss_search_procedure_rules.specs.Closed.{Includes, basics, IsMet, TwoMayHold, OccursIn}
+use Rattle.ss_logic_occurring.specs.Includes.{Includes}
+use Rattle.ss_search_procedure_rules.specs.Closed.{basics, IsSatisfied, TwoMayHold, OccursIn}
 use Rattle.ss_search_procedure_rules.specs.Clashes.{Classing, FitsClasses}
 use Rattle.ss_search_reached.specs.declared.reached.Reached.{Reached}
 use Rattle.ss_search_reached.specs.Known.{known_in, is_name, IsReached}
@@ -37,7 +38,7 @@ AreSpread known = (f : Formula) → Contains known f → IsSpread known f
 
 -- of an `or` a part is known, or two parts may hold beside the known literals
 abbrev pub IsOpenBranch : List Formula → List Formula → Formula → Type 0
-IsOpenBranch known more f = (fs : Formulas) → f ≡ Or fs → IsMet more fs ⊎ TwoMayHold (basics known) fs
+IsOpenBranch known more f = (fs : Formulas) → f ≡ Or fs → IsSatisfied more fs ⊎ TwoMayHold (basics known) fs
 
 -- With these formulas each `or` among those that were seen has a part that is known or two that may hold.
 pub record AreUnits (b : Forms) (known seen units : List FormulaId) : Type 0 where

@@ -7,10 +7,10 @@ use Rattle.ss_logic.specs.Terms.{Term}
 use Rattle.ss_logic_countermodels.specs.Refuting.{is_whole}
 use Rattle.ss_terms.specs.declared.forms.TermId.{TermId}
 use Rattle.ss_terms.specs.Forms.{Forms, term_at, HasTerm}
-use Rattle.ss_linear.specs.Contradictions.{equalities_at}
+use Rattle.ss_linear.specs.Contradictions.{Pairs, equalities_at}
 use Rattle.ss_linear.specs.Met.{Follow}
 use Rattle.ss_equality_rules.specs.Equal.{class_number}
-use Rattle.ss_search_procedure_rules.specs.Closed.{Includes}
+use Rattle.ss_logic_occurring.specs.Includes.{Includes}
 
 abbrev pub lists_in : List (Vec TermId Global) → List (List TermId)
 lists_in vs = map (λ v. v.items) vs
@@ -22,9 +22,6 @@ group_at gs k = slice_index_or gs k []
 pub record AreGrouped (classes : List ℕ) (ts : List TermId) (gs : List (List TermId)) : Type 0 where
   pub all : (t : TermId) → Contains ts t → Contains (group_at gs (class_number classes t)) t
   pub only : (k : ℕ) (t : TermId) → Contains (group_at gs k) t → Contains ts t × (class_number classes t ≡ k)
-
-abbrev pub Pairs : Type 0
-Pairs = List (TermId × TermId)
 
 -- each of the first terms was paired with each of the second that is another, and nothing else
 pub record ArePaired (ss ts : List TermId) (old new : Pairs) : Type 0 where

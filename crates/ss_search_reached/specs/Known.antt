@@ -8,7 +8,7 @@ use Rattle.ss_terms.specs.declared.forms.FormulaId.{FormulaId}
 use Rattle.ss_terms.specs.Forms.{Forms, TermShape, term_at, formulas_at, HasTerm, HasFormulas}
 use Rattle.ss_rules_occurring.specs.Found.{AreMarked, formula_number}
 use Rattle.ss_equality_rules.specs.declared.Merge.{Merge}
-use Rattle.ss_equality_rules.specs.Equal.{Standing, AreFormsOf, IsEqual}
+use Rattle.ss_equality_rules.specs.Equal.{Equations, AreFormsOf, IsEqual}
 use Rattle.ss_search_clashes.specs.Numbered.{AreMerged}
 use Rattle.ss_search_reached.specs.declared.reached.Reached.{Reached}
 
@@ -37,7 +37,7 @@ merges_at counts ms k = slice_index_or counts k (length ms)
 
 -- The known equalities are merged, those among the first so many by the merges that there were then. The names that nothing binds are merged before
 -- all of them.
-pub record AreKept (b : Forms) (known : List FormulaId) (counts : List ℕ) (s : Standing) : Type 0 where
+pub record AreKept (b : Forms) (known : List FormulaId) (counts : List ℕ) (s : Equations) : Type 0 where
   pub forms : AreFormsOf b s.terms
   pub long : length counts ≡ length known
   pub rise : (j k : ℕ) → j ≤ k → k ≤ length known → merges_at counts s.merges j ≤ merges_at counts s.merges k

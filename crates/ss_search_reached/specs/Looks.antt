@@ -6,7 +6,7 @@ use Rattle.ss_logic.specs.Formulas.{Formula, Formulas, Or, formula_list}
 use Rattle.ss_terms.specs.declared.forms.FormulaId.{FormulaId}
 use Rattle.ss_terms.specs.Forms.{formula_at, formulas_at, HasFormula, HasFormulas}
 use Rattle.ss_rules_occurring.specs.Found.{AreMarked, formula_number}
-use Rattle.ss_equality_rules.specs.Equal.{Standing, AreFormsOf, AreClassesOf}
+use Rattle.ss_equality_rules.specs.Equal.{Equations, AreFormsOf, AreClassesOf}
 use Rattle.ss_search_clashes.specs.Numbered.{AreMerged}
 use Rattle.ss_search_clashes.specs.Tables.{IsTable}
 use Rattle.ss_search_procedure_rules.specs.Closed.{basics, MayHold, OccursIn}
@@ -18,7 +18,7 @@ abbrev pub known_at : Looking → List Formula
 known_at s = formulas_at s.bank.now s.known.now
 
 -- their numbers are marked, and the table has them at the classes of the congruence
-pub record IsLooking (s : Looking) (c : Standing) : Type 0 where
+pub record IsLooking (s : Looking) (c : Equations) : Type 0 where
   pub has : HasFormulas s.bank.now s.known.now
   pub marked : AreMarked s.numbers.now (map formula_number s.known.now)
   pub forms : AreFormsOf s.bank.now c.terms

@@ -1,5 +1,5 @@
--- What holds of the formulas of a bank.
-use Rattle.std.specs.Prelude.{◌≡◌, Bool}
+-- What holds of the formulas of a bank, and the classes of a model.
+use Rattle.std.specs.Prelude.{◌≡◌, ℕ, ◌==◌, ◌+◌, Bool, if◌then◌else◌}
 use Rattle.std.specs.List.{Contains}
 use Rattle.ss_logic.specs.Terms.{Term, Terms, term_list}
 use Rattle.ss_logic.specs.Formulas.{Predicate, Formula, Literal}
@@ -15,3 +15,7 @@ pub record HasNumber (b : Forms) (x : Term) : Type 0 where
 -- the arguments of the formula, where it is a literal, are terms of the bank
 abbrev pub HasArguments : Forms → Formula → Type 0
 HasArguments b f = (sign : Bool) (p : Predicate) (ts : Terms) → f ≡ Literal sign p ts → (x : Term) → Contains (term_list ts) x → HasNumber b x
+
+-- The number of a class in a model: 0 for that of the names that nothing binds, a greater one for each other.
+abbrev pub renumbered : ℕ → ℕ → ℕ
+renumbered names class = if class == names then 0 else class + 1

@@ -7,7 +7,7 @@ ghost use Rattle.ss_terms.specs.Forms.{formula_at, formulas_at, term_at, HasForm
 ghost use Rattle.ss_rules_occurring.specs.Found.{AreMarked, formula_number};
 ghost use Rattle.ss_equality_rules.specs.Equal.{AreFormsOf};
 ghost use Rattle.ss_search_clashes.specs.Numbered.{class_of, AreMerged, HasNoClash};
-ghost use Rattle.ss_search_procedure_rules.specs.Closed.{is_basic, basics, IsMet, AllMayHold, SomeMayHold, Fits};
+ghost use Rattle.ss_search_procedure_rules.specs.Closed.{is_basic, basics, IsSatisfied, AllMayHold, SomeMayHold, Fits};
 ghost use Rattle.ss_search_reached.specs.Looks.{known_at, IsLooking, IsHolding, AreHolding, HoldsFrom};
 
 use crate::outcomes::Outcomes;
@@ -34,7 +34,7 @@ impl Looking<'_> {
         requires formulas { HasFormulas self.now.bank.now fs.now }
         requires known { HasFormulas self.now.bank.now self.now.known.now }
         requires marked { AreMarked self.now.numbers.now (map formula_number self.now.known.now) }
-        ensures { result ≡ true → IsMet (known_at self.now) (formulas_from (formulas_at self.now.bank.now fs.now)) }
+        ensures { result ≡ true → IsSatisfied (known_at self.now) (formulas_from (formulas_at self.now.bank.now fs.now)) }
     {
         for f in fs {
             if self.numbers.has(f.0) {

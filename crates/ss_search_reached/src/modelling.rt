@@ -1,17 +1,19 @@
 // The model that known formulas are.
 
-ghost use Rattle.std.specs.Prelude.{◌≡◌, ◌++◌, ◌∷◌, [], List, map, true, IfOk, OnOk};
+ghost use Rattle.std.specs.Prelude.{◌≡◌, List, map, true, IfOk, OnOk};
 ghost use Rattle.std.specs.List.{Contains};
 ghost use Rattle.ss_core.specs.Tree.{ClassTree};
 ghost use Rattle.ss_bit_set.specs.Marked.{marked};
-ghost use Rattle.ss_logic_countermodels.specs.Refuting.{Refutes, model_of, told};
+ghost use Rattle.ss_logic_countermodels.specs.Refuting.{IsCountermodel, told};
 ghost use Rattle.ss_terms.specs.declared.forms.TermId.{TermId};
 ghost use Rattle.ss_terms.specs.declared.forms.FormulaId.{FormulaId};
 ghost use Rattle.ss_terms.specs.Forms.{term_at, formula_at, formulas_at, HasTerm, HasFormula, HasFormulas};
 ghost use Rattle.ss_equality_rules.specs.Equal as words;
-ghost use Rattle.ss_search_procedure_rules.specs.Closed.{Includes, IsTotal};
+ghost use Rattle.ss_logic_occurring.specs.Includes.{Includes};
+ghost use Rattle.ss_search_procedure_rules.specs.Closed.{IsTotal};
 ghost use Rattle.ss_search_reached.specs.Known.{known_in, is_name, IsReached};
 ghost use Rattle.ss_search_reached.specs.Following.{AreOneClass, IsOpen};
+ghost use Rattle.ss_search_reached.specs.Models as models;
 ghost use Rattle.ss_search_reached.specs.Models.{HasArguments};
 
 use crate::basics::all_terms;
@@ -30,6 +32,17 @@ fn arguments_are_there(bank: &Bank, f: FormulaId)
     let _node = bank.formula_node(f);
 }
 
+// The number of a class in a model. A name that nothing binds has the class 0 there.
+fn renumbered(class: usize, names: usize) -> Result<usize, AllocError>
+    ensures { IfOk result (λ n. n ≡ models.renumbered names class) }
+{
+    if class == names {
+        Ok(0)
+    } else {
+        class.checked_add(1).ok_or(AllocError)
+    }
+}
+
 impl Reached {
     // The class of the names that nothing binds.
     fn class_of_names(&self, bank: &Bank) -> usize
@@ -41,20 +54,19 @@ impl Reached {
         }
     }
 
-    // The classes of terms, and behind them that of the names that nothing binds.
+    // The numbers of the classes of terms, where this is the class of the names that nothing binds.
     fn listed_classes(
         &self,
         alloc: Global,
         ts: &[TermId],
-        last: usize,
+        names: usize,
     ) -> Result<Vec<usize>, AllocError>
-        ensures { IfOk result (λ v. v.items ≡ map (words.class_number self.now.classes.items) ts.now ++ last ∷ []) }
+        ensures { IfOk result (λ v. v.items ≡ map (λ t. models.renumbered names (words.class_number self.now.classes.items t)) ts.now) }
     {
         let mut classes = Vec::new(alloc);
         for t in ts {
-            classes.push(class_number(&self.classes, *t))?;
+            classes.push(renumbered(class_number(&self.classes, *t), names)?)?;
         }
-        classes.push(last)?;
         Ok(classes)
     }
 
@@ -77,28 +89,28 @@ impl Reached {
         Ok(truths)
     }
 
-    /// A model of formulas that are known, where of each choice one side is known and nothing more follows. The choices are what is told
+    /// A model of formulas that are known, where of each decision one side is known and nothing more follows. The decisions are what is told
     /// in the formulas. An error is want of memory.
     pub fn model(
         &self,
         alloc: Global,
         bank: &Bank,
         formulas: &[FormulaId],
-        choices: &[FormulaId],
+        decisions: &[FormulaId],
     ) -> Result<Countermodel, AllocError>
         requires reached { IsReached bank.now self.now }
         requires formulas { HasFormulas bank.now formulas.now }
-        requires in_bank { HasFormulas bank.now choices.now }
-        requires choices { formulas_at bank.now choices.now ≡ told (formulas_at bank.now formulas.now) }
+        requires in_bank { HasFormulas bank.now decisions.now }
+        requires decisions { formulas_at bank.now decisions.now ≡ told (formulas_at bank.now formulas.now) }
         requires total { IsTotal (known_in bank.now self.now) }
         requires known { Includes (known_in bank.now self.now) (formulas_at bank.now formulas.now) }
-        ensures { (cs : List ClassTree) → IsOpen cs bank.now self.now → IfOk result (λ m. Refutes cs (model_of (formulas_at bank.now formulas.now) m.classes.items m.truth.items) (formulas_at bank.now formulas.now)) }
+        ensures { (cs : List ClassTree) → IsOpen cs bank.now self.now → IfOk result (IsCountermodel cs (formulas_at bank.now formulas.now)) }
     {
         bank.numbers_are_apart();
         classes_are_of_terms(bank);
         let terms = all_terms(alloc, bank, formulas)?;
         let classes = self.listed_classes(alloc, &terms.list, self.class_of_names(bank))?;
-        let truth = self.listed_truths(alloc, bank, choices)?;
+        let truth = self.listed_truths(alloc, bank, decisions)?;
         Ok(Countermodel { classes, truth })
     }
 }

@@ -31,7 +31,7 @@ use Rattle.ss_search_refuting.proofs.Shown.{shown_longer, back_known}
 use Rattle.ss_search_reaching.specs.declared.branches.Beside.{Beside}
 use Rattle.ss_search_reaching.specs.declared.branches.Resolved.{Resolved}
 use Rattle.ss_search_reaching.specs.declared.branches.Resolved.TheVariants as resolved
-use Rattle.ss_search_reaching.specs.Units.{LeadsTo, UnitGuarded}
+use Rattle.ss_search_reaching.specs.Units.{LeadsToOne, UnitGuarded}
 
 pub some_none : {A : Type 0} (x : A) → Some x ≡ None → ⊥
 some_none x e = cc
@@ -102,7 +102,7 @@ module _ (s : Beside) (ms : List Merge) (old looked denied new : Path) (origin p
     is_well_formed cs [] (formula_at (bank_of s.refuting) p) ≡ true → GoesOn cs premises goal (bank_of s.refuting) looked denied)
     (ends : EndsWith (bank_of s.refuting) looked.known.items (neg (formula_at (bank_of s.refuting) p)) denied.known.items)
     (leads : (cs : List ClassTree) (premises : List Formula) (goal : Formula) (f : Formula) (is : IsGuardedAt cs s.refuting.given origin f) → slice_get (known_on (bank_of s.refuting) denied) place ≡ Some is.guarded.guard →
-    formula_at (bank_of s.refuting) q ≡ is.guarded.body → LeadsTo cs premises goal s.refuting.given denied new u) where
+    formula_at (bank_of s.refuting) q ≡ is.guarded.body → LeadsToOne cs premises goal s.refuting.given denied new u) where
   pub guard_known : UnitGuarded s ms old origin (p ∷ q ∷ []) new u
   guard_known cs premises goal shown is =
       let b : Forms = bank_of s.refuting in
@@ -177,7 +177,7 @@ module _ (s : Refuting) (ms : List Merge) (m : Mark) (old begun bodied new : Pat
     -- it stands at the end
     pub guard_denied : (stands : Standing) →
         ((cs : List ClassTree) (known : List Formula) (f : Formula) → slice_get known place ≡ Some f → is_well_formed cs [] f ≡ true → Stands cs s.given known stands f) →
-        (cs : List ClassTree) (premises : List Formula) (goal : Formula) → AreShown cs s ms (known_on (bank_of s) old) → IsGuardedAt cs s.given origin (or_of (bank_of s) (p ∷ q ∷ [])) → LeadsTo cs premises goal s.given old final (resolved.One p stands)
+        (cs : List ClassTree) (premises : List Formula) (goal : Formula) → AreShown cs s ms (known_on (bank_of s) old) → IsGuardedAt cs s.given origin (or_of (bank_of s) (p ∷ q ∷ [])) → LeadsToOne cs premises goal s.given old final (resolved.One p stands)
     guard_denied stands itself cs premises goal h is =
         let formed = denial_formed cs s.given origin p q is in
         let guard_formed : is_well_formed cs [] (formula_at (bank_of s) guard) ≡ true = ap (is_well_formed cs []) guard_is ∙ neg_formed cs [] (formula_at (bank_of s) p) ∙ formed in
@@ -186,6 +186,14 @@ module _ (s : Refuting) (ms : List Merge) (m : Mark) (old begun bodied new : Pat
           grounded = itself cs (known_on (bank_of s) final) (formula_at (bank_of s) p)
               (last_known (bank_of s) old final ends.number place end_is place_is ∙ ap (λ (x : Formula). Some x) (ends.is ∙ ap neg guard_is ∙ neg_neg (formula_at (bank_of s) p))) formed;
         }
+
+-- ---- nothing follows, and the path stays
+
+pub guarded_open : (s : Beside) (ms : List Merge) (old : Path) (origin : ℕ) (ps : List FormulaId) → UnitGuarded s ms old origin ps old resolved.Open
+guarded_open s ms old origin ps cs premises goal shown is = record {
+  goes_on = goes_nowhere cs premises goal (bank_of s.refuting) old old (record { before = refl; behind = refl; known = refl });
+  grounded = tt;
+}
 
 -- ---- a look that left the path as it was
 

@@ -10,7 +10,7 @@ use Rattle.ss_terms.specs.Forms.{Forms, formula_at, formulas_at}
 use Rattle.ss_deriv.specs.declared.line.Line.{Line}
 use Rattle.ss_deriv.specs.Lines.{lines_of}
 use Rattle.ss_equality_rules.specs.declared.Merge.{Merge}
-use Rattle.ss_equality_rules.specs.Equal.{Standing}
+use Rattle.ss_equality_rules.specs.Equal.{Equations}
 use Rattle.ss_equality_rules.proofs.Lists.{there}
 use Rattle.ss_search_procedure_rules.specs.Closed.{basics, MayHold}
 use Rattle.ss_search_reached.specs.Looks as looks
@@ -88,7 +88,7 @@ stays_closed p ms old new place from parts lines h closes cs premises goal shown
 -- ---- what may hold
 
 -- the same where one looks and where one writes lines
-module _ (p : Beside) (c : Standing) (h : IsBeside p c) (parts : List FormulaId) where
+module _ (p : Beside) (c : Equations) (h : IsBeside p c) (parts : List FormulaId) where
   pub holds_there : (f : FormulaId) → IsHolding p.refuting f → looks.IsHolding p.looking f
   holds_there f held =
       subst (λ (b : Forms). MayHold (basics (formulas_at b p.looking.known.now)) (formula_at b f)) (sym h.bank)
@@ -124,7 +124,7 @@ module _ (p : Beside) (ms : List Merge) (old now : Path) (place from : ℕ) (par
       (are cs premises goal (subst (λ (gs : List Formula). IsShown cs p.refuting ms gs place from (or_of (bank_of p.refuting) parts)) (sym same_facts) shown) fs (ap (λ (gs : List Formula). slice_get gs place) same_facts ∙ at))
 
 -- beside the same congruence
-pub beside_again : (p : Beside) (old new : Standing) → new ≡ old → IsBeside p old → IsBeside p new
+pub beside_again : (p : Beside) (old new : Equations) → new ≡ old → IsBeside p old → IsBeside p new
 beside_again p old new e h = subst (IsBeside p) (sym e) h
 
 -- a part that follows is what it is

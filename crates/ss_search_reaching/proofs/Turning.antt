@@ -23,7 +23,6 @@ use Rattle.ss_search_clashing.specs.Cases.{AreAt, CloseCase}
 use Rattle.ss_search_reached.specs.declared.looking.Looking.{Looking}
 use Rattle.ss_search_reached.specs.Following.{AreUnits}
 use Rattle.ss_search_equating.specs.Said.{AreKnown}
-use Rattle.ss_search_whole_sums.specs.WholeSums.{AreBasicsAt}
 use Rattle.ss_search_path.specs.declared.path.Path.{Path}
 use Rattle.ss_search_path.specs.Paths.{known_on, GoesOn}
 use Rattle.ss_search_path.proofs.Going.{goes_through, goes_nowhere}
@@ -46,7 +45,7 @@ use Rattle.ss_search_reaching.specs.declared.turns.Turn.{Turn}
 use Rattle.ss_search_reaching.specs.declared.turns.Turn.TheVariants as turn
 use Rattle.ss_search_reaching.specs.Units as units
 use Rattle.ss_search_reaching.specs.Units.{IsResolved, formulas_in, AllStand, UnitFrom, UnitGuarded, UnitStanding}
-use Rattle.ss_search_reaching.specs.Turns.{IfOpen, IfFollows, IsAdded, LeadsTo, UnitsFrom, Turns, TurnFrom}
+use Rattle.ss_search_reaching.specs.Turns.{IfOpen, IfFollows, IsAdded, LeadsToAll, UnitsFrom, Turns, TurnFrom}
 
 abbrev pub Pairs : Type 0
 Pairs = Vec (FormulaId × Standing) Global
@@ -86,10 +85,10 @@ module _ (p : Beside) (ms : List Merge) (standings : List Standing) (old now new
     (i : ℕ) (f : FormulaId) (s : Standing) (f_at : slice_get p.refuting.known.now i ≡ Some f) (s_at : slice_get standings i ≡ Some s) (leads : UnitsFrom p.refuting ms old standings now (turn.Open us)) where
   module _ (u : Resolved) (one : UnitStanding p ms now s (formula_at (bank_of p.refuting) f) new u) (cs : List ClassTree) (premises : List Formula) (goal : Formula) (shown : AreShown cs p.refuting ms (known_on (bank_of p.refuting) old))
       (each : (k : ℕ) (g : FormulaId) (t : Standing) → slice_get p.refuting.known.now k ≡ Some g → slice_get standings k ≡ Some t → Stands cs p.refuting.given (known_on (bank_of p.refuting) old) t (formula_at (bank_of p.refuting) g)) where
-    before : LeadsTo cs premises goal p.refuting.given old now (turn.Open us)
+    before : LeadsToAll cs premises goal p.refuting.given old now (turn.Open us)
     before = leads cs premises goal shown each
 
-    step : units.LeadsTo cs premises goal p.refuting.given now new u
+    step : units.LeadsToOne cs premises goal p.refuting.given now new u
     step =
         let front = known_more (bank_of p.refuting) old now kept in
         one cs premises goal (shown_longer cs p.refuting ms (known_on (bank_of p.refuting) old) (known_on (bank_of p.refuting) now) front shown)
@@ -143,10 +142,6 @@ shows_at cs g r state h = record {
       let at = basic_stands cs g (facts_of g r) there.0 (formula_at g.bank.now f) basic (h.standing.each i (formula_at g.bank.now f) there.0 (map_at (formula_at g.bank.now) r.reached.known.items i f f_at) there.1) in
       record { at = ap (slice_get (facts_of g r)) (sym there.2) ∙ at.0; formed = at.1 };
 }
-
--- what is reached is at its places, for sums
-pub basics_at : (cs : List ClassTree) (g : Given) (r : Reaching) → IsReaching g r → Shows cs g r → AreBasicsAt cs g.bank.now (facts_of g r) r.reached.known.items r.places.items
-basics_at cs g r state h = record { each = λ i place f f_at place_at basic. let a = (shows_at cs g r state h).each i place f f_at place_at basic in (a.at, a.formed) }
 
 pub none_then : {X P : Type 0} (o : Option X) → IfNone o P → o ≡ None → P
 none_then None h e = h
@@ -216,7 +211,7 @@ module _ (g : Given) (before spread asked last : Reaching) where
       let later = no_shorter g.bank.now asked.reached last.reached three.reached in
       let asked_long = ap length two.known in
       let same = still (omega (arith, early, later, asked_long, long)) in
-      subst (λ (k : equal.Standing). AreClassesOf k.terms k.merges last.reached.classes.items) (sym same) (subst (λ (ns : List ℕ). AreClassesOf asked.reached.congruence.terms asked.reached.congruence.merges ns) (sym classes) are)
+      subst (λ (k : equal.Equations). AreClassesOf k.terms k.merges last.reached.classes.items) (sym same) (subst (λ (ns : List ℕ). AreClassesOf asked.reached.congruence.terms asked.reached.congruence.merges ns) (sym classes) are)
 
 module _ (g : Given) (before spread asked : Reaching) (lines : Vec Line Global) (one : ReachesFrom g before spread) (two : TurnFrom g spread asked (turn.Closed lines)) where
   pub closed_reaches : ReachesFrom g before asked
@@ -242,7 +237,7 @@ pub all_clauses : {A E : Type 0} (r : Result A E) {P Q : Type 0} {F : A → Type
 all_clauses (Ok x) G p q f k = k x p q f
 all_clauses (Err e) G p q f k = tt
 
-module _ (g : Given) (old : Reaching) (k : equal.Standing) (path : Path) where
+module _ (g : Given) (old : Reaching) (k : equal.Equations) (path : Path) where
   abbrev pub asked_state : Reaching
   asked_state = record {
     reached = record { known = old.reached.known; numbers = old.reached.numbers; congruence = k; merges = old.reached.merges; classes = old.reached.classes };
@@ -266,7 +261,7 @@ module _ (g : Given) (old : Reaching) (k : equal.Standing) (path : Path) where
   pub asked_shows : (cs : List ClassTree) → k ≡ old.reached.congruence → take (length old.path.known.items) path.known.items ≡ old.path.known.items → Shows cs g old → Shows cs g asked_state
   asked_shows cs e kept h =
       let l = longer_shows g old path kept cs h in
-      record { standing = l.standing; merges = subst (λ (c : equal.Standing). AreKnown cs g.bank.now c.merges (length (known_on g.bank.now path)) (known_on g.bank.now path)) (sym e) l.merges }
+      record { standing = l.standing; merges = subst (λ (c : equal.Equations). AreKnown cs g.bank.now c.merges (length (known_on g.bank.now path)) (known_on g.bank.now path)) (sym e) l.merges }
 
   pub asked_from : (s : Refuting) (standings : List Standing) (t : Turn) → s.given ≡ g → s.known.now ≡ old.reached.known.items → s.places.now ≡ old.places.items → standings ≡ old.standings.items → IsReaching g old → k ≡ old.reached.congruence →
       take (length old.path.known.items) path.known.items ≡ old.path.known.items → UnitsFrom s old.reached.congruence.merges old.path standings path t → TurnFrom g old asked_state t
@@ -278,7 +273,7 @@ module _ (g : Given) (old : Reaching) (k : equal.Standing) (path : Path) where
         merges = subst (λ (w : Given). AreKnown cs w.bank.now old.reached.congruence.merges (length (known_on w.bank.now old.path)) (known_on w.bank.now old.path)) (sym given) h.merges;
       } in (
         asked_shows cs e kept h,
-        subst (λ (w : Given). LeadsTo cs premises goal w old.path path t) given (leads cs premises goal shown
+        subst (λ (w : Given). LeadsToAll cs premises goal w old.path path t) given (leads cs premises goal shown
             (λ i f st f_at st_at. subst (λ (w : Given). Stands cs w (known_on w.bank.now old.path) st (formula_at w.bank.now f)) (sym given)
             (h.standing.each i (formula_at g.bank.now f) st (map_at (formula_at g.bank.now) old.reached.known.items i f (ap (λ (fs : List FormulaId). slice_get fs i) (sym known) ∙ f_at)) (ap (λ (ss : List Standing). slice_get ss i) (sym stand) ∙ st_at)))),
       )

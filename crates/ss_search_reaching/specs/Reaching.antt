@@ -1,5 +1,5 @@
 -- What is reached, where it stands among the facts of a path, and the path.
-use Rattle.std.specs.Prelude.{◌≡◌, ℕ, List, length, map, take, Some, slice_get}
+use Rattle.std.specs.Prelude.{◌≡◌, ℕ, List, length, map, take}
 use Rattle.ss_core.specs.Tree.{ClassTree}
 use Rattle.ss_logic.specs.Formulas.{Formula}
 use Rattle.ss_deriv.specs.declared.line.Line.{Line}
@@ -65,6 +65,3 @@ ClosesFrom g old new lines = (cs : List ClassTree) (premises : List Formula) (go
 abbrev pub start_of : Standing → ℕ
 start_of (Fact place from) = from
 start_of (Guarded origin) = 0
-
-abbrev pub element_at : {A : Type 0} → List A → ℕ → A → Type 0
-element_at xs i x = slice_get xs i ≡ Some x

@@ -45,19 +45,19 @@ abbrev pub AreFollowing : Beside → Turn → Type 0
 AreFollowing p t = FollowOf p.looking.bank.now p.looking.known.now t
 
 -- the lines close the case in which these facts are known; what follows stands among them
-abbrev pub IsGrounded : List ClassTree → List Formula → Formula → Given → List Formula → Turn → Type 0
-IsGrounded cs premises goal g facts (turn.Closed lines) = Closes cs premises goal facts (lines_of g.bank.now lines.items)
-IsGrounded cs premises goal g facts (turn.Open us) = AllStand cs g facts us.items
+abbrev pub AllStandOrClose : List ClassTree → List Formula → Formula → Given → List Formula → Turn → Type 0
+AllStandOrClose cs premises goal g facts (turn.Closed lines) = Closes cs premises goal facts (lines_of g.bank.now lines.items)
+AllStandOrClose cs premises goal g facts (turn.Open us) = AllStand cs g facts us.items
 
-pub record LeadsTo (cs : List ClassTree) (premises : List Formula) (goal : Formula) (g : Given) (old new : Path) (t : Turn) : Type 0 where
+pub record LeadsToAll (cs : List ClassTree) (premises : List Formula) (goal : Formula) (g : Given) (old new : Path) (t : Turn) : Type 0 where
   pub goes_on : GoesOn cs premises goal g.bank.now old new
-  pub grounded : IsGrounded cs premises goal g (known_on g.bank.now new) t
+  pub grounded : AllStandOrClose cs premises goal g (known_on g.bank.now new) t
 
 -- where each known formula stands as is said
 abbrev pub UnitsFrom : Refuting → List Merge → Path → List Standing → Path → Turn → Type 0
 UnitsFrom s ms old standings new t = (cs : List ClassTree) (premises : List Formula) (goal : Formula) → AreShown cs s ms (known_on (bank_of s) old) →
     ((k : ℕ) (f : FormulaId) (st : Standing) → slice_get s.known.now k ≡ Some f → slice_get standings k ≡ Some st → Stands cs s.given (known_on (bank_of s) old) st (formula_at (bank_of s) f)) →
-    LeadsTo cs premises goal s.given old new t
+    LeadsToAll cs premises goal s.given old new t
 
 -- the same of what is reached
 abbrev pub IfFollows : Given → Reaching → Turn → Type 0
@@ -70,4 +70,4 @@ pub record Turns (g : Given) (old new : Reaching) (t : Turn) : Type 0 where
   pub follows : IfFollows g old t
 
 abbrev pub TurnFrom : Given → Reaching → Reaching → Turn → Type 0
-TurnFrom g old new t = (cs : List ClassTree) (premises : List Formula) (goal : Formula) → Shows cs g old → Shows cs g new × LeadsTo cs premises goal g old.path new.path t
+TurnFrom g old new t = (cs : List ClassTree) (premises : List Formula) (goal : Formula) → Shows cs g old → Shows cs g new × LeadsToAll cs premises goal g old.path new.path t

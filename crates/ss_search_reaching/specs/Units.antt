@@ -22,7 +22,7 @@ use Rattle.ss_search_reaching.specs.declared.branches.Resolved.{Resolved}
 use Rattle.ss_search_reaching.specs.declared.branches.Resolved.TheVariants as resolved
 
 -- both look at the same known formulas, beside the same table
-pub record IsBeside (p : Beside) (c : equal.Standing) : Type 0 where
+pub record IsBeside (p : Beside) (c : equal.Equations) : Type 0 where
   pub looking : IsLooking p.looking c
   pub refuting : IsRefuting p.refuting c
   pub bank : p.looking.bank.now ≡ bank_of p.refuting
@@ -41,30 +41,30 @@ part_of (resolved.One part standing) = Some part
 part_of resolved.Open = None
 
 -- the lines close the case in which these facts are known; the part stands among them
-abbrev pub IsGrounded : List ClassTree → List Formula → Formula → Given → List Formula → Resolved → Type 0
-IsGrounded cs premises goal g facts (resolved.Closed lines) = Closes cs premises goal facts (lines_of g.bank.now lines.items)
-IsGrounded cs premises goal g facts (resolved.One part standing) = Stands cs g facts standing (formula_at g.bank.now part)
-IsGrounded cs premises goal g facts resolved.Open = Unit {0}
+abbrev pub StandsOrCloses : List ClassTree → List Formula → Formula → Given → List Formula → Resolved → Type 0
+StandsOrCloses cs premises goal g facts (resolved.Closed lines) = Closes cs premises goal facts (lines_of g.bank.now lines.items)
+StandsOrCloses cs premises goal g facts (resolved.One part standing) = Stands cs g facts standing (formula_at g.bank.now part)
+StandsOrCloses cs premises goal g facts resolved.Open = Unit {0}
 
 -- the path goes on to one at whose end this is so
-pub record LeadsTo (cs : List ClassTree) (premises : List Formula) (goal : Formula) (g : Given) (old new : Path) (u : Resolved) : Type 0 where
+pub record LeadsToOne (cs : List ClassTree) (premises : List Formula) (goal : Formula) (g : Given) (old new : Path) (u : Resolved) : Type 0 where
   pub goes_on : GoesOn cs premises goal g.bank.now old new
-  pub grounded : IsGrounded cs premises goal g (known_on g.bank.now new) u
+  pub grounded : StandsOrCloses cs premises goal g (known_on g.bank.now new) u
 
 -- where the fact at the place is the `or` of these parts
 abbrev pub UnitFrom : Beside → List Merge → Path → ℕ → ℕ → List FormulaId → Path → Resolved → Type 0
 UnitFrom p ms old place from parts new u = (cs : List ClassTree) (premises : List Formula) (goal : Formula) →
-    IsShown cs p.refuting ms (known_on (bank_of p.refuting) old) place from (or_of (bank_of p.refuting) parts) → LeadsTo cs premises goal p.refuting.given old new u
+    IsShown cs p.refuting ms (known_on (bank_of p.refuting) old) place from (or_of (bank_of p.refuting) parts) → LeadsToOne cs premises goal p.refuting.given old new u
 
 -- where the `or` of these is guarded by this origin
 abbrev pub UnitGuarded : Beside → List Merge → Path → ℕ → List FormulaId → Path → Resolved → Type 0
 UnitGuarded p ms old origin parts new u = (cs : List ClassTree) (premises : List Formula) (goal : Formula) →
-    AreShown cs p.refuting ms (known_on (bank_of p.refuting) old) → IsGuardedAt cs p.refuting.given origin (or_of (bank_of p.refuting) parts) → LeadsTo cs premises goal p.refuting.given old new u
+    AreShown cs p.refuting ms (known_on (bank_of p.refuting) old) → IsGuardedAt cs p.refuting.given origin (or_of (bank_of p.refuting) parts) → LeadsToOne cs premises goal p.refuting.given old new u
 
 -- where the formula stands so
 abbrev pub UnitStanding : Beside → List Merge → Path → Standing → Formula → Path → Resolved → Type 0
 UnitStanding p ms old standing f new u = (cs : List ClassTree) (premises : List Formula) (goal : Formula) →
-    AreShown cs p.refuting ms (known_on (bank_of p.refuting) old) → Stands cs p.refuting.given (known_on (bank_of p.refuting) old) standing f → LeadsTo cs premises goal p.refuting.given old new u
+    AreShown cs p.refuting ms (known_on (bank_of p.refuting) old) → Stands cs p.refuting.given (known_on (bank_of p.refuting) old) standing f → LeadsToOne cs premises goal p.refuting.given old new u
 
 -- ---- what follows, each with its standing
 

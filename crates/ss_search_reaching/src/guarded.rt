@@ -1,23 +1,24 @@
 // Reached formulas that say something where a guard holds: the negation of the guard, or a body.
 
-ghost use Rattle.std.specs.Prelude.{◌≡◌, ◌++◌, ◌∷◌, [], List, length, take, true, false, None, Some, slice_get, IfOk, IfSome, OnOk};
+ghost use Rattle.std.specs.Prelude.{◌≡◌, ◌≤◌, ◌*◌, ◌++◌, ◌∷◌, [], List, length, take, true, false, None, Some, slice_get, IfOk, IfSome, OnOk};
 ghost use Rattle.ss_core.specs.Tree.{ClassTree};
 ghost use Rattle.ss_logic.specs.Formulas as logic;
-ghost use Rattle.ss_terms.specs.Forms.{formula_at, HasFormula, HasFormulas};
+ghost use Rattle.ss_terms.specs.Forms.{formula_at, AreBelow, HasFormula, HasFormulas};
 ghost use Rattle.ss_deriv.specs.Lines.{lines_of};
 ghost use Rattle.ss_equality_rules.specs.declared.Merge.{Merge};
 ghost use Rattle.ss_search_procedure_rules.specs.Closed as closed;
 ghost use Rattle.ss_search_closing.specs.Closing.{Closes};
 ghost use Rattle.ss_search_path.specs.Paths.{known_on, IsSame};
+ghost use Rattle.ss_search_reached.specs.Looks.{AreHolding};
 ghost use Rattle.ss_search_standing.specs.Standing.{IsGiven, IsGuardedAt};
 ghost use Rattle.ss_search_refuting.specs.Refuting.{bank_of, IsRefuting, IsHolding, or_of, AreShown};
-ghost use Rattle.ss_search_reaching.specs.Units.{IsBeside, IsResolved, part_of, LeadsTo, UnitGuarded};
+ghost use Rattle.ss_search_reaching.specs.Units.{IsBeside, IsResolved, part_of, LeadsToOne, UnitGuarded};
 
 use crate::branches::{Beside, Resolved};
 use ss_deriv::Line;
 use ss_equality::Congruence;
 use ss_search_path::Path;
-use ss_search_reached::is_basic;
+use ss_search_reached::{Outcomes, is_basic};
 use ss_terms::FormulaId;
 use std::alloc::AllocError;
 
@@ -67,7 +68,7 @@ impl Beside<'_> {
         requires { IsGiven self.now.refuting.given }
         ensures known { OnOk result (path.new.known.items ≡ path.old.known.items ++ body ∷ []) }
         ensures part { IfOk result (λ u. part_of u ≡ Some body) }
-        ensures leads { IfOk result (λ u. (cs : List ClassTree) (premises : List logic.Formula) (goal : logic.Formula) (f : logic.Formula) (is : IsGuardedAt cs self.now.refuting.given origin f) → slice_get (known_on (bank_of self.now.refuting) path.old) place ≡ Some is.guarded.guard → formula_at (bank_of self.now.refuting) body ≡ is.guarded.body → LeadsTo cs premises goal self.now.refuting.given path.old path.new u) }
+        ensures leads { IfOk result (λ u. (cs : List ClassTree) (premises : List logic.Formula) (goal : logic.Formula) (f : logic.Formula) (is : IsGuardedAt cs self.now.refuting.given origin f) → slice_get (known_on (bank_of self.now.refuting) path.old) place ≡ Some is.guarded.guard → formula_at (bank_of self.now.refuting) body ≡ is.guarded.body → LeadsToOne cs premises goal self.now.refuting.given path.old path.new u) }
     {
         let given = &self.refuting.given;
         let last = path.known.len();
@@ -190,9 +191,8 @@ impl Beside<'_> {
         Ok(self.not_basic(path, origin, parts))
     }
 
-    /// What the `or` of these parts is, which this origin guards. Every such formula has two parts, and the first is a literal or
-    /// quantified.
-    pub(crate) fn guarded(
+    // What the `or` of these parts is. Every guarded formula has two parts, and the first is a literal or quantified.
+    fn by_lines(
         &self,
         congruence: &mut Congruence,
         path: &mut Path,
@@ -210,6 +210,44 @@ impl Beside<'_> {
         match parts {
             [not_guard, body] => self.by_parts(congruence, path, origin, (*not_guard, *body)),
             _ => Ok(self.not_two(path, origin, parts)),
+        }
+    }
+
+    /// What the `or` of these parts is, which this origin guards. The parts are below a number. Which may hold is looked up first, and lines are
+    /// written only where at most one does.
+    pub(crate) fn guarded(
+        &self,
+        congruence: &mut Congruence,
+        outcomes: &mut Outcomes,
+        path: &mut Path,
+        origin: usize,
+        parts: &[FormulaId],
+        bound: usize,
+    ) -> Result<Resolved, AllocError>
+        requires beside { IsBeside self.now congruence.old }
+        requires given { IsGiven self.now.refuting.given }
+        requires outcomes { AreHolding self.now.looking outcomes.old }
+        requires has { HasFormulas (bank_of self.now.refuting) parts.now }
+        requires below { AreBelow bound parts.now }
+        requires in_bank { bound ≤ length (bank_of self.now.refuting).formulas * 2 }
+        ensures congruence { OnOk result (congruence.new ≡ congruence.old) }
+        ensures outcomes { OnOk result (AreHolding self.now.looking outcomes.new) }
+        ensures kept { OnOk result (take (length path.old.known.items) path.new.known.items ≡ path.old.known.items) }
+        ensures branch { IfOk result (λ u. IsResolved self.now.looking (or_of self.now.looking.bank.now parts.now) u) }
+        ensures leads { IfOk result (λ u. UnitGuarded self.now congruence.old.merges path.old origin parts.now path.new u) }
+    {
+        let looking = &self.looking;
+        if looking.is_met(parts) {
+            return Ok(Resolved::Open);
+        }
+        match looking.first_open(congruence, outcomes, parts, 0, bound)? {
+            None => self.by_lines(congruence, path, origin, parts),
+            Some(part) => {
+                match looking.first_open(congruence, outcomes, parts, part + 1, bound)? {
+                    None => self.by_lines(congruence, path, origin, parts),
+                    Some(_other) => Ok(Resolved::Open),
+                }
+            }
         }
     }
 }

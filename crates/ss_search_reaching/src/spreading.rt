@@ -1,16 +1,16 @@
 // The parts of reached `and`s.
 
-ghost use Rattle.std.specs.Prelude.{◌≡◌, ◌<◌, ◌∷◌, [], List, length, OnOk};
+ghost use Rattle.std.specs.Prelude.{◌≡◌, ◌<◌, ◌∷◌, [], List, length, Some, slice_get, OnOk};
 ghost use Rattle.std.specs.List.{Contains};
 ghost use Rattle.ss_core.specs.Tree.{ClassTree};
 ghost use Rattle.ss_logic.specs.Formulas as logic;
 ghost use Rattle.ss_terms.specs.declared.forms.FormulaId as ids;
 ghost use Rattle.ss_terms.specs.Forms.{formula_at, formulas_at, HasFormulas};
-ghost use Rattle.ss_search_procedure_rules.specs.Closed.{Includes};
+ghost use Rattle.ss_logic_occurring.specs.Includes.{Includes};
 ghost use Rattle.ss_search_reached.specs.Following.{Occur, AreSpread, IsSpread};
 ghost use Rattle.ss_search_standing.specs.Standing.{IsGiven, IsOpenedFact};
 ghost use Rattle.ss_search_refuting.specs.Refuting.{and_of};
-ghost use Rattle.ss_search_reaching.specs.Reaching.{facts_of, reached_of, element_at, start_of, place_of, IsReaching, Shows, Grows, ReachesOn, ReachesFrom};
+ghost use Rattle.ss_search_reaching.specs.Reaching.{facts_of, reached_of, start_of, place_of, IsReaching, Shows, Grows, ReachesOn, ReachesFrom};
 
 use crate::reaching::Reaching;
 use ss_search_standing::{Given, Standing};
@@ -44,7 +44,7 @@ impl Reaching {
         requires formulas { HasFormulas given.now.bank.now parts.now }
         requires occur { Occur (reached_of given.now self.old) (formulas_at given.now.bank.now parts.now) }
         ensures grows { OnOk result (Grows given.now self.old self.new) }
-        ensures known { OnOk result ((f : ids.FormulaId) → element_at parts.now part f → Contains (reached_of given.now self.new) (formula_at given.now.bank.now f)) }
+        ensures known { OnOk result ((f : ids.FormulaId) → slice_get parts.now part ≡ Some f → Contains (reached_of given.now self.new) (formula_at given.now.bank.now f)) }
         ensures classes { OnOk result (self.new.reached.classes.items ≡ self.old.reached.classes.items) }
         ensures reaches { OnOk result ((cs : List ClassTree) (premises : List logic.Formula) (goal : logic.Formula) → Shows cs given.now self.old → IsOpenedFact cs given.now (facts_of given.now self.old) place from (and_of given.now.bank.now parts.now) → ReachesOn cs premises goal given.now self.old self.new) }
     {
@@ -85,7 +85,7 @@ impl Reaching {
         requires state { IsReaching given.now self.old }
         requires at { at < length self.old.reached.known.items }
         ensures grows { OnOk result (Grows given.now self.old self.new) }
-        ensures spread { OnOk result ((f : ids.FormulaId) → element_at self.old.reached.known.items at f → IsSpread (reached_of given.now self.new) (formula_at given.now.bank.now f)) }
+        ensures spread { OnOk result ((f : ids.FormulaId) → slice_get self.old.reached.known.items at ≡ Some f → IsSpread (reached_of given.now self.new) (formula_at given.now.bank.now f)) }
         ensures classes { OnOk result (self.new.reached.classes.items ≡ self.old.reached.classes.items) }
         ensures reaches { OnOk result (ReachesFrom given.now self.old self.new) }
     {

@@ -8,7 +8,8 @@ ghost use Rattle.ss_deriv.specs.Lines.{lines_of};
 ghost use Rattle.ss_equality_rules.specs.Equal.{AreClassesOf};
 ghost use Rattle.ss_search_clashes.specs.Numbered.{class_of};
 ghost use Rattle.ss_search_clashes.specs.Tables.{IsTable};
-ghost use Rattle.ss_search_procedure_rules.specs.Closed.{Includes, basics, IsStable};
+ghost use Rattle.ss_logic_occurring.specs.Includes.{Includes};
+ghost use Rattle.ss_search_procedure_rules.specs.Closed.{basics, IsSaturated};
 ghost use Rattle.ss_search_procedure_rules.specs.Clashes.{FitsClasses};
 ghost use Rattle.ss_search_closing.specs.Closing.{Closes};
 ghost use Rattle.ss_search_reached.specs.Following.{Occur, HasNoSum, AreOneClass, IsOpen};
@@ -82,7 +83,9 @@ impl Beside<'_> {
                 Standing::Fact { place, from } => {
                     self.unit(congruence, outcomes, path, place, from, parts, f.0)
                 }
-                Standing::Guarded { origin } => self.guarded(congruence, path, origin, parts),
+                Standing::Guarded { origin } => {
+                    self.guarded(congruence, outcomes, path, origin, parts, f.0)
+                }
             },
             Formula::And(_) => Ok(Resolved::Open),
             Formula::Literal { .. } => Ok(Resolved::Open),
@@ -230,7 +233,7 @@ impl Reaching {
         requires given { IsGiven given.now }
         requires state { IsReaching given.now self.old }
         ensures grows { OnOk result (Grows given.now self.old self.new) }
-        ensures stable { (cs : List ClassTree) → IsBankOf cs given.now.bank.now → IfOk result (λ o. o ≡ None → IsStable cs (reached_of given.now self.new)) }
+        ensures saturated { (cs : List ClassTree) → IsBankOf cs given.now.bank.now → IfOk result (λ o. o ≡ None → IsSaturated cs (reached_of given.now self.new)) }
         ensures is_open { (cs : List ClassTree) → IsBankOf cs given.now.bank.now → IfOk result (λ o. o ≡ None → IsOpen cs given.now.bank.now self.new.reached) }
         ensures reaches { OnOk result (ReachesFrom given.now self.old self.new) }
         ensures closes { (cs : List ClassTree) → IsBankOf cs given.now.bank.now → IfOk result (λ o. IfSome o (λ v. (premises : List logic.Formula) (goal : logic.Formula) → Shows cs given.now self.old → Closes cs premises goal (facts_of given.now self.new) (lines_of given.now.bank.now v.items))) }

@@ -7,7 +7,7 @@ use Rattle.ss_terms.specs.Forms.{Forms, formula_at, formulas_at, HasFormulas}
 use Rattle.ss_deriv.specs.declared.line.Line.{Line}
 use Rattle.ss_deriv.specs.Lines.{lines_of}
 use Rattle.ss_equality_rules.specs.declared.Merge.{Merge}
-use Rattle.ss_equality_rules.specs.Equal.{Standing, AreFormsOf, AreClassesOf}
+use Rattle.ss_equality_rules.specs.Equal.{Equations, AreFormsOf, AreClassesOf}
 use Rattle.ss_search_procedure_rules.specs.Closed.{basics, MayHold}
 use Rattle.ss_search_clashes.specs.Numbered.{AreMerged}
 use Rattle.ss_search_clashes.specs.Tables.{IsTable}
@@ -29,7 +29,7 @@ abbrev pub known_beside : Refuting → List Formula
 known_beside s = formulas_at (bank_of s) s.known.now
 
 -- Each known formula has a place, and the table has them at the classes of the congruence, in which their equalities are merged.
-pub record IsRefuting (s : Refuting) (c : Standing) : Type 0 where
+pub record IsRefuting (s : Refuting) (c : Equations) : Type 0 where
   pub has : HasFormulas (bank_of s) s.known.now
   pub long : length s.places.now ≡ length s.known.now
   pub forms : AreFormsOf (bank_of s) c.terms

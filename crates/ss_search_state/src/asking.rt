@@ -2,13 +2,21 @@
 
 use crate::state::State;
 use ss_search_classes::{
-    ADD, ALLOCATED, AND, AT_MOST, COMMITTED, CONSTANT, ELEMENT, EQUAL, FIELD, LEVEL, LITERAL,
-    MULTIPLY, NEXT, NONE, OR, OWNER, PUT, READY, SET, argument, arity, code_of_sort, first_of,
-    is_closed, is_first, is_term, is_truth, is_value, kind_of, node_head, of_pair, of_term,
+    ALLOCATED, AND, AT_MOST, COMMITTED, CONSTANT, ELEMENT, EQUAL, FIELD, LEVEL, LITERAL, NEXT,
+    NONE, OR, OWNER, PUT, READY, SET, argument, arity, code_of_sort, first_of, is_closed,
+    is_delayed, is_first, is_term, is_truth, is_value, kind_of, node_head, of_pair, of_term,
     pair_argument, pair_head, pair_of, part_at, part_count, sort_at, term_argument, term_head,
 };
+use ss_search_instances::Clause;
+use ss_search_proof::Reason;
 use ss_terms::Bank;
 use std::alloc::AllocError;
+
+// The kind of key under which all parts of a clause are asked for.
+const PARTS: usize = 901;
+
+// How many parts an `or` has at most that isn't long.
+const SHORT: usize = 4;
 
 impl State {
     // How deep reads of fields nest in a term.
@@ -19,7 +27,7 @@ impl State {
         }
     }
 
-    // Finds how deep reads nest in the terms that are new, and which of them are sums or have positions.
+    // Finds how deep reads nest in the terms that are new, and which of them have positions.
     pub(crate) fn grow_depths(&mut self, bank: &Bank) -> Result<(), AllocError> {
         for term in self.depths.len()..bank.term_count() {
             let mut depth = 0usize;
@@ -32,9 +40,6 @@ impl State {
             let kind = term_head(bank, term).kind;
             if kind == FIELD || kind == ELEMENT {
                 depth = depth.saturating_add(1);
-            }
-            if kind >= ADD && kind <= MULTIPLY {
-                self.sums.push(term)?;
             }
             if kind == ELEMENT || kind == PUT {
                 self.elements.push(term)?;
@@ -131,7 +136,7 @@ impl State {
             }
             return Ok(());
         }
-        if kind != AND && kind != OR || part_count(bank, formula) > 8 {
+        if kind != AND && kind != OR || part_count(bank, formula) > 8 || is_delayed(bank, formula) {
             return Ok(());
         }
         for place in 0..part_count(bank, formula) {
@@ -165,7 +170,8 @@ impl State {
             if node == NONE {
                 break;
             }
-            if is_term(node) && self.equal.literal(node) == NONE {
+            let stamp = self.stamp_of(node);
+            if is_term(node) && self.equal.literal(node) == NONE && self.equal.sweep(node, stamp) {
                 self.ask_class(bank, node)?;
             }
         }
@@ -188,24 +194,42 @@ impl State {
 
     /// Clauses in which something asked for stands become relevant, and what stands in them is asked for.
     pub fn find_relevant(&mut self, bank: &Bank) -> Result<(), AllocError> {
-        for place in 0..self.asked.clause_count() {
-            let clause = self.asked.clause(place);
+        for at in 0..self.asked.live_count() {
+            let clause = self.asked.clause(self.asked.live(at));
             let pair = pair_of(clause.formula);
             if self.asked.is_relevant(pair) || self.nodes.is_settled(clause.formula) {
                 continue;
             }
-            if clause.origin > 0 || self.touches(bank, clause.formula) {
+            let origin = self.clause_origin(clause);
+            if clause.origin > 0 || self.touches_clause(bank, clause.formula, origin) {
                 self.asked.set_relevant(pair)?;
-                self.ask_clause(bank, clause.formula, clause.origin)?;
+                self.ask_clause(bank, clause.formula, origin)?;
             }
         }
         Ok(())
     }
 
+    // Where a clause comes from. A part of an instance comes from an instance, also where nothing in it was asked for.
+    fn clause_origin(&self, clause: Clause) -> usize {
+        match self.reason(clause.fact) {
+            Some(Reason::Part(whole, _)) => clause.origin.max(self.origin(whole)),
+            _ => clause.origin,
+        }
+    }
+
+    // Whether something in a clause is asked for; of an instance, in what it says.
+    fn touches_clause(&self, bank: &Bank, formula: usize, origin: usize) -> bool {
+        if origin == 1 {
+            self.touches_part(bank, formula)
+        } else {
+            self.touches(bank, formula)
+        }
+    }
+
     // Of an instance all parts but the last are asked for.
     fn ask_clause(&mut self, bank: &Bank, formula: usize, origin: usize) -> Result<(), AllocError> {
         let count = part_count(bank, formula);
-        if origin == 2 && count > 4 {
+        if origin == 2 && count > SHORT {
             return self.visit(bank, formula, count);
         }
         let to = if origin == 1 && count > 1 && !self.is_half(bank, formula, count) {
@@ -217,6 +241,20 @@ impl State {
             self.ask_formula(bank, part_at(bank, formula, place))?;
         }
         Ok(())
+    }
+
+    /// All parts of a long `or` of the goal, by its place, are asked for, once. Whether something new was.
+    pub fn ask_parts(&mut self, bank: &Bank, place: usize) -> Result<bool, AllocError> {
+        let clause = self.asked.clause(place);
+        let count = part_count(bank, clause.formula);
+        if clause.origin != 2 || count <= SHORT || !self.seen.is_new(PARTS, clause.formula, 0)? {
+            return Ok(false);
+        }
+        let before = self.asked.mark();
+        for part in 0..count {
+            self.ask_formula(bank, part_at(bank, clause.formula, part))?;
+        }
+        Ok(self.asked.has_grown(before))
     }
 
     // Of a long `or` of the goal what is said of owners and of what is committed is asked for.
@@ -270,8 +308,16 @@ impl State {
         is_store_atom(kind) && pair_head(bank, pair_of(before)).kind == kind
     }
 
-    /// Whether a literal is asked for, or an open one of a clause or of an `and`.
+    /// Whether a literal is asked for, or an open one of an `and`; of an `or`, in what it says under its conditions.
     pub fn touches_part(&self, bank: &Bank, formula: usize) -> bool {
+        let count = part_count(bank, formula);
+        if kind_of(bank, formula) != OR || count > 1 && self.is_half(bank, formula, count) {
+            return self.touches_inside(bank, formula);
+        }
+        self.touches_inside(bank, part_at(bank, formula, count.saturating_sub(1)))
+    }
+
+    fn touches_inside(&self, bank: &Bank, formula: usize) -> bool {
         let kind = kind_of(bank, formula);
         if kind == LITERAL {
             return self.is_touched(bank, formula);
@@ -346,8 +392,8 @@ impl State {
         if self.compare_positions(bank)? {
             return Ok(true);
         }
-        for place in 0..self.asked.clause_count() {
-            let clause = self.asked.clause(place);
+        for at in 0..self.asked.live_count() {
+            let clause = self.asked.clause(self.asked.live(at));
             let pair = pair_of(clause.formula);
             if !self.asked.is_relevant(pair) && !self.nodes.is_settled(clause.formula) {
                 self.asked.set_relevant(pair)?;

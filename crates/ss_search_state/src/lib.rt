@@ -2,6 +2,7 @@
 #![tactic(auto)]
 
 mod asking;
+mod bundles;
 mod closing;
 mod numbers;
 mod positions;

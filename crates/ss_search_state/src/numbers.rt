@@ -110,10 +110,11 @@ impl State {
 
     // The sums that are equal to something else.
     fn collect_sums(&mut self, bank: &Bank) -> Result<(), AllocError> {
-        for place in 0..self.sums.len() {
-            let Some(sum) = self.sums.get(place).copied() else {
+        for place in 0..usize::MAX {
+            let sum = self.equal.sum(place);
+            if sum == NONE {
                 break;
-            };
+            }
             let other = self.stands_for(bank, sum);
             if other != sum {
                 self.add_equation(bank, sum, other)?;

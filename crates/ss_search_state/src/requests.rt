@@ -10,8 +10,12 @@ pub enum Wanted {
     Rule(RuleKind),
     /// The instance of a rule on a store that is good by a fact.
     Good(GoodName, usize, usize),
-    /// The body of a `forall` that is known by a fact.
+    /// The body of a `forall` that is known by a fact; the long `and` at its end may be delayed.
     Inst(usize, usize),
+    /// The same, with nothing delayed.
+    Whole(usize, usize),
+    /// The part of a delayed `and` at a place.
+    Piece(usize, usize),
     /// New constants for an `exists` that is known by a fact.
     Choose(usize, usize),
     /// The owner of an object in a store.

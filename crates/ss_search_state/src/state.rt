@@ -1,13 +1,15 @@
 // What is known on the trail, and what follows of it without an instance and a case.
 
+use crate::bundles::Piece;
 use crate::requests::{Request, Wanted, new_request};
 use ss_search_classes::{
     AND, AT_MOST, Classes as Equal, Conflict, EQUAL, EXISTS, Event, FORALL, GOOD, Keys, LITERAL,
-    NONE, OR, SUB, is_first, is_truth, is_value, is_whole, kind_of, of_pair, of_term, opposite,
-    pair_argument, pair_head, pair_of, part_at, part_count,
+    NONE, OR, OWNER, SUB, argument, arity, is_delayed, is_first, is_truth, is_value, is_whole,
+    kind_of, node_head, of_pair, of_term, opposite, pair_argument, pair_head, pair_of, part_at,
+    part_count,
 };
-use ss_search_instances::{Asked, Clause, Heads, Marks};
-use ss_search_nodes::{Ground, Nodes, or_of};
+use ss_search_instances::{Asked, Clause, Heads, Held, Marks};
+use ss_search_nodes::{Ground, LONG, Nodes, or_of};
 use ss_search_numbers::Rows;
 use ss_search_proof::{Reason, Reasons, RuleKind, Said};
 use ss_terms::Bank;
@@ -80,12 +82,25 @@ pub struct State {
     pub(crate) rows: Rows,
     /// The known equations of whole numbers, each with its fact.
     pub(crate) equations: Vec<(usize, usize)>,
-    /// The sums, differences and products of the bank.
-    pub(crate) sums: Vec<usize>,
     /// The terms of the bank that read or change an element.
     pub elements: Vec<usize>,
     /// How many merges and comparisons there were when they were last looked at.
     pub(crate) counted: (usize, usize),
+    /// How many nodes were asked for when bundles were last looked at, or NONE.
+    pub(crate) scanned: usize,
+    /// Of each bundle, how the classes that it speaks of stood when it was last looked at, and how many nodes were asked for.
+    pub(crate) looked: Vec<(usize, usize)>,
+    /// The parts of delayed `and`s that were made, by `and` and place, and the last one of each `and`.
+    pub(crate) pieces: Vec<Piece>,
+    pub(crate) places: Keys,
+    /// How often something was taken back.
+    pub(crate) undone: usize,
+    // How much was known and asked for when all was last looked through for what else is asked for.
+    passed: (usize, usize, usize),
+    // Of each node that is asked for, how the classes that it speaks of stood when it was last looked at.
+    watched: Vec<usize>,
+    // How many of the first clauses that may be open were looked at since they were made known for good.
+    unsettled: usize,
 }
 
 /// Nothing stands.
@@ -137,9 +152,16 @@ impl State {
             bounds: Vec::new(alloc),
             rows: Rows::new(alloc),
             equations: Vec::new(alloc),
-            sums: Vec::new(alloc),
             elements: Vec::new(alloc),
             counted: (0, 0),
+            scanned: NONE,
+            looked: Vec::new(alloc),
+            pieces: Vec::new(alloc),
+            places: Keys::new(alloc),
+            undone: 0,
+            passed: (NONE, NONE, NONE),
+            watched: Vec::new(alloc),
+            unsettled: 0,
         }
     }
 
@@ -166,6 +188,16 @@ impl State {
         self.seen.undo(mark.seen);
         self.bounds.truncate(mark.bounds);
         self.equations.truncate(mark.equations);
+        self.scanned = NONE;
+        self.undone = self.undone.saturating_add(1);
+    }
+
+    /// Takes back a trial. All stands as it did before, so nothing is looked at again.
+    pub fn undo_trial(&mut self, mark: Mark) {
+        let (undone, scanned) = (self.undone, self.scanned);
+        self.undo(mark);
+        self.undone = undone;
+        self.scanned = scanned;
     }
 
     /// Takes back what came after a mark, facts too, and forgets all blocks.
@@ -192,6 +224,73 @@ impl State {
             self.progress = self.progress.saturating_add(1);
         }
         Ok(fact)
+    }
+
+    /// Whether there is more known or asked for than when this was asked last.
+    pub fn has_more(&mut self) -> bool {
+        let known = self
+            .progress
+            .wrapping_add(self.undone.wrapping_mul(0x1_0000_0000));
+        let now = (known, self.asked.size(), self.equal.mark());
+        if self.passed.0 == now.0 && self.passed.1 == now.1 && self.passed.2 == now.2 {
+            return false;
+        }
+        self.passed = now;
+        true
+    }
+
+    /// Whether what the first instances for a node depend on, which is asked for at a place, isn't as it was when this was asked last.
+    pub fn has_moved(
+        &mut self,
+        bank: &Bank,
+        place: usize,
+        node: usize,
+    ) -> Result<bool, AllocError> {
+        let stamp = self.stamp_of_all(bank, node);
+        for _ in self.watched.len()..place.saturating_add(1) {
+            self.watched.push(NONE)?;
+        }
+        let Some(watched) = self.watched.get_mut(place) else {
+            return Ok(true);
+        };
+        let has_moved = *watched != stamp;
+        *watched = stamp;
+        Ok(has_moved)
+    }
+
+    // How the classes stand of which a node speaks, and how much is known of all objects and of classes.
+    fn stamp_of_all(&self, bank: &Bank, node: usize) -> usize {
+        let mut stamp = self.stamp_of(NONE);
+        if node_head(bank, node).kind == OWNER {
+            stamp = stamp.wrapping_add(self.equal.members(node));
+        }
+        for place in 0..arity(bank, node) {
+            let term = of_term(argument(bank, node, place));
+            stamp = stamp.wrapping_add(self.equal.members(term));
+        }
+        stamp
+            .wrapping_add(self.heads.len())
+            .wrapping_add(self.asked.forall_count())
+            .wrapping_add(self.asked.sub_count())
+    }
+
+    /// Clauses for which there is nothing left to do aren't looked at any more. What is known stands for good.
+    pub fn drop_settled(&mut self) {
+        let from = if self.unsettled > self.asked.live_count() {
+            0
+        } else {
+            self.unsettled
+        };
+        let mut kept = from;
+        for at in from..self.asked.live_count() {
+            let place = self.asked.live(at);
+            if !self.nodes.is_settled(self.asked.clause(place).formula) {
+                self.asked.put_live(kept, place);
+                kept = kept.saturating_add(1);
+            }
+        }
+        self.asked.cut_live(kept);
+        self.unsettled = kept;
     }
 
     /// Finds what follows without an instance and a split.
@@ -237,13 +336,37 @@ impl State {
     fn look_at_unit(&mut self, bank: &Bank, pair: usize) -> Result<Step, AllocError> {
         let or = or_of(pair);
         let fact = self.nodes.held(or);
-        if fact == NONE || self.nodes.is_settled(or) || !self.nodes.is_unit(pair) {
+        if fact == NONE || self.nodes.is_taken(or) || !self.nodes.is_unit(pair) {
             return Ok(Step::Goes);
+        }
+        if self.nodes.is_settled(or) {
+            return self.look_at_value(bank, or, fact);
         }
         let place = self.nodes.first_open(bank, or, 0);
         if place == NONE {
             return Ok(Step::Conflict(Conflict::Parts(fact)));
         }
+        self.take_part(bank, or, fact, place)
+    }
+
+    // Makes the last part of a premise known that is true already, where it says that a term is a literal: so paths to the literal are short.
+    fn look_at_value(&mut self, bank: &Bank, or: usize, fact: usize) -> Result<Step, AllocError> {
+        let place = self.nodes.first_true(bank, or);
+        if self.reasons.facts.origin(fact) > 0 || !is_of_value(bank, part_at(bank, or, place)) {
+            return Ok(Step::Goes);
+        }
+        self.take_part(bank, or, fact, place)
+    }
+
+    // The part of an `or` at this place is known, since the others are refuted.
+    fn take_part(
+        &mut self,
+        bank: &Bank,
+        or: usize,
+        fact: usize,
+        place: usize,
+    ) -> Result<Step, AllocError> {
+        let pair = pair_of(or);
         self.nodes.take(pair)?;
         let mut origin = self.reasons.facts.origin(fact);
         if origin == 0 && self.asked.is_relevant(pair) {
@@ -279,7 +402,16 @@ impl State {
             return Ok(Step::Goes);
         }
         self.nodes.hold(formula, fact)?;
+        if is_delayed(bank, formula) {
+            self.take_delayed(bank, formula)?;
+            return Ok(Step::Goes);
+        }
         let origin = self.reasons.facts.origin(fact);
+        if origin == 1 && part_count(bank, formula) > LONG && !self.asked.has_goal() {
+            let number = formula;
+            self.add_bundle(bank, Held { number, fact })?;
+            return Ok(Step::Goes);
+        }
         for place in 0..part_count(bank, formula) {
             let part = part_at(bank, formula, place);
             let origin = if origin == 1 && !self.touches_part(bank, part) {
@@ -296,12 +428,19 @@ impl State {
         if self.nodes.held(formula) != NONE {
             return Ok(Step::Goes);
         }
+        if part_count(bank, formula) == 1 {
+            self.nodes.hold(formula, fact)?;
+            return self.take_part(bank, formula, fact, 0);
+        }
         let origin = self.reasons.facts.origin(fact);
         self.asked.add_clause(Clause {
             formula,
             fact,
             origin,
         })?;
+        if origin == 2 && part_count(bank, formula) > LONG {
+            self.asked.add_goal();
+        }
         self.nodes.reach(bank, &mut self.equal, formula, fact)?;
         Ok(Step::Goes)
     }
@@ -425,4 +564,14 @@ fn step_of(conflict: Option<Conflict>) -> Result<Step, AllocError> {
         Some(conflict) => Step::Conflict(conflict),
         None => Step::Goes,
     })
+}
+
+// Whether a literal says that a term is one of the literals.
+fn is_of_value(bank: &Bank, formula: usize) -> bool {
+    let pair = pair_of(formula);
+    kind_of(bank, formula) == LITERAL
+        && is_first(formula)
+        && pair_head(bank, pair).kind == EQUAL
+        && (is_value(bank, pair_argument(bank, pair, 0))
+            || is_value(bank, pair_argument(bank, pair, 1)))
 }

@@ -1,6 +1,6 @@
 // What is read of the state, the bank and the program, and how an instance is wanted once.
 
-use ss_core::{ClassId, Classes, Field, FieldId, Mark, Ty};
+use ss_core::{ClassId, Classes, Field, FieldId, MOST_CLASSES, Mark, Ty};
 use ss_search_classes::{CLASS, NONE, is_term, of_term, term_head};
 use ss_search_proof::GoodName;
 use ss_search_state::{Request, State, Wanted, new_request};
@@ -135,21 +135,26 @@ fn good_code(name: GoodName) -> usize {
     }
 }
 
-// The field of a number, where there are no more classes than there may be.
-fn field_at(program: &Classes, field: usize) -> Option<&Field> {
-    if field >= 4_294_967_296 || program.list.len() > 4096 {
+// The field of a number with its class, where there are no more classes than there may be.
+fn field_at(program: &Classes, field: usize) -> Option<(ClassId, &Field)> {
+    if field >= 4_294_967_296 || program.list.len() > MOST_CLASSES {
         return None;
     }
-    match program.field(FieldId(field as u32)) {
-        Some((_, found)) => Some(found),
-        None => None,
+    program.field(FieldId(field as u32))
+}
+
+// The class that declares a field; `object`, which each class counts as, where there is none.
+pub(crate) fn declaring(program: &Classes, field: usize) -> ClassId {
+    match field_at(program, field) {
+        Some((class, _)) => class,
+        None => ClassId(0),
     }
 }
 
 // Whether a field is a rep or a peer field.
 pub(crate) fn is_marked(program: &Classes, field: usize) -> bool {
     match field_at(program, field) {
-        Some(found) => match found.mark {
+        Some((_, found)) => match found.mark {
             Mark::Plain => false,
             _ => true,
         },
@@ -160,7 +165,7 @@ pub(crate) fn is_marked(program: &Classes, field: usize) -> bool {
 // Whether a field is never null in an object that is ready.
 pub(crate) fn is_non_null(program: &Classes, field: usize) -> bool {
     match field_at(program, field) {
-        Some(found) => match found.ty {
+        Some((_, found)) => match found.ty {
             Ty::Ref { non_null, .. } => non_null,
             _ => false,
         },

@@ -1,8 +1,8 @@
 // What invariants say, and the ranges of numbers.
 
 use crate::looks::{
-    KEY_RULE, class_id, class_literal, class_numbered, good_once, good_store, has_invariants,
-    member, terms_at,
+    KEY_RULE, class_id, class_literal, class_numbered, declaring, good_once, good_store,
+    has_invariants, member, terms_at,
 };
 use crate::typed::good_field;
 use ss_core::{ClassId, Classes, MOST_LEVELS};
@@ -97,7 +97,8 @@ fn invariants_at(
     if level == NONE {
         return Ok(());
     }
-    invariants_at_level(state, bank, program, (store, object, level))
+    let reader = declaring(program, node_head(bank, node).number);
+    invariants_at_level(state, bank, program, (store, object, level), reader)
 }
 
 /// Makes the instances of the rule on invariants at each level that is there. Whether there was one.
@@ -123,15 +124,16 @@ fn invariants_of(
         return Ok(());
     }
     let object = term_argument(bank, level, 1);
-    invariants_at_level(state, bank, program, (store, object, level))
+    invariants_at_level(state, bank, program, (store, object, level), ClassId(0))
 }
 
-// The invariants of the classes at which an object with this level may be packed.
+// The invariants of the classes at which an object with this level may be packed. Where that may be each class, of those that count as one.
 fn invariants_at_level(
     state: &mut State,
     bank: &Bank,
     program: &Classes,
     at: (usize, usize, usize),
+    above: ClassId,
 ) -> Result<(), AllocError> {
     let (store, object, level) = at;
     let literal = class_literal(state, bank, level);
@@ -139,7 +141,7 @@ fn invariants_at_level(
         return invariants_from(state, program, (store, object), class_id(bank, literal));
     }
     if member(state, bank, of_term(level), TYPE, 0) != NONE {
-        return all_invariants(state, program, (store, object));
+        return all_invariants(state, program, (store, object), above);
     }
     for place in 0..state.asked.sub_count() {
         let bound = bound_of(state, bank, level, place);
@@ -165,15 +167,19 @@ fn bound_of(state: &State, bank: &Bank, level: usize, place: usize) -> usize {
     }
 }
 
-// The invariants of all classes.
+// The invariants of all classes that count as this one. An invariant reads a field of its object only where its class counts as the one that
+// declares the field.
 fn all_invariants(
     state: &mut State,
     program: &Classes,
     at: (usize, usize),
+    above: ClassId,
 ) -> Result<(), AllocError> {
     for place in 0..program.list.len() {
-        let number = place.saturating_mul(2).saturating_add(4);
-        invariant_at(state, program, at, class_numbered(number))?;
+        let class = class_numbered(place.saturating_mul(2).saturating_add(4));
+        if program.is_subclass(class, above) {
+            invariant_at(state, program, at, class)?;
+        }
     }
     Ok(())
 }

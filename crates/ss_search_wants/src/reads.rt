@@ -78,32 +78,40 @@ fn read_over(state: &mut State, bank: &Bank, node: usize, store: usize) -> Resul
     })
 }
 
-// The instances of known `forall`s that have this read as a head.
+// The instances of known `forall`s that have this read as a head, over any store that is equal to the one that is read.
 pub(crate) fn use_foralls(state: &mut State, bank: &Bank, node: usize) -> Result<(), AllocError> {
-    for place in 0..state.asked.forall_count() {
-        let held = state.asked.forall(place);
-        let (from, to) = state.heads.range(held.number);
-        for at in from..to {
-            let pattern = state.heads.pattern(at);
-            if fits(state, bank, pattern, node) {
-                instantiate(state, bank, (held.number, held.fact), pattern, node)?;
-            }
+    let store = of_term(argument(bank, node, 0));
+    let mut at = store;
+    for _ in 0..state.equal.len() {
+        if is_term(at) {
+            use_heads(state, bank, node, at / 2)?;
+        }
+        at = state.equal.next(at);
+        if at == store {
+            break;
         }
     }
     Ok(())
 }
 
+// The same of the heads over one store.
+fn use_heads(state: &mut State, bank: &Bank, node: usize, store: usize) -> Result<(), AllocError> {
+    let mut at = state.heads.first(node_head(bank, node), store);
+    for _ in 0..state.heads.len() {
+        if at == NONE {
+            break;
+        }
+        let pattern = state.heads.pattern(at);
+        let fact = state.nodes.held(pattern.forall);
+        if fact != NONE && fits(state, bank, pattern, node) {
+            instantiate(state, bank, (pattern.forall, fact), pattern, node)?;
+        }
+        at = pattern.next;
+    }
+    Ok(())
+}
+
 fn fits(state: &State, bank: &Bank, pattern: Pattern, node: usize) -> bool {
-    let head = node_head(bank, node);
-    if head.kind != pattern.kind || head.number != pattern.number {
-        return false;
-    }
-    if !state
-        .equal
-        .are_equal(of_term(pattern.store), of_term(argument(bank, node, 0)))
-    {
-        return false;
-    }
     fits_at(state, bank, pattern.object, argument(bank, node, 1))
         && fits_at(state, bank, pattern.index, argument(bank, node, 2))
 }

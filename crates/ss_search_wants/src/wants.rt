@@ -18,9 +18,9 @@ pub fn work(
     program: &Classes,
     stage: usize,
 ) -> Result<bool, AllocError> {
-    state.find_relevant(bank)?;
-    state.ask_members(bank)?;
-    state.find_relevant(bank)?;
+    if state.has_more() {
+        ask_for_more(state, bank)?;
+    }
     let before = state.requests.len();
     for place in 0..usize::MAX {
         let node = state.asked.node(place);
@@ -28,7 +28,9 @@ pub fn work(
             break;
         }
         if stage == 1 {
-            reduce(state, bank, program, node)?;
+            if state.has_moved(bank, place, node)? {
+                reduce(state, bank, program, node)?;
+            }
         } else if stage == 2 {
             use_good(state, bank, program, node)?;
         } else {
@@ -36,6 +38,17 @@ pub fn work(
         }
     }
     Ok(state.requests.len() > before)
+}
+
+// Asks for what else is asked for by what is.
+fn ask_for_more(state: &mut State, bank: &Bank) -> Result<(), AllocError> {
+    let before = state.asked.len();
+    state.find_relevant(bank)?;
+    state.ask_members(bank)?;
+    if state.asked.len() > before {
+        state.find_relevant(bank)?;
+    }
+    Ok(())
 }
 
 // What reads come to, and what is said of all objects.

@@ -10,8 +10,10 @@ use Rattle.ss_logic_means.specs.Sorts.{AreWellFormed}
 use Rattle.ss_terms.specs.declared.forms.FormulaId.{FormulaId}
 use Rattle.ss_terms.specs.Forms.{Forms, formula_at, formulas_at, HasFormula, HasFormulas}
 use Rattle.ss_search_procedure_rules.specs.Closed.{is_basic, basics}
-use Rattle.ss_search_contradicting.specs.Contradicting.{AreAtPlaces}
-use Rattle.ss_search_whole_sums.specs.WholeSums.{basic_ones, basic_places, AreBasicsAt}
+use Rattle.ss_search_whole_sums.specs.Contradicting.{AreAtPlaces}
+use Rattle.ss_search_whole_sums.proofs.Written.{stand_all}
+use Rattle.ss_search_clashing.specs.Cases.{AreAt}
+use Rattle.ss_search_whole_sums.specs.WholeSums.{basic_ones, basic_places}
 
 module _ (b : Forms) where
   abbrev is_one : FormulaId → Bool
@@ -107,11 +109,10 @@ module _ (b : Forms) where
   ones_from (g ∷ fs) (q ∷ ps) i f p x y = from_first g q fs ps (is_one g) refl (ones_from fs ps) i f p x y
 
   module _ (cs : List ClassTree) where
-    pub ones_at : (known : List Formula) (fs : List FormulaId) (ps : List ℕ) → length ps ≡ length fs → AreBasicsAt cs b known fs ps → AreAtPlaces b known (basic_ones b fs) (basic_places b fs ps)
-    ones_at known fs ps l h = record {
-      long = places_long fs ps l;
-      at = λ i place f x y. let r = ones_from fs ps i f place x y in (h.each r.at place f r.formula r.place r.basic).0;
-    }
+    pub ones_at : (known : List Formula) (fs : List FormulaId) (ps : List ℕ) → length ps ≡ length fs → AreAt cs b known fs ps → AreAtPlaces b known (basic_ones b fs) (basic_places b fs ps)
+    ones_at known fs ps l h =
+        stand_all b known (basic_ones b fs) (basic_places b fs ps) (places_long fs ps l)
+        (λ i place f x y. let r = ones_from fs ps i f place x y in (h.each r.at place f r.formula r.place r.basic).at)
 
     -- each of these that is a literal or quantified is well formed
     abbrev AllFormed : List FormulaId → List ℕ → Type 0
@@ -127,5 +128,5 @@ module _ (b : Forms) where
     each_formed (f ∷ fs) [] l h = absurd (omega (arith, l))
     each_formed (f ∷ fs) (p ∷ ps) l h = first_formed f fs (is_one f) refl (λ t. h 0 p f refl refl t) (each_formed fs ps (omega (arith, l)) (λ i place g x y t. h (suc i) place g x y t))
 
-    pub ones_formed : (known : List Formula) (fs : List FormulaId) (ps : List ℕ) → length ps ≡ length fs → AreBasicsAt cs b known fs ps → AreWellFormed cs [] (formulas_at b (basic_ones b fs))
-    ones_formed known fs ps l h = each_formed fs ps l (λ i place f x y t. (h.each i place f x y t).1)
+    pub ones_formed : (known : List Formula) (fs : List FormulaId) (ps : List ℕ) → length ps ≡ length fs → AreAt cs b known fs ps → AreWellFormed cs [] (formulas_at b (basic_ones b fs))
+    ones_formed known fs ps l h = each_formed fs ps l (λ i place f x y t. (h.each i place f x y t).formed)

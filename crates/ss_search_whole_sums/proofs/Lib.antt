@@ -1,2 +1,4 @@
-pub mod Basics
 pub mod Sums
+pub mod Written
+pub mod Basics
+pub mod Wholes

@@ -1,72 +1,190 @@
--- Pairs of whole numbers of one class, and what closes a case with sums of them.
-use Rattle.std.proofs.Common.{◌≡◌, ℕ, zero, suc, ◌<◌, List, [], ◌∷◌, length, true, Some, sym, ◌∙◌, subst}
-use Rattle.std.specs.Prelude.{slice_get}
-use Rattle.std.specs.List.{Contains}
+-- Sums give the same where their facts stand at other places, and their lines close a case.
+use Rattle.std.proofs.Common.{◌≡◌, ℕ, zero, suc, ◌+◌, ◌-◌, ◌==◌, ◌<◌, ◌≤◌, ℤ, pos, negsuc, ◌<ℤ◌, List, [], ◌∷◌, ◌++◌, length, get_or, take, map, Bool, true, false, ◌&&◌, ◌||◌, Some, None, option_and_then, refl, sym, ◌∙◌, ap, subst, append_assoc, arith}
+use Rattle.std.specs.Prelude.{nat_lt, slice_get, slice_index, if◌then◌else◌}
+use Rattle.std.specs.List.{list_any}
+use Rattle.std.specs.Int.{is_positive}
+use Rattle.std.proofs.lemmas.Bool.{or_left, or_right, and_from, eq-eqb, ltb-true, lt-ltb, false≢true}
+use Rattle.std.proofs.lemmas.List.{length-append, map_push, take_more, take_all}
+use Rattle.std.proofs.lemmas.List.Folds.{list_any_at, list_any_more}
+use Rattle.std.proofs.lemmas.Int.{ints}
 use Rattle.ss_core.specs.Tree.{ClassTree}
-use Rattle.ss_logic.specs.declared.Sort.TheVariants as sort
-use Rattle.ss_logic.specs.Terms.{sort_of, is_well_sorted}
 use Rattle.ss_logic.specs.Formulas.{Formula}
-use Rattle.ss_logic.proofs.Truth.{equal_sorts}
+use Rattle.ss_logic_rules.specs.Shapes.{number, at_most}
+use Rattle.ss_logic_rules.proofs.Options.{and_then_some, if_some}
 use Rattle.ss_logic_means.specs.Sorts.{AreWellFormed}
 use Rattle.ss_logic_means.proofs.Sorting.{more_formed}
-use Rattle.ss_logic_ground.specs.Occurring.{terms}
-use Rattle.ss_logic_origins.proofs.Formed.{each_formed, terms_sorted}
-use Rattle.ss_terms.specs.declared.forms.TermId.{TermId}
-use Rattle.ss_terms.specs.declared.forms.FormulaId.{FormulaId}
-use Rattle.ss_terms.specs.Forms.{Forms, term_at, formulas_at, HasTerm}
-use Rattle.ss_linear.specs.Contradictions.{equalities_at, HasPairs}
+use Rattle.ss_logic_sums.specs.Sums.{LinearSum, number_sum, sum_fact_of, add_weighted, weighted, bounded, sum_of}
+use Rattle.ss_logic_derivations.specs.Steps as tree
+use Rattle.ss_logic_derivations.specs.Steps.{is_absurd, is_opposed, is_clash}
+use Rattle.ss_logic_instances.proofs.Summing.{sum_formed}
+use Rattle.ss_linear_rules.specs.Two.{IsFalse, Refute}
+use Rattle.ss_terms.specs.Forms.{Forms}
 use Rattle.ss_deriv.specs.declared.line.Line.{Line}
-use Rattle.ss_equality_rules.specs.declared.Merge.{Merge}
-use Rattle.ss_equality_rules.specs.Equal.{Standing, AreFormsOf, AreClassesOf}
-use Rattle.ss_search_equating.proofs.Sorts.{formed_equal}
-use Rattle.ss_search_contradicting.specs.Contradicting.{ArePairsEqual, CloseFacts}
-use Rattle.ss_search_procedure_rules.proofs.Lists.{contains_head, contains_cons}
-use Rattle.ss_search_reached.specs.Groups.{Pairs, AreOfOneClass, IsWholeIn}
-use Rattle.ss_search_reached.proofs.Lists.{contains_at}
-use Rattle.ss_search_whole_sums.specs.WholeSums.{basic_ones, basic_places, CloseSums, CloseFormed}
-use Rattle.ss_search_whole_sums.proofs.Basics.{ones_at, ones_formed}
+use Rattle.ss_deriv.specs.declared.line.Line.TheVariants as line
+use Rattle.ss_deriv.specs.declared.line.Sum.{Sum}
+use Rattle.ss_deriv.specs.Lines.{line_of, lines_of}
+use Rattle.ss_linear.specs.Contradictions.{summed, sums_of}
+use Rattle.ss_search_closing.specs.Closing.{Closes}
+use Rattle.ss_search_closing.proofs.Closing.{closes_fact, closes_clash}
+use Rattle.ss_search_closing.proofs.Leading.{at_front, at_end}
+use Rattle.ss_search_whole_sums.specs.Summing.{Sums, uses, moved, moved_part, sum_line, StandAt, CloseBySums}
 
--- ---- pairs
+-- ---- places
 
--- the terms of each pair are equal by the merges
-pub pairs_equal : (b : Forms) (c : Standing) (classes : List ℕ) (ps : Pairs) → AreFormsOf b c.terms → AreClassesOf c.terms c.merges classes → HasPairs b ps → AreOfOneClass classes ps → ArePairsEqual c ps
-pairs_equal b c classes ps forms are has one = record {
-  equal = λ i p e.
-      let h = pair_at ps i p has e in
-      (are p.0.0 p.1.0 (in_terms p.0 h.0) (in_terms p.1 h.1)).0 (one.one_class p (contains_at ps i p e));
+pub in_front : {A : Type 0} (xs ys : List A) (i : ℕ) (x : A) → i < length xs → slice_get (xs ++ ys) i ≡ Some x → slice_get xs i ≡ Some x
+in_front [] ys i x l e = absurd (omega (arith, l))
+in_front (z ∷ xs) ys zero x l e = e
+in_front (z ∷ xs) ys (suc i) x l e = in_front xs ys i x (omega (arith, l)) e
+
+in_back : {A : Type 0} (xs ys : List A) (i k : ℕ) (x : A) → i ≡ length xs + k → slice_get (xs ++ ys) i ≡ Some x → slice_get ys k ≡ Some x
+in_back [] ys i k x is e = let same : i ≡ k = omega (arith, is) in subst (λ (n : ℕ). slice_get ys n ≡ Some x) same e
+in_back (z ∷ xs) ys zero k x is e = absurd (omega (arith, is))
+in_back (z ∷ xs) ys (suc i) k x is e = in_back xs ys i k x (omega (arith, is)) e
+
+at_back : {A : Type 0} (xs ys : List A) (i k : ℕ) (x : A) → i ≡ length xs + k → slice_get ys k ≡ Some x → slice_get (xs ++ ys) i ≡ Some x
+at_back [] ys i k x is e = let same : k ≡ i = omega (arith, is) in subst (λ (n : ℕ). slice_get ys n ≡ Some x) same e
+at_back (z ∷ xs) ys zero k x is e = absurd (omega (arith, is))
+at_back (z ∷ xs) ys (suc i) k x is e = at_back xs ys i k x (omega (arith, is)) e
+
+not_below : (a b : ℕ) → nat_lt a b ≡ false → b ≤ a
+not_below a b e = let no : (a < b → ⊥) = λ l. false≢true (sym e ∙ lt-ltb a b l) in omega (arith, no)
+
+-- ---- what is false
+
+below_zero : (k : ℤ) → k <ℤ pos 0 → is_absurd (at_most (number (pos 0)) (number k)) ≡ true
+below_zero (pos n) l = absurd (omega (arith, ints, l))
+below_zero (negsuc n) l = refl
+
+false_is_absurd : (f : Formula) → IsFalse f → is_absurd f ≡ true
+false_is_absurd f h = ap is_absurd h.1 ∙ below_zero h.0 h.2
+
+false_clashes : (known : List Formula) (q : ℕ) (f : Formula) → slice_get known q ≡ Some f → IsFalse f → is_clash q q (slice_get known q) (slice_get known q) ≡ true
+false_clashes known q f at h =
+    ap (λ o. is_clash q q o o) at
+    ∙ or_right (is_opposed f f) (q == q && is_absurd f) (and_from (q == q) (is_absurd f) (eq-eqb q q refl) (false_is_absurd f h))
+
+module _ (cs : List ClassTree) (facts known : List Formula) (places : List ℕ) (count : ℕ) (many : length known ≡ count) (long : length places ≡ length facts) where
+  -- ---- the same sums
+
+  -- a fact stands at its place
+  abbrev Stands : ℕ → Type 0
+  Stands i = (f : Formula) → slice_get facts i ≡ Some f → slice_get known (slice_index places i) ≡ Some f
+
+  found : (rs : List Formula) (i : ℕ) (f : Formula) → Stands i → slice_get (facts ++ rs) i ≡ Some f → slice_get (known ++ rs) (moved places count i) ≡ Some f
+  found rs i f at e = by (nat_lt i (length places)) refl
+    where
+      by : (v : Bool) → nat_lt i (length places) ≡ v → slice_get (known ++ rs) (if v then slice_index places i else count + (i - length places)) ≡ Some f
+      by true l =
+          let below : i < length places = ltb-true i (length places) l in
+          at_front known rs (slice_index places i) f (at f (in_front facts rs i f (omega (arith, below, long)) e))
+      by false l =
+          let past : length places ≤ i = not_below i (length places) l in
+          at_back known rs (count + (i - length places)) (i - length places) f (omega (arith, many))
+          (in_back facts rs i (i - length places) f (omega (arith, past, long)) e)
+
+  abbrev part : ℕ × ℤ → ℕ × ℤ
+  part p = moved_part places count p
+
+  weighted_same : (rs : List Formula) (a : LinearSum) (ps : List (ℕ × ℤ)) (b : LinearSum) → ((i : ℕ) → list_any (λ p. p.0 == i) ps ≡ true → Stands i) → weighted cs (facts ++ rs) a ps ≡ Some b → weighted cs (known ++ rs) a (map part ps) ≡ Some b
+  weighted_same rs a [] b at e = e
+  weighted_same rs a (p ∷ ps) b at e =
+      let q = and_then_some (λ fact. option_and_then (λ c. weighted cs (facts ++ rs) c ps) (add_weighted p.1 a fact)) (option_and_then (sum_fact_of cs) (slice_get (facts ++ rs) p.0)) b e in
+      let f = and_then_some (sum_fact_of cs) (slice_get (facts ++ rs) p.0) q.0 q.1 in
+      let c = and_then_some (λ c. weighted cs (facts ++ rs) c ps) (add_weighted p.1 a q.0) b q.2 in
+      let here : list_any (λ x. x.0 == p.0) (p ∷ ps) ≡ true = or_left (p.0 == p.0) (list_any (λ x. x.0 == p.0) ps) (eq-eqb p.0 p.0 refl) in
+      ap (λ o. option_and_then (λ fact. option_and_then (λ s. weighted cs (known ++ rs) s (map part ps)) (add_weighted p.1 a fact)) (option_and_then (sum_fact_of cs) o)) (found rs p.0 f.0 (at p.0 here) f.1)
+      ∙ ap (option_and_then (λ fact. option_and_then (λ s. weighted cs (known ++ rs) s (map part ps)) (add_weighted p.1 a fact))) f.2
+      ∙ ap (option_and_then (λ s. weighted cs (known ++ rs) s (map part ps))) c.1
+      ∙ weighted_same rs c.0 ps b (λ i u. at i (or_right (p.0 == i) (list_any (λ x. x.0 == i) ps) u)) c.2
+
+  sum_same : (rs : List Formula) (d : ℤ) (ps : List (ℕ × ℤ)) (f : Formula) → ((i : ℕ) → list_any (λ p. p.0 == i) ps ≡ true → Stands i) → sum_of cs (facts ++ rs) d ps ≡ Some f → sum_of cs (known ++ rs) d (map part ps) ≡ Some f
+  sum_same rs d ps f at e =
+      let p = if_some (is_positive d) (option_and_then (bounded d) (weighted cs (facts ++ rs) (number_sum (pos 0)) ps)) f e in
+      let q = and_then_some (bounded d) (weighted cs (facts ++ rs) (number_sum (pos 0)) ps) f p.1 in
+      ap (λ t. if t then option_and_then (bounded d) (weighted cs (known ++ rs) (number_sum (pos 0)) (map part ps)) else None) p.0
+      ∙ ap (option_and_then (bounded d)) (weighted_same rs (number_sum (pos 0)) ps q.0 at q.1)
+      ∙ q.2
+
+  -- ---- the lines
+
+  module _ (premises : List Formula) (goal : Formula) (formed : AreWellFormed cs [] facts) where
+    -- the lines of these sums, and the clash
+    abbrev all_lines : Sums → ℕ → List tree.Line
+    all_lines ss q = map (sum_line places count) ss ++ tree.Clash q q ∷ []
+
+    one_more : (rs : List Formula) (s : ℤ × List (ℕ × ℤ)) (f : Formula) (lines : List tree.Line) → AreWellFormed cs [] rs → ((i : ℕ) → list_any (λ p. p.0 == i) s.1 ≡ true → Stands i) → sum_of cs (facts ++ rs) s.0 s.1 ≡ Some f →
+        Closes cs premises goal ((known ++ rs) ++ f ∷ []) lines → Closes cs premises goal (known ++ rs) (sum_line places count s ∷ lines)
+    one_more rs s f lines well at e c =
+        closes_fact cs premises goal (known ++ rs) (sum_line places count s) f lines (sum_same rs s.0 s.1 f at e)
+        (sum_formed cs (facts ++ rs) s.0 s.1 f (more_formed cs [] facts rs formed well) e) c
+
+    closed : (s : ℤ × List (ℕ × ℤ)) (ss : Sums) (rs : List Formula) (q : ℕ) → AreWellFormed cs [] rs → ((i : ℕ) → uses (s ∷ ss) i ≡ true → Stands i) → q ≡ count + (length rs + length ss) → Refute cs (facts ++ rs) (s ∷ ss) →
+        Closes cs premises goal (known ++ rs) (all_lines (s ∷ ss) q)
+    closed s [] rs q well at is h =
+        let last : length (known ++ rs) ≡ q = let l = length-append known rs in omega (arith, l, many, is) in
+        one_more rs s h.0 (tree.Clash q q ∷ []) well (λ i u. at i (or_left (list_any (λ p. p.0 == i) s.1) false u)) h.1
+        (closes_clash cs premises goal ((known ++ rs) ++ h.0 ∷ []) q q
+        (false_clashes ((known ++ rs) ++ h.0 ∷ []) q h.0 (subst (λ (n : ℕ). slice_get ((known ++ rs) ++ h.0 ∷ []) n ≡ Some h.0) last (at_end (known ++ rs) h.0)) h.2))
+    closed s (r ∷ ss) rs q well at is h =
+        let next : q ≡ count + (length (rs ++ h.0 ∷ []) + length ss) = let l = length-append rs (h.0 ∷ []) in omega (arith, l, is) in
+        let formed_next = sum_formed cs (facts ++ rs) s.0 s.1 h.0 (more_formed cs [] facts rs formed well) h.1 in
+        one_more rs s h.0 (all_lines (r ∷ ss) q) well (λ i u. at i (or_left (list_any (λ p. p.0 == i) s.1) (uses (r ∷ ss) i) u)) h.1
+        (subst (λ (ks : List Formula). Closes cs premises goal ks (all_lines (r ∷ ss) q)) (sym (append_assoc known rs (h.0 ∷ [])))
+        (closed r ss (rs ++ h.0 ∷ []) q (more_formed cs [] rs (h.0 ∷ []) well (formed_next, tt)) (λ i u. at i (or_right (list_any (λ p. p.0 == i) s.1) (uses (r ∷ ss) i) u)) next
+        (subst (λ (ks : List Formula). Refute cs ks (r ∷ ss)) (append_assoc facts rs (h.0 ∷ [])) h.2)))
+
+none_behind : {A : Type 0} (xs : List A) → xs ++ [] ≡ xs
+none_behind [] = refl
+none_behind (x ∷ xs) = ap (λ ys. x ∷ ys) (none_behind xs)
+
+closed_all : (cs : List ClassTree) (premises : List Formula) (goal : Formula) (facts known : List Formula) (places : List ℕ) (count : ℕ) (ss : Sums) (q : ℕ) → length known ≡ count → StandAt known facts places ss → AreWellFormed cs [] facts → q ≡ count + (length ss - 1) → Refute cs facts ss →
+    Closes cs premises goal known (map (sum_line places count) ss ++ tree.Clash q q ∷ [])
+closed_all cs premises goal facts known places count [] q many at formed is h = absurd h
+closed_all cs premises goal facts known places count (s ∷ ss) q many at formed is h =
+    subst (λ (ks : List Formula). Closes cs premises goal ks (map (sum_line places count) (s ∷ ss) ++ tree.Clash q q ∷ [])) (none_behind known)
+    (closed cs facts known places count many at.long premises goal formed s ss [] q tt (λ i u f e. at.at i f u e) (omega (arith, is))
+    (subst (λ (ks : List Formula). Refute cs ks (s ∷ ss)) (sym (none_behind facts)) h))
+
+length_sums : (sums : List Sum) → length (sums_of sums) ≡ length sums
+length_sums [] = refl
+length_sums (s ∷ sums) = ap suc (length_sums sums)
+
+pub sums_close : (places : List ℕ) (count : ℕ) (sums : List Sum) (old new : List Line) (last : ℕ) → ((b : Forms) → lines_of b old ≡ map (sum_line places count) (sums_of sums)) → new ≡ old ++ line.Clash last last ∷ [] → last ≡ count + (length sums - 1) → CloseBySums places count (sums_of sums) new
+sums_close places count sums old new last lines is place = record {
+  closes = λ b cs premises goal known facts many at formed h.
+      let all : lines_of b new ≡ map (sum_line places count) (sums_of sums) ++ tree.Clash last last ∷ [] =
+      ap (lines_of b) is ∙ map_push (line_of b) old (line.Clash last last) ∙ ap (λ ls. ls ++ tree.Clash last last ∷ []) (lines b) in
+      subst (λ (ls : List tree.Line). Closes cs premises goal known ls) (sym all)
+      (closed_all cs premises goal facts known places count (sums_of sums) last many at formed (place ∙ ap (λ n. count + (n - 1)) (sym (length_sums sums))) h);
 }
-  where
-    in_terms : (t : TermId) → HasTerm b t → t.0 < length c.terms
-    in_terms t h = subst (λ (n : ℕ). t.0 < n) (sym forms.all) h
 
-    pair_at : (qs : Pairs) (i : ℕ) (p : TermId × TermId) → HasPairs b qs → slice_get qs i ≡ Some p → HasTerm b p.0 × HasTerm b p.1
-    pair_at [] i p h e = cc
-    pair_at (q ∷ qs) zero p h e = let same : q ≡ p = cc in subst (λ (r : TermId × TermId). HasTerm b r.0 × HasTerm b r.1) same h.0
-    pair_at (q ∷ qs) (suc i) p h e = pair_at qs i p h.1 e
+-- ---- which places are used
 
-module _ (cs : List ClassTree) (b : Forms) (fs : List Formula) (formed : AreWellFormed cs [] fs) where
-  whole_sorted : (t : TermId) → IsWholeIn cs b (terms fs) t → (sort_of cs [] (term_at b t) ≡ sort.Whole) × (is_well_sorted cs [] (term_at b t) ≡ true)
-  whole_sorted t h = (equal_sorts (sort_of cs [] (term_at b t)) sort.Whole h.whole, terms_sorted cs fs (each_formed cs [] fs formed) (term_at b t) h.within)
+abbrev has : ℕ → Sum → Bool
+has place s = list_any (λ p. p.0 == place) s.parts.items
 
-  pub pairs_formed : (ps : Pairs) → ((p : TermId × TermId) → Contains ps p → IsWholeIn cs b (terms fs) p.0 × IsWholeIn cs b (terms fs) p.1) → AreWellFormed cs [] (equalities_at b ps)
-  pairs_formed [] only = tt
-  pairs_formed (p ∷ ps) only =
-      let r = only p (contains_head p ps) in
-      let x = whole_sorted p.0 r.0 in
-      let y = whole_sorted p.1 r.1 in
-      (formed_equal cs (term_at b p.0) (term_at b p.1) (x.0 ∙ sym y.0) x.1 y.1, pairs_formed ps (λ q c. only q (contains_cons p ps q c)))
+pub uses_is : (sums : List Sum) (place : ℕ) → uses (sums_of sums) place ≡ list_any (has place) sums
+uses_is [] place = refl
+uses_is (s ∷ sums) place = ap (λ v. has place s || v) (uses_is sums place)
 
--- ---- what closes a case
+pub uses_here : (sums : List Sum) (place i : ℕ) (d : Sum) (found : Bool) → i < length sums → found ≡ has place (get_or sums i d) → found ≡ true → true ≡ uses (sums_of sums) place
+uses_here sums place i d found l is e = sym (uses_is sums place ∙ list_any_at (has place) sums i d l (sym is ∙ e))
 
-pub closes_formed : (cs : List ClassTree) (b : Forms) (ms : List Merge) (count : ℕ) (facts : List FormulaId) (places : List ℕ) (ps : Pairs) (lines : List Line) →
-    ((p : TermId × TermId) → Contains ps p → IsWholeIn cs b (terms (formulas_at b facts)) p.0 × IsWholeIn cs b (terms (formulas_at b facts)) p.1) → CloseFacts cs b ms count facts places ps lines → CloseFormed cs b ms count facts places lines
-closes_formed cs b ms count facts places ps lines only close = record {
-  closes = λ premises goal known are at formed.
-      close.closes premises goal known are at (more_formed cs [] (formulas_at b facts) (equalities_at b ps) formed (pairs_formed cs b (formulas_at b facts) formed ps only));
-}
+pub uses_more : (sums : List Sum) (place i : ℕ) (d : Sum) (found : Bool) → i < length sums → list_any (has place) (take i sums) ≡ false → found ≡ has place (get_or sums i d) → found ≡ false → list_any (has place) (take (i + 1) sums) ≡ false
+uses_more sums place i d found l h is e = list_any_more (has place) sums i d l ∙ ap (λ v. v || has place (get_or sums i d)) h ∙ sym is ∙ e
 
-pub closes_shown : (cs : List ClassTree) (b : Forms) (ms : List Merge) (count : ℕ) (fs : List FormulaId) (places : List ℕ) (lines : List Line) → length places ≡ length fs →
-    CloseFormed cs b ms count (basic_ones b fs) (basic_places b fs places) lines → CloseSums cs b ms count fs places lines
-closes_shown cs b ms count fs places lines l close = record {
-  closes = λ premises goal known are shown. close.closes premises goal known are (ones_at b cs known fs places l shown) (ones_formed b cs known fs places l shown);
-}
+pub uses_none : (sums : List Sum) (place i : ℕ) → length sums ≤ i → list_any (has place) (take i sums) ≡ false → false ≡ uses (sums_of sums) place
+uses_none sums place i l h = sym (uses_is sums place ∙ ap (list_any (has place)) (sym (take_all i sums l)) ∙ h)
+
+-- ---- one line more
+
+pub line_more : (b : Forms) (places : List ℕ) (count : ℕ) (sums : List Sum) (i : ℕ) (d : Sum) (old new : List Line) (l : Line) → i < length sums → lines_of b old ≡ map (sum_line places count) (sums_of (take i sums)) → new ≡ old ++ l ∷ [] → line_of b l ≡ sum_line places count (summed (get_or sums i d)) →
+    lines_of b new ≡ map (sum_line places count) (sums_of (take (i + 1) sums))
+line_more b places count sums i d old new l at h is e =
+    ap (lines_of b) is ∙ map_push (line_of b) old l
+    ∙ ap (λ ls. ls ++ line_of b l ∷ []) h
+    ∙ ap (λ x. map (sum_line places count) (sums_of (take i sums)) ++ x ∷ []) e
+    ∙ sym (ap (λ ss. map (sum_line places count) (sums_of ss)) (take_more sums i d at) ∙ ap (map (sum_line places count)) (map_push summed (take i sums) (get_or sums i d)) ∙ map_push (sum_line places count) (sums_of (take i sums)) (summed (get_or sums i d)))
+
+pub line_all : (b : Forms) (places : List ℕ) (count : ℕ) (sums : List Sum) (i : ℕ) (lines : List Line) → length sums ≤ i → lines_of b lines ≡ map (sum_line places count) (sums_of (take i sums)) → lines_of b lines ≡ map (sum_line places count) (sums_of sums)
+line_all b places count sums i lines l h = h ∙ ap (λ ss. map (sum_line places count) (sums_of ss)) (take_all i sums l)

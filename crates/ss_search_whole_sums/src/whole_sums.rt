@@ -9,10 +9,10 @@ ghost use Rattle.ss_search_procedure_rules.specs.Closed as closed;
 ghost use Rattle.ss_search_reached.specs.Following.{HasNoSum};
 ghost use Rattle.ss_search_whole_sums.specs.WholeSums.{basic_ones, basic_places, CloseSums, CloseFormed};
 
+use crate::contradicting::close_contradiction;
 use ss_deriv::Line;
 use ss_equality::Congruence;
 use ss_search_clashes::classes_are_of_terms;
-use ss_search_contradicting::close_contradiction;
 use ss_search_reached::{is_basic, numbers_are_seen, whole_links, whole_pairs};
 use ss_terms::{Bank, FormulaId};
 use std::alloc::{AllocError, Global};

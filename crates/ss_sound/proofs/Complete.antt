@@ -14,8 +14,8 @@ use Rattle.ss_search.specs.Found.{HasNoModelWithin}
 use Rattle.ss_search.proofs.Carried.{proved_or_memory}
 use Rattle.ss_sound.specs.Decided.{IsCountered, IsOverBudget}
 use Rattle.ss_sound.specs.Verdicts.{IfThere, AreCountered, AreUndecided, AreDecided, IsUnproved, IsUndecided, AllHaveNoModelWithin, IsVerifiedOrMemory, IfUnproved, IfUndecided}
-use Rattle.ss_sound.specs.declared.verdict.Verdict.{Verdict}
-use Rattle.ss_sound.specs.declared.verdict.Verdict.TheVariants as verdict
+use Rattle.ss_search.specs.declared.answers.Verdict.{Verdict}
+use Rattle.ss_search.specs.declared.answers.Verdict.TheVariants as verdict
 
 module _ (cs : List ClassTree) (p : Options) where
   not_countered : (o : Obligation) (m : Countermodel) → HasNoModelWithin cs p o.premises o.goal → IsCountered cs p o m → ⊥

@@ -15,7 +15,7 @@ use Rattle.ss_terms.specs.Forms.{Forms, AreBelow, HasFormula, HasFormulas, IsGro
 use Rattle.ss_terms.proofs.Grown.{HasFormula-grown, formulas_at-grown}
 use Rattle.ss_vcgen_heaps.specs.Positions as oblig
 use Rattle.ss_vcgen_safe.specs.Derived.{AreDerived}
-use Rattle.ss_vcgen_formed.specs.Formed.{AreFormed}
+use Rattle.ss_vcgen_formed.specs.Formed.{IsWellFormed, AreFormed}
 use Rattle.ss_vcgen_builder.specs.declared.builder.Listed.{Listed}
 use Rattle.ss_vcgen_builder.specs.Builder.{obligation_at, obligations_at, IsPlaced, AreWithin}
 use Rattle.ss_deriv.specs.declared.line.Line.{Line}
@@ -24,7 +24,7 @@ use Rattle.ss_search.proofs.Kept.{lines_kept}
 use Rattle.ss_search.specs.declared.answers.Options.{Options}
 use Rattle.ss_search.specs.declared.answers.Countered.{Countered}
 use Rattle.ss_search.specs.declared.answers.Undecided.{Undecided}
-use Rattle.ss_sound.specs.Decided.{IsWellFormed, IsDerivedBy, IsCountered, IsOverBudget, IfDerived, IfRefuted, IfOver}
+use Rattle.ss_sound.specs.Decided.{IsDerivedBy, IsCountered, IsOverBudget, IfDerived, IfRefuted, IfOver}
 use Rattle.ss_sound.specs.Verdicts.{IsProved, IfThere, AreCountered, AreUndecided, IsNoneOf, AreDecided, derivations_of, derivations_in, countered_in, undecided_in}
 use Rattle.ss_search.specs.Listed.{countered_numbers, undecided_numbers, AreRisingFrom}
 
@@ -83,8 +83,8 @@ obligations_grown a b trail n (x ∷ xs) grown has within =
 -- each obligation of a list that is well formed is well formed
 formed_of : (cs : List ClassTree) (os : List oblig.Obligation) (k : ℕ) (o : oblig.Obligation) → AreFormed cs os → slice_get os k ≡ Some o → IsWellFormed cs o
 formed_of cs [] k o h e = absurd (cc)
-formed_of cs (x ∷ xs) zero o h e = let same : x ≡ o = cc in subst (IsWellFormed cs) same (record { goal = h.1; premises = h.0 })
-formed_of cs (x ∷ xs) (suc k) o h e = formed_of cs xs k o h.2 e
+formed_of cs (x ∷ xs) zero o h e = let same : x ≡ o = cc in subst (IsWellFormed cs) same h.0
+formed_of cs (x ∷ xs) (suc k) o h e = formed_of cs xs k o h.1 e
 
 pub formed_at : (cs : List ClassTree) (a b : Forms) (trail : List FormulaId) (os : List Listed) (k : ℕ) (d : Listed) → IsGrown a b → HasFormulas a trail → AreWithin a (length trail) os → AreFormed cs (obligations_at a trail os) → k < length os
     → IsWellFormed cs (obligation_at b trail (slice_index_or os k d))

@@ -13,8 +13,8 @@ use Rattle.ss_vcgen_safe.specs.Derived.{AreDerived}
 use Rattle.ss_deriv.specs.declared.line.Line as code
 use Rattle.ss_sound.specs.Safe.{IsSafe}
 use Rattle.ss_sound.specs.Verdicts.{IfVerified}
-use Rattle.ss_sound.specs.declared.verdict.Verdict.{Verdict}
-use Rattle.ss_sound.specs.declared.verdict.Verdict.TheVariants as verdict
+use Rattle.ss_search.specs.declared.answers.Verdict.{Verdict}
+use Rattle.ss_search.specs.declared.answers.Verdict.TheVariants as verdict
 
 is_safe : (c : CoreTree) → IsFormed c → (os : List Obligation) (ds : List (List Line)) → os ≡ obligations c → AreDerived c.classes os ds → IsSafe c
 is_safe c formed os ds e h =

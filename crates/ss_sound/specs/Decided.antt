@@ -1,10 +1,9 @@
 -- What was found of one obligation.
-use Rattle.std.specs.Prelude.{◌≡◌, List, [], Result, Ok, Err, true}
+use Rattle.std.specs.Prelude.{List, Result, Ok, Err}
 use Rattle.ss_core.specs.Tree.{ClassTree}
-use Rattle.ss_logic.specs.Formulas.{Formula, is_well_formed}
+use Rattle.ss_logic.specs.Formulas.{Formula}
 use Rattle.ss_logic_derivations.specs.Steps as tree
 use Rattle.ss_logic_derivations.specs.Steps.{Derives}
-use Rattle.ss_logic_means.specs.Sorts.{AreWellFormed}
 use Rattle.ss_vcgen_heaps.specs.Positions.{Obligation}
 use Rattle.ss_deriv.specs.declared.line.Line.{Line}
 use Rattle.ss_search.specs.Found.{IsRefutedBy, IsShort, IsOver}
@@ -14,11 +13,6 @@ use Rattle.ss_search.specs.declared.answers.Budget.TheVariants as budget
 use Rattle.ss_logic_countermodels.specs.declared.Countermodel.{Countermodel}
 use Rattle.ss_sound.specs.declared.decision.Decision.{Decision}
 use Rattle.ss_sound.specs.declared.decision.Decision.TheVariants as decision
-
--- the goal and the premises are well formed, and have no names but those that they bind
-pub record IsWellFormed (cs : List ClassTree) (o : Obligation) : Type 0 where
-  pub goal : is_well_formed cs [] o.goal ≡ true
-  pub premises : AreWellFormed cs [] o.premises
 
 -- the lines derive the goal from the premises, so that it is true in every structure in which they are
 abbrev pub IsDerivedBy : List ClassTree → Obligation → List tree.Line → Type 0

@@ -14,8 +14,8 @@ use Rattle.ss_search.specs.Listed.{countered_numbers, undecided_numbers, AreRisi
 use Rattle.ss_sound.specs.Decided.{IsDerivedBy, IsCountered, IsOverBudget}
 use Rattle.ss_sound.specs.declared.decision.Decision.{Decision}
 use Rattle.ss_sound.specs.declared.decision.Decision.TheVariants as decision
-use Rattle.ss_sound.specs.declared.verdict.Verdict.{Verdict}
-use Rattle.ss_sound.specs.declared.verdict.Verdict.TheVariants as verdict
+use Rattle.ss_search.specs.declared.answers.Verdict.{Verdict}
+use Rattle.ss_search.specs.declared.answers.Verdict.TheVariants as verdict
 
 -- the derivations that lines over numbers of the bank stand for
 abbrev pub derivations_of : Forms → List (List Line) → List (List tree.Line)

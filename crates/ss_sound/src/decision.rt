@@ -10,7 +10,8 @@ ghost use Rattle.ss_logic_means.specs.Sorts.{AreWellFormed};
 ghost use Rattle.ss_deriv.specs.Lines.{lines_of};
 ghost use Rattle.ss_vcgen_builder.specs.Builder.{obligation_at, IsPlaced};
 ghost use Rattle.ss_search.specs.Found.{IsRefutedBy};
-ghost use Rattle.ss_sound.specs.Decided.{IsWellFormed, IsDerivedBy, IsCountered, IsOverBudget, IsSpentOn, IfDerived, IfRefuted, IfOver};
+ghost use Rattle.ss_vcgen_formed.specs.Formed.{IsWellFormed};
+ghost use Rattle.ss_sound.specs.Decided.{IsDerivedBy, IsCountered, IsOverBudget, IsSpentOn, IfDerived, IfRefuted, IfOver};
 
 use ss_core::Core;
 use ss_deriv::Derivation;

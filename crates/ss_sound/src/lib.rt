@@ -4,4 +4,5 @@
 mod decision;
 mod verdict;
 
-pub use verdict::{Verdict, verify};
+pub use ss_search::Verdict;
+pub use verdict::verify;

@@ -17,26 +17,10 @@ ghost use Rattle.ss_sound.specs.Verdicts.{AreDecided, IsUnproved, IsUndecided, A
 use crate::decision::{Decision, decide};
 use ss_core::Core;
 use ss_deriv::Derivation;
-use ss_search::{Countered, Options, Search, Undecided};
+use ss_search::{Countered, Options, Search, Undecided, Verdict};
 use ss_terms::{Bank, FormulaId};
 use ss_vcgen::{Listed, Obligations};
 use std::alloc::{AllocError, Global};
-
-/// The answer of verification.
-#[derive(Drop)]
-pub enum Verdict {
-    /// Each obligation has a derivation. These are they, over the bank of the obligations.
-    Verified(Vec<Derivation>),
-    /// A model refutes each of the first of these, of which there is one at least; for the second a budget wasn't enough. Every other one has a
-    /// derivation.
-    Unproved {
-        countered: Vec<Countered>,
-        undecided: Vec<Undecided>,
-    },
-    /// For these a budget wasn't enough, and every other one has a derivation.
-    Undecided(Vec<Undecided>),
-    Memory,
-}
 
 /// What was found of the obligations so far.
 #[derive(Drop)]

@@ -32,4 +32,5 @@ pub use making::NewStop;
 pub use object::{NO_CLASS, Slot};
 pub use owners::{is_group, is_pair_upto, same_owner};
 pub use scene::owner_of_pair;
+pub use ss_store_rules::{Refused, Undefined, Value};
 pub use store::{Store, slot_value};

@@ -10,7 +10,7 @@ ghost use Rattle.ss_store.specs.Room.{IsRoomy};
 use crate::fields::push_fields;
 use crate::object::{Object, Slot};
 use crate::store::Store;
-use ss_core::{ClassId, Classes};
+use ss_core::{ClassId, Classes, MOST_FIELDS};
 use ss_store_rules::{Owner, Value};
 use std::alloc::{AllocError, Global};
 
@@ -39,9 +39,6 @@ fn new_elements(alloc: Global, t: ClassId, n: usize) -> Result<Vec<Value>, Alloc
     elements.resize(n, default_element(t))?;
     Ok(elements)
 }
-
-/// How many fields an object has at most.
-const MOST_FIELDS: usize = 1024;
 
 /// Lists of slots, each with room for the fields of every object.
 fn new_spare(alloc: Global, n: usize) -> Result<Vec<Vec<Slot>>, AllocError>

@@ -23,7 +23,8 @@ use Rattle.ss_store_rules.specs.Numbers.{Outcome}
 use Rattle.ss_store_rules.specs.Values.{Setting, setting, with_bound, and_then, truth, readable_of, field_value as value_of_field, length_value, is_index, index, element_value, is_of, cast, value_of, is_true}
 use Rattle.ss_store_rules.specs.Changes.{below, field_class, field_mark, field_type, element_type}
 use Rattle.ss_store_rules.specs.Good.{Invariants, has_type, is_of_class, IsGood, Inside, Direct, Deeper, LooksSame, IsLocal, IsFree}
-use Rattle.ss_store_rules.specs.Admissible.{is_this, is_rep, is_rep_or_peer, is_own_field, is_owned_path, is_admissible, invariants_of, invariants, invariants_hold, AreAdmissible}
+use Rattle.ss_store_rules.specs.Admissible.{is_this, is_own_field, is_owned_path, is_admissible, invariants_of, invariants, invariants_hold, AreAdmissible}
+use Rattle.ss_core.specs.Marks.{is_rep, is_rep_or_peer}
 use Rattle.ss_store_rules.proofs.Agreeing.{Refers, Agree, agree_with_itself, agree_undefined, agree_truth, agree_if, agree_if_same, agree_and_then, agree_of_object, agree_whole, agree_operation, agree_implication, agree_quantified}
 use Rattle.ss_store_rules.proofs.Levels.{declared_at_level}
 

@@ -1,8 +1,7 @@
 -- Admissible invariants (ECOOP 2004): each speaks of the fields of `this` at its own level or above, and of what `this` owns there.
 use Rattle.std.specs.Prelude.{◌≡◌, ℕ, List, [], ◌∷◌, Bool, true, false, ◌==◌, ◌&&◌, ◌||◌, Option, Some, None}
 use Rattle.std.specs.List.{list_all}
-use Rattle.ss_core.specs.declared.names.Mark.{Mark}
-use Rattle.ss_core.specs.declared.names.Mark.TheVariants as mark
+use Rattle.ss_core.specs.Marks.{is_rep, is_rep_or_peer}
 use Rattle.ss_core.specs.Tree.{ClassTree, ExprTree, IntExpr, BoolExpr, NullExpr, LocalExpr, FieldExpr, ElementExpr, LengthExpr, NegateExpr, NotExpr, BinaryExpr, ImpliesExpr, IffExpr, IsExpr, AsExpr, CastExpr, OldExpr, QuantifiedExpr, StateExpr, OwnersExpr, DefaultExpr}
 use Rattle.ss_core.specs.Chain.{declared}
 use Rattle.ss_store_rules.specs.declared.Value.TheVariants as value
@@ -16,16 +15,6 @@ use Rattle.ss_store_rules.specs.Good.{Invariants}
 abbrev pub is_this : ExprTree → Bool
 is_this (LocalExpr p x) = x == 0
 is_this e = false
-
-abbrev pub is_rep : Mark → Bool
-is_rep mark.Plain = false
-is_rep mark.Rep = true
-is_rep mark.Peer = false
-
-abbrev pub is_rep_or_peer : Mark → Bool
-is_rep_or_peer mark.Plain = false
-is_rep_or_peer mark.Rep = true
-is_rep_or_peer mark.Peer = true
 
 -- a field of `this` that t or a class above it declares
 abbrev pub is_own_field : List ClassTree → ℕ → ExprTree → ℕ → Bool

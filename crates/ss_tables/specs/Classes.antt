@@ -1,9 +1,10 @@
 -- The class table of a program: which class a name means, and what stands above a class. A declared class is told by its
 -- place in the text, from 0.
-use Rattle.std.specs.Prelude.{ℕ, zero, suc, ◌+◌, ◌*◌, ◌-◌, ◌/◌, ◌%◌, ◌==◌, ◌&&◌, Bool, nat_le, List, [], ◌∷◌, length, Option, Some, None, slice_get, position, if◌then◌else◌}
+use Rattle.std.specs.Prelude.{ℕ, zero, suc, ◌+◌, Bool, List, [], ◌∷◌, length, Option, Some, None, slice_get, position, if◌then◌else◌}
 use Rattle.std.specs.Str.{bytes_eq}
 use Rattle.ss_ast.specs.Expressions.{NameTree}
 use Rattle.ss_ast.specs.Programs.{MemberTree, ClassTree}
+pub use Rattle.ss_core.specs.Kinds.{class_number, array_number, is_array_number, declared_place}
 use Rattle.ss_tables.specs.Members.{FieldTree, MethodTree, field_in, method_in}
 
 -- the class of this name; of two of one name the first is meant
@@ -87,20 +88,3 @@ inherited_field cs k n = first_field cs n (chain_above cs k)
 
 abbrev pub inherited_method : List ClassTree → ℕ → List ℕ → Option (Declared MethodTree)
 inherited_method cs k n = first_method cs n (chain_above cs k)
-
--- ---- numbers of classes
-
--- of the declared class at place k, and of its arrays
-abbrev pub class_number : ℕ → ℕ
-class_number k = 4 + 2 * k
-
-abbrev pub array_number : ℕ → ℕ
-array_number k = 5 + 2 * k
-
--- an array of `int`, `bool`, `object` or a declared class
-abbrev pub is_array_number : ℕ → Bool
-is_array_number t = if nat_le 4 t then t % 2 == 1 else nat_le 1 t
-
--- the place of the declared class with this number
-abbrev pub declared_place : ℕ → Option ℕ
-declared_place t = if nat_le 4 t && t % 2 == 0 then Some ((t - 4) / 2) else None

@@ -1,13 +1,13 @@
 -- Which locals are in scope. The parameters have a scope, and so has each block, each `for` with its heading, each governed
 -- statement and each quantifier; an inner scope may have a name again.
-use Rattle.std.specs.Prelude.{ℕ, Bool, true, false, List, [], ◌∷◌, ◌++◌, Option, Some, None, is_some, if◌then◌else◌}
-use Rattle.std.specs.Str.{bytes_eq}
+use Rattle.std.specs.Prelude.{ℕ, Bool, true, false, List, [], ◌∷◌, Option, Some, None}
 use Rattle.ss_core.specs.declared.names.Ty.{Ty}
 use Rattle.ss_core.specs.declared.names.Ty.TheVariants as ty
 use Rattle.ss_ast.specs.Expressions.{NameTree, TypeTree}
 use Rattle.ss_ast.specs.Statements.{DeclaratorTree, DeclarationTree, ForInitTree, DeclareFirst, SimpleFirst, StmtTree, InBlock, DeclareOf, SimpleOf, IfOf, IfElseOf, WhileOf, ForOf, ReturnOf, AssertOf, AssumeOf, ExposeOf, EmptyOf}
 use Rattle.ss_ast.specs.Programs.{ParamTree, ClassTree}
 use Rattle.ss_tables.specs.Classes.{or_else}
+use Rattle.ss_tables.specs.Named.{Named, named_in, named_among, with_named}
 use Rattle.ss_tables.specs.Types.{written_type}
 
 -- a local variable, parameter or bound name: its type, where that is written with a class of the program, and whether it is
@@ -18,7 +18,7 @@ pub record Local : Type 0 where
 
 -- the locals of one scope by name, in order of declaration
 abbrev pub Locals : Type 0
-Locals = List (List ℕ × Local)
+Locals = Named Local
 
 -- what names mean at a place
 pub record Scope : Type 0 where
@@ -35,17 +35,9 @@ pub record Scope : Type 0 where
   pub inner : Locals
   pub outer : List Locals
 
-abbrev pub local_in : Locals → List ℕ → Option Local
-local_in [] n = None
-local_in (l ∷ ls) n = if bytes_eq n l.0 then Some l.1 else local_in ls n
-
-abbrev pub local_among : List Locals → List ℕ → Option Local
-local_among [] n = None
-local_among (ls ∷ outer) n = or_else (local_in ls n) (local_among outer n)
-
 -- the local that a name means: that of the innermost scope that has one
 abbrev pub local_named : Scope → List ℕ → Option Local
-local_named s n = or_else (local_in s.inner n) (local_among s.outer n)
+local_named s n = or_else (named_in s.inner n) (named_among s.outer n)
 
 -- the scope of a member of a class, in which no local stands
 abbrev pub class_scope : List ClassTree → ℕ → Scope
@@ -55,12 +47,9 @@ class_scope cs k = record { classes = cs; class = k; refuses_members = false; re
 abbrev pub enter : Scope → Scope
 enter s = record s { inner = []; outer = s.inner ∷ s.outer }
 
-abbrev pub with_local : Locals → List ℕ → Local → Locals
-with_local ls n l = if is_some (local_in ls n) then ls else ls ++ (n, l) ∷ []
-
 -- one more local; a second one of a name in one scope isn't meant by it
 abbrev pub declare : Scope → List ℕ → Local → Scope
-declare s n l = record s { inner = with_local s.inner n l }
+declare s n l = record s { inner = with_named s.inner n l }
 
 abbrev pub declare_local : Scope → TypeTree → NameTree → Scope
 declare_local s t n = declare s n.text (record { ty = written_type s.classes t; is_param = false })

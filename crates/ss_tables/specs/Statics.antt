@@ -4,8 +4,7 @@ use Rattle.std.specs.Prelude.{ℕ, ◌+◌, ◌==◌, Bool, true, false, not, Li
 use Rattle.std.specs.Str.{bytes_eq}
 use Rattle.ss_core.specs.declared.names.Ty.{Ty}
 use Rattle.ss_core.specs.declared.names.Ty.TheVariants as ty
-use Rattle.ss_ast.specs.declared.expr.Operator.{Operator}
-use Rattle.ss_ast.specs.declared.expr.Operator.TheVariants as op
+pub use Rattle.ss_core.specs.Operations.{operation_type}
 use Rattle.ss_ast.specs.Expressions.{TypeTree, ExprTree, Arguments, NoMore, Argument, IffOf, ImpliesOf, BinaryOf, IsOf, AsOf, NegateOf, NotOf, CastOf, MemberOf, ElementOf, CallOf, NumberOf, TextOf, TruthOf, NullOf, ThisOf, BaseOf, ResultOf, NameOf, ParenOf, OldOf, NewOf, NewArrayOf, QuantifiedOf}
 use Rattle.ss_ast.specs.Programs.{ParamTree, ClassTree}
 use Rattle.ss_tables.specs.Words.{is_console, is_owner, is_print, is_owner_word, is_state_read, is_state_call, is_state_word, is_length}
@@ -227,21 +226,6 @@ new_type cs n None = None
 new_type cs n (Some k) = if n == length (constructor_params cs k) then Some (reference true (class_number k)) else None
 
 -- ---- the static type
-
-abbrev pub operation_type : Operator → Ty
-operation_type op.Or = ty.Bool
-operation_type op.And = ty.Bool
-operation_type op.Equal = ty.Bool
-operation_type op.NotEqual = ty.Bool
-operation_type op.Less = ty.Bool
-operation_type op.LessEqual = ty.Bool
-operation_type op.Greater = ty.Bool
-operation_type op.GreaterEqual = ty.Bool
-operation_type op.Add = ty.Int
-operation_type op.Subtract = ty.Int
-operation_type op.Multiply = ty.Int
-operation_type op.Divide = ty.Int
-operation_type op.Remainder = ty.Int
 
 -- a cast to a class, `object` or an array has that type; to `int` or `bool` there is none
 abbrev pub reference_only : Ty → Option Ty

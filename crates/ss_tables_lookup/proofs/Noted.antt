@@ -10,16 +10,13 @@ use Rattle.std.proofs.lemmas.Iterator.Adapters.{position_from-zero}
 use Rattle.ss_tables.specs.Classes.{or_else}
 use Rattle.std.specs.Str.{bytes_eq}
 use Rattle.std.specs.Map.{lookup}
-use Rattle.ss_tables_lookup.specs.Places.{Places, found, with_place, places_from, places_of}
-use Rattle.ss_tables_lookup.specs.Views.{places_in}
+use Rattle.ss_tables_lookup.specs.Places.{Places, places_from, places_of}
+use Rattle.ss_tables.specs.Named.{named_in, with_named}
+use Rattle.ss_tables_lookup.specs.Views.{names_in}
 
-pub found_in_map : (name : List ℕ) (es : List (String Global × ℕ)) → lookup (λ k. bytes_eq name (string_bytes k)) es ≡ found (places_in es) name
+pub found_in_map : {A : Type 0} (name : List ℕ) (es : List (String Global × A)) → lookup (λ k. bytes_eq name (string_bytes k)) es ≡ named_in (names_in es) name
 found_in_map name [] = refl
-found_in_map name (e ∷ es) = ap (λ (o : Option ℕ). cond (bytes_eq name (string_bytes e.0)) (Some e.1) o) (found_in_map name es)
-
--- a note of a new name goes last
-pub with_new_place : (es : Places) (n : List ℕ) (i : ℕ) → found es n ≡ None → with_place es n i ≡ es ++ (n, i) ∷ []
-with_new_place es n i none = rw none refl
+found_in_map {A} name (e ∷ es) = ap (λ (o : Option A). cond (bytes_eq name (string_bytes e.0)) (Some e.1) o) (found_in_map name es)
 
 -- ---- the places of a list are the first ones
 
@@ -35,25 +32,25 @@ or_some (Some j) other e = refl
 abbrev one : List ℕ → List ℕ → ℕ → Option ℕ
 one n m i = cond (bytes_eq n m) (Some i) None
 
-found_behind : (es : Places) (n m : List ℕ) (i : ℕ) → found (es ++ (m, i) ∷ []) n ≡ or_else (found es n) (one n m i)
+found_behind : (es : Places) (n m : List ℕ) (i : ℕ) → named_in (es ++ (m, i) ∷ []) n ≡ or_else (named_in es n) (one n m i)
 found_behind [] n m i = refl
 found_behind (e ∷ es) n m i = at (bytes_eq n e.0) (found_behind es n m i)
   where
-    at : (b : Bool) → found (es ++ (m, i) ∷ []) n ≡ or_else (found es n) (one n m i) → cond b (Some e.1) (found (es ++ (m, i) ∷ []) n) ≡ or_else (cond b (Some e.1) (found es n)) (one n m i)
+    at : (b : Bool) → named_in (es ++ (m, i) ∷ []) n ≡ or_else (named_in es n) (one n m i) → cond b (Some e.1) (named_in (es ++ (m, i) ∷ []) n) ≡ or_else (cond b (Some e.1) (named_in es n)) (one n m i)
     at true h = refl
     at false h = h
 
-found_before : (es : Places) (n m : List ℕ) (i : ℕ) → is_some (found es m) ≡ true → found es n ≡ or_else (found es n) (one n m i)
+found_before : (es : Places) (n m : List ℕ) (i : ℕ) → is_some (named_in es m) ≡ true → named_in es n ≡ or_else (named_in es n) (one n m i)
 found_before es n m i known = at (bytes_eq n m) (bytes_eq-Decides n m)
   where
-    at : (b : Bool) → Decides b (n ≡ m) → found es n ≡ or_else (found es n) (cond b (Some i) None)
-    at true same = or_some (found es n) (Some i) (rw (same.0 refl) known)
-    at false other = or_none (found es n)
+    at : (b : Bool) → Decides b (n ≡ m) → named_in es n ≡ or_else (named_in es n) (cond b (Some i) None)
+    at true same = or_some (named_in es n) (Some i) (rw (same.0 refl) known)
+    at false other = or_none (named_in es n)
 
-found_noted : (es : Places) (n m : List ℕ) (i : ℕ) → found (with_place es m i) n ≡ or_else (found es n) (one n m i)
-found_noted es n m i = at (is_some (found es m)) (λ e. found_before es n m i e)
+found_noted : (es : Places) (n m : List ℕ) (i : ℕ) → named_in (with_named es m i) n ≡ or_else (named_in es n) (one n m i)
+found_noted es n m i = at (is_some (named_in es m)) (λ e. found_before es n m i e)
   where
-    at : (b : Bool) → (b ≡ true → found es n ≡ or_else (found es n) (one n m i)) → found (cond b es (es ++ (m, i) ∷ [])) n ≡ or_else (found es n) (one n m i)
+    at : (b : Bool) → (b ≡ true → named_in es n ≡ or_else (named_in es n) (one n m i)) → named_in (cond b es (es ++ (m, i) ∷ [])) n ≡ or_else (named_in es n) (one n m i)
     at true h = h refl
     at false h = found_behind es n m i
 
@@ -62,19 +59,19 @@ or_or None true i rest = refl
 or_or None false i rest = refl
 or_or (Some j) b i rest = refl
 
-found_from : {A : Type 0} (name : A → List ℕ) (n : List ℕ) (es : Places) (i : ℕ) (xs : List A) → found (places_from es i (map name xs)) n ≡ or_else (found es n) (position_from (λ x. bytes_eq n (name x)) i xs)
-found_from name n es i [] = or_none (found es n)
+found_from : {A : Type 0} (name : A → List ℕ) (n : List ℕ) (es : Places) (i : ℕ) (xs : List A) → named_in (places_from es i (map name xs)) n ≡ or_else (named_in es n) (position_from (λ x. bytes_eq n (name x)) i xs)
+found_from name n es i [] = or_none (named_in es n)
 found_from name n es i (x ∷ xs) =
-    found_from name n (with_place es (name x) i) (suc i) xs
+    found_from name n (with_named es (name x) i) (suc i) xs
     ∙ ap (λ o. or_else o (position_from (λ y. bytes_eq n (name y)) (suc i) xs)) (found_noted es n (name x) i)
-    ∙ or_or (found es n) (bytes_eq n (name x)) i (position_from (λ y. bytes_eq n (name y)) (suc i) xs)
-    ∙ ap (λ k. or_else (found es n) (cond (bytes_eq n (name x)) (Some i) (position_from (λ y. bytes_eq n (name y)) k xs))) (sym (add-one i))
+    ∙ or_or (named_in es n) (bytes_eq n (name x)) i (position_from (λ y. bytes_eq n (name y)) (suc i) xs)
+    ∙ ap (λ k. or_else (named_in es n) (cond (bytes_eq n (name x)) (Some i) (position_from (λ y. bytes_eq n (name y)) k xs))) (sym (add-one i))
 
-pub first_place : {A : Type 0} (name : A → List ℕ) (n : List ℕ) (xs : List A) → found (places_of (map name xs)) n ≡ position (λ x. bytes_eq n (name x)) xs
+pub first_place : {A : Type 0} (name : A → List ℕ) (n : List ℕ) (xs : List A) → named_in (places_of (map name xs)) n ≡ position (λ x. bytes_eq n (name x)) xs
 first_place name n xs = found_from name n [] 0 xs ∙ sym (position_from-zero (λ x. bytes_eq n (name x)) xs)
 
 -- what stands at the first place of a name is the first of the name
-pub first_item : {A : Type 0} (name : A → List ℕ) (n : List ℕ) (xs : List A) → option_and_then (slice_get xs) (found (places_of (map name xs)) n) ≡ find (λ x. bytes_eq n (name x)) xs
+pub first_item : {A : Type 0} (name : A → List ℕ) (n : List ℕ) (xs : List A) → option_and_then (slice_get xs) (named_in (places_of (map name xs)) n) ≡ find (λ x. bytes_eq n (name x)) xs
 first_item name n xs = ap (option_and_then (slice_get xs)) (first_place name n xs) ∙ at (λ x. bytes_eq n (name x)) xs
   where
     within : {A : Type 0} (p : A → Bool) (xs : List A) (b : Bool) → nat_lt (position_or_len p xs) (length xs) ≡ b → option_and_then (slice_get xs) (cond b (Some (position_or_len p xs)) None) ≡ find p xs

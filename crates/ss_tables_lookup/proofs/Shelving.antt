@@ -5,21 +5,21 @@ use Rattle.std.proofs.Common.{arith}
 use Rattle.ss_ast.specs.Programs.{ClassTree}
 use Rattle.ss_tables.specs.Members.{FieldTree, MethodTree, field_in, method_in, fields_in, methods_in}
 use Rattle.ss_tables.specs.Classes.{members_in, members_at, above, chain_from, first_field, first_method}
-use Rattle.ss_tables_lookup.specs.Places.{found}
+use Rattle.ss_tables.specs.Named.{named_in}
 use Rattle.ss_tables_lookup.specs.Shelves.{Shelf, shelf}
 use Rattle.ss_tables_lookup.proofs.Noted.{first_item}
 
-pub field_shelved : (cs : List ClassTree) (k : ℕ) (n : List ℕ) (s : Shelf) → Some s ≡ option_map (shelf cs) (slice_get cs k) → option_and_then (slice_get s.fields) (found s.field_places n) ≡ field_in (members_at cs k) n
+pub field_shelved : (cs : List ClassTree) (k : ℕ) (n : List ℕ) (s : Shelf) → Some s ≡ option_map (shelf cs) (slice_get cs k) → option_and_then (slice_get s.fields) (named_in s.field_places n) ≡ field_in (members_at cs k) n
 field_shelved cs k n s e = at (slice_get cs k) e
   where
-    at : (o : Option ClassTree) → Some s ≡ option_map (shelf cs) o → option_and_then (slice_get s.fields) (found s.field_places n) ≡ field_in (members_in o) n
+    at : (o : Option ClassTree) → Some s ≡ option_map (shelf cs) o → option_and_then (slice_get s.fields) (named_in s.field_places n) ≡ field_in (members_in o) n
     at None e = absurd cc
     at (Some c) e = rw (ap (λ o. unwrap_or o s) e) (first_item (λ (f : FieldTree). f.name.text) n (fields_in c.members))
 
-pub method_shelved : (cs : List ClassTree) (k : ℕ) (n : List ℕ) (s : Shelf) → Some s ≡ option_map (shelf cs) (slice_get cs k) → option_and_then (slice_get s.methods) (found s.method_places n) ≡ method_in (members_at cs k) n
+pub method_shelved : (cs : List ClassTree) (k : ℕ) (n : List ℕ) (s : Shelf) → Some s ≡ option_map (shelf cs) (slice_get cs k) → option_and_then (slice_get s.methods) (named_in s.method_places n) ≡ method_in (members_at cs k) n
 method_shelved cs k n s e = at (slice_get cs k) e
   where
-    at : (o : Option ClassTree) → Some s ≡ option_map (shelf cs) o → option_and_then (slice_get s.methods) (found s.method_places n) ≡ method_in (members_in o) n
+    at : (o : Option ClassTree) → Some s ≡ option_map (shelf cs) o → option_and_then (slice_get s.methods) (named_in s.method_places n) ≡ method_in (members_in o) n
     at None e = absurd cc
     at (Some c) e = rw (ap (λ o. unwrap_or o s) e) (first_item (λ (m : MethodTree). m.name.text) n (methods_in c.members))
 

@@ -1,4 +1,5 @@
 pub mod Classes
+pub mod Codes
 pub mod Places
 pub mod Shelves
 pub mod Views

@@ -6,6 +6,7 @@ use Rattle.ss_core.specs.declared.names.Ty.TheVariants as ty
 use Rattle.ss_ast.specs.Expressions.{name_tree, type_tree, expr_tree}
 use Rattle.ss_ast.specs.Statements.{block_tree}
 use Rattle.ss_ast.specs.Programs.{param_tree, clause_tree, base_call_tree}
+use Rattle.ss_tables.specs.Named.{Named}
 use Rattle.ss_tables.specs.Members.{FieldTree, MethodTree, ConstructorTree}
 use Rattle.ss_tables.specs.Classes.{Declared}
 use Rattle.ss_tables_lookup.specs.declared.members.FieldRef.{FieldRef}
@@ -13,10 +14,9 @@ use Rattle.ss_tables_lookup.specs.declared.members.MethodRef.{MethodRef}
 use Rattle.ss_tables_lookup.specs.declared.members.ConstructorRef.{ConstructorRef}
 use Rattle.ss_tables_lookup.specs.declared.types.StaticType.{StaticType}
 use Rattle.ss_tables_lookup.specs.declared.types.StaticType.TheVariants as static
-use Rattle.ss_tables_lookup.specs.Places.{Places}
 
-abbrev pub places_in : List (String Global × ℕ) → Places
-places_in es = map (λ (e : String Global × ℕ). (string_bytes e.0, e.1)) es
+abbrev pub names_in : {A : Type 0} → List (String Global × A) → Named A
+names_in {A} es = map (λ (e : String Global × A). (string_bytes e.0, e.1)) es
 
 abbrev pub type_of : StaticType → Ty
 type_of static.Int = ty.Int

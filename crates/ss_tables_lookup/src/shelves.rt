@@ -12,7 +12,8 @@ ghost use Rattle.ss_tables_lookup.specs.Views.{field_tree, method_tree, construc
 ghost use Rattle.ss_tables_lookup.specs.Shelved.{shelf_of};
 
 use crate::members::{ConstructorRef, FieldRef, MethodRef};
-use crate::places::{Places, field_places, method_places};
+use crate::named::NameMap;
+use crate::places::{field_places, method_places};
 use ss_ast::{ClassDecl, Declaration, Member, MemberKind, Name};
 use std::alloc::{AllocError, Global};
 
@@ -21,9 +22,9 @@ use std::alloc::{AllocError, Global};
 pub struct Shelf<'p> {
     pub above: Option<usize>,
     pub fields: Vec<FieldRef<'p>>,
-    pub field_places: Places,
+    pub field_places: NameMap<usize>,
     pub methods: Vec<MethodRef<'p>>,
-    pub method_places: Places,
+    pub method_places: NameMap<usize>,
     pub constructors: Vec<ConstructorRef<'p>>,
 }
 
@@ -123,7 +124,7 @@ fn list_constructors<'p>(
 }
 
 // The class that is written as superclass.
-fn find_above(names: &Places, class: &ClassDecl, classes: &[ClassDecl]) -> Option<usize>
+fn find_above(names: &NameMap<usize>, class: &ClassDecl, classes: &[ClassDecl]) -> Option<usize>
     requires { names.now ≡ places_of (class_names (map class_tree classes.now)) }
     ensures { result ≡ above_written (map class_tree classes.now) (class_tree class.now).above }
 {
@@ -136,7 +137,7 @@ fn find_above(names: &Places, class: &ClassDecl, classes: &[ClassDecl]) -> Optio
 /// The shelf of a class.
 pub fn fill_shelf<'p>(
     alloc: Global,
-    names: &Places,
+    names: &NameMap<usize>,
     classes: &'p [ClassDecl],
     class: &'p ClassDecl,
 ) -> Result<Shelf<'p>, AllocError>

@@ -3,13 +3,15 @@
 ghost use Rattle.std.specs.Prelude.{◌≡◌, ◌<◌, IfOk, IfSome, length, map, option_map, option_and_then, slice_get};
 ghost use Rattle.ss_tables_lookup.specs.Classes.{trees};
 ghost use Rattle.ss_tables.specs.Members.{field_in, method_in};
-ghost use Rattle.ss_tables_lookup.specs.Places.{found, places_of};
+ghost use Rattle.ss_tables_lookup.specs.Places.{places_of};
+ghost use Rattle.ss_tables.specs.Named.{named_in};
 ghost use Rattle.ss_tables_lookup.specs.Shelves.{class_names, shelf, shelves};
 ghost use Rattle.ss_tables_lookup.specs.Views.{field_tree, method_tree, declared_field, declared_method};
 ghost use Rattle.ss_tables_lookup.specs.Shelved.{shelf_of};
 
 use crate::members::{FieldRef, MethodRef};
-use crate::places::{Places, class_places};
+use crate::named::NameMap;
+use crate::places::class_places;
 use crate::shelves::{Shelf, fill_shelf};
 use crate::types::StaticType;
 use ss_ast::{ClassDecl, TypeName, TypeRef};
@@ -20,7 +22,7 @@ use std::marker::Model;
 #[derive(Drop)]
 pub struct Tables<'p> {
     classes: &'p [ClassDecl],
-    names: Places,
+    names: NameMap<usize>,
     shelves: Vec<Shelf<'p>>,
 }
 
@@ -46,7 +48,7 @@ impl<'p> Model for Tables<'p> {
 // The shelf of each class.
 fn fill_shelves<'p>(
     alloc: Global,
-    names: &Places,
+    names: &NameMap<usize>,
     classes: &'p [ClassDecl],
 ) -> Result<Vec<Shelf<'p>>, AllocError>
     requires { names.now ≡ places_of (class_names (trees classes.now)) }
@@ -68,7 +70,7 @@ fn shelf_at<'a, 'p>(shelves: &'a [Shelf<'p>], place: usize) -> Option<&'a Shelf<
 
 // The field of this name among those of a shelf.
 fn field_on<'p>(shelf: &Shelf<'p>, name: &str) -> Option<FieldRef<'p>>
-    ensures { option_map field_tree result ≡ option_and_then (slice_get (shelf_of shelf.now).fields) (found (shelf_of shelf.now).field_places name.now) }
+    ensures { option_map field_tree result ≡ option_and_then (slice_get (shelf_of shelf.now).fields) (named_in (shelf_of shelf.now).field_places name.now) }
 {
     match shelf.field_places.find(name) {
         Some(place) => shelf.fields.get(place).copied(),
@@ -78,7 +80,7 @@ fn field_on<'p>(shelf: &Shelf<'p>, name: &str) -> Option<FieldRef<'p>>
 
 // The method of this name.
 fn method_on<'p>(shelf: &Shelf<'p>, name: &str) -> Option<MethodRef<'p>>
-    ensures { option_map method_tree result ≡ option_and_then (slice_get (shelf_of shelf.now).methods) (found (shelf_of shelf.now).method_places name.now) }
+    ensures { option_map method_tree result ≡ option_and_then (slice_get (shelf_of shelf.now).methods) (named_in (shelf_of shelf.now).method_places name.now) }
 {
     match shelf.method_places.find(name) {
         Some(place) => shelf.methods.get(place).copied(),

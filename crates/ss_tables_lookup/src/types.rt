@@ -1,9 +1,10 @@
 // Types with the numbers of classes, of which a program may have more than a core program can.
 
 ghost use Rattle.std.specs.Prelude.{◌≡◌, option_map};
-ghost use Rattle.ss_tables.specs.Classes.{is_array_number, declared_place};
 ghost use Rattle.ss_tables.specs.Types.{class_of, element_type, nullable};
 ghost use Rattle.ss_tables_lookup.specs.Views.{type_of};
+
+use ss_core::is_array_number;
 
 /// A static type. A class is told by its number: 0 is `object`, 1 `int[]`, 2 `bool[]`, 3 `object[]`; the declared class at
 /// place `k` has `4 + 2 k`, and its array `5 + 2 k`.
@@ -37,28 +38,6 @@ pub fn nullable(ty: StaticType) -> StaticType
         StaticType::Int => StaticType::Int,
         StaticType::Bool => StaticType::Bool,
         StaticType::Null => StaticType::Null,
-    }
-}
-
-/// Whether this is the number of an array class.
-pub fn is_array_number(class: usize) -> bool
-    ensures { result ≡ is_array_number class }
-{
-    if class >= 4 {
-        class % 2 == 1
-    } else {
-        class >= 1
-    }
-}
-
-/// The place of the declared class with this number.
-pub fn declared_place(class: usize) -> Option<usize>
-    ensures { result ≡ declared_place class }
-{
-    if class >= 4 && class % 2 == 0 {
-        Some((class - 4) / 2)
-    } else {
-        None
     }
 }
 

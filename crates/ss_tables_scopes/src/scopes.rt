@@ -1,56 +1,36 @@
-// The locals in scope.
+// Names in scope.
 
-ghost use Rattle.std.specs.Prelude.{◌≡◌, ◌∷◌, ◌++◌, [], ◌<◌, length, map, reverse, option_map, is_some, IfSome, IfNone, OnOk, None, string_bytes};
-ghost use Rattle.ss_tables.specs.Scopes.{local_in, local_among};
-ghost use Rattle.ss_tables_scopes.specs.Names.{no_names, local, entered, left, with_name};
-ghost use Rattle.ss_tables_scopes.specs.Locals.{local_of, locals_of};
+ghost use Rattle.std.specs.Prelude.{◌≡◌, ◌∷◌, [], ◌<◌, length, reverse, is_some, IfSome, IfNone, OnOk};
+ghost use Rattle.ss_tables.specs.Named.{named_in, named_among, no_names, named, entered, left, with_name};
 
-use indexmap::IndexMap;
-use ss_tables_lookup::StaticType;
+use ss_tables_lookup::NameMap;
 use std::alloc::{AllocError, Global};
 use std::marker::Model;
 
-/// A local, parameter or bound name: its type, where that is written with a class of the program, and whether it is a parameter.
-#[derive(Clone, Copy)]
-pub struct LocalInfo {
-    pub ty: Option<StaticType>,
-    pub is_param: bool,
-}
-
-/// The locals of the scopes by name.
+/// What stands under the names of the scopes.
 #[derive(Drop)]
-pub struct Scopes {
-    inner: IndexMap<String, LocalInfo>,
+pub struct NameScopes<T> {
+    inner: NameMap<T>,
     // the outermost first
-    outer: Vec<IndexMap<String, LocalInfo>>,
+    outer: Vec<NameMap<T>>,
 }
 
-impl Model for Scopes {
-    ghost use Rattle.std.specs.Prelude.{map, reverse};
-    ghost use Rattle.ss_tables_scopes.specs.Names.{Names};
-    ghost use Rattle.ss_tables_scopes.specs.Locals.{locals_of};
+impl<T> Model for NameScopes<T> {
+    ghost use Rattle.std.specs.Prelude.{reverse};
+    ghost use Rattle.ss_tables.specs.Named.{Scoped};
+    ghost use Rattle.ss_tables_lookup.specs.Codes.{scoped_code};
 
-    ghost Value = { Names };
+    ghost Value = { Scoped T };
 
-    ghost view = { λ s. record {
-      inner = locals_of s.inner.entries;
-      outer = reverse (map (λ m. locals_of m.entries) s.outer.items);
-    } };
-}
+    ghost coded = { scoped_code T.code };
 
-// The local of one scope that has this name.
-fn local_in(scope: &IndexMap<String, LocalInfo>, name: &str) -> Option<LocalInfo>
-    ensures { option_map local_of result ≡ local_in (locals_of scope.now.entries) name.now }
-{
-    scope.get(name).copied()
+    ghost view = { λ s. record { inner = s.inner; outer = reverse s.outer.items } };
 }
 
 // The innermost scope, and those around it.
-fn split_scopes(
-    scopes: &[IndexMap<String, LocalInfo>],
-) -> Option<(&IndexMap<String, LocalInfo>, &[IndexMap<String, LocalInfo>])>
-    ensures some { IfSome result (λ x. reverse (map (λ m. locals_of m.entries) scopes.now) ≡ locals_of x.0.now.entries ∷ reverse (map (λ m. locals_of m.entries) x.1.now)) }
-    ensures none { IfNone result (reverse (map (λ m. locals_of m.entries) scopes.now) ≡ []) }
+fn split_scopes<T>(scopes: &[NameMap<T>]) -> Option<(&NameMap<T>, &[NameMap<T>])>
+    ensures some { IfSome result (λ x. reverse scopes.now ≡ x.0.now ∷ reverse x.1.now) }
+    ensures none { IfNone result (reverse scopes.now ≡ []) }
     ensures fewer { IfSome result (λ x. length x.1.now < length scopes.now) }
 {
     match scopes {
@@ -59,66 +39,36 @@ fn split_scopes(
     }
 }
 
-// The local of the innermost of these scopes that has the name.
-fn find_outside(scopes: &[IndexMap<String, LocalInfo>], name: &str) -> Option<LocalInfo>
-    ensures { option_map local_of result ≡ local_among (reverse (map (λ m. locals_of m.entries) scopes.now)) name.now }
+// What the name means in the innermost of these scopes that has it.
+fn find_outside<T: Copy + Drop>(scopes: &[NameMap<T>], name: &str) -> Option<T>
+    ensures { result ≡ named_among (reverse scopes.now) name.now }
 {
     let mut rest = scopes;
     while let Some((scope, outer)) = split_scopes(rest) {
-        if let Some(known) = local_in(scope, name) {
-            return Some(known);
+        if let Some(found) = scope.find(name) {
+            return Some(found);
         }
         rest = outer;
     }
     None
 }
 
-// Puts a new name behind the others.
-fn insert_name(
-    scope: &mut IndexMap<String, LocalInfo>,
-    name: String,
-    known: LocalInfo,
-) -> Result<(), AllocError>
-    requires { local_in (locals_of scope.old.entries) (string_bytes name) ≡ None }
-    ensures { OnOk result (locals_of scope.new.entries ≡ locals_of scope.old.entries ++ (string_bytes name, local_of known) ∷ []) }
-{
-    scope.insert(name, known)?;
-    Ok(())
-}
-
-impl Scopes {
+impl<T: Drop> NameScopes<T> {
     /// No names, in one scope.
     pub fn new(alloc: Global) -> Self
         ensures { result ≡ no_names }
     {
-        Scopes {
-            inner: IndexMap::new(alloc),
+        NameScopes {
+            inner: NameMap::new(alloc),
             outer: Vec::new(alloc),
         }
-    }
-
-    /// The local that a name means: that of the innermost scope that has one.
-    pub fn find(&self, name: &str) -> Option<LocalInfo>
-        ensures { option_map local_of result ≡ local self.now name.now }
-    {
-        match local_in(&self.inner, name) {
-            Some(known) => Some(known),
-            None => find_outside(&self.outer, name),
-        }
-    }
-
-    /// Whether the innermost scope has a local of this name.
-    pub fn has_within(&self, name: &str) -> bool
-        ensures { result ≡ is_some (local_in self.now.inner name.now) }
-    {
-        local_in(&self.inner, name).is_some()
     }
 
     /// Opens a scope.
     pub fn enter(&mut self, alloc: Global) -> Result<(), AllocError>
         ensures { OnOk result (self.new ≡ entered self.old) }
     {
-        let around = std::mem::replace(&mut self.inner, IndexMap::new(alloc));
+        let around = std::mem::replace(&mut self.inner, NameMap::new(alloc));
         self.outer.push(around)?;
         Ok(())
     }
@@ -131,22 +81,30 @@ impl Scopes {
             self.inner = scope;
         }
     }
+}
 
-    // Declares a name that its scope doesn't have.
-    fn declare_new(&mut self, name: String, known: LocalInfo) -> Result<(), AllocError>
-        requires { local_in self.old.inner (string_bytes name) ≡ None }
-        ensures { OnOk result (self.new ≡ with_name self.old (string_bytes name) (local_of known)) }
+impl<T: Copy + Drop> NameScopes<T> {
+    /// What a name means: the innermost scope that has it decides.
+    pub fn find(&self, name: &str) -> Option<T>
+        ensures { result ≡ named self.now name.now }
     {
-        insert_name(&mut self.inner, name, known)
+        match self.inner.find(name) {
+            Some(found) => Some(found),
+            None => find_outside(&self.outer, name),
+        }
     }
 
-    /// Declares one more local. Where its scope has the name already, the first one stays meant.
-    pub fn declare(&mut self, alloc: Global, name: &str, known: LocalInfo) -> Result<(), AllocError>
-        ensures { OnOk result (self.new ≡ with_name self.old name.now (local_of known)) }
+    /// Whether the innermost scope has the name.
+    pub fn has_within(&self, name: &str) -> bool
+        ensures { result ≡ is_some (named_in self.now.inner name.now) }
     {
-        if local_in(&self.inner, name).is_some() {
-            return Ok(());
-        }
-        self.declare_new(String::from_str(alloc, name)?, known)
+        self.inner.find(name).is_some()
+    }
+
+    /// Declares one more name. Where its scope has the name already, the first one stays meant.
+    pub fn declare(&mut self, alloc: Global, name: &str, value: T) -> Result<(), AllocError>
+        ensures { OnOk result (self.new ≡ with_name self.old name.now value) }
+    {
+        self.inner.note(alloc, name, value)
     }
 }

@@ -12,13 +12,14 @@ ghost use Rattle.ss_tables_lookup.specs.Views.{type_of, method_tree, constructor
 ghost use Rattle.ss_tables_scopes.specs.Names.{Names};
 ghost use Rattle.ss_tables_scopes.specs.Views.{scope_of, receiver_of, callee_of};
 
-use crate::scopes::Scopes;
+use crate::local::{Scopes, local_type};
+use crate::modifiers::is_static_word;
 use crate::within::Within;
 use crate::words::{
     is_console, is_length, is_owner, is_owner_word, is_print, is_state_call, is_state_read,
     is_state_word,
 };
-use ss_ast::{Expr, ModifierWord, TypeRef};
+use ss_ast::{Expr, TypeRef};
 use ss_tables_lookup::{
     ConstructorRef, FieldRef, MethodRef, StaticType, Tables, class_of, declared_place,
     is_array_number,
@@ -126,7 +127,7 @@ pub fn name_type(within: Within<'_, '_>, locals: &Scopes, name: &str) -> Option<
     ensures { option_map type_of result ≡ name_type (scope_of within.entry locals.now) name.now }
 {
     match locals.find(name) {
-        Some(local) => local.ty,
+        Some(local) => local_type(local),
         None => this_field_type(within, name),
     }
 }
@@ -220,13 +221,7 @@ pub fn is_of_kind(wants_static: bool, method: MethodRef<'_>) -> bool
 pub fn is_static(method: MethodRef<'_>) -> bool
     ensures { result ≡ is_static (method_tree method.entry) }
 {
-    match method.member.modifiers.first() {
-        Some(modifier) => match modifier.word {
-            ModifierWord::Static => true,
-            ModifierWord::Virtual | ModifierWord::Override => false,
-        },
-        None => false,
-    }
+    is_static_word(&method.member.modifiers)
 }
 
 // A method that has to be static, or not to be.
@@ -270,7 +265,8 @@ fn method_at<'p>(tables: &Tables<'p>, name: &str, class: Option<usize>) -> Calle
     }
 }
 
-fn place_of_class(class: Option<usize>) -> Option<usize>
+/// The place of the declared class with this number.
+pub fn place_of_class(class: Option<usize>) -> Option<usize>
     ensures { result ≡ option_and_then declared_place class }
 {
     match class {
@@ -414,7 +410,8 @@ pub fn called_with(count: usize, callee: Callee<'_>) -> Callee<'_>
     }
 }
 
-fn result_type(tables: &Tables<'_>, ty: &Option<TypeRef>) -> Option<StaticType>
+/// The type of what a method gives.
+pub fn result_type(tables: &Tables<'_>, ty: &Option<TypeRef>) -> Option<StaticType>
     ensures { option_map type_of result ≡ result_type (trees tables.now) (option_map type_tree ty.now) }
 {
     match ty {

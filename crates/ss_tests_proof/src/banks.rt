@@ -47,20 +47,30 @@ fn empty(alloc: Global) -> Bank {
     Bank::new(alloc, Vec::new(alloc))
 }
 
+fn are_numbered_once(bank: &mut Bank) -> Result<bool, AllocError> {
+    let [first, second, again] = three_equalities(bank)?;
+    let are_equal = again == first && first != second;
+    Ok(are_equal && bank.term_count() == 3 && bank.formula_count() == 4)
+}
+
 #[test]
 fn numbers_equal_forms_once(rt: HostRuntime) -> Result<(), Fail> {
     let mut bank = empty(rt.alloc());
-    let [first, second, again] = three_equalities(&mut bank)?;
-    assert!(rt; again == first && first != second);
-    assert!(rt; bank.term_count() == 3 && bank.formula_count() == 4);
+    let held = are_numbered_once(&mut bank)?;
+    assert!(rt; held);
     Ok(())
+}
+
+fn are_shared(bank: &mut Bank) -> Result<bool, AllocError> {
+    let (deep, count) = nested(bank)?;
+    let (again, then) = nested(bank)?;
+    Ok(again == deep && count == 2002 && then == 2002)
 }
 
 #[test]
 fn shares_the_parts_of_nested_formulas(rt: HostRuntime) -> Result<(), Fail> {
     let mut bank = empty(rt.alloc());
-    let (deep, count) = nested(&mut bank)?;
-    let (again, now) = nested(&mut bank)?;
-    assert!(rt; again == deep && count == 2002 && now == 2002);
+    let held = are_shared(&mut bank)?;
+    assert!(rt; held);
     Ok(())
 }

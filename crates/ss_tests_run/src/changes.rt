@@ -50,93 +50,147 @@ fn three(alloc: Global, c: &Core, n: usize) -> Result<Store, AllocError>
     Ok(s)
 }
 
-#[test]
-fn levels_follow_packs_and_unpacks(rt: HostRuntime) -> Result<(), Fail> {
-    let c = program(rt.alloc())?;
-    let mut s = Store::new(rt.alloc());
-    assert_eq!(rt; s.new_object(&c.classes, PART)?, 0);
+// The first of the steps that is answered otherwise.
+fn first_other(s: &mut Store, c: &Core, rows: &[(Step, Result<(), Refused>)]) -> Option<usize>
+    requires { IsWithinLimits (classes c.now.classes) }
+{
+    for (number, (step, want)) in rows.iter().enumerate() {
+        if take(s, c, *step) != *want {
+            return Some(number);
+        }
+    }
+    None
+}
+
+// A store with one object, whose number is 0.
+fn one(alloc: Global, c: &Core) -> Result<Store, AllocError>
+    requires { IsWithinLimits (classes c.now.classes) }
+{
+    let mut s = Store::new(alloc);
+    if s.new_object(&c.classes, PART)? == 0 {
+        Ok(s)
+    } else {
+        Err(AllocError)
+    }
+}
+
+fn levels_follow_packs_and_unpacks(alloc: Global, c: &Core) -> Result<bool, AllocError>
+    requires { IsWithinLimits (classes c.now.classes) }
+{
+    let mut s = one(alloc, c)?;
     let part = Value::Obj(0);
-    for (step, want) in [
-        (Step::Pack(part), Ok(())),
-        (Step::Pack(part), refused(Kind::PackLevel)),
-        (Step::Write(part, 3), refused(Kind::WriteLevel)),
-        (Step::Unpack(part), Ok(())),
-        (Step::Unpack(part), refused(Kind::UnpackLevel)),
-        (Step::Unpack(Value::Null), refused(Kind::Null)),
-    ] {
-        assert_eq!(rt; take(&mut s, &c, step), want);
-    }
-    Ok(())
+    let other = first_other(
+        &mut s,
+        c,
+        &[
+            (Step::Pack(part), Ok(())),
+            (Step::Pack(part), refused(Kind::PackLevel)),
+            (Step::Write(part, 3), refused(Kind::WriteLevel)),
+            (Step::Unpack(part), Ok(())),
+            (Step::Unpack(part), refused(Kind::UnpackLevel)),
+            (Step::Unpack(Value::Null), refused(Kind::Null)),
+        ],
+    );
+    Ok(other.is_none())
 }
 
-#[test]
-fn a_field_is_0_until_it_is_written(rt: HostRuntime) -> Result<(), Fail> {
-    let c = program(rt.alloc())?;
-    let mut s = three(rt.alloc(), &c, 0)?;
-    assert_eq!(rt; take(&mut s, &c, Step::Write(Value::Obj(1), 5)), Ok(()));
-    for (o, n) in [(0, 0), (1, 5), (2, 0)] {
-        assert_eq!(rt; s.field(o, V), Value::Int(n), "{o}");
-    }
-    Ok(())
+fn a_field_is_0_until_it_is_written(alloc: Global, c: &Core) -> Result<bool, AllocError>
+    requires { IsWithinLimits (classes c.now.classes) }
+{
+    let mut s = three(alloc, c, 0)?;
+    let is_written = take(&mut s, c, Step::Write(Value::Obj(1), 5)).is_ok();
+    Ok(
+        is_written
+            && s.field(0, V) == Value::Int(0)
+            && s.field(1, V) == Value::Int(5)
+            && s.field(2, V) == Value::Int(0),
+    )
 }
 
-#[test]
-fn there_is_room_for_what_is_reserved(rt: HostRuntime) -> Result<(), Fail> {
-    let c = program(rt.alloc())?;
-    let mut s = Store::new(rt.alloc());
+fn there_is_room_for_what_is_reserved(alloc: Global, c: &Core) -> Result<bool, AllocError>
+    requires { IsWithinLimits (classes c.now.classes) }
+{
+    let mut s = Store::new(alloc);
     s.reserve(3)?;
-    assert_eq!(rt; s.new_object(&c.classes, PART)?, 0);
-    assert_eq!(rt; s.new_object(&c.classes, PART)?, 1);
-    assert_eq!(rt; s.new_object(&c.classes, PART)?, 2);
-    Ok(())
+    let first = s.new_object(&c.classes, PART)?;
+    let second = s.new_object(&c.classes, PART)?;
+    let third = s.new_object(&c.classes, PART)?;
+    Ok(first == 0 && second == 1 && third == 2)
 }
 
-#[test]
-fn groups_get_owners(rt: HostRuntime) -> Result<(), Fail> {
-    let c = program(rt.alloc())?;
-    let mut s = three(rt.alloc(), &c, 0)?;
-    for (step, want) in [
-        (Step::Join(1, 2), Ok(())),
-        (Step::Capture(0, 1), Ok(())),
-        (Step::Capture(0, 1), Ok(())),
-        (Step::Capture(2, 1), refused(Kind::RepOwner)),
-        (Step::Join(0, 1), Ok(())),
-        (Step::Pack(Value::Obj(0)), refused(Kind::PackOwned)),
-    ] {
-        assert_eq!(rt; take(&mut s, &c, step), want);
-    }
-    for o in 0..3u32 {
-        assert_eq!(rt; s.owner(o), (0, 4), "{o}");
-    }
-    Ok(())
+fn groups_get_owners(alloc: Global, c: &Core) -> Result<bool, AllocError>
+    requires { IsWithinLimits (classes c.now.classes) }
+{
+    let mut s = three(alloc, c, 0)?;
+    let other = first_other(
+        &mut s,
+        c,
+        &[
+            (Step::Join(1, 2), Ok(())),
+            (Step::Capture(0, 1), Ok(())),
+            (Step::Capture(0, 1), Ok(())),
+            (Step::Capture(2, 1), refused(Kind::RepOwner)),
+            (Step::Join(0, 1), Ok(())),
+            (Step::Pack(Value::Obj(0)), refused(Kind::PackOwned)),
+        ],
+    );
+    Ok(other.is_none() && s.owner(0) == (0, 4) && s.owner(1) == (0, 4) && s.owner(2) == (0, 4))
 }
 
-#[test]
-fn arrays_have_their_defaults(rt: HostRuntime) -> Result<(), Fail> {
-    let c = program(rt.alloc())?;
-    let mut s = Store::new(rt.alloc());
-    assert_eq!(rt; s.new_array(INT_ARRAY, -1), Err(NewStop::NegativeLength));
-    assert_eq!(rt; s.new_array(INT_ARRAY, 2), Ok(0));
+// A store with an array of two numbers, which is asked for twice: first with a length below 0.
+fn array(alloc: Global) -> Result<Store, AllocError> {
+    let mut s = Store::new(alloc);
+    let Err(NewStop::NegativeLength) = s.new_array(INT_ARRAY, -1) else {
+        return Err(AllocError);
+    };
+    if s.new_array(INT_ARRAY, 2) != Ok(0) {
+        return Err(AllocError);
+    }
+    Ok(s)
+}
+
+fn arrays_have_their_defaults(alloc: Global, c: &Core) -> Result<bool, AllocError>
+    requires { IsWithinLimits (classes c.now.classes) }
+{
+    let mut s = array(alloc)?;
     let a = Value::Obj(0);
-    for (step, want) in [
-        (Step::WriteElement(a, 1), Ok(())),
-        (Step::WriteElement(a, 2), refused(Kind::Index)),
-        (Step::WriteElement(a, -1), refused(Kind::Index)),
-    ] {
-        assert_eq!(rt; take(&mut s, &c, step), want);
-    }
-    assert_eq!(rt; s.element(0, 0), Value::Int(0));
-    assert_eq!(rt; s.element(0, 1), Value::Int(7));
-    Ok(())
+    let other = first_other(
+        &mut s,
+        c,
+        &[
+            (Step::WriteElement(a, 1), Ok(())),
+            (Step::WriteElement(a, 2), refused(Kind::Index)),
+            (Step::WriteElement(a, -1), refused(Kind::Index)),
+        ],
+    );
+    Ok(other.is_none() && s.element(0, 0) == Value::Int(0) && s.element(0, 1) == Value::Int(7))
+}
+
+fn a_copy_has_the_same_objects(alloc: Global, c: &Core) -> Result<bool, AllocError>
+    requires { IsWithinLimits (classes c.now.classes) }
+{
+    let mut s = three(alloc, c, 2)?;
+    s.set_ready(c, 1);
+    let copy = s.copy()?;
+    Ok(copy.class_of(2) == PART && !copy.allocated(3))
+}
+
+fn held(alloc: Global, c: &Core) -> Result<[bool; 6], AllocError>
+    requires { IsWithinLimits (classes c.now.classes) }
+{
+    let levels = levels_follow_packs_and_unpacks(alloc, c)?;
+    let fields = a_field_is_0_until_it_is_written(alloc, c)?;
+    let room = there_is_room_for_what_is_reserved(alloc, c)?;
+    let groups = groups_get_owners(alloc, c)?;
+    let arrays = arrays_have_their_defaults(alloc, c)?;
+    let copies = a_copy_has_the_same_objects(alloc, c)?;
+    Ok([levels, fields, room, groups, arrays, copies])
 }
 
 #[test]
-fn a_copy_has_the_same_objects(rt: HostRuntime) -> Result<(), Fail> {
+fn changes_are_as_they_should(rt: HostRuntime) -> Result<(), Fail> {
     let c = program(rt.alloc())?;
-    let mut s = three(rt.alloc(), &c, 2)?;
-    s.set_ready(&c, 1);
-    let copy = s.copy()?;
-    assert_eq!(rt; copy.class_of(2), PART);
-    assert!(rt; !copy.allocated(3));
+    let held = held(rt.alloc(), &c)?;
+    assert_eq!(rt; held, [true, true, true, true, true, true]);
     Ok(())
 }

@@ -1,5 +1,5 @@
-//! Tests of the run side over its public calls: the outside, the class chain, the object store, the values of expressions, the inputs
-//! that a program admits, and the machine.
+//! Tests of the run side over its public calls: the outside, the class chain, the object store, the values of expressions, and the inputs
+//! that a program admits. What a run does is shown by rows of the suite.
 
 #![tactic(auto)]
 
@@ -13,7 +13,5 @@ mod inputs;
 mod outside;
 #[cfg(test)]
 mod part;
-#[cfg(test)]
-mod runs;
 #[cfg(test)]
 mod values;

@@ -19,47 +19,54 @@ fn two_of_one_name(alloc: Global, fail: &[u64]) -> Result<MemFiles, AllocError> 
     Ok(MemFiles::new(alloc, files, fail.to_vec(alloc)?))
 }
 
-#[test]
-fn the_first_file_of_a_name_counts(rt: HostRuntime) -> Result<(), Fail> {
-    let mut files = two_of_one_name(rt.alloc(), &[])?;
-    let whole = files.read(rt.alloc(), "a", 100);
-    assert!(rt; matches!(&whole, Ok(bytes) if bytes.as_slice() == "first".as_bytes()));
-    let front = files.read(rt.alloc(), "a", 2);
-    assert!(rt; matches!(&front, Ok(bytes) if bytes.as_slice() == "fi".as_bytes()));
-    Ok(())
-}
-
-#[test]
-fn a_missing_name_fails(rt: HostRuntime) -> Result<(), Fail> {
-    let mut files = two_of_one_name(rt.alloc(), &[])?;
-    let missing = files.read(rt.alloc(), "b", 100);
-    assert!(rt; matches!(&missing, Err(ReadStop::Failed)));
-    let held = files.read(rt.alloc(), "a", 100);
-    assert!(rt; matches!(&held, Ok(bytes) if bytes.as_slice() == "first".as_bytes()));
-    Ok(())
-}
-
-#[test]
-fn a_listed_read_fails(rt: HostRuntime) -> Result<(), Fail> {
-    let mut files = two_of_one_name(rt.alloc(), &[1])?;
-    for call in 0..3 {
-        let answer = files.read(rt.alloc(), "a", 100);
-        if call == 1 {
-            assert!(rt; matches!(&answer, Err(ReadStop::Failed)));
-        } else {
-            assert!(rt; matches!(&answer, Ok(bytes) if bytes.as_slice() == "first".as_bytes()));
-        }
+// Whether so many bytes at most are read of a file, and are these.
+fn is_read(alloc: Global, files: &mut MemFiles, limit: usize, wanted: &str) -> bool {
+    match files.read(alloc, "a", limit) {
+        Ok(bytes) => bytes.as_slice() == wanted.as_bytes(),
+        Err(_) => false,
     }
-    Ok(())
+}
+
+fn is_failed(alloc: Global, files: &mut MemFiles, name: &str) -> bool {
+    matches!(files.read(alloc, name, 100), Err(ReadStop::Failed))
+}
+
+// The first file of a name counts, and a name that isn't there fails.
+fn names(alloc: Global) -> Result<bool, AllocError> {
+    let mut files = two_of_one_name(alloc, &[])?;
+    Ok(
+        is_read(alloc, &mut files, 100, "first")
+            && is_read(alloc, &mut files, 2, "fi")
+            && is_failed(alloc, &mut files, "b")
+            && is_read(alloc, &mut files, 100, "first"),
+    )
+}
+
+// The second read fails, as it is listed, and the one behind it doesn't.
+fn listed_reads(alloc: Global) -> Result<bool, AllocError> {
+    let mut files = two_of_one_name(alloc, &[1])?;
+    Ok(
+        is_read(alloc, &mut files, 100, "first")
+            && is_failed(alloc, &mut files, "a")
+            && is_read(alloc, &mut files, 100, "first"),
+    )
+}
+
+// A listed write fails and takes nothing.
+fn listed_writes(alloc: Global) -> Result<bool, AllocError> {
+    let mut sink = MemSink::new(alloc, [1].to_vec(alloc)?);
+    let first = sink.write(b"one ") == Ok(());
+    let second = sink.write(b"two ") == Err(WriteStop::Failed);
+    let taken = sink.bytes() == "one ".as_bytes();
+    let third = sink.write(b"three") == Ok(());
+    Ok(first && second && taken && third && sink.bytes() == "one three".as_bytes())
 }
 
 #[test]
-fn a_listed_write_fails_and_takes_nothing(rt: HostRuntime) -> Result<(), Fail> {
-    let mut sink = MemSink::new(rt.alloc(), [1].to_vec(rt.alloc())?);
-    assert_eq!(rt; sink.write(b"one "), Ok(()));
-    assert_eq!(rt; sink.write(b"two "), Err(WriteStop::Failed));
-    assert!(rt; sink.bytes() == "one ".as_bytes());
-    assert_eq!(rt; sink.write(b"three"), Ok(()));
-    assert!(rt; sink.bytes() == "one three".as_bytes());
+fn memory_fails_as_listed(rt: HostRuntime) -> Result<(), Fail> {
+    let names = names(rt.alloc())?;
+    let reads = listed_reads(rt.alloc())?;
+    let writes = listed_writes(rt.alloc())?;
+    assert_eq!(rt; [names, reads, writes], [true, true, true]);
     Ok(())
 }

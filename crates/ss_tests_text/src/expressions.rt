@@ -48,6 +48,21 @@ fn shown(alloc: Global, source: &[u8]) -> Result<String, AllocError> {
     }
 }
 
+fn is_shown(alloc: Global, source: &[u8], wanted: &str) -> Result<bool, AllocError> {
+    let found = shown(alloc, source)?;
+    Ok(found.as_str() == wanted)
+}
+
+// The first of these sources that is shown otherwise.
+fn first_other(alloc: Global, rows: &[(&[u8], &str)]) -> Result<Option<usize>, AllocError> {
+    for (number, (source, wanted)) in rows.iter().enumerate() {
+        if !is_shown(alloc, *source, *wanted)? {
+            return Ok(Some(number));
+        }
+    }
+    Ok(None)
+}
+
 #[test]
 fn reads_the_longest_expression(rt: HostRuntime) -> Result<(), Fail> {
     let rows: [(&[u8], &str); 26] = [
@@ -78,10 +93,8 @@ fn reads_the_longest_expression(rt: HostRuntime) -> Result<(), Fail> {
         (b";", "10 at 1:1"),
         (b"a.", "10 at 1:3"),
     ];
-    for (source, expected) in rows {
-        let found = shown(rt.alloc(), source)?;
-        assert_eq!(rt; found.as_str(), expected);
-    }
+    let other = first_other(rt.alloc(), &rows)?;
+    assert_eq!(rt; other, None);
     Ok(())
 }
 
@@ -97,13 +110,15 @@ fn nested(alloc: Global, depth: u32) -> Result<Vec<u8>, AllocError> {
     Ok(source)
 }
 
+fn is_nested(alloc: Global, depth: u32, wanted: &str) -> Result<bool, AllocError> {
+    let source = nested(alloc, depth)?;
+    is_shown(alloc, source.as_slice(), wanted)
+}
+
 #[test]
 fn nests_64_deep(rt: HostRuntime) -> Result<(), Fail> {
-    let source = nested(rt.alloc(), 64)?;
-    let found = shown(rt.alloc(), source.as_slice())?;
-    assert_eq!(rt; found.as_str(), "paren 129");
-    let source = nested(rt.alloc(), 65)?;
-    let found = shown(rt.alloc(), source.as_slice())?;
-    assert_eq!(rt; found.as_str(), "11 at 1:65");
+    let deep = is_nested(rt.alloc(), 64, "paren 129")?;
+    let deeper = is_nested(rt.alloc(), 65, "11 at 1:65")?;
+    assert!(rt; deep && deeper);
     Ok(())
 }

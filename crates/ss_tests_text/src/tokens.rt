@@ -1,6 +1,6 @@
 // Sources and their tokens, worked out by hand.
 
-use ss_ast::{TokenKind, Word, same_word};
+use ss_ast::{Token, TokenKind, Word, same_word};
 use ss_core::FrontStop;
 use ss_lexer::{MAX_BYTES, tokens};
 use std::alloc::{AllocError, Global};
@@ -20,17 +20,28 @@ fn kind_shown(alloc: Global, kind: &TokenKind) -> Result<String, AllocError> {
     }
 }
 
+// A token with its place.
+fn push_token(alloc: Global, text: &mut String, token: &Token) -> Result<(), AllocError> {
+    let line = token.place.line;
+    let column = token.place.column;
+    let kind = kind_shown(alloc, &token.kind)?;
+    text.push_str(format!(in alloc; "{line}:{column} {kind}; ")?.as_str())?;
+    Ok(())
+}
+
+fn push_tokens(alloc: Global, text: &mut String, tokens: &[Token]) -> Result<(), AllocError> {
+    for token in tokens {
+        push_token(alloc, text, token)?;
+    }
+    Ok(())
+}
+
 // Each token with its place; or the rule and the place of the fault.
 fn shown(alloc: Global, source: &[u8]) -> Result<String, AllocError> {
+    let mut text = String::new(alloc);
     match tokens(alloc, source) {
-        Ok(tokens) => {
-            let mut text = String::new(alloc);
-            for token in &tokens {
-                let line = token.place.line;
-                let column = token.place.column;
-                let kind = kind_shown(alloc, &token.kind)?;
-                text.push_str(format!(in alloc; "{line}:{column} {kind}; ")?.as_str())?;
-            }
+        Ok(read) => {
+            push_tokens(alloc, &mut text, &read)?;
             Ok(text)
         }
         Err(FrontStop::Refused { rule, place }) => {
@@ -42,9 +53,24 @@ fn shown(alloc: Global, source: &[u8]) -> Result<String, AllocError> {
     }
 }
 
+fn is_shown(alloc: Global, source: &[u8], wanted: &str) -> Result<bool, AllocError> {
+    let found = shown(alloc, source)?;
+    Ok(found.as_str() == wanted)
+}
+
+// The first of these sources that is shown otherwise.
+fn first_other(alloc: Global, rows: &[(&[u8], &str)]) -> Result<Option<usize>, AllocError> {
+    for (number, (source, wanted)) in rows.iter().enumerate() {
+        if !is_shown(alloc, *source, *wanted)? {
+            return Ok(Some(number));
+        }
+    }
+    Ok(None)
+}
+
 #[test]
-fn reads_tokens(rt: HostRuntime) -> Result<(), Fail> {
-    let rows: [(&[u8], &str); 13] = [
+fn reads_tokens_and_refuses_the_first_fault(rt: HostRuntime) -> Result<(), Fail> {
+    let rows: [(&[u8], &str); 33] = [
         (b"", "1:1 TextEnd; "),
         (
             b"class P_1 {\n",
@@ -79,17 +105,6 @@ fn reads_tokens(rt: HostRuntime) -> Result<(), Fail> {
             b"\"\xc3\xa9\t//\"x",
             "1:1 Text([195, 169, 9, 47, 47]); 1:8 Name(\"x\"); 1:9 TextEnd; ",
         ),
-    ];
-    for (source, wanted) in rows {
-        let text = shown(rt.alloc(), source)?;
-        assert_eq!(rt; text.as_str(), wanted);
-    }
-    Ok(())
-}
-
-#[test]
-fn refuses_the_first_fault(rt: HostRuntime) -> Result<(), Fail> {
-    let rows: [(&[u8], &str); 20] = [
         (b"class P { # }", "1 at 1:11"),
         (b"class P { /* x", "2 at 1:11"),
         (b"class P { /*/", "2 at 1:11"),
@@ -111,11 +126,19 @@ fn refuses_the_first_fault(rt: HostRuntime) -> Result<(), Fail> {
         (b"x = 2147483648", "4 at 1:5"),
         (b"99999999999999999999999999999999999999999", "4 at 1:1"),
     ];
-    for (source, wanted) in rows {
-        let text = shown(rt.alloc(), source)?;
-        assert_eq!(rt; text.as_str(), wanted);
-    }
+    let other = first_other(rt.alloc(), &rows)?;
+    assert_eq!(rt; other, None);
     Ok(())
+}
+
+// The first of these sources that isn't read.
+fn first_refused(alloc: Global, sources: &[&[u8]]) -> Option<usize> {
+    for (number, source) in sources.iter().enumerate() {
+        if tokens(alloc, *source).is_err() {
+            return Some(number);
+        }
+    }
+    None
 }
 
 #[test]
@@ -127,9 +150,6 @@ fn reads_the_least_number_behind_a_sign(rt: HostRuntime) -> Result<(), Fail> {
         b"\"a\" -2147483648",
         b"} - /* */ 2147483648",
     ];
-    for source in read {
-        assert!(rt; tokens(rt.alloc(), source).is_ok());
-    }
     let refused: [(&[u8], &str); 10] = [
         (b"a-2147483648", "4 at 1:3"),
         (b"1-2147483648", "4 at 1:3"),
@@ -142,25 +162,25 @@ fn reads_the_least_number_behind_a_sign(rt: HostRuntime) -> Result<(), Fail> {
         (b"null-2147483648", "4 at 1:6"),
         (b"- 2147483649", "4 at 1:3"),
     ];
-    for (source, wanted) in refused {
-        let text = shown(rt.alloc(), source)?;
-        assert_eq!(rt; text.as_str(), wanted);
-    }
+    let first = first_refused(rt.alloc(), &read);
+    let other = first_other(rt.alloc(), &refused)?;
+    assert_eq!(rt; [first, other], [None, None]);
     Ok(())
 }
 
-#[test]
-fn refuses_a_long_source(rt: HostRuntime) -> Result<(), Fail> {
-    let mut source = vec![in rt.alloc(); b' '; MAX_BYTES]?;
-    let text = shown(rt.alloc(), source.as_slice())?;
-    assert_eq!(rt; text.as_str(), "1:1048577 TextEnd; ");
+// As many blanks as a source may have, and a byte more.
+fn is_limited(alloc: Global) -> Result<bool, AllocError> {
+    let mut source = vec![in alloc; b' '; MAX_BYTES]?;
+    let is_read = is_shown(alloc, source.as_slice(), "1:1048577 TextEnd; ")?;
     source.push(b'#')?;
-    let text = shown(rt.alloc(), source.as_slice())?;
-    assert_eq!(rt; text.as_str(), "5 at 1:1");
-    Ok(())
+    let is_refused = is_shown(alloc, source.as_slice(), "5 at 1:1")?;
+    Ok(is_read && is_refused)
 }
 
 #[test]
-fn tells_words_apart(rt: HostRuntime) {
+fn refuses_a_long_source_and_tells_words_apart(rt: HostRuntime) -> Result<(), Fail> {
+    let is_limited = is_limited(rt.alloc())?;
+    assert!(rt; is_limited);
     assert!(rt; same_word(Word::In, Word::In) && !same_word(Word::Using, Word::In));
+    Ok(())
 }

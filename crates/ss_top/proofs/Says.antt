@@ -16,12 +16,17 @@ use Rattle.ss_vcgen_heaps.specs.Positions.{Obligation}
 use Rattle.ss_vcgen_heaps.specs.Obligations.{obligations}
 use Rattle.ss_search.specs.declared.answers.Countered.{Countered}
 use Rattle.ss_search.specs.declared.answers.Undecided.{Undecided}
+use Rattle.ss_search.specs.declared.answers.Verdict.{Verdict}
+use Rattle.ss_search.specs.declared.answers.Verdict.TheVariants as found
+use Rattle.ss_search.specs.Listed.{countered_numbers, countered_of, undecided_numbers, undecided_of, AreRisingFrom}
 use Rattle.ss_sound.specs.Safe.{IsSafe}
+use Rattle.ss_sound.specs.Verdicts as sound
 use Rattle.ss_sound.specs.Verdicts.{IsUnproved, IsUndecided, AllHaveNoModelWithin}
 use Rattle.ss_sound.proofs.Complete.{not_unproved, not_undecided}
 use Rattle.ss_report.specs.declared.status.Status.{Status}
 use Rattle.ss_report.specs.declared.status.Status.TheVariants as status
-use Rattle.ss_report.specs.Verdict.{verdict_text}
+use Rattle.ss_report.specs.Texts.{verified_line}
+use Rattle.ss_report.specs.Verdict.{listed_text, verdict_text}
 use Rattle.ss_top_words.specs.declared.Limits.{Limits}
 use Rattle.ss_top_words.specs.declared.Command.{Command}
 use Rattle.ss_top_words.specs.declared.Command.TheVariants as command
@@ -36,7 +41,7 @@ use Rattle.ss_top.specs.declared.source.Goal.TheVariants as asked_for
 use Rattle.ss_top.specs.Sources.{Means, Gives}
 use Rattle.ss_top_words.specs.Words.{Asked}
 use Rattle.ss_top.specs.Runs.{HasRun, FailsAt}
-use Rattle.ss_top.specs.Answers.{OfSource, OfFile, verified_line, options_of, IsHeadline, IsToldVerified, IsExpanded, IsToldUnproved, IsToldUndecided, AreListed, IsVerifiedInPart, IsToldInPart, IsExpandedInPart, IsWrittenInPart, IsVerify, IsRun, IsRunUnverified, IsExpand, Verifies, command_of_goal, IfRefused, IfUnproved, IfUndecided, IfStopped, IfFailed, ReadsOnly, IsVerified, IsSilent, IsWithinReach, WhereWithinReach, Concludes, HasEnded, IsSpent, IsStopped, IsUnadmitted, Says, answer_to}
+use Rattle.ss_top.specs.Answers.{OfSource, OfFile, options_of, IsHeadline, IsToldVerified, IsExpanded, IsToldUnproved, IsToldUndecided, AreListed, IsListed, answer_of, IsVerifiedInPart, IsToldInPart, IsExpandedInPart, IsWrittenInPart, IsVerify, IsRun, IsRunUnverified, IsExpand, Verifies, command_of_goal, IfRefused, IfUnproved, IfUndecided, IfStopped, IfFailed, ReadsOnly, IsVerified, IsSilent, IsWithinReach, WhereWithinReach, Concludes, HasEnded, IsSpent, IsStopped, IsUnadmitted, Says, answer_to}
 use Rattle.ss_store_rules.specs.Formed.{IsFormed}
 use Rattle.ss_top.proofs.Limits.{accepted_formed}
 use Rattle.ss_top.proofs.Meanings.{one_core, no_fault}
@@ -58,33 +63,53 @@ pub expanded_in_part : (source : List ℕ) (ts : List Tok) (p : TypedTree) (c : 
 expanded_in_part source ts p c text old new a e is front = record { program = c; means = means source ts p c a e; front = subst (λ t. GrewByFront old new t) is front }
 
 pub told : (l : Limits) (c : CoreTree) (os : List Obligation) (ms : List Countered) (us : List Undecided) (old new : Option (List ℕ)) (source text : List ℕ) → Means source c → os ≡ obligations c → IsUnproved c.classes (options_of l) (obligations c) ms us
-    → text ≡ verdict_text c os ms us → Grew old new text → IsToldUnproved l ms us old new source
+    → text ≡ listed_text c os ms us → Grew old new text → IsToldUnproved l ms us old new source
 told l c os ms us old new source text means same unproved is took = record {
   program = c;
   means = means;
   unproved = unproved;
-  took = subst (λ t. Grew old new t) (is ∙ ap (λ o. verdict_text c o ms us) same) took;
+  took = subst (λ t. Grew old new t) (is ∙ ap (λ o. listed_text c o ms us) same) took;
 }
 
 pub told_undecided : (l : Limits) (c : CoreTree) (os : List Obligation) (us : List Undecided) (old new : Option (List ℕ)) (source text : List ℕ) → Means source c → os ≡ obligations c → IsUndecided c.classes (options_of l) (obligations c) us
-    → text ≡ verdict_text c os [] us → Grew old new text → IsToldUndecided l us old new source
+    → text ≡ listed_text c os [] us → Grew old new text → IsToldUndecided l us old new source
 told_undecided l c os us old new source text means same undecided is took = record {
   program = c;
   means = means;
   verdict = undecided;
-  took = subst (λ t. Grew old new t) (is ∙ ap (λ o. verdict_text c o [] us) same) took;
+  took = subst (λ t. Grew old new t) (is ∙ ap (λ o. listed_text c o [] us) same) took;
 }
 
-pub told_in_part : (l : Limits) (c : CoreTree) (os : List Obligation) (ms : List Countered) (us : List Undecided) (old new : Option (List ℕ)) (source text : List ℕ) → Means source c → os ≡ obligations c → AreListed l c ms us
-    → text ≡ verdict_text c os ms us → GrewByFront old new text → IsToldInPart l old new source
-told_in_part l c os ms us old new source text means same listed is front = record {
+listed_in_part : (l : Limits) (c : CoreTree) (os : List Obligation) (ms : List Countered) (us : List Undecided) (old new : Option (List ℕ)) (source text : List ℕ) → Means source c → os ≡ obligations c → AreListed l c ms us
+    → text ≡ listed_text c os ms us → GrewByFront old new text → IsToldInPart l old new source
+listed_in_part l c os ms us old new source text means same listed is front = record {
   program = c;
   means = means;
   countered = ms;
   undecided = us;
   listed = listed;
-  front = subst (λ t. GrewByFront old new t) (is ∙ ap (λ o. verdict_text c o ms us) same) front;
+  front = subst (λ t. GrewByFront old new t) (is ∙ ap (λ o. listed_text c o ms us) same) front;
 }
+
+pub told_in_part : (l : Limits) (c : CoreTree) (os : List Obligation) (v : Verdict) (old new : Option (List ℕ)) (source text : List ℕ) → Means source c → os ≡ obligations c → IsListed l c v → text ≡ verdict_text c os v → GrewByFront old new text
+    → IsToldInPart l old new source
+told_in_part l c os (found.Verified ds) old new source text means same h is front = absurd h
+told_in_part l c os (found.Unproved ms us) old new source text means same h is front = listed_in_part l c os ms.items us.items old new source text means same (inl h) is front
+told_in_part l c os (found.Undecided us) old new source text means same h is front = listed_in_part l c os [] us.items old new source text means same (inr (refl, h)) is front
+told_in_part l c os found.Memory old new source text means same h is front = absurd h
+
+-- what a verdict lists is in rising order
+pub countered_rise : (l : Limits) (c : CoreTree) (v : Verdict) → IsListed l c v → AreRisingFrom 0 (countered_numbers (countered_of v))
+countered_rise l c (found.Verified ds) h = tt
+countered_rise l c (found.Unproved ms us) h = h.decided.countered_rise
+countered_rise l c (found.Undecided us) h = tt
+countered_rise l c found.Memory h = tt
+
+pub undecided_rise : (l : Limits) (c : CoreTree) (v : Verdict) → IsListed l c v → AreRisingFrom 0 (undecided_numbers (undecided_of v))
+undecided_rise l c (found.Verified ds) h = tt
+undecided_rise l c (found.Unproved ms us) h = h.decided.undecided_rise
+undecided_rise l c (found.Undecided us) h = h.decided.undecided_rise
+undecided_rise l c found.Memory h = tt
 
 -- nothing was taken
 pub grew_nothing : (taken : Option (List ℕ)) → Grew taken taken []
@@ -118,6 +143,29 @@ verdict_in_part l asked_for.Run steps input old new source h = inr h
 pub goal_verifies : (g : Goal) → Verifies (command_of_goal g)
 goal_verifies asked_for.Verdict = tt
 goal_verifies asked_for.Run = tt
+
+-- the answer where the text of a verdict was written
+pub answer_says : (l : Limits) (g : Goal) (steps : ℕ) (input : List ℤ) (c : CoreTree) (os : List Obligation) (v : Verdict) (old new : Option (List ℕ)) (source text : List ℕ) → Means source c → os ≡ obligations c → IsListed l c v → text ≡ verdict_text c os v
+    → Grew old new text → Says l steps input old new (answer_of v) (command_of_goal g) source
+answer_says l g steps input c os (found.Verified ds) old new source text means same h is took = absurd h
+answer_says l g steps input c os (found.Unproved ms us) old new source text means same h is took = (goal_verifies g, told l c os ms.items us.items old new source text means same h is took)
+answer_says l g steps input c os (found.Undecided us) old new source text means same h is took = (goal_verifies g, told_undecided l c os us.items old new source text means same h is took)
+answer_says l g steps input c os found.Memory old new source text means same h is took = absurd h
+
+-- is not that a write failed
+pub answer_no_fault : (v : Verdict) → answer_of v ≡ status.WriteFault → ⊥
+answer_no_fault (found.Verified ds) e = cc
+answer_no_fault (found.Unproved ms us) e = cc
+answer_no_fault (found.Undecided us) e = cc
+answer_no_fault found.Memory e = cc
+
+-- a verdict that isn't that all is proved lists obligations, where memory didn't fail
+pub is_listed : (l : Limits) (c : CoreTree) (v : Verdict) → ((ds : _) → v ≡ found.Verified ds → ⊥) → (v ≡ found.Memory → ⊥)
+    → sound.IfUnproved v (IsUnproved c.classes (options_of l) (obligations c)) → sound.IfUndecided v (IsUndecided c.classes (options_of l) (obligations c)) → IsListed l c v
+is_listed l c (found.Verified ds) not_all not_memory unproved undecided = absurd (not_all ds refl)
+is_listed l c (found.Unproved ms us) not_all not_memory unproved undecided = unproved
+is_listed l c (found.Undecided us) not_all not_memory unproved undecided = undecided
+is_listed l c found.Memory not_all not_memory unproved undecided = absurd (not_memory refl)
 
 -- ---- the run of a safe program
 

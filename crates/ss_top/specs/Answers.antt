@@ -1,5 +1,5 @@
 -- What the answers of the command say.
-use Rattle.std.specs.Prelude.{ℕ, ℤ, ◌≡◌, ◌≢◌, ◌≤◌, ◌⊎◌, List, [], ◌∷◌, ◌++◌, Option, Some, None, map, String, string_bytes, codes}
+use Rattle.std.specs.Prelude.{ℕ, ℤ, ◌≡◌, ◌≢◌, ◌≤◌, ◌⊎◌, List, [], Option, Some, None, map, String, string_bytes}
 use Rattle.ss_io.specs.Outside.{Told, Grew, GrewByFront}
 use Rattle.std.specs.declared.alloc.Global.{Global}
 use Rattle.ss_core.specs.declared.names.Kind.{Kind}
@@ -11,11 +11,14 @@ use Rattle.ss_vcgen_heaps.specs.Obligations.{obligations}
 use Rattle.ss_search.specs.declared.answers.Countered.{Countered}
 use Rattle.ss_search.specs.declared.answers.Undecided.{Undecided}
 use Rattle.ss_search.specs.declared.answers.Options.{Options}
+use Rattle.ss_search.specs.declared.answers.Verdict.{Verdict}
+use Rattle.ss_search.specs.declared.answers.Verdict.TheVariants as found
 use Rattle.ss_sound.specs.Safe.{IsSafe}
 use Rattle.ss_sound.specs.Verdicts.{IsUnproved, IsUndecided, AllHaveNoModelWithin}
 use Rattle.ss_report.specs.declared.status.Status.{Status}
 use Rattle.ss_report.specs.declared.status.Status.TheVariants as status
-use Rattle.ss_report.specs.Verdict.{verdict_text}
+use Rattle.ss_report.specs.Texts.{verified_line}
+use Rattle.ss_report.specs.Verdict.{listed_text}
 use Rattle.ss_report_core.specs.Text.{core_text}
 use Rattle.ss_top_words.specs.Words.{Asked, asked}
 use Rattle.ss_top_words.specs.declared.Limits.{Limits}
@@ -50,9 +53,6 @@ abbrev pub OfFile : Option Asked → (List ℕ → Told) → (Asked → List ℕ
 OfFile None told P = ⊥
 OfFile (Some a) told P = OfSource (told a.file) (P a)
 
-abbrev pub verified_line : List ℕ
-verified_line = codes "verified" ++ 10 ∷ []
-
 -- The headline: the source is accepted, and its program is safe. For every admitted input and after every number of steps no check of its
 -- run has failed, and its state is good. So each object meets the invariants of all class levels at which it is packed.
 pub record IsHeadline (source : List ℕ) : Type 0 where
@@ -77,14 +77,14 @@ pub record IsToldUnproved (limits : Limits) (countered : List Countered) (undeci
   pub program : CoreTree
   pub means : Means source program
   pub unproved : IsUnproved program.classes (options_of limits) (obligations program) countered undecided
-  pub took : Grew old new (verdict_text program (obligations program) countered undecided)
+  pub took : Grew old new (listed_text program (obligations program) countered undecided)
 
 -- For the listed obligations the limits aren't enough, and each other one has a derivation. The sink took exactly the text of the verdict.
 pub record IsToldUndecided (limits : Limits) (undecided : List Undecided) (old new : Option (List ℕ)) (source : List ℕ) : Type 0 where
   pub program : CoreTree
   pub means : Means source program
   pub verdict : IsUndecided program.classes (options_of limits) (obligations program) undecided
-  pub took : Grew old new (verdict_text program (obligations program) [] undecided)
+  pub took : Grew old new (listed_text program (obligations program) [] undecided)
 
 -- the sink took exactly the text of the core program
 pub record IsExpanded (old new : Option (List ℕ)) (source : List ℕ) : Type 0 where
@@ -110,7 +110,7 @@ pub record IsToldInPart (limits : Limits) (old new : Option (List ℕ)) (source 
   pub countered : List Countered
   pub undecided : List Undecided
   pub listed : AreListed limits program countered undecided
-  pub front : GrewByFront old new (verdict_text program (obligations program) countered undecided)
+  pub front : GrewByFront old new (listed_text program (obligations program) countered undecided)
 
 -- the sink took a front of the text of the core program
 pub record IsExpandedInPart (old new : Option (List ℕ)) (source : List ℕ) : Type 0 where
@@ -205,6 +205,20 @@ IsSilent _ = ⊥
 abbrev pub answer_to : FrontStop → Status
 answer_to (front.Refused rule at) = status.SourceRefused rule at
 answer_to front.Memory = status.Memory
+
+-- a verdict that lists obligations, each with its cause
+abbrev pub IsListed : Limits → CoreTree → Verdict → Type 0
+IsListed l c (found.Verified ds) = ⊥
+IsListed l c (found.Unproved countered undecided) = IsUnproved c.classes (options_of l) (obligations c) countered.items undecided.items
+IsListed l c (found.Undecided undecided) = IsUndecided c.classes (options_of l) (obligations c) undecided.items
+IsListed l c found.Memory = ⊥
+
+-- the answer where the text of this verdict was written
+abbrev pub answer_of : Verdict → Status
+answer_of (found.Verified ds) = status.Ended
+answer_of (found.Unproved countered undecided) = status.Unproved countered undecided
+answer_of (found.Undecided undecided) = status.Undecided undecided
+answer_of found.Memory = status.Memory
 
 -- the command that asks for this
 abbrev pub command_of_goal : Goal → Command

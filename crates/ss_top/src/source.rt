@@ -7,13 +7,12 @@ ghost use Rattle.ss_core.specs.Chain.{IsWithinLimits};
 ghost use Rattle.ss_vcgen_heaps.specs.Obligations as oblig;
 ghost use Rattle.ss_vcgen.specs.Built.{trees};
 ghost use Rattle.ss_sound.specs.Safe.{IsSafe};
-ghost use Rattle.ss_sound.specs.Verdicts.{IsUnproved, IsUndecided};
 ghost use Rattle.ss_top.specs.Sources.{Means};
 ghost use Rattle.ss_ast.specs.Tokens.{toks};
 ghost use Rattle.ss_typed.specs.View.{typed};
 ghost use Rattle.ss_machine_typed.specs.Inputs.{IsInput};
 ghost use Rattle.ss_top_sources.specs.Sources.{IsAccepted};
-ghost use Rattle.ss_top.specs.Answers.{Says, command_of_goal, options_of};
+ghost use Rattle.ss_top.specs.Answers.{Says, IsListed, answer_of, command_of_goal};
 ghost use Rattle.ss_top.specs.declared.source.Goal.{Goal as AnyGoal};
 ghost use Rattle.ss_top_words.specs.declared.Limits.{Limits as AnyLimits};
 ghost use Rattle.ss_top_words.specs.declared.Command.TheVariants as goals;
@@ -22,9 +21,8 @@ use crate::front::{read_program, refuse};
 use crate::runs::{run_unverified, run_whole};
 use ss_core::Core;
 use ss_io::{Sink, WriteStop};
-use ss_report::{Status, verdict_text};
-use ss_report_core::core_text;
-use ss_search::{Countered, Options, Undecided};
+use ss_report::{Status, core_text, verdict_text};
+use ss_search::Options;
 use ss_sound::{Verdict, verify};
 use ss_top_sources::{Accepted, elaborate, read_source};
 use ss_top_words::{Asked, Command};
@@ -142,23 +140,8 @@ fn answer_program<S: Sink>(
     };
     match verify(alloc, program, &mut obligations, &options) {
         Verdict::Verified(_) => answer_safe(alloc, goal, asked, source, program, out),
-        Verdict::Unproved {
-            countered,
-            undecided,
-        } => tell_unproved(
-            alloc,
-            asked,
-            source,
-            program,
-            &obligations,
-            countered,
-            undecided,
-            out,
-        ),
-        Verdict::Undecided(undecided) => {
-            tell_undecided(alloc, asked, source, program, &obligations, undecided, out)
-        }
         Verdict::Memory => Status::Memory,
+        verdict => tell_verdict(alloc, asked, source, program, &obligations, verdict, out),
     }
 }
 
@@ -222,61 +205,47 @@ fn run_safe<S: Sink>(
     run_whole(alloc, asked, source, program, out)
 }
 
-// Writes the text of a verdict where a model refutes an obligation.
-fn tell_unproved<S: Sink>(
-    alloc: Global,
-    asked: &Asked,
-    source: &[u8],
-    program: &Core,
-    obligations: &Obligations,
-    countered: Vec<Countered>,
-    undecided: Vec<Undecided>,
-    out: &mut S,
-) -> Status
-    requires means { Means source.now (core program.now) }
-    requires obligations { trees obligations.now ≡ oblig.obligations (core program.now) }
-    requires unproved { IsUnproved (classes program.now.classes) (options_of asked.now.limits) (oblig.obligations (core program.now)) countered.items undecided.items }
-    ensures says { (goal : AnyGoal) → Says asked.now.limits asked.now.steps asked.now.input.items (S.taken out.old) (S.taken out.new) result (command_of_goal goal) source.now }
-    ensures faults { S.faults out.old ≤ S.faults out.new }
-    ensures cause { result ≡ Status.WriteFault → Rose (S.faults out.old) (S.faults out.new) }
+// The answer where the text of this verdict was written.
+fn answer_of(verdict: Verdict) -> Status
+    ensures { result ≡ answer_of verdict }
 {
-    let (_asked, _source) = (asked, source);
-    let Ok(text) = verdict_text(alloc, program, obligations, &countered, &undecided) else {
-        return Status::Memory;
-    };
-    match out.write(text.as_bytes()) {
-        Ok(()) => Status::Unproved {
+    match verdict {
+        Verdict::Verified(_) => Status::Ended,
+        Verdict::Unproved {
+            countered,
+            undecided,
+        } => Status::Unproved {
             countered,
             undecided,
         },
-        Err(WriteStop::Failed) => Status::WriteFault,
-        Err(WriteStop::Memory) => Status::Memory,
+        Verdict::Undecided(undecided) => Status::Undecided { undecided },
+        Verdict::Memory => Status::Memory,
     }
 }
 
-// Writes the text of a verdict where no model is at hand, but not all is proved.
-fn tell_undecided<S: Sink>(
+// Writes the text of a verdict that lists obligations.
+fn tell_verdict<S: Sink>(
     alloc: Global,
     asked: &Asked,
     source: &[u8],
     program: &Core,
     obligations: &Obligations,
-    undecided: Vec<Undecided>,
+    verdict: Verdict,
     out: &mut S,
 ) -> Status
     requires means { Means source.now (core program.now) }
     requires obligations { trees obligations.now ≡ oblig.obligations (core program.now) }
-    requires undecided { IsUndecided (classes program.now.classes) (options_of asked.now.limits) (oblig.obligations (core program.now)) undecided.items }
+    requires listed { IsListed asked.now.limits (core program.now) verdict }
     ensures says { (goal : AnyGoal) → Says asked.now.limits asked.now.steps asked.now.input.items (S.taken out.old) (S.taken out.new) result (command_of_goal goal) source.now }
     ensures faults { S.faults out.old ≤ S.faults out.new }
     ensures cause { result ≡ Status.WriteFault → Rose (S.faults out.old) (S.faults out.new) }
 {
     let (_asked, _source) = (asked, source);
-    let Ok(text) = verdict_text(alloc, program, obligations, &[], &undecided) else {
+    let Ok(lines) = verdict_text(alloc, program, obligations, &verdict) else {
         return Status::Memory;
     };
-    match out.write(text.as_bytes()) {
-        Ok(()) => Status::Undecided { undecided },
+    match out.write(&lines) {
+        Ok(()) => answer_of(verdict),
         Err(WriteStop::Failed) => Status::WriteFault,
         Err(WriteStop::Memory) => Status::Memory,
     }

@@ -17,6 +17,8 @@ pub struct Case {
     pub name: String,
     pub words: Vec<String>,
     pub source: Vec<u8>,
+    /// The writes that fail, by their numbers from 0.
+    pub failing: Vec<u64>,
     pub output: Vec<u8>,
     /// The end of the `undecided` lines that may stand among the lines of the output, where there may be such.
     pub others: Option<String>,
@@ -61,12 +63,25 @@ fn push_escaped(bytes: &mut Vec<u8>, line: &[u8]) -> Result<(), AllocError> {
     Ok(())
 }
 
+// A number, and behind a blank what stands so often: with `\xHH` for a byte.
+fn push_repeated(bytes: &mut Vec<u8>, line: &str) -> Result<(), AllocError> {
+    let Some((count, text)) = line.split_once(' ') else {
+        return Ok(());
+    };
+    for _ in 0..count.parse::<u32>().unwrap_or(0) {
+        push_escaped(bytes, text.as_bytes())?;
+    }
+    Ok(())
+}
+
 fn push_source(case: &mut Case, line: &str) -> Result<(), AllocError> {
     if let Some(text) = line.strip_prefix("e ") {
         push_escaped(&mut case.source, text.as_bytes())?;
         case.source.push(b'\n')?;
     } else if let Some(text) = line.strip_prefix("E ") {
         push_escaped(&mut case.source, text.as_bytes())?;
+    } else if let Some(text) = line.strip_prefix("* ") {
+        push_repeated(&mut case.source, text)?;
     } else if let Some(text) = line.strip_prefix(". ") {
         case.source.extend_from_slice(text.as_bytes())?;
     } else if line != "." {
@@ -94,6 +109,11 @@ fn push_message(case: &mut Case, line: &str) -> Result<(), AllocError> {
     Ok(())
 }
 
+fn push_failing(case: &mut Case, number: &str) -> Result<(), AllocError> {
+    case.failing.push(number.parse::<u64>().unwrap_or(0))?;
+    Ok(())
+}
+
 fn push_line(alloc: Global, case: &mut Case, line: &str) -> Result<(), AllocError> {
     if let Some(words) = line.strip_prefix("$ ") {
         for word in words.split_whitespace() {
@@ -107,6 +127,8 @@ fn push_line(alloc: Global, case: &mut Case, line: &str) -> Result<(), AllocErro
         push_output(case, text)?;
     } else if let Some(text) = line.strip_prefix("!") {
         push_message(case, text)?;
+    } else if let Some(number) = line.strip_prefix("% ") {
+        push_failing(case, number)?;
     } else if line == "= read" {
         case.expected = Expected::Read;
     } else if let Some(text) = line.strip_prefix("= ") {
@@ -124,6 +146,7 @@ pub fn read_cases(alloc: Global, text: &str) -> Result<Vec<Case>, AllocError> {
                 name: String::from_str(alloc, name)?,
                 words: Vec::new(alloc),
                 source: Vec::new(alloc),
+                failing: Vec::new(alloc),
                 output: Vec::new(alloc),
                 others: None,
                 messages: Vec::new(alloc),

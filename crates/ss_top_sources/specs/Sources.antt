@@ -7,7 +7,7 @@ use Rattle.ss_ast.specs.Tokens.{Tok, toks}
 use Rattle.ss_ast.specs.Programs.{ProgramTree}
 use Rattle.ss_lexer.specs.Reading.{HasTokens, FaultAt}
 use Rattle.ss_grammar_expressions.specs.Heads.{Piece, AToken}
-use Rattle.ss_parser_expressions.specs.Answer.{first_place}
+use Rattle.ss_parser_expressions.specs.Answer.{first_place, most_nested}
 use Rattle.ss_decls.specs.Answer as grammar
 use Rattle.ss_decls.specs.Answer.{Refusal}
 use Rattle.ss_typed.specs.Tree.{TypedTree}
@@ -16,9 +16,9 @@ use Rattle.ss_resolver_rules.specs.Programs.{resolved}
 use Rattle.ss_top_sources.specs.Phases.{program_fault}
 use Rattle.ss_top_sources.specs.declared.source.Accepted.{Accepted}
 
--- the tokens are those of a program of this tree, nested at most 64 deep
+-- the tokens are those of a program of this tree, nested no deeper than it may be
 abbrev pub AreProgram : List Tok → ProgramTree → Type 0
-AreProgram tokens tree = grammar.IsProgram 64 (map AToken tokens) tree
+AreProgram tokens tree = grammar.IsProgram most_nested (map AToken tokens) tree
 
 -- they are those of no such program, by this rule of the grammar, and this is the place of the first that is refused
 abbrev pub AreRefused : List Tok → ℕ → Place → Type 0

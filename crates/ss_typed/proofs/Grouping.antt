@@ -1,5 +1,5 @@
 -- Chains and paths by their parts.
-use Rattle.std.proofs.Common.{◌≡◌, ◌<◌, ◌+◌, ◌-◌, ◌++◌, ℕ, zero, suc, length, take, get_or, List, [], ◌∷◌, map, true, false, Some, None, Vec, Box, Global, refl, sym, ap, ◌∙◌, arith, true≢false, ⊎_elim}
+use Rattle.std.proofs.Common.{◌≡◌, ◌<◌, ◌+◌, ◌-◌, ◌++◌, ℕ, zero, suc, length, take, get_or, List, [], ◌∷◌, map, true, false, Some, None, Vec, Box, Global, String, string_bytes, refl, sym, ap, ◌∙◌, arith, true≢false, ⊎_elim}
 use Rattle.std.specs.Prelude.{◌==◌, Option, slice_get}
 use Rattle.std.proofs.lemmas.List.{map-append, take_more}
 use Rattle.std.proofs.lemmas.Option.{slice_get-get_or, get_or_from_slice_get}
@@ -10,11 +10,11 @@ use Rattle.ss_typed.specs.declared.expr.TypedLink.{TypedLink}
 use Rattle.ss_typed.specs.declared.expr.TypedStep.{TypedStep}
 use Rattle.ss_typed.specs.declared.expr.TypedExpr.TheFolds.{fold-roll-TypedExpr, fold_out-TypedLink, fold_out-TypedStep}
 use Rattle.ss_typed.specs.declared.expr.TypedExpr.TheViews as view
-use Rattle.ss_typed.specs.declared.expr.TypedExpr.TheVariants.{rolls-Chain, rolls-Path}
+use Rattle.ss_typed.specs.declared.expr.TypedExpr.TheVariants.{rolls-Chain, rolls-Path, rolls-Quantified}
 use Rattle.ss_typed.specs.declared.expr.TypedExpr.TheOpen as shape
 use Rattle.ss_typed.specs.declared.expr.TypedExpr.TheOpen.{TypedLink-F, TypedStep-F}
 use Rattle.ss_typed.specs.View.{Behind, grouped, expr_step, link_step, step_step, expr}
-use Rattle.ss_typed.specs.Tree.{ExprTree, BinaryOf, IsOf, AsOf, FieldOf, ElementOf, LengthOf, CallOf, arguments}
+use Rattle.ss_typed.specs.Tree.{ExprTree, BinaryOf, IsOf, AsOf, FieldOf, ElementOf, LengthOf, CallOf, QuantifiedOf, arguments}
 use Rattle.ss_typed.specs.declared.expr.TypedLink.TheVariants as link
 use Rattle.ss_typed.specs.declared.expr.TypedStep.TheVariants as step
 use Rattle.ss_typed.specs.declared.expr.TypedExpr.TheFolds.{fold-roll-TypedLink, fold-roll-TypedStep}
@@ -22,6 +22,7 @@ use Rattle.ss_core.specs.declared.names.ClassId.{ClassId}
 use Rattle.ss_core.specs.declared.names.FieldId.{FieldId}
 use Rattle.ss_core.specs.declared.names.Ty.{Ty}
 use Rattle.ss_core.specs.declared.expr.Operator.{Operator}
+use Rattle.ss_core.specs.declared.expr.Quantifier.{Quantifier}
 use Rattle.ss_typed.specs.Parts.{link_behind, step_behind, linked, stepped}
 
 pub chain_is : (at : Place) (first : Box TypedExpr Global) (links : Vec TypedLink Global) → expr (view.Chain at first links) ≡ grouped at (expr first.value) (map link_behind links.items)
@@ -148,3 +149,8 @@ length_is at e = ap (λ (l : TypedStep). step_behind l at e) (sym step.rolls-Len
 
 pub call_is : (m : ℕ) (t : Option Ty) (es : Vec TypedExpr Global) (at : Place) (e : ExprTree) → step_behind (step.Call m t es) at e ≡ CallOf at e m t (arguments (map expr es.items))
 call_is m t es at e = ap (λ (l : TypedStep). step_behind l at e) (sym (step.rolls-Call m t es)) ∙ ap (λ (g : Behind). g at e) (fold-roll-TypedStep ExprTree Behind Behind expr_step link_step step_step (shape.Call m t es))
+
+-- ---- quantifiers
+
+pub quantified_is : (at : Place) (q : Quantifier) (n : String Global) (low high body : Box TypedExpr Global) → expr (view.Quantified at q n low high body) ≡ QuantifiedOf at q (string_bytes n) (expr low.value) (expr high.value) (expr body.value)
+quantified_is at q n low high body = ap expr (sym (rolls-Quantified at q n low high body)) ∙ fold-roll-TypedExpr ExprTree Behind Behind expr_step link_step step_step (shape.Quantified at q n low high body)

@@ -1,1 +1,4 @@
 pub mod Grouping
+pub mod Falls
+pub mod OwnFields
+pub mod ByClass

@@ -1,7 +1,7 @@
 -- What an expression is outermost, its place, whether `this` stands in it; and whether statements call `base(..)`.
-use Rattle.std.specs.Prelude.{Bool, true, false, ◌||◌}
+use Rattle.std.specs.Prelude.{ℕ, Bool, true, false, ◌||◌, if◌then◌else◌, Option, Some, None}
 use Rattle.ss_core.specs.declared.names.Place.{Place}
-use Rattle.ss_typed.specs.Tree.{ExprTree, IntOf, BoolOf, NullOf, ThisOf, LocalOf, ResultOf, BoundOf, IffOf, ImpliesOf, BinaryOf, IsOf, AsOf, NegateOf, NotOf, CastOf, FieldOf, ElementOf, LengthOf, OldOf, QuantifiedOf, StateOf, OwnersOf, NewOf, NewArrayOf, CallOf, StaticOf, BaseOf, Arguments, NoMore, Argument, BaseCallOf, StmtTree, SimpleOf, StmtTrees, Before}
+use Rattle.ss_typed.specs.Tree.{ExprTree, IntOf, BoolOf, NullOf, ThisOf, LocalOf, ResultOf, BoundOf, IffOf, ImpliesOf, BinaryOf, IsOf, AsOf, NegateOf, NotOf, CastOf, FieldOf, ElementOf, LengthOf, OldOf, QuantifiedOf, StateOf, OwnersOf, NewOf, NewArrayOf, CallOf, StaticOf, BaseOf, Arguments, NoMore, Argument, BaseCallOf, BlockTree, BlockOf, StmtTree, SimpleOf, StmtTrees, Before}
 
 -- the place at which it stands
 abbrev pub place_of : ExprTree → Place
@@ -42,6 +42,16 @@ abbrev pub is_this : ExprTree → Bool
 is_this (ThisOf p t) = true
 is_this e = false
 
+-- the local that the expression is, where it is one
+abbrev pub local_of : ExprTree → Option ℕ
+local_of (LocalOf p x t) = Some x
+local_of e = None
+
+-- the field of `this` that the expression is, where it is one
+abbrev pub own_field : ExprTree → Option ℕ
+own_field (FieldOf p e f t) = if is_this e then Some f else None
+own_field e = None
+
 -- `this` stands in it, or a `base.M(..)`, which is called on `this`
 abbrev mutual
   pub mentions_this : ExprTree → Bool
@@ -76,6 +86,13 @@ abbrev mutual
   pub mention_this : Arguments → Bool
   mention_this NoMore = false
   mention_this (Argument e es) = mentions_this e || mention_this es
+
+-- the statements of a block, and the place of its closing brace
+abbrev pub in_block : BlockTree → StmtTrees
+in_block (BlockOf p ss end) = ss
+
+abbrev pub closing_brace : BlockTree → Place
+closing_brace (BlockOf p ss end) = end
 
 -- the statement is `base(..)`, and one of the statements is
 abbrev pub is_base : StmtTree → Bool

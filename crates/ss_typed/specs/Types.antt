@@ -2,8 +2,7 @@
 use Rattle.std.specs.Prelude.{ℕ, Bool, true, false, Option, Some, None, ◌==◌, ◌-◌, if◌then◌else◌}
 use Rattle.ss_core.specs.declared.names.Ty.{Ty}
 use Rattle.ss_core.specs.declared.names.Ty.TheVariants as ty
-use Rattle.ss_core.specs.declared.expr.Operator.{Operator}
-use Rattle.ss_core.specs.declared.expr.Operator.TheVariants as op
+pub use Rattle.ss_core.specs.Operations.{operation_type}
 use Rattle.ss_typed.specs.Tree.{ExprTree, IntOf, BoolOf, NullOf, ThisOf, LocalOf, ResultOf, BoundOf, IffOf, ImpliesOf, BinaryOf, IsOf, AsOf, NegateOf, NotOf, CastOf, FieldOf, ElementOf, LengthOf, OldOf, QuantifiedOf, StateOf, OwnersOf, NewOf, NewArrayOf, CallOf, StaticOf, BaseOf}
 
 -- the type of a class, with or without null
@@ -18,22 +17,6 @@ element_type t = if t == 1 then ty.Int else if t == 2 then ty.Bool else if t == 
 abbrev pub element_of : Option Ty → Option Ty
 element_of (Some (ty.Ref t non_null)) = Some (element_type t.0)
 element_of a = None
-
--- what an operation gives
-abbrev pub operation_type : Operator → Ty
-operation_type op.Or = ty.Bool
-operation_type op.And = ty.Bool
-operation_type op.Equal = ty.Bool
-operation_type op.NotEqual = ty.Bool
-operation_type op.Less = ty.Bool
-operation_type op.LessEqual = ty.Bool
-operation_type op.Greater = ty.Bool
-operation_type op.GreaterEqual = ty.Bool
-operation_type op.Add = ty.Int
-operation_type op.Subtract = ty.Int
-operation_type op.Multiply = ty.Int
-operation_type op.Divide = ty.Int
-operation_type op.Remainder = ty.Int
 
 -- A call of a method without a result has no type.
 abbrev pub type_of : ExprTree → Option Ty

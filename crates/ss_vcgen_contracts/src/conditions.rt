@@ -9,7 +9,7 @@ ghost use Rattle.ss_terms.specs.Forms.{term_at, HasTerm, HasTerms, IsGrown};
 ghost use Rattle.ss_vcgen_express.specs.Numbers.{IsFormula, AreFormulas};
 ghost use Rattle.ss_vcgen_express.specs.Scenes.{scene_at, HasScene};
 ghost use Rattle.ss_vcgen_heaps.specs.Contracts as heaps;
-ghost use Rattle.ss_vcgen_contracts.specs.Seen.{is_at_level, condition_of};
+ghost use Rattle.ss_vcgen_contracts.specs.Seen.{is_level, is_at_level, condition_of};
 ghost use Rattle.ss_vcgen_contracts.specs.Views.{contract_of, ones_at};
 
 use crate::contract::Contract;
@@ -21,22 +21,29 @@ use ss_vcgen_express::Scene;
 use ss_vcgen_walk::holds;
 use std::alloc::{AllocError, Global};
 
+// Whether it is that `this` is at a level.
+fn is_level(condition: DefaultCondition) -> bool
+    ensures { result ≡ is_level (view.default_tree condition) }
+{
+    match condition {
+        DefaultCondition::AtLevel(_) => true,
+        DefaultCondition::Unpacked
+        | DefaultCondition::Unowned
+        | DefaultCondition::Defaults(_)
+        | DefaultCondition::OwnedFull(_)
+        | DefaultCondition::Full
+        | DefaultCondition::ConsistentArgument(_)
+        | DefaultCondition::FullArgument(_)
+        | DefaultCondition::Captured { .. } => false,
+    }
+}
+
 // Whether it is the condition that `this` is at a level.
 fn is_at_level(e: &Expr) -> bool
     ensures { result ≡ is_at_level (view.expr e.now) }
 {
     match e {
-        Expr::Default(_, condition) => match condition {
-            DefaultCondition::AtLevel(_) => true,
-            DefaultCondition::Unpacked
-            | DefaultCondition::Unowned
-            | DefaultCondition::Defaults(_)
-            | DefaultCondition::OwnedFull(_)
-            | DefaultCondition::Full
-            | DefaultCondition::ConsistentArgument(_)
-            | DefaultCondition::FullArgument(_)
-            | DefaultCondition::Captured { .. } => false,
-        },
+        Expr::Default(_, condition) => is_level(*condition),
         Expr::Chain(_, first, links) => {
             if links.is_empty() {
                 is_at_level(first)

@@ -81,7 +81,8 @@ term_sorted cs s t h = let p = and_parts (same_sort (sort_of cs [] t) s) (is_wel
 
 module _ (cs : List ClassTree) (bs : List Sort) where
   unless_formed : (fs : List Formula) (f : Formula) → AreWellFormed cs bs fs → F cs bs f → F cs bs (unless fs f)
-  unless_formed fs f h k = all_formed cs bs (fs ++ f ∷ []) (more_formed cs bs fs (f ∷ []) h (k, tt))
+  unless_formed [] f h k = k
+  unless_formed (g ∷ gs) f h k = all_formed cs bs (g ∷ gs ++ f ∷ []) (more_formed cs bs (g ∷ gs) (f ∷ []) h (k, tt))
 
   alike_formed : (f g : Formula) → F cs bs f → F cs bs g → F cs bs (iff f g)
   alike_formed f g h k =

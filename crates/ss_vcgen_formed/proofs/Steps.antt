@@ -28,7 +28,7 @@ use Rattle.ss_vcgen_formed.specs.Places.{IsFormedAt}
 
 pub listed_more : (cs : List ClassTree) (os others : List Obligation) → AreFormed cs os → AreFormed cs others → AreFormed cs (os ++ others)
 listed_more cs [] others h k = k
-listed_more cs (o ∷ os) others h k = (h.0, h.1, listed_more cs os others h.2 k)
+listed_more cs (o ∷ os) others h k = (h.0, listed_more cs os others h.1 k)
 
 -- a local is the one that was set, or what it was
 set_or_old : (ls : List (Option Term)) (x : ℕ) (t : Term) (y : ℕ) (u : Term) → slice_get (slice_set ls x (Some t)) y ≡ Some (Some u) → ((x ≡ y) × (t ≡ u)) ⊎ (slice_get ls y ≡ Some (Some u))
@@ -91,7 +91,7 @@ module _ (w : Walk) where
         locals = is.locals;
         arguments = is.arguments;
         premises = more_formed cs [] k.premises (under k.guard f ∷ []) is.premises (g, tt);
-        listed = listed_more cs k.listed (record { premises = k.premises; goal = under k.guard f; kind = kind; place = at; body = w.number } ∷ []) is.listed (is.premises, g, tt);
+        listed = listed_more cs k.listed (record { premises = k.premises; goal = under k.guard f; kind = kind; place = at; body = w.number } ∷ []) is.listed (record { goal = g; premises = is.premises }, tt);
       }
 
   pub checked_all : (kind : Kind) (at : Place) (fs : List Formula) (k : Position) → AreWellFormed cs [] fs → IsFormedAt w k → IsFormedAt w (check_all w kind at fs k)

@@ -5,7 +5,12 @@ use Rattle.ss_logic.specs.Formulas.{is_well_formed}
 use Rattle.ss_logic_means.specs.Sorts.{AreWellFormed}
 use Rattle.ss_vcgen_heaps.specs.Positions.{Obligation}
 
--- Of each the premises and the goal are well formed, and have no names but those that they bind.
+-- the goal and the premises are well formed, and have no names but those that they bind
+pub record IsWellFormed (cs : List ClassTree) (o : Obligation) : Type 0 where
+  pub goal : is_well_formed cs [] o.goal ≡ true
+  pub premises : AreWellFormed cs [] o.premises
+
+-- each obligation is
 abbrev pub AreFormed : List ClassTree → List Obligation → Type 0
 AreFormed cs [] = Unit {0}
-AreFormed cs (o ∷ os) = AreWellFormed cs [] o.premises × (is_well_formed cs [] o.goal ≡ true) × AreFormed cs os
+AreFormed cs (o ∷ os) = IsWellFormed cs o × AreFormed cs os

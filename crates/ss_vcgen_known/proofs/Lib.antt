@@ -13,3 +13,4 @@ pub mod Ending
 pub mod Stepping
 pub mod Giving
 pub mod Fronting
+pub mod Arrays

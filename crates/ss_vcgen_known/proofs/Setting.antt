@@ -3,12 +3,12 @@ use Rattle.std.proofs.Common.{◌≡◌, ◌≢◌, ℕ, ◌<◌, ◌≤◌, Boo
 use Rattle.std.specs.Prelude.{◌==◌, ◌&&◌, not, if◌then◌else◌, option_map}
 use Rattle.std.specs.Bool.{beq}
 use Rattle.std.proofs.lemmas.Bool.{cases_eq, eq-eqb, ne_eqb}
-use Rattle.ss_paths.specs.Sets.{put}
+use Rattle.ss_paths.specs.Sets.{put, none}
 use Rattle.ss_store_rules.specs.NonNull.{Facts, Known, with_local}
 use Rattle.ss_vcgen_known.specs.declared.told.Told.TheVariants as told
 use Rattle.ss_vcgen_known.specs.Pairs.{Pair, side, alike, barred}
 use Rattle.ss_vcgen_known.specs.Sets.{without, pair_without, at}
-use Rattle.ss_vcgen_known.specs.Steps.{with_sides, barred_by}
+use Rattle.ss_vcgen_known.specs.Steps.{with_said, with_sides, barred_by}
 use Rattle.ss_vcgen_known.proofs.Listing.{at_set, at_past, at_more, at_without}
 use Rattle.ss_vcgen_known.proofs.Grouping.{map_more}
 
@@ -115,3 +115,19 @@ side_alike f false = refl
 -- past the end
 pub past_side : {X : Type 0} (view : X → Pair) (xs : List X) (f : Facts) (x : ℕ) (v : Bool) → length xs ≤ x → Some f ≡ side (at (map view xs) (alike f) x) v
 past_side view xs f x v l = sym (ap (λ p. side p v) (at_past (map view xs) (alike f) x (subst (λ n. n ≤ x) (sym (mapped_length view xs)) l)) ∙ side_alike f v)
+
+-- a local past the end says nothing on its sides, where nothing is known there
+pub silent : {X : Type 0} (view : X → Pair) (f : Facts) (xs : List X) (b : Facts) (fields : ℕ → Bool) (x : ℕ) (g h : Facts) → length xs ≤ x → g ≡ none → h ≡ none → b ≡ none →
+    known_by f (map view xs) b fields ≡ with_said x g h (known_by f (map view xs) b fields)
+silent view f xs b fields x g h l eg eh eb = λ i. record { facts = f; sides = λ y v. at_local y v i; fields = fields }
+  where
+    said : (v : Bool) → Some b ≡ side (saying g h) v
+    said true = ap Some (eb ∙ sym eg)
+    said false = ap Some (eb ∙ sym eh)
+
+    at_local : (y : ℕ) (v : Bool) → side (at (map view xs) (alike b) y) v ≡ (if x == y then side (saying g h) v else side (at (map view xs) (alike b) y) v)
+    at_local y v =
+        ⊎_elim
+        (λ (e : x ≡ y). rw (eq-eqb x y e) (subst (λ z. side (at (map view xs) (alike b) z) v ≡ side (saying g h) v) e (sym (past_side view xs b x v l) ∙ said v)))
+        (λ (ne : x ≢ y). rw (ne_eqb x y ne) refl)
+        (cases_eq x y)

@@ -4,7 +4,7 @@ use Rattle.ss_core.specs.Tree.{ExprTree}
 use Rattle.ss_store_rules.specs.Admissible.{is_this}
 use Rattle.ss_store_rules.specs.NonNull.{Facts, no_facts, Known, at_this_end, side_met, with_local}
 use Rattle.ss_vcgen_known.specs.declared.told.Told.{Told}
-use Rattle.ss_vcgen_known.specs.Pairs.{Pair}
+use Rattle.ss_vcgen_known.specs.Pairs.{Pair, side}
 use Rattle.ss_vcgen_known.specs.Told.{tells_of}
 
 abbrev pub facts_met : Facts → Facts → Facts
@@ -16,6 +16,10 @@ met_pair k l x = record {
   holds = side_met (at_this_end k x true) (at_this_end l x true);
   fails = side_met (at_this_end k x false) (at_this_end l x false);
 }
+
+-- what a local says on its sides
+abbrev pub with_said : ℕ → Facts → Facts → Known → Known
+with_said x f g k = record k { sides = λ y v. if x == y then side (record { holds = Some f; fails = Some g }) v else k.sides y v }
 
 -- the local is assigned a value that says this on its sides
 abbrev pub with_sides : ℕ → Bool → Facts → Facts → Known → Known

@@ -1,12 +1,31 @@
 // Sets of locals that aren't null.
 
-ghost use Rattle.std.specs.Prelude.{◌≡◌, Some, IfOk, option_map};
-ghost use Rattle.ss_bit_set.specs.Marked.{marked};
+ghost use Rattle.std.specs.Prelude.{◌≡◌, Some, IfOk, IsTrue, option_map};
+ghost use Rattle.ss_bit_set.specs.Marked.{marked, listed};
+ghost use Rattle.ss_paths.specs.Sets.{none};
 ghost use Rattle.ss_store_rules.specs.NonNull.{both, side_met};
 ghost use Rattle.ss_vcgen_known.specs.Sets.{without};
 
 use ss_bit_set::BitSet;
 use std::alloc::AllocError;
+
+// Whether the list of a set is empty.
+#[tactic(auto, using(crate::proofs::Listing::nothing_listed))]
+fn is_none(list: &[bool]) -> bool
+    ensures { IsTrue result → listed list.now ≡ none }
+{
+    match list {
+        [] => true,
+        [_, ..] => false,
+    }
+}
+
+// Whether nothing was ever put into the set.
+pub(crate) fn is_empty(set: &BitSet) -> bool
+    ensures { IsTrue result → marked set.now ≡ none }
+{
+    is_none(&set.list)
+}
 
 // Puts each local of the other set into the set.
 #[tactic(auto, using(crate::proofs::Listing::joined_none, crate::proofs::Listing::joined_in, crate::proofs::Listing::joined_out, crate::proofs::Listing::joined_all))]

@@ -1,7 +1,8 @@
 // What is known at a place of a body.
 
-ghost use Rattle.std.specs.Prelude.{◌≡◌, ◌≤◌, ◌<◌, ◌||◌, ◌==◌, true, false, length, map, if◌then◌else◌, IfOk, option_map};
+ghost use Rattle.std.specs.Prelude.{◌≡◌, ◌≤◌, ◌<◌, ◌||◌, ◌==◌, true, false, length, map, if◌then◌else◌, IfOk, IsTrue, option_map};
 ghost use Rattle.ss_bit_set.specs.Marked.{marked};
+ghost use Rattle.ss_paths.specs.Sets.{none};
 ghost use Rattle.ss_core.specs.Chain.{most_classes};
 ghost use Rattle.ss_core.specs.Tree as tree;
 ghost use Rattle.ss_core.specs.View as view;
@@ -9,14 +10,14 @@ ghost use Rattle.ss_store_rules.specs.Locals.{local_types};
 ghost use Rattle.ss_store_rules.specs.NonNull as spec;
 ghost use Rattle.ss_store_rules.specs.Typed as typed;
 ghost use Rattle.ss_vcgen_known.specs.Sets.{pair_without, below};
-ghost use Rattle.ss_vcgen_known.specs.Steps.{met_pair, facts_met, with_sides, with_fields, written, barred_by, all_barred, forgotten};
+ghost use Rattle.ss_vcgen_known.specs.Steps.{met_pair, facts_met, with_said, with_sides, with_fields, written, barred_by, all_barred, forgotten};
 ghost use Rattle.ss_vcgen_known.specs.Told.{facts_of, all_facts, with_told};
 ghost use Rattle.ss_vcgen_known.specs.Views.{pair_of, known_of};
 
 use crate::assigns::assigned;
 use crate::atoms::is_this;
 use crate::bodies::callee_of;
-use crate::facts::{end_of, join, joined, side_met, without};
+use crate::facts::{end_of, is_empty, join, joined, side_met, without};
 use crate::fields::{Fields, larger};
 use crate::never_null::is_never_null;
 use crate::sides::Sides;
@@ -209,6 +210,45 @@ impl Known {
 
     // ---- statements
 
+    // Whether the list of sides says as it stands that nothing is known on those of the local: it is past the end, and nothing is known there.
+    fn is_silent(&self, x: usize, holds: &BitSet, fails: &BitSet) -> bool
+        ensures { IsTrue result → known_of self.now ≡ with_said x (marked holds.now) (marked fails.now) (known_of self.now) }
+    {
+        if x < self.sides.len() {
+            false
+        } else {
+            self.are_empty(holds, fails)
+        }
+    }
+
+    // Whether nothing was put into the sets, and nothing is known past the end of the list.
+    fn are_empty(&self, holds: &BitSet, fails: &BitSet) -> bool
+        ensures { IsTrue result → (marked holds.now ≡ none) × (marked fails.now ≡ none) × (marked self.now.beyond ≡ none) }
+    {
+        is_empty(holds) && is_empty(fails) && is_empty(&self.beyond)
+    }
+
+    // On its sides the local says this. The list of sides is no longer than it must be, for it is copied with each statement.
+    fn say(&mut self, x: usize, holds: BitSet, fails: BitSet) -> Result<(), AllocError>
+        ensures { IfOk result (λ u. known_of self.new ≡ with_said x (marked holds) (marked fails) (known_of self.old)) }
+    {
+        if self.is_silent(x, &holds, &fails) {
+            return Ok(());
+        }
+        self.put_sides(x, holds, fails)
+    }
+
+    fn put_sides(&mut self, x: usize, holds: BitSet, fails: BitSet) -> Result<(), AllocError>
+        ensures { IfOk result (λ u. known_of self.new ≡ with_said x (marked holds) (marked fails) (known_of self.old)) }
+    {
+        self.reach(x)?;
+        self.sides[x] = Sides {
+            holds: Some(holds),
+            fails: Some(fails),
+        };
+        Ok(())
+    }
+
     // The local is assigned a value that isn't null, or one that may be; on its sides it says this.
     fn set_local(
         &mut self,
@@ -225,11 +265,7 @@ impl Known {
         self.facts.put(x, non_null)?;
         self.sides = sides;
         self.beyond = beyond;
-        self.reach(x)?;
-        self.sides[x] = Sides {
-            holds: Some(holds),
-            fails: Some(fails),
-        };
+        self.say(x, holds, fails)?;
         Ok(())
     }
 

@@ -3,6 +3,7 @@
 ghost use Rattle.std.specs.Prelude.{◌≡◌, ◌≤◌, ◌&&◌, length, slice_get};
 ghost use Rattle.ss_core.specs.declared.expr.Operator.TheVariants as op;
 ghost use Rattle.ss_core.specs.Chain.{is_class, below, all_fields, most_classes};
+ghost use Rattle.ss_core.specs.Kinds.{is_array_number};
 ghost use Rattle.ss_core.specs.View.{classes, word_tree, owners_tree};
 ghost use Rattle.ss_store_rules.specs.Changes.{is_array, element_type, field_class, field_type};
 ghost use Rattle.ss_store_rules.specs.Good.{is_non_null};
@@ -88,14 +89,20 @@ pub(crate) fn is_class(list: &Classes, class: ClassId) -> bool
     usize::from(class.0) < 4 + 2 * list.list.len()
 }
 
+// A class of the table whose number is that of an array.
+fn has_array_number(list: &Classes, class: ClassId) -> bool
+    requires { length (classes list.now) ≤ most_classes }
+    ensures { result ≡ (is_class (classes list.now) class.0 && is_array_number class.0) }
+{
+    is_class(list, class) && class.is_array()
+}
+
 // `int[]`, `bool[]`, `object[]`, or the array of a declared class.
 pub(crate) fn is_array(list: &Classes, class: ClassId) -> bool
     requires { length (classes list.now) ≤ most_classes }
     ensures { result ≡ is_array (classes list.now) class.0 }
 {
-    let of = class.0.saturating_sub(1);
-    let is_declared = of >= 4 && of % 2 == 0 && usize::from(of) + 1 <= 4 + 2 * list.list.len();
-    class.0 == 1 || class.0 == 2 || class.0 == 3 || is_declared
+    has_array_number(list, class)
 }
 
 fn element_type(class: ClassId) -> Ty

@@ -10,8 +10,9 @@ use Rattle.ss_grammar_expressions.specs.First.{tokened}
 use Rattle.ss_grammar_expressions.specs.Heads.{the, pieces, link_head, postfix_head}
 use Rattle.ss_grammar_expressions.specs.Grammar.{TheExpression, join_argument}
 use Rattle.ss_grammar_expressions.specs.Parser.{below, postfix, joins, link_behind, operand}
-use Rattle.ss_parser_expressions.specs.View.{link_tree, postfix_tree}
-use Rattle.ss_parser_expressions.proofs.Loops.{fails_on, err_gives, pieces_fewer, pieces_less, grouped_push, chain_is, postfixes_is}
+use Rattle.ss_ast.specs.Parts.{link_behind as link_tree, postfix_behind as postfix_tree}
+use Rattle.ss_ast.proofs.Grouping.{grouped_push}
+use Rattle.ss_parser_expressions.proofs.Loops.{fails_on, err_gives, pieces_fewer, pieces_less, chain_is, postfixes_is}
 use Rattle.ss_parser_expressions.proofs.+expr.Goals as goal
 
 pub chains::parse_chain-returns-clause-gives : goal.chains::parse_chain-returns-clause-gives

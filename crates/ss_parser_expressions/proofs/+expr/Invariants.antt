@@ -7,7 +7,7 @@ use Rattle.ss_grammar_expressions.specs.First.{tokened}
 use Rattle.ss_grammar_expressions.specs.Heads.{the, pieces, link_head, postfix_head}
 use Rattle.ss_grammar_expressions.specs.Grammar.{TheExpression, join_argument}
 use Rattle.ss_grammar_expressions.specs.Parser.{below, postfix, joins, link_behind, operand}
-use Rattle.ss_parser_expressions.specs.View.{link_tree, postfix_tree}
+use Rattle.ss_ast.specs.Parts.{link_behind as link_tree, postfix_behind as postfix_tree}
 use Rattle.ss_parser_expressions.proofs.+expr.Given as goal
 
 abbrev pub decreases-unaries::inner_unary : goal.decreases-unaries::inner_unary

@@ -6,7 +6,7 @@ use Rattle.ss_grammar.specs.Stops.{Fails}
 use Rattle.ss_grammar_expressions.specs.Heads.{pieces}
 use Rattle.ss_grammar_programs.specs.Parser.{declarations}
 use Rattle.ss_decls.specs.Answer.{ProgramAnswer}
-use Rattle.ss_decls.proofs.Files.{whole_is, more_is, brace_is, other_is, faulty}
+use Rattle.ss_decls.proofs.Files.{whole_is, more_is, other_is, faulty}
 use Rattle.ss_decls.proofs.program.parse_program.Goals as goal
 
 pub returns-then-is_empty : goal.returns-then-is_empty
@@ -17,15 +17,11 @@ returns-then-is_empty c =
 pub returns-in-Some : goal.returns-in-Some
 returns-in-Some c =
     let n : length c.in-Some.behind.now ≢ 0 = grind (arith, common_steps) in
-    record { exact = (pieces c.in-Some.behind.now, sym c.place_of_next-place.ensures, more_is c.args.tokens.now (map class_tree c.in-Ok.classes.items) c.in-Ok.rest.now c.in-Some.behind.now c.in-Some.last c.in-Ok.ensures.gives c.in-Some.ensures.sees n) }
-
-pub returns-in-Some-next_symbol : goal.returns-in-Some-next_symbol
-returns-in-Some-next_symbol c =
-    record { exact = (pieces c.in-Ok.rest.now, sym c.place_of_next-place-in-None.ensures, brace_is c.args.tokens.now (map class_tree c.in-Ok.classes.items) c.in-Ok.rest.now _ c.in-Ok.ensures.gives c.in-None.ensures.sees c.in-Some-next_symbol.ensures.sees) }
+    record { exact = more_is c.args.tokens.now (map class_tree c.in-Ok.classes.items) c.in-Ok.rest.now c.in-Some.behind.now c.in-Some.last c.broken.result c.in-Ok.ensures.gives c.in-Some.ensures.sees n c.broken.ensures }
 
 pub returns-in-Ok : goal.returns-in-Ok
 returns-in-Ok c =
-    record { exact = (pieces c.in-Ok.rest.now, sym c.place_of_next-place-in-None.ensures, other_is c.args.tokens.now (map class_tree c.in-Ok.classes.items) c.in-Ok.rest.now c.in-Ok.ensures.gives c.in-None.ensures.sees c.in-None-next_symbol.ensures.sees) }
+    record { exact = other_is c.args.tokens.now (map class_tree c.in-Ok.classes.items) c.in-Ok.rest.now c.refused_at.result c.in-Ok.ensures.gives c.in-None.ensures.sees c.refused_at.ensures }
 
 pub returns : goal.returns
 returns c =

@@ -8,4 +8,4 @@ pub returns : goal.returns
 returns c =
     undelayed_noted (typed c.args.fields.now.program.now) (body c.args.constructor.now) _ (option_map base_of c.written_base.result) c.place_of_base-place.result
     c.args.found.now.items c.check_first_uses.new.found.items c.check_opening.new.found.items
-    c.in_ok-count.ensures.told c.in_ok-check_first_uses.ensures c.written_base.ensures c.place_of_base-place.ensures c.in_ok-check_opening.ensures
+    c.count_opening-count.ensures.told c.in_ok-check_first_uses.ensures c.written_base.ensures c.place_of_base-place.ensures c.in_ok-check_opening.ensures

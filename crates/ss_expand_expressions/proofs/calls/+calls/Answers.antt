@@ -4,7 +4,7 @@ use Rattle.ss_typed.specs.Tree.{ExprTree}
 use Rattle.ss_typed.specs.View.{expr}
 use Rattle.ss_expand_rules.specs.Calls.{has_call}
 use Rattle.ss_typed.specs.Parts.{linked, stepped}
-use Rattle.ss_expand_expressions.proofs.Loops.{drop_item}
+use Rattle.ss_ast.proofs.Loops.{drop_item}
 use Rattle.ss_expand_expressions.proofs.Shapes.{links_keep, steps_keep, link_with, link_without, step_with, step_without}
 use Rattle.ss_typed.proofs.Grouping.{chain_is, path_is}
 use Rattle.ss_expand_expressions.proofs.calls.+calls.Goals as goal

@@ -5,7 +5,7 @@ use Rattle.ss_core.specs.Tree.{ElementExpr, LocalExpr}
 use Rattle.ss_typed.specs.Tree.{CallOf, arguments}
 use Rattle.ss_typed.specs.View as typed
 use Rattle.ss_expand_rules.specs.Lifting as elab
-use Rattle.ss_expand_rules.specs.Program as program
+use Rattle.ss_typed.specs.Lookups as lookups
 use Rattle.ss_expand_expressions.specs.Parameters.{param_types}
 use Rattle.ss_typed.specs.Parts.{link_behind, linked, step_behind, stepped}
 use Rattle.ss_expand_expressions.specs.Sources.{stmts_of, source_of, lifted_behind, valued_behind, listed_behind}
@@ -14,7 +14,7 @@ use Rattle.ss_expand_lifting.specs.Settings.{setting_of}
 use Rattle.ss_expand_lifting.specs.Operations.{test_of, values_of}
 use Rattle.ss_expand_lifting.proofs.Joins.{with_call, without_call, unlifted_behind, value_as_it_is, values_as_they_are, binary_kept, size_kept, size_plain, values_kept, values_plain, kept_any}
 use Rattle.ss_expand_lifting.proofs.Links.{link_next_calls, step_next_calls, link_place, step_place, step_lazy, operand_along, links_go_along, steps_go_along}
-use Rattle.ss_expand_lifting.proofs.Forms.{operation_is, is_is, as_is, field_is, element_is, length_is, call_is}
+use Rattle.ss_typed.proofs.Grouping.{operation_is, is_is, as_is, field_is, element_is, length_is, call_is}
 use Rattle.ss_expand_lifting.proofs.Sizes.{links_fall, steps_fall}
 use Rattle.ss_expand_lifting.proofs.Arms.{iff_lifts, negate_lifts, not_lifts, cast_lifts, implies_lifts, chain_lifts, path_lifts, new_lifts, new_array_lifts, static_lifts, base_lifts, call_lifts, lazily_ends, operation_lifts_lazily, operation_lifts_strictly, negation_lifts, negation_stays, argument_joins, arguments_join, link_lifts, step_lifts}
 use Rattle.ss_expand_lifting.proofs.lifting.+lifting.Goals as goal
@@ -118,7 +118,7 @@ lift_call-returns t c = λ e ty before types h.
     let s = setting_of c.args.setting.now in
     let es = arguments (typed.exprs c.args.es.now) in
     call_lifts s c.args.place e c.args.method ty es _ _ _ _ before _ _ _ _ _ types _ _
-    (c.class_of_type-class.ensures ∙ ap elab.class_of_type h.ty) (c.params_in-params.ensures ∙ ap program.param_types_in c.method_at.ensures)
+    (c.class_of_type-class.ensures ∙ ap elab.class_of_type h.ty) (c.params_in-params.ensures ∙ ap lookups.param_types_in c.method_at.ensures)
     c.have_call-in_arguments.ensures (c.are_kept-kept.ensures ∙ ap (λ b. b || c.have_call-in_arguments.result) h.calls)
     (c.in_ok-receiver.ensures s e before types refl h) c.in_ok-values.ensures c.dispatched.ensures
 
@@ -206,19 +206,19 @@ pub lift-returns-in_ok-values-in-New : goal.lift-returns-in_ok-values-in-New
 lift-returns-in_ok-values-in-New t c = λ h.
     let a = c.in-New in
     new_lifts (setting_of c.args.setting.now) a.place a.class a.es c.args.e.now _ _ (stmts_of c.args.code.now.statements) _ _ c.args.made.now.items _ a.is
-    c.deref-in-New.ensures.value (c.params_in-params.ensures ∙ ap program.param_types_in c.constructor_of.ensures) c.in_ok-values-in-New.ensures
+    c.deref-in-New.ensures.value (c.params_in-params.ensures ∙ ap lookups.param_types_in c.constructor_of.ensures) c.in_ok-values-in-New.ensures
 
 pub lift-returns-in_ok-callee-in-Static : goal.lift-returns-in_ok-callee-in-Static
 lift-returns-in_ok-callee-in-Static t c = λ h.
     let a = c.in-Static in
     static_lifts (setting_of c.args.setting.now) a.place a.number a.field-2 a.es c.args.e.now _ _ _ (stmts_of c.args.code.now.statements) _ _ c.args.made.now.items _ a.is
-    c.deref-in-Static.ensures.value (c.params_in-params-in-Static.ensures ∙ ap program.param_types_in c.body_at.ensures) c.in_ok-callee-in-Static.ensures c.in_ok-values-in-Static.ensures
+    c.deref-in-Static.ensures.value (c.params_in-params-in-Static.ensures ∙ ap lookups.param_types_in c.body_at.ensures) c.in_ok-callee-in-Static.ensures c.in_ok-values-in-Static.ensures
 
 pub lift-returns-in_ok-callee-in-Base : goal.lift-returns-in_ok-callee-in-Base
 lift-returns-in_ok-callee-in-Base t c = λ h.
     let a = c.in-Base in
     base_lifts (setting_of c.args.setting.now) a.place a.method a.field-2 a.es c.args.e.now _ _ _ _ (stmts_of c.args.code.now.statements) _ _ c.args.made.now.items _ a.is
-    c.deref-in-Base.ensures.value c.above_of-above.ensures (c.params_in-params-in-Base.ensures ∙ ap program.param_types_in c.method_at.ensures) c.in_ok-callee-in-Base.ensures c.in_ok-values-in-Base.ensures
+    c.deref-in-Base.ensures.value c.above_of-above.ensures (c.params_in-params-in-Base.ensures ∙ ap lookups.param_types_in c.method_at.ensures) c.in_ok-callee-in-Base.ensures c.in_ok-values-in-Base.ensures
 
 pub lift-lift_links-requires : goal.lift-lift_links-requires
 lift-lift_links-requires t c =

@@ -9,7 +9,7 @@ use Rattle.ss_expand_lifting.proofs.settled.settle_whole.Goals as goal
 pub returns-then-is_this : goal.returns-then-is_this
 returns-then-is_this c =
     let h = sym c.is_this.ensures ∙ c.if-is_this.true in
-    this_stays (setting_of c.args.setting.now) (expr c.args.e.now) _ (stmts_of c.args.code.now.statements) c.args.made.now.items h (c.this_again-this.ensures h)
+    this_stays (setting_of c.args.setting.now) (expr c.args.e.now) _ (stmts_of c.args.code.now.statements) c.args.made.now.items h (c.in_ok-kept.ensures ∙ c.this_again-this.ensures h)
 
 pub returns : goal.returns
 returns c =

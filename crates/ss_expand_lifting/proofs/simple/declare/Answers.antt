@@ -3,7 +3,7 @@ use Rattle.ss_typed.specs.View.{declarator}
 use Rattle.ss_expand_rules.specs.Code.{after}
 use Rattle.ss_expand_rules.specs.Simple as simple
 use Rattle.ss_expand_expressions.specs.Sources.{stmts_of}
-use Rattle.ss_expand_expressions.proofs.Loops.{drop_item}
+use Rattle.ss_ast.proofs.Loops.{drop_item}
 use Rattle.ss_expand_lifting.specs.Settings.{setting_of}
 use Rattle.ss_expand_lifting.proofs.Statements.{declared_next}
 use Rattle.ss_expand_lifting.proofs.simple.declare.Goals as goal

@@ -7,7 +7,7 @@ use Rattle.ss_expand_rules.specs.Code.{after}
 use Rattle.ss_expand_rules.specs.Constructors.{before_all, initializers_from}
 use Rattle.ss_expand_rules.specs.Statements.{stmts}
 use Rattle.ss_expand_expressions.specs.Sources.{stmts_of}
-use Rattle.ss_expand_expressions.proofs.Loops.{drop_item}
+use Rattle.ss_ast.proofs.Loops.{drop_item}
 use Rattle.ss_expand_lifting.specs.Settings.{setting_of}
 use Rattle.ss_expand_programs.proofs.Lists.{initialize_all}
 use Rattle.ss_expand_programs.proofs.initializers.add_fields.Goals as goal

@@ -13,7 +13,7 @@ use Rattle.ss_expand_programs.proofs.looping.add_loop.Goals as goal
 pub returns : goal.returns
 returns c =
     let before = stmts_of c.args.code.now.statements in
-    let at = λ (es : List core.ExprTree) (xs : List core.ExposedTree). LoopStmt c.args.place es (code_of (stmts_of c.args.prelude.statements)) (expr c.args.test) (code_of (stmts_of c.args.turn.statements)) xs in
+    let at = λ (es : List core.ExprTree) (xs : List core.ExposedTree). LoopStmt c.args.place es (code_of (stmts_of c.args.prelude.statements)) (expr c.args.test.value) (code_of (stmts_of c.args.turn.statements)) xs in
     let es = all_plain (numbers_of c.args.setting.now.numbers.now) (exprs c.args.invariants.now) in
     c.in_ok-add.ensures
     ∙ ap (λ (x : core.StmtTree). before ++ x ∷ [])

@@ -8,7 +8,7 @@ use Rattle.ss_expand_rules.specs.Ends.{all_can_end}
 use Rattle.ss_expand_rules.specs.Lifting.{value}
 use Rattle.ss_expand_rules.specs.Statements.{begin, loop_while, stmt}
 use Rattle.ss_expand_expressions.specs.Sources.{stmts_of}
-use Rattle.ss_expand_expressions.proofs.Loops.{drop_item}
+use Rattle.ss_ast.proofs.Loops.{drop_item}
 use Rattle.ss_expand_bodies.specs.Exposes.{opened_of}
 use Rattle.ss_expand_lifting.specs.Settings.{setting_of}
 use Rattle.ss_expand_programs.specs.Loops.{tested, turn_of}
@@ -19,11 +19,11 @@ pub add_if-returns : goal.add_if-returns
 add_if-returns t c =
     let s = setting_of c.args.setting.now in
     let f = stmt s (typed.stmt_of c.args.first.now) in
-    let m1 = c.value.new.made.items in
+    let m1 = c.boxed_value.new.made.items in
     let m2 = c.add_stmt.new.made.items in
     let one = stmts_of c.add_stmt.new.code.statements in
-    branched c.args.place (stmts_of c.args.code.now.statements) (stmts_of c.value.new.code.statements) (stmts_of c.add_branch.new.code.statements) one (stmts_of c.new-other.result.statements)
-    (core.expr c.in_ok-test.test) m1 m2 m2 (value s (typed.expr c.args.e.now) c.args.made.now.items) f nothing
+    branched c.args.place (stmts_of c.args.code.now.statements) (stmts_of c.boxed_value.new.code.statements) (stmts_of c.add_branch.new.code.statements) one (stmts_of c.new-other.result.statements)
+    (core.expr c.in_ok-test.test.value) m1 m2 m2 (value s (typed.expr c.args.e.now) c.args.made.now.items) f nothing
     c.in_ok-test.ensures
     (behind_new (stmts_of c.new-one.result.statements) one m2 (f m1) c.new-one.ensures c.in_ok-add_stmt.ensures.coded)
     (ap (λ x. coded x m2) c.new-other.ensures)
@@ -34,11 +34,11 @@ add_while-returns t c =
     let s = setting_of c.args.setting.now in
     let f = stmt s (typed.stmt_of c.args.turn.now) in
     let v = value s (typed.expr c.args.e.now) c.args.made.now.items in
-    let m1 = c.value.new.made.items in
+    let m1 = c.boxed_value.new.made.items in
     let m2 = c.add_stmt.new.made.items in
-    let prelude = stmts_of c.value.new.code.statements in
+    let prelude = stmts_of c.boxed_value.new.code.statements in
     let inner = stmts_of c.add_stmt.new.code.statements in
-    let test = core.expr c.in_ok-test.test in
+    let test = core.expr c.in_ok-test.test.value in
     looped s c.args.place (typed.exprs c.args.invariants.now) (stmts_of c.args.code.now.statements) (stmts_of c.add_loop.new.code.statements) prelude inner test m1 m2 v f
     (value_behind_new (stmts_of c.new-prelude.result.statements) prelude test m1 v c.new-prelude.ensures c.in_ok-test.ensures)
     (behind_new (stmts_of c.new-inner.result.statements) inner m2 (f m1) c.new-inner.ensures c.in_ok-add_stmt.ensures.coded)
@@ -59,7 +59,7 @@ add_turns-returns t c =
     let m3 = c.advance_where.new.made.items in
     let prelude = stmts_of c.test_of.new.code.statements in
     let inner = stmts_of c.advance_where.new.code.statements in
-    let test = core.expr c.in_ok-test.test in
+    let test = core.expr c.in_ok-test.test.value in
     looped s p is before (stmts_of c.add_loop.new.code.statements) prelude inner test m1 m3 v (turn_of s a x)
     (value_behind_new (stmts_of c.new-prelude.result.statements) prelude test m1 v c.new-prelude.ensures c.in_ok-test.ensures)
     (turned s a x (stmts_of c.new-inner.result.statements) (stmts_of c.add_stmt.new.code.statements) inner m1 m2 m3 c.in_ok-reached.reached c.new-inner.ensures c.in_ok-reached.ensures.coded c.in_ok-reached.ensures.ends c.in_ok-advance_where.ensures)

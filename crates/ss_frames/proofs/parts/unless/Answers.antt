@@ -1,14 +1,15 @@
-use Rattle.std.proofs.Common.{◌∙◌, ap}
-use Rattle.ss_logic.specs.Formulas.{Or, formulas_from}
+use Rattle.std.proofs.Common.{sym, arith}
+use Rattle.ss_terms.specs.Forms.{formula_at}
 use Rattle.ss_terms_puts.proofs.Putting.{formula_equal}
-use Rattle.ss_frames.proofs.Growing.{unless_parts}
+use Rattle.ss_frames.proofs.Growing.{unless_none, unless_some}
 use Rattle.ss_frames.proofs.parts.unless.Goals as goal
 
-pub or-requires : goal.or-requires
-or-requires c = (unless_parts c.args.b.now c.args.parts.now c.args.last _ c.requires.parts c.requires.last (c.deref.ensures.value ∙ c.in_ok-all.ensures)).0
+pub returns-in-empty-clause-at : goal.returns-in-empty-clause-at
+returns-in-empty-clause-at c =
+    let b = c.args.b.now in
+    (c.requires.last, sym (unless_none b c.args.parts.now (formula_at b c.args.last) (omega (arith, c.in-empty.len_below))))
 
-pub returns-clause-at : goal.returns-clause-at
-returns-clause-at c =
-    formula_equal c.or.result c.or.new.self _ _
-    (ap (λ xs. Or (formulas_from xs)) (unless_parts c.args.b.now c.args.parts.now c.args.last _ c.requires.parts c.requires.last (c.deref.ensures.value ∙ c.in_ok-all.ensures)).1)
-    c.or.ensures.at
+pub returns-in-len1-up-clause-at : goal.returns-in-len1-up-clause-at
+returns-in-len1-up-clause-at c =
+    let b = c.args.b.now in
+    formula_equal c.either.result c.either.new.b _ _ (sym (unless_some b c.args.parts.now (formula_at b c.args.last) c.in-len1-up.len_at_least)) c.either.ensures.at

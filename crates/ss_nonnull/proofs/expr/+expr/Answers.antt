@@ -14,7 +14,7 @@ use Rattle.ss_nonnull.specs.Seen.{seen, plain}
 use Rattle.ss_nonnull_rules.specs.NonNull.{Known}
 use Rattle.ss_typed.specs.declared.expr.TypedExpr.{TypedExpr}
 use Rattle.ss_nonnull.proofs.Seeing.{wanted_noted, right_known, right_keeps, operation_leads, tested_leads, converted_leads, field_leads, element_leads, length_leads, call_leads}
-use Rattle.ss_nonnull.proofs.Falls.{links_fall, steps_fall}
+use Rattle.ss_typed.proofs.Falls.{links_fall, steps_fall}
 use Rattle.ss_nonnull.proofs.Walking.{chain_walked, path_walked, leads_by, part_leads, parts_led, no_parts}
 use Rattle.ss_nonnull.proofs.Arguments.{one_more, all_done}
 use Rattle.ss_nonnull.proofs.expr.+expr.Goals as goal

@@ -1,5 +1,5 @@
 use Rattle.std.proofs.Common.{◌≡◌, drop}
-use Rattle.ss_nonnull_facts.specs.Locals.{among}
+use Rattle.ss_paths.specs.Sets.{among}
 use Rattle.ss_nonnull.proofs.seen.is_listed.Given as goal
 
 abbrev pub invariant-loop-other : goal.invariant-loop-other

@@ -1,8 +1,7 @@
 use Rattle.std.proofs.Common.{◌≡◌, ◌∙◌, drop}
 use Rattle.std.proofs.lemmas.List.{drop_more}
 use Rattle.std.proofs.Math.ListN.{drop_of_length-le}
-use Rattle.ss_paths.specs.Sets.{either}
-use Rattle.ss_nonnull_facts.specs.Locals.{among}
+use Rattle.ss_paths.specs.Sets.{either, among}
 use Rattle.ss_nonnull.proofs.Listing.{one_moved, all_moved}
 use Rattle.ss_nonnull.proofs.seen.joined.Goals as goal
 

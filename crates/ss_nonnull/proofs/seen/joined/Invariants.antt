@@ -1,6 +1,5 @@
 use Rattle.std.proofs.Common.{◌≡◌, drop}
-use Rattle.ss_paths.specs.Sets.{either}
-use Rattle.ss_nonnull_facts.specs.Locals.{among}
+use Rattle.ss_paths.specs.Sets.{either, among}
 use Rattle.ss_nonnull.proofs.seen.joined.Given as goal
 
 abbrev pub invariant-loop-local : goal.invariant-loop-local

@@ -7,7 +7,7 @@ use Rattle.ss_typed.specs.declared.stmt.TypedBlock.{out-TypedBlock}
 use Rattle.ss_typed.specs.declared.stmt.TypedStmt.TheFolds.{fold_out-TypedBlock}
 use Rattle.ss_nonnull_rules.specs.Faults.{inside}
 use Rattle.ss_nonnull.proofs.Seeing.{joined}
-use Rattle.ss_nonnull_facts.specs.Locals.{among}
+use Rattle.ss_paths.specs.Sets.{among}
 use Rattle.ss_nonnull.specs.Codes.{path_of, site_of, seen_of}
 use Rattle.ss_nonnull.specs.Paths.{told, left_by}
 use Rattle.ss_nonnull.specs.Walks.{known_behind, known_behind_block, known_at_head, known_at_end, stmt_faults, block_faults}

@@ -4,7 +4,7 @@ use Rattle.ss_typed.specs.Tree.{ParamTree}
 use Rattle.ss_typed.specs.View.{param}
 use Rattle.ss_nonnull_facts.specs.declared.called.Called.{Called}
 use Rattle.ss_nonnull_facts.specs.Called.{called_types}
-use Rattle.ss_nonnull_facts.proofs.Loops.{get_map}
+use Rattle.std.proofs.lemmas.Option.{slice_get-map}
 use Rattle.ss_nonnull_facts.proofs.called.type_at.Goals as goal
 
 pub returns-in-Method : goal.returns-in-Method
@@ -12,5 +12,5 @@ returns-in-Method c =
     let f = λ (x : ParamTree). x.ty in
     c.type_of_param.ensures
     ∙ ap (option_map f) c.param_at.ensures
-    ∙ sym (get_map f (map param c.in-Method.params.now) c.args.place)
+    ∙ sym (slice_get-map f (map param c.in-Method.params.now) c.args.place)
     ∙ sym (ap (λ (d : Called). slice_get (called_types d) c.args.place) c.in-Method.is)

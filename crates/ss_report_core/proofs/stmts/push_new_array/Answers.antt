@@ -11,5 +11,5 @@ pub returns : goal.returns
 returns c =
     let s = c.args.scene.now in
     let p = s.program.now in
-    made_line _ _ _ _ _ _ _ _ _ c.args.indent.now (kept_text (names_in s) c.args.kept) (codes "new ") (element_name (classes_of p) c.args.t.0) (codes "[") (expr_text (classes_of p) (names_in s) (view.expr c.args.count.now)) (codes "]") (codes "\n")
-    c.in_ok-extend_from_slice.ensures.items c.in_ok-push_kept.ensures c.in_ok-extend_from_slice-2.ensures.items c.in_ok-push_element.ensures c.in_ok-extend_from_slice-3.ensures.items c.in_ok-push_expr.ensures c.push_bytes.ensures
+    made_line _ _ _ _ _ _ c.args.indent.now (kept_text (names_in s) c.args.kept) (codes "new ") (element_name (classes_of p) c.args.t.0) (codes "[") (expr_text (classes_of p) (names_in s) (view.expr c.args.count.now)) (codes "]") (codes "\n")
+    c.in_ok-push_start.ensures c.in_ok-extend_from_slice.ensures.items c.in_ok-push_element.ensures c.push_between.ensures

@@ -1,12 +1,13 @@
-use Rattle.std.proofs.Common.{◌≡◌, ◌++◌, [], ◌∷◌, map, sym, ap, ◌∙◌, refl, rules, arith}
+use Rattle.std.proofs.Common.{◌≡◌, ◌++◌, [], ◌∷◌, map, option_map, sym, ap, ◌∙◌, refl, rules, arith}
 use Rattle.ss_ast.specs.declared.expr.Expr.{Expr}
 use Rattle.ss_ast.specs.Expressions.{expr_tree}
+use Rattle.ss_tables_lookup.specs.Views.{type_of}
 use Rattle.ss_typed.specs.View as view
 use Rattle.ss_resolver_rules.specs.Expressions.{expr, class_named_by}
 use Rattle.ss_resolver_expressions.specs.Scenes.{env_of, part, part_view, numbers_of}
-use Rattle.ss_resolver_expressions.specs.Behinds.{link_behind, postfix_behind}
+use Rattle.ss_ast.specs.Parts.{link_behind, postfix_behind}
 use Rattle.ss_resolver_expressions.proofs.Loops.{none_yet, one_more, drop_all}
-use Rattle.ss_resolver_expressions.proofs.Falls.{links_fall, postfixes_fall}
+use Rattle.ss_ast.proofs.Falls.{links_fall, postfixes_fall}
 use Rattle.ss_resolver_expressions.proofs.Walked as walked
 use Rattle.ss_resolver_expressions.proofs.exprs.+expr.Goals as goal
 
@@ -130,20 +131,25 @@ walk_postfixes-returns t c =
       kept = l.invariant.kept;
     }
 
-pub walk_link-returns-in_ok-longer-in-Operation-clause-part : goal.walk_link-returns-in_ok-longer-in-Operation-clause-part
-walk_link-returns-in_ok-longer-in-Operation-clause-part t c =
+pub walk_link-returns-in_ok-whole-in-Operation-clause-part : goal.walk_link-returns-in_ok-whole-in-Operation-clause-part
+walk_link-returns-in_ok-whole-in-Operation-clause-part t c =
     λ u h.
     let a = c.in-Operation in
     let r = c.in_ok-right-in-Operation.ensures in
-    walked.operation_walked c.args.scene.now c.args.around.now _ c.args.place a.operator a.operand c.args.link.now _ (part_view c.args.before) _ u a.is r.kept r.tree c.in_ok-longer-in-Operation.ensures h
+    walked.operation_walked c.args.scene.now c.args.around.now _ c.args.place a.operator a.operand c.args.link.now _ (view.expr c.in_ok-whole-in-Operation.whole.value) (part_view c.args.before) (option_map type_of c.link_type-known.result) u a.is r.kept r.tree
+    c.in_ok-whole-in-Operation.ensures (c.link_type-known.ensures c.args.around.now.names c.args.place u) h
 
-pub walk_link-returns-in_ok-longer-in-Is-clause-part : goal.walk_link-returns-in_ok-longer-in-Is-clause-part
-walk_link-returns-in_ok-longer-in-Is-clause-part t c =
-    λ u h. walked.is_walked c.args.scene.now c.args.around.now c.args.place c.in-Is.ty c.args.link.now _ u c.in-Is.is (c.in_ok-longer-in-Is.ensures u h)
+pub walk_link-returns-in_ok-whole-in-Is-clause-part : goal.walk_link-returns-in_ok-whole-in-Is-clause-part
+walk_link-returns-in_ok-whole-in-Is-clause-part t c =
+    λ u h.
+    walked.is_walked c.args.scene.now c.args.around.now c.args.place c.in-Is.ty c.args.link.now (view.expr c.in_ok-whole-in-Is.whole.value) (option_map type_of c.link_type-known.result) u c.in-Is.is
+    (c.link_type-known.ensures c.args.around.now.names c.args.place u) (c.in_ok-whole-in-Is.ensures u h)
 
-pub walk_link-returns-in_ok-longer-in-As-clause-part : goal.walk_link-returns-in_ok-longer-in-As-clause-part
-walk_link-returns-in_ok-longer-in-As-clause-part t c =
-    λ u h. walked.as_walked c.args.scene.now c.args.around.now c.args.place c.in-As.ty c.args.link.now _ u c.in-As.is (c.in_ok-longer-in-As.ensures u h)
+pub walk_link-returns-in_ok-whole-in-As-clause-part : goal.walk_link-returns-in_ok-whole-in-As-clause-part
+walk_link-returns-in_ok-whole-in-As-clause-part t c =
+    λ u h.
+    walked.as_walked c.args.scene.now c.args.around.now c.args.place c.in-As.ty c.args.link.now (view.expr c.in_ok-whole-in-As.whole.value) (option_map type_of c.link_type-known.result) u c.in-As.is
+    (c.link_type-known.ensures c.args.around.now.names c.args.place u) (c.in_ok-whole-in-As.ensures u h)
 
 pub walk_postfix-returns-in_ok-longer-in-Member-clause-part : goal.walk_postfix-returns-in_ok-longer-in-Member-clause-part
 walk_postfix-returns-in_ok-longer-in-Member-clause-part t c =

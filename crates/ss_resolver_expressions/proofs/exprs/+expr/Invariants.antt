@@ -4,7 +4,7 @@ use Rattle.ss_ast.specs.Expressions.{ExprTree, grouped, expr_tree}
 use Rattle.ss_typed.specs.View as view
 use Rattle.ss_resolver_rules.specs.Expressions.{expr, class_named_by}
 use Rattle.ss_resolver_expressions.specs.Scenes.{env_of, part, part_view, numbers_of}
-use Rattle.ss_resolver_expressions.specs.Behinds.{link_behind, postfix_behind}
+use Rattle.ss_ast.specs.Parts.{link_behind, postfix_behind}
 use Rattle.ss_resolver_expressions.proofs.exprs.+expr.Given as goal
 
 abbrev pub invariant-walk_links-loop-link : goal.invariant-walk_links-loop-link

@@ -3,7 +3,7 @@ use Rattle.ss_core.specs.declared.names.ClassId.{ClassId}
 use Rattle.ss_typed.specs.View as view
 use Rattle.ss_resolver_expressions.specs.Scenes.{env_of, part_value, part_class, numbers_of}
 use Rattle.ss_resolver_expressions.proofs.PartIs.{value_is, class_is}
-use Rattle.ss_resolver_expressions.proofs.Loops.{map_append}
+use Rattle.std.proofs.lemmas.List.{map-append}
 use Rattle.ss_resolver_expressions.proofs.wholes.add_given.Goals as goal
 
 pub returns-clause-values : goal.returns-clause-values
@@ -17,5 +17,5 @@ pub returns-clause-classes : goal.returns-clause-classes
 returns-clause-classes c = λ t h.
     let e = (env_of c.args.scene.now c.args.around.now) in
     let old = c.args.given.now.classes.items in
-    ap numbers_of c.in_ok-push.ensures.items ∙ map_append (λ (k : ClassId). k.0) old (c.part_class-class.result ∷ [])
+    ap numbers_of c.in_ok-push.ensures.items ∙ map-append (λ (k : ClassId). k.0) old (c.part_class-class.result ∷ [])
     ∙ ap (λ n. numbers_of old ++ n ∷ []) (c.part_class-class.ensures ∙ ap (part_class e) h ∙ class_is e t)

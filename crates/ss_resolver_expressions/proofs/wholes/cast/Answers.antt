@@ -1,6 +1,4 @@
-use Rattle.std.proofs.Common.{ap, ◌∙◌}
 use Rattle.ss_ast.specs.Expressions.{type_tree}
-use Rattle.ss_tables.specs.Statics.{cast_type}
 use Rattle.ss_typed.specs.View as view
 use Rattle.ss_resolver_expressions.specs.Scenes.{env_of}
 use Rattle.ss_resolver_expressions.proofs.Done.{cast_done}
@@ -8,5 +6,4 @@ use Rattle.ss_resolver_expressions.proofs.wholes.cast.Goals as goal
 
 pub returns : goal.returns
 returns c = λ k t h.
-    cast_done (env_of c.args.scene.now k) c.args.place (type_tree c.args.ty.now) t (view.expr c.args.inner.value) _ _ _ h c.written_class-class.ensures c.in_ok-whole.ensures
-    (c.cast_type-known.ensures ∙ ap cast_type c.written_type.ensures)
+    cast_done (env_of c.args.scene.now k) c.args.place (type_tree c.args.ty.now) t (view.expr c.args.inner.value) _ _ _ h c.written_class-class.ensures c.in_ok-whole.ensures c.type_of_cast-known.ensures

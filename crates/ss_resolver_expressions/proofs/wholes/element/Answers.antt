@@ -2,7 +2,7 @@ use Rattle.std.proofs.Common.{ap, ◌∙◌}
 use Rattle.ss_typed.specs.View as view
 use Rattle.ss_resolver_expressions.specs.Scenes.{env_of, part_view}
 use Rattle.ss_resolver_expressions.proofs.Done.{element_done}
-use Rattle.ss_resolver_expressions.proofs.TypedParts as typed
+use Rattle.ss_typed.proofs.Grouping as typed
 use Rattle.ss_resolver_expressions.proofs.wholes.element.Goals as goal
 
 pub returns : goal.returns

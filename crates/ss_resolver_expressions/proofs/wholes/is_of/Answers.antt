@@ -3,7 +3,7 @@ use Rattle.ss_ast.specs.Expressions.{type_tree}
 use Rattle.ss_typed.specs.View as view
 use Rattle.ss_resolver_expressions.specs.Scenes.{env_of, part_view}
 use Rattle.ss_resolver_expressions.proofs.Done.{is_done}
-use Rattle.ss_resolver_expressions.proofs.TypedParts as typed
+use Rattle.ss_typed.proofs.Grouping as typed
 use Rattle.ss_resolver_expressions.proofs.wholes.is_of.Goals as goal
 
 pub returns : goal.returns

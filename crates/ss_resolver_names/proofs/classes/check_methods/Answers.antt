@@ -3,7 +3,7 @@ use Rattle.std.proofs.lemmas.List.{drop-map}
 use Rattle.std.proofs.lemmas.Result.{on_ok_weaker}
 use Rattle.ss_tables.specs.Members.{MethodTree}
 use Rattle.ss_tables_lookup.specs.Views.{method_tree}
-use Rattle.ss_resolver_names_rules.specs.declared.fault.Rule.TheVariants as rule
+use Rattle.ss_core.specs.declared.rules.Rule.TheVariants as rule
 use Rattle.ss_resolver_names_rules.specs.Members.{faults_at}
 use Rattle.ss_resolver_names_rules.specs.Programs.{most_methods}
 use Rattle.ss_resolver_names.proofs.classes.check_methods.Goals as goal

@@ -1,6 +1,6 @@
 use Rattle.std.proofs.Common.{◌≡◌, ◌++◌, map, drop}
 use Rattle.ss_ast.specs.Programs.{class_tree}
-use Rattle.ss_resolver_names_rules.specs.declared.fault.Rule.TheVariants.{Limit}
+use Rattle.ss_core.specs.declared.rules.Rule.TheVariants.{Limit}
 use Rattle.ss_resolver_names_rules.specs.Members.{faults_at}
 use Rattle.ss_resolver_names_rules.specs.Programs.{class_names}
 use Rattle.ss_resolver_names.proofs.program.add_classes.Given as goal

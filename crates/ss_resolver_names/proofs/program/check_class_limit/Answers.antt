@@ -2,7 +2,7 @@ use Rattle.std.proofs.Common.{◌++◌, map, sym, ap, ◌∙◌}
 use Rattle.std.proofs.lemmas.List.{drop-map}
 use Rattle.std.proofs.lemmas.Result.{on_ok_weaker}
 use Rattle.ss_ast.specs.Programs.{ClassTree, class_tree}
-use Rattle.ss_resolver_names_rules.specs.declared.fault.Rule.TheVariants as rule
+use Rattle.ss_core.specs.declared.rules.Rule.TheVariants as rule
 use Rattle.ss_resolver_names_rules.specs.Members.{faults_at}
 use Rattle.ss_resolver_names_rules.specs.Programs.{most_classes, class_names}
 use Rattle.ss_resolver_names.proofs.program.check_class_limit.Goals as goal

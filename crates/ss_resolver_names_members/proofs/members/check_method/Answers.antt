@@ -33,5 +33,5 @@ returns c =
     on_ok_weaker {P = new ≡ mid ++ body inner c.deref.result.now c.deref-2.result.now} {Q = new ≡ old ++ (typed ++ body whole m.params.items m.clauses.items)} c.check_body.result
     (λ p. one_more old mid new typed (body whole m.params.items m.clauses.items) c.in_ok-check_result.ensures
     (p ∙ ap (λ ps. mid ++ body inner ps c.deref-2.result.now) c.deref.ensures.value ∙ ap (λ xs. mid ++ body inner m.params.items xs) c.deref-2.ensures.value
-    ∙ ap (λ v. mid ++ body v m.params.items m.clauses.items) (c.in_method-inner.ensures l ∙ ap (λ b. in_method s b (option_map type_of c.result_type-outcome.result)) c.is_static.ensures ∙ ap (in_method s static) c.result_type-outcome.ensures)))
+    ∙ ap (λ v. mid ++ body v m.params.items m.clauses.items) (c.in_method-inner.ensures l ∙ ap (λ b. in_method s b (option_map type_of c.result_type-outcome.result)) c.is_static_word.ensures ∙ ap (in_method s static) c.result_type-outcome.ensures)))
     c.check_body.ensures

@@ -1,8 +1,8 @@
-use Rattle.std.proofs.Common.{◌≡◌, ◌++◌, suc, take, drop, map, cond, sym, ap, subst, ◌∙◌, add-one}
+use Rattle.std.proofs.Common.{◌≡◌, ◌++◌, suc, take, drop, map, cond, refl, sym, ap, subst, ◌∙◌, add-one}
 use Rattle.std.proofs.lemmas.Result.{IfOk-weaker}
 use Rattle.ss_ast.specs.declared.expr.Link.{Link}
 use Rattle.ss_ast.specs.declared.expr.Postfix.{Postfix}
-use Rattle.ss_ast.specs.Expressions.{ExprTree, grouped, expr_tree, type_tree, name_tree, arguments}
+use Rattle.ss_ast.specs.Expressions.{ExprTree, BinaryOf, IsOf, AsOf, grouped, expr_tree, type_tree, name_tree, arguments}
 use Rattle.ss_tables.specs.Scopes.{within_quantifier}
 use Rattle.ss_tables.specs.Statics.{static}
 use Rattle.ss_tables_lookup.specs.Views.{type_of}
@@ -10,13 +10,13 @@ use Rattle.ss_tables_scopes.specs.Views.{scope_of}
 use Rattle.ss_resolver_names_rules.specs.Faults.{Faults, type_faults}
 use Rattle.ss_resolver_names_rules.specs.Expressions.{expr_faults, arguments_faults, class_named_by}
 use Rattle.ss_resolver_names_rules.specs.Prefixes.{prefix, prefix_value, prefix_asked, settled, pending}
-use Rattle.ss_resolver_scoping.specs.Views.{link_behind, postfix_behind, prefix_view}
+use Rattle.ss_ast.specs.Parts.{link_behind, postfix_behind}
+use Rattle.ss_resolver_scoping.specs.Views.{prefix_view}
 use Rattle.ss_resolver_names_members.proofs.Appending.{two_more}
-use Rattle.ss_resolver_scoping.proofs.Grouping.{chain_is, path_is, quantified_is, operation_is, is_is, as_is, element_is, call_is}
+use Rattle.ss_ast.proofs.Grouping.{chain_is, path_is, quantified_is, operation_is, is_is, as_is, element_is, call_is, grouped_more}
 use Rattle.ss_resolver_names_members.proofs.Passing.{parts_noted, argument_noted}
-use Rattle.ss_resolver_scoping.proofs.Parts.{grouped_more}
 use Rattle.ss_resolver_scoping.proofs.Readings.{read_typed}
-use Rattle.ss_resolver_names_members.proofs.Walks.{read_noted, asked_noted, link_noted, element_noted, call_noted}
+use Rattle.ss_resolver_names_members.proofs.Walks.{read_noted, asked_noted, link_noted, link_begun, element_noted, call_noted}
 use Rattle.ss_resolver_names_members.proofs.walk.+expr.Goals as goal
 
 pub check-returns-clause-noted : goal.check-returns-clause-noted
@@ -151,7 +151,15 @@ pub walk_link-returns-in_ok-check-in-Operation-clause-noted : goal.walk_link-ret
 walk_link-returns-in_ok-check-in-Operation-clause-noted t c = λ e found o b.
     let s = scope_of c.args.within c.args.locals.now in
     link_noted s e found c.args.faults.now.items c.add_pending.new.faults.items _ (expr_faults s (expr_tree c.in-Operation.operand)) (prefix_view c.args.before) o b c.in_ok-add_pending.ensures c.in_ok-check-in-Operation.ensures.noted
-    ∙ ap (λ u. found ++ settled s u) (sym (ap (λ (l : Link). link_behind l c.args.place e) c.in-Operation.is ∙ operation_is c.in-Operation.operator c.in-Operation.operand c.args.place e))
+    ∙ ap (λ u. found ++ settled s u) (sym (ap (λ (l : Link). link_behind l c.args.place e) c.in-Operation.is ∙ operation_is c.in-Operation.field-0 c.in-Operation.operand c.args.place e))
+
+pub walk_link-returns-in_ok-check-in-Operation-clause-begun : goal.walk_link-returns-in_ok-check-in-Operation-clause-begun
+walk_link-returns-in_ok-check-in-Operation-clause-begun t c = λ e.
+    let s = scope_of c.args.within c.args.locals.now in
+    let p = c.args.place in
+    let form : link_behind c.args.link.now p e ≡ BinaryOf p c.in-Operation.field-0 e (expr_tree c.in-Operation.operand) =
+    ap (λ (l : Link). link_behind l p e) c.in-Operation.is ∙ operation_is c.in-Operation.field-0 c.in-Operation.operand p e in
+    link_begun s _ _ _ form refl (c.link_type-known.ensures c.args.locals.now p e)
 
 pub walk_link-returns-in_ok-check_type-in-Is-clause-noted : goal.walk_link-returns-in_ok-check_type-in-Is-clause-noted
 walk_link-returns-in_ok-check_type-in-Is-clause-noted t c = λ e found o b.
@@ -159,11 +167,25 @@ walk_link-returns-in_ok-check_type-in-Is-clause-noted t c = λ e found o b.
     link_noted s e found c.args.faults.now.items c.add_pending.new.faults.items _ (type_faults s.classes (type_tree c.in-Is.ty)) (prefix_view c.args.before) o b c.in_ok-add_pending.ensures c.in_ok-check_type-in-Is.ensures
     ∙ ap (λ u. found ++ settled s u) (sym (ap (λ (l : Link). link_behind l c.args.place e) c.in-Is.is ∙ is_is c.in-Is.ty c.args.place e))
 
+pub walk_link-returns-in_ok-check_type-in-Is-clause-begun : goal.walk_link-returns-in_ok-check_type-in-Is-clause-begun
+walk_link-returns-in_ok-check_type-in-Is-clause-begun t c = λ e.
+    let s = scope_of c.args.within c.args.locals.now in
+    let p = c.args.place in
+    let form : link_behind c.args.link.now p e ≡ IsOf p e (type_tree c.in-Is.ty) = ap (λ (l : Link). link_behind l p e) c.in-Is.is ∙ is_is c.in-Is.ty p e in
+    link_begun s _ _ _ form refl (c.link_type-known.ensures c.args.locals.now p e)
+
 pub walk_link-returns-in_ok-check_type-in-As-clause-noted : goal.walk_link-returns-in_ok-check_type-in-As-clause-noted
 walk_link-returns-in_ok-check_type-in-As-clause-noted t c = λ e found o b.
     let s = scope_of c.args.within c.args.locals.now in
     link_noted s e found c.args.faults.now.items c.add_pending.new.faults.items _ (type_faults s.classes (type_tree c.in-As.ty)) (prefix_view c.args.before) o b c.in_ok-add_pending.ensures c.in_ok-check_type-in-As.ensures
     ∙ ap (λ u. found ++ settled s u) (sym (ap (λ (l : Link). link_behind l c.args.place e) c.in-As.is ∙ as_is c.in-As.ty c.args.place e))
+
+pub walk_link-returns-in_ok-check_type-in-As-clause-begun : goal.walk_link-returns-in_ok-check_type-in-As-clause-begun
+walk_link-returns-in_ok-check_type-in-As-clause-begun t c = λ e.
+    let s = scope_of c.args.within c.args.locals.now in
+    let p = c.args.place in
+    let form : link_behind c.args.link.now p e ≡ AsOf p e (type_tree c.in-As.ty) = ap (λ (l : Link). link_behind l p e) c.in-As.is ∙ as_is c.in-As.ty p e in
+    link_begun s _ _ _ form refl (c.link_type-known.ensures c.args.locals.now p e)
 
 pub walk_postfix-returns-in_ok-check-in-Element-clause-noted : goal.walk_postfix-returns-in_ok-check-in-Element-clause-noted
 walk_postfix-returns-in_ok-check-in-Element-clause-noted t c = λ e found o b.

@@ -4,7 +4,8 @@ use Rattle.ss_tables_scopes.specs.Views.{scope_of}
 use Rattle.ss_resolver_names_rules.specs.Faults.{Faults}
 use Rattle.ss_resolver_names_rules.specs.Expressions.{arguments_faults}
 use Rattle.ss_resolver_names_rules.specs.Prefixes.{prefix, settled}
-use Rattle.ss_resolver_scoping.specs.Views.{link_behind, postfix_behind, prefix_view}
+use Rattle.ss_ast.specs.Parts.{link_behind, postfix_behind}
+use Rattle.ss_resolver_scoping.specs.Views.{prefix_view}
 use Rattle.ss_resolver_names_members.proofs.walk.+expr.Given as goal
 
 abbrev pub invariant-walk_links-loop-link : goal.invariant-walk_links-loop-link

@@ -2,7 +2,7 @@ use Rattle.std.proofs.Common.{sym, ap, ◌∙◌}
 use Rattle.ss_typed.specs.Tree.{AllOf}
 use Rattle.ss_typed.specs.View.{expr}
 use Rattle.ss_resolver_rules.specs.Programs.{one_of}
-use Rattle.ss_resolver_expressions.proofs.Built.{chain_is}
+use Rattle.ss_typed.proofs.Grouping.{chain_is}
 use Rattle.ss_resolver_programs.proofs.Steps.{other_some}
 use Rattle.ss_resolver_programs.proofs.fields.+one_of.Goals as goal
 

@@ -4,11 +4,9 @@ use Rattle.ss_core.specs.declared.names.Place.{Place}
 use Rattle.ss_ast.specs.declared.expr.Expr.TheOpen as shape
 use Rattle.ss_ast.specs.declared.expr.Expr.TheOpen.{Link-F}
 use Rattle.ss_ast.specs.Expressions.{ExprTree, CallOf, Behind, grouped, arguments, expr_tree, link_step}
-use Rattle.ss_resolver_expressions.specs.Behinds.{postfix_behind}
-use Rattle.ss_resolver_expressions.proofs.Grouping.{chain_is}
-use Rattle.ss_resolver_expressions.proofs.Pathed.{path_last}
+use Rattle.ss_ast.specs.Parts.{postfix_behind}
+use Rattle.ss_ast.proofs.Grouping.{chain_is, path_last, chain_some}
 use Rattle.ss_resolver_programs.specs.Forms.{is_call}
-use Rattle.ss_resolver_programs.proofs.Grouping.{chain_some}
 use Rattle.ss_resolver_programs.proofs.forms.+call_in.Goals as goal
 
 link_shown : (s : Link-F ExprTree Behind Behind) (at : Place) (t : ExprTree) → is_call (link_step s at t) ≡ false

@@ -3,9 +3,8 @@ use Rattle.ss_core.specs.declared.names.Place.{Place}
 use Rattle.ss_ast.specs.declared.expr.Expr.TheOpen as shape
 use Rattle.ss_ast.specs.declared.expr.Expr.TheOpen.{Link-F, Postfix-F}
 use Rattle.ss_ast.specs.Expressions.{ExprTree, Behind, expr_tree, link_step, postfix_step}
-use Rattle.ss_resolver_expressions.proofs.Grouping.{chain_is, path_is}
+use Rattle.ss_ast.proofs.Grouping.{chain_is, path_is, chain_some, path_some, path_alone}
 use Rattle.ss_resolver_programs.specs.Forms.{text_of}
-use Rattle.ss_resolver_programs.proofs.Grouping.{chain_some, path_some, path_alone}
 use Rattle.ss_resolver_programs.proofs.forms.+text_in.Goals as goal
 
 abbrev shown : ExprTree → Option (List ℕ)

@@ -2,7 +2,7 @@ use Rattle.std.proofs.Common.{map, sym, ap, ◌∙◌}
 use Rattle.ss_ast.specs.Expressions.{expr_tree, grouped, arguments}
 use Rattle.ss_typed.specs.Tree.{AloneOf}
 use Rattle.ss_resolver_rules.specs.Statements.{alone}
-use Rattle.ss_resolver_expressions.specs.Behinds.{postfix_behind}
+use Rattle.ss_ast.specs.Parts.{postfix_behind}
 use Rattle.ss_resolver_expressions.specs.Scenes.{env_of}
 use Rattle.ss_resolver_programs.proofs.Alones.{call_is, other_is}
 use Rattle.ss_resolver_programs.proofs.simples.resolve_alone.Goals as goal

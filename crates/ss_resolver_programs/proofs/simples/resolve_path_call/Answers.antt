@@ -1,6 +1,6 @@
 use Rattle.std.proofs.Common.{map, sym, ap, ◌∙◌}
 use Rattle.ss_ast.specs.Expressions.{expr_tree, grouped, arguments}
-use Rattle.ss_resolver_expressions.specs.Behinds.{postfix_behind}
+use Rattle.ss_ast.specs.Parts.{postfix_behind}
 use Rattle.ss_resolver_expressions.specs.Scenes.{env_of, part, part_view}
 use Rattle.ss_resolver_programs.specs.Alone.{part_alone}
 use Rattle.ss_resolver_programs.proofs.simples.resolve_path_call.Goals as goal

@@ -1,7 +1,7 @@
 use Rattle.std.proofs.Common.{None, sym, ap, ◌∙◌}
 use Rattle.ss_ast.specs.Expressions.{expr_tree}
 use Rattle.ss_resolver_names_rules.specs.Bare.{bare_name}
-use Rattle.ss_resolver_scoping.proofs.Grouping.{chain_is, path_is, chain_some, path_some, path_alone}
+use Rattle.ss_ast.proofs.Grouping.{chain_is, path_is, chain_some, path_some, path_alone}
 use Rattle.ss_resolver_scoping.proofs.Bareness.{link_not_bare, postfix_not_bare}
 use Rattle.ss_resolver_scoping.proofs.shapes.+bare_name.Goals as goal
 

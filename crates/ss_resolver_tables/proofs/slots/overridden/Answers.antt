@@ -2,7 +2,8 @@ use Rattle.std.proofs.Common.{◌≡◌, ◌∙◌, ap, sym, option_map, is_some
 use Rattle.ss_tables.specs.Classes.{members_at}
 use Rattle.ss_tables_lookup.specs.Classes.{trees}
 use Rattle.ss_tables_lookup.specs.Views.{method_tree}
-use Rattle.ss_resolver_rules.specs.Numbers.{is_listed, method_names}
+use Rattle.ss_resolver_names_rules.specs.Faults.{is_listed}
+use Rattle.ss_resolver_rules.specs.Numbers.{method_names}
 use Rattle.ss_resolver_tables.specs.Slots.{slot_of}
 use Rattle.ss_resolver_tables.proofs.Counted.{method_listed, stays, replaced}
 use Rattle.ss_resolver_tables.proofs.slots.overridden.Goals as goal

@@ -3,7 +3,7 @@ use Rattle.ss_core.specs.declared.names.Place.{Place}
 use Rattle.ss_ast.specs.declared.expr.Expr.TheOpen as shape
 use Rattle.ss_ast.specs.declared.expr.Expr.TheOpen.{Link-F}
 use Rattle.ss_ast.specs.Expressions.{ExprTree, Behind, expr_tree, link_step}
-use Rattle.ss_resolver_types_expressions.proofs.Grouping.{chain_is, path_is, chain_some, path_alone}
+use Rattle.ss_ast.proofs.Grouping.{chain_is, path_is, chain_some, path_alone}
 use Rattle.ss_resolver_types.specs.Bodies.{base_arguments}
 use Rattle.ss_resolver_types.proofs.Paths.{path_there}
 use Rattle.ss_resolver_types.proofs.bases.+base_arguments.Goals as goal

@@ -6,7 +6,7 @@ use Rattle.ss_ast.specs.Expressions.{ExprTree, Behind, expr_tree, link_step}
 use Rattle.ss_tables.specs.Scopes.{Scope}
 use Rattle.ss_tables_scopes.specs.Views.{scope_of}
 use Rattle.ss_resolver_types_expressions.specs.Members.{is_own_field}
-use Rattle.ss_resolver_types_expressions.proofs.Grouping.{chain_is, path_is, chain_some, path_alone}
+use Rattle.ss_ast.proofs.Grouping.{chain_is, path_is, chain_some, path_alone}
 use Rattle.ss_resolver_types.proofs.Paths.{path_there}
 use Rattle.ss_resolver_types.proofs.bases.+is_own_field.Goals as goal
 

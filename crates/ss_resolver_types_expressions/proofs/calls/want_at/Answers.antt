@@ -7,7 +7,7 @@ use Rattle.ss_resolver_types_expressions.specs.declared.calls.Called.{Called}
 use Rattle.ss_resolver_types_expressions.specs.Wants.{OfType}
 use Rattle.ss_resolver_types_expressions.specs.Calls.{wants_of}
 use Rattle.ss_resolver_types_expressions.specs.Codes.{called_of}
-use Rattle.ss_resolver_types_expressions.proofs.Loops.{get_map}
+use Rattle.std.proofs.lemmas.Option.{slice_get-map}
 use Rattle.ss_resolver_types_expressions.proofs.calls.want_at.Goals as goal
 
 pub returns-in-Method : goal.returns-in-Method
@@ -16,5 +16,5 @@ returns-in-Method c =
     let f = λ (p : ParamTree). OfType (written_type cs p.ty) in
     c.param_want.ensures
     ∙ ap (option_map f) c.param_at.ensures
-    ∙ sym (get_map f (map param_tree c.in-Method.params.now) c.args.i)
+    ∙ sym (slice_get-map f (map param_tree c.in-Method.params.now) c.args.i)
     ∙ sym (ap (λ (d : Called). slice_get (wants_of (called_of cs d)) c.args.i) c.in-Method.is)

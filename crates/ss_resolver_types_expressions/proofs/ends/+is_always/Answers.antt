@@ -4,7 +4,7 @@ use Rattle.ss_ast.specs.declared.expr.Expr.TheOpen as shape
 use Rattle.ss_ast.specs.declared.expr.Expr.TheOpen.{Link-F, Postfix-F}
 use Rattle.ss_ast.specs.Expressions.{ExprTree, Behind, expr_tree, link_step, postfix_step}
 use Rattle.ss_resolver_types_expressions.specs.Ends.{is_always}
-use Rattle.ss_resolver_types_expressions.proofs.Grouping.{chain_is, path_is, chain_some, path_some, path_alone}
+use Rattle.ss_ast.proofs.Grouping.{chain_is, path_is, chain_some, path_some, path_alone}
 use Rattle.ss_resolver_types_expressions.proofs.ends.+is_always.Goals as goal
 
 link_never : (s : Link-F ExprTree Behind Behind) (at : Place) (t : ExprTree) → is_always (link_step s at t) ≡ false

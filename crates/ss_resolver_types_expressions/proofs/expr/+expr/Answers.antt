@@ -1,18 +1,19 @@
 use Rattle.std.proofs.Common.{◌≡◌, ◌++◌, map, ap, subst, ◌∙◌, rules, arith}
-use Rattle.std.specs.Prelude.{Some, option_map, option_and_then}
+use Rattle.std.specs.Prelude.{option_map, option_and_then}
 use Rattle.ss_ast.specs.Expressions.{expr_tree, arguments}
 use Rattle.ss_tables_lookup.specs.Classes.{trees}
+use Rattle.ss_tables_lookup.specs.Views.{type_of}
 use Rattle.ss_tables_scopes.specs.Names.{Names}
 use Rattle.ss_resolver_types_expressions.specs.declared.heads.Form.TheVariants as form
-use Rattle.ss_resolver_types_expressions.specs.Views.{link_behind, postfix_behind}
+use Rattle.ss_ast.specs.Parts.{link_behind, postfix_behind}
 use Rattle.ss_tables.specs.Types.{class_of, element_type}
 use Rattle.ss_resolver_types_expressions.specs.Wants.{Known}
 use Rattle.ss_resolver_types_expressions.specs.Calls.{wants_of}
-use Rattle.ss_resolver_types_expressions.specs.Expressions.{argument_where}
+use Rattle.ss_resolver_types_expressions.specs.Expressions.{argument_where, operand}
 use Rattle.ss_resolver_types_expressions.specs.Heads.{AValueOf, value_at}
 use Rattle.ss_resolver_types_expressions.specs.Codes.{want_of, around_of, called_of, head_of}
-use Rattle.ss_resolver_types_expressions.proofs.Endings.{joined, element_leads, call_leads, operation_leads}
-use Rattle.ss_resolver_types_expressions.proofs.Falls.{links_fall, postfixes_fall}
+use Rattle.ss_resolver_types_expressions.proofs.Endings.{joined, element_leads, call_leads, operation_leads, is_leads, as_leads, operation_noted}
+use Rattle.ss_ast.proofs.Falls.{links_fall, postfixes_fall}
 use Rattle.ss_resolver_types_expressions.proofs.Walks.{known_read, noted_read, chain_walked, path_walked, part_leads, parts_led, no_parts}
 use Rattle.ss_resolver_types_expressions.proofs.Arguments.{one_more, all_done, call_noted}
 use Rattle.ss_resolver_types_expressions.proofs.expr.+expr.Goals as goal
@@ -91,10 +92,24 @@ walk_postfixes-returns t c = record {
   same = c.loop-postfix.invariant.same;
 }
 
-pub walk_operation-returns-clause-walked : goal.walk_operation-returns-clause-walked
-walk_operation-returns-clause-walked t c =
-    operation_leads (around_of c.args.around.now c.args.locals.now) c.args.found.now.items _ _ _ (head_of c.args.head) _ c.args.place c.args.operator (expr_tree c.args.operand.now) _ _
-    (c.other.ensures ∙ ap (λ t. AValueOf form.Other (value_at c.args.place (Some t))) c.operation_type.ensures)
+pub walk_link-returns-in_ok-check_operation-in-Operation-clause-walked : goal.walk_link-returns-in_ok-check_operation-in-Operation-clause-walked
+walk_link-returns-in_ok-check_operation-in-Operation-clause-walked t c =
+    operation_leads (around_of c.args.around.now c.args.locals.now) c.args.found.now.items _ (head_of c.args.head) _ c.args.link.now c.args.place c.in-Operation.operator c.in-Operation.right (option_map type_of c.link_type-known.result) c.in-Operation.is
+    c.other-longer.ensures (c.link_type-known.ensures c.args.locals.now c.args.place) c.in_ok-check_operation-in-Operation.ensures.noted
+
+pub walk_link-returns-in_ok-note_class_test-in-Is-clause-walked : goal.walk_link-returns-in_ok-note_class_test-in-Is-clause-walked
+walk_link-returns-in_ok-note_class_test-in-Is-clause-walked t c =
+    is_leads (around_of c.args.around.now c.args.locals.now) c.args.found.now.items _ (head_of c.args.head) _ c.args.link.now c.args.place c.in-Is.ty (option_map type_of c.link_type-known.result) c.in-Is.is
+    c.other-longer.ensures (c.link_type-known.ensures c.args.locals.now c.args.place) c.in_ok-note_class_test-in-Is.ensures
+
+pub walk_link-returns-in_ok-note_class_test-in-As-clause-walked : goal.walk_link-returns-in_ok-note_class_test-in-As-clause-walked
+walk_link-returns-in_ok-note_class_test-in-As-clause-walked t c =
+    as_leads (around_of c.args.around.now c.args.locals.now) c.args.found.now.items _ (head_of c.args.head) _ c.args.link.now c.args.place c.in-As.ty (option_map type_of c.link_type-known.result) c.in-As.is
+    c.other-longer.ensures (c.link_type-known.ensures c.args.locals.now c.args.place) c.in_ok-note_class_test-in-As.ensures
+
+pub check_operation-returns-clause-noted : goal.check_operation-returns-clause-noted
+check_operation-returns-clause-noted t c =
+    operation_noted (around_of c.args.around.now c.args.locals.now) c.args.found.now.items _ _ _ (head_of c.args.head) c.args.place (operand c.args.operator) (expr_tree c.args.second.now) _ _
     c.in_ok-left.ensures.known c.in_ok-left.ensures.noted c.in_ok-right.ensures.known c.in_ok-right.ensures.noted c.in_ok-note_operands.ensures
 
 pub walk_element-returns-clause-walked : goal.walk_element-returns-clause-walked

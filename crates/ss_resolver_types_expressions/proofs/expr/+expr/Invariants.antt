@@ -1,7 +1,7 @@
 use Rattle.std.proofs.Common.{◌≡◌, ◌++◌, map, take, drop}
 use Rattle.ss_ast.specs.Expressions.{ExprTree, grouped, expr_tree, arguments}
 use Rattle.ss_tables_lookup.specs.Classes.{trees}
-use Rattle.ss_resolver_types_expressions.specs.Views.{link_behind, postfix_behind}
+use Rattle.ss_ast.specs.Parts.{link_behind, postfix_behind}
 use Rattle.ss_resolver_types_expressions.specs.Calls.{wants_of}
 use Rattle.ss_resolver_types_expressions.specs.Expressions.{argument_faults}
 use Rattle.ss_resolver_types_expressions.specs.Heads.{Leads}

@@ -1,7 +1,7 @@
 use Rattle.std.proofs.Common.{refl, subst}
 use Rattle.ss_core.specs.View.{classes}
 use Rattle.ss_logic_derivations.specs.Steps.{Derives}
-use Rattle.ss_logic_countermodels.specs.Refuting.{Refutes, model_of}
+use Rattle.ss_logic_countermodels.specs.Refuting.{IsCountermodel}
 use Rattle.ss_terms.specs.Forms.{formula_at, formulas_at}
 use Rattle.ss_deriv.specs.Lines.{lines_of}
 use Rattle.ss_search_procedure.specs.Answers.{IfCountered, IfClosed}
@@ -22,7 +22,7 @@ pub returns-in-Ok-Countered-clause-countered : goal.returns-in-Ok-Countered-clau
 returns-in-Ok-Countered-clause-countered c =
     let cs = classes c.args.classes.now in
     let fs = formulas_at c.args.bank.now c.args.grounded.now.formulas.items in
-    subst (λ (s : Settled). IfCountered (λ m. Refutes cs (model_of fs m.classes.items m.truth.items) fs) s) c.in-Ok-Countered.field-0-is (c.in-Ok-Countered.ensures.countered cs c.requires.bank)
+    subst (λ (s : Settled). IfCountered (IsCountermodel cs fs) s) c.in-Ok-Countered.field-0-is (c.in-Ok-Countered.ensures.countered cs c.requires.bank)
 
 pub returns-in-Ok-Spent-clause-spent : goal.returns-in-Ok-Spent-clause-spent
 returns-in-Ok-Spent-clause-spent c = (refl, c.in-Ok-Spent.ensures.spent (classes c.args.classes.now) c.requires.bank c.in-Ok-Spent.field-0-is)

@@ -2,7 +2,7 @@ use Rattle.std.proofs.Common.{◌≡◌}
 use Rattle.ss_core.specs.View.{classes}
 use Rattle.ss_terms.proofs.Grown.{HasFormulas-grown, formulas_at-grown, IsGrown-then}
 use Rattle.ss_terms.specs.Forms.{formula_at, formulas_at}
-use Rattle.ss_logic_countermodels.specs.Refuting.{Refutes, model_of}
+use Rattle.ss_logic_countermodels.specs.Refuting.{IsCountermodel}
 use Rattle.ss_search_procedure_rules.specs.Closed.{AreEnough}
 use Rattle.ss_search.specs.Found.{IsRefutedBy, IsShort}
 use Rattle.ss_search.proofs.Carried.{countered_with, spent_with}
@@ -31,7 +31,7 @@ returns-in-Ok-clause-countered c =
     let premises = formulas_at c.args.bank.now c.args.obligation.now.premises.now in
     let wanted = formula_at c.args.bank.now c.args.obligation.now.goal in
     let fs = formulas_at c.ground_with_origins.new.bank c.in-Ok.grounded.formulas.items in
-    countered_with c.find_model.result (λ m. Refutes cs (model_of fs m.classes.items m.truth.items) fs) (IsRefutedBy cs c.args.options.now premises wanted)
+    countered_with c.find_model.result (IsCountermodel cs fs) (IsRefutedBy cs c.args.options.now premises wanted)
     (λ m refutes. record { formulas = fs; ground = c.in-Ok.ensures.exact; refutes = refutes })
     c.find_model.ensures.countered
 

@@ -4,7 +4,7 @@ use Rattle.std.proofs.lemmas.Result.{IfOk-weaker}
 use Rattle.ss_core.specs.View as view
 use Rattle.ss_logic.specs.Formulas.{Formula}
 use Rattle.ss_logic_derivations.specs.Steps.{Derives}
-use Rattle.ss_logic_countermodels.specs.Refuting.{Refutes, model_of, told}
+use Rattle.ss_logic_countermodels.specs.Refuting.{IsCountermodel, told}
 use Rattle.ss_logic_origins.specs.Origins.{chosen_by}
 use Rattle.ss_terms.specs.Forms.{formula_at, formulas_at}
 use Rattle.ss_terms.proofs.Grown.{IsBankOf-grown, HasFormula-grown, HasFormulas-grown, formulas_at-grown}
@@ -40,14 +40,14 @@ pub settle_over-requires-clause-bodies : goal.settle_over-requires-clause-bodies
 settle_over-requires-clause-bodies c = c.in_ok-said.ensures.bodies ∙ ap (λ (xs : List Choice). map body_of (choices_at c.chosen_formulas.new.bank xs)) c.deref.ensures.value
 
 pub settle_over-requires-clause-in_bank : goal.settle_over-requires-clause-in_bank
-settle_over-requires-clause-in_bank c = HasFormulas-grown c.args.bank.now c.chosen_formulas.new.bank c.chosen_formulas.ensures.grown c.args.choices.now c.requires.in_bank
+settle_over-requires-clause-in_bank c = HasFormulas-grown c.args.bank.now c.chosen_formulas.new.bank c.chosen_formulas.ensures.grown c.args.decisions.now c.requires.in_bank
 
-pub settle_over-requires-clause-choices : goal.settle_over-requires-clause-choices
-settle_over-requires-clause-choices c =
+pub settle_over-requires-clause-decisions : goal.settle_over-requires-clause-decisions
+settle_over-requires-clause-decisions c =
     let a = c.args.bank.now in
     let b = c.chosen_formulas.new.bank in
     let grown = c.chosen_formulas.ensures.grown in
-    formulas_at-grown a b grown c.args.choices.now c.requires.in_bank ∙ c.requires.choices ∙ ap told (sym (formulas_at-grown a b grown c.args.grounded.now.formulas.items c.requires.grounded.has_formulas))
+    formulas_at-grown a b grown c.args.decisions.now c.requires.in_bank ∙ c.requires.decisions ∙ ap told (sym (formulas_at-grown a b grown c.args.grounded.now.formulas.items c.requires.grounded.has_formulas))
 
 pub returns-clause-closed : goal.returns-clause-closed
 returns-clause-closed c = λ cs of h.
@@ -66,7 +66,7 @@ returns-clause-countered c = λ cs of.
     let b = c.chosen_formulas.new.bank in
     let grown = c.chosen_formulas.ensures.grown in
     let same = formulas_at-grown a b grown c.args.grounded.now.formulas.items c.requires.grounded.has_formulas in
-    subst (λ (fs : List Formula). IfOk c.settle_over.result (IfCountered (λ m. Refutes cs (model_of fs m.classes.items m.truth.items) fs))) same (c.settle_over.ensures.countered cs (IsBankOf-grown cs a b grown of))
+    subst (λ (fs : List Formula). IfOk c.settle_over.result (IfCountered (IsCountermodel cs fs))) same (c.settle_over.ensures.countered cs (IsBankOf-grown cs a b grown of))
 
 pub returns-clause-spent : goal.returns-clause-spent
 returns-clause-spent c = λ cs of.

@@ -1,7 +1,7 @@
 use Rattle.std.proofs.Common.{◌≡◌, List, map, sym, ◌∙◌, ap, subst}
 use Rattle.std.specs.Prelude.{IfOk}
 use Rattle.ss_logic.specs.Formulas.{Formula}
-use Rattle.ss_logic_countermodels.specs.Refuting.{Refutes, model_of}
+use Rattle.ss_logic_countermodels.specs.Refuting.{IsCountermodel}
 use Rattle.ss_logic_origins.specs.Origins.{chosen_by}
 use Rattle.ss_terms.specs.Forms.{formula_at, formulas_at}
 use Rattle.ss_rules_opened.specs.declared.opening.Choice.{Choice}
@@ -20,7 +20,7 @@ settle-requires-clause-setting c =
     let w = c.args.grounded.now in
     let h = c.requires.grounded in
     is_setting _ w c.deref-4.ensures.value h.2.has_formulas
-    (is_given _ c.deref-4.result.now w c.deref-4.ensures.value c.deref.ensures.value c.deref-3.ensures.value h.0 (formulas_at b c.args.obligation.now.premises.now) (formula_at b c.args.obligation.now.goal) h.2 (ap (formulas_at b) c.deref-2.ensures.value ∙ c.requires.bodies)) c.requires.in_bank c.requires.choices
+    (is_given _ c.deref-4.result.now w c.deref-4.ensures.value c.deref.ensures.value c.deref-3.ensures.value h.0 (formulas_at b c.args.obligation.now.premises.now) (formula_at b c.args.obligation.now.goal) h.2 (ap (formulas_at b) c.deref-2.ensures.value ∙ c.requires.bodies)) c.requires.in_bank c.requires.decisions
 
 pub settle-requires-clause-chosen : goal.settle-requires-clause-chosen
 settle-requires-clause-chosen c =
@@ -40,7 +40,7 @@ returns-clause-closed c = λ cs of h.
 
 pub returns-clause-countered : goal.returns-clause-countered
 returns-clause-countered c = λ cs of.
-    subst (λ (fs : List Formula). IfOk c.settle.result (IfCountered (λ m. Refutes cs (model_of fs m.classes.items m.truth.items) fs))) (ap (formulas_at c.args.bank.now) c.deref-4.ensures.value) (c.settle.ensures.countered cs of)
+    subst (λ (fs : List Formula). IfOk c.settle.result (IfCountered (IsCountermodel cs fs))) (ap (formulas_at c.args.bank.now) c.deref-4.ensures.value) (c.settle.ensures.countered cs of)
 
 pub returns-clause-spent : goal.returns-clause-spent
 returns-clause-spent c = λ cs of.

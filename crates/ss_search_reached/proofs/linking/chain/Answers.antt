@@ -3,7 +3,8 @@ use Rattle.std.specs.Prelude.{Vec}
 use Rattle.std.specs.declared.alloc.Global.{Global}
 use Rattle.std.proofs.lemmas.List.{length-map}
 use Rattle.ss_terms.specs.declared.forms.TermId.{TermId}
-use Rattle.ss_search_reached.specs.Groups.{Pairs, lists_in, AreGrouped, neighbours_in}
+use Rattle.ss_linear.specs.Contradictions.{Pairs}
+use Rattle.ss_search_reached.specs.Groups.{lists_in, AreGrouped, neighbours_in}
 use Rattle.ss_search_reached.proofs.Groups.{list_at}
 use Rattle.ss_search_reached.proofs.Links.{groups_more, groups_all}
 use Rattle.ss_search_reached.proofs.linking.chain.Goals as goal

@@ -2,11 +2,11 @@ use Rattle.std.proofs.Common.{◌≡◌, true, sym, subst}
 use Rattle.std.proofs.lemmas.Result.{IfOk-weaker}
 use Rattle.ss_logic_ground.specs.Occurring.{terms}
 use Rattle.ss_terms.specs.Forms.{formulas_at}
-use Rattle.ss_linear.specs.Contradictions.{HasPairs, equalities_at}
+use Rattle.ss_linear.specs.Contradictions.{HasPairs, equalities_at, Pairs}
 use Rattle.ss_linear.specs.Met.{AreMet}
 use Rattle.ss_search_clashes.specs.Numbered.{class_of}
 use Rattle.ss_search_reached.specs.Following.{HasNoSum}
-use Rattle.ss_search_reached.specs.Groups.{Pairs, AreWholeLinks}
+use Rattle.ss_search_reached.specs.Groups.{AreWholeLinks}
 use Rattle.ss_search_reached.proofs.Sums.{seen_no_sum}
 use Rattle.ss_search_reached.proofs.summing.numbers_are_seen.Goals as goal
 

@@ -3,13 +3,13 @@ use Rattle.std.specs.Prelude.{IfOk, IfSome}
 use Rattle.std.proofs.lemmas.Option.{IfSome_then}
 use Rattle.std.proofs.lemmas.Result.{IfOk-weaker}
 use Rattle.ss_logic_ground.specs.Occurring.{terms}
-use Rattle.ss_linear.specs.Contradictions.{HasPairs}
+use Rattle.ss_linear.specs.Contradictions.{HasPairs, Pairs}
 use Rattle.ss_terms.specs.declared.forms.FormulaId.{FormulaId}
 use Rattle.ss_terms.specs.Forms.{formulas_at, HasFormulas}
-use Rattle.ss_search_reached.specs.Groups.{Pairs, AreWholeLinks}
-use Rattle.ss_search_contradicting.specs.Contradicting.{ArePairsEqual, CloseFacts}
+use Rattle.ss_search_reached.specs.Groups.{AreWholeLinks}
+use Rattle.ss_search_whole_sums.specs.Contradicting.{ArePairsEqual, CloseFacts}
 use Rattle.ss_search_whole_sums.specs.WholeSums.{CloseFormed}
-use Rattle.ss_search_whole_sums.proofs.Sums.{pairs_equal, closes_formed}
+use Rattle.ss_search_whole_sums.proofs.Wholes.{pairs_equal, closes_formed}
 use Rattle.ss_search_whole_sums.proofs.whole_sums.close_by_links.Goals as goal
 
 pub whole_links-requires : goal.whole_links-requires

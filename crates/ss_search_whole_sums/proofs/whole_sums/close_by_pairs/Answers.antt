@@ -4,15 +4,15 @@ use Rattle.std.proofs.lemmas.Option.{IfSome_then}
 use Rattle.std.proofs.lemmas.Result.{IfOk-weaker}
 use Rattle.ss_logic_ground.specs.Occurring.{terms}
 use Rattle.ss_linear_rules.specs.Two.{Two}
-use Rattle.ss_linear.specs.Contradictions.{HasPairs, equalities_at}
+use Rattle.ss_linear.specs.Contradictions.{HasPairs, equalities_at, Pairs}
 use Rattle.ss_linear.proofs.Results.{none_then}
 use Rattle.ss_terms.specs.declared.forms.FormulaId.{FormulaId}
 use Rattle.ss_terms.specs.Forms.{formulas_at, HasFormulas}
-use Rattle.ss_search_reached.specs.Groups.{Pairs, AreWholePairs}
+use Rattle.ss_search_reached.specs.Groups.{AreWholePairs}
 use Rattle.ss_search_reached.proofs.Sums.{no_sum}
-use Rattle.ss_search_contradicting.specs.Contradicting.{ArePairsEqual, CloseFacts}
+use Rattle.ss_search_whole_sums.specs.Contradicting.{ArePairsEqual, CloseFacts}
 use Rattle.ss_search_whole_sums.specs.WholeSums.{CloseFormed}
-use Rattle.ss_search_whole_sums.proofs.Sums.{pairs_equal, closes_formed}
+use Rattle.ss_search_whole_sums.proofs.Wholes.{pairs_equal, closes_formed}
 use Rattle.ss_search_whole_sums.proofs.whole_sums.close_by_pairs.Goals as goal
 
 pub whole_pairs-requires : goal.whole_pairs-requires

@@ -10,7 +10,7 @@ use Rattle.ss_search_procedure_rules.specs.Closed as closed
 use Rattle.ss_search_reached.specs.Following.{HasNoSum}
 use Rattle.ss_search_whole_sums.specs.WholeSums.{basic_ones, basic_places, CloseSums, CloseFormed}
 use Rattle.ss_search_whole_sums.proofs.Basics.{ones_are, ones_there}
-use Rattle.ss_search_whole_sums.proofs.Sums.{closes_shown}
+use Rattle.ss_search_whole_sums.proofs.Wholes.{closes_shown}
 use Rattle.ss_search_whole_sums.proofs.whole_sums.close_whole_sums.Goals as goal
 
 pub close_basics-requires-clause-formulas : goal.close_basics-requires-clause-formulas

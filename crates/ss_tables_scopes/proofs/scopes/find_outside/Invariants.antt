@@ -1,10 +1,9 @@
-use Rattle.std.proofs.Common.{◌≡◌, length, map, reverse}
-use Rattle.ss_tables.specs.Scopes.{local_among}
-use Rattle.ss_tables_scopes.specs.Locals.{locals_of}
+use Rattle.std.proofs.Common.{◌≡◌, length, reverse}
+use Rattle.ss_tables.specs.Named.{named_among}
 use Rattle.ss_tables_scopes.proofs.scopes.find_outside.Given as goal
 
 abbrev pub invariant-loop-scope : goal.invariant-loop-scope
-invariant-loop-scope l = local_among (reverse (map (λ m. locals_of m.entries) l.rest)) l.name ≡ local_among (reverse (map (λ m. locals_of m.entries) l.scopes)) l.name
+invariant-loop-scope g l = named_among (reverse l.rest) l.name ≡ named_among (reverse l.scopes) l.name
 
 abbrev pub decreases-loop-scope : goal.decreases-loop-scope
-decreases-loop-scope l = length l.rest
+decreases-loop-scope g l = length l.rest

@@ -1,7 +1,7 @@
 use Rattle.std.proofs.Common.{◌∙◌, ◌<◌, [], ◌++◌, ◌∷◌, Some, length, ap, sym, subst, refl}
 use Rattle.ss_equality_rules.specs.declared.Stand.{Stand}
 use Rattle.ss_equality_rules.specs.declared.Pending.{Pending}
-use Rattle.ss_equality_rules.specs.Equal.{Standing}
+use Rattle.ss_equality_rules.specs.Equal.{Equations}
 use Rattle.ss_equality_rules.specs.Whole.{IsKept}
 use Rattle.ss_equality.proofs.Keeping.{added, failed, taken_back, settled_whole}
 use Rattle.ss_equality.proofs.congruence.Congruence.add.Goals as goal
@@ -10,8 +10,8 @@ pub invariant_of-self-in-Ok : goal.invariant_of-self-in-Ok
 invariant_of-self-in-Ok c =
     let s : Stand = record { merge = c.args.merge; joins = c.join_count-joins.result; signatures = c.len-signatures.result } in
     let p : Pending = record { left = c.args.merge.left.0; right = c.args.merge.right.0; why = Some c.len-number.result } in
-    let in_left : c.args.merge.left.0 < length c.self.inside.classes.forms = subst (λ (v : Standing). c.args.merge.left.0 < length v.terms) (sym c.self.view_is) c.requires.left in
-    let in_right : c.args.merge.right.0 < length c.self.inside.classes.forms = subst (λ (v : Standing). c.args.merge.right.0 < length v.terms) (sym c.self.view_is) c.requires.right in
+    let in_left : c.args.merge.left.0 < length c.self.inside.classes.forms = subst (λ (v : Equations). c.args.merge.left.0 < length v.terms) (sym c.self.view_is) c.requires.left in
+    let in_right : c.args.merge.right.0 < length c.self.inside.classes.forms = subst (λ (v : Equations). c.args.merge.right.0 < length v.terms) (sym c.self.view_is) c.requires.right in
     added c.self.inside.classes.forms c.settle.new.classes.forms c.self.inside.stands.items c.push_reserved.new.self.items c.self.inside.classes.log c.settle.new.classes.log c.self.inside.signatures c.settle.new.signatures s c.self.invariant
     c.settle.ensures.forms (c.push_reserved.ensures.items ∙ ap (λ l. l ++ s ∷ []) c.in_ok-reserve.ensures.items) in_left c.join_count-joins.ensures.count c.len-signatures.ensures.len c.settle.ensures.log c.settle.ensures.begins
     (settled_whole c.self.inside.classes c.settle.new.classes c.self.inside.stands.items c.self.inside.signatures c.settle.new.signatures c.push.new.self.items c.args.merge p c.self.invariant c.settle.ensures.forms

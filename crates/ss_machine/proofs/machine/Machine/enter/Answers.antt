@@ -11,7 +11,7 @@ use Rattle.ss_machine_rules.specs.Steps as steps
 use Rattle.ss_machine.specs.Frames.{running, waiting, target_of}
 use Rattle.ss_machine.specs.Moves.{Does}
 use Rattle.ss_machine.proofs.Entering.{entered}
-use Rattle.ss_machine.proofs.Halts.{ensured, of_made}
+use Rattle.ss_machine.proofs.Halts.{ensured}
 use Rattle.ss_machine.proofs.machine.Machine.enter.Goals as goal
 
 pub returns : goal.returns
@@ -21,7 +21,7 @@ returns c =
     let m = c.args.self.now in
     let s = m.stores.now in
     let locals = c.in_ok-locals.locals.items in
-    let made = of_made c.locals_at_entry.result c.in_ok-locals.locals (λ v. v.items ≡ locals_at_entry body c.args.arguments.items) c.locals_at_entry.ensures c.in_ok-locals.ensures.made in
+    let made : locals ≡ locals_at_entry body c.args.arguments.items = c.in_ok-locals.ensures in
     let holds = ensured c.all_hold_at_entry-holds.result kind.Precondition c.args.place c.ensure.result c.in_ok-ensure.field-0 c.ensure.ensures c.in_ok-ensure.was in
     let asked : steps.all_hold body.entry (setting program.classes s s locals) ≡ c.all_hold_at_entry-holds.result =
     ap (λ (es : List Expr). steps.all_hold (view.exprs es) (setting program.classes s s locals)) (sym c.deref.ensures.value)

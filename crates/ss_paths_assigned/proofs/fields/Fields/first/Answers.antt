@@ -1,7 +1,7 @@
 use Rattle.std.proofs.Common.{◌≡◌, ◌∙◌, length, min, ap, arith}
 use Rattle.std.proofs.lemmas.List.{length-map}
 use Rattle.ss_core.specs.View.{class_of, classes}
-use Rattle.ss_paths.specs.Fields.{class_place}
+use Rattle.ss_typed.specs.Lookups.{class_place}
 use Rattle.ss_paths_assigned.proofs.Places.{firsts_length, first_is}
 use Rattle.ss_paths_assigned.proofs.fields.Fields.first.Goals as goal
 

@@ -1,14 +1,14 @@
 use Rattle.std.proofs.Common.{◌*◌, List, length, get_or, true, sym, subst, arith}
 use Rattle.std.proofs.lemmas.Option.{MatchOption-at_some}
 use Rattle.ss_logic.specs.Formulas.{Formula}
-use Rattle.ss_logic_countermodels.specs.Refuting.{Refutes, model_of}
+use Rattle.ss_logic_countermodels.specs.Refuting.{IsCountermodel}
 use Rattle.ss_terms.specs.declared.forms.FormulaId.{FormulaId}
 use Rattle.ss_terms.specs.Forms.{formula_at}
 use Rattle.ss_terms.proofs.Parts.{AreBelow-get}
 use Rattle.ss_deriv.specs.Lines.{lines_of}
 use Rattle.ss_search_closing.specs.Closing.{Closes}
 use Rattle.ss_search_reaching.specs.Reaching.{facts_of, Shows}
-use Rattle.ss_search_procedure.specs.Choices.{bank_of, settled_ones, reached_in, first_chosen, AreDecided, IsLast, ReachesBy, ClosesBy}
+use Rattle.ss_search_procedure.specs.Decisions.{bank_of, settled_ones, reached_in, first_decisions, AreDecided, IsLast, ReachesBy, ClosesBy}
 use Rattle.ss_search_procedure.specs.Answers.{IfModel, IfLines}
 use Rattle.ss_search_reached.proofs.Names.{ok_then, ok_any}
 use Rattle.ss_search_procedure.proofs.Going.{includes, on_and_on, on_grows, reaches_on, reaches_from, reaches_same, closes_on}
@@ -38,7 +38,7 @@ decide-split-requires t c =
     let g = on_grows s c.args.reaching.now c.reach.new.self c.requires.state c.in_ok-lines.ensures.grows in
     let i = includes s c.args.reaching.now c.reach.new.self g in
     let d = c.decreases in
-    (omega arith, (c.requires.setting, (g.state, (decided_in_more s (reached_in s c.args.reaching.now) (reached_in s c.reach.new.self) (first_chosen s c.args.decided) i c.requires.decided, omega arith))))
+    (omega arith, (c.requires.setting, (g.state, (decided_in_more s (reached_in s c.args.reaching.now) (reached_in s c.reach.new.self) (first_decisions s c.args.decided) i c.requires.decided, omega arith))))
 
 pub decide-returns-then-decided-self-clause-goes_on : goal.decide-returns-then-decided-self-clause-goes_on
 decide-returns-then-decided-self-clause-goes_on t c =
@@ -70,7 +70,7 @@ decide-model-requires t c =
       setting = c.requires.setting;
       state = g.state;
       decided = all_decided s (reached_in s c.reach.new.self) c.args.decided (omega arith)
-          (decided_in_more s (reached_in s c.args.reaching.now) (reached_in s c.reach.new.self) (first_chosen s c.args.decided) (includes s c.args.reaching.now c.reach.new.self g) c.requires.decided);
+          (decided_in_more s (reached_in s c.args.reaching.now) (reached_in s c.reach.new.self) (first_decisions s c.args.decided) (includes s c.args.reaching.now c.reach.new.self g) c.requires.decided);
       is_open = λ cs is. c.in_ok-lines.ensures.is_open cs is c.in_default.is;
     }
 
@@ -89,7 +89,7 @@ decide-returns-else-decided-self-clause-closes t c =
 -- ---- split
 
 pub split-is_decided-requires-clause-formula : goal.split-is_decided-requires-clause-formula
-split-is_decided-requires-clause-formula t c = AreBelow-get (length (bank_of c.args.self.now).formulas * 2) c.args.self.now.choices.now c.args.decided (record { 0 = 0 }) c.requires.setting.in_bank c.requires.few
+split-is_decided-requires-clause-formula t c = AreBelow-get (length (bank_of c.args.self.now).formulas * 2) c.args.self.now.decisions.now c.args.decided (record { 0 = 0 }) c.requires.setting.in_bank c.requires.few
 
 pub split-decide-requires : goal.split-decide-requires
 split-decide-requires t c =
@@ -99,7 +99,7 @@ split-decide-requires t c =
     (omega arith, (c.requires.setting, (c.requires.state, (side_decided s (reached_in s r) c.args.decided c.requires.few (c.is_decided.ensures.yes c.if-is_decided.true) c.requires.decided, omega arith))))
 
 pub split-negation-other-requires : goal.split-negation-other-requires
-split-negation-other-requires t c = AreBelow-get (length (bank_of c.args.self.now).formulas * 2) c.args.self.now.choices.now c.args.decided (record { 0 = 0 }) c.requires.setting.in_bank c.requires.few
+split-negation-other-requires t c = AreBelow-get (length (bank_of c.args.self.now).formulas * 2) c.args.self.now.decisions.now c.args.decided (record { 0 = 0 }) c.requires.setting.in_bank c.requires.few
 
 pub split-suppose-requires : goal.split-suppose-requires
 split-suppose-requires t c =
@@ -109,8 +109,8 @@ split-suppose-requires t c =
     record {
       setting = c.requires.setting;
       state = c.requires.state;
-      formula = AreBelow-get (length (bank_of s).formulas * 2) s.choices.now n none c.requires.setting.in_bank c.requires.few;
-      side = chosen_side s (formula_at (bank_of s) (get_or s.choices.now n none)) (chosen_at s n none c.requires.few);
+      formula = AreBelow-get (length (bank_of s).formulas * 2) s.decisions.now n none c.requires.setting.in_bank c.requires.few;
+      side = chosen_side s (formula_at (bank_of s) (get_or s.decisions.now n none)) (chosen_at s n none c.requires.few);
     }
 
 pub split-decide-requires-2 : goal.split-decide-requires-2
@@ -129,8 +129,8 @@ split-decide-requires-2 t c =
         (
           e.goes_on.state,
           (
-            one_more_decided s (reached_in s supposed) n (formula_at (bank_of s) (get_or s.choices.now n none)) (next_chosen s n few)
-                (decided_in_more s (reached_in s old) (reached_in s supposed) (first_chosen s n) (includes s old supposed e.goes_on) c.requires.decided) e.known,
+            one_more_decided s (reached_in s supposed) n (formula_at (bank_of s) (get_or s.decisions.now n none)) (next_chosen s n few)
+                (decided_in_more s (reached_in s old) (reached_in s supposed) (first_decisions s n) (includes s old supposed e.goes_on) c.requires.decided) e.known,
             omega arith,
           ),
         ),
@@ -142,7 +142,7 @@ split-returns-in-Model t c =
     let s = c.args.self.now in
     record {
       goes_on = on_and_on s c.args.reaching.now c.suppose.new.reaching c.decide-2.new.reaching c.in_ok-suppose.ensures.goes_on c.in_ok-model.ensures.goes_on;
-      model = λ cs is. subst (IfModel (λ m. Refutes cs (model_of (settled_ones s) m.classes.items m.truth.items) (settled_ones s))) c.in-Model.is (c.in_ok-model.ensures.model cs is);
+      model = λ cs is. subst (IfModel (IsCountermodel cs (settled_ones s))) c.in-Model.is (c.in_ok-model.ensures.model cs is);
       reaches = tt;
       closes = tt;
     }
@@ -158,11 +158,11 @@ split-deny-requires t c =
     let e = c.in_ok-suppose.ensures in
     record {
       setting = c.requires.setting;
-      formula = AreBelow-get (length (bank_of s).formulas * 2) s.choices.now n none c.requires.setting.in_bank c.requires.few;
-      side = chosen_side s (formula_at (bank_of s) (get_or s.choices.now n none)) (chosen_at s n none c.requires.few);
+      formula = AreBelow-get (length (bank_of s).formulas * 2) s.decisions.now n none c.requires.setting.in_bank c.requires.few;
+      side = chosen_side s (formula_at (bank_of s) (get_or s.decisions.now n none)) (chosen_at s n none c.requires.few);
       trial = (
         old,
-        trial_of s c.mark-marks.result (get_or s.choices.now n none) old supposed low c.requires.state c.mark-marks.ensures.reached c.mark-marks.ensures.path e.begun e.shown e.goes_on c.in_ok-model.ensures.goes_on
+        trial_of s c.mark-marks.result (get_or s.decisions.now n none) old supposed low c.requires.state c.mark-marks.ensures.reached c.mark-marks.ensures.path e.begun e.shown e.goes_on c.in_ok-model.ensures.goes_on
             (subst (IfLines (λ lines. ReachesBy s supposed low)) c.in-Closed.is c.in_ok-model.ensures.reaches),
       );
     }
@@ -176,7 +176,7 @@ split-with_side-requires t c =
     let supposed = c.suppose.new.reaching in
     let low = c.decide-2.new.reaching in
     let denied = c.deny.new.reaching in
-    let p = get_or s.choices.now n none in
+    let p = get_or s.decisions.now n none in
     let f = formula_at (bank_of s) p in
     let g = formula_at (bank_of s) c.negation-other.result in
     let negation = c.negation-other.ensures.negation in
@@ -192,7 +192,7 @@ split-with_side-requires t c =
         (
           b.goes_on.state,
           (
-            subst (λ fs. AreDecided fs (first_chosen s n)) (sym b.same) c.requires.decided,
+            subst (λ fs. AreDecided fs (first_decisions s n)) (sym b.same) c.requires.decided,
             (
               few,
               (
@@ -217,7 +217,7 @@ split-returns-in_ok-deny-in-Closed-clause-goes_on t c =
     let low = c.decide-2.new.reaching in
     let denied = c.deny.new.reaching in
     let e = c.in_ok-suppose.ensures in
-    let trial = trial_of s c.mark-marks.result (get_or s.choices.now c.args.decided none) old supposed low c.requires.state c.mark-marks.ensures.reached c.mark-marks.ensures.path e.begun e.shown e.goes_on c.in_ok-model.ensures.goes_on
+    let trial = trial_of s c.mark-marks.result (get_or s.decisions.now c.args.decided none) old supposed low c.requires.state c.mark-marks.ensures.reached c.mark-marks.ensures.path e.begun e.shown e.goes_on c.in_ok-model.ensures.goes_on
     (subst (IfLines (λ lines. ReachesBy s supposed low)) c.in-Closed.is c.in_ok-model.ensures.reaches) in
     ok_then c.with_side.result (λ k. on_and_on s old denied c.with_side.new.reaching (c.in_ok-deny-in-Closed.ensures.before old trial).goes_on k) c.with_side.ensures.goes_on
 
@@ -231,7 +231,7 @@ split-returns-in_ok-deny-in-Closed-clause-reaches t c =
     let denied = c.deny.new.reaching in
     let new = c.with_side.new.reaching in
     let e = c.in_ok-suppose.ensures in
-    let trial = trial_of s c.mark-marks.result (get_or s.choices.now c.args.decided none) old supposed low c.requires.state c.mark-marks.ensures.reached c.mark-marks.ensures.path e.begun e.shown e.goes_on c.in_ok-model.ensures.goes_on
+    let trial = trial_of s c.mark-marks.result (get_or s.decisions.now c.args.decided none) old supposed low c.requires.state c.mark-marks.ensures.reached c.mark-marks.ensures.path e.begun e.shown e.goes_on c.in_ok-model.ensures.goes_on
     (subst (IfLines (λ lines. ReachesBy s supposed low)) c.in-Closed.is c.in_ok-model.ensures.reaches) in
     let to = c.in_ok-deny-in-Closed.ensures.reaches old trial (subst (IfLines (ClosesBy s supposed low)) c.in-Closed.is c.in_ok-model.ensures.closes) in
     lines_then c.with_side.result (λ lines. ReachesBy s denied new) (λ lines. ReachesBy s old new) (λ lines r. reaches_on s old denied new to r) c.with_side.ensures.reaches
@@ -246,7 +246,7 @@ split-returns-in_ok-deny-in-Closed-clause-closes t c =
     let denied = c.deny.new.reaching in
     let new = c.with_side.new.reaching in
     let e = c.in_ok-suppose.ensures in
-    let trial = trial_of s c.mark-marks.result (get_or s.choices.now c.args.decided none) old supposed low c.requires.state c.mark-marks.ensures.reached c.mark-marks.ensures.path e.begun e.shown e.goes_on c.in_ok-model.ensures.goes_on
+    let trial = trial_of s c.mark-marks.result (get_or s.decisions.now c.args.decided none) old supposed low c.requires.state c.mark-marks.ensures.reached c.mark-marks.ensures.path e.begun e.shown e.goes_on c.in_ok-model.ensures.goes_on
     (subst (IfLines (λ lines. ReachesBy s supposed low)) c.in-Closed.is c.in_ok-model.ensures.reaches) in
     let to = c.in_ok-deny-in-Closed.ensures.reaches old trial (subst (IfLines (ClosesBy s supposed low)) c.in-Closed.is c.in_ok-model.ensures.closes) in
     lines_then c.with_side.result (ClosesBy s denied new) (ClosesBy s old new) (λ lines k. closes_on s old denied new lines to k) c.with_side.ensures.closes
@@ -264,7 +264,7 @@ with_side-decide-requires t c =
       omega arith,
       (
         c.requires.setting,
-        (g.state, (one_more_decided s (reached_in s new) c.args.decided f c.requires.next (decided_in_more s (reached_in s old) (reached_in s new) (first_chosen s c.args.decided) (includes s old new g) c.requires.decided) c.in_ok-learn_last.ensures.known, omega arith)),
+        (g.state, (one_more_decided s (reached_in s new) c.args.decided f c.requires.next (decided_in_more s (reached_in s old) (reached_in s new) (first_decisions s c.args.decided) (includes s old new g) c.requires.decided) c.in_ok-learn_last.ensures.known, omega arith)),
       ),
     )
 

@@ -1,7 +1,7 @@
 use Rattle.std.proofs.Common.{◌≡◌, [], ◌∷◌, ◌++◌, take, subst}
 use Rattle.ss_terms.specs.Forms.{formula_at}
 use Rattle.ss_search_reaching.specs.declared.reaching.Reaching.{Reaching}
-use Rattle.ss_search_procedure.specs.Choices.{bank_of}
+use Rattle.ss_search_procedure.specs.Decisions.{bank_of}
 use Rattle.ss_search_reached.proofs.Names.{ok_then}
 use Rattle.ss_search_reaching.proofs.Learning.{ok_both}
 use Rattle.ss_search_procedure.proofs.Sides.{side_basic, side_formed}

@@ -1,6 +1,6 @@
 use Rattle.std.proofs.Common.{arith}
 use Rattle.ss_terms.specs.Forms.{formula_at}
-use Rattle.ss_search_procedure.specs.Choices.{bank_of}
+use Rattle.ss_search_procedure.specs.Decisions.{bank_of}
 use Rattle.ss_search_reached.proofs.Names.{ok_then}
 use Rattle.ss_search_procedure.proofs.Going.{among_occurs, on_grows}
 use Rattle.ss_search_procedure.proofs.Sides.{side_among, side_formed}

@@ -8,7 +8,7 @@ use Rattle.ss_search_standing.specs.declared.standing.Standing.{Standing}
 use Rattle.ss_search_standing.specs.declared.standing.Standing.TheVariants.{Fact}
 use Rattle.ss_search_standing.specs.Standing.{Stands}
 use Rattle.ss_search_reaching.proofs.Spread.{facts_same}
-use Rattle.ss_search_procedure.specs.Choices.{bank_of, settled_ones}
+use Rattle.ss_search_procedure.specs.Decisions.{bank_of, settled_ones}
 use Rattle.ss_search_procedure.proofs.Beginning.{all_reached}
 use Rattle.ss_search_procedure.proofs.setting.Settling.reach_all.Goals as goal
 

@@ -3,7 +3,7 @@ use Rattle.ss_core.specs.Tree.{ClassTree}
 use Rattle.ss_search_path.specs.Paths.{IsSame}
 use Rattle.ss_search_standing.specs.Standing.{AreStanding}
 use Rattle.ss_search_reaching.specs.Reaching.{facts_of, Shows}
-use Rattle.ss_search_procedure.specs.Choices.{settled_ones}
+use Rattle.ss_search_procedure.specs.Decisions.{settled_ones}
 use Rattle.ss_search_procedure.specs.Ground.{AreFirst}
 use Rattle.ss_search_procedure.proofs.setting.Settling.reach_all.Given as goal
 

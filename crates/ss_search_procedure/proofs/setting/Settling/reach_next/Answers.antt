@@ -8,7 +8,7 @@ use Rattle.ss_search_standing.specs.Standing.{Stands}
 use Rattle.ss_search_standing.proofs.Facts.{read_there}
 use Rattle.ss_search_reaching.specs.Reaching.{facts_of}
 use Rattle.ss_search_reaching.proofs.Learning.{ok_both}
-use Rattle.ss_search_procedure.specs.Choices.{bank_of}
+use Rattle.ss_search_procedure.specs.Decisions.{bank_of}
 use Rattle.ss_search_reached.proofs.Names.{ok_then}
 use Rattle.ss_search_procedure.proofs.Beginning.{next_there, next_reached}
 use Rattle.ss_search_procedure.proofs.setting.Settling.reach_next.Goals as goal

@@ -1,13 +1,13 @@
 use Rattle.std.proofs.Common.{◌≡◌, ◌∙◌, sym}
 use Rattle.std.proofs.lemmas.List.{length-map}
 use Rattle.std.proofs.lemmas.Result.{IfOk-weaker}
-use Rattle.ss_logic_countermodels.specs.Refuting.{Refutes, model_of}
+use Rattle.ss_logic_countermodels.specs.Refuting.{IsCountermodel}
 use Rattle.ss_terms.specs.Forms.{formula_at, formulas_at}
 use Rattle.ss_rules_origins.specs.Views.{origin_at}
 use Rattle.ss_search_procedure_rules.specs.Closed.{AreEnough}
 use Rattle.ss_search_procedure.specs.declared.settling.Settled.{Settled}
 use Rattle.ss_search_procedure.specs.declared.settling.Settled.TheVariants as settled
-use Rattle.ss_search_procedure.specs.Choices.{bank_of, settled_ones}
+use Rattle.ss_search_procedure.specs.Decisions.{bank_of, settled_ones}
 use Rattle.ss_search_procedure.specs.Answers.{IfCountered}
 use Rattle.ss_search_procedure.proofs.Enough.{nothing_countered}
 use Rattle.ss_search_procedure.proofs.setting.Settling.settle.Goals as goal
@@ -53,4 +53,4 @@ returns-else-are_few-clause-closed c = λ cs of ground.
 pub returns-else-are_few-clause-countered : goal.returns-else-are_few-clause-countered
 returns-else-are_few-clause-countered c = λ cs of.
     let fs = settled_ones c.args.self.now in
-    IfOk-weaker c.settle_nested.result (IfCountered (λ m. ⊥)) (IfCountered (λ m. Refutes cs (model_of fs m.classes.items m.truth.items) fs)) (λ x h. nothing_countered (λ m. Refutes cs (model_of fs m.classes.items m.truth.items) fs) x h) c.settle_nested.ensures.countered
+    IfOk-weaker c.settle_nested.result (IfCountered (λ m. ⊥)) (IfCountered (IsCountermodel cs fs)) (λ x h. nothing_countered (IsCountermodel cs fs) x h) c.settle_nested.ensures.countered

@@ -1,8 +1,7 @@
 use Rattle.std.proofs.lemmas.Result.{IfOk-weaker}
 use Rattle.std.proofs.Common.{subst}
-use Rattle.ss_logic_countermodels.specs.declared.Countermodel.{Countermodel}
-use Rattle.ss_logic_countermodels.specs.Refuting.{Refutes, model_of}
-use Rattle.ss_search_procedure.specs.Choices.{settled_ones, reached_in, ReachesBy, ClosesBy}
+use Rattle.ss_logic_countermodels.specs.Refuting.{IsCountermodel}
+use Rattle.ss_search_procedure.specs.Decisions.{settled_ones, reached_in, ReachesBy, ClosesBy}
 use Rattle.ss_search_procedure.specs.Answers.{IfCountered, IfModel, IfLines}
 use Rattle.ss_search_procedure.proofs.Going.{led_on, led_to_end}
 use Rattle.ss_search_procedure.proofs.Deciding.{none_decided}
@@ -15,7 +14,7 @@ decide-requires-clause-decided c = none_decided c.args.self.now (reached_in c.ar
 pub returns-in-Model-clause-countered : goal.returns-in-Model-clause-countered
 returns-in-Model-clause-countered c = λ cs is.
     let fs = settled_ones c.args.self.now in
-    subst (IfModel (λ (m : Countermodel). Refutes cs (model_of fs m.classes.items m.truth.items) fs)) c.in-Model.is (c.in_ok-model.ensures.model cs is)
+    subst (IfModel (IsCountermodel cs fs)) c.in-Model.is (c.in_ok-model.ensures.model cs is)
 
 pub finish-requires : goal.finish-requires
 finish-requires c =
@@ -36,5 +35,5 @@ returns-in-Closed-clause-closed c = λ cs premises goal led.
 pub returns-in-Closed-clause-countered : goal.returns-in-Closed-clause-countered
 returns-in-Closed-clause-countered c = λ cs is.
     let fs = settled_ones c.args.self.now in
-    let refuting = λ (m : Countermodel). Refutes cs (model_of fs m.classes.items m.truth.items) fs in
+    let refuting = IsCountermodel cs fs in
     IfOk-weaker c.finish.result (IfCountered (λ m. ⊥)) (IfCountered refuting) (λ x h. nothing_countered refuting x h) c.finish.ensures.countered

@@ -2,7 +2,7 @@ use Rattle.std.proofs.Common.{◌≡◌, ◌≤◌, ◌*◌, ◌^◌, sym, subst
 use Rattle.std.proofs.lemmas.Option.{MatchOption-at_some}
 use Rattle.std.proofs.lemmas.Result.{IfOk-weaker}
 use Rattle.ss_search_procedure_rules.specs.Closed.{AreEnough}
-use Rattle.ss_search_procedure.specs.Choices.{settled_ones, reached_in, ClosesBy}
+use Rattle.ss_search_procedure.specs.Decisions.{settled_ones, reached_in, ClosesBy}
 use Rattle.ss_search_procedure.specs.declared.settling.Settled.TheVariants as settled
 use Rattle.ss_search_procedure.proofs.Going.{led_on, led_to_end}
 use Rattle.ss_search_procedure.proofs.Enough.{not_enough, as_many}

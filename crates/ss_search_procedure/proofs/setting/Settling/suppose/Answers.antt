@@ -1,5 +1,5 @@
 use Rattle.ss_search_reaching.specs.declared.reaching.Reaching.{Reaching}
-use Rattle.ss_search_procedure.specs.Choices.{bank_of}
+use Rattle.ss_search_procedure.specs.Decisions.{bank_of}
 use Rattle.ss_search_reached.proofs.Names.{ok_then}
 use Rattle.ss_search_procedure.proofs.Going.{on_and_on}
 use Rattle.ss_search_procedure.proofs.Undoing.{supposed_front, begun_same, supposed_last, more_facts, shown_further}

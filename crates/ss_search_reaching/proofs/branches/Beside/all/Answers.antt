@@ -2,7 +2,7 @@ use Rattle.std.proofs.Common.{List, length, take, sym, ◌∙◌, ap, subst}
 use Rattle.std.proofs.lemmas.Result.{IfOk-weaker}
 use Rattle.ss_terms.specs.declared.forms.FormulaId.{FormulaId}
 use Rattle.ss_equality_rules.specs.declared.Merge.{Merge}
-use Rattle.ss_equality_rules.specs.Equal.{Standing}
+use Rattle.ss_equality_rules.specs.Equal.{Equations}
 use Rattle.ss_search_reached.proofs.Fronts.{front_itself}
 use Rattle.ss_search_reached.proofs.Names.{ok_then}
 use Rattle.ss_search_refuting.specs.Refuting.{bank_of, or_of, AreCasesFrom}
@@ -38,7 +38,7 @@ returns-then-front-count-clause-leads c =
     let e = c.in_ok-front.ensures in
     let front = c.in_ok-front.front in
     let whole = or_of (bank_of p.refuting) ps in
-    let same = ap (λ (k : Standing). k.merges) e.congruence in
+    let same = ap (λ (k : Equations). k.merges) e.congruence in
     IfOk-weaker c.others.result
     (λ u. AreCasesFrom p.refuting c.cases.new.congruence.merges now c.args.place c.args.from whole 0 front.stop front.lines.items → UnitFrom p c.cases.new.congruence.merges now c.args.place c.args.from ps new u)
     (λ u. UnitFrom p ms old c.args.place c.args.from ps new u)

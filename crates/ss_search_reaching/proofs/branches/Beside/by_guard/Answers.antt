@@ -8,7 +8,7 @@ use Rattle.ss_terms.specs.Forms.{Forms, formula_at, HasFormulas}
 use Rattle.ss_deriv.specs.declared.line.Line.{Line}
 use Rattle.ss_deriv.specs.Lines.{lines_of}
 use Rattle.ss_equality_rules.specs.declared.Merge.{Merge}
-use Rattle.ss_equality_rules.specs.Equal.{Standing}
+use Rattle.ss_equality_rules.specs.Equal.{Equations}
 use Rattle.ss_search_closing.specs.Closing.{Closes}
 use Rattle.ss_search_path.specs.Paths.{known_on}
 use Rattle.ss_search_reached.proofs.Fronts.{front_push, front_trans}
@@ -18,7 +18,7 @@ use Rattle.ss_search_refuting.specs.Refuting.{bank_of, or_of, AreShown}
 use Rattle.ss_search_standing.specs.Standing.{IsGuardedAt}
 use Rattle.std.specs.Prelude.{slice_get}
 use Rattle.std.proofs.Common.{◌≡◌, Some, true}
-use Rattle.ss_search_reaching.specs.Units.{IsResolved, part_of, LeadsTo, UnitGuarded}
+use Rattle.ss_search_reaching.specs.Units.{IsResolved, part_of, LeadsToOne, UnitGuarded}
 use Rattle.ss_search_reaching.proofs.Resolving.{beside_again, one_resolved}
 use Rattle.ss_search_reaching.proofs.Guarding.{guard_known, guarded_after}
 use Rattle.ss_search_reaching.proofs.branches.Beside.by_guard.Goals as goal
@@ -62,7 +62,7 @@ returns-in_ok-deny-in-Some-clause-leads c =
     Closes cs premises goal (known_on b old ++ formula_at b p ∷ []) (lines_of b v.items)) lines c.in-Some.is e.closes in
     IfOk-weaker c.body.result
     (λ u. (cs : List ClassTree) (premises : List Formula) (goal : Formula) (f : Formula) (is : IsGuardedAt cs s.given c.args.origin f) → slice_get (known_on b denied) c.len-place.result ≡ Some is.guarded.guard → formula_at b q ≡ is.guarded.body →
-    LeadsTo cs premises goal s.given denied new u)
+    LeadsToOne cs premises goal s.given denied new u)
     (λ u. UnitGuarded w ms old c.args.origin (p ∷ q ∷ []) new u)
     (λ u h. guard_known w ms old looked denied new c.args.origin c.len-place.result p q lines.items u e.known (c.len-place.ensures ∙ looked.known.ok.0) e.stays closes c.in_ok-deny-in-Some.ensures.goes_on c.in_ok-deny-in-Some.ensures.numbers h)
     c.body.ensures.leads
@@ -89,5 +89,5 @@ returns-in-None-clause-leads c =
     let e = c.in_ok-lines.ensures in
     IfOk-weaker c.trial.result (λ u. UnitGuarded w c.case_of.new.congruence.merges looked c.args.origin (p ∷ q ∷ []) new u) (λ u. UnitGuarded w ms old c.args.origin (p ∷ q ∷ []) new u)
     (λ u h. guarded_after w ms old looked new c.args.origin p q u e.known e.stays
-    (subst (λ (ks : List Merge). UnitGuarded w ks looked c.args.origin (p ∷ q ∷ []) new u) (ap (λ (k : Standing). k.merges) e.congruence) h))
+    (subst (λ (ks : List Merge). UnitGuarded w ks looked c.args.origin (p ∷ q ∷ []) new u) (ap (λ (k : Equations). k.merges) e.congruence) h))
     c.trial.ensures.leads

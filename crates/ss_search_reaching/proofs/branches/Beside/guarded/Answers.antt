@@ -1,17 +1,36 @@
-use Rattle.std.proofs.Common.{subst, arith}
-use Rattle.std.specs.Prelude.{IfOk}
-use Rattle.ss_terms.specs.declared.forms.FormulaId.{FormulaId}
-use Rattle.ss_search_refuting.specs.Refuting.{or_of}
-use Rattle.ss_search_reaching.specs.Units.{IsResolved}
-use Rattle.ss_search_reaching.proofs.Guarding.{two_there}
+use Rattle.std.proofs.Common.{◌+◌, sym, subst}
+use Rattle.std.proofs.lemmas.Option.{MatchOption-at_some}
+use Rattle.ss_terms.specs.Forms.{Forms, HasFormulas}
+use Rattle.ss_search_reached.specs.Looks.{IsLooking, HoldsFrom}
+use Rattle.ss_search_reached.proofs.Fronts.{front_itself}
+use Rattle.ss_search_reached.proofs.Branches.{met_branch, open_branch}
+use Rattle.ss_search_reaching.proofs.Guarding.{guarded_open}
 use Rattle.ss_search_reaching.proofs.branches.Beside.guarded.Goals as goal
 
-pub returns-in-len2-clause-branch : goal.returns-in-len2-clause-branch
-returns-in-len2-clause-branch c =
-    let s = c.args.self.now.looking in
-    let ps = c.args.parts.now in
-    let d : FormulaId = record { 0 = 0 } in
-    subst (λ qs. IfOk c.by_parts.result (IsResolved s (or_of s.bank.now qs))) (two_there ps d (omega (arith, c.in-len2.len_at_least, c.in-len2.len_below))) c.by_parts.ensures.branch
+pub is_met-requires-clause-formulas : goal.is_met-requires-clause-formulas
+is_met-requires-clause-formulas c = subst (λ (b : Forms). HasFormulas b c.args.parts.now) (sym c.requires.beside.bank) c.requires.has
 
-pub returns-in_default-clause-leads : goal.returns-in_default-clause-leads
-returns-in_default-clause-leads c = λ cs premises goal shown is. c.not_two.ensures.leads c.args.congruence.now.merges cs premises goal shown is
+pub returns-then-is_met-clause-branch : goal.returns-then-is_met-clause-branch
+returns-then-is_met-clause-branch c = met_branch c.args.self.now.looking c.args.parts.now (c.is_met.ensures c.if-is_met.true)
+
+pub returns-then-is_met-clause-kept : goal.returns-then-is_met-clause-kept
+returns-then-is_met-clause-kept c = front_itself c.args.path.now.known.items
+
+pub returns-then-is_met-clause-leads : goal.returns-then-is_met-clause-leads
+returns-then-is_met-clause-leads c = guarded_open c.args.self.now c.args.congruence.now.merges c.args.path.now c.args.origin c.args.parts.now
+
+pub first_open-requires-in-Some-clause-looking : goal.first_open-requires-in-Some-clause-looking
+first_open-requires-in-Some-clause-looking c = subst (IsLooking c.args.self.now.looking) (sym c.in_ok-first_open.ensures.congruence) c.requires.beside.looking
+
+pub returns-in-Some-2-clause-branch : goal.returns-in-Some-2-clause-branch
+returns-in-Some-2-clause-branch c =
+    let s = c.args.self.now.looking in
+    let fs = c.args.parts.now in
+    let i = c.in-Some.part in
+    let j = c.in-Some-2._other in
+    let first = MatchOption-at_some (Unit {0}) (HoldsFrom s fs 0) i c.in-Some.is c.in_ok-first_open.ensures.found in
+    let other = MatchOption-at_some (Unit {0}) (HoldsFrom s fs (i + 1)) j c.in-Some-2.is c.in_ok-first_open-in-Some.ensures.found in
+    open_branch s fs i j first other
+
+pub returns-in-Some-2-clause-leads : goal.returns-in-Some-2-clause-leads
+returns-in-Some-2-clause-leads c = guarded_open c.args.self.now c.args.congruence.now.merges c.args.path.now c.args.origin c.args.parts.now

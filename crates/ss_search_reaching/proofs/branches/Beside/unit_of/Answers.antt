@@ -17,6 +17,9 @@ formula_node-requires c = subst (λ (b : Forms). HasFormula b c.args.f) (sym c.r
 pub unit-requires-clause-below : goal.unit-requires-clause-below
 unit-requires-clause-below c = subst (AreBelow c.args.f.0) (sym c.deref.ensures.value) (rw c.in-Or.is at c.formula_node.ensures).below
 
+pub guarded-requires-clause-below : goal.guarded-requires-clause-below
+guarded-requires-clause-below c = subst (AreBelow c.args.f.0) (sym c.deref-in-Guarded.ensures.value) (rw c.in-Or.is at c.formula_node.ensures).below
+
 pub guarded-requires-clause-has : goal.guarded-requires-clause-has
 guarded-requires-clause-has c =
     let b = bank_of c.args.self.now.refuting in

@@ -6,7 +6,7 @@ use Rattle.ss_terms.specs.declared.forms.FormulaId.{FormulaId}
 use Rattle.ss_terms.specs.Forms.{Forms, formula_at, HasFormula}
 use Rattle.ss_terms.proofs.Parts.{AreBelow-get}
 use Rattle.ss_equality_rules.specs.declared.Merge.{Merge}
-use Rattle.ss_equality_rules.specs.Equal.{Standing}
+use Rattle.ss_equality_rules.specs.Equal.{Equations}
 use Rattle.ss_search_reached.specs.Following.{AreUnits}
 use Rattle.ss_search_reached.proofs.Fronts.{front_itself, front_trans}
 use Rattle.ss_search_reached.proofs.Holding.{none_holding}
@@ -52,7 +52,7 @@ loop-at-preserved c =
     let at = c.loop-at.at in
     let z = Fact 0 0 in
     let u = c.in_ok-resolved.resolved in
-    let same = ap (λ (k : Standing). k.merges) i.congruence in
+    let same = ap (λ (k : Equations). k.merges) i.congruence in
     let here = slice_get-get_or p.looking.known.now at d c.loop-at-test.true in
     let f_at = ap (λ (fs : List FormulaId). slice_get fs at) (sym c.requires.beside.known) ∙ here in
     let s_at = slice_get-get_or c.args.standings.now at z (omega (arith, c.loop-at-test.true, c.requires.long)) in
@@ -79,7 +79,7 @@ returns-in-Some c =
     let at = c.loop-at.at in
     let z = Fact 0 0 in
     let u = c.in_ok-resolved.resolved in
-    let same = ap (λ (k : Standing). k.merges) i.congruence in
+    let same = ap (λ (k : Equations). k.merges) i.congruence in
     let here = slice_get-get_or p.looking.known.now at d c.loop-at-test.true in
     let f_at = ap (λ (fs : List FormulaId). slice_get fs at) (sym c.requires.beside.known) ∙ here in
     let s_at = slice_get-get_or c.args.standings.now at z (omega (arith, c.loop-at-test.true, c.requires.long)) in

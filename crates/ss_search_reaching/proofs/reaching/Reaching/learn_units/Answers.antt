@@ -7,7 +7,7 @@ use Rattle.ss_terms.specs.declared.forms.FormulaId.{FormulaId}
 use Rattle.ss_terms.specs.Forms.{formula_at, formulas_at, HasFormula}
 use Rattle.ss_terms.proofs.Parts.{AreBelow-get}
 use Rattle.ss_search_path.proofs.Going.{goes_nowhere}
-use Rattle.ss_search_procedure_rules.specs.Closed.{Includes}
+use Rattle.ss_logic_occurring.specs.Includes.{Includes}
 use Rattle.ss_search_reached.specs.Following.{Occur}
 use Rattle.ss_search_reached.proofs.Spread.{grown, none_known, next_known, occur_at}
 use Rattle.ss_search_reached.proofs.Turns.{no_shorter}

@@ -7,12 +7,13 @@ use Rattle.ss_terms.specs.declared.forms.FormulaId.{FormulaId}
 use Rattle.ss_terms.specs.Forms.{formulas_at, HasFormulas}
 use Rattle.ss_deriv.specs.Lines.{lines_of}
 use Rattle.ss_search_clashes.specs.Numbered.{class_of}
-use Rattle.ss_search_procedure_rules.specs.Closed.{Includes, basics, IsStable}
+use Rattle.ss_logic_occurring.specs.Includes.{Includes}
+use Rattle.ss_search_procedure_rules.specs.Closed.{basics, IsSaturated}
 use Rattle.ss_search_procedure_rules.specs.Clashes.{FitsClasses}
 use Rattle.ss_search_closing.specs.Closing.{Closes}
 use Rattle.ss_search_reached.specs.Following.{Occur, HasNoSum, IsOpen}
 use Rattle.ss_search_reached.proofs.Names.{ok_any}
-use Rattle.ss_search_reached.proofs.Stable.{open_is_stable}
+use Rattle.ss_search_reached.proofs.Saturated.{open_is_saturated}
 use Rattle.ss_search_reached.proofs.Turns.{less_room, open_now}
 use Rattle.ss_search_standing.specs.declared.standing.Standing.{Standing}
 use Rattle.ss_search_reaching.specs.Reaching.{facts_of, reached_of, Shows}
@@ -45,7 +46,7 @@ returns-in-Closed c =
     let two = subst (TurnFrom g spread asked) c.in-Closed.is e.reaches in
     record {
       grows = grows_more g start before asked i.grows (grows_more g before spread asked c.in_ok-spread.ensures.grows e.turn.grows);
-      stable = λ cs of n. absurd (some_none c.in-Closed.lines n);
+      saturated = λ cs of n. absurd (some_none c.in-Closed.lines n);
       is_open = λ cs of n. absurd (some_none c.in-Closed.lines n);
       reaches = reaches_more g start before asked i.reaches (closed_reaches g before spread asked c.in-Closed.lines one two);
       closes = λ cs of premises goal h. closed_closes g before spread asked c.in-Closed.lines one two cs premises goal (i.reaches cs premises goal h).shows;
@@ -130,8 +131,8 @@ returns-then-mark-before-clause-is_open c = λ cs of.
     fits l.classes (h n))
     (c.sums.ensures.none cs of)
 
-pub returns-then-mark-before-clause-stable : goal.returns-then-mark-before-clause-stable
-returns-then-mark-before-clause-stable c = λ cs of.
+pub returns-then-mark-before-clause-saturated : goal.returns-then-mark-before-clause-saturated
+returns-then-mark-before-clause-saturated c = λ cs of.
     let g = c.args.given.now in
     let b = g.bank.now in
     let before = c.loop-self.self in
@@ -144,8 +145,8 @@ returns-then-mark-before-clause-stable c = λ cs of.
     let as_long = sym c.mark.ensures ∙ c.if-mark-before.true ∙ c.mark-before.ensures in
     let fits = if_open (FitsClasses (class_of b asked.reached.classes.items) (basics (reached_of g spread))) _ c.in-Open.units c.in-Open.is e.fits in
     let learnt = subst (λ (us : List (FormulaId × Standing)). Includes (reached_of g last) (formulas_at b (formulas_in us))) c.deref.ensures.value l.known in
-    IfOk-weaker c.sums.result (λ o. o ≡ None → HasNoSum cs (class_of b last.reached.classes.items) (basics (reached_of g last))) (λ o. o ≡ None → IsStable cs (reached_of g last))
-    (λ o h n. open_is_stable cs b last.reached (open_now b before.reached spread.reached asked.reached last.reached c.in_ok-spread.ensures.grows.reached turn.grows.state.reached turn.known l.grows.reached as_long cs (formulas_in c.in-Open.units.items)
+    IfOk-weaker c.sums.result (λ o. o ≡ None → HasNoSum cs (class_of b last.reached.classes.items) (basics (reached_of g last))) (λ o. o ≡ None → IsSaturated cs (reached_of g last))
+    (λ o h n. open_is_saturated cs b last.reached (open_now b before.reached spread.reached asked.reached last.reached c.in_ok-spread.ensures.grows.reached turn.grows.state.reached turn.known l.grows.reached as_long cs (formulas_in c.in-Open.units.items)
     c.in_ok-spread.ensures.spread turn.follows learnt e.names fits l.classes (h n)))
     (c.sums.ensures.none cs of)
 

@@ -12,9 +12,10 @@ use Rattle.ss_search_clashes.specs.Numbered.{class_of}
 use Rattle.ss_search_procedure_rules.specs.Closed.{basics}
 use Rattle.ss_search_closing.specs.Closing.{Closes}
 use Rattle.ss_search_reached.specs.Following.{HasNoSum}
-use Rattle.ss_search_whole_sums.specs.WholeSums.{AreBasicsAt, CloseSums}
+use Rattle.ss_search_clashing.specs.Cases.{AreAt}
+use Rattle.ss_search_whole_sums.specs.WholeSums.{CloseSums}
 use Rattle.ss_search_reaching.specs.Reaching.{place_of, facts_of, reached_of, Shows}
-use Rattle.ss_search_reaching.proofs.Turning.{none_then, basics_at, known_merges}
+use Rattle.ss_search_reaching.proofs.Turning.{none_then, shows_at, known_merges}
 use Rattle.ss_search_reaching.proofs.reaching.Reaching.sums.Goals as goal
 
 pub close_whole_sums-requires-clause-known : goal.close_whole_sums-requires-clause-known
@@ -49,6 +50,6 @@ returns-clause-closes c = λ cs of.
     IfOk-weaker c.close_whole_sums.result (λ o. IfSome o (λ v. CloseSums cs b ms c.len.result c.deref-2.result.now c.deref-3.result.now v.items))
     (λ o. IfSome o (λ v. (premises : List Formula) (goal : Formula) → Shows cs g r → Closes cs premises goal (facts_of g r) (lines_of b v.items)))
     (λ o h. IfSome_then o h (λ v k premises goal shows. k.closes premises goal (facts_of g r) (known_merges cs g r c.len.result (c.len.ensures ∙ r.path.known.ok.0) shows)
-    (subst (λ (fs : List FormulaId). AreBasicsAt cs b (facts_of g r) fs c.deref-3.result.now) (sym c.deref-2.ensures.value)
-    (subst (λ (ns : List ℕ). AreBasicsAt cs b (facts_of g r) r.reached.known.items ns) (sym c.deref-3.ensures.value) (basics_at cs g r c.requires.state shows)))))
+    (subst (λ (fs : List FormulaId). AreAt cs b (facts_of g r) fs c.deref-3.result.now) (sym c.deref-2.ensures.value)
+    (subst (λ (ns : List ℕ). AreAt cs b (facts_of g r) r.reached.known.items ns) (sym c.deref-3.ensures.value) (shows_at cs g r c.requires.state shows)))))
     (c.close_whole_sums.ensures.some cs of)

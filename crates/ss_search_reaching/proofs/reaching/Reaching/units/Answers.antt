@@ -3,7 +3,7 @@ use Rattle.std.proofs.lemmas.List.{length-map}
 use Rattle.std.proofs.lemmas.Result.{IfOk-weaker}
 use Rattle.ss_terms.specs.declared.forms.FormulaId.{FormulaId}
 use Rattle.ss_terms.specs.Forms.{HasFormulas}
-use Rattle.ss_equality_rules.specs.Equal.{Standing, AreClassesOf}
+use Rattle.ss_equality_rules.specs.Equal.{Equations, AreClassesOf}
 use Rattle.ss_search_clashes.specs.Numbered.{class_of, HasNoClash}
 use Rattle.ss_search_clashes.specs.Found.{IsFound, IsClash}
 use Rattle.ss_search_clashes.specs.Tables.{IsTable}
@@ -103,7 +103,7 @@ pub returns-in-Fits-clause-classes : goal.returns-in-Fits-clause-classes
 returns-in-Fits-clause-classes c =
     let k = c.args.self.now.reached.congruence in
     let is = c.in_ok-self.ensures.items ∙ c.deref.ensures.value in
-    ok_both c.units_by.result (λ same h. subst (λ (w : Standing). AreClassesOf w.terms w.merges c.units_by.new.self.reached.classes.items) (sym same)
+    ok_both c.units_by.result (λ same h. subst (λ (w : Equations). AreClassesOf w.terms w.merges c.units_by.new.self.reached.classes.items) (sym same)
     (subst (λ (ns : List ℕ). AreClassesOf k.terms k.merges ns) (sym (h ∙ is)) c.in_ok-classes.ensures.same)) c.units_by.ensures.congruence c.units_by.ensures.classes
 
 pub returns-in-Fits-clause-fits : goal.returns-in-Fits-clause-fits

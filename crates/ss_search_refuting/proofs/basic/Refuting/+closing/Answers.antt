@@ -8,7 +8,7 @@ use Rattle.ss_terms.specs.Forms.{formula_at, formulas_at}
 use Rattle.ss_terms.proofs.Parts.{AreBelow-get}
 use Rattle.ss_deriv.specs.declared.line.Line.{Line}
 use Rattle.ss_equality_rules.specs.declared.Merge.{Merge}
-use Rattle.ss_equality_rules.specs.Equal.{Standing}
+use Rattle.ss_equality_rules.specs.Equal.{Equations}
 use Rattle.ss_search_procedure_rules.specs.Closed.{is_basic, basics, AllMayHold, SomeMayHold}
 use Rattle.ss_search_procedure_rules.proofs.Lists.{contains_none}
 use Rattle.ss_search_reached.proofs.Lists.{one_more, all_of_them}
@@ -233,7 +233,7 @@ some_part-returns-in-Some t c =
     let whole = and_of (bank_of s) c.args.parts.now in
     let i = c.loop-part.invariant in
     let e = c.in_ok-lines.ensures in
-    let same = ap (λ (k : Standing). k.merges) i.congruence in
+    let same = ap (λ (k : Equations). k.merges) i.congruence in
     record {
       congruence = e.congruence ∙ i.congruence;
       kept = ap (λ (xs : List FormulaId). take (length xs) new.known.items) (sym i.known) ∙ e.kept ∙ i.known;
@@ -256,7 +256,7 @@ some_part-loop-part-preserved t c =
     let whole = and_of (bank_of s) ps in
     let i = c.loop-part.invariant in
     let e = c.in_ok-lines.ensures in
-    let same = ap (λ (k : Standing). k.merges) i.congruence in
+    let same = ap (λ (k : Equations). k.merges) i.congruence in
     record {
       congruence = e.congruence ∙ i.congruence;
       known = e.known c.in_default.is ∙ i.known;
@@ -383,7 +383,7 @@ cases-returns-in_default t c =
     let whole = or_of (bank_of s) c.args.parts.now in
     let i = c.loop-part.invariant in
     let e = c.in_ok-closing.ensures in
-    let same = ap (λ (k : Standing). k.merges) i.congruence in
+    let same = ap (λ (k : Equations). k.merges) i.congruence in
     let test = c.loop-part-test.true in
     record {
       congruence = e.congruence ∙ i.congruence;
@@ -406,7 +406,7 @@ cases-loop-part-preserved t c =
     let whole = or_of (bank_of s) ps in
     let i = c.loop-part.invariant in
     let e = c.in_ok-closing.ensures in
-    let same = ap (λ (k : Standing). k.merges) i.congruence in
+    let same = ap (λ (k : Equations). k.merges) i.congruence in
     let within = c.requires.end in
     let test = c.loop-part-test.true in
     record {

@@ -3,12 +3,12 @@ use Rattle.ss_ast.specs.Programs.{ClassTree}
 use Rattle.std.specs.Str.{bytes_eq}
 use Rattle.ss_tables.specs.Classes.{class_named}
 use Rattle.ss_tables_lookup.specs.Classes.{trees}
-use Rattle.ss_tables_lookup.specs.Places.{found}
+use Rattle.ss_tables.specs.Named.{named_in}
 use Rattle.ss_tables_lookup.proofs.Noted.{first_place, place_within}
 use Rattle.ss_tables_lookup.proofs.tables.Tables.class_named.Goals as goal
 
 pub returns-clause-class : goal.returns-clause-class
-returns-clause-class c = rw (← c.self.view_is) (c.find.ensures ∙ ap (λ p. found p c.args.name.now) c.self.invariant.names ∙ first_place (λ (t : ClassTree). t.name.text) c.args.name.now (trees c.self.inside.classes.now))
+returns-clause-class c = rw (← c.self.view_is) (c.find.ensures ∙ ap (λ p. named_in p c.args.name.now) c.self.invariant.names ∙ first_place (λ (t : ClassTree). t.name.text) c.args.name.now (trees c.self.inside.classes.now))
 
 pub returns-clause-within : goal.returns-clause-within
 returns-clause-within c =

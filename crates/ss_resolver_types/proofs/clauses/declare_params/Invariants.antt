@@ -1,9 +1,0 @@
-use Rattle.std.proofs.Common.{◌≡◌, map, drop}
-use Rattle.ss_ast.specs.Programs.{param_tree}
-use Rattle.ss_tables.specs.Scopes.{declare_params}
-use Rattle.ss_tables_scopes.specs.Views.{scope_of}
-use Rattle.ss_resolver_types.proofs.clauses.declare_params.Given as goal
-
-abbrev pub invariant-loop-param : goal.invariant-loop-param
-invariant-loop-param l =
-    declare_params (scope_of l.within l.locals) (map param_tree (drop l.param-index l.params)) ≡ declare_params (scope_of l.within l.fn.locals) (map param_tree l.params)

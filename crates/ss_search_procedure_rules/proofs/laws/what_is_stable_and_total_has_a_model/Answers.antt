@@ -1,5 +1,0 @@
-use Rattle.ss_search_procedure_rules.proofs.Models.{is_model}
-use Rattle.ss_search_procedure_rules.proofs.laws.what_is_stable_and_total_has_a_model.Goals as goal
-
-pub returns : goal.returns
-returns c = λ cs reached fs stable total i facts. is_model cs reached stable total fs i facts

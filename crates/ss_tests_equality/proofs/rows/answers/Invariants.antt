@@ -1,5 +1,0 @@
-use Rattle.ss_tests_equality.specs.Over.{IsOver}
-use Rattle.ss_tests_equality.proofs.rows.answers.Given as goal
-
-abbrev pub invariant-loop-step : goal.invariant-loop-step
-invariant-loop-step l = IsOver l.bank l.congruence

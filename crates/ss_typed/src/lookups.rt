@@ -1,0 +1,53 @@
+// What is looked up in a resolved program.
+
+ghost use Rattle.std.specs.Prelude.{◌≡◌, option_map, slice_get};
+ghost use Rattle.ss_typed.specs.View.{body, members, typed};
+ghost use Rattle.ss_typed.specs.Lookups as asked;
+
+use crate::body::TypedBody;
+use crate::program::{Typed, TypedClass};
+use ss_core::{BodyId, ClassId};
+
+/// The written body of this number.
+pub fn body_at(program: &Typed, number: BodyId) -> Option<&TypedBody>
+    ensures { option_map (λ b. body b.now) result ≡ asked.body_at (typed program.now) number.0 }
+{
+    program.bodies.get(number.0 as usize)
+}
+
+/// The place of a declared class in the list of classes.
+pub fn class_place(class: ClassId) -> usize
+    ensures { result ≡ asked.class_place class.0 }
+{
+    (class.0 as usize).saturating_sub(4) / 2
+}
+
+// What stands at this place of the list.
+fn members_in(program: &Typed, place: usize) -> Option<&TypedClass>
+    ensures { option_map (λ m. members m.now) result ≡ slice_get (typed program.now).members place }
+{
+    program.members.get(place)
+}
+
+/// What a declared class has beside its entry in the table of classes.
+pub fn members_of(program: &Typed, class: ClassId) -> Option<&TypedClass>
+    ensures { option_map (λ m. members m.now) result ≡ asked.members_of (typed program.now) class.0 }
+{
+    match program.classes.declared(class) {
+        Some(_) => members_in(program, class_place(class)),
+        None => None,
+    }
+}
+
+/// The constructor that the class writes.
+pub fn constructor_of(program: &Typed, class: ClassId) -> Option<&TypedBody>
+    ensures { option_map (λ b. body b.now) result ≡ asked.constructor_of (typed program.now) class.0 }
+{
+    match members_of(program, class) {
+        Some(found) => match found.constructor {
+            Some(number) => body_at(program, number),
+            None => None,
+        },
+        None => None,
+    }
+}
