@@ -18,9 +18,10 @@ use Rattle.ss_vcgen_known.specs.Sets.{without, pair_without, joined_below, below
 pub same : {X : Type 0} {f g : ℕ → X} → ((x : ℕ) → f x ≡ g x) → f ≡ g
 same h = λ i x. h x i
 
-pub nothing_listed : listed [] ≡ none
+pub empty_listed : (bs : List Bool) → length bs < 1 → listed bs ≡ none
 unfolding listed none
-nothing_listed = refl
+empty_listed [] l = refl
+empty_listed (b ∷ bs) l = absurd (omega arith)
 
 pub at_none : {X : Type 0} (d : X) → at [] d ≡ (λ x. d)
 unfolding at

@@ -10,7 +10,6 @@ use ss_bit_set::BitSet;
 use std::alloc::AllocError;
 
 // Whether the list of a set is empty.
-#[tactic(auto, using(crate::proofs::Listing::nothing_listed))]
 fn is_none(list: &[bool]) -> bool
     ensures { IsTrue result → listed list.now ≡ none }
 {
