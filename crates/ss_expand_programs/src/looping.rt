@@ -105,16 +105,16 @@ fn loop_of(
     place: Place,
     invariants: Vec<Expr>,
     prelude: Code,
-    test: Box<Expr>,
+    test: Expr,
     turn: Code,
     exposes: Vec<Exposed>,
 ) -> Stmt
-    ensures { core.stmt_of result ≡ LoopStmt place (core.exprs invariants.items) (core.code_of (stmts_of prelude.statements)) (core.expr test.value) (core.code_of (stmts_of turn.statements)) (map core.exposed_tree exposes.items) }
+    ensures { core.stmt_of result ≡ LoopStmt place (core.exprs invariants.items) (core.code_of (stmts_of prelude.statements)) (core.expr test) (core.code_of (stmts_of turn.statements)) (map core.exposed_tree exposes.items) }
 {
     Stmt::Loop(Loop {
         invariants,
         prelude: prelude.statements,
-        test: Box::into_inner(test),
+        test,
         body: turn.statements,
         place,
         exposes,
@@ -136,6 +136,7 @@ pub fn add_loop(
 {
     let invariants = invariants_of(alloc, setting, invariants)?;
     let exposes = list_exposed(alloc, &setting.exposes)?;
+    let test = Box::into_inner(test);
     let made = loop_of(place, invariants, prelude, test, turn, exposes);
     code.add(made)?;
     Ok(())
