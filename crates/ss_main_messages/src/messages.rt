@@ -44,7 +44,8 @@ fn heading(alloc: Global, file: &str, place: Place) -> Result<String, AllocError
     ensures { IfOk result (λ text. string_bytes text ≡ heading_of file.now place) }
 {
     let Place { line, column } = place;
-    format!(in alloc; "{file}:{line}:{column}: ")
+    let text = format!(in alloc; "{file}:{line}:{column}: ")?;
+    Ok(text)
 }
 
 /// The file, the place and what is said of it, and below them the line of the source with a mark.
@@ -68,7 +69,8 @@ pub(crate) fn message(
 pub(crate) fn error(alloc: Global, name: &str, said: &str) -> Result<String, AllocError>
     ensures { IfOk result (λ text. string_bytes text ≡ error_of name.now said.now) }
 {
-    format!(in alloc; "error[{name}]: {said}")
+    let text = format!(in alloc; "error[{name}]: {said}")?;
+    Ok(text)
 }
 
 // Whether a byte stands in comments and strings alone, or nowhere.
