@@ -11,7 +11,7 @@ ghost use Rattle.ss_delayed_rules.specs.Constructors.{base_not_delayed, at, esca
 ghost use Rattle.ss_delayed.specs.Parts.{use_of};
 ghost use Rattle.ss_delayed.specs.Openings.{base_of, opening_faults};
 
-use crate::ends::{Site, walk_along, walk_in};
+use crate::ends::{ConstructorContext, walk_along, walk_in};
 use crate::escapes::{Use, find_in_each};
 use crate::noting::{note_base, note_escapes, note_unassigned};
 use crate::opening::{BaseCall, count_opening, written_base};
@@ -71,14 +71,14 @@ fn check_ends(
 ) -> Result<(), AllocError>
     ensures { OnOk result (found.new.items ≡ found.old.items ++ end_faults (typed fields.now.program.now) (body constructor.now)) }
 {
-    let site = Site {
+    let context = ConstructorContext {
         program: fields.program,
         class: constructor.class,
         numbers: fields.numbers(constructor.class),
         end: constructor.block.end,
     };
     let first = assigned_first(alloc, fields.program, constructor)?;
-    let behind = walk_in(&site, &constructor.block, Some(first), found)?;
+    let behind = walk_in(&context, &constructor.block, Some(first), found)?;
     note_unassigned(
         fields.program,
         constructor.class,
@@ -163,7 +163,7 @@ fn check_opening(
     ensures { OnOk result (found.new.items ≡ found.old.items
         ++ opening_faults (typed fields.now.program.now) constructor.now.class.0 place (stmt_trees (map stmt_of (take count constructor.now.block.statements.items)))) }
 {
-    let site = Site {
+    let context = ConstructorContext {
         program: fields.program,
         class: constructor.class,
         numbers: fields.numbers(constructor.class),
@@ -173,7 +173,7 @@ fn check_opening(
     // What is noted at a return before `base(..)` is no fault of its own.
     let mut at_returns = Vec::new(alloc);
     let opening = &constructor.block.statements[..count];
-    let behind = walk_along(&site, opening, Some(first), &mut at_returns)?;
+    let behind = walk_along(&context, opening, Some(first), &mut at_returns)?;
     note_unassigned(fields.program, constructor.class, place, &behind, found)?;
     Ok(())
 }

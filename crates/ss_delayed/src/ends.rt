@@ -20,7 +20,7 @@ use std::alloc::AllocError;
 
 /// A constructor along whose statements we go: its class, the numbers of that class's fields, and the place of a fault at an end.
 #[derive(Clone, Copy)]
-pub struct Site<'p> {
+pub struct ConstructorContext<'p> {
     pub program: &'p Typed,
     pub class: ClassId,
     pub numbers: Numbers,
@@ -128,53 +128,48 @@ fn leave(is_endless: bool, known: Option<Assigned>) -> Option<Assigned>
 // Says what is assigned behind the statement, and notes the returns in it that leave a field without a value.
 #[cycle(walk)]
 fn walk(
-    site: &Site<'_>,
+    context: &ConstructorContext<'_>,
     statement: &TypedStmt,
     known: Option<Assigned>,
     found: &mut Vec<Fault>,
 ) -> Result<Option<Assigned>, AllocError>
-    ensures behind { IfOk result (λ k. known_of k ≡ walked (numbers_of site.now.numbers) (stmt_of statement.now) (known_of known)) }
-    ensures noted { OnOk result (found.new.items ≡ found.old.items ++ ended (unassigned_faults (typed site.now.program.now) site.now.class.0 site.now.end)
-        (numbers_of site.now.numbers) (stmt_of statement.now) (known_of known)) }
+    ensures behind { IfOk result (λ k. known_of k ≡ walked (numbers_of context.now.numbers) (stmt_of statement.now) (known_of known)) }
+    ensures noted { OnOk result (found.new.items ≡ found.old.items ++ ended (unassigned_faults (typed context.now.program.now) context.now.class.0 context.now.end)
+        (numbers_of context.now.numbers) (stmt_of statement.now) (known_of known)) }
 {
     match statement {
-        TypedStmt::Block(block) => {
-            let behind = walk_in(site, block, known, found)?;
-            Ok(behind)
+        TypedStmt::Block(block) | TypedStmt::Expose(_, _, _, block) => {
+            walk_in(context, block, known, found)
         }
         TypedStmt::Simple(done) => {
-            let behind = behind_done(site.numbers, done, known)?;
+            let behind = behind_done(context.numbers, done, known)?;
             Ok(behind)
         }
         TypedStmt::If(_, _, first, None) => {
             let around = copy(&known)?;
-            let behind = walk(site, first, known, found)?;
+            let behind = walk(context, first, known, found)?;
             Ok(join(behind, around))
         }
         TypedStmt::If(_, _, first, Some(second)) => {
             let otherwise = copy(&known)?;
-            let after_first = walk(site, first, known, found)?;
-            let after_second = walk(site, second, otherwise, found)?;
+            let after_first = walk(context, first, known, found)?;
+            let after_second = walk(context, second, otherwise, found)?;
             Ok(join(after_first, after_second))
         }
         TypedStmt::While(_, test, _, repeated) => {
             let inside = copy(&known)?;
-            let _repeated = walk(site, repeated, inside, found)?;
+            let _repeated = walk(context, repeated, inside, found)?;
             Ok(leave(is_true(test), known))
         }
         TypedStmt::For(_, first, test, _, _, repeated) => {
-            let begun = behind_first(site.numbers, first, known)?;
+            let begun = behind_first(context.numbers, first, known)?;
             let inside = copy(&begun)?;
-            let _repeated = walk(site, repeated, inside, found)?;
+            let _repeated = walk(context, repeated, inside, found)?;
             Ok(leave(is_endless(test), begun))
         }
         TypedStmt::Return(..) => {
-            note_unassigned(site.program, site.class, site.end, &known, found)?;
+            note_unassigned(context.program, context.class, context.end, &known, found)?;
             Ok(None)
-        }
-        TypedStmt::Expose(_, _, _, block) => {
-            let behind = walk_in(site, block, known, found)?;
-            Ok(behind)
         }
         TypedStmt::Declare(_)
         | TypedStmt::Assert(..)
@@ -186,34 +181,34 @@ fn walk(
 /// The same of a block.
 #[cycle(walk)]
 pub fn walk_in(
-    site: &Site<'_>,
+    context: &ConstructorContext<'_>,
     within: &TypedBlock,
     known: Option<Assigned>,
     found: &mut Vec<Fault>,
 ) -> Result<Option<Assigned>, AllocError>
-    ensures behind { IfOk result (λ k. known_of k ≡ walked_in (numbers_of site.now.numbers) (block within.now) (known_of known)) }
-    ensures noted { OnOk result (found.new.items ≡ found.old.items ++ ended_in (unassigned_faults (typed site.now.program.now) site.now.class.0 site.now.end)
-        (numbers_of site.now.numbers) (block within.now) (known_of known)) }
+    ensures behind { IfOk result (λ k. known_of k ≡ walked_in (numbers_of context.now.numbers) (block within.now) (known_of known)) }
+    ensures noted { OnOk result (found.new.items ≡ found.old.items ++ ended_in (unassigned_faults (typed context.now.program.now) context.now.class.0 context.now.end)
+        (numbers_of context.now.numbers) (block within.now) (known_of known)) }
 {
-    let behind = walk_along(site, &within.statements, known, found)?;
+    let behind = walk_along(context, &within.statements, known, found)?;
     Ok(behind)
 }
 
 /// The same of some statements.
 #[cycle(walk)]
 pub fn walk_along(
-    site: &Site<'_>,
+    context: &ConstructorContext<'_>,
     statements: &[TypedStmt],
     first: Option<Assigned>,
     found: &mut Vec<Fault>,
 ) -> Result<Option<Assigned>, AllocError>
-    ensures behind { IfOk result (λ k. known_of k ≡ walked_along (numbers_of site.now.numbers) (stmt_trees (map stmt_of statements.now)) (known_of first)) }
-    ensures noted { OnOk result (found.new.items ≡ found.old.items ++ ended_along (unassigned_faults (typed site.now.program.now) site.now.class.0 site.now.end)
-        (numbers_of site.now.numbers) (stmt_trees (map stmt_of statements.now)) (known_of first)) }
+    ensures behind { IfOk result (λ k. known_of k ≡ walked_along (numbers_of context.now.numbers) (stmt_trees (map stmt_of statements.now)) (known_of first)) }
+    ensures noted { OnOk result (found.new.items ≡ found.old.items ++ ended_along (unassigned_faults (typed context.now.program.now) context.now.class.0 context.now.end)
+        (numbers_of context.now.numbers) (stmt_trees (map stmt_of statements.now)) (known_of first)) }
 {
     let mut known = first;
     for statement in statements {
-        known = walk(site, statement, known, found)?;
+        known = walk(context, statement, known, found)?;
     }
     Ok(known)
 }

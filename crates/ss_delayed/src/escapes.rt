@@ -1,6 +1,6 @@
 // Where `this` stands in an expression.
 
-ghost use Rattle.std.specs.Prelude.{◌≡◌, ◌++◌, OnOk, map};
+ghost use Rattle.std.specs.Prelude.{◌≡◌, [], ◌∷◌, ◌++◌, OnOk, map};
 ghost use Rattle.ss_typed.specs.Tree.{arguments};
 ghost use Rattle.ss_typed.specs.View.{expr};
 ghost use Rattle.ss_delayed_rules.specs.Escapes.{may_read, uses, uses_each};
@@ -54,61 +54,31 @@ fn is_allowed_read(allowed: Use, first: &TypedExpr, steps: &[TypedStep]) -> bool
     starts_with_field(steps) && (may_read(allowed) && is_this(first))
 }
 
+// Adds a place.
+fn note(place: Place, found: &mut Vec<Place>) -> Result<(), AllocError>
+    ensures { OnOk result (found.new.items ≡ found.old.items ++ place ∷ []) }
+{
+    found.push(place)?;
+    Ok(())
+}
+
 /// Adds the places in the expression where `this` is used otherwise.
 #[cycle(uses)]
 pub fn find_uses(allowed: Use, e: &TypedExpr, found: &mut Vec<Place>) -> Result<(), AllocError>
     ensures { OnOk result (found.new.items ≡ found.old.items ++ uses (use_of allowed) (expr e.now)) }
 {
     match e {
-        TypedExpr::This(place, _) => {
-            found.push(*place)?;
-            Ok(())
-        }
-        TypedExpr::Int(..)
-        | TypedExpr::Bool(..)
-        | TypedExpr::Null(..)
-        | TypedExpr::Local(..)
-        | TypedExpr::Result(..)
-        | TypedExpr::Bound(..) => Ok(()),
-        TypedExpr::Iff(_, a, b) => {
+        TypedExpr::This(place, _) => note(*place, found),
+        TypedExpr::Iff(_, a, b) | TypedExpr::Implies(_, a, b) | TypedExpr::Owners(_, _, a, b) => {
             find_uses(allowed, a, found)?;
-            find_uses(allowed, b, found)?;
-            Ok(())
+            find_uses(allowed, b, found)
         }
-        TypedExpr::Implies(_, a, b) => {
-            find_uses(allowed, a, found)?;
-            find_uses(allowed, b, found)?;
-            Ok(())
-        }
-        TypedExpr::Owners(_, _, a, b) => {
-            find_uses(allowed, a, found)?;
-            find_uses(allowed, b, found)?;
-            Ok(())
-        }
-        TypedExpr::Negate(_, inner) => {
-            find_uses(allowed, inner, found)?;
-            Ok(())
-        }
-        TypedExpr::Not(_, inner) => {
-            find_uses(allowed, inner, found)?;
-            Ok(())
-        }
-        TypedExpr::Cast(_, _, _, inner) => {
-            find_uses(allowed, inner, found)?;
-            Ok(())
-        }
-        TypedExpr::Old(_, inner) => {
-            find_uses(allowed, inner, found)?;
-            Ok(())
-        }
-        TypedExpr::State(_, _, inner) => {
-            find_uses(allowed, inner, found)?;
-            Ok(())
-        }
-        TypedExpr::NewArray(_, _, length) => {
-            find_uses(allowed, length, found)?;
-            Ok(())
-        }
+        TypedExpr::Negate(_, inner)
+        | TypedExpr::Not(_, inner)
+        | TypedExpr::Cast(_, _, _, inner)
+        | TypedExpr::Old(_, inner)
+        | TypedExpr::State(_, _, inner)
+        | TypedExpr::NewArray(_, _, inner) => find_uses(allowed, inner, found),
         TypedExpr::Chain(_, first, links) => {
             find_uses(allowed, first, found)?;
             find_in_links(allowed, links, found)?;
@@ -126,19 +96,15 @@ pub fn find_uses(allowed: Use, e: &TypedExpr, found: &mut Vec<Place>) -> Result<
             find_uses(allowed, member, found)?;
             Ok(())
         }
-        TypedExpr::New(_, _, list) => {
-            find_in_each(allowed, list, found)?;
-            Ok(())
-        }
-        TypedExpr::Static(_, _, _, list) => {
-            find_in_each(allowed, list, found)?;
-            Ok(())
+        TypedExpr::New(_, _, list) | TypedExpr::Static(_, _, _, list) => {
+            find_in_each(allowed, list, found)
         }
         TypedExpr::Base(place, _, _, list) => {
             found.push(*place)?;
             find_in_each(allowed, list, found)?;
             Ok(())
         }
+        _ => Ok(()),
     }
 }
 

@@ -192,18 +192,9 @@ fn find_at(allowed: Use, statement: &TypedStmt, found: &mut Vec<Place>) -> Resul
     ensures { OnOk result (found.new.items ≡ found.old.items ++ uses_at (use_of allowed) (stmt_of statement.now)) }
 {
     match statement {
-        TypedStmt::Block(block) => {
-            find_in(allowed, block, found)?;
-            Ok(())
-        }
-        TypedStmt::Declare(list) => {
-            find_declared(allowed, list, found)?;
-            Ok(())
-        }
-        TypedStmt::Simple(done) => {
-            find_done(allowed, done, found)?;
-            Ok(())
-        }
+        TypedStmt::Block(block) => find_in(allowed, block, found),
+        TypedStmt::Declare(list) => find_declared(allowed, list, found),
+        TypedStmt::Simple(done) => find_done(allowed, done, found),
         TypedStmt::If(_, test, first, None) => {
             find_uses(allowed, test, found)?;
             find_at(allowed, first, found)?;
@@ -226,18 +217,8 @@ fn find_at(allowed: Use, statement: &TypedStmt, found: &mut Vec<Place>) -> Resul
             find_at(allowed, repeated, found)?;
             Ok(())
         }
-        TypedStmt::Return(_, e) => {
-            find_if(allowed, e, found)?;
-            Ok(())
-        }
-        TypedStmt::Assert(_, e) => {
-            find_uses(allowed, e, found)?;
-            Ok(())
-        }
-        TypedStmt::Assume(_, e) => {
-            find_uses(allowed, e, found)?;
-            Ok(())
-        }
+        TypedStmt::Return(_, e) => find_if(allowed, e, found),
+        TypedStmt::Assert(_, e) | TypedStmt::Assume(_, e) => find_uses(allowed, e, found),
         TypedStmt::Expose(_, exposed, _, block) => {
             find_uses(allowed, exposed, found)?;
             find_in(allowed, block, found)?;

@@ -124,6 +124,8 @@ impl Draft {
         requires { IsShaped self }
         ensures { result ≡ self }
     {
-        Derivation { lines: self.lines }
+        let mut lines = self.lines;
+        lines.shrink_to_fit();
+        Derivation { lines }
     }
 }

@@ -50,7 +50,7 @@ pub fn list_exposed(alloc: Global, exposes: &[Opened]) -> Result<Vec<Exposed>, A
 
 /// Adds the pack of `this` before a return at this place, which a constructor has.
 pub fn add_pack_this(code: &mut Vec<Stmt>, body: &TypedBody, place: Place) -> Result<(), AllocError>
-    ensures { (s : lifting.Setting) → s.body ≡ typed.body body.now
+    ensures { (s : lifting.ElaborationContext) → s.body ≡ typed.body body.now
         → OnOk result (stmts_of code.new ≡ stmts_of code.old ++ statements.pack_this s place) }
 {
     if body.flags.ctor {

@@ -36,7 +36,7 @@ pub fn keep(
     wanted: Ty,
     operand: Operand,
 ) -> Result<Expr, AllocError>
-    ensures { (s : lifting.Setting) → (e : ExprTree) → (before : List tree.StmtTree) → (types : List Ty)
+    ensures { (s : lifting.ElaborationContext) → (e : ExprTree) → (before : List tree.StmtTree) → (types : List Ty)
         → s.numbers ≡ numbers_of numbers.now → IsOperand s e before types code.old made.old operand
         → IfOk result (λ v. valued_by code.new made.new v ≡ valued_behind before (lifting.operand s.numbers wanted e (lifting.lifted s e) types)) }
 {

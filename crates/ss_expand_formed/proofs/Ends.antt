@@ -13,7 +13,7 @@ use Rattle.ss_expand_rules.specs.Code.{Coded, nothing, then_code}
 use Rattle.ss_expand_rules.specs.Ends.{is_always, can_end, block_can_end, all_can_end}
 use Rattle.ss_typed.specs.Shapes.{is_true, place_of}
 use Rattle.ss_typed.specs.Types.{type_of}
-use Rattle.ss_expand_rules.specs.Lifting.{Setting, Opened, Valued, Lifted, next, in_temporary, temporary_type, any_object, right_side, value}
+use Rattle.ss_expand_rules.specs.Lifting.{ElaborationContext, Opened, Valued, Lifted, next, in_temporary, temporary_type, any_object, right_side, value}
 use Rattle.ss_expand_rules.specs.Statements.{packs, leave_with, kept_result, leave_value, leave, loop_while, begin, advance, exposed_class, within, opened, expose_in, expose_with, expose_lifted, stmt, block, stmts}
 
 -- ---- lists of statements
@@ -45,25 +45,25 @@ if_stops p e one other h k = rw (h, k) refl
 
 -- ---- loops on the literal `true`
 
-endless_stops : (s : Setting) (p : Place) (is : List ExprTree) (e : ExprTree) (turn : List Ty → Coded) (made : List Ty) → is_true e ≡ true → reached (loop_while s p is (Some e) turn made).code ≡ false
+endless_stops : (s : ElaborationContext) (p : Place) (is : List ExprTree) (e : ExprTree) (turn : List Ty → Coded) (made : List Ty) → is_true e ≡ true → reached (loop_while s p is (Some e) turn made).code ≡ false
 endless_stops s p is (BoolOf q true) turn made h = refl
 endless_stops s p is (BoolOf q false) turn made h = absurd (let x : ⊥ = cc in x)
 endless_stops s p is e turn made h = absurd (let x : ⊥ = cc in x)
 
-while_stops : (s : Setting) (p : Place) (is : List ExprTree) (e : Option ExprTree) (turn : List Ty → Coded) (made : List Ty) → is_always e ≡ true → reached (loop_while s p is e turn made).code ≡ false
+while_stops : (s : ElaborationContext) (p : Place) (is : List ExprTree) (e : Option ExprTree) (turn : List Ty → Coded) (made : List Ty) → is_always e ≡ true → reached (loop_while s p is e turn made).code ≡ false
 while_stops s p is None turn made h = refl
 while_stops s p is (Some e) turn made h = endless_stops s p is e turn made h
 
 -- ---- returns
 
-leave_with_stops : (s : Setting) (p : Place) (v : Valued) → reached (leave_with s p v).code ≡ false
+leave_with_stops : (s : ElaborationContext) (p : Place) (v : Valued) → reached (leave_with s p v).code ≡ false
 leave_with_stops s p v = stops_last (v.code ++ packs s p) (ReturnStmt p (Some v.value) ∷ []) refl
 
-leave_value_stops : (s : Setting) (p : Place) (e : ExprTree) (os : List Opened) (made : List Ty) → reached (leave_value s p e os made).code ≡ false
+leave_value_stops : (s : ElaborationContext) (p : Place) (e : ExprTree) (os : List Opened) (made : List Ty) → reached (leave_value s p e os made).code ≡ false
 leave_value_stops s p e [] made = leave_with_stops s p (value s e made)
 leave_value_stops s p e (o ∷ os) made = leave_with_stops s p (kept_result s e (right_side s e made))
 
-leave_stops : (s : Setting) (p : Place) (e : Option ExprTree) (made : List Ty) → reached (leave s p e made).code ≡ false
+leave_stops : (s : ElaborationContext) (p : Place) (e : Option ExprTree) (made : List Ty) → reached (leave s p e made).code ≡ false
 leave_stops s p None made = stops_last (packs s p) (ReturnStmt p None ∷ []) refl
 leave_stops s p (Some e) made = leave_value_stops s p e s.exposes made
 
@@ -73,15 +73,15 @@ expose_in_stops : (o : Opened) (v : Valued) (ends : Bool) (inside : Coded) → e
 expose_in_stops o v true inside e h = absurd (let x : ⊥ = cc in x)
 expose_in_stops o v false inside e h = stops_last (v.code ++ UnpackStmt o.place o.local o.class ∷ []) inside.code h
 
-expose_with_stops : (s : Setting) (o : Opened) (v : Valued) (ends : Bool) (inner : Setting → List Ty → Coded) → ends ≡ false → ((z : Setting) (m : List Ty) → reached (inner z m).code ≡ false) → reached (expose_with s o v ends inner).code ≡ false
+expose_with_stops : (s : ElaborationContext) (o : Opened) (v : Valued) (ends : Bool) (inner : ElaborationContext → List Ty → Coded) → ends ≡ false → ((z : ElaborationContext) (m : List Ty) → reached (inner z m).code ≡ false) → reached (expose_with s o v ends inner).code ≡ false
 expose_with_stops s o v ends inner e h = expose_in_stops o v ends (inner (within s o) v.made) e (h (within s o) v.made)
 
-expose_stops : (s : Setting) (p : Place) (e : ExprTree) (t : ℕ) (ends : Bool) (inner : Setting → List Ty → Coded) (l : Lifted) → ends ≡ false → ((z : Setting) (m : List Ty) → reached (inner z m).code ≡ false) →
+expose_stops : (s : ElaborationContext) (p : Place) (e : ExprTree) (t : ℕ) (ends : Bool) (inner : ElaborationContext → List Ty → Coded) (l : Lifted) → ends ≡ false → ((z : ElaborationContext) (m : List Ty) → reached (inner z m).code ≡ false) →
     reached (expose_lifted s p e t ends inner l).code ≡ false
 expose_stops s p e t ends inner l h stops = expose_with_stops s (opened p (next s.numbers l.made) t) (in_temporary s.numbers (place_of e) (temporary_type any_object (type_of e)) l) ends inner h stops
 
 mutual
-  pub stmt_stops : (s : Setting) (x : StmtTree) (made : List Ty) → can_end x ≡ false → reached (stmt s x made).code ≡ false
+  pub stmt_stops : (s : ElaborationContext) (x : StmtTree) (made : List Ty) → can_end x ≡ false → reached (stmt s x made).code ≡ false
   stmt_stops s (InBlock b) made h = block_stops s b made h
   stmt_stops s (IfElseOf p e a b) made h =
       let both = or_false (can_end a) (can_end b) h in
@@ -103,10 +103,10 @@ mutual
   stmt_stops s (AssumeOf p e) made h = absurd (let x : ⊥ = cc in x)
   stmt_stops s (EmptyOf p) made h = absurd (let x : ⊥ = cc in x)
 
-  pub block_stops : (s : Setting) (b : BlockTree) (made : List Ty) → block_can_end b ≡ false → reached (block s b made).code ≡ false
+  pub block_stops : (s : ElaborationContext) (b : BlockTree) (made : List Ty) → block_can_end b ≡ false → reached (block s b made).code ≡ false
   block_stops s (BlockOf p ss end) made h = stmts_stop s ss made h
 
-  pub stmts_stop : (s : Setting) (ss : StmtTrees) (made : List Ty) → all_can_end ss ≡ false → reached (stmts s ss made).code ≡ false
+  pub stmts_stop : (s : ElaborationContext) (ss : StmtTrees) (made : List Ty) → all_can_end ss ≡ false → reached (stmts s ss made).code ≡ false
   stmts_stop s NoMore made h = absurd (let x : ⊥ = cc in x)
   stmts_stop s (Before x xs) made h =
       ⊎_elim

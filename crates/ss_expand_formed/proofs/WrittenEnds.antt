@@ -29,7 +29,7 @@ use Rattle.ss_expand_rules.specs.Ends.{is_always, can_end, block_can_end, all_ca
 use Rattle.ss_typed.specs.Shapes.{is_true, closing_brace as closing, in_block}
 use Rattle.ss_expand_rules.specs.Program.{table, Origin}
 use Rattle.ss_expand_rules.specs.Constructors.{implicit_constructor, before_all, constructor_stmts}
-use Rattle.ss_expand_rules.specs.Bodies.{with_return, statements, setting, temporary_count, copying, code}
+use Rattle.ss_expand_rules.specs.Bodies.{with_return, statements, elaboration_context, temporary_count, copying, code}
 use Rattle.ss_store_rules.specs.Paths.{reaches_end}
 use Rattle.ss_expand_formed.specs.Laws.{core_of, EndsInReturn}
 use Rattle.ss_expand_formed.proofs.Bodies.{IsMade, WrittenConstructor, ImplicitConstructor, WrittenMethod, Wrapper, origin_of}
@@ -57,7 +57,7 @@ with_return_stops b (Some t) true special h = absurd (let x : ⊥ = cc in x)
 with_return_stops b (Some t) false special h = in_block_ends b.block ∙ not_true (block_can_end b.block) h
 
 code_stops : (p : TypedTree) (b : BodyTree) → has_return b ≡ true → reached (code p b) ≡ false
-code_stops p b h = stops_last (copying b) _ (stmts_stop (setting p b (temporary_count p b)) (statements p b) [] (with_return_stops b b.result b.flags.ctor (constructor_stmts p b) h))
+code_stops p b h = stops_last (copying b) _ (stmts_stop (elaboration_context p b (temporary_count p b)) (statements p b) [] (with_return_stops b b.result b.flags.ctor (constructor_stmts p b) h))
 
 -- ---- the bodies of a resolved program
 

@@ -23,7 +23,7 @@ use Rattle.ss_expand_rules.specs.Lifting.{Pure, Called}
 use Rattle.ss_paths.specs.Opening.{is_first}
 use Rattle.ss_expand_rules.specs.Constructors.{before_all, initialize, initializers_from, initializers_in, behind_initial, base_alone, with_base, constructor_stmts}
 use Rattle.ss_typed.specs.Shapes.{closing_brace, in_block, has_base}
-use Rattle.ss_expand_rules.specs.Bodies.{block_assigns, this_meant, meant_from, first_copy, meant, numbers, copying_from, copying, with_return, statements, setting, code_with, temporary_count, written_body, own_params, wrapper_result, returned, first_of_wrapper, wrapper_body, param_of}
+use Rattle.ss_expand_rules.specs.Bodies.{block_assigns, this_meant, meant_from, first_copy, meant, numbers, copying_from, copying, with_return, statements, elaboration_context, code_with, temporary_count, written_body, own_params, wrapper_result, returned, first_of_wrapper, wrapper_body, param_of}
 use Rattle.ss_store_rules.specs.Locals.{this_types, types_of, local_types, argument_count, is_argument}
 use Rattle.ss_store_rules.specs.Assigned.{reads_what_is_assigned}
 use Rattle.ss_expand_formed.proofs.Facts.{all_at}
@@ -252,7 +252,7 @@ module _ (p : TypedTree) (b : BodyTree) (bs : List BodyTree) where
       (copies_flow y b.block (first_copy b) (first_param b) b.params (is_argument y) (λ z low high. argument z high))
       (λ l i.
       weaken y l (More l) (More (is_argument y)) more (λ c j. further (is_argument y) l c i.more j)
-      (stmts_read y (own_of b) (setting p b n) fits (may_of b) (statements p b) (statements_read (own_of b) p (may_of b) b ms built rest.0 rest.1) [] l (knows l i built)))).checks
+      (stmts_read y (own_of b) (elaboration_context p b n) fits (may_of b) (statements p b) (statements_read (own_of b) p (may_of b) b ms built rest.0 rest.1) [] l (knows l i built)))).checks
 
 -- ---- wrappers
 

@@ -42,7 +42,7 @@ use Rattle.ss_expand_formed_assigned.proofs.Reading.{May, reads, read_all, may_r
 use Rattle.ss_expand_formed_assigned.proofs.Reading as reading
 use Rattle.ss_expand_formed_assigned.proofs.Words.{calls_words, callee_words, args_words, words_called}
 use Rattle.ss_expand_formed_assigned.proofs.Scopes.{known_append}
-use Rattle.ss_expand_formed_assigned.proofs.Statics.{quiet, refusing, Match, either_some, enter_match, around, plainly, all_quiet, call_given}
+use Rattle.ss_expand_formed_assigned.proofs.Statics.{quiet, refusing, Match, either_some, enter_match, expr_context, plainly, all_quiet, call_given}
 
 -- ---- names in scope
 
@@ -179,11 +179,11 @@ module _ (r : Option Ty) (outcome : Outcome) where
 
   -- ---- expressions
 
-  one : (e : Env) → Match e → (c : Bool) (x : text.ExprTree) → faults (around r false e.scope c) AsValue x ≡ [] → expr_faults (plainly r false e.scope) x ≡ [] → reads quiet (expr e x) ≡ true
+  one : (e : Env) → Match e → (c : Bool) (x : text.ExprTree) → faults (expr_context r false e.scope c) AsValue x ≡ [] → expr_faults (plainly r false e.scope) x ≡ [] → reads quiet (expr e x) ≡ true
   one e match c x h n = (all_quiet r false e match x c h (words_called (plainly r false e.scope) x n)).is_quiet
 
-  as_one : (e : Env) → Match e → (c : Bool) (v : Want) (x : text.ExprTree) → faults_as (around r false e.scope c) v x ≡ [] → expr_faults (plainly r false e.scope) x ≡ [] → reads quiet (expr e x) ≡ true
-  as_one e match c v x h n = one e match c x (none_left (faults (around r false e.scope c) AsValue x) (wrong (refusing e.scope) v x) h).0 n
+  as_one : (e : Env) → Match e → (c : Bool) (v : Want) (x : text.ExprTree) → faults_as (expr_context r false e.scope c) v x ≡ [] → expr_faults (plainly r false e.scope) x ≡ [] → reads quiet (expr e x) ≡ true
+  as_one e match c v x h n = one e match c x (none_left (faults (expr_context r false e.scope c) AsValue x) (wrong (refusing e.scope) v x) h).0 n
 
   conditions_quiet : (e : Env) → Match e → (es : List text.ExprTree) → conditions body (refusing e.scope) es ≡ [] → faults_of_all (plainly r false e.scope) es ≡ [] → list_all (reads quiet) (map (expr e) es) ≡ true
   conditions_quiet e match [] h n = refl
@@ -198,35 +198,35 @@ module _ (r : Option Ty) (outcome : Outcome) where
 
   -- ---- simple statements
 
-  printed_quiet : (e : Env) → Match e → (p : Place) (line : Bool) (x : text.ExprTree) → (is_text (bare x) ≡ false → faults (around r false e.scope false) AsValue x ≡ []) → calls_words (plainly r false e.scope) x ≡ true → simple_reads quiet (printed e p line x) ≡ true
+  printed_quiet : (e : Env) → Match e → (p : Place) (line : Bool) (x : text.ExprTree) → (is_text (bare x) ≡ false → faults (expr_context r false e.scope false) AsValue x ≡ []) → calls_words (plainly r false e.scope) x ≡ true → simple_reads quiet (printed e p line x) ≡ true
   printed_quiet e match p line (text.ParenOf q x) h w = printed_quiet e match p line x h w
   printed_quiet e match p line (text.TextOf q x) h w = refl
   printed_quiet e match p line x h w = (all_quiet r false e match x false (h refl) w).is_quiet
 
-  first_printed : (s : Scope) (ws : List Want) (x : text.ExprTree) (es : Arguments) → head_printed ws ≡ true → argument_faults (around r false s false) ws (text.Argument x es) ≡ [] → is_text (bare x) ≡ false → faults (around r false s false) AsValue x ≡ []
-  first_printed s [] x es i h unlike = (none_left (faults (around r false s false) AsValue x) (argument_faults (around r false s false) [] es) h).0
+  first_printed : (s : Scope) (ws : List Want) (x : text.ExprTree) (es : Arguments) → head_printed ws ≡ true → argument_faults (expr_context r false s false) ws (text.Argument x es) ≡ [] → is_text (bare x) ≡ false → faults (expr_context r false s false) AsValue x ≡ []
+  first_printed s [] x es i h unlike = (none_left (faults (expr_context r false s false) AsValue x) (argument_faults (expr_context r false s false) [] es) h).0
   first_printed s (Printable ∷ ws) x es i h unlike =
-      let a = around r false s false in
+      let a = expr_context r false s false in
       let it = (none_left (argument a Printable x (faults a AsValue x)) (argument_faults a ws es) h).0 in
       (none_left (faults a AsValue x) (wrong (refusing s) Printable x) (rw unlike at it)).0
   first_printed s (w ∷ ws) x es i h unlike = absurd (false≢true i)
 
-  print_quiet : (e : Env) → Match e → (p : Place) (line : Bool) (ws : List Want) → head_printed ws ≡ true → (es : Arguments) → argument_faults (around r false e.scope false) ws es ≡ [] → args_words (plainly r false e.scope) es ≡ true → simple_reads quiet (print e p line es) ≡ true
+  print_quiet : (e : Env) → Match e → (p : Place) (line : Bool) (ws : List Want) → head_printed ws ≡ true → (es : Arguments) → argument_faults (expr_context r false e.scope false) ws es ≡ [] → args_words (plainly r false e.scope) es ≡ true → simple_reads quiet (print e p line es) ≡ true
   print_quiet e match p line ws i text.NoMore h w = refl
   print_quiet e match p line ws i (text.Argument x es) h w =
       printed_quiet e match p line x (first_printed e.scope ws x es i h) (and_parts (calls_words (plainly r false e.scope) x) (args_words (plainly r false e.scope) es) w).0
 
   call_alone_quiet : (e : Env) → Match e → (p : Place) (n : List ℕ) (es : Arguments) (v : Known) (t : Receiver) (whole : ExprTree) → reads quiet whole ≡ true →
-      argument_faults (around r false e.scope false) (argument_wants (count es) (called_member (around r false e.scope false) (count es) v n t)) es ≡ [] → args_words (plainly r false e.scope) es ≡ true → simple_reads quiet (call_alone e p n es t whole) ≡ true
+      argument_faults (expr_context r false e.scope false) (argument_wants (count es) (called_member (expr_context r false e.scope false) (count es) v n t)) es ≡ [] → args_words (plainly r false e.scope) es ≡ true → simple_reads quiet (call_alone e p n es t whole) ≡ true
   call_alone_quiet e match p n es v TheConsole whole q h w = print_quiet e match p (is_line n) (argument_wants (count es) (called_console (count es) n)) (console_argument (count es) n) es h w
   call_alone_quiet e match p n es v TheOwner whole q h w = q
   call_alone_quiet e match p n es v TheBase whole q h w = q
   call_alone_quiet e match p n es v (AClass k) whole q h w = q
   call_alone_quiet e match p n es v (AValue t) whole q h w = q
 
-  alone_quiet : (e : Env) → Match e → (x : text.ExprTree) → faults (around r false e.scope false) AsValue x ≡ [] → calls_words (plainly r false e.scope) x ≡ true → simple_reads quiet (alone e x) ≡ true
+  alone_quiet : (e : Env) → Match e → (x : text.ExprTree) → faults (expr_context r false e.scope false) AsValue x ≡ [] → calls_words (plainly r false e.scope) x ≡ true → simple_reads quiet (alone e x) ≡ true
   alone_quiet e match (text.CallOf p (text.BaseOf q) es) h w =
-      let a = around r false e.scope false in
+      let a = expr_context r false e.scope false in
       let rest = none_left (condition_faults a p true ++ whole_call p (count es) Refused) (argument_faults a (argument_wants (count es) Refused) es) h in
       refused (none_left (condition_faults a p true) (whole_call p (count es) Refused) rest.0).1
     where
@@ -239,24 +239,24 @@ module _ (r : Option Ty) (outcome : Outcome) where
       (call_given r false e match p q x n es (all_quiet r false e match x) false h w) (and_parts (callee_words (plainly r false s) (text.MemberOf q x n)) (args_words (plainly r false s) es) w).1
   alone_quiet e match x h w = (all_quiet r false e match x false h w).is_quiet
 
-  assigned_quiet : (e : Env) → Match e → (o : AssignOperator) (x y : text.ExprTree) → assigned_faults (around r false e.scope false) o x y ≡ [] → expr_faults (plainly r false e.scope) y ≡ [] → reads quiet (expr e y) ≡ true
+  assigned_quiet : (e : Env) → Match e → (o : AssignOperator) (x y : text.ExprTree) → assigned_faults (expr_context r false e.scope false) o x y ≡ [] → expr_faults (plainly r false e.scope) y ≡ [] → reads quiet (expr e y) ≡ true
   assigned_quiet e match operator.Set x y h n = as_one e match false (OfType (static (refusing e.scope) x)) y h n
-  assigned_quiet e match operator.Add x y h n = as_one e match false AnInt y (none_left (wrong (refusing e.scope) AnInt x) (faults_as (around r false e.scope false) AnInt y) h).1 n
-  assigned_quiet e match operator.Subtract x y h n = as_one e match false AnInt y (none_left (wrong (refusing e.scope) AnInt x) (faults_as (around r false e.scope false) AnInt y) h).1 n
-  assigned_quiet e match operator.Multiply x y h n = as_one e match false AnInt y (none_left (wrong (refusing e.scope) AnInt x) (faults_as (around r false e.scope false) AnInt y) h).1 n
+  assigned_quiet e match operator.Add x y h n = as_one e match false AnInt y (none_left (wrong (refusing e.scope) AnInt x) (faults_as (expr_context r false e.scope false) AnInt y) h).1 n
+  assigned_quiet e match operator.Subtract x y h n = as_one e match false AnInt y (none_left (wrong (refusing e.scope) AnInt x) (faults_as (expr_context r false e.scope false) AnInt y) h).1 n
+  assigned_quiet e match operator.Multiply x y h n = as_one e match false AnInt y (none_left (wrong (refusing e.scope) AnInt x) (faults_as (expr_context r false e.scope false) AnInt y) h).1 n
 
-  target_quiet : (e : Env) → Match e → (x : text.ExprTree) → target_faults (around r false e.scope false) x ≡ [] → expr_faults (plainly r false e.scope) x ≡ [] → reads quiet (expr e x) ≡ true
-  target_quiet e match x h n = one e match false x (none_left (faults (around r false e.scope false) AsValue x) (fault_where (not (is_target (refusing e.scope) x)) (bad_type (place_of x))) h).0 n
+  target_quiet : (e : Env) → Match e → (x : text.ExprTree) → target_faults (expr_context r false e.scope false) x ≡ [] → expr_faults (plainly r false e.scope) x ≡ [] → reads quiet (expr e x) ≡ true
+  target_quiet e match x h n = one e match false x (none_left (faults (expr_context r false e.scope false) AsValue x) (fault_where (not (is_target (refusing e.scope) x)) (bad_type (place_of x))) h).0 n
 
-  simple_quiet : (e : Env) → Match e → (x : written.SimpleTree) → types.simple_faults (around r false e.scope false) x ≡ [] → names.simple_faults (plainly r false e.scope) x ≡ [] → simple_reads quiet (simple e x) ≡ true
+  simple_quiet : (e : Env) → Match e → (x : written.SimpleTree) → types.simple_faults (expr_context r false e.scope false) x ≡ [] → names.simple_faults (plainly r false e.scope) x ≡ [] → simple_reads quiet (simple e x) ≡ true
   simple_quiet e match (written.AssignOf x o y) h n =
-      let a = around r false e.scope false in
+      let a = expr_context r false e.scope false in
       let both = none_left (target_faults a x) (assigned_faults a o x y) h in
       let found = none_left (expr_faults (plainly r false e.scope) x) (expr_faults (plainly r false e.scope) y) n in
       and_from _ _ (target_quiet e match x both.0 found.0) (assigned_quiet e match o x y both.1 found.1)
-  simple_quiet e match (written.StepOf x o) h n = let a = around r false e.scope false in target_quiet e match x (none_left (target_faults a x) (wrong (refusing e.scope) AnInt x) h).0 n
+  simple_quiet e match (written.StepOf x o) h n = let a = expr_context r false e.scope false in target_quiet e match x (none_left (target_faults a x) (wrong (refusing e.scope) AnInt x) h).0 n
   simple_quiet e match (written.AloneOf x) h n =
-      let a = around r false e.scope false in
+      let a = expr_context r false e.scope false in
       alone_quiet e match x (none_left (faults a AsValue x) (fault_where (not (may_stand_alone (refusing e.scope) x)) (bad_type (place_of x))) h).0 (words_called (plainly r false e.scope) x n)
 
   step_quiet : (e : Env) → Match e → (x : Option written.SimpleTree) → step_faults body (refusing e.scope) x ≡ [] → faults_of_any_simple (plainly r false e.scope) x ≡ [] → step_reads quiet (option_map (simple e) x) ≡ true
@@ -265,7 +265,7 @@ module _ (r : Option Ty) (outcome : Outcome) where
 
   -- ---- declarations
 
-  initial_quiet : (e : Env) → Match e → (t : TypeTree) (x : Option text.ExprTree) → initial_faults (around r false e.scope false) t x ≡ [] → faults_of_any (plainly r false e.scope) x ≡ [] → may_read quiet (option_map (expr e) x) ≡ true
+  initial_quiet : (e : Env) → Match e → (t : TypeTree) (x : Option text.ExprTree) → initial_faults (expr_context r false e.scope false) t x ≡ [] → faults_of_any (plainly r false e.scope) x ≡ [] → may_read quiet (option_map (expr e) x) ≡ true
   initial_quiet e match t None h n = refl
   initial_quiet e match t (Some x) h n = as_one e match false (OfType (written_type e.scope.classes t)) x h n
 
@@ -273,7 +273,7 @@ module _ (r : Option Ty) (outcome : Outcome) where
   declarators_quiet e match t [] h n = refl
   declarators_quiet e match t (d ∷ ds) h n =
       let f = declare e t d.name in
-      let both = none_left (initial_faults (around r false e.scope false) t d.initial) (declarator_faults body (refusing f.scope) t ds) h in
+      let both = none_left (initial_faults (expr_context r false e.scope false) t d.initial) (declarator_faults body (refusing f.scope) t ds) h in
       let found = none_left (faults_of_any (plainly r false e.scope) d.initial ++ twice_in e.scope.inner d.name) (declarators_faults (plainly r false f.scope) t ds) n in
       let front = none_left (faults_of_any (plainly r false e.scope) d.initial) (twice_in e.scope.inner d.name) found.0 in
       and_from _ _ (initial_quiet e match t d.initial both.0 front.0) (declarators_quiet f (declare_match e t d.name match) t ds both.1 found.1)
@@ -292,7 +292,7 @@ module _ (r : Option Ty) (outcome : Outcome) where
 
   return_quiet : (e : Env) → Match e → (o : Outcome) (p : Place) (x : Option text.ExprTree) → types.return_faults (record { is_static = true; outcome = o }) (refusing e.scope) p x ≡ [] → faults_of_any (plainly r false e.scope) x ≡ [] → may_read quiet (option_map (expr e) x) ≡ true
   return_quiet e match o p None h n = refl
-  return_quiet e match Nothing p (Some x) h n = one e match false x (none_left (faults (around r false e.scope false) AsValue x) _ h).0 n
+  return_quiet e match Nothing p (Some x) h n = one e match false x (none_left (faults (expr_context r false e.scope false) AsValue x) _ h).0 n
   return_quiet e match (Gives t) p (Some x) h n = as_one e match false (OfType t) x h n
 
   mutual
@@ -350,7 +350,7 @@ module _ (r : Option Ty) (outcome : Outcome) where
     stmt_quiet e match (written.AssumeOf p c) h n = as_one e match true ABool c h n
     stmt_quiet e match (written.ExposeOf p c k b) h n =
         let want = exposed_want e.scope.classes k in
-        let both = none_left (faults_as (around r false e.scope false) want c) (types.block_faults body (refusing e.scope) b) h in
+        let both = none_left (faults_as (expr_context r false e.scope false) want c) (types.block_faults body (refusing e.scope) b) h in
         let found = none_left (expr_faults (plainly r false e.scope) c ++ named_class_faults e.scope.classes k) (names.block_faults (plainly r false e.scope) b) n in
         let front = none_left (expr_faults (plainly r false e.scope) c) (named_class_faults e.scope.classes k) found.0 in
         and_from _ _ (as_one e match false want c both.0 front.0) (block_quiet e match b both.1 found.1)

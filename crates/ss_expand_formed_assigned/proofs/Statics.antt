@@ -28,7 +28,7 @@ use Rattle.ss_resolver_rules.specs.Numbers.{class_in}
 use Rattle.ss_resolver_rules.specs.Expressions.{this, read_field, known_or_field, third_class, owner_question, called_behind, called_bare, expr, args}
 use Rattle.ss_resolver_types_expressions.specs.Faults.{bad_type, fault_where}
 use Rattle.ss_resolver_types_expressions.specs.Wants.{Want, AnInt, ABool, AReference, AnArray, AnyValue, OfType, Printable, OfDeclared, OfClass, ClassName, Known as Value, known as value_of, wrong}
-use Rattle.ss_resolver_types_expressions.specs.Calls.{Around, Called, Taking, Refused, Unknown, param_wants, constructed, taking, method_or_field, called_on_class, called_method, called_name, called_owner, called_on_declared, called_on_object, class_of_known, has_no_members, asks_level, called_value, called_member, wants_of, is_wrong_call, argument_wants, whole_call}
+use Rattle.ss_resolver_types_expressions.specs.Calls.{ExprContext, Called, Taking, Refused, Unknown, param_wants, constructed, taking, method_or_field, called_on_class, called_method, called_name, called_owner, called_on_declared, called_on_object, class_of_known, has_no_members, asks_level, called_value, called_member, wants_of, is_wrong_call, argument_wants, whole_call}
 use Rattle.ss_resolver_types_expressions.specs.Expressions.{AsValue, BeforeDot, AsCallee, wanted, is_misused, is_value_receiver, word_faults, read_faults, condition_faults, argument, newly, faults, argument_faults, no_class, operand_faults, operand, conditional, bound}
 use Rattle.ss_expand_formed.proofs.Facts.{none_left, or_false}
 use Rattle.ss_expand_formed_locals.proofs.Facts.{on_either}
@@ -181,7 +181,7 @@ constructed_plain cs (Some k) = params_plain cs (constructor_params cs k)
 argument_plain : (k : ℕ) (c : Called) → takes_plain c → are_plain (argument_wants k c) ≡ true
 argument_plain k c h = on_either (λ (ws : List Want). are_plain ws ≡ true) (is_wrong_call k c) [] (wants_of c) refl h
 
-within_argument : (a : Around) (w : Want) (x : text.ExprTree) (fs : List Fault) → is_plain w ≡ true → argument a w x fs ≡ [] → fs ≡ []
+within_argument : (a : ExprContext) (w : Want) (x : text.ExprTree) (fs : List Fault) → is_plain w ≡ true → argument a w x fs ≡ [] → fs ≡ []
 within_argument a AnInt x fs i h = (none_left fs (wrong a.scope AnInt x) h).0
 within_argument a ABool x fs i h = (none_left fs (wrong a.scope ABool x) h).0
 within_argument a AReference x fs i h = (none_left fs (wrong a.scope AReference x) h).0
@@ -202,7 +202,7 @@ abbrev others : List Want → List Want
 others [] = []
 others (w ∷ ws) = ws
 
-first_argument : (a : Around) (ws : List Want) (x : text.ExprTree) (es : Arguments) → head_plain ws ≡ true → argument_faults a ws (text.Argument x es) ≡ [] → (faults a AsValue x ≡ []) × (argument_faults a (others ws) es ≡ [])
+first_argument : (a : ExprContext) (ws : List Want) (x : text.ExprTree) (es : Arguments) → head_plain ws ≡ true → argument_faults a ws (text.Argument x es) ≡ [] → (faults a AsValue x ≡ []) × (argument_faults a (others ws) es ≡ [])
 first_argument a [] x es i h = none_left (faults a AsValue x) (argument_faults a [] es) h
 first_argument a (w ∷ ws) x es i h = let both = none_left (argument a w x (faults a AsValue x)) (argument_faults a ws es) h in (within_argument a w x (faults a AsValue x) i both.0, both.1)
 
@@ -214,8 +214,8 @@ plain_head (w ∷ ws) h = and_parts (is_plain w) (are_plain ws) h
 
 module _ (r : Option Ty) (lacks : Bool) where
   -- in a static method
-  abbrev pub around : Scope → Bool → Around
-  around s c = record { scope = refusing s; is_static = true; in_condition = c; lacks_result = lacks }
+  abbrev pub expr_context : Scope → Bool → ExprContext
+  expr_context s c = record { scope = refusing s; is_static = true; in_condition = c; lacks_result = lacks }
 
   -- as names are looked up there
   abbrev pub plainly : Scope → Scope
@@ -227,7 +227,7 @@ module _ (r : Option Ty) (lacks : Bool) where
     pub same : static (refusing e.scope) x ≡ static e.scope x
 
   abbrev pub Claim : Env → text.ExprTree → Type 0
-  Claim e x = (c : Bool) → faults (around e.scope c) AsValue x ≡ [] → calls_words (plainly e.scope) x ≡ true → Quiet e x
+  Claim e x = (c : Bool) → faults (expr_context e.scope c) AsValue x ≡ [] → calls_words (plainly e.scope) x ≡ true → Quiet e x
 
   abbrev pub Claims : Env → Arguments → Type 0
   Claims e text.NoMore = Unit {0}
@@ -244,7 +244,7 @@ module _ (r : Option Ty) (lacks : Bool) where
     is_quiet : is_word (receiver e.scope x (static e.scope x)) ≡ false → reads quiet (expr e x) ≡ true
     same : receiver (refusing e.scope) x (static (refusing e.scope) x) ≡ receiver e.scope x (static e.scope x)
 
-  name_dot : (e : Env) → Match e → (p : Place) (n : List ℕ) → Claim e (text.NameOf p n) → (c : Bool) → faults (around e.scope c) BeforeDot (text.NameOf p n) ≡ [] → calls_words (plainly e.scope) (text.NameOf p n) ≡ true → Dot e (text.NameOf p n)
+  name_dot : (e : Env) → Match e → (p : Place) (n : List ℕ) → Claim e (text.NameOf p n) → (c : Bool) → faults (expr_context e.scope c) BeforeDot (text.NameOf p n) ≡ [] → calls_words (plainly e.scope) (text.NameOf p n) ≡ true → Dot e (text.NameOf p n)
   name_dot e match p n claim c h w =
       let s = e.scope in
       let x = text.NameOf p n in
@@ -263,31 +263,31 @@ module _ (r : Option Ty) (lacks : Bool) where
       })
       (cases_Bool (is_value_receiver (named l (is_console n) (is_owner n) m k None)))
 
-  dot_of : (e : Env) → Match e → (x : text.ExprTree) → Claim e x → (c : Bool) → faults (around e.scope c) BeforeDot x ≡ [] → calls_words (plainly e.scope) x ≡ true → Dot e x
+  dot_of : (e : Env) → Match e → (x : text.ExprTree) → Claim e x → (c : Bool) → faults (expr_context e.scope c) BeforeDot x ≡ [] → calls_words (plainly e.scope) x ≡ true → Dot e x
   dot_of e match (text.NameOf p n) claim c h w = name_dot e match p n claim c h w
   dot_of e match (text.BaseOf p) claim c h w = record { is_quiet = λ i. absurd (false≢true (sym i)); same = refl }
   dot_of e match x claim c h w = let q = claim c h w in record { is_quiet = λ i. q.is_quiet; same = ap AValue q.same }
 
   -- ---- arguments
 
-  args_quiet : (e : Env) (c : Bool) (ws : List Want) → are_plain ws ≡ true → (es : Arguments) → Claims e es → argument_faults (around e.scope c) ws es ≡ [] → args_words (plainly e.scope) es ≡ true → read_all quiet (args e es) ≡ true
+  args_quiet : (e : Env) (c : Bool) (ws : List Want) → are_plain ws ≡ true → (es : Arguments) → Claims e es → argument_faults (expr_context e.scope c) ws es ≡ [] → args_words (plainly e.scope) es ≡ true → read_all quiet (args e es) ≡ true
   args_quiet e c ws i text.NoMore claims h w = refl
   args_quiet e c ws i (text.Argument x es) claims h w =
       let plain = plain_head ws i in
-      let both = first_argument (around e.scope c) ws x es plain.0 h in
+      let both = first_argument (expr_context e.scope c) ws x es plain.0 h in
       let words = and_parts (calls_words (plainly e.scope) x) (args_words (plainly e.scope) es) w in
       and_from _ _ (claims.0 c both.0 words.0).is_quiet (args_quiet e c (others ws) plain.1 es claims.1 both.1 words.1)
 
   -- the first two of them
-  front_quiet : (e : Env) (c : Bool) (p : Place) (n : List ℕ) (all : Arguments) (ws : List Want) → head_plain ws ≡ true → head_plain (others ws) ≡ true → (es : Arguments) → Claims e es → argument_faults (around e.scope c) ws es ≡ [] → args_words (plainly e.scope) es ≡ true →
+  front_quiet : (e : Env) (c : Bool) (p : Place) (n : List ℕ) (all : Arguments) (ws : List Want) → head_plain ws ≡ true → head_plain (others ws) ≡ true → (es : Arguments) → Claims e es → argument_faults (expr_context e.scope c) ws es ≡ [] → args_words (plainly e.scope) es ≡ true →
       reads quiet (owner_question e p n all (args e es)) ≡ true
   front_quiet e c p n all ws i j text.NoMore claims h w = refl
   front_quiet e c p n all ws i j (text.Argument x text.NoMore) claims h w =
-      let both = first_argument (around e.scope c) ws x text.NoMore i h in
+      let both = first_argument (expr_context e.scope c) ws x text.NoMore i h in
       (claims.0 c both.0 (and_parts (calls_words (plainly e.scope) x) true w).0).is_quiet
   front_quiet e c p n all ws i j (text.Argument x (text.Argument y es)) claims h w =
-      let one = first_argument (around e.scope c) ws x (text.Argument y es) i h in
-      let two = first_argument (around e.scope c) (others ws) y es j one.1 in
+      let one = first_argument (expr_context e.scope c) ws x (text.Argument y es) i h in
+      let two = first_argument (expr_context e.scope c) (others ws) y es j one.1 in
       let words = and_parts (calls_words (plainly e.scope) x) (calls_words (plainly e.scope) y && args_words (plainly e.scope) es) w in
       let more = and_parts (calls_words (plainly e.scope) y) (args_words (plainly e.scope) es) words.1 in
       let pair = and_from _ _ (claims.0 c one.0 words.0).is_quiet (claims.1.0 c two.0 more.0).is_quiet in
@@ -384,15 +384,15 @@ module _ (r : Option Ty) (lacks : Bool) where
   front_wants k c h = on_either (λ (ws : List Want). (head_plain ws ≡ true) × (head_plain (others ws) ≡ true)) (is_wrong_call k c) [] (wants_of c) (refl, refl) h
 
   behind_quiet : (e : Env) (p : Place) (o : ExprTree) (n : List ℕ) (es : Arguments) (c : Bool) (v : Value) (t : Receiver) → HasType t v.ty → (is_word t ≡ false → reads quiet o ≡ true) → called_word n t ≡ true → Claims e es →
-      is_wrong_call (count es) (called_member (around e.scope c) (count es) v n t) ≡ false →
-      argument_faults (around e.scope c) (argument_wants (count es) (called_member (around e.scope c) (count es) v n t)) es ≡ [] → args_words (plainly e.scope) es ≡ true → Behind e p o n es t
+      is_wrong_call (count es) (called_member (expr_context e.scope c) (count es) v n t) ≡ false →
+      argument_faults (expr_context e.scope c) (argument_wants (count es) (called_member (expr_context e.scope c) (count es) v n t)) es ≡ [] → args_words (plainly e.scope) es ≡ true → Behind e p o n es t
   behind_quiet e p o n es c v TheConsole of_type is word claims right h w = record { same = refl; is_quiet = print_quiet e p o n es (is_print n) _ word }
   behind_quiet e p o n es c v TheOwner of_type is word claims right h w =
       let front = front_wants (count es) (called_owner n) (owner_wants n) in
       record { same = refl; is_quiet = owner_quiet e p o n es (is_owner_word n) (owner_count n) word (front_quiet e c p n es (argument_wants (count es) (called_owner n)) front.0 front.1 es claims h w) }
   behind_quiet e p o n es c v TheBase of_type is word claims right h w = absurd (false≢true (sym right))
   behind_quiet e p o n es c v (AClass k) of_type is word claims right h w =
-      let wants = argument_plain (count es) (called_member (around e.scope c) (count es) v n (AClass k)) (class_takes e.scope.classes k n) in
+      let wants = argument_plain (count es) (called_member (expr_context e.scope c) (count es) v n (AClass k)) (class_takes e.scope.classes k n) in
       record { same = refl; is_quiet = called_reads quiet e p (AClass k) o n es (args e es) (member_callee e.scope n (AClass k)) (is refl) (args_quiet e c _ wants es claims h w) }
   behind_quiet e p o n es c v (AValue t) of_type is word claims right h w = record {
     same = refl;
@@ -413,7 +413,7 @@ module _ (r : Option Ty) (lacks : Bool) where
   call_quiet : (e : Env) → Match e → (p : Place) (es : Arguments) → Claims e es → (f : text.ExprTree) → CalleeClaim e f → Claim e (text.CallOf p f es)
   call_quiet e match p es claims (text.NameOf q n) callee_claim c h w =
       let s = e.scope in
-      let a = around s c in
+      let a = expr_context s c in
       let k = count es in
       let meant = called_name a n in
       let rest = none_left (condition_faults a p _ ++ whole_call p k meant) (argument_faults a (argument_wants k meant) es) h in
@@ -428,7 +428,7 @@ module _ (r : Option Ty) (lacks : Bool) where
       }
   call_quiet e match p es claims (text.MemberOf q x n) claim c h w =
       let s = e.scope in
-      let a = around s c in
+      let a = expr_context s c in
       let k = count es in
       let v = value_of (refusing s) x in
       let t = receiver (refusing s) x (static (refusing s) x) in
@@ -451,12 +451,12 @@ module _ (r : Option Ty) (lacks : Bool) where
   call_quiet e match p es claims f callee_claim c h w = record { is_quiet = refl; same = refl }
 
   -- the arguments of a call behind a dot are what it wants
-  pub call_given : (e : Env) → Match e → (p q : Place) (x : text.ExprTree) (n : NameTree) (es : Arguments) → Claim e x → (c : Bool) → faults (around e.scope c) AsValue (text.CallOf p (text.MemberOf q x n) es) ≡ [] →
+  pub call_given : (e : Env) → Match e → (p q : Place) (x : text.ExprTree) (n : NameTree) (es : Arguments) → Claim e x → (c : Bool) → faults (expr_context e.scope c) AsValue (text.CallOf p (text.MemberOf q x n) es) ≡ [] →
       calls_words (plainly e.scope) (text.CallOf p (text.MemberOf q x n) es) ≡ true →
-      argument_faults (around e.scope c) (argument_wants (count es) (called_member (around e.scope c) (count es) (value_of (refusing e.scope) x) n.text (receiver e.scope x (static e.scope x)))) es ≡ []
+      argument_faults (expr_context e.scope c) (argument_wants (count es) (called_member (expr_context e.scope c) (count es) (value_of (refusing e.scope) x) n.text (receiver e.scope x (static e.scope x)))) es ≡ []
   call_given e match p q x n es claim c h w =
       let s = e.scope in
-      let a = around s c in
+      let a = expr_context s c in
       let k = count es in
       let v = value_of (refusing s) x in
       let t = receiver (refusing s) x (static (refusing s) x) in
@@ -477,16 +477,16 @@ module _ (r : Option Ty) (lacks : Bool) where
   two_quiet e x y h g = and_from _ _ h.is_quiet g.is_quiet
 
   -- both are wanted
-  wanted_two : (e : Env) (c : Bool) (v z : Want) (x y : text.ExprTree) → Claim e x → Claim e y → wanted (around e.scope c) v x (faults (around e.scope c) AsValue x) ++ wanted (around e.scope c) z y (faults (around e.scope c) AsValue y) ≡ [] →
+  wanted_two : (e : Env) (c : Bool) (v z : Want) (x y : text.ExprTree) → Claim e x → Claim e y → wanted (expr_context e.scope c) v x (faults (expr_context e.scope c) AsValue x) ++ wanted (expr_context e.scope c) z y (faults (expr_context e.scope c) AsValue y) ≡ [] →
       (calls_words (plainly e.scope) x && calls_words (plainly e.scope) y) ≡ true → Quiet e x × Quiet e y
   wanted_two e c v z x y f g h w =
-      let a = around e.scope c in
+      let a = expr_context e.scope c in
       let both = none_left (wanted a v x (faults a AsValue x)) (wanted a z y (faults a AsValue y)) h in
       let words = and_parts (calls_words (plainly e.scope) x) (calls_words (plainly e.scope) y) w in
       (f c (none_left (faults a AsValue x) (wrong a.scope v x) both.0).0 words.0, g c (none_left (faults a AsValue y) (wrong a.scope z y) both.1).0 words.1)
 
-  wanted_one : (e : Env) (c : Bool) (v : Want) (x : text.ExprTree) → Claim e x → wanted (around e.scope c) v x (faults (around e.scope c) AsValue x) ≡ [] → calls_words (plainly e.scope) x ≡ true → Quiet e x
-  wanted_one e c v x f h w = let a = around e.scope c in f c (none_left (faults a AsValue x) (wrong a.scope v x) h).0 w
+  wanted_one : (e : Env) (c : Bool) (v : Want) (x : text.ExprTree) → Claim e x → wanted (expr_context e.scope c) v x (faults (expr_context e.scope c) AsValue x) ≡ [] → calls_words (plainly e.scope) x ≡ true → Quiet e x
+  wanted_one e c v x f h w = let a = expr_context e.scope c in f c (none_left (faults a AsValue x) (wrong a.scope v x) h).0 w
 
   read_quiet : (s : Scope) (o : ExprTree) (v : Value) (n : List ℕ) (p : Place) (t : Receiver) → (is_word t ≡ false → reads quiet o ≡ true) → read_faults s.classes p v n t ≡ [] → reads quiet o ≡ true
   read_quiet s o v n p TheConsole h g = absurd (let x : ⊥ = cc in x)
@@ -498,7 +498,7 @@ module _ (r : Option Ty) (lacks : Bool) where
   member_quiet : (e : Env) → Match e → (p : Place) (x : text.ExprTree) (n : NameTree) → Claim e x → Claim e (text.MemberOf p x n)
   member_quiet e match p x n claim c h w =
       let s = e.scope in
-      let a = around s c in
+      let a = expr_context s c in
       let v = value_of (refusing s) x in
       let t = receiver (refusing s) x (static (refusing s) x) in
       let parts = none_left (faults a BeforeDot x ++ word_faults s.classes v n.text t) (read_faults s.classes p v n.text t) h in
@@ -515,7 +515,7 @@ module _ (r : Option Ty) (lacks : Bool) where
       let s = e.scope in
       let f = field_of s.classes s.class n in
       let m = is_some (method_of s.classes s.class n) in
-      let not_misused = no_fault (is_misused (around s c) n) (bad_type p) h in
+      let not_misused = no_fault (is_misused (expr_context s c) n) (bad_type p) h in
       record {
         is_quiet = known_reads e p n (known e n) (λ i. misused_field (local_named s n) f m not_misused (sym (matched e match n) ∙ i));
         same = misused_type s.classes (local_named s n) f m s.refuses_members not_misused;
@@ -533,19 +533,19 @@ module _ (r : Option Ty) (lacks : Bool) where
     all_quiet e match (text.IffOf p x y) c h w = let q = wanted_two e c ABool ABool x y (all_quiet e match x) (all_quiet e match y) h w in record { is_quiet = two_quiet e x y q.0 q.1; same = refl }
     all_quiet e match (text.ImpliesOf p x y) c h w = let q = wanted_two e c ABool ABool x y (all_quiet e match x) (all_quiet e match y) h w in record { is_quiet = two_quiet e x y q.0 q.1; same = refl }
     all_quiet e match (text.BinaryOf p o x y) c h w =
-        let a = around e.scope c in
+        let a = expr_context e.scope c in
         let rest = none_left (faults a AsValue x ++ faults a AsValue y) (operand_faults e.scope.classes p (operand o) (value_of (refusing e.scope) x) (value_of (refusing e.scope) y)) h in
         let both = none_left (faults a AsValue x) (faults a AsValue y) rest.0 in
         let words = and_parts (calls_words (plainly e.scope) x) (calls_words (plainly e.scope) y) w in
         record { is_quiet = two_quiet e x y (all_quiet e match x c both.0 words.0) (all_quiet e match y c both.1 words.1); same = refl }
     all_quiet e match (text.IsOf p x t) c h w =
-        let a = around e.scope c in
+        let a = expr_context e.scope c in
         record { is_quiet = (wanted_one e c AReference x (all_quiet e match x) (none_left (wanted a AReference x (faults a AsValue x)) (no_class t) h).0 w).is_quiet; same = refl }
     all_quiet e match (text.AsOf p x t) c h w =
-        let a = around e.scope c in
+        let a = expr_context e.scope c in
         record { is_quiet = (wanted_one e c AReference x (all_quiet e match x) (none_left (wanted a AReference x (faults a AsValue x)) (no_class t) h).0 w).is_quiet; same = refl }
     all_quiet e match (text.CastOf p t x) c h w =
-        let a = around e.scope c in
+        let a = expr_context e.scope c in
         record { is_quiet = (wanted_one e c AReference x (all_quiet e match x) (none_left (no_class t) (wanted a AReference x (faults a AsValue x)) h).1 w).is_quiet; same = refl }
     all_quiet e match (text.MemberOf p x n) c h w = member_quiet e match p x n (all_quiet e match x) c h w
     all_quiet e match (text.ElementOf p x y) c h w =
@@ -553,16 +553,16 @@ module _ (r : Option Ty) (lacks : Bool) where
         record { is_quiet = two_quiet e x y q.0 q.1; same = ap (λ t. option_and_then element_type (option_and_then class_of t)) q.0.same }
     all_quiet e match (text.CallOf p f es) c h w = call_quiet e match p es (all_claims e match es) f (callee_claim e match f) c h w
     all_quiet e match (text.NewOf p n es) c h w =
-        let a = around e.scope c in
+        let a = expr_context e.scope c in
         let meant = newly a n in
         let rest = none_left (condition_faults a p true ++ whole_call p (count es) meant) (argument_faults a (argument_wants (count es) meant) es) h in
         let wants = argument_plain (count es) meant (constructed_plain e.scope.classes (class_named e.scope.classes n.text)) in
         record { is_quiet = args_quiet e c (argument_wants (count es) meant) wants es (all_claims e match es) rest.1 w; same = refl }
     all_quiet e match (text.NewArrayOf p q t x) c h w =
-        let a = around e.scope c in
+        let a = expr_context e.scope c in
         record { is_quiet = (wanted_one e c AnInt x (all_quiet e match x) (none_left (condition_faults a p true) (wanted a AnInt x (faults a AsValue x)) h).1 w).is_quiet; same = refl }
     all_quiet e match (text.QuantifiedOf p q n low high x) c h w =
-        let a = around e.scope c in
+        let a = expr_context e.scope c in
         let i = within e n in
         let lows = wanted a AnInt low (faults (conditional a) AsValue low) in
         let highs = wanted a AnInt high (faults (conditional a) AsValue high) in

@@ -16,7 +16,7 @@ use Rattle.ss_resolver_rules.specs.Expressions.{expr, args}
 use Rattle.ss_resolver_rules.specs.Statements as rules
 use Rattle.ss_resolver_rules.specs.Statements.{printed, print, is_line, call_alone, alone, simple, first, behind_first, block, stmt, stmts}
 use Rattle.ss_resolver_types_expressions.specs.Faults.{bad_type, fault_where}
-use Rattle.ss_resolver_types_expressions.specs.Calls.{Around, called, argument_wants, whole_call}
+use Rattle.ss_resolver_types_expressions.specs.Calls.{ExprContext, called, argument_wants, whole_call}
 use Rattle.ss_resolver_types_expressions.specs.Wants.{place_of}
 use Rattle.ss_resolver_types_expressions.specs.Expressions.{AsValue, condition_faults, faults, faults_as, argument_faults}
 use Rattle.ss_resolver_types_expressions.specs.Statements.{Body, in_code, simple_faults, init_faults, test_faults, step_faults, conditions, test, exposed_want, stmt_faults, block_faults, stmts_faults}
@@ -48,19 +48,19 @@ behind_free e p n es (AClass k) whole = refl
 behind_free e p n es (AValue t) whole = refl
 
 -- `base(..)` in its place is no call of another kind
-refused : (a : Around) (p q : Place) (es : text.Arguments) → faults a AsValue (text.CallOf p (text.BaseOf q) es) ≡ [] → ⊥
+refused : (a : ExprContext) (p q : Place) (es : text.Arguments) → faults a AsValue (text.CallOf p (text.BaseOf q) es) ≡ [] → ⊥
 refused a p q es h =
     let f = text.BaseOf q in
     let front = (none_left (condition_faults a p true ++ whole_call p (count es) (called a (count es) f)) (argument_faults a (argument_wants (count es) (called a (count es) f)) es) h).0 in
     let whole : bad_type p ∷ [] ≡ [] = (none_left (condition_faults a p true) (whole_call p (count es) (called a (count es) f)) front).1 in
     cc
 
-alone_free : (a : Around) (e : Env) (x : text.ExprTree) → faults a AsValue x ≡ [] → Free (alone e x)
+alone_free : (a : ExprContext) (e : Env) (x : text.ExprTree) → faults a AsValue x ≡ [] → Free (alone e x)
 alone_free a e (text.CallOf p (text.BaseOf q) es) h = absurd (refused a p q es h)
 alone_free a e (text.CallOf p (text.MemberOf q c n) es) h = behind_free e p n.text es (receiver e.scope c (static e.scope c)) (expr e (text.CallOf p (text.MemberOf q c n) es))
 alone_free a e x h = refl
 
-simple_free : (a : Around) (e : Env) (x : written.SimpleTree) → simple_faults a x ≡ [] → Free (simple e x)
+simple_free : (a : ExprContext) (e : Env) (x : written.SimpleTree) → simple_faults a x ≡ [] → Free (simple e x)
 simple_free a e (written.AssignOf l o r) h = refl
 simple_free a e (written.StepOf l o) h = refl
 simple_free a e (written.AloneOf x) h = alone_free a e x (none_left (faults a AsValue x) (fault_where _ (bad_type (place_of x))) h).0

@@ -24,7 +24,7 @@ use Rattle.ss_resolver_rules.specs.Statements as rules
 use Rattle.ss_resolver_rules.specs.Programs.{param_env, resolved}
 use Rattle.ss_resolver_types_expressions.specs.Faults.{bad_type, fault_where}
 use Rattle.ss_resolver_types_expressions.specs.Wants.{place_of}
-use Rattle.ss_resolver_types_expressions.specs.Calls.{Around}
+use Rattle.ss_resolver_types_expressions.specs.Calls.{ExprContext}
 use Rattle.ss_resolver_types_expressions.specs.Expressions.{AsValue, faults}
 use Rattle.ss_resolver_types_expressions.specs.Statements.{in_code, is_target, target_faults, assigned_faults, simple_faults, stmt_faults}
 use Rattle.ss_resolver_types_expressions.specs.Wants.{AnInt, wrong}
@@ -77,7 +77,7 @@ module _ (p : ProgramTree) (k : ℕ) (c : ClassTree) (at : slice_get p.classes k
   member_owns : (q : Place) (o : ExprTree) (n : List ℕ) → shapes.is_this o ≡ true → is_state_read n ≡ false → has_field s.classes k n ≡ true → Owns (member e q o n (class_number k))
   member_owns q o n this word h = rw (word, no_array k, own_place k) (field_owns q o n this h)
 
-  target_owns : (a : Around) → a.scope ≡ s → (x : text.ExprTree) → target_faults a x ≡ [] → is_own_field k s x ≡ true → Owns (expr e x)
+  target_owns : (a : ExprContext) → a.scope ≡ s → (x : text.ExprTree) → target_faults a x ≡ [] → is_own_field k s x ≡ true → Owns (expr e x)
   target_owns a is (text.NameOf q n) none h =
       let both = and_parts (is_none (local_named s n)) (has_field s.classes k n) h in
       let new = i.names n (is_nothing (local_named s n) both.0) in

@@ -27,7 +27,7 @@ use Rattle.ss_paths.specs.Fields.{field_numbers}
 use Rattle.ss_paths.specs.Opening.{is_first}
 use Rattle.ss_expand_rules.specs.Constructors.{before_all, initialize, initializers_from, initializers_in, initializers, behind_initial, base_alone, with_base, implicit_constructor}
 use Rattle.ss_typed.specs.Shapes.{closing_brace, in_block, has_base}
-use Rattle.ss_expand_rules.specs.Bodies.{first_copy, copying_from, copying, statements, setting, temporary_count, code, written_body}
+use Rattle.ss_expand_rules.specs.Bodies.{first_copy, copying_from, copying, statements, elaboration_context, temporary_count, code, written_body}
 use Rattle.ss_store_rules.specs.Locals.{each}
 use Rattle.ss_store_rules.specs.Construction.{if_delayed, keeps_this_in}
 use Rattle.ss_expand_formed.specs.Laws.{core_of}
@@ -138,7 +138,7 @@ module _ (p : TypedTree) (b : BodyTree) (static : b.flags.is_static ≡ false) w
 
   pub keeps_this : Along (FineSimple ForFields) (Fine ForFields) (statements p b) → each keeps_this_in (code_of (code p b)) ≡ true
   keeps_this h =
-      let z = setting p b (temporary_count p b) in
+      let z = elaboration_context p b (temporary_count p b) in
       let n = behind_this b static (temporary_count p b) in
       let keeps = fine_keeps ForFields b.class z.numbers n in
       let more = simple_keeps z.numbers n b.class in

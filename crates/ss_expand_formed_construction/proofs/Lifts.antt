@@ -17,7 +17,7 @@ use Rattle.ss_expand_rules.specs.Numbers.{Numbers, plain, plain_arguments}
 use Rattle.ss_expand_rules.specs.Calls.{has_call, have_call, is_lazy}
 use Rattle.ss_typed.specs.Shapes.{place_of}
 use Rattle.ss_expand_rules.specs.Program.{above_of, number_of_written}
-use Rattle.ss_expand_rules.specs.Lifting.{Setting, Source, Pure, Created, CreatedArray, Called, put, Lifted, Valued, Listed, unlifted, next, temporary_type, any_object, in_local, in_temporary, valued_from, valued, lifted_of, operand, unary, binary, lazily, holds, fails, negated, operation, implication, first_type, other_types, no_operands, operands_of, and_operands, only_of, dispatched, static_class, base_number, types_of_constructor, types_of_written, types_of_method, lifted, in_temporaries, right_side, value, arguments_of}
+use Rattle.ss_expand_rules.specs.Lifting.{ElaborationContext, Source, Pure, Created, CreatedArray, Called, put, Lifted, Valued, Listed, unlifted, next, temporary_type, any_object, in_local, in_temporary, valued_from, valued, lifted_of, operand, unary, binary, lazily, holds, fails, negated, operation, implication, first_type, other_types, no_operands, operands_of, and_operands, only_of, dispatched, static_class, base_number, types_of_constructor, types_of_written, types_of_method, lifted, in_temporaries, right_side, value, arguments_of}
 use Rattle.ss_store_rules.specs.Locals.{each}
 use Rattle.ss_expand_formed_locals.proofs.Shape.{Code, each-append}
 use Rattle.ss_expand_formed_construction.proofs.Choices.{where_chosen}
@@ -87,7 +87,7 @@ module _ (F : ExprTree → Type 0) (A : Arguments → Type 0) (P : core.ExprTree
   abbrev pub FitList : Listed → Type 0
   FitList l = Runs l.code × (list_all P l.values ≡ true)
 
-  module _ (s : Setting) (k : Keeps s.numbers F A P test) where
+  module _ (s : ElaborationContext) (k : Keeps s.numbers F A P test) where
     pub put_fits : (p : Place) (x : ℕ) (v : Source) → Fit v → Runs (put p x v ∷ [])
     put_fits p x (Pure e) h = and_from _ _ (k.assign_passes p x e h) refl
     put_fits p x (Created q t es) h = and_from _ _ (k.new_passes q (Some x) t es h) refl

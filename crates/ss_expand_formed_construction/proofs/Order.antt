@@ -12,13 +12,13 @@ use Rattle.ss_resolver_names_rules.specs.Programs.{program_faults}
 use Rattle.ss_resolver_types_expressions.specs.Programs.{type_faults}
 use Rattle.ss_expand_rules.specs.Numbers.{Numbers}
 use Rattle.ss_expand_rules.specs.Program.{table, Origin}
-use Rattle.ss_expand_rules.specs.Lifting.{Setting}
+use Rattle.ss_expand_rules.specs.Lifting.{ElaborationContext}
 use Rattle.ss_expand_rules.specs.Simple.{simple}
 use Rattle.ss_expand_rules.specs.Statements.{stmts}
 use Rattle.ss_expand_rules.specs.Contracts.{first_param, declarations}
 use Rattle.ss_expand_rules.specs.Constructors.{constructor_stmts, implicit_constructor}
 use Rattle.ss_typed.specs.Shapes.{closing_brace, in_block}
-use Rattle.ss_expand_rules.specs.Bodies.{first_copy, copying_from, copying, with_return, statements, setting, temporary_count, code, written_body}
+use Rattle.ss_expand_rules.specs.Bodies.{first_copy, copying_from, copying, with_return, statements, elaboration_context, temporary_count, code, written_body}
 use Rattle.ss_store_rules.specs.Construction.{is_base_or_ready, wants_base, wants_ready, starts_in_order}
 use Rattle.ss_expand_formed.specs.Laws.{core_of}
 use Rattle.ss_expand_formed.proofs.Bodies.{IsMade, WrittenConstructor, ImplicitConstructor, WrittenMethod, Wrapper, origin_of}
@@ -85,12 +85,12 @@ statements_neither ns = record {
 never : Arguments → Type 0
 never es = ⊥
 
-simple_has_none : (z : Setting) (x : SimpleTree) (made : List Ty) → Free x → has_none (simple z x made).code ≡ true
+simple_has_none : (z : ElaborationContext) (x : SimpleTree) (made : List Ty) → Free x → has_none (simple z x made).code ≡ true
 unfolding never
 simple_has_none z x made h =
     simple_runs Anything AnyGiven any_passes no_base_or_ready z (free_keeps z.numbers no_base_or_ready lifts_neither) (simple_neither z.numbers) never (λ p es m b. absurd b) x made (any_simple never x h)
 
-pub free_has_none : (z : Setting) (ss : StmtTrees) (made : List Ty) → z.exposes ≡ [] → Along Free Anything ss → has_none (stmts z ss made).code ≡ true
+pub free_has_none : (z : ElaborationContext) (ss : StmtTrees) (made : List Ty) → z.exposes ≡ [] → Along Free Anything ss → has_none (stmts z ss made).code ≡ true
 free_has_none z ss made none h =
     subst (λ os. has_none (stmts (record z { exposes = os }) ss made).code ≡ true) (sym none)
     (stmts_run Anything AnyGiven any_passes no_base_or_ready Free z (free_keeps z.numbers no_base_or_ready lifts_neither) (simple_neither z.numbers) (statements_neither z.numbers) (λ os x m f. simple_has_none (record z { exposes = os }) x m f) [] ss made refl h)
@@ -108,7 +108,7 @@ copying_has_none b =
 -- ---- bodies
 
 module _ (p : TypedTree) (b : BodyTree) (r : BeginsWhole p b) where
-  lifted_has_none : (z : Setting) (t : ℕ) (es : Arguments) (made : List Ty) → has_none (lifted_given z t es made) ≡ true
+  lifted_has_none : (z : ElaborationContext) (t : ℕ) (es : Arguments) (made : List Ty) → has_none (lifted_given z t es made) ≡ true
   lifted_has_none z t es made =
       where_chosen (λ (c : Code). has_none c ≡ true) (t == 0) [] (given z t es made).code (λ yes. refl)
       (λ other. (arguments_fit Anything AnyGiven any_passes no_base_or_ready z (free_keeps z.numbers no_base_or_ready lifts_neither) _ es made tt).0)
@@ -144,7 +144,7 @@ module _ (p : ProgramTree) (faultless : program_faults p ≡ []) where
 
   free_in_order : (b : BodyTree) (bs : List BodyTree) → BuildsNothing b → starts_in_order (core_of p) (written_body (resolved p) b bs) ≡ true
   free_in_order b bs n =
-      let none : has_none (code (resolved p) b) ≡ true = each-append no_base_or_ready (copying b) _ (copying_has_none b) (free_has_none (setting (resolved p) b (temporary_count (resolved p) b)) (statements (resolved p) b) [] refl (free_statements (resolved p) b n)) in
+      let none : has_none (code (resolved p) b) ≡ true = each-append no_base_or_ready (copying b) _ (copying_has_none b) (free_has_none (elaboration_context (resolved p) b (temporary_count (resolved p) b)) (statements (resolved p) b) [] refl (free_statements (resolved p) b n)) in
       let no_base : wants_base (core_of p) (written_body (resolved p) b bs) ≡ false = rw n.ctor refl in
       let no_ready : wants_ready (core_of p) (written_body (resolved p) b bs) ≡ false = rw n.ctor refl in
       order_from (core_of p) (written_body (resolved p) b bs) (code_of (code (resolved p) b)) false false refl no_base no_ready (none_in_order (code (resolved p) b) none)

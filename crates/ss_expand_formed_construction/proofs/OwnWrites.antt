@@ -14,7 +14,7 @@ use Rattle.ss_typed.specs.Tree.{ExprTree, ThisOf, IntOf, FieldOf, BinaryOf, Argu
 use Rattle.ss_expand_rules.specs.Program.{field_at}
 use Rattle.ss_expand_rules.specs.Calls.{has_call}
 use Rattle.ss_typed.specs.Shapes.{place_of}
-use Rattle.ss_expand_rules.specs.Lifting.{Setting, value}
+use Rattle.ss_expand_rules.specs.Lifting.{ElaborationContext, value}
 use Rattle.ss_expand_rules.specs.Code.{Coded}
 use Rattle.ss_expand_rules.specs.Simple.{write_of, assign_settled, settle, assign_behind, step_operator, simple}
 use Rattle.ss_expand_rules.specs.Statements.{stmts}
@@ -38,7 +38,7 @@ AllAssign F NoMore = Unit {0}
 AllAssign F (Before (SimpleOf x) ss) = Assigns F x × AllAssign F ss
 AllAssign F (Before s ss) = ⊥
 
-module _ (F : ExprTree → Type 0) (A : Arguments → Type 0) (P : core.ExprTree → Bool) (test : core.StmtTree → Bool) (s : Setting) (k : Keeps s.numbers F A P test) (t : ℕ)
+module _ (F : ExprTree → Type 0) (A : Arguments → Type 0) (P : core.ExprTree → Bool) (test : core.StmtTree → Bool) (s : ElaborationContext) (k : Keeps s.numbers F A P test) (t : ℕ)
     (writes : (p q : Place) (f : ℕ) (m : Mark) (e : core.ExprTree) → P e ≡ true → test (WriteStmt p (LocalExpr q 0) f m t e) ≡ true) where
   abbrev Passing : Code → Type 0
   Passing xs = Runs F A P test xs

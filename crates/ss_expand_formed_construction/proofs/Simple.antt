@@ -20,7 +20,7 @@ use Rattle.ss_expand_rules.specs.Calls.{has_call}
 use Rattle.ss_typed.specs.Shapes.{is_this, place_of}
 use Rattle.ss_expand_rules.specs.Program.{field_at, above_of, Constructor, number_of}
 use Rattle.ss_typed.specs.Lookups.{constructor_of, param_types_in}
-use Rattle.ss_expand_rules.specs.Lifting.{Setting, Source, Pure, Created, CreatedArray, Called, put, Lifted, next, temporary_type, any_object, right_side, value, arguments_of}
+use Rattle.ss_expand_rules.specs.Lifting.{ElaborationContext, Source, Pure, Created, CreatedArray, Called, put, Lifted, next, temporary_type, any_object, right_side, value, arguments_of}
 use Rattle.ss_expand_rules.specs.Code.{Coded}
 use Rattle.ss_expand_rules.specs.Simple.{into_local, write_of, write, assign_settled, Settled, settle_lifted, settle_part, settle, assign_behind, assign, update, assignment, step_operator, default_of, declared_as, declare, drop_result, alone, print, has_delayed_constructor, ready_behind, base_with, base_of, simple}
 use Rattle.ss_store_rules.specs.Admissible as store
@@ -70,7 +70,7 @@ pub record KeepsSimple (ns : Numbers) (F : ExprTree → Type 0) (P : core.ExprTr
   pub line_passes : (p : Place) (line : Bool) → test (PrintStmt p None line) ≡ true
   pub text_passes : (p : Place) (text : List ℕ) (line : Bool) → test (PrintTextStmt p text line) ≡ true
 
-module _ (F : ExprTree → Type 0) (A : Arguments → Type 0) (P : core.ExprTree → Bool) (test : core.StmtTree → Bool) (s : Setting) (k : Keeps s.numbers F A P test) (w : KeepsSimple s.numbers F P test) where
+module _ (F : ExprTree → Type 0) (A : Arguments → Type 0) (P : core.ExprTree → Bool) (test : core.StmtTree → Bool) (s : ElaborationContext) (k : Keeps s.numbers F A P test) (w : KeepsSimple s.numbers F P test) where
   abbrev Passing : Code → Type 0
   Passing code = Runs F A P test code
 

@@ -13,7 +13,7 @@ use Rattle.ss_typed.specs.Tree.{ExprTree, Arguments, SimpleTree, InitTree, Decla
 use Rattle.ss_typed.specs.Types.{type_of}
 use Rattle.ss_expand_rules.specs.Numbers.{Numbers, plain, all_plain}
 use Rattle.ss_typed.specs.Shapes.{place_of}
-use Rattle.ss_expand_rules.specs.Lifting.{Opened, Setting, Lifted, Valued, next, temporary_type, any_object, in_temporary, right_side, value}
+use Rattle.ss_expand_rules.specs.Lifting.{Opened, ElaborationContext, Lifted, Valued, next, temporary_type, any_object, in_temporary, right_side, value}
 use Rattle.ss_expand_rules.specs.Code.{Coded, nothing, then_code}
 use Rattle.ss_expand_rules.specs.Ends.{can_end, block_can_end}
 use Rattle.ss_expand_rules.specs.Simple.{simple}
@@ -85,9 +85,9 @@ module _ (F : ExprTree → Type 0) (A : Arguments → Type 0) (P : core.ExprTree
   packs_run [] h = refl
   packs_run (o ∷ os) h = let both = and_parts (test (pack_of o)) (are_packed os) h in and_from _ _ both.0 (packs_run os both.1)
 
-  -- in any exposes within this setting
-  module _ (z : Setting) (k : Keeps z.numbers F A P test) (w : KeepsSimple z.numbers F P test) (c : KeepsStatements z.numbers P test) where
-    abbrev at : List Opened → Setting
+  -- in any exposes within this context
+  module _ (z : ElaborationContext) (k : Keeps z.numbers F A P test) (w : KeepsSimple z.numbers F P test) (c : KeepsStatements z.numbers P test) where
+    abbrev at : List Opened → ElaborationContext
     at os = record z { exposes = os }
 
     module _ (simple_run : (os : List Opened) (x : SimpleTree) (made : List Ty) → G x → Passing (simple (at os) x made).code) where
@@ -153,7 +153,7 @@ module _ (F : ExprTree → Type 0) (A : Arguments → Type 0) (P : core.ExprTree
       packed_within : (os : List Opened) (o : Opened) → are_packed os ≡ true → test (pack_of o) ≡ true → are_packed (os ++ o ∷ []) ≡ true
       packed_within os o h g = list_all-append (λ (x : Opened). test (pack_of x)) os (o ∷ []) ∙ and_from _ _ h (and_from _ _ g refl)
 
-      expose_runs : (os : List Opened) (p : Place) (e : ExprTree) (t : ℕ) (ends : Bool) (inner : Setting → List Ty → Coded) (l : Lifted) → FitLift F A P test l → ((o : Opened) (m : List Ty) → test (pack_of o) ≡ true → Passing (inner (at (os ++ o ∷ [])) m).code) →
+      expose_runs : (os : List Opened) (p : Place) (e : ExprTree) (t : ℕ) (ends : Bool) (inner : ElaborationContext → List Ty → Coded) (l : Lifted) → FitLift F A P test l → ((o : Opened) (m : List Ty) → test (pack_of o) ≡ true → Passing (inner (at (os ++ o ∷ [])) m).code) →
           Passing (expose_lifted (at os) p e t ends inner l).code
       expose_runs os p e t ends inner l h a =
           let o = opened p (next z.numbers l.made) t in

@@ -10,13 +10,13 @@ use Rattle.ss_core.specs.View.{code_of}
 use Rattle.ss_typed.specs.Tree.{Arguments, BaseCallOf, SimpleOf, ReturnOf, StmtTrees, NoMore, Before, BlockTree, ParamTree, BodyTree, TypedTree}
 use Rattle.ss_expand_rules.specs.Program.{above_of, Constructor, number_of}
 use Rattle.ss_typed.specs.Lookups.{constructor_of, param_types_in}
-use Rattle.ss_expand_rules.specs.Lifting.{Setting, Listed, arguments_of}
+use Rattle.ss_expand_rules.specs.Lifting.{ElaborationContext, Listed, arguments_of}
 use Rattle.ss_expand_rules.specs.Code.{Coded}
 use Rattle.ss_expand_rules.specs.Simple.{has_delayed_constructor, ready_behind, base_with, base_of, simple}
 use Rattle.ss_expand_rules.specs.Statements.{stmts}
 use Rattle.ss_expand_rules.specs.Constructors.{before_all}
 use Rattle.ss_typed.specs.Shapes.{closing_brace}
-use Rattle.ss_expand_rules.specs.Bodies.{block_assigns, copying_from, copying, statements, setting, temporary_count, code}
+use Rattle.ss_expand_rules.specs.Bodies.{block_assigns, copying_from, copying, statements, elaboration_context, temporary_count, code}
 use Rattle.ss_store_rules.specs.Locals.{each}
 use Rattle.ss_expand_formed_locals.proofs.Shape.{Code}
 use Rattle.ss_expand_formed_construction.proofs.Choices.{where_chosen}
@@ -38,7 +38,7 @@ copies_pass test block low h copy x (q ∷ qs) =
 -- ---- statements one behind the other
 
 -- simple statements are passed
-pub simple_first : (s : Setting) (front more : StmtTrees) (made : List Ty) → OnlySimple front → (stmts s (before_all front more) made).code ≡ (stmts s front made).code ++ (stmts s more (stmts s front made).made).code
+pub simple_first : (s : ElaborationContext) (front more : StmtTrees) (made : List Ty) → OnlySimple front → (stmts s (before_all front more) made).code ≡ (stmts s front made).code ++ (stmts s more (stmts s front made).made).code
 simple_first s NoMore more made h = refl
 simple_first s (Before (SimpleOf x) xs) more made h =
     let one = simple s x made in
@@ -48,20 +48,20 @@ simple_first s (Before x xs) more made h = absurd h
 -- ---- `base(..)`
 
 -- the class above is a declared one
-abbrev pub calls : Setting → ℕ → Bool
+abbrev pub calls : ElaborationContext → ℕ → Bool
 calls s t = not (t == 0)
 
-abbrev pub readies : Setting → ℕ → Bool
+abbrev pub readies : ElaborationContext → ℕ → Bool
 readies s t = not s.body.flags.delayed && has_delayed_constructor s.program t
 
-abbrev pub given : Setting → ℕ → Arguments → List Ty → Listed
+abbrev pub given : ElaborationContext → ℕ → Arguments → List Ty → Listed
 given s t es made = arguments_of s (param_types_in (constructor_of s.program t)) es made
 
 -- what is lifted out of the arguments
-abbrev pub lifted_given : Setting → ℕ → Arguments → List Ty → Code
+abbrev pub lifted_given : ElaborationContext → ℕ → Arguments → List Ty → Code
 lifted_given s t es made = if t == 0 then [] else (given s t es made).code
 
-ready_is : (s : Setting) (p : Place) (t : ℕ) → ready_behind s p t ≡ ready_where (readies s t) p
+ready_is : (s : ElaborationContext) (p : Place) (t : ℕ) → ready_behind s p t ≡ ready_where (readies s t) p
 ready_is s p t = by s.body.flags.delayed (has_delayed_constructor s.program t)
   where
     by : (a b : Bool) → (if a then [] else if b then ReadyStmt p ∷ [] else []) ≡ ready_where (not a && b) p
@@ -69,7 +69,7 @@ ready_is s p t = by s.body.flags.delayed (has_delayed_constructor s.program t)
     by false true = refl
     by false false = refl
 
-base_is : (s : Setting) (p : Place) (es : Arguments) (t : ℕ) (made : List Ty) →
+base_is : (s : ElaborationContext) (p : Place) (es : Arguments) (t : ℕ) (made : List Ty) →
     (base_of s p es t made).code ≡ lifted_given s t es made ++ (base_where (calls s t) p (number_of s.program (Constructor t)) (given s t es made).values ++ ready_where (readies s t) p)
 base_is s p es t made = by (t == 0) ∙ ap (λ r. lifted_given s t es made ++ (base_where (calls s t) p (number_of s.program (Constructor t)) (given s t es made).values ++ r)) (ready_is s p t)
   where
@@ -81,8 +81,8 @@ base_is s p es t made = by (t == 0) ∙ ap (λ r. lifted_given s t es made ++ (b
 -- ---- the whole
 
 module _ (p : TypedTree) (b : BodyTree) (r : BeginsWhole p b) where
-  abbrev pub s : Setting
-  s = setting p b (temporary_count p b)
+  abbrev pub s : ElaborationContext
+  s = elaboration_context p b (temporary_count p b)
 
   abbrev pub above : ℕ
   above = above_of p b.class

@@ -24,14 +24,14 @@ use Rattle.ss_owners_rules.specs.Words.{Allowed, allows_result, allows_old, allo
 use Rattle.ss_resolver_names_rules.specs.Faults.{type_faults}
 use Rattle.ss_resolver_names_rules.specs.Expressions.{expr_faults, has_member, before_dot, read_faults, callee_faults, called_faults, arguments_faults, asked_class, class_argument}
 use Rattle.ss_resolver_types_expressions.specs.Wants.{AnInt, ABool, AReference, AnArray, ClassName, known, wrong}
-use Rattle.ss_resolver_types_expressions.specs.Calls.{Around, Called, Taking, Refused, Unknown, called, called_member, called_owner, asks_level, is_wrong_call, argument_wants, whole_call}
+use Rattle.ss_resolver_types_expressions.specs.Calls.{ExprContext, Called, Taking, Refused, Unknown, called, called_member, called_owner, asks_level, is_wrong_call, argument_wants, whole_call}
 use Rattle.ss_resolver_types_expressions.specs.Expressions.{AsValue, BeforeDot, AsCallee, used_member, is_wrong_read, is_no_read, reads_method, is_method_name, is_question, condition_faults, is_name, argument, faults, argument_faults, no_class}
 use Rattle.ss_resolver_rules.specs.declared.known.Known.TheVariants.{BoundName}
 use Rattle.ss_resolver_rules.specs.Numbers.{class_in}
 use Rattle.ss_resolver_rules.specs.Expressions.{read_field, field_behind, state_word, member, third_class, owner_question, called_behind, expr, args}
 use Rattle.ss_expand_formed.proofs.Facts.{none_left, or_false, not_false}
 use Rattle.ss_expand_formed_expressions.proofs.Fit.{Context}
-use Rattle.ss_expand_formed_expressions.proofs.Scopes.{refusing, around, no_fault, three_left, four_left}
+use Rattle.ss_expand_formed_expressions.proofs.Scopes.{refusing, expr_context, no_fault, three_left, four_left}
 use Rattle.ss_expand_formed_expressions.proofs.Places.{has_answer, have_answer, At, scope_at, env_at, static_at}
 use Rattle.ss_expand_formed_expressions.proofs.Receivers.{receiver_of, value_faults, class_unknown}
 use Rattle.ss_expand_formed_expressions.proofs.MemberReads.{not_unless}
@@ -134,8 +134,8 @@ three_false : (a b c : Bool) → (a || b || c) ≡ false → (a ≡ false) × (b
 three_false a b c h = let one = or_false (a || b) c h in let two = or_false a b one.0 in (two.0, two.1, one.1)
 
 module _ (p : ProgramTree) (x : Context) (static lacks : Bool) (w : Allowed) (without : allows_result w ≡ false) where
-  abbrev A : At → Around
-  A a = around static true lacks (scope_at p a)
+  abbrev A : At → ExprContext
+  A a = expr_context static true lacks (scope_at p a)
 
   abbrev U : At → Scope
   U a = refusing static false (scope_at p a)

@@ -32,7 +32,7 @@ use Rattle.ss_expand_formed.specs.Laws.{core_of}
 use Rattle.ss_expand_formed.proofs.Facts.{none_left}
 use Rattle.ss_expand_formed.proofs.ChainLaw.{size, type_known}
 use Rattle.ss_expand_formed_expressions.proofs.Fit.{Context, Fit}
-use Rattle.ss_expand_formed_expressions.proofs.Scopes.{refusing, around}
+use Rattle.ss_expand_formed_expressions.proofs.Scopes.{refusing, expr_context}
 use Rattle.ss_expand_formed_expressions.proofs.Classes.{type_there}
 use Rattle.ss_expand_formed_expressions.proofs.Places.{has_answer, all_answered, At, scope_at, env_at, IsKnown, IsPlace}
 use Rattle.ss_expand_formed_expressions.proofs.Conditions.{condition_sound}
@@ -44,7 +44,7 @@ use Rattle.ss_expand_formed_contracts.proofs.Sources.{HasClauses, body_of, place
 abbrev pub Answered : ProgramTree → Type 0
 Answered p =
     (x : Context) → IsKnown p x → (static lacks : Bool) (a : At) → IsPlace p x static lacks false a → (w : Allowed) → allows_result w ≡ false → (y : text.ExprTree) → expr_faults (refusing static false (scope_at p a)) y ≡ [] →
-    faults (around static true lacks (scope_at p a)) AsValue y ≡ [] → misplaced w (expr (env_at p a) y) ≡ [] → has_answer false y ≡ true
+    faults (expr_context static true lacks (scope_at p a)) AsValue y ≡ [] → misplaced w (expr (env_at p a) y) ≡ [] → has_answer false y ≡ true
 
 abbrev pub AllSound : ProgramTree → BodyTree → Allowed → List ExprTree → Type 0
 AllSound p d w es = (n : ℕ) (e : ExprTree) → slice_get es n ≡ Some e → IsSoundCondition (resolved p) (core_of p).classes d w e
@@ -74,15 +74,15 @@ module _ (p : ProgramTree) (faultless : program_faults p ≡ []) (d : BodyTree) 
   abbrev here : At
   here = place_in p.classes h.class h.static h.result h.params
 
-  abbrev around_here : Context
-  around_here = context_of p faultless h.class h.static outcome h.params
+  abbrev context_here : Context
+  context_here = context_of p faultless h.class h.static outcome h.params
 
-  pub context_is : contract_context d ≡ around_here
+  pub context_is : contract_context d ≡ context_here
   context_is =
       ap (λ (z : Bool). record { is_static = z; class = d.class; locals = (if z then [] else ty.Ref (record { 0 = d.class }) true ∷ []) ++ map (λ (q : typed.ParamTree). q.ty) d.params; result = d.result }) h.is_static
       ∙ ap (λ (z : ℕ). record { is_static = h.static; class = z; locals = (if h.static then [] else ty.Ref (record { 0 = z }) true ∷ []) ++ map (λ (q : typed.ParamTree). q.ty) d.params; result = d.result }) h.of_class
       ∙ ap (λ (z : List Ty). record { is_static = h.static; class = class_number h.class; locals = (if h.static then [] else class_type (class_number h.class) true ∷ []) ++ z; result = d.result }) h.takes
-      ∙ ap (λ (z : Option Ty). record { is_static = h.static; class = class_number h.class; locals = around_here.locals; result = z }) h.gives
+      ∙ ap (λ (z : Option Ty). record { is_static = h.static; class = class_number h.class; locals = context_here.locals; result = z }) h.gives
 
   param_types_known : (ps : List ParamTree) → ((i : ℕ) (q : ParamTree) → slice_get ps i ≡ Some q → type_faults p.classes q.ty ≡ []) → (n : ℕ) (t : Ty) → slice_get (map (λ (q : ParamTree). type_id p.classes q.ty) ps) n ≡ Some t → is_type (core_of p).classes t ≡ true
   param_types_known [] g n t e = absurd (let z : ⊥ = cc in z)
@@ -101,10 +101,10 @@ module _ (p : ProgramTree) (faultless : program_faults p ≡ []) (d : BodyTree) 
   result_is_known None g t e = absurd (let z : ⊥ = cc in z)
   result_is_known (Some u) g t e = subst (λ v. is_type (core_of p).classes v ≡ true) (same_Some _ _ e) (type_known p faultless u g)
 
-  pub known_here : IsKnown p around_here
+  pub known_here : IsKnown p context_here
   known_here = record { locals = λ n t e. locals_known h.static n t e; result = λ t e. result_is_known h.result h.result_known t e }
 
-  pub place_here : (lacks answer : Bool) → (answer ≡ true → lacks ≡ false → (t : Ty) × (outcome ≡ Some t)) → IsPlace p around_here h.static lacks answer here
+  pub place_here : (lacks answer : Bool) → (answer ≡ true → lacks ≡ false → (t : Ty) × (outcome ≡ Some t)) → IsPlace p context_here h.static lacks answer here
   place_here lacks answer g = is_place p faultless h.class h.within h.static lacks answer outcome h.params (λ i q e. type_there p faultless q.ty (type_known p faultless q.ty (h.params_known i q e))) g
 
   -- the scope of the phase of names, and that of the phase of types
@@ -122,26 +122,26 @@ module _ (p : ProgramTree) (faultless : program_faults p ≡ []) (d : BodyTree) 
       ∙ ap (λ (o : Option Ty). record { classes = p.classes; class = h.class; refuses_members = h.static; refuses_this = h.static; outcome = o; inner = names_behind p.classes [] h.params; outer = [] }) (outcome_is p.classes h.result ∙ result_is)
 
   -- a condition without faults, whose words may stand there
-  sound_condition : (w : Allowed) (lacks answer : Bool) → IsPlace p around_here h.static lacks answer here → (y : text.ExprTree) → has_answer answer y ≡ true → expr_faults (refusing h.static false (scope_at p here)) y ≡ [] →
-      faults (around h.static true lacks (scope_at p here)) AsValue y ++ wrong (refusing h.static h.static (scope_at p here)) ABool y ≡ [] → misplaced w (expr (env_at p here) y) ≡ [] → IsSoundCondition (resolved p) (core_of p).classes d w (expr (env_at p here) y)
+  sound_condition : (w : Allowed) (lacks answer : Bool) → IsPlace p context_here h.static lacks answer here → (y : text.ExprTree) → has_answer answer y ≡ true → expr_faults (refusing h.static false (scope_at p here)) y ≡ [] →
+      faults (expr_context h.static true lacks (scope_at p here)) AsValue y ++ wrong (refusing h.static h.static (scope_at p here)) ABool y ≡ [] → misplaced w (expr (env_at p here) y) ≡ [] → IsSoundCondition (resolved p) (core_of p).classes d w (expr (env_at p here) y)
   sound_condition w lacks answer place y answers none typed_none words =
-      let c = condition_sound p faultless around_here known_here h.static lacks answer here place y answers none typed_none in
+      let c = condition_sound p faultless context_here known_here h.static lacks answer here place y answers none typed_none in
       record { sound = record { fit = subst (λ (x : Context). Fit (resolved p) (core_of p).classes x 0 (expr (env_at p here) y)) (sym context_is) c.fit; callless = c.calls; words = words }; truth = c.type }
 
   -- where `result` has a type it has an answer, and elsewhere it isn't there
-  answer_here : Answered p → (o : Option Ty) → outcome ≡ o → (w : Allowed) → allows_result w ≡ false → (y : text.ExprTree) → expr_faults (refusing h.static false (scope_at p here)) y ≡ [] → faults (around h.static true false (scope_at p here)) AsValue y ≡ [] →
+  answer_here : Answered p → (o : Option Ty) → outcome ≡ o → (w : Allowed) → allows_result w ≡ false → (y : text.ExprTree) → expr_faults (refusing h.static false (scope_at p here)) y ≡ [] → faults (expr_context h.static true false (scope_at p here)) AsValue y ≡ [] →
       misplaced w (expr (env_at p here) y) ≡ [] → has_answer (is_some o) y ≡ true
-  answer_here answered None e w without y none typed_none words = answered around_here known_here h.static false here (place_here false false (λ z. absurd (false≢true z))) w without y none typed_none words
+  answer_here answered None e w without y none typed_none words = answered context_here known_here h.static false here (place_here false false (λ z. absurd (false≢true z))) w without y none typed_none words
   answer_here answered (Some t) e w without y none typed_none words = all_answered y
 
-  asked_sound : Answered p → (y : text.ExprTree) → expr_faults (refusing h.static false (scope_at p here)) y ≡ [] → faults (around h.static true false (scope_at p here)) AsValue y ++ wrong (refusing h.static h.static (scope_at p here)) ABool y ≡ [] → misplaced Questions (expr (env_at p here) y) ≡ [] →
+  asked_sound : Answered p → (y : text.ExprTree) → expr_faults (refusing h.static false (scope_at p here)) y ≡ [] → faults (expr_context h.static true false (scope_at p here)) AsValue y ++ wrong (refusing h.static h.static (scope_at p here)) ABool y ≡ [] → misplaced Questions (expr (env_at p here) y) ≡ [] →
       IsSoundCondition (resolved p) (core_of p).classes d Questions (expr (env_at p here) y)
   asked_sound answered y none typed_none words =
-      let both = none_left (faults (around h.static true false (scope_at p here)) AsValue y) (wrong (refusing h.static h.static (scope_at p here)) ABool y) typed_none in
+      let both = none_left (faults (expr_context h.static true false (scope_at p here)) AsValue y) (wrong (refusing h.static h.static (scope_at p here)) ABool y) typed_none in
       sound_condition Questions false (is_some outcome) (place_here false (is_some outcome) (λ z i. some_where outcome z)) y (answer_here answered outcome refl Questions refl y none both.0 words) none typed_none words
 
   promised_sound : (y : text.ExprTree) → expr_faults (refusing h.static false (scope_at p here)) y ≡ [] →
-      faults (around h.static true (types.gives_none (types.outcome_of p.classes h.result)) (scope_at p here)) AsValue y ++ wrong (refusing h.static h.static (scope_at p here)) ABool y ≡ [] → misplaced EveryWord (expr (env_at p here) y) ≡ [] →
+      faults (expr_context h.static true (types.gives_none (types.outcome_of p.classes h.result)) (scope_at p here)) AsValue y ++ wrong (refusing h.static h.static (scope_at p here)) ABool y ≡ [] → misplaced EveryWord (expr (env_at p here) y) ≡ [] →
       IsSoundCondition (resolved p) (core_of p).classes d EveryWord (expr (env_at p here) y)
   promised_sound y none typed_none words =
       let lacks = types.gives_none (types.outcome_of p.classes h.result) in

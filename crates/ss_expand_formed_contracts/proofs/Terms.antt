@@ -50,7 +50,7 @@ use Rattle.ss_expand_formed.proofs.Facts.{none_left, or_false, not_false, not_tr
 use Rattle.ss_expand_formed_locals.proofs.Facts.{on_either}
 use Rattle.ss_expand_formed_expressions.proofs.Fit.{Context, Fit}
 use Rattle.ss_expand_formed_expressions.proofs.Names.{Meets, meets_in, meets_among, meets_else}
-use Rattle.ss_expand_formed_expressions.proofs.Scopes.{refusing, around, no_fault, three_left}
+use Rattle.ss_expand_formed_expressions.proofs.Scopes.{refusing, expr_context, no_fault, three_left}
 use Rattle.ss_expand_formed_expressions.proofs.Places.{has_answer, all_answered, At, scope_at, env_at, IsKnown, IsPlace, Sound, static_at, wanted_array}
 use Rattle.ss_expand_formed_expressions.proofs.Receivers.{receiver_of, value_faults, class_unknown}
 use Rattle.ss_expand_formed_expressions.proofs.MemberReads.{not_unless}
@@ -133,7 +133,7 @@ call_other e q es given f = refl
 -- in a static method nothing means `this`
 module _ (p : ProgramTree) (lacks : Bool) (a : At) where
   abbrev StaticHere : Bool → text.ExprTree → Type 0
-  StaticHere before y = faults (around true true lacks (scope_at p a)) (if before then BeforeDot else AsValue) y ≡ []
+  StaticHere before y = faults (expr_context true true lacks (scope_at p a)) (if before then BeforeDot else AsValue) y ≡ []
 
   base_read : (before : Bool) (q : Place) (n : NameTree) (y : text.ExprTree) → is_base y ≡ true → StaticHere before (MemberOf q y n) → ⊥
   base_read true q n (BaseOf r) h g = let z : ⊥ = cc in z
@@ -152,10 +152,10 @@ module _ (p : ProgramTree) (lacks : Bool) (a : At) where
   no_this true (ParenOf q y) b h = no_this false y (λ e. absurd (false≢true e)) h
   no_this false (ParenOf q y) b h = no_this false y (λ e. absurd (false≢true e)) h
   no_this true (MemberOf q y n) b h =
-      let front = (three_left (faults (around true true lacks (scope_at p a)) BeforeDot y) _ _ h).0 in
+      let front = (three_left (faults (expr_context true true lacks (scope_at p a)) BeforeDot y) _ _ h).0 in
       member_other (env_at p a) q (expr (env_at p a) y) n.text (class_in (statics.static (scope_at p a) y)) (no_this true y (λ e. no_base true q n y h) front)
   no_this false (MemberOf q y n) b h =
-      let front = (three_left (faults (around true true lacks (scope_at p a)) BeforeDot y) _ _ h).0 in
+      let front = (three_left (faults (expr_context true true lacks (scope_at p a)) BeforeDot y) _ _ h).0 in
       member_other (env_at p a) q (expr (env_at p a) y) n.text (class_in (statics.static (scope_at p a) y)) (no_this true y (λ e. no_base false q n y h) front)
   no_this before (CallOf q f es) b h = call_other (env_at p a) q es (args (env_at p a) es) f
   no_this before y b h = refl
@@ -207,7 +207,7 @@ module _ (p : ProgramTree) (faultless : program_faults p ≡ []) (x : Context) (
   abbrev types_scope_here : Scope
   types_scope_here = refusing static static scope_here
 
-  sound_here : (y : text.ExprTree) → has_answer answer y ≡ true → expr_faults names_scope_here y ≡ [] → faults (around static true false scope_here) AsValue y ≡ [] → Sound p x static false answer true a y
+  sound_here : (y : text.ExprTree) → has_answer answer y ≡ true → expr_faults names_scope_here y ≡ [] → faults (expr_context static true false scope_here) AsValue y ≡ [] → Sound p x static false answer true a y
   sound_here y ans named typed = sound p faultless x is_known static false answer true (λ e. absurd (true≢false e)) a place y ans named typed
 
   -- the read of a field
@@ -223,9 +223,9 @@ module _ (p : ProgramTree) (faultless : program_faults p ≡ []) (x : Context) (
       let none = none_known x.locals a.bound (local_named scope_here n) (env.known (env_at p a) n) met h in
       record { where_read = q; of = this (env_at p a) q; field = field_of p.classes a.class n; is = ap (known_or_field (env_at p a) q n) none }
 
-  member_field : (q : Place) (y : text.ExprTree) (n : NameTree) → has_answer answer y ≡ true → expr_faults names_scope_here (MemberOf q y n) ≡ [] → faults (around static true false scope_here) AsValue (MemberOf q y n) ≡ [] → is_target types_scope_here (MemberOf q y n) ≡ true → IsFieldRead (expr (env_at p a) (MemberOf q y n))
+  member_field : (q : Place) (y : text.ExprTree) (n : NameTree) → has_answer answer y ≡ true → expr_faults names_scope_here (MemberOf q y n) ≡ [] → faults (expr_context static true false scope_here) AsValue (MemberOf q y n) ≡ [] → is_target types_scope_here (MemberOf q y n) ≡ true → IsFieldRead (expr (env_at p a) (MemberOf q y n))
   member_field q y n ans named typed target =
-      let three = three_left (faults (around static true false scope_here) BeforeDot y) _ _ typed in
+      let three = three_left (faults (expr_context static true false scope_here) BeforeDot y) _ _ typed in
       let both = none_left (before_dot (receiver names_scope_here y (statics.static names_scope_here y)) (expr_faults names_scope_here y)) (read_faults names_scope_here n (receiver names_scope_here y (statics.static names_scope_here y))) named in
       let rt = receiver_of static true false scope_here refl static static (λ e. (e, e)) y three.0 in
       let ru = receiver_of static true false scope_here refl static false (λ e. (e, refl)) y three.0 in
@@ -241,7 +241,7 @@ module _ (p : ProgramTree) (faultless : program_faults p ≡ []) (x : Context) (
       full_of true c d f h g = absurd (false≢true (sym h))
       full_of false c d f h g = (or_false c d (or_false (c || d) f g).0).1
 
-      by : (r : Receiver) → receiver scope_here y (statics.static scope_here y) ≡ r → faults (around static true false scope_here) BeforeDot y ≡ [] → is_wrong_read p.classes (known types_scope_here y) n.text r ≡ false → before_dot r (expr_faults names_scope_here y) ≡ [] → read_faults names_scope_here n r ≡ [] → IsFieldRead (expr (env_at p a) (MemberOf q y n))
+      by : (r : Receiver) → receiver scope_here y (statics.static scope_here y) ≡ r → faults (expr_context static true false scope_here) BeforeDot y ≡ [] → is_wrong_read p.classes (known types_scope_here y) n.text r ≡ false → before_dot r (expr_faults names_scope_here y) ≡ [] → read_faults names_scope_here n r ≡ [] → IsFieldRead (expr (env_at p a) (MemberOf q y n))
       by TheConsole e f k m z = absurd (false≢true (sym k))
       by TheOwner e f k m z = absurd (false≢true (sym k))
       by TheBase e f k m z = absurd (false≢true (sym k))
@@ -305,8 +305,8 @@ module _ (p : ProgramTree) (faultless : program_faults p ≡ []) (d : BodyTree) 
   abbrev here : At
   here = place_in p.classes h.class h.static h.result h.params
 
-  abbrev around_here : Context
-  around_here = context_of p faultless h.class h.static outcome h.params
+  abbrev context_here : Context
+  context_here = context_of p faultless h.class h.static outcome h.params
 
   abbrev S : Scope
   S = scope_at p here
@@ -323,52 +323,52 @@ module _ (p : ProgramTree) (faultless : program_faults p ≡ []) (d : BodyTree) 
   abbrev answer : Bool
   answer = is_some outcome
 
-  there : IsPlace p around_here h.static false answer here
+  there : IsPlace p context_here h.static false answer here
   there = place_here p faultless d h false answer (λ z i. some_where outcome z)
 
-  known_all : IsKnown p around_here
+  known_all : IsKnown p context_here
   known_all = known_here p faultless d h
 
-  answer_of : (o : Option Ty) (y : text.ExprTree) → expr_faults U y ≡ [] → faults (around h.static true false S) AsValue y ≡ [] → misplaced NoWord (expr e_here y) ≡ [] → has_answer (is_some o) y ≡ true
-  answer_of None y named typed words = answers p around_here h.static false NoWord refl here y named typed words
+  answer_of : (o : Option Ty) (y : text.ExprTree) → expr_faults U y ≡ [] → faults (expr_context h.static true false S) AsValue y ≡ [] → misplaced NoWord (expr e_here y) ≡ [] → has_answer (is_some o) y ≡ true
+  answer_of None y named typed words = answers p context_here h.static false NoWord refl here y named typed words
   answer_of (Some t) y named typed words = all_answered y
 
-  fit_here : (e : ExprTree) → Fit (resolved p) (core_of p).classes around_here 0 e → Fit (resolved p) (core_of p).classes (contract_context d) 0 e
+  fit_here : (e : ExprTree) → Fit (resolved p) (core_of p).classes context_here 0 e → Fit (resolved p) (core_of p).classes (contract_context d) 0 e
   fit_here e f = subst (λ (x : Context). Fit (resolved p) (core_of p).classes x 0 e) (sym (context_is p faultless d h)) f
 
   -- all of an object
-  object_sound : (y : text.ExprTree) → expr_faults U y ≡ [] → faults (around h.static true false S) AsValue y ++ wrong T (OfClass 0) y ≡ [] → misplaced NoWord (expr e_here y) ≡ [] → IsSoundTerm (resolved p) (core_of p).classes d (AllOf (expr e_here y))
+  object_sound : (y : text.ExprTree) → expr_faults U y ≡ [] → faults (expr_context h.static true false S) AsValue y ++ wrong T (OfClass 0) y ≡ [] → misplaced NoWord (expr e_here y) ≡ [] → IsSoundTerm (resolved p) (core_of p).classes d (AllOf (expr e_here y))
   object_sound y named typed words =
-      let value = (none_left (faults (around h.static true false S) AsValue y) (wrong T (OfClass 0) y) typed).0 in
-      let w = wanted_sound p faultless around_here known_all h.static false answer (OfClass 0) here there y (answer_of outcome y named value words) named typed in
+      let value = (none_left (faults (expr_context h.static true false S) AsValue y) (wrong T (OfClass 0) y) typed).0 in
+      let w = wanted_sound p faultless context_here known_all h.static false answer (OfClass 0) here there y (answer_of outcome y named value words) named typed in
       SoundObject (record { fit = fit_here (expr e_here y) w.sound.fit; callless = w.sound.calls refl; words = words }) (ap is_reference w.is ∙ object_is p.classes w.type w.suits) (λ this. h.is_static ∙ instance h.static value this)
     where
-      instance : (b : Bool) → faults (around b true false S) AsValue y ≡ [] → is_this (expr e_here y) ≡ true → b ≡ false
+      instance : (b : Bool) → faults (expr_context b true false S) AsValue y ≡ [] → is_this (expr e_here y) ≡ true → b ≡ false
       instance false g this = refl
       instance true g this = absurd (false≢true (sym (no_this p false here false y (λ z. absurd (false≢true z)) g) ∙ this))
 
-  elements_sound : (y : text.ExprTree) → expr_faults U y ≡ [] → faults (around h.static true false S) AsValue y ++ wrong T AnArray y ≡ [] → misplaced NoWord (expr e_here y) ≡ [] → IsSoundTerm (resolved p) (core_of p).classes d (ElementsOf (expr e_here y))
+  elements_sound : (y : text.ExprTree) → expr_faults U y ≡ [] → faults (expr_context h.static true false S) AsValue y ++ wrong T AnArray y ≡ [] → misplaced NoWord (expr e_here y) ≡ [] → IsSoundTerm (resolved p) (core_of p).classes d (ElementsOf (expr e_here y))
   elements_sound y named typed words =
-      let value = (none_left (faults (around h.static true false S) AsValue y) (wrong T AnArray y) typed).0 in
-      let w = wanted_sound p faultless around_here known_all h.static false answer AnArray here there y (answer_of outcome y named value words) named typed in
-      SoundElements (record { fit = fit_here (expr e_here y) w.sound.fit; callless = w.sound.calls refl; words = words }) (wanted_array p around_here h.static false answer true here known_all there y w)
+      let value = (none_left (faults (expr_context h.static true false S) AsValue y) (wrong T AnArray y) typed).0 in
+      let w = wanted_sound p faultless context_here known_all h.static false answer AnArray here there y (answer_of outcome y named value words) named typed in
+      SoundElements (record { fit = fit_here (expr e_here y) w.sound.fit; callless = w.sound.calls refl; words = words }) (wanted_array p context_here h.static false answer true here known_all there y w)
 
-  field_of_read : (q : Place) (o : ExprTree) (f : Option (Declared FieldTree)) → Fit (resolved p) (core_of p).classes around_here 0 (read_field e_here q o f) → has_call (read_field e_here q o f) ≡ false → misplaced NoWord (read_field e_here q o f) ≡ [] → IsSoundTerm (resolved p) (core_of p).classes d (one_of (read_field e_here q o f))
+  field_of_read : (q : Place) (o : ExprTree) (f : Option (Declared FieldTree)) → Fit (resolved p) (core_of p).classes context_here 0 (read_field e_here q o f) → has_call (read_field e_here q o f) ≡ false → misplaced NoWord (read_field e_here q o f) ≡ [] → IsSoundTerm (resolved p) (core_of p).classes d (one_of (read_field e_here q o f))
   field_of_read q o None fit callless words = SoundObject (record { fit = tt; callless = refl; words = refl }) refl (λ this. absurd (false≢true this))
   field_of_read q o (Some f) fit callless words = SoundField (type_id p.classes f.member.ty) (record { fit = fit_here o fit.0; callless = callless; words = words }) fit.1
 
-  field_sound : (y : text.ExprTree) → expr_faults U y ≡ [] → faults (around h.static true false S) AsValue y ++ fault_where (not (is_field_term T y)) (bad_type (place_of y)) ≡ [] → misplaced NoWord (expr e_here y) ≡ [] → IsSoundTerm (resolved p) (core_of p).classes d (one_of (expr e_here y))
+  field_sound : (y : text.ExprTree) → expr_faults U y ≡ [] → faults (expr_context h.static true false S) AsValue y ++ fault_where (not (is_field_term T y)) (bad_type (place_of y)) ≡ [] → misplaced NoWord (expr e_here y) ≡ [] → IsSoundTerm (resolved p) (core_of p).classes d (one_of (expr e_here y))
   field_sound y named typed words =
-      let both = none_left (faults (around h.static true false S) AsValue y) (fault_where (not (is_field_term T y)) (bad_type (place_of y))) typed in
+      let both = none_left (faults (expr_context h.static true false S) AsValue y) (fault_where (not (is_field_term T y)) (bad_type (place_of y))) typed in
       let ans = answer_of outcome y named both.0 words in
-      let s = sound p faultless around_here known_all h.static false answer true (λ e. absurd (true≢false e)) here there y ans named both.0 in
+      let s = sound p faultless context_here known_all h.static false answer true (λ e. absurd (true≢false e)) here there y ans named both.0 in
       let r = read_of y ans named both.0 (not_false (is_field_term T y) (no_fault _ _ both.1)) in
       subst (λ e. IsSoundTerm (resolved p) (core_of p).classes d (one_of e)) (sym r.is)
-      (field_of_read r.where_read r.of r.field (subst (Fit (resolved p) (core_of p).classes around_here 0) r.is s.fit) (ap has_call (sym r.is) ∙ s.calls refl) (ap (misplaced NoWord) (sym r.is) ∙ words))
+      (field_of_read r.where_read r.of r.field (subst (Fit (resolved p) (core_of p).classes context_here 0) r.is s.fit) (ap has_call (sym r.is) ∙ s.calls refl) (ap (misplaced NoWord) (sym r.is) ∙ words))
     where
-      read_of : (z : text.ExprTree) → has_answer answer z ≡ true → expr_faults U z ≡ [] → faults (around h.static true false S) AsValue z ≡ [] → is_field_term T z ≡ true → IsFieldRead p faultless around_here known_all h.static answer here there (expr e_here z)
-      read_of (NameOf q n) ans g k t = name_field p faultless around_here known_all h.static answer here there q n t
-      read_of (MemberOf q z n) ans g k t = member_field p faultless around_here known_all h.static answer here there q z n ans g k t
+      read_of : (z : text.ExprTree) → has_answer answer z ≡ true → expr_faults U z ≡ [] → faults (expr_context h.static true false S) AsValue z ≡ [] → is_field_term T z ≡ true → IsFieldRead p faultless context_here known_all h.static answer here there (expr e_here z)
+      read_of (NameOf q n) ans g k t = name_field p faultless context_here known_all h.static answer here there q n t
+      read_of (MemberOf q z n) ans g k t = member_field p faultless context_here known_all h.static answer here there q z n ans g k t
       read_of z ans g k t = absurd (false≢true t)
 
   abbrev body_here : Body

@@ -23,21 +23,21 @@ use Rattle.ss_owners_rules.specs.Words.{Allowed, allows_question, allows_old, al
 use Rattle.ss_resolver_names_rules.specs.Faults.{type_faults}
 use Rattle.ss_resolver_names_rules.specs.Expressions.{expr_faults, before_dot, read_faults, called_faults, callee_faults, asked_class, class_argument, arguments_faults}
 use Rattle.ss_resolver_types_expressions.specs.Wants.{Want, ABool, AnInt, AReference, AnArray, ClassName, known, has_no_value, wrong}
-use Rattle.ss_resolver_types_expressions.specs.Calls.{Around, Called, Taking, Refused, called_owner, called_member, is_wrong_call, argument_wants, whole_call}
+use Rattle.ss_resolver_types_expressions.specs.Calls.{ExprContext, Called, Taking, Refused, called_owner, called_member, is_wrong_call, argument_wants, whole_call}
 use Rattle.ss_resolver_types_expressions.specs.Expressions.{AsValue, BeforeDot, AsCallee, no_class, is_question, condition_faults, is_name, faults, argument_faults}
 use Rattle.ss_resolver_rules.specs.declared.known.Known.TheVariants.{BoundName}
 use Rattle.ss_resolver_rules.specs.Expressions.{first_class, third_class, state_question, owner_question, called_behind, expr, args}
 use Rattle.ss_expand_formed.proofs.Facts.{none_left, not_false}
 use Rattle.ss_expand_formed_expressions.proofs.Fit.{Context}
-use Rattle.ss_expand_formed_expressions.proofs.Scopes.{refusing, around, no_fault, three_left, four_left}
+use Rattle.ss_expand_formed_expressions.proofs.Scopes.{refusing, expr_context, no_fault, three_left, four_left}
 use Rattle.ss_expand_formed_expressions.proofs.Places.{has_answer, have_answer, At, scope_at, env_at}
 use Rattle.ss_expand_formed_expressions.proofs.Receivers.{receiver_of, value_faults}
 use Rattle.ss_expand_formed_expressions.proofs.MemberReads.{not_unless}
 use Rattle.ss_expand_formed_expressions.proofs.BeforeReads.{before_read}
 
 module _ (p : ProgramTree) (x : Context) (static lacks : Bool) (w : Allowed) (refused : allows_result w ≡ false) where
-  abbrev A : At → Around
-  A a = around static true lacks (scope_at p a)
+  abbrev A : At → ExprContext
+  A a = expr_context static true lacks (scope_at p a)
 
   abbrev U : At → Scope
   U a = refusing static false (scope_at p a)

@@ -19,20 +19,20 @@ use Rattle.ss_typed.specs.Tree.{ExprTree, StateOf, LengthOf}
 use Rattle.ss_owners_rules.specs.Words.{Allowed, allows_state, unless, misplaced}
 use Rattle.ss_resolver_names_rules.specs.Expressions.{declares, has_member, expr_faults, before_dot, read_faults}
 use Rattle.ss_resolver_types_expressions.specs.Wants.{known}
-use Rattle.ss_resolver_types_expressions.specs.Calls.{Around, has_no_members}
+use Rattle.ss_resolver_types_expressions.specs.Calls.{ExprContext, has_no_members}
 use Rattle.ss_resolver_types_expressions.specs.Expressions.{AsValue, BeforeDot, used_member, is_wrong_read, is_method_name, reads_method, faults}
 use Rattle.ss_resolver_rules.specs.Numbers.{class_in}
 use Rattle.ss_resolver_rules.specs.Expressions.{read_field, field_behind, state_word, expr}
 use Rattle.ss_expand_formed.proofs.Facts.{none_left, or_false}
 use Rattle.ss_expand_formed_expressions.proofs.Fit.{Context}
-use Rattle.ss_expand_formed_expressions.proofs.Scopes.{refusing, around, no_fault, three_left}
+use Rattle.ss_expand_formed_expressions.proofs.Scopes.{refusing, expr_context, no_fault, three_left}
 use Rattle.ss_expand_formed_expressions.proofs.Places.{At, scope_at, env_at, static_at}
 use Rattle.ss_expand_formed_expressions.proofs.Receivers.{receiver_of, value_faults, class_unknown}
 use Rattle.ss_expand_formed_expressions.proofs.MemberReads.{not_unless}
 
 module _ (p : ProgramTree) (x : Context) (static condition lacks : Bool) (w : Allowed) where
-  abbrev A : At → Around
-  A a = around static condition lacks (scope_at p a)
+  abbrev A : At → ExprContext
+  A a = expr_context static condition lacks (scope_at p a)
 
   abbrev U : At → Scope
   U a = refusing static false (scope_at p a)

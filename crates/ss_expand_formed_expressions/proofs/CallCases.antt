@@ -14,14 +14,14 @@ use Rattle.ss_typed.specs.Types.{type_of}
 use Rattle.ss_resolver_names_rules.specs.Expressions.{arguments_faults}
 use Rattle.ss_resolver_names_rules.specs.Programs.{program_faults}
 use Rattle.ss_resolver_types_expressions.specs.Wants.{known}
-use Rattle.ss_resolver_types_expressions.specs.Calls.{Around, Called, Taking, Refused, param_wants, called_method, called_name, argument_wants, is_wrong_call}
+use Rattle.ss_resolver_types_expressions.specs.Calls.{ExprContext, Called, Taking, Refused, param_wants, called_method, called_name, argument_wants, is_wrong_call}
 use Rattle.ss_resolver_types_expressions.specs.Expressions.{argument_faults}
 use Rattle.ss_resolver_rules.specs.Numbers.{type_id}
 use Rattle.ss_resolver_rules.specs.Expressions.{this, called_bare, args}
 use Rattle.ss_resolver_rules.specs.Programs.{resolved}
 use Rattle.ss_expand_formed.specs.Laws.{core_of}
 use Rattle.ss_expand_formed_expressions.proofs.Fit.{Context, Fit, Fits}
-use Rattle.ss_expand_formed_expressions.proofs.Scopes.{refusing, around}
+use Rattle.ss_expand_formed_expressions.proofs.Scopes.{refusing, expr_context}
 use Rattle.ss_expand_formed_expressions.proofs.Places.{At, scope_at, env_at, IsKnown, IsPlace, Sound}
 use Rattle.ss_expand_formed_expressions.proofs.Questions.{Sounds}
 use Rattle.ss_expand_formed_expressions.proofs.Methods.{HasMethod, method_has}
@@ -32,8 +32,8 @@ or_assoc true b c h = refl
 or_assoc false b c h = h
 
 module _ (p : ProgramTree) (faultless : program_faults p ≡ []) (x : Context) (is_known : IsKnown p x) (static lacks answer : Bool) (a : At) (here : IsPlace p x static lacks answer a) where
-  abbrev A : Around
-  A = around static false lacks (scope_at p a)
+  abbrev A : ExprContext
+  A = expr_context static false lacks (scope_at p a)
 
   abbrev U : Scope
   U = refusing static false (scope_at p a)

@@ -19,7 +19,7 @@ use Rattle.ss_resolver_names_rules.specs.Expressions.{expr_faults, before_dot, r
 use Rattle.ss_resolver_names_rules.specs.Programs.{program_faults}
 use Rattle.ss_resolver_types_expressions.specs.Faults.{bad_type}
 use Rattle.ss_resolver_types_expressions.specs.Wants.{Want, known}
-use Rattle.ss_resolver_types_expressions.specs.Calls.{Around, Called, Refused, Unknown, method_or_field, called_on_class, called_base, called_member, called_name, argument_wants, is_wrong_call, whole_call}
+use Rattle.ss_resolver_types_expressions.specs.Calls.{ExprContext, Called, Refused, Unknown, method_or_field, called_on_class, called_base, called_member, called_name, argument_wants, is_wrong_call, whole_call}
 use Rattle.ss_resolver_types_expressions.specs.Expressions.{AsValue, BeforeDot, AsCallee, is_question, condition_faults, faults, faults_as, argument_faults}
 use Rattle.ss_resolver_rules.specs.Numbers.{number_or_object}
 use Rattle.ss_resolver_rules.specs.Expressions.{base_call, called_behind, expr, args}
@@ -29,7 +29,7 @@ use Rattle.ss_expand_formed.proofs.Facts.{none_left, or_false}
 use Rattle.ss_expand_formed.proofs.Places.{class_at}
 use Rattle.ss_expand_formed.proofs.Cycles.{above_within}
 use Rattle.ss_expand_formed_expressions.proofs.Fit.{Context}
-use Rattle.ss_expand_formed_expressions.proofs.Scopes.{refusing, around, no_fault, three_left, four_left}
+use Rattle.ss_expand_formed_expressions.proofs.Scopes.{refusing, expr_context, no_fault, three_left, four_left}
 use Rattle.ss_expand_formed_expressions.proofs.Places.{has_answer, have_answer, At, scope_at, env_at, IsKnown, IsPlace, Sound, IsWanted}
 use Rattle.ss_expand_formed_expressions.proofs.Receivers.{receiver_of, value_faults, class_unknown}
 use Rattle.ss_expand_formed_expressions.proofs.MemberReads.{not_unless}
@@ -63,8 +63,8 @@ asks_none n (AClass j) h other = rw h refl
 asks_none n (AValue t) h other = rw h refl
 
 module _ (p : ProgramTree) (faultless : program_faults p ≡ []) (x : Context) (is_known_there : IsKnown p x) (static lacks answer : Bool) where
-  abbrev A : At → Around
-  A a = around static false lacks (scope_at p a)
+  abbrev A : At → ExprContext
+  A a = expr_context static false lacks (scope_at p a)
 
   abbrev U : At → Scope
   U a = refusing static false (scope_at p a)

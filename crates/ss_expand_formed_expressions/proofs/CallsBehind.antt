@@ -20,7 +20,7 @@ use Rattle.ss_typed.specs.Tree.{NullOf}
 use Rattle.ss_resolver_names_rules.specs.Expressions.{declares, has_member, arguments_faults}
 use Rattle.ss_resolver_names_rules.specs.Programs.{program_faults}
 use Rattle.ss_resolver_types_expressions.specs.Wants.{Printable, gives_nothing, has_no_value}
-use Rattle.ss_resolver_types_expressions.specs.Calls.{Around, Called, Taking, Refused, Unknown, param_wants, called_console, called_on_object, called_on_declared, called_on_class, method_or_field, without_members, argument_wants, is_wrong_call}
+use Rattle.ss_resolver_types_expressions.specs.Calls.{ExprContext, Called, Taking, Refused, Unknown, param_wants, called_console, called_on_object, called_on_declared, called_on_class, method_or_field, without_members, argument_wants, is_wrong_call}
 use Rattle.ss_resolver_types_expressions.specs.Expressions.{argument_faults}
 use Rattle.ss_resolver_rules.specs.Expressions.{call_of, method_call, place_or_own, called_behind, expr, args}
 use Rattle.ss_resolver_rules.specs.Programs.{resolved}
@@ -29,7 +29,7 @@ use Rattle.ss_expand_formed.proofs.Facts.{not_false}
 use Rattle.ss_expand_formed.proofs.ChainLaw.{size as size_of}
 use Rattle.ss_expand_formed.proofs.Cycles.{named_within}
 use Rattle.ss_expand_formed_expressions.proofs.Fit.{Context, Fit}
-use Rattle.ss_expand_formed_expressions.proofs.Scopes.{refusing, around}
+use Rattle.ss_expand_formed_expressions.proofs.Scopes.{refusing, expr_context}
 use Rattle.ss_expand_formed_expressions.proofs.Classes.{place_is}
 use Rattle.ss_expand_formed_expressions.proofs.Places.{At, scope_at, env_at, IsKnown, IsPlace, class_of_value, Sound}
 use Rattle.ss_expand_formed_expressions.proofs.Questions.{Sounds}
@@ -92,8 +92,8 @@ print_takes k false true some wrong = by (k == 0) refl wrong
     by false e g = or_left (k == 1) (true && (k == 0)) (not_false _ g)
 
 module _ (p : ProgramTree) (faultless : program_faults p ≡ []) (x : Context) (is_known : IsKnown p x) (static lacks answer : Bool) (a : At) (here : IsPlace p x static lacks answer a) where
-  abbrev A : Around
-  A = around static false lacks (scope_at p a)
+  abbrev A : ExprContext
+  A = expr_context static false lacks (scope_at p a)
 
   abbrev U : Scope
   U = refusing static false (scope_at p a)

@@ -16,18 +16,18 @@ use Rattle.ss_tables.specs.Statics as statics
 use Rattle.ss_resolver_names_rules.specs.Expressions.{has_member, arguments_faults}
 use Rattle.ss_resolver_names_rules.specs.Programs.{program_faults}
 use Rattle.ss_resolver_types_expressions.specs.Wants.{ClassName, has_no_value, known}
-use Rattle.ss_resolver_types_expressions.specs.Calls.{Around, Taking, Refused, called_on_object, called_member, has_no_members, without_members, class_of_known, asks_level, argument_wants, is_wrong_call}
+use Rattle.ss_resolver_types_expressions.specs.Calls.{ExprContext, Taking, Refused, called_on_object, called_member, has_no_members, without_members, class_of_known, asks_level, argument_wants, is_wrong_call}
 use Rattle.ss_resolver_types_expressions.specs.Expressions.{AsValue, is_question, faults, argument_faults}
 use Rattle.ss_expand_formed.proofs.Facts.{or_false}
 use Rattle.ss_expand_formed_expressions.proofs.Fit.{Context}
-use Rattle.ss_expand_formed_expressions.proofs.Scopes.{refusing, around}
+use Rattle.ss_expand_formed_expressions.proofs.Scopes.{refusing, expr_context}
 use Rattle.ss_expand_formed_expressions.proofs.Places.{At, scope_at, IsKnown, IsPlace, static_at, Sound}
 use Rattle.ss_expand_formed_expressions.proofs.Questions.{Sounds}
 use Rattle.ss_expand_formed_expressions.proofs.CallsBehind.{value_by}
 
 module _ (p : ProgramTree) (faultless : program_faults p ≡ []) (x : Context) (is_known : IsKnown p x) (static lacks answer : Bool) (a : At) (here : IsPlace p x static lacks answer a) where
-  abbrev A : Around
-  A = around static false lacks (scope_at p a)
+  abbrev A : ExprContext
+  A = expr_context static false lacks (scope_at p a)
 
   abbrev U : Scope
   U = refusing static false (scope_at p a)

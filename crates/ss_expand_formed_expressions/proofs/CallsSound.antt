@@ -25,7 +25,7 @@ use Rattle.ss_resolver_names_rules.specs.Expressions.{expr_faults, arguments_fau
 use Rattle.ss_resolver_names_rules.specs.Faults.{class_faults, type_name_faults}
 use Rattle.ss_resolver_names_rules.specs.Programs.{program_faults}
 use Rattle.ss_resolver_types_expressions.specs.Wants.{AnInt, OfType, gives_nothing, has_no_value, may_stand_for, suits, wrong}
-use Rattle.ss_resolver_types_expressions.specs.Calls.{Around, Taking, param_wants, constructed, argument_wants, whole_call, is_wrong_call}
+use Rattle.ss_resolver_types_expressions.specs.Calls.{ExprContext, Taking, param_wants, constructed, argument_wants, whole_call, is_wrong_call}
 use Rattle.ss_resolver_types_expressions.specs.Expressions.{AsValue, faults, argument_faults}
 use Rattle.ss_resolver_rules.specs.Numbers.{number_or_object, class_id, class_in, array_class, type_id, method_id, table_place}
 use Rattle.ss_resolver_rules.specs.Expressions.{method_call, expr, args}
@@ -42,7 +42,7 @@ use Rattle.ss_expand_formed.proofs.Resolved.{number_declared}
 use Rattle.ss_expand_formed.proofs.Cycles.{named_within}
 use Rattle.ss_expand_formed.proofs.TypesKnown.{env_of}
 use Rattle.ss_expand_formed_expressions.proofs.Fit.{Context, IsCallee, Fit, Fits}
-use Rattle.ss_expand_formed_expressions.proofs.Scopes.{refusing, around, no_fault}
+use Rattle.ss_expand_formed_expressions.proofs.Scopes.{refusing, expr_context, no_fault}
 use Rattle.ss_expand_formed_expressions.proofs.Classes.{stands_fits, type_there}
 use Rattle.ss_expand_formed_expressions.proofs.Places.{At, scope_at, env_at, IsKnown, IsPlace, class_of_value, Sound, IsWanted, wanted_int}
 use Rattle.ss_expand_formed_expressions.proofs.MemberReads.{not_unless}
@@ -62,8 +62,8 @@ module _ (p : ProgramTree) (faultless : program_faults p ≡ []) (x : Context) (
   abbrev C : List core.ClassTree
   C = (core_of p).classes
 
-  abbrev A : Around
-  A = around static false lacks (scope_at p a)
+  abbrev A : ExprContext
+  A = expr_context static false lacks (scope_at p a)
 
   abbrev U : Scope
   U = refusing static false (scope_at p a)

@@ -15,7 +15,7 @@ use Rattle.ss_expand_rules.specs.Calls.{has_call}
 use Rattle.ss_store_rules.specs.Types.{is_bool}
 use Rattle.ss_expand_formed.specs.Laws.{core_of}
 use Rattle.ss_expand_formed_expressions.proofs.Fit.{Context, Fit}
-use Rattle.ss_expand_formed_expressions.proofs.Scopes.{refusing, around}
+use Rattle.ss_expand_formed_expressions.proofs.Scopes.{refusing, expr_context}
 use Rattle.ss_expand_formed_expressions.proofs.Places.{has_answer, At, scope_at, env_at, IsKnown, IsPlace, IsWanted, wanted_bool}
 use Rattle.ss_expand_formed_expressions.proofs.Questions.{want}
 use Rattle.ss_expand_formed_expressions.proofs.Sources.{sound}
@@ -38,11 +38,11 @@ pub record IsCondition (p : ProgramTree) (x : Context) (k : ℕ) (e : Env) (y : 
 
 module _ (p : ProgramTree) (faultless : program_faults p ≡ []) (x : Context) (is_known : IsKnown p x) (static lacks answer : Bool) where
   -- an expression in a condition that is what is wanted there
-  pub wanted_sound : (w : Want) (a : At) → IsPlace p x static lacks answer a → (y : text.ExprTree) → has_answer answer y ≡ true → expr_faults (refusing static false (scope_at p a)) y ≡ [] → faults_as (around static true lacks (scope_at p a)) w y ≡ [] →
+  pub wanted_sound : (w : Want) (a : At) → IsPlace p x static lacks answer a → (y : text.ExprTree) → has_answer answer y ≡ true → expr_faults (refusing static false (scope_at p a)) y ≡ [] → faults_as (expr_context static true lacks (scope_at p a)) w y ≡ [] →
       IsWanted p x static lacks answer true a w y
   wanted_sound w a here y ans names h = want p x is_known static lacks answer true a here w y (sound p faultless x is_known static lacks answer true (λ e. absurd (true≢false e)) a here y ans names) h
 
-  pub condition_sound : (a : At) → IsPlace p x static lacks answer a → (y : text.ExprTree) → has_answer answer y ≡ true → expr_faults (refusing static false (scope_at p a)) y ≡ [] → faults_as (around static true lacks (scope_at p a)) ABool y ≡ [] → IsCondition p x a.bound (env_at p a) y
+  pub condition_sound : (a : At) → IsPlace p x static lacks answer a → (y : text.ExprTree) → has_answer answer y ≡ true → expr_faults (refusing static false (scope_at p a)) y ≡ [] → faults_as (expr_context static true lacks (scope_at p a)) ABool y ≡ [] → IsCondition p x a.bound (env_at p a) y
   condition_sound a here y ans names h =
       let w = wanted_sound ABool a here y ans names h in
       record { fit = w.sound.fit; type = wanted_bool p x static lacks answer true a y w; calls = w.sound.calls refl }

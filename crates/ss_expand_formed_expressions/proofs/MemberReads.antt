@@ -39,7 +39,7 @@ use Rattle.ss_store_rules.specs.Types.{is_reference, has_class, is_word}
 use Rattle.ss_expand_formed.specs.Laws.{core_of}
 use Rattle.ss_expand_formed.proofs.ChainLaw.{size}
 use Rattle.ss_expand_formed_expressions.proofs.Fit.{Context, Fit}
-use Rattle.ss_expand_formed_expressions.proofs.Scopes.{refusing, around, no_fault}
+use Rattle.ss_expand_formed_expressions.proofs.Scopes.{refusing, expr_context, no_fault}
 use Rattle.ss_expand_formed_expressions.proofs.Names.{Meets, meets_in, meets_among, meets_else}
 use Rattle.ss_expand_formed_expressions.proofs.Classes.{array_known, place_is, type_there, field_has}
 use Rattle.ss_expand_formed_expressions.proofs.Places.{At, scope_at, env_at, IsKnown, IsPlace, class_of_value, Sound}
@@ -120,7 +120,7 @@ module _ (p : ProgramTree) (faultless : program_faults p ≡ []) (x : Context) (
   name_by a place q n (Some l) (Some (Variable y t)) h g i = record { fit = h.1; type = λ u e. sym h.0 ∙ e; some = ap is_some h.0; calls = refl }
   name_by a place q n (Some l) (Some (BoundName j)) h g i = record { fit = h.1; type = λ u e. sym h.0 ∙ e; some = ap is_some h.0; calls = refl }
 
-  pub name_read : (condition : Bool) (a : At) → IsPlace p x static lacks answer a → (q : Place) (n : List ℕ) → expr_faults (refusing static false (scope_at p a)) (text.NameOf q n) ≡ [] → name_faults (around static condition lacks (scope_at p a)) q n ≡ [] →
+  pub name_read : (condition : Bool) (a : At) → IsPlace p x static lacks answer a → (q : Place) (n : List ℕ) → expr_faults (refusing static false (scope_at p a)) (text.NameOf q n) ≡ [] → name_faults (expr_context static condition lacks (scope_at p a)) q n ≡ [] →
       Sound p x static lacks answer condition a (text.NameOf q n)
   name_read condition a place q n names types =
       let r = name_by a place q n (local_named (scope_at p a) n) (known (env_at p a) n) (met a place n) (not_unless _ q names) (no_fault _ _ types) in

@@ -35,7 +35,7 @@ use Rattle.ss_expand_formed.proofs.ChainLaw.{type_known}
 use Rattle.ss_expand_formed_types.proofs.Typings.{may_be, may_have, type_may, object_known, temporary_known}
 use Rattle.ss_expand_formed_types.proofs.Written.{Fits, expr_ok}
 use Rattle.ss_expand_formed_expressions.proofs.Fit.{Context, Fit}
-use Rattle.ss_expand_formed_expressions.proofs.Scopes.{refusing, around, no_fault, static_same}
+use Rattle.ss_expand_formed_expressions.proofs.Scopes.{refusing, expr_context, no_fault, static_same}
 use Rattle.ss_expand_formed_expressions.proofs.Names.{Stands, Alike, AllAlike}
 use Rattle.ss_expand_formed_expressions.proofs.Classes.{array_known, type_there}
 
@@ -229,14 +229,14 @@ module _ (p : ProgramTree) (x : Context) (static lacks answer condition : Bool) 
     pub is : type_of (expr (env_at p a) y) ≡ Some type
     pub suits : suits p.classes w type ≡ true
 
-  pub static_at : (y : text.ExprTree) → faults (around static condition lacks S) AsValue y ≡ [] → static_of T y ≡ static_of S y
+  pub static_at : (y : text.ExprTree) → faults (expr_context static condition lacks S) AsValue y ≡ [] → static_of T y ≡ static_of S y
   static_at y h = by static h
     where
-      by : (b : Bool) → faults (around b condition lacks S) AsValue y ≡ [] → static_of (refusing b b S) y ≡ static_of S y
+      by : (b : Bool) → faults (expr_context b condition lacks S) AsValue y ≡ [] → static_of (refusing b b S) y ≡ static_of S y
       by true g = static_same condition lacks true true S y g
       by false g = refl
 
-  pub is_wanted : (w : Want) (y : text.ExprTree) → faults (around static condition lacks S) AsValue y ≡ [] → Sound y → wrong T w y ≡ [] → IsWanted w y
+  pub is_wanted : (w : Want) (y : text.ExprTree) → faults (expr_context static condition lacks S) AsValue y ≡ [] → Sound y → wrong T w y ≡ [] → IsWanted w y
   is_wanted w y h s g =
       let none = or_false (has_no_value T y) (is_unsuited p.classes w (static_of T y)) (no_fault _ _ g) in
       let suited : is_unsuited p.classes w (static_of S y) ≡ false = ap (is_unsuited p.classes w) (sym (static_at y h)) ∙ none.1 in

@@ -20,7 +20,7 @@ use Rattle.ss_typed.specs.Tree.{StateOf, OwnersOf}
 use Rattle.ss_typed.specs.Types.{type_of}
 use Rattle.ss_resolver_names_rules.specs.Expressions.{expr_faults, asked_class, arguments_faults}
 use Rattle.ss_resolver_types_expressions.specs.Wants.{Want, AReference, ClassName, has_no_value, known, wrong}
-use Rattle.ss_resolver_types_expressions.specs.Calls.{Around, Called, Taking, Refused, called_owner, asks_level, called_value, is_wrong_call, argument_wants}
+use Rattle.ss_resolver_types_expressions.specs.Calls.{ExprContext, Called, Taking, Refused, called_owner, asks_level, called_value, is_wrong_call, argument_wants}
 use Rattle.ss_resolver_types_expressions.specs.Expressions.{AsValue, faults, argument_faults}
 use Rattle.ss_resolver_rules.specs.Expressions.{class_named_by, first_class, third_class, state_question, owner_question, called_behind, expr, args}
 use Rattle.ss_resolver_rules.specs.Programs.{resolved}
@@ -31,7 +31,7 @@ use Rattle.ss_expand_formed.proofs.Facts.{none_left, not_false}
 use Rattle.ss_expand_formed_types.proofs.Typings.{object_known}
 use Rattle.ss_expand_formed_types.proofs.Written.{expr_ok}
 use Rattle.ss_expand_formed_expressions.proofs.Fit.{Context, Fit}
-use Rattle.ss_expand_formed_expressions.proofs.Scopes.{refusing, around}
+use Rattle.ss_expand_formed_expressions.proofs.Scopes.{refusing, expr_context}
 use Rattle.ss_expand_formed_expressions.proofs.Places.{At, scope_at, env_at, IsKnown, IsPlace, fits_at, Sound, IsWanted, is_wanted, wanted_reference}
 
 level_reference : (t : Ty) → has_levels t ≡ true → is_reference (Some t) ≡ true
@@ -51,14 +51,14 @@ module _ (p : ProgramTree) (x : Context) (static lacks answer condition : Bool) 
   -- each argument is sound where it has no faults
   abbrev pub Sounds : Arguments → Type 0
   Sounds NoMore = Unit {0}
-  Sounds (Argument z es) = (expr_faults (refusing static false (scope_at p a)) z ≡ [] → faults (around static condition lacks (scope_at p a)) AsValue z ≡ [] → Sound p x static lacks answer condition a z) × Sounds es
+  Sounds (Argument z es) = (expr_faults (refusing static false (scope_at p a)) z ≡ [] → faults (expr_context static condition lacks (scope_at p a)) AsValue z ≡ [] → Sound p x static lacks answer condition a z) × Sounds es
 
 module _ (p : ProgramTree) (x : Context) (is_known : IsKnown p x) (static lacks answer condition : Bool) (a : At) (place : IsPlace p x static lacks answer a) where
   abbrev C : List core.ClassTree
   C = (core_of p).classes
 
-  abbrev A : Around
-  A = around static condition lacks (scope_at p a)
+  abbrev A : ExprContext
+  A = expr_context static condition lacks (scope_at p a)
 
   abbrev SoundArgs : Arguments → Type 0
   SoundArgs es = Sounds p x static lacks answer condition a es

@@ -15,16 +15,16 @@ use Rattle.ss_tables.specs.Statics.{Receiver, TheConsole, TheOwner, AValue, is_m
 use Rattle.ss_faults.specs.declared.Fault.{Fault}
 use Rattle.ss_resolver_types_expressions.specs.Faults.{fault_where, bad_type}
 use Rattle.ss_resolver_types_expressions.specs.Wants.{AnArray, AnInt, wrong}
-use Rattle.ss_resolver_types_expressions.specs.Calls.{Around, Refused, Taking, param_wants, called_method, called_name, is_wrong_call, called}
+use Rattle.ss_resolver_types_expressions.specs.Calls.{ExprContext, Refused, Taking, param_wants, called_method, called_name, is_wrong_call, called}
 use Rattle.ss_resolver_types_expressions.specs.Expressions.{AsValue, BeforeDot, AsCallee, name_faults, is_misused, is_value_receiver, faults}
 use Rattle.ss_expand_formed.proofs.Facts.{none_left, and_false}
 
 abbrev pub refusing : Bool → Bool → Scope → Scope
 refusing members this s = record s { refuses_members = members; refuses_this = this }
 
--- what surrounds an expression at a place of this scope
-abbrev pub around : Bool → Bool → Bool → Scope → Around
-around static condition lacks s = record { scope = refusing static static s; is_static = static; in_condition = condition; lacks_result = lacks }
+-- the context of an expression at a place of this scope
+abbrev pub expr_context : Bool → Bool → Bool → Scope → ExprContext
+expr_context static condition lacks s = record { scope = refusing static static s; is_static = static; in_condition = condition; lacks_result = lacks }
 
 pub no_fault : (b : Bool) (f : Fault) → fault_where b f ≡ [] → b ≡ false
 no_fault true f h = absurd (let x : ⊥ = cc in x)
@@ -46,8 +46,8 @@ same_if false x y z h = h refl
 
 module _ (condition lacks : Bool) (members this : Bool) where
   -- the scope of a static method, as the phase of types has it, and one that refuses otherwise
-  abbrev A : Scope → Around
-  A s = around true condition lacks s
+  abbrev A : Scope → ExprContext
+  A s = expr_context true condition lacks s
 
   abbrev V : Scope → Scope
   V s = refusing members this s

@@ -27,7 +27,7 @@ use Rattle.ss_resolver_names_rules.specs.Programs.{program_faults}
 use Rattle.ss_resolver_types_expressions.specs.Faults.{bad_type}
 use Rattle.ss_resolver_types_expressions.specs.Wants.{Want, AnInt, ABool, AReference, AnArray, AnyValue, Known, known, has_no_value, are_alike, misfit, wrong}
 use Rattle.ss_resolver_types_expressions.specs.Wants as wants
-use Rattle.ss_resolver_types_expressions.specs.Calls.{Around, without_members, has_no_members, called, called_member, is_wrong_call, argument_wants, whole_call}
+use Rattle.ss_resolver_types_expressions.specs.Calls.{ExprContext, without_members, has_no_members, called, called_member, is_wrong_call, argument_wants, whole_call}
 use Rattle.ss_resolver_types_expressions.specs.Expressions.{AsValue, BeforeDot, AsCallee, operand_faults, operand, comparison_faults, are_unlike, no_class, word_faults, used_member, is_wrong_read, is_no_read, reads_method, is_question, condition_faults, faults, argument_faults, is_number_type}
 use Rattle.ss_resolver_rules.specs.declared.known.Known.TheVariants.{BoundName}
 use Rattle.ss_resolver_rules.specs.Numbers.{class_in, written_class}
@@ -39,7 +39,7 @@ use Rattle.ss_expand_formed.specs.Laws.{core_of}
 use Rattle.ss_expand_formed.proofs.Facts.{none_left, or_false, not_false}
 use Rattle.ss_expand_formed_types.proofs.Written.{expr_ok}
 use Rattle.ss_expand_formed_expressions.proofs.Fit.{Context, Fit}
-use Rattle.ss_expand_formed_expressions.proofs.Scopes.{refusing, around, no_fault, three_left, four_left}
+use Rattle.ss_expand_formed_expressions.proofs.Scopes.{refusing, expr_context, no_fault, three_left, four_left}
 use Rattle.ss_expand_formed_expressions.proofs.Names.{alike_more, all_alike_more, Alike, AllAlike}
 use Rattle.ss_expand_formed_expressions.proofs.Places.{has_answer, have_answer, At, scope_at, env_at, IsKnown, IsPlace, fits_at, cast_there, Sound, IsWanted, static_at, is_wanted, wanted_int, wanted_bool, wanted_reference, wanted_array}
 use Rattle.ss_expand_formed_expressions.proofs.Receivers.{receiver_of, value_faults, class_unknown}
@@ -105,8 +105,8 @@ module _ (p : ProgramTree) (faultless : program_faults p ≡ []) (x : Context) (
   abbrev C : List core.ClassTree
   C = (core_of p).classes
 
-  abbrev A : Bool → At → Around
-  A c a = around static c lacks (scope_at p a)
+  abbrev A : Bool → At → ExprContext
+  A c a = expr_context static c lacks (scope_at p a)
 
   abbrev U : At → Scope
   U a = refusing static false (scope_at p a)

@@ -13,7 +13,7 @@ use Rattle.ss_typed.specs.Tree.{ExprTree, ThisOf, FieldOf, Arguments, Declarator
 use Rattle.ss_expand_rules.specs.Numbers.{Numbers}
 use Rattle.ss_expand_rules.specs.Program.{field_at, above_of}
 use Rattle.ss_expand_rules.specs.Calls.{has_call}
-use Rattle.ss_expand_rules.specs.Lifting.{Setting, value, right_side, arguments_of}
+use Rattle.ss_expand_rules.specs.Lifting.{ElaborationContext, value, right_side, arguments_of}
 use Rattle.ss_expand_rules.specs.Code.{Coded}
 use Rattle.ss_expand_rules.specs.Simple.{write_of, assign_settled, settle, assign_behind, declare, simple}
 use Rattle.ss_store_rules.specs.Locals.{each}
@@ -62,7 +62,7 @@ any_in x = any_simple AnyGiven x refl
 abbrev pub IsMild : Code → Type 0
 IsMild xs = each is_mild (code_of xs) ≡ true
 
-module _ (z : Setting) where
+module _ (z : ElaborationContext) where
   pub simple_is_mild : (x : SimpleTree) (made : List Ty) → IsMild (simple z x made).code
   simple_is_mild x made =
       simple_runs Anything AnyGiven any_passes is_mild z (all_mild z.numbers) (simple_mild z.numbers) AnyGiven

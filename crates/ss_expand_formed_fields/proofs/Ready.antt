@@ -21,7 +21,7 @@ use Rattle.ss_expand_rules.specs.Program.{field_at, table, Origin}
 use Rattle.ss_typed.specs.Lookups.{body_at}
 use Rattle.ss_expand_rules.specs.Contracts.{first_param, declarations}
 use Rattle.ss_expand_rules.specs.Constructors.{before_all, initializers}
-use Rattle.ss_expand_rules.specs.Lifting.{Setting}
+use Rattle.ss_expand_rules.specs.Lifting.{ElaborationContext}
 use Rattle.ss_expand_rules.specs.Statements.{stmts}
 use Rattle.ss_expand_rules.specs.Bodies.{first_copy, copying_from, copying, written_body}
 use Rattle.ss_store_rules.specs.Locals.{each}
@@ -90,7 +90,7 @@ module _ (p : ProgramTree) (k : ℕ) (c : ClassTree) (at : slice_get p.classes k
   End xs l = at_end (fields_flow (core_of p) y) (code_of xs) l
 
   -- behind the copies and the beginnings of fields
-  pub started_knows : (z : Setting) → z.program ≡ q → (l : Fields) → Knows (core_of p) y n nothing_first (record { own = λ i. false; above = false }) l →
+  pub started_knows : (z : ElaborationContext) → z.program ≡ q → (l : Fields) → Knows (core_of p) y n nothing_first (record { own = λ i. false; above = false }) l →
       KnowsAt (core_of p) y n nothing_first (Some (assigned_by_initializers q (4 + 2 * k))) (End (stmts z (initializers q (4 + 2 * k)) []).code (Some l))
   started_knows z same l h =
       let r = started p k c at in

@@ -33,7 +33,7 @@ use Rattle.ss_typed.specs.Lookups.{body_at, constructor_in, constructor_of}
 use Rattle.ss_expand_rules.specs.Contracts.{declarations}
 use Rattle.ss_expand_rules.specs.Constructors.{before_all, initializers, implicit_constructor}
 use Rattle.ss_typed.specs.Shapes as shapes
-use Rattle.ss_expand_rules.specs.Lifting.{Setting}
+use Rattle.ss_expand_rules.specs.Lifting.{ElaborationContext}
 use Rattle.ss_expand_rules.specs.Simple.{simple}
 use Rattle.ss_expand_rules.specs.Statements.{stmts}
 use Rattle.ss_expand_rules.specs.Bodies.{copying, code, written_body}
@@ -219,7 +219,7 @@ check_of_returns c y = record { others = others; tests = λ e k. refl }
     others x k h = refl
 
 -- simple statements add fields alone
-simples_mild : (z : Setting) (ss : StmtTrees) (made : List Ty) → OnlySimple ss → IsMild (stmts z ss made).code
+simples_mild : (z : ElaborationContext) (ss : StmtTrees) (made : List Ty) → OnlySimple ss → IsMild (stmts z ss made).code
 simples_mild z NoMore made h = refl
 simples_mild z (Before (SimpleOf x) ss) made h = let one = simple z x made in each-append is_mild one.code (stmts z ss one.made).code (simple_is_mild z x made) (simples_mild z ss one.made h.1)
 simples_mild z (Before x ss) made h = absurd h
@@ -253,7 +253,7 @@ module _ (p : ProgramTree) (faultless : program_faults p ≡ []) (k : ℕ) (c : 
   abbrev n : Numbers
   n = field_numbers q b.class
 
-  abbrev z : Setting
+  abbrev z : ElaborationContext
   z = s q b r.begins
 
   abbrev Ends : Code → Option Fields → Option Fields

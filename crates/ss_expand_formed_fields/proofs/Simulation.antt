@@ -18,7 +18,7 @@ use Rattle.ss_paths.specs.Paths as source
 use Rattle.ss_expand_rules.specs.Program.{field_at}
 use Rattle.ss_expand_rules.specs.Numbers.{plain, all_plain}
 use Rattle.ss_typed.specs.Shapes.{is_true, place_of}
-use Rattle.ss_expand_rules.specs.Lifting.{Opened, Setting, Valued, next, temporary_type, any_object, in_temporary, right_side, value}
+use Rattle.ss_expand_rules.specs.Lifting.{Opened, ElaborationContext, Valued, next, temporary_type, any_object, in_temporary, right_side, value}
 use Rattle.ss_expand_rules.specs.Code.{Coded, nothing, then_code}
 use Rattle.ss_expand_rules.specs.Ends.{can_end, block_can_end}
 use Rattle.ss_expand_rules.specs.Simple.{declare, simple}
@@ -88,7 +88,7 @@ module _ (c : core.CoreTree) (b : core.BodyTree) (n : Numbers) (first : Fields) 
   -- ---- simple statements
 
   -- the fields of these numbers are there
-  module _ (z : Setting) (known : (f : ℕ) → is_among n f ≡ true → is_some (field_at z.program f) ≡ true) where
+  module _ (z : ElaborationContext) (known : (f : ℕ) → is_among n f ≡ true → is_some (field_at z.program f) ≡ true) where
     put_own : (f : ℕ) (own : Set) (k : Fields) → nat_le n.first f ≡ true → k f ≡ true → ((i : ℕ) → own i ≡ true → k (n.first + i) ≡ true) → (i : ℕ) → put (f - n.first) true own i ≡ true → k (n.first + i) ≡ true
     unfolding put
     put_own f own k low has rest i e =
@@ -141,9 +141,9 @@ module _ (c : core.CoreTree) (b : core.BodyTree) (n : Numbers) (first : Fields) 
   -- ---- statements
 
   -- of a check of what is known at returns alone
-  module _ (z : Setting) (known : (f : ℕ) → is_among n f ≡ true → is_some (field_at z.program f) ≡ true) (check : Check Fields) (asked : IsOfReturns c b check) (fault : Option Assigned → List Fault)
+  module _ (z : ElaborationContext) (known : (f : ℕ) → is_among n f ≡ true → is_some (field_at z.program f) ≡ true) (check : Check Fields) (asked : IsOfReturns c b check) (fault : Option Assigned → List Fault)
       (complete : (a : Assigned) (k : Fields) → Knows a k → fault (Some a) ≡ [] → (p : Place) (e : Option core.ExprTree) → check.statement (ReturnStmt p e) k ≡ true) where
-    abbrev at : List Opened → Setting
+    abbrev at : List Opened → ElaborationContext
     at os = record z { exposes = os }
 
     -- the same asked of the source
@@ -264,7 +264,7 @@ module _ (c : core.CoreTree) (b : core.BodyTree) (n : Numbers) (first : Fields) 
     close_goes o false inside k d h = h
     close_goes o true inside k d h = before_mild inside.code (pack_of o ∷ []) k d h refl
 
-    expose_goes : (os : List Opened) (p : Place) (e : ExprTree) (t : ℕ) (reaches : Bool) (inner : Setting → List Ty → Coded) (made : List Ty) (a : Assigned) (k : Fields) (d : Option Assigned) → Knows a k → ((o : Opened) (m : List Ty) (l : Fields) → Knows a l → Goes (inner (at (os ++ o ∷ [])) m).code l d) →
+    expose_goes : (os : List Opened) (p : Place) (e : ExprTree) (t : ℕ) (reaches : Bool) (inner : ElaborationContext → List Ty → Coded) (made : List Ty) (a : Assigned) (k : Fields) (d : Option Assigned) → Knows a k → ((o : Opened) (m : List Ty) (l : Fields) → Knows a l → Goes (inner (at (os ++ o ∷ [])) m).code l d) →
         Goes (expose_lifted (at os) p e t reaches inner (right_side (at os) e made)).code k d
     expose_goes os p e t reaches inner made a k d h f =
         let l = right_side (at os) e made in

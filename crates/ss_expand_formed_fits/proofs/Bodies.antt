@@ -27,7 +27,7 @@ use Rattle.ss_resolver_names_rules.specs.Statements.{faults_of_all}
 use Rattle.ss_resolver_names_rules.specs.Statements as naming_in
 use Rattle.ss_resolver_names_rules.specs.Members as naming
 use Rattle.ss_resolver_names_rules.specs.Programs.{program_faults}
-use Rattle.ss_resolver_types_expressions.specs.Calls.{Around, Taking, base_wants, takes_nothing, argument_wants, is_wrong_call, whole_call}
+use Rattle.ss_resolver_types_expressions.specs.Calls.{ExprContext, Taking, base_wants, takes_nothing, argument_wants, is_wrong_call, whole_call}
 use Rattle.ss_resolver_types_expressions.specs.Wants.{Want}
 use Rattle.ss_resolver_types_expressions.specs.Expressions.{argument_faults}
 use Rattle.ss_resolver_types_expressions.specs.Statements.{Nothing, in_code}
@@ -175,7 +175,7 @@ module _ (p : ProgramTree) (faultless : program_faults p ≡ []) (typed_well : t
   none_taken [] h = refl
   none_taken (w ∷ ws) h = absurd (false≢true h)
 
-  none_given : (a : Around) (ws : List Want) → argument_faults a ws text.NoMore ≡ []
+  none_given : (a : ExprContext) (ws : List Want) → argument_faults a ws text.NoMore ≡ []
   none_given a [] = refl
   none_given a (w ∷ ws) = refl
 

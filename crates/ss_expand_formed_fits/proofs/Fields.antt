@@ -22,7 +22,7 @@ use Rattle.ss_resolver_names_rules.specs.Faults.{type_faults}
 use Rattle.ss_resolver_names_rules.specs.Statements.{faults_of_any}
 use Rattle.ss_resolver_names_rules.specs.Members as naming
 use Rattle.ss_resolver_names_rules.specs.Programs.{program_faults}
-use Rattle.ss_resolver_types_expressions.specs.Calls.{Around}
+use Rattle.ss_resolver_types_expressions.specs.Calls.{ExprContext}
 use Rattle.ss_resolver_types_expressions.specs.Expressions.{mark_faults}
 use Rattle.ss_resolver_types_expressions.specs.Statements.{initial_faults}
 use Rattle.ss_resolver_types_expressions.specs.Members as typing
@@ -53,8 +53,8 @@ use Rattle.ss_expand_formed_fits.proofs.Owned.{field_worded}
 -- ---- fields without faults
 
 module _ (p : ProgramTree) (k : ℕ) (c : ClassTree) where
-  -- what surrounds the beginning of a field
-  abbrev A : Around
+  -- the context of the beginning of a field
+  abbrev A : ExprContext
   A = typing.in_class p.classes k false
 
   pub record IsField (f : FieldTree) : Type 0 where

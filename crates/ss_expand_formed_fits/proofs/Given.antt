@@ -15,7 +15,7 @@ use Rattle.ss_resolver_names_rules.specs.Expressions.{expr_faults, arguments_fau
 use Rattle.ss_resolver_names_rules.specs.Statements.{faults_of_all}
 use Rattle.ss_resolver_names_rules.specs.Programs.{program_faults}
 use Rattle.ss_resolver_types_expressions.specs.Wants.{Want, ABool, OfType, may_stand_for, suits}
-use Rattle.ss_resolver_types_expressions.specs.Calls.{Around, Taking, base_wants, argument_wants, is_wrong_call}
+use Rattle.ss_resolver_types_expressions.specs.Calls.{ExprContext, Taking, base_wants, argument_wants, is_wrong_call}
 use Rattle.ss_resolver_types_expressions.specs.Expressions.{AsValue, faults, argument_faults, faults_as}
 use Rattle.ss_resolver_types_expressions.specs.Statements.{Outcome, conditions}
 use Rattle.ss_resolver_rules.specs.Expressions.{expr, args}
@@ -26,7 +26,7 @@ use Rattle.ss_store_rules.specs.Types.{has_fitting}
 use Rattle.ss_expand_formed.specs.Laws.{core_of}
 use Rattle.ss_expand_formed.proofs.Facts.{none_left}
 use Rattle.ss_expand_formed_expressions.proofs.Fit.{Context, Fit}
-use Rattle.ss_expand_formed_expressions.proofs.Scopes.{refusing, around}
+use Rattle.ss_expand_formed_expressions.proofs.Scopes.{refusing, expr_context}
 use Rattle.ss_expand_formed_expressions.proofs.Classes.{stands_fits}
 use Rattle.ss_expand_formed_expressions.proofs.Places.{At, scope_at, env_at, IsKnown, IsPlace, class_of_value, IsWanted, wanted_bool}
 use Rattle.ss_expand_formed_expressions.proofs.Conditions.{condition_sound}
@@ -45,8 +45,8 @@ module _ (p : ProgramTree) (x : Context) (static : Bool) where
   abbrev pub typed_at : At → Scope
   typed_at a = refusing static static (scope_at p a)
 
-  abbrev pub code_at : At → Around
-  code_at a = around static false false (scope_at p a)
+  abbrev pub code_at : At → ExprContext
+  code_at a = expr_context static false false (scope_at p a)
 
 module _ (p : ProgramTree) (faultless : program_faults p ≡ []) (x : Context) (is_known : IsKnown p x) (static constructs : Bool) (first : ℕ) where
   abbrev C : List core.ClassTree
@@ -107,11 +107,11 @@ module _ (p : ProgramTree) (faultless : program_faults p ≡ []) (x : Context) (
   -- ---- conditions in code
 
   abbrev pub Claimed : At → text.ExprTree → Type 0
-  Claimed a y = faults_as (around static true false (scope_at p a)) ABool y ≡ []
+  Claimed a y = faults_as (expr_context static true false (scope_at p a)) ABool y ≡ []
 
   pub claim_fits : (w : Allowed) → allows_result w ≡ false → (a : At) → Stands a → (y : text.ExprTree) → Names a y → Claimed a y → misplaced w (expr (env_at p a) y) ≡ [] → FitClaim P C x constructs first w (expr (env_at p a) y)
   claim_fits w refused a here y names types words =
-      let within = (none_left (faults (around static true false (scope_at p a)) AsValue y) _ types).0 in
+      let within = (none_left (faults (expr_context static true false (scope_at p a)) AsValue y) _ types).0 in
       let c = condition_sound p faultless x is_known static false false a here.place y (answered p x static false w refused a y names within words) names types in
       (subst (λ k. Fit P C x k (expr (env_at p a) y)) here.unbound c.fit, c.type, c.calls, words)
 
@@ -120,7 +120,7 @@ module _ (p : ProgramTree) (faultless : program_faults p ≡ []) (x : Context) (
   claims_fit o a here [] names types words = tt
   claims_fit o a here (y ∷ ys) names types words =
       let ns = none_left (expr_faults (named_at p x static a) y) _ names in
-      let ts = none_left (faults_as (around static true false (scope_at p a)) ABool y) _ types in
+      let ts = none_left (faults_as (expr_context static true false (scope_at p a)) ABool y) _ types in
       let hs = none_left (misplaced OfEntry (expr (env_at p a) y)) _ words in
       (claim_fits OfEntry refl a here y ns.0 ts.0 hs.0, claims_fit o a here ys ns.1 ts.1 hs.1)
 

@@ -27,7 +27,7 @@ use Rattle.ss_resolver_names_rules.specs.Programs.{program_faults}
 use Rattle.ss_resolver_types_expressions.specs.Faults.{bad_type}
 use Rattle.ss_resolver_types_expressions.specs.Wants.{AnInt, OfType, Printable, has_no_value, place_of, suits, wrong}
 use Rattle.ss_resolver_types_expressions.specs.Wants as wants
-use Rattle.ss_resolver_types_expressions.specs.Calls.{Around, Taking, Unknown, called, called_console, argument_wants, is_wrong_call, whole_call, called_member}
+use Rattle.ss_resolver_types_expressions.specs.Calls.{ExprContext, Taking, Unknown, called, called_console, argument_wants, is_wrong_call, whole_call, called_member}
 use Rattle.ss_resolver_types_expressions.specs.Expressions.{AsValue, AsCallee, BeforeDot, argument, argument_faults, condition_faults, is_question, faults, faults_as}
 use Rattle.ss_resolver_types_expressions.specs.Statements.{is_target, target_faults, assigned_faults}
 use Rattle.ss_resolver_types_expressions.specs.Statements as typing
@@ -73,7 +73,7 @@ module _ (p : ProgramTree) (faultless : program_faults p ≡ []) (x : Context) (
   abbrev Here : At → Type 0
   Here a = Stands p faultless x is_known static constructs first a
 
-  abbrev A : At → Around
+  abbrev A : At → ExprContext
   A a = code_at p x static a
 
   abbrev U : At → Scope

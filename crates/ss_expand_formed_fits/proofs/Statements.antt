@@ -14,7 +14,7 @@ use Rattle.ss_owners_rules.specs.Words.{NoWord, OfEntry, misplaced, misplaced_if
 use Rattle.ss_resolver_names_rules.specs.Expressions.{expr_faults}
 use Rattle.ss_resolver_names_rules.specs.Statements as naming
 use Rattle.ss_resolver_names_rules.specs.Programs.{program_faults}
-use Rattle.ss_resolver_types_expressions.specs.Calls.{Around}
+use Rattle.ss_resolver_types_expressions.specs.Calls.{ExprContext}
 use Rattle.ss_resolver_types_expressions.specs.Expressions.{AsValue, faults, faults_as}
 use Rattle.ss_resolver_types_expressions.specs.Statements.{Body, Outcome, Nothing, Gives, return_faults, exposed_want}
 use Rattle.ss_resolver_types_expressions.specs.Statements as typing
@@ -55,7 +55,7 @@ module _ (p : ProgramTree) (faultless : program_faults p ≡ []) (x : Context) (
   abbrev Here : At → Type 0
   Here a = Stands p faultless x is_known static constructs from a
 
-  abbrev A : At → Around
+  abbrev A : At → ExprContext
   A a = code_at p x static a
 
   abbrev U : At → Scope

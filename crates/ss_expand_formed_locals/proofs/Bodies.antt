@@ -29,7 +29,7 @@ use Rattle.ss_typed.specs.Shapes.{closing_brace, in_block, has_base, local_of}
 use Rattle.ss_typed.specs.Assigned.{listed, put_locals, first_locals, step_locals, assigned, assigned_along}
 use Rattle.ss_paths.specs.Sets.{among}
 use Rattle.ss_paths.proofs.Among.{among_left, among_right, among_itself}
-use Rattle.ss_expand_rules.specs.Bodies.{block_assigns, assigned_from, assigned_params, meant_from, first_copy, meant, results, numbers, copies, temporaries_from, copying_from, with_return, statements, setting, code_with, temporary_types, temporary_count, code, written_body, own_params, wrapper_types, wrapper_result, returned, wrapper_code, first_of_wrapper, wrapper_body, param_of, copy_of}
+use Rattle.ss_expand_rules.specs.Bodies.{block_assigns, assigned_from, assigned_params, meant_from, first_copy, meant, results, numbers, copies, temporaries_from, copying_from, with_return, statements, elaboration_context, code_with, temporary_types, temporary_count, code, written_body, own_params, wrapper_types, wrapper_result, returned, wrapper_code, first_of_wrapper, wrapper_body, param_of, copy_of}
 use Rattle.ss_store_rules.specs.Locals.{targets_only, this_types, argument_types, types_of, local_types, argument_count, result_number}
 use Rattle.ss_store_rules.specs.Typed.{body_at}
 use Rattle.ss_expand_rules.specs.Lifting.{Opened}
@@ -231,7 +231,7 @@ module _ (f g : ℕ → Bool) (p : TypedTree) where
 pub code_goes : (p : TypedTree) (b : BodyTree) → is_placed b ≡ true → Shape b.class (first_param b + length b.params) (first b) [] 0 (code p b) (temporary_count p b)
 code_goes p b placed =
     let n = temporary_count p b in
-    let s = setting p b n in
+    let s = elaboration_context p b n in
     let low = first_param b + length b.params in
     let own = block_more (is_from (first_param b) (first_copy b)) (is_from low (first_copy b)) (means_own low s) (is_own low s) (from_more low (first_copy b) (first b) (omega arith)) b.block (meant_own b n) placed in
     let stmts = stmts_go low s (statements p b) (statements_pass (means_own low s) (is_own low s) p b own) [] in

@@ -19,7 +19,7 @@ use Rattle.ss_typed.specs.Shapes.{is_this, place_of}
 use Rattle.ss_expand_rules.specs.Program.{above_of}
 use Rattle.ss_typed.specs.Lookups.{constructor_of, param_types_in}
 use Rattle.ss_expand_rules.specs.Code.{Coded, nothing, then_code}
-use Rattle.ss_expand_rules.specs.Lifting.{Opened, Setting, Source, Pure, Created, CreatedArray, Called, Lifted, Valued, Listed, unlifted, temporary_type, any_object, in_temporary, valued_from, valued, lifted_of, operand, unary, binary, lazily, holds, fails, negated, operation, implication, first_type, other_types, no_operands, operands_of, and_operands, dispatched, static_class, types_of_constructor, types_of_written, types_of_method, lifted, in_temporaries, right_side, value, arguments_of}
+use Rattle.ss_expand_rules.specs.Lifting.{Opened, ElaborationContext, Source, Pure, Created, CreatedArray, Called, Lifted, Valued, Listed, unlifted, temporary_type, any_object, in_temporary, valued_from, valued, lifted_of, operand, unary, binary, lazily, holds, fails, negated, operation, implication, first_type, other_types, no_operands, operands_of, and_operands, dispatched, static_class, types_of_constructor, types_of_written, types_of_method, lifted, in_temporaries, right_side, value, arguments_of}
 use Rattle.ss_expand_rules.specs.Simple.{assign_settled, Settled, settle_lifted, settle_part, settle, assign_behind, assign, update, assignment, step_operator, declared_as, declare, print, ready_behind, base_with, base_of, simple}
 use Rattle.ss_expand_rules.specs.Ends.{can_end, block_can_end}
 use Rattle.ss_expand_rules.specs.Statements.{loop_while, begin, advance, leave_value, leave, result_type, exposed_class, within, close, opened, expose_lifted, stmt, block, stmts}
@@ -66,10 +66,10 @@ module _ (p : TypedTree) (b : BodyTree) (meant : List ℕ) (first outcome other_
   abbrev ms : Numbers
   ms = record { meant = meant; first_temporary = first; outcome = other_outcome; first_bound = other_bound }
 
-  abbrev pub one : List Opened → Setting
+  abbrev pub one : List Opened → ElaborationContext
   one os = record { program = p; body = b; numbers = ns; exposes = os }
 
-  abbrev pub two : List Opened → Setting
+  abbrev pub two : List Opened → ElaborationContext
   two os = record { program = p; body = b; numbers = ms; exposes = os }
 
   -- ---- values
@@ -290,7 +290,7 @@ module _ (p : TypedTree) (b : BodyTree) (meant : List ℕ) (first outcome other_
 
   -- ---- statements
 
-  expose_same : (os : List Opened) (q : Place) (e : ExprTree) (t : ℕ) (ends : Bool) (inner : Setting → List Ty → Coded) (l r : Lifted) → l.made ≡ r.made → ((o : Opened) → CodeAlike (inner (within (one os) o)) (inner (within (two os) o))) →
+  expose_same : (os : List Opened) (q : Place) (e : ExprTree) (t : ℕ) (ends : Bool) (inner : ElaborationContext → List Ty → Coded) (l r : Lifted) → l.made ≡ r.made → ((o : Opened) → CodeAlike (inner (within (one os) o)) (inner (within (two os) o))) →
       (expose_lifted (one os) q e t ends inner l).made ≡ (expose_lifted (two os) q e t ends inner r).made
   expose_same os q e t ends inner l r h i =
       let kind = temporary_type any_object (type_of e) in

@@ -99,7 +99,7 @@ module _ (z : Frame) (agrees : Agrees z) where
       by (ty.Ref u non_null) h b e g = absurd (false≢true (sym h))
   value_never k l c (FieldOf p e g t) f h = by t h
     where
-      by : (t : Ty) → is_reference t ≡ false → (fields.is_non_null t && source.field_is_set z.site (Some k) e g) ≡ false
+      by : (t : Ty) → is_reference t ≡ false → (fields.is_non_null t && source.field_is_set z.context (Some k) e g) ≡ false
       by ty.Int h = refl
       by ty.Bool h = refl
       by ty.Null h = refl
@@ -179,7 +179,7 @@ module _ (z : Frame) (agrees : Agrees z) where
 
   -- the field of an object is assigned, which is `this` in the elaboration if it is here
   pub write_known : (k : source.Known) (l : Known) (p : Place) (o : ExprTree) (q : core.ExprTree) (f : ℕ) (t : Ty) (d : Option DeclaredField) (v : core.ExprTree) → is_some d ≡ true → (is_this o ≡ true → admissible.is_this q ≡ true) → Covers z k l →
-      (is_non_null (field_type z.program.classes f) ≡ true → core_never z agrees l v ≡ true) → Done l (record k { fields = record k.fields { own = own_assigned z.site.numbers (FieldOf p o f t) k.fields.own } }) (write_of p q f d v)
+      (is_non_null (field_type z.program.classes f) ≡ true → core_never z agrees l v ≡ true) → Done l (record k { fields = record k.fields { own = own_assigned z.context.numbers (FieldOf p o f t) k.fields.own } }) (write_of p q f d v)
   write_known k l p o q f t None v there this c h = absurd (false≢true there)
   write_known k l p o q f t (Some d) v there this c h = record {
     now = _;
@@ -187,7 +187,7 @@ module _ (z : Frame) (agrees : Agrees z) where
     covers = record {
       facts = c.facts;
       mine = c.mine;
-      fields = λ g i j. assigned_has z.site.numbers k.fields o f g (λ old. or_left _ _ (c.fields g i old)) (λ own same. or_right _ _ (and_from _ _ (this own) same)) (is_this o && is_among z.site.numbers f) refl j;
+      fields = λ g i j. assigned_has z.context.numbers k.fields o f g (λ old. or_left _ _ (c.fields g i old)) (λ own same. or_right _ _ (and_from _ _ (this own) same)) (is_this o && is_among z.context.numbers f) refl j;
       free = λ i g. or_left _ _ (c.free i g);
     };
   }

@@ -10,7 +10,7 @@ use Rattle.ss_paths.specs.Assigned.{has_field}
 use Rattle.ss_paths.specs.Paths as phase
 use Rattle.ss_nonnull_rules.specs.NonNull as source
 use Rattle.ss_nonnull_rules.specs.Faults as faults
-use Rattle.ss_nonnull_rules.specs.Program.{site_of}
+use Rattle.ss_nonnull_rules.specs.Program.{null_context_of}
 use Rattle.ss_expand_rules.specs.Contracts.{first_param}
 use Rattle.ss_expand_rules.specs.Bodies.{statements, written_body}
 use Rattle.ss_store_rules.specs.NonNull.{known_at_entry, keeps_nulls_out}
@@ -28,7 +28,7 @@ none_assigned {X = X} n f h = by (is_among n f) h
     by false i = absurd (false≢true i)
 
 pub constructor_keeps : (c : core.CoreTree) (p : TypedTree) (b : BodyTree) (bs : List BodyTree) (fields : ℕ → Bool) → b.flags.is_static ≡ false → Builds (body_frame c p b bs fields false) → all_fitting (body_frame c p b bs fields false) (statements p b) ≡ true →
-    phase.faults_along (source.known_flow (site_of p b)) (faults.null_check (site_of p b)) (statements p b) (Some nothing_known) ≡ [] → keeps_nulls_out c (written_body p b bs) ≡ true
+    phase.faults_along (source.known_flow (null_context_of p b)) (faults.null_check (null_context_of p b)) (statements p b) (Some nothing_known) ≡ [] → keeps_nulls_out c (written_body p b bs) ≡ true
 constructor_keeps c p b bs fields instance builds fitting pure =
     let covers : Covers (body_frame c p b bs fields false) nothing_known (known_at_entry (written_body p b bs)) = record {
       facts = λ x h. not_none x h;

@@ -53,7 +53,7 @@ module _ (z : Frame) (agrees : Agrees z) (os : List Opened) where
       by true i m = one i m
       by false i m = other i
 
-  plain_known : (k : source.Known) (l : Known) → Covers z k l → (us ts : List Ty) (es : Arguments) (made : List Ty) → all_fit z es ≡ true → have_call es ≡ false → handed z.site (Some k) es ts ≡ [] → wants_no_more us ts ≡ true →
+  plain_known : (k : source.Known) (l : Known) → Covers z k l → (us ts : List Ty) (es : Arguments) (made : List Ty) → all_fit z es ≡ true → have_call es ≡ false → handed z.context (Some k) es ts ≡ [] → wants_no_more us ts ≡ true →
       Lists z agrees os k l us (record { code = []; values = plain_arguments (ns z agrees) es; made = made })
   plain_known k l c us ts es made f n h w = record { now = l; runs = runs_nothing z l; covers = c; stand = plain_stand z agrees os k l c es f n us ts h w }
 
@@ -82,7 +82,7 @@ module _ (z : Frame) (agrees : Agrees z) (os : List Opened) where
     other = λ i g. absurd (false≢true (sym plain ∙ i));
   }
 
-  arguments_with : (us ts wanted : List Ty) (es : Arguments) → all_fit z es ≡ true → (k : source.Known) (l : Known) (made : List Ty) → Covers z k l → handed z.site (Some k) es ts ≡ [] → wants_no_more us ts ≡ true →
+  arguments_with : (us ts wanted : List Ty) (es : Arguments) → all_fit z es ≡ true → (k : source.Known) (l : Known) (made : List Ty) → Covers z k l → handed z.context (Some k) es ts ≡ [] → wants_no_more us ts ≡ true →
       (HasMade z (in_temporaries (s z agrees os) wanted es made).made → Lists z agrees os k l us (in_temporaries (s z agrees os) wanted es made)) →
       HasMade z (operands_of (ns z agrees) es (in_temporaries (s z agrees os) wanted es) made).made → Lists z agrees os k l us (operands_of (ns z agrees) es (in_temporaries (s z agrees os) wanted es) made)
   arguments_with us ts wanted es f k l made c h w rec m = operands_known k l us es (in_temporaries (s z agrees os) wanted es) made (λ i g. rec g) (λ n. plain_known k l c us ts es made f n h w) m
@@ -128,15 +128,15 @@ module _ (z : Frame) (agrees : Agrees z) (os : List Opened) where
     pub lifted_known : (e : ExprTree) → fits z e ≡ true → Rec z agrees os e
     lifted_known (IffOf p a b) f k l made c i h m =
         let both = and_parts (fits z a) (fits z b) f in
-        let parts = none_left (inside z.site (Some k) a) (inside z.site (Some k) b) i in
+        let parts = none_left (inside z.context (Some k) a) (inside z.context (Some k) b) i in
         pair_known z agrees os k l (IffOf p a b) a b (core.IffExpr p) made c both.0 both.1 (λ u x e. not_none x e) refl refl m (λ q r. lifted_known a both.0 k l made c parts.0 q r) (λ n ms d q r. lifted_known b both.1 k n ms d parts.1 q r)
     lifted_known (ElementOf p a b) f k l made c i h m =
         let both = and_parts (fits z a) (fits z b) f in
-        let parts = none_left (inside z.site (Some k) a) (inside z.site (Some k) b) i in
+        let parts = none_left (inside z.context (Some k) a) (inside z.context (Some k) b) i in
         pair_known z agrees os k l (ElementOf p a b) a b (core.ElementExpr p) made c both.0 both.1 (λ u x e. not_none x e) refl refl m (λ q r. lifted_known a both.0 k l made c parts.0 q r) (λ n ms d q r. lifted_known b both.1 k n ms d parts.1 q r)
     lifted_known (ImpliesOf p a b) f k l made c i h m =
         let both = and_parts (fits z a) (fits z b) f in
-        let parts = none_left (inside z.site (Some k) a) (inside z.site (Some k) b) i in
+        let parts = none_left (inside z.context (Some k) a) (inside z.context (Some k) b) i in
         implies_known z agrees os p a b k l made c both.0 both.1 parts.0 parts.1 m (lifted_known a both.0) (lifted_known b both.1)
     lifted_known (BinaryOf p o a b) f k l made c i h m =
         let both = and_parts (implied (is_null b) (is_own_local z a) && fits z a) (fits z b) f in
@@ -173,9 +173,9 @@ module _ (z : Frame) (agrees : Agrees z) (os : List Opened) where
         another false own v h = refl
         another true own v h = rw (h refl) (or_right (own || z.free) true refl)
     lifted_known (NewOf p t es) f k l made c i h m =
-        let both = and_parts (enters_with (constructor_of z.program t) (constructor_parameters z.site.program t)) (all_fit z es) f in
+        let both = and_parts (enters_with (constructor_of z.program t) (constructor_parameters z.context.program t)) (all_fit z es) f in
         let o = constructor_of z.program t in
-        let ts = constructor_parameters z.site.program t in
+        let ts = constructor_parameters z.context.program t in
         let d = operands_of (ns z agrees) es (in_temporaries (s z agrees os) (types_of_constructor (s z agrees os) t) es) made in
         call_lifts k l (wants_of o) (NewOf p t es) (Created p t) d (arguments_with (wants_of o) ts (types_of_constructor (s z agrees os) t) es both.1 k l made c i (wants_of_entered o ts both.0) (λ g. in_temporaries_known (wants_of o) ts (types_of_constructor (s z agrees os) t) es both.1 k l made c i (wants_of_entered o ts both.0) g) m)
         (λ u x j. not_none x j) refl (λ n j. refl) (λ n j. may_enter_with z agrees os o n d.values j)
@@ -186,11 +186,11 @@ module _ (z : Frame) (agrees : Agrees z) (os : List Opened) where
         (λ u x j. not_none x j) refl (λ n j. refl) (λ n j. refl)
     lifted_known (CallOf p e n t es) f k l made c i h m =
         let o = callee_of z.program z.body (core.Dispatched (core.NullExpr p) (static_class e) n) in
-        let ts = parameters z.site.program (method_of z.site.program (class_of (type_of e)) n) in
+        let ts = parameters z.context.program (method_of z.context.program (class_of (type_of e)) n) in
         let one = and_parts (enters_with o ts) (gives t o && (fits z e && all_fit z es)) f in
         let two = and_parts (gives t o) (fits z e && all_fit z es) one.1 in
         let three = and_parts (fits z e) (all_fit z es) two.1 in
-        let parts = none_left (inside z.site (Some k) e) (handed z.site (Some k) es ts) i in
+        let parts = none_left (inside z.context (Some k) e) (handed z.context (Some k) es ts) i in
         let wanted = types_of_method (s z agrees os) (static_class e) n in
         let d = operands_of (ns z agrees) (Argument e es) (λ q. and_operands (operand (ns z agrees) any_object e (lifted (s z agrees os) e) q) (in_temporaries (s z agrees os) wanted es)) made in
         call_lifts k l (any_object ∷ wants_of o) (CallOf p e n t es) (dispatched p (static_class e) n) d
@@ -200,7 +200,7 @@ module _ (z : Frame) (agrees : Agrees z) (os : List Opened) where
         (λ u x j. not_none x j) refl (λ q j. dispatched_never p (static_class e) n t o refl q d.values two.0 j) (λ q j. dispatched_enters p (static_class e) n o refl q d.values j)
     lifted_known (StaticOf p n t es) f k l made c i h m =
         let o = callee_of z.program z.body (core.Static (number_of_written (s z agrees os).program n)) in
-        let ts = parameters z.site.program (Some n) in
+        let ts = parameters z.context.program (Some n) in
         let one = and_parts (enters_with o ts) (gives t o && all_fit z es) f in
         let two = and_parts (gives t o) (all_fit z es) one.1 in
         let d = operands_of (ns z agrees) es (in_temporaries (s z agrees os) (types_of_written (s z agrees os) n) es) made in
@@ -209,7 +209,7 @@ module _ (z : Frame) (agrees : Agrees z) (os : List Opened) where
         (λ u x j. not_none x j) refl (λ n j. implied_true (source.is_non_null_type t) _ two.0 j) (λ n j. may_enter_with z agrees os o n d.values j)
     lifted_known (BaseOf p n t es) f k l made c i h m =
         let o = callee_of z.program z.body (core.Base (base_number (s z agrees os) n)) in
-        let ts = parameters z.site.program (body_in_table z.site.program (above z.site.program.classes z.site.class) n) in
+        let ts = parameters z.context.program (body_in_table z.context.program (above z.context.program.classes z.context.class) n) in
         let one = and_parts (enters_with o ts) (gives t o && all_fit z es) f in
         let two = and_parts (gives t o) (all_fit z es) one.1 in
         let wanted = types_of_method (s z agrees os) (above_of (s z agrees os).program (s z agrees os).body.class) n in
@@ -223,7 +223,7 @@ module _ (z : Frame) (agrees : Agrees z) (os : List Opened) where
     lifted_known (OwnersOf p w a b) f k l made c i h m = unlifted_known k l (OwnersOf p w a b) (plain (ns z agrees) (OwnersOf p w a b)) made c (λ u x j. not_none x j) refl refl
     lifted_known e f k l made c i h m = absurd (false≢true h)
 
-    in_temporaries_known : (us ts wanted : List Ty) (es : Arguments) → all_fit z es ≡ true → (k : source.Known) (l : Known) (made : List Ty) → Covers z k l → handed z.site (Some k) es ts ≡ [] → wants_no_more us ts ≡ true →
+    in_temporaries_known : (us ts wanted : List Ty) (es : Arguments) → all_fit z es ≡ true → (k : source.Known) (l : Known) (made : List Ty) → Covers z k l → handed z.context (Some k) es ts ≡ [] → wants_no_more us ts ≡ true →
         HasMade z (in_temporaries (s z agrees os) wanted es made).made → Lists z agrees os k l us (in_temporaries (s z agrees os) wanted es made)
     in_temporaries_known us ts wanted NoMore f k l made c h w m = record { now = l; runs = runs_nothing z l; covers = c; stand = refl }
     in_temporaries_known us ts wanted (Argument e es) f k l made c h w m =
@@ -242,14 +242,14 @@ module _ (z : Frame) (agrees : Agrees z) (os : List Opened) where
         }
 
   -- any expression, as the right side of an assignment and as a value
-  pub right_known : (e : ExprTree) → fits z e ≡ true → (k : source.Known) (l : Known) (made : List Ty) → Covers z k l → inside z.site (Some k) e ≡ [] → HasMade z (right_side (s z agrees os) e made).made → Lifts z agrees k l e (right_side (s z agrees os) e made)
+  pub right_known : (e : ExprTree) → fits z e ≡ true → (k : source.Known) (l : Known) (made : List Ty) → Covers z k l → inside z.context (Some k) e ≡ [] → HasMade z (right_side (s z agrees os) e made).made → Lifts z agrees k l e (right_side (s z agrees os) e made)
   right_known e f k l made c i m = lifted_of_known z agrees k l e (lifted (s z agrees os) e) made c f m (λ h g. lifted_known e f k l made c i h g)
 
-  pub value_known : (e : ExprTree) → fits z e ≡ true → (k : source.Known) (l : Known) (made : List Ty) → Covers z k l → inside z.site (Some k) e ≡ [] → HasMade z (value (s z agrees os) e made).made → Values z agrees k l e (value (s z agrees os) e made)
+  pub value_known : (e : ExprTree) → fits z e ≡ true → (k : source.Known) (l : Known) (made : List Ty) → Covers z k l → inside z.context (Some k) e ≡ [] → HasMade z (value (s z agrees os) e made).made → Values z agrees k l e (value (s z agrees os) e made)
   value_known e f k l made c i m =
       let d = right_side (s z agrees os) e made in
       valued_known z agrees k l e d (right_known e f k l made c i (made_before z agrees d.made (value (s z agrees os) e made).made (valued_from_begins (ns z agrees) e d d.source) m)) m
 
-  pub arguments_known : (us ts wanted : List Ty) (es : Arguments) → all_fit z es ≡ true → (k : source.Known) (l : Known) (made : List Ty) → Covers z k l → handed z.site (Some k) es ts ≡ [] → wants_no_more us ts ≡ true → HasMade z (arguments_of (s z agrees os) wanted es made).made →
+  pub arguments_known : (us ts wanted : List Ty) (es : Arguments) → all_fit z es ≡ true → (k : source.Known) (l : Known) (made : List Ty) → Covers z k l → handed z.context (Some k) es ts ≡ [] → wants_no_more us ts ≡ true → HasMade z (arguments_of (s z agrees os) wanted es made).made →
       Lists z agrees os k l us (arguments_of (s z agrees os) wanted es made)
   arguments_known us ts wanted es f k l made c h w m = arguments_with us ts wanted es f k l made c h w (λ g. in_temporaries_known us ts wanted es f k l made c h w g) m

@@ -14,7 +14,7 @@ use Rattle.ss_expand_rules.specs.Numbers.{Numbers, plain, plain_arguments}
 use Rattle.ss_expand_rules.specs.Calls.{has_call, have_call, is_lazy}
 use Rattle.ss_typed.specs.Shapes.{place_of}
 use Rattle.ss_expand_rules.specs.Program.{above_of}
-use Rattle.ss_expand_rules.specs.Lifting.{Setting, Source, Pure, Created, CreatedArray, Called, Lifted, Valued, Listed, unlifted, temporary_type, any_object, in_temporary, valued_from, valued, lifted_of, operand, unary, binary, lazily, holds, fails, negated, operation, first_type, other_types, no_operands, operands_of, and_operands, static_class, types_of_constructor, types_of_written, types_of_method, lifted, in_temporaries, right_side, value}
+use Rattle.ss_expand_rules.specs.Lifting.{ElaborationContext, Source, Pure, Created, CreatedArray, Called, Lifted, Valued, Listed, unlifted, temporary_type, any_object, in_temporary, valued_from, valued, lifted_of, operand, unary, binary, lazily, holds, fails, negated, operation, first_type, other_types, no_operands, operands_of, and_operands, static_class, types_of_constructor, types_of_written, types_of_method, lifted, in_temporaries, right_side, value}
 use Rattle.ss_expand_formed_locals.proofs.Facts.{on_either}
 
 -- what stands at a place of the first list stands there in the second
@@ -94,7 +94,7 @@ and_begins : (made : List Ty) (v : Valued) (f : List Ty → Listed) → Begins m
 and_begins made v f h g = then_begins made v.made (f v.made).made h (g v.made)
 
 mutual
-  pub lifted_begins : (s : Setting) (e : ExprTree) → Lifts (lifted s e)
+  pub lifted_begins : (s : ElaborationContext) (e : ExprTree) → Lifts (lifted s e)
   lifted_begins s (IffOf p a b) made = binary_begins s.numbers a b (lifted s a) (lifted s b) (core.IffExpr p) (lifted_begins s a) (lifted_begins s b) made
   lifted_begins s (ImpliesOf p a b) made = lazily_begins s.numbers p a b (fails p) made (negated s.numbers a (lifted s a) made) (lifted_of s.numbers b (lifted s b)) (negated_begins s.numbers a (lifted s a) (lifted_begins s a) made) (lifted_of_begins s.numbers b (lifted s b) (lifted_begins s b))
   lifted_begins s (BinaryOf p o a b) made = operation_begins s.numbers p o a b (lifted s a) (lifted s b) (lifted_begins s a) (lifted_begins s b) made
@@ -117,13 +117,13 @@ mutual
   lifted_begins s (BaseOf p m t es) made = operands_begin s.numbers es (in_temporaries s (types_of_method s (above_of s.program s.body.class) m) es) (in_temporaries_begin s (types_of_method s (above_of s.program s.body.class) m) es) made
   lifted_begins s e made = begins_itself made
 
-  pub in_temporaries_begin : (s : Setting) (ts : List Ty) (es : Arguments) → Lists (in_temporaries s ts es)
+  pub in_temporaries_begin : (s : ElaborationContext) (ts : List Ty) (es : Arguments) → Lists (in_temporaries s ts es)
   in_temporaries_begin s ts NoMore made = begins_itself made
   in_temporaries_begin s ts (Argument e es) made =
       and_begins made (operand s.numbers (first_type ts) e (lifted s e) made) (in_temporaries s (other_types ts) es) (operand_begins s.numbers (first_type ts) e (lifted s e) (lifted_begins s e) made) (in_temporaries_begin s (other_types ts) es)
 
-pub right_begins : (s : Setting) (e : ExprTree) → Lifts (right_side s e)
+pub right_begins : (s : ElaborationContext) (e : ExprTree) → Lifts (right_side s e)
 right_begins s e made = lifted_of_begins s.numbers e (lifted s e) (lifted_begins s e) made
 
-pub value_begins : (s : Setting) (e : ExprTree) → Values (value s e)
+pub value_begins : (s : ElaborationContext) (e : ExprTree) → Values (value s e)
 value_begins s e made = then_begins made (right_side s e made).made (value s e made).made (right_begins s e made) (valued_from_begins s.numbers e (right_side s e made) (right_side s e made).source)

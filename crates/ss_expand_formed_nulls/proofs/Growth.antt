@@ -16,7 +16,7 @@ use Rattle.ss_typed.specs.Shapes.{is_this, place_of}
 use Rattle.ss_expand_rules.specs.Program.{above_of}
 use Rattle.ss_typed.specs.Lookups.{constructor_of, param_types_in}
 use Rattle.ss_expand_rules.specs.Code.{Coded, nothing, then_code}
-use Rattle.ss_expand_rules.specs.Lifting.{Opened, Setting, Lifted, Listed, next, temporary_type, any_object, in_temporaries, right_side, value, arguments_of}
+use Rattle.ss_expand_rules.specs.Lifting.{Opened, ElaborationContext, Lifted, Listed, next, temporary_type, any_object, in_temporaries, right_side, value, arguments_of}
 use Rattle.ss_expand_rules.specs.Simple.{assign_settled, Settled, settle_lifted, settle_part, settle, assign_behind, assign, update, assignment, step_operator, declared_as, declare, print, ready_behind, base_with, base_of, simple}
 use Rattle.ss_expand_rules.specs.Ends.{can_end, block_can_end}
 use Rattle.ss_expand_rules.specs.Statements.{loop_while, begin, advance, result_type, leave_value, leave, exposed_class, within, opened, expose_lifted, stmt, block, stmts}
@@ -27,63 +27,63 @@ use Rattle.ss_expand_formed_nulls.proofs.Growing.{Begins, begins_itself, begins_
 abbrev pub Codes : (List Ty → Coded) → Type 0
 Codes f = (made : List Ty) → Begins made (f made).made
 
-pub arguments_begin : (s : Setting) (ts : List Ty) (es : Arguments) (made : List Ty) → Begins made (arguments_of s ts es made).made
+pub arguments_begin : (s : ElaborationContext) (ts : List Ty) (es : Arguments) (made : List Ty) → Begins made (arguments_of s ts es made).made
 arguments_begin s ts es made =
     on_either (λ (l : Listed). Begins made l.made) (have_call es) (in_temporaries s ts es made) (record { code = []; values = plain_arguments s.numbers es; made = made }) (in_temporaries_begin s ts es made) (begins_itself made)
 
-pub settled_begins : (s : Setting) (target e : ExprTree) → Codes (assign_settled s target e)
+pub settled_begins : (s : ElaborationContext) (target e : ExprTree) → Codes (assign_settled s target e)
 settled_begins s (LocalOf p x t) e made = right_begins s e made
 settled_begins s target e made = value_begins s e made
 
-pub part_begins : (s : Setting) (e : ExprTree) (made : List Ty) → Begins made (settle_part s e made).made
+pub part_begins : (s : ElaborationContext) (e : ExprTree) (made : List Ty) → Begins made (settle_part s e made).made
 part_begins s e made =
     let l = right_side s e made in
     let t = temporary_type any_object (type_of e) in
     on_either (λ (x : Settled). Begins made x.made) (is_this e) (record { code = []; target = e; made = made }) (settle_lifted s e l) (begins_itself made)
     (then_begins made l.made (l.made ++ t ∷ []) (right_begins s e made) (begins_append l.made (t ∷ [])))
 
-pub settle_begins : (s : Setting) (target : ExprTree) (made : List Ty) → Begins made (settle s target made).made
+pub settle_begins : (s : ElaborationContext) (target : ExprTree) (made : List Ty) → Begins made (settle s target made).made
 settle_begins s (FieldOf p o f t) made = part_begins s o made
 settle_begins s (ElementOf p a i) made = then_begins made (settle_part s a made).made _ (part_begins s a made) (part_begins s i (settle_part s a made).made)
 settle_begins s target made = begins_itself made
 
-pub behind_begins : (s : Setting) (e : ExprTree) (made : List Ty) (t : Settled) → Begins made t.made → Begins made (assign_behind s e t).made
+pub behind_begins : (s : ElaborationContext) (e : ExprTree) (made : List Ty) (t : Settled) → Begins made t.made → Begins made (assign_behind s e t).made
 behind_begins s e made t h = then_begins made t.made _ h (settled_begins s t.target e t.made)
 
-assign_begins : (s : Setting) (target e : ExprTree) → Codes (assign s target e)
+assign_begins : (s : ElaborationContext) (target e : ExprTree) → Codes (assign s target e)
 assign_begins s target e made =
     on_either (λ (c : Coded). Begins made c.made) (has_call target || has_call e) (assign_behind s e (settle s target made)) (assign_settled s target e made)
     (behind_begins s e made (settle s target made) (settle_begins s target made)) (settled_begins s target e made)
 
-update_begins : (s : Setting) (o : Operator) (target e : ExprTree) → Codes (update s o target e)
+update_begins : (s : ElaborationContext) (o : Operator) (target e : ExprTree) → Codes (update s o target e)
 update_begins s o target e made =
     let t = settle s target made in
     behind_begins s (BinaryOf (place_of t.target) o t.target e) made t (settle_begins s target made)
 
-assignment_begins : (s : Setting) (target : ExprTree) (o : AssignOperator) (e : ExprTree) → Codes (assignment s target o e)
+assignment_begins : (s : ElaborationContext) (target : ExprTree) (o : AssignOperator) (e : ExprTree) → Codes (assignment s target o e)
 assignment_begins s target operator.Set e made = assign_begins s target e made
 assignment_begins s target operator.Add e made = update_begins s op.Add target e made
 assignment_begins s target operator.Subtract e made = update_begins s op.Subtract target e made
 assignment_begins s target operator.Multiply e made = update_begins s op.Multiply target e made
 
-pub declared_begins : (s : Setting) (d : DeclaratorTree) (e : Option ExprTree) → Codes (declared_as s d e)
+pub declared_begins : (s : ElaborationContext) (d : DeclaratorTree) (e : Option ExprTree) → Codes (declared_as s d e)
 declared_begins s d None made = begins_itself made
 declared_begins s d (Some e) made = right_begins s e made
 
-pub declare_begins : (s : Setting) (ds : List DeclaratorTree) → Codes (declare s ds)
+pub declare_begins : (s : ElaborationContext) (ds : List DeclaratorTree) → Codes (declare s ds)
 declare_begins s [] made = begins_itself made
 declare_begins s (d ∷ ds) made = then_begins made (declared_as s d d.initial made).made _ (declared_begins s d d.initial made) (declare_begins s ds (declared_as s d d.initial made).made)
 
-base_begins : (s : Setting) (p : Place) (es : Arguments) (t : ℕ) → Codes (base_of s p es t)
+base_begins : (s : ElaborationContext) (p : Place) (es : Arguments) (t : ℕ) → Codes (base_of s p es t)
 base_begins s p es t made =
     let ts = param_types_in (constructor_of s.program t) in
     on_either (λ (c : Coded). Begins made c.made) (t == 0) (record { code = ready_behind s p t; made = made }) (base_with s p t (arguments_of s ts es made)) (begins_itself made) (arguments_begin s ts es made)
 
-print_begins : (s : Setting) (p : Place) (e : Option ExprTree) (line : Bool) → Codes (print s p e line)
+print_begins : (s : ElaborationContext) (p : Place) (e : Option ExprTree) (line : Bool) → Codes (print s p e line)
 print_begins s p None line made = begins_itself made
 print_begins s p (Some e) line made = value_begins s e made
 
-pub simple_begins : (s : Setting) (x : SimpleTree) → Codes (simple s x)
+pub simple_begins : (s : ElaborationContext) (x : SimpleTree) → Codes (simple s x)
 simple_begins s (AssignOf target o e) made = assignment_begins s target o e made
 simple_begins s (StepOf target o) made = update_begins s (step_operator o) target (IntOf (place_of target) (pos 1)) made
 simple_begins s (AloneOf e) made = right_begins s e made
@@ -91,30 +91,30 @@ simple_begins s (PrintOf p e line) made = print_begins s p e line made
 simple_begins s (PrintTextOf p text line) made = begins_itself made
 simple_begins s (BaseCallOf p es) made = base_begins s p es (above_of s.program s.body.class) made
 
-pub loop_begins : (s : Setting) (p : Place) (is : List ExprTree) (e : Option ExprTree) (turn : List Ty → Coded) → Codes turn → Codes (loop_while s p is e turn)
+pub loop_begins : (s : ElaborationContext) (p : Place) (is : List ExprTree) (e : Option ExprTree) (turn : List Ty → Coded) → Codes turn → Codes (loop_while s p is e turn)
 loop_begins s p is None turn h made = h made
 loop_begins s p is (Some e) turn h made = then_begins made (value s e made).made _ (value_begins s e made) (h (value s e made).made)
 
-pub begin_begins : (s : Setting) (i : Option InitTree) → Codes (begin s i)
+pub begin_begins : (s : ElaborationContext) (i : Option InitTree) → Codes (begin s i)
 begin_begins s None made = begins_itself made
 begin_begins s (Some (DeclareFirst ds)) made = declare_begins s ds made
 begin_begins s (Some (SimpleFirst x)) made = simple_begins s x made
 
-pub advance_begins : (s : Setting) (x : Option SimpleTree) → Codes (advance s x)
+pub advance_begins : (s : ElaborationContext) (x : Option SimpleTree) → Codes (advance s x)
 advance_begins s None made = begins_itself made
 advance_begins s (Some x) made = simple_begins s x made
 
-leave_value_begins : (s : Setting) (p : Place) (e : ExprTree) (os : List Opened) → Codes (leave_value s p e os)
+leave_value_begins : (s : ElaborationContext) (p : Place) (e : ExprTree) (os : List Opened) → Codes (leave_value s p e os)
 leave_value_begins s p e [] made = value_begins s e made
 leave_value_begins s p e (o ∷ os) made =
     let l = right_side s e made in
     then_begins made l.made (l.made ++ result_type s.body.result ∷ []) (right_begins s e made) (begins_append l.made (result_type s.body.result ∷ []))
 
-leave_begins : (s : Setting) (p : Place) (e : Option ExprTree) → Codes (leave s p e)
+leave_begins : (s : ElaborationContext) (p : Place) (e : Option ExprTree) → Codes (leave s p e)
 leave_begins s p None made = begins_itself made
 leave_begins s p (Some e) made = leave_value_begins s p e s.exposes made
 
-expose_begins : (s : Setting) (p : Place) (e : ExprTree) (t : ℕ) (ends : Bool) (inner : Setting → List Ty → Coded) (made : List Ty) (l : Lifted) → Begins made l.made → ((o : Opened) → Codes (inner (within s o))) → Begins made (expose_lifted s p e t ends inner l).made
+expose_begins : (s : ElaborationContext) (p : Place) (e : ExprTree) (t : ℕ) (ends : Bool) (inner : ElaborationContext → List Ty → Coded) (made : List Ty) (l : Lifted) → Begins made l.made → ((o : Opened) → Codes (inner (within s o))) → Begins made (expose_lifted s p e t ends inner l).made
 expose_begins s p e t ends inner made l h g =
     let kind = temporary_type any_object (type_of e) in
     let o = opened p (next s.numbers l.made) t in
@@ -125,7 +125,7 @@ pub then_grows : (made : List Ty) (c : Coded) (b : Bool) (f : List Ty → Coded)
 then_grows made c b f h g = then_begins made c.made _ h (on_either (λ (f : List Ty → Coded). Begins c.made (f c.made).made) b f nothing (g c.made) (begins_itself c.made))
 
 mutual
-  pub stmt_begins : (s : Setting) (x : StmtTree) → Codes (stmt s x)
+  pub stmt_begins : (s : ElaborationContext) (x : StmtTree) → Codes (stmt s x)
   stmt_begins s (InBlock b) made = block_begins s b made
   stmt_begins s (DeclareOf ds) made = declare_begins s ds made
   stmt_begins s (SimpleOf x) made = simple_begins s x made
@@ -143,9 +143,9 @@ mutual
   stmt_begins s (ExposeOf p e t b) made = expose_begins s p e (exposed_class e t) (block_can_end b) (λ z m. block z b m) made (right_side s e made) (right_begins s e made) (λ o. block_begins (within s o) b)
   stmt_begins s (EmptyOf p) made = begins_itself made
 
-  pub block_begins : (s : Setting) (b : BlockTree) → Codes (block s b)
+  pub block_begins : (s : ElaborationContext) (b : BlockTree) → Codes (block s b)
   block_begins s (BlockOf p ss end) made = stmts_begin s ss made
 
-  pub stmts_begin : (s : Setting) (ss : StmtTrees) → Codes (stmts s ss)
+  pub stmts_begin : (s : ElaborationContext) (ss : StmtTrees) → Codes (stmts s ss)
   stmts_begin s typed.NoMore made = begins_itself made
   stmts_begin s (Before x xs) made = then_grows made (stmt s x made) (can_end x) (stmts s xs) (stmt_begins s x made) (stmts_begin s xs)

@@ -19,7 +19,7 @@ use Rattle.ss_expand_rules.specs.Numbers.{number, plain}
 use Rattle.ss_expand_rules.specs.Calls.{has_call}
 use Rattle.ss_typed.specs.Shapes.{is_this, place_of}
 use Rattle.ss_expand_rules.specs.Program.{field_at}
-use Rattle.ss_expand_rules.specs.Lifting.{Opened, Setting, Lifted, next, temporary_type, any_object, right_side, value}
+use Rattle.ss_expand_rules.specs.Lifting.{Opened, ElaborationContext, Lifted, next, temporary_type, any_object, right_side, value}
 use Rattle.ss_expand_rules.specs.Simple.{assign_settled, Settled, settle_lifted, settle_part, settle, assign_behind, assign, update}
 use Rattle.ss_store_rules.specs.Admissible as admissible
 use Rattle.ss_store_rules.specs.Changes.{field_type}
@@ -27,7 +27,7 @@ use Rattle.ss_store_rules.specs.Good.{is_non_null}
 use Rattle.ss_store_rules.specs.NonNull.{Known, is_non_null_type}
 use Rattle.ss_expand_formed.proofs.Facts.{none_left}
 use Rattle.ss_expand_formed_known.proofs.Truths.{of_or}
-use Rattle.ss_expand_formed_nulls.specs.Fitting.{Frame, setting, implied, local_type, fits, reads_set, is_reference_type, target_fits, holds_kind, is_number, Agrees, Covers, HasMade}
+use Rattle.ss_expand_formed_nulls.specs.Fitting.{Frame, elaboration_context, implied, local_type, fits, reads_set, is_reference_type, target_fits, holds_kind, is_number, Agrees, Covers, HasMade}
 use Rattle.ss_expand_formed_nulls.proofs.Growing.{begins_append, value_begins}
 use Rattle.ss_expand_formed_nulls.proofs.Growth.{part_begins}
 use Rattle.ss_expand_formed_nulls.proofs.Plain.{implied_true}
@@ -52,8 +52,8 @@ not_true true h = absurd (false≢true h)
 not_true false h = refl
 
 module _ (z : Frame) (agrees : Agrees z) (os : List Opened) where
-  abbrev pub s : Setting
-  s = setting z os
+  abbrev pub s : ElaborationContext
+  s = elaboration_context z os
 
   this_plain : (e : ExprTree) → is_this e ≡ true → admissible.is_this (plain z.numbers e) ≡ true
   this_plain (ThisOf p t) h = refl
@@ -65,7 +65,7 @@ module _ (z : Frame) (agrees : Agrees z) (os : List Opened) where
   record Part (k : source.Known) (l : Known) (e : ExprTree) (t : Settled) : Type 0 where
     done : Done z agrees l k t.code
     fit : fits z t.target ≡ true
-    clean : inside z.site (Some k) t.target ≡ []
+    clean : inside z.context (Some k) t.target ≡ []
     this : is_this e ≡ true → admissible.is_this (plain z.numbers t.target) ≡ true
     reads : (f : ℕ) → reads_set z e f ≡ true → reads_set z t.target f ≡ true
 
@@ -84,7 +84,7 @@ module _ (z : Frame) (agrees : Agrees z) (os : List Opened) where
       by true g = rw (g refl) (or_right (false && z.fields f || z.free) true refl)
       by false g = refl
 
-  part_known : (k : source.Known) (l : Known) (e : ExprTree) (made : List Ty) → Covers z k l → fits z e ≡ true → inside z.site (Some k) e ≡ [] → HasMade z (settle_part s e made).made → Part k l e (settle_part s e made)
+  part_known : (k : source.Known) (l : Known) (e : ExprTree) (made : List Ty) → Covers z k l → fits z e ≡ true → inside z.context (Some k) e ≡ [] → HasMade z (settle_part s e made).made → Part k l e (settle_part s e made)
   part_known k l e made c f i m = by (is_this e) refl m
     where
       d : Lifted
@@ -109,9 +109,9 @@ module _ (z : Frame) (agrees : Agrees z) (os : List Opened) where
 
   -- what is assigned to a left side in the phase
   abbrev pub assigned : ExprTree → ExprTree → source.Known → source.Known
-  assigned l e k = source.known_done z.site (AssignOf l operator.Set e) k
+  assigned l e k = source.known_done z.context (AssignOf l operator.Set e) k
 
-  pub standing : (k : source.Known) (e : ExprTree) (u : Option Ty) (t : Ty) → implied (is_non_null_type u) (fields.is_non_null t) ≡ true → is_some (type_of e) ≡ true → wanted z.site (Some k) e t ≡ [] → is_non_null_type u ≡ true → never_in z agrees k e ≡ true
+  pub standing : (k : source.Known) (e : ExprTree) (u : Option Ty) (t : Ty) → implied (is_non_null_type u) (fields.is_non_null t) ≡ true → is_some (type_of e) ≡ true → wanted z.context (Some k) e t ≡ [] → is_non_null_type u ≡ true → never_in z agrees k e ≡ true
   standing k e u t h some w i = wanted_never z agrees os k e t w (implied_true (is_non_null_type u) (fields.is_non_null t) h i) some
 
   pub kind_known : (k : source.Known) (l : Known) → Covers z k l → (e : ExprTree) (m : Bool) → fits z e ≡ true → (m || not (is_reference_type (type_of e))) ≡ true → never_in z agrees k e ≡ true → m ≡ true
@@ -119,7 +119,7 @@ module _ (z : Frame) (agrees : Agrees z) (os : List Opened) where
 
   -- a field of an object that is settled
   field_known : (k : source.Known) (l : Known) (p : Place) (o q : ExprTree) (f : ℕ) (t : Ty) (e : ExprTree) (made : List Ty) → Covers z k l → (is_this o ≡ true → admissible.is_this (plain z.numbers q) ≡ true) → target_fits z (FieldOf p o f t) ≡ true →
-      fits z e ≡ true → is_some (type_of e) ≡ true → inside z.site (Some k) e ≡ [] → wanted z.site (Some k) e t ≡ [] → HasMade z (value s e made).made → Done z agrees l (assigned (FieldOf p o f t) e k) (assign_settled s (FieldOf p q f t) e made).code
+      fits z e ≡ true → is_some (type_of e) ≡ true → inside z.context (Some k) e ≡ [] → wanted z.context (Some k) e t ≡ [] → HasMade z (value s e made).made → Done z agrees l (assigned (FieldOf p o f t) e k) (assign_settled s (FieldOf p q f t) e made).code
   field_known k l p o q f t e made c this h g some i w m =
       let both = and_parts (implied (is_non_null (field_type z.program.classes f)) (fields.is_non_null t)) (is_some (field_at z.typed f)) h in
       let v = value_known z agrees os e g k l made c i m in
@@ -128,14 +128,14 @@ module _ (z : Frame) (agrees : Agrees z) (os : List Opened) where
       record { now = rest.now; runs = runs_join z l v.now rest.now d.code _ v.runs rest.runs; covers = rest.covers }
 
   -- an element, or what is no left side
-  element_known : (k : source.Known) (l : Known) (p : Place) (a i e : ExprTree) (made : List Ty) → Covers z k l → fits z e ≡ true → inside z.site (Some k) e ≡ [] → HasMade z (value s e made).made → Done z agrees l k (assign_settled s (ElementOf p a i) e made).code
+  element_known : (k : source.Known) (l : Known) (p : Place) (a i e : ExprTree) (made : List Ty) → Covers z k l → fits z e ≡ true → inside z.context (Some k) e ≡ [] → HasMade z (value s e made).made → Done z agrees l k (assign_settled s (ElementOf p a i) e made).code
   element_known k l p a i e made c g h m =
       let v = value_known z agrees os e g k l made c h m in
       let d = value s e made in
       let w = WriteElementStmt p (plain z.numbers a) (plain z.numbers i) d.value in
       record { now = v.now; runs = runs_join z l v.now v.now d.code (w ∷ []) v.runs (runs_one z v.now v.now w refl refl); covers = v.covers }
 
-  nowhere_known : (k : source.Known) (l : Known) (e : ExprTree) (made : List Ty) → Covers z k l → fits z e ≡ true → inside z.site (Some k) e ≡ [] → HasMade z (value s e made).made → Done z agrees l k ((value s e made).code ++ [])
+  nowhere_known : (k : source.Known) (l : Known) (e : ExprTree) (made : List Ty) → Covers z k l → fits z e ≡ true → inside z.context (Some k) e ≡ [] → HasMade z (value s e made).made → Done z agrees l k ((value s e made).code ++ [])
   nowhere_known k l e made c g h m =
       let v = value_known z agrees os e g k l made c h m in
       record { now = v.now; runs = runs_join z l v.now v.now (value s e made).code [] v.runs (runs_nothing z v.now); covers = v.covers }
@@ -147,9 +147,9 @@ module _ (z : Frame) (agrees : Agrees z) (os : List Opened) where
     pub right : fits z e ≡ true
     pub some : is_some (type_of e) ≡ true
     pub kind : holds_kind z l e ≡ true
-    pub clean_left : inside z.site (Some k) l ≡ []
-    pub clean : inside z.site (Some k) e ≡ []
-    pub wants : wanted_if z.site (Some k) e (type_of l) ≡ []
+    pub clean_left : inside z.context (Some k) l ≡ []
+    pub clean : inside z.context (Some k) e ≡ []
+    pub wants : wanted_if z.context (Some k) e (type_of l) ≡ []
 
   settled_known : (k : source.Known) (c : Known) → Covers z k c → (l e : ExprTree) (made : List Ty) → Asked k l e → HasMade z (assign_settled s l e made).made → Done z agrees c (assigned l e k) (assign_settled s l e made).code
   settled_known k c h (LocalOf p x t) e made a m =
@@ -170,7 +170,7 @@ module _ (z : Frame) (agrees : Agrees z) (os : List Opened) where
       let x = settle_part s b made in
       let y = settle_part s i x.made in
       let fit = and_parts (fits z b) (fits z i) a.left in
-      let clean = none_left (inside z.site (Some k) b) (inside z.site (Some k) i) a.clean_left in
+      let clean = none_left (inside z.context (Some k) b) (inside z.context (Some k) i) a.clean_left in
       let known = made_before z agrees y.made (value s e y.made).made (value_begins s e y.made) m in
       let one = part_known k c b made h fit.0 clean.0 (made_before z agrees x.made y.made (part_begins s i x.made) known) in
       let two = part_known k one.done.now i x.made one.done.covers fit.1 clean.1 known in
@@ -196,14 +196,14 @@ module _ (z : Frame) (agrees : Agrees z) (os : List Opened) where
     pub right : fits z e ≡ true
     pub number : is_number z l ≡ true
     pub other : is_null e ≡ false
-    pub clean_left : inside z.site (Some k) l ≡ []
-    pub clean : inside z.site (Some k) e ≡ []
+    pub clean_left : inside z.context (Some k) l ≡ []
+    pub clean : inside z.context (Some k) e ≡ []
 
   both_fit : (k : source.Known) (o : Operator) (p : Place) (l e : ExprTree) → fits z l ≡ true → fits z e ≡ true → is_null e ≡ false → fits z (BinaryOf p o l e) ≡ true
   both_fit k o p l e f g n = and_from _ _ (and_from _ _ (implied_by_false (is_null e) _ n) f) g
 
-  both_clean : (k : source.Known) (o : Operator) (p : Place) (l e : ExprTree) → Counts k o → inside z.site (Some k) l ≡ [] → inside z.site (Some k) e ≡ [] → inside z.site (Some k) (BinaryOf p o l e) ≡ []
-  both_clean k o p l e n f g = ap (λ xs. xs ++ inside z.site (Some (source.known_right o l k)) e) f ∙ ap (λ q. inside z.site (Some q) e) (n.right l) ∙ g
+  both_clean : (k : source.Known) (o : Operator) (p : Place) (l e : ExprTree) → Counts k o → inside z.context (Some k) l ≡ [] → inside z.context (Some k) e ≡ [] → inside z.context (Some k) (BinaryOf p o l e) ≡ []
+  both_clean k o p l e n f g = ap (λ xs. xs ++ inside z.context (Some (source.known_right o l k)) e) f ∙ ap (λ q. inside z.context (Some q) e) (n.right l) ∙ g
 
   -- nothing is wanted where a number is written
   pub numbered : (u : Option Ty) (t : Ty) (P : Type 0) → implied (is_non_null_type u) (fields.is_non_null t) ≡ true → fields.is_non_null t ≡ false → is_non_null_type u ≡ true → P
@@ -235,12 +235,12 @@ module _ (z : Frame) (agrees : Agrees z) (os : List Opened) where
       let l = ElementOf p x.target y.target in
       let w = BinaryOf p o l e in
       let fit = and_parts (fits z b) (fits z i) a.left in
-      let clean = none_left (inside z.site (Some k) b) (inside z.site (Some k) i) a.clean_left in
+      let clean = none_left (inside z.context (Some k) b) (inside z.context (Some k) i) a.clean_left in
       let known = made_before z agrees y.made (value s w y.made).made (value_begins s w y.made) m in
       let one = part_known k c b made h fit.0 clean.0 (made_before z agrees x.made y.made (part_begins s i x.made) known) in
       let two = part_known k one.done.now i x.made one.done.covers fit.1 clean.1 known in
       let left : fits z l ≡ true = and_from _ _ one.fit two.fit in
-      let pure : inside z.site (Some k) l ≡ [] = ap (λ xs. xs ++ inside z.site (Some k) y.target) one.clean ∙ two.clean in
+      let pure : inside z.context (Some k) l ≡ [] = ap (λ xs. xs ++ inside z.context (Some k) y.target) one.clean ∙ two.clean in
       let wrote = element_known k two.done.now p x.target y.target w y.made two.done.covers (both_fit k o p l e left a.right a.other) (both_clean k o p l e n pure a.clean) m in
       record { now = wrote.now; runs = runs_join z c two.done.now wrote.now (x.code ++ y.code) _ (runs_join z c one.done.now two.done.now x.code y.code one.done.runs two.done.runs) wrote.runs; covers = wrote.covers }
   update_known k c h o n l e made a m = nowhere_known k c (BinaryOf (place_of l) o l e) made h (both_fit k o (place_of l) l e a.left a.right a.other) (both_clean k o (place_of l) l e n a.clean_left a.clean) m

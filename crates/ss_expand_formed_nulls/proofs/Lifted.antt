@@ -33,7 +33,7 @@ module _ (z : Frame) (agrees : Agrees z) where
   at x = number ns x
 
   abbrev pub never_in : source.Known → ExprTree → Bool
-  never_in k e = source.is_never_null z.site (Some k) e
+  never_in k e = source.is_never_null z.context (Some k) e
 
   abbrev pub core_never : Known → core.ExprTree → Bool
   core_never l e = is_never_null (site_of z.program z.body) l false e
@@ -257,7 +257,7 @@ module _ (z : Frame) (agrees : Agrees z) where
     taken_covers = record {
       facts = λ y g. gained y (k.facts y) (says i v y) refl refl (gain y g);
       mine = own;
-      fields = λ f o g. then_covers.fields f o (ap (λ s. has_field z.site.numbers s f) (sym same) ∙ g);
+      fields = λ f o g. then_covers.fields f o (ap (λ s. has_field z.context.numbers s f) (sym same) ∙ g);
       free = λ g f. then_covers.free g f;
     }
 
@@ -295,7 +295,7 @@ module _ (z : Frame) (agrees : Agrees z) where
     now_covers = record {
       facts = λ y g. and_from _ _ (last_covers.facts y (keep y g)) (or_left _ _ (then_covers.facts y g));
       mine = then_covers.mine;
-      fields = λ f o g. and_from _ _ (last_covers.fields f o (ap (λ s. has_field z.site.numbers s f) same ∙ g)) (then_covers.fields f o g);
+      fields = λ f o g. and_from _ _ (last_covers.fields f o (ap (λ s. has_field z.context.numbers s f) same ∙ g)) (then_covers.fields f o g);
       free = λ g f. and_from _ _ (last_covers.free g f) (then_covers.free g f);
     }
 

@@ -16,7 +16,7 @@ use Rattle.ss_paths.specs.Assigned.{assigned_first}
 use Rattle.ss_paths.specs.Paths as phase
 use Rattle.ss_nonnull_rules.specs.NonNull as source
 use Rattle.ss_nonnull_rules.specs.Faults as faults
-use Rattle.ss_nonnull_rules.specs.Program.{site_of, only_fields}
+use Rattle.ss_nonnull_rules.specs.Program.{null_context_of, only_fields}
 use Rattle.ss_expand_rules.specs.Contracts.{first_param}
 use Rattle.ss_expand_rules.specs.Constructors.{before_all, constructor_stmts}
 use Rattle.ss_typed.specs.Shapes.{closing_brace, in_block}
@@ -191,17 +191,17 @@ module _ (c : core.CoreTree) (p : TypedTree) (b : BodyTree) (bs : List BodyTree)
 
   -- It keeps nulls out where the phase finds no fault in its statements, as they are elaborated, from what it knows at the entry.
   pub body_keeps : (k : source.Known) → ((x : ℕ) → k.facts x ≡ true → ⊥) → Covers z k (known_at_entry (written_body p b bs)) → all_fitting z (statements p b) ≡ true →
-      phase.faults_along (source.known_flow (site_of p b)) (faults.null_check (site_of p b)) (statements p b) (Some k) ≡ [] → keeps_nulls_out c (written_body p b bs) ≡ true
+      phase.faults_along (source.known_flow (null_context_of p b)) (faults.null_check (null_context_of p b)) (statements p b) (Some k) ≡ [] → keeps_nulls_out c (written_body p b bs) ≡ true
   body_keeps k empty covers fitting pure = body_from k empty covers (λ l known made. (stmts_known z agrees builds (statements p b) fitting [] k [] pure l known made).held)
 
 -- ---- methods
 
 pub method_keeps : (c : core.CoreTree) (p : TypedTree) (b : BodyTree) (bs : List BodyTree) → b.flags.ctor ≡ false → block_fits (method_frame c p b bs) b.block ≡ true →
-    phase.faults_in (source.known_flow (site_of p b)) (faults.null_check (site_of p b)) b.block (only_fields (assigned_first p b)) ≡ [] → keeps_nulls_out c (written_body p b bs) ≡ true
+    phase.faults_in (source.known_flow (null_context_of p b)) (faults.null_check (null_context_of p b)) b.block (only_fields (assigned_first p b)) ≡ [] → keeps_nulls_out c (written_body p b bs) ≡ true
 method_keeps c p b bs method fit clean =
     let z = method_frame c p b bs in
-    let F = source.known_flow (site_of p b) in
-    let K = faults.null_check (site_of p b) in
+    let F = source.known_flow (null_context_of p b) in
+    let K = faults.null_check (null_context_of p b) in
     let k : source.Known = record { facts = none; fields = assigned_first p b } in
     let is : with_return b b.result (in_block b.block) ≡ statements p b = ap (λ d. with_return b b.result (if d then constructor_stmts p b else in_block b.block)) (sym method) in
     let fitting = subst (λ ss. all_fitting z ss ≡ true) is (fitting_with_return z b b.result (in_block b.block) (fitting_of_block z b.block fit)) in

@@ -23,7 +23,7 @@ use Rattle.ss_nonnull_rules.specs.Faults.{inside, wanted, handed, null_fault}
 use Rattle.ss_expand_rules.specs.Numbers.{plain, plain_arguments}
 use Rattle.ss_expand_rules.specs.Calls.{has_call, have_call, is_lazy}
 use Rattle.ss_typed.specs.Shapes.{place_of}
-use Rattle.ss_expand_rules.specs.Lifting.{Opened, Setting, Pure, Lifted, Valued, Listed, unlifted, next, any_object, lifted_of, operand, unary, binary, holds, fails, negated, operation, other_types, lifted}
+use Rattle.ss_expand_rules.specs.Lifting.{Opened, ElaborationContext, Pure, Lifted, Valued, Listed, unlifted, next, any_object, lifted_of, operand, unary, binary, holds, fails, negated, operation, other_types, lifted}
 use Rattle.ss_store_rules.specs.Good.{is_non_null}
 use Rattle.ss_store_rules.specs.Locals.{types_of, each, targets_only}
 use Rattle.ss_store_rules.specs.Paths.{where_reached}
@@ -32,7 +32,7 @@ use Rattle.ss_expand_formed.proofs.Facts.{none_left, or_false}
 use Rattle.ss_expand_formed_locals.proofs.Shape.{Code}
 use Rattle.ss_expand_formed_known.proofs.Truths.{of_or}
 use Rattle.ss_expand_formed_known.proofs.Kept.{spares, facts_kept}
-use Rattle.ss_expand_formed_nulls.specs.Fitting.{Frame, setting, implied, wants_no_more, enters_with, fits, all_fit, Agrees, Covers, HasMade}
+use Rattle.ss_expand_formed_nulls.specs.Fitting.{Frame, elaboration_context, implied, wants_no_more, enters_with, fits, all_fit, Agrees, Covers, HasMade}
 use Rattle.ss_expand_formed_nulls.proofs.Growing.{begins_append, operand_begins, lifted_of_begins, lifted_begins}
 use Rattle.ss_expand_formed_nulls.proofs.New.{each_more, spared, too_low}
 use Rattle.ss_paths.proofs.Among.{either_left, either_right}
@@ -77,8 +77,8 @@ wants_others (u ∷ us) [] h = absurd (false≢true h)
 wants_others (u ∷ us) (t ∷ ts) h = (and_parts (implied (is_non_null u) (fields.is_non_null t)) (wants_no_more us ts) h).1
 
 module _ (z : Frame) (agrees : Agrees z) (os : List Opened) where
-  abbrev pub s : Setting
-  s = setting z os
+  abbrev pub s : ElaborationContext
+  s = elaboration_context z os
 
   -- ---- arguments
 
@@ -89,13 +89,13 @@ module _ (z : Frame) (agrees : Agrees z) (os : List Opened) where
     pub covers : Covers z k now
     pub stand : arguments_may_stand z.program z.body now d.values us ≡ true
 
-  pub handed_parts : (k : source.Known) (e : ExprTree) (es : Arguments) (ts : List Ty) → handed z.site (Some k) (Argument e es) ts ≡ [] → (inside z.site (Some k) e ≡ []) × (handed z.site (Some k) es (other_types ts) ≡ [])
-  handed_parts k e es [] h = none_left (inside z.site (Some k) e) (handed z.site (Some k) es []) h
+  pub handed_parts : (k : source.Known) (e : ExprTree) (es : Arguments) (ts : List Ty) → handed z.context (Some k) (Argument e es) ts ≡ [] → (inside z.context (Some k) e ≡ []) × (handed z.context (Some k) es (other_types ts) ≡ [])
+  handed_parts k e es [] h = none_left (inside z.context (Some k) e) (handed z.context (Some k) es []) h
   handed_parts k e es (t ∷ ts) h =
-      let both = none_left (inside z.site (Some k) e ++ wanted z.site (Some k) e t) (handed z.site (Some k) es ts) h in
-      ((none_left (inside z.site (Some k) e) (wanted z.site (Some k) e t) both.0).0, both.1)
+      let both = none_left (inside z.context (Some k) e ++ wanted z.context (Some k) e t) (handed z.context (Some k) es ts) h in
+      ((none_left (inside z.context (Some k) e) (wanted z.context (Some k) e t) both.0).0, both.1)
 
-  pub wanted_never : (k : source.Known) (e : ExprTree) (t : Ty) → wanted z.site (Some k) e t ≡ [] → fields.is_non_null t ≡ true → is_some (type_of e) ≡ true → never_in z agrees k e ≡ true
+  pub wanted_never : (k : source.Known) (e : ExprTree) (t : Ty) → wanted z.context (Some k) e t ≡ [] → fields.is_non_null t ≡ true → is_some (type_of e) ≡ true → never_in z agrees k e ≡ true
   wanted_never k e t h i j = no_fault (fields.is_non_null t) (is_some (type_of e)) (never_in z agrees k e) (null_fault (place_of e)) h i j
 
   stands_if : (u : Ty) (m : Known) (v : core.ExprTree) → (is_non_null u ≡ true → core_never z agrees m v ≡ true) → may_stand z.program z.body m v u ≡ true
@@ -106,16 +106,16 @@ module _ (z : Frame) (agrees : Agrees z) (os : List Opened) where
       by false i = refl
 
   pub stand_with : (k : source.Known) (e : ExprTree) (es : Arguments) (us ts : List Ty) (m : Known) (v : core.ExprTree) (vs : List core.ExprTree) → (never_in z agrees k e ≡ true → core_never z agrees m v ≡ true) → is_some (type_of e) ≡ true →
-      handed z.site (Some k) (Argument e es) ts ≡ [] → wants_no_more us ts ≡ true → arguments_may_stand z.program z.body m vs (other_types us) ≡ true → arguments_may_stand z.program z.body m (v ∷ vs) us ≡ true
+      handed z.context (Some k) (Argument e es) ts ≡ [] → wants_no_more us ts ≡ true → arguments_may_stand z.program z.body m vs (other_types us) ≡ true → arguments_may_stand z.program z.body m (v ∷ vs) us ≡ true
   stand_with k e es [] ts m v vs h some i w g = refl
   stand_with k e es (u ∷ us) [] m v vs h some i w g = absurd (false≢true w)
   stand_with k e es (u ∷ us) (t ∷ ts) m v vs h some i w g =
-      let both = none_left (inside z.site (Some k) e ++ wanted z.site (Some k) e t) (handed z.site (Some k) es ts) i in
-      let free = (none_left (inside z.site (Some k) e) (wanted z.site (Some k) e t) both.0).1 in
+      let both = none_left (inside z.context (Some k) e ++ wanted z.context (Some k) e t) (handed z.context (Some k) es ts) i in
+      let free = (none_left (inside z.context (Some k) e) (wanted z.context (Some k) e t) both.0).1 in
       let wants = and_parts (implied (is_non_null u) (fields.is_non_null t)) (wants_no_more us ts) w in
       and_from _ _ (stands_if u m v (λ n. h (wanted_never k e t free (implied_true (is_non_null u) (fields.is_non_null t) wants.0 n) some))) g
 
-  pub plain_stand : (k : source.Known) (l : Known) → Covers z k l → (es : Arguments) → all_fit z es ≡ true → have_call es ≡ false → (us ts : List Ty) → handed z.site (Some k) es ts ≡ [] → wants_no_more us ts ≡ true →
+  pub plain_stand : (k : source.Known) (l : Known) → Covers z k l → (es : Arguments) → all_fit z es ≡ true → have_call es ≡ false → (us ts : List Ty) → handed z.context (Some k) es ts ≡ [] → wants_no_more us ts ≡ true →
       arguments_may_stand z.program z.body l (plain_arguments (ns z agrees) es) us ≡ true
   plain_stand k l c NoMore f n us ts h w = refl
   plain_stand k l c (Argument e es) f n us ts h w =
@@ -186,7 +186,7 @@ module _ (z : Frame) (agrees : Agrees z) (os : List Opened) where
       }
 
   abbrev pub Rec : ExprTree → Type 0
-  Rec e = (k : source.Known) (l : Known) (made : List Ty) → Covers z k l → inside z.site (Some k) e ≡ [] → has_call e ≡ true → HasMade z (lifted s e made).made → Lifts z agrees k l e (lifted s e made)
+  Rec e = (k : source.Known) (l : Known) (made : List Ty) → Covers z k l → inside z.context (Some k) e ≡ [] → has_call e ≡ true → HasMade z (lifted s e made).made → Lifts z agrees k l e (lifted s e made)
 
   low_next : (made : List Ty) → z.body.flags.ctor ≡ true → 0 < next (ns z agrees) made
   low_next made c = let l = agrees.behind_this c in omega arith
@@ -198,7 +198,7 @@ module _ (z : Frame) (agrees : Agrees z) (os : List Opened) where
   own_or : (a : ExprTree) (v : Bool) (k : source.Known) (l : Known) → Covers z k l → fits z a ≡ true → (y : ℕ) → either k.facts (says a v) y ≡ true → z.mine y ≡ true
   own_or a v k l c f y h = of_or (k.facts y) (says a v y) (z.mine y) (c.mine y) (λ q. says_mine z a v y f q) (either_is k.facts (says a v) y h)
 
-  and_known : (p : Place) (a b : ExprTree) (k : source.Known) (l : Known) (made : List Ty) → Covers z k l → fits z a ≡ true → fits z b ≡ true → inside z.site (Some k) a ≡ [] → inside z.site (Some (source.known_tested a true k)) b ≡ [] →
+  and_known : (p : Place) (a b : ExprTree) (k : source.Known) (l : Known) (made : List Ty) → Covers z k l → fits z a ≡ true → fits z b ≡ true → inside z.context (Some k) a ≡ [] → inside z.context (Some (source.known_tested a true k)) b ≡ [] →
       HasMade z (operation (ns z agrees) p op.And a b (lifted s a) (lifted s b) made).made → Rec a → Rec b → Lifts z agrees k l (BinaryOf p op.And a b) (operation (ns z agrees) p op.And a b (lifted s a) (lifted s b) made)
   and_known p a b k l made c f g i j m one two =
       let more = source.known_tested a true k in
@@ -217,7 +217,7 @@ module _ (z : Frame) (agrees : Agrees z) (os : List Opened) where
       said h true y i = of_or (says a true y) (says b true y) _ (λ q. h.left y (either_right k.facts (says a true) y q)) (λ q. h.right y q) (either_is (says a true) (says b true) y i)
       said h false y i = not_none y i
 
-  or_known : (p : Place) (a b : ExprTree) (k : source.Known) (l : Known) (made : List Ty) → Covers z k l → fits z a ≡ true → fits z b ≡ true → inside z.site (Some k) a ≡ [] → inside z.site (Some (source.known_tested a false k)) b ≡ [] →
+  or_known : (p : Place) (a b : ExprTree) (k : source.Known) (l : Known) (made : List Ty) → Covers z k l → fits z a ≡ true → fits z b ≡ true → inside z.context (Some k) a ≡ [] → inside z.context (Some (source.known_tested a false k)) b ≡ [] →
       HasMade z (operation (ns z agrees) p op.Or a b (lifted s a) (lifted s b) made).made → Rec a → Rec b → Lifts z agrees k l (BinaryOf p op.Or a b) (operation (ns z agrees) p op.Or a b (lifted s a) (lifted s b) made)
   or_known p a b k l made c f g i j m one two =
       let more = source.known_tested a false k in
@@ -236,7 +236,7 @@ module _ (z : Frame) (agrees : Agrees z) (os : List Opened) where
       said h false y i = of_or (says a false y) (says b false y) _ (λ q. h.left y (either_right k.facts (says a false) y q)) (λ q. h.right y q) (either_is (says a false) (says b false) y i)
       said h true y i = not_none y i
 
-  pub implies_known : (p : Place) (a b : ExprTree) (k : source.Known) (l : Known) (made : List Ty) → Covers z k l → fits z a ≡ true → fits z b ≡ true → inside z.site (Some k) a ≡ [] → inside z.site (Some k) b ≡ [] →
+  pub implies_known : (p : Place) (a b : ExprTree) (k : source.Known) (l : Known) (made : List Ty) → Covers z k l → fits z a ≡ true → fits z b ≡ true → inside z.context (Some k) a ≡ [] → inside z.context (Some k) b ≡ [] →
       HasMade z (lifted s (ImpliesOf p a b) made).made → Rec a → Rec b → Lifts z agrees k l (ImpliesOf p a b) (lifted s (ImpliesOf p a b) made)
   implies_known p a b k l made c f g i j m one two =
       let first = negated (ns z agrees) a (lifted s a) made in
@@ -250,20 +250,20 @@ module _ (z : Frame) (agrees : Agrees z) (os : List Opened) where
       (λ q r. lifted_of_known z agrees k q b (lifted s b) n r g m (λ t u. two k q n r j t u)) in
       lazy_lifts k k l (ImpliesOf p a b) b false p x (lifted s (ImpliesOf p a b) made) refl (low_next first.made) h (λ u y i. not_none y i) refl
 
-  pub operation_known : (p : Place) (o : Operator) (a b : ExprTree) (k : source.Known) (l : Known) (made : List Ty) → Covers z k l → fits z a ≡ true → fits z b ≡ true → inside z.site (Some k) (BinaryOf p o a b) ≡ [] → (has_call a || has_call b) ≡ true →
+  pub operation_known : (p : Place) (o : Operator) (a b : ExprTree) (k : source.Known) (l : Known) (made : List Ty) → Covers z k l → fits z a ≡ true → fits z b ≡ true → inside z.context (Some k) (BinaryOf p o a b) ≡ [] → (has_call a || has_call b) ≡ true →
       HasMade z (operation (ns z agrees) p o a b (lifted s a) (lifted s b) made).made → Rec a → Rec b → Lifts z agrees k l (BinaryOf p o a b) (operation (ns z agrees) p o a b (lifted s a) (lifted s b) made)
   operation_known p op.And a b k l made c f g i h m one two =
-      let parts = none_left (inside z.site (Some k) a) (inside z.site (Some (source.known_tested a true k)) b) i in
+      let parts = none_left (inside z.context (Some k) a) (inside z.context (Some (source.known_tested a true k)) b) i in
       and_known p a b k l made c f g parts.0 parts.1 m one two
   operation_known p op.Or a b k l made c f g i h m one two =
-      let parts = none_left (inside z.site (Some k) a) (inside z.site (Some (source.known_tested a false k)) b) i in
+      let parts = none_left (inside z.context (Some k) a) (inside z.context (Some (source.known_tested a false k)) b) i in
       or_known p a b k l made c f g parts.0 parts.1 m one two
   operation_known p op.Equal a b k l made c f g i h m one two =
-      let parts = none_left (inside z.site (Some k) a) (inside z.site (Some k) b) i in
+      let parts = none_left (inside z.context (Some k) a) (inside z.context (Some k) b) i in
       pair_known k l (BinaryOf p op.Equal a b) a b (BinaryExpr p op.Equal) made c f g (λ u x e. calls_say_nothing (not u) a b x h e) refl refl m (λ q r. one k l made c parts.0 q r) (λ n ms d q r. two k n ms d parts.1 q r)
   operation_known p op.NotEqual a b k l made c f g i h m one two =
-      let parts = none_left (inside z.site (Some k) a) (inside z.site (Some k) b) i in
+      let parts = none_left (inside z.context (Some k) a) (inside z.context (Some k) b) i in
       pair_known k l (BinaryOf p op.NotEqual a b) a b (BinaryExpr p op.NotEqual) made c f g (λ u x e. calls_say_nothing u a b x h e) refl refl m (λ q r. one k l made c parts.0 q r) (λ n ms d q r. two k n ms d parts.1 q r)
   operation_known p o a b k l made c f g i h m one two =
-      let parts = none_left (inside z.site (Some k) a) (inside z.site (Some k) b) i in
+      let parts = none_left (inside z.context (Some k) a) (inside z.context (Some k) b) i in
       pair_known k l (BinaryOf p o a b) a b (BinaryExpr p o) made c f g (λ u x e. not_none x e) refl refl m (λ q r. one k l made c parts.0 q r) (λ n ms d q r. two k n ms d parts.1 q r)

@@ -39,7 +39,7 @@ both_have n a b f h = by (is_among n f) h
 
 module _ (z : Frame) (agrees : Agrees z) where
   abbrev pub along : phase.Flow source.Known
-  along = source.known_flow z.site
+  along = source.known_flow z.context
 
   -- where the elaboration gets there, the phase does, and knows no more
   abbrev pub CoversWhere : Option source.Known → Option Known → Type 0
@@ -94,7 +94,7 @@ module _ (z : Frame) (agrees : Agrees z) where
   met_left k m l c = record {
     facts = λ x i. c.facts x (and_parts (k.facts x) (m.facts x) (both_is k.facts m.facts x i)).0;
     mine = λ x i. c.mine x (and_parts (k.facts x) (m.facts x) (both_is k.facts m.facts x i)).0;
-    fields = λ f o i. c.fields f o (both_have z.site.numbers k.fields m.fields f i).0;
+    fields = λ f o i. c.fields f o (both_have z.context.numbers k.fields m.fields f i).0;
     free = c.free;
   }
 
@@ -102,7 +102,7 @@ module _ (z : Frame) (agrees : Agrees z) where
   met_right k m l c = record {
     facts = λ x i. c.facts x (and_parts (k.facts x) (m.facts x) (both_is k.facts m.facts x i)).1;
     mine = λ x i. c.mine x (and_parts (k.facts x) (m.facts x) (both_is k.facts m.facts x i)).1;
-    fields = λ f o i. c.fields f o (both_have z.site.numbers k.fields m.fields f i).1;
+    fields = λ f o i. c.fields f o (both_have z.context.numbers k.fields m.fields f i).1;
     free = c.free;
   }
 
@@ -119,7 +119,7 @@ module _ (z : Frame) (agrees : Agrees z) where
   met_covers (Some k) (Some m) (Some l) (Some n) c d = record {
     facts = λ x i. let j = and_parts (k.facts x) (m.facts x) (both_is k.facts m.facts x i) in and_from _ _ (c.facts x j.0) (d.facts x j.1);
     mine = λ x i. c.mine x (and_parts (k.facts x) (m.facts x) (both_is k.facts m.facts x i)).0;
-    fields = λ f o i. let j = both_have z.site.numbers k.fields m.fields f i in and_from _ _ (c.fields f o j.0) (d.fields f o j.1);
+    fields = λ f o i. let j = both_have z.context.numbers k.fields m.fields f i in and_from _ _ (c.fields f o j.0) (d.fields f o j.1);
     free = λ i f. and_from _ _ (c.free i f) (d.free i f);
   }
 

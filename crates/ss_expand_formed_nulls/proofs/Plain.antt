@@ -142,7 +142,7 @@ module _ (z : Frame) where
 
   module _ (agrees : Agrees z) (k : source.Known) (l : Known) (covers : Covers z k l) where
     pub set_field : (e : core.ExprTree) (o : ExprTree) (f : ℕ) → (not z.body.flags.ctor || is_this o && z.fields f || z.free || not (is_this_object e)) ≡ true →
-        (not z.site.constructs || not z.site.in_old && (not (is_this o) || has_field z.site.numbers k.fields f)) ≡ true →
+        (not z.context.constructs || not z.context.in_old && (not (is_this o) || has_field z.context.numbers k.fields f)) ≡ true →
         (not z.body.flags.ctor || not false && (not (is_this_object e) || l.fields f)) ≡ true
     set_field e o f reads h = by z.body.flags.ctor agrees.constructs (is_this o) reads h
       where
@@ -150,15 +150,15 @@ module _ (z : Frame) where
         ready true h g = or_right _ _ (g refl)
         ready false h g = of_or z.free (not (is_this_object e)) _ (λ free. or_right _ _ (covers.free free f)) (λ other. or_left _ _ other) h
 
-        by : (c : Bool) → z.site.constructs ≡ c → (own : Bool) → (not c || own && z.fields f || z.free || not (is_this_object e)) ≡ true →
-            (not z.site.constructs || not z.site.in_old && (not own || has_field z.site.numbers k.fields f)) ≡ true → (not c || not false && (not (is_this_object e) || l.fields f)) ≡ true
+        by : (c : Bool) → z.context.constructs ≡ c → (own : Bool) → (not c || own && z.fields f || z.free || not (is_this_object e)) ≡ true →
+            (not z.context.constructs || not z.context.in_old && (not own || has_field z.context.numbers k.fields f)) ≡ true → (not c || not false && (not (is_this_object e) || l.fields f)) ≡ true
         by false i own reads h = refl
         by true i own reads h =
-            let there : (not true || not z.site.in_old && (not own || has_field z.site.numbers k.fields f)) ≡ true = ap (λ b. not b || not z.site.in_old && (not own || has_field z.site.numbers k.fields f)) (sym i) ∙ h in
-            let set = (and_parts (not z.site.in_old) (not own || has_field z.site.numbers k.fields f) there).1 in
-            ready (own && z.fields f) reads (λ g. let both = and_parts own (z.fields f) g in covers.fields f both.1 (ap (λ b. not b || has_field z.site.numbers k.fields f) (sym both.0) ∙ set))
+            let there : (not true || not z.context.in_old && (not own || has_field z.context.numbers k.fields f)) ≡ true = ap (λ b. not b || not z.context.in_old && (not own || has_field z.context.numbers k.fields f)) (sym i) ∙ h in
+            let set = (and_parts (not z.context.in_old) (not own || has_field z.context.numbers k.fields f) there).1 in
+            ready (own && z.fields f) reads (λ g. let both = and_parts own (z.fields f) g in covers.fields f both.1 (ap (λ b. not b || has_field z.context.numbers k.fields f) (sym both.0) ∙ set))
 
-    pub plain_never : (e : ExprTree) → fits z e ≡ true → has_call e ≡ false → source.is_never_null z.site (Some k) e ≡ true → is_never_null (site_of z.program z.body) l false (plain z.numbers e) ≡ true
+    pub plain_never : (e : ExprTree) → fits z e ≡ true → has_call e ≡ false → source.is_never_null z.context (Some k) e ≡ true → is_never_null (site_of z.program z.body) l false (plain z.numbers e) ≡ true
     plain_never (ThisOf p t) f n h = or_left _ _ f
     plain_never (LocalOf p x t) f n h =
         or_more (fields.is_non_null t) (k.facts x) _ _ (implied_true (fields.is_non_null t) _ (and_parts (implied (fields.is_non_null t) (is_non_null_type (local_type z (number z.numbers x)))) (implied (z.mine x) (is_reference t)) f).0) (covers.facts x) h

@@ -68,33 +68,33 @@ module _ (z : Frame) (agrees : Agrees z) (builds : Builds z) (os : List Opened) 
       into_known z agrees k l (NullOf p) (right_side (s z agrees os) (NullOf p) made) p x x (eqb-true _ _ n) own (right_known z agrees os (NullOf p) refl k l made c refl m) (λ i. absurd (false≢true i)) (numbered z agrees os (local_type z x) (ty.Ref t non_null) _ h none)
 
   begun_known : (k : source.Known) (l : Known) (d : DeclaratorTree) (e : Option ExprTree) (made : List Ty) → Covers z k l → z.locals d.local ≡ true → (number z.numbers d.local == d.local) ≡ true → implied (is_non_null_type (local_type z d.local)) (fields.is_non_null d.ty) ≡ true →
-      begins_fitting z d.local e ≡ true → starts z.site (Some k) d.place d.ty e ≡ [] → HasMade z (declared_as (s z agrees os) d e made).made → Done z agrees l (record k { facts = put d.local (source.starts_non_null z.site k e) k.facts }) (declared_as (s z agrees os) d e made).code
+      begins_fitting z d.local e ≡ true → starts z.context (Some k) d.place d.ty e ≡ [] → HasMade z (declared_as (s z agrees os) d e made).made → Done z agrees l (record k { facts = put d.local (source.starts_non_null z.context k e) k.facts }) (declared_as (s z agrees os) d e made).code
   begun_known k l d None made c own n h f i m = empty_known k l d.place d.local d.ty made c m n own h (no_start (fields.is_non_null d.ty) (null_fault d.place) i)
   begun_known k l d (Some e) made c own n h f i m =
       let one = and_parts (fits z e && is_some (type_of e)) (z.mine d.local || not (is_reference_type (type_of e))) f in
       let two = and_parts (fits z e) (is_some (type_of e)) one.0 in
-      let clean = none_left (inside z.site (Some k) e) (wanted z.site (Some k) e d.ty) i in
+      let clean = none_left (inside z.context (Some k) e) (wanted z.context (Some k) e d.ty) i in
       into_known z agrees k l e (right_side (s z agrees os) e made) d.place d.local d.local (eqb-true _ _ n) own (right_known z agrees os e two.0 k l made c clean.0 m) (kind_known z agrees os k l c e (z.mine d.local) two.0 one.1)
       (standing z agrees os k e (local_type z d.local) d.ty h two.1 clean.1)
 
-  declared_known : (k : source.Known) (l : Known) (d : DeclaratorTree) (made : List Ty) → Covers z k l → declarator_fits z d ≡ true → starts z.site (Some k) d.place d.ty d.initial ≡ [] → HasMade z (declared_as (s z agrees os) d d.initial made).made →
-      Done z agrees l (source.known_declared z.site d k) (declared_as (s z agrees os) d d.initial made).code
+  declared_known : (k : source.Known) (l : Known) (d : DeclaratorTree) (made : List Ty) → Covers z k l → declarator_fits z d ≡ true → starts z.context (Some k) d.place d.ty d.initial ≡ [] → HasMade z (declared_as (s z agrees os) d d.initial made).made →
+      Done z agrees l (source.known_declared z.context d k) (declared_as (s z agrees os) d d.initial made).code
   declared_known k l d made c f i m =
       let one = and_parts (z.locals d.local && number z.numbers d.local == d.local && implied (is_non_null_type (local_type z d.local)) (fields.is_non_null d.ty)) (begins_fitting z d.local d.initial) f in
       let two = and_parts (z.locals d.local && number z.numbers d.local == d.local) (implied (is_non_null_type (local_type z d.local)) (fields.is_non_null d.ty)) one.0 in
       let three = and_parts (z.locals d.local) (number z.numbers d.local == d.local) two.0 in
       begun_known k l d d.initial made c three.0 three.1 two.1 one.1 i m
 
-  pub declare_known : (ds : List DeclaratorTree) (k : source.Known) (l : Known) (made : List Ty) → Covers z k l → declared_fit z ds ≡ true → source_paths.declared_faults (source.known_flow z.site) (null_check z.site) ds (Some k) ≡ [] → HasMade z (declare (s z agrees os) ds made).made →
-      Done z agrees l (source_paths.all_declared (source.known_flow z.site) ds k) (declare (s z agrees os) ds made).code
+  pub declare_known : (ds : List DeclaratorTree) (k : source.Known) (l : Known) (made : List Ty) → Covers z k l → declared_fit z ds ≡ true → source_paths.declared_faults (source.known_flow z.context) (null_check z.context) ds (Some k) ≡ [] → HasMade z (declare (s z agrees os) ds made).made →
+      Done z agrees l (source_paths.all_declared (source.known_flow z.context) ds k) (declare (s z agrees os) ds made).code
   declare_known [] k l made c f i m = done_nothing z agrees l k c
   declare_known (d ∷ ds) k l made c f i m =
       let both = and_parts (declarator_fits z d) (declared_fit z ds) f in
-      let next = source.known_declared z.site d k in
-      let clean = none_left (starts z.site (Some k) d.place d.ty d.initial) (source_paths.declared_faults (source.known_flow z.site) (null_check z.site) ds (Some next)) i in
+      let next = source.known_declared z.context d k in
+      let clean = none_left (starts z.context (Some k) d.place d.ty d.initial) (source_paths.declared_faults (source.known_flow z.context) (null_check z.context) ds (Some next)) i in
       let one = declared_as (s z agrees os) d d.initial made in
       let front = declared_known k l d made c both.0 clean.0 (made_before z agrees one.made (declare (s z agrees os) ds one.made).made (declare_begins (s z agrees os) ds one.made) m) in
-      done_join z agrees l next (source_paths.all_declared (source.known_flow z.site) ds next) one.code _ front (declare_known ds next front.now one.made front.covers both.1 clean.1 m)
+      done_join z agrees l next (source_paths.all_declared (source.known_flow z.context) ds next) one.code _ front (declare_known ds next front.now one.made front.covers both.1 clean.1 m)
 
   -- ---- calls alone and printing
 
@@ -113,14 +113,14 @@ module _ (z : Frame) (agrees : Agrees z) (builds : Builds z) (os : List Opened) 
     };
   }
 
-  alone_known : (k : source.Known) (l : Known) (e : ExprTree) (made : List Ty) → Covers z k l → fits z e ≡ true → inside z.site (Some k) e ≡ [] → HasMade z (right_side (s z agrees os) e made).made → Done z agrees l k ((right_side (s z agrees os) e made).code ++ drop_result (right_side (s z agrees os) e made).source)
+  alone_known : (k : source.Known) (l : Known) (e : ExprTree) (made : List Ty) → Covers z k l → fits z e ≡ true → inside z.context (Some k) e ≡ [] → HasMade z (right_side (s z agrees os) e made).made → Done z agrees l k ((right_side (s z agrees os) e made).code ++ drop_result (right_side (s z agrees os) e made).source)
   alone_known k l e made c f i m =
       let d = right_side (s z agrees os) e made in
       let h = right_known z agrees os e f k l made c i m in
       let rest = dropped_known k h.now d.source h.covers h.enters in
       record { now = rest.now; runs = runs_join z l h.now rest.now d.code _ h.runs rest.runs; covers = rest.covers }
 
-  print_known : (k : source.Known) (l : Known) (p : Place) (e : Option ExprTree) (line : Bool) (made : List Ty) → Covers z k l → may_fit z e ≡ true → inside_if z.site (Some k) e ≡ [] → HasMade z (print (s z agrees os) p e line made).made → Done z agrees l k (print (s z agrees os) p e line made).code
+  print_known : (k : source.Known) (l : Known) (p : Place) (e : Option ExprTree) (line : Bool) (made : List Ty) → Covers z k l → may_fit z e ≡ true → inside_if z.context (Some k) e ≡ [] → HasMade z (print (s z agrees os) p e line made).made → Done z agrees l k (print (s z agrees os) p e line made).code
   print_known k l p None line made c f i m = record { now = l; runs = runs_one z l l (PrintStmt p None line) refl refl; covers = c }
   print_known k l p (Some e) line made c f i m =
       let v = value_known z agrees os e f k l made c i m in
@@ -142,11 +142,11 @@ module _ (z : Frame) (agrees : Agrees z) (builds : Builds z) (os : List Opened) 
       by false true = record { now = _; runs = runs_one z l _ (ReadyStmt p) refl refl; covers = record { facts = c.facts; mine = c.mine; fields = λ f o i. refl; free = λ i f. refl } }
 
   -- a field that counts as assigned behind `base(..)`
-  based_has : {P : Type 0} (k : source.Known) (f : ℕ) → (has_field z.site.numbers k.fields f ≡ true → P) → (is_among z.site.numbers f ≡ false → P) → has_field z.site.numbers (based k).fields f ≡ true → P
-  based_has {P = P} k f old new h = by (is_among z.site.numbers f) refl h
+  based_has : {P : Type 0} (k : source.Known) (f : ℕ) → (has_field z.context.numbers k.fields f ≡ true → P) → (is_among z.context.numbers f ≡ false → P) → has_field z.context.numbers (based k).fields f ≡ true → P
+  based_has {P = P} k f old new h = by (is_among z.context.numbers f) refl h
     where
-      by : (b : Bool) → is_among z.site.numbers f ≡ b → (if b then k.fields.own (f - z.site.numbers.first) else true) ≡ true → P
-      by true i h = old (ap (λ b. if b then k.fields.own (f - z.site.numbers.first) else k.fields.above) i ∙ h)
+      by : (b : Bool) → is_among z.context.numbers f ≡ b → (if b then k.fields.own (f - z.context.numbers.first) else true) ≡ true → P
+      by true i h = old (ap (λ b. if b then k.fields.own (f - z.context.numbers.first) else k.fields.above) i ∙ h)
       by false i h = new i
 
   top_known : (k : source.Known) (l : Known) → Covers z k l → (above_of z.typed z.written.class == 0) ≡ true → Covers z (based k) l
@@ -164,7 +164,7 @@ module _ (z : Frame) (agrees : Agrees z) (builds : Builds z) (os : List Opened) 
     };
   }
 
-  pub base_known : (k : source.Known) (l : Known) (p : Place) (es : Arguments) (made : List Ty) → Covers z k l → base_fits z es ≡ true → handed_to_base z.site (Some k) es ≡ [] → HasMade z (base_of (s z agrees os) p es (above_of z.typed z.written.class) made).made →
+  pub base_known : (k : source.Known) (l : Known) (p : Place) (es : Arguments) (made : List Ty) → Covers z k l → base_fits z es ≡ true → handed_to_base z.context (Some k) es ≡ [] → HasMade z (base_of (s z agrees os) p es (above_of z.typed z.written.class) made).made →
       Done z agrees l (based k) (base_of (s z agrees os) p es (above_of z.typed z.written.class) made).code
   base_known k l p es made c f i m = by (t == 0) refl f m
     where
@@ -175,7 +175,7 @@ module _ (z : Frame) (agrees : Agrees z) (builds : Builds z) (os : List Opened) 
       n = number_of z.typed (Constructor t)
 
       ts : List Ty
-      ts = constructor_parameters z.site.program (chain.above z.site.program.classes z.site.class)
+      ts = constructor_parameters z.context.program (chain.above z.context.program.classes z.context.class)
 
       d : Listed
       d = arguments_of (s z agrees os) (param_types_in (constructor_of z.typed t)) es made
@@ -194,33 +194,33 @@ module _ (z : Frame) (agrees : Agrees z) (builds : Builds z) (os : List Opened) 
   -- ---- simple statements
 
   counts : (k : source.Known) (o : Operator) (l e : ExprTree) (c : Known) (made : List Ty) → Covers z k c → ((a : ExprTree) → source.known_right o a k ≡ k) → (target_fits z l && fits z l && fits z e && is_some (type_of e) && (is_number z l && not (is_null e))) ≡ true →
-      (inside z.site (Some k) l ++ inside z.site (Some k) e ++ wanted_if z.site (Some k) e (type_of l)) ≡ [] → HasMade z (update (s z agrees os) o l e made).made → Done z agrees c k (update (s z agrees os) o l e made).code
+      (inside z.context (Some k) l ++ inside z.context (Some k) e ++ wanted_if z.context (Some k) e (type_of l)) ≡ [] → HasMade z (update (s z agrees os) o l e made).made → Done z agrees c k (update (s z agrees os) o l e made).code
   counts k o l e c made h n f i m =
       let one = and_parts (target_fits z l && fits z l && fits z e && is_some (type_of e)) (is_number z l && not (is_null e)) f in
       let two = and_parts (target_fits z l && fits z l && fits z e) (is_some (type_of e)) one.0 in
       let three = and_parts (target_fits z l && fits z l) (fits z e) two.0 in
       let four = and_parts (target_fits z l) (fits z l) three.0 in
       let kind = and_parts (is_number z l) (not (is_null e)) one.1 in
-      let clean = none_left (inside z.site (Some k) l ++ inside z.site (Some k) e) (wanted_if z.site (Some k) e (type_of l)) i in
-      let parts = none_left (inside z.site (Some k) l) (inside z.site (Some k) e) clean.0 in
+      let clean = none_left (inside z.context (Some k) l ++ inside z.context (Some k) e) (wanted_if z.context (Some k) e (type_of l)) i in
+      let parts = none_left (inside z.context (Some k) l) (inside z.context (Some k) e) clean.0 in
       update_known z agrees os k c h o (record { right = n }) l e made (record { target = four.0; left = four.1; right = three.1; number = kind.0; other = not_true (is_null e) kind.1; clean_left = parts.0; clean = parts.1 }) m
 
-  sets : (k : source.Known) (l e : ExprTree) (c : Known) (made : List Ty) → Covers z k c → simple_fits z (AssignOf l operator.Set e) ≡ true → done_faults z.site (AssignOf l operator.Set e) (Some k) ≡ [] → HasMade z (assignment (s z agrees os) l operator.Set e made).made →
+  sets : (k : source.Known) (l e : ExprTree) (c : Known) (made : List Ty) → Covers z k c → simple_fits z (AssignOf l operator.Set e) ≡ true → done_faults z.context (AssignOf l operator.Set e) (Some k) ≡ [] → HasMade z (assignment (s z agrees os) l operator.Set e made).made →
       Done z agrees c (assigned z agrees os l e k) (assignment (s z agrees os) l operator.Set e made).code
   sets k l e c made h f i m =
       let one = and_parts (target_fits z l && fits z l && fits z e && is_some (type_of e)) (assigned_fits z l operator.Set e) f in
       let two = and_parts (target_fits z l && fits z l && fits z e) (is_some (type_of e)) one.0 in
       let three = and_parts (target_fits z l && fits z l) (fits z e) two.0 in
       let four = and_parts (target_fits z l) (fits z l) three.0 in
-      let clean = none_left (inside z.site (Some k) l ++ inside z.site (Some k) e) (wanted_if z.site (Some k) e (type_of l)) i in
-      let parts = none_left (inside z.site (Some k) l) (inside z.site (Some k) e) clean.0 in
+      let clean = none_left (inside z.context (Some k) l ++ inside z.context (Some k) e) (wanted_if z.context (Some k) e (type_of l)) i in
+      let parts = none_left (inside z.context (Some k) l) (inside z.context (Some k) e) clean.0 in
       assign_known z agrees os k c h l e made (record { target = four.0; left = four.1; right = three.1; some = two.1; kind = one.1; clean_left = parts.0; clean = parts.1; wants = clean.1 }) m
 
   stepped : (k : source.Known) (o : StepOperator) (a : ExprTree) → source.known_right (step_operator o) a k ≡ k
   stepped k step.Up a = refl
   stepped k step.Down a = refl
 
-  pub simple_known : (x : SimpleTree) (k : source.Known) (l : Known) (made : List Ty) → Covers z k l → simple_fits z x ≡ true → done_faults z.site x (Some k) ≡ [] → HasMade z (simple (s z agrees os) x made).made → Done z agrees l (source.known_done z.site x k) (simple (s z agrees os) x made).code
+  pub simple_known : (x : SimpleTree) (k : source.Known) (l : Known) (made : List Ty) → Covers z k l → simple_fits z x ≡ true → done_faults z.context x (Some k) ≡ [] → HasMade z (simple (s z agrees os) x made).made → Done z agrees l (source.known_done z.context x k) (simple (s z agrees os) x made).code
   simple_known (AssignOf target operator.Set e) k l made c f i m = sets k target e l made c f i m
   simple_known (AssignOf target operator.Add e) k l made c f i m = counts k op.Add target e l made c (λ a. refl) f i m
   simple_known (AssignOf target operator.Subtract e) k l made c f i m = counts k op.Subtract target e l made c (λ a. refl) f i m

@@ -21,7 +21,7 @@ use Rattle.ss_typed.specs.Shapes.{is_this, place_of}
 use Rattle.ss_expand_rules.specs.Program.{field_at, above_of}
 use Rattle.ss_typed.specs.Lookups.{constructor_of, param_types_in}
 use Rattle.ss_expand_rules.specs.Code.{Coded, nothing, then_code}
-use Rattle.ss_expand_rules.specs.Lifting.{Opened, Setting, Source, Pure, Created, CreatedArray, Called, put, Lifted, Valued, Listed, unlifted, next, temporary_type, any_object, valued_from, lifted, in_temporaries, right_side, value, arguments_of}
+use Rattle.ss_expand_rules.specs.Lifting.{Opened, ElaborationContext, Source, Pure, Created, CreatedArray, Called, put, Lifted, Valued, Listed, unlifted, next, temporary_type, any_object, valued_from, lifted, in_temporaries, right_side, value, arguments_of}
 use Rattle.ss_expand_rules.specs.Simple.{write_of, write, assign_settled, Settled, settle_lifted, settle_part, settle, assign_behind, assign, update, assignment, step_operator, declared_as, declare, drop_result, print, has_delayed_constructor, ready_behind, base_with, base_of, simple}
 use Rattle.ss_expand_rules.specs.Ends.{can_end, block_can_end}
 use Rattle.ss_expand_rules.specs.Statements.{loop_while, begin, advance, pack_of, packs, leave_with, kept_result, leave_value, leave, exposed_class, within, close, opened, expose_lifted, stmt, block, stmts}
@@ -48,7 +48,7 @@ module _ (y : ℕ) where
 
   -- ---- expressions
 
-  module _ (s : Setting) (low : y < s.numbers.first_temporary) where
+  module _ (s : ElaborationContext) (low : y < s.numbers.first_temporary) where
     next_other : (made : List Ty) → (next s.numbers made == y) ≡ false
     next_other made = ne_eqb (next s.numbers made) y (λ e. omega arith)
 
@@ -230,7 +230,7 @@ module _ (y : ℕ) where
     close_spares o false inside h = h
     close_spares o true inside h = join inside.code _ h refl
 
-    expose_spares : (p : Place) (e : ExprTree) (t : ℕ) (ends : Bool) (inner : Setting → List Ty → Coded) (l : Lifted) → Spares l.code → ((o : Opened) (made : List Ty) → Spares (inner (within s o) made).code) → Spares (expose_lifted s p e t ends inner l).code
+    expose_spares : (p : Place) (e : ExprTree) (t : ℕ) (ends : Bool) (inner : ElaborationContext → List Ty → Coded) (l : Lifted) → Spares l.code → ((o : Opened) (made : List Ty) → Spares (inner (within s o) made).code) → Spares (expose_lifted s p e t ends inner l).code
     expose_spares p e t ends inner l h g =
         let n = next s.numbers l.made in
         let o = opened p n t in
@@ -242,7 +242,7 @@ module _ (y : ℕ) where
     then_spares c b f h g = join c.code _ h (on_either (λ (f : List Ty → Coded). Spares (f c.made).code) b f nothing (g c.made) refl)
 
   mutual
-    pub stmt_spares : (s : Setting) (low : y < s.numbers.first_temporary) (x : StmtTree) (made : List Ty) → stmt_passes (means_other s low) (other s low) x ≡ true → Spares (stmt s x made).code
+    pub stmt_spares : (s : ElaborationContext) (low : y < s.numbers.first_temporary) (x : StmtTree) (made : List Ty) → stmt_passes (means_other s low) (other s low) x ≡ true → Spares (stmt s x made).code
     stmt_spares s low (InBlock b) made h = block_spares s low b made h
     stmt_spares s low (DeclareOf ds) made h = declare_spares s low ds made h
     stmt_spares s low (SimpleOf x) made h = simple_spares s low x made h
@@ -264,10 +264,10 @@ module _ (y : ℕ) where
     stmt_spares s low (ExposeOf p e t b) made h = expose_spares s low p e (exposed_class e t) (block_can_end b) (λ z m. block z b m) (right_side s e made) (right_spares s low e made) (λ o m. block_spares (within s o) low b m h)
     stmt_spares s low (EmptyOf p) made h = refl
 
-    block_spares : (s : Setting) (low : y < s.numbers.first_temporary) (b : BlockTree) (made : List Ty) → block_passes (means_other s low) (other s low) b ≡ true → Spares (block s b made).code
+    block_spares : (s : ElaborationContext) (low : y < s.numbers.first_temporary) (b : BlockTree) (made : List Ty) → block_passes (means_other s low) (other s low) b ≡ true → Spares (block s b made).code
     block_spares s low (BlockOf p ss end) made h = stmts_spare s low ss made h
 
-    stmts_spare : (s : Setting) (low : y < s.numbers.first_temporary) (ss : StmtTrees) (made : List Ty) → all_pass (means_other s low) (other s low) ss ≡ true → Spares (stmts s ss made).code
+    stmts_spare : (s : ElaborationContext) (low : y < s.numbers.first_temporary) (ss : StmtTrees) (made : List Ty) → all_pass (means_other s low) (other s low) ss ≡ true → Spares (stmts s ss made).code
     stmts_spare s low typed.NoMore made h = refl
     stmts_spare s low (Before x xs) made h =
         let both = and_parts (stmt_passes (means_other s low) (other s low) x) (all_pass (means_other s low) (other s low) xs) h in

@@ -4,7 +4,7 @@ use Rattle.ss_core.specs.Tree as core
 use Rattle.ss_typed.specs.Tree.{ParamTree, BodyTree, TypedTree}
 use Rattle.ss_paths.specs.Sets.{none}
 use Rattle.ss_nonnull_rules.specs.NonNull as source
-use Rattle.ss_nonnull_rules.specs.Program.{site_of}
+use Rattle.ss_nonnull_rules.specs.Program.{null_context_of}
 use Rattle.ss_expand_rules.specs.Contracts.{first_param}
 use Rattle.ss_expand_rules.specs.Bodies.{first_copy, numbers, temporary_count, written_body}
 use Rattle.ss_store_rules.specs.Locals.{types_of, local_types}
@@ -20,7 +20,7 @@ abbrev pub body_frame : core.CoreTree → TypedTree → BodyTree → List BodyTr
 body_frame c p b bs fields free = record {
   program = c;
   body = written_body p b bs;
-  site = site_of p b;
+  context = null_context_of p b;
   typed = p;
   written = b;
   numbers = numbers b (temporary_count p b);

@@ -20,7 +20,7 @@ use Rattle.ss_expand_rules.specs.Program.{above_of, field_at, Constructor, numbe
 use Rattle.ss_expand_rules.specs.Numbers.{Numbers, number, plain}
 use Rattle.ss_expand_rules.specs.Contracts.{is_reference}
 use Rattle.ss_expand_rules.specs.Statements.{result_type}
-use Rattle.ss_expand_rules.specs.Lifting.{Opened, Setting, static_class, base_number}
+use Rattle.ss_expand_rules.specs.Lifting.{Opened, ElaborationContext, static_class, base_number}
 use Rattle.ss_store_rules.specs.Changes.{field_type}
 use Rattle.ss_store_rules.specs.Good.{is_non_null}
 use Rattle.ss_store_rules.specs.Locals.{types_of, local_types}
@@ -32,7 +32,7 @@ use Rattle.ss_store_rules.specs.NonNull.{Known, is_non_null_type, is_this_object
 pub record Frame : Type 0 where
   pub program : core.CoreTree
   pub body : core.BodyTree
-  pub site : source.Site
+  pub context : source.NullContext
   pub typed : TypedTree
   pub written : BodyTree
   pub numbers : Numbers
@@ -43,8 +43,8 @@ pub record Frame : Type 0 where
   pub free : Bool
 
 -- within these exposes
-abbrev pub setting : Frame → List Opened → Setting
-setting z os = record { program = z.typed; body = z.written; numbers = z.numbers; exposes = os }
+abbrev pub elaboration_context : Frame → List Opened → ElaborationContext
+elaboration_context z os = record { program = z.typed; body = z.written; numbers = z.numbers; exposes = os }
 
 abbrev pub implied : Bool → Bool → Bool
 implied a b = not a || b
@@ -93,17 +93,17 @@ abbrev mutual
   fits z (FieldOf p e f t) = implied (fields.is_non_null t) (is_non_null (field_type z.program.classes f)) && (reads_set z e f && fits z e)
   fits z (ElementOf p a i) = fits z a && fits z i
   fits z (LengthOf p e) = fits z e
-  fits z (NewOf p t es) = enters_with (constructor_of z.program t) (constructor_parameters z.site.program t) && all_fit z es
+  fits z (NewOf p t es) = enters_with (constructor_of z.program t) (constructor_parameters z.context.program t) && all_fit z es
   fits z (NewArrayOf p t e) = fits z e
   fits z (CallOf p e m t es) =
-      enters_with (callee_of z.program z.body (core.Dispatched (core.NullExpr p) (static_class e) m)) (parameters z.site.program (method_of z.site.program (class_of (type_of e)) m))
+      enters_with (callee_of z.program z.body (core.Dispatched (core.NullExpr p) (static_class e) m)) (parameters z.context.program (method_of z.context.program (class_of (type_of e)) m))
       && (gives t (callee_of z.program z.body (core.Dispatched (core.NullExpr p) (static_class e) m)) && (fits z e && all_fit z es))
   fits z (StaticOf p n t es) =
-      enters_with (callee_of z.program z.body (core.Static (number_of_written z.typed n))) (parameters z.site.program (Some n))
+      enters_with (callee_of z.program z.body (core.Static (number_of_written z.typed n))) (parameters z.context.program (Some n))
       && (gives t (callee_of z.program z.body (core.Static (number_of_written z.typed n))) && all_fit z es)
   fits z (BaseOf p m t es) =
-      enters_with (callee_of z.program z.body (core.Base (base_number (setting z []) m))) (parameters z.site.program (body_in_table z.site.program (above z.site.program.classes z.site.class) m))
-      && (gives t (callee_of z.program z.body (core.Base (base_number (setting z []) m))) && all_fit z es)
+      enters_with (callee_of z.program z.body (core.Base (base_number (elaboration_context z []) m))) (parameters z.context.program (body_in_table z.context.program (above z.context.program.classes z.context.class) m))
+      && (gives t (callee_of z.program z.body (core.Base (base_number (elaboration_context z []) m))) && all_fit z es)
   fits z e = true
 
   -- each of them is a value
@@ -113,8 +113,8 @@ abbrev mutual
 
 -- how the body, its elaboration and the phase agree
 pub record Agrees (z : Frame) : Type 0 where
-  pub constructs : z.site.constructs ≡ z.body.flags.ctor
-  pub now : z.site.in_old ≡ false
+  pub constructs : z.context.constructs ≡ z.body.flags.ctor
+  pub now : z.context.in_old ≡ false
   pub known : (x : ℕ) → z.mine x ≡ true → z.locals x ≡ true
   -- its locals stand before the temporaries, each under a number of its own
   pub within : (x : ℕ) → z.locals x ≡ true → x < z.numbers.first_temporary
@@ -128,15 +128,15 @@ pub record Agrees (z : Frame) : Type 0 where
 pub record Builds (z : Frame) : Type 0 where
   pub delayed : z.written.flags.delayed ≡ z.body.flags.delayed
   -- a field of its object that its class doesn't declare is of a class above
-  pub above : (f : ℕ) → z.fields f ≡ true → is_among z.site.numbers f ≡ false → (above_of z.typed z.written.class == 0) ≡ false
-  pub inherited : (f : ℕ) → z.fields f ≡ true → is_among z.site.numbers f ≡ false → is_field_above z.program z.body f ≡ true
+  pub above : (f : ℕ) → z.fields f ≡ true → is_among z.context.numbers f ≡ false → (above_of z.typed z.written.class == 0) ≡ false
+  pub inherited : (f : ℕ) → z.fields f ≡ true → is_among z.context.numbers f ≡ false → is_field_above z.program z.body f ≡ true
 
 -- the elaboration knows what the phase knows
 pub record Covers (z : Frame) (k : source.Known) (l : Known) : Type 0 where
   pub facts : (x : ℕ) → k.facts x ≡ true → l.facts (number z.numbers x) ≡ true
   -- the phase knows of locals of the body alone
   pub mine : (x : ℕ) → k.facts x ≡ true → z.mine x ≡ true
-  pub fields : (f : ℕ) → z.fields f ≡ true → has_field z.site.numbers k.fields f ≡ true → l.fields f ≡ true
+  pub fields : (f : ℕ) → z.fields f ≡ true → has_field z.context.numbers k.fields f ≡ true → l.fields f ≡ true
   pub free : z.free ≡ true → (f : ℕ) → l.fields f ≡ true
 
 -- these temporaries have these types
@@ -177,7 +177,7 @@ may_fit z (Some e) = fits z e
 abbrev pub base_fits : Frame → Arguments → Bool
 base_fits z es =
     above_of z.typed z.written.class == 0
-    || enters_with (callee_of z.program z.body (core.BaseConstructor (number_of z.typed (Constructor (above_of z.typed z.written.class))))) (constructor_parameters z.site.program (above z.site.program.classes z.site.class)) && all_fit z es
+    || enters_with (callee_of z.program z.body (core.BaseConstructor (number_of z.typed (Constructor (above_of z.typed z.written.class))))) (constructor_parameters z.context.program (above z.context.program.classes z.context.class)) && all_fit z es
 
 abbrev pub simple_fits : Frame → SimpleTree → Bool
 simple_fits z (AssignOf l o e) = target_fits z l && fits z l && fits z e && is_some (type_of e) && assigned_fits z l o e
@@ -209,7 +209,7 @@ advance_fits z (Some x) = simple_fits z x
 
 abbrev pub returned_fits : Frame → Option ExprTree → Bool
 returned_fits z None = true
-returned_fits z (Some e) = fits z e && is_some (type_of e) && implied (is_non_null_type z.body.result) (source.is_non_null_type z.site.result) && implied (is_non_null (result_type z.written.result)) (source.is_non_null_type z.site.result)
+returned_fits z (Some e) = fits z e && is_some (type_of e) && implied (is_non_null_type z.body.result) (source.is_non_null_type z.context.result) && implied (is_non_null (result_type z.written.result)) (source.is_non_null_type z.context.result)
 
 abbrev mutual
   pub stmt_fits : Frame → StmtTree → Bool

@@ -16,7 +16,7 @@ use Rattle.ss_nonnull_rules.specs.NonNull as source
 use Rattle.ss_nonnull_rules.specs.Faults.{null_check}
 use Rattle.ss_nonnull_rules.specs.Overrides.{override_faults}
 use Rattle.ss_nonnull_rules.specs.Program as nulls
-use Rattle.ss_nonnull_rules.specs.Program.{site_of, only_fields, base_faults, null_faults}
+use Rattle.ss_nonnull_rules.specs.Program.{null_context_of, only_fields, base_faults, null_faults}
 use Rattle.ss_delayed_rules.specs.Opening.{opening}
 use Rattle.ss_delayed_rules.specs.Program as delayed
 use Rattle.ss_delayed_rules.specs.Program.{construction_faults}
@@ -108,7 +108,7 @@ module _ (p : ProgramTree) (faultless : program_faults p ≡ []) (types : type_f
 
     is_constructor : (n : ℕ) (b : BodyTree) → body_at q n ≡ Some b → b.flags.ctor ≡ true → (o : OfClass p b) → IsConstructor p o.place o.tree b
     is_constructor n b at ctor o =
-        let block = faults_in (source.known_flow (site_of q b)) (null_check (site_of q b)) b.block (only_fields (assigned_first q b)) in
+        let block = faults_in (source.known_flow (null_context_of q b)) (null_check (null_context_of q b)) b.block (only_fields (assigned_first q b)) in
         let both = none_left (override_faults q b ++ base_faults q b b.base) block (found.body_at q q.bodies n b pure_bodies at) in
         record {
           there = o.there;

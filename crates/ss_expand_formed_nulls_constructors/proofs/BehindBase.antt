@@ -12,7 +12,7 @@ use Rattle.ss_nonnull_rules.specs.NonNull as source
 use Rattle.ss_nonnull_rules.specs.Faults.{handed_to_base}
 use Rattle.ss_expand_rules.specs.Program.{above_of, Constructor, number_of}
 use Rattle.ss_typed.specs.Lookups.{constructor_of, param_types_in}
-use Rattle.ss_expand_rules.specs.Lifting.{Setting, arguments_of}
+use Rattle.ss_expand_rules.specs.Lifting.{ElaborationContext, arguments_of}
 use Rattle.ss_expand_rules.specs.Code.{Coded}
 use Rattle.ss_expand_rules.specs.Simple.{has_delayed_constructor, ready_behind, base_with, base_of}
 use Rattle.ss_expand_rules.specs.Statements.{stmts}
@@ -22,7 +22,7 @@ use Rattle.ss_expand_formed_locals.proofs.Shape.{Code}
 use Rattle.ss_expand_formed_locals.proofs.Along.{at_end-append}
 use Rattle.ss_expand_formed_construction.proofs.Choices.{where_chosen}
 use Rattle.ss_expand_formed_known.proofs.Kept.{fields_kept}
-use Rattle.ss_expand_formed_nulls.specs.Fitting.{Frame, setting, base_fits, Agrees, Builds, Covers}
+use Rattle.ss_expand_formed_nulls.specs.Fitting.{Frame, elaboration_context, base_fits, Agrees, Builds, Covers}
 use Rattle.ss_expand_formed_nulls.specs.Bodies.{body_frame, method_frame}
 use Rattle.ss_expand_formed_nulls.proofs.Growth.{stmts_begin}
 use Rattle.ss_expand_formed_nulls.proofs.Putting.{flow}
@@ -54,7 +54,7 @@ module _ (z : Frame) where
     called p n vs (Some l) f = or_left _ _ (or_right (l.fields f) _ (ap not early))
 
     -- `object` has nothing to call, but then `this` is made ready
-    base_gives_all : (s : Setting) → s.body.flags.delayed ≡ false → has_delayed_constructor s.program 0 ≡ true → (p : Place) (es : Arguments) (t : ℕ) (made : List Ty) (l : Option Known) → Behind (base_of s p es t made).code l
+    base_gives_all : (s : ElaborationContext) → s.body.flags.delayed ≡ false → has_delayed_constructor s.program 0 ≡ true → (p : Place) (es : Arguments) (t : ℕ) (made : List Ty) (l : Option Known) → Behind (base_of s p es t made).code l
     base_gives_all s same object p es t made l =
         let given = arguments_of s (param_types_in (constructor_of s.program t)) es made in
         let call = CallStmt p None (BaseConstructor (number_of s.program (Constructor t))) given.values in
@@ -74,9 +74,9 @@ module _ (c : core.CoreTree) (p : TypedTree) (b : BodyTree) (bs : List BodyTree)
   abbrev w : Frame
   w = method_frame c p b bs
 
-  pub behind_base : Agrees z → Builds z → (k m : source.Known) (q : Place) (es : Arguments) (more : StmtTrees) → base_fits z es ≡ true → handed_to_base z.site (Some k) es ≡ [] → ((x : ℕ) → m.facts x ≡ true → k.facts x ≡ true) → HoldFrom w m more → HoldFrom z k (Before (SimpleOf (BaseCallOf q es)) more)
+  pub behind_base : Agrees z → Builds z → (k m : source.Known) (q : Place) (es : Arguments) (more : StmtTrees) → base_fits z es ≡ true → handed_to_base z.context (Some k) es ≡ [] → ((x : ℕ) → m.facts x ≡ true → k.facts x ≡ true) → HoldFrom w m more → HoldFrom z k (Before (SimpleOf (BaseCallOf q es)) more)
   behind_base agrees builds k m q es more fit clean less rest made l known has =
-      let s = setting z [] in
+      let s = elaboration_context z [] in
       let one = base_of s q es (above_of p b.class) made in
       let first = base_known z agrees builds [] k l q es made known fit clean (made_before z agrees one.made (stmts s more one.made).made (stmts_begin s more one.made) has) in
       let all : (f : ℕ) → first.now.fields f ≡ true = λ f. subst (λ o. where_reached (λ (n : Known). n.fields f) o ≡ true) first.runs.at (base_gives_all z early s early object q es (above_of p b.class) made (Some l) f) in

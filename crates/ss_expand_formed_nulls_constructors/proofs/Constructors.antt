@@ -17,7 +17,7 @@ use Rattle.ss_nonnull_rules.specs.NonNull as source
 use Rattle.ss_nonnull_rules.specs.Faults as faults
 use Rattle.ss_nonnull_rules.specs.Faults.{handed_to_base, null_check}
 use Rattle.ss_nonnull_rules.specs.Program as nulls
-use Rattle.ss_nonnull_rules.specs.Program.{site_of, initializer_site, only_fields, base_faults}
+use Rattle.ss_nonnull_rules.specs.Program.{null_context_of, initializer_context, only_fields, base_faults}
 use Rattle.ss_delayed_rules.specs.Escapes.{NotAtAll}
 use Rattle.ss_delayed_rules.specs.Opening.{first_run, before_base, opening_of, opening, base_in, written_base}
 use Rattle.ss_delayed_rules.specs.Constructors.{arguments_of}
@@ -59,10 +59,10 @@ pub record IsConstructor (p : ProgramTree) (k : ℕ) (c : ClassTree) (b : BodyTr
   -- no fault of null
   pub begins : nulls.initializers_from (resolved p) (4 + 2 * k) 0 (members p.classes k c).fields (own_fields (resolved p) (4 + 2 * k)) ≡ []
   pub base : base_faults (resolved p) b b.base ≡ []
-  pub block : phase.faults_in (source.known_flow (site_of (resolved p) b)) (null_check (site_of (resolved p) b)) b.block (only_fields (assigned_first (resolved p) b)) ≡ []
+  pub block : phase.faults_in (source.known_flow (null_context_of (resolved p) b)) (null_check (null_context_of (resolved p) b)) b.block (only_fields (assigned_first (resolved p) b)) ≡ []
 
-abbrev site_with : TypedTree → ℕ → Bool → Option Ty → source.Site
-site_with q t constructs result = record { program = q; class = t; numbers = field_numbers q t; constructs = constructs; in_old = false; result = result }
+abbrev null_context_with : TypedTree → ℕ → Bool → Option Ty → source.NullContext
+null_context_with q t constructs result = record { program = q; class = t; numbers = field_numbers q t; constructs = constructs; in_old = false; result = result }
 
 module _ (c : core.CoreTree) (p : ProgramTree) (k : ℕ) (tree : ClassTree) (b : BodyTree) (is : IsConstructor p k tree b) (bs : List BodyTree) where
   abbrev q : TypedTree
@@ -85,10 +85,10 @@ module _ (c : core.CoreTree) (p : ProgramTree) (k : ℕ) (tree : ClassTree) (b :
   statements_are = parts_of q b is.ctor is.result
 
   -- the block and its return have no fault
-  block_pure : phase.faults_along (source.known_flow (site_of q b)) (null_check (site_of q b)) (before_all ss last) (Some first) ≡ []
+  block_pure : phase.faults_along (source.known_flow (null_context_of q b)) (null_check (null_context_of q b)) (before_all ss last) (Some first) ≡ []
   block_pure =
-      let F = source.known_flow (site_of q b) in
-      let K = null_check (site_of q b) in
+      let F = source.known_flow (null_context_of q b) in
+      let K = null_check (null_context_of q b) in
       faults_before_return F K (λ m. refl) (closing_brace b.block) ss (Some first) (faults_of_block F K (λ m. refl) b.block (Some first) is.block)
 
   behind_this : b.flags.ctor ≡ true → 0 < behind_copies b 0
@@ -107,7 +107,7 @@ module _ (c : core.CoreTree) (p : ProgramTree) (k : ℕ) (tree : ClassTree) (b :
       whole : free ≡ false → all_fitting z (initializers q b.class) ≡ true → HoldFrom z initialized (before_all (with_base q b b.base ss) last) → keeps_nulls_out c (written_body q b bs) ≡ true
       whole bound fit rest =
           let t = 4 + 2 * k in
-          let site : site_of q b ≡ initializer_site q t = ap (λ u. site_with q u b.flags.ctor b.result) is.class ∙ ap (λ v. site_with q t v b.result) is.ctor ∙ ap (λ r. site_with q t true r) is.result in
+          let context : null_context_of q b ≡ initializer_context q t = ap (λ u. null_context_with q u b.flags.ctor b.result) is.class ∙ ap (λ v. null_context_with q t v b.result) is.ctor ∙ ap (λ r. null_context_with q t true r) is.result in
           let covers : Covers z nothing_known (known_at_entry (written_body q b bs)) = record {
             facts = λ x h. not_none x h;
             mine = λ x h. not_none x h;
@@ -116,7 +116,7 @@ module _ (c : core.CoreTree) (p : ProgramTree) (k : ℕ) (tree : ClassTree) (b :
           } in
           let more = before_all (with_base q b b.base ss) last in
           let inner : HoldFrom z nothing_known (before_all (initializers q t) more) =
-          behind_initializers p k tree is.there z agree builds site is.begins (subst (λ u. all_fitting z (initializers q u) ≡ true) is.class fit) more (subst (λ u. HoldFrom z (record { facts = none; fields = assigned_by_initializers q u }) more) is.class rest) in
+          behind_initializers p k tree is.there z agree builds context is.begins (subst (λ u. all_fitting z (initializers q u) ≡ true) is.class fit) more (subst (λ u. HoldFrom z (record { facts = none; fields = assigned_by_initializers q u }) more) is.class rest) in
           let all : HoldFrom z nothing_known (bodies.statements q b) = subst (HoldFrom z nothing_known) (sym statements_are) (subst (λ u. HoldFrom z nothing_known (before_all (initializers q u) more)) (sym is.class) inner) in
           body_from c q b bs fields free builds behind_this nothing_known (λ x h. not_none x h) covers (λ l known made. all [] l known made)
 
@@ -127,10 +127,10 @@ module _ (c : core.CoreTree) (p : ProgramTree) (k : ℕ) (tree : ClassTree) (b :
     v = z fields false
 
     -- behind `base(..)`, and behind what is read of the block
-    based_less : (place : Place) (es : Arguments) → Less v first (source.known_done v.site (BaseCallOf place es) initialized)
-    based_less place es = record { facts = λ x i. i; fields = λ f o h. own_less v.site.numbers f first.fields (source.known_done v.site (BaseCallOf place es) initialized).fields (λ i h. h) (λ h. refl) h }
+    based_less : (place : Place) (es : Arguments) → Less v first (source.known_done v.context (BaseCallOf place es) initialized)
+    based_less place es = record { facts = λ x i. i; fields = λ f o h. own_less v.context.numbers f first.fields (source.known_done v.context (BaseCallOf place es) initialized).fields (λ i h. h) (λ h. refl) h }
 
-    late_called : (place : Place) (es : Arguments) → handed_to_base v.site (Some initialized) es ≡ [] → all_fitting v (Before (SimpleOf (BaseCallOf place es)) (before_all ss last)) ≡ true → HoldFrom v initialized (Before (SimpleOf (BaseCallOf place es)) (before_all ss last))
+    late_called : (place : Place) (es : Arguments) → handed_to_base v.context (Some initialized) es ≡ [] → all_fitting v (Before (SimpleOf (BaseCallOf place es)) (before_all ss last)) ≡ true → HoldFrom v initialized (Before (SimpleOf (BaseCallOf place es)) (before_all ss last))
     late_called place es clean g =
         let both = and_parts (base_fits v es) (all_fitting v (before_all ss last)) g in
         behind_simple v (agree fields false builds) builds initialized first (BaseCallOf place es) (before_all ss last) both.0 clean (based_less place es) (all_hold v (agree fields false builds) builds first (before_all ss last) both.1 block_pure)
@@ -142,7 +142,7 @@ module _ (c : core.CoreTree) (p : ProgramTree) (k : ℕ) (tree : ClassTree) (b :
         (λ yes.
         let is_block : with_base q b None ss ≡ ss = ap (λ (w : Bool). if w then ss else if b.flags.delayed then Before (base_alone b) ss else behind_initial q b.class (base_alone b) ss) yes in
         let found : has_base ss ≡ true = yes in
-        let less : Less v first initialized = record { facts = λ x i. i; fields = λ f o h. own_less v.site.numbers f first.fields initialized.fields (λ i own. own) (λ above. absurd (false≢true (sym (ap not found) ∙ above))) h } in
+        let less : Less v first initialized = record { facts = λ x i. i; fields = λ f o h. own_less v.context.numbers f first.fields initialized.fields (λ i own. own) (λ above. absurd (false≢true (sym (ap not found) ∙ above))) h } in
         let mine = subst (λ xs. all_fitting v (before_all xs last) ≡ true) is_block g in
         subst (λ xs. HoldFrom v initialized (before_all xs last)) (sym is_block) (from_less v first initialized (before_all ss last) less (all_hold v (agree fields false builds) builds first (before_all ss last) mine block_pure)))
         (λ no.
@@ -198,8 +198,8 @@ module _ (c : core.CoreTree) (p : ProgramTree) (k : ℕ) (tree : ClassTree) (b :
     first_less = record { facts = λ x i. i; fields = λ f o h. among_less f first.fields initialized.fields o (λ i h. h) h }
 
     -- what stands behind `base(..)` is as in a method
-    called : (k m : source.Known) (place : Place) (es : Arguments) (more : StmtTrees) → AreFine NotAtAll es → handed_to_base before.site (Some k) es ≡ [] → ((x : ℕ) → m.facts x ≡ true → k.facts x ≡ true) →
-        phase.faults_along (source.known_flow before.site) (null_check before.site) more (Some m) ≡ [] → all_fitting behind (Before (SimpleOf (BaseCallOf place es)) more) ≡ true → HoldFrom before k (Before (SimpleOf (BaseCallOf place es)) more)
+    called : (k m : source.Known) (place : Place) (es : Arguments) (more : StmtTrees) → AreFine NotAtAll es → handed_to_base before.context (Some k) es ≡ [] → ((x : ℕ) → m.facts x ≡ true → k.facts x ≡ true) →
+        phase.faults_along (source.known_flow before.context) (null_check before.context) more (Some m) ≡ [] → all_fitting behind (Before (SimpleOf (BaseCallOf place es)) more) ≡ true → HoldFrom before k (Before (SimpleOf (BaseCallOf place es)) more)
     called k m place es more fine clean less pure g =
         let both = and_parts (base_fits behind es) (all_fitting behind more) g in
         behind_base c q b bs own early object (agree own false builds_before) builds_before k m place es more (base_before es fine both.0) clean less (all_hold behind (agree (λ f. false) true builds_behind) builds_behind m more both.1 pure)
@@ -214,12 +214,12 @@ module _ (c : core.CoreTree) (p : ProgramTree) (k : ℕ) (tree : ClassTree) (b :
         let seen = Before (SimpleOf x) rest in
         let parted : before_all ss last ≡ before_all front seen = ap (λ xs. before_all xs last) r.is ∙ before_all_assoc front (Before (SimpleOf x) r.rest) last in
         let parts = fitting_parts behind front seen (subst (λ xs. all_fitting behind xs ≡ true) parted g) in
-        let pure = subst (λ xs. phase.faults_along (source.known_flow (site_of q b)) (null_check (site_of q b)) xs (Some first) ≡ []) parted block_pure in
+        let pure = subst (λ xs. phase.faults_along (source.known_flow (null_context_of q b)) (null_check (null_context_of q b)) xs (Some first) ≡ []) parted block_pure in
         let given : AreFine NotAtAll r.given = subst (λ o. AreFine NotAtAll (arguments_of o)) r.base fine in
         let all : HoldFrom before first (before_all front seen) = behind_all before (agree own false builds_before) builds_before front seen seen first (initial_simple own front only) (initial_before front only parts.0) pure
         (λ m clean.
-        let next = source.known_done before.site x m in
-        let both = none_left (faults.done_faults before.site x (Some m)) (phase.faults_along (source.known_flow before.site) (null_check before.site) rest (Some next)) clean in
+        let next = source.known_done before.context x m in
+        let both = none_left (faults.done_faults before.context x (Some m)) (phase.faults_along (source.known_flow before.context) (null_check before.context) rest (Some next)) clean in
         called m next r.place r.given rest given both.0 (λ y i. i) both.1 parts.1) in
         from_less before first initialized (before_all ss last) first_less (subst (HoldFrom before first) (sym parted) all)
 
@@ -233,7 +233,7 @@ module _ (c : core.CoreTree) (p : ProgramTree) (k : ℕ) (tree : ClassTree) (b :
         let parted : before_all ss last ≡ before_all front seen = ap (λ xs. before_all xs last) r.is ∙ before_all_assoc front r.rest last in
         let whole_parted : before_all (behind_initial q b.class (base_alone b) ss) last ≡ before_all front more = ap (λ xs. before_all xs last) r.base ∙ before_all_assoc front (Before (base_alone b) r.rest) last in
         let parts = fitting_parts behind front more (subst (λ xs. all_fitting behind xs ≡ true) whole_parted g) in
-        let pure = subst (λ xs. phase.faults_along (source.known_flow (site_of q b)) (null_check (site_of q b)) xs (Some first) ≡ []) parted block_pure in
+        let pure = subst (λ xs. phase.faults_along (source.known_flow (null_context_of q b)) (null_check (null_context_of q b)) xs (Some first) ≡ []) parted block_pure in
         let all : HoldFrom before first (before_all front more) = behind_all before (agree own false builds_before) builds_before front seen more first (initial_simple own front only) (initial_before front only parts.0) pure
         (λ m clean. called m m b.place typed.Arguments.NoMore seen (record { unused = refl; locals = refl }) refl (λ y i. i) clean parts.1) in
         from_less before first initialized (before_all (behind_initial q b.class (base_alone b) ss) last) first_less (subst (HoldFrom before first) (sym whole_parted) all)

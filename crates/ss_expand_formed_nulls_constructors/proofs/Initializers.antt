@@ -16,7 +16,7 @@ use Rattle.ss_paths.specs.Assigned.{Assigned, has_field, starts_with_value, has_
 use Rattle.ss_nonnull_rules.specs.NonNull as source
 use Rattle.ss_nonnull_rules.specs.Faults.{done_faults}
 use Rattle.ss_nonnull_rules.specs.Program as nulls
-use Rattle.ss_nonnull_rules.specs.Program.{initializer_site, initialized, initializer_faults}
+use Rattle.ss_nonnull_rules.specs.Program.{initializer_context, initialized, initializer_faults}
 use Rattle.ss_resolver_rules.specs.Names.{class_env}
 use Rattle.ss_resolver_rules.specs.Numbers.{field_count}
 use Rattle.ss_resolver_rules.specs.Programs.{field, field_member, members, resolved}
@@ -105,15 +105,15 @@ module _ (p : ProgramTree) (k : ℕ) (c : ClassTree) (at : slice_get p.classes k
       let size = length-map (fields_in c.members) made in
       omega arith
 
-  module _ (z : Frame) (agrees : Agrees z) (builds : Builds z) (site : z.site ≡ initializer_site q t) where
+  module _ (z : Frame) (agrees : Agrees z) (builds : Builds z) (context : z.context ≡ initializer_context q t) where
     abbrev ns : Numbers
-    ns = z.site.numbers
+    ns = z.context.numbers
 
     numbers_are : ns ≡ n
-    numbers_are = ap (λ (s : source.Site). s.numbers) site
+    numbers_are = ap (λ (s : source.NullContext). s.numbers) context
 
     -- one beginning more
-    one : (m : typed.FieldTree) (e : Option ExprTree) (d : DeclaredField) (j f : ℕ) (rest more : StmtTrees) → has_initializer q t j ≡ is_some e → is_among ns f ≡ true → f - ns.first ≡ j → initializer_faults (initializer_site q t) (initialized q t j) d.field.ty e ≡ [] →
+    one : (m : typed.FieldTree) (e : Option ExprTree) (d : DeclaredField) (j f : ℕ) (rest more : StmtTrees) → has_initializer q t j ≡ is_some e → is_among ns f ≡ true → f - ns.first ≡ j → initializer_faults (initializer_context q t) (initialized q t j) d.field.ty e ≡ [] →
         all_fitting z (initialize t f m e (Some d) rest) ≡ true → (all_fitting z rest ≡ true → HoldFrom z (begun (j + 1)) (before_all rest more)) → HoldFrom z (begun j) (before_all (initialize t f m e (Some d) rest) more)
     one m None d j f rest more starts among place clean fit go =
         from_less z (begun (j + 1)) (begun j) (before_all rest more)
@@ -123,10 +123,10 @@ module _ (p : ProgramTree) (k : ℕ) (c : ClassTree) (at : slice_get p.classes k
         let x = AssignOf (FieldOf m.place (ThisOf m.place t) f d.field.ty) operator.Set e in
         let both = and_parts (simple_fits z x) (all_fitting z rest) fit in
         let a = (begun j).fields in
-        let filled : (i : ℕ) → (begun (j + 1)).fields.own i ≡ true → (source.known_done z.site x (begun j)).fields.own i ≡ true = λ i own.
+        let filled : (i : ℕ) → (begun (j + 1)).fields.own i ≡ true → (source.known_done z.context x (begun j)).fields.own i ≡ true = λ i own.
         ap (λ (v : Bool). (if v then put (f - ns.first) true a.own else a.own) i) among ∙ ap (λ y. put y true a.own i) place ∙ put_more (has_initializer q t) j i own in
-        behind_simple z agrees builds (begun j) (begun (j + 1)) x (before_all rest more) both.0 (subst (λ s. done_faults s x (Some (begun j)) ≡ []) (sym site) clean)
-        (record { facts = λ y i. i; fields = λ g o h. own_less ns g (begun (j + 1)).fields (source.known_done z.site x (begun j)).fields filled (λ i. i) h })
+        behind_simple z agrees builds (begun j) (begun (j + 1)) x (before_all rest more) both.0 (subst (λ s. done_faults s x (Some (begun j)) ≡ []) (sym context) clean)
+        (record { facts = λ y i. i; fields = λ g o h. own_less ns g (begun (j + 1)).fields (source.known_done z.context x (begun j)).fields filled (λ i. i) h })
         (go both.1)
 
     -- from a place of the class on
@@ -145,7 +145,7 @@ module _ (p : ProgramTree) (k : ℕ) (c : ClassTree) (at : slice_get p.classes k
         let place : f - ns.first ≡ j = omega arith in
         let inside : nat_lt (f - ns.first) ns.count ≡ true = lt-ltb (f - ns.first) ns.count (omega arith) in
         let rest = initializers_from q t (f + 1) (map made gs) in
-        let both = none_left (initializer_faults (initializer_site q t) (initialized q t j) d.field.ty (made g).initial) (nulls.initializers_from q t (j + 1) (map made gs) (map (field p.classes) gs)) clean in
+        let both = none_left (initializer_faults (initializer_context q t) (initialized q t j) d.field.ty (made g).initial) (nulls.initializers_from q t (j + 1) (map made gs) (map (field p.classes) gs)) clean in
         let sum : j + 1 + length gs ≡ j + suc (length gs) = omega arith in
         let later : all_fitting z rest ≡ true → HoldFrom z (begun (j + 1)) (before_all rest more) = λ i.
         from_place (j + 1) (f + 1) gs (omega arith) (omega arith) (λ i x e. let next : j + suc i ≡ j + 1 + i = omega arith in subst (λ y. slice_get (fields_in c.members) y ≡ Some x) next (there (suc i) x e)) both.1 i more (subst (λ i. HoldFrom z (begun i) more) (sym sum) go) in

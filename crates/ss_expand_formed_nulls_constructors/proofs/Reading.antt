@@ -130,8 +130,8 @@ module _ (c : core.CoreTree) (p : TypedTree) (b : BodyTree) (bs : List BodyTree)
   returned_again : (e : Option ExprTree) → uses_if ForFields e ≡ [] → PrintsOnly Other e → FitReturn p C x constructs first x.result e → returned_fits z e ≡ true → returned_fits w e ≡ true
   returned_again None h g f i = refl
   returned_again (Some e) h g f i =
-      let one = and_parts (fits z e && is_some (type_of e) && implied (is_non_null_type z.body.result) (source.is_non_null_type z.site.result)) (implied (is_non_null (result_type z.written.result)) (source.is_non_null_type z.site.result)) i in
-      let two = and_parts (fits z e && is_some (type_of e)) (implied (is_non_null_type z.body.result) (source.is_non_null_type z.site.result)) one.0 in
+      let one = and_parts (fits z e && is_some (type_of e) && implied (is_non_null_type z.body.result) (source.is_non_null_type z.context.result)) (implied (is_non_null (result_type z.written.result)) (source.is_non_null_type z.context.result)) i in
+      let two = and_parts (fits z e && is_some (type_of e)) (implied (is_non_null_type z.body.result) (source.is_non_null_type z.context.result)) one.0 in
       let three = and_parts (fits z e) (is_some (type_of e)) two.0 in
       and_from _ _ (and_from _ _ (and_from _ _ (again e h g (in_return x.result e f) three.0) three.1) two.1) one.1
 

@@ -20,7 +20,7 @@ use Rattle.ss_expand_rules.specs.Numbers.{plain, plain_arguments}
 use Rattle.ss_expand_rules.specs.Calls.{has_call, have_call, is_lazy}
 use Rattle.ss_typed.specs.Shapes.{place_of}
 use Rattle.ss_expand_rules.specs.Program.{above_of, method_at, number_of_written}
-use Rattle.ss_expand_rules.specs.Lifting.{Opened, Setting, Source, Pure, Created, CreatedArray, Called, put, Lifted, Valued, Listed, unlifted, next, temporary_type, any_object, in_temporary, valued_from, valued, lifted_of, operand, unary, lazily, holds, fails, negated, operation, implication, no_operands, operands_of, and_operands, called, only_of, dispatched, static_class, class_of_type, base_number, types_of_constructor, types_of_written, types_of_method, lifted, in_temporaries, right_side, value, arguments_of}
+use Rattle.ss_expand_rules.specs.Lifting.{Opened, ElaborationContext, Source, Pure, Created, CreatedArray, Called, put, Lifted, Valued, Listed, unlifted, next, temporary_type, any_object, in_temporary, valued_from, valued, lifted_of, operand, unary, lazily, holds, fails, negated, operation, implication, no_operands, operands_of, and_operands, called, only_of, dispatched, static_class, class_of_type, base_number, types_of_constructor, types_of_written, types_of_method, lifted, in_temporaries, right_side, value, arguments_of}
 use Rattle.ss_store_rules.specs.Changes.{below, is_array}
 use Rattle.ss_store_rules.specs.Locals.{is_result}
 use Rattle.ss_store_rules.specs.Types.{has_fitting, fits_type, is_int, is_bool, has_class, is_reference, operation_type, element_of, in_code, is_condition, code_type}
@@ -32,7 +32,7 @@ use Rattle.ss_expand_formed_nulls.proofs.Growing.{Begins, begins_append, last_at
 use Rattle.ss_expand_formed_expressions.proofs.Fit.{IsCallee, Fits}
 use Rattle.ss_expand_formed_expressions.proofs.Plain.{bare, bare_int, bare_bool, bare_reference, bare_class, bare_fitting}
 use Rattle.ss_expand_formed_statements.proofs.Fits.{can_lift, can_lift_all, FitCode, FitArguments}
-use Rattle.ss_expand_formed_statements.proofs.Values.{Frame, setting, Takes, Agrees, passes, Passing, HasMade, no_null_int, no_null_bool, no_null_class, some_int, some_bool, some_class, some_reference, some_fitting, fitting_itself, temporary_takes, temporary_is, element_is, tys, type_in, all_code, Is, code_is, plain_is, made_before, local_is}
+use Rattle.ss_expand_formed_statements.proofs.Values.{Frame, elaboration_context, Takes, Agrees, passes, Passing, HasMade, no_null_int, no_null_bool, no_null_class, some_int, some_bool, some_class, some_reference, some_fitting, fitting_itself, temporary_takes, temporary_is, element_is, tys, type_in, all_code, Is, code_is, plain_is, made_before, local_is}
 
 pub bare_declared : (C : List core.ClassTree) (t o : Option Ty) → fits_declared C (bare t) o ≡ fits_declared C t o
 bare_declared C t None = refl
@@ -262,8 +262,8 @@ module _ (z : Frame) (agrees : Agrees z) (constructs : Bool) where
   -- ---- operands
 
   module _ (os : List Opened) where
-    abbrev s : Setting
-    s = setting z os
+    abbrev s : ElaborationContext
+    s = elaboration_context z os
 
     -- what the lifting of the expression gives, where it has a call
     abbrev Lifting : ExprTree → Type 0

@@ -26,7 +26,7 @@ use Rattle.ss_expand_rules.specs.Calls.{has_call}
 use Rattle.ss_typed.specs.Shapes.{is_this, place_of}
 use Rattle.ss_expand_rules.specs.Program.{field_at, above_of, Constructor, number_of}
 use Rattle.ss_typed.specs.Lookups.{constructor_of, param_types_in}
-use Rattle.ss_expand_rules.specs.Lifting.{Opened, Setting, Source, Pure, Created, CreatedArray, Called, put, Lifted, next, temporary_type, any_object, right_side, value, arguments_of}
+use Rattle.ss_expand_rules.specs.Lifting.{Opened, ElaborationContext, Source, Pure, Created, CreatedArray, Called, put, Lifted, next, temporary_type, any_object, right_side, value, arguments_of}
 use Rattle.ss_expand_rules.specs.Simple.{into_local, write_of, write, assign_settled, Settled, settle_lifted, settle_part, settle, assign_behind, assign, update, assignment, step_operator, default_of, declared_as, declare, drop_result, alone, print, has_delayed_constructor, ready_behind, base_with, base_of, simple}
 use Rattle.ss_store_rules.specs.Changes.{below, is_array}
 use Rattle.ss_store_rules.specs.Types.{has_fitting, fits_type, is_int, is_bool, has_class, operation_type, element_of, code_type}
@@ -41,7 +41,7 @@ use Rattle.ss_expand_formed_expressions.proofs.Fit.{Context, IsRead, Fits}
 use Rattle.ss_expand_formed_expressions.proofs.Plain.{bare, bare_int, bare_bool, bare_class}
 use Rattle.ss_expand_formed_statements.proofs.Fits.{can_lift, FitCode, FitArguments, FitAssigned, FitPrinted, FitSimple, FitDeclarator, FitDeclared, WhereGiven}
 use Rattle.ss_expand_formed_statements.proofs.Wider.{Wider, fit_wider, fits_wider}
-use Rattle.ss_expand_formed_statements.proofs.Values.{Frame, setting, Agrees, passes, Passing, HasMade, some_int, some_class, fits_same, temporary_takes, element_is, tys, Is, code_is, plain_is, made_before}
+use Rattle.ss_expand_formed_statements.proofs.Values.{Frame, elaboration_context, Agrees, passes, Passing, HasMade, some_int, some_class, fits_same, temporary_takes, element_is, tys, Is, code_is, plain_is, made_before}
 use Rattle.ss_expand_formed_statements.proofs.Lifting.{bare_declared, Coding, Gives, Lifts, put_passes, made_last, right_passes, value_passes, arguments_pass, call_is}
 
 -- ---- types
@@ -123,8 +123,8 @@ module _ (z : Frame) (agrees : Agrees z) (source : Context) (wider : Wider sourc
   abbrev C : List core.ClassTree
   C = z.program.classes
 
-  abbrev s : Setting
-  s = setting z os
+  abbrev s : ElaborationContext
+  s = elaboration_context z os
 
   abbrev K : Bool
   K = z.written.flags.ctor

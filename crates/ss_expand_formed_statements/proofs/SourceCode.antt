@@ -32,7 +32,7 @@ use Rattle.ss_resolver_names_rules.specs.Expressions.{declares, has_member, is_i
 use Rattle.ss_resolver_names_rules.specs.Programs.{program_faults}
 use Rattle.ss_resolver_types_expressions.specs.Faults.{bad_type}
 use Rattle.ss_resolver_types_expressions.specs.Wants.{Want, AnInt, ABool, AReference, AnArray, AnyValue, OfType, ClassName, Known, known, has_no_value, gives_nothing, is_unsuited, misfit, wrong}
-use Rattle.ss_resolver_types_expressions.specs.Calls.{Around, Called, Taking, Refused, Unknown, param_wants, wants_above, base_wants, called_console, called_method, called_on_class, called_on_declared, called_on_object, called_name, called_member, called_value, constructed, method_or_field, without_members, has_no_members, class_of_known, asks_level, is_wrong_call, argument_wants, whole_call}
+use Rattle.ss_resolver_types_expressions.specs.Calls.{ExprContext, Called, Taking, Refused, Unknown, param_wants, wants_above, base_wants, called_console, called_method, called_on_class, called_on_declared, called_on_object, called_name, called_member, called_value, constructed, method_or_field, without_members, has_no_members, class_of_known, asks_level, is_wrong_call, argument_wants, whole_call}
 use Rattle.ss_resolver_types_expressions.specs.Expressions.{AsValue, BeforeDot, AsCallee, no_class, operand, operand_faults, is_question, condition_faults, faults, faults_as, argument_faults}
 use Rattle.ss_resolver_rules.specs.Names.{Env}
 use Rattle.ss_resolver_rules.specs.declared.known.Known.{Known as KnownName}
@@ -48,7 +48,7 @@ use Rattle.ss_expand_formed.proofs.Facts.{none_left, or_false}
 use Rattle.ss_expand_formed.proofs.Places.{class_at}
 use Rattle.ss_expand_formed.proofs.Cycles.{above_within}
 use Rattle.ss_expand_formed_expressions.proofs.Fit.{Context, Fit, Fits}
-use Rattle.ss_expand_formed_expressions.proofs.Scopes.{refusing, around, no_fault, three_left, four_left}
+use Rattle.ss_expand_formed_expressions.proofs.Scopes.{refusing, expr_context, no_fault, three_left, four_left}
 use Rattle.ss_expand_formed_expressions.proofs.Places.{has_answer, have_answer, At, scope_at, env_at, IsKnown, IsPlace, Sound, IsWanted, static_at, is_wanted}
 use Rattle.ss_expand_formed_expressions.proofs.Receivers.{receiver_of, value_faults, class_unknown}
 use Rattle.ss_expand_formed_expressions.proofs.MemberReads.{not_unless}
@@ -234,8 +234,8 @@ module _ (p : ProgramTree) (faultless : program_faults p ≡ []) (x : Context) (
       by false g = (d, refl, (d.member.params, refl))
 
   module _ (a : At) (here : IsPlace p x static false false a) where
-    abbrev A : Around
-    A = around static false false (scope_at p a)
+    abbrev A : ExprContext
+    A = expr_context static false false (scope_at p a)
 
     abbrev U : Scope
     U = refusing static false (scope_at p a)

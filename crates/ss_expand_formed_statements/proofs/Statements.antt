@@ -15,7 +15,7 @@ use Rattle.ss_typed.specs.Types.{type_of}
 use Rattle.ss_owners_rules.specs.Words.{Allowed, NoWord, OfEntry}
 use Rattle.ss_expand_rules.specs.Numbers.{plain, all_plain}
 use Rattle.ss_typed.specs.Shapes.{place_of}
-use Rattle.ss_expand_rules.specs.Lifting.{Opened, Setting, Valued, next, temporary_type, any_object, in_temporary, right_side, value}
+use Rattle.ss_expand_rules.specs.Lifting.{Opened, ElaborationContext, Valued, next, temporary_type, any_object, in_temporary, right_side, value}
 use Rattle.ss_expand_rules.specs.Code.{Coded, nothing, then_code}
 use Rattle.ss_expand_rules.specs.Ends.{can_end, block_can_end}
 use Rattle.ss_expand_rules.specs.Statements.{exposed, loop_while, begin, advance, pack_of, pack_this, packs, leave_with, result_type, kept_result, leave_value, leave, exposed_class, close, opened, expose_lifted, stmt, block, stmts}
@@ -33,7 +33,7 @@ use Rattle.ss_expand_formed_expressions.proofs.Plain.{bare, bare_fitting}
 use Rattle.ss_expand_formed_expressions.proofs.Words.{words, condition_in}
 use Rattle.ss_expand_formed_statements.proofs.Fits.{FitValue, FitTest, FitClaim, FitClaims, WhereGiven, FitFirst, FitStep, FitReturn, FitExposed, FitStmt, FitBlock, FitAll}
 use Rattle.ss_expand_formed_statements.proofs.Wider.{Wider, fit_wider}
-use Rattle.ss_expand_formed_statements.proofs.Values.{Frame, setting, Agrees, passes, Passing, HasMade, some_bool, some_class, some_fitting, fitting_itself, temporary_takes, code_is, made_before}
+use Rattle.ss_expand_formed_statements.proofs.Values.{Frame, elaboration_context, Agrees, passes, Passing, HasMade, some_bool, some_class, some_fitting, fitting_itself, temporary_takes, code_is, made_before}
 use Rattle.ss_expand_formed_statements.proofs.Lifting.{condition_is, kept_in, made_last, right_passes, value_passes}
 use Rattle.ss_expand_formed_statements.proofs.Simple.{coding, declare_passes, simple_passes}
 
@@ -51,8 +51,8 @@ module _ (z : Frame) (agrees : Agrees z) (source : Context) (wider : Wider sourc
   abbrev K : Bool
   K = z.written.flags.ctor
 
-  abbrev at : List Opened → Setting
-  at os = setting z os
+  abbrev at : List Opened → ElaborationContext
+  at os = elaboration_context z os
 
   abbrev Test : ExprTree → Type 0
   Test e = FitTest z.typed C source K z.first e
@@ -164,7 +164,7 @@ module _ (z : Frame) (agrees : Agrees z) (source : Context) (wider : Wider sourc
   one_more : (os : List Opened) (o : Opened) → are_exposable os ≡ true → is_exposable C z.body o.local o.class ≡ true → are_exposable (os ++ o ∷ []) ≡ true
   one_more os o h g = list_all-append (λ (x : Opened). is_exposable C z.body x.local x.class) os (o ∷ []) ∙ and_from _ _ h (and_from _ _ g refl)
 
-  expose_passes : (os : List Opened) (p : Place) (e : ExprTree) (t : ℕ) (ends : Bool) (inner : Setting → List Ty → Coded) (made : List Ty) → FitExposed z.typed C source K z.first e t → ((o : Opened) (n : List Ty) → Begins n (inner (at (os ++ o ∷ [])) n).made) →
+  expose_passes : (os : List Opened) (p : Place) (e : ExprTree) (t : ℕ) (ends : Bool) (inner : ElaborationContext → List Ty → Coded) (made : List Ty) → FitExposed z.typed C source K z.first e t → ((o : Opened) (n : List Ty) → Begins n (inner (at (os ++ o ∷ [])) n).made) →
       ((o : Opened) (n : List Ty) → is_exposable C z.body o.local o.class ≡ true → HasMade z (inner (at (os ++ o ∷ [])) n).made → Passing z (inner (at (os ++ o ∷ [])) n).code) → HasMade z (expose_lifted (at os) p e t ends inner (right_side (at os) e made)).made →
       Passing z (expose_lifted (at os) p e t ends inner (right_side (at os) e made)).code
   expose_passes os p e t ends inner made f grows h m =

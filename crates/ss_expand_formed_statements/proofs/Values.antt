@@ -20,7 +20,7 @@ use Rattle.ss_expand_rules.specs.Program.{above_of, method_at, number_of, number
 use Rattle.ss_typed.specs.Lookups.{body_at, constructor_of, param_types_in}
 use Rattle.ss_expand_rules.specs.Numbers.{Numbers, number, plain}
 use Rattle.ss_expand_rules.specs.Calls.{has_call}
-use Rattle.ss_expand_rules.specs.Lifting.{Opened, Setting, nullable, temporary_type}
+use Rattle.ss_expand_rules.specs.Lifting.{Opened, ElaborationContext, nullable, temporary_type}
 use Rattle.ss_store_rules.specs.Changes.{below, is_array}
 use Rattle.ss_store_rules.specs.Changes as changes
 use Rattle.ss_store_rules.specs.Locals.{types_of, local_types, is_result, everywhere, each}
@@ -45,8 +45,8 @@ pub record Frame : Type 0 where
   pub context : Context
   pub first : ℕ
 
-abbrev pub setting : Frame → List Opened → Setting
-setting z os = record { program = z.typed; body = z.written; numbers = z.numbers; exposes = os }
+abbrev pub elaboration_context : Frame → List Opened → ElaborationContext
+elaboration_context z os = record { program = z.typed; body = z.written; numbers = z.numbers; exposes = os }
 
 -- the body takes values of these types and gives one of this, which isn't that of null
 pub record Takes (o : Option core.BodyTree) (ts : List Ty) (r : Option Ty) : Type 0 where

@@ -23,7 +23,7 @@ use Rattle.ss_typed.specs.Shapes.{is_this, place_of}
 use Rattle.ss_expand_rules.specs.Program.{table, method_at, above_of}
 use Rattle.ss_typed.specs.Lookups.{body_at, constructor_in, constructor_of, members_of, param_types_in}
 use Rattle.ss_expand_rules.specs.Code.{Coded, nothing, then_code}
-use Rattle.ss_expand_rules.specs.Lifting.{Opened, Setting, Source, Pure, Created, CreatedArray, Called, Lifted, Valued, Listed, unlifted, next, temporary_type, any_object, in_temporary, valued_from, valued, lifted_of, operand, unary, binary, lazily, holds, fails, negated, operation, first_type, other_types, no_operands, operands_of, and_operands, static_class, types_of_constructor, types_of_written, types_of_method, lifted, in_temporaries, right_side, value, arguments_of}
+use Rattle.ss_expand_rules.specs.Lifting.{Opened, ElaborationContext, Source, Pure, Created, CreatedArray, Called, Lifted, Valued, Listed, unlifted, next, temporary_type, any_object, in_temporary, valued_from, valued, lifted_of, operand, unary, binary, lazily, holds, fails, negated, operation, first_type, other_types, no_operands, operands_of, and_operands, static_class, types_of_constructor, types_of_written, types_of_method, lifted, in_temporaries, right_side, value, arguments_of}
 use Rattle.ss_expand_rules.specs.Simple.{assign_settled, Settled, settle_lifted, settle_part, settle, assign_behind, assign, update, assignment, step_operator, declared_as, declare, print, ready_behind, base_with, base_of, simple}
 use Rattle.ss_expand_rules.specs.Ends.{can_end, block_can_end}
 use Rattle.ss_expand_rules.specs.Statements.{loop_while, begin, advance, result_type, leave_value, leave, exposed_class, within, opened, expose_lifted, stmt, block, stmts}
@@ -40,7 +40,7 @@ module _ (C : List core.ClassTree) where
   params_typed b = list_all (λ (q : ParamTree). is_type C q.ty) b.params
 
   -- the parameters of all bodies and the result of this one have types of the table
-  pub record Fitting (s : Setting) : Type 0 where
+  pub record Fitting (s : ElaborationContext) : Type 0 where
     pub bodies : list_all params_typed s.program.bodies ≡ true
     pub result : is_type C (result_type s.body.result) ≡ true
 
@@ -102,16 +102,16 @@ module _ (C : List core.ClassTree) where
 
   -- ---- operands
 
-  valued_made : (s : Setting) (e : ExprTree) → Ok e → (l : Lifted) (v : Source) → K l.made → K (valued_from s.numbers e l v).made
+  valued_made : (s : ElaborationContext) (e : ExprTree) → Ok e → (l : Lifted) (v : Source) → K l.made → K (valued_from s.numbers e l v).made
   valued_made s e g l (Pure x) h = h
   valued_made s e g l (Created p t es) h = one_more l.made _ h (temporary_known C any_object e object g)
   valued_made s e g l (CreatedArray p t n) h = one_more l.made _ h (temporary_known C any_object e object g)
   valued_made s e g l (Called p callee es) h = one_more l.made _ h (temporary_known C any_object e object g)
 
-  lifted_of_made : (s : Setting) (e : ExprTree) (f : List Ty → Lifted) → Lifts f → Lifts (lifted_of s.numbers e f)
+  lifted_of_made : (s : ElaborationContext) (e : ExprTree) (f : List Ty → Lifted) → Lifts f → Lifts (lifted_of s.numbers e f)
   lifted_of_made s e f h made k = on_either (λ (l : Lifted). K l.made) (has_call e) (f made) (unlifted (plain s.numbers e) made) (h made k) k
 
-  operand_made : (s : Setting) (t : Ty) → is_type C t ≡ true → (e : ExprTree) → Ok e → (f : List Ty → Lifted) → Lifts f → Values (operand s.numbers t e f)
+  operand_made : (s : ElaborationContext) (t : Ty) → is_type C t ≡ true → (e : ExprTree) → Ok e → (f : List Ty → Lifted) → Lifts f → Values (operand s.numbers t e f)
   operand_made s t w e g f h made k =
       on_either (λ (v : Valued). K v.made) (is_lazy e && has_call e) (valued s.numbers e (f made)) (in_temporary s.numbers (place_of e) (temporary_type t (type_of e)) (lifted_of s.numbers e f made))
       (valued_made s e g (f made) (f made).source (h made k))
@@ -119,25 +119,25 @@ module _ (C : List core.ClassTree) where
 
   -- ---- lazy operations
 
-  lazily_made : (s : Setting) (p : Place) (a b : ExprTree) (test : core.ExprTree → core.ExprTree) (first : Lifted) (second : List Ty → Lifted) → K first.made → Lifts second → K (lazily s.numbers p a b test first second).made
+  lazily_made : (s : ElaborationContext) (p : Place) (a b : ExprTree) (test : core.ExprTree → core.ExprTree) (first : Lifted) (second : List Ty → Lifted) → K first.made → Lifts second → K (lazily s.numbers p a b test first second).made
   lazily_made s p a b test first second h g = g (first.made ++ ty.Bool ∷ []) (one_more first.made ty.Bool h refl)
 
-  negated_made : (s : Setting) (a : ExprTree) → Ok a → (f : List Ty → Lifted) → Lifts f → Lifts (negated s.numbers a f)
+  negated_made : (s : ElaborationContext) (a : ExprTree) → Ok a → (f : List Ty → Lifted) → Lifts f → Lifts (negated s.numbers a f)
   negated_made s a g f h made k =
       on_either (λ (l : Lifted). K l.made) (has_call a) (unary (NotExpr (place_of a)) (operand s.numbers ty.Bool a f made)) (unlifted (NotExpr (place_of a) (plain s.numbers a)) made)
       (operand_made s ty.Bool refl a g f h made k) k
 
-  binary_made : (s : Setting) (a b : ExprTree) → Ok a → Ok b → (f g : List Ty → Lifted) → Lifts f → Lifts g → (h : core.ExprTree → core.ExprTree → core.ExprTree) → Lifts (λ made. binary h (operand s.numbers any_object a f made) (operand s.numbers any_object b g))
+  binary_made : (s : ElaborationContext) (a b : ExprTree) → Ok a → Ok b → (f g : List Ty → Lifted) → Lifts f → Lifts g → (h : core.ExprTree → core.ExprTree → core.ExprTree) → Lifts (λ made. binary h (operand s.numbers any_object a f made) (operand s.numbers any_object b g))
   binary_made s a b x y f g i j h made k = operand_made s any_object object b y g j (operand s.numbers any_object a f made).made (operand_made s any_object object a x f i made k)
 
-  operation_made : (s : Setting) (p : Place) (o : Operator) (a b : ExprTree) → Ok a → Ok b → (f g : List Ty → Lifted) → Lifts f → Lifts g → Lifts (operation s.numbers p o a b f g)
+  operation_made : (s : ElaborationContext) (p : Place) (o : Operator) (a b : ExprTree) → Ok a → Ok b → (f g : List Ty → Lifted) → Lifts f → Lifts g → Lifts (operation s.numbers p o a b f g)
   operation_made s p op.And a b x y f g h i made k = lazily_made s p a b holds (lifted_of s.numbers a f made) (lifted_of s.numbers b g) (lifted_of_made s a f h made k) (lifted_of_made s b g i)
   operation_made s p op.Or a b x y f g h i made k = lazily_made s p a b (fails p) (lifted_of s.numbers a f made) (lifted_of s.numbers b g) (lifted_of_made s a f h made k) (lifted_of_made s b g i)
   operation_made s p o a b x y f g h i made k = binary_made s a b x y f g h i (BinaryExpr p o) made k
 
   -- ---- calls
 
-  operands_made : (s : Setting) (es : Arguments) (f : List Ty → Listed) → Lists f → Lists (operands_of s.numbers es f)
+  operands_made : (s : ElaborationContext) (es : Arguments) (f : List Ty → Listed) → Lists f → Lists (operands_of s.numbers es f)
   operands_made s es f h made k = on_either (λ (l : Listed). K l.made) (have_call es) (f made) (record { code = []; values = plain_arguments s.numbers es; made = made }) (h made k) k
 
   first_known : (ts : List Ty) → K ts → is_type C (first_type ts) ≡ true
@@ -148,7 +148,7 @@ module _ (C : List core.ClassTree) where
   others_known [] h = refl
   others_known (t ∷ ts) h = (and_parts (is_type C t) (are_types ts) h).1
 
-  module _ (s : Setting) (fit : Fitting s) where
+  module _ (s : ElaborationContext) (fit : Fitting s) where
     mutual
       lifted_made : (e : ExprTree) → Ok e → Lifts (lifted s e)
       lifted_made (IffOf p a b) g made k = let x = and_parts (has_types C a) (has_types C b) g in binary_made s a b x.0 x.1 (lifted s a) (lifted s b) (lifted_made a x.0) (lifted_made b x.1) (IffExpr p) made k
@@ -297,7 +297,7 @@ module _ (C : List core.ClassTree) where
     leave_made p None g made k = k
     leave_made p (Some e) g made k = leave_value_made p e g s.exposes made k
 
-    expose_made : (p : Place) (e : ExprTree) → Ok e → (t : ℕ) (ends : Bool) (inner : Setting → List Ty → Coded) → ((o : Opened) → Codes (inner (within s o))) → (l : Lifted) → K l.made → K (expose_lifted s p e t ends inner l).made
+    expose_made : (p : Place) (e : ExprTree) → Ok e → (t : ℕ) (ends : Bool) (inner : ElaborationContext → List Ty → Coded) → ((o : Opened) → Codes (inner (within s o))) → (l : Lifted) → K l.made → K (expose_lifted s p e t ends inner l).made
     expose_made p e g t ends inner h l k =
         let kind = temporary_type any_object (type_of e) in
         let o = opened p (next s.numbers l.made) t in
@@ -306,7 +306,7 @@ module _ (C : List core.ClassTree) where
 
   -- ---- statements
 
-  inside : (s : Setting) → Fitting s → (o : Opened) → Fitting (within s o)
+  inside : (s : ElaborationContext) → Fitting s → (o : Opened) → Fitting (within s o)
   inside s fit o = record { bodies = fit.bodies; result = fit.result }
 
   more_made : (b : Bool) (f : List Ty → Coded) → Codes f → Codes (if b then f else nothing)
@@ -314,7 +314,7 @@ module _ (C : List core.ClassTree) where
   more_made false f h made k = k
 
   mutual
-    stmt_made : (s : Setting) → Fitting s → (x : StmtTree) → stmt_typed C x ≡ true → Codes (stmt s x)
+    stmt_made : (s : ElaborationContext) → Fitting s → (x : StmtTree) → stmt_typed C x ≡ true → Codes (stmt s x)
     stmt_made s fit (InBlock b) g made k = block_made s fit b g made k
     stmt_made s fit (DeclareOf ds) g made k = declare_made s fit ds g made k
     stmt_made s fit (SimpleOf x) g made k = simple_made s fit x g made k
@@ -342,10 +342,10 @@ module _ (C : List core.ClassTree) where
         expose_made s fit p e x.0 (exposed_class e t) (block_can_end b) (λ z m. block z b m) (λ o. block_made (within s o) (inside s fit o) b x.1) (right_side s e made) (right_made s fit e x.0 made k)
     stmt_made s fit (EmptyOf p) g made k = k
 
-    block_made : (s : Setting) → Fitting s → (b : BlockTree) → block_typed C b ≡ true → Codes (block s b)
+    block_made : (s : ElaborationContext) → Fitting s → (b : BlockTree) → block_typed C b ≡ true → Codes (block s b)
     block_made s fit (BlockOf p ss end) g made k = stmts_made s fit ss g made k
 
-    pub stmts_made : (s : Setting) → Fitting s → (ss : StmtTrees) → all_typed C ss ≡ true → Codes (stmts s ss)
+    pub stmts_made : (s : ElaborationContext) → Fitting s → (ss : StmtTrees) → all_typed C ss ≡ true → Codes (stmts s ss)
     stmts_made s fit typed.NoMore g made k = k
     stmts_made s fit (Before x xs) g made k =
         let y = and_parts (stmt_typed C x) (all_typed C xs) g in

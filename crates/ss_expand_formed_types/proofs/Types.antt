@@ -28,7 +28,7 @@ use Rattle.ss_expand_rules.specs.Contracts.{first_param, declarations}
 use Rattle.ss_paths.specs.Opening.{is_first}
 use Rattle.ss_expand_rules.specs.Constructors.{before_all, initialize, initializers_from, initializers_in, initializers, behind_initial, base_alone, with_base, constructor_stmts, implicit_constructor}
 use Rattle.ss_typed.specs.Shapes.{closing_brace, in_block, has_base}
-use Rattle.ss_expand_rules.specs.Bodies.{block_assigns, assigned_from, copy_of, copies, temporaries_from, with_return, statements, setting, temporary_types, written_body, wrapper_types}
+use Rattle.ss_expand_rules.specs.Bodies.{block_assigns, assigned_from, copy_of, copies, temporaries_from, with_return, statements, elaboration_context, temporary_types, written_body, wrapper_types}
 use Rattle.ss_store_rules.specs.Typed.{is_local}
 use Rattle.ss_expand_formed.specs.Laws.{core_of}
 use Rattle.ss_expand_formed.proofs.Facts.{all_at}
@@ -207,8 +207,8 @@ module _ (p : ProgramTree) where
         let class_and = and_parts (is_class C b.class) (base_typed C b.base && block_typed C b.block) h in
         let base_and = and_parts (base_typed C b.base) (block_typed C b.block) class_and.1 in
         let ss = statements_typed C (resolved p) (fields_ok 4 0 p.classes) b (members_ok 0 p.classes (omega arith)) class_and.0 base_and.0 base_and.1 in
-        let fit : Fitting C (setting (resolved p) b 0) = record { bodies = all_params; result = result_known b.result result } in
-        let made = stmts_made C (setting (resolved p) b 0) fit (statements (resolved p) b) ss [] refl in
+        let fit : Fitting C (elaboration_context (resolved p) b 0) = record { bodies = all_params; result = result_known b.result result } in
+        let made = stmts_made C (elaboration_context (resolved p) b 0) fit (statements (resolved p) b) ss [] refl in
         let temporaries = temporaries_local C 0 (temporary_types (resolved p) b) made in
         list_all-append (is_local C) (b.locals ++ copies b) (temporaries_from 0 (temporary_types (resolved p) b))
         ∙ rw (list_all-append (is_local C) b.locals (copies b), own, copies_local C b.block (first_param b) b.params params, temporaries) refl

@@ -23,7 +23,7 @@ use Rattle.ss_typed.specs.Lookups as lookups
 use Rattle.ss_expand_rules.specs.Calls.{has_call, have_call, is_lazy_operator}
 use Rattle.ss_typed.specs.Shapes.{place_of}
 use Rattle.ss_expand_rules.specs.Numbers.{plain}
-use Rattle.ss_expand_rules.specs.Lifting.{Setting, Source, Pure, Created, CreatedArray, Called, put, Lifted, lifted, right_side, operand, lazily_in, lazily_with, in_temporary, negated, called, dispatched, operands_of, and_operands, in_temporaries, types_of_method, static_class, arguments_of, first_type, other_types, any_object, next}
+use Rattle.ss_expand_rules.specs.Lifting.{ElaborationContext, Source, Pure, Created, CreatedArray, Called, put, Lifted, lifted, right_side, operand, lazily_in, lazily_with, in_temporary, negated, called, dispatched, operands_of, and_operands, in_temporaries, types_of_method, static_class, arguments_of, first_type, other_types, any_object, next}
 use Rattle.ss_core.specs.declared.names.Ty.TheVariants as ty
 use Rattle.ss_typed.specs.Parts.{link_behind, linked, step_behind, stepped}
 use Rattle.ss_expand_expressions.specs.Sources.{lifted_behind, valued_behind, listed_behind}
@@ -36,7 +36,7 @@ use Rattle.ss_expand_lifting.proofs.Joins.{lifted_as, listed_as, with_call, unli
 use Rattle.ss_expand_lifting.proofs.Forms.{iff_is, implies_is, negate_is, not_is, cast_is, new_is, new_array_is, static_is, base_is}
 use Rattle.ss_expand_lifting.proofs.Links.{linked_split, stepped_split}
 
-pub iff_lifts : (s : Setting) (p : Place) (a b : Box TypedExpr Global) (e x y : TypedExpr) (w u : Ty) (before now after : List core.StmtTree) (left right value : core.ExprTree) (types made more : List Ty)
+pub iff_lifts : (s : ElaborationContext) (p : Place) (a b : Box TypedExpr Global) (e x y : TypedExpr) (w u : Ty) (before now after : List core.StmtTree) (left right value : core.ExprTree) (types made more : List Ty)
     → e ≡ variant.Iff p a b → x ≡ a.value → y ≡ b.value → w ≡ any_object → u ≡ any_object
     → valued_as now left made ≡ valued_behind before (operand s.numbers w (expr x) (lifted s (expr x)) types)
     → valued_as after right more ≡ valued_behind now (operand s.numbers u (expr y) (lifted s (expr y)) made)
@@ -47,7 +47,7 @@ iff_lifts s p a b e x y w u before now after left right value types made more is
     ∙ ap (λ z. lifted_behind before (lifted s (IffOf p (expr a.value) (expr z)) types)) ys
     ∙ ap (λ z. lifted_behind before (lifted s z types)) (sym (ap expr is ∙ iff_is p a b))
 
-pub negate_lifts : (s : Setting) (p : Place) (a : Box TypedExpr Global) (e x : TypedExpr) (w : Ty) (before now : List core.StmtTree) (v value : core.ExprTree) (types made : List Ty)
+pub negate_lifts : (s : ElaborationContext) (p : Place) (a : Box TypedExpr Global) (e x : TypedExpr) (w : Ty) (before now : List core.StmtTree) (v value : core.ExprTree) (types made : List Ty)
     → e ≡ variant.Negate p a → x ≡ a.value → w ≡ any_object
     → valued_as now v made ≡ valued_behind before (operand s.numbers w (expr x) (lifted s (expr x)) types)
     → value ≡ NegateExpr p v → lifted_as now (Pure value) made ≡ lifted_behind before (lifted s (expr e) types)
@@ -56,7 +56,7 @@ negate_lifts s p a e x w before now v value types made is xs any h k =
     ∙ ap (λ z. lifted_behind before (lifted s (NegateOf p (expr z)) types)) xs
     ∙ ap (λ z. lifted_behind before (lifted s z types)) (sym (ap expr is ∙ negate_is p a))
 
-pub not_lifts : (s : Setting) (p : Place) (a : Box TypedExpr Global) (e x : TypedExpr) (w : Ty) (before now : List core.StmtTree) (v value : core.ExprTree) (types made : List Ty)
+pub not_lifts : (s : ElaborationContext) (p : Place) (a : Box TypedExpr Global) (e x : TypedExpr) (w : Ty) (before now : List core.StmtTree) (v value : core.ExprTree) (types made : List Ty)
     → e ≡ variant.Not p a → x ≡ a.value → w ≡ any_object
     → valued_as now v made ≡ valued_behind before (operand s.numbers w (expr x) (lifted s (expr x)) types)
     → value ≡ NotExpr p v → lifted_as now (Pure value) made ≡ lifted_behind before (lifted s (expr e) types)
@@ -65,7 +65,7 @@ not_lifts s p a e x w before now v value types made is xs any h k =
     ∙ ap (λ z. lifted_behind before (lifted s (NotOf p (expr z)) types)) xs
     ∙ ap (λ z. lifted_behind before (lifted s z types)) (sym (ap expr is ∙ not_is p a))
 
-pub cast_lifts : (s : Setting) (p : Place) (c : ClassId) (non_null : Bool) (a : Box TypedExpr Global) (e x : TypedExpr) (w : Ty) (before now : List core.StmtTree) (v value : core.ExprTree) (types made : List Ty)
+pub cast_lifts : (s : ElaborationContext) (p : Place) (c : ClassId) (non_null : Bool) (a : Box TypedExpr Global) (e x : TypedExpr) (w : Ty) (before now : List core.StmtTree) (v value : core.ExprTree) (types made : List Ty)
     → e ≡ variant.Cast p c non_null a → x ≡ a.value → w ≡ any_object
     → valued_as now v made ≡ valued_behind before (operand s.numbers w (expr x) (lifted s (expr x)) types)
     → value ≡ CastExpr p c.0 non_null v → lifted_as now (Pure value) made ≡ lifted_behind before (lifted s (expr e) types)
@@ -74,7 +74,7 @@ cast_lifts s p c non_null a e x w before now v value types made is xs any h k =
     ∙ ap (λ z. lifted_behind before (lifted s (CastOf p c.0 non_null (expr z)) types)) xs
     ∙ ap (λ z. lifted_behind before (lifted s z types)) (sym (ap expr is ∙ cast_is p c non_null a))
 
-pub implies_lifts : (s : Setting) (p : Place) (a b : Box TypedExpr Global) (e x w y : TypedExpr) (q : Place) (before begun mid : List core.StmtTree) (first : Source) (r : Lifted) (v : core.ExprTree) (types made kept : List Ty) (n : ℕ)
+pub implies_lifts : (s : ElaborationContext) (p : Place) (a b : Box TypedExpr Global) (e x w y : TypedExpr) (q : Place) (before begun mid : List core.StmtTree) (first : Source) (r : Lifted) (v : core.ExprTree) (types made kept : List Ty) (n : ℕ)
     → e ≡ variant.Implies p a b → x ≡ a.value → w ≡ a.value → y ≡ b.value → q ≡ place_of (expr w)
     → lifted_as begun first made ≡ lifted_behind before (negated s.numbers (expr x) (lifted s (expr x)) types)
     → n ≡ next s.numbers made → valued_as mid v kept ≡ in_temporary s.numbers q ty.Bool (lifted_as begun first made)
@@ -90,7 +90,7 @@ implies_lifts s p a b e x w y q before begun mid first r v types made kept n is 
     ∙ ap (λ z. lifted_behind before (lifted s (ImpliesOf p (expr a.value) (expr z)) types)) ys
     ∙ ap (λ z. lifted_behind before (lifted s z types)) (sym (ap expr is ∙ implies_is p a b))
 
-pub chain_lifts : (s : Setting) (p : Place) (first : Box TypedExpr Global) (links : Vec TypedLink Global) (e x : TypedExpr) (ls rest : List TypedLink) (n : ℕ) (before now : List core.StmtTree) (r : Source) (types made : List Ty)
+pub chain_lifts : (s : ElaborationContext) (p : Place) (first : Box TypedExpr Global) (links : Vec TypedLink Global) (e x : TypedExpr) (ls rest : List TypedLink) (n : ℕ) (before now : List core.StmtTree) (r : Source) (types made : List Ty)
     → e ≡ variant.Chain p first links → x ≡ first.value → ls ≡ links.items → rest ≡ drop n ls → has_call (expr e) ≡ true
     → lifted_as now r made ≡ lifted_behind before (right_side s (linked p (linked p (expr x) (take n ls)) rest) types)
     → lifted_as now r made ≡ lifted_behind before (lifted s (expr e) types)
@@ -99,7 +99,7 @@ chain_lifts s p first links e x ls rest n before now r types made is xs lss rs c
     ∙ ap (λ z. lifted_behind before (right_side s z types)) (linked_split p (expr x) ls n ∙ ap (λ z. linked p (expr x) z) lss ∙ ap (λ z. linked p (expr z) links.items) xs ∙ sym (ap expr is ∙ chain_is p first links))
     ∙ ap (lifted_behind before) (with_call s (expr e) types call)
 
-pub path_lifts : (s : Setting) (p : Place) (first : Box TypedExpr Global) (steps : Vec TypedStep Global) (e x : TypedExpr) (ls rest : List TypedStep) (n : ℕ) (before now : List core.StmtTree) (r : Source) (types made : List Ty)
+pub path_lifts : (s : ElaborationContext) (p : Place) (first : Box TypedExpr Global) (steps : Vec TypedStep Global) (e x : TypedExpr) (ls rest : List TypedStep) (n : ℕ) (before now : List core.StmtTree) (r : Source) (types made : List Ty)
     → e ≡ variant.Path p first steps → x ≡ first.value → ls ≡ steps.items → rest ≡ drop n ls → has_call (expr e) ≡ true
     → lifted_as now r made ≡ lifted_behind before (right_side s (stepped p (stepped p (expr x) (take n ls)) rest) types)
     → lifted_as now r made ≡ lifted_behind before (lifted s (expr e) types)
@@ -108,7 +108,7 @@ path_lifts s p first steps e x ls rest n before now r types made is xs lss rs ca
     ∙ ap (λ z. lifted_behind before (right_side s z types)) (stepped_split p (expr x) ls n ∙ ap (λ z. stepped p (expr x) z) lss ∙ ap (λ z. stepped p (expr z) steps.items) xs ∙ sym (ap expr is ∙ path_is p first steps))
     ∙ ap (lifted_behind before) (with_call s (expr e) types call)
 
-pub new_lifts : (s : Setting) (p : Place) (c : ClassId) (es : Vec TypedExpr Global) (e : TypedExpr) (xs : List TypedExpr) (ts : List Ty) (before now : List core.StmtTree) (vs : List core.ExprTree) (types made : List Ty)
+pub new_lifts : (s : ElaborationContext) (p : Place) (c : ClassId) (es : Vec TypedExpr Global) (e : TypedExpr) (xs : List TypedExpr) (ts : List Ty) (before now : List core.StmtTree) (vs : List core.ExprTree) (types made : List Ty)
     → e ≡ variant.New p c es → xs ≡ es.items → ts ≡ lookups.param_types_in (lookups.constructor_of s.program c.0)
     → listed_as now vs made ≡ listed_behind before (arguments_of s ts (arguments (exprs xs)) types)
     → lifted_as now (Created p c.0 vs) made ≡ lifted_behind before (lifted s (expr e) types)
@@ -118,7 +118,7 @@ new_lifts s p c es e xs ts before now vs types made is list t h =
     ∙ ap (λ z. lifted_behind before (lifted s (NewOf p c.0 (arguments (exprs z))) types)) list
     ∙ ap (λ z. lifted_behind before (lifted s z types)) (sym (ap expr is ∙ new_is p c es))
 
-pub new_array_lifts : (s : Setting) (p : Place) (c : ClassId) (a : Box TypedExpr Global) (e x : TypedExpr) (before now : List core.StmtTree) (v : core.ExprTree) (types made : List Ty)
+pub new_array_lifts : (s : ElaborationContext) (p : Place) (c : ClassId) (a : Box TypedExpr Global) (e x : TypedExpr) (before now : List core.StmtTree) (v : core.ExprTree) (types made : List Ty)
     → e ≡ variant.NewArray p c a → x ≡ a.value → valued_as now v made ≡ valued_behind before (size_of s (expr x) types)
     → lifted_as now (CreatedArray p c.0 v) made ≡ lifted_behind before (lifted s (expr e) types)
 new_array_lifts s p c a e x before now v types made is xs h =
@@ -126,7 +126,7 @@ new_array_lifts s p c a e x before now v types made is xs h =
     ∙ ap (λ z. lifted_behind before (lifted s (NewArrayOf p c.0 (expr z)) types)) xs
     ∙ ap (λ z. lifted_behind before (lifted s z types)) (sym (ap expr is ∙ new_array_is p c a))
 
-pub static_lifts : (s : Setting) (p : Place) (n : BodyId) (t : Option Ty) (es : Vec TypedExpr Global) (e : TypedExpr) (xs : List TypedExpr) (ts : List Ty) (m : ℕ) (before now : List core.StmtTree) (vs : List core.ExprTree) (types made : List Ty)
+pub static_lifts : (s : ElaborationContext) (p : Place) (n : BodyId) (t : Option Ty) (es : Vec TypedExpr Global) (e : TypedExpr) (xs : List TypedExpr) (ts : List Ty) (m : ℕ) (before now : List core.StmtTree) (vs : List core.ExprTree) (types made : List Ty)
     → e ≡ variant.Static p n t es → xs ≡ es.items → ts ≡ lookups.param_types_in (lookups.body_at s.program n.0) → m ≡ program.number_of_written s.program n.0
     → listed_as now vs made ≡ listed_behind before (arguments_of s ts (arguments (exprs xs)) types)
     → lifted_as now (Called p (Static m) vs) made ≡ lifted_behind before (lifted s (expr e) types)
@@ -137,7 +137,7 @@ static_lifts s p n t es e xs ts m before now vs types made is list q k h =
     ∙ ap (λ z. lifted_behind before (lifted s (StaticOf p n.0 t (arguments (exprs z))) types)) list
     ∙ ap (λ z. lifted_behind before (lifted s z types)) (sym (ap expr is ∙ static_is p n t es))
 
-pub base_lifts : (s : Setting) (p : Place) (m : ℕ) (t : Option Ty) (es : Vec TypedExpr Global) (e : TypedExpr) (xs : List TypedExpr) (ts : List Ty) (a n : ℕ) (before now : List core.StmtTree) (vs : List core.ExprTree) (types made : List Ty)
+pub base_lifts : (s : ElaborationContext) (p : Place) (m : ℕ) (t : Option Ty) (es : Vec TypedExpr Global) (e : TypedExpr) (xs : List TypedExpr) (ts : List Ty) (a n : ℕ) (before now : List core.StmtTree) (vs : List core.ExprTree) (types made : List Ty)
     → e ≡ variant.Base p m t es → xs ≡ es.items → a ≡ program.above_of s.program s.body.class → ts ≡ lookups.param_types_in (program.method_at s.program a m) → n ≡ program.number_in_table s.program a m
     → listed_as now vs made ≡ listed_behind before (arguments_of s ts (arguments (exprs xs)) types)
     → lifted_as now (Called p (Base n) vs) made ≡ lifted_behind before (lifted s (expr e) types)
@@ -150,7 +150,7 @@ base_lifts s p m t es e xs ts a n before now vs types made is list above q k h =
 
 -- ---- calls of instance methods
 
-pub call_lifts : (s : Setting) (p : Place) (e : ExprTree) (m : ℕ) (t : Option Ty) (es : Arguments) (k : ℕ) (ts : List Ty) (kept in_arguments : Bool) (before now after : List core.StmtTree) (r : core.ExprTree) (vs : List core.ExprTree) (x : Source) (types made more : List Ty)
+pub call_lifts : (s : ElaborationContext) (p : Place) (e : ExprTree) (m : ℕ) (t : Option Ty) (es : Arguments) (k : ℕ) (ts : List Ty) (kept in_arguments : Bool) (before now after : List core.StmtTree) (r : core.ExprTree) (vs : List core.ExprTree) (x : Source) (types made more : List Ty)
     → k ≡ static_class e → ts ≡ types_of_method s k m → in_arguments ≡ have_call es → kept ≡ (has_call e || in_arguments)
     → valued_as now r made ≡ valued_behind before (receiver_of s in_arguments e types)
     → listed_as after vs more ≡ listed_behind now (values_of s ts kept es made)
@@ -176,7 +176,7 @@ lazily_ends p b test x before now inner t v right second r types made l h a q n 
 
 -- ---- arguments one by one
 
-pub argument_joins : (s : Setting) (es : List TypedExpr) (i : ℕ) (x : TypedExpr) (ts us : List Ty) (w : Ty) (before now : List core.StmtTree) (vs ws : List Expr) (v : Expr) (types made : List Ty)
+pub argument_joins : (s : ElaborationContext) (es : List TypedExpr) (i : ℕ) (x : TypedExpr) (ts us : List Ty) (w : Ty) (before now : List core.StmtTree) (vs ws : List Expr) (v : Expr) (types made : List Ty)
     → i < length es → x ≡ get_or es i x → w ≡ first_type ts → us ≡ other_types ts → ws ≡ vs ++ v ∷ []
     → valued_as now (view.expr v) made ≡ valued_behind before (operand s.numbers w (expr x) (lifted s (expr x)) types)
     → listed_onto now (view.exprs ws) (in_temporaries s us (arguments (exprs (drop (i + 1) es))) made) ≡ listed_onto before (view.exprs vs) (in_temporaries s ts (arguments (exprs (drop i es))) types)
@@ -188,7 +188,7 @@ argument_joins s es i x ts us w before now vs ws v types made lt g first others 
     ∙ one_more_argument s ts (expr x) (arguments (exprs (drop (suc i) es))) before now (view.exprs vs) (view.expr v) types made (h ∙ ap (λ z. valued_behind before (operand s.numbers z (expr x) (lifted s (expr x)) types)) first)
     ∙ ap (λ z. listed_onto before (view.exprs vs) (in_temporaries s ts (arguments (exprs z)) types)) (sym (drop_item es i x lt g))
 
-pub arguments_join : (s : Setting) (es : List TypedExpr) (i : ℕ) (ts us : List Ty) (before now : List core.StmtTree) (vs : List Expr) (types made : List Ty)
+pub arguments_join : (s : ElaborationContext) (es : List TypedExpr) (i : ℕ) (ts us : List Ty) (before now : List core.StmtTree) (vs : List Expr) (types made : List Ty)
     → length es ≤ i
     → listed_onto now (view.exprs vs) (in_temporaries s us (arguments (exprs (drop i es))) made) ≡ listed_onto before [] (in_temporaries s ts (arguments (exprs es)) types)
     → listed_as now (view.exprs vs) made ≡ listed_behind before (in_temporaries s ts (arguments (exprs es)) types)
@@ -197,7 +197,7 @@ arguments_join s es i ts us before now vs types made le h =
 
 -- ---- operations on an operand that stands before them
 
-pub operation_lifts_lazily : (s : Setting) (p : Place) (o : Operator) (e b : ExprTree) (before begun mid : List core.StmtTree) (first : Source) (r : Lifted) (q : Place) (v : core.ExprTree) (types made kept : List Ty) (n : ℕ) (holds : Bool)
+pub operation_lifts_lazily : (s : ElaborationContext) (p : Place) (o : Operator) (e b : ExprTree) (before begun mid : List core.StmtTree) (first : Source) (r : Lifted) (q : Place) (v : core.ExprTree) (types made kept : List Ty) (n : ℕ) (holds : Bool)
     → is_lazy_operator o ≡ true → lifted_as begun first made ≡ lifted_behind before (right_side s e types)
     → q ≡ place_of e → n ≡ next s.numbers made → valued_as mid v kept ≡ in_temporary s.numbers q ty.Bool (lifted_as begun first made)
     → holds ≡ is_and o → r ≡ lazily_in p b (test_of p holds) n (valued_as mid v kept) (right_side s b)
@@ -209,7 +209,7 @@ operation_lifts_lazily s p o e b before begun mid first r q v types made kept n 
     (begun_behind s.numbers (place_of e) ty.Bool before (valued_as mid v kept) (lifted_as begun first made) (right_side s e types) (k ∙ ap (λ z. in_temporary s.numbers z ty.Bool (lifted_as begun first made)) place) h)
     ∙ ap (lifted_behind before) (sym (lazy_operation s.numbers p o e b (lifted s e) (lifted s b) types lazy))
 
-pub operation_lifts_strictly : (s : Setting) (p : Place) (o : Operator) (e b : ExprTree) (w u : Ty) (before now after : List core.StmtTree) (left right value : core.ExprTree) (types made more : List Ty)
+pub operation_lifts_strictly : (s : ElaborationContext) (p : Place) (o : Operator) (e b : ExprTree) (w u : Ty) (before now after : List core.StmtTree) (left right value : core.ExprTree) (types made more : List Ty)
     → is_lazy_operator o ≡ false → w ≡ any_object → u ≡ any_object → valued_as now left made ≡ valued_behind before (operand s.numbers w e (lifted s e) types)
     → valued_as after right more ≡ valued_behind now (operand s.numbers u b (lifted s b) made) → value ≡ BinaryExpr p o left right
     → lifted_as after (Pure value) more ≡ lifted_behind before (lifted s (BinaryOf p o e b) types)
@@ -219,14 +219,14 @@ operation_lifts_strictly s p o e b w u before now after left right value types m
 
 -- ---- the negation of a lazy operation's left side
 
-pub negation_lifts : (s : Setting) (a : ExprTree) (before now : List core.StmtTree) (q : Place) (v value : core.ExprTree) (types made : List Ty)
+pub negation_lifts : (s : ElaborationContext) (a : ExprTree) (before now : List core.StmtTree) (q : Place) (v value : core.ExprTree) (types made : List Ty)
     → has_call a ≡ true → valued_as now v made ≡ valued_behind before (operand s.numbers ty.Bool a (lifted s a) types) → q ≡ place_of a → value ≡ NotExpr q v
     → lifted_as now (Pure value) made ≡ lifted_behind before (negated s.numbers a (lifted s a) types)
 negation_lifts s a before now q v value types made call h place k =
     unary_behind (NotExpr (place_of a)) before now (operand s.numbers ty.Bool a (lifted s a) types) v value made h (k ∙ ap (λ z. NotExpr z v) place)
     ∙ ap (lifted_behind before) (sym (negated_with s.numbers a (lifted s a) types call))
 
-pub negation_stays : (s : Setting) (a : ExprTree) (before : List core.StmtTree) (q : Place) (v value : core.ExprTree) (types : List Ty)
+pub negation_stays : (s : ElaborationContext) (a : ExprTree) (before : List core.StmtTree) (q : Place) (v value : core.ExprTree) (types : List Ty)
     → has_call a ≡ false → v ≡ plain s.numbers a → q ≡ place_of a → value ≡ NotExpr q v
     → lifted_as before (Pure value) types ≡ lifted_behind before (negated s.numbers a (lifted s a) types)
 negation_stays s a before q v value types none h place k =
@@ -235,12 +235,12 @@ negation_stays s a before q v value types none h place k =
 
 -- ---- links and steps behind an operand
 
-pub link_lifts : (s : Setting) (p : Place) (e f : ExprTree) (l m : TypedLink) (before now : List core.StmtTree) (r : Source) (types made : List Ty)
+pub link_lifts : (s : ElaborationContext) (p : Place) (e f : ExprTree) (l m : TypedLink) (before now : List core.StmtTree) (r : Source) (types made : List Ty)
     → l ≡ m → link_behind m p e ≡ f → lifted_as now r made ≡ lifted_behind before (lifted s f types) → lifted_as now r made ≡ lifted_behind before (lifted s (link_behind l p e) types)
 link_lifts s p e f l m before now r types made is form h =
     h ∙ ap (λ z. lifted_behind before (lifted s z types)) (sym (ap (λ (y : TypedLink). link_behind y p e) is ∙ form))
 
-pub step_lifts : (s : Setting) (p : Place) (e f : ExprTree) (l m : TypedStep) (before now : List core.StmtTree) (r : Source) (types made : List Ty)
+pub step_lifts : (s : ElaborationContext) (p : Place) (e f : ExprTree) (l m : TypedStep) (before now : List core.StmtTree) (r : Source) (types made : List Ty)
     → l ≡ m → step_behind m p e ≡ f → lifted_as now r made ≡ lifted_behind before (lifted s f types) → lifted_as now r made ≡ lifted_behind before (lifted s (step_behind l p e) types)
 step_lifts s p e f l m before now r types made is form h =
     h ∙ ap (λ z. lifted_behind before (lifted s z types)) (sym (ap (λ (y : TypedStep). step_behind y p e) is ∙ form))

@@ -13,7 +13,7 @@ use Rattle.ss_expand_rules.specs.Program.{field_at}
 use Rattle.ss_expand_rules.specs.Calls.{has_call}
 use Rattle.ss_typed.specs.Shapes.{is_this, place_of}
 use Rattle.ss_expand_rules.specs.Code.{Coded, nothing, after, then_code, and_then}
-use Rattle.ss_expand_rules.specs.Lifting.{Setting, Source, put, Lifted, Valued, in_local, right_side, value, valued, next, temporary_type, any_object, class_of_type}
+use Rattle.ss_expand_rules.specs.Lifting.{ElaborationContext, Source, put, Lifted, Valued, in_local, right_side, value, valued, next, temporary_type, any_object, class_of_type}
 use Rattle.ss_expand_rules.specs.Simple.{into_local, write_of, write, write_value, assign_settled, Settled, settled_as, settle_lifted, settle_part, settle_both, settle, assign_behind, declared_as, declare, drop_result, alone}
 use Rattle.ss_expand_expressions.specs.Sources.{lifted_behind, valued_behind}
 use Rattle.ss_expand_expressions.specs.Operands.{valued_as}
@@ -39,28 +39,28 @@ local_behind p x before now s made l h =
     ap (λ (r : Lifted). coded_as (r.code ++ put p x r.source ∷ []) r.made) h
     ∙ ap (λ code. coded_as code l.made) (append_assoc before l.code (put p x l.source ∷ []))
 
-pub write_behind : (s : Setting) (target : ExprTree) (before now : List core.StmtTree) (v : core.ExprTree) (made : List Ty) (w : Valued)
+pub write_behind : (s : ElaborationContext) (target : ExprTree) (before now : List core.StmtTree) (v : core.ExprTree) (made : List Ty) (w : Valued)
     → valued_as now v made ≡ valued_behind before w → coded_as (now ++ write s target v) made ≡ after before (write_value s target w)
 write_behind s target before now v made w h =
     ap (λ (r : Valued). coded_as (r.code ++ write s target r.value) r.made) h
     ∙ ap (λ code. coded_as code w.made) (append_assoc before w.code (write s target w.value))
 
-pub value_behind : (s : Setting) (e : ExprTree) (before : List core.StmtTree) (types : List Ty) (v : Valued) (l : Lifted)
+pub value_behind : (s : ElaborationContext) (e : ExprTree) (before : List core.StmtTree) (types : List Ty) (v : Valued) (l : Lifted)
     → v ≡ valued s.numbers e l → l ≡ lifted_behind before (right_side s e types) → v ≡ valued_behind before (value s e types)
 value_behind s e before types v l h k = h ∙ ap (valued s.numbers e) k ∙ valued_goes_behind s.numbers e before (right_side s e types)
 
-pub assign_other : (s : Setting) (target e : ExprTree) (made : List Ty) → may_be_left target ≡ false → assign_settled s target e made ≡ write_value s target (value s e made)
+pub assign_other : (s : ElaborationContext) (target e : ExprTree) (made : List Ty) → may_be_left target ≡ false → assign_settled s target e made ≡ write_value s target (value s e made)
 assign_other s (LocalOf p x t) e made h = absurd (true≢false h)
 assign_other s target e made h = refl
 
-pub write_other : (s : Setting) (target : ExprTree) (v : core.ExprTree) → may_be_left target ≡ false → write s target v ≡ []
+pub write_other : (s : ElaborationContext) (target : ExprTree) (v : core.ExprTree) → may_be_left target ≡ false → write s target v ≡ []
 write_other s (FieldOf p o f t) v h = absurd (true≢false h)
 write_other s (ElementOf p a i) v h = absurd (true≢false h)
 write_other s target v h = refl
 
 -- ---- settled left sides
 
-pub settle_other : (s : Setting) (target : ExprTree) (made : List Ty) → may_be_left target ≡ false → settle s target made ≡ settled_as_is [] target made
+pub settle_other : (s : ElaborationContext) (target : ExprTree) (made : List Ty) → may_be_left target ≡ false → settle s target made ≡ settled_as_is [] target made
 settle_other s (FieldOf p o f t) made h = absurd (true≢false h)
 settle_other s (ElementOf p a i) made h = absurd (true≢false h)
 settle_other s target made h = refl
@@ -81,7 +81,7 @@ settled_both_behind f before now after a i target made more s t h k e =
     ∙ ap (λ (x : Settled). settled_as_is (x.code ++ (t x.made).code) (f x.target (t x.made).target) (t x.made).made) h
     ∙ ap (λ code. settled_as_is code (f s.target (t s.made).target) (t s.made).made) (append_assoc before s.code (t s.made).code)
 
-pub settle_lifted_behind : (s : Setting) (e : ExprTree) (before now : List core.StmtTree) (x : Source) (made : List Ty) (l : Lifted) (n : ℕ)
+pub settle_lifted_behind : (s : ElaborationContext) (e : ExprTree) (before now : List core.StmtTree) (x : Source) (made : List Ty) (l : Lifted) (n : ℕ)
     → lifted_as now x made ≡ lifted_behind before l → n ≡ next s.numbers made
     → settled_as_is (now ++ put (place_of e) n x ∷ []) (LocalOf (place_of e) n (temporary_type any_object (type_of e))) (made ++ temporary_type any_object (type_of e) ∷ [])
     ≡ settled_behind before (settle_lifted s e l)
@@ -91,10 +91,10 @@ settle_lifted_behind s e before now x made l n h k =
     ∙ ap (λ (r : Lifted). settled_as_is (r.code ++ put (place_of e) (next s.numbers r.made) r.source ∷ []) (LocalOf (place_of e) (next s.numbers r.made) t) (r.made ++ t ∷ [])) h
     ∙ ap (λ code. settled_as_is code (LocalOf (place_of e) (next s.numbers l.made) t) (l.made ++ t ∷ [])) (append_assoc before l.code (put (place_of e) (next s.numbers l.made) l.source ∷ []))
 
-pub this_settles : (s : Setting) (e : ExprTree) (made : List Ty) → is_this e ≡ true → settle_part s e made ≡ settled_as_is [] e made
+pub this_settles : (s : ElaborationContext) (e : ExprTree) (made : List Ty) → is_this e ≡ true → settle_part s e made ≡ settled_as_is [] e made
 this_settles s e made h = ap (λ b. cond b (settled_as_is [] e made) (settle_lifted s e (right_side s e made))) h
 
-pub other_settles : (s : Setting) (e : ExprTree) (made : List Ty) → is_this e ≡ false → settle_part s e made ≡ settle_lifted s e (right_side s e made)
+pub other_settles : (s : ElaborationContext) (e : ExprTree) (made : List Ty) → is_this e ≡ false → settle_part s e made ≡ settle_lifted s e (right_side s e made)
 other_settles s e made h = ap (λ b. cond b (settled_as_is [] e made) (settle_lifted s e (right_side s e made))) h
 
 pub this_again_is : (e : ExprTree) → is_this e ≡ true → ThisOf (place_of e) (class_of_type (type_of e)) ≡ e
@@ -109,7 +109,7 @@ then_behind before now c more made d h k =
     k ∙ ap (λ (x : Coded). after x.code (more x.made)) h
     ∙ ap (λ code. coded_as code (more c.made).made) (append_assoc before c.code (more c.made).code)
 
-pub assign_is_behind : (s : Setting) (e : ExprTree) (before now : List core.StmtTree) (target : ExprTree) (made : List Ty) (t : Settled) (d : Coded)
+pub assign_is_behind : (s : ElaborationContext) (e : ExprTree) (before now : List core.StmtTree) (target : ExprTree) (made : List Ty) (t : Settled) (d : Coded)
     → settled_as_is now target made ≡ settled_behind before t → d ≡ after now (assign_settled s target e made) → d ≡ after before (assign_behind s e t)
 assign_is_behind s e before now target made t d h k =
     k ∙ ap (λ (x : Settled). after x.code (assign_settled s x.target e x.made)) h
@@ -124,7 +124,7 @@ dropped_behind before now more x made l h k =
 
 -- ---- operands that settle
 
-pub operand_settles : (s : Setting) (e u : ExprTree) (before now more : List core.StmtTree) (x : Source) (q : Place) (n : ℕ) (w t : Ty) (kind : Option Ty) (v : core.ExprTree) (types made longer : List Ty)
+pub operand_settles : (s : ElaborationContext) (e u : ExprTree) (before now more : List core.StmtTree) (x : Source) (q : Place) (n : ℕ) (w t : Ty) (kind : Option Ty) (v : core.ExprTree) (types made longer : List Ty)
     → lifted_as now x made ≡ lifted_behind before (right_side s e types) → q ≡ place_of e → kind ≡ type_of e → w ≡ any_object → n ≡ next s.numbers made → t ≡ temporary_type w kind
     → valued_as more v longer ≡ in_local q n t (lifted_as now x made) → u ≡ LocalOf q n t
     → settled_as_is more u longer ≡ settled_behind before (settle_lifted s e (right_side s e types))
@@ -136,52 +136,52 @@ operand_settles s e u before now more x q n w t kind v types made longer h place
     ∙ settle_lifted_behind s e before now x made (right_side s e types) n h number
 
 -- `this` stays, and a target may be written otherwise
-pub this_stays : (s : Setting) (e u : ExprTree) (before : List core.StmtTree) (types : List Ty) → is_this e ≡ true → u ≡ e → settled_as_is before u types ≡ settled_behind before (settle_part s e types)
+pub this_stays : (s : ElaborationContext) (e u : ExprTree) (before : List core.StmtTree) (types : List Ty) → is_this e ≡ true → u ≡ e → settled_as_is before u types ≡ settled_behind before (settle_part s e types)
 this_stays s e u before types this same =
     ap (λ z. settled_as_is before z types) same ∙ settled_alone before e types ∙ ap (settled_behind before) (sym (this_settles s e types this))
 
-pub field_settles : (s : Setting) (p : Place) (o target t u : ExprTree) (f : ℕ) (k : Ty) (before now : List core.StmtTree) (types made : List Ty)
+pub field_settles : (s : ElaborationContext) (p : Place) (o target t u : ExprTree) (f : ℕ) (k : Ty) (before now : List core.StmtTree) (types made : List Ty)
     → target ≡ FieldOf p o f k → settled_as_is now t made ≡ settled_behind before (settle_part s o types) → u ≡ FieldOf p t f k
     → settled_as_is now u made ≡ settled_behind before (settle s target types)
 field_settles s p o target t u f k before now types made is h e =
     settled_as_behind (λ x. FieldOf p x f k) before now t u made (settle_part s o types) h e ∙ ap (λ z. settled_behind before (settle s z types)) (sym is)
 
-pub element_settles : (s : Setting) (p : Place) (a i target t r u : ExprTree) (before now more : List core.StmtTree) (types made longer : List Ty)
+pub element_settles : (s : ElaborationContext) (p : Place) (a i target t r u : ExprTree) (before now more : List core.StmtTree) (types made longer : List Ty)
     → target ≡ ElementOf p a i → settled_as_is now t made ≡ settled_behind before (settle_part s a types) → settled_as_is more r longer ≡ settled_behind now (settle_part s i made) → u ≡ ElementOf p t r
     → settled_as_is more u longer ≡ settled_behind before (settle s target types)
 element_settles s p a i target t r u before now more types made longer is h k e =
     settled_both_behind (λ x y. ElementOf p x y) before now more t r u made longer (settle_part s a types) (settle_part s i) h k e ∙ ap (λ z. settled_behind before (settle s z types)) (sym is)
 
-pub other_stays : (s : Setting) (target : ExprTree) (before : List core.StmtTree) (types : List Ty) → may_be_left target ≡ false → settled_as_is before target types ≡ settled_behind before (settle s target types)
+pub other_stays : (s : ElaborationContext) (target : ExprTree) (before : List core.StmtTree) (types : List Ty) → may_be_left target ≡ false → settled_as_is before target types ≡ settled_behind before (settle s target types)
 other_stays s target before types h = settled_alone before target types ∙ ap (settled_behind before) (sym (settle_other s target types h))
 
-pub local_stays : (s : Setting) (target : ExprTree) (p : Place) (x : ℕ) (k : Ty) (before : List core.StmtTree) (types : List Ty) → target ≡ LocalOf p x k → settled_as_is before target types ≡ settled_behind before (settle s target types)
+pub local_stays : (s : ElaborationContext) (target : ExprTree) (p : Place) (x : ℕ) (k : Ty) (before : List core.StmtTree) (types : List Ty) → target ≡ LocalOf p x k → settled_as_is before target types ≡ settled_behind before (settle s target types)
 local_stays s target p x k before types h =
     ap (λ z. settled_as_is before z types) h ∙ settled_alone before (LocalOf p x k) types ∙ ap (λ z. settled_behind before (settle s z types)) (sym h)
 
 -- ---- writes
 
-pub field_written : (s : Setting) (target : ExprTree) (p : Place) (o : ExprTree) (f : ℕ) (k : Ty) (before now : List core.StmtTree) (v obj : core.ExprTree)
+pub field_written : (s : ElaborationContext) (target : ExprTree) (p : Place) (o : ExprTree) (f : ℕ) (k : Ty) (before now : List core.StmtTree) (v obj : core.ExprTree)
     → target ≡ FieldOf p o f k → obj ≡ plain s.numbers o → now ≡ before ++ write_of p obj f (field_at s.program f) v → now ≡ before ++ write s target v
 field_written s target p o f k before now v obj is same n =
     n ∙ ap (λ z. before ++ write_of p z f (field_at s.program f) v) same ∙ ap (λ z. before ++ write s z v) (sym is)
 
-pub element_written : (s : Setting) (target : ExprTree) (p : Place) (a i : ExprTree) (before now : List core.StmtTree) (v array index : core.ExprTree)
+pub element_written : (s : ElaborationContext) (target : ExprTree) (p : Place) (a i : ExprTree) (before now : List core.StmtTree) (v array index : core.ExprTree)
     → target ≡ ElementOf p a i → array ≡ plain s.numbers a → index ≡ plain s.numbers i → now ≡ before ++ WriteElementStmt p array index v ∷ [] → now ≡ before ++ write s target v
 element_written s target p a i before now v array index is one two n =
     n ∙ ap (λ z. before ++ WriteElementStmt p z index v ∷ []) one ∙ ap (λ z. before ++ WriteElementStmt p (plain s.numbers a) z v ∷ []) two ∙ ap (λ z. before ++ write s z v) (sym is)
 
-pub local_written : (s : Setting) (target : ExprTree) (p : Place) (x : ℕ) (k : Ty) (before : List core.StmtTree) (v : core.ExprTree) → target ≡ LocalOf p x k → before ≡ before ++ write s target v
+pub local_written : (s : ElaborationContext) (target : ExprTree) (p : Place) (x : ℕ) (k : Ty) (before : List core.StmtTree) (v : core.ExprTree) → target ≡ LocalOf p x k → before ≡ before ++ write s target v
 local_written s target p x k before v is = sym (append-nil before) ∙ ap (λ z. before ++ write s z v) (sym is)
 
-pub other_written : (s : Setting) (target : ExprTree) (before : List core.StmtTree) (v : core.ExprTree) → may_be_left target ≡ false → before ≡ before ++ write s target v
+pub other_written : (s : ElaborationContext) (target : ExprTree) (before : List core.StmtTree) (v : core.ExprTree) → may_be_left target ≡ false → before ≡ before ++ write s target v
 other_written s target before v h = sym (append-nil before) ∙ ap (λ z. before ++ z) (sym (write_other s target v h))
 
-pub value_written : (s : Setting) (target : ExprTree) (before now more : List core.StmtTree) (v : core.ExprTree) (made : List Ty) (w : Valued)
+pub value_written : (s : ElaborationContext) (target : ExprTree) (before now more : List core.StmtTree) (v : core.ExprTree) (made : List Ty) (w : Valued)
     → valued_as now v made ≡ valued_behind before w → more ≡ now ++ write s target v → coded_as more made ≡ after before (write_value s target w)
 value_written s target before now more v made w h n = ap (λ code. coded_as code made) n ∙ write_behind s target before now v made w h
 
-pub local_assigned : (s : Setting) (target : ExprTree) (p : Place) (x n : ℕ) (k : Ty) (e : ExprTree) (before now more : List core.StmtTree) (r : Source) (types made : List Ty)
+pub local_assigned : (s : ElaborationContext) (target : ExprTree) (p : Place) (x n : ℕ) (k : Ty) (e : ExprTree) (before now more : List core.StmtTree) (r : Source) (types made : List Ty)
     → target ≡ LocalOf p x k → n ≡ number s.numbers x → lifted_as now r made ≡ lifted_behind before (right_side s e types) → more ≡ now ++ put p n r ∷ []
     → coded_as more made ≡ after before (assign_settled s target e types)
 local_assigned s target p x n k e before now more r types made is same h m =
@@ -190,8 +190,8 @@ local_assigned s target p x n k e before now more r types made is same h m =
     ∙ ap (λ z. after before (assign_settled s z e types)) (sym is)
 
 -- what is no local gets a written value
-pub field_assigned : (s : Setting) (target : ExprTree) (p : Place) (o : ExprTree) (f : ℕ) (k : Ty) (e : ExprTree) (made : List Ty) → target ≡ FieldOf p o f k → write_value s target (value s e made) ≡ assign_settled s target e made
+pub field_assigned : (s : ElaborationContext) (target : ExprTree) (p : Place) (o : ExprTree) (f : ℕ) (k : Ty) (e : ExprTree) (made : List Ty) → target ≡ FieldOf p o f k → write_value s target (value s e made) ≡ assign_settled s target e made
 field_assigned s target p o f k e made is = ap (λ z. write_value s z (value s e made)) is ∙ ap (λ z. assign_settled s z e made) (sym is)
 
-pub element_assigned : (s : Setting) (target : ExprTree) (p : Place) (a i : ExprTree) (e : ExprTree) (made : List Ty) → target ≡ ElementOf p a i → write_value s target (value s e made) ≡ assign_settled s target e made
+pub element_assigned : (s : ElaborationContext) (target : ExprTree) (p : Place) (a i : ExprTree) (e : ExprTree) (made : List Ty) → target ≡ ElementOf p a i → write_value s target (value s e made) ≡ assign_settled s target e made
 element_assigned s target p a i e made is = ap (λ z. write_value s z (value s e made)) is ∙ ap (λ z. assign_settled s z e made) (sym is)

@@ -14,7 +14,7 @@ use Rattle.ss_typed.specs.Tree.{ExprTree, NewArrayOf, Arguments, Argument}
 use Rattle.ss_expand_rules.specs.Numbers.{Numbers, plain, plain_arguments}
 use Rattle.ss_expand_rules.specs.Calls.{has_call, have_call, is_lazy_operator}
 use Rattle.ss_typed.specs.Shapes.{place_of}
-use Rattle.ss_expand_rules.specs.Lifting.{Setting, Source, Pure, CreatedArray, put, Lifted, Valued, Listed, unlifted, lifted_of, lifted, right_side, unary, binary, operand, operation, lazily, lazily_in, in_temporary, next, negated, called, and_operands, no_operands, only_of, operands_of, valued, in_temporaries, first_type, other_types, any_object}
+use Rattle.ss_expand_rules.specs.Lifting.{ElaborationContext, Source, Pure, CreatedArray, put, Lifted, Valued, Listed, unlifted, lifted_of, lifted, right_side, unary, binary, operand, operation, lazily, lazily_in, in_temporary, next, negated, called, and_operands, no_operands, only_of, operands_of, valued, in_temporaries, first_type, other_types, any_object}
 use Rattle.ss_expand_expressions.specs.Sources.{lifted_behind, valued_behind, listed_behind}
 use Rattle.ss_expand_expressions.specs.Operands.{valued_as}
 use Rattle.ss_expand_expressions.proofs.Behind.{in_temporary_behind}
@@ -28,10 +28,10 @@ listed_as code es made = record { code = code; values = es; made = made }
 
 -- ---- without calls
 
-pub with_call : (s : Setting) (e : ExprTree) (made : List Ty) → has_call e ≡ true → right_side s e made ≡ lifted s e made
+pub with_call : (s : ElaborationContext) (e : ExprTree) (made : List Ty) → has_call e ≡ true → right_side s e made ≡ lifted s e made
 with_call s e made h = ap (λ b. cond b (lifted s e made) (unlifted (plain s.numbers e) made)) h
 
-pub without_call : (s : Setting) (e : ExprTree) (made : List Ty) → has_call e ≡ false → right_side s e made ≡ unlifted (plain s.numbers e) made
+pub without_call : (s : ElaborationContext) (e : ExprTree) (made : List Ty) → has_call e ≡ false → right_side s e made ≡ unlifted (plain s.numbers e) made
 without_call s e made h = ap (λ b. cond b (lifted s e made) (unlifted (plain s.numbers e) made)) h
 
 pub unlifted_behind : (before : List core.StmtTree) (e v : core.ExprTree) (made : List Ty) → v ≡ e → lifted_as before (Pure v) made ≡ lifted_behind before (unlifted e made)
@@ -119,7 +119,7 @@ first_and_plain before now after e value es values types made more h k =
     ∙ ap (λ (w : Valued). listed_as (w.code ++ []) (w.value ∷ es) w.made) h
     ∙ ap (λ code. listed_as code (e ∷ es) types) (append-nil (before ++ []))
 
-receiver_cases : (s : Setting) (ts : List Ty) (e : ExprTree) (es : Arguments) (kept : Bool) (before now after : List core.StmtTree) (value : core.ExprTree) (values : List core.ExprTree) (types made more : List Ty)
+receiver_cases : (s : ElaborationContext) (ts : List Ty) (e : ExprTree) (es : Arguments) (kept : Bool) (before now after : List core.StmtTree) (value : core.ExprTree) (values : List core.ExprTree) (types made more : List Ty)
     → valued_as now value made ≡ valued_behind before (cond kept (operand s.numbers any_object e (lifted s e) types) (record { code = []; value = plain s.numbers e; made = types }))
     → listed_as after values more ≡ listed_behind now (values_of s ts kept es made)
     → listed_as after (value ∷ values) more
@@ -128,7 +128,7 @@ receiver_cases s ts e es true before now after value values types made more h k 
 receiver_cases s ts e es false before now after value values types made more h k = first_and_plain before now after _ value _ values types made more h k
 
 -- the receiver, and then the arguments
-pub receiver_and_arguments : (s : Setting) (ts : List Ty) (e : ExprTree) (es : Arguments) (kept in_arguments : Bool) (before now after : List core.StmtTree) (value : core.ExprTree) (values : List core.ExprTree) (types made more : List Ty)
+pub receiver_and_arguments : (s : ElaborationContext) (ts : List Ty) (e : ExprTree) (es : Arguments) (kept in_arguments : Bool) (before now after : List core.StmtTree) (value : core.ExprTree) (values : List core.ExprTree) (types made more : List Ty)
     → in_arguments ≡ have_call es → kept ≡ (has_call e || in_arguments)
     → valued_as now value made ≡ valued_behind before (receiver_of s in_arguments e types)
     → listed_as after values more ≡ listed_behind now (values_of s ts kept es made)
@@ -141,7 +141,7 @@ receiver_and_arguments s ts e es kept in_arguments before now after value values
 
 -- ---- new arrays
 
-size_cases : (p : Place) (t : ℕ) (s : Setting) (e : ExprTree) (call : Bool) (before now : List core.StmtTree) (v : core.ExprTree) (types made : List Ty)
+size_cases : (p : Place) (t : ℕ) (s : ElaborationContext) (e : ExprTree) (call : Bool) (before now : List core.StmtTree) (v : core.ExprTree) (types made : List Ty)
     → valued_as now v made ≡ valued_behind before (cond call (operand s.numbers any_object e (lifted s e) types) (record { code = []; value = plain s.numbers e; made = types }))
     → lifted_as now (CreatedArray p t v) made
     ≡ lifted_behind before (called (λ vs. CreatedArray p t (only_of p vs)) (cond (call || false) (and_operands (operand s.numbers any_object e (lifted s e) types) no_operands) (record { code = []; values = plain s.numbers e ∷ []; made = types })))
@@ -151,7 +151,7 @@ size_cases p t s e true before now v types made h =
     ∙ ap (λ code. lifted_as (before ++ code) (CreatedArray p t o.value) o.made) (sym (append-nil o.code))
 size_cases p t s e false before now v types made h = ap (λ (w : Valued). lifted_as w.code (CreatedArray p t w.value) w.made) h
 
-pub array_behind : (p : Place) (t : ℕ) (s : Setting) (e : ExprTree) (before now : List core.StmtTree) (v : core.ExprTree) (types made : List Ty)
+pub array_behind : (p : Place) (t : ℕ) (s : ElaborationContext) (e : ExprTree) (before now : List core.StmtTree) (v : core.ExprTree) (types made : List Ty)
     → valued_as now v made ≡ valued_behind before (size_of s e types) → lifted_as now (CreatedArray p t v) made ≡ lifted_behind before (lifted s (NewArrayOf p t e) types)
 array_behind p t s e before now v types made h = size_cases p t s e (has_call e) before now v types made h
 
@@ -161,7 +161,7 @@ array_behind p t s e before now v types made h = size_cases p t s e (has_call e)
 abbrev pub listed_onto : List core.StmtTree → List core.ExprTree → Listed → Listed
 listed_onto code values l = record { code = code ++ l.code; values = values ++ l.values; made = l.made }
 
-pub one_more_argument : (s : Setting) (ts : List Ty) (e : ExprTree) (es : Arguments) (before now : List core.StmtTree) (values : List core.ExprTree) (v : core.ExprTree) (types made : List Ty)
+pub one_more_argument : (s : ElaborationContext) (ts : List Ty) (e : ExprTree) (es : Arguments) (before now : List core.StmtTree) (values : List core.ExprTree) (v : core.ExprTree) (types made : List Ty)
     → valued_as now v made ≡ valued_behind before (operand s.numbers (first_type ts) e (lifted s e) types)
     → listed_onto now (values ++ v ∷ []) (in_temporaries s (other_types ts) es made) ≡ listed_onto before values (in_temporaries s ts (Argument e es) types)
 one_more_argument s ts e es before now values v types made h =
@@ -176,16 +176,16 @@ no_more_arguments code values made = ap (λ c. listed_as c (values ++ []) made) 
 
 -- ---- operands for which any reference is wanted
 
-pub kept_any : (s : Setting) (w : Ty) (e : ExprTree) (before : List core.StmtTree) (types : List Ty) → w ≡ any_object
+pub kept_any : (s : ElaborationContext) (w : Ty) (e : ExprTree) (before : List core.StmtTree) (types : List Ty) → w ≡ any_object
     → valued_behind before (operand s.numbers w e (lifted s e) types) ≡ valued_behind before (operand s.numbers any_object e (lifted s e) types)
 kept_any s w e before types h = ap (λ t. valued_behind before (operand s.numbers t e (lifted s e) types)) h
 
-pub unary_kept : (f : core.ExprTree → core.ExprTree) (s : Setting) (a : ExprTree) (w : Ty) (before now : List core.StmtTree) (v value : core.ExprTree) (types made : List Ty)
+pub unary_kept : (f : core.ExprTree → core.ExprTree) (s : ElaborationContext) (a : ExprTree) (w : Ty) (before now : List core.StmtTree) (v value : core.ExprTree) (types made : List Ty)
     → w ≡ any_object → valued_as now v made ≡ valued_behind before (operand s.numbers w a (lifted s a) types) → value ≡ f v
     → lifted_as now (Pure value) made ≡ lifted_behind before (unary f (operand s.numbers any_object a (lifted s a) types))
 unary_kept f s a w before now v value types made any h e = unary_behind f before now (operand s.numbers any_object a (lifted s a) types) v value made (h ∙ kept_any s w a before types any) e
 
-pub binary_kept : (f : core.ExprTree → core.ExprTree → core.ExprTree) (s : Setting) (a b : ExprTree) (w u : Ty) (before now after : List core.StmtTree) (left right value : core.ExprTree) (types made more : List Ty)
+pub binary_kept : (f : core.ExprTree → core.ExprTree → core.ExprTree) (s : ElaborationContext) (a b : ExprTree) (w u : Ty) (before now after : List core.StmtTree) (left right value : core.ExprTree) (types made more : List Ty)
     → w ≡ any_object → u ≡ any_object → valued_as now left made ≡ valued_behind before (operand s.numbers w a (lifted s a) types)
     → valued_as after right more ≡ valued_behind now (operand s.numbers u b (lifted s b) made) → value ≡ f left right
     → lifted_as after (Pure value) more ≡ lifted_behind before (binary f (operand s.numbers any_object a (lifted s a) types) (operand s.numbers any_object b (lifted s b)))
@@ -193,10 +193,10 @@ binary_kept f s a b w u before now after left right value types made more any al
     binary_behind f before now after (operand s.numbers any_object a (lifted s a) types) (operand s.numbers any_object b (lifted s b)) left right value made more
     (h ∙ kept_any s w a before types any) (k ∙ kept_any s u b now made also) e
 
-pub receiver_kept : (s : Setting) (in_arguments : Bool) (e : ExprTree) (types : List Ty) → (has_call e || in_arguments) ≡ true → receiver_of s in_arguments e types ≡ operand s.numbers any_object e (lifted s e) types
+pub receiver_kept : (s : ElaborationContext) (in_arguments : Bool) (e : ExprTree) (types : List Ty) → (has_call e || in_arguments) ≡ true → receiver_of s in_arguments e types ≡ operand s.numbers any_object e (lifted s e) types
 receiver_kept s in_arguments e types h = ap (λ b. cond b (operand s.numbers any_object e (lifted s e) types) (valued_as [] (plain s.numbers e) types)) h
 
-pub receiver_plain : (s : Setting) (in_arguments : Bool) (e : ExprTree) (types : List Ty) → (has_call e || in_arguments) ≡ false → receiver_of s in_arguments e types ≡ valued_as [] (plain s.numbers e) types
+pub receiver_plain : (s : ElaborationContext) (in_arguments : Bool) (e : ExprTree) (types : List Ty) → (has_call e || in_arguments) ≡ false → receiver_of s in_arguments e types ≡ valued_as [] (plain s.numbers e) types
 receiver_plain s in_arguments e types h = ap (λ b. cond b (operand s.numbers any_object e (lifted s e) types) (valued_as [] (plain s.numbers e) types)) h
 
 pub first_is_false : (a b : Bool) → (a || b) ≡ false → a ≡ false
@@ -204,21 +204,21 @@ first_is_false true b h = absurd (true≢false h)
 first_is_false false b h = refl
 
 -- the value of an expression without calls that has been lifted
-pub plain_valued : (s : Setting) (e : ExprTree) (before code : List core.StmtTree) (types made : List Ty) (x : Source) (v : Valued)
+pub plain_valued : (s : ElaborationContext) (e : ExprTree) (before code : List core.StmtTree) (types made : List Ty) (x : Source) (v : Valued)
     → lifted_as code x made ≡ lifted_behind before (right_side s e types) → has_call e ≡ false → v ≡ valued s.numbers e (lifted_as code x made)
     → v ≡ valued_behind before (valued_as [] (plain s.numbers e) types)
 plain_valued s e before code types made x v h n k = k ∙ ap (valued s.numbers e) (h ∙ ap (lifted_behind before) (without_call s e types n))
 
 -- ---- arguments
 
-pub values_kept : (s : Setting) (ts : List Ty) (kept : Bool) (es : Arguments) (types : List Ty) → kept ≡ true → values_of s ts kept es types ≡ in_temporaries s ts es types
+pub values_kept : (s : ElaborationContext) (ts : List Ty) (kept : Bool) (es : Arguments) (types : List Ty) → kept ≡ true → values_of s ts kept es types ≡ in_temporaries s ts es types
 values_kept s ts kept es types h = ap (λ b. values_of s ts b es types) h
 
-pub values_plain : (s : Setting) (ts : List Ty) (kept : Bool) (es : Arguments) (types : List Ty) → kept ≡ false → values_of s ts kept es types ≡ listed_as [] (plain_arguments s.numbers es) types
+pub values_plain : (s : ElaborationContext) (ts : List Ty) (kept : Bool) (es : Arguments) (types : List Ty) → kept ≡ false → values_of s ts kept es types ≡ listed_as [] (plain_arguments s.numbers es) types
 values_plain s ts kept es types h = ap (λ b. values_of s ts b es types) h
 
-pub size_kept : (s : Setting) (e : ExprTree) (types : List Ty) → has_call e ≡ true → size_of s e types ≡ operand s.numbers any_object e (lifted s e) types
+pub size_kept : (s : ElaborationContext) (e : ExprTree) (types : List Ty) → has_call e ≡ true → size_of s e types ≡ operand s.numbers any_object e (lifted s e) types
 size_kept s e types h = ap (λ b. cond b (operand s.numbers any_object e (lifted s e) types) (valued_as [] (plain s.numbers e) types)) h
 
-pub size_plain : (s : Setting) (e : ExprTree) (types : List Ty) → has_call e ≡ false → size_of s e types ≡ valued_as [] (plain s.numbers e) types
+pub size_plain : (s : ElaborationContext) (e : ExprTree) (types : List Ty) → has_call e ≡ false → size_of s e types ≡ valued_as [] (plain s.numbers e) types
 size_plain s e types h = ap (λ b. cond b (operand s.numbers any_object e (lifted s e) types) (valued_as [] (plain s.numbers e) types)) h

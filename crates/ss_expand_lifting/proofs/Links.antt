@@ -15,7 +15,7 @@ use Rattle.ss_typed.specs.View.{Behind, link_step, step_step}
 use Rattle.ss_expand_rules.specs.Calls.{has_call, is_lazy}
 use Rattle.ss_typed.specs.Shapes.{is_this, place_of}
 use Rattle.ss_expand_rules.specs.Numbers.{plain}
-use Rattle.ss_expand_rules.specs.Lifting.{Setting, Source, Pure, Lifted, right_side}
+use Rattle.ss_expand_rules.specs.Lifting.{ElaborationContext, Source, Pure, Lifted, right_side}
 use Rattle.ss_typed.specs.Parts.{link_behind, linked, step_behind, stepped}
 use Rattle.ss_expand_expressions.specs.Sources.{lifted_behind}
 use Rattle.ss_expand_expressions.specs.Operands.{IsOperand}
@@ -101,12 +101,12 @@ step_next_calls p e ls i l c h g = ap has_call (sym (stepped_next p e ls i l h g
 -- ---- without a call
 
 -- what an expression without calls is lifted to
-pub plain_source : (s : Setting) (e : ExprTree) (before code : List core.StmtTree) (types made : List Ty) (x : Source)
+pub plain_source : (s : ElaborationContext) (e : ExprTree) (before code : List core.StmtTree) (types made : List Ty) (x : Source)
     → lifted_as code x made ≡ lifted_behind before (right_side s e types) → has_call e ≡ false → x ≡ Pure (plain s.numbers e)
 plain_source s e before code types made x h n = ap (λ (l : Lifted). l.source) (h ∙ ap (lifted_behind before) (without_call s e types n))
 
 -- another without calls in its place
-pub plain_lifted : (s : Setting) (e f : ExprTree) (before code : List core.StmtTree) (types made : List Ty) (x y : Source)
+pub plain_lifted : (s : ElaborationContext) (e f : ExprTree) (before code : List core.StmtTree) (types made : List Ty) (x y : Source)
     → lifted_as code x made ≡ lifted_behind before (right_side s e types) → has_call e ≡ false → has_call f ≡ false → y ≡ Pure (plain s.numbers f)
     → lifted_as code y made ≡ lifted_behind before (right_side s f types)
 plain_lifted s e f before code types made x y h n m q =
@@ -150,7 +150,7 @@ step_lazy l p e = ap (λ (b : Behind). is_lazy (b p e)) (step_shape l).is ∙ st
 
 -- ---- operands
 
-pub operand_along : (s : Setting) (e f : ExprTree) (before : List core.StmtTree) (types : List Ty) (code : Vec Stmt) (made : Vec Ty) (o : Operand) → e ≡ f → IsOperand s e before types code made o → IsOperand s f before types code made o
+pub operand_along : (s : ElaborationContext) (e f : ExprTree) (before : List core.StmtTree) (types : List Ty) (code : Vec Stmt) (made : Vec Ty) (o : Operand) → e ≡ f → IsOperand s e before types code made o → IsOperand s f before types code made o
 operand_along s e f before types code made o h x = let P : ExprTree → Type 0 = λ y. IsOperand s y before types code made o in subst P h x
 
 pub links_go_along : (p : Place) (e : ExprTree) (ls ms : List TypedLink) → ms ≡ ls → LinksGoOn p e ls → LinksGoOn p e ms

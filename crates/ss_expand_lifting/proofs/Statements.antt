@@ -17,7 +17,7 @@ use Rattle.ss_expand_rules.specs.Numbers.{plain}
 use Rattle.ss_expand_rules.specs.Calls.{has_call}
 use Rattle.ss_typed.specs.Shapes.{place_of}
 use Rattle.ss_expand_rules.specs.Code.{Coded, after, then_code}
-use Rattle.ss_expand_rules.specs.Lifting.{Setting, Source, Pure, put, Lifted, Valued, Listed, lifted, right_side, value, arguments_of}
+use Rattle.ss_expand_rules.specs.Lifting.{ElaborationContext, Source, Pure, put, Lifted, Valued, Listed, lifted, right_side, value, arguments_of}
 use Rattle.ss_expand_rules.specs.Simple.{into_local, write_value, assign_settled, Settled, settle, assign, assign_behind, update_settled, declared_as, declare, print_value, ready_behind, base_with, base_of}
 use Rattle.ss_expand_expressions.specs.Sources.{lifted_behind, valued_behind, listed_behind}
 use Rattle.ss_expand_expressions.specs.Operands.{valued_as}
@@ -33,13 +33,13 @@ use Rattle.ss_expand_lifting.proofs.Codes.{coded_as, settled_as_is, local_behind
 calls_of : (call more : Bool) (t e : ExprTree) → call ≡ has_call t → more ≡ has_call e → (call || more) ≡ (has_call t || has_call e)
 calls_of call more t e h k = ap (λ b. b || more) h ∙ ap (λ b. has_call t || b) k
 
-pub operation_called : (s : Setting) (p : Place) (o : Operator) (t e : ExprTree) (before : List core.StmtTree) (types : List Ty) (kept call more : Bool) (l : Lifted)
+pub operation_called : (s : ElaborationContext) (p : Place) (o : Operator) (t e : ExprTree) (before : List core.StmtTree) (types : List Ty) (kept call more : Bool) (l : Lifted)
     → kept ≡ (call || more) → call ≡ has_call t → more ≡ has_call e → kept ≡ true
     → l ≡ lifted_behind before (lifted s (BinaryOf p o t e) types) → l ≡ lifted_behind before (right_side s (BinaryOf p o t e) types)
 operation_called s p o t e before types kept call more l is h k holds made =
     made ∙ ap (lifted_behind before) (sym (with_call s (BinaryOf p o t e) types (sym (calls_of call more t e h k) ∙ sym is ∙ holds)))
 
-pub operation_plain : (s : Setting) (p : Place) (o : Operator) (t e : ExprTree) (before now : List core.StmtTree) (left right value : core.ExprTree) (types made : List Ty)
+pub operation_plain : (s : ElaborationContext) (p : Place) (o : Operator) (t e : ExprTree) (before now : List core.StmtTree) (left right value : core.ExprTree) (types made : List Ty)
     → valued_as now left made ≡ valued_behind before (valued_as [] (plain s.numbers t) types) → right ≡ plain s.numbers e → value ≡ BinaryExpr p o left right
     → (has_call t || has_call e) ≡ false
     → lifted_as now (Pure value) made ≡ lifted_behind before (right_side s (BinaryOf p o t e) types)
@@ -53,19 +53,19 @@ no_calls kept call more t e is h k fails = sym (calls_of call more t e h k) ∙ 
 
 -- ---- assignments
 
-pub assigned_behind : (s : Setting) (target e : ExprTree) (before : List core.StmtTree) (types : List Ty) (kept call more : Bool) (d : Coded)
+pub assigned_behind : (s : ElaborationContext) (target e : ExprTree) (before : List core.StmtTree) (types : List Ty) (kept call more : Bool) (d : Coded)
     → kept ≡ (call || more) → call ≡ has_call target → more ≡ has_call e → kept ≡ true
     → d ≡ after before (assign_behind s e (settle s target types)) → d ≡ after before (assign s target e types)
 assigned_behind s target e before types kept call more d is h k holds made =
     made ∙ ap (λ b. after before (cond b (assign_behind s e (settle s target types)) (assign_settled s target e types))) (sym (sym (calls_of call more target e h k) ∙ sym is ∙ holds))
 
-pub assigned_as_it_is : (s : Setting) (target e : ExprTree) (before : List core.StmtTree) (types : List Ty) (kept call more : Bool) (d : Coded)
+pub assigned_as_it_is : (s : ElaborationContext) (target e : ExprTree) (before : List core.StmtTree) (types : List Ty) (kept call more : Bool) (d : Coded)
     → kept ≡ (call || more) → call ≡ has_call target → more ≡ has_call e → kept ≡ false
     → d ≡ after before (assign_settled s target e types) → d ≡ after before (assign s target e types)
 assigned_as_it_is s target e before types kept call more d is h k fails made =
     made ∙ ap (λ b. after before (cond b (assign_behind s e (settle s target types)) (assign_settled s target e types))) (sym (no_calls kept call more target e is h k fails))
 
-pub update_is_behind : (s : Setting) (o : Operator) (e : ExprTree) (before now : List core.StmtTree) (target : ExprTree) (made : List Ty) (t : Settled) (d : Coded)
+pub update_is_behind : (s : ElaborationContext) (o : Operator) (e : ExprTree) (before now : List core.StmtTree) (target : ExprTree) (made : List Ty) (t : Settled) (d : Coded)
     → settled_as_is now target made ≡ settled_behind before t
     → d ≡ after now (assign_settled s target (BinaryOf (place_of target) o target e) made) → d ≡ after before (update_settled s o e t)
 update_is_behind s o e before now target made t d h k =
@@ -74,7 +74,7 @@ update_is_behind s o e before now target made t d h k =
     ∙ ap (λ code. coded_as code whole.made) (append_assoc before t.code whole.code)
 
 -- a left side that is no local gets a written value
-pub value_assigned : (s : Setting) (target e : ExprTree) (types : List Ty) (l : Left) → IsLeft target l → ((p : Place) (x : ℕ) (k : Ty) → l ≡ left.Local p x k → ⊥)
+pub value_assigned : (s : ElaborationContext) (target e : ExprTree) (types : List Ty) (l : Left) → IsLeft target l → ((p : Place) (x : ℕ) (k : Ty) → l ≡ left.Local p x k → ⊥)
     → write_value s target (value s e types) ≡ assign_settled s target e types
 value_assigned s target e types (left.Local p x k) h n = absurd (n p x k refl)
 value_assigned s target e types (left.Field p part f k) h n = field_assigned s target p (part_tree part) f.0 k e types h
@@ -88,17 +88,17 @@ kept_target e now made t u s h k = ap (λ x. settled_as_is now (settled_target e
 
 -- ---- declarations
 
-into_declared : (s : Setting) (d : DeclaratorTree) (i : Option ExprTree) (types : List Ty) → into_local d.place d.local (initial_of s d i types) ≡ declared_as s d i types
+into_declared : (s : ElaborationContext) (d : DeclaratorTree) (i : Option ExprTree) (types : List Ty) → into_local d.place d.local (initial_of s d i types) ≡ declared_as s d i types
 into_declared s d None types = refl
 into_declared s d (Some e) types = refl
 
-pub declared_behind : (s : Setting) (d : DeclaratorTree) (i : Option ExprTree) (before now more : List core.StmtTree) (x : Source) (types made : List Ty)
+pub declared_behind : (s : ElaborationContext) (d : DeclaratorTree) (i : Option ExprTree) (before now more : List core.StmtTree) (x : Source) (types made : List Ty)
     → lifted_as now x made ≡ lifted_behind before (initial_of s d i types) → more ≡ now ++ put d.place d.local x ∷ [] → coded_as more made ≡ after before (declared_as s d i types)
 declared_behind s d i before now more x types made h k =
     ap (λ code. coded_as code made) k ∙ local_behind d.place d.local before now x made (initial_of s d i types) h ∙ ap (after before) (into_declared s d i types)
 
 -- one more of these
-pub declared_next : (s : Setting) (d : DeclaratorTree) (ds : List DeclaratorTree) (before now : List core.StmtTree) (types made : List Ty)
+pub declared_next : (s : ElaborationContext) (d : DeclaratorTree) (ds : List DeclaratorTree) (before now : List core.StmtTree) (types made : List Ty)
     → coded_as now made ≡ after before (declared_as s d d.initial types) → after now (declare s ds made) ≡ after before (declare s (d ∷ ds) types)
 declared_next s d ds before now types made h = then_behind before now (declared_as s d d.initial types) (declare s ds) made (after now (declare s ds made)) h refl
 
@@ -113,7 +113,7 @@ printed_behind p line before now more v made w h k =
 
 -- ---- `base(..)`
 
-pub base_behind : (s : Setting) (p : Place) (t n : ℕ) (before now called more : List core.StmtTree) (values : List core.ExprTree) (made : List Ty) (l : Listed)
+pub base_behind : (s : ElaborationContext) (p : Place) (t n : ℕ) (before now called more : List core.StmtTree) (values : List core.ExprTree) (made : List Ty) (l : Listed)
     → listed_as now values made ≡ listed_behind before l → n ≡ number_of s.program (Constructor t)
     → called ≡ now ++ CallStmt p None (BaseConstructor n) values ∷ [] → more ≡ called ++ ready_behind s p t
     → coded_as more made ≡ after before (base_with s p t l)
@@ -123,14 +123,14 @@ base_behind s p t n before now called more values made l h number k ready =
     ∙ ap (λ (x : Listed). coded_as (x.code ++ call x.values ∷ ready_behind s p t) x.made) h
     ∙ ap (λ code. coded_as code l.made) (append_assoc before l.code (call l.values ∷ ready_behind s p t))
 
-pub no_base : (s : Setting) (p : Place) (es : Arguments) (t u : ℕ) (before now : List core.StmtTree) (types : List Ty)
+pub no_base : (s : ElaborationContext) (p : Place) (es : Arguments) (t u : ℕ) (before now : List core.StmtTree) (types : List Ty)
     → t ≡ u → (t == 0) ≡ true → now ≡ before ++ ready_behind s p t → coded_as now types ≡ after before (base_of s p es u types)
 no_base s p es t u before now types same none h =
     ap (λ code. coded_as code types) h
     ∙ ap (λ b. after before (cond b (coded_as (ready_behind s p t) types) (base_with s p t (arguments_of s (param_types_in (constructor_of s.program t)) es types)))) (sym none)
     ∙ ap (λ n. after before (base_of s p es n types)) same
 
-pub some_base : (s : Setting) (p : Place) (es : Arguments) (t u : ℕ) (before : List core.StmtTree) (types : List Ty) (d : Coded)
+pub some_base : (s : ElaborationContext) (p : Place) (es : Arguments) (t u : ℕ) (before : List core.StmtTree) (types : List Ty) (d : Coded)
     → t ≡ u → (t == 0) ≡ false → d ≡ after before (base_with s p t (arguments_of s (param_types_in (constructor_of s.program t)) es types))
     → d ≡ after before (base_of s p es u types)
 some_base s p es t u before types d same some h =

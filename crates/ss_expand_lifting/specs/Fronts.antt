@@ -9,7 +9,7 @@ use Rattle.ss_typed.specs.declared.expr.TypedLink.{TypedLink}
 use Rattle.ss_typed.specs.declared.expr.TypedStep.{TypedStep}
 use Rattle.ss_typed.specs.Tree.{ExprTree}
 use Rattle.ss_expand_rules.specs.Calls.{has_call}
-use Rattle.ss_expand_rules.specs.Lifting.{Setting}
+use Rattle.ss_expand_rules.specs.Lifting.{ElaborationContext}
 use Rattle.ss_typed.specs.Parts.{link_behind, linked, step_behind, stepped}
 use Rattle.ss_expand_expressions.specs.Operands.{IsOperand}
 use Rattle.ss_expand_lifting.specs.declared.fronts.Front.{Front}
@@ -31,10 +31,10 @@ pub record StepsGoOn (p : Place) (e : ExprTree) (ls : List TypedStep) : Type 0 w
   pub each : (k : ℕ) → k < length ls → has_call (stepped p e (take (k + 1) ls)) ≡ true
 
 -- the operand e has the first links behind it, and up to each of the others there is a call
-pub record IsLinkFront (s : Setting) (p : Place) (e : ExprTree) (ls : List TypedLink) (before : List core.StmtTree) (types : List Ty) (code : Vec Stmt) (made : Vec Ty) (f : Front) : Type 0 where
+pub record IsLinkFront (s : ElaborationContext) (p : Place) (e : ExprTree) (ls : List TypedLink) (before : List core.StmtTree) (types : List Ty) (code : Vec Stmt) (made : Vec Ty) (f : Front) : Type 0 where
   pub operand : IsOperand s (linked p e (take f.length ls)) before types code made f.operand
   pub go_on : LinksGoOn p (linked p e (take f.length ls)) (drop f.length ls)
 
-pub record IsStepFront (s : Setting) (p : Place) (e : ExprTree) (ls : List TypedStep) (before : List core.StmtTree) (types : List Ty) (code : Vec Stmt) (made : Vec Ty) (f : Front) : Type 0 where
+pub record IsStepFront (s : ElaborationContext) (p : Place) (e : ExprTree) (ls : List TypedStep) (before : List core.StmtTree) (types : List Ty) (code : Vec Stmt) (made : Vec Ty) (f : Front) : Type 0 where
   pub operand : IsOperand s (stepped p e (take f.length ls)) before types code made f.operand
   pub go_on : StepsGoOn p (stepped p e (take f.length ls)) (drop f.length ls)

@@ -1,4 +1,4 @@
-pub mod Settings
+pub mod Contexts
 pub mod Made
 pub mod Fronts
 pub mod Operations

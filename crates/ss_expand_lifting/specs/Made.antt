@@ -7,7 +7,7 @@ use Rattle.ss_typed.specs.declared.expr.TypedExpr.{TypedExpr}
 use Rattle.ss_typed.specs.Tree.{ExprTree, DeclaratorTree}
 use Rattle.ss_typed.specs.View.{expr}
 use Rattle.ss_expand_rules.specs.Code.{Coded}
-use Rattle.ss_expand_rules.specs.Lifting.{Setting, Lifted, unlifted, right_side}
+use Rattle.ss_expand_rules.specs.Lifting.{ElaborationContext, Lifted, unlifted, right_side}
 use Rattle.ss_expand_rules.specs.Simple.{Settled, default_of}
 use Rattle.ss_expand_expressions.specs.Sources.{stmts_of}
 use Rattle.ss_expand_lifting.specs.declared.code.Code.{Code}
@@ -29,6 +29,6 @@ settled_target e None = e
 settled_target e (Some t) = expr t.value
 
 -- what a declared local begins with
-abbrev pub initial_of : Setting → DeclaratorTree → Option ExprTree → List Ty → Lifted
+abbrev pub initial_of : ElaborationContext → DeclaratorTree → Option ExprTree → List Ty → Lifted
 initial_of s d None made = unlifted (default_of d.place d.ty) made
 initial_of s d (Some e) made = right_side s e made

@@ -15,15 +15,15 @@ ghost use Rattle.ss_expand_rules.specs.Program as program;
 ghost use Rattle.ss_expand_rules.specs.Simple as elab;
 ghost use Rattle.ss_expand_expressions.specs.Sources.{stmts_of, source_of, lifted_by, lifted_behind};
 ghost use Rattle.ss_expand_expressions.specs.Operands.{IsOperand};
-ghost use Rattle.ss_expand_lifting.specs.Settings.{setting_of};
+ghost use Rattle.ss_expand_lifting.specs.Contexts.{context_of};
 ghost use Rattle.ss_expand_lifting.specs.Lefts.{IsLeft};
 ghost use Rattle.ss_expand_lifting.specs.Made.{coded_by};
 
 use crate::code::Code;
+use crate::context::ElaborationContext;
 use crate::lefts::{Left, left_of, plain_part};
 use crate::lifting::{lift_operand, lift_operation};
 use crate::operations::are_kept;
-use crate::settings::Setting;
 use crate::settled::{boxed, field_path, settle, this_of};
 use ss_ast::{AssignOperator, StepOperator};
 use ss_core::{Expr, FieldId, Operator, Place, Stmt, Ty};
@@ -36,7 +36,7 @@ use std::alloc::{AllocError, Global};
 
 // Adds the write of a field, with its mark and the class that declares it.
 fn add_field_write(
-    setting: &Setting<'_>,
+    context: &ElaborationContext<'_>,
     place: Place,
     object: Expr,
     field: FieldId,
@@ -44,9 +44,9 @@ fn add_field_write(
     code: &mut Code,
 ) -> Result<(), AllocError>
     ensures { OnOk result (stmts_of code.new.statements ≡ stmts_of code.old.statements
-        ++ elab.write_of place (view.expr object) field.0 (program.field_at (typed.typed setting.now.program.now) field.0) (view.expr value)) }
+        ++ elab.write_of place (view.expr object) field.0 (program.field_at (typed.typed context.now.program.now) field.0) (view.expr value)) }
 {
-    match field_at(setting.program, field) {
+    match field_at(context.program, field) {
         Some((class, declared)) => code.add(Stmt::Write {
             place,
             object,
@@ -76,19 +76,19 @@ fn add_element_write(
 // Adds the write of a field or an element whose object and index parts stay as they are.
 fn add_write(
     alloc: Global,
-    setting: &Setting<'_>,
+    context: &ElaborationContext<'_>,
     left: Left<'_>,
     value: Expr,
     code: &mut Code,
 ) -> Result<(), AllocError>
     ensures { (target : ExprTree) → IsLeft target left.entry
-        → OnOk result (stmts_of code.new.statements ≡ stmts_of code.old.statements ++ elab.write (setting_of setting.now) target (view.expr value)) }
+        → OnOk result (stmts_of code.new.statements ≡ stmts_of code.old.statements ++ elab.write (context_of context.now) target (view.expr value)) }
 {
-    let numbers = setting.numbers;
+    let numbers = context.numbers;
     match left {
         Left::Field(place, object, field, _) => {
             let object = plain_part(alloc, numbers, object)?;
-            add_field_write(setting, place, object, field, value, code)?;
+            add_field_write(context, place, object, field, value, code)?;
             Ok(())
         }
         Left::Element(place, array, index) => {
@@ -117,51 +117,51 @@ pub(crate) fn add_put(
 // Adds the write of what has been lifted to a left side that is no local.
 fn assign_value(
     alloc: Global,
-    setting: &Setting<'_>,
+    context: &ElaborationContext<'_>,
     left: Left<'_>,
     right: Operand,
     code: &mut Code,
     made: &mut Vec<Ty>,
 ) -> Result<(), AllocError>
     ensures { (target : ExprTree) → (e : ExprTree) → (before : List core.StmtTree) → (kinds : List Ty)
-        → IsLeft target left.entry → IsOperand (setting_of setting.now) e before kinds code.old.statements made.old right
-        → OnOk result (coded_by code.new made.new ≡ after before (elab.write_value (setting_of setting.now) target (lifting.value (setting_of setting.now) e kinds))) }
+        → IsLeft target left.entry → IsOperand (context_of context.now) e before kinds code.old.statements made.old right
+        → OnOk result (coded_by code.new made.new ≡ after before (elab.write_value (context_of context.now) target (lifting.value (context_of context.now) e kinds))) }
 {
     let before = &mut code.statements;
     let value = valued(
-        setting.numbers,
+        context.numbers,
         before,
         made,
         right.place,
         right.ty,
         right.source,
     )?;
-    add_write(alloc, setting, left, value, code)?;
+    add_write(alloc, context, left, value, code)?;
     Ok(())
 }
 
 // Adds what assigns the right side, which has been lifted, to a left side whose parts are settled.
 fn assign_operand(
     alloc: Global,
-    setting: &Setting<'_>,
+    context: &ElaborationContext<'_>,
     target: &TypedExpr,
     right: Operand,
     code: &mut Code,
     made: &mut Vec<Ty>,
 ) -> Result<(), AllocError>
     ensures { (e : ExprTree) → (before : List core.StmtTree) → (kinds : List Ty)
-        → IsOperand (setting_of setting.now) e before kinds code.old.statements made.old right
-        → OnOk result (coded_by code.new made.new ≡ after before (elab.assign_settled (setting_of setting.now) (typed.expr target.now) e kinds)) }
+        → IsOperand (context_of context.now) e before kinds code.old.statements made.old right
+        → OnOk result (coded_by code.new made.new ≡ after before (elab.assign_settled (context_of context.now) (typed.expr target.now) e kinds)) }
 {
     let left = left_of(target);
     match left {
         Left::Local(place, x, _) => {
-            let number = setting.numbers.number(x);
+            let number = context.numbers.number(x);
             add_put(place, number, right.source, code)?;
             Ok(())
         }
         _ => {
-            assign_value(alloc, setting, left, right, code, made)?;
+            assign_value(alloc, context, left, right, code, made)?;
             Ok(())
         }
     }
@@ -170,40 +170,40 @@ fn assign_operand(
 // Adds what assigns the right side to a left side whose parts are settled.
 fn assign_settled(
     alloc: Global,
-    setting: &Setting<'_>,
+    context: &ElaborationContext<'_>,
     target: &TypedExpr,
     e: &TypedExpr,
     code: &mut Code,
     made: &mut Vec<Ty>,
 ) -> Result<(), AllocError>
     ensures { OnOk result (coded_by code.new made.new
-        ≡ after (stmts_of code.old.statements) (elab.assign_settled (setting_of setting.now) (typed.expr target.now) (typed.expr e.now) made.old.items)) }
+        ≡ after (stmts_of code.old.statements) (elab.assign_settled (context_of context.now) (typed.expr target.now) (typed.expr e.now) made.old.items)) }
 {
-    let right = lift_operand(alloc, setting, e, code, made)?;
-    assign_operand(alloc, setting, target, right, code, made)?;
+    let right = lift_operand(alloc, context, e, code, made)?;
+    assign_operand(alloc, context, target, right, code, made)?;
     Ok(())
 }
 
 // Adds what assigns the right side, where the parts of the left side are evaluated before it.
 fn assign_behind(
     alloc: Global,
-    setting: &Setting<'_>,
+    context: &ElaborationContext<'_>,
     target: &TypedExpr,
     e: &TypedExpr,
     code: &mut Code,
     made: &mut Vec<Ty>,
 ) -> Result<(), AllocError>
     ensures { OnOk result (coded_by code.new made.new
-        ≡ after (stmts_of code.old.statements) (elab.assign_behind (setting_of setting.now) (typed.expr e.now) (elab.settle (setting_of setting.now) (typed.expr target.now) made.old.items))) }
+        ≡ after (stmts_of code.old.statements) (elab.assign_behind (context_of context.now) (typed.expr e.now) (elab.settle (context_of context.now) (typed.expr target.now) made.old.items))) }
 {
-    let kept = settle(alloc, setting, target, code, made)?;
+    let kept = settle(alloc, context, target, code, made)?;
     match kept {
         Some(settled) => {
-            assign_settled(alloc, setting, &settled, e, code, made)?;
+            assign_settled(alloc, context, &settled, e, code, made)?;
             Ok(())
         }
         None => {
-            assign_settled(alloc, setting, target, e, code, made)?;
+            assign_settled(alloc, context, target, e, code, made)?;
             Ok(())
         }
     }
@@ -212,20 +212,20 @@ fn assign_behind(
 // Adds `target = e`.
 fn assign(
     alloc: Global,
-    setting: &Setting<'_>,
+    context: &ElaborationContext<'_>,
     target: &TypedExpr,
     e: &TypedExpr,
     code: &mut Code,
     made: &mut Vec<Ty>,
 ) -> Result<(), AllocError>
     ensures { OnOk result (coded_by code.new made.new
-        ≡ after (stmts_of code.old.statements) (elab.assign (setting_of setting.now) (typed.expr target.now) (typed.expr e.now) made.old.items)) }
+        ≡ after (stmts_of code.old.statements) (elab.assign (context_of context.now) (typed.expr target.now) (typed.expr e.now) made.old.items)) }
 {
     if are_kept(has_call(target), has_call(e)) {
-        assign_behind(alloc, setting, target, e, code, made)?;
+        assign_behind(alloc, context, target, e, code, made)?;
         Ok(())
     } else {
-        assign_settled(alloc, setting, target, e, code, made)?;
+        assign_settled(alloc, context, target, e, code, made)?;
         Ok(())
     }
 }
@@ -233,7 +233,7 @@ fn assign(
 // An operation on an operand that stands before it, as the right side of an assignment.
 fn operation_on(
     alloc: Global,
-    setting: &Setting<'_>,
+    context: &ElaborationContext<'_>,
     operator: Operator,
     operand: Operand,
     e: &TypedExpr,
@@ -241,25 +241,25 @@ fn operation_on(
     made: &mut Vec<Ty>,
 ) -> Result<Source, AllocError>
     ensures { (t : ExprTree) → (before : List core.StmtTree) → (kinds : List Ty)
-        → IsOperand (setting_of setting.now) t before kinds code.old.statements made.old operand
+        → IsOperand (context_of context.now) t before kinds code.old.statements made.old operand
         → IfOk result (λ r. lifted_by code.new.statements made.new r
-        ≡ lifted_behind before (lifting.right_side (setting_of setting.now) (tree.BinaryOf operand.place operator t (typed.expr e.now)) kinds)) }
+        ≡ lifted_behind before (lifting.right_side (context_of context.now) (tree.BinaryOf operand.place operator t (typed.expr e.now)) kinds)) }
 {
     let place = operand.place;
     if are_kept(operand.has_call, has_call(e)) {
-        let source = lift_operation(alloc, setting, place, operator, e, operand, code, made)?;
+        let source = lift_operation(alloc, context, place, operator, e, operand, code, made)?;
         Ok(source)
     } else {
         let before = &mut code.statements;
         let left = valued(
-            setting.numbers,
+            context.numbers,
             before,
             made,
             place,
             operand.ty,
             operand.source,
         )?;
-        let right = plain(alloc, setting.numbers, e)?;
+        let right = plain(alloc, context.numbers, e)?;
         let value = binary(alloc, place, operator, left, right)?;
         Ok(Source::Pure(value))
     }
@@ -268,7 +268,7 @@ fn operation_on(
 // Adds `target = target op e` to a left side whose parts are settled.
 fn update_settled(
     alloc: Global,
-    setting: &Setting<'_>,
+    context: &ElaborationContext<'_>,
     operator: Operator,
     target: &TypedExpr,
     e: &TypedExpr,
@@ -276,13 +276,13 @@ fn update_settled(
     made: &mut Vec<Ty>,
 ) -> Result<(), AllocError>
     ensures { OnOk result (coded_by code.new made.new
-        ≡ after (stmts_of code.old.statements) (elab.assign_settled (setting_of setting.now) (typed.expr target.now)
+        ≡ after (stmts_of code.old.statements) (elab.assign_settled (context_of context.now) (typed.expr target.now)
         (tree.BinaryOf (shapes.place_of (typed.expr target.now)) operator (typed.expr target.now) (typed.expr e.now)) made.old.items)) }
 {
-    let read = lift_operand(alloc, setting, target, code, made)?;
+    let read = lift_operand(alloc, context, target, code, made)?;
     let place = read.place;
     let calls = are_kept(read.has_call, has_call(e));
-    let source = operation_on(alloc, setting, operator, read, e, code, made)?;
+    let source = operation_on(alloc, context, operator, read, e, code, made)?;
     let right = Operand {
         source,
         place,
@@ -290,14 +290,14 @@ fn update_settled(
         has_call: calls,
         is_lazy: is_lazy_operator(operator),
     };
-    assign_operand(alloc, setting, target, right, code, made)?;
+    assign_operand(alloc, context, target, right, code, made)?;
     Ok(())
 }
 
 // Adds `target op= e`, with the parts of the left side evaluated once.
 fn update(
     alloc: Global,
-    setting: &Setting<'_>,
+    context: &ElaborationContext<'_>,
     operator: Operator,
     target: &TypedExpr,
     e: &TypedExpr,
@@ -305,16 +305,16 @@ fn update(
     made: &mut Vec<Ty>,
 ) -> Result<(), AllocError>
     ensures { OnOk result (coded_by code.new made.new
-        ≡ after (stmts_of code.old.statements) (elab.update (setting_of setting.now) operator (typed.expr target.now) (typed.expr e.now) made.old.items)) }
+        ≡ after (stmts_of code.old.statements) (elab.update (context_of context.now) operator (typed.expr target.now) (typed.expr e.now) made.old.items)) }
 {
-    let kept = settle(alloc, setting, target, code, made)?;
+    let kept = settle(alloc, context, target, code, made)?;
     match kept {
         Some(settled) => {
-            update_settled(alloc, setting, operator, &settled, e, code, made)?;
+            update_settled(alloc, context, operator, &settled, e, code, made)?;
             Ok(())
         }
         None => {
-            update_settled(alloc, setting, operator, target, e, code, made)?;
+            update_settled(alloc, context, operator, target, e, code, made)?;
             Ok(())
         }
     }
@@ -323,7 +323,7 @@ fn update(
 /// Adds a plain or a compound assignment.
 pub(crate) fn assignment(
     alloc: Global,
-    setting: &Setting<'_>,
+    context: &ElaborationContext<'_>,
     target: &TypedExpr,
     operator: AssignOperator,
     e: &TypedExpr,
@@ -331,16 +331,16 @@ pub(crate) fn assignment(
     made: &mut Vec<Ty>,
 ) -> Result<(), AllocError>
     ensures { OnOk result (coded_by code.new made.new
-        ≡ after (stmts_of code.old.statements) (elab.assignment (setting_of setting.now) (typed.expr target.now) operator (typed.expr e.now) made.old.items)) }
+        ≡ after (stmts_of code.old.statements) (elab.assignment (context_of context.now) (typed.expr target.now) operator (typed.expr e.now) made.old.items)) }
 {
     match operator {
-        AssignOperator::Set => assign(alloc, setting, target, e, code, made),
-        AssignOperator::Add => update(alloc, setting, Operator::Add, target, e, code, made),
+        AssignOperator::Set => assign(alloc, context, target, e, code, made),
+        AssignOperator::Add => update(alloc, context, Operator::Add, target, e, code, made),
         AssignOperator::Subtract => {
-            update(alloc, setting, Operator::Subtract, target, e, code, made)
+            update(alloc, context, Operator::Subtract, target, e, code, made)
         }
         AssignOperator::Multiply => {
-            update(alloc, setting, Operator::Multiply, target, e, code, made)
+            update(alloc, context, Operator::Multiply, target, e, code, made)
         }
     }
 }
@@ -348,19 +348,19 @@ pub(crate) fn assignment(
 /// Adds `p++` or `p--`.
 pub(crate) fn one_more(
     alloc: Global,
-    setting: &Setting<'_>,
+    context: &ElaborationContext<'_>,
     target: &TypedExpr,
     operator: StepOperator,
     code: &mut Code,
     made: &mut Vec<Ty>,
 ) -> Result<(), AllocError>
     ensures { OnOk result (coded_by code.new made.new
-        ≡ after (stmts_of code.old.statements) (elab.one_more (setting_of setting.now) (typed.expr target.now) operator made.old.items)) }
+        ≡ after (stmts_of code.old.statements) (elab.one_more (context_of context.now) (typed.expr target.now) operator made.old.items)) }
 {
     let one = TypedExpr::Int(place_of(target), 1);
     update(
         alloc,
-        setting,
+        context,
         step_operator(operator),
         target,
         &one,
@@ -373,7 +373,7 @@ pub(crate) fn one_more(
 /// Adds `this.f = e` at this place.
 pub fn assign_field(
     alloc: Global,
-    setting: &Setting<'_>,
+    context: &ElaborationContext<'_>,
     place: Place,
     field: FieldId,
     ty: Ty,
@@ -382,11 +382,11 @@ pub fn assign_field(
     made: &mut Vec<Ty>,
 ) -> Result<(), AllocError>
     ensures { OnOk result (coded_by code.new made.new
-        ≡ after (stmts_of code.old.statements) (elab.simple (setting_of setting.now)
-        (tree.AssignOf (tree.FieldOf place (tree.ThisOf place setting.now.body.now.class.0) field.0 ty) operator.Set (typed.expr e.now)) made.old.items)) }
+        ≡ after (stmts_of code.old.statements) (elab.simple (context_of context.now)
+        (tree.AssignOf (tree.FieldOf place (tree.ThisOf place context.now.body.now.class.0) field.0 ty) operator.Set (typed.expr e.now)) made.old.items)) }
 {
-    let this = boxed(alloc, this_of(place, setting.body.class))?;
+    let this = boxed(alloc, this_of(place, context.body.class))?;
     let target = field_path(alloc, place, this, field, ty)?;
-    assign(alloc, setting, &target, e, code, made)?;
+    assign(alloc, context, &target, e, code, made)?;
     Ok(())
 }

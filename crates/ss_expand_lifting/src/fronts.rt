@@ -171,7 +171,7 @@ fn with_links(
     operand: Operand,
     links: &[TypedLink],
 ) -> Result<Operand, AllocError>
-    ensures { (s : elab.Setting) → (e : ExprTree) → (before : List core.StmtTree) → (types : List Ty) → (code : Vec Stmt) → (made : Vec Ty)
+    ensures { (s : elab.ElaborationContext) → (e : ExprTree) → (before : List core.StmtTree) → (types : List Ty) → (code : Vec Stmt) → (made : Vec Ty)
         → s.numbers ≡ numbers_of numbers.now → IsOperand s e before types code made operand
         → calls.has_call e ≡ false → calls.has_call (linked place e links.now) ≡ false
         → IfOk result (λ o. IsOperand s (linked place e links.now) before types code made o) }
@@ -199,7 +199,7 @@ fn with_steps(
     operand: Operand,
     steps: &[TypedStep],
 ) -> Result<Operand, AllocError>
-    ensures { (s : elab.Setting) → (e : ExprTree) → (before : List core.StmtTree) → (types : List Ty) → (code : Vec Stmt) → (made : Vec Ty)
+    ensures { (s : elab.ElaborationContext) → (e : ExprTree) → (before : List core.StmtTree) → (types : List Ty) → (code : Vec Stmt) → (made : Vec Ty)
         → s.numbers ≡ numbers_of numbers.now → IsOperand s e before types code made operand
         → calls.has_call e ≡ false → calls.has_call (stepped place e steps.now) ≡ false
         → IfOk result (λ o. IsOperand s (stepped place e steps.now) before types code made o) }
@@ -226,7 +226,7 @@ pub(crate) fn front_of_chain(
     links: &[TypedLink],
 ) -> Result<Front, AllocError>
     ensures fits { IfOk result (λ f. f.length ≤ length links.now) }
-    ensures front { (s : elab.Setting) → (e : ExprTree) → (before : List core.StmtTree) → (types : List Ty) → (code : Vec Stmt) → (made : Vec Ty)
+    ensures front { (s : elab.ElaborationContext) → (e : ExprTree) → (before : List core.StmtTree) → (types : List Ty) → (code : Vec Stmt) → (made : Vec Ty)
         → s.numbers ≡ numbers_of numbers.now → IsOperand s e before types code made operand
         → IfOk result (λ f. IsLinkFront s place e links.now before types code made f) }
 {
@@ -247,7 +247,7 @@ pub(crate) fn front_of_path(
     steps: &[TypedStep],
 ) -> Result<Front, AllocError>
     ensures fits { IfOk result (λ f. f.length ≤ length steps.now) }
-    ensures front { (s : elab.Setting) → (e : ExprTree) → (before : List core.StmtTree) → (types : List Ty) → (code : Vec Stmt) → (made : Vec Ty)
+    ensures front { (s : elab.ElaborationContext) → (e : ExprTree) → (before : List core.StmtTree) → (types : List Ty) → (code : Vec Stmt) → (made : Vec Ty)
         → s.numbers ≡ numbers_of numbers.now → IsOperand s e before types code made operand
         → IfOk result (λ f. IsStepFront s place e steps.now before types code made f) }
 {

@@ -8,13 +8,13 @@ ghost use Rattle.ss_expand_expressions.specs.Views.{numbers_of};
 ghost use Rattle.ss_typed.specs.Parts.{step_behind, stepped};
 ghost use Rattle.ss_expand_expressions.specs.Sources.{stmts_of};
 ghost use Rattle.ss_expand_expressions.specs.Operands.{IsOperand};
-ghost use Rattle.ss_expand_lifting.specs.Settings.{setting_of};
+ghost use Rattle.ss_expand_lifting.specs.Contexts.{context_of};
 ghost use Rattle.ss_expand_lifting.specs.Lefts.{part_tree, IsLeft};
 
 use crate::code::Code;
+use crate::context::ElaborationContext;
 use crate::fronts::{front_of_path, steps_behind};
 use crate::lifting::{lift_operand, lift_steps};
-use crate::settings::Setting;
 use ss_core::{Expr, FieldId, Place, Ty};
 use ss_expand_expressions::{Numbers, Operand, plain, plain_steps, whole_path};
 use ss_typed::{TypedExpr, TypedStep};
@@ -119,16 +119,16 @@ pub(crate) fn plain_part(
 /// The part lifted, with what is known of it.
 pub(crate) fn part_operand(
     alloc: Global,
-    setting: &Setting<'_>,
+    context: &ElaborationContext<'_>,
     part: Part<'_>,
     code: &mut Code,
     made: &mut Vec<Ty>,
 ) -> Result<Operand, AllocError>
-    ensures { IfOk result (λ o. IsOperand (setting_of setting.now) (part_tree part.entry) (stmts_of code.old.statements) made.old.items code.new.statements made.new o) }
+    ensures { IfOk result (λ o. IsOperand (context_of context.now) (part_tree part.entry) (stmts_of code.old.statements) made.old.items code.new.statements made.new o) }
 {
-    let first = lift_operand(alloc, setting, part.first, code, made)?;
-    let front = front_of_path(alloc, setting.numbers, part.place, first, part.steps)?;
+    let first = lift_operand(alloc, context, part.first, code, made)?;
+    let front = front_of_path(alloc, context.numbers, part.place, first, part.steps)?;
     let rest = steps_behind(part.steps, front.length);
-    let whole = lift_steps(alloc, setting, part.place, rest, front.operand, code, made)?;
+    let whole = lift_steps(alloc, context, part.place, rest, front.operand, code, made)?;
     Ok(whole)
 }

@@ -3,16 +3,16 @@
 
 mod assignments;
 mod code;
+mod context;
 mod fronts;
 mod lefts;
 mod lifting;
 mod operations;
-mod settings;
 mod settled;
 mod simple;
 
 pub use assignments::assign_field;
 pub use code::Code;
+pub use context::ElaborationContext;
 pub use lifting::{arguments, right_side, value};
-pub use settings::Setting;
 pub use simple::{base_call, declare, simple_statement};

@@ -14,17 +14,17 @@ ghost use Rattle.ss_expand_expressions.specs.Views.{numbers_of};
 ghost use Rattle.ss_typed.specs.Parts.{link_behind, linked, step_behind, stepped};
 ghost use Rattle.ss_expand_expressions.specs.Sources.{stmts_of, lifted_by, valued_by, listed_by, lifted_behind, valued_behind, listed_behind};
 ghost use Rattle.ss_expand_expressions.specs.Operands.{IsOperand, valued_as};
-ghost use Rattle.ss_expand_lifting.specs.Settings.{setting_of};
+ghost use Rattle.ss_expand_lifting.specs.Contexts.{context_of};
 ghost use Rattle.ss_expand_lifting.specs.Fronts.{LinksGoOn, StepsGoOn};
 ghost use Rattle.ss_expand_lifting.specs.Operations.{test_of, size_of, values_of};
 
 use crate::code::Code;
+use crate::context::ElaborationContext;
 use crate::fronts::{front_of_chain, front_of_path, links_behind, steps_behind};
 use crate::operations::{
     are_kept, cast_of, dispatched, is_and, keep_receiver, lazy_test, negate_of, not_of, operand_as,
     operand_field, operand_is, operand_length, plain_all,
 };
-use crate::settings::Setting;
 use ss_core::{Callee, Expr, Operator, Place, Ty};
 use ss_expand_bodies::{above_of, method_at, number_in_table, number_of_written, params_in};
 use ss_expand_expressions::{
@@ -42,19 +42,19 @@ use std::alloc::{AllocError, Global};
 #[cycle(lifting)]
 pub fn right_side(
     alloc: Global,
-    setting: &Setting<'_>,
+    context: &ElaborationContext<'_>,
     e: &TypedExpr,
     code: &mut Code,
     made: &mut Vec<Ty>,
 ) -> Result<Source, AllocError>
     ensures { IfOk result (λ r. lifted_by code.new.statements made.new r
-        ≡ lifted_behind (stmts_of code.old.statements) (elab.right_side (setting_of setting.now) (typed.expr e.now) made.old.items)) }
+        ≡ lifted_behind (stmts_of code.old.statements) (elab.right_side (context_of context.now) (typed.expr e.now) made.old.items)) }
 {
     if has_call(e) {
-        let source = lift(alloc, setting, e, code, made)?;
+        let source = lift(alloc, context, e, code, made)?;
         Ok(source)
     } else {
-        let value = plain(alloc, setting.numbers, e)?;
+        let value = plain(alloc, context.numbers, e)?;
         Ok(Source::Pure(value))
     }
 }
@@ -63,84 +63,84 @@ pub fn right_side(
 #[cycle(lifting)]
 fn lift(
     alloc: Global,
-    setting: &Setting<'_>,
+    context: &ElaborationContext<'_>,
     e: &TypedExpr,
     code: &mut Code,
     made: &mut Vec<Ty>,
 ) -> Result<Source, AllocError>
     ensures { calls.has_call (typed.expr e.now) ≡ true → IfOk result (λ r. lifted_by code.new.statements made.new r
-        ≡ lifted_behind (stmts_of code.old.statements) (elab.lifted (setting_of setting.now) (typed.expr e.now) made.old.items)) }
+        ≡ lifted_behind (stmts_of code.old.statements) (elab.lifted (context_of context.now) (typed.expr e.now) made.old.items)) }
 {
     match e {
         TypedExpr::Iff(place, a, b) => {
-            let left = lift_kept(alloc, setting, any_object(), a, code, made)?;
-            let right = lift_kept(alloc, setting, any_object(), b, code, made)?;
+            let left = lift_kept(alloc, context, any_object(), a, code, made)?;
+            let right = lift_kept(alloc, context, any_object(), b, code, made)?;
             let value = iff_of(alloc, *place, left, right)?;
             Ok(Source::Pure(value))
         }
         TypedExpr::Implies(place, a, b) => {
-            let negated = lift_negated(alloc, setting, a, code, made)?;
+            let negated = lift_negated(alloc, context, a, code, made)?;
             let x = begin_lazy(
-                setting.numbers,
+                context.numbers,
                 &mut code.statements,
                 made,
                 place_of(a),
                 negated,
             )?;
-            let source = lift_lazily(alloc, setting, *place, false, x, b, code, made)?;
+            let source = lift_lazily(alloc, context, *place, false, x, b, code, made)?;
             Ok(source)
         }
         TypedExpr::Chain(place, first, links) => {
-            let operand = lift_operand(alloc, setting, first, code, made)?;
+            let operand = lift_operand(alloc, context, first, code, made)?;
             let list = links.as_slice();
-            let front = front_of_chain(alloc, setting.numbers, *place, operand, list)?;
+            let front = front_of_chain(alloc, context.numbers, *place, operand, list)?;
             let rest = links_behind(list, front.length);
-            let whole = lift_links(alloc, setting, *place, rest, front.operand, code, made)?;
+            let whole = lift_links(alloc, context, *place, rest, front.operand, code, made)?;
             Ok(whole.source)
         }
         TypedExpr::Negate(place, e) => {
-            let value = lift_kept(alloc, setting, any_object(), e, code, made)?;
+            let value = lift_kept(alloc, context, any_object(), e, code, made)?;
             let negated = negate_of(alloc, *place, value)?;
             Ok(Source::Pure(negated))
         }
         TypedExpr::Not(place, e) => {
-            let value = lift_kept(alloc, setting, any_object(), e, code, made)?;
+            let value = lift_kept(alloc, context, any_object(), e, code, made)?;
             let negated = not_of(alloc, *place, value)?;
             Ok(Source::Pure(negated))
         }
         TypedExpr::Cast(place, class, non_null, e) => {
-            let value = lift_kept(alloc, setting, any_object(), e, code, made)?;
+            let value = lift_kept(alloc, context, any_object(), e, code, made)?;
             let cast = cast_of(alloc, *place, *class, *non_null, value)?;
             Ok(Source::Pure(cast))
         }
         TypedExpr::Path(place, first, steps) => {
-            let operand = lift_operand(alloc, setting, first, code, made)?;
+            let operand = lift_operand(alloc, context, first, code, made)?;
             let list = steps.as_slice();
-            let front = front_of_path(alloc, setting.numbers, *place, operand, list)?;
+            let front = front_of_path(alloc, context.numbers, *place, operand, list)?;
             let rest = steps_behind(list, front.length);
-            let whole = lift_steps(alloc, setting, *place, rest, front.operand, code, made)?;
+            let whole = lift_steps(alloc, context, *place, rest, front.operand, code, made)?;
             Ok(whole.source)
         }
         TypedExpr::New(place, class, es) => {
-            let params = params_in(constructor_of(setting.program, *class));
-            let values = arguments(alloc, setting, params, es, code, made)?;
+            let params = params_in(constructor_of(context.program, *class));
+            let values = arguments(alloc, context, params, es, code, made)?;
             Ok(Source::Created(*place, *class, values))
         }
         TypedExpr::NewArray(place, class, e) => {
-            let size = lift_size(alloc, setting, e, code, made)?;
+            let size = lift_size(alloc, context, e, code, made)?;
             Ok(Source::CreatedArray(*place, *class, size))
         }
         TypedExpr::Static(place, number, _, es) => {
-            let params = params_in(body_at(setting.program, *number));
-            let values = arguments(alloc, setting, params, es, code, made)?;
-            let callee = number_of_written(setting.program, setting.origins, *number)?;
+            let params = params_in(body_at(context.program, *number));
+            let values = arguments(alloc, context, params, es, code, made)?;
+            let callee = number_of_written(context.program, context.origins, *number)?;
             Ok(Source::Called(*place, Callee::Static(callee), values))
         }
         TypedExpr::Base(place, method, _, es) => {
-            let above = above_of(setting.program, setting.body.class);
-            let params = params_in(method_at(setting.program, above, *method));
-            let values = arguments(alloc, setting, params, es, code, made)?;
-            let callee = number_in_table(setting.program, setting.origins, above, *method)?;
+            let above = above_of(context.program, context.body.class);
+            let params = params_in(method_at(context.program, above, *method));
+            let values = arguments(alloc, context, params, es, code, made)?;
+            let callee = number_in_table(context.program, context.origins, above, *method)?;
             Ok(Source::Called(*place, Callee::Base(callee), values))
         }
         TypedExpr::Int(..)
@@ -154,7 +154,7 @@ fn lift(
         | TypedExpr::Quantified(..)
         | TypedExpr::State(..)
         | TypedExpr::Owners(..) => {
-            let value = plain(alloc, setting.numbers, e)?;
+            let value = plain(alloc, context.numbers, e)?;
             Ok(Source::Pure(value))
         }
     }
@@ -164,14 +164,14 @@ fn lift(
 #[cycle(lifting)]
 pub(crate) fn lift_operand(
     alloc: Global,
-    setting: &Setting<'_>,
+    context: &ElaborationContext<'_>,
     e: &TypedExpr,
     code: &mut Code,
     made: &mut Vec<Ty>,
 ) -> Result<Operand, AllocError>
-    ensures { IfOk result (λ o. IsOperand (setting_of setting.now) (typed.expr e.now) (stmts_of code.old.statements) made.old.items code.new.statements made.new o) }
+    ensures { IfOk result (λ o. IsOperand (context_of context.now) (typed.expr e.now) (stmts_of code.old.statements) made.old.items code.new.statements made.new o) }
 {
-    let source = right_side(alloc, setting, e, code, made)?;
+    let source = right_side(alloc, context, e, code, made)?;
     Ok(Operand {
         source,
         place: place_of(e),
@@ -185,17 +185,17 @@ pub(crate) fn lift_operand(
 #[cycle(lifting)]
 fn lift_kept(
     alloc: Global,
-    setting: &Setting<'_>,
+    context: &ElaborationContext<'_>,
     wanted: Ty,
     e: &TypedExpr,
     code: &mut Code,
     made: &mut Vec<Ty>,
 ) -> Result<Expr, AllocError>
     ensures { IfOk result (λ v. valued_by code.new.statements made.new v
-        ≡ valued_behind (stmts_of code.old.statements) (elab.operand (numbers_of setting.now.numbers.now) wanted (typed.expr e.now) (elab.lifted (setting_of setting.now) (typed.expr e.now)) made.old.items)) }
+        ≡ valued_behind (stmts_of code.old.statements) (elab.operand (numbers_of context.now.numbers.now) wanted (typed.expr e.now) (elab.lifted (context_of context.now) (typed.expr e.now)) made.old.items)) }
 {
-    let operand = lift_operand(alloc, setting, e, code, made)?;
-    let value = keep(setting.numbers, &mut code.statements, made, wanted, operand)?;
+    let operand = lift_operand(alloc, context, e, code, made)?;
+    let value = keep(context.numbers, &mut code.statements, made, wanted, operand)?;
     Ok(value)
 }
 
@@ -203,20 +203,20 @@ fn lift_kept(
 #[cycle(lifting)]
 fn lift_negated(
     alloc: Global,
-    setting: &Setting<'_>,
+    context: &ElaborationContext<'_>,
     a: &TypedExpr,
     code: &mut Code,
     made: &mut Vec<Ty>,
 ) -> Result<Source, AllocError>
     ensures { IfOk result (λ r. lifted_by code.new.statements made.new r
-        ≡ lifted_behind (stmts_of code.old.statements) (elab.negated (numbers_of setting.now.numbers.now) (typed.expr a.now) (elab.lifted (setting_of setting.now) (typed.expr a.now)) made.old.items)) }
+        ≡ lifted_behind (stmts_of code.old.statements) (elab.negated (numbers_of context.now.numbers.now) (typed.expr a.now) (elab.lifted (context_of context.now) (typed.expr a.now)) made.old.items)) }
 {
     if has_call(a) {
-        let value = lift_kept(alloc, setting, Ty::Bool, a, code, made)?;
+        let value = lift_kept(alloc, context, Ty::Bool, a, code, made)?;
         let negated = not_of(alloc, place_of(a), value)?;
         Ok(Source::Pure(negated))
     } else {
-        let value = plain(alloc, setting.numbers, a)?;
+        let value = plain(alloc, context.numbers, a)?;
         let negated = not_of(alloc, place_of(a), value)?;
         Ok(Source::Pure(negated))
     }
@@ -226,19 +226,19 @@ fn lift_negated(
 #[cycle(lifting)]
 fn lift_size(
     alloc: Global,
-    setting: &Setting<'_>,
+    context: &ElaborationContext<'_>,
     e: &TypedExpr,
     code: &mut Code,
     made: &mut Vec<Ty>,
 ) -> Result<Expr, AllocError>
     ensures { IfOk result (λ v. valued_by code.new.statements made.new v
-        ≡ valued_behind (stmts_of code.old.statements) (size_of (setting_of setting.now) (typed.expr e.now) made.old.items)) }
+        ≡ valued_behind (stmts_of code.old.statements) (size_of (context_of context.now) (typed.expr e.now) made.old.items)) }
 {
     if has_call(e) {
-        let value = lift_kept(alloc, setting, any_object(), e, code, made)?;
+        let value = lift_kept(alloc, context, any_object(), e, code, made)?;
         Ok(value)
     } else {
-        let value = plain(alloc, setting.numbers, e)?;
+        let value = plain(alloc, context.numbers, e)?;
         Ok(value)
     }
 }
@@ -247,7 +247,7 @@ fn lift_size(
 #[cycle(lifting)]
 fn lift_lazily(
     alloc: Global,
-    setting: &Setting<'_>,
+    context: &ElaborationContext<'_>,
     place: Place,
     holds: bool,
     x: usize,
@@ -256,10 +256,10 @@ fn lift_lazily(
     made: &mut Vec<Ty>,
 ) -> Result<Source, AllocError>
     ensures { IfOk result (λ r. lifted_by code.new.statements made.new r
-        ≡ elab.lazily_in place (typed.expr b.now) (test_of place holds) x (valued_as (stmts_of code.old.statements) (core.LocalExpr place x) made.old.items) (elab.right_side (setting_of setting.now) (typed.expr b.now))) }
+        ≡ elab.lazily_in place (typed.expr b.now) (test_of place holds) x (valued_as (stmts_of code.old.statements) (core.LocalExpr place x) made.old.items) (elab.right_side (context_of context.now) (typed.expr b.now))) }
 {
     let mut inner = Code::new(alloc);
-    let source = right_side(alloc, setting, b, &mut inner, made)?;
+    let source = right_side(alloc, context, b, &mut inner, made)?;
     let test = lazy_test(alloc, place, holds, x)?;
     let before = &mut code.statements;
     let value = end_lazy(
@@ -279,7 +279,7 @@ fn lift_lazily(
 #[cycle(lifting)]
 fn lift_links(
     alloc: Global,
-    setting: &Setting<'_>,
+    context: &ElaborationContext<'_>,
     place: Place,
     links: &[TypedLink],
     first: Operand,
@@ -287,12 +287,12 @@ fn lift_links(
     made: &mut Vec<Ty>,
 ) -> Result<Operand, AllocError>
     ensures { (e : ExprTree) → (before : List core.StmtTree) → (types : List Ty)
-        → IsOperand (setting_of setting.now) e before types code.old.statements made.old first → LinksGoOn place e links.now
-        → IfOk result (λ o. IsOperand (setting_of setting.now) (linked place e links.now) before types code.new.statements made.new o) }
+        → IsOperand (context_of context.now) e before types code.old.statements made.old first → LinksGoOn place e links.now
+        → IfOk result (λ o. IsOperand (context_of context.now) (linked place e links.now) before types code.new.statements made.new o) }
 {
     let mut operand = first;
     for link in links {
-        operand = lift_link(alloc, setting, place, link, operand, code, made)?;
+        operand = lift_link(alloc, context, place, link, operand, code, made)?;
     }
     Ok(operand)
 }
@@ -301,7 +301,7 @@ fn lift_links(
 #[cycle(lifting)]
 fn lift_link(
     alloc: Global,
-    setting: &Setting<'_>,
+    context: &ElaborationContext<'_>,
     place: Place,
     link: &TypedLink,
     operand: Operand,
@@ -309,11 +309,11 @@ fn lift_link(
     made: &mut Vec<Ty>,
 ) -> Result<Operand, AllocError>
     ensures { (e : ExprTree) → (before : List core.StmtTree) → (types : List Ty)
-        → IsOperand (setting_of setting.now) e before types code.old.statements made.old operand
+        → IsOperand (context_of context.now) e before types code.old.statements made.old operand
         → calls.has_call (link_behind link.now place e) ≡ true
-        → IfOk result (λ o. IsOperand (setting_of setting.now) (link_behind link.now place e) before types code.new.statements made.new o) }
+        → IfOk result (λ o. IsOperand (context_of context.now) (link_behind link.now place e) before types code.new.statements made.new o) }
 {
-    let source = lift_behind(alloc, setting, place, link, operand, code, made)?;
+    let source = lift_behind(alloc, context, place, link, operand, code, made)?;
     Ok(Operand {
         source,
         place,
@@ -327,7 +327,7 @@ fn lift_link(
 #[cycle(lifting)]
 fn lift_behind(
     alloc: Global,
-    setting: &Setting<'_>,
+    context: &ElaborationContext<'_>,
     place: Place,
     link: &TypedLink,
     operand: Operand,
@@ -335,22 +335,22 @@ fn lift_behind(
     made: &mut Vec<Ty>,
 ) -> Result<Source, AllocError>
     ensures { (e : ExprTree) → (before : List core.StmtTree) → (types : List Ty)
-        → IsOperand (setting_of setting.now) e before types code.old.statements made.old operand
-        → IfOk result (λ r. lifted_by code.new.statements made.new r ≡ lifted_behind before (elab.lifted (setting_of setting.now) (link_behind link.now place e) types)) }
+        → IsOperand (context_of context.now) e before types code.old.statements made.old operand
+        → IfOk result (λ r. lifted_by code.new.statements made.new r ≡ lifted_behind before (elab.lifted (context_of context.now) (link_behind link.now place e) types)) }
 {
     match link {
         TypedLink::Operation(operator, b) => {
-            let source = lift_operation(alloc, setting, place, *operator, b, operand, code, made)?;
+            let source = lift_operation(alloc, context, place, *operator, b, operand, code, made)?;
             Ok(source)
         }
         TypedLink::Is(class) => {
             let before = &mut code.statements;
-            let source = operand_is(alloc, setting.numbers, place, *class, operand, before, made)?;
+            let source = operand_is(alloc, context.numbers, place, *class, operand, before, made)?;
             Ok(source)
         }
         TypedLink::As(class) => {
             let before = &mut code.statements;
-            let source = operand_as(alloc, setting.numbers, place, *class, operand, before, made)?;
+            let source = operand_as(alloc, context.numbers, place, *class, operand, before, made)?;
             Ok(source)
         }
     }
@@ -360,7 +360,7 @@ fn lift_behind(
 #[cycle(lifting)]
 pub(crate) fn lift_operation(
     alloc: Global,
-    setting: &Setting<'_>,
+    context: &ElaborationContext<'_>,
     place: Place,
     operator: Operator,
     b: &TypedExpr,
@@ -369,10 +369,10 @@ pub(crate) fn lift_operation(
     made: &mut Vec<Ty>,
 ) -> Result<Source, AllocError>
     ensures { (e : ExprTree) → (before : List core.StmtTree) → (types : List Ty)
-        → IsOperand (setting_of setting.now) e before types code.old.statements made.old operand
-        → IfOk result (λ r. lifted_by code.new.statements made.new r ≡ lifted_behind before (elab.lifted (setting_of setting.now) (tree.BinaryOf place operator e (typed.expr b.now)) types)) }
+        → IsOperand (context_of context.now) e before types code.old.statements made.old operand
+        → IfOk result (λ r. lifted_by code.new.statements made.new r ≡ lifted_behind before (elab.lifted (context_of context.now) (tree.BinaryOf place operator e (typed.expr b.now)) types)) }
 {
-    let numbers = setting.numbers;
+    let numbers = context.numbers;
     if is_lazy_operator(operator) {
         let x = begin_lazy(
             numbers,
@@ -382,11 +382,11 @@ pub(crate) fn lift_operation(
             operand.source,
         )?;
         let holds = is_and(operator);
-        let source = lift_lazily(alloc, setting, place, holds, x, b, code, made)?;
+        let source = lift_lazily(alloc, context, place, holds, x, b, code, made)?;
         Ok(source)
     } else {
         let left = keep(numbers, &mut code.statements, made, any_object(), operand)?;
-        let right = lift_kept(alloc, setting, any_object(), b, code, made)?;
+        let right = lift_kept(alloc, context, any_object(), b, code, made)?;
         let value = binary(alloc, place, operator, left, right)?;
         Ok(Source::Pure(value))
     }
@@ -396,7 +396,7 @@ pub(crate) fn lift_operation(
 #[cycle(lifting)]
 pub(crate) fn lift_steps(
     alloc: Global,
-    setting: &Setting<'_>,
+    context: &ElaborationContext<'_>,
     place: Place,
     steps: &[TypedStep],
     first: Operand,
@@ -404,12 +404,12 @@ pub(crate) fn lift_steps(
     made: &mut Vec<Ty>,
 ) -> Result<Operand, AllocError>
     ensures { (e : ExprTree) → (before : List core.StmtTree) → (types : List Ty)
-        → IsOperand (setting_of setting.now) e before types code.old.statements made.old first → StepsGoOn place e steps.now
-        → IfOk result (λ o. IsOperand (setting_of setting.now) (stepped place e steps.now) before types code.new.statements made.new o) }
+        → IsOperand (context_of context.now) e before types code.old.statements made.old first → StepsGoOn place e steps.now
+        → IfOk result (λ o. IsOperand (context_of context.now) (stepped place e steps.now) before types code.new.statements made.new o) }
 {
     let mut operand = first;
     for step in steps {
-        operand = lift_step(alloc, setting, place, step, operand, code, made)?;
+        operand = lift_step(alloc, context, place, step, operand, code, made)?;
     }
     Ok(operand)
 }
@@ -418,7 +418,7 @@ pub(crate) fn lift_steps(
 #[cycle(lifting)]
 fn lift_step(
     alloc: Global,
-    setting: &Setting<'_>,
+    context: &ElaborationContext<'_>,
     place: Place,
     step: &TypedStep,
     operand: Operand,
@@ -426,12 +426,12 @@ fn lift_step(
     made: &mut Vec<Ty>,
 ) -> Result<Operand, AllocError>
     ensures { (e : ExprTree) → (before : List core.StmtTree) → (types : List Ty)
-        → IsOperand (setting_of setting.now) e before types code.old.statements made.old operand
+        → IsOperand (context_of context.now) e before types code.old.statements made.old operand
         → calls.has_call (step_behind step.now place e) ≡ true
-        → IfOk result (λ o. IsOperand (setting_of setting.now) (step_behind step.now place e) before types code.new.statements made.new o) }
+        → IfOk result (λ o. IsOperand (context_of context.now) (step_behind step.now place e) before types code.new.statements made.new o) }
 {
     let ty = step_type(operand.ty, step);
-    let source = lift_onward(alloc, setting, place, step, operand, code, made)?;
+    let source = lift_onward(alloc, context, place, step, operand, code, made)?;
     Ok(Operand {
         source,
         place,
@@ -445,7 +445,7 @@ fn lift_step(
 #[cycle(lifting)]
 fn lift_onward(
     alloc: Global,
-    setting: &Setting<'_>,
+    context: &ElaborationContext<'_>,
     place: Place,
     step: &TypedStep,
     operand: Operand,
@@ -453,15 +453,15 @@ fn lift_onward(
     made: &mut Vec<Ty>,
 ) -> Result<Source, AllocError>
     ensures { (e : ExprTree) → (before : List core.StmtTree) → (types : List Ty)
-        → IsOperand (setting_of setting.now) e before types code.old.statements made.old operand
-        → IfOk result (λ r. lifted_by code.new.statements made.new r ≡ lifted_behind before (elab.lifted (setting_of setting.now) (step_behind step.now place e) types)) }
+        → IsOperand (context_of context.now) e before types code.old.statements made.old operand
+        → IfOk result (λ r. lifted_by code.new.statements made.new r ≡ lifted_behind before (elab.lifted (context_of context.now) (step_behind step.now place e) types)) }
 {
     match step {
         TypedStep::Field(field, _) => {
             let before = &mut code.statements;
             let source = operand_field(
                 alloc,
-                setting.numbers,
+                context.numbers,
                 place,
                 *field,
                 operand,
@@ -471,16 +471,16 @@ fn lift_onward(
             Ok(source)
         }
         TypedStep::Element(index) => {
-            let source = lift_element(alloc, setting, place, index, operand, code, made)?;
+            let source = lift_element(alloc, context, place, index, operand, code, made)?;
             Ok(source)
         }
         TypedStep::Length => {
             let before = &mut code.statements;
-            let source = operand_length(alloc, setting.numbers, place, operand, before, made)?;
+            let source = operand_length(alloc, context.numbers, place, operand, before, made)?;
             Ok(source)
         }
         TypedStep::Call(method, _, es) => {
-            let source = lift_call(alloc, setting, place, *method, es, operand, code, made)?;
+            let source = lift_call(alloc, context, place, *method, es, operand, code, made)?;
             Ok(source)
         }
     }
@@ -490,7 +490,7 @@ fn lift_onward(
 #[cycle(lifting)]
 fn lift_element(
     alloc: Global,
-    setting: &Setting<'_>,
+    context: &ElaborationContext<'_>,
     place: Place,
     index: &TypedExpr,
     operand: Operand,
@@ -498,17 +498,17 @@ fn lift_element(
     made: &mut Vec<Ty>,
 ) -> Result<Source, AllocError>
     ensures { (e : ExprTree) → (before : List core.StmtTree) → (types : List Ty)
-        → IsOperand (setting_of setting.now) e before types code.old.statements made.old operand
-        → IfOk result (λ r. lifted_by code.new.statements made.new r ≡ lifted_behind before (elab.lifted (setting_of setting.now) (tree.ElementOf place e (typed.expr index.now)) types)) }
+        → IsOperand (context_of context.now) e before types code.old.statements made.old operand
+        → IfOk result (λ r. lifted_by code.new.statements made.new r ≡ lifted_behind before (elab.lifted (context_of context.now) (tree.ElementOf place e (typed.expr index.now)) types)) }
 {
     let array = keep(
-        setting.numbers,
+        context.numbers,
         &mut code.statements,
         made,
         any_object(),
         operand,
     )?;
-    let index = lift_kept(alloc, setting, any_object(), index, code, made)?;
+    let index = lift_kept(alloc, context, any_object(), index, code, made)?;
     let value = element_of(alloc, place, array, index)?;
     Ok(Source::Pure(value))
 }
@@ -517,7 +517,7 @@ fn lift_element(
 #[cycle(lifting)]
 fn lift_call(
     alloc: Global,
-    setting: &Setting<'_>,
+    context: &ElaborationContext<'_>,
     place: Place,
     method: usize,
     es: &[TypedExpr],
@@ -526,16 +526,16 @@ fn lift_call(
     made: &mut Vec<Ty>,
 ) -> Result<Source, AllocError>
     ensures { (e : ExprTree) → (t : Option Ty) → (before : List core.StmtTree) → (types : List Ty)
-        → IsOperand (setting_of setting.now) e before types code.old.statements made.old operand
-        → IfOk result (λ r. lifted_by code.new.statements made.new r ≡ lifted_behind before (elab.lifted (setting_of setting.now) (tree.CallOf place e method t (tree.arguments (typed.exprs es.now))) types)) }
+        → IsOperand (context_of context.now) e before types code.old.statements made.old operand
+        → IfOk result (λ r. lifted_by code.new.statements made.new r ≡ lifted_behind before (elab.lifted (context_of context.now) (tree.CallOf place e method t (tree.arguments (typed.exprs es.now))) types)) }
 {
     let class = class_of_type(operand.ty);
-    let params = params_in(method_at(setting.program, class, method));
+    let params = params_in(method_at(context.program, class, method));
     let in_arguments = have_call(es);
     let kept = are_kept(operand.has_call, in_arguments);
     let before = &mut code.statements;
-    let receiver = keep_receiver(setting.numbers, in_arguments, operand, before, made)?;
-    let values = lift_values(alloc, setting, params, kept, es, code, made)?;
+    let receiver = keep_receiver(context.numbers, in_arguments, operand, before, made)?;
+    let values = lift_values(alloc, context, params, kept, es, code, made)?;
     Ok(dispatched(place, class, method, receiver, values))
 }
 
@@ -543,19 +543,19 @@ fn lift_call(
 #[cycle(lifting)]
 fn lift_all(
     alloc: Global,
-    setting: &Setting<'_>,
+    context: &ElaborationContext<'_>,
     params: &[TypedParam],
     es: &[TypedExpr],
     code: &mut Code,
     made: &mut Vec<Ty>,
 ) -> Result<Vec<Expr>, AllocError>
     ensures { IfOk result (λ vs. listed_by code.new.statements made.new vs
-        ≡ listed_behind (stmts_of code.old.statements) (elab.in_temporaries (setting_of setting.now) (param_types params.now) (tree.arguments (typed.exprs es.now)) made.old.items)) }
+        ≡ listed_behind (stmts_of code.old.statements) (elab.in_temporaries (context_of context.now) (param_types params.now) (tree.arguments (typed.exprs es.now)) made.old.items)) }
 {
     let mut values = Vec::new(alloc);
     let mut rest = params;
     for e in es {
-        let value = lift_kept(alloc, setting, first_type(rest), e, code, made)?;
+        let value = lift_kept(alloc, context, first_type(rest), e, code, made)?;
         values.push(value)?;
         rest = other_params(rest);
     }
@@ -566,7 +566,7 @@ fn lift_all(
 #[cycle(lifting)]
 fn lift_values(
     alloc: Global,
-    setting: &Setting<'_>,
+    context: &ElaborationContext<'_>,
     params: &[TypedParam],
     kept: bool,
     es: &[TypedExpr],
@@ -574,13 +574,13 @@ fn lift_values(
     made: &mut Vec<Ty>,
 ) -> Result<Vec<Expr>, AllocError>
     ensures { IfOk result (λ vs. listed_by code.new.statements made.new vs
-        ≡ listed_behind (stmts_of code.old.statements) (values_of (setting_of setting.now) (param_types params.now) kept (tree.arguments (typed.exprs es.now)) made.old.items)) }
+        ≡ listed_behind (stmts_of code.old.statements) (values_of (context_of context.now) (param_types params.now) kept (tree.arguments (typed.exprs es.now)) made.old.items)) }
 {
     if kept {
-        let values = lift_all(alloc, setting, params, es, code, made)?;
+        let values = lift_all(alloc, context, params, es, code, made)?;
         Ok(values)
     } else {
-        let values = plain_all(alloc, setting.numbers, es)?;
+        let values = plain_all(alloc, context.numbers, es)?;
         Ok(values)
     }
 }
@@ -589,34 +589,34 @@ fn lift_values(
 #[cycle(lifting)]
 pub fn arguments(
     alloc: Global,
-    setting: &Setting<'_>,
+    context: &ElaborationContext<'_>,
     params: &[TypedParam],
     es: &[TypedExpr],
     code: &mut Code,
     made: &mut Vec<Ty>,
 ) -> Result<Vec<Expr>, AllocError>
     ensures { IfOk result (λ vs. listed_by code.new.statements made.new vs
-        ≡ listed_behind (stmts_of code.old.statements) (elab.arguments_of (setting_of setting.now) (param_types params.now) (tree.arguments (typed.exprs es.now)) made.old.items)) }
+        ≡ listed_behind (stmts_of code.old.statements) (elab.arguments_of (context_of context.now) (param_types params.now) (tree.arguments (typed.exprs es.now)) made.old.items)) }
 {
-    let values = lift_values(alloc, setting, params, have_call(es), es, code, made)?;
+    let values = lift_values(alloc, context, params, have_call(es), es, code, made)?;
     Ok(values)
 }
 
 /// Its value as an expression: that of a call is in a temporary.
 pub fn value(
     alloc: Global,
-    setting: &Setting<'_>,
+    context: &ElaborationContext<'_>,
     e: &TypedExpr,
     code: &mut Code,
     made: &mut Vec<Ty>,
 ) -> Result<Expr, AllocError>
     ensures { IfOk result (λ v. valued_by code.new.statements made.new v
-        ≡ valued_behind (stmts_of code.old.statements) (elab.value (setting_of setting.now) (typed.expr e.now) made.old.items)) }
+        ≡ valued_behind (stmts_of code.old.statements) (elab.value (context_of context.now) (typed.expr e.now) made.old.items)) }
 {
-    let source = right_side(alloc, setting, e, code, made)?;
+    let source = right_side(alloc, context, e, code, made)?;
     let before = &mut code.statements;
     let value = valued(
-        setting.numbers,
+        context.numbers,
         before,
         made,
         place_of(e),

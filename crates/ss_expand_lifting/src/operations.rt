@@ -97,7 +97,7 @@ pub(crate) fn operand_is(
     code: &mut Vec<Stmt>,
     made: &mut Vec<Ty>,
 ) -> Result<Source, AllocError>
-    ensures { (s : elab.Setting) → (e : ExprTree) → (before : List tree.StmtTree) → (types : List Ty)
+    ensures { (s : elab.ElaborationContext) → (e : ExprTree) → (before : List tree.StmtTree) → (types : List Ty)
         → s.numbers ≡ numbers_of numbers.now → IsOperand s e before types code.old made.old operand
         → IfOk result (λ r. lifted_by code.new made.new r ≡ lifted_behind before (elab.lifted s (IsOf place e class.0) types)) }
 {
@@ -116,7 +116,7 @@ pub(crate) fn operand_as(
     code: &mut Vec<Stmt>,
     made: &mut Vec<Ty>,
 ) -> Result<Source, AllocError>
-    ensures { (s : elab.Setting) → (e : ExprTree) → (before : List tree.StmtTree) → (types : List Ty)
+    ensures { (s : elab.ElaborationContext) → (e : ExprTree) → (before : List tree.StmtTree) → (types : List Ty)
         → s.numbers ≡ numbers_of numbers.now → IsOperand s e before types code.old made.old operand
         → IfOk result (λ r. lifted_by code.new made.new r ≡ lifted_behind before (elab.lifted s (AsOf place e class.0) types)) }
 {
@@ -135,7 +135,7 @@ pub(crate) fn operand_field(
     code: &mut Vec<Stmt>,
     made: &mut Vec<Ty>,
 ) -> Result<Source, AllocError>
-    ensures { (s : elab.Setting) → (e : ExprTree) → (t : Ty) → (before : List tree.StmtTree) → (types : List Ty)
+    ensures { (s : elab.ElaborationContext) → (e : ExprTree) → (t : Ty) → (before : List tree.StmtTree) → (types : List Ty)
         → s.numbers ≡ numbers_of numbers.now → IsOperand s e before types code.old made.old operand
         → IfOk result (λ r. lifted_by code.new made.new r ≡ lifted_behind before (elab.lifted s (FieldOf place e field.0 t) types)) }
 {
@@ -153,7 +153,7 @@ pub(crate) fn operand_length(
     code: &mut Vec<Stmt>,
     made: &mut Vec<Ty>,
 ) -> Result<Source, AllocError>
-    ensures { (s : elab.Setting) → (e : ExprTree) → (before : List tree.StmtTree) → (types : List Ty)
+    ensures { (s : elab.ElaborationContext) → (e : ExprTree) → (before : List tree.StmtTree) → (types : List Ty)
         → s.numbers ≡ numbers_of numbers.now → IsOperand s e before types code.old made.old operand
         → IfOk result (λ r. lifted_by code.new made.new r ≡ lifted_behind before (elab.lifted s (LengthOf place e) types)) }
 {
@@ -193,7 +193,7 @@ pub(crate) fn keep_receiver(
     code: &mut Vec<Stmt>,
     made: &mut Vec<Ty>,
 ) -> Result<Expr, AllocError>
-    ensures { (s : elab.Setting) → (e : ExprTree) → (before : List tree.StmtTree) → (types : List Ty)
+    ensures { (s : elab.ElaborationContext) → (e : ExprTree) → (before : List tree.StmtTree) → (types : List Ty)
         → s.numbers ≡ numbers_of numbers.now → IsOperand s e before types code.old made.old operand
         → IfOk result (λ v. valued_by code.new made.new v ≡ valued_behind before (receiver_of s in_arguments e types)) }
 {

@@ -12,14 +12,14 @@ ghost use Rattle.ss_expand_rules.specs.Simple as elab;
 ghost use Rattle.ss_typed.specs.Parts.{step_behind, stepped};
 ghost use Rattle.ss_expand_expressions.specs.Sources.{stmts_of};
 ghost use Rattle.ss_expand_expressions.specs.Operands.{IsOperand};
-ghost use Rattle.ss_expand_lifting.specs.Settings.{setting_of};
+ghost use Rattle.ss_expand_lifting.specs.Contexts.{context_of};
 ghost use Rattle.ss_expand_lifting.specs.Lefts.{part_tree};
 ghost use Rattle.ss_expand_lifting.specs.Made.{settled_by, settled_behind, settled_target};
 
 use crate::code::Code;
+use crate::context::ElaborationContext;
 use crate::lefts::{Left, Part, left_of, part_operand};
 use crate::lifting::lift_operand;
-use crate::settings::Setting;
 use ss_core::{ClassId, FieldId, Place, Ty};
 use ss_expand_expressions::{Operand, any_object, class_of_type, in_local, next, temporary_type};
 use ss_typed::{TypedExpr, TypedStep, is_this, place_of, type_of};
@@ -103,16 +103,16 @@ fn element_path(
 // Puts what has been lifted into a temporary, which stands for it from then on.
 fn settle_operand(
     alloc: Global,
-    setting: &Setting<'_>,
+    context: &ElaborationContext<'_>,
     operand: Operand,
     code: &mut Code,
     made: &mut Vec<Ty>,
 ) -> Result<Box<TypedExpr>, AllocError>
     ensures { (e : ExprTree) → (before : List core.StmtTree) → (kinds : List Ty)
-        → IsOperand (setting_of setting.now) e before kinds code.old.statements made.old operand
-        → IfOk result (λ t. settled_by code.new made.new (typed.expr t.value) ≡ settled_behind before (elab.settle_lifted (setting_of setting.now) e (lifting.right_side (setting_of setting.now) e kinds))) }
+        → IsOperand (context_of context.now) e before kinds code.old.statements made.old operand
+        → IfOk result (λ t. settled_by code.new made.new (typed.expr t.value) ≡ settled_behind before (elab.settle_lifted (context_of context.now) e (lifting.right_side (context_of context.now) e kinds))) }
 {
-    let x = next(setting.numbers, made)?;
+    let x = next(context.numbers, made)?;
     let ty = temporary_type(any_object(), operand.ty);
     let place = operand.place;
     in_local(&mut code.statements, made, place, x, ty, operand.source)?;
@@ -124,41 +124,41 @@ fn settle_operand(
 // An index, or an object without steps, in a temporary; `this` stays.
 fn settle_whole(
     alloc: Global,
-    setting: &Setting<'_>,
+    context: &ElaborationContext<'_>,
     e: &TypedExpr,
     code: &mut Code,
     made: &mut Vec<Ty>,
 ) -> Result<Box<TypedExpr>, AllocError>
     ensures { IfOk result (λ t. settled_by code.new made.new (typed.expr t.value)
-        ≡ settled_behind (stmts_of code.old.statements) (elab.settle_part (setting_of setting.now) (typed.expr e.now) made.old.items)) }
+        ≡ settled_behind (stmts_of code.old.statements) (elab.settle_part (context_of context.now) (typed.expr e.now) made.old.items)) }
 {
     if is_this(e) {
         let this = this_again(e);
         let kept = boxed(alloc, this)?;
         return Ok(kept);
     }
-    let operand = lift_operand(alloc, setting, e, code, made)?;
-    let settled = settle_operand(alloc, setting, operand, code, made)?;
+    let operand = lift_operand(alloc, context, e, code, made)?;
+    let settled = settle_operand(alloc, context, operand, code, made)?;
     Ok(settled)
 }
 
 // An object part in a temporary; `this` stays.
 fn settle_part(
     alloc: Global,
-    setting: &Setting<'_>,
+    context: &ElaborationContext<'_>,
     part: Part<'_>,
     code: &mut Code,
     made: &mut Vec<Ty>,
 ) -> Result<Box<TypedExpr>, AllocError>
     ensures { IfOk result (λ t. settled_by code.new made.new (typed.expr t.value)
-        ≡ settled_behind (stmts_of code.old.statements) (elab.settle_part (setting_of setting.now) (part_tree part.entry) made.old.items)) }
+        ≡ settled_behind (stmts_of code.old.statements) (elab.settle_part (context_of context.now) (part_tree part.entry) made.old.items)) }
 {
     if part.steps.is_empty() {
-        let settled = settle_whole(alloc, setting, part.first, code, made)?;
+        let settled = settle_whole(alloc, context, part.first, code, made)?;
         return Ok(settled);
     }
-    let operand = part_operand(alloc, setting, part, code, made)?;
-    let settled = settle_operand(alloc, setting, operand, code, made)?;
+    let operand = part_operand(alloc, context, part, code, made)?;
+    let settled = settle_operand(alloc, context, operand, code, made)?;
     Ok(settled)
 }
 
@@ -166,23 +166,23 @@ fn settle_part(
 /// is.
 pub(crate) fn settle(
     alloc: Global,
-    setting: &Setting<'_>,
+    context: &ElaborationContext<'_>,
     target: &TypedExpr,
     code: &mut Code,
     made: &mut Vec<Ty>,
 ) -> Result<Option<Box<TypedExpr>>, AllocError>
     ensures { IfOk result (λ t. settled_by code.new made.new (settled_target (typed.expr target.now) t)
-        ≡ settled_behind (stmts_of code.old.statements) (elab.settle (setting_of setting.now) (typed.expr target.now) made.old.items)) }
+        ≡ settled_behind (stmts_of code.old.statements) (elab.settle (context_of context.now) (typed.expr target.now) made.old.items)) }
 {
     match left_of(target) {
         Left::Field(place, object, field, ty) => {
-            let object = settle_part(alloc, setting, object, code, made)?;
+            let object = settle_part(alloc, context, object, code, made)?;
             let settled = field_path(alloc, place, object, field, ty)?;
             Ok(Some(settled))
         }
         Left::Element(place, array, index) => {
-            let array = settle_part(alloc, setting, array, code, made)?;
-            let index = settle_whole(alloc, setting, index, code, made)?;
+            let array = settle_part(alloc, context, array, code, made)?;
+            let index = settle_whole(alloc, context, index, code, made)?;
             let settled = element_path(alloc, place, array, index)?;
             Ok(Some(settled))
         }

@@ -11,7 +11,7 @@ use Rattle.ss_typed.specs.Tree.{ExprTree, SimpleTree, StmtTree, ExposeOf, BlockT
 use Rattle.ss_expand_rules.specs.Numbers.{all_plain}
 use Rattle.ss_typed.specs.Shapes.{place_of}
 use Rattle.ss_expand_rules.specs.Code.{Coded, nothing, after, then_code}
-use Rattle.ss_expand_rules.specs.Lifting.{Opened, Setting, Valued, next, right_side}
+use Rattle.ss_expand_rules.specs.Lifting.{Opened, ElaborationContext, Valued, next, right_side}
 use Rattle.ss_expand_rules.specs.Ends.{can_end, block_can_end, all_can_end}
 use Rattle.ss_expand_rules.specs.Statements as statements
 use Rattle.ss_expand_rules.specs.Statements.{branch, exposed, exposed_class, loop_from, loop_while, pack_of, leave_with, leave_value, packs, within, stmt, stmts, block}
@@ -59,7 +59,7 @@ branched p c0 c1 c2 one other t m1 m2 m3 v f g e1 e2 e3 e4 =
 
 -- ---- loops
 
-pub looped : (s : Setting) (p : Place) (is : List ExprTree) (c0 c2 prelude inner : Code) (t : core.ExprTree) (m1 m2 : List Ty) (v : Valued) (f : List Ty → Coded)
+pub looped : (s : ElaborationContext) (p : Place) (is : List ExprTree) (c0 c2 prelude inner : Code) (t : core.ExprTree) (m1 m2 : List Ty) (v : Valued) (f : List Ty → Coded)
     → valued_as prelude t m1 ≡ v → coded inner m2 ≡ f m1 → c2 ≡ c0 ++ LoopStmt p (all_plain s.numbers is) (code_of prelude) t (code_of inner) (map exposed s.exposes) ∷ []
     → coded c2 m2 ≡ after c0 (loop_from s p is v f)
 looped s p is c0 c2 prelude inner t m1 m2 v f e1 e2 e3 =
@@ -68,12 +68,12 @@ looped s p is c0 c2 prelude inner t m1 m2 v f e1 e2 e3 =
     ∙ ap (λ (x : Valued). coded (c0 ++ LoopStmt p (all_plain s.numbers is) (code_of x.code) x.value (code_of inner) (map exposed s.exposes) ∷ []) m2) e1
     ∙ ap (λ (x : Coded). coded (c0 ++ LoopStmt p (all_plain s.numbers is) (code_of v.code) v.value (code_of x.code) (map exposed s.exposes) ∷ []) x.made) b2
 
-pub loop_tested : (s : Setting) (p : Place) (is : List ExprTree) (e : Option ExprTree) (f : List Ty → Coded) (made : List Ty) → loop_from s p is (tested s p e made) f ≡ loop_while s p is e f made
+pub loop_tested : (s : ElaborationContext) (p : Place) (is : List ExprTree) (e : Option ExprTree) (f : List Ty → Coded) (made : List Ty) → loop_from s p is (tested s p e made) f ≡ loop_while s p is e f made
 loop_tested s p is None f made = refl
 loop_tested s p is (Some e) f made = refl
 
 -- a turn and its step
-pub turned : (s : Setting) (a : StmtTree) (x : Option SimpleTree) (i0 i1 i2 : Code) (m1 m2 m3 : List Ty) (reached : Bool)
+pub turned : (s : ElaborationContext) (a : StmtTree) (x : Option SimpleTree) (i0 i1 i2 : Code) (m1 m2 m3 : List Ty) (reached : Bool)
     → i0 ≡ [] → coded i1 m2 ≡ after i0 (stmt s a m1) → reached ≡ can_end a
     → coded i2 m3 ≡ after i1 ((if reached then statements.advance s x else nothing) m2)
     → coded i2 m3 ≡ turn_of s a x m1
@@ -84,11 +84,11 @@ turned s a x i0 i1 i2 m1 m2 m3 reached z e1 r e2 =
 
 -- ---- returns
 
-pub left_with : (s : Setting) (p : Place) (e : ExprTree) (os : List Opened) (made : List Ty) → leave_with s p (returned_in os s e made) ≡ leave_value s p e os made
+pub left_with : (s : ElaborationContext) (p : Place) (e : ExprTree) (os : List Opened) (made : List Ty) → leave_with s p (returned_in os s e made) ≡ leave_value s p e os made
 left_with s p e [] made = refl
 left_with s p e (o ∷ os) made = refl
 
-pub returned : (s : Setting) (p : Place) (c0 c1 c2 : Code) (t : core.ExprTree) (m1 : List Ty) (v : Valued)
+pub returned : (s : ElaborationContext) (p : Place) (c0 c1 c2 : Code) (t : core.ExprTree) (m1 : List Ty) (v : Valued)
     → valued_as c1 t m1 ≡ valued_behind c0 v → c2 ≡ c1 ++ (packs s p ++ core.ReturnStmt p (Some t) ∷ [])
     → coded c2 m1 ≡ after c0 (leave_with s p v)
 returned s p c0 c1 c2 t m1 v e1 e2 =
@@ -106,7 +106,7 @@ pub closed : (o : Opened) (reached : Bool) (inside : Coded) → statements.close
 closed o true inside = refl
 closed o false inside = ap (λ (c : Code). coded c inside.made) (sym (append-nil inside.code))
 
-pub exposed_by : (s : Setting) (p : Place) (e : ExprTree) (t : Option ℕ) (b : BlockTree) (c0 c1 c2 c3 : Code) (m0 m1 m2 : List Ty) (o : Opened) (inner : Setting) (reached : Bool)
+pub exposed_by : (s : ElaborationContext) (p : Place) (e : ExprTree) (t : Option ℕ) (b : BlockTree) (c0 c1 c2 c3 : Code) (m0 m1 m2 : List Ty) (o : Opened) (inner : ElaborationContext) (reached : Bool)
     → coded c1 m1 ≡ after c0 (opening s p e t m0) → o ≡ opened_by s p e t m0 → inner ≡ within s o → coded c2 m2 ≡ after c1 (block inner b m1)
     → reached ≡ block_can_end b → c3 ≡ c2 ++ closing o reached
     → coded c3 m2 ≡ after c0 (stmt s (ExposeOf p e t b) m0)
@@ -116,7 +116,7 @@ exposed_by s p e t b c0 c1 c2 c3 m0 m1 m2 o inner reached e1 eo ei e2 r e3 =
     let inside = block (within s u) b begun.made in
     let ends = block_can_end b in
     let b2 : coded c2 m2 ≡ after (c0 ++ begun.code) inside =
-    e2 ∙ ap (λ (x : Setting). after c1 (block x b m1)) (ei ∙ ap (λ (y : Opened). within s y) eo)
+    e2 ∙ ap (λ (x : ElaborationContext). after c1 (block x b m1)) (ei ∙ ap (λ (y : Opened). within s y) eo)
     ∙ ap (λ (x : Coded). after x.code (block (within s u) b x.made)) e1 in
     let b3 : c3 ≡ c2 ++ closing u ends = e3 ∙ ap (λ (y : Opened). c2 ++ closing y reached) eo ∙ ap (λ (y : Bool). c2 ++ closing u y) r in
     ap (λ (c : Code). coded c m2) b3
@@ -127,10 +127,10 @@ exposed_by s p e t b c0 c1 c2 c3 m0 m1 m2 o inner reached e1 eo ei e2 r e3 =
 -- ---- lists of statements
 
 -- these statements, where they can be reached
-abbrev pub stmts_where : Bool → Setting → StmtTrees → List Ty → Coded
+abbrev pub stmts_where : Bool → ElaborationContext → StmtTrees → List Ty → Coded
 stmts_where reached s ss made = (if reached then stmts s ss else nothing) made
 
-pub next_stmt : (s : Setting) (x : StmtTree) (ss : StmtTrees) (c1 c2 : Code) (m1 m2 : List Ty) (reached : Bool)
+pub next_stmt : (s : ElaborationContext) (x : StmtTree) (ss : StmtTrees) (c1 c2 : Code) (m1 m2 : List Ty) (reached : Bool)
     → coded c2 m2 ≡ after c1 ((if reached then stmt s x else nothing) m1)
     → after c2 (stmts_where (reached && can_end x) s ss m2) ≡ after c1 (stmts_where reached s (Before x ss) m1)
 next_stmt s x ss c1 c2 m1 m2 true e =
@@ -145,7 +145,7 @@ ends_next x ss false = refl
 
 -- ---- the beginning of an `expose`
 
-pub opened_code : (s : Setting) (p : Place) (e : ExprTree) (t : Option ℕ) (c0 c1 c2 : Code) (m0 m1 : List Ty) (x u : ℕ)
+pub opened_code : (s : ElaborationContext) (p : Place) (e : ExprTree) (t : Option ℕ) (c0 c1 c2 : Code) (m0 m1 : List Ty) (x u : ℕ)
     → valued_as c1 (LocalExpr (place_of e) x) m1 ≡ valued_behind c0 (object_of s e m0) → x ≡ next s.numbers (right_side s e m0).made → u ≡ exposed_class e t
     → c2 ≡ c1 ++ UnpackStmt p x u ∷ []
     → coded c2 m1 ≡ after c0 (opening s p e t m0)

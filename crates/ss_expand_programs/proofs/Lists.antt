@@ -14,7 +14,7 @@ use Rattle.ss_paths.specs.Opening.{is_first}
 use Rattle.ss_expand_rules.specs.Program.{field_at}
 use Rattle.ss_typed.specs.Lookups.{members_of}
 use Rattle.ss_expand_rules.specs.Code.{Coded, nothing, after, then_code}
-use Rattle.ss_expand_rules.specs.Lifting.{Setting}
+use Rattle.ss_expand_rules.specs.Lifting.{ElaborationContext}
 use Rattle.ss_expand_rules.specs.Simple.{base_call}
 use Rattle.ss_expand_rules.specs.Ends.{can_end, all_can_end}
 use Rattle.ss_expand_rules.specs.Constructors.{before_all, initialize, initializers_from, initializers_in, initializers, behind_initial, base_alone}
@@ -32,7 +32,7 @@ behind_one true e a f g h k =
     ap (λ (x : Coded). after a.code x) (k a.made) ∙ ap (λ (c : Code). coded c more.made) (sym (append_assoc a.code (f a.made).code more.code))
 behind_one false e a f g h k = ap (λ (c : Code). coded c a.made) (sym (append-nil (a.code ++ [])))
 
-pub stmts_all : (s : Setting) (xs ys : StmtTrees) (made : List Ty) → stmts s (before_all xs ys) made ≡ then_code (stmts s xs made) (if all_can_end xs then stmts s ys else nothing)
+pub stmts_all : (s : ElaborationContext) (xs ys : StmtTrees) (made : List Ty) → stmts s (before_all xs ys) made ≡ then_code (stmts s xs made) (if all_can_end xs then stmts s ys else nothing)
 stmts_all s NoMore ys made = refl
 stmts_all s (Before x xs) ys made = behind_one (can_end x) (all_can_end xs) (stmt s x made) (stmts s xs) (stmts s ys) (stmts s (before_all xs ys)) (λ m. stmts_all s xs ys m)
 
@@ -46,16 +46,16 @@ ends_all (Before x xs) ys = ap (λ b. can_end x && b) (ends_all xs ys) ∙ and_a
 
 -- ---- the last return
 
-last_code : (e : Bool) (s : Setting) (a : Coded)
+last_code : (e : Bool) (s : ElaborationContext) (a : Coded)
     → then_code a (if e then stmts s (Before (ReturnOf (closing_brace s.body.block) None) NoMore) else nothing) ≡ coded (a.code ++ last_return_of None s e) a.made
 last_code true s a = ap (λ (c : Code). coded (a.code ++ c) a.made) (append-nil (packs s (closing_brace s.body.block) ++ ReturnStmt (closing_brace s.body.block) None ∷ []))
 last_code false s a = refl
 
-pub with_last : (s : Setting) (r : Option Ty) (ss : StmtTrees) (made : List Ty) → stmts s (with_return s.body r ss) made ≡ coded ((stmts s ss made).code ++ last_return_of r s (all_can_end ss)) (stmts s ss made).made
+pub with_last : (s : ElaborationContext) (r : Option Ty) (ss : StmtTrees) (made : List Ty) → stmts s (with_return s.body r ss) made ≡ coded ((stmts s ss made).code ++ last_return_of r s (all_can_end ss)) (stmts s ss made).made
 with_last s (Some t) ss made = ap (λ (c : Code). coded c (stmts s ss made).made) (sym (append-nil (stmts s ss made).code))
 with_last s None ss made = stmts_all s ss (Before (ReturnOf (closing_brace s.body.block) None) NoMore) made ∙ last_code (all_can_end ss) s (stmts s ss made)
 
-pub all_written : (s : Setting) (r : Option Ty) (ss : StmtTrees) (c0 c1 c2 : Code) (m0 m1 : List Ty) (reached : Bool)
+pub all_written : (s : ElaborationContext) (r : Option Ty) (ss : StmtTrees) (c0 c1 c2 : Code) (m0 m1 : List Ty) (reached : Bool)
     → coded c1 m1 ≡ after c0 (stmts s ss m0) → reached ≡ all_can_end ss → c2 ≡ c1 ++ last_return_of r s reached
     → coded c2 m1 ≡ after c0 (stmts s (with_return s.body r ss) m0)
 all_written s r ss c0 c1 c2 m0 m1 reached e1 e e2 =
@@ -105,7 +105,7 @@ front_ends p t (s ∷ ss) = front_one (is_first p t s) p t s ss refl (front_ends
 pub rest_of : {X : Type 0} (n : ℕ) (xs : List X) → take (length xs - n) (drop n xs) ≡ drop n xs
 rest_of n xs = take_all (length xs - n) (drop n xs) (omega (arith, length-drop n xs))
 
-pub between : (s : Setting) (front others : StmtTrees) (c0 c1 c2 c3 : Code) (m0 m1 m2 m3 : List Ty)
+pub between : (s : ElaborationContext) (front others : StmtTrees) (c0 c1 c2 c3 : Code) (m0 m1 m2 m3 : List Ty)
     → all_can_end front ≡ true → coded c1 m1 ≡ after c0 (stmts s front m0) → coded c2 m2 ≡ after c1 (base_call s s.body.place typed.NoMore m1)
     → coded c3 m3 ≡ after c2 (stmts s others m2)
     → coded c3 m3 ≡ after c0 (stmts s (before_all front (Before (base_alone s.body) others)) m0)

@@ -17,7 +17,7 @@ ghost use Rattle.ss_expand_expressions.specs.Sources.{stmts_of};
 ghost use Rattle.ss_expand_expressions.specs.Views.{numbers_of};
 ghost use Rattle.ss_expand_bodies.specs.Origins.{origin_of};
 ghost use Rattle.ss_expand_lifting.specs.Made.{coded_by};
-ghost use Rattle.ss_expand_lifting.specs.Settings.{setting_of};
+ghost use Rattle.ss_expand_lifting.specs.Contexts.{context_of};
 ghost use Rattle.ss_expand_programs.specs.Written.{own_stmts, last_return};
 
 use crate::constructors::add_constructor;
@@ -29,7 +29,7 @@ use ss_expand_bodies::{
     Origin, add_copies, add_locals, add_temporaries, core_flags, first_copy, first_param, numbers,
 };
 use ss_expand_expressions::{Numbers, assigned_locals};
-use ss_expand_lifting::{Code, Setting};
+use ss_expand_lifting::{Code, ElaborationContext};
 use ss_typed::{Typed, TypedBlock, TypedBody, TypedParam, TypedStmt};
 use std::alloc::{AllocError, Global};
 
@@ -44,20 +44,20 @@ fn statements_of(block: &TypedBlock) -> &[TypedStmt]
 // reached.
 fn add_own(
     alloc: Global,
-    setting: &Setting<'_>,
+    context: &ElaborationContext<'_>,
     code: &mut Code,
     made: &mut Vec<Ty>,
 ) -> Result<bool, AllocError>
     ensures coded { OnOk result (coded_by code.new made.new
-        ≡ after (stmts_of code.old.statements) (statements.stmts (setting_of setting.now) (own_stmts (typed.typed setting.now.program.now) (typed.body setting.now.body.now)) made.old.items)) }
-    ensures ends { IfOk result (λ reached. reached ≡ ends.all_can_end (own_stmts (typed.typed setting.now.program.now) (typed.body setting.now.body.now))) }
+        ≡ after (stmts_of code.old.statements) (statements.stmts (context_of context.now) (own_stmts (typed.typed context.now.program.now) (typed.body context.now.body.now)) made.old.items)) }
+    ensures ends { IfOk result (λ reached. reached ≡ ends.all_can_end (own_stmts (typed.typed context.now.program.now) (typed.body context.now.body.now))) }
 {
-    let stmts = statements_of(&setting.body.block);
-    if setting.body.flags.ctor {
-        let reached = add_constructor(alloc, setting, stmts, code, made)?;
+    let stmts = statements_of(&context.body.block);
+    if context.body.flags.ctor {
+        let reached = add_constructor(alloc, context, stmts, code, made)?;
         Ok(reached)
     } else {
-        let reached = add_stmts(alloc, setting, stmts, code, made)?;
+        let reached = add_stmts(alloc, context, stmts, code, made)?;
         Ok(reached)
     }
 }
@@ -70,15 +70,19 @@ fn closing_brace(block: &TypedBlock) -> Place
 }
 
 // Adds the return at the closing brace of a body without a result, where that can be reached.
-fn add_last_return(setting: &Setting<'_>, code: &mut Code, reached: bool) -> Result<(), AllocError>
-    ensures { OnOk result (stmts_of code.new.statements ≡ stmts_of code.old.statements ++ last_return (setting_of setting.now) reached) }
+fn add_last_return(
+    context: &ElaborationContext<'_>,
+    code: &mut Code,
+    reached: bool,
+) -> Result<(), AllocError>
+    ensures { OnOk result (stmts_of code.new.statements ≡ stmts_of code.old.statements ++ last_return (context_of context.now) reached) }
 {
-    match setting.body.result {
+    match context.body.result {
         Some(_) => Ok(()),
         None => {
             if reached {
-                let brace = closing_brace(&setting.body.block);
-                leave_empty(setting, code, brace)?;
+                let brace = closing_brace(&context.body.block);
+                leave_empty(context, code, brace)?;
                 Ok(())
             } else {
                 Ok(())
@@ -90,15 +94,15 @@ fn add_last_return(setting: &Setting<'_>, code: &mut Code, reached: bool) -> Res
 // Adds all statements of the body.
 fn add_all(
     alloc: Global,
-    setting: &Setting<'_>,
+    context: &ElaborationContext<'_>,
     code: &mut Code,
     made: &mut Vec<Ty>,
 ) -> Result<(), AllocError>
     ensures { OnOk result (coded_by code.new made.new
-        ≡ after (stmts_of code.old.statements) (statements.stmts (setting_of setting.now) (bodies.statements (typed.typed setting.now.program.now) (typed.body setting.now.body.now)) made.old.items)) }
+        ≡ after (stmts_of code.old.statements) (statements.stmts (context_of context.now) (bodies.statements (typed.typed context.now.program.now) (typed.body context.now.body.now)) made.old.items)) }
 {
-    let reached = add_own(alloc, setting, code, made)?;
-    add_last_return(setting, code, reached)?;
+    let reached = add_own(alloc, context, code, made)?;
+    add_last_return(context, code, reached)?;
     Ok(())
 }
 
@@ -117,7 +121,7 @@ fn write_behind(
         ≡ after (stmts_of code.old.statements) (bodies.code_with (typed.typed program.now) (typed.body body.now) temporaries)) }
 {
     let numbers = numbers(alloc, body, temporaries)?;
-    let setting = Setting {
+    let context = ElaborationContext {
         program,
         origins,
         body,
@@ -125,7 +129,7 @@ fn write_behind(
         exposes: Vec::new(alloc),
     };
     let mut made = Vec::new(alloc);
-    add_all(alloc, &setting, code, &mut made)?;
+    add_all(alloc, &context, code, &mut made)?;
     Ok(made)
 }
 

@@ -11,13 +11,13 @@ ghost use Rattle.ss_expand_expressions.specs.Operands.{valued_as};
 ghost use Rattle.ss_expand_expressions.specs.Sources.{stmts_of, valued_behind};
 ghost use Rattle.ss_expand_bodies.specs.Exposes.{opened_of};
 ghost use Rattle.ss_expand_lifting.specs.Made.{coded_by};
-ghost use Rattle.ss_expand_lifting.specs.Settings.{setting_of};
+ghost use Rattle.ss_expand_lifting.specs.Contexts.{context_of};
 ghost use Rattle.ss_expand_programs.specs.Opening.{opened_by, object_of, opening};
 
 use ss_core::{ClassId, Place, Stmt, Ty};
 use ss_expand_bodies::{Opened, pack_of};
 use ss_expand_expressions::{any_object, class_of_type, in_local, next, temporary_type};
-use ss_expand_lifting::{Code, Setting, right_side};
+use ss_expand_lifting::{Code, ElaborationContext, right_side};
 use ss_typed::{TypedExpr, place_of, type_of};
 use std::alloc::{AllocError, Global};
 
@@ -34,17 +34,17 @@ fn exposed_class(e: &TypedExpr, class: Option<ClassId>) -> ClassId
 // Puts the object into a temporary, whose number is the result.
 fn put_object(
     alloc: Global,
-    setting: &Setting<'_>,
+    context: &ElaborationContext<'_>,
     e: &TypedExpr,
     code: &mut Code,
     made: &mut Vec<Ty>,
 ) -> Result<usize, AllocError>
     ensures kept { IfOk result (λ x. valued_as (stmts_of code.new.statements) (LocalExpr (shapes.place_of (typed.expr e.now)) x) made.new.items
-        ≡ valued_behind (stmts_of code.old.statements) (object_of (setting_of setting.now) (typed.expr e.now) made.old.items)) }
-    ensures number { IfOk result (λ x. x ≡ lifting.next (setting_of setting.now).numbers (lifting.right_side (setting_of setting.now) (typed.expr e.now) made.old.items).made) }
+        ≡ valued_behind (stmts_of code.old.statements) (object_of (context_of context.now) (typed.expr e.now) made.old.items)) }
+    ensures number { IfOk result (λ x. x ≡ lifting.next (context_of context.now).numbers (lifting.right_side (context_of context.now) (typed.expr e.now) made.old.items).made) }
 {
-    let source = right_side(alloc, setting, e, code, made)?;
-    let x = next(setting.numbers, made)?;
+    let source = right_side(alloc, context, e, code, made)?;
+    let x = next(context.numbers, made)?;
     let ty = temporary_type(any_object(), type_of(e));
     let place = place_of(e);
     in_local(&mut code.statements, made, place, x, ty, source)?;
@@ -62,7 +62,7 @@ fn add_unpack(code: &mut Code, place: Place, local: usize, class: ClassId) -> Re
 /// Adds the beginning: the object in a temporary, and its unpack.
 pub fn open(
     alloc: Global,
-    setting: &Setting<'_>,
+    context: &ElaborationContext<'_>,
     place: Place,
     e: &TypedExpr,
     class: Option<ClassId>,
@@ -70,10 +70,10 @@ pub fn open(
     made: &mut Vec<Ty>,
 ) -> Result<Opened, AllocError>
     ensures coded { OnOk result (coded_by code.new made.new
-        ≡ after (stmts_of code.old.statements) (opening (setting_of setting.now) place (typed.expr e.now) (option_map (λ t. t.0) class) made.old.items)) }
-    ensures opened { IfOk result (λ o. opened_of o ≡ opened_by (setting_of setting.now) place (typed.expr e.now) (option_map (λ t. t.0) class) made.old.items) }
+        ≡ after (stmts_of code.old.statements) (opening (context_of context.now) place (typed.expr e.now) (option_map (λ t. t.0) class) made.old.items)) }
+    ensures opened { IfOk result (λ o. opened_of o ≡ opened_by (context_of context.now) place (typed.expr e.now) (option_map (λ t. t.0) class) made.old.items) }
 {
-    let local = put_object(alloc, setting, e, code, made)?;
+    let local = put_object(alloc, context, e, code, made)?;
     let class = exposed_class(e, class);
     add_unpack(code, place, local, class)?;
     Ok(Opened {
@@ -92,20 +92,20 @@ fn with_opened(alloc: Global, exposes: &[Opened], opened: Opened) -> Result<Vec<
     Ok(list)
 }
 
-/// The same setting inside one more `expose`.
+/// The same context inside one more `expose`.
 pub fn within<'a>(
     alloc: Global,
-    setting: &Setting<'a>,
+    context: &ElaborationContext<'a>,
     opened: Opened,
-) -> Result<Setting<'a>, AllocError>
-    ensures { IfOk result (λ s. setting_of s ≡ statements.within (setting_of setting.now) (opened_of opened)) }
+) -> Result<ElaborationContext<'a>, AllocError>
+    ensures { IfOk result (λ s. context_of s ≡ statements.within (context_of context.now) (opened_of opened)) }
 {
-    let exposes = with_opened(alloc, &setting.exposes, opened)?;
-    Ok(Setting {
-        program: setting.program,
-        origins: setting.origins,
-        body: setting.body,
-        numbers: setting.numbers,
+    let exposes = with_opened(alloc, &context.exposes, opened)?;
+    Ok(ElaborationContext {
+        program: context.program,
+        origins: context.origins,
+        body: context.body,
+        numbers: context.numbers,
         exposes,
     })
 }

@@ -11,11 +11,11 @@ ghost use Rattle.ss_expand_rules.specs.Constructors as constructors;
 ghost use Rattle.ss_expand_rules.specs.Program as elab;
 ghost use Rattle.ss_expand_rules.specs.Statements as statements;
 ghost use Rattle.ss_expand_expressions.specs.Sources.{stmts_of};
-ghost use Rattle.ss_expand_lifting.specs.Settings.{setting_of};
+ghost use Rattle.ss_expand_lifting.specs.Contexts.{context_of};
 
 use ss_core::{ClassId, Field, FieldId, Place, Ty};
 use ss_expand_bodies::field_at;
-use ss_expand_lifting::{Code, Setting, assign_field};
+use ss_expand_lifting::{Code, ElaborationContext, assign_field};
 use ss_paths_assigned::Fields;
 use ss_typed::{Typed, TypedClass, TypedExpr, TypedField, members_of};
 use std::alloc::{AllocError, Global};
@@ -23,7 +23,7 @@ use std::alloc::{AllocError, Global};
 // Adds the assignment with which the field of `this` begins.
 fn add_assignment(
     alloc: Global,
-    setting: &Setting<'_>,
+    context: &ElaborationContext<'_>,
     number: FieldId,
     place: Place,
     field: &Field,
@@ -31,17 +31,17 @@ fn add_assignment(
     code: &mut Code,
     made: &mut Vec<Ty>,
 ) -> Result<(), AllocError>
-    ensures { (more : StmtTrees) → OnOk result (after (stmts_of code.new.statements) (statements.stmts (setting_of setting.now) more made.new.items)
-        ≡ after (stmts_of code.old.statements) (statements.stmts (setting_of setting.now) (Before (constructors.initial_assignment setting.now.body.now.class.0 number.0 place (core.field_of field.now) (typed.expr e.now)) more) made.old.items)) }
+    ensures { (more : StmtTrees) → OnOk result (after (stmts_of code.new.statements) (statements.stmts (context_of context.now) more made.new.items)
+        ≡ after (stmts_of code.old.statements) (statements.stmts (context_of context.now) (Before (constructors.initial_assignment context.now.body.now.class.0 number.0 place (core.field_of field.now) (typed.expr e.now)) more) made.old.items)) }
 {
-    assign_field(alloc, setting, place, number, field.ty, e, code, made)?;
+    assign_field(alloc, context, place, number, field.ty, e, code, made)?;
     Ok(())
 }
 
 // The same of a field that is declared, where there is one.
 fn add_declared(
     alloc: Global,
-    setting: &Setting<'_>,
+    context: &ElaborationContext<'_>,
     number: FieldId,
     member: &TypedField,
     found: Option<(ClassId, &Field)>,
@@ -49,12 +49,12 @@ fn add_declared(
     code: &mut Code,
     made: &mut Vec<Ty>,
 ) -> Result<(), AllocError>
-    ensures { (more : StmtTrees) → OnOk result (after (stmts_of code.new.statements) (statements.stmts (setting_of setting.now) more made.new.items)
-        ≡ after (stmts_of code.old.statements) (statements.stmts (setting_of setting.now) (constructors.initialize setting.now.body.now.class.0 number.0 (typed.field member.now) (Some (typed.expr e.now)) (option_map (λ p. in_class p.0.0 (core.field_of p.1.now)) found.entry) more) made.old.items)) }
+    ensures { (more : StmtTrees) → OnOk result (after (stmts_of code.new.statements) (statements.stmts (context_of context.now) more made.new.items)
+        ≡ after (stmts_of code.old.statements) (statements.stmts (context_of context.now) (constructors.initialize context.now.body.now.class.0 number.0 (typed.field member.now) (Some (typed.expr e.now)) (option_map (λ p. in_class p.0.0 (core.field_of p.1.now)) found.entry) more) made.old.items)) }
 {
     match found {
         Some((_, field)) => {
-            add_assignment(alloc, setting, number, member.place, field, e, code, made)?;
+            add_assignment(alloc, context, number, member.place, field, e, code, made)?;
             Ok(())
         }
         None => Ok(()),
@@ -64,19 +64,19 @@ fn add_declared(
 // Adds the assignment with which the field of this number begins, where it begins with a value.
 fn add_initial(
     alloc: Global,
-    setting: &Setting<'_>,
+    context: &ElaborationContext<'_>,
     number: FieldId,
     field: &TypedField,
     code: &mut Code,
     made: &mut Vec<Ty>,
 ) -> Result<(), AllocError>
-    ensures { (more : StmtTrees) → OnOk result (after (stmts_of code.new.statements) (statements.stmts (setting_of setting.now) more made.new.items)
-        ≡ after (stmts_of code.old.statements) (statements.stmts (setting_of setting.now) (constructors.initialize setting.now.body.now.class.0 number.0 (typed.field field.now) (option_map typed.expr field.now.initial) (elab.field_at (typed.typed setting.now.program.now) number.0) more) made.old.items)) }
+    ensures { (more : StmtTrees) → OnOk result (after (stmts_of code.new.statements) (statements.stmts (context_of context.now) more made.new.items)
+        ≡ after (stmts_of code.old.statements) (statements.stmts (context_of context.now) (constructors.initialize context.now.body.now.class.0 number.0 (typed.field field.now) (option_map typed.expr field.now.initial) (elab.field_at (typed.typed context.now.program.now) number.0) more) made.old.items)) }
 {
     match &field.initial {
         Some(e) => {
-            let found = field_at(setting.program, number);
-            add_declared(alloc, setting, number, field, found, e, code, made)?;
+            let found = field_at(context.program, number);
+            add_declared(alloc, context, number, field, found, e, code, made)?;
             Ok(())
         }
         None => Ok(()),
@@ -93,18 +93,18 @@ fn number_behind(number: u32) -> Result<u32, AllocError>
 // Adds the assignments of these fields, of which the first has this number.
 fn add_fields(
     alloc: Global,
-    setting: &Setting<'_>,
+    context: &ElaborationContext<'_>,
     first: u32,
     fields: &[TypedField],
     code: &mut Code,
     made: &mut Vec<Ty>,
 ) -> Result<(), AllocError>
-    ensures { (more : StmtTrees) → OnOk result (after (stmts_of code.new.statements) (statements.stmts (setting_of setting.now) more made.new.items)
-        ≡ after (stmts_of code.old.statements) (statements.stmts (setting_of setting.now) (constructors.before_all (constructors.initializers_from (typed.typed setting.now.program.now) setting.now.body.now.class.0 first (map typed.field fields.now)) more) made.old.items)) }
+    ensures { (more : StmtTrees) → OnOk result (after (stmts_of code.new.statements) (statements.stmts (context_of context.now) more made.new.items)
+        ≡ after (stmts_of code.old.statements) (statements.stmts (context_of context.now) (constructors.before_all (constructors.initializers_from (typed.typed context.now.program.now) context.now.body.now.class.0 first (map typed.field fields.now)) more) made.old.items)) }
 {
     let mut number = first;
     for field in fields {
-        add_initial(alloc, setting, FieldId(number), field, code, made)?;
+        add_initial(alloc, context, FieldId(number), field, code, made)?;
         number = number_behind(number)?;
     }
     Ok(())
@@ -132,18 +132,18 @@ fn first_field(alloc: Global, program: &Typed, class: ClassId) -> Result<u32, Al
 // Adds the assignments of the fields of a class.
 fn add_members(
     alloc: Global,
-    setting: &Setting<'_>,
+    context: &ElaborationContext<'_>,
     members: Option<&TypedClass>,
     code: &mut Code,
     made: &mut Vec<Ty>,
 ) -> Result<(), AllocError>
-    ensures { (more : StmtTrees) → OnOk result (after (stmts_of code.new.statements) (statements.stmts (setting_of setting.now) more made.new.items)
-        ≡ after (stmts_of code.old.statements) (statements.stmts (setting_of setting.now) (constructors.before_all (constructors.initializers_in (typed.typed setting.now.program.now) setting.now.body.now.class.0 (option_map (λ m. typed.members m.now) members.entry)) more) made.old.items)) }
+    ensures { (more : StmtTrees) → OnOk result (after (stmts_of code.new.statements) (statements.stmts (context_of context.now) more made.new.items)
+        ≡ after (stmts_of code.old.statements) (statements.stmts (context_of context.now) (constructors.before_all (constructors.initializers_in (typed.typed context.now.program.now) context.now.body.now.class.0 (option_map (λ m. typed.members m.now) members.entry)) more) made.old.items)) }
 {
     match members {
         Some(members) => {
-            let first = first_field(alloc, setting.program, setting.body.class)?;
-            add_fields(alloc, setting, first, &members.fields, code, made)?;
+            let first = first_field(alloc, context.program, context.body.class)?;
+            add_fields(alloc, context, first, &members.fields, code, made)?;
             Ok(())
         }
         None => Ok(()),
@@ -153,14 +153,14 @@ fn add_members(
 /// Adds the assignments with which the fields of the body's class begin.
 pub fn add_initializers(
     alloc: Global,
-    setting: &Setting<'_>,
+    context: &ElaborationContext<'_>,
     code: &mut Code,
     made: &mut Vec<Ty>,
 ) -> Result<(), AllocError>
-    ensures { (more : StmtTrees) → OnOk result (after (stmts_of code.new.statements) (statements.stmts (setting_of setting.now) more made.new.items)
-        ≡ after (stmts_of code.old.statements) (statements.stmts (setting_of setting.now) (constructors.before_all (constructors.initializers (typed.typed setting.now.program.now) setting.now.body.now.class.0) more) made.old.items)) }
+    ensures { (more : StmtTrees) → OnOk result (after (stmts_of code.new.statements) (statements.stmts (context_of context.now) more made.new.items)
+        ≡ after (stmts_of code.old.statements) (statements.stmts (context_of context.now) (constructors.before_all (constructors.initializers (typed.typed context.now.program.now) context.now.body.now.class.0) more) made.old.items)) }
 {
-    let members = members_of(setting.program, setting.body.class);
-    add_members(alloc, setting, members, code, made)?;
+    let members = members_of(context.program, context.body.class);
+    add_members(alloc, context, members, code, made)?;
     Ok(())
 }

@@ -12,41 +12,41 @@ ghost use Rattle.ss_expand_expressions.specs.Views.{numbers_of};
 ghost use Rattle.ss_expand_expressions.specs.Sources.{stmts_of, valued_by, valued_behind};
 ghost use Rattle.ss_expand_bodies.specs.Exposes.{opened_of};
 ghost use Rattle.ss_expand_lifting.specs.Made.{coded_by};
-ghost use Rattle.ss_expand_lifting.specs.Settings.{setting_of};
+ghost use Rattle.ss_expand_lifting.specs.Contexts.{context_of};
 ghost use Rattle.ss_expand_programs.specs.Loops.{tested};
 
 use ss_core::{Exposed, Expr, Loop, Place, Stmt, Ty};
 use ss_expand_bodies::{add_plain, list_exposed};
 use ss_expand_expressions::plain;
-use ss_expand_lifting::{Code, Setting, declare, simple_statement, value};
+use ss_expand_lifting::{Code, ElaborationContext, declare, simple_statement, value};
 use ss_typed::{TypedExpr, TypedInit, TypedSimple};
 use std::alloc::{AllocError, Global};
 
 /// Adds an `assert`.
 pub fn add_assert(
     alloc: Global,
-    setting: &Setting<'_>,
+    context: &ElaborationContext<'_>,
     place: Place,
     e: &TypedExpr,
     code: &mut Code,
 ) -> Result<(), AllocError>
-    ensures { OnOk result (stmts_of code.new.statements ≡ stmts_of code.old.statements ++ AssertStmt place (elab.plain (numbers_of setting.now.numbers.now) (typed.expr e.now)) ∷ []) }
+    ensures { OnOk result (stmts_of code.new.statements ≡ stmts_of code.old.statements ++ AssertStmt place (elab.plain (numbers_of context.now.numbers.now) (typed.expr e.now)) ∷ []) }
 {
-    let e = plain(alloc, setting.numbers, e)?;
+    let e = plain(alloc, context.numbers, e)?;
     code.add(Stmt::Assert(place, e))
 }
 
 /// Adds an `assume`.
 pub fn add_assume(
     alloc: Global,
-    setting: &Setting<'_>,
+    context: &ElaborationContext<'_>,
     place: Place,
     e: &TypedExpr,
     code: &mut Code,
 ) -> Result<(), AllocError>
-    ensures { OnOk result (stmts_of code.new.statements ≡ stmts_of code.old.statements ++ AssumeStmt place (elab.plain (numbers_of setting.now.numbers.now) (typed.expr e.now)) ∷ []) }
+    ensures { OnOk result (stmts_of code.new.statements ≡ stmts_of code.old.statements ++ AssumeStmt place (elab.plain (numbers_of context.now.numbers.now) (typed.expr e.now)) ∷ []) }
 {
-    let e = plain(alloc, setting.numbers, e)?;
+    let e = plain(alloc, context.numbers, e)?;
     code.add(Stmt::Assume(place, e))
 }
 
@@ -60,15 +60,15 @@ fn boxed(alloc: Global, e: Expr) -> Result<Box<Expr>, AllocError>
 /// The value in a box.
 pub fn boxed_value(
     alloc: Global,
-    setting: &Setting<'_>,
+    context: &ElaborationContext<'_>,
     e: &TypedExpr,
     code: &mut Code,
     made: &mut Vec<Ty>,
 ) -> Result<Box<Expr>, AllocError>
     ensures { IfOk result (λ v. valued_by code.new.statements made.new v.value
-        ≡ valued_behind (stmts_of code.old.statements) (lifting.value (setting_of setting.now) (typed.expr e.now) made.old.items)) }
+        ≡ valued_behind (stmts_of code.old.statements) (lifting.value (context_of context.now) (typed.expr e.now) made.old.items)) }
 {
-    let value = value(alloc, setting, e, code, made)?;
+    let value = value(alloc, context, e, code, made)?;
     let kept = boxed(alloc, value)?;
     Ok(kept)
 }
@@ -90,13 +90,13 @@ pub fn add_branch(
 // The invariants of a loop.
 fn invariants_of(
     alloc: Global,
-    setting: &Setting<'_>,
+    context: &ElaborationContext<'_>,
     invariants: &[TypedExpr],
 ) -> Result<Vec<Expr>, AllocError>
-    ensures { IfOk result (λ es. core.exprs es.items ≡ elab.all_plain (numbers_of setting.now.numbers.now) (typed.exprs invariants.now)) }
+    ensures { IfOk result (λ es. core.exprs es.items ≡ elab.all_plain (numbers_of context.now.numbers.now) (typed.exprs invariants.now)) }
 {
     let mut exprs = Vec::new(alloc);
-    add_plain(alloc, &mut exprs, setting.numbers, invariants)?;
+    add_plain(alloc, &mut exprs, context.numbers, invariants)?;
     Ok(exprs)
 }
 
@@ -124,7 +124,7 @@ fn loop_of(
 /// Adds a loop with this prelude, this test and this body.
 pub fn add_loop(
     alloc: Global,
-    setting: &Setting<'_>,
+    context: &ElaborationContext<'_>,
     code: &mut Code,
     place: Place,
     invariants: &[TypedExpr],
@@ -132,10 +132,10 @@ pub fn add_loop(
     test: Box<Expr>,
     turn: Code,
 ) -> Result<(), AllocError>
-    ensures { OnOk result (stmts_of code.new.statements ≡ stmts_of code.old.statements ++ LoopStmt place (elab.all_plain (numbers_of setting.now.numbers.now) (typed.exprs invariants.now)) (core.code_of (stmts_of prelude.statements)) (core.expr test.value) (core.code_of (stmts_of turn.statements)) (map statements.exposed (map opened_of setting.now.exposes.items)) ∷ []) }
+    ensures { OnOk result (stmts_of code.new.statements ≡ stmts_of code.old.statements ++ LoopStmt place (elab.all_plain (numbers_of context.now.numbers.now) (typed.exprs invariants.now)) (core.code_of (stmts_of prelude.statements)) (core.expr test.value) (core.code_of (stmts_of turn.statements)) (map statements.exposed (map opened_of context.now.exposes.items)) ∷ []) }
 {
-    let invariants = invariants_of(alloc, setting, invariants)?;
-    let exposes = list_exposed(alloc, &setting.exposes)?;
+    let invariants = invariants_of(alloc, context, invariants)?;
+    let exposes = list_exposed(alloc, &context.exposes)?;
     let test = Box::into_inner(test);
     let made = loop_of(place, invariants, prelude, test, turn, exposes);
     code.add(made)?;
@@ -152,17 +152,17 @@ fn boxed_true(alloc: Global, place: Place) -> Result<Box<Expr>, AllocError>
 /// The test of a `for`, which without one is `true`.
 pub fn test_of(
     alloc: Global,
-    setting: &Setting<'_>,
+    context: &ElaborationContext<'_>,
     place: Place,
     test: &Option<TypedExpr>,
     code: &mut Code,
     made: &mut Vec<Ty>,
 ) -> Result<Box<Expr>, AllocError>
     ensures { IfOk result (λ v. valued_by code.new.statements made.new v.value
-        ≡ valued_behind (stmts_of code.old.statements) (tested (setting_of setting.now) place (option_map typed.expr test.now) made.old.items)) }
+        ≡ valued_behind (stmts_of code.old.statements) (tested (context_of context.now) place (option_map typed.expr test.now) made.old.items)) }
 {
     match test {
-        Some(e) => boxed_value(alloc, setting, e, code, made),
+        Some(e) => boxed_value(alloc, context, e, code, made),
         None => {
             let test = boxed_true(alloc, place)?;
             Ok(test)
@@ -173,17 +173,17 @@ pub fn test_of(
 /// Adds what a `for` begins with.
 pub fn begin(
     alloc: Global,
-    setting: &Setting<'_>,
+    context: &ElaborationContext<'_>,
     beginning: &Option<TypedInit>,
     code: &mut Code,
     made: &mut Vec<Ty>,
 ) -> Result<(), AllocError>
     ensures { OnOk result (coded_by code.new made.new
-        ≡ after (stmts_of code.old.statements) (statements.begin (setting_of setting.now) (option_map typed.init_of beginning.now) made.old.items)) }
+        ≡ after (stmts_of code.old.statements) (statements.begin (context_of context.now) (option_map typed.init_of beginning.now) made.old.items)) }
 {
     match beginning {
-        Some(TypedInit::Declare(declarators)) => declare(alloc, setting, declarators, code, made),
-        Some(TypedInit::Simple(stmt)) => simple_statement(alloc, setting, stmt, code, made),
+        Some(TypedInit::Declare(declarators)) => declare(alloc, context, declarators, code, made),
+        Some(TypedInit::Simple(stmt)) => simple_statement(alloc, context, stmt, code, made),
         None => Ok(()),
     }
 }
@@ -191,16 +191,16 @@ pub fn begin(
 // Adds the step of a `for`.
 fn advance(
     alloc: Global,
-    setting: &Setting<'_>,
+    context: &ElaborationContext<'_>,
     step: &Option<TypedSimple>,
     code: &mut Code,
     made: &mut Vec<Ty>,
 ) -> Result<(), AllocError>
     ensures { OnOk result (coded_by code.new made.new
-        ≡ after (stmts_of code.old.statements) (statements.advance (setting_of setting.now) (option_map typed.simple_of step.now) made.old.items)) }
+        ≡ after (stmts_of code.old.statements) (statements.advance (context_of context.now) (option_map typed.simple_of step.now) made.old.items)) }
 {
     match step {
-        Some(stmt) => simple_statement(alloc, setting, stmt, code, made),
+        Some(stmt) => simple_statement(alloc, context, stmt, code, made),
         None => Ok(()),
     }
 }
@@ -208,17 +208,17 @@ fn advance(
 /// Adds it where the end of the turn before it can be reached.
 pub fn advance_where(
     alloc: Global,
-    setting: &Setting<'_>,
+    context: &ElaborationContext<'_>,
     reached: bool,
     step: &Option<TypedSimple>,
     code: &mut Code,
     made: &mut Vec<Ty>,
 ) -> Result<(), AllocError>
     ensures { OnOk result (coded_by code.new made.new
-        ≡ after (stmts_of code.old.statements) ((if reached then statements.advance (setting_of setting.now) (option_map typed.simple_of step.now) else nothing) made.old.items)) }
+        ≡ after (stmts_of code.old.statements) ((if reached then statements.advance (context_of context.now) (option_map typed.simple_of step.now) else nothing) made.old.items)) }
 {
     if reached {
-        advance(alloc, setting, step, code, made)
+        advance(alloc, context, step, code, made)
     } else {
         Ok(())
     }

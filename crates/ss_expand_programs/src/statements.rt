@@ -9,7 +9,7 @@ ghost use Rattle.ss_expand_rules.specs.Lifting as lifting;
 ghost use Rattle.ss_expand_rules.specs.Statements as statements;
 ghost use Rattle.ss_expand_expressions.specs.Sources.{stmts_of};
 ghost use Rattle.ss_expand_lifting.specs.Made.{coded_by};
-ghost use Rattle.ss_expand_lifting.specs.Settings.{setting_of};
+ghost use Rattle.ss_expand_lifting.specs.Contexts.{context_of};
 ghost use Rattle.ss_expand_programs.specs.Loops.{turn_of};
 
 use crate::exposing::{close, open, within};
@@ -19,7 +19,7 @@ use crate::looping::{
 };
 use ss_core::{ClassId, Place, Ty};
 use ss_expand_expressions::can_end;
-use ss_expand_lifting::{Code, Setting, declare, simple_statement};
+use ss_expand_lifting::{Code, ElaborationContext, declare, simple_statement};
 use ss_typed::{TypedBlock, TypedExpr, TypedInit, TypedSimple, TypedStmt};
 use std::alloc::{AllocError, Global};
 
@@ -34,62 +34,62 @@ fn either(first: bool, second: bool) -> bool
 #[cycle(statements)]
 fn add_stmt(
     alloc: Global,
-    setting: &Setting<'_>,
+    context: &ElaborationContext<'_>,
     stmt: &TypedStmt,
     code: &mut Code,
     made: &mut Vec<Ty>,
 ) -> Result<bool, AllocError>
     ensures coded { OnOk result (coded_by code.new made.new
-        ≡ after (stmts_of code.old.statements) (statements.stmt (setting_of setting.now) (typed.stmt_of stmt.now) made.old.items)) }
+        ≡ after (stmts_of code.old.statements) (statements.stmt (context_of context.now) (typed.stmt_of stmt.now) made.old.items)) }
     ensures ends { IfOk result (λ reached. reached ≡ ends.can_end (typed.stmt_of stmt.now)) }
 {
     match stmt {
-        TypedStmt::Block(block) => add_block(alloc, setting, block, code, made),
+        TypedStmt::Block(block) => add_block(alloc, context, block, code, made),
         TypedStmt::Declare(declarators) => {
-            declare(alloc, setting, declarators, code, made)?;
+            declare(alloc, context, declarators, code, made)?;
             Ok(true)
         }
         TypedStmt::Simple(simple) => {
-            simple_statement(alloc, setting, simple, code, made)?;
+            simple_statement(alloc, context, simple, code, made)?;
             Ok(true)
         }
         TypedStmt::If(place, e, first, None) => {
-            add_if(alloc, setting, first, *place, e, code, made)?;
+            add_if(alloc, context, first, *place, e, code, made)?;
             Ok(true)
         }
         TypedStmt::If(place, e, first, Some(second)) => {
-            let test = boxed_value(alloc, setting, e, code, made)?;
+            let test = boxed_value(alloc, context, e, code, made)?;
             let mut one = Code::new(alloc);
-            let first_ends = add_stmt(alloc, setting, first, &mut one, made)?;
+            let first_ends = add_stmt(alloc, context, first, &mut one, made)?;
             let mut other = Code::new(alloc);
-            let second_ends = add_stmt(alloc, setting, second, &mut other, made)?;
+            let second_ends = add_stmt(alloc, context, second, &mut other, made)?;
             add_branch(code, *place, test, one, other)?;
             Ok(either(first_ends, second_ends))
         }
         TypedStmt::While(place, e, invariants, turn) => {
-            add_while(alloc, setting, turn, *place, e, invariants, code, made)?;
+            add_while(alloc, context, turn, *place, e, invariants, code, made)?;
             Ok(can_end(stmt))
         }
         TypedStmt::For(place, beginning, test, step, invariants, turn) => {
             add_for(
-                alloc, setting, turn, *place, beginning, test, step, invariants, code, made,
+                alloc, context, turn, *place, beginning, test, step, invariants, code, made,
             )?;
             Ok(can_end(stmt))
         }
         TypedStmt::Return(place, e) => {
-            leave(alloc, setting, *place, e, code, made)?;
+            leave(alloc, context, *place, e, code, made)?;
             Ok(false)
         }
         TypedStmt::Assert(place, e) => {
-            add_assert(alloc, setting, *place, e, code)?;
+            add_assert(alloc, context, *place, e, code)?;
             Ok(true)
         }
         TypedStmt::Assume(place, e) => {
-            add_assume(alloc, setting, *place, e, code)?;
+            add_assume(alloc, context, *place, e, code)?;
             Ok(true)
         }
         TypedStmt::Expose(place, e, class, block) => {
-            add_expose(alloc, setting, block, *place, e, *class, code, made)
+            add_expose(alloc, context, block, *place, e, *class, code, made)
         }
         TypedStmt::Empty(_) => Ok(true),
     }
@@ -99,7 +99,7 @@ fn add_stmt(
 #[cycle(statements)]
 fn add_if(
     alloc: Global,
-    setting: &Setting<'_>,
+    context: &ElaborationContext<'_>,
     first: &TypedStmt,
     place: Place,
     e: &TypedExpr,
@@ -107,11 +107,11 @@ fn add_if(
     made: &mut Vec<Ty>,
 ) -> Result<(), AllocError>
     ensures { OnOk result (coded_by code.new made.new
-        ≡ after (stmts_of code.old.statements) (statements.branch place (lifting.value (setting_of setting.now) (typed.expr e.now) made.old.items) (statements.stmt (setting_of setting.now) (typed.stmt_of first.now)) nothing)) }
+        ≡ after (stmts_of code.old.statements) (statements.branch place (lifting.value (context_of context.now) (typed.expr e.now) made.old.items) (statements.stmt (context_of context.now) (typed.stmt_of first.now)) nothing)) }
 {
-    let test = boxed_value(alloc, setting, e, code, made)?;
+    let test = boxed_value(alloc, context, e, code, made)?;
     let mut one = Code::new(alloc);
-    add_stmt(alloc, setting, first, &mut one, made)?;
+    add_stmt(alloc, context, first, &mut one, made)?;
     let other = Code::new(alloc);
     add_branch(code, place, test, one, other)?;
     Ok(())
@@ -121,7 +121,7 @@ fn add_if(
 #[cycle(statements)]
 fn add_while(
     alloc: Global,
-    setting: &Setting<'_>,
+    context: &ElaborationContext<'_>,
     turn: &TypedStmt,
     place: Place,
     e: &TypedExpr,
@@ -130,14 +130,14 @@ fn add_while(
     made: &mut Vec<Ty>,
 ) -> Result<(), AllocError>
     ensures { OnOk result (coded_by code.new made.new
-        ≡ after (stmts_of code.old.statements) (statements.loop (setting_of setting.now) place (typed.exprs invariants.now) (typed.expr e.now) (statements.stmt (setting_of setting.now) (typed.stmt_of turn.now)) made.old.items)) }
+        ≡ after (stmts_of code.old.statements) (statements.loop (context_of context.now) place (typed.exprs invariants.now) (typed.expr e.now) (statements.stmt (context_of context.now) (typed.stmt_of turn.now)) made.old.items)) }
 {
     let mut prelude = Code::new(alloc);
-    let test = boxed_value(alloc, setting, e, &mut prelude, made)?;
+    let test = boxed_value(alloc, context, e, &mut prelude, made)?;
     let mut inner = Code::new(alloc);
-    add_stmt(alloc, setting, turn, &mut inner, made)?;
+    add_stmt(alloc, context, turn, &mut inner, made)?;
     add_loop(
-        alloc, setting, code, place, invariants, prelude, test, inner,
+        alloc, context, code, place, invariants, prelude, test, inner,
     )?;
     Ok(())
 }
@@ -146,7 +146,7 @@ fn add_while(
 #[cycle(statements)]
 fn add_for(
     alloc: Global,
-    setting: &Setting<'_>,
+    context: &ElaborationContext<'_>,
     turn: &TypedStmt,
     place: Place,
     beginning: &Option<TypedInit>,
@@ -157,11 +157,11 @@ fn add_for(
     made: &mut Vec<Ty>,
 ) -> Result<(), AllocError>
     ensures { OnOk result (coded_by code.new made.new
-        ≡ after (stmts_of code.old.statements) (statements.stmt (setting_of setting.now) (ForOf place (option_map typed.init_of beginning.now) (option_map typed.expr test.now) (option_map typed.simple_of step.now) (typed.exprs invariants.now) (typed.stmt_of turn.now)) made.old.items)) }
+        ≡ after (stmts_of code.old.statements) (statements.stmt (context_of context.now) (ForOf place (option_map typed.init_of beginning.now) (option_map typed.expr test.now) (option_map typed.simple_of step.now) (typed.exprs invariants.now) (typed.stmt_of turn.now)) made.old.items)) }
 {
-    begin(alloc, setting, beginning, code, made)?;
+    begin(alloc, context, beginning, code, made)?;
     add_turns(
-        alloc, setting, turn, place, test, step, invariants, code, made,
+        alloc, context, turn, place, test, step, invariants, code, made,
     )?;
     Ok(())
 }
@@ -170,7 +170,7 @@ fn add_for(
 #[cycle(statements)]
 fn add_turns(
     alloc: Global,
-    setting: &Setting<'_>,
+    context: &ElaborationContext<'_>,
     turn: &TypedStmt,
     place: Place,
     test: &Option<TypedExpr>,
@@ -180,15 +180,15 @@ fn add_turns(
     made: &mut Vec<Ty>,
 ) -> Result<(), AllocError>
     ensures { OnOk result (coded_by code.new made.new
-        ≡ after (stmts_of code.old.statements) (statements.loop_while (setting_of setting.now) place (typed.exprs invariants.now) (option_map typed.expr test.now) (turn_of (setting_of setting.now) (typed.stmt_of turn.now) (option_map typed.simple_of step.now)) made.old.items)) }
+        ≡ after (stmts_of code.old.statements) (statements.loop_while (context_of context.now) place (typed.exprs invariants.now) (option_map typed.expr test.now) (turn_of (context_of context.now) (typed.stmt_of turn.now) (option_map typed.simple_of step.now)) made.old.items)) }
 {
     let mut prelude = Code::new(alloc);
-    let test = test_of(alloc, setting, place, test, &mut prelude, made)?;
+    let test = test_of(alloc, context, place, test, &mut prelude, made)?;
     let mut inner = Code::new(alloc);
-    let reached = add_stmt(alloc, setting, turn, &mut inner, made)?;
-    advance_where(alloc, setting, reached, step, &mut inner, made)?;
+    let reached = add_stmt(alloc, context, turn, &mut inner, made)?;
+    advance_where(alloc, context, reached, step, &mut inner, made)?;
     add_loop(
-        alloc, setting, code, place, invariants, prelude, test, inner,
+        alloc, context, code, place, invariants, prelude, test, inner,
     )?;
     Ok(())
 }
@@ -197,7 +197,7 @@ fn add_turns(
 #[cycle(statements)]
 fn add_expose(
     alloc: Global,
-    setting: &Setting<'_>,
+    context: &ElaborationContext<'_>,
     block: &TypedBlock,
     place: Place,
     e: &TypedExpr,
@@ -206,11 +206,11 @@ fn add_expose(
     made: &mut Vec<Ty>,
 ) -> Result<bool, AllocError>
     ensures coded { OnOk result (coded_by code.new made.new
-        ≡ after (stmts_of code.old.statements) (statements.stmt (setting_of setting.now) (ExposeOf place (typed.expr e.now) (option_map (λ t. t.0) class) (typed.block block.now)) made.old.items)) }
+        ≡ after (stmts_of code.old.statements) (statements.stmt (context_of context.now) (ExposeOf place (typed.expr e.now) (option_map (λ t. t.0) class) (typed.block block.now)) made.old.items)) }
     ensures ends { IfOk result (λ reached. reached ≡ ends.block_can_end (typed.block block.now)) }
 {
-    let opened = open(alloc, setting, place, e, class, code, made)?;
-    let inner = within(alloc, setting, opened)?;
+    let opened = open(alloc, context, place, e, class, code, made)?;
+    let inner = within(alloc, context, opened)?;
     let reached = add_block(alloc, &inner, block, code, made)?;
     close(code, opened, reached)?;
     Ok(reached)
@@ -220,16 +220,16 @@ fn add_expose(
 #[cycle(statements)]
 fn add_block(
     alloc: Global,
-    setting: &Setting<'_>,
+    context: &ElaborationContext<'_>,
     block: &TypedBlock,
     code: &mut Code,
     made: &mut Vec<Ty>,
 ) -> Result<bool, AllocError>
     ensures coded { OnOk result (coded_by code.new made.new
-        ≡ after (stmts_of code.old.statements) (statements.block (setting_of setting.now) (typed.block block.now) made.old.items)) }
+        ≡ after (stmts_of code.old.statements) (statements.block (context_of context.now) (typed.block block.now) made.old.items)) }
     ensures ends { IfOk result (λ reached. reached ≡ ends.block_can_end (typed.block block.now)) }
 {
-    add_stmts(alloc, setting, &block.statements, code, made)
+    add_stmts(alloc, context, &block.statements, code, made)
 }
 
 /// Adds the statements: those behind one whose end can't be reached are dropped. The result says whether the end of all can be
@@ -237,18 +237,18 @@ fn add_block(
 #[cycle(statements)]
 pub fn add_stmts(
     alloc: Global,
-    setting: &Setting<'_>,
+    context: &ElaborationContext<'_>,
     stmts: &[TypedStmt],
     code: &mut Code,
     made: &mut Vec<Ty>,
 ) -> Result<bool, AllocError>
     ensures coded { OnOk result (coded_by code.new made.new
-        ≡ after (stmts_of code.old.statements) (statements.stmts (setting_of setting.now) (stmt_trees (map typed.stmt_of stmts.now)) made.old.items)) }
+        ≡ after (stmts_of code.old.statements) (statements.stmts (context_of context.now) (stmt_trees (map typed.stmt_of stmts.now)) made.old.items)) }
     ensures ends { IfOk result (λ reached. reached ≡ ends.all_can_end (stmt_trees (map typed.stmt_of stmts.now))) }
 {
     let mut reached = true;
     for stmt in stmts {
-        reached = add_where(alloc, setting, stmt, reached, code, made)?;
+        reached = add_where(alloc, context, stmt, reached, code, made)?;
     }
     Ok(reached)
 }
@@ -257,18 +257,18 @@ pub fn add_stmts(
 #[cycle(statements)]
 fn add_where(
     alloc: Global,
-    setting: &Setting<'_>,
+    context: &ElaborationContext<'_>,
     stmt: &TypedStmt,
     reached: bool,
     code: &mut Code,
     made: &mut Vec<Ty>,
 ) -> Result<bool, AllocError>
     ensures coded { OnOk result (coded_by code.new made.new
-        ≡ after (stmts_of code.old.statements) ((if reached then statements.stmt (setting_of setting.now) (typed.stmt_of stmt.now) else nothing) made.old.items)) }
+        ≡ after (stmts_of code.old.statements) ((if reached then statements.stmt (context_of context.now) (typed.stmt_of stmt.now) else nothing) made.old.items)) }
     ensures ends { IfOk result (λ r. r ≡ (reached && ends.can_end (typed.stmt_of stmt.now))) }
 {
     if reached {
-        add_stmt(alloc, setting, stmt, code, made)
+        add_stmt(alloc, context, stmt, code, made)
     } else {
         Ok(false)
     }

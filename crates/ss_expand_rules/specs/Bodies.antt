@@ -14,7 +14,7 @@ use Rattle.ss_typed.specs.Assigned.{assigned_in}
 use Rattle.ss_paths.specs.Sets.{among}
 use Rattle.ss_expand_rules.specs.Program.{above_of, number_in_table}
 use Rattle.ss_expand_rules.specs.Numbers.{Numbers, uncopied}
-use Rattle.ss_expand_rules.specs.Lifting.{Setting}
+use Rattle.ss_expand_rules.specs.Lifting.{ElaborationContext}
 use Rattle.ss_expand_rules.specs.Code.{Coded}
 use Rattle.ss_expand_rules.specs.Statements.{stmts}
 use Rattle.ss_expand_rules.specs.Constructors.{before_all, constructor_stmts}
@@ -107,11 +107,11 @@ with_return b (Some t) ss = ss
 abbrev pub statements : TypedTree → BodyTree → StmtTrees
 statements p b = with_return b b.result (if b.flags.ctor then constructor_stmts p b else in_block b.block)
 
-abbrev pub setting : TypedTree → BodyTree → ℕ → Setting
-setting p b temporaries = record { program = p; body = b; numbers = numbers b temporaries; exposes = [] }
+abbrev pub elaboration_context : TypedTree → BodyTree → ℕ → ElaborationContext
+elaboration_context p b temporaries = record { program = p; body = b; numbers = numbers b temporaries; exposes = [] }
 
 abbrev pub code_with : TypedTree → BodyTree → ℕ → Coded
-code_with p b temporaries = stmts (setting p b temporaries) (statements p b) []
+code_with p b temporaries = stmts (elaboration_context p b temporaries) (statements p b) []
 
 -- The names of quantifiers come behind all temporaries, so these are counted first; how many there are doesn't depend on it.
 abbrev pub temporary_types : TypedTree → BodyTree → List Ty

@@ -23,8 +23,8 @@ pub record Opened : Type 0 where
   pub local : ℕ
   pub class : ℕ
 
--- what the code of a body is elaborated in
-pub record Setting : Type 0 where
+-- the context in which the code of a body is elaborated
+pub record ElaborationContext : Type 0 where
   pub program : TypedTree
   pub body : BodyTree
   pub numbers : Numbers
@@ -209,23 +209,23 @@ dispatched p t m [] = Called p (Dispatched (NullExpr p) t m) []
 dispatched p t m (v ∷ vs) = Called p (Dispatched v t m) vs
 
 -- the body of the class above that `base.M(..)` names by its place in the table
-abbrev pub base_number : Setting → ℕ → ℕ
+abbrev pub base_number : ElaborationContext → ℕ → ℕ
 base_number s m = number_in_table s.program (above_of s.program s.body.class) m
 
 -- the types of the parameters
-abbrev pub types_of_constructor : Setting → ℕ → List Ty
+abbrev pub types_of_constructor : ElaborationContext → ℕ → List Ty
 types_of_constructor s t = param_types_in (constructor_of s.program t)
 
-abbrev pub types_of_written : Setting → ℕ → List Ty
+abbrev pub types_of_written : ElaborationContext → ℕ → List Ty
 types_of_written s n = param_types_in (body_at s.program n)
 
-abbrev pub types_of_method : Setting → ℕ → ℕ → List Ty
+abbrev pub types_of_method : ElaborationContext → ℕ → ℕ → List Ty
 types_of_method s t m = param_types_in (method_at s.program t m)
 
 -- ---- an expression with a call inside
 
 abbrev mutual
-  pub lifted : Setting → ExprTree → List Ty → Lifted
+  pub lifted : ElaborationContext → ExprTree → List Ty → Lifted
   lifted s (IffOf p a b) made = binary (IffExpr p) (operand s.numbers any_object a (lifted s a) made) (operand s.numbers any_object b (lifted s b))
   lifted s (ImpliesOf p a b) made = implication s.numbers p a b (lifted s a) (lifted s b) made
   lifted s (BinaryOf p o a b) made = operation s.numbers p o a b (lifted s a) (lifted s b) made
@@ -248,17 +248,17 @@ abbrev mutual
   lifted s e made = unlifted (plain s.numbers e) made
 
   -- operands of these types in temporaries
-  pub in_temporaries : Setting → List Ty → Arguments → List Ty → Listed
+  pub in_temporaries : ElaborationContext → List Ty → Arguments → List Ty → Listed
   in_temporaries s ts NoMore made = no_operands made
   in_temporaries s ts (Argument e es) made = and_operands (operand s.numbers (first_type ts) e (lifted s e) made) (in_temporaries s (other_types ts) es)
 
 -- any expression
-abbrev pub right_side : Setting → ExprTree → List Ty → Lifted
+abbrev pub right_side : ElaborationContext → ExprTree → List Ty → Lifted
 right_side s e made = lifted_of s.numbers e (lifted s e) made
 
-abbrev pub value : Setting → ExprTree → List Ty → Valued
+abbrev pub value : ElaborationContext → ExprTree → List Ty → Valued
 value s e made = valued s.numbers e (right_side s e made)
 
 -- the arguments of `base(..)`
-abbrev pub arguments_of : Setting → List Ty → Arguments → List Ty → Listed
+abbrev pub arguments_of : ElaborationContext → List Ty → Arguments → List Ty → Listed
 arguments_of s ts es made = operands_of s.numbers es (in_temporaries s ts es) made

@@ -89,9 +89,9 @@ said m = over m (λ t. equal t (truth_term true))
 
 -- ---- where it stands
 
--- The classes, the store now and at the entry of the body, whether it stands inside `old`, the types and meanings of the locals, past which
+-- The context of an expression: the classes, the store now and at the entry of the body, whether it stands inside `old`, the types and meanings of the locals, past which
 -- stand those of the bound names, and how many of these there are.
-pub record Scene : Type 0 where
+pub record Context : Type 0 where
   pub classes : List ClassTree
   pub now : Term
   pub entry : Term
@@ -100,20 +100,20 @@ pub record Scene : Type 0 where
   pub locals : List Meant
   pub bound : ℕ
 
-abbrev pub state : Scene → Term
+abbrev pub state : Context → Term
 state c = if c.inside_old then c.entry else c.now
 
-abbrev pub at_entry : Scene → Scene
+abbrev pub at_entry : Context → Context
 at_entry c = record c { inside_old = true }
 
-abbrev pub with_bound : Scene → Scene
+abbrev pub with_bound : Context → Context
 with_bound c = record c { types = c.types ++ ty.Int ∷ []; locals = c.locals ++ One (Bound c.bound) ∷ []; bound = c.bound + 1 }
 
 abbrev pub meant_or_null : Option Meant → Meant
 meant_or_null (Some m) = m
 meant_or_null None = One null_term
 
-abbrev pub local_meant : Scene → ℕ → Meant
+abbrev pub local_meant : Context → ℕ → Meant
 local_meant c x = meant_or_null (slice_get c.locals x)
 
 abbrev pub element_sort : Option Ty → Sort
@@ -138,7 +138,7 @@ less x y = neg (at_most y x)
 
 -- ---- words
 
-abbrev pub word_said : Scene → WordTree → Term → Formula
+abbrev pub word_said : Context → WordTree → Term → Formula
 word_said c Consistent x = and_of (is_full (state c) x ∷ neg (committed (state c) x) ∷ [])
 word_said c Committed x = committed (state c) x
 word_said c New x = neg (allocated c.entry x)
@@ -146,7 +146,7 @@ word_said c (Level t) x = equal (level_of (state c) x) (class_term t)
 word_said c (Packed t) x = sub_atom (level_of (state c) x) (class_term t)
 word_said c Unowned x = group (owner_of (state c) x)
 
-abbrev pub owners_said : Scene → OwnersTree → Term → Term → Formula
+abbrev pub owners_said : Context → OwnersTree → Term → Term → Formula
 owners_said c SameOwner x y = equal (owner_of (state c) x) (owner_of (state c) y)
 owners_said c (OwnedAt t) x y = equal (owner_of (state c) x) (pair_of y (class_term t))
 
@@ -158,7 +158,7 @@ default_of_sort sort.Truth = truth_term false
 default_of_sort s = null_term
 
 -- the fields that t or a class above it declares, from this number on
-abbrev pub defaults_from : Scene → ℕ → Term → ℕ → List DeclaredField → List Formula
+abbrev pub defaults_from : Context → ℕ → Term → ℕ → List DeclaredField → List Formula
 defaults_from c t x f [] = []
 defaults_from c t x f (d ∷ ds) =
     if sub c.classes t d.class
@@ -166,7 +166,7 @@ defaults_from c t x f (d ∷ ds) =
     else defaults_from c t x (f + 1) ds
 
 -- each object owned by x at t or a class above it is at its full level
-abbrev pub owned_full : Scene → ℕ → Term → Formula
+abbrev pub owned_full : Context → ℕ → Term → Formula
 owned_full c t x =
     let v = Bound c.bound in
     Forall (sort.Rest ∷ []) (or_of (
@@ -175,14 +175,14 @@ owned_full c t x =
     ∷ []))
 
 -- the owner is a group, whose members are full; where it is asked for, `this` is no member
-abbrev pub may_be_captured : Scene → Bool → Term → List Formula
+abbrev pub may_be_captured : Context → Bool → Term → List Formula
 may_be_captured c apart x =
     let v = Bound c.bound in
     group (owner_of c.now x)
     ∷ Forall (sort.Rest ∷ []) (or_of (neg (allocated c.now v) ∷ differ (owner_of c.now v) (owner_of c.now x) ∷ is_full c.now v ∷ []))
     ∷ (if apart then over (local_meant c 0) (λ y. or_of (equal y null_term ∷ differ (owner_of c.now y) (owner_of c.now x) ∷ [])) ∷ [] else [])
 
-abbrev pub met_by : Scene → DefaultTree → Term → Formula
+abbrev pub met_by : Context → DefaultTree → Term → Formula
 met_by c (AtLevel t) x = and_of (equal (level_of c.now x) (class_term t) ∷ neg (committed c.now x) ∷ [])
 met_by c Unpacked x = equal (level_of c.now x) (class_term 0)
 met_by c ThisUnowned x = group (owner_of c.now x)
@@ -201,7 +201,7 @@ subject (Captured x apart) = x
 subject d = 0
 
 -- null meets each condition
-abbrev pub default_said : Scene → DefaultTree → Formula
+abbrev pub default_said : Context → DefaultTree → Formula
 default_said c d = over (local_meant c (subject d)) (λ x. or_of (equal x null_term ∷ met_by c d x ∷ []))
 
 -- ---- operations
@@ -236,16 +236,16 @@ abbrev pub as_class : ℕ → Choice → List Choice
 as_class t c = choice (and_of (c.condition ∷ is_of t c.value ∷ [])) c.value ∷ choice (and_of (c.condition ∷ neg (is_of t c.value) ∷ [])) null_term ∷ []
 
 -- the bound name isn't between these
-abbrev pub out_of_range : Scene → Meant → Meant → List Formula
+abbrev pub out_of_range : Context → Meant → Meant → List Formula
 out_of_range c low high = neg (over low (λ x. at_most x (Bound c.bound))) ∷ neg (over high (λ y. at_most (app term.Add (Bound c.bound ∷ number (pos 1) ∷ [])) y)) ∷ []
 
-abbrev pub quantified_said : Scene → Quantifier → Meant → Meant → Formula → Formula
+abbrev pub quantified_said : Context → Quantifier → Meant → Meant → Formula → Formula
 quantified_said c quantifier.Forall low high f = Forall (sort.Whole ∷ []) (or_of (out_of_range c low high ++ f ∷ []))
 quantified_said c quantifier.Exists low high f = Exists (sort.Whole ∷ []) (and_of (map neg (out_of_range c low high) ++ f ∷ []))
 
 -- ---- expressions
 
-abbrev pub meant : ExprTree → Scene → Meant
+abbrev pub meant : ExprTree → Context → Meant
 meant (IntExpr p n) c = One (number n)
 meant (BoolExpr p b) c = One (truth_term b)
 meant (NullExpr p) c = One null_term
@@ -273,7 +273,7 @@ abbrev pub not_null : Meant → Formula
 not_null m = over m (λ x. differ x null_term)
 
 -- an object whose state may be read: inside `old` it was allocated at entry
-abbrev pub readable : Scene → Meant → List Formula
+abbrev pub readable : Context → Meant → List Formula
 readable c m = not_null m ∷ (if c.inside_old then over m (allocated c.entry) ∷ [] else [])
 
 -- each part under a condition
@@ -297,11 +297,11 @@ operation_parts op.Divide a b ps qs = ps ++ qs ++ not_zero b ∷ over_two a b (�
 operation_parts op.Remainder a b ps qs = ps ++ qs ++ not_zero b ∷ over_two a b (λ x y. fits_int (app term.Quotient (x ∷ y ∷ []))) ∷ []
 operation_parts o a b ps qs = ps ++ qs
 
-abbrev pub word_parts : Scene → WordTree → Meant → List Formula
+abbrev pub word_parts : Context → WordTree → Meant → List Formula
 word_parts c New m = not_null m ∷ []
 word_parts c w m = readable c m
 
-abbrev pub defined : ExprTree → Scene → List Formula
+abbrev pub defined : ExprTree → Context → List Formula
 defined (IntExpr p n) c = []
 defined (BoolExpr p b) c = []
 defined (NullExpr p) c = []
@@ -326,5 +326,5 @@ defined (OwnersExpr p w a b) c = defined a c ++ defined b c ++ readable c (meant
 defined (DefaultExpr p d) c = []
 
 -- it is defined, and it says so
-abbrev pub holds_formula : ExprTree → Scene → Formula
+abbrev pub holds_formula : ExprTree → Context → Formula
 holds_formula e c = and_of (defined e c ++ said (meant e c) ∷ [])

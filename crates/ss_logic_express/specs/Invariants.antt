@@ -7,11 +7,11 @@ use Rattle.ss_logic.specs.declared.Sort.TheVariants as sort
 use Rattle.ss_logic.specs.Terms.{Term, have_sorts}
 use Rattle.ss_logic.specs.Formulas.{Formula}
 use Rattle.ss_logic_rules.specs.Shapes.{class_term, level_of, sub_atom, allocated, given, class_of_term}
-use Rattle.ss_logic_express.specs.Express.{One, Scene, and_of, holds_formula}
+use Rattle.ss_logic_express.specs.Express.{One, Context, and_of, holds_formula}
 
 -- an invariant of the class t of the object o, in the store s
-abbrev pub invariant_scene : List ClassTree → Term → Term → ℕ → Scene
-invariant_scene cs s o t = record {
+abbrev pub invariant_context : List ClassTree → Term → Term → ℕ → Context
+invariant_context cs s o t = record {
   classes = cs;
   now = s;
   entry = s;
@@ -22,7 +22,7 @@ invariant_scene cs s o t = record {
 }
 
 abbrev pub invariants_said : List ClassTree → Term → Term → ℕ → Formula
-invariants_said cs s o t = and_of (map (λ e. holds_formula e (invariant_scene cs s o t)) (invariants cs t))
+invariants_said cs s o t = and_of (map (λ e. holds_formula e (invariant_context cs s o t)) (invariants cs t))
 
 abbrev pub packed_invariants : List ClassTree → Term → Term → ℕ → Formula
 packed_invariants cs s o t = given (allocated s o ∷ sub_atom (level_of s o) (class_term t) ∷ []) (invariants_said cs s o t)

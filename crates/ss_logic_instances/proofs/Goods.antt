@@ -23,7 +23,7 @@ use Rattle.ss_logic_rules.proofs.Options.{if_some, and_then_some}
 use Rattle.ss_logic_means.proofs.Sorting.{sorted_one, equal_formed, more_formed}
 use Rattle.ss_logic_means.proofs.Forming.{negation}
 use Rattle.ss_logic_means.proofs.Operating.{number_sorted, null_sorted, at_most_formed}
-use Rattle.ss_logic_means.proofs.Scening.{class_sorted, type_sorted, pair_sorted, sub_formed, group_formed, level_sorted, owner_sorted, allocated_formed, committed_formed, full_formed}
+use Rattle.ss_logic_means.proofs.Contexts.{class_sorted, type_sorted, pair_sorted, sub_formed, group_formed, level_sorted, owner_sorted, allocated_formed, committed_formed, full_formed}
 use Rattle.ss_logic_instances.proofs.Sentences.{none_some, F, All, S, sorted_from, rest_sorted, field_sorted, element_sorted, ready_formed, given_formed, all_of_formed, some_formed, when_formed}
 use Rattle.ss_logic_instances.proofs.Reading.{IsRead, is_read}
 

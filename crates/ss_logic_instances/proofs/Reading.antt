@@ -16,7 +16,7 @@ use Rattle.ss_logic_rules.proofs.Options.{mapped_some, if_some, and_then_some}
 use Rattle.ss_logic_means.proofs.Sorting.{equal_formed, more_formed}
 use Rattle.ss_logic_means.proofs.Forming.{negation}
 use Rattle.ss_logic_means.proofs.Operating.{null_sorted}
-use Rattle.ss_logic_means.proofs.Scening.{class_sorted, pair_sorted, group_formed, level_sorted, owner_sorted, allocated_formed, committed_formed}
+use Rattle.ss_logic_means.proofs.Contexts.{class_sorted, pair_sorted, group_formed, level_sorted, owner_sorted, allocated_formed, committed_formed}
 use Rattle.ss_logic_instances.proofs.Sentences.{none_some, F, All, S, sorted_from, rest_sorted, sorted_terms, arguments_sorted, field_sorted, element_sorted, next_sorted, ready_formed, given_formed, all_of_formed, by_test, where_equal_formed, where_different_formed, is_formed, when_formed}
 
 module _ (cs : List ClassTree) where

@@ -15,7 +15,7 @@ use Rattle.ss_logic_rules.proofs.Options.{mapped_some, if_some, and_then_some}
 use Rattle.ss_logic_means.proofs.Sorting.{sorted_two, equal_formed, all_formed}
 use Rattle.ss_logic_means.proofs.Forming.{negation}
 use Rattle.ss_logic_means.proofs.Operating.{number_sorted, null_sorted, at_most_formed}
-use Rattle.ss_logic_means.proofs.Scening.{class_sorted, sub_formed, group_formed, owner_sorted, allocated_formed}
+use Rattle.ss_logic_means.proofs.Contexts.{class_sorted, sub_formed, group_formed, owner_sorted, allocated_formed}
 use Rattle.ss_logic_instances.proofs.Sentences.{none_some, F, S, sorted_from, rest_sorted, arguments_sorted, next_sorted, given_formed, all_of_formed, where_equal_formed, is_formed, some_formed, when_formed}
 use Rattle.ss_logic_instances.proofs.Reading.{read_formed}
 

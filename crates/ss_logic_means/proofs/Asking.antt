@@ -1,4 +1,4 @@
--- Questions on states and owners, and quantifiers, as they stand in a scene.
+-- Questions on states and owners, and quantifiers, as they stand in a context.
 use Rattle.std.proofs.Common.{◌≡◌, ℕ, ℤ, pos, ◌+ℤ◌, List, [], ◌∷◌, ◌++◌, length, Bool, true, false, not, ◌&&◌, map, eqb, Ok, refl, sym, ◌∙◌, ap, subst}
 use Rattle.std.specs.Prelude.{nat_lt, int_le, if◌then◌else◌}
 use Rattle.std.specs.Int.{int_gap}
@@ -20,7 +20,7 @@ use Rattle.ss_logic.specs.Terms as term
 use Rattle.ss_logic.specs.Formulas.{Formula, Forall, neg}
 use Rattle.ss_logic.specs.Objects.{objects_of}
 use Rattle.ss_logic_rules.specs.Shapes.{number, class_term, level_of, owner_of, pair_of, equal, at_most, sub_atom, committed, group}
-use Rattle.ss_logic_express.specs.Express.{and_of, or_of, Meant, Says, over, over_two, said, Scene, is_full, word_said, owners_said, word_parts, readable, out_of_range, quantified_said}
+use Rattle.ss_logic_express.specs.Express.{and_of, or_of, Meant, Says, over, over_two, said, Context, is_full, word_said, owners_said, word_parts, readable, out_of_range, quantified_said}
 use Rattle.ss_logic_means.specs.Means.{standing}
 use Rattle.ss_logic_means.specs.Scenes.{setting_of}
 use Rattle.ss_logic_means.proofs.Denoting.{V, M, D, R, neg_means, over_means}
@@ -34,7 +34,7 @@ use Rattle.ss_logic_means.proofs.Quantified.{quantified_formula, range_reads}
 use Rattle.ss_logic_means.proofs.Standing.{argument_at}
 
 -- ---- states and owners
-module _ (m : Structure) (now entry : Heap) (c : Scene) (locals : List ObjectValue) (e : List Value) (is_now : V c.classes m e c.now ≡ store now) (is_entry : V c.classes m e c.entry ≡ store entry)
+module _ (m : Structure) (now entry : Heap) (c : Context) (locals : List ObjectValue) (e : List Value) (is_now : V c.classes m e c.now ≡ store now) (is_entry : V c.classes m e c.entry ≡ store entry)
     (still : (o : ℕ) → nat_lt o entry.next ≡ true → nat_lt o now.next ≡ true) where
   abbrev Now : List Object
   Now = objects_of c.classes m.table now
@@ -97,7 +97,7 @@ module _ (m : Structure) (now entry : Heap) (c : Scene) (locals : List ObjectVal
 pub value_read : (cs : List ClassTree) (m : Structure) (e : List Value) (ps : List Formula) (x : Meant) (r : Outcome) (u : ObjectValue) → r ≡ Ok u → R cs m e ps x r → D cs m e x (standing u)
 value_read cs m e ps x r u is h = let read = subst (λ o. R cs m e ps x o) is h in read.1
 
-module _ (m : Structure) (c : Scene) (e : List Value) (at : length e ≡ c.bound) (ps qs : List Formula) (x y : Meant) (a b : Outcome) (ga : Gives IsWhole a) (gb : Gives IsWhole b)
+module _ (m : Structure) (c : Context) (e : List Value) (at : length e ≡ c.bound) (ps qs : List Formula) (x y : Meant) (a b : Outcome) (ga : Gives IsWhole a) (gb : Gives IsWhole b)
     (ra : R c.classes m e ps x a) (rb : R c.classes m e qs y b) (rest_a : (i : ℤ) → R c.classes m (e ++ whole i ∷ []) ps x a) (rest_b : (i : ℤ) → R c.classes m (e ++ whole i ∷ []) qs y b) where
   abbrev pub With : ℤ → List Value
   With i = e ++ whole i ∷ []

@@ -1,4 +1,4 @@
--- The scene of a body stands for the stores and values of a run, in the structures that give its constants these values.
+-- The context of a body stands for the stores and values of a run, in the structures that give its constants these values.
 use Rattle.std.proofs.Common.{◌≡◌, ℕ, zero, suc, List, [], ◌∷◌, length, Bool, true, ◌&&◌, map, Some, refl, sym, ap, subst, arith}
 use Rattle.std.specs.Prelude.{slice_get, unwrap_or, ◌+◌}
 use Rattle.std.proofs.lemmas.Bool.{false≢true, and_from}
@@ -17,16 +17,16 @@ use Rattle.ss_logic.specs.Values.{Heap, Table, IsNumbered, Value, whole, truth, 
 use Rattle.ss_logic.specs.Terms.{Term, sort_of_type, same_sort, have_sorts, constant_value}
 use Rattle.ss_logic.specs.Formulas.{is_well_formed, AreOf}
 use Rattle.ss_logic.proofs.Truth.{same_sort_refl}
-use Rattle.ss_logic_express.specs.Express.{choices, Scene, local_meant, subject, holds_formula}
+use Rattle.ss_logic_express.specs.Express.{choices, Context, local_meant, subject, holds_formula}
 use Rattle.ss_machine_typed.specs.Settings.{IsGoodSetting}
 use Rattle.ss_logic_means.specs.Means.{standing, Means}
 use Rattle.ss_logic_means.specs.Scenes.{setting_of, HaveValues, IsStoreTerm, Stands, Stay, is_stated, Settled}
 use Rattle.ss_logic_means.specs.Sorts.{IsSorted}
-use Rattle.ss_logic_means.specs.Bodies.{constants_from, body_scene, GivesFrom}
+use Rattle.ss_logic_means.specs.Bodies.{constants_from, body_context, GivesFrom}
 use Rattle.ss_logic_means.proofs.Closed.{closed_stands, closed_stay}
 use Rattle.ss_logic_means.proofs.Contracts.{all_stated_mean}
 use Rattle.ss_logic_means.proofs.Everywhere.{all_locals, speaks_all}
-use Rattle.ss_logic_means.proofs.Scening.{sorted_among}
+use Rattle.ss_logic_means.proofs.Contexts.{sorted_among}
 use Rattle.ss_logic_means.proofs.Stated.{closed_sorted, condition_formed}
 
 -- ---- sorts
@@ -37,8 +37,8 @@ constants_sorted cs k (t ∷ tys) =
     let s = sort_of_type t in
     and_from (same_sort s s && true) (have_sorts cs (map sort_of_type tys) (constants_from (k + 1) tys)) (and_from (same_sort s s) true (same_sort_refl s) refl) (constants_sorted cs (k + 1) tys)
 
-pub body_sorted : (cs : List ClassTree) (b : BodyTree) (now entry : Term) → have_sorts cs (sort.Store ∷ sort.Store ∷ []) (now ∷ entry ∷ []) ≡ true → IsSorted (body_scene cs b now entry) []
-body_sorted cs b now entry h = closed_sorted (body_scene cs b now entry) (constants_from 0 (local_types b)) h refl (constants_sorted cs 0 (local_types b))
+pub body_sorted : (cs : List ClassTree) (b : BodyTree) (now entry : Term) → have_sorts cs (sort.Store ∷ sort.Store ∷ []) (now ∷ entry ∷ []) ≡ true → IsSorted (body_context cs b now entry) []
+body_sorted cs b now entry h = closed_sorted (body_context cs b now entry) (constants_from 0 (local_types b)) h refl (constants_sorted cs 0 (local_types b))
 
 -- ---- values
 
@@ -49,12 +49,12 @@ constants_have cs m k (t ∷ tys) [] h = h
 constants_have cs m k (t ∷ tys) (v ∷ vs) h = (refl, h.0, constants_have cs m (k + 1) tys vs h.1)
 
 pub body_stands : (m : Structure) (cs : List ClassTree) (b : BodyTree) (now entry : Term) (current former : Heap) (locals : List ObjectValue) → IsStoreTerm cs m now current → IsStoreTerm cs m entry former → GivesFrom m 0 (local_types b) locals →
-    Stands m (body_scene cs b now entry) current former locals []
+    Stands m (body_context cs b now entry) current former locals []
 body_stands m cs b now entry current former locals n e h =
-    closed_stands m (body_scene cs b now entry) current former (constants_from 0 (local_types b)) locals n e refl (constants_have cs m 0 (local_types b) locals h)
+    closed_stands m (body_context cs b now entry) current former (constants_from 0 (local_types b)) locals n e refl (constants_have cs m 0 (local_types b) locals h)
 
-pub body_stays : (m : Structure) (cs : List ClassTree) (b : BodyTree) (now entry : Term) (locals : List ObjectValue) → GivesFrom m 0 (local_types b) locals → (x : ℕ) → Stay cs m [] (choices (local_meant (body_scene cs b now entry) x))
-body_stays m cs b now entry locals h x = closed_stay m (body_scene cs b now entry) (constants_from 0 (local_types b)) locals refl (constants_have cs m 0 (local_types b) locals h) x
+pub body_stays : (m : Structure) (cs : List ClassTree) (b : BodyTree) (now entry : Term) (locals : List ObjectValue) → GivesFrom m 0 (local_types b) locals → (x : ℕ) → Stay cs m [] (choices (local_meant (body_context cs b now entry) x))
+body_stays m cs b now entry locals h x = closed_stay m (body_context cs b now entry) (constants_from 0 (local_types b)) locals refl (constants_have cs m 0 (local_types b) locals h) x
 
 -- ---- the values of a good setting have the sorts of their types
 
@@ -129,16 +129,16 @@ module _ (table : Table) (now entry : Heap) (numbered : IsNumbered now) (before 
 -- ---- conditions of a body
 
 pub body_formed : (cs : List ClassTree) (b : BodyTree) (x : ExprTree) → is_stated cs (local_types b) x ≡ true → (now entry : Term) → have_sorts cs (sort.Store ∷ sort.Store ∷ []) (now ∷ entry ∷ []) ≡ true →
-    is_well_formed cs [] (holds_formula x (body_scene cs b now entry)) ≡ true
-body_formed cs b x is now entry h = condition_formed all_locals (body_scene cs b now entry) [] (sorted_among all_locals (body_scene cs b now entry) [] (body_sorted cs b now entry h)) refl x (speaks_all x) is
+    is_well_formed cs [] (holds_formula x (body_context cs b now entry)) ≡ true
+body_formed cs b x is now entry h = condition_formed all_locals (body_context cs b now entry) [] (sorted_among all_locals (body_context cs b now entry) [] (body_sorted cs b now entry h)) refl x (speaks_all x) is
 
-settled : (m : Structure) (c : Scene) → ((x : ℕ) → Stay c.classes m [] (choices (local_meant c x))) → (x : ExprTree) → Settled m [] c x
+settled : (m : Structure) (c : Context) → ((x : ℕ) → Stay c.classes m [] (choices (local_meant c x))) → (x : ExprTree) → Settled m [] c x
 settled m c stay (DefaultExpr p d) = stay (subject d)
 settled m c stay x = tt
 
 pub body_means : (cs : List ClassTree) (b : BodyTree) (x : ExprTree) → is_stated cs (local_types b) x ≡ true → (m : Structure) (now entry : Term) (current former : Heap) (locals : List ObjectValue) (k : Bool) →
-    IsGoodSetting (setting_of m (body_scene cs b now entry) current former locals) (local_types b) k → IsStoreTerm cs m now current → IsStoreTerm cs m entry former → GivesFrom m 0 (local_types b) locals →
-    Means cs m [] (holds_formula x (body_scene cs b now entry)) (run.holds x (setting_of m (body_scene cs b now entry) current former locals))
+    IsGoodSetting (setting_of m (body_context cs b now entry) current former locals) (local_types b) k → IsStoreTerm cs m now current → IsStoreTerm cs m entry former → GivesFrom m 0 (local_types b) locals →
+    Means cs m [] (holds_formula x (body_context cs b now entry)) (run.holds x (setting_of m (body_context cs b now entry) current former locals))
 body_means cs b x is m now entry current former locals k good n e given =
-    all_stated_mean m current former x (body_scene cs b now entry) locals k good [] (body_stands m cs b now entry current former locals n e given) refl is
-    (settled m (body_scene cs b now entry) (body_stays m cs b now entry locals given) x)
+    all_stated_mean m current former x (body_context cs b now entry) locals k good [] (body_stands m cs b now entry current former locals n e given) refl is
+    (settled m (body_context cs b now entry) (body_stays m cs b now entry locals given) x)

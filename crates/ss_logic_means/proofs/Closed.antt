@@ -1,4 +1,4 @@
--- Scenes of terms without bound names.
+-- Contexts of terms without bound names.
 use Rattle.std.proofs.Common.{◌≡◌, ℕ, zero, suc, List, [], ◌∷◌, ◌++◌, length, map, Some, refl, sym, ◌∙◌, ap, subst}
 use Rattle.std.specs.Prelude.{slice_get}
 use Rattle.ss_core.specs.Tree.{ClassTree}
@@ -6,7 +6,7 @@ use Rattle.ss_store_rules.specs.declared.Value.{Value as ObjectValue}
 use Rattle.ss_logic.specs.Values.{Heap, Value, Structure}
 use Rattle.ss_logic.specs.Terms.{Term}
 use Rattle.ss_logic.proofs.Truth.{closed_value}
-use Rattle.ss_logic_express.specs.Express.{One, Scene, choices, meant_or_null, local_meant}
+use Rattle.ss_logic_express.specs.Express.{One, Context, choices, meant_or_null, local_meant}
 use Rattle.ss_logic_means.specs.Means.{standing}
 use Rattle.ss_logic_means.specs.Scenes.{HaveValues, IsStoreTerm, Stands, Stay}
 use Rattle.ss_logic_means.proofs.Denoting.{D, one_denotes}
@@ -33,7 +33,7 @@ module _ (cs : List ClassTree) (m : Structure) where
   stay_at (t ∷ ts) (w ∷ vs) h zero e = (λ more. closed_value cs m (e ++ more) t h.0 ∙ sym (closed_value cs m e t h.0), tt)
   stay_at (t ∷ ts) (w ∷ vs) h (suc x) e = stay_at ts vs h.2 x e
 
-pub closed_stands : (m : Structure) (c : Scene) (now entry : Heap) (ts : List Term) (vs : List ObjectValue) → IsStoreTerm c.classes m c.now now → IsStoreTerm c.classes m c.entry entry → c.locals ≡ map One ts → HaveValues c.classes m ts vs → Stands m c now entry vs []
+pub closed_stands : (m : Structure) (c : Context) (now entry : Heap) (ts : List Term) (vs : List ObjectValue) → IsStoreTerm c.classes m c.now now → IsStoreTerm c.classes m c.entry entry → c.locals ≡ map One ts → HaveValues c.classes m ts vs → Stands m c now entry vs []
 closed_stands m c now entry ts vs n s is h = record {
   now = λ more. closed_value c.classes m more c.now n.0 ∙ n.1;
   entry = λ more. closed_value c.classes m more c.entry s.0 ∙ s.1;
@@ -41,5 +41,5 @@ closed_stands m c now entry ts vs n s is h = record {
   locals = λ x v there more. subst (λ ls. D c.classes m more (meant_or_null (slice_get ls x)) (standing v)) (sym is) (value_at c.classes m ts vs h x v there more);
 }
 
-pub closed_stay : (m : Structure) (c : Scene) (ts : List Term) (vs : List ObjectValue) → c.locals ≡ map One ts → HaveValues c.classes m ts vs → (x : ℕ) → Stay c.classes m [] (choices (local_meant c x))
+pub closed_stay : (m : Structure) (c : Context) (ts : List Term) (vs : List ObjectValue) → c.locals ≡ map One ts → HaveValues c.classes m ts vs → (x : ℕ) → Stay c.classes m [] (choices (local_meant c x))
 closed_stay m c ts vs is h x = subst (λ ls. Stay c.classes m [] (choices (meant_or_null (slice_get ls x)))) (sym is) (stay_at c.classes m ts vs h x [])

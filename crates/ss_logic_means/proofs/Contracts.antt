@@ -13,7 +13,7 @@ use Rattle.ss_store_rules.specs.Types.{is_bool, is_reference, has_class, type_of
 use Rattle.ss_store_rules.specs.Typed.{is_reference_argument, is_default_of, is_contract}
 use Rattle.ss_store_rules.specs.Values as run
 use Rattle.ss_logic.specs.Values.{Heap, Value, Structure}
-use Rattle.ss_logic_express.specs.Express.{Scene, default_said, holds_formula}
+use Rattle.ss_logic_express.specs.Express.{Context, default_said, holds_formula}
 use Rattle.ss_machine_typed.specs.Settings.{IsGoodSetting}
 use Rattle.ss_logic_means.specs.Means.{Means}
 use Rattle.ss_logic_means.specs.Scenes.{setting_of, Stands, StandsAmong, has_subject, has_no_default, speaks_of, speaks_only, is_stated, Settled}
@@ -177,7 +177,7 @@ module _ (cs : List ClassTree) (b : BodyTree) where
 
 -- ---- what stated conditions say
 
-pub stated_means : (among : ℕ → Bool) (m : Structure) (now entry : Heap) (x : ExprTree) (c : Scene) (locals : List ObjectValue) (k : Bool) → IsGoodSetting (setting_of m c now entry locals) c.types k → (e : List Value) → StandsAmong among m c now entry locals e → length e ≡ c.bound →
+pub stated_means : (among : ℕ → Bool) (m : Structure) (now entry : Heap) (x : ExprTree) (c : Context) (locals : List ObjectValue) (k : Bool) → IsGoodSetting (setting_of m c now entry locals) c.types k → (e : List Value) → StandsAmong among m c now entry locals e → length e ≡ c.bound →
     speaks_only among x ≡ true → is_stated c.classes c.types x ≡ true → Settled m e c x → Means c.classes m e (holds_formula x c) (run.holds x (setting_of m c now entry locals))
 stated_means among m now entry (DefaultExpr p d) c locals k good e st at speaks is stay =
     and_one c.classes m e (default_said c d) (run.default_holds (setting_of m c now entry locals) d) (default_means among m now entry c locals k good e st at d speaks is stay)
@@ -185,7 +185,7 @@ stated_means among m now entry x c locals k good e st at speaks is stay =
     let parts = and_parts (has_no_default x) (is_bool (type_of c.classes c.types x)) is in
     condition_means among m now entry x c locals k good e st (plainly_from among x speaks parts.0) parts.1 at
 
--- where the scene stands for all its locals
-pub all_stated_mean : (m : Structure) (now entry : Heap) (x : ExprTree) (c : Scene) (locals : List ObjectValue) (k : Bool) → IsGoodSetting (setting_of m c now entry locals) c.types k → (e : List Value) → Stands m c now entry locals e → length e ≡ c.bound →
+-- where the context stands for all its locals
+pub all_stated_mean : (m : Structure) (now entry : Heap) (x : ExprTree) (c : Context) (locals : List ObjectValue) (k : Bool) → IsGoodSetting (setting_of m c now entry locals) c.types k → (e : List Value) → Stands m c now entry locals e → length e ≡ c.bound →
     is_stated c.classes c.types x ≡ true → Settled m e c x → Means c.classes m e (holds_formula x c) (run.holds x (setting_of m c now entry locals))
 all_stated_mean m now entry x c locals k good e st at is stay = stated_means all_locals m now entry x c locals k good e (stands_among all_locals m c now entry locals e st) at (speaks_all x) is stay

@@ -28,7 +28,7 @@ use Rattle.ss_logic.specs.Formulas.{Formula, Forall, neg}
 use Rattle.ss_logic.specs.Objects.{content, owner_of_thing, filled, object_in, objects_of}
 use Rattle.ss_logic.proofs.Tabled.{field_there}
 use Rattle.ss_logic_rules.specs.Shapes.{null_term, class_term, level_of, owner_of, pair_of, equal, differ, allocated, committed, group}
-use Rattle.ss_logic_express.specs.Express.{and_of, or_of, choices, over, Scene, local_meant, is_full, default_of_sort, defaults_from, owned_full, may_be_captured, met_by, subject, default_said}
+use Rattle.ss_logic_express.specs.Express.{and_of, or_of, choices, over, Context, local_meant, is_full, default_of_sort, defaults_from, owned_full, may_be_captured, met_by, subject, default_said}
 use Rattle.ss_machine_typed.specs.Settings.{IsGoodSetting}
 use Rattle.ss_machine_typed.proofs.Sound.{class_of_type}
 use Rattle.ss_logic_means.specs.Means.{standing}
@@ -119,7 +119,7 @@ all_filled : (cs : List ClassTree) (x : Entry) (p : ℕ → ObjectValue → Bool
 all_filled cs x p h [] = refl
 all_filled cs x p h (y ∷ xs) = and_from (p y.field (content (field_type cs y.field) x.fields y.field)) (list_all (λ z. p z.field z.content) (map (filled cs x) xs)) (h y.field) (all_filled cs x p h xs)
 
-module _ (c : Scene) (chain : IsChain c.classes) (beside : NoAlso c.classes) (m : Structure) (e : List Value) (h : Heap) (is_store : (vs : List Value) → V c.classes m (e ++ vs) c.now ≡ store h) (at : length e ≡ c.bound)
+module _ (c : Context) (chain : IsChain c.classes) (beside : NoAlso c.classes) (m : Structure) (e : List Value) (h : Heap) (is_store : (vs : List Value) → V c.classes m (e ++ vs) c.now ≡ store h) (at : length e ≡ c.bound)
     (values : (o : ℕ) → nat_lt o h.next ≡ true → AreValues c.classes (objects_of c.classes m.table h) (object_in c.classes m.table h o)) where
   abbrev Store : List Object
   Store = objects_of c.classes m.table h
@@ -383,8 +383,8 @@ module _ (c : Scene) (chain : IsChain c.classes) (beside : NoAlso c.classes) (m 
       met_means (FullArgument x) asks = full_means c.classes m e h c.now store_here t o l is_here
       met_means (Captured x apart) asks = captured_mean apart asks
 
--- ---- default conditions of a scene
-module _ (among : ℕ → Bool) (m : Structure) (now former : Heap) (c : Scene) (locals : List ObjectValue) (k : Bool) (good : IsGoodSetting (setting_of m c now former locals) c.types k) (e : List Value) (st : StandsAmong among m c now former locals e) (at : length e ≡ c.bound) where
+-- ---- default conditions of a context
+module _ (among : ℕ → Bool) (m : Structure) (now former : Heap) (c : Context) (locals : List ObjectValue) (k : Bool) (good : IsGoodSetting (setting_of m c now former locals) c.types k) (e : List Value) (st : StandsAmong among m c now former locals e) (at : length e ≡ c.bound) where
   abbrev Run : run.Setting
   Run = setting_of m c now former locals
 

@@ -19,7 +19,7 @@ use Rattle.ss_logic.specs.Formulas.{Formula, Forall, neg}
 use Rattle.ss_logic.proofs.Truth.{type_sort}
 use Rattle.ss_logic_rules.specs.Shapes.{number, null_term, class_term, level_of, owner_of, pair_of, equal, differ, at_most, sub_atom, allocated, committed, group}
 use Rattle.ss_logic_rules.specs.Shapes as shape
-use Rattle.ss_logic_express.specs.Express.{and_of, or_of, Choice, Meant, Says, choices, over, over_two, said, same_truths, Scene, state, at_entry, with_bound, element_sort, is_of, fits_int, less, word_said, owners_said, as_class, out_of_range, quantified_said, meant, not_null, readable, under, index_fits, word_parts, defined}
+use Rattle.ss_logic_express.specs.Express.{and_of, or_of, Choice, Meant, Says, choices, over, over_two, said, same_truths, Context, state, at_entry, with_bound, element_sort, is_of, fits_int, less, word_said, owners_said, as_class, out_of_range, quantified_said, meant, not_null, readable, under, index_fits, word_parts, defined}
 use Rattle.ss_logic_means.specs.Sorts.{HasSort, AreWellFormed, HaveSort, IsWellExpressed, IsSortedAmong}
 use Rattle.ss_logic_means.proofs.Operands.{three_parts, where_some, where_bool, int_some, bool_some, reference_some, class_reference, int_or_bool, reference_or_bool, field_from, elements_from, element_reference, are_operands}
 use Rattle.ss_logic_means.proofs.Sorting.{sorted_one, sorted_two, sorted_three, equal_formed, all_formed, more_formed, each_formed}
@@ -27,7 +27,7 @@ use Rattle.ss_logic_means.proofs.Forming.{F, S, C, and_two, or_two, negation, un
 use Rattle.ss_logic_means.proofs.Operating.{int_sort, bool_sort, reference_sort, where_sort, number_sorted, null_sorted, at_most_formed, less_formed, fits_formed, not_null_formed, as_sort, operation_formed}
 use Rattle.ss_logic_means.proofs.Everywhere.{reads_plainly}
 use Rattle.ss_logic_means.proofs.Standing.{length_more}
-use Rattle.ss_logic_means.proofs.Scening.{bound_sorted, class_sorted, type_sorted, pair_sorted, sub_formed, group_formed, level_sorted, owner_sorted, allocated_formed, committed_formed, consistent_formed, plain_sort, state_sorted, local_expressed, readable_formed, old_sorted, longer_sorted, with_bound_sorted}
+use Rattle.ss_logic_means.proofs.Contexts.{bound_sorted, class_sorted, type_sorted, pair_sorted, sub_formed, group_formed, level_sorted, owner_sorted, allocated_formed, committed_formed, consistent_formed, plain_sort, state_sorted, local_expressed, readable_formed, old_sorted, longer_sorted, with_bound_sorted}
 
 -- ---- results by their types
 
@@ -103,9 +103,9 @@ element_sorted : (cs : List ClassTree) (bound : List Sort) (a : Option Ty) (s x 
     HasSort cs bound (element_sort a) (app (Element (element_sort a)) (s ∷ x ∷ i ∷ []))
 element_sorted cs bound a s x i h k l = sorted_three cs bound (Element (element_sort a)) sort.Store sort.Rest sort.Whole s x i (element_no_store a) h k l
 
--- ---- words and quantifiers of a scene
+-- ---- words and quantifiers of a context
 
-module _ (among : ℕ → Bool) (c : Scene) (bound : List Sort) (st : IsSortedAmong among c bound) where
+module _ (among : ℕ → Bool) (c : Context) (bound : List Sort) (st : IsSortedAmong among c bound) where
   now : S c.classes bound sort.Store (state c)
   now = state_sorted among c bound st
 
@@ -127,7 +127,7 @@ module _ (among : ℕ → Bool) (c : Scene) (bound : List Sort) (st : IsSortedAm
   owners_formed (OwnedAt t) x y h k =
       equal_formed c.classes bound true sort.Rest (owner_of (state c) x) (pair_of y (class_term t)) (owner_sorted c.classes bound (state c) now x h) (pair_sorted c.classes bound y (class_term t) k (class_sorted c.classes bound t))
 
-module _ (c : Scene) (bound : List Sort) (at : length bound ≡ c.bound) (low high : Meant) (is_low : C c.classes (bound ++ sort.Whole ∷ []) sort.Whole low) (is_high : C c.classes (bound ++ sort.Whole ∷ []) sort.Whole high) where
+module _ (c : Context) (bound : List Sort) (at : length bound ≡ c.bound) (low high : Meant) (is_low : C c.classes (bound ++ sort.Whole ∷ []) sort.Whole low) (is_high : C c.classes (bound ++ sort.Whole ∷ []) sort.Whole high) where
   abbrev More : List Sort
   More = bound ++ sort.Whole ∷ []
 
@@ -157,14 +157,14 @@ module _ (c : Scene) (bound : List Sort) (at : length bound ≡ c.bound) (low hi
 
 -- ---- expressions
 
-abbrev Type-of : Scene → ExprTree → Option Ty
+abbrev Type-of : Context → ExprTree → Option Ty
 Type-of c x = type_of c.classes c.types x
 
-abbrev E : Scene → List Sort → ExprTree → Type 0
+abbrev E : Context → List Sort → ExprTree → Type 0
 E c bound x = IsWellExpressed c.classes bound (element_sort (Type-of c x)) (defined x c) (meant x c)
 
 -- An expression of another type than that of truth values may stand behind more bound names.
-pub expressed : (among : ℕ → Bool) (x : ExprTree) (c : Scene) (bound : List Sort) → IsSortedAmong among c bound → reads_plainly among x ≡ true → is_some (Type-of c x) ≡ true → (is_bool (Type-of c x) ≡ true → length bound ≡ c.bound) → E c bound x
+pub expressed : (among : ℕ → Bool) (x : ExprTree) (c : Context) (bound : List Sort) → IsSortedAmong among c bound → reads_plainly among x ≡ true → is_some (Type-of c x) ≡ true → (is_bool (Type-of c x) ≡ true → length bound ≡ c.bound) → E c bound x
 expressed among (IntExpr p n) c bound st none is at = (tt, typed_sorted c.classes bound (fits n) ty.Int (meant (IntExpr p n) c) is (refl, number_sorted c.classes bound n, tt))
 expressed among (BoolExpr p b) c bound st none is at = (tt, (refl, (refl, refl), tt))
 expressed among (NullExpr p) c bound st none is at = (tt, (refl, (refl, refl), tt))

@@ -28,8 +28,8 @@ use Rattle.ss_logic.proofs.Tabled.{there}
 use Rattle.ss_logic.proofs.Truth.{AreOf-values, closed_value, formula_stable}
 use Rattle.ss_logic_rules.specs.Shapes.{class_term, level_of, sub_atom, allocated, class_of_term}
 use Rattle.ss_logic_rules.proofs.Sentences.{given_true}
-use Rattle.ss_logic_express.specs.Express.{and_of, Meant, One, said, Scene, local_meant, meant, defined, holds_formula}
-use Rattle.ss_logic_express.specs.Invariants.{invariant_scene, invariants_said, packed_invariants, invariants_at, invariants_of}
+use Rattle.ss_logic_express.specs.Express.{and_of, Meant, One, said, Context, local_meant, meant, defined, holds_formula}
+use Rattle.ss_logic_express.specs.Invariants.{invariant_context, invariants_said, packed_invariants, invariants_at, invariants_of}
 use Rattle.ss_machine_typed.specs.Settings.{IsGoodSetting}
 use Rattle.ss_machine_typed.proofs.Older.{older_self}
 use Rattle.ss_logic_means.specs.Means.{standing, Means}
@@ -51,7 +51,7 @@ holds_from cs m e ps x (Ok v) g h =
     (λ t. says.0 (All-parts cs m e ps (said x ∷ []) t).1.0, λ y. All-append cs m e ps (said x ∷ []) h.0 (says.1 y, tt))
 holds_from cs m e ps x (Err u) g h = (λ t. absurd (h (All-parts cs m e ps (said x ∷ []) t).0), λ y. absurd (false≢true y))
 
-pub condition_means : (among : ℕ → Bool) (m : Structure) (now entry : Heap) (x : ExprTree) (c : Scene) (locals : List ObjectValue) (k : Bool) → IsGoodSetting (setting_of m c now entry locals) c.types k → (e : List Value) → StandsAmong among m c now entry locals e →
+pub condition_means : (among : ℕ → Bool) (m : Structure) (now entry : Heap) (x : ExprTree) (c : Context) (locals : List ObjectValue) (k : Bool) → IsGoodSetting (setting_of m c now entry locals) c.types k → (e : List Value) → StandsAmong among m c now entry locals e →
     reads_plainly among x ≡ true → is_bool (type_of c.classes c.types x) ≡ true → length e ≡ c.bound → Means c.classes m e (holds_formula x c) (run.holds x (setting_of m c now entry locals))
 condition_means among m now entry x c locals k good e st none is at =
     holds_from c.classes m e (defined x c) (meant x c) (run.value_of x (setting_of m c now entry locals)) (gives_bool m (setting_of m c now entry locals) now refl c.types k good x is)
@@ -140,8 +140,8 @@ module _ (cs : List ClassTree) (chain : IsChain cs) (beside : NoAlso cs) (are : 
   is_thing = thing_value (value_of cs m [] o) (AreOf-values cs m (sort.Store ∷ sort.Rest ∷ []) (s ∷ o ∷ []) sorts).1.0
 
   module _ (good : IsGoodStore cs m.table H) (t q : ℕ) (is : value_of cs m [] o ≡ thing (reference q)) (l : nat_lt q H.next ≡ true) (packed : sub cs (H.at (reference q)).level t ≡ true) where
-    abbrev C : Scene
-    C = invariant_scene cs s o t
+    abbrev C : Context
+    C = invariant_context cs s o t
 
     abbrev This : List ObjectValue
     This = value.Obj q ∷ []

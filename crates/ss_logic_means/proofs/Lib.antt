@@ -24,7 +24,7 @@ pub mod Closed
 pub mod Sorting
 pub mod Forming
 pub mod Operating
-pub mod Scening
+pub mod Contexts
 pub mod Expressed
 pub mod Stated
 pub mod Bodies

@@ -1,4 +1,4 @@
--- What a scene stands for, inside `old` and with one more bound name.
+-- What a context stands for, inside `old` and with one more bound name.
 use Rattle.std.proofs.Common.{◌≡◌, ℕ, zero, suc, ◌<◌, ℤ, pos, negsuc, ◌+ℤ◌, List, [], ◌∷◌, ◌++◌, length, Bool, true, Some, refl, sym, ◌∙◌, ap, subst, append_assoc, inl, inr, ◌⊎◌, ⊎_elim, arith}
 use Rattle.std.specs.Prelude.{slice_get, unwrap_or, int_le, ◌^◌, ◌-◌}
 use Rattle.std.proofs.lemmas.Bool.{and_from}
@@ -14,7 +14,7 @@ use Rattle.ss_store_rules.specs.Values.{Setting}
 use Rattle.ss_store_rules.specs.Values as run
 use Rattle.ss_logic.specs.Values.{null, Heap, Value, whole, thing, store, Structure}
 use Rattle.ss_logic.specs.Terms.{Bound, argument, value_of}
-use Rattle.ss_logic_express.specs.Express.{One, Scene, at_entry, with_bound, meant_or_null, local_meant}
+use Rattle.ss_logic_express.specs.Express.{One, Context, at_entry, with_bound, meant_or_null, local_meant}
 use Rattle.ss_logic_rules.proofs.Numbers.{fits_low, fits_high}
 use Rattle.ss_machine_typed.specs.Settings.{IsGoodSetting}
 use Rattle.ss_logic_means.specs.Means.{standing, Denotes}
@@ -69,15 +69,15 @@ range_fits a b i fa fb low high =
 
 -- ---- settings
 
--- a scene that stands for all its locals stands for these
-pub stands_among : (among : ℕ → Bool) (m : Structure) (c : Scene) (now entry : Heap) (locals : List ObjectValue) (e : List Value) → Stands m c now entry locals e → StandsAmong among m c now entry locals e
+-- a context that stands for all its locals stands for these
+pub stands_among : (among : ℕ → Bool) (m : Structure) (c : Context) (now entry : Heap) (locals : List ObjectValue) (e : List Value) → Stands m c now entry locals e → StandsAmong among m c now entry locals e
 stands_among among m c now entry locals e st = record { now = st.now; entry = st.entry; count = st.count; locals = λ x v asked there vs. st.locals x v there vs }
 
 module _ (among : ℕ → Bool) (m : Structure) (now entry : Heap) where
-  pub old_stands : (c : Scene) (locals : List ObjectValue) (e : List Value) → StandsAmong among m c now entry locals e → StandsAmong among m (at_entry c) now entry locals e
+  pub old_stands : (c : Context) (locals : List ObjectValue) (e : List Value) → StandsAmong among m c now entry locals e → StandsAmong among m (at_entry c) now entry locals e
   old_stands c locals e st = record { now = st.now; entry = st.entry; count = st.count; locals = st.locals }
 
-  longer : (c : Scene) (locals : List ObjectValue) (e : List Value) → StandsAmong among m c now entry locals e → (more : List Value) → StandsAmong among m c now entry locals (e ++ more)
+  longer : (c : Context) (locals : List ObjectValue) (e : List Value) → StandsAmong among m c now entry locals e → (more : List Value) → StandsAmong among m c now entry locals (e ++ more)
   longer c locals e st more = record {
     now = λ vs. subst (λ w. value_of c.classes m w c.now ≡ store now) (sym (append_assoc e more vs)) (st.now (more ++ vs));
     entry = λ vs. subst (λ w. value_of c.classes m w c.entry ≡ store entry) (sym (append_assoc e more vs)) (st.entry (more ++ vs));
@@ -85,7 +85,7 @@ module _ (among : ℕ → Bool) (m : Structure) (now entry : Heap) where
     locals = λ x v asked there vs. subst (λ w. Denotes c.classes m w (local_meant c x) (standing v)) (sym (append_assoc e more vs)) (st.locals x v asked there (more ++ vs));
   }
 
-  module _ (c : Scene) (locals : List ObjectValue) (e : List Value) (st : StandsAmong among m c now entry locals e) (i : ℤ) where
+  module _ (c : Context) (locals : List ObjectValue) (e : List Value) (st : StandsAmong among m c now entry locals e) (i : ℤ) where
     pub more_stands : StandsAmong among m c now entry locals (e ++ whole i ∷ [])
     more_stands = longer c locals e st (whole i ∷ [])
 

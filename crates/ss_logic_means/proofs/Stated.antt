@@ -17,8 +17,8 @@ use Rattle.ss_logic.specs.Terms.{Field, Term, Bound, app, sort_of_type, same_sor
 use Rattle.ss_logic.specs.Formulas.{Formula, is_well_formed, neg}
 use Rattle.ss_logic.proofs.Truth.{equal_sorts}
 use Rattle.ss_logic_rules.specs.Shapes.{null_term, class_term, level_of, owner_of, pair_of, equal, differ, sub_atom, allocated, committed, class_of_term}
-use Rattle.ss_logic_express.specs.Express.{and_of, or_of, One, choices, over, said, Scene, meant_or_null, local_meant, is_full, default_of_sort, defaults_from, owned_full, may_be_captured, met_by, subject, default_said, meant, defined, holds_formula}
-use Rattle.ss_logic_express.specs.Invariants.{invariant_scene, invariants_said, packed_invariants, invariants_at, invariants_of}
+use Rattle.ss_logic_express.specs.Express.{and_of, or_of, One, choices, over, said, Context, meant_or_null, local_meant, is_full, default_of_sort, defaults_from, owned_full, may_be_captured, met_by, subject, default_said, meant, defined, holds_formula}
+use Rattle.ss_logic_express.specs.Invariants.{invariant_context, invariants_said, packed_invariants, invariants_at, invariants_of}
 use Rattle.ss_logic_means.specs.Scenes.{has_subject, has_no_default, speaks_of, speaks_only, is_stated, AreInvariants}
 use Rattle.ss_logic_means.specs.Sorts.{HasSort, AreWellFormed, HaveSort, IsWellExpressed, IsSorted, IsSortedAmong}
 use Rattle.ss_logic_means.proofs.Operands.{bool_some, class_reference}
@@ -27,7 +27,7 @@ use Rattle.ss_logic_means.proofs.Everywhere.{all_locals, plainly_from, speaks_al
 use Rattle.ss_logic_means.proofs.Sorting.{equal_formed, all_formed, more_formed, sort_more}
 use Rattle.ss_logic_means.proofs.Forming.{F, S, C, and_two, or_two, negation, one_sorted, says_sorted, over_formed, said_formed}
 use Rattle.ss_logic_means.proofs.Operating.{bool_sort, reference_sort, null_sorted, as_sort}
-use Rattle.ss_logic_means.proofs.Scening.{bound_sorted, class_sorted, pair_sorted, sub_formed, group_formed, level_sorted, owner_sorted, allocated_formed, committed_formed, full_formed, consistent_formed, sorted_among, local_sorted}
+use Rattle.ss_logic_means.proofs.Contexts.{bound_sorted, class_sorted, pair_sorted, sub_formed, group_formed, level_sorted, owner_sorted, allocated_formed, committed_formed, full_formed, consistent_formed, sorted_among, local_sorted}
 use Rattle.ss_logic_means.proofs.Expressed.{field_sorted, expressed}
 
 -- ---- default conditions
@@ -39,7 +39,7 @@ default_sorted cs bound ty.Null = (refl, refl)
 default_sorted cs bound (ty.Ref t n) = (refl, refl)
 
 -- with one more object bound behind
-module _ (among : ℕ → Bool) (c : Scene) (bound : List Sort) (st : IsSortedAmong among c bound) (at : length bound ≡ c.bound) where
+module _ (among : ℕ → Bool) (c : Context) (bound : List Sort) (st : IsSortedAmong among c bound) (at : length bound ≡ c.bound) where
   abbrev More : List Sort
   More = bound ++ sort.Rest ∷ []
 
@@ -190,7 +190,7 @@ module _ (among : ℕ → Bool) (c : Scene) (bound : List Sort) (st : IsSortedAm
   pub plain_condition_formed : (x : ExprTree) → reads_only among x ≡ true → has_no_default x ≡ true → is_bool (type_of c.classes c.types x) ≡ true → is_well_formed c.classes bound (holds_formula x c) ≡ true
   plain_condition_formed x reads none typed = holds_formed x (plainly_expressed x reads (and_from (has_no_default x) (is_bool (type_of c.classes c.types x)) none typed))
 
--- ---- scenes of terms without bound names
+-- ---- contexts of terms without bound names
 
 term_sorted : (cs : List ClassTree) (s : Sort) (t : Term) → (same_sort (sort_of cs [] t) s && is_well_sorted cs [] t) ≡ true → HasSort cs [] s t
 term_sorted cs s t h = let p = and_parts (same_sort (sort_of cs [] t) s) (is_well_sorted cs [] t) h in (equal_sorts (sort_of cs [] t) s p.0, p.1)
@@ -212,7 +212,7 @@ sorted_at cs (y ∷ tys) (t ∷ ts) h zero u is more =
 sorted_at cs (y ∷ tys) (t ∷ ts) h (suc x) u is more =
     sorted_at cs tys ts (and_parts (same_sort (sort_of cs [] t) (sort_of_type y) && is_well_sorted cs [] t) (have_sorts cs (map sort_of_type tys) ts) h).1 x u is more
 
-pub closed_sorted : (c : Scene) (ts : List Term) → have_sorts c.classes (sort.Store ∷ sort.Store ∷ []) (c.now ∷ c.entry ∷ []) ≡ true → c.locals ≡ map One ts → have_sorts c.classes (map sort_of_type c.types) ts ≡ true → IsSorted c []
+pub closed_sorted : (c : Context) (ts : List Term) → have_sorts c.classes (sort.Store ∷ sort.Store ∷ []) (c.now ∷ c.entry ∷ []) ≡ true → c.locals ≡ map One ts → have_sorts c.classes (map sort_of_type c.types) ts ≡ true → IsSorted c []
 closed_sorted c ts stores is h =
     let p = and_parts (same_sort (sort_of c.classes [] c.now) sort.Store && is_well_sorted c.classes [] c.now) (have_sorts c.classes (sort.Store ∷ []) (c.entry ∷ [])) stores in
     let q = and_parts (same_sort (sort_of c.classes [] c.entry) sort.Store && is_well_sorted c.classes [] c.entry) true p.1 in
@@ -237,23 +237,23 @@ module _ (cs : List ClassTree) (are : AreInvariants cs) (s o : Term) (sorts : ha
       (term_sorted cs sort.Store s p.0, term_sorted cs sort.Rest o q.0)
 
   module _ (t : ℕ) where
-    scene_sorted : IsSorted (invariant_scene cs s o t) []
-    scene_sorted = closed_sorted (invariant_scene cs s o t) (o ∷ []) (and_from (same_sort (sort_of cs [] s) sort.Store && is_well_sorted cs [] s) _ is_store (and_from (same_sort (sort_of cs [] s) sort.Store && is_well_sorted cs [] s) true is_store refl)) refl
+    context_sorted : IsSorted (invariant_context cs s o t) []
+    context_sorted = closed_sorted (invariant_context cs s o t) (o ∷ []) (and_from (same_sort (sort_of cs [] s) sort.Store && is_well_sorted cs [] s) _ is_store (and_from (same_sort (sort_of cs [] s) sort.Store && is_well_sorted cs [] s) true is_store refl)) refl
         (and_parts (same_sort (sort_of cs [] s) sort.Store && is_well_sorted cs [] s) (have_sorts cs (sort.Rest ∷ []) (o ∷ [])) sorts).1
       where
         is_store : (same_sort (sort_of cs [] s) sort.Store && is_well_sorted cs [] s) ≡ true
         is_store = (and_parts (same_sort (sort_of cs [] s) sort.Store && is_well_sorted cs [] s) (have_sorts cs (sort.Rest ∷ []) (o ∷ [])) sorts).0
 
-    all_invariants : (xs : List ExprTree) → list_all (is_invariant cs t) xs ≡ true → list_all (is_admissible cs t) xs ≡ true → AreWellFormed cs [] (map (λ x. holds_formula x (invariant_scene cs s o t)) xs)
+    all_invariants : (xs : List ExprTree) → list_all (is_invariant cs t) xs ≡ true → list_all (is_admissible cs t) xs ≡ true → AreWellFormed cs [] (map (λ x. holds_formula x (invariant_context cs s o t)) xs)
     all_invariants [] a b = tt
     all_invariants (x ∷ xs) a b =
         let p = and_parts (is_invariant cs t x) (list_all (is_invariant cs t) xs) a in
         let q = and_parts (is_admissible cs t x) (list_all (is_admissible cs t) xs) b in
-        (condition_formed all_locals (invariant_scene cs s o t) [] (sorted_among all_locals (invariant_scene cs s o t) [] scene_sorted) refl x (speaks_all x) (plain_stated cs (invariant_types t) x (admissible_no_default cs t x q.0) p.0), all_invariants xs p.1 q.1)
+        (condition_formed all_locals (invariant_context cs s o t) [] (sorted_among all_locals (invariant_context cs s o t) [] context_sorted) refl x (speaks_all x) (plain_stated cs (invariant_types t) x (admissible_no_default cs t x q.0) p.0), all_invariants xs p.1 q.1)
 
     pub packed_formed : is_well_formed cs [] (packed_invariants cs s o t) ≡ true
     packed_formed =
-        let said_all = all_formed cs [] (map (λ x. holds_formula x (invariant_scene cs s o t)) (invariants cs t)) (all_invariants (invariants cs t) (are.typed t) (are.admissible t)) in
+        let said_all = all_formed cs [] (map (λ x. holds_formula x (invariant_context cs s o t)) (invariants cs t)) (all_invariants (invariants cs t) (are.typed t) (are.admissible t)) in
         let there = negation cs [] (allocated s o) (allocated_formed cs [] s sorted_parts.0 o sorted_parts.1) in
         let packed = negation cs [] (sub_atom (level_of s o) (class_term t)) (sub_formed cs [] (level_of s o) (class_term t) (level_sorted cs [] s sorted_parts.0 o sorted_parts.1) (class_sorted cs [] t)) in
         all_formed cs [] (neg (allocated s o) ∷ neg (sub_atom (level_of s o) (class_term t)) ∷ invariants_said cs s o t ∷ []) (there, (packed, (said_all, tt)))

@@ -19,7 +19,7 @@ use Rattle.ss_logic.specs.Values.{Heap, Value, whole, truth, thing, store, null,
 use Rattle.ss_logic.specs.Terms.{value_of}
 use Rattle.ss_logic.specs.Objects.{object_in, objects_of}
 use Rattle.ss_logic_rules.specs.Shapes.{number, null_term}
-use Rattle.ss_logic_express.specs.Express.{truth_term, Scene, at_entry, with_bound, local_meant, element_sort, meant, defined}
+use Rattle.ss_logic_express.specs.Express.{truth_term, Context, at_entry, with_bound, local_meant, element_sort, meant, defined}
 use Rattle.ss_machine_typed.specs.Settings.{IsGoodSetting}
 use Rattle.ss_machine_typed.proofs.Outcomes.{int_typed}
 use Rattle.ss_machine_typed.proofs.Sound.{old_setting}
@@ -40,8 +40,8 @@ use Rattle.ss_logic_means.proofs.Standing.{old_stands, more_stands, bound_stands
 use Rattle.ss_logic_means.proofs.Asking.{word_read, owners_word_read, quantifier_read}
 
 module _ (among : ℕ → Bool) (m : Structure) (now entry : Heap) where
-  -- ---- what a scene gives
-  module _ (c : Scene) (locals : List ObjectValue) (k : Bool) (good : IsGoodSetting (setting_of m c now entry locals) c.types k) (e : List Value) (st : StandsAmong among m c now entry locals e) where
+  -- ---- what a context gives
+  module _ (c : Context) (locals : List ObjectValue) (k : Bool) (good : IsGoodSetting (setting_of m c now entry locals) c.types k) (e : List Value) (st : StandsAmong among m c now entry locals e) where
     is_now : V c.classes m e c.now ≡ store now
     is_now = subst (λ w. value_of c.classes m w c.now ≡ store now) (append-nil e) (st.now [])
 
@@ -81,7 +81,7 @@ module _ (among : ℕ → Bool) (m : Structure) (now entry : Heap) where
     int_fits x h u is = int_typed c.classes (objects_of c.classes m.table now) u (typed.gives_int m (setting_of m c now entry locals) now refl c.types k good x h u is)
 
   -- The premise on the values of the bound names: an expression of another type than that of truth values may stand behind more of them.
-  pub translated : (x : ExprTree) (c : Scene) (locals : List ObjectValue) (k : Bool) → IsGoodSetting (setting_of m c now entry locals) c.types k → (e : List Value) → StandsAmong among m c now entry locals e →
+  pub translated : (x : ExprTree) (c : Context) (locals : List ObjectValue) (k : Bool) → IsGoodSetting (setting_of m c now entry locals) c.types k → (e : List Value) → StandsAmong among m c now entry locals e →
       reads_plainly among x ≡ true → is_some (type_of c.classes c.types x) ≡ true → (is_bool (type_of c.classes c.types x) ≡ true → length e ≡ c.bound) →
       R c.classes m e (defined x c) (meant x c) (run.value_of x (setting_of m c now entry locals))
   translated (IntExpr p n) c locals k good e st none is at = (tt, one_denotes c.classes m e (number n) (whole n) refl)

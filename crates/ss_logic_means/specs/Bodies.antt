@@ -1,4 +1,4 @@
--- The scene of a body: a constant for each of its locals, and what values a structure gives these.
+-- The context of a body: a constant for each of its locals, and what values a structure gives these.
 use Rattle.std.specs.Prelude.{◌≡◌, ℕ, ◌+◌, List, [], ◌∷◌, map, false}
 use Rattle.ss_core.specs.declared.names.Ty.{Ty}
 use Rattle.ss_core.specs.Tree.{ClassTree, BodyTree}
@@ -6,7 +6,7 @@ use Rattle.ss_store_rules.specs.declared.Value.{Value as ObjectValue}
 use Rattle.ss_store_rules.specs.Locals.{local_types}
 use Rattle.ss_logic.specs.Values.{Structure}
 use Rattle.ss_logic.specs.Terms.{Constant, Term, app, sort_of_type, constant_value}
-use Rattle.ss_logic_express.specs.Express.{One, Scene}
+use Rattle.ss_logic_express.specs.Express.{One, Context}
 use Rattle.ss_logic_means.specs.Means.{standing}
 
 -- a constant for each of these types, of its sort, with numbers from this one on
@@ -15,8 +15,8 @@ constants_from k [] = []
 constants_from k (t ∷ ts) = app (Constant (sort_of_type t) k) [] ∷ constants_from (k + 1) ts
 
 -- where a condition of the body stands between these stores: each local is the constant with its number
-abbrev pub body_scene : List ClassTree → BodyTree → Term → Term → Scene
-body_scene cs b now entry = record {
+abbrev pub body_context : List ClassTree → BodyTree → Term → Term → Context
+body_context cs b now entry = record {
   classes = cs;
   now = now;
   entry = entry;

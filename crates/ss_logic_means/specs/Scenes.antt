@@ -1,4 +1,4 @@
--- Where an expression stands: the scene of its terms, and what in a run they stand for.
+-- Where an expression stands: the context of its terms, and what in a run they stand for.
 use Rattle.std.specs.Prelude.{◌≡◌, ℕ, List, [], ◌∷◌, ◌++◌, length, Bool, true, not, ◌&&◌, ◌||◌, Some, slice_get}
 use Rattle.std.specs.List.{list_all}
 use Rattle.ss_core.specs.declared.names.Ty.{Ty}
@@ -13,11 +13,11 @@ use Rattle.ss_store_rules.specs.Admissible.{invariants, AreAdmissible}
 use Rattle.ss_logic.specs.Values.{Heap, Value, store, Structure}
 use Rattle.ss_logic.specs.Terms.{Term, is_well_sorted, value_of}
 use Rattle.ss_logic.specs.Objects.{objects_of}
-use Rattle.ss_logic_express.specs.Express.{Choice, choices, Scene, local_meant, subject}
+use Rattle.ss_logic_express.specs.Express.{Choice, choices, Context, local_meant, subject}
 use Rattle.ss_logic_means.specs.Means.{standing, Denotes}
 
 -- the setting of a run whose stores now and at the entry are those that these of the structure table
-abbrev pub setting_of : Structure → Scene → Heap → Heap → List ObjectValue → Setting
+abbrev pub setting_of : Structure → Context → Heap → Heap → List ObjectValue → Setting
 setting_of m c now entry locals = record {
   classes = c.classes;
   store = objects_of c.classes m.table now;
@@ -26,15 +26,15 @@ setting_of m c now entry locals = record {
   locals = locals;
 }
 
--- At these values of the bound names, and at any more of them behind, the terms of the scene stand for these stores and locals.
-pub record Stands (m : Structure) (c : Scene) (current former : Heap) (values : List ObjectValue) (e : List Value) : Type 0 where
+-- At these values of the bound names, and at any more of them behind, the terms of the context stand for these stores and locals.
+pub record Stands (m : Structure) (c : Context) (current former : Heap) (values : List ObjectValue) (e : List Value) : Type 0 where
   pub now : (vs : List Value) → value_of c.classes m (e ++ vs) c.now ≡ store current
   pub entry : (vs : List Value) → value_of c.classes m (e ++ vs) c.entry ≡ store former
   pub count : length c.locals ≡ length values
   pub locals : (x : ℕ) (v : ObjectValue) → slice_get values x ≡ Some v → (vs : List Value) → Denotes c.classes m (e ++ vs) (local_meant c x) (standing v)
 
 -- The same, where these locals alone are asked: what the others mean may be anything.
-pub record StandsAmong (among : ℕ → Bool) (m : Structure) (c : Scene) (current former : Heap) (values : List ObjectValue) (e : List Value) : Type 0 where
+pub record StandsAmong (among : ℕ → Bool) (m : Structure) (c : Context) (current former : Heap) (values : List ObjectValue) (e : List Value) : Type 0 where
   pub now : (vs : List Value) → value_of c.classes m (e ++ vs) c.now ≡ store current
   pub entry : (vs : List Value) → value_of c.classes m (e ++ vs) c.entry ≡ store former
   pub count : length c.locals ≡ length values
@@ -83,7 +83,7 @@ speaks_only among (DefaultExpr p d) = speaks_of among d
 speaks_only among x = reads_only among x
 
 -- the terms of the local of which a default condition speaks stay what they are
-abbrev pub Settled : Structure → List Value → Scene → ExprTree → Type 0
+abbrev pub Settled : Structure → List Value → Context → ExprTree → Type 0
 Settled m e c (DefaultExpr p d) = Stay c.classes m e (choices (local_meant c (subject d)))
 Settled m e c x = Unit {0}
 

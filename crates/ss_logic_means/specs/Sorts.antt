@@ -6,7 +6,7 @@ use Rattle.ss_logic.specs.declared.Sort.{Sort}
 use Rattle.ss_logic.specs.declared.Sort.TheVariants as sort
 use Rattle.ss_logic.specs.Terms.{Term, sort_of_type, sort_of, is_well_sorted}
 use Rattle.ss_logic.specs.Formulas.{Formula, is_well_formed}
-use Rattle.ss_logic_express.specs.Express.{Choice, Meant, choices, Scene, local_meant}
+use Rattle.ss_logic_express.specs.Express.{Choice, Meant, choices, Context, local_meant}
 
 -- a well sorted term of this sort, where the bound names have these
 abbrev pub HasSort : List ClassTree → List Sort → Sort → Term → Type 0
@@ -25,16 +25,16 @@ HaveSort cs bound s (x ∷ xs) = (is_well_formed cs bound x.condition ≡ true) 
 abbrev pub IsWellExpressed : List ClassTree → List Sort → Sort → List Formula → Meant → Type 0
 IsWellExpressed cs bound s parts x = AreWellFormed cs bound parts × HaveSort cs bound s (choices x)
 
--- Where the bound names have these sorts, the terms of the scene are stores, and what its locals mean has the sorts of their types, at any
+-- Where the bound names have these sorts, the terms of the context are stores, and what its locals mean has the sorts of their types, at any
 -- more bound names behind.
-pub record IsSorted (c : Scene) (bound : List Sort) : Type 0 where
+pub record IsSorted (c : Context) (bound : List Sort) : Type 0 where
   pub now : HasSort c.classes bound sort.Store c.now
   pub entry : HasSort c.classes bound sort.Store c.entry
   pub count : length c.locals ≡ length c.types
   pub locals : (x : ℕ) (t : Ty) → slice_get c.types x ≡ Some t → (more : List Sort) → HaveSort c.classes (bound ++ more) (sort_of_type t) (choices (local_meant c x))
 
 -- The same, where these locals alone are asked: what the others mean may be anything.
-pub record IsSortedAmong (among : ℕ → Bool) (c : Scene) (bound : List Sort) : Type 0 where
+pub record IsSortedAmong (among : ℕ → Bool) (c : Context) (bound : List Sort) : Type 0 where
   pub now : HasSort c.classes bound sort.Store c.now
   pub entry : HasSort c.classes bound sort.Store c.entry
   pub count : length c.locals ≡ length c.types

@@ -13,35 +13,35 @@ ghost use Rattle.ss_store_rules.specs.Values as run;
 ghost use Rattle.ss_logic.specs.Values.{Heap, Table, IsNumbered, Value, Structure};
 ghost use Rattle.ss_logic.specs.Terms.{Term, sort_of_type, have_sorts};
 ghost use Rattle.ss_logic.specs.Formulas.{Good, Formula, is_well_formed, AreOf, True, IsValid, atom};
-ghost use Rattle.ss_logic_express.specs.Express.{One, Scene, choices, local_meant, subject, element_sort, meant, defined, default_said, holds_formula};
+ghost use Rattle.ss_logic_express.specs.Express.{One, Context, choices, local_meant, subject, element_sort, meant, defined, default_said, holds_formula};
 ghost use Rattle.ss_logic_express.specs.Invariants.{packed_invariants, invariants_of};
 ghost use Rattle.ss_machine_typed.specs.Settings.{IsGoodSetting};
 ghost use Rattle.ss_logic_means.specs.Means.{standing, Means, Reads};
 ghost use Rattle.ss_logic_means.specs.Scenes.{setting_of, Stands, StandsAmong, HaveValues, IsStoreTerm, Stay, has_subject, has_no_default, speaks_only, is_stated, Settled, AreInvariants};
 ghost use Rattle.ss_logic.specs.declared.Sort.{Sort};
 ghost use Rattle.ss_logic.specs.declared.Sort.TheVariants as sort;
-ghost use Rattle.ss_logic_means.specs.Bodies.{body_scene, GivesFrom};
+ghost use Rattle.ss_logic_means.specs.Bodies.{body_context, GivesFrom};
 ghost use Rattle.ss_logic_means.specs.Sorts.{IsWellExpressed, IsSorted, IsSortedAmong};
 ghost use Rattle.ss_logic_means.specs.Sentences.{IsOfGood, AllFollowFromGood};
 
 /// The translation law: the parts of a typed expression are true exactly where it has a value, and what it means then has that value.
 pub fn expressions_mean_their_values()
-    ensures { (m : Structure) (now entry : Heap) (x : ExprTree) (c : Scene) (locals : List ObjectValue) (k : Bool) → IsGoodSetting (setting_of m c now entry locals) c.types k → (e : List Value) → Stands m c now entry locals e → length e ≡ c.bound → has_no_default x ≡ true → is_some (type_of c.classes c.types x) ≡ true → Reads c.classes m e (defined x c) (meant x c) (run.value_of x (setting_of m c now entry locals)) }
+    ensures { (m : Structure) (now entry : Heap) (x : ExprTree) (c : Context) (locals : List ObjectValue) (k : Bool) → IsGoodSetting (setting_of m c now entry locals) c.types k → (e : List Value) → Stands m c now entry locals e → length e ≡ c.bound → has_no_default x ≡ true → is_some (type_of c.classes c.types x) ≡ true → Reads c.classes m e (defined x c) (meant x c) (run.value_of x (setting_of m c now entry locals)) }
 {}
 
-/// A scene of terms without bound names stands for the stores and values that these have.
+/// A context of terms without bound names stands for the stores and values that these have.
 pub fn closed_terms_stand()
-    ensures { (m : Structure) (c : Scene) (now entry : Heap) (terms : List Term) (locals : List ObjectValue) → IsStoreTerm c.classes m c.now now → IsStoreTerm c.classes m c.entry entry → c.locals ≡ map One terms → HaveValues c.classes m terms locals → Stands m c now entry locals [] }
+    ensures { (m : Structure) (c : Context) (now entry : Heap) (terms : List Term) (locals : List ObjectValue) → IsStoreTerm c.classes m c.now now → IsStoreTerm c.classes m c.entry entry → c.locals ≡ map One terms → HaveValues c.classes m terms locals → Stands m c now entry locals [] }
 {}
 
-/// The terms of a scene without bound names stay what they are behind more bound names.
+/// The terms of a context without bound names stay what they are behind more bound names.
 pub fn closed_terms_stay()
-    ensures { (m : Structure) (c : Scene) (terms : List Term) (locals : List ObjectValue) → c.locals ≡ map One terms → HaveValues c.classes m terms locals → (x : ℕ) → Stay c.classes m [] (choices (local_meant c x)) }
+    ensures { (m : Structure) (c : Context) (terms : List Term) (locals : List ObjectValue) → c.locals ≡ map One terms → HaveValues c.classes m terms locals → (x : ℕ) → Stay c.classes m [] (choices (local_meant c x)) }
 {}
 
 /// The formula of a condition of a contract is true exactly where the condition holds.
 pub fn conditions_are_true_where_they_hold()
-    ensures { (m : Structure) (now entry : Heap) (x : ExprTree) (c : Scene) (locals : List ObjectValue) (k : Bool) → IsGoodSetting (setting_of m c now entry locals) c.types k → (e : List Value) → Stands m c now entry locals e → length e ≡ c.bound → is_stated c.classes c.types x ≡ true → Settled m e c x → Means c.classes m e (holds_formula x c) (run.holds x (setting_of m c now entry locals)) }
+    ensures { (m : Structure) (now entry : Heap) (x : ExprTree) (c : Context) (locals : List ObjectValue) (k : Bool) → IsGoodSetting (setting_of m c now entry locals) c.types k → (e : List Value) → Stands m c now entry locals e → length e ≡ c.bound → is_stated c.classes c.types x ≡ true → Settled m e c x → Means c.classes m e (holds_formula x c) (run.holds x (setting_of m c now entry locals)) }
 {}
 
 /// Each condition of a contract is a default condition of a local that fits it, or a truth value without one.
@@ -61,7 +61,7 @@ pub fn typed_expressions_have_no_default()
 
 /// The formula of a default condition is true exactly where it holds, if the terms of its local don't rest on names bound behind.
 pub fn default_conditions_are_true_where_they_hold()
-    ensures { (m : Structure) (now entry : Heap) (d : DefaultTree) (c : Scene) (locals : List ObjectValue) (k : Bool) → IsGoodSetting (setting_of m c now entry locals) c.types k → (e : List Value) → Stands m c now entry locals e → length e ≡ c.bound → has_subject c.classes c.types d ≡ true → Stay c.classes m e (choices (local_meant c (subject d))) → Means c.classes m e (default_said c d) (run.default_holds (setting_of m c now entry locals) d) }
+    ensures { (m : Structure) (now entry : Heap) (d : DefaultTree) (c : Context) (locals : List ObjectValue) (k : Bool) → IsGoodSetting (setting_of m c now entry locals) c.types k → (e : List Value) → Stands m c now entry locals e → length e ≡ c.bound → has_subject c.classes c.types d ≡ true → Stay c.classes m e (choices (local_meant c (subject d))) → Means c.classes m e (default_said c d) (run.default_holds (setting_of m c now entry locals) d) }
 {}
 
 /// Each instance of the rule on invariants is true wherever its store is good.
@@ -81,27 +81,27 @@ pub fn sentences_on_good_stores_may_be_premises()
 
 /// The formulas of a typed expression are well formed: each of its parts, and what it means, which has the sort of its type.
 pub fn expressions_are_well_formed()
-    ensures { (x : ExprTree) (c : Scene) (bound : List Sort) → IsSorted c bound → length bound ≡ c.bound → has_no_default x ≡ true → is_some (type_of c.classes c.types x) ≡ true → IsWellExpressed c.classes bound (element_sort (type_of c.classes c.types x)) (defined x c) (meant x c) }
+    ensures { (x : ExprTree) (c : Context) (bound : List Sort) → IsSorted c bound → length bound ≡ c.bound → has_no_default x ≡ true → is_some (type_of c.classes c.types x) ≡ true → IsWellExpressed c.classes bound (element_sort (type_of c.classes c.types x)) (defined x c) (meant x c) }
 {}
 
 /// The formula of a default condition is well formed, if it speaks of a local that fits it.
 pub fn default_conditions_are_well_formed()
-    ensures { (d : DefaultTree) (c : Scene) (bound : List Sort) → IsSorted c bound → length bound ≡ c.bound → has_subject c.classes c.types d ≡ true → is_well_formed c.classes bound (default_said c d) ≡ true }
+    ensures { (d : DefaultTree) (c : Context) (bound : List Sort) → IsSorted c bound → length bound ≡ c.bound → has_subject c.classes c.types d ≡ true → is_well_formed c.classes bound (default_said c d) ≡ true }
 {}
 
 /// The formulas of each stated expression are well formed, default conditions among them: its parts, and what it means, which is a truth value.
 pub fn stated_expressions_are_well_formed()
-    ensures { (x : ExprTree) (c : Scene) (bound : List Sort) → IsSorted c bound → length bound ≡ c.bound → is_stated c.classes c.types x ≡ true → IsWellExpressed c.classes bound sort.Truth (defined x c) (meant x c) }
+    ensures { (x : ExprTree) (c : Context) (bound : List Sort) → IsSorted c bound → length bound ≡ c.bound → is_stated c.classes c.types x ≡ true → IsWellExpressed c.classes bound sort.Truth (defined x c) (meant x c) }
 {}
 
 /// The formula that a stated expression is defined and holds is well formed.
 pub fn conditions_are_well_formed()
-    ensures { (x : ExprTree) (c : Scene) (bound : List Sort) → IsSorted c bound → length bound ≡ c.bound → is_stated c.classes c.types x ≡ true → is_well_formed c.classes bound (holds_formula x c) ≡ true }
+    ensures { (x : ExprTree) (c : Context) (bound : List Sort) → IsSorted c bound → length bound ≡ c.bound → is_stated c.classes c.types x ≡ true → is_well_formed c.classes bound (holds_formula x c) ≡ true }
 {}
 
-/// A scene of two stores, and for each local a term of the sort of its type, none with bound names, is sorted.
+/// A context of two stores, and for each local a term of the sort of its type, none with bound names, is sorted.
 pub fn closed_terms_are_sorted()
-    ensures { (c : Scene) (terms : List Term) → have_sorts c.classes (sort.Store ∷ sort.Store ∷ []) (c.now ∷ c.entry ∷ []) ≡ true → c.locals ≡ map One terms → have_sorts c.classes (map sort_of_type c.types) terms ≡ true → IsSorted c [] }
+    ensures { (c : Context) (terms : List Term) → have_sorts c.classes (sort.Store ∷ sort.Store ∷ []) (c.now ∷ c.entry ∷ []) ≡ true → c.locals ≡ map One terms → have_sorts c.classes (map sort_of_type c.types) terms ≡ true → IsSorted c [] }
 {}
 
 /// The formula that an object has its invariants where it is packed is well formed, of a store and an object without bound names.
@@ -114,19 +114,19 @@ pub fn instances_on_invariants_are_well_formed()
     ensures { (cs : List ClassTree) → AreInvariants cs → (s : Term) (ts : List Term) (f : Formula) → invariants_of cs s ts ≡ Some f → is_well_formed cs [] f ≡ true }
 {}
 
-/// The scene of a body whose locals are constants meets what the laws on well formed formulas ask, between stores without bound names.
-pub fn scenes_of_bodies_are_sorted()
-    ensures { (cs : List ClassTree) (b : BodyTree) (now entry : Term) → have_sorts cs (sort.Store ∷ sort.Store ∷ []) (now ∷ entry ∷ []) ≡ true → IsSorted (body_scene cs b now entry) [] }
+/// The context of a body whose locals are constants meets what the laws on well formed formulas ask, between stores without bound names.
+pub fn contexts_of_bodies_are_sorted()
+    ensures { (cs : List ClassTree) (b : BodyTree) (now entry : Term) → have_sorts cs (sort.Store ∷ sort.Store ∷ []) (now ∷ entry ∷ []) ≡ true → IsSorted (body_context cs b now entry) [] }
 {}
 
-/// The scene of a body stands for its two stores, and for the values that a structure gives the constants of its locals.
-pub fn scenes_of_bodies_stand()
-    ensures { (m : Structure) (cs : List ClassTree) (b : BodyTree) (now entry : Term) (current former : Heap) (locals : List ObjectValue) → IsStoreTerm cs m now current → IsStoreTerm cs m entry former → GivesFrom m 0 (local_types b) locals → Stands m (body_scene cs b now entry) current former locals [] }
+/// The context of a body stands for its two stores, and for the values that a structure gives the constants of its locals.
+pub fn contexts_of_bodies_stand()
+    ensures { (m : Structure) (cs : List ClassTree) (b : BodyTree) (now entry : Term) (current former : Heap) (locals : List ObjectValue) → IsStoreTerm cs m now current → IsStoreTerm cs m entry former → GivesFrom m 0 (local_types b) locals → Stands m (body_context cs b now entry) current former locals [] }
 {}
 
-/// The constants of the scene of a body stay what they are behind more bound names.
-pub fn scenes_of_bodies_stay()
-    ensures { (m : Structure) (cs : List ClassTree) (b : BodyTree) (now entry : Term) (locals : List ObjectValue) → GivesFrom m 0 (local_types b) locals → (x : ℕ) → Stay cs m [] (choices (local_meant (body_scene cs b now entry) x)) }
+/// The constants of the context of a body stay what they are behind more bound names.
+pub fn contexts_of_bodies_stay()
+    ensures { (m : Structure) (cs : List ClassTree) (b : BodyTree) (now entry : Term) (locals : List ObjectValue) → GivesFrom m 0 (local_types b) locals → (x : ℕ) → Stay cs m [] (choices (local_meant (body_context cs b now entry) x)) }
 {}
 
 /// For two stores whose groups are numbered, and values of the sorts of these types, some structure has the stores as its first two constants, and gives the constants of the types these values.
@@ -139,34 +139,34 @@ pub fn locals_have_the_sorts_of_their_types()
     ensures { (s : Setting) (types : List Ty) (k : Bool) → IsGoodSetting s types k → AreOf (map sort_of_type types) (map standing s.locals) }
 {}
 
-/// Each condition of a contract of a body, or of its code, is a well formed formula in the scene of the body.
+/// Each condition of a contract of a body, or of its code, is a well formed formula in the context of the body.
 pub fn conditions_of_bodies_are_well_formed()
-    ensures { (cs : List ClassTree) (b : BodyTree) (x : ExprTree) → is_stated cs (local_types b) x ≡ true → (now entry : Term) → have_sorts cs (sort.Store ∷ sort.Store ∷ []) (now ∷ entry ∷ []) ≡ true → is_well_formed cs [] (holds_formula x (body_scene cs b now entry)) ≡ true }
+    ensures { (cs : List ClassTree) (b : BodyTree) (x : ExprTree) → is_stated cs (local_types b) x ≡ true → (now entry : Term) → have_sorts cs (sort.Store ∷ sort.Store ∷ []) (now ∷ entry ∷ []) ≡ true → is_well_formed cs [] (holds_formula x (body_context cs b now entry)) ≡ true }
 {}
 
 /// The formula of a condition of a body is true exactly where it holds, for the values of the constants of its locals.
 pub fn conditions_of_bodies_are_true_where_they_hold()
-    ensures { (cs : List ClassTree) (b : BodyTree) (x : ExprTree) → is_stated cs (local_types b) x ≡ true → (m : Structure) (now entry : Term) (current former : Heap) (locals : List ObjectValue) (k : Bool) → IsGoodSetting (setting_of m (body_scene cs b now entry) current former locals) (local_types b) k → IsStoreTerm cs m now current → IsStoreTerm cs m entry former → GivesFrom m 0 (local_types b) locals → Means cs m [] (holds_formula x (body_scene cs b now entry)) (run.holds x (setting_of m (body_scene cs b now entry) current former locals)) }
+    ensures { (cs : List ClassTree) (b : BodyTree) (x : ExprTree) → is_stated cs (local_types b) x ≡ true → (m : Structure) (now entry : Term) (current former : Heap) (locals : List ObjectValue) (k : Bool) → IsGoodSetting (setting_of m (body_context cs b now entry) current former locals) (local_types b) k → IsStoreTerm cs m now current → IsStoreTerm cs m entry former → GivesFrom m 0 (local_types b) locals → Means cs m [] (holds_formula x (body_context cs b now entry)) (run.holds x (setting_of m (body_context cs b now entry) current former locals)) }
 {}
 
 /// An expression means its value where the locals that it reads have theirs. Its parts are true exactly where it has a value.
 pub fn expressions_mean_their_values_where_read()
-    ensures { (among : ℕ → Bool) (m : Structure) (now entry : Heap) (x : ExprTree) (c : Scene) (locals : List ObjectValue) (k : Bool) → IsGoodSetting (setting_of m c now entry locals) c.types k → (e : List Value) → StandsAmong among m c now entry locals e → length e ≡ c.bound → reads_only among x ≡ true → has_no_default x ≡ true → is_some (type_of c.classes c.types x) ≡ true → Reads c.classes m e (defined x c) (meant x c) (run.value_of x (setting_of m c now entry locals)) }
+    ensures { (among : ℕ → Bool) (m : Structure) (now entry : Heap) (x : ExprTree) (c : Context) (locals : List ObjectValue) (k : Bool) → IsGoodSetting (setting_of m c now entry locals) c.types k → (e : List Value) → StandsAmong among m c now entry locals e → length e ≡ c.bound → reads_only among x ≡ true → has_no_default x ≡ true → is_some (type_of c.classes c.types x) ≡ true → Reads c.classes m e (defined x c) (meant x c) (run.value_of x (setting_of m c now entry locals)) }
 {}
 
 /// The formulas of a typed expression are well formed where what the locals mean that it reads has the sorts of their types.
 pub fn expressions_are_well_formed_where_read()
-    ensures { (among : ℕ → Bool) (x : ExprTree) (c : Scene) (bound : List Sort) → IsSortedAmong among c bound → length bound ≡ c.bound → reads_only among x ≡ true → has_no_default x ≡ true → is_some (type_of c.classes c.types x) ≡ true → IsWellExpressed c.classes bound (element_sort (type_of c.classes c.types x)) (defined x c) (meant x c) }
+    ensures { (among : ℕ → Bool) (x : ExprTree) (c : Context) (bound : List Sort) → IsSortedAmong among c bound → length bound ≡ c.bound → reads_only among x ≡ true → has_no_default x ≡ true → is_some (type_of c.classes c.types x) ≡ true → IsWellExpressed c.classes bound (element_sort (type_of c.classes c.types x)) (defined x c) (meant x c) }
 {}
 
 /// The formula of a condition is true exactly where it holds, if the locals of which it speaks have their values.
 pub fn conditions_are_true_where_they_hold_where_read()
-    ensures { (among : ℕ → Bool) (m : Structure) (now entry : Heap) (x : ExprTree) (c : Scene) (locals : List ObjectValue) (k : Bool) → IsGoodSetting (setting_of m c now entry locals) c.types k → (e : List Value) → StandsAmong among m c now entry locals e → length e ≡ c.bound → speaks_only among x ≡ true → is_stated c.classes c.types x ≡ true → Settled m e c x → Means c.classes m e (holds_formula x c) (run.holds x (setting_of m c now entry locals)) }
+    ensures { (among : ℕ → Bool) (m : Structure) (now entry : Heap) (x : ExprTree) (c : Context) (locals : List ObjectValue) (k : Bool) → IsGoodSetting (setting_of m c now entry locals) c.types k → (e : List Value) → StandsAmong among m c now entry locals e → length e ≡ c.bound → speaks_only among x ≡ true → is_stated c.classes c.types x ≡ true → Settled m e c x → Means c.classes m e (holds_formula x c) (run.holds x (setting_of m c now entry locals)) }
 {}
 
 /// The formula of a condition is well formed where what the locals mean of which it speaks has the sorts of their types.
 pub fn conditions_are_well_formed_where_read()
-    ensures { (among : ℕ → Bool) (x : ExprTree) (c : Scene) (bound : List Sort) → IsSortedAmong among c bound → length bound ≡ c.bound → speaks_only among x ≡ true → is_stated c.classes c.types x ≡ true → is_well_formed c.classes bound (holds_formula x c) ≡ true }
+    ensures { (among : ℕ → Bool) (x : ExprTree) (c : Context) (bound : List Sort) → IsSortedAmong among c bound → length bound ≡ c.bound → speaks_only among x ≡ true → is_stated c.classes c.types x ≡ true → is_well_formed c.classes bound (holds_formula x c) ≡ true }
 {}
 
 /// A condition of a contract speaks of no other locals than those that it may read, if the arguments are among these.

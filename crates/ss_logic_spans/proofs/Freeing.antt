@@ -40,7 +40,7 @@ use Rattle.ss_vcgen_heaps.specs.Contracts.{term_of_one, captured_terms, pairs_of
 use Rattle.ss_logic_spans.specs.Spans.{IsArgument, AreArguments, AreReferences, SpanTerms, SpanValues, IsSpan, span_of, terms_of}
 use Rattle.ss_logic_spans.proofs.Objects.{IsLow, same_back, same_owner_self, group_owner}
 use Rattle.ss_logic_spans.proofs.Naming.{neither_parts, neither_from}
-use Rattle.ss_logic_spans.proofs.Standing.{SceneOf, Values}
+use Rattle.ss_logic_spans.proofs.Standing.{ContextOf, Values}
 
 -- ---- tests
 
@@ -331,7 +331,7 @@ module _ (cs : List ClassTree) (m : Structure) (b : BodyTree) (t : SpanTerms) (v
   the_first c = first_argument cs m v.before b.flags.is_static b.class (types_of b.params) t.arguments v.arguments (sp.body.constructs c) sp.arguments typed_arguments
 
   -- the `this` of a constructor is one term
-  pub this_term : (c : b.flags.ctor ≡ true) → local_meant (SceneOf cs m b t v sp t.before) 0 ≡ One (the_first c).0
+  pub this_term : (c : b.flags.ctor ≡ true) → local_meant (ContextOf cs m b t v sp t.before) 0 ≡ One (the_first c).0
   this_term c =
       let f = the_first c in
       ap meant_or_null (get_old (t.arguments ++ _) _ 0 (One f.0) (get_old t.arguments _ 0 (One f.0) f.2))
@@ -346,10 +346,10 @@ module _ (cs : List ClassTree) (m : Structure) (b : BodyTree) (t : SpanTerms) (v
     abbrev AllUnowned : List OwnerTerm → Type 0
     AllUnowned ws = Each (Unowned cs m v.before lows numbers o l) ws
 
-    owned_to : AllUnowned (owned_terms cs b (SceneOf cs m b t v sp t.before)) → is_owned_by_new TheSpan TheObject ≡ false
+    owned_to : AllUnowned (owned_terms cs b (ContextOf cs m b t v sp t.before)) → is_owned_by_new TheSpan TheObject ≡ false
     owned_to all = by b.flags.ctor refl all
       where
-        by : (c : Bool) → b.flags.ctor ≡ c → AllUnowned (if c then flat_map (pairs_of cs b.class) (term_of_one (local_meant (SceneOf cs m b t v sp t.before) 0)) else []) →
+        by : (c : Bool) → b.flags.ctor ≡ c → AllUnowned (if c then flat_map (pairs_of cs b.class) (term_of_one (local_meant (ContextOf cs m b t v sp t.before) 0)) else []) →
             (c && is_object_with (this_of (Values cs m b t v sp)) (λ q. is_pair_upto cs q b.class TheObject.owner)) ≡ false
         by false e all = refl
         by true e all =
@@ -358,11 +358,11 @@ module _ (cs : List ClassTree) (m : Structure) (b : BodyTree) (t : SpanTerms) (v
             ap (λ y. is_object_with y (λ q. is_pair_upto cs q b.class TheObject.owner)) (this_value e)
             ∙ pairs_to cs m v.before lows numbers o l sp.beside b.class f.0 f.1 f.5 f.6 (each_front (Unowned cs m v.before lows numbers o l) (pairs_of cs b.class f.0) pairs)
 
-    owned_from : is_owned_by_new TheSpan TheObject ≡ false → AllUnowned (owned_terms cs b (SceneOf cs m b t v sp t.before))
+    owned_from : is_owned_by_new TheSpan TheObject ≡ false → AllUnowned (owned_terms cs b (ContextOf cs m b t v sp t.before))
     owned_from = by b.flags.ctor refl
       where
         by : (c : Bool) → b.flags.ctor ≡ c → (c && is_object_with (this_of (Values cs m b t v sp)) (λ q. is_pair_upto cs q b.class TheObject.owner)) ≡ false →
-            AllUnowned (if c then flat_map (pairs_of cs b.class) (term_of_one (local_meant (SceneOf cs m b t v sp t.before) 0)) else [])
+            AllUnowned (if c then flat_map (pairs_of cs b.class) (term_of_one (local_meant (ContextOf cs m b t v sp t.before) 0)) else [])
         by false e f = tt
         by true e f =
             let a = the_first e in

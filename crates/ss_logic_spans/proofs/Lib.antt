@@ -8,4 +8,4 @@ pub mod Keeping
 pub mod Sorting
 pub mod Growing
 pub mod Bodies
-pub mod Scenes
+pub mod Contexts

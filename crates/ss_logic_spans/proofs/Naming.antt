@@ -17,7 +17,7 @@ use Rattle.ss_machine_rules.specs.Frame.{defined_value, named_of, subject_of, na
 use Rattle.ss_logic.specs.Values.{reference, Heap, truth, thing, as_thing, Structure}
 use Rattle.ss_logic.specs.Terms.{Term, value_of}
 use Rattle.ss_logic.specs.Formulas.{Formula, True, AllTrue, formulas_from}
-use Rattle.ss_logic_express.specs.Express.{and_of, Choice, Meant, One, Either, Says, not_null, Scene, meant, defined}
+use Rattle.ss_logic_express.specs.Express.{and_of, Choice, Meant, One, Either, Says, not_null, Context, meant, defined}
 use Rattle.ss_logic_frames.specs.Frames.{NamedTerm}
 use Rattle.ss_logic_frames.specs.Means.{Each, IsNamed, NamesNoField, NamesNoLevel, NamesNoElement}
 use Rattle.ss_logic_means.specs.Means.{Agree, NoneOf, Denotes, Reads}
@@ -27,7 +27,7 @@ use Rattle.ss_logic_means.proofs.Operations.{Gives}
 use Rattle.ss_logic_means.proofs.Classes.{IsReferenceOf, not_null_means}
 use Rattle.ss_vcgen_heaps.specs.Contracts.{named_term, naming_parts, named_as, named_terms}
 use Rattle.ss_logic_spans.specs.Spans.{is_typed_name, SpanTerms, SpanValues, IsSpan, span_of}
-use Rattle.ss_logic_spans.proofs.Standing.{SceneOf, Outcome_of, entry_reads, entry_refers}
+use Rattle.ss_logic_spans.proofs.Standing.{ContextOf, Outcome_of, entry_reads, entry_refers}
 
 -- ---- lists
 
@@ -160,8 +160,8 @@ module _ (cs : List ClassTree) (m : Structure) (h : Heap) (o : ℕ) (N : NamedTe
 -- ---- all that is named
 
 module _ (cs : List ClassTree) (m : Structure) (b : BodyTree) (t : SpanTerms) (v : SpanValues) (sp : IsSpan cs m b t v) (o : ℕ) (N : NamedTerm → Type 0) (asks : NamedTree → Bool) (test : Named → Bool) (k : Speaks cs m v.after o N asks test) where
-  abbrev S : Scene
-  S = SceneOf cs m b t v sp t.before
+  abbrev S : Context
+  S = ContextOf cs m b t v sp t.before
 
   abbrev Values_named : List NamedTree → List Named
   Values_named ns = flat_map (λ n. named_by n (frame.value_at_entry (span_of cs m b v) (subject_of n))) ns

@@ -14,7 +14,7 @@ use Rattle.ss_logic.specs.Terms as term
 use Rattle.ss_logic.specs.Formulas.{Formula, Forall, neg}
 use Rattle.ss_logic_rules.specs.Shapes.{number, null_term, class_term, equal, sub_atom}
 use Rattle.ss_logic_rules.specs.Shapes as shape
-use Rattle.ss_logic_express.specs.Express.{or_of, Meant, One, Either, Says, choices, over, over_two, mapped, paired, said, Scene, element_sort, is_of, fits_int, word_said, owners_said, same_truths, operated, as_class, out_of_range, quantified_said, meant, not_null, readable, under, index_fits, operation_parts, word_parts, defined}
+use Rattle.ss_logic_express.specs.Express.{or_of, Meant, One, Either, Says, choices, over, over_two, mapped, paired, said, Context, element_sort, is_of, fits_int, word_said, owners_said, same_truths, operated, as_class, out_of_range, quantified_said, meant, not_null, readable, under, index_fits, operation_parts, word_parts, defined}
 use Rattle.ss_logic_means.specs.Scenes.{has_no_default}
 
 -- ---- equal arguments
@@ -31,10 +31,10 @@ ap4 f {a} {a'} {b} {b'} {c} {c'} {d} {d'} p q r s = ap3 (λ x y z. f x y z d) p 
 ap5 : {A B C D E F : Type 0} (f : A → B → C → D → E → F) {a a' : A} {b b' : B} {c c' : C} {d d' : D} {e e' : E} → a ≡ a' → b ≡ b' → c ≡ c' → d ≡ d' → e ≡ e' → f a b c d e ≡ f a' b' c' d' e'
 ap5 f {a} {a'} {b} {b'} {c} {c'} {d} {d'} {e} {e'} p q r s t = ap4 (λ x y z w. f x y z w e) p q r s ∙ ap (f a' b' c' d') t
 
--- ---- scenes inside `old`
+-- ---- contexts inside `old`
 
 module _ (cs : List ClassTree) (entry : Term) where
-  abbrev pub Inside : Term → List Ty → List Meant → ℕ → Scene
+  abbrev pub Inside : Term → List Ty → List Meant → ℕ → Context
   Inside now tys ls k = record { classes = cs; now = now; entry = entry; inside_old = true; types = tys; locals = ls; bound = k }
 
   module _ (n r : Term) where

@@ -18,17 +18,17 @@ use Rattle.ss_logic.specs.Values.{Structure}
 use Rattle.ss_logic.specs.Terms.{Term, same_sort, sort_of, is_well_sorted, have_sorts}
 use Rattle.ss_logic.specs.Formulas.{Formula, is_well_formed}
 use Rattle.ss_logic.proofs.Truth.{same_sort_refl}
-use Rattle.ss_logic_express.specs.Express.{and_of, Choice, Meant, One, Either, Says, choices, Scene, local_meant, meant, defined, not_null}
+use Rattle.ss_logic_express.specs.Express.{and_of, Choice, Meant, One, Either, Says, choices, Context, local_meant, meant, defined, not_null}
 use Rattle.ss_logic_frames.specs.Frames.{OwnerTerm}
 use Rattle.ss_logic_frames.specs.Sorted.{is_object, is_name, AreSorted}
 use Rattle.ss_logic_means.specs.Scenes.{has_no_default}
 use Rattle.ss_logic_means.specs.Sorts.{HasSort, AreWellFormed, HaveSort}
 use Rattle.ss_logic_means.proofs.Sorting.{all_formed, more_formed}
 use Rattle.ss_logic_means.proofs.Everywhere.{all_locals}
-use Rattle.ss_logic_means.proofs.Scening.{sorted_among, readable_formed}
+use Rattle.ss_logic_means.proofs.Contexts.{sorted_among, readable_formed}
 use Rattle.ss_vcgen_heaps.specs.Contracts.{named_term, naming_parts, named_as, named_terms, term_of_one, captured_terms, pairs_of, owned_terms}
 use Rattle.ss_logic_spans.specs.Spans.{IsArgument, AreArguments, AreReferences, is_typed_name, SpanTerms, SpanValues, IsSpan, terms_of}
-use Rattle.ss_logic_spans.proofs.Standing.{SceneOf, scene_sorted, stores_sorted, entry_expressed}
+use Rattle.ss_logic_spans.proofs.Standing.{ContextOf, context_sorted, stores_sorted, entry_expressed}
 use Rattle.ss_logic_spans.proofs.Freeing.{one_term, class_if_captured, the_first, this_term}
 
 same_if : (s r : Sort) → s ≡ r → same_sort s r ≡ true
@@ -104,8 +104,8 @@ module _ (cs : List ClassTree) (m : Structure) where
 -- ---- spans
 
 module _ (cs : List ClassTree) (m : Structure) (b : BodyTree) (t : SpanTerms) (v : SpanValues) (sp : IsSpan cs m b t v) where
-  abbrev S : Scene
-  S = SceneOf cs m b t v sp t.before
+  abbrev S : Context
+  S = ContextOf cs m b t v sp t.before
 
   names_sorted : (ns : List NamedTree) → list_all (is_typed_name cs b) ns ≡ true → list_all (is_name cs) (named_terms ns S) ≡ true
   names_sorted [] h = refl
@@ -113,7 +113,7 @@ module _ (cs : List ClassTree) (m : Structure) (b : BodyTree) (t : SpanTerms) (v
       let p = and_parts (is_typed_name cs b n) (list_all (is_typed_name cs b) ns) h in
       let q = and_parts (has_no_default (subject_of n)) (is_reference (type_of cs (local_types b) (subject_of n))) p.0 in
       let e = entry_expressed cs m b t v sp (subject_of n) q.0 q.1 in
-      let there = readable_formed all_locals S [] (sorted_among all_locals S [] (scene_sorted cs m b t v sp)) (meant (subject_of n) S) e.1 in
+      let there = readable_formed all_locals S [] (sorted_among all_locals S [] (context_sorted cs m b t v sp)) (meant (subject_of n) S) e.1 in
       all_more (is_name cs) (named_as n (naming_parts (subject_of n) S) (meant (subject_of n) S)) (named_terms ns S)
       (named_sorted cs n (naming_parts (subject_of n) S) (more_formed cs [] (defined (subject_of n) S) (not_null (meant (subject_of n) S) ∷ []) e.0 (there.0, tt)) (meant (subject_of n) S) e.1)
       (names_sorted ns p.1)

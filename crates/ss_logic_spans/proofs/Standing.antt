@@ -1,4 +1,4 @@
--- The scene of a frame condition stands for its stores and for the locals of the body at its entry.
+-- The context of a frame condition stands for its stores and for the locals of the body at its entry.
 use Rattle.std.proofs.Common.{◌≡◌, ℕ, zero, suc, List, [], ◌∷◌, ◌++◌, length, map, true, Some, refl, sym, ◌∙◌, ap, subst, append_assoc}
 use Rattle.std.specs.Prelude.{slice_get, option_to_list, Option, None, is_some}
 use Rattle.std.proofs.lemmas.Bool.{false≢true}
@@ -22,14 +22,14 @@ use Rattle.ss_logic.specs.Values.{Heap, Value, Structure, sort_of_value}
 use Rattle.ss_logic.specs.Terms.{Term, sort_of_type}
 use Rattle.ss_logic.specs.Objects.{objects_of}
 use Rattle.ss_logic.proofs.Truth.{closed_value, value_sorted}
-use Rattle.ss_logic_express.specs.Express.{Meant, One, choices, Scene, default_of_sort, element_sort, meant_or_null, meant, defined}
+use Rattle.ss_logic_express.specs.Express.{Meant, One, choices, Context, default_of_sort, element_sort, meant_or_null, meant, defined}
 use Rattle.ss_logic_means.specs.Means.{standing, Denotes, Reads}
 use Rattle.ss_logic_means.specs.Scenes.{setting_of, Stands, IsStoreTerm, has_no_default}
 use Rattle.ss_logic_means.specs.Sorts.{HasSort, HaveSort, IsWellExpressed, IsSorted}
 use Rattle.ss_logic_means.proofs.Denoting.{one_denotes}
 use Rattle.ss_logic_means.proofs.Everywhere.{all_locals, plainly_all}
 use Rattle.ss_logic_means.proofs.Standing.{stands_among}
-use Rattle.ss_logic_means.proofs.Scening.{sorted_among}
+use Rattle.ss_logic_means.proofs.Contexts.{sorted_among}
 use Rattle.ss_logic_means.proofs.Translating.{translated}
 use Rattle.ss_logic_means.proofs.Expressed.{expressed}
 use Rattle.ss_logic_means.proofs.Typed.{gives_reference}
@@ -107,15 +107,15 @@ module _ (cs : List ClassTree) (m : Structure) (b : BodyTree) (t : SpanTerms) (v
   abbrev pub Values : List ObjectValue
   Values = locals_at_entry b v.arguments
 
-  -- the scene inside `old`, whose store now may be any
-  abbrev pub SceneOf : Term → Scene
-  SceneOf now = Inside cs t.before now (local_types b) Locals 0
+  -- the context inside `old`, whose store now may be any
+  abbrev pub ContextOf : Term → Context
+  ContextOf now = Inside cs t.before now (local_types b) Locals 0
 
   all_arguments : AreArguments cs m (local_types b) Locals Values
   all_arguments = entry_arguments cs m b t.arguments v.arguments sp.arguments
 
-  pub scene_stands : Stands m (SceneOf t.after) v.after v.before Values []
-  scene_stands = record {
+  pub context_stands : Stands m (ContextOf t.after) v.after v.before Values []
+  context_stands = record {
     now = λ vs. closed_value cs m vs t.after sp.after.0 ∙ sp.after.1;
     entry = λ vs. closed_value cs m vs t.before sp.before.0 ∙ sp.before.1;
     count = as_many_values cs m (local_types b) Locals Values all_arguments;
@@ -131,7 +131,7 @@ module _ (cs : List ClassTree) (m : Structure) (b : BodyTree) (t : SpanTerms) (v
   locals_now : AreGoodLocals cs Now b Values
   locals_now = locals-older cs Given Now sp.older b Values (entered_locals cs Given b v.arguments sp.passed)
 
-  pub span_setting : IsGoodSetting (setting_of m (SceneOf t.after) v.after v.before Values) (local_types b) b.flags.ctor
+  pub span_setting : IsGoodSetting (setting_of m (ContextOf t.after) v.after v.before Values) (local_types b) b.flags.ctor
   span_setting = record {
     chain = sp.chain;
     beside = sp.beside;
@@ -156,20 +156,20 @@ module _ (cs : List ClassTree) (m : Structure) (b : BodyTree) (t : SpanTerms) (v
 
   module _ (x : ExprTree) (none : has_no_default x ≡ true) (is : is_reference (type_of cs (local_types b) x) ≡ true) where
     abbrev pub Outcome_of : Outcome
-    Outcome_of = run.value_of x (setting_of m (SceneOf t.after) v.after v.before Values)
+    Outcome_of = run.value_of x (setting_of m (ContextOf t.after) v.after v.before Values)
 
     -- what an expression means at the entry is its value there
-    pub entry_reads : Reads cs m [] (defined x (SceneOf t.before)) (meant x (SceneOf t.before)) Outcome_of
+    pub entry_reads : Reads cs m [] (defined x (ContextOf t.before)) (meant x (ContextOf t.before)) Outcome_of
     entry_reads =
         let same = old_same cs t.before t.after t.before x (local_types b) Locals 0 none in
-        let read = translated all_locals m v.after v.before x (SceneOf t.after) Values b.flags.ctor span_setting [] (stands_among all_locals m (SceneOf t.after) v.after v.before Values [] scene_stands) (plainly_all x none) (some_reference (type_of cs (local_types b) x) is) (λ _. refl) in
-        subst (λ ps. Reads cs m [] ps (meant x (SceneOf t.before)) Outcome_of) same.1 (subst (λ y. Reads cs m [] (defined x (SceneOf t.after)) y Outcome_of) same.0 read)
+        let read = translated all_locals m v.after v.before x (ContextOf t.after) Values b.flags.ctor span_setting [] (stands_among all_locals m (ContextOf t.after) v.after v.before Values [] context_stands) (plainly_all x none) (some_reference (type_of cs (local_types b) x) is) (λ _. refl) in
+        subst (λ ps. Reads cs m [] ps (meant x (ContextOf t.before)) Outcome_of) same.1 (subst (λ y. Reads cs m [] (defined x (ContextOf t.after)) y Outcome_of) same.0 read)
 
     pub entry_refers : Gives (IsReferenceOf v.after) Outcome_of
-    entry_refers = gives_reference m (setting_of m (SceneOf t.after) v.after v.before Values) v.after refl (local_types b) b.flags.ctor span_setting x is
+    entry_refers = gives_reference m (setting_of m (ContextOf t.after) v.after v.before Values) v.after refl (local_types b) b.flags.ctor span_setting x is
 
-  pub scene_sorted : IsSorted (SceneOf t.before) []
-  scene_sorted = record {
+  pub context_sorted : IsSorted (ContextOf t.before) []
+  context_sorted = record {
     now = sorted_store cs m t.before v.before sp.before;
     entry = sorted_store cs m t.before v.before sp.before;
     count = as_many_types cs m (local_types b) Locals Values all_arguments;
@@ -180,7 +180,7 @@ module _ (cs : List ClassTree) (m : Structure) (b : BodyTree) (t : SpanTerms) (v
   stores_sorted = (sorted_store cs m t.before v.before sp.before, sorted_store cs m t.after v.after sp.after)
 
   -- its formulas are well formed, and it means objects
-  pub entry_expressed : (x : ExprTree) → has_no_default x ≡ true → is_reference (type_of cs (local_types b) x) ≡ true → IsWellExpressed cs [] sort.Rest (defined x (SceneOf t.before)) (meant x (SceneOf t.before))
+  pub entry_expressed : (x : ExprTree) → has_no_default x ≡ true → is_reference (type_of cs (local_types b) x) ≡ true → IsWellExpressed cs [] sort.Rest (defined x (ContextOf t.before)) (meant x (ContextOf t.before))
   entry_expressed x none is =
-      subst (λ s. IsWellExpressed cs [] s (defined x (SceneOf t.before)) (meant x (SceneOf t.before))) (reference_sort (type_of cs (local_types b) x) is)
-      (expressed all_locals x (SceneOf t.before) [] (sorted_among all_locals (SceneOf t.before) [] scene_sorted) (plainly_all x none) (some_reference (type_of cs (local_types b) x) is) (λ _. refl))
+      subst (λ s. IsWellExpressed cs [] s (defined x (ContextOf t.before)) (meant x (ContextOf t.before))) (reference_sort (type_of cs (local_types b) x) is)
+      (expressed all_locals x (ContextOf t.before) [] (sorted_among all_locals (ContextOf t.before) [] context_sorted) (plainly_all x none) (some_reference (type_of cs (local_types b) x) is) (λ _. refl))

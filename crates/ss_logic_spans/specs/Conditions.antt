@@ -12,9 +12,9 @@ use Rattle.ss_machine_typed.specs.Older.{IsOlder}
 use Rattle.ss_logic.specs.Values.{Heap, Structure}
 use Rattle.ss_logic.specs.Terms.{Term}
 use Rattle.ss_logic.specs.Objects.{objects_of}
-use Rattle.ss_logic_express.specs.Express.{Meant, Scene}
+use Rattle.ss_logic_express.specs.Express.{Meant, Context}
 use Rattle.ss_logic_means.specs.Scenes.{IsStoreTerm}
-use Rattle.ss_vcgen_heaps.specs.Contracts.{defaults_meant, contract_scene}
+use Rattle.ss_vcgen_heaps.specs.Contracts.{defaults_meant, contract_context}
 use Rattle.ss_logic_spans.specs.Spans.{AreArguments}
 
 -- the stores, and what the arguments and the result mean
@@ -30,8 +30,8 @@ pub record ContractValues : Type 0 where
   pub entry : Heap
   pub locals : List ObjectValue
 
-abbrev pub contract_of : List ClassTree → BodyTree → ContractTerms → Scene
-contract_of cs b t = contract_scene cs b t.now t.entry t.arguments t.result
+abbrev pub contract_of : List ClassTree → BodyTree → ContractTerms → Context
+contract_of cs b t = contract_context cs b t.now t.entry t.arguments t.result
 
 abbrev pub contract_setting_of : List ClassTree → Structure → ContractValues → Setting
 contract_setting_of cs m v = setting cs (objects_of cs m.table v.now) (objects_of cs m.table v.entry) v.locals

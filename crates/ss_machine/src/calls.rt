@@ -24,6 +24,15 @@ pub struct Site {
     pub into: Option<usize>,
 }
 
+impl Site {
+    pub fn new(place: Place, into: Option<usize>) -> Site
+        ensures place { result.place ≡ place }
+        ensures into { result.into ≡ into }
+    {
+        Site { place, into }
+    }
+}
+
 // The number of the result among the locals of a body, where it has one.
 fn result_local(body: &Body) -> Option<usize>
     ensures { result ≡ steps.result_local (view.body body.now) }

@@ -137,29 +137,13 @@ impl<'a> Machine<'a> {
             } => { self.write(core, *place, object, (*field, *mark, *class), value) }
             Stmt::WriteElement(place, a, i, e) => self.write_element(core, *place, a, i, e),
             Stmt::New(place, into, class, es) => {
-                self.construct(
-                    alloc,
-                    core,
-                    Site {
-                        place: *place,
-                        into: *into,
-                    },
-                    *class,
-                    es,
-                )
+                let site = Site::new(*place, *into);
+                self.construct(alloc, core, site, *class, es)
             }
             Stmt::NewArray(place, x, class, e) => self.make_array(core, *place, *x, *class, e),
             Stmt::Call(place, into, callee, es) => {
-                self.call(
-                    alloc,
-                    core,
-                    Site {
-                        place: *place,
-                        into: *into,
-                    },
-                    callee,
-                    es,
-                )
+                let site = Site::new(*place, *into);
+                self.call(alloc, core, site, callee, es)
             }
             Stmt::Ready(place) => self.make_ready(core, *place),
             Stmt::If(place, e, one, other) => self.branch(core, *place, e, one, other),

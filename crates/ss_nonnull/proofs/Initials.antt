@@ -15,13 +15,13 @@ use Rattle.ss_paths.specs.Sets.{Set, none, put}
 use Rattle.ss_paths.specs.Fields.{field_count, fields_in, own_fields, written_fields, fields_of_members}
 use Rattle.ss_typed.specs.Lookups.{class_place}
 use Rattle.ss_paths.specs.Assigned.{starts_with_value, has_initializer}
-use Rattle.ss_nonnull_rules.specs.NonNull.{Site, Known}
-use Rattle.ss_nonnull_rules.specs.Program.{initializer_site, initializer_faults, initializers_from, classes_faults}
+use Rattle.ss_nonnull_rules.specs.NonNull.{NullContext, Known}
+use Rattle.ss_nonnull_rules.specs.Program.{initializer_context, initializer_faults, initializers_from, classes_faults}
 use Rattle.ss_paths.proofs.Among.{same_sets}
 use Rattle.std.proofs.lemmas.List.{drop_all}
 use Rattle.ss_ast.proofs.Loops.{drop_item}
 use Rattle.ss_nonnull.specs.Paths.{with_begun}
-use Rattle.ss_nonnull.specs.Initial.{begun_below, begun_with, initial_faults, type_of_field, each_initial, site_with, class_faults}
+use Rattle.ss_nonnull.specs.Initial.{begun_below, begun_with, initial_faults, type_of_field, each_initial, context_with, class_faults}
 
 -- ---- what is known before each
 
@@ -82,18 +82,18 @@ next_begun list i f b k l within is b_is q h =
 
 -- ---- the faults of each
 
-none_left : (s : Site) (all : List FieldTree) (n : ℕ) (fs : List FieldTree) → each_initial s all n fs [] ≡ []
+none_left : (s : NullContext) (all : List FieldTree) (n : ℕ) (fs : List FieldTree) → each_initial s all n fs [] ≡ []
 none_left s all n [] = refl
 none_left s all n (f ∷ fs) = refl
 
-next_initial : (s : Site) (all : List FieldTree) (n : ℕ) (f : FieldTree) (fs : List FieldTree) (gs : List core.FieldTree) (i : ℕ)
+next_initial : (s : NullContext) (all : List FieldTree) (n : ℕ) (f : FieldTree) (fs : List FieldTree) (gs : List core.FieldTree) (i : ℕ)
     → each_initial s all n (f ∷ fs) (drop i gs) ≡ initial_faults s (begun_with (begun_below all n)) (type_of_field (slice_get gs i)) f.initial ++ each_initial s all (suc n) fs (drop (suc i) gs)
 next_initial s all n f fs [] zero = sym (none_left s all (suc n) fs)
 next_initial s all n f fs [] (suc i) = sym (none_left s all (suc n) fs)
 next_initial s all n f fs (g ∷ gs) zero = refl
 next_initial s all n f fs (g ∷ gs) (suc i) = next_initial s all n f fs gs i
 
-pub one_initial : (s : Site) (list : List TypedField) (gs : List core.FieldTree) (i : ℕ) (f : TypedField) (t : Option Ty) (k : Option Known) (f0 f1 total : List Fault)
+pub one_initial : (s : NullContext) (list : List TypedField) (gs : List core.FieldTree) (i : ℕ) (f : TypedField) (t : Option Ty) (k : Option Known) (f0 f1 total : List Fault)
     → i < length list → f ≡ get_or list i f → t ≡ type_of_field (slice_get gs i) → k ≡ begun_with (begun_below (map field list) i)
     → f1 ≡ f0 ++ initial_faults s k t (field f).initial
     → f0 ++ each_initial s (map field list) i (map field (drop i list)) (drop i gs) ≡ total
@@ -110,7 +110,7 @@ one_initial s list gs i f t k f0 f1 total within is t_is k_is q h =
     ∙ ap (λ (xs : List TypedField). f0 ++ each_initial s all i (map field xs) (drop i gs)) (sym (drop_item list i f within is))
     ∙ h
 
-pub all_initial : (s : Site) (list : List TypedField) (gs : List core.FieldTree) (i : ℕ) (f total : List Fault) → length list ≤ i
+pub all_initial : (s : NullContext) (list : List TypedField) (gs : List core.FieldTree) (i : ℕ) (f total : List Fault) → length list ≤ i
     → f ++ each_initial s (map field list) i (map field (drop i list)) (drop i gs) ≡ total → f ≡ total
 all_initial s list gs i f total l h =
     sym (append-nil f) ∙ ap (λ (xs : List TypedField). f ++ each_initial s (map field list) i (map field xs) (drop i gs)) (sym (drop_all i list l)) ∙ h
@@ -121,21 +121,21 @@ all_initial s list gs i f total l h =
 place_of_number : (k : ℕ) → class_place (class_number k) ≡ k
 place_of_number k = omega arith
 
-each_is : (p : TypedTree) (t : ℕ) (n : ℕ) (fs : List FieldTree) (gs : List core.FieldTree) → each_initial (initializer_site p t) (written_fields p t) n fs gs ≡ initializers_from p t n fs gs
+each_is : (p : TypedTree) (t : ℕ) (n : ℕ) (fs : List FieldTree) (gs : List core.FieldTree) → each_initial (initializer_context p t) (written_fields p t) n fs gs ≡ initializers_from p t n fs gs
 unfolding has_initializer
 each_is p t n [] gs = refl
 each_is p t n (f ∷ fs) [] = refl
 each_is p t n (f ∷ fs) (g ∷ gs) =
-    ap (λ (x : List Fault). initializer_faults (initializer_site p t) (begun_with (begun_below (written_fields p t) n)) g.ty f.initial ++ x)
-    (ap (λ (m : ℕ). each_initial (initializer_site p t) (written_fields p t) m fs gs) (sym (add-one n)) ∙ each_is p t (n + 1) fs gs)
+    ap (λ (x : List Fault). initializer_faults (initializer_context p t) (begun_with (begun_below (written_fields p t) n)) g.ty f.initial ++ x)
+    (ap (λ (m : ℕ). each_initial (initializer_context p t) (written_fields p t) m fs gs) (sym (add-one n)) ∙ each_is p t (n + 1) fs gs)
 
 class_is : (p : TypedTree) (k : ℕ) (c : MembersTree) → slice_get p.members k ≡ Some c
     → class_faults p k (sum_by field_count (take k p.classes)) c.fields ≡ initializers_from p (class_number k) 0 c.fields (own_fields p (class_number k))
 class_is p k c here =
     let t = class_number k in
     let fields_are : written_fields p t ≡ c.fields = ap (λ (n : ℕ). fields_of_members (slice_get p.members n)) (place_of_number k) ∙ ap fields_of_members here in
-    ap (λ (n : ℕ). each_initial (site_with p t (record { first = sum_by field_count (take n p.classes); count = length (fields_in (slice_get p.classes n)) })) c.fields 0 c.fields (fields_in (slice_get p.classes n))) (sym (place_of_number k))
-    ∙ ap (λ (fs : List FieldTree). each_initial (initializer_site p t) fs 0 c.fields (own_fields p t)) (sym fields_are)
+    ap (λ (n : ℕ). each_initial (context_with p t (record { first = sum_by field_count (take n p.classes); count = length (fields_in (slice_get p.classes n)) })) c.fields 0 c.fields (fields_in (slice_get p.classes n))) (sym (place_of_number k))
+    ∙ ap (λ (fs : List FieldTree). each_initial (initializer_context p t) fs 0 c.fields (own_fields p t)) (sym fields_are)
     ∙ each_is p t 0 c.fields (own_fields p t)
 
 member_is : (list : List TypedClass) (i : ℕ) (c : TypedClass) → i < length list → c ≡ get_or list i c → slice_get (map members list) i ≡ Some (members c)
@@ -163,15 +163,15 @@ pub all_classes : (p : TypedTree) (list : List TypedClass) (i : ℕ) (f total : 
 all_classes p list i f total l h =
     sym (append-nil f) ∙ ap (λ (xs : List TypedClass). f ++ classes_faults p i (map members xs)) (sym (drop_all i list l)) ∙ h
 
-pub class_noted : (p : TypedTree) (k first n count : ℕ) (s : Site) (fs us : List FieldTree) (o : Option core.ClassTree) (f0 f1 : List Fault)
-    → o ≡ slice_get p.classes k → count ≡ length (fields_in o) → n ≡ class_number k → s ≡ site_with p n (record { first = first; count = count }) → us ≡ fs
+pub class_noted : (p : TypedTree) (k first n count : ℕ) (s : NullContext) (fs us : List FieldTree) (o : Option core.ClassTree) (f0 f1 : List Fault)
+    → o ≡ slice_get p.classes k → count ≡ length (fields_in o) → n ≡ class_number k → s ≡ context_with p n (record { first = first; count = count }) → us ≡ fs
     → f1 ≡ f0 ++ each_initial s us 0 us (fields_in o) → f1 ≡ f0 ++ class_faults p k first fs
 class_noted p k first n count s fs us o f0 f1 o_is count_is n_is s_is us_is q =
     q
-    ∙ ap (λ (t : Site). f0 ++ each_initial t us 0 us (fields_in o)) s_is
-    ∙ ap (λ (m : ℕ). f0 ++ each_initial (site_with p m (record { first = first; count = count })) us 0 us (fields_in o)) n_is
-    ∙ ap (λ (c : ℕ). f0 ++ each_initial (site_with p (class_number k) (record { first = first; count = c })) us 0 us (fields_in o)) count_is
-    ∙ ap (λ (x : Option core.ClassTree). f0 ++ each_initial (site_with p (class_number k) (record { first = first; count = length (fields_in x) })) us 0 us (fields_in x)) o_is
+    ∙ ap (λ (t : NullContext). f0 ++ each_initial t us 0 us (fields_in o)) s_is
+    ∙ ap (λ (m : ℕ). f0 ++ each_initial (context_with p m (record { first = first; count = count })) us 0 us (fields_in o)) n_is
+    ∙ ap (λ (c : ℕ). f0 ++ each_initial (context_with p (class_number k) (record { first = first; count = c })) us 0 us (fields_in o)) count_is
+    ∙ ap (λ (x : Option core.ClassTree). f0 ++ each_initial (context_with p (class_number k) (record { first = first; count = length (fields_in x) })) us 0 us (fields_in x)) o_is
     ∙ ap (λ (gs : List FieldTree). f0 ++ class_faults p k first gs) us_is
 
 -- the fields before the next class

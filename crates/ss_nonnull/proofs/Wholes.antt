@@ -4,17 +4,17 @@ use Rattle.ss_faults.specs.declared.Fault.{Fault}
 use Rattle.ss_typed.specs.declared.body.TypedBody.{TypedBody}
 use Rattle.ss_typed.specs.Tree.{BodyTree, TypedTree}
 use Rattle.ss_typed.specs.View.{body}
-use Rattle.ss_nonnull_rules.specs.NonNull.{Site}
-use Rattle.ss_nonnull_rules.specs.Program.{site_of, body_faults, bodies_faults}
+use Rattle.ss_nonnull_rules.specs.NonNull.{NullContext}
+use Rattle.ss_nonnull_rules.specs.Program.{null_context_of, body_faults, bodies_faults}
 use Rattle.ss_ast.proofs.Loops.{drop_item}
 use Rattle.ss_nonnull.specs.Initial.{base_call_faults, code_faults, faults_in_body}
 use Rattle.ss_nonnull.proofs.Seeing.{joined}
 
-pub body_noted : (p : TypedTree) (b : BodyTree) (s : Site) (f0 f1 f2 : List Fault)
-    → s ≡ site_of p b → f1 ≡ f0 ++ base_call_faults s b.class b.base → f2 ≡ f1 ++ code_faults s b → f2 ≡ f0 ++ faults_in_body p b
+pub body_noted : (p : TypedTree) (b : BodyTree) (s : NullContext) (f0 f1 f2 : List Fault)
+    → s ≡ null_context_of p b → f1 ≡ f0 ++ base_call_faults s b.class b.base → f2 ≡ f1 ++ code_faults s b → f2 ≡ f0 ++ faults_in_body p b
 body_noted p b s f0 f1 f2 is q r =
     joined f0 f1 f2 (base_call_faults s b.class b.base) (code_faults s b) q r
-    ∙ ap (λ (x : Site). f0 ++ (base_call_faults x b.class b.base ++ code_faults x b)) is
+    ∙ ap (λ (x : NullContext). f0 ++ (base_call_faults x b.class b.base ++ code_faults x b)) is
 
 -- a loop over bodies
 pub one_body : (p : TypedTree) (list : List TypedBody) (i : ℕ) (b : TypedBody) (f0 f1 total : List Fault)

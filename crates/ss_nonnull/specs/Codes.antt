@@ -3,10 +3,10 @@ use Rattle.std.specs.Prelude.{Option, option_map}
 use Rattle.ss_bit_set.specs.Marked.{marked}
 use Rattle.ss_paths_assigned.specs.Codes.{numbers_of, assigned_of}
 use Rattle.ss_typed.specs.View.{typed}
-use Rattle.ss_nonnull_rules.specs.NonNull.{Site, Known}
+use Rattle.ss_nonnull_rules.specs.NonNull.{NullContext, Known}
 use Rattle.ss_paths.specs.Sets.{among}
 use Rattle.ss_nonnull.specs.declared.known.Known.{Known as CodeKnown}
-use Rattle.ss_nonnull.specs.declared.site.Site.{Site as CodeSite}
+use Rattle.ss_nonnull.specs.declared.context.NullContext.{NullContext as CodeContext}
 use Rattle.ss_nonnull.specs.declared.seen.Seen.{Seen as CodeSeen}
 use Rattle.ss_nonnull.specs.Seen.{Seen}
 
@@ -16,8 +16,8 @@ known_of k = record { facts = marked k.facts; fields = assigned_of k.fields }
 abbrev pub path_of : Option CodeKnown → Option Known
 path_of k = option_map known_of k
 
-abbrev pub site_of : CodeSite → Site
-site_of s = record {
+abbrev pub context_of : CodeContext → NullContext
+context_of s = record {
   program = typed s.program.now;
   class = s.class;
   numbers = numbers_of s.numbers;

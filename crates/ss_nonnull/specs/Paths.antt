@@ -6,7 +6,7 @@ use Rattle.ss_typed.specs.Tree.{ExprTree, SimpleTree}
 use Rattle.ss_paths.specs.Sets.{Set, either, without, put}
 use Rattle.ss_paths.specs.Fields.{Numbers}
 use Rattle.ss_paths.specs.Assigned.{assigned_by}
-use Rattle.ss_nonnull_rules.specs.NonNull.{Site, Known, known_met, is_never_null}
+use Rattle.ss_nonnull_rules.specs.NonNull.{NullContext, Known, known_met, is_never_null}
 
 -- these locals aren't null, or may be
 abbrev pub told : Set → Known → Known
@@ -48,6 +48,6 @@ abbrev pub left_by : Bool → Set → Option Known → Option Known
 left_by is_true g k = if is_true then None else option_map (told g) k
 
 -- a declared local starts with a value that isn't null, where this is known
-abbrev pub starts_never : Site → Option Known → Option ExprTree → Bool
+abbrev pub starts_never : NullContext → Option Known → Option ExprTree → Bool
 starts_never s k None = false
 starts_never s k (Some e) = is_never_null s k e

@@ -12,7 +12,7 @@ use Rattle.ss_paths.specs.Sets.{Set, none, either}
 use Rattle.ss_paths.specs.Fields.{is_non_null}
 use Rattle.ss_typed.specs.Shapes.{is_this, is_true, local_of, place_of}
 use Rattle.ss_nonnull_rules.specs.Facts.{is_null, the_one, says}
-use Rattle.ss_nonnull_rules.specs.NonNull.{Site, Known, knows, has_its_field, is_never_null, is_non_null_type}
+use Rattle.ss_nonnull_rules.specs.NonNull.{NullContext, Known, knows, has_its_field, is_never_null, is_non_null_type}
 use Rattle.ss_nonnull_rules.specs.Faults.{null_fault, inside}
 
 pub record Seen : Type 0 where
@@ -30,7 +30,7 @@ pub record Seen : Type 0 where
   pub holds : Set
   pub fails : Set
 
-abbrev pub seen : Site → Option Known → ExprTree → Seen
+abbrev pub seen : NullContext → Option Known → ExprTree → Seen
 seen s k e = record {
   place = place_of e;
   ty = type_of e;
@@ -105,10 +105,10 @@ operated p op.Divide a b = plain p (Some ty.Int) false
 operated p op.Remainder a b = plain p (Some ty.Int) false
 
 -- a field of what is `this` or not
-abbrev pub is_set : Site → Option Known → Bool → ℕ → Bool
+abbrev pub is_set : NullContext → Option Known → Bool → ℕ → Bool
 is_set s k is_this f = not s.constructs || not s.in_old && (not is_this || has_its_field s k f)
 
-abbrev pub field_read : Site → Option Known → Place → ℕ → Ty → Seen → Seen
+abbrev pub field_read : NullContext → Option Known → Place → ℕ → Ty → Seen → Seen
 field_read s k p f t v = plain p (Some t) (is_non_null t && is_set s k v.is_this f)
 
 abbrev pub element_read : Place → Seen → Seen
@@ -154,10 +154,10 @@ side_of v a = if v then a.holds else a.fails
 -- ---- one part more
 
 -- behind faults that were there before, an expression was read up to where this is known of it
-pub record IsSeen (s : Site) (k : Option Known) (before now : List Fault) (v : Seen) (e : ExprTree) : Type 0 where
+pub record IsSeen (s : NullContext) (k : Option Known) (before now : List Fault) (v : Seen) (e : ExprTree) : Type 0 where
   pub is : v ≡ seen s k e
   pub noted : now ≡ before ++ inside s k e
 
 -- what stands behind any expression that was read, by the faults and what is known of it
-pub record Leads (s : Site) (k : Option Known) (old : List Fault) (from : Seen) (new : List Fault) (to : Seen) (behind : ExprTree → ExprTree) : Type 0 where
+pub record Leads (s : NullContext) (k : Option Known) (old : List Fault) (from : Seen) (new : List Fault) (to : Seen) (behind : ExprTree → ExprTree) : Type 0 where
   pub on : (e : ExprTree) (before : List Fault) → IsSeen s k before old from e → IsSeen s k before new to (behind e)

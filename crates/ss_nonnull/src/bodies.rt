@@ -2,13 +2,13 @@
 
 ghost use Rattle.std.specs.Prelude.{◌≡◌, ◌++◌, OnOk, option_map};
 ghost use Rattle.ss_typed.specs.View.{typed, body, base};
-ghost use Rattle.ss_nonnull_rules.specs.Program.{site_of as site_of_body};
-ghost use Rattle.ss_nonnull.specs.Codes.{site_of};
+ghost use Rattle.ss_nonnull_rules.specs.Program.{null_context_of as context_of_body};
+ghost use Rattle.ss_nonnull.specs.Codes.{context_of};
 ghost use Rattle.ss_nonnull.specs.Initial.{base_call_faults, code_faults, faults_in_body};
 
+use crate::context::NullContext;
 use crate::initializers::only_fields;
 use crate::simple::check_base;
-use crate::site::Site;
 use crate::stmts::check_block;
 use ss_core::ClassId;
 use ss_faults::Fault;
@@ -16,10 +16,10 @@ use ss_paths_assigned::{Fields, assigned_by_initializers, assigned_first};
 use ss_typed::{TypedBase, TypedBody};
 use std::alloc::{AllocError, Global};
 
-fn site_of_body<'p>(fields: &Fields<'p>, checked: &TypedBody) -> Site<'p>
-    ensures { site_of result ≡ site_of_body (typed fields.now.program.now) (body checked.now) }
+fn context_of_body<'p>(fields: &Fields<'p>, checked: &TypedBody) -> NullContext<'p>
+    ensures { context_of result ≡ context_of_body (typed fields.now.program.now) (body checked.now) }
 {
-    Site {
+    NullContext {
         program: fields.program,
         class: usize::from(checked.class.0),
         numbers: fields.numbers(checked.class),
@@ -32,18 +32,18 @@ fn site_of_body<'p>(fields: &Fields<'p>, checked: &TypedBody) -> Site<'p>
 // `: base(..)`, which stands behind the initializers.
 fn check_base_call(
     alloc: Global,
-    site: &Site<'_>,
+    context: &NullContext<'_>,
     found: &mut Vec<Fault>,
     class: ClassId,
     call: &Option<TypedBase>,
 ) -> Result<(), AllocError>
-    ensures { OnOk result (found.new.items ≡ found.old.items ++ base_call_faults (site_of site.now) class.0 (option_map base call.now)) }
+    ensures { OnOk result (found.new.items ≡ found.old.items ++ base_call_faults (context_of context.now) class.0 (option_map base call.now)) }
 {
     match call {
         Some(call) => {
-            let fields = assigned_by_initializers(alloc, site.program, class)?;
+            let fields = assigned_by_initializers(alloc, context.program, class)?;
             let known = only_fields(alloc, fields);
-            check_base(alloc, site, &known, found, &call.arguments)?;
+            check_base(alloc, context, &known, found, &call.arguments)?;
             Ok(())
         }
         None => Ok(()),
@@ -52,15 +52,15 @@ fn check_base_call(
 
 fn check_code(
     alloc: Global,
-    site: &Site<'_>,
+    context: &NullContext<'_>,
     found: &mut Vec<Fault>,
     checked: &TypedBody,
 ) -> Result<(), AllocError>
-    ensures { OnOk result (found.new.items ≡ found.old.items ++ code_faults (site_of site.now) (body checked.now)) }
+    ensures { OnOk result (found.new.items ≡ found.old.items ++ code_faults (context_of context.now) (body checked.now)) }
 {
-    let fields = assigned_first(alloc, site.program, checked)?;
+    let fields = assigned_first(alloc, context.program, checked)?;
     let known = only_fields(alloc, fields);
-    check_block(alloc, site, known, found, &checked.block)?;
+    check_block(alloc, context, known, found, &checked.block)?;
     Ok(())
 }
 
@@ -73,8 +73,8 @@ pub fn check_body(
 ) -> Result<(), AllocError>
     ensures { OnOk result (found.new.items ≡ found.old.items ++ faults_in_body (typed fields.now.program.now) (body checked.now)) }
 {
-    let site = site_of_body(fields, checked);
-    check_base_call(alloc, &site, found, checked.class, &checked.base)?;
-    check_code(alloc, &site, found, checked)?;
+    let context = context_of_body(fields, checked);
+    check_base_call(alloc, &context, found, checked.class, &checked.base)?;
+    check_code(alloc, &context, found, checked)?;
     Ok(())
 }

@@ -7,16 +7,16 @@ ghost use Rattle.ss_nonnull_rules.specs.NonNull.{is_set_result, known_right};
 ghost use Rattle.ss_nonnull_rules.specs.Faults.{inside, handed, wanted_if};
 ghost use Rattle.ss_typed.specs.Parts.{link_behind, step_behind};
 ghost use Rattle.ss_nonnull_facts.specs.Called.{called_types};
-ghost use Rattle.ss_nonnull.specs.Codes.{path_of, site_of, seen_of};
+ghost use Rattle.ss_nonnull.specs.Codes.{path_of, context_of, seen_of};
 ghost use Rattle.ss_nonnull.specs.Seen.{Leads, seen, plain};
 ghost use Rattle.ss_typed.specs.Types.{class_type};
 
+use crate::context::NullContext;
 use crate::known::Known;
 use crate::seen::{
     Seen, aged, called, class_tested, element_read, field_read, learn_side, learnt_at, literal,
     local_read, negated, note_lacking, null_literal, operated, plain, this_object,
 };
-use crate::site::Site;
 use ss_core::{ClassId, Operator, Place, Ty};
 use ss_faults::Fault;
 use ss_nonnull_facts::{
@@ -53,13 +53,13 @@ fn made(alloc: Global, place: Place, class: ClassId) -> Seen
 #[cycle(expr)]
 pub fn check(
     alloc: Global,
-    site: &Site<'_>,
+    context: &NullContext<'_>,
     known: &Option<Known>,
     found: &mut Vec<Fault>,
     e: &TypedExpr,
 ) -> Result<Seen, AllocError>
-    ensures seen { IfOk result (λ v. seen_of v ≡ seen (site_of site.now) (path_of known.now) (expr e.now)) }
-    ensures noted { OnOk result (found.new.items ≡ found.old.items ++ inside (site_of site.now) (path_of known.now) (expr e.now)) }
+    ensures seen { IfOk result (λ v. seen_of v ≡ seen (context_of context.now) (path_of known.now) (expr e.now)) }
+    ensures noted { OnOk result (found.new.items ≡ found.old.items ++ inside (context_of context.now) (path_of known.now) (expr e.now)) }
 {
     match e {
         TypedExpr::Int(place, _) => Ok(value(alloc, *place, Ty::Int)),
@@ -70,82 +70,82 @@ pub fn check(
         TypedExpr::Result(place, ty) => Ok(plain(alloc, *place, *ty, is_set_result(*ty))),
         TypedExpr::Bound(place, _) => Ok(value(alloc, *place, Ty::Int)),
         TypedExpr::Iff(place, a, b) => {
-            check(alloc, site, known, found, a)?;
-            check(alloc, site, known, found, b)?;
+            check(alloc, context, known, found, a)?;
+            check(alloc, context, known, found, b)?;
             Ok(value(alloc, *place, Ty::Bool))
         }
         TypedExpr::Implies(place, a, b) => {
-            check(alloc, site, known, found, a)?;
-            check(alloc, site, known, found, b)?;
+            check(alloc, context, known, found, a)?;
+            check(alloc, context, known, found, b)?;
             Ok(value(alloc, *place, Ty::Bool))
         }
         TypedExpr::Chain(place, first, links) => {
-            let head = check(alloc, site, known, found, first)?;
-            let longer = check_links(alloc, site, known, found, *place, head, links)?;
+            let head = check(alloc, context, known, found, first)?;
+            let longer = check_links(alloc, context, known, found, *place, head, links)?;
             Ok(longer)
         }
         TypedExpr::Negate(place, inner) => {
-            check(alloc, site, known, found, inner)?;
+            check(alloc, context, known, found, inner)?;
             Ok(value(alloc, *place, Ty::Int))
         }
         TypedExpr::Not(place, inner) => {
-            let head = check(alloc, site, known, found, inner)?;
+            let head = check(alloc, context, known, found, inner)?;
             Ok(negated(*place, head))
         }
         TypedExpr::Cast(place, class, non_null, inner) => {
-            check(alloc, site, known, found, inner)?;
+            check(alloc, context, known, found, inner)?;
             let ty = class_type(*class, *non_null);
             Ok(plain(alloc, *place, Some(ty), *non_null))
         }
         TypedExpr::Path(place, first, steps) => {
-            let head = check(alloc, site, known, found, first)?;
-            let longer = check_steps(alloc, site, known, found, *place, head, steps)?;
+            let head = check(alloc, context, known, found, first)?;
+            let longer = check_steps(alloc, context, known, found, *place, head, steps)?;
             Ok(longer)
         }
         TypedExpr::Old(place, inner) => {
-            let before = Site {
-                program: site.program,
-                class: site.class,
-                numbers: site.numbers,
-                constructs: site.constructs,
+            let before = NullContext {
+                program: context.program,
+                class: context.class,
+                numbers: context.numbers,
+                constructs: context.constructs,
                 in_old: true,
-                result: site.result,
+                result: context.result,
             };
             let head = check(alloc, &before, known, found, inner)?;
             Ok(aged(alloc, *place, &head))
         }
         TypedExpr::Quantified(place, _, _, low, high, member) => {
-            check(alloc, site, known, found, low)?;
-            check(alloc, site, known, found, high)?;
-            check(alloc, site, known, found, member)?;
+            check(alloc, context, known, found, low)?;
+            check(alloc, context, known, found, high)?;
+            check(alloc, context, known, found, member)?;
             Ok(value(alloc, *place, Ty::Bool))
         }
         TypedExpr::State(place, _, inner) => {
-            check(alloc, site, known, found, inner)?;
+            check(alloc, context, known, found, inner)?;
             Ok(value(alloc, *place, Ty::Bool))
         }
         TypedExpr::Owners(place, _, a, b) => {
-            check(alloc, site, known, found, a)?;
-            check(alloc, site, known, found, b)?;
+            check(alloc, context, known, found, a)?;
+            check(alloc, context, known, found, b)?;
             Ok(value(alloc, *place, Ty::Bool))
         }
         TypedExpr::New(place, class, list) => {
-            let entered = constructor(site.program, *class);
-            check_arguments(alloc, site, known, found, entered, list)?;
+            let entered = constructor(context.program, *class);
+            check_arguments(alloc, context, known, found, entered, list)?;
             Ok(made(alloc, *place, *class))
         }
         TypedExpr::NewArray(place, class, length) => {
-            check(alloc, site, known, found, length)?;
+            check(alloc, context, known, found, length)?;
             Ok(made(alloc, *place, *class))
         }
         TypedExpr::Static(place, number, ty, list) => {
-            let entered = static_method(site.program, Some(*number));
-            check_arguments(alloc, site, known, found, entered, list)?;
+            let entered = static_method(context.program, Some(*number));
+            check_arguments(alloc, context, known, found, entered, list)?;
             Ok(called(alloc, *place, *ty))
         }
         TypedExpr::Base(place, method, ty, list) => {
-            let entered = base_method(site.program, site.class, *method);
-            check_arguments(alloc, site, known, found, entered, list)?;
+            let entered = base_method(context.program, context.class, *method);
+            check_arguments(alloc, context, known, found, entered, list)?;
             Ok(called(alloc, *place, *ty))
         }
     }
@@ -155,17 +155,17 @@ pub fn check(
 #[cycle(expr)]
 pub fn check_wanted(
     alloc: Global,
-    site: &Site<'_>,
+    context: &NullContext<'_>,
     known: &Option<Known>,
     found: &mut Vec<Fault>,
     wanted: Option<Ty>,
     e: &TypedExpr,
 ) -> Result<Seen, AllocError>
-    ensures seen { IfOk result (λ v. seen_of v ≡ seen (site_of site.now) (path_of known.now) (expr e.now)) }
+    ensures seen { IfOk result (λ v. seen_of v ≡ seen (context_of context.now) (path_of known.now) (expr e.now)) }
     ensures noted { OnOk result (found.new.items ≡ found.old.items
-        ++ (inside (site_of site.now) (path_of known.now) (expr e.now) ++ wanted_if (site_of site.now) (path_of known.now) (expr e.now) wanted)) }
+        ++ (inside (context_of context.now) (path_of known.now) (expr e.now) ++ wanted_if (context_of context.now) (path_of known.now) (expr e.now) wanted)) }
 {
-    let head = check(alloc, site, known, found, e)?;
+    let head = check(alloc, context, known, found, e)?;
     note_lacking(found, wanted, &head)?;
     Ok(head)
 }
@@ -174,19 +174,19 @@ pub fn check_wanted(
 #[cycle(expr)]
 fn check_links(
     alloc: Global,
-    site: &Site<'_>,
+    context: &NullContext<'_>,
     known: &Option<Known>,
     found: &mut Vec<Fault>,
     place: Place,
     first: Seen,
     links: &[TypedLink],
 ) -> Result<Seen, AllocError>
-    ensures { IfOk result (λ v. Leads (site_of site.now) (path_of known.now) found.old.items (seen_of first) found.new.items (seen_of v)
+    ensures { IfOk result (λ v. Leads (context_of context.now) (path_of known.now) found.old.items (seen_of first) found.new.items (seen_of v)
         (λ (e : ExprTree). grouped place e (map link_behind links.now))) }
 {
     let mut head = first;
     for link in links {
-        head = check_link(alloc, site, known, found, place, head, link)?;
+        head = check_link(alloc, context, known, found, place, head, link)?;
     }
     Ok(head)
 }
@@ -194,18 +194,20 @@ fn check_links(
 #[cycle(expr)]
 fn check_link(
     alloc: Global,
-    site: &Site<'_>,
+    context: &NullContext<'_>,
     known: &Option<Known>,
     found: &mut Vec<Fault>,
     place: Place,
     head: Seen,
     link: &TypedLink,
 ) -> Result<Seen, AllocError>
-    ensures { IfOk result (λ v. Leads (site_of site.now) (path_of known.now) found.old.items (seen_of head) found.new.items (seen_of v) (link_behind link.now place)) }
+    ensures { IfOk result (λ v. Leads (context_of context.now) (path_of known.now) found.old.items (seen_of head) found.new.items (seen_of v) (link_behind link.now place)) }
 {
     match link {
         TypedLink::Operation(operator, right) => {
-            let longer = check_operation(alloc, site, known, found, place, head, *operator, right)?;
+            let longer = check_operation(
+                alloc, context, known, found, place, head, *operator, right,
+            )?;
             Ok(longer)
         }
         TypedLink::Is(_) => {
@@ -219,7 +221,7 @@ fn check_link(
 #[cycle(expr)]
 fn check_operation(
     alloc: Global,
-    site: &Site<'_>,
+    context: &NullContext<'_>,
     known: &Option<Known>,
     found: &mut Vec<Fault>,
     place: Place,
@@ -227,10 +229,10 @@ fn check_operation(
     operator: Operator,
     operand: &TypedExpr,
 ) -> Result<Seen, AllocError>
-    ensures { IfOk result (λ v. Leads (site_of site.now) (path_of known.now) found.old.items (seen_of head) found.new.items (seen_of v)
+    ensures { IfOk result (λ v. Leads (context_of context.now) (path_of known.now) found.old.items (seen_of head) found.new.items (seen_of v)
         (λ (e : ExprTree). BinaryOf place operator e (expr operand.now))) }
 {
-    let right = check_right(alloc, site, known, found, operator, &head, operand)?;
+    let right = check_right(alloc, context, known, found, operator, &head, operand)?;
     let whole = operated(alloc, place, operator, head, right)?;
     Ok(whole)
 }
@@ -239,26 +241,26 @@ fn check_operation(
 #[cycle(expr)]
 fn check_right(
     alloc: Global,
-    site: &Site<'_>,
+    context: &NullContext<'_>,
     known: &Option<Known>,
     found: &mut Vec<Fault>,
     operator: Operator,
     head: &Seen,
     operand: &TypedExpr,
 ) -> Result<Seen, AllocError>
-    ensures seen { IfOk result (λ v. (left : ExprTree) → seen_of head.now ≡ seen (site_of site.now) (path_of known.now) left
-        → seen_of v ≡ seen (site_of site.now) (option_map (known_right operator left) (path_of known.now)) (expr operand.now)) }
-    ensures noted { OnOk result ((left : ExprTree) → seen_of head.now ≡ seen (site_of site.now) (path_of known.now) left
-        → found.new.items ≡ found.old.items ++ inside (site_of site.now) (option_map (known_right operator left) (path_of known.now)) (expr operand.now)) }
+    ensures seen { IfOk result (λ v. (left : ExprTree) → seen_of head.now ≡ seen (context_of context.now) (path_of known.now) left
+        → seen_of v ≡ seen (context_of context.now) (option_map (known_right operator left) (path_of known.now)) (expr operand.now)) }
+    ensures noted { OnOk result ((left : ExprTree) → seen_of head.now ≡ seen (context_of context.now) (path_of known.now) left
+        → found.new.items ≡ found.old.items ++ inside (context_of context.now) (option_map (known_right operator left) (path_of known.now)) (expr operand.now)) }
 {
     match learnt_at(operator) {
         Some(truth) => {
             let more = learn_side(known, head, truth)?;
-            let right = check(alloc, site, &more, found, operand)?;
+            let right = check(alloc, context, &more, found, operand)?;
             Ok(right)
         }
         None => {
-            let right = check(alloc, site, known, found, operand)?;
+            let right = check(alloc, context, known, found, operand)?;
             Ok(right)
         }
     }
@@ -268,19 +270,19 @@ fn check_right(
 #[cycle(expr)]
 fn check_steps(
     alloc: Global,
-    site: &Site<'_>,
+    context: &NullContext<'_>,
     known: &Option<Known>,
     found: &mut Vec<Fault>,
     place: Place,
     first: Seen,
     steps: &[TypedStep],
 ) -> Result<Seen, AllocError>
-    ensures { IfOk result (λ v. Leads (site_of site.now) (path_of known.now) found.old.items (seen_of first) found.new.items (seen_of v)
+    ensures { IfOk result (λ v. Leads (context_of context.now) (path_of known.now) found.old.items (seen_of first) found.new.items (seen_of v)
         (λ (e : ExprTree). grouped place e (map step_behind steps.now))) }
 {
     let mut head = first;
     for step in steps {
-        head = check_step(alloc, site, known, found, place, head, step)?;
+        head = check_step(alloc, context, known, found, place, head, step)?;
     }
     Ok(head)
 }
@@ -288,27 +290,27 @@ fn check_steps(
 #[cycle(expr)]
 fn check_step(
     alloc: Global,
-    site: &Site<'_>,
+    context: &NullContext<'_>,
     known: &Option<Known>,
     found: &mut Vec<Fault>,
     place: Place,
     head: Seen,
     step: &TypedStep,
 ) -> Result<Seen, AllocError>
-    ensures { IfOk result (λ v. Leads (site_of site.now) (path_of known.now) found.old.items (seen_of head) found.new.items (seen_of v) (step_behind step.now place)) }
+    ensures { IfOk result (λ v. Leads (context_of context.now) (path_of known.now) found.old.items (seen_of head) found.new.items (seen_of v) (step_behind step.now place)) }
 {
     match step {
         TypedStep::Field(field, ty) => {
-            Ok(field_read(alloc, site, known, place, *field, *ty, &head))
+            Ok(field_read(alloc, context, known, place, *field, *ty, &head))
         }
         TypedStep::Element(index) => {
-            check(alloc, site, known, found, index)?;
+            check(alloc, context, known, found, index)?;
             Ok(element_read(alloc, place, &head))
         }
         TypedStep::Length => Ok(value(alloc, place, Ty::Int)),
         TypedStep::Call(method, ty, list) => {
-            let entered = method_of(site.program, head.ty, *method);
-            check_arguments(alloc, site, known, found, entered, list)?;
+            let entered = method_of(context.program, head.ty, *method);
+            check_arguments(alloc, context, known, found, entered, list)?;
             Ok(called(alloc, place, *ty))
         }
     }
@@ -318,18 +320,18 @@ fn check_step(
 #[cycle(expr)]
 pub fn check_arguments(
     alloc: Global,
-    site: &Site<'_>,
+    context: &NullContext<'_>,
     known: &Option<Known>,
     found: &mut Vec<Fault>,
     entered: Called<'_>,
     list: &[TypedExpr],
 ) -> Result<(), AllocError>
     ensures { OnOk result (found.new.items ≡ found.old.items
-        ++ handed (site_of site.now) (path_of known.now) (arguments (map expr list.now)) (called_types entered.entry)) }
+        ++ handed (context_of context.now) (path_of known.now) (arguments (map expr list.now)) (called_types entered.entry)) }
 {
     for (i, e) in list.iter().enumerate() {
         let wanted = type_at(entered, i);
-        check_wanted(alloc, site, known, found, wanted, e)?;
+        check_wanted(alloc, context, known, found, wanted, e)?;
     }
     Ok(())
 }

@@ -9,13 +9,13 @@ ghost use Rattle.ss_typed.specs.View.{typed, expr, field, members};
 ghost use Rattle.ss_core.specs.Kinds.{class_number};
 ghost use Rattle.ss_nonnull_rules.specs.Program.{classes_faults};
 ghost use Rattle.ss_paths_assigned.specs.Codes.{numbers_of, assigned_of};
-ghost use Rattle.ss_nonnull.specs.Codes.{known_of, path_of, site_of};
-ghost use Rattle.ss_nonnull.specs.Initial.{begun_with, initial_faults, type_of_field, each_initial, site_with, class_faults};
+ghost use Rattle.ss_nonnull.specs.Codes.{known_of, path_of, context_of};
+ghost use Rattle.ss_nonnull.specs.Initial.{begun_with, initial_faults, type_of_field, each_initial, context_with, class_faults};
 ghost use Rattle.ss_nonnull_rules.specs.Program.{only_fields};
 
+use crate::context::NullContext;
 use crate::expr::check_wanted;
 use crate::known::{Known, begin};
-use crate::site::Site;
 use ss_bit_set::BitSet;
 use ss_core::{Class, Field, Ty};
 use ss_faults::Fault;
@@ -62,20 +62,20 @@ fn type_of_field(declared: Option<&Field>) -> Option<Ty>
 // An initializer stands where a value of the field's type is wanted.
 fn check_initial(
     alloc: Global,
-    site: &Site<'_>,
+    context: &NullContext<'_>,
     known: &Option<Known>,
     found: &mut Vec<Fault>,
     ty: Option<Ty>,
     initial: &Option<TypedExpr>,
 ) -> Result<(), AllocError>
-    ensures { OnOk result (found.new.items ≡ found.old.items ++ initial_faults (site_of site.now) (path_of known.now) ty (option_map expr initial.now)) }
+    ensures { OnOk result (found.new.items ≡ found.old.items ++ initial_faults (context_of context.now) (path_of known.now) ty (option_map expr initial.now)) }
 {
     let Some(ty) = ty else {
         return Ok(());
     };
     match initial {
         Some(e) => {
-            check_wanted(alloc, site, known, found, Some(ty), e)?;
+            check_wanted(alloc, context, known, found, Some(ty), e)?;
             Ok(())
         }
         None => Ok(()),
@@ -91,18 +91,18 @@ fn starts_with_value(declared: &TypedField) -> bool
 // The initializers of a class, one after the other.
 fn check_initials(
     alloc: Global,
-    site: &Site<'_>,
+    context: &NullContext<'_>,
     found: &mut Vec<Fault>,
     class: Option<&Class>,
     fields: &[TypedField],
 ) -> Result<(), AllocError>
     ensures { OnOk result (found.new.items ≡ found.old.items
-        ++ each_initial (site_of site.now) (map field fields.now) 0 (map field fields.now) (fields_in (option_map (λ c. class_of c.now) class.entry))) }
+        ++ each_initial (context_of context.now) (map field fields.now) 0 (map field fields.now) (fields_in (option_map (λ c. class_of c.now) class.entry))) }
 {
     let mut known = nothing_begun(alloc);
     for (place, declared) in fields.iter().enumerate() {
         let ty = type_of_field(field_at(class, place));
-        check_initial(alloc, site, &known, found, ty, &declared.initial)?;
+        check_initial(alloc, context, &known, found, ty, &declared.initial)?;
         known = begin(known, place, starts_with_value(declared))?;
     }
     Ok(())
@@ -135,10 +135,10 @@ fn class_number(place: usize) -> Result<usize, AllocError>
 }
 
 // Where the initializers of a class stand.
-fn site_in<'p>(program: &'p Typed, class: usize, numbers: Numbers) -> Site<'p>
-    ensures { site_of result ≡ site_with (typed program.now) class (numbers_of numbers) }
+fn context_in<'p>(program: &'p Typed, class: usize, numbers: Numbers) -> NullContext<'p>
+    ensures { context_of result ≡ context_with (typed program.now) class (numbers_of numbers) }
 {
-    Site {
+    NullContext {
         program,
         class,
         numbers,
@@ -163,8 +163,8 @@ fn check_class(
     let class = class_at(program, place);
     let count = field_count(class);
     let numbers = Numbers { first, count };
-    let site = site_in(program, class_number(place)?, numbers);
-    check_initials(alloc, &site, found, class, &declared.fields)?;
+    let context = context_in(program, class_number(place)?, numbers);
+    check_initials(alloc, &context, found, class, &declared.fields)?;
     let behind = first.checked_add(count).ok_or(AllocError)?;
     Ok(behind)
 }

@@ -5,10 +5,10 @@ ghost use Rattle.ss_typed.specs.View.{simple_of};
 ghost use Rattle.ss_paths_assigned.specs.Codes.{numbers_of};
 ghost use Rattle.ss_paths.specs.Sets.{among};
 ghost use Rattle.ss_nonnull_rules.specs.NonNull.{knows, has_its_field, known_met};
-ghost use Rattle.ss_nonnull.specs.Codes.{known_of, path_of, site_of};
+ghost use Rattle.ss_nonnull.specs.Codes.{known_of, path_of, context_of};
 ghost use Rattle.ss_nonnull.specs.Paths.{told, untold, with_fact, with_left, assigned_known, fields_known, with_begun, met_paths, left_by};
 
-use crate::site::Site;
+use crate::context::NullContext;
 use ss_ast::AssignOperator;
 use ss_bit_set::BitSet;
 use ss_core::FieldId;
@@ -127,11 +127,11 @@ pub fn knows(known: &Option<Known>, local: usize) -> bool
 }
 
 /// Whether the field of `this` has its value.
-pub fn has_its_field(site: &Site<'_>, known: &Option<Known>, field: FieldId) -> bool
-    ensures { result ≡ has_its_field (site_of site.now) (path_of known.now) field.0 }
+pub fn has_its_field(context: &NullContext<'_>, known: &Option<Known>, field: FieldId) -> bool
+    ensures { result ≡ has_its_field (context_of context.now) (path_of known.now) field.0 }
 {
     match known {
-        Some(known) => known.fields.has_field(site.numbers, field),
+        Some(known) => known.fields.has_field(context.numbers, field),
         None => true,
     }
 }

@@ -3,6 +3,7 @@
 #![tactic(auto)]
 
 mod bodies;
+mod context;
 mod expr;
 mod initializers;
 mod known;
@@ -10,7 +11,6 @@ mod overrides;
 mod program;
 mod seen;
 mod simple;
-mod site;
 mod stmts;
 
 pub use program::check_nulls;

@@ -5,11 +5,11 @@ ghost use Rattle.ss_typed.specs.Assigned.{listed};
 ghost use Rattle.ss_paths.specs.Sets.{none, only, either, among};
 ghost use Rattle.ss_nonnull_rules.specs.Facts.{the_one};
 ghost use Rattle.ss_nonnull.specs.Paths.{told};
-ghost use Rattle.ss_nonnull.specs.Codes.{path_of, site_of, seen_of};
+ghost use Rattle.ss_nonnull.specs.Codes.{path_of, context_of, seen_of};
 ghost use Rattle.ss_nonnull.specs.Seen.{plain, literal, null_literal, this_object, local_read, negated, aged, telling, class_tested, compared_by, operated, is_set, field_read, element_read, called, fault_where, lacks, lacking, learnt_at, side_of};
 
+use crate::context::NullContext;
 use crate::known::{Known, has_its_field, knows, learned};
-use crate::site::Site;
 use ss_core::{ClassId, FieldId, Operator, Place, Rule, Ty};
 use ss_faults::Fault;
 use ss_nonnull_facts::{is_non_null, is_non_null_type};
@@ -273,25 +273,25 @@ pub fn operated(
 }
 
 // Whether a field has its type.
-fn is_set(site: &Site<'_>, known: &Option<Known>, is_this: bool, field: FieldId) -> bool
-    ensures { result ≡ is_set (site_of site.now) (path_of known.now) is_this field.0 }
+fn is_set(context: &NullContext<'_>, known: &Option<Known>, is_this: bool, field: FieldId) -> bool
+    ensures { result ≡ is_set (context_of context.now) (path_of known.now) is_this field.0 }
 {
-    !site.constructs || !site.in_old && (!is_this || has_its_field(site, known, field))
+    !context.constructs || !context.in_old && (!is_this || has_its_field(context, known, field))
 }
 
 /// `e.f`
 pub fn field_read(
     alloc: Global,
-    site: &Site<'_>,
+    context: &NullContext<'_>,
     known: &Option<Known>,
     place: Place,
     field: FieldId,
     ty: Ty,
     seen: &Seen,
 ) -> Seen
-    ensures { seen_of result ≡ field_read (site_of site.now) (path_of known.now) place field.0 ty (seen_of seen.now) }
+    ensures { seen_of result ≡ field_read (context_of context.now) (path_of known.now) place field.0 ty (seen_of seen.now) }
 {
-    let never_null = is_non_null(ty) && is_set(site, known, seen.is_this, field);
+    let never_null = is_non_null(ty) && is_set(context, known, seen.is_this, field);
     plain(alloc, place, Some(ty), never_null)
 }
 

@@ -5,15 +5,15 @@ ghost use Rattle.ss_typed.specs.Tree.{AssignOf, arguments};
 ghost use Rattle.ss_typed.specs.View.{expr, declarator, simple_of, init_of};
 ghost use Rattle.ss_nonnull_rules.specs.NonNull.{known_declared, known_done};
 ghost use Rattle.ss_nonnull_rules.specs.Faults.{inside, inside_if, starts, handed_to_base, done_faults, returned_faults};
-ghost use Rattle.ss_nonnull.specs.Codes.{path_of, site_of, seen_of};
+ghost use Rattle.ss_nonnull.specs.Codes.{path_of, context_of, seen_of};
 ghost use Rattle.ss_nonnull.specs.Seen.{seen};
 ghost use Rattle.ss_nonnull.specs.Paths.{starts_never, fields_known, assigned_known};
 ghost use Rattle.ss_nonnull.specs.Walks.{known_behind_all, all_faults, known_behind_first, heading_faults, step_faults_of, test_seen, test_faults};
 
+use crate::context::NullContext;
 use crate::expr::{check, check_arguments, check_wanted};
 use crate::known::{Known, assign, declare, set_left};
 use crate::seen::{Seen, literal, note_null};
-use crate::site::Site;
 use ss_ast::AssignOperator;
 use ss_core::{Place, Ty};
 use ss_faults::Fault;
@@ -24,16 +24,16 @@ use std::alloc::{AllocError, Global};
 // An expression, where there is one.
 fn check_any(
     alloc: Global,
-    site: &Site<'_>,
+    context: &NullContext<'_>,
     known: &Option<Known>,
     found: &mut Vec<Fault>,
     e: &Option<TypedExpr>,
 ) -> Result<(), AllocError>
-    ensures { OnOk result (found.new.items ≡ found.old.items ++ inside_if (site_of site.now) (path_of known.now) (option_map expr e.now)) }
+    ensures { OnOk result (found.new.items ≡ found.old.items ++ inside_if (context_of context.now) (path_of known.now) (option_map expr e.now)) }
 {
     match e {
         Some(e) => {
-            check(alloc, site, known, found, e)?;
+            check(alloc, context, known, found, e)?;
             Ok(())
         }
         None => Ok(()),
@@ -43,31 +43,34 @@ fn check_any(
 /// The arguments of `base(..)`.
 pub fn check_base(
     alloc: Global,
-    site: &Site<'_>,
+    context: &NullContext<'_>,
     known: &Option<Known>,
     found: &mut Vec<Fault>,
     list: &[TypedExpr],
 ) -> Result<(), AllocError>
-    ensures { OnOk result (found.new.items ≡ found.old.items ++ handed_to_base (site_of site.now) (path_of known.now) (arguments (map expr list.now))) }
+    ensures { OnOk result (found.new.items ≡ found.old.items ++ handed_to_base (context_of context.now) (path_of known.now) (arguments (map expr list.now))) }
 {
-    let entered = constructor(site.program, above(&site.program.classes, site.class));
-    check_arguments(alloc, site, known, found, entered, list)?;
+    let entered = constructor(
+        context.program,
+        above(&context.program.classes, context.class),
+    );
+    check_arguments(alloc, context, known, found, entered, list)?;
     Ok(())
 }
 
 /// A result that is handed out.
 pub fn check_returned(
     alloc: Global,
-    site: &Site<'_>,
+    context: &NullContext<'_>,
     known: &Option<Known>,
     found: &mut Vec<Fault>,
     e: &Option<TypedExpr>,
 ) -> Result<(), AllocError>
-    ensures { OnOk result (found.new.items ≡ found.old.items ++ returned_faults (site_of site.now) (option_map expr e.now) (path_of known.now)) }
+    ensures { OnOk result (found.new.items ≡ found.old.items ++ returned_faults (context_of context.now) (option_map expr e.now) (path_of known.now)) }
 {
     match e {
         Some(e) => {
-            check_wanted(alloc, site, known, found, site.result, e)?;
+            check_wanted(alloc, context, known, found, context.result, e)?;
             Ok(())
         }
         None => Ok(()),
@@ -77,18 +80,18 @@ pub fn check_returned(
 // The test of a `for`.
 pub fn check_test(
     alloc: Global,
-    site: &Site<'_>,
+    context: &NullContext<'_>,
     known: &Option<Known>,
     found: &mut Vec<Fault>,
     place: Place,
     test: &Option<TypedExpr>,
 ) -> Result<Seen, AllocError>
-    ensures seen { IfOk result (λ v. seen_of v ≡ test_seen (site_of site.now) (path_of known.now) place (option_map expr test.now)) }
-    ensures noted { OnOk result (found.new.items ≡ found.old.items ++ test_faults (site_of site.now) (path_of known.now) place (option_map expr test.now)) }
+    ensures seen { IfOk result (λ v. seen_of v ≡ test_seen (context_of context.now) (path_of known.now) place (option_map expr test.now)) }
+    ensures noted { OnOk result (found.new.items ≡ found.old.items ++ test_faults (context_of context.now) (path_of known.now) place (option_map expr test.now)) }
 {
     match test {
         Some(test) => {
-            let head = check(alloc, site, known, found, test)?;
+            let head = check(alloc, context, known, found, test)?;
             Ok(head)
         }
         None => Ok(literal(alloc, place, true)),
@@ -100,19 +103,19 @@ pub fn check_test(
 // What a declared local starts with; whether that isn't null.
 fn check_start(
     alloc: Global,
-    site: &Site<'_>,
+    context: &NullContext<'_>,
     known: &Option<Known>,
     found: &mut Vec<Fault>,
     place: Place,
     ty: Ty,
     initial: &Option<TypedExpr>,
 ) -> Result<bool, AllocError>
-    ensures never { IfOk result (λ b. b ≡ starts_never (site_of site.now) (path_of known.now) (option_map expr initial.now)) }
-    ensures noted { OnOk result (found.new.items ≡ found.old.items ++ starts (site_of site.now) (path_of known.now) place ty (option_map expr initial.now)) }
+    ensures never { IfOk result (λ b. b ≡ starts_never (context_of context.now) (path_of known.now) (option_map expr initial.now)) }
+    ensures noted { OnOk result (found.new.items ≡ found.old.items ++ starts (context_of context.now) (path_of known.now) place ty (option_map expr initial.now)) }
 {
     match initial {
         Some(e) => {
-            let head = check_wanted(alloc, site, known, found, Some(ty), e)?;
+            let head = check_wanted(alloc, context, known, found, Some(ty), e)?;
             Ok(head.never_null)
         }
         None => {
@@ -124,18 +127,18 @@ fn check_start(
 
 fn check_declarator(
     alloc: Global,
-    site: &Site<'_>,
+    context: &NullContext<'_>,
     known: Option<Known>,
     found: &mut Vec<Fault>,
     declared: &TypedDeclarator,
 ) -> Result<Option<Known>, AllocError>
-    ensures known { IfOk result (λ k. path_of k ≡ option_map (known_declared (site_of site.now) (declarator declared.now)) (path_of known)) }
+    ensures known { IfOk result (λ k. path_of k ≡ option_map (known_declared (context_of context.now) (declarator declared.now)) (path_of known)) }
     ensures noted { OnOk result (found.new.items ≡ found.old.items
-        ++ starts (site_of site.now) (path_of known) declared.now.place declared.now.ty (declarator declared.now).initial) }
+        ++ starts (context_of context.now) (path_of known) declared.now.place declared.now.ty (declarator declared.now).initial) }
 {
     let non_null = check_start(
         alloc,
-        site,
+        context,
         &known,
         found,
         declared.place,
@@ -149,17 +152,17 @@ fn check_declarator(
 /// Declared locals, one after the other.
 pub fn check_declarators(
     alloc: Global,
-    site: &Site<'_>,
+    context: &NullContext<'_>,
     known: Option<Known>,
     found: &mut Vec<Fault>,
     declarators: &[TypedDeclarator],
 ) -> Result<Option<Known>, AllocError>
-    ensures known { IfOk result (λ k. path_of k ≡ known_behind_all (site_of site.now) (map declarator declarators.now) (path_of known)) }
-    ensures noted { OnOk result (found.new.items ≡ found.old.items ++ all_faults (site_of site.now) (map declarator declarators.now) (path_of known)) }
+    ensures known { IfOk result (λ k. path_of k ≡ known_behind_all (context_of context.now) (map declarator declarators.now) (path_of known)) }
+    ensures noted { OnOk result (found.new.items ≡ found.old.items ++ all_faults (context_of context.now) (map declarator declarators.now) (path_of known)) }
 {
     let mut reached = known;
     for declared in declarators {
-        reached = check_declarator(alloc, site, reached, found, declared)?;
+        reached = check_declarator(alloc, context, reached, found, declared)?;
     }
     Ok(reached)
 }
@@ -168,60 +171,67 @@ pub fn check_declarators(
 
 // Behind an assignment of what isn't null, or of what may be.
 fn assigned(
-    site: &Site<'_>,
+    context: &NullContext<'_>,
     known: Option<Known>,
     stmt: &TypedSimple,
     operator: AssignOperator,
     local: Option<usize>,
     non_null: bool,
 ) -> Result<Option<Known>, AllocError>
-    ensures { IfOk result (λ k. path_of k ≡ option_map (λ l. fields_known (site_of site.now).numbers (simple_of stmt.now) (assigned_known operator local non_null l)) (path_of known)) }
+    ensures { IfOk result (λ k. path_of k ≡ option_map (λ l. fields_known (context_of context.now).numbers (simple_of stmt.now) (assigned_known operator local non_null l)) (path_of known)) }
 {
     let put = set_left(known, operator, local, non_null)?;
-    let behind = assign(put, site.numbers, stmt)?;
+    let behind = assign(put, context.numbers, stmt)?;
     Ok(behind)
 }
 
 /// A simple statement.
 pub fn check_simple(
     alloc: Global,
-    site: &Site<'_>,
+    context: &NullContext<'_>,
     known: Option<Known>,
     found: &mut Vec<Fault>,
     stmt: &TypedSimple,
 ) -> Result<Option<Known>, AllocError>
-    ensures known { IfOk result (λ k. path_of k ≡ option_map (known_done (site_of site.now) (simple_of stmt.now)) (path_of known)) }
-    ensures noted { OnOk result (found.new.items ≡ found.old.items ++ done_faults (site_of site.now) (simple_of stmt.now) (path_of known)) }
+    ensures known { IfOk result (λ k. path_of k ≡ option_map (known_done (context_of context.now) (simple_of stmt.now)) (path_of known)) }
+    ensures noted { OnOk result (found.new.items ≡ found.old.items ++ done_faults (context_of context.now) (simple_of stmt.now) (path_of known)) }
 {
     match stmt {
         TypedSimple::Assign(left, operator, e) => {
-            let target = check(alloc, site, &known, found, left)?;
-            let head = check_wanted(alloc, site, &known, found, target.ty, e)?;
-            let behind = assigned(site, known, stmt, *operator, target.local, head.never_null)?;
+            let target = check(alloc, context, &known, found, left)?;
+            let head = check_wanted(alloc, context, &known, found, target.ty, e)?;
+            let behind = assigned(
+                context,
+                known,
+                stmt,
+                *operator,
+                target.local,
+                head.never_null,
+            )?;
             Ok(behind)
         }
         TypedSimple::Step(left, _) => {
-            check(alloc, site, &known, found, left)?;
-            let behind = assign(known, site.numbers, stmt)?;
+            check(alloc, context, &known, found, left)?;
+            let behind = assign(known, context.numbers, stmt)?;
             Ok(behind)
         }
         TypedSimple::Alone(e) => {
-            check(alloc, site, &known, found, e)?;
-            let behind = assign(known, site.numbers, stmt)?;
+            check(alloc, context, &known, found, e)?;
+            let behind = assign(known, context.numbers, stmt)?;
             Ok(behind)
         }
         TypedSimple::Print(_, e, _) => {
-            check_any(alloc, site, &known, found, e)?;
-            let behind = assign(known, site.numbers, stmt)?;
+            check_any(alloc, context, &known, found, e)?;
+            let behind = assign(known, context.numbers, stmt)?;
             Ok(behind)
         }
         TypedSimple::PrintText(..) => {
-            let behind = assign(known, site.numbers, stmt)?;
+            let behind = assign(known, context.numbers, stmt)?;
             Ok(behind)
         }
         TypedSimple::Base(_, list) => {
-            check_base(alloc, site, &known, found, list)?;
-            let behind = assign(known, site.numbers, stmt)?;
+            check_base(alloc, context, &known, found, list)?;
+            let behind = assign(known, context.numbers, stmt)?;
             Ok(behind)
         }
     }
@@ -230,21 +240,21 @@ pub fn check_simple(
 /// What a `for` begins with.
 pub fn check_first(
     alloc: Global,
-    site: &Site<'_>,
+    context: &NullContext<'_>,
     known: Option<Known>,
     found: &mut Vec<Fault>,
     first: &Option<TypedInit>,
 ) -> Result<Option<Known>, AllocError>
-    ensures known { IfOk result (λ k. path_of k ≡ known_behind_first (site_of site.now) (option_map init_of first.now) (path_of known)) }
-    ensures noted { OnOk result (found.new.items ≡ found.old.items ++ heading_faults (site_of site.now) (option_map init_of first.now) (path_of known)) }
+    ensures known { IfOk result (λ k. path_of k ≡ known_behind_first (context_of context.now) (option_map init_of first.now) (path_of known)) }
+    ensures noted { OnOk result (found.new.items ≡ found.old.items ++ heading_faults (context_of context.now) (option_map init_of first.now) (path_of known)) }
 {
     match first {
         Some(TypedInit::Declare(declarators)) => {
-            let behind = check_declarators(alloc, site, known, found, declarators)?;
+            let behind = check_declarators(alloc, context, known, found, declarators)?;
             Ok(behind)
         }
         Some(TypedInit::Simple(stmt)) => {
-            let behind = check_simple(alloc, site, known, found, stmt)?;
+            let behind = check_simple(alloc, context, known, found, stmt)?;
             Ok(behind)
         }
         None => Ok(known),
@@ -254,16 +264,16 @@ pub fn check_first(
 /// The step of a `for`.
 pub fn check_step(
     alloc: Global,
-    site: &Site<'_>,
+    context: &NullContext<'_>,
     known: Option<Known>,
     found: &mut Vec<Fault>,
     step: &Option<TypedSimple>,
 ) -> Result<(), AllocError>
-    ensures { OnOk result (found.new.items ≡ found.old.items ++ step_faults_of (site_of site.now) (option_map simple_of step.now) (path_of known)) }
+    ensures { OnOk result (found.new.items ≡ found.old.items ++ step_faults_of (context_of context.now) (option_map simple_of step.now) (path_of known)) }
 {
     match step {
         Some(stmt) => {
-            check_simple(alloc, site, known, found, stmt)?;
+            check_simple(alloc, context, known, found, stmt)?;
             Ok(())
         }
         None => Ok(()),

@@ -15,7 +15,7 @@ use Rattle.ss_typed.specs.Types.{type_of}
 use Rattle.ss_paths.specs.Fields.{is_non_null}
 use Rattle.ss_typed.specs.Lookups.{body_at, members_of, param_types_in}
 use Rattle.ss_paths.specs.Paths.{Check}
-use Rattle.ss_nonnull_rules.specs.NonNull.{Site, Known, is_never_null, known_right}
+use Rattle.ss_nonnull_rules.specs.NonNull.{NullContext, Known, is_never_null, known_right}
 
 -- the number of the rule
 abbrev pub may_be_null : ℕ
@@ -25,10 +25,10 @@ abbrev pub null_fault : Place → Fault
 null_fault p = record { rule = may_be_null; place = p }
 
 -- The expression stands where a value of this type is wanted. Of what has no type, as `result` where there is none, another phase speaks.
-abbrev pub wanted : Site → Option Known → ExprTree → Ty → List Fault
+abbrev pub wanted : NullContext → Option Known → ExprTree → Ty → List Fault
 wanted s k e t = if is_non_null t && is_some (type_of e) && not (is_never_null s k e) then null_fault (place_of e) ∷ [] else []
 
-abbrev pub wanted_if : Site → Option Known → ExprTree → Option Ty → List Fault
+abbrev pub wanted_if : NullContext → Option Known → ExprTree → Option Ty → List Fault
 wanted_if s k e None = []
 wanted_if s k e (Some t) = wanted s k e t
 
@@ -68,7 +68,7 @@ constructor_parameters p t = parameters p (written_constructor (members_of p t))
 
 abbrev mutual
   -- the faults inside the expression; they are at arguments of calls
-  pub inside : Site → Option Known → ExprTree → List Fault
+  pub inside : NullContext → Option Known → ExprTree → List Fault
   inside s k (IffOf p a b) = inside s k a ++ inside s k b
   inside s k (ImpliesOf p a b) = inside s k a ++ inside s k b
   inside s k (BinaryOf p o a b) = inside s k a ++ inside s (option_map (known_right o a) k) b
@@ -92,7 +92,7 @@ abbrev mutual
   inside s k e = []
 
   -- each argument stands where a value of its parameter's type is wanted
-  pub handed : Site → Option Known → Arguments → List Ty → List Fault
+  pub handed : NullContext → Option Known → Arguments → List Ty → List Fault
   handed s k NoMore ts = []
   handed s k (Argument e es) [] = inside s k e ++ handed s k es []
   handed s k (Argument e es) (t ∷ ts) = inside s k e ++ wanted s k e t ++ handed s k es ts
@@ -100,19 +100,19 @@ abbrev mutual
 -- ---- what is done at a point
 
 -- a local of non-null type starts with a value, and that isn't null
-abbrev pub starts : Site → Option Known → Place → Ty → Option ExprTree → List Fault
+abbrev pub starts : NullContext → Option Known → Place → Ty → Option ExprTree → List Fault
 starts s k p t None = if is_non_null t then null_fault p ∷ [] else []
 starts s k p t (Some e) = inside s k e ++ wanted s k e t
 
-abbrev pub inside_if : Site → Option Known → Option ExprTree → List Fault
+abbrev pub inside_if : NullContext → Option Known → Option ExprTree → List Fault
 inside_if s k None = []
 inside_if s k (Some e) = inside s k e
 
 -- the arguments of `base(..)` go to the constructor of the class above
-abbrev pub handed_to_base : Site → Option Known → Arguments → List Fault
+abbrev pub handed_to_base : NullContext → Option Known → Arguments → List Fault
 handed_to_base s k es = handed s k es (constructor_parameters s.program (above s.program.classes s.class))
 
-abbrev pub done_faults : Site → SimpleTree → Option Known → List Fault
+abbrev pub done_faults : NullContext → SimpleTree → Option Known → List Fault
 done_faults s (AssignOf l o e) k = inside s k l ++ inside s k e ++ wanted_if s k e (type_of l)
 done_faults s (StepOf l o) k = inside s k l
 done_faults s (AloneOf e) k = inside s k e
@@ -120,12 +120,12 @@ done_faults s (PrintOf p e line) k = inside_if s k e
 done_faults s (PrintTextOf p text line) k = []
 done_faults s (BaseCallOf p es) k = handed_to_base s k es
 
-abbrev pub returned_faults : Site → Option ExprTree → Option Known → List Fault
+abbrev pub returned_faults : NullContext → Option ExprTree → Option Known → List Fault
 returned_faults s None k = []
 returned_faults s (Some e) k = inside s k e ++ wanted_if s k e s.result
 
 -- A condition has no call, so nothing is handed over in it.
-abbrev pub null_check : Site → Check Known
+abbrev pub null_check : NullContext → Check Known
 null_check s = record {
   declared = λ d k. starts s k d.place d.ty d.initial;
   done = done_faults s;

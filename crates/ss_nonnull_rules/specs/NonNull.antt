@@ -14,7 +14,7 @@ use Rattle.ss_typed.specs.Shapes.{is_this}
 use Rattle.ss_nonnull_rules.specs.Facts.{says, forgotten}
 
 -- Where an expression stands.
-pub record Site : Type 0 where
+pub record NullContext : Type 0 where
   pub program : TypedTree
   -- the class, and the numbers of its fields
   pub class : ℕ
@@ -35,7 +35,7 @@ abbrev pub knows : Option Known → ℕ → Bool
 knows None x = false
 knows (Some k) x = k.facts x
 
-abbrev pub has_its_field : Site → Option Known → ℕ → Bool
+abbrev pub has_its_field : NullContext → Option Known → ℕ → Bool
 has_its_field s None f = true
 has_its_field s (Some k) f = has_field s.numbers k.fields f
 
@@ -44,7 +44,7 @@ is_non_null_type None = false
 is_non_null_type (Some t) = is_non_null t
 
 -- In a constructor a field of `this` has its type only once it is assigned, and inside `old` no field has.
-abbrev pub field_is_set : Site → Option Known → ExprTree → ℕ → Bool
+abbrev pub field_is_set : NullContext → Option Known → ExprTree → ℕ → Bool
 field_is_set s k e f = not s.constructs || not s.in_old && (not (is_this e) || has_its_field s k f)
 
 -- the result of a body that has none fits everything: where it may stand another rule sees to
@@ -53,7 +53,7 @@ is_set_result None = true
 is_set_result (Some t) = is_non_null t
 
 -- The value isn't null by its type, or because it is a local that is known.
-abbrev pub is_never_null : Site → Option Known → ExprTree → Bool
+abbrev pub is_never_null : NullContext → Option Known → ExprTree → Bool
 is_never_null s k (ThisOf p t) = true
 is_never_null s k (LocalOf p x t) = is_non_null t || knows k x
 is_never_null s k (FieldOf p e f t) = is_non_null t && field_is_set s k e f
@@ -79,11 +79,11 @@ known_right op.Or a k = known_tested a false k
 known_right o a k = k
 
 -- a local that starts without a value is null
-abbrev pub starts_non_null : Site → Known → Option ExprTree → Bool
+abbrev pub starts_non_null : NullContext → Known → Option ExprTree → Bool
 starts_non_null s k None = false
 starts_non_null s k (Some e) = is_never_null s (Some k) e
 
-abbrev pub known_declared : Site → DeclaratorTree → Known → Known
+abbrev pub known_declared : NullContext → DeclaratorTree → Known → Known
 known_declared s d k = record k { facts = put d.local (starts_non_null s k d.initial) k.facts }
 
 -- what stands on the left is put to a value that isn't null, or to one that may be
@@ -91,17 +91,17 @@ abbrev pub put_left : ExprTree → Bool → Set → Set
 put_left (LocalOf p x t) non_null f = put x non_null f
 put_left l non_null f = f
 
-abbrev pub facts_done : Site → SimpleTree → Known → Set
+abbrev pub facts_done : NullContext → SimpleTree → Known → Set
 facts_done s (AssignOf l assign.Set e) k = put_left l (is_never_null s (Some k) e) k.facts
 facts_done s st k = k.facts
 
-abbrev pub known_done : Site → SimpleTree → Known → Known
+abbrev pub known_done : NullContext → SimpleTree → Known → Known
 known_done s st k = record { facts = facts_done s st k; fields = assigned_by s.numbers st k.fields }
 
 abbrev pub known_met : Known → Known → Known
 known_met k l = record { facts = both k.facts l.facts; fields = both_assigned k.fields l.fields }
 
-abbrev pub known_flow : Site → Flow Known
+abbrev pub known_flow : NullContext → Flow Known
 known_flow s = record {
   declared = known_declared s;
   done = known_done s;

@@ -10,7 +10,7 @@ use Rattle.ss_paths.specs.Fields.{own_fields, field_numbers}
 use Rattle.ss_paths.specs.Paths.{faults_in}
 use Rattle.ss_paths.specs.Assigned.{Assigned, assigned_by_initializers, assigned_first, has_initializer}
 use Rattle.ss_paths.specs.Sets.{none}
-use Rattle.ss_nonnull_rules.specs.NonNull.{Site, Known, known_flow}
+use Rattle.ss_nonnull_rules.specs.NonNull.{NullContext, Known, known_flow}
 use Rattle.ss_nonnull_rules.specs.Faults.{inside, wanted, handed_to_base, null_check}
 use Rattle.ss_nonnull_rules.specs.Overrides.{override_faults}
 
@@ -19,15 +19,15 @@ only_fields a = Some (record { facts = none; fields = a })
 
 -- ---- initializers
 
-abbrev pub initializer_site : TypedTree → ℕ → Site
-initializer_site p t = record { program = p; class = t; numbers = field_numbers p t; constructs = true; in_old = false; result = None }
+abbrev pub initializer_context : TypedTree → ℕ → NullContext
+initializer_context p t = record { program = p; class = t; numbers = field_numbers p t; constructs = true; in_old = false; result = None }
 
 -- the first n initializers have been done
 abbrev pub initialized : TypedTree → ℕ → ℕ → Option Known
 initialized p t n = only_fields (record { own = λ i. nat_lt i n && has_initializer p t i; above = false })
 
 -- an initializer stands where a value of the field's type is wanted
-abbrev pub initializer_faults : Site → Option Known → Ty → Option ExprTree → List Fault
+abbrev pub initializer_faults : NullContext → Option Known → Ty → Option ExprTree → List Fault
 initializer_faults s k t None = []
 initializer_faults s k t (Some e) = inside s k e ++ wanted s k e t
 
@@ -35,20 +35,20 @@ initializer_faults s k t (Some e) = inside s k e ++ wanted s k e t
 abbrev pub initializers_from : TypedTree → ℕ → ℕ → List FieldTree → List core.FieldTree → List Fault
 initializers_from p t n [] ts = []
 initializers_from p t n (f ∷ fs) [] = []
-initializers_from p t n (f ∷ fs) (g ∷ gs) = initializer_faults (initializer_site p t) (initialized p t n) g.ty f.initial ++ initializers_from p t (n + 1) fs gs
+initializers_from p t n (f ∷ fs) (g ∷ gs) = initializer_faults (initializer_context p t) (initialized p t n) g.ty f.initial ++ initializers_from p t (n + 1) fs gs
 
 -- ---- bodies
 
-abbrev pub site_of : TypedTree → BodyTree → Site
-site_of p b = record { program = p; class = b.class; numbers = field_numbers p b.class; constructs = b.flags.ctor; in_old = false; result = b.result }
+abbrev pub null_context_of : TypedTree → BodyTree → NullContext
+null_context_of p b = record { program = p; class = b.class; numbers = field_numbers p b.class; constructs = b.flags.ctor; in_old = false; result = b.result }
 
 -- `: base(..)` stands behind the initializers
 abbrev pub base_faults : TypedTree → BodyTree → Option BaseTree → List Fault
 base_faults p b None = []
-base_faults p b (Some base) = handed_to_base (site_of p b) (only_fields (assigned_by_initializers p b.class)) base.arguments
+base_faults p b (Some base) = handed_to_base (null_context_of p b) (only_fields (assigned_by_initializers p b.class)) base.arguments
 
 abbrev pub body_faults : TypedTree → BodyTree → List Fault
-body_faults p b = override_faults p b ++ base_faults p b b.base ++ faults_in (known_flow (site_of p b)) (null_check (site_of p b)) b.block (only_fields (assigned_first p b))
+body_faults p b = override_faults p b ++ base_faults p b b.base ++ faults_in (known_flow (null_context_of p b)) (null_check (null_context_of p b)) b.block (only_fields (assigned_first p b))
 
 -- ---- the program
 

@@ -94,50 +94,19 @@ pub fn find_reads(
 {
     match e {
         TypedExpr::This(..) => Ok(this()),
-        TypedExpr::Int(..)
-        | TypedExpr::Bool(..)
-        | TypedExpr::Null(..)
-        | TypedExpr::Local(..)
-        | TypedExpr::Bound(..) => Ok(nothing()),
         TypedExpr::Result(_, ty) => Ok(other(ty.is_none())),
-        TypedExpr::Iff(_, a, b) => {
+        TypedExpr::Iff(_, a, b) | TypedExpr::Implies(_, a, b) | TypedExpr::Owners(_, _, a, b) => {
             find_reads(marks, a, found)?;
-            find_reads(marks, b, found)?;
-            Ok(nothing())
+            find_in_operand(marks, b, found)
         }
-        TypedExpr::Implies(_, a, b) => {
-            find_reads(marks, a, found)?;
-            find_reads(marks, b, found)?;
-            Ok(nothing())
-        }
-        TypedExpr::Owners(_, _, a, b) => {
-            find_reads(marks, a, found)?;
-            find_reads(marks, b, found)?;
-            Ok(nothing())
-        }
-        TypedExpr::Negate(_, inner) => {
-            find_reads(marks, inner, found)?;
-            Ok(nothing())
-        }
-        TypedExpr::Not(_, inner) => {
-            find_reads(marks, inner, found)?;
-            Ok(nothing())
-        }
-        TypedExpr::Cast(_, _, _, inner) => {
-            find_reads(marks, inner, found)?;
-            Ok(nothing())
-        }
+        TypedExpr::Negate(_, inner)
+        | TypedExpr::Not(_, inner)
+        | TypedExpr::Cast(_, _, _, inner)
+        | TypedExpr::State(_, _, inner)
+        | TypedExpr::NewArray(_, _, inner) => find_in_operand(marks, inner, found),
         TypedExpr::Old(_, inner) => {
             let head = find_reads(marks, inner, found)?;
             Ok(other(head.is_untyped))
-        }
-        TypedExpr::State(_, _, inner) => {
-            find_reads(marks, inner, found)?;
-            Ok(nothing())
-        }
-        TypedExpr::NewArray(_, _, length) => {
-            find_reads(marks, length, found)?;
-            Ok(nothing())
         }
         TypedExpr::Chain(_, first, links) => {
             let head = find_reads(marks, first, found)?;
@@ -152,22 +121,30 @@ pub fn find_reads(
         TypedExpr::Quantified(_, _, _, low, high, member) => {
             find_reads(marks, low, found)?;
             find_reads(marks, high, found)?;
-            find_reads(marks, member, found)?;
-            Ok(nothing())
+            find_in_operand(marks, member, found)
         }
-        TypedExpr::New(_, _, list) => {
+        TypedExpr::New(_, _, list)
+        | TypedExpr::Static(_, _, _, list)
+        | TypedExpr::Base(_, _, _, list) => {
             find_in_each(marks, list, found)?;
             Ok(nothing())
         }
-        TypedExpr::Static(_, _, _, list) => {
-            find_in_each(marks, list, found)?;
-            Ok(nothing())
-        }
-        TypedExpr::Base(_, _, _, list) => {
-            find_in_each(marks, list, found)?;
-            Ok(nothing())
-        }
+        _ => Ok(nothing()),
     }
+}
+
+// The last operand of what is neither `this` nor a path.
+#[cycle(reads)]
+fn find_in_operand(
+    marks: &[Mark],
+    operand: &TypedExpr,
+    found: &mut Vec<Place>,
+) -> Result<Reached, AllocError>
+    ensures reached { IfOk result (λ r. r ≡ nothing_reached) }
+    ensures noted { OnOk result (found.new.items ≡ found.old.items ++ inadmissible marks.now (expr operand.now)) }
+{
+    find_reads(marks, operand, found)?;
+    Ok(nothing())
 }
 
 // ---- chains

@@ -84,37 +84,25 @@ pub fn find_words(allowed: Allowed, e: &TypedExpr, found: &mut Vec<Place>) -> Re
 {
     match e {
         TypedExpr::Result(place, _) => note_unless(allows_result(allowed), *place, found),
-        TypedExpr::Int(..)
-        | TypedExpr::Bool(..)
-        | TypedExpr::Null(..)
-        | TypedExpr::This(..)
-        | TypedExpr::Local(..)
-        | TypedExpr::Bound(..) => Ok(()),
         TypedExpr::Old(place, inner) => {
-            note_unless(allows_old(allowed), *place, found)?;
-            find_words(allowed, inner, found)
+            find_in_word(allows_old(allowed), *place, allowed, inner, found)
         }
         TypedExpr::State(place, word, inner) => {
-            note_unless(allows_state(allowed, *word), *place, found)?;
-            find_words(allowed, inner, found)
+            find_in_word(allows_state(allowed, *word), *place, allowed, inner, found)
         }
         TypedExpr::Owners(place, _, a, b) => {
             note_unless(allows_question(allowed), *place, found)?;
             find_words(allowed, a, found)?;
             find_words(allowed, b, found)
         }
-        TypedExpr::Iff(_, a, b) => {
+        TypedExpr::Iff(_, a, b) | TypedExpr::Implies(_, a, b) => {
             find_words(allowed, a, found)?;
             find_words(allowed, b, found)
         }
-        TypedExpr::Implies(_, a, b) => {
-            find_words(allowed, a, found)?;
-            find_words(allowed, b, found)
-        }
-        TypedExpr::Negate(_, inner) => find_words(allowed, inner, found),
-        TypedExpr::Not(_, inner) => find_words(allowed, inner, found),
-        TypedExpr::Cast(_, _, _, inner) => find_words(allowed, inner, found),
-        TypedExpr::NewArray(_, _, length) => find_words(allowed, length, found),
+        TypedExpr::Negate(_, inner)
+        | TypedExpr::Not(_, inner)
+        | TypedExpr::Cast(_, _, _, inner)
+        | TypedExpr::NewArray(_, _, inner) => find_words(allowed, inner, found),
         TypedExpr::Chain(_, first, links) => {
             find_words(allowed, first, found)?;
             find_in_links(allowed, links, found)
@@ -128,10 +116,26 @@ pub fn find_words(allowed: Allowed, e: &TypedExpr, found: &mut Vec<Place>) -> Re
             find_words(allowed, high, found)?;
             find_words(allowed, member, found)
         }
-        TypedExpr::New(_, _, list) => find_in_each(allowed, list, found),
-        TypedExpr::Static(_, _, _, list) => find_in_each(allowed, list, found),
-        TypedExpr::Base(_, _, _, list) => find_in_each(allowed, list, found),
+        TypedExpr::New(_, _, list)
+        | TypedExpr::Static(_, _, _, list)
+        | TypedExpr::Base(_, _, _, list) => find_in_each(allowed, list, found),
+        _ => Ok(()),
     }
+}
+
+// A word at this place, and its operand.
+#[cycle(words)]
+fn find_in_word(
+    is_allowed: bool,
+    place: Place,
+    allowed: Allowed,
+    operand: &TypedExpr,
+    found: &mut Vec<Place>,
+) -> Result<(), AllocError>
+    ensures { OnOk result (found.new.items ≡ found.old.items ++ (unless is_allowed place ++ misplaced (allowed_of allowed) (expr operand.now))) }
+{
+    note_unless(is_allowed, place, found)?;
+    find_words(allowed, operand, found)
 }
 
 // What stands behind the first operand of a chain.

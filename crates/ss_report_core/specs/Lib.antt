@@ -3,6 +3,6 @@ pub mod Exprs
 pub mod Stmts
 pub mod Text
 pub mod Tables
-pub mod Scenes
+pub mod Contexts
 pub mod Behinds
 pub mod Groups

@@ -5,13 +5,13 @@ ghost use Rattle.ss_core.specs.View as view;
 ghost use Rattle.ss_report_core.specs.Exprs as texts;
 ghost use Rattle.ss_report_core.specs.Names.{class_name};
 ghost use Rattle.ss_report_core.specs.Tables as tables;
-ghost use Rattle.ss_report_core.specs.Scenes.{classes_of, names_in};
+ghost use Rattle.ss_report_core.specs.Contexts.{classes_of, names_in};
 ghost use Rattle.ss_report_core.specs.Behinds.{link_behind, step_behind, link_text, step_text, links_text, steps_text};
 ghost use Rattle.ss_report_core.specs.Behinds as behinds;
 
+use crate::context::Context;
 use crate::fields::field_name;
 use crate::joins::{push_both, push_class_between};
-use crate::scene::Scene;
 use crate::scopes::{push_bound, push_local};
 use crate::words::{bool_text, null_mark, operator_text, push_int, quantifier_text};
 use ss_core::{ClassId, Classes, Expr, Link, OwnerTest, Quantifier, StateWord, Step};
@@ -22,45 +22,45 @@ use std::alloc::{AllocError, Global};
 pub(crate) fn push_expr(
     alloc: Global,
     out: &mut Vec<u8>,
-    scene: &Scene<'_>,
+    context: &Context<'_>,
     e: &Expr,
 ) -> Result<(), AllocError>
-    ensures { OnOk result (out.new.items ≡ out.old.items ++ texts.expr_text (classes_of scene.now.program.now) (names_in scene.now) (view.expr e.now)) }
+    ensures { OnOk result (out.new.items ≡ out.old.items ++ texts.expr_text (classes_of context.now.program.now) (names_in context.now) (view.expr e.now)) }
 {
     match e {
         Expr::Int(_, n) => push_int(alloc, out, *n),
         Expr::Bool(_, b) => out.extend_from_slice(bool_text(*b)),
         Expr::Null(_) => out.extend_from_slice(b"null"),
-        Expr::Local(_, x) => push_local(alloc, out, scene, *x),
+        Expr::Local(_, x) => push_local(alloc, out, context, *x),
         Expr::Iff(_, a, b) => {
-            push_between(alloc, out, scene, b"(", a, b" <==> ")?;
-            push_between(alloc, out, scene, b"", b, b")")
+            push_between(alloc, out, context, b"(", a, b" <==> ")?;
+            push_between(alloc, out, context, b"", b, b")")
         }
         Expr::Implies(_, a, b) => {
-            push_between(alloc, out, scene, b"(", a, b" ==> ")?;
-            push_between(alloc, out, scene, b"", b, b")")
+            push_between(alloc, out, context, b"(", a, b" ==> ")?;
+            push_between(alloc, out, context, b"", b, b")")
         }
         Expr::Chain(_, first, links) => {
-            push_opened(alloc, out, scene, links.len(), first)?;
-            push_links(alloc, out, scene, links)
+            push_opened(alloc, out, context, links.len(), first)?;
+            push_links(alloc, out, context, links)
         }
-        Expr::Negate(_, a) => push_between(alloc, out, scene, b"(- ", a, b")"),
-        Expr::Not(_, a) => push_between(alloc, out, scene, b"(! ", a, b")"),
-        Expr::Cast(_, t, non_null, a) => push_cast(alloc, out, scene, *t, *non_null, a),
+        Expr::Negate(_, a) => push_between(alloc, out, context, b"(- ", a, b")"),
+        Expr::Not(_, a) => push_between(alloc, out, context, b"(! ", a, b")"),
+        Expr::Cast(_, t, non_null, a) => push_cast(alloc, out, context, *t, *non_null, a),
         Expr::Path(_, first, steps) => {
-            push_expr(alloc, out, scene, first)?;
-            push_steps(alloc, out, scene, steps)
+            push_expr(alloc, out, context, first)?;
+            push_steps(alloc, out, context, steps)
         }
-        Expr::Old(_, a) => push_between(alloc, out, scene, b"old(", a, b")"),
+        Expr::Old(_, a) => push_between(alloc, out, context, b"old(", a, b")"),
         Expr::Quantified(_, quantifier, name, low, high, member) => {
-            push_low(alloc, out, scene, *quantifier, name, low)?;
-            push_expr(alloc, out, scene, high)?;
-            push_member(alloc, out, scene, name, member)
+            push_low(alloc, out, context, *quantifier, name, low)?;
+            push_expr(alloc, out, context, high)?;
+            push_member(alloc, out, context, name, member)
         }
-        Expr::State(_, word, a) => push_state(alloc, out, scene, *word, a),
+        Expr::State(_, word, a) => push_state(alloc, out, context, *word, a),
         Expr::Owners(_, test, a, b) => {
-            push_between(alloc, out, scene, owners_before(*test), a, b", ")?;
-            push_owned(alloc, out, scene, *test, b)
+            push_between(alloc, out, context, owners_before(*test), a, b", ")?;
+            push_owned(alloc, out, context, *test, b)
         }
         Expr::Default(_, _) => Ok(()),
     }
@@ -71,15 +71,15 @@ pub(crate) fn push_expr(
 pub(crate) fn push_between(
     alloc: Global,
     out: &mut Vec<u8>,
-    scene: &Scene<'_>,
+    context: &Context<'_>,
     before: &[u8],
     e: &Expr,
     behind: &[u8],
 ) -> Result<(), AllocError>
-    ensures { OnOk result (out.new.items ≡ out.old.items ++ (before.now ++ texts.expr_text (classes_of scene.now.program.now) (names_in scene.now) (view.expr e.now) ++ behind.now)) }
+    ensures { OnOk result (out.new.items ≡ out.old.items ++ (before.now ++ texts.expr_text (classes_of context.now.program.now) (names_in context.now) (view.expr e.now) ++ behind.now)) }
 {
     out.extend_from_slice(before)?;
-    push_expr(alloc, out, scene, e)?;
+    push_expr(alloc, out, context, e)?;
     out.extend_from_slice(behind)
 }
 
@@ -87,16 +87,16 @@ pub(crate) fn push_between(
 fn push_cast(
     alloc: Global,
     out: &mut Vec<u8>,
-    scene: &Scene<'_>,
+    context: &Context<'_>,
     t: ClassId,
     non_null: bool,
     e: &Expr,
 ) -> Result<(), AllocError>
-    ensures { OnOk result (out.new.items ≡ out.old.items ++ (codes "((" ++ class_name (classes_of scene.now.program.now) t.0 ++ texts.null_mark non_null ++ codes ") " ++ texts.expr_text (classes_of scene.now.program.now) (names_in scene.now) (view.expr e.now) ++ codes ")")) }
+    ensures { OnOk result (out.new.items ≡ out.old.items ++ (codes "((" ++ class_name (classes_of context.now.program.now) t.0 ++ texts.null_mark non_null ++ codes ") " ++ texts.expr_text (classes_of context.now.program.now) (names_in context.now) (view.expr e.now) ++ codes ")")) }
 {
-    let classes = &scene.program.whole.classes;
+    let classes = &context.program.whole.classes;
     push_class_between(out, classes, b"((", t, null_mark(non_null))?;
-    push_between(alloc, out, scene, b") ", e, b")")
+    push_between(alloc, out, context, b") ", e, b")")
 }
 
 // This many open parentheses.
@@ -114,27 +114,27 @@ fn push_opens(out: &mut Vec<u8>, count: usize) -> Result<(), AllocError>
 fn push_opened(
     alloc: Global,
     out: &mut Vec<u8>,
-    scene: &Scene<'_>,
+    context: &Context<'_>,
     count: usize,
     e: &Expr,
 ) -> Result<(), AllocError>
-    ensures { OnOk result (out.new.items ≡ out.old.items ++ (replicate count 40 ++ texts.expr_text (classes_of scene.now.program.now) (names_in scene.now) (view.expr e.now))) }
+    ensures { OnOk result (out.new.items ≡ out.old.items ++ (replicate count 40 ++ texts.expr_text (classes_of context.now.program.now) (names_in context.now) (view.expr e.now))) }
 {
     push_opens(out, count)?;
-    push_expr(alloc, out, scene, e)
+    push_expr(alloc, out, context, e)
 }
 
 #[cycle(expr)]
 fn push_links(
     alloc: Global,
     out: &mut Vec<u8>,
-    scene: &Scene<'_>,
+    context: &Context<'_>,
     links: &[Link],
 ) -> Result<(), AllocError>
-    ensures { OnOk result (out.new.items ≡ out.old.items ++ links_text (classes_of scene.now.program.now) (names_in scene.now) (map link_behind links.now)) }
+    ensures { OnOk result (out.new.items ≡ out.old.items ++ links_text (classes_of context.now.program.now) (names_in context.now) (map link_behind links.now)) }
 {
     for link in links {
-        push_link(alloc, out, scene, link)?;
+        push_link(alloc, out, context, link)?;
     }
     Ok(())
 }
@@ -144,15 +144,15 @@ fn push_links(
 fn push_link(
     alloc: Global,
     out: &mut Vec<u8>,
-    scene: &Scene<'_>,
+    context: &Context<'_>,
     link: &Link,
 ) -> Result<(), AllocError>
-    ensures { OnOk result (out.new.items ≡ out.old.items ++ link_text (classes_of scene.now.program.now) (names_in scene.now) (link_behind link.now)) }
+    ensures { OnOk result (out.new.items ≡ out.old.items ++ link_text (classes_of context.now.program.now) (names_in context.now) (link_behind link.now)) }
 {
-    let classes = &scene.program.whole.classes;
+    let classes = &context.program.whole.classes;
     match link {
         Link::Operation(operator, e) => {
-            push_between(alloc, out, scene, operator_text(*operator), e, b")")
+            push_between(alloc, out, context, operator_text(*operator), e, b")")
         }
         Link::Is(t) => push_class_between(out, classes, b" is ", *t, b")"),
         Link::As(t) => push_class_between(out, classes, b" as ", *t, b")"),
@@ -163,13 +163,13 @@ fn push_link(
 fn push_steps(
     alloc: Global,
     out: &mut Vec<u8>,
-    scene: &Scene<'_>,
+    context: &Context<'_>,
     steps: &[Step],
 ) -> Result<(), AllocError>
-    ensures { OnOk result (out.new.items ≡ out.old.items ++ steps_text (classes_of scene.now.program.now) (names_in scene.now) (map step_behind steps.now)) }
+    ensures { OnOk result (out.new.items ≡ out.old.items ++ steps_text (classes_of context.now.program.now) (names_in context.now) (map step_behind steps.now)) }
 {
     for step in steps {
-        push_step(alloc, out, scene, step)?;
+        push_step(alloc, out, context, step)?;
     }
     Ok(())
 }
@@ -178,14 +178,14 @@ fn push_steps(
 fn push_step(
     alloc: Global,
     out: &mut Vec<u8>,
-    scene: &Scene<'_>,
+    context: &Context<'_>,
     step: &Step,
 ) -> Result<(), AllocError>
-    ensures { OnOk result (out.new.items ≡ out.old.items ++ step_text (classes_of scene.now.program.now) (names_in scene.now) (step_behind step.now)) }
+    ensures { OnOk result (out.new.items ≡ out.old.items ++ step_text (classes_of context.now.program.now) (names_in context.now) (step_behind step.now)) }
 {
     match step {
-        Step::Field(f) => push_both(out, b".", field_name(scene.program, *f)),
-        Step::Element(e) => push_between(alloc, out, scene, b"[", e, b"]"),
+        Step::Field(f) => push_both(out, b".", field_name(context.program, *f)),
+        Step::Element(e) => push_between(alloc, out, context, b"[", e, b"]"),
         Step::Length => out.extend_from_slice(b".Length"),
     }
 }
@@ -194,15 +194,15 @@ fn push_step(
 fn push_head(
     alloc: Global,
     out: &mut Vec<u8>,
-    scene: &Scene<'_>,
+    context: &Context<'_>,
     quantifier: Quantifier,
     name: &str,
 ) -> Result<(), AllocError>
-    ensures { OnOk result (out.new.items ≡ out.old.items ++ texts.head_text (names_in scene.now) quantifier name.now) }
+    ensures { OnOk result (out.new.items ≡ out.old.items ++ texts.head_text (names_in context.now) quantifier name.now) }
 {
     out.extend_from_slice(quantifier_text(quantifier))?;
     out.extend_from_slice(b"{int ")?;
-    push_bound(alloc, out, scene, name)?;
+    push_bound(alloc, out, context, name)?;
     out.extend_from_slice(b" in (")
 }
 
@@ -211,15 +211,15 @@ fn push_head(
 fn push_low(
     alloc: Global,
     out: &mut Vec<u8>,
-    scene: &Scene<'_>,
+    context: &Context<'_>,
     quantifier: Quantifier,
     name: &str,
     low: &Expr,
 ) -> Result<(), AllocError>
-    ensures { OnOk result (out.new.items ≡ out.old.items ++ (texts.head_text (names_in scene.now) quantifier name.now ++ texts.expr_text (classes_of scene.now.program.now) (names_in scene.now) (view.expr low.now) ++ codes ": ")) }
+    ensures { OnOk result (out.new.items ≡ out.old.items ++ (texts.head_text (names_in context.now) quantifier name.now ++ texts.expr_text (classes_of context.now.program.now) (names_in context.now) (view.expr low.now) ++ codes ": ")) }
 {
-    push_head(alloc, out, scene, quantifier, name)?;
-    push_between(alloc, out, scene, b"", low, b": ")
+    push_head(alloc, out, context, quantifier, name)?;
+    push_between(alloc, out, context, b"", low, b": ")
 }
 
 // These names, and behind them one more.
@@ -240,16 +240,16 @@ fn with_name<'a>(
 fn push_member(
     alloc: Global,
     out: &mut Vec<u8>,
-    scene: &Scene<'_>,
+    context: &Context<'_>,
     name: &str,
     member: &Expr,
 ) -> Result<(), AllocError>
-    ensures { OnOk result (out.new.items ≡ out.old.items ++ (codes "); " ++ texts.expr_text (classes_of scene.now.program.now) (names_in scene.now ++ name.now ∷ []) (view.expr member.now) ++ codes "}")) }
+    ensures { OnOk result (out.new.items ≡ out.old.items ++ (codes "); " ++ texts.expr_text (classes_of context.now.program.now) (names_in context.now ++ name.now ∷ []) (view.expr member.now) ++ codes "}")) }
 {
-    let bound = with_name(alloc, scene.bound, name)?;
-    let inner = Scene {
-        program: scene.program,
-        locals: scene.locals,
+    let bound = with_name(alloc, context.bound, name)?;
+    let inner = Context {
+        program: context.program,
+        locals: context.locals,
         bound: &bound,
     };
     push_between(alloc, out, &inner, b"); ", member, b"}")
@@ -260,15 +260,15 @@ fn push_member(
 fn push_state(
     alloc: Global,
     out: &mut Vec<u8>,
-    scene: &Scene<'_>,
+    context: &Context<'_>,
     word: StateWord,
     e: &Expr,
 ) -> Result<(), AllocError>
-    ensures { OnOk result (out.new.items ≡ out.old.items ++ (behinds.word_before (view.word_tree word) ++ texts.expr_text (classes_of scene.now.program.now) (names_in scene.now) (view.expr e.now) ++ behinds.word_behind (classes_of scene.now.program.now) (view.word_tree word))) }
+    ensures { OnOk result (out.new.items ≡ out.old.items ++ (behinds.word_before (view.word_tree word) ++ texts.expr_text (classes_of context.now.program.now) (names_in context.now) (view.expr e.now) ++ behinds.word_behind (classes_of context.now.program.now) (view.word_tree word))) }
 {
     out.extend_from_slice(word_before(word))?;
-    push_expr(alloc, out, scene, e)?;
-    push_word(out, &scene.program.whole.classes, word)
+    push_expr(alloc, out, context, e)?;
+    push_word(out, &context.program.whole.classes, word)
 }
 
 // The second of two objects whose owners are compared, and what stands behind it.
@@ -276,14 +276,14 @@ fn push_state(
 fn push_owned(
     alloc: Global,
     out: &mut Vec<u8>,
-    scene: &Scene<'_>,
+    context: &Context<'_>,
     test: OwnerTest,
     e: &Expr,
 ) -> Result<(), AllocError>
-    ensures { OnOk result (out.new.items ≡ out.old.items ++ (texts.expr_text (classes_of scene.now.program.now) (names_in scene.now) (view.expr e.now) ++ behinds.owners_behind (classes_of scene.now.program.now) (view.owners_tree test))) }
+    ensures { OnOk result (out.new.items ≡ out.old.items ++ (texts.expr_text (classes_of context.now.program.now) (names_in context.now) (view.expr e.now) ++ behinds.owners_behind (classes_of context.now.program.now) (view.owners_tree test))) }
 {
-    push_expr(alloc, out, scene, e)?;
-    push_owners(out, &scene.program.whole.classes, test)
+    push_expr(alloc, out, context, e)?;
+    push_owners(out, &context.program.whole.classes, test)
 }
 
 // What stands before the text of the object that is asked.

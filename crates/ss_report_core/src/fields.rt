@@ -4,10 +4,10 @@ ghost use Rattle.std.specs.Prelude.{◌≡◌, ◌++◌, IfOk, OnOk, map};
 ghost use Rattle.ss_core.specs.View as view;
 ghost use Rattle.ss_report_core.specs.Names as names;
 ghost use Rattle.ss_report_core.specs.Tables as tables;
-ghost use Rattle.ss_report_core.specs.Scenes.{classes_of};
+ghost use Rattle.ss_report_core.specs.Contexts.{classes_of};
 
+use crate::context::Program;
 use crate::names::name_at;
-use crate::scene::Program;
 use ss_core::{Classes, Field, FieldId};
 use std::alloc::{AllocError, Global};
 

@@ -1,13 +1,13 @@
 //! The text of a core program of the whole language.
 #![tactic(auto)]
 
+mod context;
 mod exprs;
 mod fields;
 mod groups;
 mod joins;
 mod locals;
 mod names;
-mod scene;
 mod scopes;
 mod stmts;
 mod tables;

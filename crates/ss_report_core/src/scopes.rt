@@ -4,11 +4,11 @@ ghost use Rattle.std.specs.Prelude.{◌≡◌, ◌++◌, ◌+◌, ◌≤◌, len
 ghost use Rattle.std.specs.List.{list_any};
 ghost use Rattle.ss_report_core.specs.Names as names;
 ghost use Rattle.ss_report_core.specs.Tables.{texts};
-ghost use Rattle.ss_report_core.specs.Scenes.{names_in};
+ghost use Rattle.ss_report_core.specs.Contexts.{names_in};
 ghost use Rattle.ss_core.specs.View as view;
 
+use crate::context::{Context, Locals};
 use crate::locals::marked;
-use crate::scene::{Locals, Scene};
 use std::alloc::{AllocError, Global};
 
 fn is_among(table: &[&str], name: &str) -> bool
@@ -48,7 +48,7 @@ impl<'a> Locals<'a> {
     }
 }
 
-impl<'a> Scene<'a> {
+impl<'a> Context<'a> {
     #[tactic(auto, using(crate::proofs::NameTexts::taken_here, crate::proofs::NameTexts::taken_there))]
     // Whether a local, or one of the first `k` bound names, has this name.
     fn is_taken(&self, k: usize, name: &str) -> bool
@@ -85,15 +85,15 @@ fn push_marked(
 pub(crate) fn push_bound(
     alloc: Global,
     out: &mut Vec<u8>,
-    scene: &Scene<'_>,
+    context: &Context<'_>,
     name: &str,
 ) -> Result<(), AllocError>
-    ensures { OnOk result (out.new.items ≡ out.old.items ++ names.marked (names_in scene.now) name.now) }
+    ensures { OnOk result (out.new.items ≡ out.old.items ++ names.marked (names_in context.now) name.now) }
 {
-    let count = scene.locals.table.texts.len();
-    let depth = scene.bound.len();
+    let count = context.locals.table.texts.len();
+    let depth = context.bound.len();
     let number = count + depth;
-    let repeated = scene.is_taken(depth, name);
+    let repeated = context.is_taken(depth, name);
     push_marked(alloc, out, name, repeated, number)
 }
 
@@ -110,18 +110,18 @@ fn bound_at<'a>(bound: &[&'a str], k: usize) -> &'a str
 fn push_bound_at(
     alloc: Global,
     out: &mut Vec<u8>,
-    scene: &Scene<'_>,
+    context: &Context<'_>,
     k: usize,
     number: usize,
 ) -> Result<(), AllocError>
-    requires { number ≡ length (names.local_names (view.body scene.now.locals.now.body.now)) + k }
-    ensures { OnOk result (out.new.items ≡ out.old.items ++ names.local_text (names_in scene.now) number) }
+    requires { number ≡ length (names.local_names (view.body context.now.locals.now.body.now)) + k }
+    ensures { OnOk result (out.new.items ≡ out.old.items ++ names.local_text (names_in context.now) number) }
 {
-    if k >= scene.bound.len() {
+    if k >= context.bound.len() {
         return Ok(());
     }
-    let name = bound_at(scene.bound, k);
-    let repeated = scene.is_taken(k, name);
+    let name = bound_at(context.bound, k);
+    let repeated = context.is_taken(k, name);
     push_marked(alloc, out, name, repeated, number)
 }
 
@@ -129,14 +129,14 @@ fn push_bound_at(
 pub(crate) fn push_local(
     alloc: Global,
     out: &mut Vec<u8>,
-    scene: &Scene<'_>,
+    context: &Context<'_>,
     x: usize,
 ) -> Result<(), AllocError>
-    ensures { OnOk result (out.new.items ≡ out.old.items ++ names.local_text (names_in scene.now) x) }
+    ensures { OnOk result (out.new.items ≡ out.old.items ++ names.local_text (names_in context.now) x) }
 {
-    let count = scene.locals.count();
+    let count = context.locals.count();
     if x < count {
-        return push_bytes(out, scene.locals.text(x));
+        return push_bytes(out, context.locals.text(x));
     }
-    push_bound_at(alloc, out, scene, x - count, x)
+    push_bound_at(alloc, out, context, x - count, x)
 }

@@ -6,14 +6,14 @@ ghost use Rattle.ss_core.specs.View as view;
 ghost use Rattle.ss_report_core.specs.Exprs.{expr_text};
 ghost use Rattle.ss_report_core.specs.Names as names;
 ghost use Rattle.ss_report_core.specs.Stmts as texts;
-ghost use Rattle.ss_report_core.specs.Scenes.{core_of, classes_of, names_in};
+ghost use Rattle.ss_report_core.specs.Contexts.{core_of, classes_of, names_in};
 ghost use Rattle.ss_report_core.specs.Behinds.{loop_of};
 
+use crate::context::Context;
 use crate::exprs::{push_between, push_expr};
 use crate::fields::field_name;
 use crate::joins::{push_both, push_class_between};
 use crate::names::{body_name, method_name, push_class, push_element, push_title_of};
-use crate::scene::Scene;
 use crate::scopes::push_local;
 use crate::words::{print_word, push_literal};
 use ss_core::{Callee, ClassId, Expr, FieldId, Loop, Stmt};
@@ -31,31 +31,31 @@ fn push_fixed(out: &mut Vec<u8>, indent: &[u8], text: &[u8]) -> Result<(), Alloc
 fn push_worded(
     alloc: Global,
     out: &mut Vec<u8>,
-    scene: &Scene<'_>,
+    context: &Context<'_>,
     indent: &[u8],
     word: &[u8],
     e: &Expr,
 ) -> Result<(), AllocError>
-    ensures { OnOk result (out.new.items ≡ out.old.items ++ texts.line indent.now (word.now ++ expr_text (classes_of scene.now.program.now) (names_in scene.now) (view.expr e.now))) }
+    ensures { OnOk result (out.new.items ≡ out.old.items ++ texts.line indent.now (word.now ++ expr_text (classes_of context.now.program.now) (names_in context.now) (view.expr e.now))) }
 {
     out.extend_from_slice(indent)?;
-    push_between(alloc, out, scene, word, e, b"\n")
+    push_between(alloc, out, context, word, e, b"\n")
 }
 
 // An expression behind a blank, where there is one.
 fn push_behind_blank(
     alloc: Global,
     out: &mut Vec<u8>,
-    scene: &Scene<'_>,
+    context: &Context<'_>,
     e: &Option<Expr>,
 ) -> Result<(), AllocError>
-    ensures { OnOk result (out.new.items ≡ out.old.items ++ texts.behind_blank (core_of scene.now.program.now) (names_in scene.now) (option_map view.expr e.now)) }
+    ensures { OnOk result (out.new.items ≡ out.old.items ++ texts.behind_blank (core_of context.now.program.now) (names_in context.now) (option_map view.expr e.now)) }
 {
     match e {
         None => Ok(()),
         Some(e) => {
             out.extend_from_slice(b" ")?;
-            push_expr(alloc, out, scene, e)
+            push_expr(alloc, out, context, e)
         }
     }
 }
@@ -64,14 +64,14 @@ fn push_behind_blank(
 fn push_more_args(
     alloc: Global,
     out: &mut Vec<u8>,
-    scene: &Scene<'_>,
+    context: &Context<'_>,
     args: &[Expr],
 ) -> Result<(), AllocError>
-    ensures { OnOk result (out.new.items ≡ out.old.items ++ flat_map (texts.behind_comma (core_of scene.now.program.now) (names_in scene.now)) (map view.expr args.now)) }
+    ensures { OnOk result (out.new.items ≡ out.old.items ++ flat_map (texts.behind_comma (core_of context.now.program.now) (names_in context.now)) (map view.expr args.now)) }
 {
     for arg in args {
         out.extend_from_slice(b", ")?;
-        push_expr(alloc, out, scene, arg)?;
+        push_expr(alloc, out, context, arg)?;
     }
     Ok(())
 }
@@ -79,16 +79,16 @@ fn push_more_args(
 fn push_args(
     alloc: Global,
     out: &mut Vec<u8>,
-    scene: &Scene<'_>,
+    context: &Context<'_>,
     args: &[Expr],
 ) -> Result<(), AllocError>
-    ensures { OnOk result (out.new.items ≡ out.old.items ++ texts.args_text (core_of scene.now.program.now) (names_in scene.now) (map view.expr args.now)) }
+    ensures { OnOk result (out.new.items ≡ out.old.items ++ texts.args_text (core_of context.now.program.now) (names_in context.now) (map view.expr args.now)) }
 {
     match args {
         [] => Ok(()),
         [first, others @ ..] => {
-            push_expr(alloc, out, scene, first)?;
-            push_more_args(alloc, out, scene, others)
+            push_expr(alloc, out, context, first)?;
+            push_more_args(alloc, out, context, others)
         }
     }
 }
@@ -97,13 +97,13 @@ fn push_args(
 fn push_arguments(
     alloc: Global,
     out: &mut Vec<u8>,
-    scene: &Scene<'_>,
+    context: &Context<'_>,
     args: &[Expr],
 ) -> Result<(), AllocError>
-    ensures { OnOk result (out.new.items ≡ out.old.items ++ (codes "(" ++ texts.args_text (core_of scene.now.program.now) (names_in scene.now) (map view.expr args.now) ++ codes ")\n")) }
+    ensures { OnOk result (out.new.items ≡ out.old.items ++ (codes "(" ++ texts.args_text (core_of context.now.program.now) (names_in context.now) (map view.expr args.now) ++ codes ")\n")) }
 {
     out.extend_from_slice(b"(")?;
-    push_args(alloc, out, scene, args)?;
+    push_args(alloc, out, context, args)?;
     out.extend_from_slice(b")\n")
 }
 
@@ -111,15 +111,15 @@ fn push_arguments(
 fn push_kept(
     alloc: Global,
     out: &mut Vec<u8>,
-    scene: &Scene<'_>,
+    context: &Context<'_>,
     kept: Option<usize>,
 ) -> Result<(), AllocError>
-    ensures { OnOk result (out.new.items ≡ out.old.items ++ texts.kept_text (names_in scene.now) kept) }
+    ensures { OnOk result (out.new.items ≡ out.old.items ++ texts.kept_text (names_in context.now) kept) }
 {
     match kept {
         None => Ok(()),
         Some(x) => {
-            push_local(alloc, out, scene, x)?;
+            push_local(alloc, out, context, x)?;
             out.extend_from_slice(b" = ")
         }
     }
@@ -129,29 +129,29 @@ fn push_kept(
 fn push_start(
     alloc: Global,
     out: &mut Vec<u8>,
-    scene: &Scene<'_>,
+    context: &Context<'_>,
     indent: &[u8],
     kept: Option<usize>,
 ) -> Result<(), AllocError>
-    ensures { OnOk result (out.new.items ≡ out.old.items ++ (indent.now ++ texts.kept_text (names_in scene.now) kept)) }
+    ensures { OnOk result (out.new.items ≡ out.old.items ++ (indent.now ++ texts.kept_text (names_in context.now) kept)) }
 {
     out.extend_from_slice(indent)?;
-    push_kept(alloc, out, scene, kept)
+    push_kept(alloc, out, context, kept)
 }
 
 // What a call enters.
 fn push_callee(
     alloc: Global,
     out: &mut Vec<u8>,
-    scene: &Scene<'_>,
+    context: &Context<'_>,
     callee: &Callee,
 ) -> Result<(), AllocError>
-    ensures { OnOk result (out.new.items ≡ out.old.items ++ texts.callee_text (core_of scene.now.program.now) (names_in scene.now) (view.callee_tree callee.now)) }
+    ensures { OnOk result (out.new.items ≡ out.old.items ++ texts.callee_text (core_of context.now.program.now) (names_in context.now) (view.callee_tree callee.now)) }
 {
-    let whole = scene.program.whole;
+    let whole = context.program.whole;
     match callee {
         Callee::Dispatched(e, t, m) => {
-            push_between(alloc, out, scene, b"", e, b".")?;
+            push_between(alloc, out, context, b"", e, b".")?;
             out.extend_from_slice(method_name(&whole.classes, *t, *m))
         }
         Callee::Static(n) => push_title_of(out, &whole.classes, &whole.bodies, *n),
@@ -172,131 +172,131 @@ fn deeper(alloc: Global, indent: &[u8]) -> Result<Vec<u8>, AllocError>
 fn push_assign(
     alloc: Global,
     out: &mut Vec<u8>,
-    scene: &Scene<'_>,
+    context: &Context<'_>,
     indent: &[u8],
     x: usize,
     e: &Expr,
 ) -> Result<(), AllocError>
-    ensures { OnOk result (out.new.items ≡ out.old.items ++ texts.line indent.now (names.local_text (names_in scene.now) x ++ codes " = " ++ expr_text (classes_of scene.now.program.now) (names_in scene.now) (view.expr e.now))) }
+    ensures { OnOk result (out.new.items ≡ out.old.items ++ texts.line indent.now (names.local_text (names_in context.now) x ++ codes " = " ++ expr_text (classes_of context.now.program.now) (names_in context.now) (view.expr e.now))) }
 {
     out.extend_from_slice(indent)?;
-    push_local(alloc, out, scene, x)?;
-    push_between(alloc, out, scene, b" = ", e, b"\n")
+    push_local(alloc, out, context, x)?;
+    push_between(alloc, out, context, b" = ", e, b"\n")
 }
 
 fn push_write(
     alloc: Global,
     out: &mut Vec<u8>,
-    scene: &Scene<'_>,
+    context: &Context<'_>,
     indent: &[u8],
     object: &Expr,
     field: FieldId,
     value: &Expr,
 ) -> Result<(), AllocError>
-    ensures { OnOk result (out.new.items ≡ out.old.items ++ texts.line indent.now (expr_text (classes_of scene.now.program.now) (names_in scene.now) (view.expr object.now) ++ codes "." ++ names.field_name (classes_of scene.now.program.now) field.0 ++ codes " = " ++ expr_text (classes_of scene.now.program.now) (names_in scene.now) (view.expr value.now))) }
+    ensures { OnOk result (out.new.items ≡ out.old.items ++ texts.line indent.now (expr_text (classes_of context.now.program.now) (names_in context.now) (view.expr object.now) ++ codes "." ++ names.field_name (classes_of context.now.program.now) field.0 ++ codes " = " ++ expr_text (classes_of context.now.program.now) (names_in context.now) (view.expr value.now))) }
 {
-    push_between(alloc, out, scene, indent, object, b".")?;
-    out.extend_from_slice(field_name(scene.program, field))?;
-    push_between(alloc, out, scene, b" = ", value, b"\n")
+    push_between(alloc, out, context, indent, object, b".")?;
+    out.extend_from_slice(field_name(context.program, field))?;
+    push_between(alloc, out, context, b" = ", value, b"\n")
 }
 
 fn push_write_element(
     alloc: Global,
     out: &mut Vec<u8>,
-    scene: &Scene<'_>,
+    context: &Context<'_>,
     indent: &[u8],
     array: &Expr,
     index: &Expr,
     value: &Expr,
 ) -> Result<(), AllocError>
-    ensures { OnOk result (out.new.items ≡ out.old.items ++ texts.line indent.now (expr_text (classes_of scene.now.program.now) (names_in scene.now) (view.expr array.now) ++ codes "[" ++ expr_text (classes_of scene.now.program.now) (names_in scene.now) (view.expr index.now) ++ codes "] = " ++ expr_text (classes_of scene.now.program.now) (names_in scene.now) (view.expr value.now))) }
+    ensures { OnOk result (out.new.items ≡ out.old.items ++ texts.line indent.now (expr_text (classes_of context.now.program.now) (names_in context.now) (view.expr array.now) ++ codes "[" ++ expr_text (classes_of context.now.program.now) (names_in context.now) (view.expr index.now) ++ codes "] = " ++ expr_text (classes_of context.now.program.now) (names_in context.now) (view.expr value.now))) }
 {
-    push_between(alloc, out, scene, indent, array, b"[")?;
-    push_expr(alloc, out, scene, index)?;
-    push_between(alloc, out, scene, b"] = ", value, b"\n")
+    push_between(alloc, out, context, indent, array, b"[")?;
+    push_expr(alloc, out, context, index)?;
+    push_between(alloc, out, context, b"] = ", value, b"\n")
 }
 
 fn push_new(
     alloc: Global,
     out: &mut Vec<u8>,
-    scene: &Scene<'_>,
+    context: &Context<'_>,
     indent: &[u8],
     kept: Option<usize>,
     t: ClassId,
     args: &[Expr],
 ) -> Result<(), AllocError>
-    ensures { OnOk result (out.new.items ≡ out.old.items ++ texts.line indent.now (texts.kept_text (names_in scene.now) kept ++ codes "new " ++ names.class_name (classes_of scene.now.program.now) t.0 ++ codes "(" ++ texts.args_text (core_of scene.now.program.now) (names_in scene.now) (map view.expr args.now) ++ codes ")")) }
+    ensures { OnOk result (out.new.items ≡ out.old.items ++ texts.line indent.now (texts.kept_text (names_in context.now) kept ++ codes "new " ++ names.class_name (classes_of context.now.program.now) t.0 ++ codes "(" ++ texts.args_text (core_of context.now.program.now) (names_in context.now) (map view.expr args.now) ++ codes ")")) }
 {
-    push_start(alloc, out, scene, indent, kept)?;
+    push_start(alloc, out, context, indent, kept)?;
     out.extend_from_slice(b"new ")?;
-    push_class(out, &scene.program.whole.classes, t)?;
-    push_arguments(alloc, out, scene, args)
+    push_class(out, &context.program.whole.classes, t)?;
+    push_arguments(alloc, out, context, args)
 }
 
 fn push_new_array(
     alloc: Global,
     out: &mut Vec<u8>,
-    scene: &Scene<'_>,
+    context: &Context<'_>,
     indent: &[u8],
     kept: Option<usize>,
     t: ClassId,
     count: &Expr,
 ) -> Result<(), AllocError>
-    ensures { OnOk result (out.new.items ≡ out.old.items ++ texts.line indent.now (texts.kept_text (names_in scene.now) kept ++ codes "new " ++ names.element_name (classes_of scene.now.program.now) t.0 ++ codes "[" ++ expr_text (classes_of scene.now.program.now) (names_in scene.now) (view.expr count.now) ++ codes "]")) }
+    ensures { OnOk result (out.new.items ≡ out.old.items ++ texts.line indent.now (texts.kept_text (names_in context.now) kept ++ codes "new " ++ names.element_name (classes_of context.now.program.now) t.0 ++ codes "[" ++ expr_text (classes_of context.now.program.now) (names_in context.now) (view.expr count.now) ++ codes "]")) }
 {
-    push_start(alloc, out, scene, indent, kept)?;
+    push_start(alloc, out, context, indent, kept)?;
     out.extend_from_slice(b"new ")?;
-    push_element(out, &scene.program.whole.classes, t)?;
-    push_between(alloc, out, scene, b"[", count, b"]\n")
+    push_element(out, &context.program.whole.classes, t)?;
+    push_between(alloc, out, context, b"[", count, b"]\n")
 }
 
 fn push_call(
     alloc: Global,
     out: &mut Vec<u8>,
-    scene: &Scene<'_>,
+    context: &Context<'_>,
     indent: &[u8],
     kept: Option<usize>,
     callee: &Callee,
     args: &[Expr],
 ) -> Result<(), AllocError>
-    ensures { OnOk result (out.new.items ≡ out.old.items ++ texts.line indent.now (texts.kept_text (names_in scene.now) kept ++ texts.callee_text (core_of scene.now.program.now) (names_in scene.now) (view.callee_tree callee.now) ++ codes "(" ++ texts.args_text (core_of scene.now.program.now) (names_in scene.now) (map view.expr args.now) ++ codes ")")) }
+    ensures { OnOk result (out.new.items ≡ out.old.items ++ texts.line indent.now (texts.kept_text (names_in context.now) kept ++ texts.callee_text (core_of context.now.program.now) (names_in context.now) (view.callee_tree callee.now) ++ codes "(" ++ texts.args_text (core_of context.now.program.now) (names_in context.now) (map view.expr args.now) ++ codes ")")) }
 {
-    push_start(alloc, out, scene, indent, kept)?;
-    push_callee(alloc, out, scene, callee)?;
-    push_arguments(alloc, out, scene, args)
+    push_start(alloc, out, context, indent, kept)?;
+    push_callee(alloc, out, context, callee)?;
+    push_arguments(alloc, out, context, args)
 }
 
 // A line of a word, a local, another word and a class.
 fn push_change(
     alloc: Global,
     out: &mut Vec<u8>,
-    scene: &Scene<'_>,
+    context: &Context<'_>,
     indent: &[u8],
     before: &[u8],
     x: usize,
     between: &[u8],
     t: ClassId,
 ) -> Result<(), AllocError>
-    ensures { OnOk result (out.new.items ≡ out.old.items ++ texts.line indent.now (before.now ++ names.local_text (names_in scene.now) x ++ between.now ++ names.class_name (classes_of scene.now.program.now) t.0)) }
+    ensures { OnOk result (out.new.items ≡ out.old.items ++ texts.line indent.now (before.now ++ names.local_text (names_in context.now) x ++ between.now ++ names.class_name (classes_of context.now.program.now) t.0)) }
 {
     push_both(out, indent, before)?;
-    push_local(alloc, out, scene, x)?;
-    push_class_between(out, &scene.program.whole.classes, between, t, b"\n")
+    push_local(alloc, out, context, x)?;
+    push_class_between(out, &context.program.whole.classes, between, t, b"\n")
 }
 
 // A line of a word and, where there is one, an expression.
 fn push_optional(
     alloc: Global,
     out: &mut Vec<u8>,
-    scene: &Scene<'_>,
+    context: &Context<'_>,
     indent: &[u8],
     word: &[u8],
     e: &Option<Expr>,
 ) -> Result<(), AllocError>
-    ensures { OnOk result (out.new.items ≡ out.old.items ++ texts.line indent.now (word.now ++ texts.behind_blank (core_of scene.now.program.now) (names_in scene.now) (option_map view.expr e.now))) }
+    ensures { OnOk result (out.new.items ≡ out.old.items ++ texts.line indent.now (word.now ++ texts.behind_blank (core_of context.now.program.now) (names_in context.now) (option_map view.expr e.now))) }
 {
     push_both(out, indent, word)?;
-    push_behind_blank(alloc, out, scene, e)?;
+    push_behind_blank(alloc, out, context, e)?;
     out.extend_from_slice(b"\n")
 }
 
@@ -317,14 +317,14 @@ fn push_print_text(
 fn push_invariants(
     alloc: Global,
     out: &mut Vec<u8>,
-    scene: &Scene<'_>,
+    context: &Context<'_>,
     indent: &[u8],
     invariants: &[Expr],
 ) -> Result<(), AllocError>
-    ensures { OnOk result (out.new.items ≡ out.old.items ++ flat_map (texts.invariant_text (core_of scene.now.program.now) (names_in scene.now) indent.now) (map view.expr invariants.now)) }
+    ensures { OnOk result (out.new.items ≡ out.old.items ++ flat_map (texts.invariant_text (core_of context.now.program.now) (names_in context.now) indent.now) (map view.expr invariants.now)) }
 {
     for e in invariants {
-        push_worded(alloc, out, scene, indent, b"invariant ", e)?;
+        push_worded(alloc, out, context, indent, b"invariant ", e)?;
     }
     Ok(())
 }
@@ -334,44 +334,44 @@ fn push_invariants(
 fn push_stmt(
     alloc: Global,
     out: &mut Vec<u8>,
-    scene: &Scene<'_>,
+    context: &Context<'_>,
     indent: &[u8],
     stmt: &Stmt,
 ) -> Result<(), AllocError>
-    ensures { OnOk result (out.new.items ≡ out.old.items ++ texts.stmt_text (core_of scene.now.program.now) (names_in scene.now) indent.now (view.stmt_of stmt.now)) }
+    ensures { OnOk result (out.new.items ≡ out.old.items ++ texts.stmt_text (core_of context.now.program.now) (names_in context.now) indent.now (view.stmt_of stmt.now)) }
 {
     match stmt {
-        Stmt::Assign(_, x, e) => push_assign(alloc, out, scene, indent, *x, e),
+        Stmt::Assign(_, x, e) => push_assign(alloc, out, context, indent, *x, e),
         Stmt::Write {
             object,
             field,
             value,
             ..
-        } => push_write(alloc, out, scene, indent, object, *field, value),
-        Stmt::WriteElement(_, a, i, e) => push_write_element(alloc, out, scene, indent, a, i, e),
-        Stmt::New(_, kept, t, args) => push_new(alloc, out, scene, indent, *kept, *t, args),
-        Stmt::NewArray(_, kept, t, e) => push_new_array(alloc, out, scene, indent, *kept, *t, e),
+        } => push_write(alloc, out, context, indent, object, *field, value),
+        Stmt::WriteElement(_, a, i, e) => push_write_element(alloc, out, context, indent, a, i, e),
+        Stmt::New(_, kept, t, args) => push_new(alloc, out, context, indent, *kept, *t, args),
+        Stmt::NewArray(_, kept, t, e) => push_new_array(alloc, out, context, indent, *kept, *t, e),
         Stmt::Call(_, kept, callee, args) => {
-            push_call(alloc, out, scene, indent, *kept, callee, args)
+            push_call(alloc, out, context, indent, *kept, callee, args)
         }
         Stmt::Ready(_) => push_fixed(out, indent, b"ready this"),
         Stmt::If(_, e, a, b) => {
-            push_worded(alloc, out, scene, indent, b"if ", e)?;
-            push_branch(alloc, out, scene, indent, b"then", a)?;
-            push_else(alloc, out, scene, indent, b)
+            push_worded(alloc, out, context, indent, b"if ", e)?;
+            push_branch(alloc, out, context, indent, b"then", a)?;
+            push_else(alloc, out, context, indent, b)
         }
-        Stmt::Loop(l) => push_loop(alloc, out, scene, indent, l),
+        Stmt::Loop(l) => push_loop(alloc, out, context, indent, l),
         Stmt::Unpack(_, x, t) => {
-            push_change(alloc, out, scene, indent, b"unpack ", *x, b" from ", *t)
+            push_change(alloc, out, context, indent, b"unpack ", *x, b" from ", *t)
         }
-        Stmt::Pack(_, x, t) => push_change(alloc, out, scene, indent, b"pack ", *x, b" as ", *t),
-        Stmt::Assert(_, e) => push_worded(alloc, out, scene, indent, b"assert ", e),
-        Stmt::Assume(_, e) => push_worded(alloc, out, scene, indent, b"assume ", e),
+        Stmt::Pack(_, x, t) => push_change(alloc, out, context, indent, b"pack ", *x, b" as ", *t),
+        Stmt::Assert(_, e) => push_worded(alloc, out, context, indent, b"assert ", e),
+        Stmt::Assume(_, e) => push_worded(alloc, out, context, indent, b"assume ", e),
         Stmt::Print(_, e, newline) => {
-            push_optional(alloc, out, scene, indent, print_word(*newline), e)
+            push_optional(alloc, out, context, indent, print_word(*newline), e)
         }
         Stmt::PrintText(_, text, newline) => push_print_text(out, indent, text, *newline),
-        Stmt::Return(_, e) => push_optional(alloc, out, scene, indent, b"return", e),
+        Stmt::Return(_, e) => push_optional(alloc, out, context, indent, b"return", e),
     }
 }
 
@@ -380,14 +380,14 @@ fn push_stmt(
 fn push_deeper(
     alloc: Global,
     out: &mut Vec<u8>,
-    scene: &Scene<'_>,
+    context: &Context<'_>,
     indent: &[u8],
     code: &[Stmt],
 ) -> Result<(), AllocError>
-    ensures { OnOk result (out.new.items ≡ out.old.items ++ texts.code_text (core_of scene.now.program.now) (names_in scene.now) (texts.deeper indent.now) (view.block code.now)) }
+    ensures { OnOk result (out.new.items ≡ out.old.items ++ texts.code_text (core_of context.now.program.now) (names_in context.now) (texts.deeper indent.now) (view.block code.now)) }
 {
     let inner = deeper(alloc, indent)?;
-    push_code(alloc, out, scene, &inner, code)
+    push_code(alloc, out, context, &inner, code)
 }
 
 // A line of a word, and the statements of a branch.
@@ -395,15 +395,15 @@ fn push_deeper(
 fn push_branch(
     alloc: Global,
     out: &mut Vec<u8>,
-    scene: &Scene<'_>,
+    context: &Context<'_>,
     indent: &[u8],
     word: &[u8],
     code: &[Stmt],
 ) -> Result<(), AllocError>
-    ensures { OnOk result (out.new.items ≡ out.old.items ++ texts.line indent.now word.now ++ texts.code_text (core_of scene.now.program.now) (names_in scene.now) (texts.deeper indent.now) (view.block code.now)) }
+    ensures { OnOk result (out.new.items ≡ out.old.items ++ texts.line indent.now word.now ++ texts.code_text (core_of context.now.program.now) (names_in context.now) (texts.deeper indent.now) (view.block code.now)) }
 {
     push_fixed(out, indent, word)?;
-    push_deeper(alloc, out, scene, indent, code)
+    push_deeper(alloc, out, context, indent, code)
 }
 
 // The second branch of an `if`, and its end.
@@ -411,13 +411,13 @@ fn push_branch(
 fn push_else(
     alloc: Global,
     out: &mut Vec<u8>,
-    scene: &Scene<'_>,
+    context: &Context<'_>,
     indent: &[u8],
     code: &[Stmt],
 ) -> Result<(), AllocError>
-    ensures { OnOk result (out.new.items ≡ out.old.items ++ (texts.line indent.now (codes "else") ++ texts.code_text (core_of scene.now.program.now) (names_in scene.now) (texts.deeper indent.now) (view.block code.now) ++ texts.line indent.now (codes "done"))) }
+    ensures { OnOk result (out.new.items ≡ out.old.items ++ (texts.line indent.now (codes "else") ++ texts.code_text (core_of context.now.program.now) (names_in context.now) (texts.deeper indent.now) (view.block code.now) ++ texts.line indent.now (codes "done"))) }
 {
-    push_branch(alloc, out, scene, indent, b"else", code)?;
+    push_branch(alloc, out, context, indent, b"else", code)?;
     push_fixed(out, indent, b"done")
 }
 
@@ -425,30 +425,30 @@ fn push_else(
 fn push_loop_head(
     alloc: Global,
     out: &mut Vec<u8>,
-    scene: &Scene<'_>,
+    context: &Context<'_>,
     indent: &[u8],
     invariants: &[Expr],
 ) -> Result<(), AllocError>
-    ensures { OnOk result (out.new.items ≡ out.old.items ++ texts.line indent.now (codes "loop") ++ flat_map (texts.invariant_text (core_of scene.now.program.now) (names_in scene.now) indent.now) (map view.expr invariants.now)) }
+    ensures { OnOk result (out.new.items ≡ out.old.items ++ texts.line indent.now (codes "loop") ++ flat_map (texts.invariant_text (core_of context.now.program.now) (names_in context.now) indent.now) (map view.expr invariants.now)) }
 {
     push_fixed(out, indent, b"loop")?;
-    push_invariants(alloc, out, scene, indent, invariants)
+    push_invariants(alloc, out, context, indent, invariants)
 }
 
 #[cycle(stmt)]
 fn push_loop(
     alloc: Global,
     out: &mut Vec<u8>,
-    scene: &Scene<'_>,
+    context: &Context<'_>,
     indent: &[u8],
     l: &Loop,
 ) -> Result<(), AllocError>
-    ensures { OnOk result (out.new.items ≡ out.old.items ++ texts.stmt_text (core_of scene.now.program.now) (names_in scene.now) indent.now (loop_of l.now)) }
+    ensures { OnOk result (out.new.items ≡ out.old.items ++ texts.stmt_text (core_of context.now.program.now) (names_in context.now) indent.now (loop_of l.now)) }
 {
-    push_loop_head(alloc, out, scene, indent, &l.invariants)?;
-    push_deeper(alloc, out, scene, indent, &l.prelude)?;
-    push_worded(alloc, out, scene, indent, b"test ", &l.test)?;
-    push_deeper(alloc, out, scene, indent, &l.body)?;
+    push_loop_head(alloc, out, context, indent, &l.invariants)?;
+    push_deeper(alloc, out, context, indent, &l.prelude)?;
+    push_worded(alloc, out, context, indent, b"test ", &l.test)?;
+    push_deeper(alloc, out, context, indent, &l.body)?;
     push_fixed(out, indent, b"done")
 }
 
@@ -457,14 +457,14 @@ fn push_loop(
 pub(crate) fn push_code(
     alloc: Global,
     out: &mut Vec<u8>,
-    scene: &Scene<'_>,
+    context: &Context<'_>,
     indent: &[u8],
     code: &[Stmt],
 ) -> Result<(), AllocError>
-    ensures { OnOk result (out.new.items ≡ out.old.items ++ texts.code_text (core_of scene.now.program.now) (names_in scene.now) indent.now (view.block code.now)) }
+    ensures { OnOk result (out.new.items ≡ out.old.items ++ texts.code_text (core_of context.now.program.now) (names_in context.now) indent.now (view.block code.now)) }
 {
     for stmt in code {
-        push_stmt(alloc, out, scene, indent, stmt)?;
+        push_stmt(alloc, out, context, indent, stmt)?;
     }
     Ok(())
 }

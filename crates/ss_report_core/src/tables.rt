@@ -5,11 +5,11 @@ ghost use Rattle.ss_core.specs.View as view;
 ghost use Rattle.ss_core.specs.declared.names.Ty.{Ty};
 ghost use Rattle.ss_report_core.specs.Names as names;
 ghost use Rattle.ss_report_core.specs.Tables.{IsTable};
-ghost use Rattle.ss_report_core.specs.Scenes.{core_of};
+ghost use Rattle.ss_report_core.specs.Contexts.{core_of};
 
+use crate::context::{Locals, Program};
 use crate::fields::field_names;
 use crate::locals::Table;
-use crate::scene::{Locals, Program};
 use ss_core::{Body, Core, Ty};
 use std::alloc::{AllocError, Global};
 

@@ -5,14 +5,14 @@ ghost use Rattle.std.specs.List.{flat_map};
 ghost use Rattle.ss_core.specs.View as view;
 ghost use Rattle.ss_report_core.specs.Groups as grouped;
 ghost use Rattle.ss_report_core.specs.Names as names;
-ghost use Rattle.ss_report_core.specs.Scenes.{core_of, classes_of};
+ghost use Rattle.ss_report_core.specs.Contexts.{core_of, classes_of};
 ghost use Rattle.ss_report_core.specs.Stmts.{line, deeper, code_text};
 ghost use Rattle.ss_report_core.specs.Text as texts;
 
+use crate::context::{Context, Locals, Program};
 use crate::groups::bodies_by_class;
 use crate::joins::{push_both, push_class_between};
 use crate::names::push_title;
-use crate::scene::{Locals, Program, Scene};
 use crate::scopes::push_bytes;
 use crate::stmts::push_code;
 use ss_core::{Body, Class, Core};
@@ -37,12 +37,12 @@ fn push_statements(
     ensures { OnOk result (out.new.items ≡ out.old.items ++ code_text (core_of program.now) (names.local_names (view.body body.now)) (deeper []) (view.body body.now).code) }
 {
     let locals = Locals::new(alloc, body)?;
-    let scene = Scene {
+    let context = Context {
         program,
         locals: &locals,
         bound: &[],
     };
-    push_code(alloc, out, &scene, b"  ", &body.code)
+    push_code(alloc, out, &context, b"  ", &body.code)
 }
 
 fn push_body(

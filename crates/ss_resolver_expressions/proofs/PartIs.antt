@@ -8,7 +8,7 @@ use Rattle.ss_tables.specs.Statics.{static, receiver, callee, count}
 use Rattle.ss_typed.specs.Tree as typed
 use Rattle.ss_resolver_rules.specs.Names.{Env}
 use Rattle.ss_resolver_rules.specs.Expressions.{expr, call, args, class_named_by, first_class, third_class}
-use Rattle.ss_resolver_expressions.specs.Scenes.{part, part_value, part_type, part_receiver, part_callee, part_called, part_class}
+use Rattle.ss_resolver_expressions.specs.Environments.{part, part_value, part_type, part_receiver, part_callee, part_called, part_class}
 
 pub value_is : (e : Env) (t : text.ExprTree) → part_value e (part e t) ≡ expr e t
 value_is e (NameOf p n) = refl

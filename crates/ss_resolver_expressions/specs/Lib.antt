@@ -1,2 +1,2 @@
-pub mod Around
-pub mod Scenes
+pub mod LocalContext
+pub mod Environments

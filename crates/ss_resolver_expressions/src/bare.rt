@@ -6,13 +6,13 @@ ghost use Rattle.ss_tables.specs.Classes.{class_number};
 ghost use Rattle.ss_tables_lookup.specs.Views.{declared_field};
 ghost use Rattle.ss_typed.specs.Tree.{ThisOf};
 ghost use Rattle.ss_typed.specs.View as view;
-ghost use Rattle.ss_resolver_expressions.specs.Around.{Around};
-ghost use Rattle.ss_resolver_expressions.specs.Scenes.{env_of};
+ghost use Rattle.ss_resolver_expressions.specs.LocalContext.{LocalContext};
+ghost use Rattle.ss_resolver_expressions.specs.Environments.{env_of};
 ghost use Rattle.ss_resolver_rules.specs.Expressions.{read_field, known_or_field, bare_name, field_behind, state_word, state_question, member};
 
-use crate::around::LocalNames;
 use crate::build::{add_step, boxed, null_tree};
-use crate::scene::Scene;
+use crate::context::ResolutionContext;
+use crate::local_names::LocalNames;
 use ss_core::{ClassId, Place, StateWord};
 use ss_resolver_rules::Known;
 use ss_resolver_tables::{class_number, field_id, type_id};
@@ -22,29 +22,29 @@ use ss_typed::{TypedExpr, TypedStep};
 use std::alloc::{AllocError, Global};
 
 /// The object of the class in which a place is.
-pub(crate) fn this(scene: &Scene<'_, '_>, place: Place) -> TypedExpr
-    ensures { view.expr result ≡ ThisOf place (class_number scene.now.within.class) }
+pub(crate) fn this(context: &ResolutionContext<'_, '_>, place: Place) -> TypedExpr
+    ensures { view.expr result ≡ ThisOf place (class_number context.now.within.class) }
 {
-    TypedExpr::This(place, class_number(scene.within.class))
+    TypedExpr::This(place, class_number(context.within.class))
 }
 
 // A field of what stands before the dot.
 fn read_field(
     alloc: Global,
-    scene: &Scene<'_, '_>,
+    context: &ResolutionContext<'_, '_>,
     place: Place,
     object: Box<TypedExpr>,
     field: Option<(usize, FieldRef<'_>)>,
 ) -> Result<Box<TypedExpr>, AllocError>
-    ensures { (a : Around) → IfOk result (λ e. view.expr e.value ≡ read_field (env_of scene.now a) place (view.expr object.value) (option_map declared_field field.entry)) }
+    ensures { (a : LocalContext) → IfOk result (λ e. view.expr e.value ≡ read_field (env_of context.now a) place (view.expr object.value) (option_map declared_field field.entry)) }
 {
     let Some((class, field)) = field else {
         return null_tree(alloc, place);
     };
-    let tables = scene.within.tables;
+    let tables = context.within.tables;
     let number = field_id(
         tables,
-        scene.fields,
+        context.fields,
         class,
         field.declarator.name.text.as_str(),
     );
@@ -54,20 +54,20 @@ fn read_field(
 
 fn known_or_field(
     alloc: Global,
-    scene: &Scene<'_, '_>,
+    context: &ResolutionContext<'_, '_>,
     place: Place,
     name: &str,
     known: Option<Known>,
 ) -> Result<Box<TypedExpr>, AllocError>
-    ensures { (a : Around) → IfOk result (λ e. view.expr e.value ≡ known_or_field (env_of scene.now a) place name.now known) }
+    ensures { (a : LocalContext) → IfOk result (λ e. view.expr e.value ≡ known_or_field (env_of context.now a) place name.now known) }
 {
     match known {
         Some(Known::Variable(number, ty)) => Ok(boxed(alloc, TypedExpr::Local(place, number, ty))?),
         Some(Known::BoundName(number)) => Ok(boxed(alloc, TypedExpr::Bound(place, number))?),
         None => {
-            let field = scene.within.tables.field_of(scene.within.class, name);
-            let object = boxed(alloc, this(scene, place))?;
-            read_field(alloc, scene, place, object, field)
+            let field = context.within.tables.field_of(context.within.class, name);
+            let object = boxed(alloc, this(context, place))?;
+            read_field(alloc, context, place, object, field)
         }
     }
 }
@@ -75,31 +75,31 @@ fn known_or_field(
 /// A bare name: a local, else a field of `this`.
 pub(crate) fn bare_name(
     alloc: Global,
-    scene: &Scene<'_, '_>,
-    around: &LocalNames,
+    context: &ResolutionContext<'_, '_>,
+    names: &LocalNames,
     place: Place,
     name: &str,
 ) -> Result<Box<TypedExpr>, AllocError>
-    ensures { IfOk result (λ e. view.expr e.value ≡ bare_name (env_of scene.now around.now) place name.now) }
+    ensures { IfOk result (λ e. view.expr e.value ≡ bare_name (env_of context.now names.now) place name.now) }
 {
-    known_or_field(alloc, scene, place, name, around.find(name))
+    known_or_field(alloc, context, place, name, names.find(name))
 }
 
 fn field_behind(
     alloc: Global,
-    scene: &Scene<'_, '_>,
+    context: &ResolutionContext<'_, '_>,
     place: Place,
     object: Box<TypedExpr>,
     name: &str,
     class: Option<usize>,
 ) -> Result<Box<TypedExpr>, AllocError>
-    ensures { (a : Around) → IfOk result (λ e. view.expr e.value ≡ field_behind (env_of scene.now a) place (view.expr object.value) name.now class) }
+    ensures { (a : LocalContext) → IfOk result (λ e. view.expr e.value ≡ field_behind (env_of context.now a) place (view.expr object.value) name.now class) }
 {
     match class {
         None => Ok(object),
         Some(class) => {
-            let field = scene.within.tables.field_of(class, name);
-            read_field(alloc, scene, place, object, field)
+            let field = context.within.tables.field_of(class, name);
+            read_field(alloc, context, place, object, field)
         }
     }
 }
@@ -130,13 +130,13 @@ pub(crate) fn state_question(name: &str, class: ClassId) -> StateWord
 /// What is read behind a dot of an object or array of the class with this number.
 pub(crate) fn member(
     alloc: Global,
-    scene: &Scene<'_, '_>,
+    context: &ResolutionContext<'_, '_>,
     place: Place,
     object: Box<TypedExpr>,
     name: &str,
     class: usize,
 ) -> Result<Box<TypedExpr>, AllocError>
-    ensures { (a : Around) → IfOk result (λ e. view.expr e.value ≡ member (env_of scene.now a) place (view.expr object.value) name.now class) }
+    ensures { (a : LocalContext) → IfOk result (λ e. view.expr e.value ≡ member (env_of context.now a) place (view.expr object.value) name.now class) }
 {
     if is_state_read(name) {
         let word = state_word(name);
@@ -145,5 +145,5 @@ pub(crate) fn member(
     if is_array_number(class) {
         return add_step(alloc, place, object, TypedStep::Length);
     }
-    field_behind(alloc, scene, place, object, name, declared_place(class))
+    field_behind(alloc, context, place, object, name, declared_place(class))
 }

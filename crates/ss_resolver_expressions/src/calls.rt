@@ -14,13 +14,13 @@ ghost use Rattle.ss_tables_lookup.specs.Classes.{trees};
 ghost use Rattle.ss_tables_lookup.specs.Views.{declared_method};
 ghost use Rattle.ss_tables_scopes.specs.Views.{receiver_of, callee_of};
 ghost use Rattle.ss_typed.specs.View as view;
-ghost use Rattle.ss_resolver_expressions.specs.Around.{Around};
-ghost use Rattle.ss_resolver_expressions.specs.Scenes.{env_of, given};
+ghost use Rattle.ss_resolver_expressions.specs.LocalContext.{LocalContext};
+ghost use Rattle.ss_resolver_expressions.specs.Environments.{env_of, given};
 ghost use Rattle.ss_resolver_rules.specs.Expressions.{first_class, third_class, state_question, method_call, base_call, place_or_own, call_of, owner_question, question, called_behind, called_bare};
 
 use crate::bare::{state_question, this};
 use crate::build::{add_step, boxed, null_tree};
-use crate::scene::Scene;
+use crate::context::ResolutionContext;
 use ss_core::{ClassId, OwnerTest, Place, StateWord};
 use ss_resolver_tables::{method_id, result_type, table_place};
 use ss_tables_lookup::{MethodRef, StaticType};
@@ -38,7 +38,7 @@ pub struct Asked {
 // A call of a method of the class with this number, on an object where the method isn't static.
 fn method_call(
     alloc: Global,
-    scene: &Scene<'_, '_>,
+    context: &ResolutionContext<'_, '_>,
     place: Place,
     class: usize,
     object: Box<TypedExpr>,
@@ -46,58 +46,58 @@ fn method_call(
     declared: usize,
     method: MethodRef<'_>,
 ) -> Result<Box<TypedExpr>, AllocError>
-    ensures { (a : Around) → IfOk result (λ e. view.expr e.value ≡ method_call (env_of scene.now a) place class (view.expr object.value) (given args.items) (declared_method (declared, method.entry))) }
+    ensures { (a : LocalContext) → IfOk result (λ e. view.expr e.value ≡ method_call (env_of context.now a) place class (view.expr object.value) (given args.items) (declared_method (declared, method.entry))) }
 {
-    let tables = scene.within.tables;
+    let tables = context.within.tables;
     let name = method.method.name.text.as_str();
     let ty = result_type(tables, &method.method.returns);
     if is_static(method) {
-        let body = method_id(tables, scene.bodies, declared, name);
+        let body = method_id(tables, context.bodies, declared, name);
         return Ok(boxed(alloc, TypedExpr::Static(place, body, ty, args))?);
     }
-    let step = TypedStep::Call(table_place(tables, scene.tables, class, name), ty, args);
+    let step = TypedStep::Call(table_place(tables, context.tables, class, name), ty, args);
     add_step(alloc, place, object, step)
 }
 
 // A call of a method of the class above, on `this`.
 fn base_call(
-    scene: &Scene<'_, '_>,
+    context: &ResolutionContext<'_, '_>,
     place: Place,
     args: Vec<TypedExpr>,
     declared: usize,
     method: MethodRef<'_>,
     above: Option<usize>,
 ) -> TypedExpr
-    ensures { (a : Around) → view.expr result ≡ base_call (env_of scene.now a) place (given args.items) (declared_method (declared, method.entry)) above }
+    ensures { (a : LocalContext) → view.expr result ≡ base_call (env_of context.now a) place (given args.items) (declared_method (declared, method.entry)) above }
 {
     let Some(class) = above else {
         return TypedExpr::Null(place);
     };
     let name = method.method.name.text.as_str();
-    let tables = scene.within.tables;
+    let tables = context.within.tables;
     let ty = result_type(tables, &method.method.returns);
     TypedExpr::Base(
         place,
-        table_place(tables, scene.tables, class, name),
+        table_place(tables, context.tables, class, name),
         ty,
         args,
     )
 }
 
 // The class in which a method of a value of this type is looked up.
-fn class_of_value(scene: &Scene<'_, '_>, ty: Option<StaticType>) -> usize
-    ensures { (a : Around) → result ≡ place_or_own (env_of scene.now a) (option_and_then declared_place (option_and_then class_of (option_map type_of ty))) }
+fn class_of_value(context: &ResolutionContext<'_, '_>, ty: Option<StaticType>) -> usize
+    ensures { (a : LocalContext) → result ≡ place_or_own (env_of context.now a) (option_and_then declared_place (option_and_then class_of (option_map type_of ty))) }
 {
     match place_of_class(class_of_type(ty)) {
         Some(class) => class,
-        None => scene.within.class,
+        None => context.within.class,
     }
 }
 
 // A method that is called, by what stands before the dot.
 fn call_of(
     alloc: Global,
-    scene: &Scene<'_, '_>,
+    context: &ResolutionContext<'_, '_>,
     place: Place,
     receiver: Receiver,
     object: Box<TypedExpr>,
@@ -105,20 +105,20 @@ fn call_of(
     declared: usize,
     method: MethodRef<'_>,
 ) -> Result<Box<TypedExpr>, AllocError>
-    ensures { (a : Around) → IfOk result (λ e. view.expr e.value ≡ call_of (env_of scene.now a) place (receiver_of receiver) (view.expr object.value) (given args.items) (declared_method (declared, method.entry))) }
+    ensures { (a : LocalContext) → IfOk result (λ e. view.expr e.value ≡ call_of (env_of context.now a) place (receiver_of receiver) (view.expr object.value) (given args.items) (declared_method (declared, method.entry))) }
 {
     match receiver {
         Receiver::Base => {
-            let above = scene.within.tables.above(scene.within.class);
-            let whole = base_call(scene, place, args, declared, method, above);
+            let above = context.within.tables.above(context.within.class);
+            let whole = base_call(context, place, args, declared, method, above);
             Ok(boxed(alloc, whole)?)
         }
         Receiver::Class(class) => {
-            method_call(alloc, scene, place, class, object, args, declared, method)
+            method_call(alloc, context, place, class, object, args, declared, method)
         }
         Receiver::Value(ty) => {
-            let class = class_of_value(scene, ty);
-            method_call(alloc, scene, place, class, object, args, declared, method)
+            let class = class_of_value(context, ty);
+            method_call(alloc, context, place, class, object, args, declared, method)
         }
         Receiver::Console | Receiver::Owner => null_tree(alloc, place),
     }
@@ -217,7 +217,7 @@ fn question(
 // What is called behind a dot.
 pub(crate) fn called_behind(
     alloc: Global,
-    scene: &Scene<'_, '_>,
+    context: &ResolutionContext<'_, '_>,
     place: Place,
     receiver: Receiver,
     object: Box<TypedExpr>,
@@ -226,13 +226,13 @@ pub(crate) fn called_behind(
     args: Vec<TypedExpr>,
     callee: Callee<'_>,
 ) -> Result<Box<TypedExpr>, AllocError>
-    ensures { (a : Around) → (es : Arguments) → asked.first.0 ≡ first_class (env_of scene.now a) es → asked.third.0 ≡ third_class (env_of scene.now a) es
-        → IfOk result (λ r. view.expr r.value ≡ called_behind (env_of scene.now a) place (receiver_of receiver) (view.expr object.value) name.now es (given args.items) (callee_of callee.entry)) }
+    ensures { (a : LocalContext) → (es : Arguments) → asked.first.0 ≡ first_class (env_of context.now a) es → asked.third.0 ≡ third_class (env_of context.now a) es
+        → IfOk result (λ r. view.expr r.value ≡ called_behind (env_of context.now a) place (receiver_of receiver) (view.expr object.value) name.now es (given args.items) (callee_of callee.entry)) }
 {
     match callee {
         Callee::Method(declared, method) => {
             call_of(
-                alloc, scene, place, receiver, object, args, declared, method,
+                alloc, context, place, receiver, object, args, declared, method,
             )
         }
         Callee::Word(_) => question(alloc, place, receiver, object, name, asked, args),
@@ -244,22 +244,22 @@ pub(crate) fn called_behind(
 // A method of the class or of one above, called by its bare name.
 pub(crate) fn called_bare(
     alloc: Global,
-    scene: &Scene<'_, '_>,
+    context: &ResolutionContext<'_, '_>,
     place: Place,
     at: Place,
     args: Vec<TypedExpr>,
     callee: Callee<'_>,
 ) -> Result<Box<TypedExpr>, AllocError>
-    ensures { (a : Around) → IfOk result (λ r. view.expr r.value ≡ called_bare (env_of scene.now a) place at (given args.items) (callee_of callee.entry)) }
+    ensures { (a : LocalContext) → IfOk result (λ r. view.expr r.value ≡ called_bare (env_of context.now a) place at (given args.items) (callee_of callee.entry)) }
 {
     match callee {
         Callee::Method(declared, method) => {
-            let object = boxed(alloc, this(scene, at))?;
+            let object = boxed(alloc, this(context, at))?;
             method_call(
                 alloc,
-                scene,
+                context,
                 place,
-                scene.within.class,
+                context.within.class,
                 object,
                 args,
                 declared,

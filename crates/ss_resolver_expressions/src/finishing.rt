@@ -7,14 +7,14 @@ ghost use Rattle.ss_tables_lookup.specs.Views.{type_of};
 ghost use Rattle.ss_typed.specs.View as view;
 ghost use Rattle.ss_resolver_rules.specs.Numbers.{class_in};
 ghost use Rattle.ss_resolver_rules.specs.Expressions.{first_class, third_class};
-ghost use Rattle.ss_resolver_expressions.specs.Scenes.{env_of, given, part, part_value, part_callee, part_called, part_view, part_class};
+ghost use Rattle.ss_resolver_expressions.specs.Environments.{env_of, given, part, part_value, part_callee, part_called, part_view, part_class};
 
-use crate::around::LocalNames;
 use crate::bare::{bare_name, member, this};
 use crate::build::{boxed, null_tree};
 use crate::calls::{Asked, called_bare, called_behind};
+use crate::context::ResolutionContext;
+use crate::local_names::LocalNames;
 use crate::parts::{Part, part_receiver, part_type};
-use crate::scene::Scene;
 use ss_ast::Name;
 use ss_core::{ClassId, Place};
 use ss_resolver_tables::class_id;
@@ -36,17 +36,17 @@ fn number_of(ty: Option<StaticType>) -> usize
 /// The tree of an expression whose value is read.
 pub fn finish(
     alloc: Global,
-    scene: &Scene<'_, '_>,
-    around: &LocalNames,
+    context: &ResolutionContext<'_, '_>,
+    names: &LocalNames,
     part: Part<'_>,
 ) -> Result<Box<TypedExpr>, AllocError>
-    ensures { IfOk result (λ e. view.expr e.value ≡ part_value (env_of scene.now around.now) (part_view part.entry)) }
+    ensures { IfOk result (λ e. view.expr e.value ≡ part_value (env_of context.now names.now) (part_view part.entry)) }
 {
     match part {
-        Part::Name(place, name) => bare_name(alloc, scene, around, place, name),
-        Part::Base(place) => Ok(boxed(alloc, this(scene, place))?),
+        Part::Name(place, name) => bare_name(alloc, context, names, place, name),
+        Part::Base(place) => Ok(boxed(alloc, this(context, place))?),
         Part::Member(place, _, ty, object, name) => {
-            member(alloc, scene, place, object, name, number_of(ty))
+            member(alloc, context, place, object, name, number_of(ty))
         }
         Part::Other(_, value) => Ok(value),
     }
@@ -55,25 +55,25 @@ pub fn finish(
 /// The tree of a call of it.
 pub fn called(
     alloc: Global,
-    scene: &Scene<'_, '_>,
-    around: &LocalNames,
+    context: &ResolutionContext<'_, '_>,
+    names: &LocalNames,
     place: Place,
     part: Part<'_>,
     asked: Asked,
     args: Vec<TypedExpr>,
 ) -> Result<Box<TypedExpr>, AllocError>
-    ensures { (es : Arguments) → asked.first.0 ≡ first_class (env_of scene.now around.now) es → asked.third.0 ≡ third_class (env_of scene.now around.now) es
-        → IfOk result (λ r. view.expr r.value ≡ part_called (env_of scene.now around.now) place es (given args.items) (part_view part.entry)) }
+    ensures { (es : Arguments) → asked.first.0 ≡ first_class (env_of context.now names.now) es → asked.third.0 ≡ third_class (env_of context.now names.now) es
+        → IfOk result (λ r. view.expr r.value ≡ part_called (env_of context.now names.now) place es (given args.items) (part_view part.entry)) }
 {
     match part {
         Part::Name(at, name) => {
-            let callee = name_callee(scene.within, around.names(), name);
-            called_bare(alloc, scene, place, at, args, callee)
+            let callee = name_callee(context.within, names.names(), name);
+            called_bare(alloc, context, place, at, args, callee)
         }
         Part::Member(_, receiver, _, object, name) => {
-            let callee = member_callee(scene.within, name, receiver);
+            let callee = member_callee(context.within, name, receiver);
             called_behind(
-                alloc, scene, place, receiver, object, name, asked, args, callee,
+                alloc, context, place, receiver, object, name, asked, args, callee,
             )
         }
         Part::Base(_) | Part::Other(..) => null_tree(alloc, place),
@@ -81,12 +81,16 @@ pub fn called(
 }
 
 /// The class that it names where it is an argument of a question.
-pub fn part_class(scene: &Scene<'_, '_>, around: &LocalNames, part: &Part<'_>) -> ClassId
-    ensures { result.0 ≡ part_class (env_of scene.now around.now) (part_view part.now) }
+pub fn part_class(
+    context: &ResolutionContext<'_, '_>,
+    names: &LocalNames,
+    part: &Part<'_>,
+) -> ClassId
+    ensures { result.0 ≡ part_class (env_of context.now names.now) (part_view part.now) }
 {
-    let _names = around.names();
+    let _names = names.names();
     match part {
-        Part::Name(_, name) => class_id(scene.within.tables, name),
+        Part::Name(_, name) => class_id(context.within.tables, name),
         Part::Base(_) | Part::Member(..) | Part::Other(..) => ClassId(0),
     }
 }
@@ -94,38 +98,38 @@ pub fn part_class(scene: &Scene<'_, '_>, around: &LocalNames, part: &Part<'_>) -
 /// A member behind a dot.
 pub fn dotted<'p>(
     alloc: Global,
-    scene: &Scene<'_, '_>,
-    around: &LocalNames,
+    context: &ResolutionContext<'_, '_>,
+    names: &LocalNames,
     place: Place,
     before: Part<'_>,
     name: &'p Name,
 ) -> Result<Part<'p>, AllocError>
-    ensures { (t : ExprTree) → part_view before.entry ≡ part (env_of scene.now around.now) t
-        → IfOk result (λ r. part_view r ≡ part (env_of scene.now around.now) (MemberOf place t (name_tree name.now))) }
+    ensures { (t : ExprTree) → part_view before.entry ≡ part (env_of context.now names.now) t
+        → IfOk result (λ r. part_view r ≡ part (env_of context.now names.now) (MemberOf place t (name_tree name.now))) }
 {
-    let receiver = part_receiver(scene, around, &before);
-    let ty = part_type(scene, around, &before);
-    let object = finish(alloc, scene, around, before)?;
+    let receiver = part_receiver(context, names, &before);
+    let ty = part_type(context, names, &before);
+    let object = finish(alloc, context, names, before)?;
     Ok(Part::Member(place, receiver, ty, object, name.text.as_str()))
 }
 
 /// The static type of a call of it with so many arguments.
 pub fn part_call_type(
-    scene: &Scene<'_, '_>,
-    around: &LocalNames,
+    context: &ResolutionContext<'_, '_>,
+    names: &LocalNames,
     part: &Part<'_>,
     count: usize,
 ) -> Option<StaticType>
-    ensures { option_map type_of result ≡ call_type (env_of scene.now around.now).scope.classes (called_with count (part_callee (env_of scene.now around.now) (part_view part.now))) }
+    ensures { option_map type_of result ≡ call_type (env_of context.now names.now).scope.classes (called_with count (part_callee (env_of context.now names.now) (part_view part.now))) }
 {
-    let tables = scene.within.tables;
+    let tables = context.within.tables;
     match part {
         Part::Name(_, name) => {
-            let callee = name_callee(scene.within, around.names(), name);
+            let callee = name_callee(context.within, names.names(), name);
             call_type(tables, called_with(count, callee))
         }
         Part::Member(_, receiver, _, _, name) => {
-            let callee = member_callee(scene.within, name, *receiver);
+            let callee = member_callee(context.within, name, *receiver);
             call_type(tables, called_with(count, callee))
         }
         Part::Base(_) | Part::Other(..) => None,

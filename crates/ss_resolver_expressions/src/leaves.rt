@@ -5,7 +5,7 @@ ghost use Rattle.ss_ast.specs.Expressions.{name_tree};
 ghost use Rattle.ss_typed.specs.Tree.{QuantifiedOf};
 ghost use Rattle.ss_typed.specs.View as view;
 ghost use Rattle.ss_resolver_rules.specs.Expressions.{as_int};
-ghost use Rattle.ss_resolver_expressions.specs.Scenes.{numbers_of};
+ghost use Rattle.ss_resolver_expressions.specs.Environments.{numbers_of};
 
 use crate::build::boxed;
 use crate::calls::Asked;

@@ -1,22 +1,22 @@
 //! Resolved expressions: names become numbers, and each part gets its type. What they are stands in the definitions of `ss_resolver_rules`.
 #![tactic(auto)]
 
-mod around;
 mod bare;
 mod build;
 mod calls;
+mod context;
 mod exprs;
 mod finishing;
 mod leaves;
+mod local_names;
 mod parts;
-mod scene;
 mod wholes;
 
-pub use around::LocalNames;
 pub use calls::Asked;
+pub use context::ResolutionContext;
 pub use exprs::{resolve, resolve_boxed, resolve_given, resolve_values, walk, walk_postfixes};
 pub use finishing::called;
 pub use leaves::asked_of;
+pub use local_names::LocalNames;
 pub use parts::Part;
-pub use scene::Scene;
 pub use wholes::Given;

@@ -3,10 +3,10 @@
 ghost use Rattle.std.specs.Prelude.{◌≡◌, option_map};
 ghost use Rattle.ss_tables_lookup.specs.Views.{type_of};
 ghost use Rattle.ss_tables_scopes.specs.Views.{receiver_of};
-ghost use Rattle.ss_resolver_expressions.specs.Scenes.{env_of, part_type, part_receiver, part_view};
+ghost use Rattle.ss_resolver_expressions.specs.Environments.{env_of, part_type, part_receiver, part_view};
 
-use crate::around::LocalNames;
-use crate::scene::Scene;
+use crate::context::ResolutionContext;
+use crate::local_names::LocalNames;
 use ss_core::Place;
 use ss_tables_lookup::StaticType;
 use ss_tables_scopes::{Receiver, name_receiver, name_type, read_type};
@@ -26,29 +26,37 @@ pub enum Part<'p> {
 }
 
 /// Its static type.
-pub fn part_type(scene: &Scene<'_, '_>, around: &LocalNames, part: &Part<'_>) -> Option<StaticType>
-    ensures { option_map type_of result ≡ part_type (env_of scene.now around.now) (part_view part.now) }
+pub fn part_type(
+    context: &ResolutionContext<'_, '_>,
+    names: &LocalNames,
+    part: &Part<'_>,
+) -> Option<StaticType>
+    ensures { option_map type_of result ≡ part_type (env_of context.now names.now) (part_view part.now) }
 {
     match part {
-        Part::Name(_, name) => name_type(scene.within, around.names(), name),
+        Part::Name(_, name) => name_type(context.within, names.names(), name),
         Part::Base(_) => None,
-        Part::Member(_, receiver, _, _, name) => read_type(scene.within.tables, name, *receiver),
+        Part::Member(_, receiver, _, _, name) => read_type(context.within.tables, name, *receiver),
         Part::Other(ty, _) => *ty,
     }
 }
 
 /// What it is before a dot.
-pub fn part_receiver(scene: &Scene<'_, '_>, around: &LocalNames, part: &Part<'_>) -> Receiver
-    ensures { receiver_of result ≡ part_receiver (env_of scene.now around.now) (part_view part.now) }
+pub fn part_receiver(
+    context: &ResolutionContext<'_, '_>,
+    names: &LocalNames,
+    part: &Part<'_>,
+) -> Receiver
+    ensures { receiver_of result ≡ part_receiver (env_of context.now names.now) (part_view part.now) }
 {
     match part {
         Part::Name(_, name) => {
-            let ty = name_type(scene.within, around.names(), name);
-            name_receiver(scene.within, around.names(), name, ty)
+            let ty = name_type(context.within, names.names(), name);
+            name_receiver(context.within, names.names(), name, ty)
         }
         Part::Base(_) => Receiver::Base,
         Part::Member(_, receiver, _, _, name) => {
-            Receiver::Value(read_type(scene.within.tables, name, *receiver))
+            Receiver::Value(read_type(context.within.tables, name, *receiver))
         }
         Part::Other(ty, _) => Receiver::Value(*ty),
     }

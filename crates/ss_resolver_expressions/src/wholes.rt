@@ -9,16 +9,16 @@ ghost use Rattle.ss_typed.specs.Tree as typed;
 ghost use Rattle.ss_typed.specs.View as view;
 ghost use Rattle.ss_resolver_rules.specs.Expressions as resolved;
 ghost use Rattle.ss_resolver_rules.specs.Expressions.{as_int, class_named_by};
-ghost use Rattle.ss_resolver_expressions.specs.Around.{Around};
-ghost use Rattle.ss_resolver_expressions.specs.Scenes.{AnOther, env_of, part, part_view, numbers_of};
+ghost use Rattle.ss_resolver_expressions.specs.LocalContext.{LocalContext};
+ghost use Rattle.ss_resolver_expressions.specs.Environments.{AnOther, env_of, part, part_view, numbers_of};
 
-use crate::around::LocalNames;
 use crate::bare::this;
 use crate::build::{add_link, add_step, add_value, boxed};
+use crate::context::ResolutionContext;
 use crate::finishing::{called, finish, part_call_type, part_class};
 use crate::leaves::{as_int, asked_of, quantified};
+use crate::local_names::LocalNames;
 use crate::parts::{Part, part_type};
-use crate::scene::Scene;
 use ss_ast::{Name, Operator, Quantifier, TypeName, TypeRef};
 use ss_core::{ClassId, Place};
 use ss_resolver_tables::{array_class, class_id, written_class};
@@ -64,24 +64,24 @@ pub(crate) fn text<'p>(alloc: Global, place: Place) -> Result<Part<'p>, AllocErr
 
 pub(crate) fn this_word<'p>(
     alloc: Global,
-    scene: &Scene<'_, '_>,
+    context: &ResolutionContext<'_, '_>,
     place: Place,
 ) -> Result<Part<'p>, AllocError>
-    ensures { (a : Around) → IfOk result (λ r. part_view r ≡ part (env_of scene.now a) (ThisOf place)) }
+    ensures { (a : LocalContext) → IfOk result (λ r. part_view r ≡ part (env_of context.now a) (ThisOf place)) }
 {
-    let whole = boxed(alloc, this(scene, place))?;
-    Ok(Part::Other(scene.within.this_type(), whole))
+    let whole = boxed(alloc, this(context, place))?;
+    Ok(Part::Other(context.within.this_type(), whole))
 }
 
 pub(crate) fn outcome<'p>(
     alloc: Global,
-    scene: &Scene<'_, '_>,
+    context: &ResolutionContext<'_, '_>,
     place: Place,
 ) -> Result<Part<'p>, AllocError>
-    ensures { (a : Around) → IfOk result (λ r. part_view r ≡ part (env_of scene.now a) (ResultOf place)) }
+    ensures { (a : LocalContext) → IfOk result (λ r. part_view r ≡ part (env_of context.now a) (ResultOf place)) }
 {
-    let whole = boxed(alloc, TypedExpr::Result(place, scene.outcome))?;
-    Ok(Part::Other(scene.within.outcome, whole))
+    let whole = boxed(alloc, TypedExpr::Result(place, context.outcome))?;
+    Ok(Part::Other(context.within.outcome, whole))
 }
 
 // ---- of one part or several
@@ -139,30 +139,30 @@ fn new_array_value(
 
 pub(crate) fn in_parentheses<'p>(
     alloc: Global,
-    scene: &Scene<'_, '_>,
-    around: &LocalNames,
+    context: &ResolutionContext<'_, '_>,
+    names: &LocalNames,
     inner: Part<'p>,
 ) -> Result<Part<'p>, AllocError>
-    ensures { (at : PlaceValue) → (t : ExprTree) → part_view inner.entry ≡ part (env_of scene.now around.now) t
-        → IfOk result (λ r. part_view r ≡ part (env_of scene.now around.now) (ParenOf at t)) }
+    ensures { (at : PlaceValue) → (t : ExprTree) → part_view inner.entry ≡ part (env_of context.now names.now) t
+        → IfOk result (λ r. part_view r ≡ part (env_of context.now names.now) (ParenOf at t)) }
 {
-    let ty = part_type(scene, around, &inner);
-    let value = finish(alloc, scene, around, inner)?;
+    let ty = part_type(context, names, &inner);
+    let value = finish(alloc, context, names, inner)?;
     Ok(Part::Other(ty, value))
 }
 
 pub(crate) fn old<'p>(
     alloc: Global,
-    scene: &Scene<'_, '_>,
-    around: &LocalNames,
+    context: &ResolutionContext<'_, '_>,
+    names: &LocalNames,
     place: Place,
     inner: Part<'p>,
 ) -> Result<Part<'p>, AllocError>
-    ensures { (t : ExprTree) → part_view inner.entry ≡ part (env_of scene.now around.now) t
-        → IfOk result (λ r. part_view r ≡ part (env_of scene.now around.now) (OldOf place t)) }
+    ensures { (t : ExprTree) → part_view inner.entry ≡ part (env_of context.now names.now) t
+        → IfOk result (λ r. part_view r ≡ part (env_of context.now names.now) (OldOf place t)) }
 {
-    let ty = part_type(scene, around, &inner);
-    let value = finish(alloc, scene, around, inner)?;
+    let ty = part_type(context, names, &inner);
+    let value = finish(alloc, context, names, inner)?;
     let whole = old_value(alloc, place, value)?;
     Ok(Part::Other(ty, whole))
 }
@@ -215,15 +215,15 @@ pub(crate) fn implies<'p>(
 
 pub(crate) fn cast<'p>(
     alloc: Global,
-    scene: &Scene<'_, '_>,
+    context: &ResolutionContext<'_, '_>,
     place: Place,
     ty: &TypeRef,
     inner: Box<TypedExpr>,
 ) -> Result<Part<'p>, AllocError>
-    ensures { (a : Around) → (t : ExprTree) → view.expr inner.value ≡ resolved.expr (env_of scene.now a) t
-        → IfOk result (λ r. part_view r ≡ part (env_of scene.now a) (CastOf place (type_tree ty.now) t)) }
+    ensures { (a : LocalContext) → (t : ExprTree) → view.expr inner.value ≡ resolved.expr (env_of context.now a) t
+        → IfOk result (λ r. part_view r ≡ part (env_of context.now a) (CastOf place (type_tree ty.now) t)) }
 {
-    let tables = scene.within.tables;
+    let tables = context.within.tables;
     let class = written_class(tables, ty);
     let known = type_of_cast(tables, ty);
     let whole = cast_value(alloc, place, class, ty.non_null, inner)?;
@@ -232,15 +232,15 @@ pub(crate) fn cast<'p>(
 
 pub(crate) fn new_object<'p>(
     alloc: Global,
-    scene: &Scene<'_, '_>,
+    context: &ResolutionContext<'_, '_>,
     place: Place,
     name: &Name,
     values: Vec<TypedExpr>,
 ) -> Result<Part<'p>, AllocError>
-    ensures { (a : Around) → (es : List ExprTree) → view.exprs values.items ≡ map (resolved.expr (env_of scene.now a)) es
-        → IfOk result (λ r. part_view r ≡ part (env_of scene.now a) (NewOf place (name_tree name.now) (arguments es))) }
+    ensures { (a : LocalContext) → (es : List ExprTree) → view.exprs values.items ≡ map (resolved.expr (env_of context.now a)) es
+        → IfOk result (λ r. part_view r ≡ part (env_of context.now a) (NewOf place (name_tree name.now) (arguments es))) }
 {
-    let tables = scene.within.tables;
+    let tables = context.within.tables;
     let text = name.text.as_str();
     let class = class_id(tables, text);
     let count = count_of(&values);
@@ -251,15 +251,15 @@ pub(crate) fn new_object<'p>(
 
 pub(crate) fn new_array<'p>(
     alloc: Global,
-    scene: &Scene<'_, '_>,
+    context: &ResolutionContext<'_, '_>,
     place: Place,
     name: &TypeName,
     length: Box<TypedExpr>,
 ) -> Result<Part<'p>, AllocError>
-    ensures { (a : Around) → (at : PlaceValue) → (t : ExprTree) → view.expr length.value ≡ resolved.expr (env_of scene.now a) t
-        → IfOk result (λ r. part_view r ≡ part (env_of scene.now a) (NewArrayOf place at (type_name_tree name.now) t)) }
+    ensures { (a : LocalContext) → (at : PlaceValue) → (t : ExprTree) → view.expr length.value ≡ resolved.expr (env_of context.now a) t
+        → IfOk result (λ r. part_view r ≡ part (env_of context.now a) (NewArrayOf place at (type_name_tree name.now) t)) }
 {
-    let tables = scene.within.tables;
+    let tables = context.within.tables;
     let class = array_class(tables, name);
     let ty = tables.array_type(true, name);
     let whole = new_array_value(alloc, place, class, length)?;
@@ -286,17 +286,17 @@ pub(crate) fn quantified_part<'p>(
 /// An operation.
 pub(crate) fn operation(
     alloc: Global,
-    scene: &Scene<'_, '_>,
-    around: &LocalNames,
+    context: &ResolutionContext<'_, '_>,
+    names: &LocalNames,
     place: Place,
     before: Part<'_>,
     operator: Operator,
     right: Box<TypedExpr>,
 ) -> Result<Box<TypedExpr>, AllocError>
-    ensures { (t : ExprTree) → (u : ExprTree) → part_view before.entry ≡ part (env_of scene.now around.now) t → view.expr right.value ≡ resolved.expr (env_of scene.now around.now) u
-        → IfOk result (λ r. view.expr r.value ≡ resolved.expr (env_of scene.now around.now) (BinaryOf place operator t u)) }
+    ensures { (t : ExprTree) → (u : ExprTree) → part_view before.entry ≡ part (env_of context.now names.now) t → view.expr right.value ≡ resolved.expr (env_of context.now names.now) u
+        → IfOk result (λ r. view.expr r.value ≡ resolved.expr (env_of context.now names.now) (BinaryOf place operator t u)) }
 {
-    let left = finish(alloc, scene, around, before)?;
+    let left = finish(alloc, context, names, before)?;
     let link = TypedLink::Operation(operator, Box::into_inner(right));
     let whole = add_link(alloc, place, left, link)?;
     Ok(whole)
@@ -305,17 +305,17 @@ pub(crate) fn operation(
 /// `is T` behind an expression.
 pub(crate) fn is_of(
     alloc: Global,
-    scene: &Scene<'_, '_>,
-    around: &LocalNames,
+    context: &ResolutionContext<'_, '_>,
+    names: &LocalNames,
     place: Place,
     before: Part<'_>,
     ty: &TypeRef,
 ) -> Result<Box<TypedExpr>, AllocError>
-    ensures { (t : ExprTree) → part_view before.entry ≡ part (env_of scene.now around.now) t
-        → IfOk result (λ r. view.expr r.value ≡ resolved.expr (env_of scene.now around.now) (IsOf place t (type_tree ty.now))) }
+    ensures { (t : ExprTree) → part_view before.entry ≡ part (env_of context.now names.now) t
+        → IfOk result (λ r. view.expr r.value ≡ resolved.expr (env_of context.now names.now) (IsOf place t (type_tree ty.now))) }
 {
-    let left = finish(alloc, scene, around, before)?;
-    let class = written_class(scene.within.tables, ty);
+    let left = finish(alloc, context, names, before)?;
+    let class = written_class(context.within.tables, ty);
     let whole = add_link(alloc, place, left, TypedLink::Is(class))?;
     Ok(whole)
 }
@@ -323,35 +323,35 @@ pub(crate) fn is_of(
 /// `as T` behind an expression.
 pub(crate) fn as_of(
     alloc: Global,
-    scene: &Scene<'_, '_>,
-    around: &LocalNames,
+    context: &ResolutionContext<'_, '_>,
+    names: &LocalNames,
     place: Place,
     before: Part<'_>,
     ty: &TypeRef,
 ) -> Result<Box<TypedExpr>, AllocError>
-    ensures { (t : ExprTree) → part_view before.entry ≡ part (env_of scene.now around.now) t
-        → IfOk result (λ r. view.expr r.value ≡ resolved.expr (env_of scene.now around.now) (AsOf place t (type_tree ty.now))) }
+    ensures { (t : ExprTree) → part_view before.entry ≡ part (env_of context.now names.now) t
+        → IfOk result (λ r. view.expr r.value ≡ resolved.expr (env_of context.now names.now) (AsOf place t (type_tree ty.now))) }
 {
-    let left = finish(alloc, scene, around, before)?;
-    let class = written_class(scene.within.tables, ty);
+    let left = finish(alloc, context, names, before)?;
+    let class = written_class(context.within.tables, ty);
     let whole = add_link(alloc, place, left, TypedLink::As(class))?;
     Ok(whole)
 }
 
 pub(crate) fn element<'p>(
     alloc: Global,
-    scene: &Scene<'_, '_>,
-    around: &LocalNames,
+    context: &ResolutionContext<'_, '_>,
+    names: &LocalNames,
     place: Place,
     before: Part<'p>,
     index: Box<TypedExpr>,
 ) -> Result<Part<'p>, AllocError>
-    ensures { (t : ExprTree) → (u : ExprTree) → part_view before.entry ≡ part (env_of scene.now around.now) t → view.expr index.value ≡ resolved.expr (env_of scene.now around.now) u
-        → IfOk result (λ r. part_view r ≡ part (env_of scene.now around.now) (ElementOf place t u)) }
+    ensures { (t : ExprTree) → (u : ExprTree) → part_view before.entry ≡ part (env_of context.now names.now) t → view.expr index.value ≡ resolved.expr (env_of context.now names.now) u
+        → IfOk result (λ r. part_view r ≡ part (env_of context.now names.now) (ElementOf place t u)) }
 {
-    let array = part_type(scene, around, &before);
+    let array = part_type(context, names, &before);
     let ty = type_of_element(array);
-    let object = finish(alloc, scene, around, before)?;
+    let object = finish(alloc, context, names, before)?;
     let step = TypedStep::Element(Box::into_inner(index));
     let whole = add_step(alloc, place, object, step)?;
     Ok(Part::Other(ty, whole))
@@ -367,19 +367,19 @@ pub struct Given {
 /// One more argument.
 pub(crate) fn add_given(
     alloc: Global,
-    scene: &Scene<'_, '_>,
-    around: &LocalNames,
+    context: &ResolutionContext<'_, '_>,
+    names: &LocalNames,
     given: &mut Given,
     argument: Part<'_>,
 ) -> Result<(), AllocError>
-    ensures values { (t : ExprTree) → part_view argument.entry ≡ part (env_of scene.now around.now) t
-        → OnOk result (view.exprs given.new.values.items ≡ view.exprs given.old.values.items ++ resolved.expr (env_of scene.now around.now) t ∷ []) }
-    ensures classes { (t : ExprTree) → part_view argument.entry ≡ part (env_of scene.now around.now) t
-        → OnOk result (numbers_of given.new.classes.items ≡ numbers_of given.old.classes.items ++ class_named_by (env_of scene.now around.now) t ∷ []) }
+    ensures values { (t : ExprTree) → part_view argument.entry ≡ part (env_of context.now names.now) t
+        → OnOk result (view.exprs given.new.values.items ≡ view.exprs given.old.values.items ++ resolved.expr (env_of context.now names.now) t ∷ []) }
+    ensures classes { (t : ExprTree) → part_view argument.entry ≡ part (env_of context.now names.now) t
+        → OnOk result (numbers_of given.new.classes.items ≡ numbers_of given.old.classes.items ++ class_named_by (env_of context.now names.now) t ∷ []) }
 {
-    let class = part_class(scene, around, &argument);
+    let class = part_class(context, names, &argument);
     given.classes.push(class)?;
-    let value = finish(alloc, scene, around, argument)?;
+    let value = finish(alloc, context, names, argument)?;
     add_value(&mut given.values, value)?;
     Ok(())
 }
@@ -387,20 +387,20 @@ pub(crate) fn add_given(
 /// A call.
 pub(crate) fn call<'p>(
     alloc: Global,
-    scene: &Scene<'_, '_>,
-    around: &LocalNames,
+    context: &ResolutionContext<'_, '_>,
+    names: &LocalNames,
     place: Place,
     before: Part<'p>,
     given: Given,
 ) -> Result<Part<'p>, AllocError>
-    ensures { (t : ExprTree) → (es : List ExprTree) → part_view before.entry ≡ part (env_of scene.now around.now) t
-        → view.exprs given.values.items ≡ map (resolved.expr (env_of scene.now around.now)) es
-        → numbers_of given.classes.items ≡ map (class_named_by (env_of scene.now around.now)) es
-        → IfOk result (λ r. part_view r ≡ part (env_of scene.now around.now) (CallOf place t (arguments es))) }
+    ensures { (t : ExprTree) → (es : List ExprTree) → part_view before.entry ≡ part (env_of context.now names.now) t
+        → view.exprs given.values.items ≡ map (resolved.expr (env_of context.now names.now)) es
+        → numbers_of given.classes.items ≡ map (class_named_by (env_of context.now names.now)) es
+        → IfOk result (λ r. part_view r ≡ part (env_of context.now names.now) (CallOf place t (arguments es))) }
 {
     let count = count_of(&given.values);
-    let ty = part_call_type(scene, around, &before, count);
+    let ty = part_call_type(context, names, &before, count);
     let asked = asked_of(&given.classes);
-    let whole = called(alloc, scene, around, place, before, asked, given.values)?;
+    let whole = called(alloc, context, names, place, before, asked, given.values)?;
     Ok(Part::Other(ty, whole))
 }

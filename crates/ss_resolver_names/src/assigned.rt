@@ -13,7 +13,7 @@ use indexmap::IndexSet;
 use ss_ast::{Block, Expr, ForInit, Simple, Stmt};
 use ss_resolver_scoping::{bare_name, note_name};
 use ss_tables_scopes::{
-    LocalInfo, Scopes, Within, declare_declaration, declare_init, is_parameter,
+    ClassContext, LocalInfo, Scopes, declare_declaration, declare_init, is_parameter,
 };
 use std::alloc::{AllocError, Global};
 
@@ -40,12 +40,12 @@ fn note_if_param(
 // Notes a parameter that is assigned.
 fn note_target(
     alloc: Global,
-    within: Within<'_, '_>,
+    context: ClassContext<'_, '_>,
     locals: &Scopes,
     names: &mut IndexSet<String>,
     target: &Expr,
 ) -> Result<(), AllocError>
-    ensures { OnOk result (names_of names.new.keys ≡ target_param (scope_of within.entry locals.now) (names_of names.old.keys) (expr_tree target.now)) }
+    ensures { OnOk result (names_of names.new.keys ≡ target_param (scope_of context.entry locals.now) (names_of names.old.keys) (expr_tree target.now)) }
 {
     match bare_name(target) {
         Some(name) => {
@@ -59,46 +59,46 @@ fn note_target(
 
 fn note_simple(
     alloc: Global,
-    within: Within<'_, '_>,
+    context: ClassContext<'_, '_>,
     locals: &Scopes,
     names: &mut IndexSet<String>,
     stmt: &Simple,
 ) -> Result<(), AllocError>
-    ensures { OnOk result (names_of names.new.keys ≡ simple_params (scope_of within.entry locals.now) (names_of names.old.keys) (simple_tree stmt.now)) }
+    ensures { OnOk result (names_of names.new.keys ≡ simple_params (scope_of context.entry locals.now) (names_of names.old.keys) (simple_tree stmt.now)) }
 {
     match stmt {
-        Simple::Assign(target, _, _) => note_target(alloc, within, locals, names, target),
-        Simple::Step(target, _) => note_target(alloc, within, locals, names, target),
+        Simple::Assign(target, _, _) => note_target(alloc, context, locals, names, target),
+        Simple::Step(target, _) => note_target(alloc, context, locals, names, target),
         Simple::Alone(_) => Ok(()),
     }
 }
 
 fn note_init(
     alloc: Global,
-    within: Within<'_, '_>,
+    context: ClassContext<'_, '_>,
     locals: &Scopes,
     names: &mut IndexSet<String>,
     init: &Option<ForInit>,
 ) -> Result<(), AllocError>
-    ensures { OnOk result (names_of names.new.keys ≡ init_params (scope_of within.entry locals.now) (names_of names.old.keys) (option_map for_init_tree init.now)) }
+    ensures { OnOk result (names_of names.new.keys ≡ init_params (scope_of context.entry locals.now) (names_of names.old.keys) (option_map for_init_tree init.now)) }
 {
     match init {
-        Some(ForInit::Simple(stmt)) => note_simple(alloc, within, locals, names, stmt),
+        Some(ForInit::Simple(stmt)) => note_simple(alloc, context, locals, names, stmt),
         Some(ForInit::Declare(_)) | None => Ok(()),
     }
 }
 
 fn note_step(
     alloc: Global,
-    within: Within<'_, '_>,
+    context: ClassContext<'_, '_>,
     locals: &Scopes,
     names: &mut IndexSet<String>,
     step: &Option<Simple>,
 ) -> Result<(), AllocError>
-    ensures { OnOk result (names_of names.new.keys ≡ step_params (scope_of within.entry locals.now) (names_of names.old.keys) (option_map simple_tree step.now)) }
+    ensures { OnOk result (names_of names.new.keys ≡ step_params (scope_of context.entry locals.now) (names_of names.old.keys) (option_map simple_tree step.now)) }
 {
     match step {
-        Some(stmt) => note_simple(alloc, within, locals, names, stmt),
+        Some(stmt) => note_simple(alloc, context, locals, names, stmt),
         None => Ok(()),
     }
 }
@@ -106,51 +106,51 @@ fn note_step(
 // What a `for` begins with, and its step.
 fn note_heading(
     alloc: Global,
-    within: Within<'_, '_>,
+    context: ClassContext<'_, '_>,
     locals: &mut Scopes,
     names: &mut IndexSet<String>,
     init: &Option<ForInit>,
     step: &Option<Simple>,
 ) -> Result<(), AllocError>
     ensures named { OnOk result (names_of names.new.keys
-        ≡ step_params (behind_init (scope_of within.entry locals.old) (option_map for_init_tree init.now)) (init_params (scope_of within.entry locals.old) (names_of names.old.keys) (option_map for_init_tree init.now)) (option_map simple_tree step.now)) }
-    ensures declared { OnOk result (scope_of within.entry locals.new ≡ behind_init (scope_of within.entry locals.old) (option_map for_init_tree init.now)) }
+        ≡ step_params (behind_init (scope_of context.entry locals.old) (option_map for_init_tree init.now)) (init_params (scope_of context.entry locals.old) (names_of names.old.keys) (option_map for_init_tree init.now)) (option_map simple_tree step.now)) }
+    ensures declared { OnOk result (scope_of context.entry locals.new ≡ behind_init (scope_of context.entry locals.old) (option_map for_init_tree init.now)) }
     ensures around { OnOk result (locals.new.outer ≡ locals.old.outer) }
 {
-    note_init(alloc, within, locals, names, init)?;
-    declare_init(alloc, within, locals, init)?;
-    note_step(alloc, within, locals, names, step)
+    note_init(alloc, context, locals, names, init)?;
+    declare_init(alloc, context, locals, init)?;
+    note_step(alloc, context, locals, names, step)
 }
 
 // Notes the parameters that a statement assigns.
 #[cycle(assigned)]
 fn note_stmt(
     alloc: Global,
-    within: Within<'_, '_>,
+    context: ClassContext<'_, '_>,
     locals: &mut Scopes,
     names: &mut IndexSet<String>,
     stmt: &Stmt,
 ) -> Result<(), AllocError>
-    ensures named { OnOk result (names_of names.new.keys ≡ stmt_params (scope_of within.entry locals.old) (names_of names.old.keys) (stmt_tree stmt.now)) }
-    ensures declared { OnOk result (scope_of within.entry locals.new ≡ behind (scope_of within.entry locals.old) (stmt_tree stmt.now)) }
+    ensures named { OnOk result (names_of names.new.keys ≡ stmt_params (scope_of context.entry locals.old) (names_of names.old.keys) (stmt_tree stmt.now)) }
+    ensures declared { OnOk result (scope_of context.entry locals.new ≡ behind (scope_of context.entry locals.old) (stmt_tree stmt.now)) }
     ensures around { OnOk result (locals.new.outer ≡ locals.old.outer) }
 {
     match stmt {
-        Stmt::Block(block) => note_block(alloc, within, locals, names, block),
-        Stmt::Declare(declaration) => declare_declaration(alloc, within, locals, declaration),
-        Stmt::Simple(stmt) => note_simple(alloc, within, locals, names, stmt),
-        Stmt::If(_, _, first, None) => note_governed(alloc, within, locals, names, first),
+        Stmt::Block(block) => note_block(alloc, context, locals, names, block),
+        Stmt::Declare(declaration) => declare_declaration(alloc, context, locals, declaration),
+        Stmt::Simple(stmt) => note_simple(alloc, context, locals, names, stmt),
+        Stmt::If(_, _, first, None) => note_governed(alloc, context, locals, names, first),
         Stmt::If(_, _, first, Some(second)) => {
-            note_governed(alloc, within, locals, names, first)?;
-            note_governed(alloc, within, locals, names, second)
+            note_governed(alloc, context, locals, names, first)?;
+            note_governed(alloc, context, locals, names, second)
         }
-        Stmt::While(_, _, _, body) => note_governed(alloc, within, locals, names, body),
+        Stmt::While(_, _, _, body) => note_governed(alloc, context, locals, names, body),
         Stmt::For(_, init, _, step, _, body) => {
             locals.enter(alloc)?;
-            note_heading(alloc, within, locals, names, init, step)?;
-            note_loop(alloc, within, locals, names, body)
+            note_heading(alloc, context, locals, names, init, step)?;
+            note_loop(alloc, context, locals, names, body)
         }
-        Stmt::Expose(_, _, _, block) => note_block(alloc, within, locals, names, block),
+        Stmt::Expose(_, _, _, block) => note_block(alloc, context, locals, names, block),
         Stmt::Return(..) | Stmt::Assert(..) | Stmt::Assume(..) | Stmt::Empty(_) => Ok(()),
     }
 }
@@ -159,15 +159,15 @@ fn note_stmt(
 #[cycle(assigned)]
 fn note_loop(
     alloc: Global,
-    within: Within<'_, '_>,
+    context: ClassContext<'_, '_>,
     locals: &mut Scopes,
     names: &mut IndexSet<String>,
     body: &Stmt,
 ) -> Result<(), AllocError>
-    ensures named { OnOk result (names_of names.new.keys ≡ stmt_params (enter (scope_of within.entry locals.old)) (names_of names.old.keys) (stmt_tree body.now)) }
+    ensures named { OnOk result (names_of names.new.keys ≡ stmt_params (enter (scope_of context.entry locals.old)) (names_of names.old.keys) (stmt_tree body.now)) }
     ensures closed { OnOk result (locals.new ≡ left locals.old) }
 {
-    note_governed(alloc, within, locals, names, body)?;
+    note_governed(alloc, context, locals, names, body)?;
     locals.leave();
     Ok(())
 }
@@ -176,16 +176,16 @@ fn note_loop(
 #[cycle(assigned)]
 fn note_governed(
     alloc: Global,
-    within: Within<'_, '_>,
+    context: ClassContext<'_, '_>,
     locals: &mut Scopes,
     names: &mut IndexSet<String>,
     stmt: &Stmt,
 ) -> Result<(), AllocError>
-    ensures named { OnOk result (names_of names.new.keys ≡ stmt_params (enter (scope_of within.entry locals.old)) (names_of names.old.keys) (stmt_tree stmt.now)) }
+    ensures named { OnOk result (names_of names.new.keys ≡ stmt_params (enter (scope_of context.entry locals.old)) (names_of names.old.keys) (stmt_tree stmt.now)) }
     ensures kept { OnOk result (locals.new ≡ locals.old) }
 {
     locals.enter(alloc)?;
-    note_stmt(alloc, within, locals, names, stmt)?;
+    note_stmt(alloc, context, locals, names, stmt)?;
     locals.leave();
     Ok(())
 }
@@ -194,16 +194,16 @@ fn note_governed(
 #[cycle(assigned)]
 pub fn note_block(
     alloc: Global,
-    within: Within<'_, '_>,
+    context: ClassContext<'_, '_>,
     locals: &mut Scopes,
     names: &mut IndexSet<String>,
     block: &Block,
 ) -> Result<(), AllocError>
-    ensures named { OnOk result (names_of names.new.keys ≡ block_params (scope_of within.entry locals.old) (names_of names.old.keys) (block_tree block.now)) }
+    ensures named { OnOk result (names_of names.new.keys ≡ block_params (scope_of context.entry locals.old) (names_of names.old.keys) (block_tree block.now)) }
     ensures kept { OnOk result (locals.new ≡ locals.old) }
 {
     locals.enter(alloc)?;
-    note_stmts(alloc, within, locals, names, &block.statements)?;
+    note_stmts(alloc, context, locals, names, &block.statements)?;
     locals.leave();
     Ok(())
 }
@@ -211,16 +211,16 @@ pub fn note_block(
 #[cycle(assigned)]
 fn note_stmts(
     alloc: Global,
-    within: Within<'_, '_>,
+    context: ClassContext<'_, '_>,
     locals: &mut Scopes,
     names: &mut IndexSet<String>,
     stmts: &[Stmt],
 ) -> Result<(), AllocError>
-    ensures named { OnOk result (names_of names.new.keys ≡ stmts_params (scope_of within.entry locals.old) (names_of names.old.keys) (stmt_trees (map stmt_tree stmts.now))) }
+    ensures named { OnOk result (names_of names.new.keys ≡ stmts_params (scope_of context.entry locals.old) (names_of names.old.keys) (stmt_trees (map stmt_tree stmts.now))) }
     ensures around { OnOk result (locals.new.outer ≡ locals.old.outer) }
 {
     for stmt in stmts {
-        note_stmt(alloc, within, locals, names, stmt)?;
+        note_stmt(alloc, context, locals, names, stmt)?;
     }
     Ok(())
 }

@@ -20,34 +20,34 @@ use ss_resolver_names_members::add;
 use ss_resolver_names_rules::MOST_LOCALS;
 use ss_resolver_scoping::plus;
 use ss_tables_lookup::{ConstructorRef, MethodRef, Shelf, Tables};
-use ss_tables_scopes::{NameScopes, Scopes, Within, declare_params};
+use ss_tables_scopes::{ClassContext, NameScopes, Scopes, declare_params};
 use std::alloc::{AllocError, Global};
 
 // How many parameters a block assigns.
 fn assigned_params(
     alloc: Global,
-    within: Within<'_, '_>,
+    context: ClassContext<'_, '_>,
     locals: &mut Scopes,
     body: &Block,
 ) -> Result<usize, AllocError>
-    ensures { IfOk result (λ n. n ≡ length (block_params (scope_of within.entry locals.old) [] (block_tree body.now))) }
+    ensures { IfOk result (λ n. n ≡ length (block_params (scope_of context.entry locals.old) [] (block_tree body.now))) }
 {
     let mut names = IndexSet::new(alloc);
-    note_block(alloc, within, locals, &mut names, body)?;
+    note_block(alloc, context, locals, &mut names, body)?;
     Ok(names.len())
 }
 
 // The locals of a block in the scope of its parameters.
 fn locals_in(
     alloc: Global,
-    within: Within<'_, '_>,
+    context: ClassContext<'_, '_>,
     locals: &mut Scopes,
     body: &Block,
 ) -> Result<usize, AllocError>
-    ensures { IfOk result (λ n. n ≡ locals_in (scope_of within.entry locals.old) (block_tree body.now)) }
+    ensures { IfOk result (λ n. n ≡ locals_in (scope_of context.entry locals.old) (block_tree body.now)) }
 {
     let declared = block_locals(body)?;
-    let assigned = assigned_params(alloc, within, locals, body)?;
+    let assigned = assigned_params(alloc, context, locals, body)?;
     plus(declared, assigned)
 }
 
@@ -60,7 +60,7 @@ fn method_locals(
     requires { class < length (trees tables.now) }
     ensures { IfOk result (λ n. n ≡ method_locals (trees tables.now) class (method_tree method.entry)) }
 {
-    let within = Within {
+    let context = ClassContext {
         tables,
         class,
         refuses_members: false,
@@ -68,8 +68,8 @@ fn method_locals(
         outcome: None,
     };
     let mut locals = NameScopes::new(alloc);
-    declare_params(alloc, within, &mut locals, &method.method.params)?;
-    locals_in(alloc, within, &mut locals, &method.method.body)
+    declare_params(alloc, context, &mut locals, &method.method.params)?;
+    locals_in(alloc, context, &mut locals, &method.method.body)
 }
 
 fn constructor_locals(
@@ -81,7 +81,7 @@ fn constructor_locals(
     requires { class < length (trees tables.now) }
     ensures { IfOk result (λ n. n ≡ constructor_locals (trees tables.now) class (constructor_tree constructor.entry)) }
 {
-    let within = Within {
+    let context = ClassContext {
         tables,
         class,
         refuses_members: false,
@@ -89,8 +89,8 @@ fn constructor_locals(
         outcome: None,
     };
     let mut locals = NameScopes::new(alloc);
-    declare_params(alloc, within, &mut locals, &constructor.constructor.params)?;
-    locals_in(alloc, within, &mut locals, &constructor.constructor.body)
+    declare_params(alloc, context, &mut locals, &constructor.constructor.params)?;
+    locals_in(alloc, context, &mut locals, &constructor.constructor.body)
 }
 
 // A body with so many locals, at its name.

@@ -15,7 +15,7 @@ use ss_faults::Fault;
 use ss_resolver_scoping::{Prefix, has_member, is_inherited};
 use ss_tables_lookup::Tables;
 use ss_tables_scopes::{
-    Receiver, Scopes, Within, class_of_type, is_known, is_member, is_owner_word, is_print,
+    ClassContext, Receiver, Scopes, class_of_type, is_known, is_member, is_owner_word, is_print,
     is_state_word,
 };
 use std::alloc::AllocError;
@@ -115,17 +115,17 @@ fn add_member_pending(
 
 /// What an expression has besides where its value is read.
 pub fn add_pending(
-    within: Within<'_, '_>,
+    context: ClassContext<'_, '_>,
     locals: &Scopes,
     faults: &mut Vec<Fault>,
     prefix: Prefix<'_>,
 ) -> Result<(), AllocError>
-    ensures { OnOk result (faults.new.items ≡ faults.old.items ++ pending (scope_of within.entry locals.now) (prefix_view prefix.entry)) }
+    ensures { OnOk result (faults.new.items ≡ faults.old.items ++ pending (scope_of context.entry locals.now) (prefix_view prefix.entry)) }
 {
     match prefix {
         Prefix::Name(place, name) => add_unless(
             faults,
-            is_known(within, locals, name.as_str()),
+            is_known(context, locals, name.as_str()),
             Rule::Unknown,
             place,
         ),
@@ -136,36 +136,36 @@ pub fn add_pending(
 
 // A method behind `base`.
 fn add_base_called(
-    within: Within<'_, '_>,
+    context: ClassContext<'_, '_>,
     locals: &Scopes,
     faults: &mut Vec<Fault>,
     bare: Option<Place>,
     name: &Name,
 ) -> Result<(), AllocError>
-    ensures { OnOk result (faults.new.items ≡ faults.old.items ++ member_called (scope_of within.entry locals.now) bare (name_tree name.now) TheBase) }
+    ensures { OnOk result (faults.new.items ≡ faults.old.items ++ member_called (scope_of context.entry locals.now) bare (name_tree name.now) TheBase) }
 {
     let text = name.text.as_str();
-    let known = is_state_word(text) || is_inherited(within.tables, within.class, text);
+    let known = is_state_word(text) || is_inherited(context.tables, context.class, text);
     add_unless(faults, known, Rule::Unknown, name.place)
 }
 
 // A method behind a class.
 fn add_class_called(
-    within: Within<'_, '_>,
+    context: ClassContext<'_, '_>,
     locals: &Scopes,
     faults: &mut Vec<Fault>,
     bare: Option<Place>,
     class: usize,
     name: &Name,
 ) -> Result<(), AllocError>
-    ensures { OnOk result (faults.new.items ≡ faults.old.items ++ member_called (scope_of within.entry locals.now) bare (name_tree name.now) (AClass class)) }
+    ensures { OnOk result (faults.new.items ≡ faults.old.items ++ member_called (scope_of context.entry locals.now) bare (name_tree name.now) (AClass class)) }
 {
     if is_state_word(name.text.as_str()) {
         return add_unknown_at(faults, bare);
     }
     add_unless(
         faults,
-        is_member(within.tables, class, name.text.as_str()),
+        is_member(context.tables, class, name.text.as_str()),
         Rule::Unknown,
         name.place,
     )
@@ -173,25 +173,25 @@ fn add_class_called(
 
 /// What an expression has besides where it is called.
 pub fn add_called(
-    within: Within<'_, '_>,
+    context: ClassContext<'_, '_>,
     locals: &Scopes,
     faults: &mut Vec<Fault>,
     prefix: Prefix<'_>,
 ) -> Result<(), AllocError>
-    ensures { OnOk result (faults.new.items ≡ faults.old.items ++ called (scope_of within.entry locals.now) (prefix_view prefix.entry)) }
+    ensures { OnOk result (faults.new.items ≡ faults.old.items ++ called (scope_of context.entry locals.now) (prefix_view prefix.entry)) }
 {
     match prefix {
         Prefix::Name(place, name) => add_unless(
             faults,
-            is_known(within, locals, name.as_str()),
+            is_known(context, locals, name.as_str()),
             Rule::Unknown,
             place,
         ),
         Prefix::Member(bare, Receiver::Class(class), name) => {
-            add_class_called(within, locals, faults, bare, class, name)
+            add_class_called(context, locals, faults, bare, class, name)
         }
         Prefix::Member(bare, Receiver::Base, name) => {
-            add_base_called(within, locals, faults, bare, name)
+            add_base_called(context, locals, faults, bare, name)
         }
         Prefix::Member(_, Receiver::Console | Receiver::Owner | Receiver::Value(_), _)
         | Prefix::Base
@@ -201,15 +201,15 @@ pub fn add_called(
 
 /// What an expression has besides where it is to be the name of a class.
 pub fn add_asked(
-    within: Within<'_, '_>,
+    context: ClassContext<'_, '_>,
     locals: &Scopes,
     faults: &mut Vec<Fault>,
     prefix: Prefix<'_>,
 ) -> Result<(), AllocError>
-    ensures { OnOk result (faults.new.items ≡ faults.old.items ++ asked (scope_of within.entry locals.now) (prefix_view prefix.entry)) }
+    ensures { OnOk result (faults.new.items ≡ faults.old.items ++ asked (scope_of context.entry locals.now) (prefix_view prefix.entry)) }
 {
     match prefix {
-        Prefix::Name(place, name) => check_class(within.tables, faults, name.as_str(), place),
+        Prefix::Name(place, name) => check_class(context.tables, faults, name.as_str(), place),
         Prefix::Member(bare, receiver, _) => add_member_pending(faults, bare, receiver),
         Prefix::Base | Prefix::Value(_) => Ok(()),
     }
@@ -217,14 +217,14 @@ pub fn add_asked(
 
 /// What an expression has besides where a dot and a name stand behind it.
 pub fn add_dotted(
-    within: Within<'_, '_>,
+    context: ClassContext<'_, '_>,
     locals: &Scopes,
     faults: &mut Vec<Fault>,
     prefix: Prefix<'_>,
     receiver: Receiver,
     name: &Name,
 ) -> Result<(), AllocError>
-    ensures { OnOk result (faults.new.items ≡ faults.old.items ++ dotted (scope_of within.entry locals.now) (prefix_view prefix.entry) (name_tree name.now) (receiver_of receiver)) }
+    ensures { OnOk result (faults.new.items ≡ faults.old.items ++ dotted (scope_of context.entry locals.now) (prefix_view prefix.entry) (name_tree name.now) (receiver_of receiver)) }
 {
     let text = name.text.as_str();
     match receiver {
@@ -232,8 +232,8 @@ pub fn add_dotted(
         Receiver::Owner => add_unless(faults, is_owner_word(text), Rule::Unknown, name.place),
         Receiver::Base | Receiver::Class(_) => Ok(()),
         Receiver::Value(ty) => {
-            add_pending(within, locals, faults, prefix)?;
-            let known = is_state_word(text) || has_member(within.tables, text, class_of_type(ty));
+            add_pending(context, locals, faults, prefix)?;
+            let known = is_state_word(text) || has_member(context.tables, text, class_of_type(ty));
             add_unless(faults, known, Rule::Unknown, name.place)
         }
     }

@@ -22,40 +22,42 @@ use ss_ast::{
 };
 use ss_faults::Fault;
 use ss_tables_lookup::{StaticType, Tables};
-use ss_tables_scopes::{NameScopes, Scopes, Within, declare_param, is_static_word, result_type};
+use ss_tables_scopes::{
+    ClassContext, NameScopes, Scopes, declare_param, is_static_word, result_type,
+};
 use std::alloc::{AllocError, Global};
 
 // A parameter.
 fn check_param(
     alloc: Global,
-    within: Within<'_, '_>,
+    context: ClassContext<'_, '_>,
     locals: &mut Scopes,
     faults: &mut Vec<Fault>,
     param: &Param,
 ) -> Result<(), AllocError>
     ensures noted { OnOk result (faults.new.items ≡ faults.old.items
-        ++ (type_faults (trees within.entry.tables.now) (param_tree param.now).ty ++ twice_in locals.old.inner (param_tree param.now).name)) }
-    ensures declared { OnOk result (scope_of within.entry locals.new
-        ≡ declare (scope_of within.entry locals.old) (param_tree param.now).name.text (record { ty = written_type (trees within.entry.tables.now) (param_tree param.now).ty; is_param = true })) }
+        ++ (type_faults (trees context.entry.tables.now) (param_tree param.now).ty ++ twice_in locals.old.inner (param_tree param.now).name)) }
+    ensures declared { OnOk result (scope_of context.entry locals.new
+        ≡ declare (scope_of context.entry locals.old) (param_tree param.now).name.text (record { ty = written_type (trees context.entry.tables.now) (param_tree param.now).ty; is_param = true })) }
 {
-    check_type(within.tables, faults, &param.ty)?;
+    check_type(context.tables, faults, &param.ty)?;
     check_local(locals, faults, &param.name)?;
-    declare_param(alloc, within, locals, param)
+    declare_param(alloc, context, locals, param)
 }
 
 // Parameters.
 fn check_params(
     alloc: Global,
-    within: Within<'_, '_>,
+    context: ClassContext<'_, '_>,
     locals: &mut Scopes,
     faults: &mut Vec<Fault>,
     params: &[Param],
 ) -> Result<(), AllocError>
-    ensures noted { OnOk result (faults.new.items ≡ faults.old.items ++ params_faults (scope_of within.entry locals.old) (map param_tree params.now)) }
-    ensures declared { OnOk result (scope_of within.entry locals.new ≡ declare_params (scope_of within.entry locals.old) (map param_tree params.now)) }
+    ensures noted { OnOk result (faults.new.items ≡ faults.old.items ++ params_faults (scope_of context.entry locals.old) (map param_tree params.now)) }
+    ensures declared { OnOk result (scope_of context.entry locals.new ≡ declare_params (scope_of context.entry locals.old) (map param_tree params.now)) }
 {
     for param in params {
-        check_param(alloc, within, locals, faults, param)?;
+        check_param(alloc, context, locals, faults, param)?;
     }
     Ok(())
 }
@@ -70,68 +72,68 @@ fn modified_expr(modified: &Modified) -> &Expr
 
 fn check_modified(
     alloc: Global,
-    within: Within<'_, '_>,
+    context: ClassContext<'_, '_>,
     locals: &mut Scopes,
     faults: &mut Vec<Fault>,
     list: &[Modified],
 ) -> Result<(), AllocError>
-    ensures noted { OnOk result (faults.new.items ≡ faults.old.items ++ modified_faults (scope_of within.entry locals.old) (map modified_tree list.now)) }
+    ensures noted { OnOk result (faults.new.items ≡ faults.old.items ++ modified_faults (scope_of context.entry locals.old) (map modified_tree list.now)) }
     ensures kept { OnOk result (locals.new ≡ locals.old) }
 {
     for modified in list {
-        check(alloc, within, locals, faults, modified_expr(modified))?;
+        check(alloc, context, locals, faults, modified_expr(modified))?;
     }
     Ok(())
 }
 
 // The same place in a method, static or not, where `result` has this type.
 fn in_method<'t, 'p>(
-    within: Within<'t, 'p>,
+    context: ClassContext<'t, 'p>,
     is_static: bool,
     outcome: Option<StaticType>,
-) -> Within<'t, 'p>
-    ensures { (names : Names) → scope_of result names ≡ in_method (scope_of within.entry names) is_static (option_map type_of outcome) }
+) -> ClassContext<'t, 'p>
+    ensures { (names : Names) → scope_of result names ≡ in_method (scope_of context.entry names) is_static (option_map type_of outcome) }
 {
-    Within {
-        tables: within.tables,
-        class: within.class,
+    ClassContext {
+        tables: context.tables,
+        class: context.class,
         refuses_members: is_static,
-        refuses_this: within.refuses_this,
+        refuses_this: context.refuses_this,
         outcome,
     }
 }
 
 fn check_clause(
     alloc: Global,
-    within: Within<'_, '_>,
+    context: ClassContext<'_, '_>,
     locals: &mut Scopes,
     faults: &mut Vec<Fault>,
     clause: &Clause,
 ) -> Result<(), AllocError>
-    ensures noted { OnOk result (faults.new.items ≡ faults.old.items ++ clause_faults (scope_of within.entry locals.old) (clause_tree clause.now)) }
+    ensures noted { OnOk result (faults.new.items ≡ faults.old.items ++ clause_faults (scope_of context.entry locals.old) (clause_tree clause.now)) }
     ensures kept { OnOk result (locals.new ≡ locals.old) }
 {
     match clause {
         Clause::Requires(e) | Clause::Ensures(e) => {
-            check(alloc, within, locals, faults, e)?;
+            check(alloc, context, locals, faults, e)?;
             Ok(())
         }
-        Clause::Modifies(list) => check_modified(alloc, within, locals, faults, list),
+        Clause::Modifies(list) => check_modified(alloc, context, locals, faults, list),
     }
 }
 
 fn check_clauses(
     alloc: Global,
-    within: Within<'_, '_>,
+    context: ClassContext<'_, '_>,
     locals: &mut Scopes,
     faults: &mut Vec<Fault>,
     clauses: &[Clause],
 ) -> Result<(), AllocError>
-    ensures noted { OnOk result (faults.new.items ≡ faults.old.items ++ clauses_faults (scope_of within.entry locals.old) (map clause_tree clauses.now)) }
+    ensures noted { OnOk result (faults.new.items ≡ faults.old.items ++ clauses_faults (scope_of context.entry locals.old) (map clause_tree clauses.now)) }
     ensures kept { OnOk result (locals.new ≡ locals.old) }
 {
     for clause in clauses {
-        check_clause(alloc, within, locals, faults, clause)?;
+        check_clause(alloc, context, locals, faults, clause)?;
     }
     Ok(())
 }
@@ -151,32 +153,32 @@ fn check_result(
 
 fn check_base(
     alloc: Global,
-    within: Within<'_, '_>,
+    context: ClassContext<'_, '_>,
     locals: &mut Scopes,
     faults: &mut Vec<Fault>,
     base: &Option<BaseCall>,
 ) -> Result<(), AllocError>
-    ensures noted { OnOk result (faults.new.items ≡ faults.old.items ++ base_faults (scope_of within.entry locals.old) (option_map base_call_tree base.now)) }
+    ensures noted { OnOk result (faults.new.items ≡ faults.old.items ++ base_faults (scope_of context.entry locals.old) (option_map base_call_tree base.now)) }
     ensures kept { OnOk result (locals.new ≡ locals.old) }
 {
     match base {
-        Some(base) => check_all(alloc, within, locals, faults, &base.arguments),
+        Some(base) => check_all(alloc, context, locals, faults, &base.arguments),
         None => Ok(()),
     }
 }
 
 fn check_initials(
     alloc: Global,
-    within: Within<'_, '_>,
+    context: ClassContext<'_, '_>,
     locals: &mut Scopes,
     faults: &mut Vec<Fault>,
     declarators: &[Declarator],
 ) -> Result<(), AllocError>
-    ensures noted { OnOk result (faults.new.items ≡ faults.old.items ++ initials_faults (scope_of within.entry locals.old) (map declarator_tree declarators.now)) }
+    ensures noted { OnOk result (faults.new.items ≡ faults.old.items ++ initials_faults (scope_of context.entry locals.old) (map declarator_tree declarators.now)) }
     ensures kept { OnOk result (locals.new ≡ locals.old) }
 {
     for declarator in declarators {
-        check_any(alloc, within, locals, faults, &declarator.initial)?;
+        check_any(alloc, context, locals, faults, &declarator.initial)?;
     }
     Ok(())
 }
@@ -184,7 +186,7 @@ fn check_initials(
 // The parameters, the contract and the body.
 fn check_body(
     alloc: Global,
-    within: Within<'_, '_>,
+    context: ClassContext<'_, '_>,
     locals: &mut Scopes,
     faults: &mut Vec<Fault>,
     params: &[Param],
@@ -192,28 +194,28 @@ fn check_body(
     clauses: &[Clause],
     block: &Block,
 ) -> Result<(), AllocError>
-    ensures { OnOk result (faults.new.items ≡ faults.old.items ++ body_faults (scope_of within.entry locals.old) (map param_tree params.now)
+    ensures { OnOk result (faults.new.items ≡ faults.old.items ++ body_faults (scope_of context.entry locals.old) (map param_tree params.now)
         (option_map base_call_tree base.now) (map clause_tree clauses.now) (block_tree block.now)) }
 {
-    check_params(alloc, within, locals, faults, params)?;
-    check_base(alloc, within, locals, faults, base)?;
-    check_clauses(alloc, within, locals, faults, clauses)?;
-    check_block(alloc, within, locals, faults, block)
+    check_params(alloc, context, locals, faults, params)?;
+    check_base(alloc, context, locals, faults, base)?;
+    check_clauses(alloc, context, locals, faults, clauses)?;
+    check_block(alloc, context, locals, faults, block)
 }
 
 fn check_method(
     alloc: Global,
-    within: Within<'_, '_>,
+    context: ClassContext<'_, '_>,
     locals: &mut Scopes,
     faults: &mut Vec<Fault>,
     words: &[Modifier],
     method: &Method,
 ) -> Result<(), AllocError>
-    ensures { OnOk result (faults.new.items ≡ faults.old.items ++ kind_faults (scope_of within.entry locals.old) words.now (member_kind_tree (MemberKind.Method method.now))) }
+    ensures { OnOk result (faults.new.items ≡ faults.old.items ++ kind_faults (scope_of context.entry locals.old) words.now (member_kind_tree (MemberKind.Method method.now))) }
 {
-    check_result(within.tables, faults, &method.returns)?;
-    let outcome = result_type(within.tables, &method.returns);
-    let inner = in_method(within, is_static_word(words), outcome);
+    check_result(context.tables, faults, &method.returns)?;
+    let outcome = result_type(context.tables, &method.returns);
+    let inner = in_method(context, is_static_word(words), outcome);
     check_body(
         alloc,
         inner,
@@ -228,17 +230,17 @@ fn check_method(
 
 fn check_constructor(
     alloc: Global,
-    within: Within<'_, '_>,
+    context: ClassContext<'_, '_>,
     locals: &mut Scopes,
     faults: &mut Vec<Fault>,
     constructor: &Constructor,
 ) -> Result<(), AllocError>
-    ensures { OnOk result (faults.new.items ≡ faults.old.items ++ body_faults (scope_of within.entry locals.old) (map param_tree constructor.now.params.items)
+    ensures { OnOk result (faults.new.items ≡ faults.old.items ++ body_faults (scope_of context.entry locals.old) (map param_tree constructor.now.params.items)
         (option_map base_call_tree constructor.now.base) (map clause_tree constructor.now.clauses.items) (block_tree constructor.now.body)) }
 {
     check_body(
         alloc,
-        within,
+        context,
         locals,
         faults,
         &constructor.params,
@@ -259,7 +261,7 @@ fn check_member(
     requires { class < length (trees tables.now) }
     ensures { OnOk result (faults.new.items ≡ faults.old.items ++ kind_faults (class_scope (trees tables.now) class) (member_tree member.now).modifiers (member_tree member.now).kind) }
 {
-    let within = Within {
+    let context = ClassContext {
         tables,
         class,
         refuses_members: false,
@@ -270,16 +272,22 @@ fn check_member(
     match &member.kind {
         MemberKind::Fields(declaration) => {
             check_type(tables, faults, &declaration.ty)?;
-            check_initials(alloc, within, &mut locals, faults, &declaration.declarators)
+            check_initials(
+                alloc,
+                context,
+                &mut locals,
+                faults,
+                &declaration.declarators,
+            )
         }
         MemberKind::Invariant(e) => {
-            check(alloc, within, &mut locals, faults, e)?;
+            check(alloc, context, &mut locals, faults, e)?;
             Ok(())
         }
         MemberKind::Method(method) => {
             check_method(
                 alloc,
-                within,
+                context,
                 &mut locals,
                 faults,
                 &member.modifiers,
@@ -287,7 +295,7 @@ fn check_member(
             )
         }
         MemberKind::Constructor(constructor) => {
-            check_constructor(alloc, within, &mut locals, faults, constructor)
+            check_constructor(alloc, context, &mut locals, faults, constructor)
         }
     }
 }

@@ -16,22 +16,22 @@ use ss_ast::{Block, Declaration, Declarator, Expr, ForInit, Name, Simple, Stmt, 
 use ss_core::Rule;
 use ss_faults::Fault;
 use ss_tables_lookup::Tables;
-use ss_tables_scopes::{LocalInfo, Scopes, Within};
+use ss_tables_scopes::{ClassContext, LocalInfo, Scopes};
 use std::alloc::{AllocError, Global};
 
 /// Some expressions, one after the other.
 pub fn check_all(
     alloc: Global,
-    within: Within<'_, '_>,
+    context: ClassContext<'_, '_>,
     locals: &mut Scopes,
     faults: &mut Vec<Fault>,
     exprs: &[Expr],
 ) -> Result<(), AllocError>
-    ensures noted { OnOk result (faults.new.items ≡ faults.old.items ++ faults_of_all (scope_of within.entry locals.old) (map expr_tree exprs.now)) }
+    ensures noted { OnOk result (faults.new.items ≡ faults.old.items ++ faults_of_all (scope_of context.entry locals.old) (map expr_tree exprs.now)) }
     ensures kept { OnOk result (locals.new ≡ locals.old) }
 {
     for e in exprs {
-        check(alloc, within, locals, faults, e)?;
+        check(alloc, context, locals, faults, e)?;
     }
     Ok(())
 }
@@ -39,16 +39,16 @@ pub fn check_all(
 /// An expression, where there is one.
 pub fn check_any(
     alloc: Global,
-    within: Within<'_, '_>,
+    context: ClassContext<'_, '_>,
     locals: &mut Scopes,
     faults: &mut Vec<Fault>,
     e: &Option<Expr>,
 ) -> Result<(), AllocError>
-    ensures noted { OnOk result (faults.new.items ≡ faults.old.items ++ faults_of_any (scope_of within.entry locals.old) (option_map expr_tree e.now)) }
+    ensures noted { OnOk result (faults.new.items ≡ faults.old.items ++ faults_of_any (scope_of context.entry locals.old) (option_map expr_tree e.now)) }
     ensures kept { OnOk result (locals.new ≡ locals.old) }
 {
     if let Some(e) = e {
-        check(alloc, within, locals, faults, e)?;
+        check(alloc, context, locals, faults, e)?;
     }
     Ok(())
 }
@@ -66,21 +66,21 @@ pub fn check_local(locals: &Scopes, faults: &mut Vec<Fault>, name: &Name) -> Res
 // A declared local.
 fn check_declarator(
     alloc: Global,
-    within: Within<'_, '_>,
+    context: ClassContext<'_, '_>,
     locals: &mut Scopes,
     faults: &mut Vec<Fault>,
     ty: &TypeRef,
     declarator: &Declarator,
 ) -> Result<(), AllocError>
     ensures noted { OnOk result (faults.new.items ≡ faults.old.items
-        ++ (faults_of_any (scope_of within.entry locals.old) (declarator_tree declarator.now).initial ++ twice_in locals.old.inner (declarator_tree declarator.now).name)) }
-    ensures kept { OnOk result (scope_of within.entry locals.new ≡ declare_local (scope_of within.entry locals.old) (type_tree ty.now) (declarator_tree declarator.now).name) }
+        ++ (faults_of_any (scope_of context.entry locals.old) (declarator_tree declarator.now).initial ++ twice_in locals.old.inner (declarator_tree declarator.now).name)) }
+    ensures kept { OnOk result (scope_of context.entry locals.new ≡ declare_local (scope_of context.entry locals.old) (type_tree ty.now) (declarator_tree declarator.now).name) }
     ensures around { OnOk result (locals.new.outer ≡ locals.old.outer) }
 {
-    check_any(alloc, within, locals, faults, &declarator.initial)?;
+    check_any(alloc, context, locals, faults, &declarator.initial)?;
     check_local(locals, faults, &declarator.name)?;
     let local = LocalInfo {
-        ty: within.tables.written_type(ty),
+        ty: context.tables.written_type(ty),
         is_param: false,
     };
     locals.declare(alloc, declarator.name.text.as_str(), local)
@@ -89,19 +89,19 @@ fn check_declarator(
 // A declaration.
 fn check_declaration(
     alloc: Global,
-    within: Within<'_, '_>,
+    context: ClassContext<'_, '_>,
     locals: &mut Scopes,
     faults: &mut Vec<Fault>,
     declaration: &Declaration,
 ) -> Result<(), AllocError>
-    ensures noted { OnOk result (faults.new.items ≡ faults.old.items ++ declaration_faults (scope_of within.entry locals.old) (declaration_tree declaration.now)) }
-    ensures kept { OnOk result (scope_of within.entry locals.new ≡ declare_all (scope_of within.entry locals.old) (type_tree declaration.now.ty) (map declarator_tree declaration.now.declarators.items)) }
+    ensures noted { OnOk result (faults.new.items ≡ faults.old.items ++ declaration_faults (scope_of context.entry locals.old) (declaration_tree declaration.now)) }
+    ensures kept { OnOk result (scope_of context.entry locals.new ≡ declare_all (scope_of context.entry locals.old) (type_tree declaration.now.ty) (map declarator_tree declaration.now.declarators.items)) }
     ensures around { OnOk result (locals.new.outer ≡ locals.old.outer) }
 {
-    check_type(within.tables, faults, &declaration.ty)?;
+    check_type(context.tables, faults, &declaration.ty)?;
     check_declarators(
         alloc,
-        within,
+        context,
         locals,
         faults,
         &declaration.ty,
@@ -111,18 +111,18 @@ fn check_declaration(
 
 fn check_declarators(
     alloc: Global,
-    within: Within<'_, '_>,
+    context: ClassContext<'_, '_>,
     locals: &mut Scopes,
     faults: &mut Vec<Fault>,
     ty: &TypeRef,
     declarators: &[Declarator],
 ) -> Result<(), AllocError>
-    ensures noted { OnOk result (faults.new.items ≡ faults.old.items ++ declarators_faults (scope_of within.entry locals.old) (type_tree ty.now) (map declarator_tree declarators.now)) }
-    ensures kept { OnOk result (scope_of within.entry locals.new ≡ declare_all (scope_of within.entry locals.old) (type_tree ty.now) (map declarator_tree declarators.now)) }
+    ensures noted { OnOk result (faults.new.items ≡ faults.old.items ++ declarators_faults (scope_of context.entry locals.old) (type_tree ty.now) (map declarator_tree declarators.now)) }
+    ensures kept { OnOk result (scope_of context.entry locals.new ≡ declare_all (scope_of context.entry locals.old) (type_tree ty.now) (map declarator_tree declarators.now)) }
     ensures around { OnOk result (locals.new.outer ≡ locals.old.outer) }
 {
     for declarator in declarators {
-        check_declarator(alloc, within, locals, faults, ty, declarator)?;
+        check_declarator(alloc, context, locals, faults, ty, declarator)?;
     }
     Ok(())
 }
@@ -130,26 +130,26 @@ fn check_declarators(
 // A statement that may stand in the heading of a `for`.
 fn check_simple(
     alloc: Global,
-    within: Within<'_, '_>,
+    context: ClassContext<'_, '_>,
     locals: &mut Scopes,
     faults: &mut Vec<Fault>,
     stmt: &Simple,
 ) -> Result<(), AllocError>
-    ensures noted { OnOk result (faults.new.items ≡ faults.old.items ++ simple_faults (scope_of within.entry locals.old) (simple_tree stmt.now)) }
+    ensures noted { OnOk result (faults.new.items ≡ faults.old.items ++ simple_faults (scope_of context.entry locals.old) (simple_tree stmt.now)) }
     ensures kept { OnOk result (locals.new ≡ locals.old) }
 {
     match stmt {
         Simple::Assign(target, _, value) => {
-            check(alloc, within, locals, faults, target)?;
-            check(alloc, within, locals, faults, value)?;
+            check(alloc, context, locals, faults, target)?;
+            check(alloc, context, locals, faults, value)?;
             Ok(())
         }
         Simple::Step(target, _) => {
-            check(alloc, within, locals, faults, target)?;
+            check(alloc, context, locals, faults, target)?;
             Ok(())
         }
         Simple::Alone(e) => {
-            check(alloc, within, locals, faults, e)?;
+            check(alloc, context, locals, faults, e)?;
             Ok(())
         }
     }
@@ -157,16 +157,16 @@ fn check_simple(
 
 fn check_any_simple(
     alloc: Global,
-    within: Within<'_, '_>,
+    context: ClassContext<'_, '_>,
     locals: &mut Scopes,
     faults: &mut Vec<Fault>,
     stmt: &Option<Simple>,
 ) -> Result<(), AllocError>
-    ensures noted { OnOk result (faults.new.items ≡ faults.old.items ++ faults_of_any_simple (scope_of within.entry locals.old) (option_map simple_tree stmt.now)) }
+    ensures noted { OnOk result (faults.new.items ≡ faults.old.items ++ faults_of_any_simple (scope_of context.entry locals.old) (option_map simple_tree stmt.now)) }
     ensures kept { OnOk result (locals.new ≡ locals.old) }
 {
     match stmt {
-        Some(stmt) => check_simple(alloc, within, locals, faults, stmt),
+        Some(stmt) => check_simple(alloc, context, locals, faults, stmt),
         None => Ok(()),
     }
 }
@@ -174,20 +174,20 @@ fn check_any_simple(
 // What a `for` begins with.
 fn check_init(
     alloc: Global,
-    within: Within<'_, '_>,
+    context: ClassContext<'_, '_>,
     locals: &mut Scopes,
     faults: &mut Vec<Fault>,
     init: &Option<ForInit>,
 ) -> Result<(), AllocError>
-    ensures noted { OnOk result (faults.new.items ≡ faults.old.items ++ init_faults (scope_of within.entry locals.old) (option_map for_init_tree init.now)) }
-    ensures kept { OnOk result (scope_of within.entry locals.new ≡ behind_init (scope_of within.entry locals.old) (option_map for_init_tree init.now)) }
+    ensures noted { OnOk result (faults.new.items ≡ faults.old.items ++ init_faults (scope_of context.entry locals.old) (option_map for_init_tree init.now)) }
+    ensures kept { OnOk result (scope_of context.entry locals.new ≡ behind_init (scope_of context.entry locals.old) (option_map for_init_tree init.now)) }
     ensures around { OnOk result (locals.new.outer ≡ locals.old.outer) }
 {
     match init {
         Some(ForInit::Declare(declaration)) => {
-            check_declaration(alloc, within, locals, faults, declaration)
+            check_declaration(alloc, context, locals, faults, declaration)
         }
-        Some(ForInit::Simple(stmt)) => check_simple(alloc, within, locals, faults, stmt),
+        Some(ForInit::Simple(stmt)) => check_simple(alloc, context, locals, faults, stmt),
         None => Ok(()),
     }
 }
@@ -195,25 +195,25 @@ fn check_init(
 // The test, the step and the invariants of a `for`.
 fn check_heading(
     alloc: Global,
-    within: Within<'_, '_>,
+    context: ClassContext<'_, '_>,
     locals: &mut Scopes,
     faults: &mut Vec<Fault>,
     test: &Option<Expr>,
     step: &Option<Simple>,
     invariants: &[Expr],
 ) -> Result<(), AllocError>
-    ensures noted { OnOk result (faults.new.items ≡ faults.old.items ++ heading_faults (scope_of within.entry locals.old) (option_map expr_tree test.now) (option_map simple_tree step.now) (map expr_tree invariants.now)) }
+    ensures noted { OnOk result (faults.new.items ≡ faults.old.items ++ heading_faults (scope_of context.entry locals.old) (option_map expr_tree test.now) (option_map simple_tree step.now) (map expr_tree invariants.now)) }
     ensures kept { OnOk result (locals.new ≡ locals.old) }
 {
-    check_any(alloc, within, locals, faults, test)?;
-    check_any_simple(alloc, within, locals, faults, step)?;
-    check_all(alloc, within, locals, faults, invariants)
+    check_any(alloc, context, locals, faults, test)?;
+    check_any_simple(alloc, context, locals, faults, step)?;
+    check_all(alloc, context, locals, faults, invariants)
 }
 
 // What a `for` begins with, and its heading.
 fn check_start(
     alloc: Global,
-    within: Within<'_, '_>,
+    context: ClassContext<'_, '_>,
     locals: &mut Scopes,
     faults: &mut Vec<Fault>,
     init: &Option<ForInit>,
@@ -221,13 +221,13 @@ fn check_start(
     step: &Option<Simple>,
     invariants: &[Expr],
 ) -> Result<(), AllocError>
-    ensures noted { OnOk result (faults.new.items ≡ faults.old.items ++ (init_faults (scope_of within.entry locals.old) (option_map for_init_tree init.now)
-        ++ heading_faults (behind_init (scope_of within.entry locals.old) (option_map for_init_tree init.now)) (option_map expr_tree test.now) (option_map simple_tree step.now) (map expr_tree invariants.now))) }
-    ensures kept { OnOk result (scope_of within.entry locals.new ≡ behind_init (scope_of within.entry locals.old) (option_map for_init_tree init.now)) }
+    ensures noted { OnOk result (faults.new.items ≡ faults.old.items ++ (init_faults (scope_of context.entry locals.old) (option_map for_init_tree init.now)
+        ++ heading_faults (behind_init (scope_of context.entry locals.old) (option_map for_init_tree init.now)) (option_map expr_tree test.now) (option_map simple_tree step.now) (map expr_tree invariants.now))) }
+    ensures kept { OnOk result (scope_of context.entry locals.new ≡ behind_init (scope_of context.entry locals.old) (option_map for_init_tree init.now)) }
     ensures around { OnOk result (locals.new.outer ≡ locals.old.outer) }
 {
-    check_init(alloc, within, locals, faults, init)?;
-    check_heading(alloc, within, locals, faults, test, step, invariants)
+    check_init(alloc, context, locals, faults, init)?;
+    check_heading(alloc, context, locals, faults, test, step, invariants)
 }
 
 // The class that an `expose` names.
@@ -247,49 +247,49 @@ fn check_named_class(
 #[cycle(stmt)]
 fn check_stmt(
     alloc: Global,
-    within: Within<'_, '_>,
+    context: ClassContext<'_, '_>,
     locals: &mut Scopes,
     faults: &mut Vec<Fault>,
     stmt: &Stmt,
 ) -> Result<(), AllocError>
-    ensures noted { OnOk result (faults.new.items ≡ faults.old.items ++ stmt_faults (scope_of within.entry locals.old) (stmt_tree stmt.now)) }
-    ensures kept { OnOk result (scope_of within.entry locals.new ≡ behind (scope_of within.entry locals.old) (stmt_tree stmt.now)) }
+    ensures noted { OnOk result (faults.new.items ≡ faults.old.items ++ stmt_faults (scope_of context.entry locals.old) (stmt_tree stmt.now)) }
+    ensures kept { OnOk result (scope_of context.entry locals.new ≡ behind (scope_of context.entry locals.old) (stmt_tree stmt.now)) }
     ensures around { OnOk result (locals.new.outer ≡ locals.old.outer) }
 {
     match stmt {
-        Stmt::Block(block) => check_block(alloc, within, locals, faults, block),
+        Stmt::Block(block) => check_block(alloc, context, locals, faults, block),
         Stmt::Declare(declaration) => {
-            check_declaration(alloc, within, locals, faults, declaration)
+            check_declaration(alloc, context, locals, faults, declaration)
         }
-        Stmt::Simple(stmt) => check_simple(alloc, within, locals, faults, stmt),
+        Stmt::Simple(stmt) => check_simple(alloc, context, locals, faults, stmt),
         Stmt::If(_, test, first, None) => {
-            check(alloc, within, locals, faults, test)?;
-            check_governed(alloc, within, locals, faults, first)
+            check(alloc, context, locals, faults, test)?;
+            check_governed(alloc, context, locals, faults, first)
         }
         Stmt::If(_, test, first, Some(second)) => {
-            check(alloc, within, locals, faults, test)?;
-            check_governed(alloc, within, locals, faults, first)?;
-            check_governed(alloc, within, locals, faults, second)
+            check(alloc, context, locals, faults, test)?;
+            check_governed(alloc, context, locals, faults, first)?;
+            check_governed(alloc, context, locals, faults, second)
         }
         Stmt::While(_, test, invariants, body) => {
-            check(alloc, within, locals, faults, test)?;
-            check_all(alloc, within, locals, faults, invariants)?;
-            check_governed(alloc, within, locals, faults, body)
+            check(alloc, context, locals, faults, test)?;
+            check_all(alloc, context, locals, faults, invariants)?;
+            check_governed(alloc, context, locals, faults, body)
         }
         Stmt::For(_, init, test, step, invariants, body) => {
             locals.enter(alloc)?;
-            check_start(alloc, within, locals, faults, init, test, step, invariants)?;
-            check_loop(alloc, within, locals, faults, body)
+            check_start(alloc, context, locals, faults, init, test, step, invariants)?;
+            check_loop(alloc, context, locals, faults, body)
         }
-        Stmt::Return(_, e) => check_any(alloc, within, locals, faults, e),
+        Stmt::Return(_, e) => check_any(alloc, context, locals, faults, e),
         Stmt::Assert(_, e) | Stmt::Assume(_, e) => {
-            check(alloc, within, locals, faults, e)?;
+            check(alloc, context, locals, faults, e)?;
             Ok(())
         }
         Stmt::Expose(_, e, name, block) => {
-            check(alloc, within, locals, faults, e)?;
-            check_named_class(within.tables, faults, name)?;
-            check_block(alloc, within, locals, faults, block)
+            check(alloc, context, locals, faults, e)?;
+            check_named_class(context.tables, faults, name)?;
+            check_block(alloc, context, locals, faults, block)
         }
         Stmt::Empty(_) => Ok(()),
     }
@@ -299,15 +299,15 @@ fn check_stmt(
 #[cycle(stmt)]
 fn check_loop(
     alloc: Global,
-    within: Within<'_, '_>,
+    context: ClassContext<'_, '_>,
     locals: &mut Scopes,
     faults: &mut Vec<Fault>,
     body: &Stmt,
 ) -> Result<(), AllocError>
-    ensures noted { OnOk result (faults.new.items ≡ faults.old.items ++ stmt_faults (enter (scope_of within.entry locals.old)) (stmt_tree body.now)) }
+    ensures noted { OnOk result (faults.new.items ≡ faults.old.items ++ stmt_faults (enter (scope_of context.entry locals.old)) (stmt_tree body.now)) }
     ensures closed { OnOk result (locals.new ≡ left locals.old) }
 {
-    check_governed(alloc, within, locals, faults, body)?;
+    check_governed(alloc, context, locals, faults, body)?;
     locals.leave();
     Ok(())
 }
@@ -316,16 +316,16 @@ fn check_loop(
 #[cycle(stmt)]
 fn check_governed(
     alloc: Global,
-    within: Within<'_, '_>,
+    context: ClassContext<'_, '_>,
     locals: &mut Scopes,
     faults: &mut Vec<Fault>,
     stmt: &Stmt,
 ) -> Result<(), AllocError>
-    ensures noted { OnOk result (faults.new.items ≡ faults.old.items ++ stmt_faults (enter (scope_of within.entry locals.old)) (stmt_tree stmt.now)) }
+    ensures noted { OnOk result (faults.new.items ≡ faults.old.items ++ stmt_faults (enter (scope_of context.entry locals.old)) (stmt_tree stmt.now)) }
     ensures kept { OnOk result (locals.new ≡ locals.old) }
 {
     locals.enter(alloc)?;
-    check_stmt(alloc, within, locals, faults, stmt)?;
+    check_stmt(alloc, context, locals, faults, stmt)?;
     locals.leave();
     Ok(())
 }
@@ -334,16 +334,16 @@ fn check_governed(
 #[cycle(stmt)]
 pub fn check_block(
     alloc: Global,
-    within: Within<'_, '_>,
+    context: ClassContext<'_, '_>,
     locals: &mut Scopes,
     faults: &mut Vec<Fault>,
     block: &Block,
 ) -> Result<(), AllocError>
-    ensures noted { OnOk result (faults.new.items ≡ faults.old.items ++ block_faults (scope_of within.entry locals.old) (block_tree block.now)) }
+    ensures noted { OnOk result (faults.new.items ≡ faults.old.items ++ block_faults (scope_of context.entry locals.old) (block_tree block.now)) }
     ensures kept { OnOk result (locals.new ≡ locals.old) }
 {
     locals.enter(alloc)?;
-    check_stmts(alloc, within, locals, faults, &block.statements)?;
+    check_stmts(alloc, context, locals, faults, &block.statements)?;
     locals.leave();
     Ok(())
 }
@@ -351,16 +351,16 @@ pub fn check_block(
 #[cycle(stmt)]
 fn check_stmts(
     alloc: Global,
-    within: Within<'_, '_>,
+    context: ClassContext<'_, '_>,
     locals: &mut Scopes,
     faults: &mut Vec<Fault>,
     stmts: &[Stmt],
 ) -> Result<(), AllocError>
-    ensures noted { OnOk result (faults.new.items ≡ faults.old.items ++ stmts_faults (scope_of within.entry locals.old) (stmt_trees (map stmt_tree stmts.now))) }
+    ensures noted { OnOk result (faults.new.items ≡ faults.old.items ++ stmts_faults (scope_of context.entry locals.old) (stmt_trees (map stmt_tree stmts.now))) }
     ensures around { OnOk result (locals.new.outer ≡ locals.old.outer) }
 {
     for stmt in stmts {
-        check_stmt(alloc, within, locals, faults, stmt)?;
+        check_stmt(alloc, context, locals, faults, stmt)?;
     }
     Ok(())
 }

@@ -26,27 +26,27 @@ use ss_resolver_scoping::{
 };
 use ss_tables_lookup::StaticType;
 use ss_tables_scopes::{
-    LocalInfo, Scopes, Within, call_type, called_with, count, link_type, new_type, type_of_cast,
-    type_of_element,
+    ClassContext, LocalInfo, Scopes, call_type, called_with, count, link_type, new_type,
+    type_of_cast, type_of_element,
 };
 use std::alloc::{AllocError, Global};
 
 // A dot and a name behind the beginning of a path.
 fn walk_member<'a>(
-    within: Within<'_, '_>,
+    context: ClassContext<'_, '_>,
     locals: &Scopes,
     faults: &mut Vec<Fault>,
     place: Place,
     before: Prefix<'a>,
     name: &'a Name,
 ) -> Result<Prefix<'a>, AllocError>
-    ensures noted { (e : ExprTree) → (found : Faults) → faults.old.items ≡ found ++ settled (scope_of within.entry locals.now) e → prefix_view before.entry ≡ prefix (scope_of within.entry locals.now) e
-        → OnOk result (faults.new.items ≡ found ++ settled (scope_of within.entry locals.now) (MemberOf place e (name_tree name.now))) }
-    ensures begun { (e : ExprTree) → prefix_view before.entry ≡ prefix (scope_of within.entry locals.now) e
-        → IfOk result (λ r. prefix_view r ≡ prefix (scope_of within.entry locals.now) (MemberOf place e (name_tree name.now))) }
+    ensures noted { (e : ExprTree) → (found : Faults) → faults.old.items ≡ found ++ settled (scope_of context.entry locals.now) e → prefix_view before.entry ≡ prefix (scope_of context.entry locals.now) e
+        → OnOk result (faults.new.items ≡ found ++ settled (scope_of context.entry locals.now) (MemberOf place e (name_tree name.now))) }
+    ensures begun { (e : ExprTree) → prefix_view before.entry ≡ prefix (scope_of context.entry locals.now) e
+        → IfOk result (λ r. prefix_view r ≡ prefix (scope_of context.entry locals.now) (MemberOf place e (name_tree name.now))) }
 {
-    let receiver = prefix_receiver(within, locals, before);
-    add_dotted(within, locals, faults, before, receiver, name)?;
+    let receiver = prefix_receiver(context, locals, before);
+    add_dotted(context, locals, faults, before, receiver, name)?;
     Ok(Prefix::Member(bare_place(before), receiver, name))
 }
 
@@ -54,49 +54,49 @@ fn walk_member<'a>(
 #[cycle(expr)]
 pub fn walk<'a>(
     alloc: Global,
-    within: Within<'_, '_>,
+    context: ClassContext<'_, '_>,
     locals: &mut Scopes,
     faults: &mut Vec<Fault>,
     e: &'a Expr,
 ) -> Result<Prefix<'a>, AllocError>
-    ensures noted { OnOk result (faults.new.items ≡ faults.old.items ++ settled (scope_of within.entry locals.old) (expr_tree e.now)) }
-    ensures begun { IfOk result (λ r. prefix_view r ≡ prefix (scope_of within.entry locals.old) (expr_tree e.now)) }
+    ensures noted { OnOk result (faults.new.items ≡ faults.old.items ++ settled (scope_of context.entry locals.old) (expr_tree e.now)) }
+    ensures begun { IfOk result (λ r. prefix_view r ≡ prefix (scope_of context.entry locals.old) (expr_tree e.now)) }
     ensures kept { OnOk result (locals.new ≡ locals.old) }
 {
     match e {
         Expr::Iff(_, a, b) | Expr::Implies(_, a, b) => {
-            check(alloc, within, locals, faults, a)?;
-            walk_operand(alloc, within, locals, faults, StaticType::Bool, b)
+            check(alloc, context, locals, faults, a)?;
+            walk_operand(alloc, context, locals, faults, StaticType::Bool, b)
         }
         Expr::Chain(place, first, links) => {
-            let before = walk(alloc, within, locals, faults, first)?;
-            walk_links(alloc, within, locals, faults, *place, before, links)
+            let before = walk(alloc, context, locals, faults, first)?;
+            walk_links(alloc, context, locals, faults, *place, before, links)
         }
         Expr::Path(place, first, postfixes) => {
-            let before = walk(alloc, within, locals, faults, first)?;
-            walk_postfixes(alloc, within, locals, faults, *place, before, postfixes)
+            let before = walk(alloc, context, locals, faults, first)?;
+            walk_postfixes(alloc, context, locals, faults, *place, before, postfixes)
         }
-        Expr::Negate(_, e) => walk_operand(alloc, within, locals, faults, StaticType::Int, e),
-        Expr::Not(_, e) => walk_operand(alloc, within, locals, faults, StaticType::Bool, e),
-        Expr::Cast(_, ty, e) => walk_cast(alloc, within, locals, faults, ty, e),
-        Expr::Paren(_, e) | Expr::Old(_, e) => walk_paren(alloc, within, locals, faults, e),
-        Expr::New(_, name, exprs) => walk_new(alloc, within, locals, faults, name, exprs),
+        Expr::Negate(_, e) => walk_operand(alloc, context, locals, faults, StaticType::Int, e),
+        Expr::Not(_, e) => walk_operand(alloc, context, locals, faults, StaticType::Bool, e),
+        Expr::Cast(_, ty, e) => walk_cast(alloc, context, locals, faults, ty, e),
+        Expr::Paren(_, e) | Expr::Old(_, e) => walk_paren(alloc, context, locals, faults, e),
+        Expr::New(_, name, exprs) => walk_new(alloc, context, locals, faults, name, exprs),
         Expr::NewArray(_, place, name, length) => {
-            walk_new_array(alloc, within, locals, faults, *place, name, length)
+            walk_new_array(alloc, context, locals, faults, *place, name, length)
         }
         Expr::Quantified(_, _, name, low, high, body) => {
-            check(alloc, within, locals, faults, low)?;
-            check(alloc, within, locals, faults, high)?;
-            check_member(alloc, within, locals, faults, name, body)?;
+            check(alloc, context, locals, faults, low)?;
+            check(alloc, context, locals, faults, high)?;
+            check_member(alloc, context, locals, faults, name, body)?;
             Ok(Prefix::Value(Some(StaticType::Bool)))
         }
         Expr::Number(..) => Ok(Prefix::Value(Some(StaticType::Int))),
         Expr::Text(..) => Ok(Prefix::Value(None)),
         Expr::Truth(..) => Ok(Prefix::Value(Some(StaticType::Bool))),
         Expr::Null(_) => Ok(Prefix::Value(Some(StaticType::Null))),
-        Expr::This(_) => Ok(Prefix::Value(within.this_type())),
+        Expr::This(_) => Ok(Prefix::Value(context.this_type())),
         Expr::Base(_) => Ok(Prefix::Base),
-        Expr::Result(_) => Ok(Prefix::Value(within.outcome)),
+        Expr::Result(_) => Ok(Prefix::Value(context.outcome)),
         Expr::Name(place, name) => Ok(Prefix::Name(*place, name)),
     }
 }
@@ -105,17 +105,17 @@ pub fn walk<'a>(
 #[cycle(expr)]
 fn walk_operand<'a>(
     alloc: Global,
-    within: Within<'_, '_>,
+    context: ClassContext<'_, '_>,
     locals: &mut Scopes,
     faults: &mut Vec<Fault>,
     ty: StaticType,
     e: &Expr,
 ) -> Result<Prefix<'a>, AllocError>
-    ensures noted { OnOk result (faults.new.items ≡ faults.old.items ++ expr_faults (scope_of within.entry locals.old) (expr_tree e.now)) }
+    ensures noted { OnOk result (faults.new.items ≡ faults.old.items ++ expr_faults (scope_of context.entry locals.old) (expr_tree e.now)) }
     ensures begun { IfOk result (λ r. prefix_view r ≡ AnOther (Some (type_of ty))) }
     ensures kept { OnOk result (locals.new ≡ locals.old) }
 {
-    check(alloc, within, locals, faults, e)?;
+    check(alloc, context, locals, faults, e)?;
     Ok(Prefix::Value(Some(ty)))
 }
 
@@ -123,35 +123,35 @@ fn walk_operand<'a>(
 #[cycle(expr)]
 fn walk_cast<'a>(
     alloc: Global,
-    within: Within<'_, '_>,
+    context: ClassContext<'_, '_>,
     locals: &mut Scopes,
     faults: &mut Vec<Fault>,
     ty: &TypeRef,
     e: &Expr,
 ) -> Result<Prefix<'a>, AllocError>
-    ensures noted { OnOk result (faults.new.items ≡ faults.old.items ++ (type_faults (trees within.entry.tables.now) (type_tree ty.now) ++ expr_faults (scope_of within.entry locals.old) (expr_tree e.now))) }
-    ensures begun { IfOk result (λ r. prefix_view r ≡ AnOther (cast_type (written_type (trees within.entry.tables.now) (type_tree ty.now)))) }
+    ensures noted { OnOk result (faults.new.items ≡ faults.old.items ++ (type_faults (trees context.entry.tables.now) (type_tree ty.now) ++ expr_faults (scope_of context.entry locals.old) (expr_tree e.now))) }
+    ensures begun { IfOk result (λ r. prefix_view r ≡ AnOther (cast_type (written_type (trees context.entry.tables.now) (type_tree ty.now)))) }
     ensures kept { OnOk result (locals.new ≡ locals.old) }
 {
-    check_type(within.tables, faults, ty)?;
-    check(alloc, within, locals, faults, e)?;
-    Ok(Prefix::Value(type_of_cast(within.tables, ty)))
+    check_type(context.tables, faults, ty)?;
+    check(alloc, context, locals, faults, e)?;
+    Ok(Prefix::Value(type_of_cast(context.tables, ty)))
 }
 
 // An expression in parentheses, or inside `old`.
 #[cycle(expr)]
 fn walk_paren<'a>(
     alloc: Global,
-    within: Within<'_, '_>,
+    context: ClassContext<'_, '_>,
     locals: &mut Scopes,
     faults: &mut Vec<Fault>,
     e: &Expr,
 ) -> Result<Prefix<'a>, AllocError>
-    ensures noted { OnOk result (faults.new.items ≡ faults.old.items ++ expr_faults (scope_of within.entry locals.old) (expr_tree e.now)) }
-    ensures begun { IfOk result (λ r. prefix_view r ≡ AnOther (static (scope_of within.entry locals.old) (expr_tree e.now))) }
+    ensures noted { OnOk result (faults.new.items ≡ faults.old.items ++ expr_faults (scope_of context.entry locals.old) (expr_tree e.now)) }
+    ensures begun { IfOk result (λ r. prefix_view r ≡ AnOther (static (scope_of context.entry locals.old) (expr_tree e.now))) }
     ensures kept { OnOk result (locals.new ≡ locals.old) }
 {
-    let ty = check(alloc, within, locals, faults, e)?;
+    let ty = check(alloc, context, locals, faults, e)?;
     Ok(Prefix::Value(ty))
 }
 
@@ -159,27 +159,27 @@ fn walk_paren<'a>(
 #[cycle(expr)]
 fn walk_new<'a>(
     alloc: Global,
-    within: Within<'_, '_>,
+    context: ClassContext<'_, '_>,
     locals: &mut Scopes,
     faults: &mut Vec<Fault>,
     name: &Name,
     exprs: &[Expr],
 ) -> Result<Prefix<'a>, AllocError>
     ensures noted { OnOk result (faults.new.items ≡ faults.old.items
-        ++ (class_faults (trees within.entry.tables.now) (name_tree name.now).text (name_tree name.now).place ++ arguments_faults (scope_of within.entry locals.old) None (arguments (map expr_tree exprs.now)))) }
-    ensures begun { IfOk result (λ r. prefix_view r ≡ AnOther (new_type (trees within.entry.tables.now) (count (arguments (map expr_tree exprs.now))) (class_named (trees within.entry.tables.now) (name_tree name.now).text))) }
+        ++ (class_faults (trees context.entry.tables.now) (name_tree name.now).text (name_tree name.now).place ++ arguments_faults (scope_of context.entry locals.old) None (arguments (map expr_tree exprs.now)))) }
+    ensures begun { IfOk result (λ r. prefix_view r ≡ AnOther (new_type (trees context.entry.tables.now) (count (arguments (map expr_tree exprs.now))) (class_named (trees context.entry.tables.now) (name_tree name.now).text))) }
     ensures kept { OnOk result (locals.new ≡ locals.old) }
 {
-    check_class(within.tables, faults, name.text.as_str(), name.place)?;
-    check_arguments(alloc, within, locals, faults, None, exprs)?;
-    Ok(Prefix::Value(new_type(within.tables, count(exprs), name.text.as_str())))
+    check_class(context.tables, faults, name.text.as_str(), name.place)?;
+    check_arguments(alloc, context, locals, faults, None, exprs)?;
+    Ok(Prefix::Value(new_type(context.tables, count(exprs), name.text.as_str())))
 }
 
 // A new array of elements of this type.
 #[cycle(expr)]
 fn walk_new_array<'a>(
     alloc: Global,
-    within: Within<'_, '_>,
+    context: ClassContext<'_, '_>,
     locals: &mut Scopes,
     faults: &mut Vec<Fault>,
     place: Place,
@@ -187,44 +187,44 @@ fn walk_new_array<'a>(
     length: &Expr,
 ) -> Result<Prefix<'a>, AllocError>
     ensures noted { OnOk result (faults.new.items ≡ faults.old.items
-        ++ (type_name_faults (trees within.entry.tables.now) place (type_name_tree name.now) ++ expr_faults (scope_of within.entry locals.old) (expr_tree length.now))) }
-    ensures begun { IfOk result (λ r. prefix_view r ≡ AnOther (array_type (trees within.entry.tables.now) true (type_name_tree name.now))) }
+        ++ (type_name_faults (trees context.entry.tables.now) place (type_name_tree name.now) ++ expr_faults (scope_of context.entry locals.old) (expr_tree length.now))) }
+    ensures begun { IfOk result (λ r. prefix_view r ≡ AnOther (array_type (trees context.entry.tables.now) true (type_name_tree name.now))) }
     ensures kept { OnOk result (locals.new ≡ locals.old) }
 {
-    check_type_name(within.tables, faults, place, name)?;
-    check(alloc, within, locals, faults, length)?;
-    Ok(Prefix::Value(within.tables.array_type(true, name)))
+    check_type_name(context.tables, faults, place, name)?;
+    check(alloc, context, locals, faults, length)?;
+    Ok(Prefix::Value(context.tables.array_type(true, name)))
 }
 
 /// The faults of an expression whose value is read, and its static type.
 #[cycle(expr)]
 pub fn check(
     alloc: Global,
-    within: Within<'_, '_>,
+    context: ClassContext<'_, '_>,
     locals: &mut Scopes,
     faults: &mut Vec<Fault>,
     e: &Expr,
 ) -> Result<Option<StaticType>, AllocError>
-    ensures noted { OnOk result (faults.new.items ≡ faults.old.items ++ expr_faults (scope_of within.entry locals.old) (expr_tree e.now)) }
-    ensures typed { IfOk result (λ r. option_map type_of r ≡ static (scope_of within.entry locals.old) (expr_tree e.now)) }
+    ensures noted { OnOk result (faults.new.items ≡ faults.old.items ++ expr_faults (scope_of context.entry locals.old) (expr_tree e.now)) }
+    ensures typed { IfOk result (λ r. option_map type_of r ≡ static (scope_of context.entry locals.old) (expr_tree e.now)) }
     ensures kept { OnOk result (locals.new ≡ locals.old) }
 {
-    let read = walk(alloc, within, locals, faults, e)?;
-    add_pending(within, locals, faults, read)?;
-    Ok(prefix_value(within, locals, read))
+    let read = walk(alloc, context, locals, faults, e)?;
+    add_pending(context, locals, faults, read)?;
+    Ok(prefix_value(context, locals, read))
 }
 
 // The member of a quantifier, in which the bound name is an `int`.
 #[cycle(expr)]
 fn check_member(
     alloc: Global,
-    within: Within<'_, '_>,
+    context: ClassContext<'_, '_>,
     locals: &mut Scopes,
     faults: &mut Vec<Fault>,
     name: &Name,
     body: &Expr,
 ) -> Result<(), AllocError>
-    ensures noted { OnOk result (faults.new.items ≡ faults.old.items ++ expr_faults (within_quantifier (scope_of within.entry locals.old) (name_tree name.now)) (expr_tree body.now)) }
+    ensures noted { OnOk result (faults.new.items ≡ faults.old.items ++ expr_faults (within_quantifier (scope_of context.entry locals.old) (name_tree name.now)) (expr_tree body.now)) }
     ensures kept { OnOk result (locals.new ≡ locals.old) }
 {
     locals.enter(alloc)?;
@@ -233,7 +233,7 @@ fn check_member(
         is_param: false,
     };
     locals.declare(alloc, name.text.as_str(), local)?;
-    check(alloc, within, locals, faults, body)?;
+    check(alloc, context, locals, faults, body)?;
     locals.leave();
     Ok(())
 }
@@ -242,22 +242,22 @@ fn check_member(
 #[cycle(expr)]
 fn walk_links<'a>(
     alloc: Global,
-    within: Within<'_, '_>,
+    context: ClassContext<'_, '_>,
     locals: &mut Scopes,
     faults: &mut Vec<Fault>,
     place: Place,
     first: Prefix<'a>,
     links: &'a [Link],
 ) -> Result<Prefix<'a>, AllocError>
-    ensures noted { (e : ExprTree) → (found : Faults) → faults.old.items ≡ found ++ settled (scope_of within.entry locals.old) e → prefix_view first.entry ≡ prefix (scope_of within.entry locals.old) e
-        → OnOk result (faults.new.items ≡ found ++ settled (scope_of within.entry locals.old) (grouped place e (map link_behind links.now))) }
-    ensures begun { (e : ExprTree) → prefix_view first.entry ≡ prefix (scope_of within.entry locals.old) e
-        → IfOk result (λ r. prefix_view r ≡ prefix (scope_of within.entry locals.old) (grouped place e (map link_behind links.now))) }
+    ensures noted { (e : ExprTree) → (found : Faults) → faults.old.items ≡ found ++ settled (scope_of context.entry locals.old) e → prefix_view first.entry ≡ prefix (scope_of context.entry locals.old) e
+        → OnOk result (faults.new.items ≡ found ++ settled (scope_of context.entry locals.old) (grouped place e (map link_behind links.now))) }
+    ensures begun { (e : ExprTree) → prefix_view first.entry ≡ prefix (scope_of context.entry locals.old) e
+        → IfOk result (λ r. prefix_view r ≡ prefix (scope_of context.entry locals.old) (grouped place e (map link_behind links.now))) }
     ensures kept { OnOk result (locals.new ≡ locals.old) }
 {
     let mut before = first;
     for link in links {
-        before = walk_link(alloc, within, locals, faults, place, before, link)?;
+        before = walk_link(alloc, context, locals, faults, place, before, link)?;
     }
     Ok(before)
 }
@@ -265,31 +265,31 @@ fn walk_links<'a>(
 #[cycle(expr)]
 fn walk_link<'a>(
     alloc: Global,
-    within: Within<'_, '_>,
+    context: ClassContext<'_, '_>,
     locals: &mut Scopes,
     faults: &mut Vec<Fault>,
     place: Place,
     before: Prefix<'a>,
     link: &'a Link,
 ) -> Result<Prefix<'a>, AllocError>
-    ensures noted { (e : ExprTree) → (found : Faults) → faults.old.items ≡ found ++ settled (scope_of within.entry locals.old) e → prefix_view before.entry ≡ prefix (scope_of within.entry locals.old) e
-        → OnOk result (faults.new.items ≡ found ++ settled (scope_of within.entry locals.old) (link_behind link.now place e)) }
-    ensures begun { (e : ExprTree) → IfOk result (λ r. prefix_view r ≡ prefix (scope_of within.entry locals.old) (link_behind link.now place e)) }
+    ensures noted { (e : ExprTree) → (found : Faults) → faults.old.items ≡ found ++ settled (scope_of context.entry locals.old) e → prefix_view before.entry ≡ prefix (scope_of context.entry locals.old) e
+        → OnOk result (faults.new.items ≡ found ++ settled (scope_of context.entry locals.old) (link_behind link.now place e)) }
+    ensures begun { (e : ExprTree) → IfOk result (λ r. prefix_view r ≡ prefix (scope_of context.entry locals.old) (link_behind link.now place e)) }
     ensures kept { OnOk result (locals.new ≡ locals.old) }
 {
-    add_pending(within, locals, faults, before)?;
-    let known = link_type(within, link);
+    add_pending(context, locals, faults, before)?;
+    let known = link_type(context, link);
     match link {
         Link::Operation(_, operand) => {
-            check(alloc, within, locals, faults, operand)?;
+            check(alloc, context, locals, faults, operand)?;
             Ok(Prefix::Value(known))
         }
         Link::Is(ty) => {
-            check_type(within.tables, faults, ty)?;
+            check_type(context.tables, faults, ty)?;
             Ok(Prefix::Value(known))
         }
         Link::As(ty) => {
-            check_type(within.tables, faults, ty)?;
+            check_type(context.tables, faults, ty)?;
             Ok(Prefix::Value(known))
         }
     }
@@ -299,22 +299,22 @@ fn walk_link<'a>(
 #[cycle(expr)]
 fn walk_postfixes<'a>(
     alloc: Global,
-    within: Within<'_, '_>,
+    context: ClassContext<'_, '_>,
     locals: &mut Scopes,
     faults: &mut Vec<Fault>,
     place: Place,
     first: Prefix<'a>,
     postfixes: &'a [Postfix],
 ) -> Result<Prefix<'a>, AllocError>
-    ensures noted { (e : ExprTree) → (found : Faults) → faults.old.items ≡ found ++ settled (scope_of within.entry locals.old) e → prefix_view first.entry ≡ prefix (scope_of within.entry locals.old) e
-        → OnOk result (faults.new.items ≡ found ++ settled (scope_of within.entry locals.old) (grouped place e (map postfix_behind postfixes.now))) }
-    ensures begun { (e : ExprTree) → prefix_view first.entry ≡ prefix (scope_of within.entry locals.old) e
-        → IfOk result (λ r. prefix_view r ≡ prefix (scope_of within.entry locals.old) (grouped place e (map postfix_behind postfixes.now))) }
+    ensures noted { (e : ExprTree) → (found : Faults) → faults.old.items ≡ found ++ settled (scope_of context.entry locals.old) e → prefix_view first.entry ≡ prefix (scope_of context.entry locals.old) e
+        → OnOk result (faults.new.items ≡ found ++ settled (scope_of context.entry locals.old) (grouped place e (map postfix_behind postfixes.now))) }
+    ensures begun { (e : ExprTree) → prefix_view first.entry ≡ prefix (scope_of context.entry locals.old) e
+        → IfOk result (λ r. prefix_view r ≡ prefix (scope_of context.entry locals.old) (grouped place e (map postfix_behind postfixes.now))) }
     ensures kept { OnOk result (locals.new ≡ locals.old) }
 {
     let mut before = first;
     for postfix in postfixes {
-        before = walk_postfix(alloc, within, locals, faults, place, before, postfix)?;
+        before = walk_postfix(alloc, context, locals, faults, place, before, postfix)?;
     }
     Ok(before)
 }
@@ -322,33 +322,33 @@ fn walk_postfixes<'a>(
 #[cycle(expr)]
 fn walk_postfix<'a>(
     alloc: Global,
-    within: Within<'_, '_>,
+    context: ClassContext<'_, '_>,
     locals: &mut Scopes,
     faults: &mut Vec<Fault>,
     place: Place,
     before: Prefix<'a>,
     postfix: &'a Postfix,
 ) -> Result<Prefix<'a>, AllocError>
-    ensures noted { (e : ExprTree) → (found : Faults) → faults.old.items ≡ found ++ settled (scope_of within.entry locals.old) e → prefix_view before.entry ≡ prefix (scope_of within.entry locals.old) e
-        → OnOk result (faults.new.items ≡ found ++ settled (scope_of within.entry locals.old) (postfix_behind postfix.now place e)) }
-    ensures begun { (e : ExprTree) → prefix_view before.entry ≡ prefix (scope_of within.entry locals.old) e
-        → IfOk result (λ r. prefix_view r ≡ prefix (scope_of within.entry locals.old) (postfix_behind postfix.now place e)) }
+    ensures noted { (e : ExprTree) → (found : Faults) → faults.old.items ≡ found ++ settled (scope_of context.entry locals.old) e → prefix_view before.entry ≡ prefix (scope_of context.entry locals.old) e
+        → OnOk result (faults.new.items ≡ found ++ settled (scope_of context.entry locals.old) (postfix_behind postfix.now place e)) }
+    ensures begun { (e : ExprTree) → prefix_view before.entry ≡ prefix (scope_of context.entry locals.old) e
+        → IfOk result (λ r. prefix_view r ≡ prefix (scope_of context.entry locals.old) (postfix_behind postfix.now place e)) }
     ensures kept { OnOk result (locals.new ≡ locals.old) }
 {
     match postfix {
-        Postfix::Member(name) => walk_member(within, locals, faults, place, before, name),
+        Postfix::Member(name) => walk_member(context, locals, faults, place, before, name),
         Postfix::Element(index) => {
-            add_pending(within, locals, faults, before)?;
-            let ty = prefix_value(within, locals, before);
-            check(alloc, within, locals, faults, index)?;
+            add_pending(context, locals, faults, before)?;
+            let ty = prefix_value(context, locals, before);
+            check(alloc, context, locals, faults, index)?;
             Ok(Prefix::Value(type_of_element(ty)))
         }
         Postfix::Call(arguments) => {
-            add_called(within, locals, faults, before)?;
-            let callee = called_with(count(arguments), prefix_callee(within, locals, before));
-            let ty = call_type(within.tables, callee);
+            add_called(context, locals, faults, before)?;
+            let callee = called_with(count(arguments), prefix_callee(context, locals, before));
+            let ty = call_type(context.tables, callee);
             let asked = prefix_asked(before);
-            check_arguments(alloc, within, locals, faults, asked, arguments)?;
+            check_arguments(alloc, context, locals, faults, asked, arguments)?;
             Ok(Prefix::Value(ty))
         }
     }
@@ -358,18 +358,18 @@ fn walk_postfix<'a>(
 #[cycle(expr)]
 pub fn check_arguments(
     alloc: Global,
-    within: Within<'_, '_>,
+    context: ClassContext<'_, '_>,
     locals: &mut Scopes,
     faults: &mut Vec<Fault>,
     asked: Option<usize>,
     exprs: &[Expr],
 ) -> Result<(), AllocError>
-    ensures noted { OnOk result (faults.new.items ≡ faults.old.items ++ arguments_faults (scope_of within.entry locals.old) asked (arguments (map expr_tree exprs.now))) }
+    ensures noted { OnOk result (faults.new.items ≡ faults.old.items ++ arguments_faults (scope_of context.entry locals.old) asked (arguments (map expr_tree exprs.now))) }
     ensures kept { OnOk result (locals.new ≡ locals.old) }
 {
     let mut which = asked;
     for argument in exprs {
-        check_argument(alloc, within, locals, faults, which, argument)?;
+        check_argument(alloc, context, locals, faults, which, argument)?;
         which = behind_argument(which);
     }
     Ok(())
@@ -378,20 +378,20 @@ pub fn check_arguments(
 #[cycle(expr)]
 fn check_argument(
     alloc: Global,
-    within: Within<'_, '_>,
+    context: ClassContext<'_, '_>,
     locals: &mut Scopes,
     faults: &mut Vec<Fault>,
     which: Option<usize>,
     argument: &Expr,
 ) -> Result<(), AllocError>
-    ensures noted { OnOk result (faults.new.items ≡ faults.old.items ++ argument_faults (scope_of within.entry locals.old) which (expr_tree argument.now) (expr_faults (scope_of within.entry locals.old) (expr_tree argument.now))) }
+    ensures noted { OnOk result (faults.new.items ≡ faults.old.items ++ argument_faults (scope_of context.entry locals.old) which (expr_tree argument.now) (expr_faults (scope_of context.entry locals.old) (expr_tree argument.now))) }
     ensures kept { OnOk result (locals.new ≡ locals.old) }
 {
     if names_class(which) {
-        let named = walk(alloc, within, locals, faults, argument)?;
-        return add_asked(within, locals, faults, named);
+        let named = walk(alloc, context, locals, faults, argument)?;
+        return add_asked(context, locals, faults, named);
     }
-    check(alloc, within, locals, faults, argument)?;
+    check(alloc, context, locals, faults, argument)?;
     Ok(())
 }
 

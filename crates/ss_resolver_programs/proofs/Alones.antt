@@ -8,7 +8,7 @@ use Rattle.ss_typed.specs.Tree.{AloneOf}
 use Rattle.ss_resolver_rules.specs.Names.{Env}
 use Rattle.ss_resolver_rules.specs.Expressions.{expr, args}
 use Rattle.ss_resolver_rules.specs.Statements.{is_line, printed, call_alone, alone}
-use Rattle.ss_resolver_expressions.specs.Scenes.{Part, part, part_called}
+use Rattle.ss_resolver_expressions.specs.Environments.{Part, part, part_called}
 use Rattle.ss_resolver_programs.specs.Forms.{is_call, text_of}
 use Rattle.ss_resolver_programs.specs.Alone.{kind_behind, of_kind, part_alone, print_of}
 

@@ -20,14 +20,14 @@ use Rattle.ss_resolver_rules.specs.Numbers.{type_id}
 use Rattle.ss_resolver_rules.specs.Names.{Env, class_env, declare_params}
 use Rattle.ss_resolver_rules.specs.Statements as resolved
 use Rattle.ss_resolver_rules.specs.Programs.{param, locals, entry_in, exit_in, modifies_in, base_of, param_env, result_env, method_env, method_flags, constructor_flags, method_body, constructor_body}
-use Rattle.ss_resolver_expressions.specs.Around.{Around, none_around}
-use Rattle.ss_resolver_expressions.specs.Scenes.{env_of}
-use Rattle.ss_resolver_expressions.specs.declared.scene.Scene.{Scene}
+use Rattle.ss_resolver_expressions.specs.LocalContext.{LocalContext, no_locals}
+use Rattle.ss_resolver_expressions.specs.Environments.{env_of}
+use Rattle.ss_resolver_expressions.specs.declared.context.ResolutionContext.{ResolutionContext}
 use Rattle.ss_resolver_programs.specs.declared.bodies.Parts.{Parts}
 use Rattle.ss_resolver_programs.specs.Parts.{AreParts}
 use Rattle.ss_resolver_programs.specs.Terms.{terms_of}
 
-abbrev with_outcome : Scene → ℕ → Bool → Bool → Option StaticType → Env
+abbrev with_outcome : ResolutionContext → ℕ → Bool → Bool → Option StaticType → Env
 with_outcome s first refuses_members refuses_this o = record {
   scope = record {
     classes = trees s.within.tables.now;
@@ -45,25 +45,25 @@ with_outcome s first refuses_members refuses_this o = record {
 }
 
 -- before the parameters of a body
-begins : (s : Scene) (first : ℕ) → s.within.outcome ≡ None → s.within.refuses_members ≡ false → s.within.refuses_this ≡ false
-    → env_of s (none_around first) ≡ record (class_env (trees s.within.tables.now) s.within.class) { next = first }
+begins : (s : ResolutionContext) (first : ℕ) → s.within.outcome ≡ None → s.within.refuses_members ≡ false → s.within.refuses_this ≡ false
+    → env_of s (no_locals first) ≡ record (class_env (trees s.within.tables.now) s.within.class) { next = first }
 begins s first h calls this =
     ap (with_outcome s first s.within.refuses_members s.within.refuses_this) h
     ∙ ap (λ (b : Bool). with_outcome s first b s.within.refuses_this None) calls
     ∙ ap (λ (b : Bool). with_outcome s first false b None) this
 
 -- within them
-pub params_are : (s : Scene) (first : ℕ) (a a1 : Around) (ps : List written.ParamTree)
-    → s.within.outcome ≡ None → s.within.refuses_members ≡ false → s.within.refuses_this ≡ false → a ≡ none_around first → env_of s a1 ≡ declare_params (env_of s a) ps
+pub params_are : (s : ResolutionContext) (first : ℕ) (a a1 : LocalContext) (ps : List written.ParamTree)
+    → s.within.outcome ≡ None → s.within.refuses_members ≡ false → s.within.refuses_this ≡ false → a ≡ no_locals first → env_of s a1 ≡ declare_params (env_of s a) ps
     → env_of s a1 ≡ declare_params (record (class_env (trees s.within.tables.now) s.within.class) { next = first }) ps
 params_are s first a a1 ps none calls this h b = b ∙ ap (λ e. declare_params e ps) (ap (env_of s) h ∙ begins s first none calls this)
 
 -- where the result has its type
-pub result_is : (s : Scene) (o : Option StaticType) (t : Option Ty) (a : Around) → option_map type_of o ≡ t → result_env (env_of s a) (option_map type_of o) ≡ result_env (env_of s a) t
+pub result_is : (s : ResolutionContext) (o : Option StaticType) (t : Option Ty) (a : LocalContext) → option_map type_of o ≡ t → result_env (env_of s a) (option_map type_of o) ≡ result_env (env_of s a) t
 result_is s o t a h = ap (result_env (env_of s a)) h
 
 -- each part in the environment that those before it leave
-pub parts_are : (s : Scene) (a a1 a2 a3 : Around) (ps : List written.ParamTree) (cs : List written.ClauseTree) (t : text.BlockTree) (p : Parts)
+pub parts_are : (s : ResolutionContext) (a a1 a2 a3 : LocalContext) (ps : List written.ParamTree) (cs : List written.ClauseTree) (t : text.BlockTree) (p : Parts)
     → map view.param p.params.items ≡ map (param (env_of s a)) ps → map local_of p.locals.items ≡ locals (env_of s a) t
     → view.exprs p.entry.items ≡ entry_in (env_of s a) cs → a1 ≡ a → view.exprs p.exit.items ≡ exit_in (env_of s a1) cs → a2 ≡ a1
     → terms_of p.modifies ≡ modifies_in (env_of s a2) cs → a3 ≡ a2 → view.block p.block ≡ resolved.block (env_of s a3) t
@@ -106,9 +106,9 @@ same_parts : (e : Env) (ps qs : List written.ParamTree) (cs ds : List written.Cl
 same_parts e ps qs cs ds t p hp hc h = subst (λ l. AreParts e qs l t p) hc (subst (λ l. AreParts e l cs t p) hp h)
 
 -- the parts of a method, in the environment of its body
-pub method_parts_are : (s x : Scene) (a : Around) (m : MethodTree) (ps qs : List written.ParamTree) (ds : List written.ClauseTree) (p : Parts) (first : ℕ) (static : Bool)
+pub method_parts_are : (s x : ResolutionContext) (a : LocalContext) (m : MethodTree) (ps qs : List written.ParamTree) (ds : List written.ClauseTree) (p : Parts) (first : ℕ) (static : Bool)
     → ps ≡ m.params → qs ≡ m.params → ds ≡ m.clauses
-    → ((b : Around) → env_of x b ≡ result_env (env_of s b) (option_map (type_id (trees s.within.tables.now)) m.result))
+    → ((b : LocalContext) → env_of x b ≡ result_env (env_of s b) (option_map (type_id (trees s.within.tables.now)) m.result))
     → static ≡ is_static m → first ≡ (if static then 0 else 1)
     → env_of s a ≡ declare_params (record (class_env (trees s.within.tables.now) s.within.class) { next = first }) ps
     → AreParts (env_of x a) qs ds m.body p
@@ -123,7 +123,7 @@ method_parts_are s x a m ps qs ds p first static hps hqs hds hx hs hf ha hp =
     let there : env_of x a ≡ method_env cs k m = hx a ∙ ap (λ d. result_env d t) here in
     same_parts (method_env cs k m) qs m.params ds m.clauses m.body p hqs hds (subst (λ d. AreParts d qs ds m.body p) there hp)
 
-pub method_is : (s : Scene) (m : MethodTree) (p : Parts) (class : ℕ) (name : List ℕ) (flags : TypedFlags) (attributes : List NameTree) (result : Option Ty)
+pub method_is : (s : ResolutionContext) (m : MethodTree) (p : Parts) (class : ℕ) (name : List ℕ) (flags : TypedFlags) (attributes : List NameTree) (result : Option Ty)
     → AreParts (method_env (trees s.within.tables.now) s.within.class m) m.params m.clauses m.body p
     → class ≡ class_number s.within.class → name ≡ m.name.text → flags ≡ method_flags m → attributes ≡ m.attributes → result ≡ option_map (type_id (trees s.within.tables.now)) m.result
     → made class name m.name.place flags attributes (map view.param p.params.items) (map local_of p.locals.items) result (view.exprs p.entry.items) (view.exprs p.exit.items) (terms_of p.modifies) None (view.block p.block)
@@ -135,18 +135,18 @@ method_is s m p class name flags attributes result parts hc hn hg hm hr =
     parts hc hn refl hg hm hr refl
 
 -- where the parameters of a constructor are in scope
-pub constructor_env_is : (s : Scene) (a : Around) (m : ConstructorTree) (ps : List written.ParamTree) → ps ≡ m.params
+pub constructor_env_is : (s : ResolutionContext) (a : LocalContext) (m : ConstructorTree) (ps : List written.ParamTree) → ps ≡ m.params
     → env_of s a ≡ declare_params (record (class_env (trees s.within.tables.now) s.within.class) { next = 1 }) ps
     → env_of s a ≡ param_env (trees s.within.tables.now) s.within.class false m.params
 constructor_env_is s a m ps hps ha = ha ∙ ap (declare_params (record (class_env (trees s.within.tables.now) s.within.class) { next = 1 })) hps
 
 -- its parts there
-pub based_parts_are : (s : Scene) (a a1 : Around) (m : ConstructorTree) (qs : List written.ParamTree) (ds : List written.ClauseTree) (p : Parts)
+pub based_parts_are : (s : ResolutionContext) (a a1 : LocalContext) (m : ConstructorTree) (qs : List written.ParamTree) (ds : List written.ClauseTree) (p : Parts)
     → qs ≡ m.params → ds ≡ m.clauses → a1 ≡ a → AreParts (env_of s a1) qs ds m.body p → AreParts (env_of s a) m.params m.clauses m.body p
 based_parts_are s a a1 m qs ds p hqs hds ka hp =
     same_parts (env_of s a) qs m.params ds m.clauses m.body p hqs hds (subst (λ d. AreParts d qs ds m.body p) (ap (env_of s) ka) hp)
 
-pub constructor_is : (s : Scene) (m : ConstructorTree) (p : Parts) (class : ℕ) (name : List ℕ) (flags : TypedFlags) (attributes : List NameTree) (base : Option BaseTree)
+pub constructor_is : (s : ResolutionContext) (m : ConstructorTree) (p : Parts) (class : ℕ) (name : List ℕ) (flags : TypedFlags) (attributes : List NameTree) (base : Option BaseTree)
     → AreParts (param_env (trees s.within.tables.now) s.within.class false m.params) m.params m.clauses m.body p
     → base ≡ option_map (base_of (param_env (trees s.within.tables.now) s.within.class false m.params)) m.base
     → class ≡ class_number s.within.class → name ≡ m.name.text → flags ≡ constructor_flags m → attributes ≡ m.attributes

@@ -10,9 +10,9 @@ use Rattle.ss_tables_scopes.specs.Names.{Names}
 use Rattle.ss_resolver_rules.specs.Names.{Env, enter, declare, declare_all, behind_declaration}
 use Rattle.ss_resolver_rules.specs.declared.known.Known.{Known}
 use Rattle.ss_resolver_rules.specs.Statements.{declared_by, declared_first, declared_in, declared_in_all, past, behind, behind_first}
-use Rattle.ss_resolver_expressions.specs.Around.{Around, entered, left}
-use Rattle.ss_resolver_expressions.specs.Scenes.{env_of}
-use Rattle.ss_resolver_expressions.specs.declared.scene.Scene.{Scene}
+use Rattle.ss_resolver_expressions.specs.LocalContext.{LocalContext, entered, left}
+use Rattle.ss_resolver_expressions.specs.Environments.{env_of}
+use Rattle.ss_resolver_expressions.specs.declared.context.ResolutionContext.{ResolutionContext}
 use Rattle.ss_resolver_scoping.proofs.Leaving.{left_again}
 use Rattle.ss_resolver_programs.specs.Behind.{behind_all}
 
@@ -70,27 +70,27 @@ grows_behind_all (s ∷ ss) e =
 
 -- ---- leaving
 
-around_with : Names → Scoped Known → ℕ → ℕ → Around
-around_with names numbered next bound = record { names = names; numbered = numbered; next = next; bound = bound }
+locals_with : Names → Scoped Known → ℕ → ℕ → LocalContext
+locals_with names numbered next bound = record { names = names; numbered = numbered; next = next; bound = bound }
 
-left_scope : (s : Scene) (a b c : Around) (n : ℕ) → c ≡ left b → Grows (enter (env_of s a)) (env_of s b) n → env_of s c ≡ record (env_of s a) { next = a.next + n }
-unfolding around_with
+left_scope : (s : ResolutionContext) (a b c : LocalContext) (n : ℕ) → c ≡ left b → Grows (enter (env_of s a)) (env_of s b) n → env_of s c ≡ record (env_of s a) { next = a.next + n }
+unfolding locals_with
 left_scope s a b c n h g =
     ap (env_of s) h
-    ∙ ap (λ x. env_of s (around_with x (scoped.left b.numbered) b.next b.bound)) (left_again b.names a.names (ap (λ (e : Env). e.scope.outer) g.same))
-    ∙ ap (λ x. env_of s (around_with a.names x b.next b.bound)) (left_again b.numbered a.numbered (ap (λ (e : Env). e.outer) g.same))
-    ∙ ap (λ x. env_of s (around_with a.names a.numbered x b.bound)) g.next
-    ∙ ap (λ x. env_of s (around_with a.names a.numbered (a.next + n) x)) (ap (λ (e : Env). e.bound) g.same)
+    ∙ ap (λ x. env_of s (locals_with x (scoped.left b.numbered) b.next b.bound)) (left_again b.names a.names (ap (λ (e : Env). e.scope.outer) g.same))
+    ∙ ap (λ x. env_of s (locals_with a.names x b.next b.bound)) (left_again b.numbered a.numbered (ap (λ (e : Env). e.outer) g.same))
+    ∙ ap (λ x. env_of s (locals_with a.names a.numbered x b.bound)) g.next
+    ∙ ap (λ x. env_of s (locals_with a.names a.numbered (a.next + n) x)) (ap (λ (e : Env). e.bound) g.same)
 
 -- a statement in a scope of its own
-pub governed_left : (s : Scene) (a a1 a2 a3 : Around) (t : StmtTree) → a1 ≡ entered a → env_of s a2 ≡ behind (env_of s a1) t → a3 ≡ left a2 → env_of s a3 ≡ past (env_of s a) (declared_in t)
+pub governed_left : (s : ResolutionContext) (a a1 a2 a3 : LocalContext) (t : StmtTree) → a1 ≡ entered a → env_of s a2 ≡ behind (env_of s a1) t → a3 ≡ left a2 → env_of s a3 ≡ past (env_of s a) (declared_in t)
 governed_left s a a1 a2 a3 t h b l =
     let e = enter (env_of s a) in
     let is : env_of s a2 ≡ behind e t = b ∙ ap (λ x. behind (env_of s x) t) h in
     left_scope s a a2 a3 (length (declared_in t)) l (subst (λ f. Grows e f (length (declared_in t))) (sym is) (grows_behind e t))
 
 -- a block
-pub block_left : (s : Scene) (a a1 a2 a3 : Around) (ts : List StmtTree) → a1 ≡ entered a → env_of s a2 ≡ behind_all (env_of s a1) ts → a3 ≡ left a2 → env_of s a3 ≡ past (env_of s a) (declared_in_all (stmt_trees ts))
+pub block_left : (s : ResolutionContext) (a a1 a2 a3 : LocalContext) (ts : List StmtTree) → a1 ≡ entered a → env_of s a2 ≡ behind_all (env_of s a1) ts → a3 ≡ left a2 → env_of s a3 ≡ past (env_of s a) (declared_in_all (stmt_trees ts))
 block_left s a a1 a2 a3 ts h b l =
     let e = enter (env_of s a) in
     let n = length (declared_in_all (stmt_trees ts)) in
@@ -98,7 +98,7 @@ block_left s a a1 a2 a3 ts h b l =
     left_scope s a a2 a3 n l (subst (λ f. Grows e f n) (sym is) (grows_behind_all ts e))
 
 -- a `for`
-pub for_left : (s : Scene) (a a1 a2 a3 a4 : Around) (i : Option ForInitTree) (t : StmtTree) → a1 ≡ entered a → env_of s a2 ≡ behind_first (env_of s a1) i
+pub for_left : (s : ResolutionContext) (a a1 a2 a3 a4 : LocalContext) (i : Option ForInitTree) (t : StmtTree) → a1 ≡ entered a → env_of s a2 ≡ behind_first (env_of s a1) i
     → env_of s a3 ≡ past (env_of s a2) (declared_in t) → a4 ≡ left a3 → env_of s a4 ≡ past (env_of s a) (declared_first i ++ declared_in t)
 for_left s a a1 a2 a3 a4 i t h b p l =
     let e = enter (env_of s a) in

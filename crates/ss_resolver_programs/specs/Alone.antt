@@ -7,7 +7,7 @@ use Rattle.ss_typed.specs.Tree.{SimpleTree, AloneOf, PrintOf, PrintTextOf, BaseC
 use Rattle.ss_resolver_rules.specs.Names.{Env}
 use Rattle.ss_resolver_rules.specs.Expressions.{expr, args}
 use Rattle.ss_resolver_rules.specs.Statements.{is_line, print}
-use Rattle.ss_resolver_expressions.specs.Scenes.{Part, ABareName, ABaseWord, AMember, AnOther, part_called}
+use Rattle.ss_resolver_expressions.specs.Environments.{Part, ABareName, ABaseWord, AMember, AnOther, part_called}
 use Rattle.ss_resolver_programs.specs.declared.simples.Alone.{Alone}
 use Rattle.ss_resolver_programs.specs.declared.simples.Alone.TheVariants.{Print, Base, Call}
 

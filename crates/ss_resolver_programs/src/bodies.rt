@@ -12,8 +12,8 @@ ghost use Rattle.ss_resolver_rules.specs.Numbers.{type_id};
 ghost use Rattle.ss_resolver_rules.specs.Names.{class_env, declare_params};
 ghost use Rattle.ss_resolver_rules.specs.Programs.{param_env, result_env, method_env, base_of, method_flags, constructor_flags, method_body, constructor_body};
 ghost use Rattle.ss_resolver_tables.specs.Limits.{HasFewClasses};
-ghost use Rattle.ss_resolver_expressions.specs.Around.{Around};
-ghost use Rattle.ss_resolver_expressions.specs.Scenes.{env_of};
+ghost use Rattle.ss_resolver_expressions.specs.LocalContext.{LocalContext};
+ghost use Rattle.ss_resolver_expressions.specs.Environments.{env_of};
 ghost use Rattle.ss_resolver_programs.specs.Parts.{param_in, AreParts};
 
 use crate::contracts::{resolve_base, resolve_entry, resolve_exit, resolve_modifies};
@@ -23,10 +23,10 @@ use crate::marks::copy_names;
 use crate::stmts::resolve_block;
 use ss_ast::{Block, Clause, Param, TypeRef};
 use ss_core::Local;
-use ss_resolver_expressions::{LocalNames, Scene};
+use ss_resolver_expressions::{LocalNames, ResolutionContext};
 use ss_resolver_tables::{class_number, declared_result, type_id};
 use ss_tables_lookup::{ConstructorRef, MethodRef, StaticType, Tables};
-use ss_tables_scopes::{Within, has_attribute, is_static};
+use ss_tables_scopes::{ClassContext, has_attribute, is_static};
 use ss_typed::{
     TypedBase, TypedBlock, TypedBody, TypedExpr, TypedFlags, TypedModifies, TypedParam,
 };
@@ -85,18 +85,18 @@ fn resolve_params(
 // The names with the parameters of a body, where the first local has this number.
 fn enter_params(
     alloc: Global,
-    scene: &Scene<'_, '_>,
+    context: &ResolutionContext<'_, '_>,
     first: usize,
     params: &[Param],
 ) -> Result<LocalNames, AllocError>
-    requires outcome { scene.now.within.outcome ≡ None }
-    requires calls { scene.now.within.refuses_members ≡ false }
-    requires this { scene.now.within.refuses_this ≡ false }
-    ensures { IfOk result (λ a. env_of scene.now a ≡ declare_params (record (class_env (trees scene.now.within.tables.now) scene.now.within.class) { next = first }) (map param_tree params.now)) }
+    requires outcome { context.now.within.outcome ≡ None }
+    requires calls { context.now.within.refuses_members ≡ false }
+    requires this { context.now.within.refuses_this ≡ false }
+    ensures { IfOk result (λ a. env_of context.now a ≡ declare_params (record (class_env (trees context.now.within.tables.now) context.now.within.class) { next = first }) (map param_tree params.now)) }
 {
-    let mut around = LocalNames::new(alloc, first);
-    declare_params(alloc, scene, &mut around, params)?;
-    Ok(around)
+    let mut names = LocalNames::new(alloc, first);
+    declare_params(alloc, context, &mut names, params)?;
+    Ok(names)
 }
 
 /// What a body has besides its heading.
@@ -113,21 +113,21 @@ pub struct Parts {
 // The parts of a body whose parameters are in scope.
 fn resolve_parts<'p>(
     alloc: Global,
-    scene: &Scene<'_, 'p>,
-    around: &mut LocalNames,
+    context: &ResolutionContext<'_, 'p>,
+    names: &mut LocalNames,
     params: &[Param],
     clauses: &'p [Clause],
     body: &'p Block,
 ) -> Result<Parts, AllocError>
-    ensures { IfOk result (λ p. AreParts (env_of scene.now around.old) (map param_tree params.now) (map clause_tree clauses.now) (block_tree body.now) p) }
+    ensures { IfOk result (λ p. AreParts (env_of context.now names.old) (map param_tree params.now) (map clause_tree clauses.now) (block_tree body.now) p) }
 {
-    let tables = scene.within.tables;
+    let tables = context.within.tables;
     let params = resolve_params(alloc, tables, params)?;
     let locals = list_locals(alloc, tables, body)?;
-    let entry = resolve_entry(alloc, scene, around, clauses)?;
-    let exit = resolve_exit(alloc, scene, around, clauses)?;
-    let modifies = resolve_modifies(alloc, scene, around, clauses)?;
-    let block = resolve_block(alloc, scene, around, body)?;
+    let entry = resolve_entry(alloc, context, names, clauses)?;
+    let exit = resolve_exit(alloc, context, names, clauses)?;
+    let modifies = resolve_modifies(alloc, context, names, clauses)?;
+    let block = resolve_block(alloc, context, names, body)?;
     Ok(Parts {
         params,
         locals,
@@ -157,22 +157,25 @@ fn outcome_of(tables: &Tables<'_>, ty: &Option<TypeRef>) -> Option<StaticType>
     }
 }
 
-// The scene of a method, in which `result` has its type.
-fn method_scene<'t, 'p>(scene: &Scene<'t, 'p>, returns: &Option<TypeRef>) -> Scene<'t, 'p>
-    ensures { (a : Around) → env_of result a ≡ result_env (env_of scene.now a) (option_map (type_id (trees scene.now.within.tables.now)) (option_map type_tree returns.now)) }
+// The context of a method, in which `result` has its type.
+fn method_context<'t, 'p>(
+    context: &ResolutionContext<'t, 'p>,
+    returns: &Option<TypeRef>,
+) -> ResolutionContext<'t, 'p>
+    ensures { (a : LocalContext) → env_of result a ≡ result_env (env_of context.now a) (option_map (type_id (trees context.now.within.tables.now)) (option_map type_tree returns.now)) }
 {
-    let tables = scene.within.tables;
-    Scene {
-        within: Within {
+    let tables = context.within.tables;
+    ResolutionContext {
+        within: ClassContext {
             tables,
-            class: scene.within.class,
-            refuses_members: scene.within.refuses_members,
-            refuses_this: scene.within.refuses_this,
+            class: context.within.class,
+            refuses_members: context.within.refuses_members,
+            refuses_this: context.within.refuses_this,
             outcome: outcome_of(tables, returns),
         },
-        fields: scene.fields,
-        bodies: scene.bodies,
-        tables: scene.tables,
+        fields: context.fields,
+        bodies: context.bodies,
+        tables: context.tables,
         outcome: declared_result(tables, returns),
     }
 }
@@ -211,23 +214,23 @@ fn first_local(is_static: bool) -> usize
 // What a method has besides its heading, where `result` has its type.
 fn method_parts<'p>(
     alloc: Global,
-    scene: &Scene<'_, 'p>,
+    context: &ResolutionContext<'_, 'p>,
     method: MethodRef<'p>,
 ) -> Result<Parts, AllocError>
-    requires outcome { scene.now.within.outcome ≡ None }
-    requires calls { scene.now.within.refuses_members ≡ false }
-    requires this { scene.now.within.refuses_this ≡ false }
-    ensures { IfOk result (λ p. AreParts (method_env (trees scene.now.within.tables.now) scene.now.within.class (method_tree method.entry))
+    requires outcome { context.now.within.outcome ≡ None }
+    requires calls { context.now.within.refuses_members ≡ false }
+    requires this { context.now.within.refuses_this ≡ false }
+    ensures { IfOk result (λ p. AreParts (method_env (trees context.now.within.tables.now) context.now.within.class (method_tree method.entry))
         (method_tree method.entry).params (method_tree method.entry).clauses (method_tree method.entry).body p) }
 {
     let written = method.method;
-    let within = method_scene(scene, &written.returns);
+    let own = method_context(context, &written.returns);
     let first = first_local(is_static(method));
-    let mut around = enter_params(alloc, scene, first, &written.params)?;
+    let mut names = enter_params(alloc, context, first, &written.params)?;
     resolve_parts(
         alloc,
-        &within,
-        &mut around,
+        &own,
+        &mut names,
         &written.params,
         &written.clauses,
         &written.body,
@@ -237,27 +240,27 @@ fn method_parts<'p>(
 /// A method.
 pub(crate) fn resolve_method<'p>(
     alloc: Global,
-    scene: &Scene<'_, 'p>,
+    context: &ResolutionContext<'_, 'p>,
     method: MethodRef<'p>,
 ) -> Result<TypedBody, AllocError>
-    requires outcome { scene.now.within.outcome ≡ None }
-    requires calls { scene.now.within.refuses_members ≡ false }
-    requires this { scene.now.within.refuses_this ≡ false }
-    ensures { IfOk result (λ b. view.body b ≡ method_body (trees scene.now.within.tables.now) scene.now.within.class (method_tree method.entry)) }
+    requires outcome { context.now.within.outcome ≡ None }
+    requires calls { context.now.within.refuses_members ≡ false }
+    requires this { context.now.within.refuses_this ≡ false }
+    ensures { IfOk result (λ b. view.body b ≡ method_body (trees context.now.within.tables.now) context.now.within.class (method_tree method.entry)) }
 {
     let written = method.method;
     let name = String::from_str(alloc, written.name.text.as_str())?;
     let attributes = copy_names(alloc, &method.member.attributes)?;
-    let parts = method_parts(alloc, scene, method)?;
+    let parts = method_parts(alloc, context, method)?;
     Ok(TypedBody {
-        class: class_number(scene.within.class),
+        class: class_number(context.within.class),
         name,
         place: written.name.place,
         flags: method_flags(method),
         attributes,
         params: parts.params,
         locals: parts.locals,
-        result: declared_result(scene.within.tables, &written.returns),
+        result: declared_result(context.within.tables, &written.returns),
         entry: parts.entry,
         exit: parts.exit,
         modifies: parts.modifies,
@@ -276,19 +279,19 @@ pub struct Based {
 // The same where its parameters are in scope.
 fn based_parts<'p>(
     alloc: Global,
-    scene: &Scene<'_, 'p>,
-    around: &mut LocalNames,
+    context: &ResolutionContext<'_, 'p>,
+    names: &mut LocalNames,
     constructor: ConstructorRef<'p>,
 ) -> Result<Based, AllocError>
-    ensures base { IfOk result (λ b. option_map view.base b.base ≡ option_map (base_of (env_of scene.now around.old)) (constructor_tree constructor.entry).base) }
-    ensures parts { IfOk result (λ b. AreParts (env_of scene.now around.old) (constructor_tree constructor.entry).params (constructor_tree constructor.entry).clauses (constructor_tree constructor.entry).body b.parts) }
+    ensures base { IfOk result (λ b. option_map view.base b.base ≡ option_map (base_of (env_of context.now names.old)) (constructor_tree constructor.entry).base) }
+    ensures parts { IfOk result (λ b. AreParts (env_of context.now names.old) (constructor_tree constructor.entry).params (constructor_tree constructor.entry).clauses (constructor_tree constructor.entry).body b.parts) }
 {
     let written = constructor.constructor;
-    let base = resolve_base(alloc, scene, around, &written.base)?;
+    let base = resolve_base(alloc, context, names, &written.base)?;
     let parts = resolve_parts(
         alloc,
-        scene,
-        around,
+        context,
+        names,
         &written.params,
         &written.clauses,
         &written.body,
@@ -298,40 +301,40 @@ fn based_parts<'p>(
 
 fn constructor_parts<'p>(
     alloc: Global,
-    scene: &Scene<'_, 'p>,
+    context: &ResolutionContext<'_, 'p>,
     constructor: ConstructorRef<'p>,
 ) -> Result<Based, AllocError>
-    requires outcome { scene.now.within.outcome ≡ None }
-    requires calls { scene.now.within.refuses_members ≡ false }
-    requires this { scene.now.within.refuses_this ≡ false }
+    requires outcome { context.now.within.outcome ≡ None }
+    requires calls { context.now.within.refuses_members ≡ false }
+    requires this { context.now.within.refuses_this ≡ false }
     ensures base { IfOk result (λ b. option_map view.base b.base
-        ≡ option_map (base_of (param_env (trees scene.now.within.tables.now) scene.now.within.class false (constructor_tree constructor.entry).params)) (constructor_tree constructor.entry).base) }
-    ensures parts { IfOk result (λ b. AreParts (param_env (trees scene.now.within.tables.now) scene.now.within.class false (constructor_tree constructor.entry).params)
+        ≡ option_map (base_of (param_env (trees context.now.within.tables.now) context.now.within.class false (constructor_tree constructor.entry).params)) (constructor_tree constructor.entry).base) }
+    ensures parts { IfOk result (λ b. AreParts (param_env (trees context.now.within.tables.now) context.now.within.class false (constructor_tree constructor.entry).params)
         (constructor_tree constructor.entry).params (constructor_tree constructor.entry).clauses (constructor_tree constructor.entry).body b.parts) }
 {
     let written = constructor.constructor;
-    let mut around = enter_params(alloc, scene, 1, &written.params)?;
-    based_parts(alloc, scene, &mut around, constructor)
+    let mut names = enter_params(alloc, context, 1, &written.params)?;
+    based_parts(alloc, context, &mut names, constructor)
 }
 
 /// A constructor.
 pub(crate) fn resolve_constructor<'p>(
     alloc: Global,
-    scene: &Scene<'_, 'p>,
+    context: &ResolutionContext<'_, 'p>,
     constructor: ConstructorRef<'p>,
 ) -> Result<TypedBody, AllocError>
-    requires outcome { scene.now.within.outcome ≡ None }
-    requires calls { scene.now.within.refuses_members ≡ false }
-    requires this { scene.now.within.refuses_this ≡ false }
-    ensures { IfOk result (λ b. view.body b ≡ constructor_body (trees scene.now.within.tables.now) scene.now.within.class (constructor_tree constructor.entry)) }
+    requires outcome { context.now.within.outcome ≡ None }
+    requires calls { context.now.within.refuses_members ≡ false }
+    requires this { context.now.within.refuses_this ≡ false }
+    ensures { IfOk result (λ b. view.body b ≡ constructor_body (trees context.now.within.tables.now) context.now.within.class (constructor_tree constructor.entry)) }
 {
     let written = constructor.constructor;
     let name = String::from_str(alloc, written.name.text.as_str())?;
     let attributes = copy_names(alloc, constructor.attributes)?;
-    let whole = constructor_parts(alloc, scene, constructor)?;
+    let whole = constructor_parts(alloc, context, constructor)?;
     let parts = whole.parts;
     Ok(TypedBody {
-        class: class_number(scene.within.class),
+        class: class_number(context.within.class),
         name,
         place: written.name.place,
         flags: constructor_flags(constructor),

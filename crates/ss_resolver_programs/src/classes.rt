@@ -17,7 +17,7 @@ ghost use Rattle.ss_resolver_rules.specs.Programs.{mark_of, invariants_of_kind, 
 ghost use Rattle.ss_resolver_rules.specs.Programs as resolved;
 ghost use Rattle.ss_resolver_tables.specs.Limits.{HasFewClasses};
 ghost use Rattle.ss_resolver_tables.specs.Slots.{slot_of, slots_of};
-ghost use Rattle.ss_resolver_expressions.specs.Scenes.{env_of};
+ghost use Rattle.ss_resolver_expressions.specs.Environments.{env_of};
 
 use crate::built::value_in;
 use crate::decls::resolve_option;
@@ -25,7 +25,7 @@ use crate::marks::copy_names;
 use crate::whole::Whole;
 use ss_ast::{ClassDecl, Member, MemberKind, Name};
 use ss_core::{BodyId, Class, ClassId, Entry, Field, Mark};
-use ss_resolver_expressions::{LocalNames, Scene, resolve_boxed};
+use ss_resolver_expressions::{LocalNames, ResolutionContext, resolve_boxed};
 use ss_resolver_tables::{Slot, constructor_id, number_or_object, table_at, type_id};
 use ss_tables_lookup::{FieldRef, Shelf, Tables};
 use ss_typed::{TypedClass, TypedExpr, TypedField, TypedInvariant};
@@ -158,15 +158,15 @@ pub(crate) fn core_class(
 
 fn resolve_field<'p>(
     alloc: Global,
-    scene: &Scene<'_, 'p>,
-    around: &mut LocalNames,
+    context: &ResolutionContext<'_, 'p>,
+    names: &mut LocalNames,
     field: FieldRef<'p>,
 ) -> Result<TypedField, AllocError>
-    ensures tree { IfOk result (λ f. view.field f ≡ field_member (env_of scene.now around.old) (field_tree field.entry)) }
-    ensures kept { OnOk result (around.new ≡ around.old) }
+    ensures tree { IfOk result (λ f. view.field f ≡ field_member (env_of context.now names.old) (field_tree field.entry)) }
+    ensures kept { OnOk result (names.new ≡ names.old) }
 {
     let attributes = copy_names(alloc, field.attributes)?;
-    let initial = resolve_option(alloc, scene, around, &field.declarator.initial)?;
+    let initial = resolve_option(alloc, context, names, &field.declarator.initial)?;
     Ok(TypedField {
         place: field.declarator.name.place,
         attributes,
@@ -177,31 +177,31 @@ fn resolve_field<'p>(
 // One more field.
 fn add_field<'p>(
     alloc: Global,
-    scene: &Scene<'_, 'p>,
-    around: &mut LocalNames,
+    context: &ResolutionContext<'_, 'p>,
+    names: &mut LocalNames,
     list: &mut Vec<TypedField>,
     field: FieldRef<'p>,
 ) -> Result<(), AllocError>
-    ensures trees { OnOk result (map view.field list.new.items ≡ map view.field list.old.items ++ field_member (env_of scene.now around.old) (field_tree field.entry) ∷ []) }
-    ensures kept { OnOk result (around.new ≡ around.old) }
+    ensures trees { OnOk result (map view.field list.new.items ≡ map view.field list.old.items ++ field_member (env_of context.now names.old) (field_tree field.entry) ∷ []) }
+    ensures kept { OnOk result (names.new ≡ names.old) }
 {
-    let field = resolve_field(alloc, scene, around, field)?;
+    let field = resolve_field(alloc, context, names, field)?;
     list.push(field)?;
     Ok(())
 }
 
 fn resolve_fields<'p>(
     alloc: Global,
-    scene: &Scene<'_, 'p>,
-    around: &mut LocalNames,
+    context: &ResolutionContext<'_, 'p>,
+    names: &mut LocalNames,
     fields: &[FieldRef<'p>],
 ) -> Result<Vec<TypedField>, AllocError>
-    ensures trees { IfOk result (λ v. map view.field v.items ≡ map (field_member (env_of scene.now around.old)) (map field_tree fields.now)) }
-    ensures kept { OnOk result (around.new ≡ around.old) }
+    ensures trees { IfOk result (λ v. map view.field v.items ≡ map (field_member (env_of context.now names.old)) (map field_tree fields.now)) }
+    ensures kept { OnOk result (names.new ≡ names.old) }
 {
     let mut list = Vec::new(alloc);
     for field in fields {
-        add_field(alloc, scene, around, &mut list, *field)?;
+        add_field(alloc, context, names, &mut list, *field)?;
     }
     Ok(list)
 }
@@ -224,18 +224,18 @@ fn push_invariant(
 // The invariant that a member is, if it is one.
 fn add_invariant<'p>(
     alloc: Global,
-    scene: &Scene<'_, 'p>,
-    around: &mut LocalNames,
+    context: &ResolutionContext<'_, 'p>,
+    names: &mut LocalNames,
     list: &mut Vec<TypedInvariant>,
     member: &'p Member,
 ) -> Result<(), AllocError>
-    ensures trees { OnOk result (map view.invariant_of list.new.items ≡ map view.invariant_of list.old.items ++ invariants_of_kind (env_of scene.now around.old) (member_tree member.now).attributes (member_tree member.now).kind) }
-    ensures kept { OnOk result (around.new ≡ around.old) }
+    ensures trees { OnOk result (map view.invariant_of list.new.items ≡ map view.invariant_of list.old.items ++ invariants_of_kind (env_of context.now names.old) (member_tree member.now).attributes (member_tree member.now).kind) }
+    ensures kept { OnOk result (names.new ≡ names.old) }
 {
     match &member.kind {
         MemberKind::Invariant(condition) => {
             let attributes = copy_names(alloc, &member.attributes)?;
-            let condition = resolve_boxed(alloc, scene, around, condition)?;
+            let condition = resolve_boxed(alloc, context, names, condition)?;
             push_invariant(list, attributes, condition)?;
             Ok(())
         }
@@ -245,48 +245,48 @@ fn add_invariant<'p>(
 
 fn resolve_invariants<'p>(
     alloc: Global,
-    scene: &Scene<'_, 'p>,
-    around: &mut LocalNames,
+    context: &ResolutionContext<'_, 'p>,
+    names: &mut LocalNames,
     members: &'p [Member],
 ) -> Result<Vec<TypedInvariant>, AllocError>
-    ensures trees { IfOk result (λ v. map view.invariant_of v.items ≡ invariants_in (env_of scene.now around.old) (map member_tree members.now)) }
-    ensures kept { OnOk result (around.new ≡ around.old) }
+    ensures trees { IfOk result (λ v. map view.invariant_of v.items ≡ invariants_in (env_of context.now names.old) (map member_tree members.now)) }
+    ensures kept { OnOk result (names.new ≡ names.old) }
 {
     let mut list = Vec::new(alloc);
     for member in members {
-        add_invariant(alloc, scene, around, &mut list, member)?;
+        add_invariant(alloc, context, names, &mut list, member)?;
     }
     Ok(list)
 }
 
-fn written_constructor(scene: &Scene<'_, '_>, shelf: &Shelf<'_>) -> Option<BodyId>
-    ensures { option_map (λ n. n.0) result ≡ written_constructor (trees scene.now.within.tables.now) scene.now.within.class (shelf_of shelf.now).constructors }
+fn written_constructor(context: &ResolutionContext<'_, '_>, shelf: &Shelf<'_>) -> Option<BodyId>
+    ensures { option_map (λ n. n.0) result ≡ written_constructor (trees context.now.within.tables.now) context.now.within.class (shelf_of shelf.now).constructors }
 {
     if shelf.constructors.is_empty() {
         None
     } else {
-        let within = scene.within;
-        Some(constructor_id(within.tables, scene.bodies, within.class))
+        let within = context.within;
+        Some(constructor_id(within.tables, context.bodies, within.class))
     }
 }
 
 // The same where the names of the class are known.
 fn members_in<'p>(
     alloc: Global,
-    scene: &Scene<'_, 'p>,
-    around: &mut LocalNames,
+    context: &ResolutionContext<'_, 'p>,
+    names: &mut LocalNames,
     shelf: &Shelf<'p>,
     written: &'p ClassDecl,
 ) -> Result<TypedClass, AllocError>
-    requires names { env_of scene.now around.old ≡ class_env (trees scene.now.within.tables.now) scene.now.within.class }
-    requires shelved { shelf_of shelf.now ≡ shelves.shelf (trees scene.now.within.tables.now) (class_tree written.now) }
-    ensures { IfOk result (λ c. view.members c ≡ resolved.members (trees scene.now.within.tables.now) scene.now.within.class (class_tree written.now)) }
+    requires names { env_of context.now names.old ≡ class_env (trees context.now.within.tables.now) context.now.within.class }
+    requires shelved { shelf_of shelf.now ≡ shelves.shelf (trees context.now.within.tables.now) (class_tree written.now) }
+    ensures { IfOk result (λ c. view.members c ≡ resolved.members (trees context.now.within.tables.now) context.now.within.class (class_tree written.now)) }
 {
-    let fields = resolve_fields(alloc, scene, around, &shelf.fields)?;
-    let invariants = resolve_invariants(alloc, scene, around, &written.members)?;
+    let fields = resolve_fields(alloc, context, names, &shelf.fields)?;
+    let invariants = resolve_invariants(alloc, context, names, &written.members)?;
     Ok(TypedClass {
         place: written.name.place,
-        constructor: written_constructor(scene, shelf),
+        constructor: written_constructor(context, shelf),
         fields,
         invariants,
     })
@@ -295,16 +295,16 @@ fn members_in<'p>(
 /// What a class has beside its entry in the table of classes.
 pub(crate) fn resolve_members<'p>(
     alloc: Global,
-    scene: &Scene<'_, 'p>,
+    context: &ResolutionContext<'_, 'p>,
     shelf: &Shelf<'p>,
     written: &'p ClassDecl,
 ) -> Result<TypedClass, AllocError>
-    requires outcome { scene.now.within.outcome ≡ None }
-    requires calls { scene.now.within.refuses_members ≡ false }
-    requires this { scene.now.within.refuses_this ≡ false }
-    requires shelved { shelf_of shelf.now ≡ shelves.shelf (trees scene.now.within.tables.now) (class_tree written.now) }
-    ensures { IfOk result (λ c. view.members c ≡ resolved.members (trees scene.now.within.tables.now) scene.now.within.class (class_tree written.now)) }
+    requires outcome { context.now.within.outcome ≡ None }
+    requires calls { context.now.within.refuses_members ≡ false }
+    requires this { context.now.within.refuses_this ≡ false }
+    requires shelved { shelf_of shelf.now ≡ shelves.shelf (trees context.now.within.tables.now) (class_tree written.now) }
+    ensures { IfOk result (λ c. view.members c ≡ resolved.members (trees context.now.within.tables.now) context.now.within.class (class_tree written.now)) }
 {
-    let mut around = LocalNames::new(alloc, 1);
-    members_in(alloc, scene, &mut around, shelf, written)
+    let mut names = LocalNames::new(alloc, 1);
+    members_in(alloc, context, &mut names, shelf, written)
 }

@@ -6,12 +6,12 @@ ghost use Rattle.ss_ast.specs.Programs.{modified_tree, clause_tree, base_call_tr
 ghost use Rattle.ss_typed.specs.Tree.{AllOf, ElementsOf};
 ghost use Rattle.ss_typed.specs.View as view;
 ghost use Rattle.ss_resolver_rules.specs.Programs.{modified, entry_in, exit_in, modifies_in, base_of};
-ghost use Rattle.ss_resolver_expressions.specs.Scenes.{env_of};
+ghost use Rattle.ss_resolver_expressions.specs.Environments.{env_of};
 ghost use Rattle.ss_resolver_programs.specs.Terms.{terms_of, joined};
 
 use crate::fields::one_of;
 use ss_ast::{BaseCall, Clause, Modified};
-use ss_resolver_expressions::{LocalNames, Scene, resolve_boxed, resolve_values};
+use ss_resolver_expressions::{LocalNames, ResolutionContext, resolve_boxed, resolve_values};
 use ss_typed::{TypedBase, TypedExpr, TypedModifies};
 use std::alloc::{AllocError, Global};
 
@@ -26,17 +26,17 @@ fn add_value(list: &mut Vec<TypedExpr>, value: Box<TypedExpr>) -> Result<(), All
 // What this clause says of the entry.
 fn add_entry<'p>(
     alloc: Global,
-    scene: &Scene<'_, 'p>,
-    around: &mut LocalNames,
+    context: &ResolutionContext<'_, 'p>,
+    names: &mut LocalNames,
     list: &mut Vec<TypedExpr>,
     clause: &'p Clause,
 ) -> Result<(), AllocError>
-    ensures trees { OnOk result (view.exprs list.new.items ≡ view.exprs list.old.items ++ entry_in (env_of scene.now around.old) (clause_tree clause.now ∷ [])) }
-    ensures kept { OnOk result (around.new ≡ around.old) }
+    ensures trees { OnOk result (view.exprs list.new.items ≡ view.exprs list.old.items ++ entry_in (env_of context.now names.old) (clause_tree clause.now ∷ [])) }
+    ensures kept { OnOk result (names.new ≡ names.old) }
 {
     match clause {
         Clause::Requires(condition) => {
-            let condition = resolve_boxed(alloc, scene, around, condition)?;
+            let condition = resolve_boxed(alloc, context, names, condition)?;
             add_value(list, condition)?;
             Ok(())
         }
@@ -47,16 +47,16 @@ fn add_entry<'p>(
 /// What the `requires` clauses say.
 pub(crate) fn resolve_entry<'p>(
     alloc: Global,
-    scene: &Scene<'_, 'p>,
-    around: &mut LocalNames,
+    context: &ResolutionContext<'_, 'p>,
+    names: &mut LocalNames,
     clauses: &'p [Clause],
 ) -> Result<Vec<TypedExpr>, AllocError>
-    ensures trees { IfOk result (λ v. view.exprs v.items ≡ entry_in (env_of scene.now around.old) (map clause_tree clauses.now)) }
-    ensures kept { OnOk result (around.new ≡ around.old) }
+    ensures trees { IfOk result (λ v. view.exprs v.items ≡ entry_in (env_of context.now names.old) (map clause_tree clauses.now)) }
+    ensures kept { OnOk result (names.new ≡ names.old) }
 {
     let mut list = Vec::new(alloc);
     for clause in clauses {
-        add_entry(alloc, scene, around, &mut list, clause)?;
+        add_entry(alloc, context, names, &mut list, clause)?;
     }
     Ok(list)
 }
@@ -64,17 +64,17 @@ pub(crate) fn resolve_entry<'p>(
 // What this clause says of the exit.
 fn add_exit<'p>(
     alloc: Global,
-    scene: &Scene<'_, 'p>,
-    around: &mut LocalNames,
+    context: &ResolutionContext<'_, 'p>,
+    names: &mut LocalNames,
     list: &mut Vec<TypedExpr>,
     clause: &'p Clause,
 ) -> Result<(), AllocError>
-    ensures trees { OnOk result (view.exprs list.new.items ≡ view.exprs list.old.items ++ exit_in (env_of scene.now around.old) (clause_tree clause.now ∷ [])) }
-    ensures kept { OnOk result (around.new ≡ around.old) }
+    ensures trees { OnOk result (view.exprs list.new.items ≡ view.exprs list.old.items ++ exit_in (env_of context.now names.old) (clause_tree clause.now ∷ [])) }
+    ensures kept { OnOk result (names.new ≡ names.old) }
 {
     match clause {
         Clause::Ensures(condition) => {
-            let condition = resolve_boxed(alloc, scene, around, condition)?;
+            let condition = resolve_boxed(alloc, context, names, condition)?;
             add_value(list, condition)?;
             Ok(())
         }
@@ -85,16 +85,16 @@ fn add_exit<'p>(
 /// What the `ensures` clauses say.
 pub(crate) fn resolve_exit<'p>(
     alloc: Global,
-    scene: &Scene<'_, 'p>,
-    around: &mut LocalNames,
+    context: &ResolutionContext<'_, 'p>,
+    names: &mut LocalNames,
     clauses: &'p [Clause],
 ) -> Result<Vec<TypedExpr>, AllocError>
-    ensures trees { IfOk result (λ v. view.exprs v.items ≡ exit_in (env_of scene.now around.old) (map clause_tree clauses.now)) }
-    ensures kept { OnOk result (around.new ≡ around.old) }
+    ensures trees { IfOk result (λ v. view.exprs v.items ≡ exit_in (env_of context.now names.old) (map clause_tree clauses.now)) }
+    ensures kept { OnOk result (names.new ≡ names.old) }
 {
     let mut list = Vec::new(alloc);
     for clause in clauses {
-        add_exit(alloc, scene, around, &mut list, clause)?;
+        add_exit(alloc, context, names, &mut list, clause)?;
     }
     Ok(list)
 }
@@ -115,24 +115,24 @@ fn elements_of(array: Box<TypedExpr>) -> TypedModifies
 
 fn resolve_modified<'p>(
     alloc: Global,
-    scene: &Scene<'_, 'p>,
-    around: &mut LocalNames,
+    context: &ResolutionContext<'_, 'p>,
+    names: &mut LocalNames,
     term: &'p Modified,
 ) -> Result<TypedModifies, AllocError>
-    ensures tree { IfOk result (λ m. view.modified m ≡ modified (env_of scene.now around.old) (modified_tree term.now)) }
-    ensures kept { OnOk result (around.new ≡ around.old) }
+    ensures tree { IfOk result (λ m. view.modified m ≡ modified (env_of context.now names.old) (modified_tree term.now)) }
+    ensures kept { OnOk result (names.new ≡ names.old) }
 {
     match term {
         Modified::All(object) => {
-            let object = resolve_boxed(alloc, scene, around, object)?;
+            let object = resolve_boxed(alloc, context, names, object)?;
             Ok(all_of(object))
         }
         Modified::Elements(array) => {
-            let array = resolve_boxed(alloc, scene, around, array)?;
+            let array = resolve_boxed(alloc, context, names, array)?;
             Ok(elements_of(array))
         }
         Modified::One(field) => {
-            let field = resolve_boxed(alloc, scene, around, field)?;
+            let field = resolve_boxed(alloc, context, names, field)?;
             Ok(one_of(Box::into_inner(field)))
         }
     }
@@ -141,15 +141,15 @@ fn resolve_modified<'p>(
 // One more term.
 fn add_term<'p>(
     alloc: Global,
-    scene: &Scene<'_, 'p>,
-    around: &mut LocalNames,
+    context: &ResolutionContext<'_, 'p>,
+    names: &mut LocalNames,
     list: &mut Vec<TypedModifies>,
     term: &'p Modified,
 ) -> Result<(), AllocError>
-    ensures trees { OnOk result (map view.modified list.new.items ≡ map view.modified list.old.items ++ modified (env_of scene.now around.old) (modified_tree term.now) ∷ []) }
-    ensures kept { OnOk result (around.new ≡ around.old) }
+    ensures trees { OnOk result (map view.modified list.new.items ≡ map view.modified list.old.items ++ modified (env_of context.now names.old) (modified_tree term.now) ∷ []) }
+    ensures kept { OnOk result (names.new ≡ names.old) }
 {
-    let term = resolve_modified(alloc, scene, around, term)?;
+    let term = resolve_modified(alloc, context, names, term)?;
     list.push(term)?;
     Ok(())
 }
@@ -157,17 +157,17 @@ fn add_term<'p>(
 // The terms of a clause behind others.
 fn resolve_terms<'p>(
     alloc: Global,
-    scene: &Scene<'_, 'p>,
-    around: &mut LocalNames,
+    context: &ResolutionContext<'_, 'p>,
+    names: &mut LocalNames,
     before: Vec<TypedModifies>,
     terms: &'p [Modified],
 ) -> Result<Vec<TypedModifies>, AllocError>
-    ensures trees { IfOk result (λ v. map view.modified v.items ≡ map view.modified before.items ++ map (modified (env_of scene.now around.old)) (map modified_tree terms.now)) }
-    ensures kept { OnOk result (around.new ≡ around.old) }
+    ensures trees { IfOk result (λ v. map view.modified v.items ≡ map view.modified before.items ++ map (modified (env_of context.now names.old)) (map modified_tree terms.now)) }
+    ensures kept { OnOk result (names.new ≡ names.old) }
 {
     let mut list = before;
     for term in terms {
-        add_term(alloc, scene, around, &mut list, term)?;
+        add_term(alloc, context, names, &mut list, term)?;
     }
     Ok(list)
 }
@@ -184,18 +184,18 @@ fn or_none(alloc: Global, terms: Option<Vec<TypedModifies>>) -> Vec<TypedModifie
 // One more clause behind those with these terms.
 fn with_clause<'p>(
     alloc: Global,
-    scene: &Scene<'_, 'p>,
-    around: &mut LocalNames,
+    context: &ResolutionContext<'_, 'p>,
+    names: &mut LocalNames,
     terms: Option<Vec<TypedModifies>>,
     clause: &'p Clause,
 ) -> Result<Option<Vec<TypedModifies>>, AllocError>
-    ensures trees { IfOk result (λ o. terms_of o ≡ joined (terms_of terms) (modifies_in (env_of scene.now around.old) (clause_tree clause.now ∷ []))) }
-    ensures kept { OnOk result (around.new ≡ around.old) }
+    ensures trees { IfOk result (λ o. terms_of o ≡ joined (terms_of terms) (modifies_in (env_of context.now names.old) (clause_tree clause.now ∷ []))) }
+    ensures kept { OnOk result (names.new ≡ names.old) }
 {
     match clause {
         Clause::Modifies(more) => {
             let before = or_none(alloc, terms);
-            let list = resolve_terms(alloc, scene, around, before, more)?;
+            let list = resolve_terms(alloc, context, names, before, more)?;
             Ok(Some(list))
         }
         Clause::Requires(_) | Clause::Ensures(_) => Ok(terms),
@@ -205,16 +205,16 @@ fn with_clause<'p>(
 /// The terms of all `modifies` clauses, where there is one.
 pub(crate) fn resolve_modifies<'p>(
     alloc: Global,
-    scene: &Scene<'_, 'p>,
-    around: &mut LocalNames,
+    context: &ResolutionContext<'_, 'p>,
+    names: &mut LocalNames,
     clauses: &'p [Clause],
 ) -> Result<Option<Vec<TypedModifies>>, AllocError>
-    ensures trees { IfOk result (λ o. terms_of o ≡ modifies_in (env_of scene.now around.old) (map clause_tree clauses.now)) }
-    ensures kept { OnOk result (around.new ≡ around.old) }
+    ensures trees { IfOk result (λ o. terms_of o ≡ modifies_in (env_of context.now names.old) (map clause_tree clauses.now)) }
+    ensures kept { OnOk result (names.new ≡ names.old) }
 {
     let mut terms = None;
     for clause in clauses {
-        terms = with_clause(alloc, scene, around, terms, clause)?;
+        terms = with_clause(alloc, context, names, terms, clause)?;
     }
     Ok(terms)
 }
@@ -222,16 +222,16 @@ pub(crate) fn resolve_modifies<'p>(
 /// `: base(..)` where it is written.
 pub(crate) fn resolve_base<'p>(
     alloc: Global,
-    scene: &Scene<'_, 'p>,
-    around: &mut LocalNames,
+    context: &ResolutionContext<'_, 'p>,
+    names: &mut LocalNames,
     base: &'p Option<BaseCall>,
 ) -> Result<Option<TypedBase>, AllocError>
-    ensures tree { IfOk result (λ o. option_map view.base o ≡ option_map (base_of (env_of scene.now around.old)) (option_map base_call_tree base.now)) }
-    ensures kept { OnOk result (around.new ≡ around.old) }
+    ensures tree { IfOk result (λ o. option_map view.base o ≡ option_map (base_of (env_of context.now names.old)) (option_map base_call_tree base.now)) }
+    ensures kept { OnOk result (names.new ≡ names.old) }
 {
     match base {
         Some(base) => {
-            let arguments = resolve_values(alloc, scene, around, &base.arguments)?;
+            let arguments = resolve_values(alloc, context, names, &base.arguments)?;
             Ok(Some(TypedBase {
                 place: base.place,
                 arguments,

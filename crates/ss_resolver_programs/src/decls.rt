@@ -8,12 +8,12 @@ ghost use Rattle.ss_typed.specs.View as view;
 ghost use Rattle.ss_resolver_rules.specs.Names.{declare, declare_all, declare_param, declare_params, behind_declaration};
 ghost use Rattle.ss_resolver_rules.specs.Expressions.{expr};
 ghost use Rattle.ss_resolver_rules.specs.Statements as resolved;
-ghost use Rattle.ss_resolver_expressions.specs.Scenes.{env_of};
+ghost use Rattle.ss_resolver_expressions.specs.Environments.{env_of};
 ghost use Rattle.ss_resolver_programs.specs.Boxes.{value_of};
 
 use crate::built::value_in;
 use ss_ast::{Declaration, Declarator, Expr, Name, Param, TypeRef};
-use ss_resolver_expressions::{LocalNames, Scene, resolve_boxed};
+use ss_resolver_expressions::{LocalNames, ResolutionContext, resolve_boxed};
 use ss_resolver_tables::type_id;
 use ss_tables_scopes::LocalInfo;
 use ss_typed::{TypedDeclarator, TypedExpr};
@@ -22,50 +22,50 @@ use std::alloc::{AllocError, Global};
 // Declares a local.
 fn declare_local(
     alloc: Global,
-    scene: &Scene<'_, '_>,
-    around: &mut LocalNames,
+    context: &ResolutionContext<'_, '_>,
+    names: &mut LocalNames,
     ty: &TypeRef,
     name: &Name,
 ) -> Result<(), AllocError>
-    ensures { OnOk result (env_of scene.now around.new ≡ declare (env_of scene.now around.old) (type_tree ty.now) (name_tree name.now)) }
+    ensures { OnOk result (env_of context.now names.new ≡ declare (env_of context.now names.old) (type_tree ty.now) (name_tree name.now)) }
 {
-    let tables = scene.within.tables;
+    let tables = context.within.tables;
     let local = LocalInfo {
         ty: tables.written_type(ty),
         is_param: false,
     };
-    around.declare(alloc, name.text.as_str(), local, type_id(tables, ty))
+    names.declare(alloc, name.text.as_str(), local, type_id(tables, ty))
 }
 
 // Declares a parameter.
 fn declare_param(
     alloc: Global,
-    scene: &Scene<'_, '_>,
-    around: &mut LocalNames,
+    context: &ResolutionContext<'_, '_>,
+    names: &mut LocalNames,
     param: &Param,
 ) -> Result<(), AllocError>
-    ensures { OnOk result (env_of scene.now around.new ≡ declare_param (env_of scene.now around.old) (param_tree param.now)) }
+    ensures { OnOk result (env_of context.now names.new ≡ declare_param (env_of context.now names.old) (param_tree param.now)) }
 {
-    let tables = scene.within.tables;
+    let tables = context.within.tables;
     let local = LocalInfo {
         ty: tables.written_type(&param.ty),
         is_param: true,
     };
     let name = param.name.text.as_str();
-    around.declare(alloc, name, local, type_id(tables, &param.ty))
+    names.declare(alloc, name, local, type_id(tables, &param.ty))
 }
 
 /// Declares parameters in order.
 pub(crate) fn declare_params(
     alloc: Global,
-    scene: &Scene<'_, '_>,
-    around: &mut LocalNames,
+    context: &ResolutionContext<'_, '_>,
+    names: &mut LocalNames,
     params: &[Param],
 ) -> Result<(), AllocError>
-    ensures { OnOk result (env_of scene.now around.new ≡ declare_params (env_of scene.now around.old) (map param_tree params.now)) }
+    ensures { OnOk result (env_of context.now names.new ≡ declare_params (env_of context.now names.old) (map param_tree params.now)) }
 {
     for param in params {
-        declare_param(alloc, scene, around, param)?;
+        declare_param(alloc, context, names, param)?;
     }
     Ok(())
 }
@@ -73,16 +73,16 @@ pub(crate) fn declare_params(
 /// An expression where there is one.
 pub(crate) fn resolve_option<'p>(
     alloc: Global,
-    scene: &Scene<'_, 'p>,
-    around: &mut LocalNames,
+    context: &ResolutionContext<'_, 'p>,
+    names: &mut LocalNames,
     e: &'p Option<Expr>,
 ) -> Result<Option<Box<TypedExpr>>, AllocError>
-    ensures tree { IfOk result (λ r. value_of r ≡ option_map (expr (env_of scene.now around.old)) (option_map expr_tree e.now)) }
-    ensures kept { OnOk result (around.new ≡ around.old) }
+    ensures tree { IfOk result (λ r. value_of r ≡ option_map (expr (env_of context.now names.old)) (option_map expr_tree e.now)) }
+    ensures kept { OnOk result (names.new ≡ names.old) }
 {
     match e {
         Some(e) => {
-            let value = resolve_boxed(alloc, scene, around, e)?;
+            let value = resolve_boxed(alloc, context, names, e)?;
             Ok(Some(value))
         }
         None => Ok(None),
@@ -92,21 +92,21 @@ pub(crate) fn resolve_option<'p>(
 // A declarator, behind which its name is in scope.
 fn resolve_declarator<'p>(
     alloc: Global,
-    scene: &Scene<'_, 'p>,
-    around: &mut LocalNames,
+    context: &ResolutionContext<'_, 'p>,
+    names: &mut LocalNames,
     ty: &TypeRef,
     declarator: &'p Declarator,
 ) -> Result<TypedDeclarator, AllocError>
-    ensures tree { IfOk result (λ d. view.declarator d ≡ resolved.declarator (env_of scene.now around.old) (type_tree ty.now) (declarator_tree declarator.now)) }
-    ensures behind { OnOk result (env_of scene.now around.new ≡ declare (env_of scene.now around.old) (type_tree ty.now) (name_tree declarator.now.name)) }
+    ensures tree { IfOk result (λ d. view.declarator d ≡ resolved.declarator (env_of context.now names.old) (type_tree ty.now) (declarator_tree declarator.now)) }
+    ensures behind { OnOk result (env_of context.now names.new ≡ declare (env_of context.now names.old) (type_tree ty.now) (name_tree declarator.now.name)) }
 {
-    let initial = resolve_option(alloc, scene, around, &declarator.initial)?;
-    let local = around.next();
-    declare_local(alloc, scene, around, ty, &declarator.name)?;
+    let initial = resolve_option(alloc, context, names, &declarator.initial)?;
+    let local = names.next();
+    declare_local(alloc, context, names, ty, &declarator.name)?;
     Ok(TypedDeclarator {
         place: declarator.name.place,
         local,
-        ty: type_id(scene.within.tables, ty),
+        ty: type_id(context.within.tables, ty),
         initial: value_in(initial),
     })
 }
@@ -114,16 +114,16 @@ fn resolve_declarator<'p>(
 // One more declarator.
 fn add_declarator<'p>(
     alloc: Global,
-    scene: &Scene<'_, 'p>,
-    around: &mut LocalNames,
+    context: &ResolutionContext<'_, 'p>,
+    names: &mut LocalNames,
     list: &mut Vec<TypedDeclarator>,
     ty: &TypeRef,
     declarator: &'p Declarator,
 ) -> Result<(), AllocError>
-    ensures trees { OnOk result (map view.declarator list.new.items ≡ map view.declarator list.old.items ++ resolved.declarator (env_of scene.now around.old) (type_tree ty.now) (declarator_tree declarator.now) ∷ []) }
-    ensures behind { OnOk result (env_of scene.now around.new ≡ declare (env_of scene.now around.old) (type_tree ty.now) (name_tree declarator.now.name)) }
+    ensures trees { OnOk result (map view.declarator list.new.items ≡ map view.declarator list.old.items ++ resolved.declarator (env_of context.now names.old) (type_tree ty.now) (declarator_tree declarator.now) ∷ []) }
+    ensures behind { OnOk result (env_of context.now names.new ≡ declare (env_of context.now names.old) (type_tree ty.now) (name_tree declarator.now.name)) }
 {
-    let declarator = resolve_declarator(alloc, scene, around, ty, declarator)?;
+    let declarator = resolve_declarator(alloc, context, names, ty, declarator)?;
     list.push(declarator)?;
     Ok(())
 }
@@ -131,17 +131,17 @@ fn add_declarator<'p>(
 // Declarators of one type, in order.
 fn resolve_declarators<'p>(
     alloc: Global,
-    scene: &Scene<'_, 'p>,
-    around: &mut LocalNames,
+    context: &ResolutionContext<'_, 'p>,
+    names: &mut LocalNames,
     ty: &TypeRef,
     declarators: &'p [Declarator],
 ) -> Result<Vec<TypedDeclarator>, AllocError>
-    ensures trees { IfOk result (λ v. map view.declarator v.items ≡ resolved.declarators (env_of scene.now around.old) (type_tree ty.now) (map declarator_tree declarators.now)) }
-    ensures behind { OnOk result (env_of scene.now around.new ≡ declare_all (env_of scene.now around.old) (type_tree ty.now) (map declarator_tree declarators.now)) }
+    ensures trees { IfOk result (λ v. map view.declarator v.items ≡ resolved.declarators (env_of context.now names.old) (type_tree ty.now) (map declarator_tree declarators.now)) }
+    ensures behind { OnOk result (env_of context.now names.new ≡ declare_all (env_of context.now names.old) (type_tree ty.now) (map declarator_tree declarators.now)) }
 {
     let mut list = Vec::new(alloc);
     for declarator in declarators {
-        add_declarator(alloc, scene, around, &mut list, ty, declarator)?;
+        add_declarator(alloc, context, names, &mut list, ty, declarator)?;
     }
     Ok(list)
 }
@@ -149,17 +149,17 @@ fn resolve_declarators<'p>(
 /// The declarators of a declaration, behind which their names are in scope.
 pub(crate) fn resolve_declaration<'p>(
     alloc: Global,
-    scene: &Scene<'_, 'p>,
-    around: &mut LocalNames,
+    context: &ResolutionContext<'_, 'p>,
+    names: &mut LocalNames,
     declaration: &'p Declaration,
 ) -> Result<Vec<TypedDeclarator>, AllocError>
-    ensures trees { IfOk result (λ v. map view.declarator v.items ≡ resolved.declaration (env_of scene.now around.old) (declaration_tree declaration.now)) }
-    ensures behind { OnOk result (env_of scene.now around.new ≡ behind_declaration (env_of scene.now around.old) (declaration_tree declaration.now)) }
+    ensures trees { IfOk result (λ v. map view.declarator v.items ≡ resolved.declaration (env_of context.now names.old) (declaration_tree declaration.now)) }
+    ensures behind { OnOk result (env_of context.now names.new ≡ behind_declaration (env_of context.now names.old) (declaration_tree declaration.now)) }
 {
     resolve_declarators(
         alloc,
-        scene,
-        around,
+        context,
+        names,
         &declaration.ty,
         &declaration.declarators,
     )

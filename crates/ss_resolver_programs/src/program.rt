@@ -19,7 +19,7 @@ use crate::mains::main_body;
 use crate::whole::Whole;
 use ss_ast::{ClassDecl, Program};
 use ss_core::{Class, Classes};
-use ss_resolver_expressions::Scene;
+use ss_resolver_expressions::ResolutionContext;
 use ss_resolver_tables::{body_starts, field_starts, method_tables};
 use ss_tables_lookup::{ConstructorRef, MethodRef, Shelf, Tables};
 use ss_typed::{Typed, TypedBody, TypedClass};
@@ -75,8 +75,8 @@ fn add_members<'p>(
 {
     match whole.tables.shelf(class) {
         Some(shelf) => {
-            let scene = whole.scene(class);
-            let members = resolve_members(alloc, &scene, shelf, written)?;
+            let context = whole.context(class);
+            let members = resolve_members(alloc, &context, shelf, written)?;
             list.push(members)?;
             Ok(())
         }
@@ -110,66 +110,66 @@ fn add_body(list: &mut Vec<TypedBody>, body: TypedBody) -> Result<(), AllocError
 
 fn add_constructors<'p>(
     alloc: Global,
-    scene: &Scene<'_, 'p>,
+    context: &ResolutionContext<'_, 'p>,
     list: &mut Vec<TypedBody>,
     constructors: &[ConstructorRef<'p>],
 ) -> Result<(), AllocError>
-    requires outcome { scene.now.within.outcome ≡ None }
-    requires calls { scene.now.within.refuses_members ≡ false }
-    requires this { scene.now.within.refuses_this ≡ false }
-    ensures { OnOk result (map view.body list.new.items ≡ map view.body list.old.items ++ map (constructor_body (trees scene.now.within.tables.now) scene.now.within.class) (map constructor_tree constructors.now)) }
+    requires outcome { context.now.within.outcome ≡ None }
+    requires calls { context.now.within.refuses_members ≡ false }
+    requires this { context.now.within.refuses_this ≡ false }
+    ensures { OnOk result (map view.body list.new.items ≡ map view.body list.old.items ++ map (constructor_body (trees context.now.within.tables.now) context.now.within.class) (map constructor_tree constructors.now)) }
 {
     for constructor in constructors {
-        add_constructor(alloc, scene, list, *constructor)?;
+        add_constructor(alloc, context, list, *constructor)?;
     }
     Ok(())
 }
 
 fn add_constructor<'p>(
     alloc: Global,
-    scene: &Scene<'_, 'p>,
+    context: &ResolutionContext<'_, 'p>,
     list: &mut Vec<TypedBody>,
     constructor: ConstructorRef<'p>,
 ) -> Result<(), AllocError>
-    requires outcome { scene.now.within.outcome ≡ None }
-    requires calls { scene.now.within.refuses_members ≡ false }
-    requires this { scene.now.within.refuses_this ≡ false }
-    ensures { OnOk result (map view.body list.new.items ≡ map view.body list.old.items ++ constructor_body (trees scene.now.within.tables.now) scene.now.within.class (constructor_tree constructor.entry) ∷ []) }
+    requires outcome { context.now.within.outcome ≡ None }
+    requires calls { context.now.within.refuses_members ≡ false }
+    requires this { context.now.within.refuses_this ≡ false }
+    ensures { OnOk result (map view.body list.new.items ≡ map view.body list.old.items ++ constructor_body (trees context.now.within.tables.now) context.now.within.class (constructor_tree constructor.entry) ∷ []) }
 {
-    let body = resolve_constructor(alloc, scene, constructor)?;
+    let body = resolve_constructor(alloc, context, constructor)?;
     add_body(list, body)?;
     Ok(())
 }
 
 fn add_method<'p>(
     alloc: Global,
-    scene: &Scene<'_, 'p>,
+    context: &ResolutionContext<'_, 'p>,
     list: &mut Vec<TypedBody>,
     method: MethodRef<'p>,
 ) -> Result<(), AllocError>
-    requires outcome { scene.now.within.outcome ≡ None }
-    requires calls { scene.now.within.refuses_members ≡ false }
-    requires this { scene.now.within.refuses_this ≡ false }
-    ensures { OnOk result (map view.body list.new.items ≡ map view.body list.old.items ++ method_body (trees scene.now.within.tables.now) scene.now.within.class (method_tree method.entry) ∷ []) }
+    requires outcome { context.now.within.outcome ≡ None }
+    requires calls { context.now.within.refuses_members ≡ false }
+    requires this { context.now.within.refuses_this ≡ false }
+    ensures { OnOk result (map view.body list.new.items ≡ map view.body list.old.items ++ method_body (trees context.now.within.tables.now) context.now.within.class (method_tree method.entry) ∷ []) }
 {
-    let body = resolve_method(alloc, scene, method)?;
+    let body = resolve_method(alloc, context, method)?;
     add_body(list, body)?;
     Ok(())
 }
 
 fn add_methods<'p>(
     alloc: Global,
-    scene: &Scene<'_, 'p>,
+    context: &ResolutionContext<'_, 'p>,
     list: &mut Vec<TypedBody>,
     methods: &[MethodRef<'p>],
 ) -> Result<(), AllocError>
-    requires outcome { scene.now.within.outcome ≡ None }
-    requires calls { scene.now.within.refuses_members ≡ false }
-    requires this { scene.now.within.refuses_this ≡ false }
-    ensures { OnOk result (map view.body list.new.items ≡ map view.body list.old.items ++ map (method_body (trees scene.now.within.tables.now) scene.now.within.class) (map method_tree methods.now)) }
+    requires outcome { context.now.within.outcome ≡ None }
+    requires calls { context.now.within.refuses_members ≡ false }
+    requires this { context.now.within.refuses_this ≡ false }
+    ensures { OnOk result (map view.body list.new.items ≡ map view.body list.old.items ++ map (method_body (trees context.now.within.tables.now) context.now.within.class) (map method_tree methods.now)) }
 {
     for method in methods {
-        add_method(alloc, scene, list, *method)?;
+        add_method(alloc, context, list, *method)?;
     }
     Ok(())
 }
@@ -177,19 +177,19 @@ fn add_methods<'p>(
 // The bodies of a class: its constructors and then its methods.
 fn add_shelf<'p>(
     alloc: Global,
-    scene: &Scene<'_, 'p>,
+    context: &ResolutionContext<'_, 'p>,
     list: &mut Vec<TypedBody>,
     shelf: &Shelf<'p>,
     written: &'p ClassDecl,
 ) -> Result<(), AllocError>
-    requires outcome { scene.now.within.outcome ≡ None }
-    requires calls { scene.now.within.refuses_members ≡ false }
-    requires this { scene.now.within.refuses_this ≡ false }
-    requires shelved { shelf_of shelf.now ≡ shelves.shelf (trees scene.now.within.tables.now) (class_tree written.now) }
-    ensures { OnOk result (map view.body list.new.items ≡ map view.body list.old.items ++ bodies_of (trees scene.now.within.tables.now) scene.now.within.class (class_tree written.now)) }
+    requires outcome { context.now.within.outcome ≡ None }
+    requires calls { context.now.within.refuses_members ≡ false }
+    requires this { context.now.within.refuses_this ≡ false }
+    requires shelved { shelf_of shelf.now ≡ shelves.shelf (trees context.now.within.tables.now) (class_tree written.now) }
+    ensures { OnOk result (map view.body list.new.items ≡ map view.body list.old.items ++ bodies_of (trees context.now.within.tables.now) context.now.within.class (class_tree written.now)) }
 {
-    add_constructors(alloc, scene, list, &shelf.constructors)?;
-    add_methods(alloc, scene, list, &shelf.methods)
+    add_constructors(alloc, context, list, &shelf.constructors)?;
+    add_methods(alloc, context, list, &shelf.methods)
 }
 
 // The bodies of one more class.
@@ -205,8 +205,8 @@ fn add_bodies<'p>(
 {
     match whole.tables.shelf(class) {
         Some(shelf) => {
-            let scene = whole.scene(class);
-            add_shelf(alloc, &scene, list, shelf, written)
+            let context = whole.context(class);
+            add_shelf(alloc, &context, list, shelf, written)
         }
         None => unreachable!(),
     }

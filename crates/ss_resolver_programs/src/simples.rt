@@ -10,7 +10,7 @@ ghost use Rattle.ss_resolver_rules.specs.Expressions.{args};
 ghost use Rattle.ss_resolver_rules.specs.Statements.{is_line, printed, print, alone, behind_first};
 ghost use Rattle.ss_resolver_rules.specs.Statements as resolved;
 ghost use Rattle.ss_ast.specs.Parts.{postfix_behind};
-ghost use Rattle.ss_resolver_expressions.specs.Scenes.{env_of, part, part_view, part_called};
+ghost use Rattle.ss_resolver_expressions.specs.Environments.{env_of, part, part_view, part_called};
 ghost use Rattle.ss_resolver_programs.specs.Alone.{kind_behind, kind_of, part_alone};
 ghost use Rattle.ss_resolver_programs.specs.Boxes as boxes;
 
@@ -23,8 +23,8 @@ use crate::forms::{call_in, text_in};
 use ss_ast::{AssignOperator, Expr, ForInit, Postfix, Simple, StepOperator};
 use ss_core::Place;
 use ss_resolver_expressions::{
-    LocalNames, Part, Scene, asked_of, called, resolve_boxed, resolve_given, resolve_values, walk,
-    walk_postfixes,
+    LocalNames, Part, ResolutionContext, asked_of, called, resolve_boxed, resolve_given,
+    resolve_values, walk, walk_postfixes,
 };
 use ss_tables_scopes::Receiver;
 use ss_typed::{TypedExpr, TypedInit, TypedSimple};
@@ -64,14 +64,14 @@ fn kind_of(part: &Part<'_>) -> Alone
 // What is printed: a string by its bytes, else a value.
 fn resolve_printed<'p>(
     alloc: Global,
-    scene: &Scene<'_, 'p>,
-    around: &mut LocalNames,
+    context: &ResolutionContext<'_, 'p>,
+    names: &mut LocalNames,
     place: Place,
     line: bool,
     e: &'p Expr,
 ) -> Result<Box<TypedSimple>, AllocError>
-    ensures tree { IfOk result (λ s. view.simple_of s.value ≡ printed (env_of scene.now around.old) place line (expr_tree e.now)) }
-    ensures kept { OnOk result (around.new ≡ around.old) }
+    ensures tree { IfOk result (λ s. view.simple_of s.value ≡ printed (env_of context.now names.old) place line (expr_tree e.now)) }
+    ensures kept { OnOk result (names.new ≡ names.old) }
 {
     match text_in(e) {
         Some(text) => {
@@ -79,7 +79,7 @@ fn resolve_printed<'p>(
             Ok(whole)
         }
         None => {
-            let value = resolve_boxed(alloc, scene, around, e)?;
+            let value = resolve_boxed(alloc, context, names, e)?;
             let whole = print_of(alloc, place, Some(value), line)?;
             Ok(whole)
         }
@@ -88,51 +88,51 @@ fn resolve_printed<'p>(
 
 fn resolve_print<'p>(
     alloc: Global,
-    scene: &Scene<'_, 'p>,
-    around: &mut LocalNames,
+    context: &ResolutionContext<'_, 'p>,
+    names: &mut LocalNames,
     place: Place,
     line: bool,
     written: &'p [Expr],
 ) -> Result<Box<TypedSimple>, AllocError>
-    ensures tree { IfOk result (λ s. view.simple_of s.value ≡ print (env_of scene.now around.old) place line (arguments (map expr_tree written.now))) }
-    ensures kept { OnOk result (around.new ≡ around.old) }
+    ensures tree { IfOk result (λ s. view.simple_of s.value ≡ print (env_of context.now names.old) place line (arguments (map expr_tree written.now))) }
+    ensures kept { OnOk result (names.new ≡ names.old) }
 {
     match written {
         [] => print_of(alloc, place, None, line),
-        [first, ..] => resolve_printed(alloc, scene, around, place, line, first),
+        [first, ..] => resolve_printed(alloc, context, names, place, line, first),
     }
 }
 
 // A call of what stands before its arguments.
 fn resolve_call<'p>(
     alloc: Global,
-    scene: &Scene<'_, 'p>,
-    around: &mut LocalNames,
+    context: &ResolutionContext<'_, 'p>,
+    names: &mut LocalNames,
     place: Place,
     before: Part<'p>,
     written: &'p [Expr],
 ) -> Result<Box<TypedExpr>, AllocError>
-    ensures tree { IfOk result (λ r. view.expr r.value ≡ part_called (env_of scene.now around.old) place (arguments (map expr_tree written.now)) (args (env_of scene.now around.old) (arguments (map expr_tree written.now))) (part_view before.entry)) }
-    ensures kept { OnOk result (around.new ≡ around.old) }
+    ensures tree { IfOk result (λ r. view.expr r.value ≡ part_called (env_of context.now names.old) place (arguments (map expr_tree written.now)) (args (env_of context.now names.old) (arguments (map expr_tree written.now))) (part_view before.entry)) }
+    ensures kept { OnOk result (names.new ≡ names.old) }
 {
-    let given = resolve_given(alloc, scene, around, written)?;
+    let given = resolve_given(alloc, context, names, written)?;
     let asked = asked_of(&given.classes);
-    let whole = called(alloc, scene, around, place, before, asked, given.values)?;
+    let whole = called(alloc, context, names, place, before, asked, given.values)?;
     Ok(whole)
 }
 
 // `base(..)`
 fn resolve_base_call<'p>(
     alloc: Global,
-    scene: &Scene<'_, 'p>,
-    around: &mut LocalNames,
+    context: &ResolutionContext<'_, 'p>,
+    names: &mut LocalNames,
     place: Place,
     written: &'p [Expr],
 ) -> Result<Box<TypedSimple>, AllocError>
-    ensures tree { IfOk result (λ s. view.simple_of s.value ≡ BaseCallOf place (args (env_of scene.now around.old) (arguments (map expr_tree written.now)))) }
-    ensures kept { OnOk result (around.new ≡ around.old) }
+    ensures tree { IfOk result (λ s. view.simple_of s.value ≡ BaseCallOf place (args (env_of context.now names.old) (arguments (map expr_tree written.now)))) }
+    ensures kept { OnOk result (names.new ≡ names.old) }
 {
-    let values = resolve_values(alloc, scene, around, written)?;
+    let values = resolve_values(alloc, context, names, written)?;
     let whole = base_call_of(alloc, place, values)?;
     Ok(whole)
 }
@@ -140,20 +140,20 @@ fn resolve_base_call<'p>(
 // A call alone, of what stands before its arguments.
 fn resolve_alone_call<'p>(
     alloc: Global,
-    scene: &Scene<'_, 'p>,
-    around: &mut LocalNames,
+    context: &ResolutionContext<'_, 'p>,
+    names: &mut LocalNames,
     place: Place,
     before: Part<'p>,
     written: &'p [Expr],
 ) -> Result<Box<TypedSimple>, AllocError>
-    ensures tree { IfOk result (λ s. view.simple_of s.value ≡ part_alone (env_of scene.now around.old) place (arguments (map expr_tree written.now)) (part_view before.entry)) }
-    ensures kept { OnOk result (around.new ≡ around.old) }
+    ensures tree { IfOk result (λ s. view.simple_of s.value ≡ part_alone (env_of context.now names.old) place (arguments (map expr_tree written.now)) (part_view before.entry)) }
+    ensures kept { OnOk result (names.new ≡ names.old) }
 {
     match kind_of(&before) {
-        Alone::Print(line) => resolve_print(alloc, scene, around, place, line, written),
-        Alone::Base => resolve_base_call(alloc, scene, around, place, written),
+        Alone::Print(line) => resolve_print(alloc, context, names, place, line, written),
+        Alone::Base => resolve_base_call(alloc, context, names, place, written),
         Alone::Call => {
-            let whole = resolve_call(alloc, scene, around, place, before, written)?;
+            let whole = resolve_call(alloc, context, names, place, before, written)?;
             let simple = alone_of(alloc, whole)?;
             Ok(simple)
         }
@@ -163,39 +163,39 @@ fn resolve_alone_call<'p>(
 // A call alone, by the beginning of its path and what stands between that and its arguments.
 fn resolve_path_call<'p>(
     alloc: Global,
-    scene: &Scene<'_, 'p>,
-    around: &mut LocalNames,
+    context: &ResolutionContext<'_, 'p>,
+    names: &mut LocalNames,
     place: Place,
     first: &'p Expr,
     front: &'p [Postfix],
     written: &'p [Expr],
 ) -> Result<Box<TypedSimple>, AllocError>
-    ensures tree { IfOk result (λ s. view.simple_of s.value ≡ part_alone (env_of scene.now around.old) place (arguments (map expr_tree written.now))
-        (part (env_of scene.now around.old) (grouped place (expr_tree first.now) (map postfix_behind front.now)))) }
-    ensures kept { OnOk result (around.new ≡ around.old) }
+    ensures tree { IfOk result (λ s. view.simple_of s.value ≡ part_alone (env_of context.now names.old) place (arguments (map expr_tree written.now))
+        (part (env_of context.now names.old) (grouped place (expr_tree first.now) (map postfix_behind front.now)))) }
+    ensures kept { OnOk result (names.new ≡ names.old) }
 {
-    let first = walk(alloc, scene, around, first)?;
-    let before = walk_postfixes(alloc, scene, around, place, first, front)?;
-    let whole = resolve_alone_call(alloc, scene, around, place, before, written)?;
+    let first = walk(alloc, context, names, first)?;
+    let before = walk_postfixes(alloc, context, names, place, first, front)?;
+    let whole = resolve_alone_call(alloc, context, names, place, before, written)?;
     Ok(whole)
 }
 
 // A call or a `new` alone.
 fn resolve_alone<'p>(
     alloc: Global,
-    scene: &Scene<'_, 'p>,
-    around: &mut LocalNames,
+    context: &ResolutionContext<'_, 'p>,
+    names: &mut LocalNames,
     e: &'p Expr,
 ) -> Result<Box<TypedSimple>, AllocError>
-    ensures tree { IfOk result (λ s. view.simple_of s.value ≡ alone (env_of scene.now around.old) (expr_tree e.now)) }
-    ensures kept { OnOk result (around.new ≡ around.old) }
+    ensures tree { IfOk result (λ s. view.simple_of s.value ≡ alone (env_of context.now names.old) (expr_tree e.now)) }
+    ensures kept { OnOk result (names.new ≡ names.old) }
 {
     match call_in(e) {
         Some(call) => {
             let whole = resolve_path_call(
                 alloc,
-                scene,
-                around,
+                context,
+                names,
                 call.place,
                 call.first,
                 call.front,
@@ -204,7 +204,7 @@ fn resolve_alone<'p>(
             Ok(whole)
         }
         None => {
-            let whole = resolve_boxed(alloc, scene, around, e)?;
+            let whole = resolve_boxed(alloc, context, names, e)?;
             let simple = alone_of(alloc, whole)?;
             Ok(simple)
         }
@@ -213,32 +213,32 @@ fn resolve_alone<'p>(
 
 fn resolve_assign<'p>(
     alloc: Global,
-    scene: &Scene<'_, 'p>,
-    around: &mut LocalNames,
+    context: &ResolutionContext<'_, 'p>,
+    names: &mut LocalNames,
     target: &'p Expr,
     operator: AssignOperator,
     value: &'p Expr,
 ) -> Result<Box<TypedSimple>, AllocError>
-    ensures tree { IfOk result (λ s. view.simple_of s.value ≡ resolved.simple (env_of scene.now around.old) (AssignOf (expr_tree target.now) operator (expr_tree value.now))) }
-    ensures kept { OnOk result (around.new ≡ around.old) }
+    ensures tree { IfOk result (λ s. view.simple_of s.value ≡ resolved.simple (env_of context.now names.old) (AssignOf (expr_tree target.now) operator (expr_tree value.now))) }
+    ensures kept { OnOk result (names.new ≡ names.old) }
 {
-    let target = resolve_boxed(alloc, scene, around, target)?;
-    let value = resolve_boxed(alloc, scene, around, value)?;
+    let target = resolve_boxed(alloc, context, names, target)?;
+    let value = resolve_boxed(alloc, context, names, value)?;
     let whole = assign_of(alloc, target, operator, value)?;
     Ok(whole)
 }
 
 fn resolve_stepped<'p>(
     alloc: Global,
-    scene: &Scene<'_, 'p>,
-    around: &mut LocalNames,
+    context: &ResolutionContext<'_, 'p>,
+    names: &mut LocalNames,
     target: &'p Expr,
     operator: StepOperator,
 ) -> Result<Box<TypedSimple>, AllocError>
-    ensures tree { IfOk result (λ s. view.simple_of s.value ≡ resolved.simple (env_of scene.now around.old) (StepOf (expr_tree target.now) operator)) }
-    ensures kept { OnOk result (around.new ≡ around.old) }
+    ensures tree { IfOk result (λ s. view.simple_of s.value ≡ resolved.simple (env_of context.now names.old) (StepOf (expr_tree target.now) operator)) }
+    ensures kept { OnOk result (names.new ≡ names.old) }
 {
-    let target = resolve_boxed(alloc, scene, around, target)?;
+    let target = resolve_boxed(alloc, context, names, target)?;
     let whole = step_of(alloc, target, operator)?;
     Ok(whole)
 }
@@ -246,37 +246,37 @@ fn resolve_stepped<'p>(
 /// A simple statement.
 pub(crate) fn resolve_simple<'p>(
     alloc: Global,
-    scene: &Scene<'_, 'p>,
-    around: &mut LocalNames,
+    context: &ResolutionContext<'_, 'p>,
+    names: &mut LocalNames,
     simple: &'p Simple,
 ) -> Result<Box<TypedSimple>, AllocError>
-    ensures tree { IfOk result (λ s. view.simple_of s.value ≡ resolved.simple (env_of scene.now around.old) (simple_tree simple.now)) }
-    ensures kept { OnOk result (around.new ≡ around.old) }
+    ensures tree { IfOk result (λ s. view.simple_of s.value ≡ resolved.simple (env_of context.now names.old) (simple_tree simple.now)) }
+    ensures kept { OnOk result (names.new ≡ names.old) }
 {
     match simple {
         Simple::Assign(target, operator, value) => {
-            resolve_assign(alloc, scene, around, target, *operator, value)
+            resolve_assign(alloc, context, names, target, *operator, value)
         }
         Simple::Step(target, operator) => {
-            resolve_stepped(alloc, scene, around, target, *operator)
+            resolve_stepped(alloc, context, names, target, *operator)
         }
-        Simple::Alone(e) => resolve_alone(alloc, scene, around, e),
+        Simple::Alone(e) => resolve_alone(alloc, context, names, e),
     }
 }
 
 /// A simple statement where there is one.
 pub(crate) fn resolve_step<'p>(
     alloc: Global,
-    scene: &Scene<'_, 'p>,
-    around: &mut LocalNames,
+    context: &ResolutionContext<'_, 'p>,
+    names: &mut LocalNames,
     step: &'p Option<Simple>,
 ) -> Result<Option<Box<TypedSimple>>, AllocError>
-    ensures tree { IfOk result (λ r. boxes.step_of r ≡ option_map (resolved.simple (env_of scene.now around.old)) (option_map simple_tree step.now)) }
-    ensures kept { OnOk result (around.new ≡ around.old) }
+    ensures tree { IfOk result (λ r. boxes.step_of r ≡ option_map (resolved.simple (env_of context.now names.old)) (option_map simple_tree step.now)) }
+    ensures kept { OnOk result (names.new ≡ names.old) }
 {
     match step {
         Some(step) => {
-            let step = resolve_simple(alloc, scene, around, step)?;
+            let step = resolve_simple(alloc, context, names, step)?;
             Ok(Some(step))
         }
         None => Ok(None),
@@ -286,22 +286,22 @@ pub(crate) fn resolve_step<'p>(
 /// What a `for` begins with; a declaration leaves its names in scope.
 pub(crate) fn resolve_first<'p>(
     alloc: Global,
-    scene: &Scene<'_, 'p>,
-    around: &mut LocalNames,
+    context: &ResolutionContext<'_, 'p>,
+    names: &mut LocalNames,
     first: &'p Option<ForInit>,
 ) -> Result<Option<Box<TypedInit>>, AllocError>
-    ensures tree { IfOk result (λ r. boxes.init_of r ≡ resolved.first (env_of scene.now around.old) (option_map for_init_tree first.now)) }
-    ensures behind { OnOk result (env_of scene.now around.new ≡ behind_first (env_of scene.now around.old) (option_map for_init_tree first.now)) }
+    ensures tree { IfOk result (λ r. boxes.init_of r ≡ resolved.first (env_of context.now names.old) (option_map for_init_tree first.now)) }
+    ensures behind { OnOk result (env_of context.now names.new ≡ behind_first (env_of context.now names.old) (option_map for_init_tree first.now)) }
 {
     match first {
         None => Ok(None),
         Some(ForInit::Declare(declaration)) => {
-            let list = resolve_declaration(alloc, scene, around, declaration)?;
+            let list = resolve_declaration(alloc, context, names, declaration)?;
             let first = declare_first(alloc, list)?;
             Ok(Some(first))
         }
         Some(ForInit::Simple(simple)) => {
-            let simple = resolve_simple(alloc, scene, around, simple)?;
+            let simple = resolve_simple(alloc, context, names, simple)?;
             let first = simple_first(alloc, simple)?;
             Ok(Some(first))
         }

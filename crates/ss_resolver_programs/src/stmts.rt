@@ -10,7 +10,7 @@ ghost use Rattle.ss_resolver_rules.specs.Expressions.{expr};
 ghost use Rattle.ss_resolver_rules.specs.Statements.{declared_in, declared_in_block, past, behind, behind_first};
 ghost use Rattle.ss_resolver_rules.specs.Statements as resolved;
 ghost use Rattle.ss_resolver_tables.specs.Limits.{HasFewClasses};
-ghost use Rattle.ss_resolver_expressions.specs.Scenes.{env_of};
+ghost use Rattle.ss_resolver_expressions.specs.Environments.{env_of};
 ghost use Rattle.ss_resolver_programs.specs.Behind.{behind_all, each_stmt, class_at};
 ghost use Rattle.ss_resolver_programs.specs.Boxes as boxes;
 
@@ -22,7 +22,7 @@ use crate::decls::{resolve_declaration, resolve_option};
 use crate::simples::{resolve_first, resolve_simple, resolve_step};
 use ss_ast::{Block, Declaration, Expr, ForInit, Name, Simple, Stmt};
 use ss_core::{ClassId, Place};
-use ss_resolver_expressions::{LocalNames, Scene, resolve_boxed, resolve_values};
+use ss_resolver_expressions::{LocalNames, ResolutionContext, resolve_boxed, resolve_values};
 use ss_resolver_tables::class_id;
 use ss_tables_lookup::Tables;
 use ss_typed::{TypedBlock, TypedStmt};
@@ -42,14 +42,14 @@ fn class_at(tables: &Tables<'_>, name: &Option<Name>) -> Option<ClassId>
 // A declaration.
 fn resolve_declare<'p>(
     alloc: Global,
-    scene: &Scene<'_, 'p>,
-    around: &mut LocalNames,
+    context: &ResolutionContext<'_, 'p>,
+    names: &mut LocalNames,
     declaration: &'p Declaration,
 ) -> Result<Box<TypedStmt>, AllocError>
-    ensures tree { IfOk result (λ r. view.stmt_of r.value ≡ resolved.stmt (env_of scene.now around.old) (DeclareOf (declaration_tree declaration.now))) }
-    ensures behind { OnOk result (env_of scene.now around.new ≡ behind (env_of scene.now around.old) (DeclareOf (declaration_tree declaration.now))) }
+    ensures tree { IfOk result (λ r. view.stmt_of r.value ≡ resolved.stmt (env_of context.now names.old) (DeclareOf (declaration_tree declaration.now))) }
+    ensures behind { OnOk result (env_of context.now names.new ≡ behind (env_of context.now names.old) (DeclareOf (declaration_tree declaration.now))) }
 {
-    let list = resolve_declaration(alloc, scene, around, declaration)?;
+    let list = resolve_declaration(alloc, context, names, declaration)?;
     let whole = declare_of(alloc, list)?;
     Ok(whole)
 }
@@ -57,59 +57,59 @@ fn resolve_declare<'p>(
 // A simple statement alone.
 fn resolve_line<'p>(
     alloc: Global,
-    scene: &Scene<'_, 'p>,
-    around: &mut LocalNames,
+    context: &ResolutionContext<'_, 'p>,
+    names: &mut LocalNames,
     simple: &'p Simple,
 ) -> Result<Box<TypedStmt>, AllocError>
-    ensures tree { IfOk result (λ r. view.stmt_of r.value ≡ resolved.stmt (env_of scene.now around.old) (SimpleOf (simple_tree simple.now))) }
-    ensures kept { OnOk result (around.new ≡ around.old) }
+    ensures tree { IfOk result (λ r. view.stmt_of r.value ≡ resolved.stmt (env_of context.now names.old) (SimpleOf (simple_tree simple.now))) }
+    ensures kept { OnOk result (names.new ≡ names.old) }
 {
-    let simple = resolve_simple(alloc, scene, around, simple)?;
+    let simple = resolve_simple(alloc, context, names, simple)?;
     let whole = simple_of(alloc, simple)?;
     Ok(whole)
 }
 
 fn resolve_return<'p>(
     alloc: Global,
-    scene: &Scene<'_, 'p>,
-    around: &mut LocalNames,
+    context: &ResolutionContext<'_, 'p>,
+    names: &mut LocalNames,
     place: Place,
     value: &'p Option<Expr>,
 ) -> Result<Box<TypedStmt>, AllocError>
-    ensures tree { IfOk result (λ r. view.stmt_of r.value ≡ resolved.stmt (env_of scene.now around.old) (ReturnOf place (option_map expr_tree value.now))) }
-    ensures kept { OnOk result (around.new ≡ around.old) }
+    ensures tree { IfOk result (λ r. view.stmt_of r.value ≡ resolved.stmt (env_of context.now names.old) (ReturnOf place (option_map expr_tree value.now))) }
+    ensures kept { OnOk result (names.new ≡ names.old) }
 {
-    let value = resolve_option(alloc, scene, around, value)?;
+    let value = resolve_option(alloc, context, names, value)?;
     let whole = return_of(alloc, place, value)?;
     Ok(whole)
 }
 
 fn resolve_assert<'p>(
     alloc: Global,
-    scene: &Scene<'_, 'p>,
-    around: &mut LocalNames,
+    context: &ResolutionContext<'_, 'p>,
+    names: &mut LocalNames,
     place: Place,
     condition: &'p Expr,
 ) -> Result<Box<TypedStmt>, AllocError>
-    ensures tree { IfOk result (λ r. view.stmt_of r.value ≡ resolved.stmt (env_of scene.now around.old) (AssertOf place (expr_tree condition.now))) }
-    ensures kept { OnOk result (around.new ≡ around.old) }
+    ensures tree { IfOk result (λ r. view.stmt_of r.value ≡ resolved.stmt (env_of context.now names.old) (AssertOf place (expr_tree condition.now))) }
+    ensures kept { OnOk result (names.new ≡ names.old) }
 {
-    let condition = resolve_boxed(alloc, scene, around, condition)?;
+    let condition = resolve_boxed(alloc, context, names, condition)?;
     let whole = assert_of(alloc, place, condition)?;
     Ok(whole)
 }
 
 fn resolve_assume<'p>(
     alloc: Global,
-    scene: &Scene<'_, 'p>,
-    around: &mut LocalNames,
+    context: &ResolutionContext<'_, 'p>,
+    names: &mut LocalNames,
     place: Place,
     condition: &'p Expr,
 ) -> Result<Box<TypedStmt>, AllocError>
-    ensures tree { IfOk result (λ r. view.stmt_of r.value ≡ resolved.stmt (env_of scene.now around.old) (AssumeOf place (expr_tree condition.now))) }
-    ensures kept { OnOk result (around.new ≡ around.old) }
+    ensures tree { IfOk result (λ r. view.stmt_of r.value ≡ resolved.stmt (env_of context.now names.old) (AssumeOf place (expr_tree condition.now))) }
+    ensures kept { OnOk result (names.new ≡ names.old) }
 {
-    let condition = resolve_boxed(alloc, scene, around, condition)?;
+    let condition = resolve_boxed(alloc, context, names, condition)?;
     let whole = assume_of(alloc, place, condition)?;
     Ok(whole)
 }
@@ -117,20 +117,20 @@ fn resolve_assume<'p>(
 // The heading of a `for`, behind which its names are in scope.
 fn resolve_heading<'p>(
     alloc: Global,
-    scene: &Scene<'_, 'p>,
-    around: &mut LocalNames,
+    context: &ResolutionContext<'_, 'p>,
+    names: &mut LocalNames,
     first: &'p Option<ForInit>,
     test: &'p Option<Expr>,
     step: &'p Option<Simple>,
 ) -> Result<Heading, AllocError>
-    ensures first { IfOk result (λ h. boxes.init_of h.first ≡ resolved.first (env_of scene.now around.old) (option_map for_init_tree first.now)) }
-    ensures test { IfOk result (λ h. boxes.value_of h.test ≡ option_map (expr (behind_first (env_of scene.now around.old) (option_map for_init_tree first.now))) (option_map expr_tree test.now)) }
-    ensures step { IfOk result (λ h. boxes.step_of h.step ≡ option_map (resolved.simple (behind_first (env_of scene.now around.old) (option_map for_init_tree first.now))) (option_map simple_tree step.now)) }
-    ensures behind { OnOk result (env_of scene.now around.new ≡ behind_first (env_of scene.now around.old) (option_map for_init_tree first.now)) }
+    ensures first { IfOk result (λ h. boxes.init_of h.first ≡ resolved.first (env_of context.now names.old) (option_map for_init_tree first.now)) }
+    ensures test { IfOk result (λ h. boxes.value_of h.test ≡ option_map (expr (behind_first (env_of context.now names.old) (option_map for_init_tree first.now))) (option_map expr_tree test.now)) }
+    ensures step { IfOk result (λ h. boxes.step_of h.step ≡ option_map (resolved.simple (behind_first (env_of context.now names.old) (option_map for_init_tree first.now))) (option_map simple_tree step.now)) }
+    ensures behind { OnOk result (env_of context.now names.new ≡ behind_first (env_of context.now names.old) (option_map for_init_tree first.now)) }
 {
-    let first = resolve_first(alloc, scene, around, first)?;
-    let test = resolve_option(alloc, scene, around, test)?;
-    let step = resolve_step(alloc, scene, around, step)?;
+    let first = resolve_first(alloc, context, names, first)?;
+    let test = resolve_option(alloc, context, names, test)?;
+    let step = resolve_step(alloc, context, names, step)?;
     Ok(Heading { first, test, step })
 }
 
@@ -138,32 +138,32 @@ fn resolve_heading<'p>(
 #[cycle(stmt)]
 pub(crate) fn resolve_block<'p>(
     alloc: Global,
-    scene: &Scene<'_, 'p>,
-    around: &mut LocalNames,
+    context: &ResolutionContext<'_, 'p>,
+    names: &mut LocalNames,
     block: &'p Block,
 ) -> Result<TypedBlock, AllocError>
-    ensures tree { IfOk result (λ b. view.block b ≡ resolved.block (env_of scene.now around.old) (block_tree block.now)) }
-    ensures behind { OnOk result (env_of scene.now around.new ≡ past (env_of scene.now around.old) (declared_in_block (block_tree block.now))) }
+    ensures tree { IfOk result (λ b. view.block b ≡ resolved.block (env_of context.now names.old) (block_tree block.now)) }
+    ensures behind { OnOk result (env_of context.now names.new ≡ past (env_of context.now names.old) (declared_in_block (block_tree block.now))) }
 {
-    around.enter(alloc)?;
-    let statements = resolve_stmts(alloc, scene, around, &block.statements)?;
-    around.leave();
+    names.enter(alloc)?;
+    let statements = resolve_stmts(alloc, context, names, &block.statements)?;
+    names.leave();
     Ok(block_of(block.place, statements, block.end))
 }
 
 #[cycle(stmt)]
 fn resolve_stmts<'p>(
     alloc: Global,
-    scene: &Scene<'_, 'p>,
-    around: &mut LocalNames,
+    context: &ResolutionContext<'_, 'p>,
+    names: &mut LocalNames,
     stmts: &'p [Stmt],
 ) -> Result<Vec<TypedStmt>, AllocError>
-    ensures trees { IfOk result (λ v. map view.stmt_of v.items ≡ each_stmt (env_of scene.now around.old) (map stmt_tree stmts.now)) }
-    ensures behind { OnOk result (env_of scene.now around.new ≡ behind_all (env_of scene.now around.old) (map stmt_tree stmts.now)) }
+    ensures trees { IfOk result (λ v. map view.stmt_of v.items ≡ each_stmt (env_of context.now names.old) (map stmt_tree stmts.now)) }
+    ensures behind { OnOk result (env_of context.now names.new ≡ behind_all (env_of context.now names.old) (map stmt_tree stmts.now)) }
 {
     let mut list = Vec::new(alloc);
     for stmt in stmts {
-        let stmt = resolve_stmt(alloc, scene, around, stmt)?;
+        let stmt = resolve_stmt(alloc, context, names, stmt)?;
         add_stmt(&mut list, stmt)?;
     }
     Ok(list)
@@ -173,14 +173,14 @@ fn resolve_stmts<'p>(
 #[cycle(stmt)]
 fn resolve_inner<'p>(
     alloc: Global,
-    scene: &Scene<'_, 'p>,
-    around: &mut LocalNames,
+    context: &ResolutionContext<'_, 'p>,
+    names: &mut LocalNames,
     block: &'p Block,
 ) -> Result<Box<TypedStmt>, AllocError>
-    ensures tree { IfOk result (λ r. view.stmt_of r.value ≡ resolved.stmt (env_of scene.now around.old) (InBlock (block_tree block.now))) }
-    ensures behind { OnOk result (env_of scene.now around.new ≡ past (env_of scene.now around.old) (declared_in_block (block_tree block.now))) }
+    ensures tree { IfOk result (λ r. view.stmt_of r.value ≡ resolved.stmt (env_of context.now names.old) (InBlock (block_tree block.now))) }
+    ensures behind { OnOk result (env_of context.now names.new ≡ past (env_of context.now names.old) (declared_in_block (block_tree block.now))) }
 {
-    let block = resolve_block(alloc, scene, around, block)?;
+    let block = resolve_block(alloc, context, names, block)?;
     let whole = in_block(alloc, block)?;
     Ok(whole)
 }
@@ -189,16 +189,16 @@ fn resolve_inner<'p>(
 #[cycle(stmt)]
 fn resolve_governed<'p>(
     alloc: Global,
-    scene: &Scene<'_, 'p>,
-    around: &mut LocalNames,
+    context: &ResolutionContext<'_, 'p>,
+    names: &mut LocalNames,
     stmt: &'p Stmt,
 ) -> Result<Box<TypedStmt>, AllocError>
-    ensures tree { IfOk result (λ b. view.stmt_of b.value ≡ resolved.stmt (enter (env_of scene.now around.old)) (stmt_tree stmt.now)) }
-    ensures behind { OnOk result (env_of scene.now around.new ≡ past (env_of scene.now around.old) (declared_in (stmt_tree stmt.now))) }
+    ensures tree { IfOk result (λ b. view.stmt_of b.value ≡ resolved.stmt (enter (env_of context.now names.old)) (stmt_tree stmt.now)) }
+    ensures behind { OnOk result (env_of context.now names.new ≡ past (env_of context.now names.old) (declared_in (stmt_tree stmt.now))) }
 {
-    around.enter(alloc)?;
-    let resolved = resolve_stmt(alloc, scene, around, stmt)?;
-    around.leave();
+    names.enter(alloc)?;
+    let resolved = resolve_stmt(alloc, context, names, stmt)?;
+    names.leave();
     Ok(resolved)
 }
 
@@ -206,34 +206,34 @@ fn resolve_governed<'p>(
 #[cycle(stmt)]
 fn resolve_guarded<'p>(
     alloc: Global,
-    scene: &Scene<'_, 'p>,
-    around: &mut LocalNames,
+    context: &ResolutionContext<'_, 'p>,
+    names: &mut LocalNames,
     body: &'p Stmt,
     invariants: &'p [Expr],
 ) -> Result<Guarded, AllocError>
-    ensures invariants { IfOk result (λ g. view.exprs g.invariants.items ≡ map (expr (env_of scene.now around.old)) (map expr_tree invariants.now)) }
-    ensures body { IfOk result (λ g. view.stmt_of g.body.value ≡ resolved.stmt (enter (env_of scene.now around.old)) (stmt_tree body.now)) }
-    ensures behind { OnOk result (env_of scene.now around.new ≡ past (env_of scene.now around.old) (declared_in (stmt_tree body.now))) }
+    ensures invariants { IfOk result (λ g. view.exprs g.invariants.items ≡ map (expr (env_of context.now names.old)) (map expr_tree invariants.now)) }
+    ensures body { IfOk result (λ g. view.stmt_of g.body.value ≡ resolved.stmt (enter (env_of context.now names.old)) (stmt_tree body.now)) }
+    ensures behind { OnOk result (env_of context.now names.new ≡ past (env_of context.now names.old) (declared_in (stmt_tree body.now))) }
 {
-    let invariants = resolve_values(alloc, scene, around, invariants)?;
-    let body = resolve_governed(alloc, scene, around, body)?;
+    let invariants = resolve_values(alloc, context, names, invariants)?;
+    let body = resolve_governed(alloc, context, names, body)?;
     Ok(Guarded { invariants, body })
 }
 
 #[cycle(stmt)]
 fn resolve_if<'p>(
     alloc: Global,
-    scene: &Scene<'_, 'p>,
-    around: &mut LocalNames,
+    context: &ResolutionContext<'_, 'p>,
+    names: &mut LocalNames,
     body: &'p Stmt,
     place: Place,
     test: &'p Expr,
 ) -> Result<Box<TypedStmt>, AllocError>
-    ensures tree { IfOk result (λ r. view.stmt_of r.value ≡ resolved.stmt (env_of scene.now around.old) (IfOf place (expr_tree test.now) (stmt_tree body.now))) }
-    ensures behind { OnOk result (env_of scene.now around.new ≡ past (env_of scene.now around.old) (declared_in (stmt_tree body.now))) }
+    ensures tree { IfOk result (λ r. view.stmt_of r.value ≡ resolved.stmt (env_of context.now names.old) (IfOf place (expr_tree test.now) (stmt_tree body.now))) }
+    ensures behind { OnOk result (env_of context.now names.new ≡ past (env_of context.now names.old) (declared_in (stmt_tree body.now))) }
 {
-    let test = resolve_boxed(alloc, scene, around, test)?;
-    let body = resolve_governed(alloc, scene, around, body)?;
+    let test = resolve_boxed(alloc, context, names, test)?;
+    let body = resolve_governed(alloc, context, names, body)?;
     let whole = if_of(alloc, place, test, body)?;
     Ok(whole)
 }
@@ -241,18 +241,18 @@ fn resolve_if<'p>(
 #[cycle(stmt)]
 fn resolve_while<'p>(
     alloc: Global,
-    scene: &Scene<'_, 'p>,
-    around: &mut LocalNames,
+    context: &ResolutionContext<'_, 'p>,
+    names: &mut LocalNames,
     body: &'p Stmt,
     place: Place,
     test: &'p Expr,
     invariants: &'p [Expr],
 ) -> Result<Box<TypedStmt>, AllocError>
-    ensures tree { IfOk result (λ r. view.stmt_of r.value ≡ resolved.stmt (env_of scene.now around.old) (WhileOf place (expr_tree test.now) (map expr_tree invariants.now) (stmt_tree body.now))) }
-    ensures behind { OnOk result (env_of scene.now around.new ≡ past (env_of scene.now around.old) (declared_in (stmt_tree body.now))) }
+    ensures tree { IfOk result (λ r. view.stmt_of r.value ≡ resolved.stmt (env_of context.now names.old) (WhileOf place (expr_tree test.now) (map expr_tree invariants.now) (stmt_tree body.now))) }
+    ensures behind { OnOk result (env_of context.now names.new ≡ past (env_of context.now names.old) (declared_in (stmt_tree body.now))) }
 {
-    let test = resolve_boxed(alloc, scene, around, test)?;
-    let guarded = resolve_guarded(alloc, scene, around, body, invariants)?;
+    let test = resolve_boxed(alloc, context, names, test)?;
+    let guarded = resolve_guarded(alloc, context, names, body, invariants)?;
     let whole = while_of(alloc, place, test, guarded)?;
     Ok(whole)
 }
@@ -261,8 +261,8 @@ fn resolve_while<'p>(
 #[cycle(stmt)]
 fn resolve_for<'p>(
     alloc: Global,
-    scene: &Scene<'_, 'p>,
-    around: &mut LocalNames,
+    context: &ResolutionContext<'_, 'p>,
+    names: &mut LocalNames,
     body: &'p Stmt,
     place: Place,
     first: &'p Option<ForInit>,
@@ -270,15 +270,15 @@ fn resolve_for<'p>(
     step: &'p Option<Simple>,
     invariants: &'p [Expr],
 ) -> Result<Box<TypedStmt>, AllocError>
-    ensures tree { IfOk result (λ r. view.stmt_of r.value ≡ resolved.stmt (env_of scene.now around.old)
+    ensures tree { IfOk result (λ r. view.stmt_of r.value ≡ resolved.stmt (env_of context.now names.old)
         (ForOf place (option_map for_init_tree first.now) (option_map expr_tree test.now) (option_map simple_tree step.now) (map expr_tree invariants.now) (stmt_tree body.now))) }
-    ensures behind { OnOk result (env_of scene.now around.new ≡ behind (env_of scene.now around.old)
+    ensures behind { OnOk result (env_of context.now names.new ≡ behind (env_of context.now names.old)
         (ForOf place (option_map for_init_tree first.now) (option_map expr_tree test.now) (option_map simple_tree step.now) (map expr_tree invariants.now) (stmt_tree body.now))) }
 {
-    around.enter(alloc)?;
-    let heading = resolve_heading(alloc, scene, around, first, test, step)?;
-    let guarded = resolve_guarded(alloc, scene, around, body, invariants)?;
-    around.leave();
+    names.enter(alloc)?;
+    let heading = resolve_heading(alloc, context, names, first, test, step)?;
+    let guarded = resolve_guarded(alloc, context, names, body, invariants)?;
+    names.leave();
     let whole = for_of(alloc, place, heading, guarded)?;
     Ok(whole)
 }
@@ -286,19 +286,19 @@ fn resolve_for<'p>(
 #[cycle(stmt)]
 fn resolve_expose<'p>(
     alloc: Global,
-    scene: &Scene<'_, 'p>,
-    around: &mut LocalNames,
+    context: &ResolutionContext<'_, 'p>,
+    names: &mut LocalNames,
     block: &'p Block,
     place: Place,
     object: &'p Expr,
     class: &'p Option<Name>,
 ) -> Result<Box<TypedStmt>, AllocError>
-    ensures tree { IfOk result (λ r. view.stmt_of r.value ≡ resolved.stmt (env_of scene.now around.old) (ExposeOf place (expr_tree object.now) (option_map name_tree class.now) (block_tree block.now))) }
-    ensures behind { OnOk result (env_of scene.now around.new ≡ past (env_of scene.now around.old) (declared_in_block (block_tree block.now))) }
+    ensures tree { IfOk result (λ r. view.stmt_of r.value ≡ resolved.stmt (env_of context.now names.old) (ExposeOf place (expr_tree object.now) (option_map name_tree class.now) (block_tree block.now))) }
+    ensures behind { OnOk result (env_of context.now names.new ≡ past (env_of context.now names.old) (declared_in_block (block_tree block.now))) }
 {
-    let object = resolve_boxed(alloc, scene, around, object)?;
-    let class = class_at(scene.within.tables, class);
-    let block = resolve_block(alloc, scene, around, block)?;
+    let object = resolve_boxed(alloc, context, names, object)?;
+    let class = class_at(context.within.tables, class);
+    let block = resolve_block(alloc, context, names, block)?;
     let whole = expose_of(alloc, place, object, class, block)?;
     Ok(whole)
 }
@@ -307,44 +307,44 @@ fn resolve_expose<'p>(
 #[cycle(stmt)]
 fn resolve_stmt<'p>(
     alloc: Global,
-    scene: &Scene<'_, 'p>,
-    around: &mut LocalNames,
+    context: &ResolutionContext<'_, 'p>,
+    names: &mut LocalNames,
     stmt: &'p Stmt,
 ) -> Result<Box<TypedStmt>, AllocError>
-    ensures tree { IfOk result (λ r. view.stmt_of r.value ≡ resolved.stmt (env_of scene.now around.old) (stmt_tree stmt.now)) }
-    ensures behind { OnOk result (env_of scene.now around.new ≡ behind (env_of scene.now around.old) (stmt_tree stmt.now)) }
+    ensures tree { IfOk result (λ r. view.stmt_of r.value ≡ resolved.stmt (env_of context.now names.old) (stmt_tree stmt.now)) }
+    ensures behind { OnOk result (env_of context.now names.new ≡ behind (env_of context.now names.old) (stmt_tree stmt.now)) }
 {
     match stmt {
-        Stmt::Block(block) => resolve_inner(alloc, scene, around, block),
-        Stmt::Declare(declaration) => resolve_declare(alloc, scene, around, declaration),
-        Stmt::Simple(simple) => resolve_line(alloc, scene, around, simple),
+        Stmt::Block(block) => resolve_inner(alloc, context, names, block),
+        Stmt::Declare(declaration) => resolve_declare(alloc, context, names, declaration),
+        Stmt::Simple(simple) => resolve_line(alloc, context, names, simple),
         Stmt::If(place, test, body, None) => {
-            resolve_if(alloc, scene, around, body, *place, test)
+            resolve_if(alloc, context, names, body, *place, test)
         }
         Stmt::If(place, test, body, Some(otherwise)) => {
-            let test = resolve_boxed(alloc, scene, around, test)?;
-            let body = resolve_governed(alloc, scene, around, body)?;
-            let otherwise = resolve_governed(alloc, scene, around, otherwise)?;
+            let test = resolve_boxed(alloc, context, names, test)?;
+            let body = resolve_governed(alloc, context, names, body)?;
+            let otherwise = resolve_governed(alloc, context, names, otherwise)?;
             let whole = if_else_of(alloc, *place, test, body, otherwise)?;
             Ok(whole)
         }
         Stmt::While(place, test, invariants, body) => {
-            resolve_while(alloc, scene, around, body, *place, test, invariants)
+            resolve_while(alloc, context, names, body, *place, test, invariants)
         }
         Stmt::For(place, first, test, step, invariants, body) => {
             resolve_for(
-                alloc, scene, around, body, *place, first, test, step, invariants,
+                alloc, context, names, body, *place, first, test, step, invariants,
             )
         }
-        Stmt::Return(place, value) => resolve_return(alloc, scene, around, *place, value),
+        Stmt::Return(place, value) => resolve_return(alloc, context, names, *place, value),
         Stmt::Assert(place, condition) => {
-            resolve_assert(alloc, scene, around, *place, condition)
+            resolve_assert(alloc, context, names, *place, condition)
         }
         Stmt::Assume(place, condition) => {
-            resolve_assume(alloc, scene, around, *place, condition)
+            resolve_assume(alloc, context, names, *place, condition)
         }
         Stmt::Expose(place, object, class, block) => {
-            resolve_expose(alloc, scene, around, block, *place, object, class)
+            resolve_expose(alloc, context, names, block, *place, object, class)
         }
         Stmt::Empty(place) => empty_of(alloc, *place),
     }

@@ -6,10 +6,10 @@ ghost use Rattle.ss_resolver_rules.specs.Numbers.{field_count, body_count};
 ghost use Rattle.ss_resolver_tables.specs.Limits.{IsWithinLimits};
 ghost use Rattle.ss_resolver_tables.specs.Slots.{AreStarts, AreTables};
 
-use ss_resolver_expressions::Scene;
+use ss_resolver_expressions::ResolutionContext;
 use ss_resolver_tables::{MethodTable, Starts};
 use ss_tables_lookup::Tables;
-use ss_tables_scopes::Within;
+use ss_tables_scopes::ClassContext;
 
 /// The classes of a program, the numbers of their fields and bodies, and their tables of methods.
 #[derive(Clone, Copy)]
@@ -25,8 +25,8 @@ pub(crate) struct Whole<'t, 'p> {
 }
 
 impl<'t, 'p> Whole<'t, 'p> {
-    /// The scene of a member of a class.
-    pub(crate) fn scene(&self, class: usize) -> Scene<'t, 'p>
+    /// The context of a member of a class.
+    pub(crate) fn context(&self, class: usize) -> ResolutionContext<'t, 'p>
         requires { class < length (trees self.now.tables.now) }
         ensures tables { result.within.tables.now ≡ self.now.tables.now }
         ensures class { result.within.class ≡ class }
@@ -34,8 +34,8 @@ impl<'t, 'p> Whole<'t, 'p> {
         ensures calls { result.within.refuses_members ≡ false }
         ensures this { result.within.refuses_this ≡ false }
     {
-        Scene {
-            within: Within {
+        ResolutionContext {
+            within: ClassContext {
                 tables: self.tables,
                 class,
                 refuses_members: false,

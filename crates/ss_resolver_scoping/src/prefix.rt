@@ -12,7 +12,7 @@ use ss_ast::Name;
 use ss_core::Place;
 use ss_tables_lookup::{StaticType, Tables, declared_place, is_array_number};
 use ss_tables_scopes::{
-    Callee, Receiver, Scopes, Within, is_length, is_member, is_state_call, member_callee,
+    Callee, ClassContext, Receiver, Scopes, is_length, is_member, is_state_call, member_callee,
     name_callee, name_receiver, name_type, read_type,
 };
 
@@ -60,47 +60,55 @@ pub fn has_member(tables: &Tables<'_>, name: &str, class: Option<usize>) -> bool
 
 /// The static type of an expression.
 pub fn prefix_value(
-    within: Within<'_, '_>,
+    context: ClassContext<'_, '_>,
     locals: &Scopes,
     prefix: Prefix<'_>,
 ) -> Option<StaticType>
-    ensures { option_map type_of result ≡ prefix_value (scope_of within.entry locals.now) (prefix_view prefix.entry) }
+    ensures { option_map type_of result ≡ prefix_value (scope_of context.entry locals.now) (prefix_view prefix.entry) }
 {
     match prefix {
-        Prefix::Name(_, name) => name_type(within, locals, name.as_str()),
+        Prefix::Name(_, name) => name_type(context, locals, name.as_str()),
         Prefix::Base => None,
         Prefix::Member(_, receiver, name) => {
-            read_type(within.tables, name.text.as_str(), receiver)
+            read_type(context.tables, name.text.as_str(), receiver)
         }
         Prefix::Value(ty) => ty,
     }
 }
 
 /// What an expression is before a dot.
-pub fn prefix_receiver(within: Within<'_, '_>, locals: &Scopes, prefix: Prefix<'_>) -> Receiver
-    ensures { receiver_of result ≡ prefix_receiver (scope_of within.entry locals.now) (prefix_view prefix.entry) }
+pub fn prefix_receiver(
+    context: ClassContext<'_, '_>,
+    locals: &Scopes,
+    prefix: Prefix<'_>,
+) -> Receiver
+    ensures { receiver_of result ≡ prefix_receiver (scope_of context.entry locals.now) (prefix_view prefix.entry) }
 {
     match prefix {
         Prefix::Name(_, name) => {
-            let ty = name_type(within, locals, name.as_str());
-            name_receiver(within, locals, name.as_str(), ty)
+            let ty = name_type(context, locals, name.as_str());
+            name_receiver(context, locals, name.as_str(), ty)
         }
         Prefix::Base => Receiver::Base,
         Prefix::Member(_, receiver, name) => {
-            Receiver::Value(read_type(within.tables, name.text.as_str(), receiver))
+            Receiver::Value(read_type(context.tables, name.text.as_str(), receiver))
         }
         Prefix::Value(ty) => Receiver::Value(ty),
     }
 }
 
 /// What a call of an expression calls.
-pub fn prefix_callee<'p>(within: Within<'_, 'p>, locals: &Scopes, prefix: Prefix<'_>) -> Callee<'p>
-    ensures { callee_of result ≡ prefix_callee (scope_of within.entry locals.now) (prefix_view prefix.entry) }
+pub fn prefix_callee<'p>(
+    context: ClassContext<'_, 'p>,
+    locals: &Scopes,
+    prefix: Prefix<'_>,
+) -> Callee<'p>
+    ensures { callee_of result ≡ prefix_callee (scope_of context.entry locals.now) (prefix_view prefix.entry) }
 {
     match prefix {
-        Prefix::Name(_, name) => name_callee(within, locals, name.as_str()),
+        Prefix::Name(_, name) => name_callee(context, locals, name.as_str()),
         Prefix::Base => Callee::Base,
-        Prefix::Member(_, receiver, name) => member_callee(within, name.text.as_str(), receiver),
+        Prefix::Member(_, receiver, name) => member_callee(context, name.text.as_str(), receiver),
         Prefix::Value(_) => Callee::Nothing,
     }
 }

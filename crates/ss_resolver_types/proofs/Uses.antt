@@ -7,7 +7,7 @@ use Rattle.ss_tables.specs.Scopes.{Scope}
 use Rattle.ss_faults.specs.declared.Fault.{Fault}
 use Rattle.ss_resolver_types_expressions.specs.Faults.{bad_type, fault_where}
 use Rattle.ss_resolver_types_expressions.specs.Wants.{place_of}
-use Rattle.ss_resolver_types_expressions.specs.Calls.{Around}
+use Rattle.ss_resolver_types_expressions.specs.Calls.{ExprContext}
 use Rattle.ss_resolver_types_expressions.specs.Expressions.{AsValue, faults}
 use Rattle.ss_resolver_types_expressions.specs.Statements.{is_target, may_stand_alone}
 use Rattle.ss_resolver_types_expressions.specs.Members.{is_field_term}
@@ -45,7 +45,7 @@ field_term_is s (NewArrayOf p q t e) = refl
 field_term_is s e = refl
 
 -- its faults, and one where it isn't what may stand there
-pub use_noted : (a : Around) (e : ExprTree) (f0 f1 f2 : List Fault) (b x : Bool) (p : Place)
+pub use_noted : (a : ExprContext) (e : ExprTree) (f0 f1 f2 : List Fault) (b x : Bool) (p : Place)
     → b ≡ x → p ≡ place_of e → f1 ≡ f0 ++ faults a AsValue e → f2 ≡ f1 ++ fault_where (not b) (bad_type p)
     → f2 ≡ f0 ++ (faults a AsValue e ++ fault_where (not x) (bad_type (place_of e)))
 use_noted a e f0 f1 f2 b x p same at q r =

@@ -16,7 +16,7 @@ use Rattle.ss_resolver_types.specs.declared.body.Outcome.{Outcome as CodeOutcome
 use Rattle.ss_resolver_types.specs.declared.body.Outcome.TheVariants as outcome
 use Rattle.ss_resolver_types.specs.declared.body.Body.{Body as CodeBody}
 use Rattle.ss_resolver_types_expressions.specs.Wants.{AnInt, OfType, Known, misfit}
-use Rattle.ss_resolver_types_expressions.specs.Calls.{Around}
+use Rattle.ss_resolver_types_expressions.specs.Calls.{ExprContext}
 use Rattle.ss_resolver_types_expressions.specs.Expressions.{faults_as}
 use Rattle.ss_resolver_types_expressions.specs.Statements.{Outcome, Nothing, Gives, Body, is_length_of, conditions, init_faults, test_faults, step_faults, stmt_faults}
 use Rattle.ss_resolver_types_expressions.specs.Members.{written_base, implied_base, block_calls_base, clauses_faults, constructor_body, constructor_block}
@@ -59,7 +59,7 @@ field_term_at s (AMember p r v n) = target_at (AMember p r v n)
 field_term_at s (AValueOf f v) = false
 
 -- what is assigned, to a target of which as much is known
-abbrev pub assigned_at : Around → AssignOperator → Known → ExprTree → List Fault
+abbrev pub assigned_at : ExprContext → AssignOperator → Known → ExprTree → List Fault
 assigned_at a operator.Set v f = faults_as a (OfType v.ty) f
 assigned_at a operator.Add v f = misfit a.scope.classes AnInt v ++ faults_as a AnInt f
 assigned_at a operator.Subtract v f = misfit a.scope.classes AnInt v ++ faults_as a AnInt f

@@ -15,7 +15,7 @@ ghost use Rattle.ss_resolver_types.specs.Bodies.{is_base, base_arguments};
 use ss_ast::{Expr, Postfix, Simple, Stmt};
 use ss_core::Place;
 use ss_tables_lookup::Tables;
-use ss_tables_scopes::{Scopes, Within};
+use ss_tables_scopes::{ClassContext, Scopes};
 
 /// Whether it is `this`, in parentheses or not.
 fn is_this(e: &Expr) -> bool
@@ -104,59 +104,59 @@ fn has_field(tables: &Tables<'_>, class: usize, name: &str) -> bool
 }
 
 // Whether a name means a field that the class itself declares.
-fn names_own_field(within: Within<'_, '_>, locals: &Scopes, name: &str) -> bool
-    ensures { result ≡ (is_none (local_named (scope_of within.entry locals.now) name.now) && has_field (trees within.entry.tables.now) within.entry.class name.now) }
+fn names_own_field(context: ClassContext<'_, '_>, locals: &Scopes, name: &str) -> bool
+    ensures { result ≡ (is_none (local_named (scope_of context.entry locals.now) name.now) && has_field (trees context.entry.tables.now) context.entry.class name.now) }
 {
-    locals.find(name).is_none() && has_field(within.tables, within.class, name)
+    locals.find(name).is_none() && has_field(context.tables, context.class, name)
 }
 
 // Whether a name behind this means such a field.
-fn is_field_of(within: Within<'_, '_>, first: &Expr, name: &str) -> bool
-    ensures { result ≡ (is_this (expr_tree first.now) && has_field (trees within.entry.tables.now) within.entry.class name.now) }
+fn is_field_of(context: ClassContext<'_, '_>, first: &Expr, name: &str) -> bool
+    ensures { result ≡ (is_this (expr_tree first.now) && has_field (trees context.entry.tables.now) context.entry.class name.now) }
 {
-    is_this(first) && has_field(within.tables, within.class, name)
+    is_this(first) && has_field(context.tables, context.class, name)
 }
 
 // Whether one postfix makes such a field of this.
-fn is_own_member(within: Within<'_, '_>, first: &Expr, postfix: &Postfix) -> bool
-    ensures { (locals : Names) (at : Place) → result ≡ is_own_field within.entry.class (scope_of within.entry locals) (postfix_behind postfix.now at (expr_tree first.now)) }
+fn is_own_member(context: ClassContext<'_, '_>, first: &Expr, postfix: &Postfix) -> bool
+    ensures { (locals : Names) (at : Place) → result ≡ is_own_field context.entry.class (scope_of context.entry locals) (postfix_behind postfix.now at (expr_tree first.now)) }
 {
     match postfix {
-        Postfix::Member(name) => is_field_of(within, first, name.text.as_str()),
+        Postfix::Member(name) => is_field_of(context, first, name.text.as_str()),
         Postfix::Element(_) | Postfix::Call(_) => false,
     }
 }
 
 // Whether postfixes make such a field of this.
 #[tactic(auto, using(crate::proofs::Paths::own_one, crate::proofs::Paths::own_long))]
-fn is_own_path(within: Within<'_, '_>, first: &Expr, postfixes: &[Postfix]) -> bool
+fn is_own_path(context: ClassContext<'_, '_>, first: &Expr, postfixes: &[Postfix]) -> bool
     ensures { (locals : Names) (at : Place) → 0 < length postfixes.now
-        → result ≡ is_own_field within.entry.class (scope_of within.entry locals) (grouped at (expr_tree first.now) (map postfix_behind postfixes.now)) }
+        → result ≡ is_own_field context.entry.class (scope_of context.entry locals) (grouped at (expr_tree first.now) (map postfix_behind postfixes.now)) }
 {
     match postfixes {
-        [postfix] => is_own_member(within, first, postfix),
+        [postfix] => is_own_member(context, first, postfix),
         [] | [_, _, ..] => false,
     }
 }
 
 // Whether it is a field that the class itself declares, as `f` or `this.f`.
-fn is_own_field(within: Within<'_, '_>, locals: &Scopes, e: &Expr) -> bool
-    ensures { result ≡ is_own_field within.entry.class (scope_of within.entry locals.now) (expr_tree e.now) }
+fn is_own_field(context: ClassContext<'_, '_>, locals: &Scopes, e: &Expr) -> bool
+    ensures { result ≡ is_own_field context.entry.class (scope_of context.entry locals.now) (expr_tree e.now) }
 {
     match e {
-        Expr::Name(_, name) => names_own_field(within, locals, name.as_str()),
+        Expr::Name(_, name) => names_own_field(context, locals, name.as_str()),
         Expr::Chain(_, first, links) => {
             if links.is_empty() {
-                is_own_field(within, locals, first)
+                is_own_field(context, locals, first)
             } else {
                 false
             }
         }
         Expr::Path(_, first, postfixes) => {
             if postfixes.is_empty() {
-                is_own_field(within, locals, first)
+                is_own_field(context, locals, first)
             } else {
-                is_own_path(within, first, postfixes.as_slice())
+                is_own_path(context, first, postfixes.as_slice())
             }
         }
         Expr::Iff(..)
@@ -180,12 +180,12 @@ fn is_own_field(within: Within<'_, '_>, locals: &Scopes, e: &Expr) -> bool
 }
 
 /// Whether it is an assignment to a field that the class itself declares.
-pub fn is_first_assignment(within: Within<'_, '_>, locals: &Scopes, stmt: &Stmt) -> bool
-    ensures { result ≡ is_first_assignment within.entry.class (scope_of within.entry locals.now) (stmt_tree stmt.now) }
+pub fn is_first_assignment(context: ClassContext<'_, '_>, locals: &Scopes, stmt: &Stmt) -> bool
+    ensures { result ≡ is_first_assignment context.entry.class (scope_of context.entry locals.now) (stmt_tree stmt.now) }
 {
     match stmt {
-        Stmt::Simple(Simple::Assign(target, _, _)) => is_own_field(within, locals, target),
-        Stmt::Simple(Simple::Step(target, _)) => is_own_field(within, locals, target),
+        Stmt::Simple(Simple::Assign(target, _, _)) => is_own_field(context, locals, target),
+        Stmt::Simple(Simple::Step(target, _)) => is_own_field(context, locals, target),
         Stmt::Simple(Simple::Alone(_))
         | Stmt::Block(..)
         | Stmt::Declare(..)

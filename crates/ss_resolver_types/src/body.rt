@@ -1,7 +1,7 @@
 // What surrounds a statement.
 
 use ss_tables_lookup::StaticType;
-use ss_tables_scopes::Within;
+use ss_tables_scopes::ClassContext;
 
 /// What a body gives.
 #[derive(Clone, Copy)]
@@ -14,7 +14,7 @@ pub enum Outcome {
 /// What surrounds a statement, its locals aside.
 #[derive(Clone, Copy)]
 pub struct Body<'t, 'p> {
-    pub within: Within<'t, 'p>,
+    pub within: ClassContext<'t, 'p>,
     pub is_static: bool,
     pub outcome: Outcome,
 }

@@ -8,7 +8,7 @@ ghost use Rattle.ss_tables_lookup.specs.Views.{type_of};
 ghost use Rattle.ss_resolver_types_expressions.specs.Wants.{ABool};
 ghost use Rattle.ss_resolver_types_expressions.specs.Expressions.{faults_as};
 ghost use Rattle.ss_resolver_types_expressions.specs.Members.{before, after, type_of_result, gives_none, term_faults, terms_faults, clause_faults, clauses_faults, params_faults, result_faults};
-ghost use Rattle.ss_resolver_types_expressions.specs.Codes.{around_of, head_of};
+ghost use Rattle.ss_resolver_types_expressions.specs.Codes.{context_of, head_of};
 ghost use Rattle.ss_resolver_types.specs.Bodies.{body_of, outcome_of, field_term_at};
 
 use crate::body::{Body, Outcome};
@@ -16,15 +16,15 @@ use crate::simple::{check_condition, is_member_target, read};
 use ss_ast::{Clause, Expr, Modified, Param, TypeRef};
 use ss_faults::Fault;
 use ss_resolver_types_expressions::{
-    Around, Head, Want, check_as, note_bad_type, note_mark, place_of,
+    ExprContext, Head, Want, check_as, note_bad_type, note_mark, place_of,
 };
 use ss_tables_lookup::StaticType;
 use ss_tables_scopes::Scopes;
 use std::alloc::{AllocError, Global};
 
 // Whether `modifies` may name it as a field.
-fn is_field_term(around: &Around<'_, '_>, locals: &Scopes, head: Head<'_>) -> bool
-    ensures { result ≡ field_term_at (around_of around.now locals.now).scope (head_of head.entry) }
+fn is_field_term(context: &ExprContext<'_, '_>, locals: &Scopes, head: Head<'_>) -> bool
+    ensures { result ≡ field_term_at (context_of context.now locals.now).scope (head_of head.entry) }
 {
     match head {
         Head::Name(_, name) => locals.find(name.as_str()).is_none(),
@@ -36,55 +36,55 @@ fn is_field_term(around: &Around<'_, '_>, locals: &Scopes, head: Head<'_>) -> bo
 // A field that `modifies` names.
 fn check_field_term(
     alloc: Global,
-    around: &Around<'_, '_>,
+    context: &ExprContext<'_, '_>,
     locals: &mut Scopes,
     found: &mut Vec<Fault>,
     e: &Expr,
 ) -> Result<(), AllocError>
-    ensures noted { OnOk result (found.new.items ≡ found.old.items ++ term_faults (around_of around.now locals.old) (OneOf (expr_tree e.now))) }
+    ensures noted { OnOk result (found.new.items ≡ found.old.items ++ term_faults (context_of context.now locals.old) (OneOf (expr_tree e.now))) }
     ensures same { OnOk result (locals.new ≡ locals.old) }
 {
-    let (head, _) = read(alloc, around, locals, found, e)?;
-    note_bad_type(found, !is_field_term(around, locals, head), place_of(e))?;
+    let (head, _) = read(alloc, context, locals, found, e)?;
+    note_bad_type(found, !is_field_term(context, locals, head), place_of(e))?;
     Ok(())
 }
 
 // A term of `modifies`.
 fn check_term(
     alloc: Global,
-    around: &Around<'_, '_>,
+    context: &ExprContext<'_, '_>,
     locals: &mut Scopes,
     found: &mut Vec<Fault>,
     term: &Modified,
 ) -> Result<(), AllocError>
-    ensures noted { OnOk result (found.new.items ≡ found.old.items ++ term_faults (around_of around.now locals.old) (modified_tree term.now)) }
+    ensures noted { OnOk result (found.new.items ≡ found.old.items ++ term_faults (context_of context.now locals.old) (modified_tree term.now)) }
     ensures same { OnOk result (locals.new ≡ locals.old) }
 {
     match term {
         Modified::All(e) => {
-            check_as(alloc, around, locals, found, Want::OfClass(0), e)?;
+            check_as(alloc, context, locals, found, Want::OfClass(0), e)?;
             Ok(())
         }
         Modified::Elements(e) => {
-            check_as(alloc, around, locals, found, Want::AnArray, e)?;
+            check_as(alloc, context, locals, found, Want::AnArray, e)?;
             Ok(())
         }
-        Modified::One(e) => check_field_term(alloc, around, locals, found, e),
+        Modified::One(e) => check_field_term(alloc, context, locals, found, e),
     }
 }
 
 fn check_terms(
     alloc: Global,
-    around: &Around<'_, '_>,
+    context: &ExprContext<'_, '_>,
     locals: &mut Scopes,
     found: &mut Vec<Fault>,
     terms: &[Modified],
 ) -> Result<(), AllocError>
-    ensures noted { OnOk result (found.new.items ≡ found.old.items ++ terms_faults (around_of around.now locals.old) (map modified_tree terms.now)) }
+    ensures noted { OnOk result (found.new.items ≡ found.old.items ++ terms_faults (context_of context.now locals.old) (map modified_tree terms.now)) }
     ensures same { OnOk result (locals.new ≡ locals.old) }
 {
     for term in terms {
-        check_term(alloc, around, locals, found, term)?;
+        check_term(alloc, context, locals, found, term)?;
     }
     Ok(())
 }
@@ -119,13 +119,13 @@ fn check_ensures(
     ensures noted { OnOk result (found.new.items ≡ found.old.items ++ faults_as (after (body_of body.now) (scope_of body.now.within locals.old)) ABool (expr_tree e.now)) }
     ensures same { OnOk result (locals.new ≡ locals.old) }
 {
-    let around = Around {
+    let context = ExprContext {
         within: body.within,
         is_static: body.is_static,
         in_condition: true,
         lacks_result: gives_none(body.outcome),
     };
-    check_as(alloc, &around, locals, found, Want::ABool, e)?;
+    check_as(alloc, &context, locals, found, Want::ABool, e)?;
     Ok(())
 }
 
@@ -140,13 +140,13 @@ fn check_modifies(
     ensures noted { OnOk result (found.new.items ≡ found.old.items ++ terms_faults (before (body_of body.now) (scope_of body.now.within locals.old)) (map modified_tree terms.now)) }
     ensures same { OnOk result (locals.new ≡ locals.old) }
 {
-    let around = Around {
+    let context = ExprContext {
         within: body.within,
         is_static: body.is_static,
         in_condition: true,
         lacks_result: false,
     };
-    check_terms(alloc, &around, locals, found, terms)
+    check_terms(alloc, &context, locals, found, terms)
 }
 
 // A clause of a contract.

@@ -15,7 +15,7 @@ ghost use Rattle.ss_resolver_types_expressions.specs.Expressions.{faults_as, mar
 ghost use Rattle.ss_resolver_types_expressions.specs.Statements.{block_faults};
 ghost use Rattle.ss_resolver_types_expressions.specs.Members.{surplus_words, clauses_faults, outcome_of, type_of_result, method_scope, end_faults, constructor_body, base_faults, written_base, block_calls_base, outermost_faults, constructor_stmts, constructor_block, constructor_faults, title_faults, implied_base, kind_faults, method_body, method_faults, fields_faults, in_class, member_faults};
 ghost use Rattle.ss_resolver_types_expressions.specs.Members.{base_call as spec_base_call, is_first_assignment};
-ghost use Rattle.ss_resolver_types_expressions.specs.Codes.{around_of};
+ghost use Rattle.ss_resolver_types_expressions.specs.Codes.{context_of};
 ghost use Rattle.ss_resolver_types.specs.Bodies as bodies;
 
 use crate::bases::{base_call, calls_base, is_first_assignment};
@@ -30,11 +30,11 @@ use ss_ast::{
 use ss_core::Place;
 use ss_faults::Fault;
 use ss_resolver_types_expressions::{
-    Around, Want, block_reaches_end, call_above, check_as, check_call, note_bad_type, note_end,
-    note_mark, takes_nothing,
+    ExprContext, Want, block_reaches_end, call_above, check_as, check_call, note_bad_type,
+    note_end, note_mark, takes_nothing,
 };
 use ss_tables_lookup::Tables;
-use ss_tables_scopes::{NameScopes, Scopes, Within, declare_params, is_static_word};
+use ss_tables_scopes::{ClassContext, NameScopes, Scopes, declare_params, is_static_word};
 use std::alloc::{AllocError, Global};
 
 // ---- words
@@ -73,17 +73,17 @@ fn note_surplus(found: &mut Vec<Fault>, member: &Member) -> Result<(), AllocErro
 
 fn check_fields(
     alloc: Global,
-    around: &Around<'_, '_>,
+    context: &ExprContext<'_, '_>,
     locals: &mut Scopes,
     found: &mut Vec<Fault>,
     ty: &TypeRef,
     declarators: &[Declarator],
 ) -> Result<(), AllocError>
-    ensures noted { OnOk result (found.new.items ≡ found.old.items ++ fields_faults (around_of around.now locals.old) (type_tree ty.now) (map declarator_tree declarators.now)) }
+    ensures noted { OnOk result (found.new.items ≡ found.old.items ++ fields_faults (context_of context.now locals.old) (type_tree ty.now) (map declarator_tree declarators.now)) }
     ensures same { OnOk result (locals.new ≡ locals.old) }
 {
     for declarator in declarators {
-        check_initial(alloc, around, locals, found, ty, &declarator.initial)?;
+        check_initial(alloc, context, locals, found, ty, &declarator.initial)?;
     }
     Ok(())
 }
@@ -99,8 +99,8 @@ fn check_declared(
     ensures { OnOk result (found.new.items ≡ found.old.items ++ (mark_faults (declaration_tree declaration.now).ty
         ++ fields_faults (in_class (trees tables.now) class false) (declaration_tree declaration.now).ty (declaration_tree declaration.now).declarators)) }
 {
-    let around = Around {
-        within: Within {
+    let context = ExprContext {
+        within: ClassContext {
             tables,
             class,
             refuses_members: false,
@@ -115,7 +115,7 @@ fn check_declared(
     note_mark(found, &declaration.ty)?;
     check_fields(
         alloc,
-        &around,
+        &context,
         &mut locals,
         found,
         &declaration.ty,
@@ -133,8 +133,8 @@ fn check_invariant(
     requires { class < length (trees tables.now) }
     ensures { OnOk result (found.new.items ≡ found.old.items ++ faults_as (in_class (trees tables.now) class true) ABool (expr_tree e.now)) }
 {
-    let around = Around {
-        within: Within {
+    let context = ExprContext {
+        within: ClassContext {
             tables,
             class,
             refuses_members: false,
@@ -146,7 +146,7 @@ fn check_invariant(
         lacks_result: false,
     };
     let mut locals = NameScopes::new(alloc);
-    check_as(alloc, &around, &mut locals, found, Want::ABool, e)?;
+    check_as(alloc, &context, &mut locals, found, Want::ABool, e)?;
     Ok(())
 }
 
@@ -209,7 +209,7 @@ fn check_method(
     let outcome = outcome_of(tables, &method.returns);
     let is_static = is_static_word(words);
     let body = Body {
-        within: Within {
+        within: ClassContext {
             tables,
             class,
             refuses_members: is_static,
@@ -253,14 +253,14 @@ fn check_base(
     ensures noted { OnOk result (found.new.items ≡ found.old.items ++ base_faults body.now.within.class (scope_of body.now.within locals.old) place (arguments (map expr_tree list.now))) }
     ensures same { OnOk result (locals.new ≡ locals.old) }
 {
-    let around = Around {
+    let context = ExprContext {
         within: body.within,
         is_static: false,
         in_condition: false,
         lacks_result: false,
     };
     let called = call_above(body.within.tables, body.within.class);
-    check_call(alloc, &around, locals, found, place, false, called, list)
+    check_call(alloc, &context, locals, found, place, false, called, list)
 }
 
 // `: base(..)`, where it is written.
@@ -450,7 +450,7 @@ fn check_constructor(
         (option_map base_call_tree constructor.now.base) (map clause_tree constructor.now.clauses.items) (block_tree constructor.now.body)) }
 {
     let body = Body {
-        within: Within {
+        within: ClassContext {
             tables,
             class,
             refuses_members: false,

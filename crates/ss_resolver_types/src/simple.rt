@@ -10,14 +10,15 @@ ghost use Rattle.ss_resolver_types_expressions.specs.Wants.{known};
 ghost use Rattle.ss_resolver_types_expressions.specs.Expressions.{AsValue, faults, faults_as};
 ghost use Rattle.ss_resolver_types_expressions.specs.Statements.{in_code, condition, conditions, initial_faults, target_faults, simple_faults, is_length_of};
 ghost use Rattle.ss_resolver_types_expressions.specs.Heads.{ending};
-ghost use Rattle.ss_resolver_types_expressions.specs.Codes.{want_of, known_of, around_of, head_of};
+ghost use Rattle.ss_resolver_types_expressions.specs.Codes.{want_of, known_of, context_of, head_of};
 ghost use Rattle.ss_resolver_types.specs.Bodies.{body_of, target_at, alone_at, assigned_at};
 
 use crate::body::Body;
 use ss_ast::{AssignOperator, Expr, Simple, StepOperator, TypeRef};
 use ss_faults::Fault;
 use ss_resolver_types_expressions::{
-    Around, Form, Head, Known, Want, check_as, note_bad_type, note_misfit, place_of, settle, walk,
+    ExprContext, Form, Head, Known, Want, check_as, note_bad_type, note_misfit, place_of, settle,
+    walk,
 };
 use ss_tables_lookup::is_array_number;
 use ss_tables_scopes::{Scopes, class_of_type, is_length, is_state_word};
@@ -35,13 +36,13 @@ pub fn check_in_code(
     ensures noted { OnOk result (found.new.items ≡ found.old.items ++ faults_as (in_code (body_of body.now) (scope_of body.now.within locals.old)) (want_of want) (expr_tree e.now)) }
     ensures same { OnOk result (locals.new ≡ locals.old) }
 {
-    let around = Around {
+    let context = ExprContext {
         within: body.within,
         is_static: body.is_static,
         in_condition: false,
         lacks_result: false,
     };
-    check_as(alloc, &around, locals, found, want, e)?;
+    check_as(alloc, &context, locals, found, want, e)?;
     Ok(())
 }
 
@@ -56,13 +57,13 @@ pub fn check_condition(
     ensures noted { OnOk result (found.new.items ≡ found.old.items ++ condition (body_of body.now) (scope_of body.now.within locals.old) (expr_tree e.now)) }
     ensures same { OnOk result (locals.new ≡ locals.old) }
 {
-    let around = Around {
+    let context = ExprContext {
         within: body.within,
         is_static: body.is_static,
         in_condition: true,
         lacks_result: false,
     };
-    check_as(alloc, &around, locals, found, Want::ABool, e)?;
+    check_as(alloc, &context, locals, found, Want::ABool, e)?;
     Ok(())
 }
 
@@ -86,19 +87,19 @@ pub fn check_conditions(
 /// What a local or a field begins with.
 pub fn check_initial(
     alloc: Global,
-    around: &Around<'_, '_>,
+    context: &ExprContext<'_, '_>,
     locals: &mut Scopes,
     found: &mut Vec<Fault>,
     ty: &TypeRef,
     initial: &Option<Expr>,
 ) -> Result<(), AllocError>
-    ensures noted { OnOk result (found.new.items ≡ found.old.items ++ initial_faults (around_of around.now locals.old) (type_tree ty.now) (option_map expr_tree initial.now)) }
+    ensures noted { OnOk result (found.new.items ≡ found.old.items ++ initial_faults (context_of context.now locals.old) (type_tree ty.now) (option_map expr_tree initial.now)) }
     ensures same { OnOk result (locals.new ≡ locals.old) }
 {
     match initial {
         Some(e) => {
-            let want = Want::OfType(around.within.tables.written_type(ty));
-            check_as(alloc, around, locals, found, want, e)?;
+            let want = Want::OfType(context.within.tables.written_type(ty));
+            check_as(alloc, context, locals, found, want, e)?;
             Ok(())
         }
         None => Ok(()),
@@ -108,18 +109,18 @@ pub fn check_initial(
 /// An expression whose value is read, with how it ends and what is known of it.
 pub fn read<'e>(
     alloc: Global,
-    around: &Around<'_, '_>,
+    context: &ExprContext<'_, '_>,
     locals: &mut Scopes,
     found: &mut Vec<Fault>,
     e: &'e Expr,
 ) -> Result<(Head<'e>, Known), AllocError>
-    ensures head { IfOk result (λ r. head_of r.0 ≡ ending (around_of around.now locals.old).scope (expr_tree e.now)) }
-    ensures known { IfOk result (λ r. known_of r.1 ≡ known (around_of around.now locals.old).scope (expr_tree e.now)) }
-    ensures noted { OnOk result (found.new.items ≡ found.old.items ++ faults (around_of around.now locals.old) AsValue (expr_tree e.now)) }
+    ensures head { IfOk result (λ r. head_of r.0 ≡ ending (context_of context.now locals.old).scope (expr_tree e.now)) }
+    ensures known { IfOk result (λ r. known_of r.1 ≡ known (context_of context.now locals.old).scope (expr_tree e.now)) }
+    ensures noted { OnOk result (found.new.items ≡ found.old.items ++ faults (context_of context.now locals.old) AsValue (expr_tree e.now)) }
     ensures same { OnOk result (locals.new ≡ locals.old) }
 {
-    let head = walk(alloc, around, locals, found, e)?;
-    let known = settle(around, locals, found, head)?;
+    let head = walk(alloc, context, locals, found, e)?;
+    let known = settle(context, locals, found, head)?;
     Ok((head, known))
 }
 
@@ -171,16 +172,16 @@ fn may_stand_alone(head: Head<'_>) -> bool
 // What is assigned.
 fn check_target(
     alloc: Global,
-    around: &Around<'_, '_>,
+    context: &ExprContext<'_, '_>,
     locals: &mut Scopes,
     found: &mut Vec<Fault>,
     e: &Expr,
 ) -> Result<Known, AllocError>
-    ensures known { IfOk result (λ v. known_of v ≡ known (around_of around.now locals.old).scope (expr_tree e.now)) }
-    ensures noted { OnOk result (found.new.items ≡ found.old.items ++ target_faults (around_of around.now locals.old) (expr_tree e.now)) }
+    ensures known { IfOk result (λ v. known_of v ≡ known (context_of context.now locals.old).scope (expr_tree e.now)) }
+    ensures noted { OnOk result (found.new.items ≡ found.old.items ++ target_faults (context_of context.now locals.old) (expr_tree e.now)) }
     ensures same { OnOk result (locals.new ≡ locals.old) }
 {
-    let (head, known) = read(alloc, around, locals, found, e)?;
+    let (head, known) = read(alloc, context, locals, found, e)?;
     note_bad_type(found, !is_target(head), place_of(e))?;
     Ok(known)
 }
@@ -188,24 +189,24 @@ fn check_target(
 // What a target gets.
 fn check_assigned(
     alloc: Global,
-    around: &Around<'_, '_>,
+    context: &ExprContext<'_, '_>,
     locals: &mut Scopes,
     found: &mut Vec<Fault>,
     operator: AssignOperator,
     target: Known,
     e: &Expr,
 ) -> Result<(), AllocError>
-    ensures noted { OnOk result (found.new.items ≡ found.old.items ++ assigned_at (around_of around.now locals.old) operator (known_of target) (expr_tree e.now)) }
+    ensures noted { OnOk result (found.new.items ≡ found.old.items ++ assigned_at (context_of context.now locals.old) operator (known_of target) (expr_tree e.now)) }
     ensures same { OnOk result (locals.new ≡ locals.old) }
 {
     match operator {
         AssignOperator::Set => {
-            check_as(alloc, around, locals, found, Want::OfType(target.ty), e)?;
+            check_as(alloc, context, locals, found, Want::OfType(target.ty), e)?;
             Ok(())
         }
         AssignOperator::Add | AssignOperator::Subtract | AssignOperator::Multiply => {
-            note_misfit(around.within.tables, found, Want::AnInt, target)?;
-            check_as(alloc, around, locals, found, Want::AnInt, e)?;
+            note_misfit(context.within.tables, found, Want::AnInt, target)?;
+            check_as(alloc, context, locals, found, Want::AnInt, e)?;
             Ok(())
         }
     }
@@ -213,46 +214,46 @@ fn check_assigned(
 
 fn check_assignment(
     alloc: Global,
-    around: &Around<'_, '_>,
+    context: &ExprContext<'_, '_>,
     locals: &mut Scopes,
     found: &mut Vec<Fault>,
     target: &Expr,
     operator: AssignOperator,
     e: &Expr,
 ) -> Result<(), AllocError>
-    ensures noted { OnOk result (found.new.items ≡ found.old.items ++ simple_faults (around_of around.now locals.old) (AssignOf (expr_tree target.now) operator (expr_tree e.now))) }
+    ensures noted { OnOk result (found.new.items ≡ found.old.items ++ simple_faults (context_of context.now locals.old) (AssignOf (expr_tree target.now) operator (expr_tree e.now))) }
     ensures same { OnOk result (locals.new ≡ locals.old) }
 {
-    let known = check_target(alloc, around, locals, found, target)?;
-    check_assigned(alloc, around, locals, found, operator, known, e)
+    let known = check_target(alloc, context, locals, found, target)?;
+    check_assigned(alloc, context, locals, found, operator, known, e)
 }
 
 fn check_step(
     alloc: Global,
-    around: &Around<'_, '_>,
+    context: &ExprContext<'_, '_>,
     locals: &mut Scopes,
     found: &mut Vec<Fault>,
     target: &Expr,
     operator: StepOperator,
 ) -> Result<(), AllocError>
-    ensures noted { OnOk result (found.new.items ≡ found.old.items ++ simple_faults (around_of around.now locals.old) (StepOf (expr_tree target.now) operator)) }
+    ensures noted { OnOk result (found.new.items ≡ found.old.items ++ simple_faults (context_of context.now locals.old) (StepOf (expr_tree target.now) operator)) }
     ensures same { OnOk result (locals.new ≡ locals.old) }
 {
-    let known = check_target(alloc, around, locals, found, target)?;
-    note_misfit(around.within.tables, found, Want::AnInt, known)
+    let known = check_target(alloc, context, locals, found, target)?;
+    note_misfit(context.within.tables, found, Want::AnInt, known)
 }
 
 fn check_alone(
     alloc: Global,
-    around: &Around<'_, '_>,
+    context: &ExprContext<'_, '_>,
     locals: &mut Scopes,
     found: &mut Vec<Fault>,
     e: &Expr,
 ) -> Result<(), AllocError>
-    ensures noted { OnOk result (found.new.items ≡ found.old.items ++ simple_faults (around_of around.now locals.old) (AloneOf (expr_tree e.now))) }
+    ensures noted { OnOk result (found.new.items ≡ found.old.items ++ simple_faults (context_of context.now locals.old) (AloneOf (expr_tree e.now))) }
     ensures same { OnOk result (locals.new ≡ locals.old) }
 {
-    let (head, _) = read(alloc, around, locals, found, e)?;
+    let (head, _) = read(alloc, context, locals, found, e)?;
     note_bad_type(found, !may_stand_alone(head), place_of(e))?;
     Ok(())
 }
@@ -268,7 +269,7 @@ pub fn check_simple(
     ensures noted { OnOk result (found.new.items ≡ found.old.items ++ simple_faults (in_code (body_of body.now) (scope_of body.now.within locals.old)) (simple_tree stmt.now)) }
     ensures same { OnOk result (locals.new ≡ locals.old) }
 {
-    let around = Around {
+    let context = ExprContext {
         within: body.within,
         is_static: body.is_static,
         in_condition: false,
@@ -276,11 +277,11 @@ pub fn check_simple(
     };
     match stmt {
         Simple::Assign(target, operator, e) => {
-            check_assignment(alloc, &around, locals, found, target, *operator, e)
+            check_assignment(alloc, &context, locals, found, target, *operator, e)
         }
         Simple::Step(target, operator) => {
-            check_step(alloc, &around, locals, found, target, *operator)
+            check_step(alloc, &context, locals, found, target, *operator)
         }
-        Simple::Alone(e) => check_alone(alloc, &around, locals, found, e),
+        Simple::Alone(e) => check_alone(alloc, &context, locals, found, e),
     }
 }

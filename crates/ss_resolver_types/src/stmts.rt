@@ -20,7 +20,9 @@ use crate::simple::{
 use ss_ast::{Block, Declaration, Declarator, Expr, ForInit, Name, Simple, Stmt, TypeRef};
 use ss_core::Place;
 use ss_faults::Fault;
-use ss_resolver_types_expressions::{Around, Want, check, note_bad_type, note_mark, place_within};
+use ss_resolver_types_expressions::{
+    ExprContext, Want, check, note_bad_type, note_mark, place_within,
+};
 use ss_tables_lookup::Tables;
 use ss_tables_scopes::{LocalInfo, Scopes};
 use std::alloc::{AllocError, Global};
@@ -37,13 +39,13 @@ fn check_first_value(
     ensures noted { OnOk result (found.new.items ≡ found.old.items ++ initial_faults (in_code (body_of body.now) (scope_of body.now.within locals.old)) (type_tree ty.now) (option_map expr_tree initial.now)) }
     ensures same { OnOk result (locals.new ≡ locals.old) }
 {
-    let around = Around {
+    let context = ExprContext {
         within: body.within,
         is_static: body.is_static,
         in_condition: false,
         lacks_result: false,
     };
-    check_initial(alloc, &around, locals, found, ty, initial)
+    check_initial(alloc, &context, locals, found, ty, initial)
 }
 
 // A declared local, which is in scope from then on.
@@ -191,13 +193,13 @@ fn check_surplus(
     ensures noted { OnOk result (found.new.items ≡ found.old.items ++ (faults (in_code (body_of body.now) (scope_of body.now.within locals.old)) AsValue (expr_tree e.now) ++ bad_type (place_within (expr_tree e.now)) ∷ [])) }
     ensures same { OnOk result (locals.new ≡ locals.old) }
 {
-    let around = Around {
+    let context = ExprContext {
         within: body.within,
         is_static: body.is_static,
         in_condition: false,
         lacks_result: false,
     };
-    check(alloc, &around, locals, found, e)?;
+    check(alloc, &context, locals, found, e)?;
     note_bad_type(found, true, place_within(e))
 }
 

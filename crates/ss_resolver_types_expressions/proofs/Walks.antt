@@ -10,81 +10,81 @@ use Rattle.ss_faults.specs.declared.Fault.{Fault}
 use Rattle.ss_tables.specs.Scopes.{Local}
 use Rattle.ss_tables_scopes.specs.Names.{Names}
 use Rattle.ss_tables.specs.Named.{entered, left, with_name}
-use Rattle.ss_resolver_types_expressions.specs.declared.around.Around.{Around as CodeAround}
+use Rattle.ss_resolver_types_expressions.specs.declared.context.ExprContext.{ExprContext as CodeContext}
 use Rattle.ss_ast.specs.Parts.{link_behind, postfix_behind}
 use Rattle.ss_resolver_types_expressions.specs.Wants.{Known, known}
 use Rattle.ss_resolver_types_expressions.specs.Expressions.{AsValue, AsCallee, faults}
 use Rattle.ss_resolver_types_expressions.specs.Heads.{Head, ending, known_at, rest_read, IsWalked, Leads}
-use Rattle.ss_resolver_types_expressions.specs.Codes.{around_of}
-use Rattle.ss_resolver_types_expressions.specs.Calls.{Around}
+use Rattle.ss_resolver_types_expressions.specs.Codes.{context_of}
+use Rattle.ss_resolver_types_expressions.specs.Calls.{ExprContext}
 use Rattle.std.proofs.lemmas.List.{take_all}
 use Rattle.ss_resolver_types_expressions.proofs.Endings.{known_is, read_noted}
 use Rattle.ss_ast.proofs.Grouping.{chain_is, path_is, grouped_more}
 
 -- an expression that is walked and then settled is read
-pub known_read : (a : CodeAround) (n0 n1 : Names) (h : Head) (e : ExprTree) (v : Known) → n1 ≡ n0
-    → h ≡ ending (around_of a n0).scope e → v ≡ known_at (around_of a n1).scope h → v ≡ known (around_of a n0).scope e
+pub known_read : (a : CodeContext) (n0 n1 : Names) (h : Head) (e : ExprTree) (v : Known) → n1 ≡ n0
+    → h ≡ ending (context_of a n0).scope e → v ≡ known_at (context_of a n1).scope h → v ≡ known (context_of a n0).scope e
 known_read a n0 n1 h e v same is k =
-    k ∙ ap (λ n. known_at (around_of a n).scope h) same ∙ ap (known_at (around_of a n0).scope) is ∙ known_is (around_of a n0).scope e
+    k ∙ ap (λ n. known_at (context_of a n).scope h) same ∙ ap (known_at (context_of a n0).scope) is ∙ known_is (context_of a n0).scope e
 
-pub noted_read : (a : CodeAround) (n0 n1 : Names) (h : Head) (e : ExprTree) (f0 f1 f2 : List Fault) → n1 ≡ n0
-    → h ≡ ending (around_of a n0).scope e → f1 ≡ f0 ++ faults (around_of a n0) AsCallee e → f2 ≡ f1 ++ rest_read (around_of a n1) h
-    → f2 ≡ f0 ++ faults (around_of a n0) AsValue e
+pub noted_read : (a : CodeContext) (n0 n1 : Names) (h : Head) (e : ExprTree) (f0 f1 f2 : List Fault) → n1 ≡ n0
+    → h ≡ ending (context_of a n0).scope e → f1 ≡ f0 ++ faults (context_of a n0) AsCallee e → f2 ≡ f1 ++ rest_read (context_of a n1) h
+    → f2 ≡ f0 ++ faults (context_of a n0) AsValue e
 noted_read a n0 n1 h e f0 f1 f2 same is p q =
-    let w : IsWalked (around_of a n0) f0 f1 h e = record { is = is; noted = p } in
-    read_noted (around_of a n0) f0 f1 f2 h e w (q ∙ ap (λ n. f1 ++ rest_read (around_of a n) h) same)
+    let w : IsWalked (context_of a n0) f0 f1 h e = record { is = is; noted = p } in
+    read_noted (context_of a n0) f0 f1 f2 h e w (q ∙ ap (λ n. f1 ++ rest_read (context_of a n) h) same)
 
-pub chain_walked : (a : CodeAround) (n0 n1 : Names) (f0 f1 f2 : List Fault) (h0 h1 : Head) (p : Place) (first : Box Expr Global) (links : Vec Link Global) (e f : Expr) (ls : List Link)
+pub chain_walked : (a : CodeContext) (n0 n1 : Names) (f0 f1 f2 : List Fault) (h0 h1 : Head) (p : Place) (first : Box Expr Global) (links : Vec Link Global) (e f : Expr) (ls : List Link)
     → e ≡ view.Chain p first links → f ≡ first.value → ls ≡ links.items → n1 ≡ n0
-    → h0 ≡ ending (around_of a n0).scope (expr_tree f) → f1 ≡ f0 ++ faults (around_of a n0) AsCallee (expr_tree f)
-    → Leads (around_of a n1) f1 h0 f2 h1 (λ x. grouped p x (map link_behind ls))
-    → IsWalked (around_of a n0) f0 f2 h1 (expr_tree e)
+    → h0 ≡ ending (context_of a n0).scope (expr_tree f) → f1 ≡ f0 ++ faults (context_of a n0) AsCallee (expr_tree f)
+    → Leads (context_of a n1) f1 h0 f2 h1 (λ x. grouped p x (map link_behind ls))
+    → IsWalked (context_of a n0) f0 f2 h1 (expr_tree e)
 chain_walked a n0 n1 f0 f1 f2 h0 h1 p first links e f ls is f_is ls_is same h q leads =
     let whole : expr_tree e ≡ grouped p (expr_tree f) (map link_behind ls) =
     ap expr_tree is ∙ chain_is p first links
     ∙ ap (λ (x : Expr). grouped p (expr_tree x) (map link_behind links.items)) (sym f_is)
     ∙ ap (λ (xs : List Link). grouped p (expr_tree f) (map link_behind xs)) (sym ls_is) in
-    let w : IsWalked (around_of a n0) f0 f1 h0 (expr_tree f) = record { is = h; noted = q } in
-    let there = leads.on (expr_tree f) f0 (subst (λ (n : Names). IsWalked (around_of a n) f0 f1 h0 (expr_tree f)) (sym same) w) in
-    subst (λ (t : ExprTree). IsWalked (around_of a n0) f0 f2 h1 t) (sym whole)
-    (subst (λ (n : Names). IsWalked (around_of a n) f0 f2 h1 (grouped p (expr_tree f) (map link_behind ls))) same there)
+    let w : IsWalked (context_of a n0) f0 f1 h0 (expr_tree f) = record { is = h; noted = q } in
+    let there = leads.on (expr_tree f) f0 (subst (λ (n : Names). IsWalked (context_of a n) f0 f1 h0 (expr_tree f)) (sym same) w) in
+    subst (λ (t : ExprTree). IsWalked (context_of a n0) f0 f2 h1 t) (sym whole)
+    (subst (λ (n : Names). IsWalked (context_of a n) f0 f2 h1 (grouped p (expr_tree f) (map link_behind ls))) same there)
 
-pub path_walked : (a : CodeAround) (n0 n1 : Names) (f0 f1 f2 : List Fault) (h0 h1 : Head) (p : Place) (first : Box Expr Global) (postfixes : Vec Postfix Global) (e f : Expr) (ls : List Postfix)
+pub path_walked : (a : CodeContext) (n0 n1 : Names) (f0 f1 f2 : List Fault) (h0 h1 : Head) (p : Place) (first : Box Expr Global) (postfixes : Vec Postfix Global) (e f : Expr) (ls : List Postfix)
     → e ≡ view.Path p first postfixes → f ≡ first.value → ls ≡ postfixes.items → n1 ≡ n0
-    → h0 ≡ ending (around_of a n0).scope (expr_tree f) → f1 ≡ f0 ++ faults (around_of a n0) AsCallee (expr_tree f)
-    → Leads (around_of a n1) f1 h0 f2 h1 (λ x. grouped p x (map postfix_behind ls))
-    → IsWalked (around_of a n0) f0 f2 h1 (expr_tree e)
+    → h0 ≡ ending (context_of a n0).scope (expr_tree f) → f1 ≡ f0 ++ faults (context_of a n0) AsCallee (expr_tree f)
+    → Leads (context_of a n1) f1 h0 f2 h1 (λ x. grouped p x (map postfix_behind ls))
+    → IsWalked (context_of a n0) f0 f2 h1 (expr_tree e)
 path_walked a n0 n1 f0 f1 f2 h0 h1 p first postfixes e f ls is f_is ls_is same h q leads =
     let whole : expr_tree e ≡ grouped p (expr_tree f) (map postfix_behind ls) =
     ap expr_tree is ∙ path_is p first postfixes
     ∙ ap (λ (x : Expr). grouped p (expr_tree x) (map postfix_behind postfixes.items)) (sym f_is)
     ∙ ap (λ (xs : List Postfix). grouped p (expr_tree f) (map postfix_behind xs)) (sym ls_is) in
-    let w : IsWalked (around_of a n0) f0 f1 h0 (expr_tree f) = record { is = h; noted = q } in
-    let there = leads.on (expr_tree f) f0 (subst (λ (n : Names). IsWalked (around_of a n) f0 f1 h0 (expr_tree f)) (sym same) w) in
-    subst (λ (t : ExprTree). IsWalked (around_of a n0) f0 f2 h1 t) (sym whole)
-    (subst (λ (n : Names). IsWalked (around_of a n) f0 f2 h1 (grouped p (expr_tree f) (map postfix_behind ls))) same there)
+    let w : IsWalked (context_of a n0) f0 f1 h0 (expr_tree f) = record { is = h; noted = q } in
+    let there = leads.on (expr_tree f) f0 (subst (λ (n : Names). IsWalked (context_of a n) f0 f1 h0 (expr_tree f)) (sym same) w) in
+    subst (λ (t : ExprTree). IsWalked (context_of a n0) f0 f2 h1 t) (sym whole)
+    (subst (λ (n : Names). IsWalked (context_of a n) f0 f2 h1 (grouped p (expr_tree f) (map postfix_behind ls))) same there)
 
 -- one more part behind those that a loop has gone over
-pub part_leads : {X : Type 0} (behind : X → Behind) (a : CodeAround) (n0 n : Names) (f0 f1 f2 : List Fault) (h0 h1 h2 : Head) (p : Place) (xs : List X) (i : ℕ) (x : X)
+pub part_leads : {X : Type 0} (behind : X → Behind) (a : CodeContext) (n0 n : Names) (f0 f1 f2 : List Fault) (h0 h1 h2 : Head) (p : Place) (xs : List X) (i : ℕ) (x : X)
     → n ≡ n0 → i < length xs → x ≡ get_or xs i x
-    → Leads (around_of a n) f1 h1 f2 h2 (behind x p)
-    → Leads (around_of a n0) f0 h0 f1 h1 (λ e. grouped p e (map behind (take i xs)))
-    → Leads (around_of a n0) f0 h0 f2 h2 (λ e. grouped p e (map behind (take (i + 1) xs)))
+    → Leads (context_of a n) f1 h1 f2 h2 (behind x p)
+    → Leads (context_of a n0) f0 h0 f1 h1 (λ e. grouped p e (map behind (take i xs)))
+    → Leads (context_of a n0) f0 h0 f2 h2 (λ e. grouped p e (map behind (take (i + 1) xs)))
 part_leads behind a n0 n f0 f1 f2 h0 h1 h2 p xs i x same l is part so_far = record {
   on = λ e before w.
       let done : ExprTree = grouped p e (map behind (take i xs)) in
-      let here = subst (λ (m : Names). IsWalked (around_of a m) before f1 h1 done) (sym same) (so_far.on e before w) in
-      subst (λ (t : ExprTree). IsWalked (around_of a n0) before f2 h2 t) (sym (grouped_more behind p e xs i x l is))
-      (subst (λ (m : Names). IsWalked (around_of a m) before f2 h2 (behind x p done)) same (part.on done before here));
+      let here = subst (λ (m : Names). IsWalked (context_of a m) before f1 h1 done) (sym same) (so_far.on e before w) in
+      subst (λ (t : ExprTree). IsWalked (context_of a n0) before f2 h2 t) (sym (grouped_more behind p e xs i x l is))
+      (subst (λ (m : Names). IsWalked (context_of a m) before f2 h2 (behind x p done)) same (part.on done before here));
 }
 
 -- where all parts are gone over
-pub parts_led : {X : Type 0} (behind : X → Behind) (a : Around) (f0 f1 : List Fault) (h0 h1 : Head) (p : Place) (xs : List X) (i : ℕ) → length xs ≤ i
+pub parts_led : {X : Type 0} (behind : X → Behind) (a : ExprContext) (f0 f1 : List Fault) (h0 h1 : Head) (p : Place) (xs : List X) (i : ℕ) → length xs ≤ i
     → Leads a f0 h0 f1 h1 (λ e. grouped p e (map behind (take i xs))) → Leads a f0 h0 f1 h1 (λ e. grouped p e (map behind xs))
 parts_led {X = X} behind a f0 f1 h0 h1 p xs i l h = subst (λ (ys : List X). Leads a f0 h0 f1 h1 (λ e. grouped p e (map behind ys))) (take_all i xs l) h
 
 -- before the first part
-pub no_parts : {X : Type 0} (behind : X → Behind) (a : Around) (f : List Fault) (h : Head) (p : Place) (xs : List X) → Leads a f h f h (λ e. grouped p e (map behind (take 0 xs)))
+pub no_parts : {X : Type 0} (behind : X → Behind) (a : ExprContext) (f : List Fault) (h : Head) (p : Place) (xs : List X) → Leads a f h f h (λ e. grouped p e (map behind (take 0 xs)))
 no_parts behind a f h p xs = record { on = λ e before w. w }
 
 -- ---- the scope of a quantifier's member

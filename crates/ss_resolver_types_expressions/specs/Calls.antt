@@ -16,8 +16,8 @@ use Rattle.ss_faults.specs.declared.Fault.{Fault}
 use Rattle.ss_resolver_types_expressions.specs.Faults.{bad_type, fault_where}
 use Rattle.ss_resolver_types_expressions.specs.Wants.{Want, AReference, OfType, Printable, ClassName, Known, known}
 
--- what surrounds an expression
-pub record Around : Type 0 where
+-- the context of an expression
+pub record ExprContext : Type 0 where
   pub scope : Scope
   -- it stands in a static method, or in a clause of one
   pub is_static : Bool
@@ -74,7 +74,7 @@ called_method cs in_static None = Unknown
 called_method cs in_static (Some m) = if in_static && not (is_static m.member) then Refused else Taking (param_wants cs m.member.params)
 
 -- a static method, or outside static methods an instance method of `this`; a local or a field hides it
-abbrev pub called_name : Around → List ℕ → Called
+abbrev pub called_name : ExprContext → List ℕ → Called
 called_name a n =
     if is_some (local_named a.scope n) || is_some (field_of a.scope.classes a.scope.class n) then Refused
     else called_method a.scope.classes a.is_static (method_of a.scope.classes a.scope.class n)
@@ -94,7 +94,7 @@ called_owner n =
     else Unknown
 
 -- the class above has the method, and it isn't static; nothing of `base` stands in a static method
-abbrev pub called_base : Around → List ℕ → Called
+abbrev pub called_base : ExprContext → List ℕ → Called
 called_base a n =
     if a.is_static || is_state_word n then Refused
     else method_or_field a.scope.classes false (inherited_method a.scope.classes a.scope.class n) (inherited_field a.scope.classes a.scope.class n)
@@ -140,7 +140,7 @@ called_value cs v n =
     else called_on_object cs n (class_of_known v)
 
 -- a method behind a dot; before the dot stands this receiver, of which as much is known
-abbrev pub called_member : Around → ℕ → Known → List ℕ → Receiver → Called
+abbrev pub called_member : ExprContext → ℕ → Known → List ℕ → Receiver → Called
 called_member a count v n TheConsole = called_console count n
 called_member a count v n TheOwner = called_owner n
 called_member a count v n TheBase = called_base a n
@@ -148,7 +148,7 @@ called_member a count v n (AClass k) = if is_state_word n then Unknown else call
 called_member a count v n (AValue t) = called_value a.scope.classes v n
 
 -- what a call of this expression with so many arguments means; `base(..)` in its place is no such call
-abbrev pub called : Around → ℕ → ExprTree → Called
+abbrev pub called : ExprContext → ℕ → ExprTree → Called
 called a count (NameOf p n) = called_name a n
 called a count (MemberOf p e n) = called_member a count (known a.scope e) n.text (receiver a.scope e (static a.scope e))
 called a count f = Refused

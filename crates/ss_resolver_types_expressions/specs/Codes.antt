@@ -8,7 +8,7 @@ use Rattle.ss_tables_scopes.specs.Views.{scope_of, receiver_of}
 use Rattle.ss_resolver_types_expressions.specs.declared.wants.Want.{Want as CodeWant}
 use Rattle.ss_resolver_types_expressions.specs.declared.wants.Want.TheVariants as code
 use Rattle.ss_resolver_types_expressions.specs.declared.wants.Known.{Known as CodeKnown}
-use Rattle.ss_resolver_types_expressions.specs.declared.around.Around.{Around as CodeAround}
+use Rattle.ss_resolver_types_expressions.specs.declared.context.ExprContext.{ExprContext as CodeContext}
 use Rattle.ss_resolver_types_expressions.specs.declared.calls.Question.{Question}
 use Rattle.ss_resolver_types_expressions.specs.declared.calls.Question.TheVariants as question
 use Rattle.ss_resolver_types_expressions.specs.declared.calls.Called.{Called as CodeCalled}
@@ -16,7 +16,7 @@ use Rattle.ss_resolver_types_expressions.specs.declared.calls.Called.TheVariants
 use Rattle.ss_resolver_types_expressions.specs.declared.heads.Head.{Head as CodeHead}
 use Rattle.ss_resolver_types_expressions.specs.declared.heads.Head.TheVariants as ends
 use Rattle.ss_resolver_types_expressions.specs.Wants.{Want, AnInt, ABool, AReference, AnArray, AnyValue, OfType, Printable, OfDeclared, OfClass, ClassName, Known}
-use Rattle.ss_resolver_types_expressions.specs.Calls.{Around, Called, Taking, Refused, Unknown, param_wants}
+use Rattle.ss_resolver_types_expressions.specs.Calls.{ExprContext, Called, Taking, Refused, Unknown, param_wants}
 use Rattle.ss_resolver_types_expressions.specs.Heads.{Head, ABareName, ABaseWord, AMember, AValueOf}
 
 abbrev pub want_of : CodeWant → Want
@@ -35,8 +35,8 @@ abbrev pub known_of : CodeKnown → Known
 known_of v = record { place = v.place; ty = option_map type_of v.ty; is_nothing = v.is_nothing }
 
 -- with these locals in scope
-abbrev pub around_of : CodeAround → Names → Around
-around_of a names = record {
+abbrev pub context_of : CodeContext → Names → ExprContext
+context_of a names = record {
   scope = scope_of a.within names;
   is_static = a.is_static;
   in_condition = a.in_condition;

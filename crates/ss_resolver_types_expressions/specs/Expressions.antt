@@ -14,7 +14,7 @@ use Rattle.ss_tables.specs.Statics.{Receiver, TheConsole, TheOwner, TheBase, ACl
 use Rattle.ss_faults.specs.declared.Fault.{Fault}
 use Rattle.ss_resolver_types_expressions.specs.Faults.{bad_type, call_in_condition, fault_where}
 use Rattle.ss_resolver_types_expressions.specs.Wants.{Want, AnInt, ABool, AReference, AnArray, AnyValue, OfType, Printable, OfDeclared, OfClass, ClassName, Known, known, bare, place_within, are_alike, misfit, wrong}
-use Rattle.ss_resolver_types_expressions.specs.Calls.{Around, Called, called, constructed, argument_wants, whole_call, has_no_members}
+use Rattle.ss_resolver_types_expressions.specs.Calls.{ExprContext, Called, called, constructed, argument_wants, whole_call, has_no_members}
 
 -- ---- what an expression is for
 
@@ -26,7 +26,7 @@ pub data Use : Type 0 where
   AsCallee : Use
 
 -- the faults within an expression, and that it isn't what is wanted where it stands
-abbrev pub wanted : Around → Want → ExprTree → List Fault → List Fault
+abbrev pub wanted : ExprContext → Want → ExprTree → List Fault → List Fault
 wanted a w e within = within ++ wrong a.scope w e
 
 -- ---- operations
@@ -83,12 +83,12 @@ mark_faults t = fault_where (t.non_null && is_number_type t) (bad_type t.place)
 -- ---- names
 
 -- a bare name that means no local, but a field of `this` where there is no `this`, or a method
-abbrev pub is_misused : Around → List ℕ → Bool
+abbrev pub is_misused : ExprContext → List ℕ → Bool
 is_misused a n =
     is_none (local_named a.scope n)
     && (if is_some (field_of a.scope.classes a.scope.class n) then a.is_static else is_some (method_of a.scope.classes a.scope.class n))
 
-abbrev pub name_faults : Around → Place → List ℕ → List Fault
+abbrev pub name_faults : ExprContext → Place → List ℕ → List Fault
 name_faults a p n = fault_where (is_misused a n) (bad_type p)
 
 abbrev pub is_value_receiver : Receiver → Bool
@@ -99,7 +99,7 @@ is_value_receiver TheBase = false
 is_value_receiver (AClass k) = false
 
 -- before a dot a name may also be that of a class, `Console` or `Owner`
-abbrev pub used_name : Around → Use → Place → List ℕ → List Fault
+abbrev pub used_name : ExprContext → Use → Place → List ℕ → List Fault
 used_name a AsValue p n = name_faults a p n
 used_name a BeforeDot p n = if is_value_receiver (receiver a.scope (NameOf p n) None) then name_faults a p n else []
 used_name a AsCallee p n = []
@@ -156,7 +156,7 @@ is_question ABase = false
 is_question NoCallee = false
 
 -- a call or a `new` in a condition; questions about states and owners are no calls
-abbrev pub condition_faults : Around → Place → Bool → List Fault
+abbrev pub condition_faults : ExprContext → Place → Bool → List Fault
 condition_faults a p is_call = fault_where (a.in_condition && is_call) (call_in_condition p)
 
 abbrev pub is_name : ExprTree → Bool
@@ -168,7 +168,7 @@ is_text (TextOf p x) = true
 is_text e = false
 
 -- an argument with the faults within it: where a class is to be named it is a bare name, and a string may be printed
-abbrev pub argument : Around → Want → ExprTree → List Fault → List Fault
+abbrev pub argument : ExprContext → Want → ExprTree → List Fault → List Fault
 argument a ClassName e within = fault_where (not (is_name e)) (bad_type (place_within e))
 argument a Printable e within = if is_text (bare e) then [] else wanted a Printable e within
 argument a AnInt e within = wanted a AnInt e within
@@ -182,17 +182,17 @@ argument a (OfClass d) e within = wanted a (OfClass d) e within
 
 -- ---- the faults of an expression
 
-abbrev pub conditional : Around → Around
+abbrev pub conditional : ExprContext → ExprContext
 conditional a = record a { in_condition = true }
 
-abbrev pub bound : Around → NameTree → Around
+abbrev pub bound : ExprContext → NameTree → ExprContext
 bound a n = record a { in_condition = true; scope = within_quantifier a.scope n }
 
-abbrev pub newly : Around → NameTree → Called
+abbrev pub newly : ExprContext → NameTree → Called
 newly a n = constructed a.scope.classes (class_named a.scope.classes n.text)
 
 abbrev mutual
-  pub faults : Around → Use → ExprTree → List Fault
+  pub faults : ExprContext → Use → ExprTree → List Fault
   faults a u (IffOf p e f) = wanted a ABool e (faults a AsValue e) ++ wanted a ABool f (faults a AsValue f)
   faults a u (ImpliesOf p e f) = wanted a ABool e (faults a AsValue e) ++ wanted a ABool f (faults a AsValue f)
   faults a u (BinaryOf p o e f) =
@@ -229,16 +229,16 @@ abbrev mutual
       ++ wanted (bound a n) ABool e (faults (bound a n) AsValue e)
 
   -- each argument is what is wanted in its place; of one past the wants nothing is wanted
-  pub argument_faults : Around → List Want → Arguments → List Fault
+  pub argument_faults : ExprContext → List Want → Arguments → List Fault
   argument_faults a ws NoMore = []
   argument_faults a [] (Argument e es) = faults a AsValue e ++ argument_faults a [] es
   argument_faults a (w ∷ ws) (Argument e es) = argument a w e (faults a AsValue e) ++ argument_faults a ws es
 
 -- an argument for which something is wanted, or nothing
-abbrev pub argument_where : Around → Option Want → ExprTree → List Fault
+abbrev pub argument_where : ExprContext → Option Want → ExprTree → List Fault
 argument_where a None e = faults a AsValue e
 argument_where a (Some w) e = argument a w e (faults a AsValue e)
 
 -- an expression with what is wanted where it stands
-abbrev pub faults_as : Around → Want → ExprTree → List Fault
+abbrev pub faults_as : ExprContext → Want → ExprTree → List Fault
 faults_as a w e = wanted a w e (faults a AsValue e)

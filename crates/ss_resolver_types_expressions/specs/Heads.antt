@@ -13,7 +13,7 @@ use Rattle.ss_resolver_types_expressions.specs.declared.heads.Form.{Form}
 use Rattle.ss_resolver_types_expressions.specs.declared.heads.Form.TheVariants as form
 use Rattle.ss_resolver_types_expressions.specs.Faults.{bad_type}
 use Rattle.ss_resolver_types_expressions.specs.Wants.{Want, AnInt, ABool, AReference, AnArray, AnyValue, OfType, Printable, OfDeclared, OfClass, ClassName, Known, known, misfit, gives_nothing}
-use Rattle.ss_resolver_types_expressions.specs.Calls.{Around, Called, Refused, called_name, called_member, whole_call, argument_wants}
+use Rattle.ss_resolver_types_expressions.specs.Calls.{ExprContext, Called, Refused, called_name, called_member, whole_call, argument_wants}
 use Rattle.ss_resolver_types_expressions.specs.Expressions.{AsCallee, AsValue, name_faults, is_value_receiver, read_faults, word_faults, is_question, operand_faults, condition_faults, no_class, faults, argument_faults}
 
 pub data Head : Type 0 where
@@ -76,7 +76,7 @@ callee_at s (AMember p r v n) = member_callee s n.text r
 callee_at s (AValueOf f v) = NoCallee
 
 -- what a call of it with so many arguments means
-abbrev pub called_at : Around → ℕ → Head → Called
+abbrev pub called_at : ExprContext → ℕ → Head → Called
 called_at a count (ABareName p n) = called_name a n
 called_at a count (ABaseWord p) = Refused
 called_at a count (AMember p r v n) = called_member a count v n.text r
@@ -85,21 +85,21 @@ called_at a count (AValueOf f v) = Refused
 -- ---- faults besides those that it has where it is called
 
 -- where its value is read
-abbrev pub rest_read : Around → Head → List Fault
+abbrev pub rest_read : ExprContext → Head → List Fault
 rest_read a (ABareName p n) = name_faults a p n
 rest_read a (ABaseWord p) = bad_type p ∷ []
 rest_read a (AMember p r v n) = read_faults a.scope.classes p v n.text r
 rest_read a (AValueOf f v) = []
 
 -- where it stands before a dot
-abbrev pub rest_dot : Around → Head → List Fault
+abbrev pub rest_dot : ExprContext → Head → List Fault
 rest_dot a (ABareName p n) = if is_value_receiver (name_receiver a.scope n None) then name_faults a p n else []
 rest_dot a (ABaseWord p) = []
 rest_dot a (AMember p r v n) = read_faults a.scope.classes p v n.text r
 rest_dot a (AValueOf f v) = []
 
 -- where its value is read, and isn't what is wanted
-abbrev pub rest_as : Around → Want → Head → List Fault
+abbrev pub rest_as : ExprContext → Want → Head → List Fault
 rest_as a w h = rest_read a h ++ misfit a.scope.classes w (known_at a.scope h)
 
 -- ---- arguments, and the member of a quantifier
@@ -129,24 +129,24 @@ is_printed OfDeclared = false
 is_printed (OfClass d) = false
 is_printed ClassName = false
 
-abbrev pub within_bound : Around → NameTree → Around
+abbrev pub within_bound : ExprContext → NameTree → ExprContext
 within_bound a n = record a { scope = within_quantifier a.scope n }
 
 -- ---- one part more
 
 -- behind faults that were there before, an expression was read up to what the next part decides
-pub record IsWalked (a : Around) (before now : List Fault) (h : Head) (e : ExprTree) : Type 0 where
+pub record IsWalked (a : ExprContext) (before now : List Fault) (h : Head) (e : ExprTree) : Type 0 where
   pub is : h ≡ ending a.scope e
   pub noted : now ≡ before ++ faults a AsCallee e
 
 -- what stands behind any expression that was walked, by the head and the faults that it leaves
-pub record Leads (a : Around) (old : List Fault) (from : Head) (new : List Fault) (to : Head) (behind : ExprTree → ExprTree) : Type 0 where
+pub record Leads (a : ExprContext) (old : List Fault) (from : Head) (new : List Fault) (to : Head) (behind : ExprTree → ExprTree) : Type 0 where
   pub on : (e : ExprTree) (before : List Fault) → IsWalked a before old from e → IsWalked a before new to (behind e)
 
 abbrev pub dotted : Scope → Place → Head → NameTree → Head
 dotted s p h n = AMember p (receiver_at s h) (known_at s h) n
 
-abbrev pub dot_faults : Around → Head → NameTree → List Fault
+abbrev pub dot_faults : ExprContext → Head → NameTree → List Fault
 dot_faults a h n = rest_dot a h ++ word_faults a.scope.classes (known_at a.scope h) n.text (receiver_at a.scope h)
 
 abbrev pub element : Scope → Place → Head → Head
@@ -157,13 +157,13 @@ abbrev pub call : List ClassTree → Place → ℕ → Callee → Head
 call cs p n c = AValueOf (form.Call (is_question c)) (record { place = p; ty = call_type cs (called_with n c); is_nothing = gives_nothing (called_with n c) })
 
 -- the faults of a call besides those of what is called
-abbrev pub call_faults : Around → Place → Bool → Called → Arguments → List Fault
+abbrev pub call_faults : ExprContext → Place → Bool → Called → Arguments → List Fault
 call_faults a p is_call c es =
     condition_faults a p is_call ++ whole_call p (count es) c ++ argument_faults a (argument_wants (count es) c) es
 
 -- those of an operation besides its first operand's where it is called, with what both are to be and the second operand
-abbrev pub operation_faults : Around → Place → Option Want → Head → ExprTree → List Fault
+abbrev pub operation_faults : ExprContext → Place → Option Want → Head → ExprTree → List Fault
 operation_faults a p want h e = rest_read a h ++ faults a AsValue e ++ operand_faults a.scope.classes p want (known_at a.scope h) (known a.scope e)
 
-abbrev pub class_test_faults : Around → Head → TypeTree → List Fault
+abbrev pub class_test_faults : ExprContext → Head → TypeTree → List Fault
 class_test_faults a h t = rest_as a AReference h ++ no_class t

@@ -16,7 +16,7 @@ use Rattle.ss_tables.specs.Statics.{count}
 use Rattle.ss_faults.specs.declared.Fault.{Fault}
 use Rattle.ss_resolver_types_expressions.specs.Faults.{bad_type, no_return, fault_where}
 use Rattle.ss_resolver_types_expressions.specs.Wants.{ABool, AnArray, OfClass, place_of}
-use Rattle.ss_resolver_types_expressions.specs.Calls.{Around, Taking, base_wants, takes_nothing, argument_wants, whole_call}
+use Rattle.ss_resolver_types_expressions.specs.Calls.{ExprContext, Taking, base_wants, takes_nothing, argument_wants, whole_call}
 use Rattle.ss_resolver_types_expressions.specs.Expressions.{AsValue, faults, faults_as, argument_faults, mark_faults}
 use Rattle.ss_resolver_types_expressions.specs.Ends.{block_reaches_end}
 use Rattle.ss_resolver_types_expressions.specs.Statements.{Outcome, Nothing, Gives, Body, in_code, is_target, initial_faults, stmt_faults, block_faults}
@@ -43,12 +43,12 @@ is_field_term s (MemberOf p e n) = is_target s (MemberOf p e n)
 is_field_term s e = false
 
 -- all fields of an object, which null isn't; all elements of an array; or a field
-abbrev pub term_faults : Around → ast.ModifiedTree → List Fault
+abbrev pub term_faults : ExprContext → ast.ModifiedTree → List Fault
 term_faults a (ast.AllOf e) = faults_as a (OfClass 0) e
 term_faults a (ast.ElementsOf e) = faults_as a AnArray e
 term_faults a (ast.OneOf e) = faults a AsValue e ++ fault_where (not (is_field_term a.scope e)) (bad_type (place_of e))
 
-abbrev pub terms_faults : Around → List ast.ModifiedTree → List Fault
+abbrev pub terms_faults : ExprContext → List ast.ModifiedTree → List Fault
 terms_faults a [] = []
 terms_faults a (m ∷ ms) = term_faults a m ++ terms_faults a ms
 
@@ -61,10 +61,10 @@ gives_none Nothing = true
 gives_none (Gives t) = false
 
 -- every clause is a condition; where a body has no result, `result` is a fault of types in `ensures` alone
-abbrev pub before : Body → Scope → Around
+abbrev pub before : Body → Scope → ExprContext
 before b s = record { scope = s; is_static = b.is_static; in_condition = true; lacks_result = false }
 
-abbrev pub after : Body → Scope → Around
+abbrev pub after : Body → Scope → ExprContext
 after b s = record { scope = s; is_static = b.is_static; in_condition = true; lacks_result = gives_none b.outcome }
 
 abbrev pub clause_faults : Body → Scope → ast.ClauseTree → List Fault
@@ -189,10 +189,10 @@ constructor_faults cs k c n ps base clauses x =
 -- ---- members
 
 -- a field and an invariant stand outside every body
-abbrev pub in_class : List ClassTree → ℕ → Bool → Around
+abbrev pub in_class : List ClassTree → ℕ → Bool → ExprContext
 in_class cs k is_condition = record { scope = class_scope cs k; is_static = false; in_condition = is_condition; lacks_result = false }
 
-abbrev pub fields_faults : Around → TypeTree → List tree.DeclaratorTree → List Fault
+abbrev pub fields_faults : ExprContext → TypeTree → List tree.DeclaratorTree → List Fault
 fields_faults a t [] = []
 fields_faults a t (d ∷ ds) = initial_faults a t d.initial ++ fields_faults a t ds
 

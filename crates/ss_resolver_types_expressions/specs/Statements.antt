@@ -15,7 +15,7 @@ use Rattle.ss_tables.specs.Statics.{callee, static}
 use Rattle.ss_faults.specs.declared.Fault.{Fault}
 use Rattle.ss_resolver_types_expressions.specs.Faults.{bad_type, fault_where}
 use Rattle.ss_resolver_types_expressions.specs.Wants.{Want, AnInt, ABool, AnyValue, OfType, OfDeclared, OfClass, place_of, place_within, wrong}
-use Rattle.ss_resolver_types_expressions.specs.Calls.{Around}
+use Rattle.ss_resolver_types_expressions.specs.Calls.{ExprContext}
 use Rattle.ss_resolver_types_expressions.specs.Expressions.{AsValue, faults, faults_as, mark_faults, is_question}
 
 -- what a body gives: nothing, or a value of a type, which may be unknown
@@ -28,10 +28,10 @@ pub record Body : Type 0 where
   pub is_static : Bool
   pub outcome : Outcome
 
-abbrev pub in_code : Body → Scope → Around
+abbrev pub in_code : Body → Scope → ExprContext
 in_code b s = record { scope = s; is_static = b.is_static; in_condition = false; lacks_result = false }
 
-abbrev pub in_condition : Body → Scope → Around
+abbrev pub in_condition : Body → Scope → ExprContext
 in_condition b s = record { scope = s; is_static = b.is_static; in_condition = true; lacks_result = false }
 
 -- `assert`, `assume` and the invariants of a loop
@@ -48,7 +48,7 @@ test b s e = faults_as (in_code b s) ABool e
 -- ---- declarations
 
 -- what a local or a field begins with is of its type
-abbrev pub initial_faults : Around → TypeTree → Option ExprTree → List Fault
+abbrev pub initial_faults : ExprContext → TypeTree → Option ExprTree → List Fault
 initial_faults a t None = []
 initial_faults a t (Some e) = faults_as a (OfType (written_type a.scope.classes t)) e
 
@@ -72,11 +72,11 @@ is_target s (MemberOf p e n) = not (is_state_word n.text) && not (is_length_of n
 is_target s (ElementOf p e i) = true
 is_target s e = false
 
-abbrev pub target_faults : Around → ExprTree → List Fault
+abbrev pub target_faults : ExprContext → ExprTree → List Fault
 target_faults a e = faults a AsValue e ++ fault_where (not (is_target a.scope e)) (bad_type (place_of e))
 
 -- `=` wants a value of the target's type; the other operators want numbers
-abbrev pub assigned_faults : Around → AssignOperator → ExprTree → ExprTree → List Fault
+abbrev pub assigned_faults : ExprContext → AssignOperator → ExprTree → ExprTree → List Fault
 assigned_faults a operator.Set e f = faults_as a (OfType (static a.scope e)) f
 assigned_faults a operator.Add e f = wrong a.scope AnInt e ++ faults_as a AnInt f
 assigned_faults a operator.Subtract e f = wrong a.scope AnInt e ++ faults_as a AnInt f
@@ -89,7 +89,7 @@ may_stand_alone s (NewOf p n es) = true
 may_stand_alone s (NewArrayOf p q t e) = true
 may_stand_alone s e = false
 
-abbrev pub simple_faults : Around → tree.SimpleTree → List Fault
+abbrev pub simple_faults : ExprContext → tree.SimpleTree → List Fault
 simple_faults a (tree.AssignOf e o f) = target_faults a e ++ assigned_faults a o e f
 simple_faults a (tree.StepOf e o) = target_faults a e ++ wrong a.scope AnInt e
 simple_faults a (tree.AloneOf e) = faults a AsValue e ++ fault_where (not (may_stand_alone a.scope e)) (bad_type (place_of e))

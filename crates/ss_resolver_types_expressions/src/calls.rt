@@ -9,10 +9,10 @@ ghost use Rattle.ss_tables.specs.Types.{written_type};
 ghost use Rattle.ss_tables.specs.Statics.{params_of_first};
 ghost use Rattle.ss_resolver_types_expressions.specs.Wants.{OfType};
 ghost use Rattle.ss_resolver_types_expressions.specs.Calls.{Taking, asks_level, taking, method_or_field, called_on_class, called_name, called_console, called_owner, called_base, is_memberless, has_no_members, called_on_object, called_value, called_member, constructed, base_wants, constructor_wants, param_wants, is_wrong_call, wants_of, called_method, class_of_known, takes_nothing};
-ghost use Rattle.ss_resolver_types_expressions.specs.Codes.{want_of, known_of, around_of, called_of, question_wants};
+ghost use Rattle.ss_resolver_types_expressions.specs.Codes.{want_of, known_of, context_of, called_of, question_wants};
 ghost use Rattle.ss_tables_scopes.specs.Views.{receiver_of};
 
-use crate::around::Around;
+use crate::context::ExprContext;
 use crate::wants::{Known, Want};
 use ss_ast::Param;
 use ss_tables_lookup::{
@@ -114,23 +114,23 @@ fn call_named<'p>(is_in_static: bool, method: Option<(usize, MethodRef<'p>)>) ->
 }
 
 /// A call of a bare name.
-pub fn call_name<'p>(around: &Around<'_, 'p>, locals: &Scopes, name: &str) -> Called<'p>
-    ensures { called_of (trees around.now.within.tables.now) result ≡ called_name (around_of around.now locals.now) name.now }
+pub fn call_name<'p>(context: &ExprContext<'_, 'p>, locals: &Scopes, name: &str) -> Called<'p>
+    ensures { called_of (trees context.now.within.tables.now) result ≡ called_name (context_of context.now locals.now) name.now }
 {
     if locals.find(name).is_some() {
         return Called::Refused;
     }
-    if around
+    if context
         .within
         .tables
-        .field_of(around.within.class, name)
+        .field_of(context.within.class, name)
         .is_some()
     {
         return Called::Refused;
     }
     call_named(
-        around.is_static,
-        around.within.tables.method_of(around.within.class, name),
+        context.is_static,
+        context.within.tables.method_of(context.within.class, name),
     )
 }
 
@@ -164,22 +164,22 @@ fn call_owner<'p>(name: &str) -> Called<'p>
     Called::Unknown
 }
 
-fn call_base<'p>(around: &Around<'_, 'p>, locals: &Scopes, name: &str) -> Called<'p>
-    ensures { called_of (trees around.now.within.tables.now) result ≡ called_base (around_of around.now locals.now) name.now }
+fn call_base<'p>(context: &ExprContext<'_, 'p>, locals: &Scopes, name: &str) -> Called<'p>
+    ensures { called_of (trees context.now.within.tables.now) result ≡ called_base (context_of context.now locals.now) name.now }
 {
-    if around.is_static || is_state_word(name) {
+    if context.is_static || is_state_word(name) {
         return Called::Refused;
     }
     take_member(
         false,
-        around
+        context
             .within
             .tables
-            .inherited_method(around.within.class, name),
-        around
+            .inherited_method(context.within.class, name),
+        context
             .within
             .tables
-            .inherited_field(around.within.class, name),
+            .inherited_field(context.within.class, name),
     )
 }
 
@@ -260,28 +260,28 @@ fn call_value<'p>(tables: &Tables<'p>, known: Known, name: &str) -> Called<'p>
 
 /// A call of what stands behind a dot.
 pub fn call_member<'p>(
-    around: &Around<'_, 'p>,
+    context: &ExprContext<'_, 'p>,
     locals: &Scopes,
     count: usize,
     known: Known,
     name: &str,
     receiver: Receiver,
 ) -> Called<'p>
-    ensures { called_of (trees around.now.within.tables.now) result
-        ≡ called_member (around_of around.now locals.now) count (known_of known) name.now (receiver_of receiver) }
+    ensures { called_of (trees context.now.within.tables.now) result
+        ≡ called_member (context_of context.now locals.now) count (known_of known) name.now (receiver_of receiver) }
 {
     match receiver {
         Receiver::Console => call_console(count, name),
         Receiver::Owner => call_owner(name),
-        Receiver::Base => call_base(around, locals, name),
+        Receiver::Base => call_base(context, locals, name),
         Receiver::Class(class) => {
             if is_state_word(name) {
                 Called::Unknown
             } else {
-                call_on_class(around.within.tables, true, class, name)
+                call_on_class(context.within.tables, true, class, name)
             }
         }
-        Receiver::Value(_) => call_value(around.within.tables, known, name),
+        Receiver::Value(_) => call_value(context.within.tables, known, name),
     }
 }
 

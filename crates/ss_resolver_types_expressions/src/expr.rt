@@ -13,10 +13,10 @@ ghost use Rattle.ss_resolver_types_expressions.specs.Wants.{AnInt, ABool, ARefer
 ghost use Rattle.ss_resolver_types_expressions.specs.Calls.{wants_of, whole_call, argument_wants};
 ghost use Rattle.ss_resolver_types_expressions.specs.Expressions.{AsValue, AsCallee, faults, faults_as, argument_where, argument_faults, condition_faults, no_class, is_text, operand};
 ghost use Rattle.ss_resolver_types_expressions.specs.Heads.{ending, value_at, AValueOf, Leads, names_class, is_printed, within_bound, call, operation_faults, call_faults};
-ghost use Rattle.ss_resolver_types_expressions.specs.Codes.{want_of, known_of, around_of, called_of, head_of};
+ghost use Rattle.ss_resolver_types_expressions.specs.Codes.{want_of, known_of, context_of, called_of, head_of};
 
-use crate::around::Around;
 use crate::calls::{Called, call_new, is_wrong_call, want_at};
+use crate::context::ExprContext;
 use crate::heads::{
     Form, Head, called_at, callee_at, note_class_test, settle, settle_as, value, walk_dot,
 };
@@ -57,19 +57,19 @@ fn call<'e>(tables: &Tables<'_>, place: Place, number: usize, callee: Callee<'_>
 
 // Notes a call in a condition.
 fn note_in_condition(
-    around: &Around<'_, '_>,
+    context: &ExprContext<'_, '_>,
     found: &mut Vec<Fault>,
     place: Place,
     is_call: bool,
 ) -> Result<(), AllocError>
-    ensures { OnOk result (found.new.items ≡ found.old.items ++ fault_where (around.now.in_condition && is_call) (call_in_condition place)) }
+    ensures { OnOk result (found.new.items ≡ found.old.items ++ fault_where (context.now.in_condition && is_call) (call_in_condition place)) }
 {
-    note_call(found, around.in_condition && is_call, place)
+    note_call(found, context.in_condition && is_call, place)
 }
 
 // Notes a call in a condition, and a call that is at fault as a whole.
 fn note_whole(
-    around: &Around<'_, '_>,
+    context: &ExprContext<'_, '_>,
     found: &mut Vec<Fault>,
     place: Place,
     is_call: bool,
@@ -77,9 +77,9 @@ fn note_whole(
     called: Called<'_>,
 ) -> Result<(), AllocError>
     ensures { OnOk result ((names : Names) → found.new.items ≡ found.old.items
-        ++ (condition_faults (around_of around.now names) place is_call ++ whole_call place number (called_of (trees around.now.within.tables.now) called.entry))) }
+        ++ (condition_faults (context_of context.now names) place is_call ++ whole_call place number (called_of (trees context.now.within.tables.now) called.entry))) }
 {
-    note_in_condition(around, found, place, is_call)?;
+    note_in_condition(context, found, place, is_call)?;
     note_bad_type(found, is_wrong_call(number, called), place)
 }
 
@@ -142,46 +142,46 @@ fn is_printed_text(want: Want, e: &Expr) -> bool
 #[cycle(expr)]
 pub fn walk<'e>(
     alloc: Global,
-    around: &Around<'_, '_>,
+    context: &ExprContext<'_, '_>,
     locals: &mut Scopes,
     found: &mut Vec<Fault>,
     e: &'e Expr,
 ) -> Result<Head<'e>, AllocError>
-    ensures head { IfOk result (λ h. head_of h ≡ ending (around_of around.now locals.old).scope (expr_tree e.now)) }
-    ensures noted { OnOk result (found.new.items ≡ found.old.items ++ faults (around_of around.now locals.old) AsCallee (expr_tree e.now)) }
+    ensures head { IfOk result (λ h. head_of h ≡ ending (context_of context.now locals.old).scope (expr_tree e.now)) }
+    ensures noted { OnOk result (found.new.items ≡ found.old.items ++ faults (context_of context.now locals.old) AsCallee (expr_tree e.now)) }
     ensures same { OnOk result (locals.new ≡ locals.old) }
 {
     match e {
         Expr::Iff(place, a, b) => {
-            check_as(alloc, around, locals, found, Want::ABool, a)?;
-            check_as(alloc, around, locals, found, Want::ABool, b)?;
+            check_as(alloc, context, locals, found, Want::ABool, a)?;
+            check_as(alloc, context, locals, found, Want::ABool, b)?;
             Ok(other(*place, Some(StaticType::Bool)))
         }
         Expr::Implies(place, a, b) => {
-            check_as(alloc, around, locals, found, Want::ABool, a)?;
-            check_as(alloc, around, locals, found, Want::ABool, b)?;
+            check_as(alloc, context, locals, found, Want::ABool, a)?;
+            check_as(alloc, context, locals, found, Want::ABool, b)?;
             Ok(other(*place, Some(StaticType::Bool)))
         }
         Expr::Chain(place, first, links) => {
-            let head = walk(alloc, around, locals, found, first)?;
-            let longer = walk_links(alloc, around, locals, found, *place, head, links)?;
+            let head = walk(alloc, context, locals, found, first)?;
+            let longer = walk_links(alloc, context, locals, found, *place, head, links)?;
             Ok(longer)
         }
         Expr::Negate(place, inner) => {
-            check_as(alloc, around, locals, found, Want::AnInt, inner)?;
+            check_as(alloc, context, locals, found, Want::AnInt, inner)?;
             Ok(other(*place, Some(StaticType::Int)))
         }
         Expr::Not(place, inner) => {
-            check_as(alloc, around, locals, found, Want::ABool, inner)?;
+            check_as(alloc, context, locals, found, Want::ABool, inner)?;
             Ok(other(*place, Some(StaticType::Bool)))
         }
         Expr::Cast(place, ty, inner) => {
-            check_cast(alloc, around, locals, found, ty, inner)?;
-            Ok(other(*place, type_of_cast(around.within.tables, ty)))
+            check_cast(alloc, context, locals, found, ty, inner)?;
+            Ok(other(*place, type_of_cast(context.within.tables, ty)))
         }
         Expr::Path(place, first, postfixes) => {
-            let head = walk(alloc, around, locals, found, first)?;
-            let longer = walk_postfixes(alloc, around, locals, found, *place, head, postfixes)?;
+            let head = walk(alloc, context, locals, found, first)?;
+            let longer = walk_postfixes(alloc, context, locals, found, *place, head, postfixes)?;
             Ok(longer)
         }
         Expr::Name(place, name) => Ok(Head::Name(*place, name)),
@@ -194,38 +194,38 @@ pub fn walk<'e>(
         Expr::Truth(place, _) => Ok(other(*place, Some(StaticType::Bool))),
         Expr::Null(place) => Ok(other(*place, Some(StaticType::Null))),
         Expr::This(place) => {
-            note_bad_type(found, around.is_static, *place)?;
-            Ok(other(*place, around.within.this_type()))
+            note_bad_type(found, context.is_static, *place)?;
+            Ok(other(*place, context.within.this_type()))
         }
         Expr::Result(place) => {
-            note_bad_type(found, around.lacks_result, *place)?;
-            Ok(other(*place, around.within.outcome))
+            note_bad_type(found, context.lacks_result, *place)?;
+            Ok(other(*place, context.within.outcome))
         }
         Expr::Paren(_, inner) => {
-            let known = check(alloc, around, locals, found, inner)?;
+            let known = check(alloc, context, locals, found, inner)?;
             Ok(Head::Value(Form::Other, known))
         }
         Expr::Old(place, inner) => {
-            let known = check_as(alloc, around, locals, found, Want::AnyValue, inner)?;
+            let known = check_as(alloc, context, locals, found, Want::AnyValue, inner)?;
             Ok(other(*place, known.ty))
         }
         Expr::New(place, name, list) => {
-            let called = call_new(around.within.tables, name.text.as_str());
-            check_call(alloc, around, locals, found, *place, true, called, list)?;
-            let ty = new_type(around.within.tables, count(list), name.text.as_str());
+            let called = call_new(context.within.tables, name.text.as_str());
+            check_call(alloc, context, locals, found, *place, true, called, list)?;
+            let ty = new_type(context.within.tables, count(list), name.text.as_str());
             Ok(Head::Value(Form::New, value(*place, ty)))
         }
         Expr::NewArray(place, _, name, length) => {
-            check_length(alloc, around, locals, found, *place, length)?;
-            let ty = around.within.tables.array_type(true, name);
+            check_length(alloc, context, locals, found, *place, length)?;
+            let ty = context.within.tables.array_type(true, name);
             Ok(Head::Value(Form::New, value(*place, ty)))
         }
         Expr::Quantified(place, _, name, low, high, body) => {
-            let inner = Around {
-                within: around.within,
-                is_static: around.is_static,
+            let inner = ExprContext {
+                within: context.within,
+                is_static: context.is_static,
                 in_condition: true,
-                lacks_result: around.lacks_result,
+                lacks_result: context.lacks_result,
             };
             check_as(alloc, &inner, locals, found, Want::AnInt, low)?;
             check_as(alloc, &inner, locals, found, Want::AnInt, high)?;
@@ -239,17 +239,17 @@ pub fn walk<'e>(
 #[cycle(expr)]
 pub fn check(
     alloc: Global,
-    around: &Around<'_, '_>,
+    context: &ExprContext<'_, '_>,
     locals: &mut Scopes,
     found: &mut Vec<Fault>,
     e: &Expr,
 ) -> Result<Known, AllocError>
-    ensures known { IfOk result (λ v. known_of v ≡ known (around_of around.now locals.old).scope (expr_tree e.now)) }
-    ensures noted { OnOk result (found.new.items ≡ found.old.items ++ faults (around_of around.now locals.old) AsValue (expr_tree e.now)) }
+    ensures known { IfOk result (λ v. known_of v ≡ known (context_of context.now locals.old).scope (expr_tree e.now)) }
+    ensures noted { OnOk result (found.new.items ≡ found.old.items ++ faults (context_of context.now locals.old) AsValue (expr_tree e.now)) }
     ensures same { OnOk result (locals.new ≡ locals.old) }
 {
-    let head = walk(alloc, around, locals, found, e)?;
-    let known = settle(around, locals, found, head)?;
+    let head = walk(alloc, context, locals, found, e)?;
+    let known = settle(context, locals, found, head)?;
     Ok(known)
 }
 
@@ -257,18 +257,18 @@ pub fn check(
 #[cycle(expr)]
 pub fn check_as(
     alloc: Global,
-    around: &Around<'_, '_>,
+    context: &ExprContext<'_, '_>,
     locals: &mut Scopes,
     found: &mut Vec<Fault>,
     want: Want,
     e: &Expr,
 ) -> Result<Known, AllocError>
-    ensures known { IfOk result (λ v. known_of v ≡ known (around_of around.now locals.old).scope (expr_tree e.now)) }
-    ensures noted { OnOk result (found.new.items ≡ found.old.items ++ faults_as (around_of around.now locals.old) (want_of want) (expr_tree e.now)) }
+    ensures known { IfOk result (λ v. known_of v ≡ known (context_of context.now locals.old).scope (expr_tree e.now)) }
+    ensures noted { OnOk result (found.new.items ≡ found.old.items ++ faults_as (context_of context.now locals.old) (want_of want) (expr_tree e.now)) }
     ensures same { OnOk result (locals.new ≡ locals.old) }
 {
-    let known = check(alloc, around, locals, found, e)?;
-    note_misfit(around.within.tables, found, want, known)?;
+    let known = check(alloc, context, locals, found, e)?;
+    note_misfit(context.within.tables, found, want, known)?;
     Ok(known)
 }
 
@@ -276,17 +276,17 @@ pub fn check_as(
 #[cycle(expr)]
 fn check_cast(
     alloc: Global,
-    around: &Around<'_, '_>,
+    context: &ExprContext<'_, '_>,
     locals: &mut Scopes,
     found: &mut Vec<Fault>,
     ty: &TypeRef,
     e: &Expr,
 ) -> Result<(), AllocError>
-    ensures noted { OnOk result (found.new.items ≡ found.old.items ++ (no_class (type_tree ty.now) ++ faults_as (around_of around.now locals.old) AReference (expr_tree e.now))) }
+    ensures noted { OnOk result (found.new.items ≡ found.old.items ++ (no_class (type_tree ty.now) ++ faults_as (context_of context.now locals.old) AReference (expr_tree e.now))) }
     ensures same { OnOk result (locals.new ≡ locals.old) }
 {
     note_no_class(found, ty)?;
-    check_as(alloc, around, locals, found, Want::AReference, e)?;
+    check_as(alloc, context, locals, found, Want::AReference, e)?;
     Ok(())
 }
 
@@ -294,18 +294,18 @@ fn check_cast(
 #[cycle(expr)]
 fn check_length(
     alloc: Global,
-    around: &Around<'_, '_>,
+    context: &ExprContext<'_, '_>,
     locals: &mut Scopes,
     found: &mut Vec<Fault>,
     place: Place,
     e: &Expr,
 ) -> Result<(), AllocError>
     ensures noted { OnOk result (found.new.items ≡ found.old.items
-        ++ (condition_faults (around_of around.now locals.old) place true ++ faults_as (around_of around.now locals.old) AnInt (expr_tree e.now))) }
+        ++ (condition_faults (context_of context.now locals.old) place true ++ faults_as (context_of context.now locals.old) AnInt (expr_tree e.now))) }
     ensures same { OnOk result (locals.new ≡ locals.old) }
 {
-    note_in_condition(around, found, place, true)?;
-    check_as(alloc, around, locals, found, Want::AnInt, e)?;
+    note_in_condition(context, found, place, true)?;
+    check_as(alloc, context, locals, found, Want::AnInt, e)?;
     Ok(())
 }
 
@@ -313,13 +313,13 @@ fn check_length(
 #[cycle(expr)]
 fn check_bound(
     alloc: Global,
-    around: &Around<'_, '_>,
+    context: &ExprContext<'_, '_>,
     locals: &mut Scopes,
     found: &mut Vec<Fault>,
     name: &Name,
     body: &Expr,
 ) -> Result<(), AllocError>
-    ensures noted { OnOk result (found.new.items ≡ found.old.items ++ faults_as (within_bound (around_of around.now locals.old) (name_tree name.now)) ABool (expr_tree body.now)) }
+    ensures noted { OnOk result (found.new.items ≡ found.old.items ++ faults_as (within_bound (context_of context.now locals.old) (name_tree name.now)) ABool (expr_tree body.now)) }
     ensures same { OnOk result (locals.new ≡ locals.old) }
 {
     let known = LocalInfo {
@@ -328,7 +328,7 @@ fn check_bound(
     };
     locals.enter(alloc)?;
     locals.declare(alloc, name.text.as_str(), known)?;
-    check_as(alloc, around, locals, found, Want::ABool, body)?;
+    check_as(alloc, context, locals, found, Want::ABool, body)?;
     locals.leave();
     Ok(())
 }
@@ -337,20 +337,20 @@ fn check_bound(
 #[cycle(expr)]
 fn walk_links<'e>(
     alloc: Global,
-    around: &Around<'_, '_>,
+    context: &ExprContext<'_, '_>,
     locals: &mut Scopes,
     found: &mut Vec<Fault>,
     place: Place,
     first: Head<'e>,
     links: &'e [Link],
 ) -> Result<Head<'e>, AllocError>
-    ensures walked { IfOk result (λ h. Leads (around_of around.now locals.old) found.old.items (head_of first.entry) found.new.items (head_of h)
+    ensures walked { IfOk result (λ h. Leads (context_of context.now locals.old) found.old.items (head_of first.entry) found.new.items (head_of h)
         (λ (e : ExprTree). grouped place e (map link_behind links.now))) }
     ensures same { OnOk result (locals.new ≡ locals.old) }
 {
     let mut head = first;
     for link in links {
-        head = walk_link(alloc, around, locals, found, place, head, link)?;
+        head = walk_link(alloc, context, locals, found, place, head, link)?;
     }
     Ok(head)
 }
@@ -358,30 +358,30 @@ fn walk_links<'e>(
 #[cycle(expr)]
 fn walk_link<'e>(
     alloc: Global,
-    around: &Around<'_, '_>,
+    context: &ExprContext<'_, '_>,
     locals: &mut Scopes,
     found: &mut Vec<Fault>,
     place: Place,
     head: Head<'e>,
     link: &'e Link,
 ) -> Result<Head<'e>, AllocError>
-    ensures walked { IfOk result (λ h. Leads (around_of around.now locals.old) found.old.items (head_of head.entry) found.new.items (head_of h)
+    ensures walked { IfOk result (λ h. Leads (context_of context.now locals.old) found.old.items (head_of head.entry) found.new.items (head_of h)
         (link_behind link.now place)) }
     ensures same { OnOk result (locals.new ≡ locals.old) }
 {
-    let known = link_type(around.within, link);
+    let known = link_type(context.within, link);
     let longer = other(place, known);
     match link {
         Link::Operation(operator, right) => {
-            check_operation(alloc, around, locals, found, place, head, *operator, right)?;
+            check_operation(alloc, context, locals, found, place, head, *operator, right)?;
             Ok(longer)
         }
         Link::Is(ty) => {
-            note_class_test(around, locals, found, head, ty)?;
+            note_class_test(context, locals, found, head, ty)?;
             Ok(longer)
         }
         Link::As(ty) => {
-            note_class_test(around, locals, found, head, ty)?;
+            note_class_test(context, locals, found, head, ty)?;
             Ok(longer)
         }
     }
@@ -391,7 +391,7 @@ fn walk_link<'e>(
 #[cycle(expr)]
 fn check_operation(
     alloc: Global,
-    around: &Around<'_, '_>,
+    context: &ExprContext<'_, '_>,
     locals: &mut Scopes,
     found: &mut Vec<Fault>,
     place: Place,
@@ -399,12 +399,12 @@ fn check_operation(
     operator: Operator,
     second: &Expr,
 ) -> Result<(), AllocError>
-    ensures noted { OnOk result (found.new.items ≡ found.old.items ++ operation_faults (around_of around.now locals.old) place (operand operator) (head_of head.entry) (expr_tree second.now)) }
+    ensures noted { OnOk result (found.new.items ≡ found.old.items ++ operation_faults (context_of context.now locals.old) place (operand operator) (head_of head.entry) (expr_tree second.now)) }
     ensures same { OnOk result (locals.new ≡ locals.old) }
 {
-    let left = settle(around, locals, found, head)?;
-    let right = check(alloc, around, locals, found, second)?;
-    note_operands(around.within.tables, found, place, operator, left, right)?;
+    let left = settle(context, locals, found, head)?;
+    let right = check(alloc, context, locals, found, second)?;
+    note_operands(context.within.tables, found, place, operator, left, right)?;
     Ok(())
 }
 
@@ -412,20 +412,20 @@ fn check_operation(
 #[cycle(expr)]
 fn walk_postfixes<'e>(
     alloc: Global,
-    around: &Around<'_, '_>,
+    context: &ExprContext<'_, '_>,
     locals: &mut Scopes,
     found: &mut Vec<Fault>,
     place: Place,
     first: Head<'e>,
     postfixes: &'e [Postfix],
 ) -> Result<Head<'e>, AllocError>
-    ensures walked { IfOk result (λ h. Leads (around_of around.now locals.old) found.old.items (head_of first.entry) found.new.items (head_of h)
+    ensures walked { IfOk result (λ h. Leads (context_of context.now locals.old) found.old.items (head_of first.entry) found.new.items (head_of h)
         (λ (e : ExprTree). grouped place e (map postfix_behind postfixes.now))) }
     ensures same { OnOk result (locals.new ≡ locals.old) }
 {
     let mut head = first;
     for postfix in postfixes {
-        head = walk_postfix(alloc, around, locals, found, place, head, postfix)?;
+        head = walk_postfix(alloc, context, locals, found, place, head, postfix)?;
     }
     Ok(head)
 }
@@ -433,28 +433,28 @@ fn walk_postfixes<'e>(
 #[cycle(expr)]
 fn walk_postfix<'e>(
     alloc: Global,
-    around: &Around<'_, '_>,
+    context: &ExprContext<'_, '_>,
     locals: &mut Scopes,
     found: &mut Vec<Fault>,
     place: Place,
     head: Head<'e>,
     postfix: &'e Postfix,
 ) -> Result<Head<'e>, AllocError>
-    ensures walked { IfOk result (λ h. Leads (around_of around.now locals.old) found.old.items (head_of head.entry) found.new.items (head_of h)
+    ensures walked { IfOk result (λ h. Leads (context_of context.now locals.old) found.old.items (head_of head.entry) found.new.items (head_of h)
         (postfix_behind postfix.now place)) }
     ensures same { OnOk result (locals.new ≡ locals.old) }
 {
     match postfix {
         Postfix::Member(name) => {
-            let longer = walk_dot(around, locals, found, place, head, name)?;
+            let longer = walk_dot(context, locals, found, place, head, name)?;
             Ok(longer)
         }
         Postfix::Element(index) => {
-            let longer = walk_element(alloc, around, locals, found, place, head, index)?;
+            let longer = walk_element(alloc, context, locals, found, place, head, index)?;
             Ok(longer)
         }
         Postfix::Call(list) => {
-            let longer = walk_call(alloc, around, locals, found, place, head, list)?;
+            let longer = walk_call(alloc, context, locals, found, place, head, list)?;
             Ok(longer)
         }
     }
@@ -463,42 +463,42 @@ fn walk_postfix<'e>(
 #[cycle(expr)]
 fn walk_element<'e>(
     alloc: Global,
-    around: &Around<'_, '_>,
+    context: &ExprContext<'_, '_>,
     locals: &mut Scopes,
     found: &mut Vec<Fault>,
     place: Place,
     head: Head<'e>,
     index: &'e Expr,
 ) -> Result<Head<'e>, AllocError>
-    ensures walked { IfOk result (λ h. Leads (around_of around.now locals.old) found.old.items (head_of head.entry) found.new.items (head_of h)
+    ensures walked { IfOk result (λ h. Leads (context_of context.now locals.old) found.old.items (head_of head.entry) found.new.items (head_of h)
         (λ (e : ExprTree). ElementOf place e (expr_tree index.now))) }
     ensures same { OnOk result (locals.new ≡ locals.old) }
 {
-    let known = settle_as(around, locals, found, Want::AnArray, head)?;
-    check_as(alloc, around, locals, found, Want::AnInt, index)?;
+    let known = settle_as(context, locals, found, Want::AnArray, head)?;
+    check_as(alloc, context, locals, found, Want::AnInt, index)?;
     Ok(Head::Value(Form::Element, value(place, type_of_element(known.ty))))
 }
 
 #[cycle(expr)]
 fn walk_call<'e>(
     alloc: Global,
-    around: &Around<'_, '_>,
+    context: &ExprContext<'_, '_>,
     locals: &mut Scopes,
     found: &mut Vec<Fault>,
     place: Place,
     head: Head<'e>,
     list: &'e [Expr],
 ) -> Result<Head<'e>, AllocError>
-    ensures walked { IfOk result (λ h. Leads (around_of around.now locals.old) found.old.items (head_of head.entry) found.new.items (head_of h)
+    ensures walked { IfOk result (λ h. Leads (context_of context.now locals.old) found.old.items (head_of head.entry) found.new.items (head_of h)
         (λ (e : ExprTree). CallOf place e (arguments (map expr_tree list.now)))) }
     ensures same { OnOk result (locals.new ≡ locals.old) }
 {
-    let callee = callee_at(around, locals, head);
+    let callee = callee_at(context, locals, head);
     let number = count(list);
-    let called = called_at(around, locals, number, head);
+    let called = called_at(context, locals, number, head);
     check_call(
         alloc,
-        around,
+        context,
         locals,
         found,
         place,
@@ -506,14 +506,14 @@ fn walk_call<'e>(
         called,
         list,
     )?;
-    Ok(call(around.within.tables, place, number, callee))
+    Ok(call(context.within.tables, place, number, callee))
 }
 
 /// Notes the faults of a call besides those of what is called.
 #[cycle(expr)]
 pub fn check_call(
     alloc: Global,
-    around: &Around<'_, '_>,
+    context: &ExprContext<'_, '_>,
     locals: &mut Scopes,
     found: &mut Vec<Fault>,
     place: Place,
@@ -521,14 +521,14 @@ pub fn check_call(
     called: Called<'_>,
     list: &[Expr],
 ) -> Result<(), AllocError>
-    ensures noted { OnOk result (found.new.items ≡ found.old.items ++ call_faults (around_of around.now locals.old) place is_call
-        (called_of (trees around.now.within.tables.now) called.entry) (arguments (map expr_tree list.now))) }
+    ensures noted { OnOk result (found.new.items ≡ found.old.items ++ call_faults (context_of context.now locals.old) place is_call
+        (called_of (trees context.now.within.tables.now) called.entry) (arguments (map expr_tree list.now))) }
     ensures same { OnOk result (locals.new ≡ locals.old) }
 {
     let number = count(list);
-    note_whole(around, found, place, is_call, number, called)?;
+    note_whole(context, found, place, is_call, number, called)?;
     let wanted = unless_wrong(number, called);
-    check_arguments(alloc, around, locals, found, wanted, list)?;
+    check_arguments(alloc, context, locals, found, wanted, list)?;
     Ok(())
 }
 
@@ -536,19 +536,19 @@ pub fn check_call(
 #[cycle(expr)]
 fn check_arguments(
     alloc: Global,
-    around: &Around<'_, '_>,
+    context: &ExprContext<'_, '_>,
     locals: &mut Scopes,
     found: &mut Vec<Fault>,
     called: Called<'_>,
     list: &[Expr],
 ) -> Result<(), AllocError>
-    ensures noted { OnOk result (found.new.items ≡ found.old.items ++ argument_faults (around_of around.now locals.old)
-        (wants_of (called_of (trees around.now.within.tables.now) called.entry)) (arguments (map expr_tree list.now))) }
+    ensures noted { OnOk result (found.new.items ≡ found.old.items ++ argument_faults (context_of context.now locals.old)
+        (wants_of (called_of (trees context.now.within.tables.now) called.entry)) (arguments (map expr_tree list.now))) }
     ensures same { OnOk result (locals.new ≡ locals.old) }
 {
     for (i, e) in list.iter().enumerate() {
-        let want = want_at(around.within.tables, called, i);
-        check_argument(alloc, around, locals, found, want, e)?;
+        let want = want_at(context.within.tables, called, i);
+        check_argument(alloc, context, locals, found, want, e)?;
     }
     Ok(())
 }
@@ -556,17 +556,17 @@ fn check_arguments(
 #[cycle(expr)]
 fn check_argument(
     alloc: Global,
-    around: &Around<'_, '_>,
+    context: &ExprContext<'_, '_>,
     locals: &mut Scopes,
     found: &mut Vec<Fault>,
     want: Option<Want>,
     e: &Expr,
 ) -> Result<(), AllocError>
-    ensures noted { OnOk result (found.new.items ≡ found.old.items ++ argument_where (around_of around.now locals.old) (option_map want_of want) (expr_tree e.now)) }
+    ensures noted { OnOk result (found.new.items ≡ found.old.items ++ argument_where (context_of context.now locals.old) (option_map want_of want) (expr_tree e.now)) }
     ensures same { OnOk result (locals.new ≡ locals.old) }
 {
     let Some(want) = want else {
-        check(alloc, around, locals, found, e)?;
+        check(alloc, context, locals, found, e)?;
         return Ok(());
     };
     if names_class(want) {
@@ -576,6 +576,6 @@ fn check_argument(
     if is_printed_text(want, e) {
         return Ok(());
     }
-    check_as(alloc, around, locals, found, want, e)?;
+    check_as(alloc, context, locals, found, want, e)?;
     Ok(())
 }

@@ -8,10 +8,10 @@ ghost use Rattle.ss_tables_scopes.specs.Views.{receiver_of, callee_of};
 ghost use Rattle.ss_tables.specs.Statics.{name_receiver};
 ghost use Rattle.ss_resolver_types_expressions.specs.Expressions.{is_misused, is_method_name, reads_method, is_no_read, is_wrong_read, word_faults, is_value_receiver};
 ghost use Rattle.ss_resolver_types_expressions.specs.Heads.{value_at, known_at, receiver_at, callee_at, called_at, rest_read, rest_dot, rest_as, class_test_faults, dotted, dot_faults, Leads};
-ghost use Rattle.ss_resolver_types_expressions.specs.Codes.{want_of, known_of, around_of, called_of, head_of};
+ghost use Rattle.ss_resolver_types_expressions.specs.Codes.{want_of, known_of, context_of, called_of, head_of};
 
-use crate::around::Around;
 use crate::calls::{Called, call_member, call_name, class_of_known, has_no_members};
+use crate::context::ExprContext;
 use crate::operations::note_no_class;
 use crate::wants::{Known, Want, note_bad_type, note_misfit};
 use ss_ast::{Name, TypeRef};
@@ -59,24 +59,24 @@ pub fn value(place: Place, ty: Option<StaticType>) -> Known
 }
 
 // Whether a bare name means a method that isn't called, or a field of `this` where there is no `this`.
-fn is_misused(around: &Around<'_, '_>, locals: &Scopes, name: &str) -> bool
-    ensures { result ≡ is_misused (around_of around.now locals.now) name.now }
+fn is_misused(context: &ExprContext<'_, '_>, locals: &Scopes, name: &str) -> bool
+    ensures { result ≡ is_misused (context_of context.now locals.now) name.now }
 {
     if locals.find(name).is_some() {
         return false;
     }
-    if around
+    if context
         .within
         .tables
-        .field_of(around.within.class, name)
+        .field_of(context.within.class, name)
         .is_some()
     {
-        return around.is_static;
+        return context.is_static;
     }
-    around
+    context
         .within
         .tables
-        .method_of(around.within.class, name)
+        .method_of(context.within.class, name)
         .is_some()
 }
 
@@ -134,10 +134,10 @@ fn is_value(receiver: Receiver) -> bool
 }
 
 // Whether a bare name before a dot stands for a value.
-fn stands_for_value(around: &Around<'_, '_>, locals: &Scopes, name: &str) -> bool
-    ensures { result ≡ is_value_receiver (name_receiver (around_of around.now locals.now).scope name.now None) }
+fn stands_for_value(context: &ExprContext<'_, '_>, locals: &Scopes, name: &str) -> bool
+    ensures { result ≡ is_value_receiver (name_receiver (context_of context.now locals.now).scope name.now None) }
 {
-    is_value(name_receiver(around.within, locals, name, None))
+    is_value(name_receiver(context.within, locals, name, None))
 }
 
 // Notes a state word behind what is no reference.
@@ -157,32 +157,32 @@ fn note_word(
 }
 
 // What is known of the expression.
-fn known_at(around: &Around<'_, '_>, locals: &Scopes, head: Head<'_>) -> Known
-    ensures { known_of result ≡ known_at (around_of around.now locals.now).scope (head_of head.entry) }
+fn known_at(context: &ExprContext<'_, '_>, locals: &Scopes, head: Head<'_>) -> Known
+    ensures { known_of result ≡ known_at (context_of context.now locals.now).scope (head_of head.entry) }
 {
     match head {
-        Head::Name(place, name) => value(place, name_type(around.within, locals, name.as_str())),
+        Head::Name(place, name) => value(place, name_type(context.within, locals, name.as_str())),
         Head::Base(place) => value(place, None),
         Head::Member(place, receiver, _, name) => value(
             place,
-            read_type(around.within.tables, name.text.as_str(), receiver),
+            read_type(context.within.tables, name.text.as_str(), receiver),
         ),
         Head::Value(_, known) => known,
     }
 }
 
 // What it is before a dot.
-fn receiver_at(around: &Around<'_, '_>, locals: &Scopes, head: Head<'_>) -> Receiver
-    ensures { receiver_of result ≡ receiver_at (around_of around.now locals.now).scope (head_of head.entry) }
+fn receiver_at(context: &ExprContext<'_, '_>, locals: &Scopes, head: Head<'_>) -> Receiver
+    ensures { receiver_of result ≡ receiver_at (context_of context.now locals.now).scope (head_of head.entry) }
 {
     match head {
         Head::Name(_, name) => {
-            let ty = name_type(around.within, locals, name.as_str());
-            name_receiver(around.within, locals, name.as_str(), ty)
+            let ty = name_type(context.within, locals, name.as_str());
+            name_receiver(context.within, locals, name.as_str(), ty)
         }
         Head::Base(_) => Receiver::Base,
         Head::Member(_, receiver, _, name) => Receiver::Value(read_type(
-            around.within.tables,
+            context.within.tables,
             name.text.as_str(),
             receiver,
         )),
@@ -191,14 +191,14 @@ fn receiver_at(around: &Around<'_, '_>, locals: &Scopes, head: Head<'_>) -> Rece
 }
 
 /// What a call of it calls.
-pub fn callee_at<'p>(around: &Around<'_, 'p>, locals: &Scopes, head: Head<'_>) -> Callee<'p>
-    ensures { callee_of result ≡ callee_at (around_of around.now locals.now).scope (head_of head.entry) }
+pub fn callee_at<'p>(context: &ExprContext<'_, 'p>, locals: &Scopes, head: Head<'_>) -> Callee<'p>
+    ensures { callee_of result ≡ callee_at (context_of context.now locals.now).scope (head_of head.entry) }
 {
     match head {
-        Head::Name(_, name) => name_callee(around.within, locals, name.as_str()),
+        Head::Name(_, name) => name_callee(context.within, locals, name.as_str()),
         Head::Base(_) => Callee::Base,
         Head::Member(_, receiver, _, name) => {
-            member_callee(around.within, name.text.as_str(), receiver)
+            member_callee(context.within, name.text.as_str(), receiver)
         }
         Head::Value(..) => Callee::Nothing,
     }
@@ -206,17 +206,17 @@ pub fn callee_at<'p>(around: &Around<'_, 'p>, locals: &Scopes, head: Head<'_>) -
 
 /// What a call of it with so many arguments means.
 pub fn called_at<'p>(
-    around: &Around<'_, 'p>,
+    context: &ExprContext<'_, 'p>,
     locals: &Scopes,
     count: usize,
     head: Head<'_>,
 ) -> Called<'p>
-    ensures { called_of (trees around.now.within.tables.now) result ≡ called_at (around_of around.now locals.now) count (head_of head.entry) }
+    ensures { called_of (trees context.now.within.tables.now) result ≡ called_at (context_of context.now locals.now) count (head_of head.entry) }
 {
     match head {
-        Head::Name(_, name) => call_name(around, locals, name.as_str()),
+        Head::Name(_, name) => call_name(context, locals, name.as_str()),
         Head::Member(_, receiver, known, name) => {
-            call_member(around, locals, count, known, name.text.as_str(), receiver)
+            call_member(context, locals, count, known, name.text.as_str(), receiver)
         }
         Head::Base(_) | Head::Value(..) => Called::Refused,
     }
@@ -224,20 +224,20 @@ pub fn called_at<'p>(
 
 // Notes the faults that it has where its value is read, besides those where it is called.
 fn note_read(
-    around: &Around<'_, '_>,
+    context: &ExprContext<'_, '_>,
     locals: &Scopes,
     found: &mut Vec<Fault>,
     head: Head<'_>,
 ) -> Result<(), AllocError>
-    ensures { OnOk result (found.new.items ≡ found.old.items ++ rest_read (around_of around.now locals.now) (head_of head.entry)) }
+    ensures { OnOk result (found.new.items ≡ found.old.items ++ rest_read (context_of context.now locals.now) (head_of head.entry)) }
 {
     match head {
         Head::Name(place, name) => {
-            note_bad_type(found, is_misused(around, locals, name.as_str()), place)
+            note_bad_type(found, is_misused(context, locals, name.as_str()), place)
         }
         Head::Base(place) => note_bad_type(found, true, place),
         Head::Member(place, receiver, known, name) => {
-            let tables = around.within.tables;
+            let tables = context.within.tables;
             let is_fault = is_wrong_read(tables, known, name.text.as_str(), receiver);
             note_bad_type(found, is_fault, place)
         }
@@ -247,52 +247,52 @@ fn note_read(
 
 /// Notes the faults that it has where its value is read, besides those where it is called, and says what is known of it.
 pub fn settle(
-    around: &Around<'_, '_>,
+    context: &ExprContext<'_, '_>,
     locals: &Scopes,
     found: &mut Vec<Fault>,
     head: Head<'_>,
 ) -> Result<Known, AllocError>
-    ensures known { IfOk result (λ v. known_of v ≡ known_at (around_of around.now locals.now).scope (head_of head.entry)) }
-    ensures noted { OnOk result (found.new.items ≡ found.old.items ++ rest_read (around_of around.now locals.now) (head_of head.entry)) }
+    ensures known { IfOk result (λ v. known_of v ≡ known_at (context_of context.now locals.now).scope (head_of head.entry)) }
+    ensures noted { OnOk result (found.new.items ≡ found.old.items ++ rest_read (context_of context.now locals.now) (head_of head.entry)) }
 {
-    note_read(around, locals, found, head)?;
-    Ok(known_at(around, locals, head))
+    note_read(context, locals, found, head)?;
+    Ok(known_at(context, locals, head))
 }
 
 /// The same, and that it isn't what is wanted.
 pub fn settle_as(
-    around: &Around<'_, '_>,
+    context: &ExprContext<'_, '_>,
     locals: &Scopes,
     found: &mut Vec<Fault>,
     want: Want,
     head: Head<'_>,
 ) -> Result<Known, AllocError>
-    ensures known { IfOk result (λ v. known_of v ≡ known_at (around_of around.now locals.now).scope (head_of head.entry)) }
-    ensures noted { OnOk result (found.new.items ≡ found.old.items ++ rest_as (around_of around.now locals.now) (want_of want) (head_of head.entry)) }
+    ensures known { IfOk result (λ v. known_of v ≡ known_at (context_of context.now locals.now).scope (head_of head.entry)) }
+    ensures noted { OnOk result (found.new.items ≡ found.old.items ++ rest_as (context_of context.now locals.now) (want_of want) (head_of head.entry)) }
 {
-    let known = settle(around, locals, found, head)?;
-    note_misfit(around.within.tables, found, want, known)?;
+    let known = settle(context, locals, found, head)?;
+    note_misfit(context.within.tables, found, want, known)?;
     Ok(known)
 }
 
 // Notes the faults that it has before a dot, besides those where it is called.
 fn note_before_dot(
-    around: &Around<'_, '_>,
+    context: &ExprContext<'_, '_>,
     locals: &Scopes,
     found: &mut Vec<Fault>,
     head: Head<'_>,
 ) -> Result<(), AllocError>
-    ensures { OnOk result (found.new.items ≡ found.old.items ++ rest_dot (around_of around.now locals.now) (head_of head.entry)) }
+    ensures { OnOk result (found.new.items ≡ found.old.items ++ rest_dot (context_of context.now locals.now) (head_of head.entry)) }
 {
     match head {
         Head::Name(place, name) => {
-            if stands_for_value(around, locals, name.as_str()) {
-                return note_bad_type(found, is_misused(around, locals, name.as_str()), place);
+            if stands_for_value(context, locals, name.as_str()) {
+                return note_bad_type(found, is_misused(context, locals, name.as_str()), place);
             }
             Ok(())
         }
         Head::Member(place, receiver, known, name) => {
-            let tables = around.within.tables;
+            let tables = context.within.tables;
             let is_fault = is_wrong_read(tables, known, name.text.as_str(), receiver);
             note_bad_type(found, is_fault, place)
         }
@@ -302,21 +302,21 @@ fn note_before_dot(
 
 // A dot and a name behind an expression.
 fn dot<'e>(
-    around: &Around<'_, '_>,
+    context: &ExprContext<'_, '_>,
     locals: &Scopes,
     found: &mut Vec<Fault>,
     place: Place,
     head: Head<'_>,
     name: &'e Name,
 ) -> Result<Head<'e>, AllocError>
-    ensures head { IfOk result (λ h. head_of h ≡ dotted (around_of around.now locals.now).scope place (head_of head.entry) (name_tree name.now)) }
-    ensures noted { OnOk result (found.new.items ≡ found.old.items ++ dot_faults (around_of around.now locals.now) (head_of head.entry) (name_tree name.now)) }
+    ensures head { IfOk result (λ h. head_of h ≡ dotted (context_of context.now locals.now).scope place (head_of head.entry) (name_tree name.now)) }
+    ensures noted { OnOk result (found.new.items ≡ found.old.items ++ dot_faults (context_of context.now locals.now) (head_of head.entry) (name_tree name.now)) }
 {
-    note_before_dot(around, locals, found, head)?;
-    let known = known_at(around, locals, head);
-    let receiver = receiver_at(around, locals, head);
+    note_before_dot(context, locals, found, head)?;
+    let known = known_at(context, locals, head);
+    let receiver = receiver_at(context, locals, head);
     note_word(
-        around.within.tables,
+        context.within.tables,
         found,
         known,
         name.text.as_str(),
@@ -327,30 +327,30 @@ fn dot<'e>(
 
 /// A dot and a name behind an expression.
 pub fn walk_dot<'e>(
-    around: &Around<'_, '_>,
+    context: &ExprContext<'_, '_>,
     locals: &Scopes,
     found: &mut Vec<Fault>,
     place: Place,
     head: Head<'_>,
     name: &'e Name,
 ) -> Result<Head<'e>, AllocError>
-    ensures { IfOk result (λ h. Leads (around_of around.now locals.now) found.old.items (head_of head.entry) found.new.items (head_of h)
+    ensures { IfOk result (λ h. Leads (context_of context.now locals.now) found.old.items (head_of head.entry) found.new.items (head_of h)
         (λ (e : ExprTree). MemberOf place e (name_tree name.now))) }
 {
-    let longer = dot(around, locals, found, place, head, name)?;
+    let longer = dot(context, locals, found, place, head, name)?;
     Ok(longer)
 }
 
 /// Notes that it is no reference, and a type that no reference has.
 pub fn note_class_test(
-    around: &Around<'_, '_>,
+    context: &ExprContext<'_, '_>,
     locals: &Scopes,
     found: &mut Vec<Fault>,
     head: Head<'_>,
     ty: &TypeRef,
 ) -> Result<(), AllocError>
-    ensures { OnOk result (found.new.items ≡ found.old.items ++ class_test_faults (around_of around.now locals.now) (head_of head.entry) (type_tree ty.now)) }
+    ensures { OnOk result (found.new.items ≡ found.old.items ++ class_test_faults (context_of context.now locals.now) (head_of head.entry) (type_tree ty.now)) }
 {
-    settle_as(around, locals, found, Want::AReference, head)?;
+    settle_as(context, locals, found, Want::AReference, head)?;
     note_no_class(found, ty)
 }

@@ -2,8 +2,8 @@
 //! result whose end can be reached. All of them are defined here; the code finds those of expressions, and the ends that can be reached.
 #![tactic(auto)]
 
-mod around;
 mod calls;
+mod context;
 mod ends;
 mod expr;
 mod heads;
@@ -11,8 +11,8 @@ mod operations;
 mod shapes;
 mod wants;
 
-pub use around::Around;
 pub use calls::{Called, call_above, takes_nothing};
+pub use context::ExprContext;
 pub use ends::block_reaches_end;
 pub use expr::{check, check_as, check_call, walk};
 pub use heads::{Form, Head, settle};

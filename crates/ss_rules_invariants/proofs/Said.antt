@@ -9,7 +9,7 @@ use Rattle.ss_logic.specs.Terms.{Term, have_sorts}
 use Rattle.ss_logic_rules.specs.Shapes.{class_of_term}
 use Rattle.ss_logic_express.specs.Express.{holds_formula}
 use Rattle.ss_logic_express.specs.Express as spec
-use Rattle.ss_logic_express.specs.Invariants.{invariant_scene, packed_invariants, invariants_at, invariants_of}
+use Rattle.ss_logic_express.specs.Invariants.{invariant_context, packed_invariants, invariants_at, invariants_of}
 use Rattle.ss_terms.specs.declared.forms.TermId.{TermId}
 use Rattle.ss_terms.specs.declared.forms.FormulaId.{FormulaId}
 use Rattle.ss_terms.specs.Forms.{Forms, term_at, HasTerm, IsFormulaNumber, IsGrown}
@@ -18,15 +18,15 @@ use Rattle.ss_vcgen_express.specs.Numbers.{IsFormula, AreFormulas}
 use Rattle.ss_vcgen_heaps.specs.Contracts.{conditions}
 
 module _ (cs : List ClassTree) (store object : TermId) (class : ℕ) where
-  -- conditions of the scene of an invariant say what the invariants do
-  pub each_so : {E : Type 0} (r : Result (Vec FormulaId Global) E) (a : Forms) (scene : Forms → spec.Scene) (es : List ExprTree) → es ≡ invariants cs class →
-      ((b : Forms) → scene b ≡ invariant_scene cs (term_at b store) (term_at b object) class) → IfOk r (λ v. AreFormulas a v.items (λ b. conditions es (scene b))) →
-      IfOk r (λ v. AreFormulas a v.items (λ b. map (λ e. holds_formula e (invariant_scene cs (term_at b store) (term_at b object) class)) (invariants cs class)))
-  each_so (Ok v) a scene es same is h = record {
+  -- conditions of the context of an invariant say what the invariants do
+  pub each_so : {E : Type 0} (r : Result (Vec FormulaId Global) E) (a : Forms) (context : Forms → spec.Context) (es : List ExprTree) → es ≡ invariants cs class →
+      ((b : Forms) → context b ≡ invariant_context cs (term_at b store) (term_at b object) class) → IfOk r (λ v. AreFormulas a v.items (λ b. conditions es (context b))) →
+      IfOk r (λ v. AreFormulas a v.items (λ b. map (λ e. holds_formula e (invariant_context cs (term_at b store) (term_at b object) class)) (invariants cs class)))
+  each_so (Ok v) a context es same is h = record {
     has = h.has;
-    are = λ b g. h.are b g ∙ ap (λ s. map (λ e. holds_formula e s) es) (is b) ∙ ap (λ xs. map (λ e. holds_formula e (invariant_scene cs (term_at b store) (term_at b object) class)) xs) same;
+    are = λ b g. h.are b g ∙ ap (λ s. map (λ e. holds_formula e s) es) (is b) ∙ ap (λ xs. map (λ e. holds_formula e (invariant_context cs (term_at b store) (term_at b object) class)) xs) same;
   }
-  each_so (Err z) a scene es same is h = tt
+  each_so (Err z) a context es same is h = tt
 
   -- the instance of the bank that has become this one
   pub instance_so : (a b : Forms) (f : FormulaId) → IsGrown a b → HasTerm a store → HasTerm a object → IsFormula b f (λ x. packed_invariants cs (term_at x store) (term_at x object) class) →

@@ -8,31 +8,31 @@ ghost use Rattle.ss_logic.specs.Formulas.{neg};
 ghost use Rattle.ss_logic_rules.specs.Shapes.{class_term, level_of, sub_atom, allocated, given};
 ghost use Rattle.ss_logic_express.specs.Express.{holds_formula};
 ghost use Rattle.ss_logic_express.specs.Invariants as rule;
-ghost use Rattle.ss_logic_express.specs.Invariants.{invariant_scene, invariants_said, packed_invariants, invariants_at};
+ghost use Rattle.ss_logic_express.specs.Invariants.{invariant_context, invariants_said, packed_invariants, invariants_at};
 ghost use Rattle.ss_terms.specs.Forms.{Forms, term_at, terms_at, formula_at, HasTerm, HasTerms, HasFormula, IsFormulaNumber, IsGrown, IsBankOf};
 ghost use Rattle.ss_vcgen_express.specs.Numbers.{IsFormula, AreFormulas};
 ghost use Rattle.ss_vcgen_express.specs.Sayings.{said_so, HasSaying};
-ghost use Rattle.ss_vcgen_express.specs.Scenes.{scene_at, HasScene};
+ghost use Rattle.ss_vcgen_express.specs.Contexts.{context_at, HasContext};
 
 use ss_core::{ClassId, Classes, Expr, Ty};
 use ss_logic::Sort;
 use ss_rules_basic::class_name;
 use ss_terms::{Bank, FormulaId, TermId};
-use ss_vcgen_express::{Meant, Saying, Scene, all, any, over};
+use ss_vcgen_express::{Context, Meant, Saying, all, any, over};
 use ss_vcgen_walk::conditions;
 use std::alloc::{AllocError, Global};
 
 // Where an invariant of the class stands: the one local is its object, and it reads one store.
-fn scene_of<'p>(
+fn context_of<'p>(
     alloc: Global,
     classes: &'p Classes,
     store: TermId,
     object: TermId,
     class: u16,
-) -> Result<Scene<'p>, AllocError>
+) -> Result<Context<'p>, AllocError>
     requires classes { length (view.classes classes.now) ≤ most_classes }
-    ensures has { IfOk result (λ c. (b : Forms) → HasTerm b store → HasTerm b object → HasScene b c) }
-    ensures says { IfOk result (λ c. (b : Forms) → scene_at b c ≡ invariant_scene (view.classes classes.now) (term_at b store) (term_at b object) class) }
+    ensures has { IfOk result (λ c. (b : Forms) → HasTerm b store → HasTerm b object → HasContext b c) }
+    ensures says { IfOk result (λ c. (b : Forms) → context_at b c ≡ invariant_context (view.classes classes.now) (term_at b store) (term_at b object) class) }
 {
     let this = Ty::Ref {
         class: ClassId(class),
@@ -40,7 +40,7 @@ fn scene_of<'p>(
     };
     let types = vec![in alloc; this]?;
     let locals = vec![in alloc; object]?;
-    Ok(Scene {
+    Ok(Context {
         classes,
         now: store,
         entry: store,
@@ -73,11 +73,11 @@ fn each_said(
     requires classes { length (view.classes classes.now) ≤ most_classes }
     requires store { HasTerm bank.old store }
     requires object { HasTerm bank.old object }
-    ensures at { IfOk result (λ v. AreFormulas bank.new v.items (λ b. map (λ e. holds_formula e (invariant_scene (view.classes classes.now) (term_at b store) (term_at b object) class)) (admissible.invariants (view.classes classes.now) class))) }
+    ensures at { IfOk result (λ v. AreFormulas bank.new v.items (λ b. map (λ e. holds_formula e (invariant_context (view.classes classes.now) (term_at b store) (term_at b object) class)) (admissible.invariants (view.classes classes.now) class))) }
     ensures grown { IsGrown bank.old bank.new }
 {
-    let scene = scene_of(alloc, classes, store, object, class)?;
-    conditions(alloc, bank, &scene, invariants_of(classes, class))
+    let context = context_of(alloc, classes, store, object, class)?;
+    conditions(alloc, bank, &context, invariants_of(classes, class))
 }
 
 // All that they say.

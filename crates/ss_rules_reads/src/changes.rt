@@ -107,19 +107,10 @@ fn put_element(
     let same_index = b.is_same_term(read.1, written.1);
     let (array, index) = (Slot::Known(read.0), Slot::Known(read.1));
     let (a, i) = (Slot::Known(written.0), Slot::Known(written.1));
+    let (after, before) = (Slot::Known(stores.after), Slot::Known(stores.before));
     let plans = [
-        Plan::Three(
-            Symbol::Element(sort),
-            Slot::Known(stores.after),
-            array,
-            index,
-        ),
-        Plan::Three(
-            Symbol::Element(sort),
-            Slot::Known(stores.before),
-            array,
-            index,
-        ),
+        Plan::Three(Symbol::Element(sort), after, array, index),
+        Plan::Three(Symbol::Element(sort), before, array, index),
     ];
     let changed = Claim::Is(Predicate::Equal, Slot::Made(0), Slot::Known(v));
     let kept = Claim::Is(Predicate::Equal, Slot::Made(0), Slot::Made(1));

@@ -6,7 +6,7 @@ ghost use Rattle.ss_terms.specs.Forms.{HasFormula, HasFormulas, formula_at, form
 ghost use Rattle.ss_rules_sentences.specs.Facts.{denied_at, HasFacts, sentence_at, HasSentence, HasSentences};
 
 use crate::facts::Fact;
-use ss_terms::{Bank, FormulaId};
+use ss_terms::{Bank, Formula, FormulaId};
 use std::alloc::{AllocError, Global};
 
 /// A literal that holds where others do.
@@ -46,7 +46,7 @@ fn made_of(
     ensures at { IfOk result (λ v. formulas_at b.new v.items ≡ map (sentence_at b.old) sentences.now) }
     ensures grown { IsGrown b.old b.new }
 {
-    let mut made = Vec::new(alloc);
+    let mut made = Vec::with_capacity(alloc, sentences.len())?;
     for sentence in sentences {
         let f = sentence.make(alloc, b)?;
         made.push(f)?;
@@ -67,7 +67,7 @@ impl Sentence {
         let mut parts = negations(alloc, b, &self.premises)?;
         let conclusion = self.conclusion.make(b)?;
         parts.push(conclusion)?;
-        b.or(&parts)
+        b.formula(Formula::Or(parts))
     }
 }
 
@@ -78,7 +78,7 @@ fn negations(alloc: Global, b: &mut Bank, facts: &[Fact]) -> Result<Vec<FormulaI
     ensures at { IfOk result (λ v. formulas_at b.new v.items ≡ map (denied_at b.old) facts.now) }
     ensures grown { IsGrown b.old b.new }
 {
-    let mut made = Vec::new(alloc);
+    let mut made = Vec::with_capacity(alloc, facts.len() + 1)?;
     for fact in facts {
         let f = fact.negated().make(b)?;
         made.push(f)?;

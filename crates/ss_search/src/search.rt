@@ -43,7 +43,7 @@ fn with_splits(limits: Limits, splits: u64) -> Limits {
     }
 }
 
-// The derivation, where the checker accepts it.
+// The derivation, where the checker accepts it. What the checker makes is forgotten.
 fn accepted(
     alloc: Global,
     bank: &mut Bank,
@@ -58,7 +58,10 @@ fn accepted(
     ensures derives { IfOk result (λ o. IfSome o (λ d. Derives (view.classes program.now.classes) (formulas_at bank.old obligation.now.premises.now) (formula_at bank.old obligation.now.goal) (lines_of bank.new d))) }
     ensures grown { IsGrown bank.old bank.new }
 {
-    match check(alloc, bank, program, obligation, &derivation) {
+    let mark = bank.mark();
+    let checked = check(alloc, bank, program, obligation, &derivation);
+    bank.forget(mark);
+    match checked {
         Ok(()) => Ok(Some(derivation)),
         Err(CheckStop::BadStep { .. }) => Ok(None),
         Err(CheckStop::Memory) => Err(AllocError),

@@ -1,8 +1,8 @@
 // Which nodes are equal, by equalities and by congruence, with the facts that say so. Everything can be taken back.
 
 use crate::question::{
-    ADD, MULTIPLY, NONE, argument, arity, first_of, is_term, is_value, node_head, of_pair, of_term,
-    same_head,
+    ADD, FIELD, LEVEL, MULTIPLY, NEXT, NONE, OWNER, PAIR, READY_MADE, SET, TYPE, arguments_of,
+    first_of, is_term, is_value, node_head, of_pair, of_term, same_head,
 };
 use ss_terms::Bank;
 use std::alloc::{AllocError, Global};
@@ -14,7 +14,7 @@ pub const CONGRUENT: usize = NONE - 1;
 /// What is kept of a node: its class, the next member of it in a ring, one step of the equalities that joined the class, the
 /// literal that it is by a fact that joined no class, with that fact, and the last use, atom and inequality in which the term
 /// stands. What is kept of a class stands at the node that it is named by: its weight, how many members it has, how it stood when
-/// they were last asked for, how many inequalities they stand in, and its literal.
+/// they were last asked for, how many inequalities they stand in, its literal, and the marks of the kinds of its terms.
 #[derive(Clone, Copy)]
 struct Node {
     class: usize,
@@ -31,9 +31,11 @@ struct Node {
     swept: usize,
     apart_count: usize,
     literal: usize,
+    kinds: usize,
 }
 
-/// An entry of a node's list: a number, the other side and whether this is the left one, and the entry before it.
+/// An entry of a node's list: a number, the other side and whether this is the left one, and the entry before it. In a list of
+/// signatures the other side is the signature.
 #[derive(Clone, Copy)]
 struct Entry {
     number: usize,
@@ -42,12 +44,23 @@ struct Entry {
     before: usize,
 }
 
-/// A merge that stands.
+/// What a class weighs, how many members it has, how many inequalities they stand in, its literal, and the marks of the kinds of its terms.
+#[derive(Clone, Copy)]
+struct Load {
+    weight: usize,
+    members: usize,
+    aparts: usize,
+    literal: usize,
+    kinds: usize,
+}
+
+/// A merge that stands, with the literal and the kinds of the upper class before it.
 #[derive(Clone, Copy)]
 struct Merge {
     lower: usize,
     upper: usize,
     literal: usize,
+    kinds: usize,
     linked: usize,
     to: usize,
     fact: usize,
@@ -109,7 +122,8 @@ pub struct Event {
     pub why: Why,
 }
 
-const LISTS: usize = 65_536;
+// How many lists of signatures there are at first.
+const LISTS: usize = 1024;
 
 // How many links are gone from a node to one that is a literal by a fact.
 const MOST_LINKS: usize = 16;
@@ -152,6 +166,28 @@ fn empty_node(number: usize) -> Node {
         swept: NONE,
         apart_count: 0,
         literal: NONE,
+        kinds: 0,
+    }
+}
+
+// The mark of a kind of terms. Kinds of changed stores have one, and kinds that aren't looked for in classes too.
+fn mark_of(kind: usize) -> usize {
+    if kind == FIELD {
+        1
+    } else if kind == TYPE {
+        2
+    } else if kind == LEVEL {
+        4
+    } else if kind == OWNER {
+        8
+    } else if kind == PAIR {
+        16
+    } else if kind == NEXT {
+        32
+    } else if kind >= SET && kind <= READY_MADE {
+        64
+    } else {
+        128
     }
 }
 
@@ -185,17 +221,27 @@ impl Classes {
         }
     }
 
-    fn node(&self, number: usize) -> Node {
-        match self.nodes.get(self.place(number)) {
-            Some(node) => *node,
-            None => empty_node(number),
-        }
+    fn node(&self, number: usize) -> Option<&Node> {
+        self.nodes.get(self.place(number))
     }
 
-    fn put(&mut self, number: usize, node: Node) {
-        let at = self.place(number);
-        if let Some(place) = self.nodes.get_mut(at) {
-            *place = node;
+    // What is kept of the class that is named by a node.
+    fn load_of(&self, class: usize) -> Load {
+        match self.node(class) {
+            Some(node) => Load {
+                weight: node.weight,
+                members: node.members,
+                aparts: node.apart_count,
+                literal: node.literal,
+                kinds: node.kinds,
+            },
+            None => Load {
+                weight: 1,
+                members: 1,
+                aparts: 0,
+                literal: NONE,
+                kinds: 0,
+            },
         }
     }
 
@@ -251,29 +297,45 @@ impl Classes {
 
     /// The name of a node's class.
     pub fn class(&self, number: usize) -> usize {
-        self.node(number).class
+        match self.node(number) {
+            Some(node) => node.class,
+            None => number,
+        }
     }
 
     /// The literal of a node's class, or NONE.
     pub fn literal(&self, number: usize) -> usize {
-        self.node(self.class(number)).literal
+        match self.node(self.class(number)) {
+            Some(node) => node.literal,
+            None => NONE,
+        }
     }
 
     /// How many members a node's class has.
     pub fn members(&self, number: usize) -> usize {
-        self.node(self.class(number)).members
+        match self.node(self.class(number)) {
+            Some(node) => node.members,
+            None => 1,
+        }
+    }
+
+    /// Whether a term of a kind may be in a node's class. Changes of stores count as one kind.
+    pub fn has_kind(&self, number: usize, kind: usize) -> bool {
+        match self.node(self.class(number)) {
+            Some(node) => node.kinds & mark_of(kind) != 0,
+            None => true,
+        }
     }
 
     /// Whether a node's class stands in another way than it did when this was asked last.
     pub fn sweep(&mut self, number: usize, stamp: usize) -> bool {
-        let class = self.class(number);
-        let mut node = self.node(class);
-        if node.swept == stamp {
-            return false;
-        }
+        let at = self.place(self.class(number));
+        let Some(node) = self.nodes.get_mut(at) else {
+            return stamp != NONE;
+        };
+        let has_moved = node.swept != stamp;
         node.swept = stamp;
-        self.put(class, node);
-        true
+        has_moved
     }
 
     /// The sum, difference or product at a place among those that are there, or NONE.
@@ -286,7 +348,10 @@ impl Classes {
 
     /// The next member of a node's class.
     pub fn next(&self, number: usize) -> usize {
-        self.node(number).next
+        match self.node(number) {
+            Some(node) => node.next,
+            None => number,
+        }
     }
 
     /// How many nodes are there.
@@ -301,7 +366,34 @@ impl Classes {
 
     /// The last use of a node itself.
     pub fn last_use(&self, number: usize) -> usize {
-        self.node(number).uses
+        match self.node(number) {
+            Some(node) => node.uses,
+            None => NONE,
+        }
+    }
+
+    // The last atom in which a node itself stands.
+    fn last_atom(&self, number: usize) -> usize {
+        match self.node(number) {
+            Some(node) => node.atoms,
+            None => NONE,
+        }
+    }
+
+    // The last inequality in which a node itself stands.
+    fn last_apart(&self, number: usize) -> usize {
+        match self.node(number) {
+            Some(node) => node.aparts,
+            None => NONE,
+        }
+    }
+
+    // To which node its link leads, or NONE.
+    fn linked(&self, number: usize) -> usize {
+        match self.node(number) {
+            Some(node) => node.to,
+            None => NONE,
+        }
     }
 
     /// The node of a use, and the use before it.
@@ -330,25 +422,28 @@ impl Classes {
     }
 
     fn load(&mut self, number: usize, aparts: usize) {
-        let class = self.class(number);
-        let mut node = self.node(class);
-        node.weight = node.weight.saturating_add(1);
-        node.apart_count = node.apart_count.saturating_add(aparts);
-        self.put(class, node);
+        let at = self.place(self.class(number));
+        if let Some(node) = self.nodes.get_mut(at) {
+            node.weight = node.weight.saturating_add(1);
+            node.apart_count = node.apart_count.saturating_add(aparts);
+        }
     }
 
     fn unload(&mut self, number: usize, aparts: usize) {
-        let class = self.class(number);
-        let mut node = self.node(class);
-        node.weight = node.weight.saturating_sub(1);
-        node.apart_count = node.apart_count.saturating_sub(aparts);
-        self.put(class, node);
+        let at = self.place(self.class(number));
+        if let Some(node) = self.nodes.get_mut(at) {
+            node.weight = node.weight.saturating_sub(1);
+            node.apart_count = node.apart_count.saturating_sub(aparts);
+        }
     }
 
     /// A node is there from now on, with its arguments.
     pub fn add(&mut self, bank: &Bank, number: usize) -> Result<(), AllocError> {
         if self.is_there(number) {
             return Ok(());
+        }
+        if self.missing_argument(bank, number) == NONE {
+            return self.enter(bank, number);
         }
         let from = self.waiting.len();
         self.waiting.push(number)?;
@@ -376,8 +471,8 @@ impl Classes {
     }
 
     fn missing_argument(&self, bank: &Bank, number: usize) -> usize {
-        for place in 0..arity(bank, number) {
-            let node = of_term(argument(bank, number, place));
+        for argument in arguments_of(bank, number) {
+            let node = of_term(argument.0);
             if !self.is_there(node) && node < CONGRUENT {
                 return node;
             }
@@ -390,16 +485,19 @@ impl Classes {
         if is_term(number) && is_value(bank, number / 2) {
             node.literal = number;
         }
-        self.keep(number, node)?;
         let kind = node_head(bank, number).kind;
+        if is_term(number) {
+            node.kinds = mark_of(kind);
+        }
+        self.keep(number, node)?;
         if kind >= ADD && kind <= MULTIPLY {
             self.sums.push(number / 2)?;
         }
-        let count = arity(bank, number);
-        for place in 0..count {
-            self.add_use(of_term(argument(bank, number, place)), number)?;
+        let arguments = arguments_of(bank, number);
+        for argument in arguments {
+            self.add_use(of_term(argument.0), number)?;
         }
-        if count > 0 {
+        if !arguments.is_empty() {
             self.sign(bank, number)?;
         }
         Ok(())
@@ -407,54 +505,63 @@ impl Classes {
 
     fn add_use(&mut self, number: usize, user: usize) -> Result<(), AllocError> {
         let at = self.uses.len();
-        let mut node = self.node(number);
+        let mut before = NONE;
+        let place = self.place(number);
+        if let Some(node) = self.nodes.get_mut(place) {
+            before = node.uses;
+            node.uses = at;
+        }
         self.uses.push(Entry {
             number: user,
             other: NONE,
             is_left: true,
-            before: node.uses,
+            before,
         })?;
-        node.uses = at;
-        self.put(number, node);
         self.trail.push(Change::Use(number))?;
         self.load(number, 0);
         Ok(())
     }
 
-    // The list in which nodes with this head and arguments of these classes stand.
-    fn list_of(&self, bank: &Bank, number: usize) -> usize {
+    // One number for the head of a node and the classes of its arguments.
+    fn signature(&self, bank: &Bank, number: usize) -> usize {
         let found = node_head(bank, number);
         let mut mixed = found
             .kind
             .wrapping_mul(0x9E3779B1)
             .wrapping_add(found.number.wrapping_mul(0x85EBCA77));
-        for place in 0..arity(bank, number) {
-            let class = self.class(of_term(argument(bank, number, place)));
+        for argument in arguments_of(bank, number) {
+            let class = self.class(of_term(argument.0));
             mixed = mixed
                 .wrapping_mul(31)
                 .wrapping_add(class.wrapping_mul(0xC2B2AE3D));
         }
-        (mixed / 4096) % LISTS
+        mixed
+    }
+
+    // The list of a signature. There are at least as many lists as signatures, a power of 2.
+    fn list_of(&self, signature: usize) -> usize {
+        (signature / 4096) & self.lists.len().saturating_sub(1)
     }
 
     /// Whether two nodes have one head and equal arguments.
     pub fn are_congruent(&self, bank: &Bank, x: usize, y: usize) -> bool {
-        let count = arity(bank, x);
-        if count != arity(bank, y) || !same_head(node_head(bank, x), node_head(bank, y)) {
+        let (left, right) = (arguments_of(bank, x), arguments_of(bank, y));
+        if left.len() != right.len() || !same_head(node_head(bank, x), node_head(bank, y)) {
             return false;
         }
-        for place in 0..count {
-            let left = of_term(argument(bank, x, place));
-            let right = of_term(argument(bank, y, place));
-            if self.class(left) != self.class(right) {
+        for place in 0..left.len() {
+            let (Some(a), Some(b)) = (left.get(place), right.get(place)) else {
+                return false;
+            };
+            if self.class(of_term(a.0)) != self.class(of_term(b.0)) {
                 return false;
             }
         }
         true
     }
 
-    fn find_congruent(&self, bank: &Bank, list: usize, number: usize) -> usize {
-        let mut at = match self.lists.get(list) {
+    fn find_congruent(&self, bank: &Bank, signature: usize, number: usize) -> usize {
+        let mut at = match self.lists.get(self.list_of(signature)) {
             Some(last) => *last,
             None => NONE,
         };
@@ -462,7 +569,10 @@ impl Classes {
             let Some(entry) = self.signs.get(at) else {
                 return NONE;
             };
-            if entry.number != number && self.are_congruent(bank, entry.number, number) {
+            if entry.other == signature
+                && entry.number != number
+                && self.are_congruent(bank, entry.number, number)
+            {
                 return entry.number;
             }
             at = entry.before;
@@ -472,31 +582,51 @@ impl Classes {
 
     /// A node that is there and congruent to one that needn't be, or NONE.
     pub fn congruent_to(&self, bank: &Bank, number: usize) -> usize {
-        self.find_congruent(bank, self.list_of(bank, number), number)
+        self.find_congruent(bank, self.signature(bank, number), number)
     }
 
     fn sign(&mut self, bank: &Bank, number: usize) -> Result<(), AllocError> {
-        for _ in self.lists.len()..LISTS {
-            self.lists.push(NONE)?;
-        }
-        let list = self.list_of(bank, number);
-        let found = self.find_congruent(bank, list, number);
+        let signature = self.signature(bank, number);
+        let found = self.find_congruent(bank, signature, number);
         if found != NONE {
             return self.expect(number, found);
         }
         let at = self.signs.len();
-        let Some(last) = self.lists.get_mut(list) else {
+        self.signs.push(new_entry(number, signature, true))?;
+        self.trail.push(Change::Sign)?;
+        if at < self.lists.len() {
+            self.list_sign(at);
             return Ok(());
+        }
+        self.grow_lists()
+    }
+
+    // Twice as many lists.
+    fn grow_lists(&mut self) -> Result<(), AllocError> {
+        let count = self.lists.len().saturating_mul(2).max(LISTS);
+        self.lists.truncate(0);
+        for _ in 0..count {
+            self.lists.push(NONE)?;
+        }
+        for at in 0..self.signs.len() {
+            self.list_sign(at);
+        }
+        Ok(())
+    }
+
+    // The signature at a place is the last one of its list.
+    fn list_sign(&mut self, at: usize) {
+        let Some(entry) = self.signs.get(at).copied() else {
+            return;
+        };
+        let list = self.list_of(entry.other);
+        let Some(last) = self.lists.get_mut(list) else {
+            return;
         };
         let before = mem::replace(last, at);
-        self.signs.push(Entry {
-            number,
-            other: list,
-            is_left: true,
-            before,
-        })?;
-        self.trail.push(Change::Sign)?;
-        Ok(())
+        if let Some(place) = self.signs.get_mut(at) {
+            place.before = before;
+        }
     }
 
     fn expect(&mut self, left: usize, right: usize) -> Result<(), AllocError> {
@@ -558,10 +688,11 @@ impl Classes {
 
     fn add_atom_at(&mut self, number: usize, mut entry: Entry) -> Result<(), AllocError> {
         let at = self.atoms.len();
-        let mut node = self.node(number);
-        entry.before = node.atoms;
-        node.atoms = at;
-        self.put(number, node);
+        let place = self.place(number);
+        if let Some(node) = self.nodes.get_mut(place) {
+            entry.before = node.atoms;
+            node.atoms = at;
+        }
         self.atoms.push(entry)?;
         self.trail.push(Change::Atom(number))?;
         self.load(number, 0);
@@ -570,10 +701,11 @@ impl Classes {
 
     fn add_apart_at(&mut self, number: usize, mut entry: Entry) -> Result<(), AllocError> {
         let at = self.aparts.len();
-        let mut node = self.node(number);
-        entry.before = node.aparts;
-        node.aparts = at;
-        self.put(number, node);
+        let place = self.place(number);
+        if let Some(node) = self.nodes.get_mut(place) {
+            entry.before = node.aparts;
+            node.aparts = at;
+        }
         self.aparts.push(entry)?;
         self.trail.push(Change::Apart(number))?;
         self.load(number, 1);
@@ -582,24 +714,22 @@ impl Classes {
 
     /// How two nodes stand to each other, where that is known.
     pub fn relation(&self, left: usize, right: usize) -> Option<Why> {
-        if self.class(left) == self.class(right) {
+        let (a, b) = (self.class(left), self.class(right));
+        if a == b {
             return Some(Why::Equal);
         }
-        let (first, second) = (self.literal(left), self.literal(right));
-        if first != NONE && second != NONE {
-            return Some(Why::Literals(first, second));
+        let (first, second) = (self.load_of(a), self.load_of(b));
+        if first.literal != NONE && second.literal != NONE {
+            return Some(Why::Literals(first.literal, second.literal));
         }
-        self.find_apart(left, right)
+        if first.aparts == 0 || second.aparts == 0 {
+            return None;
+        }
+        self.find_apart(a, b, first.weight <= second.weight)
     }
 
     // The inequality of two classes, looked for at the lighter one.
-    fn find_apart(&self, left: usize, right: usize) -> Option<Why> {
-        let (a, b) = (self.class(left), self.class(right));
-        let (first, second) = (self.node(a), self.node(b));
-        if first.apart_count == 0 || second.apart_count == 0 {
-            return None;
-        }
-        let is_at_left = first.weight <= second.weight;
+    fn find_apart(&self, a: usize, b: usize, is_at_left: bool) -> Option<Why> {
         let (from, to) = if is_at_left { (a, b) } else { (b, a) };
         let mut at = from;
         for _ in 0..self.nodes.len() {
@@ -616,7 +746,7 @@ impl Classes {
 
     // An inequality at a node whose other side is in a class.
     fn apart_to(&self, number: usize, class: usize) -> Option<Entry> {
-        let mut at = self.node(number).aparts;
+        let mut at = self.last_apart(number);
         for _ in 0..self.aparts.len() {
             let entry = self.aparts.get(at)?;
             if self.class(entry.other) == class {
@@ -674,7 +804,7 @@ impl Classes {
     fn merge_of(&self, pending: Pending) -> Merge {
         let (x, y) = (pending.left, pending.right);
         let (a, b) = (self.class(x), self.class(y));
-        let (lower, upper, linked, to) = if self.node(a).weight <= self.node(b).weight {
+        let (lower, upper, linked, to) = if self.is_lighter(a, b) {
             (a, b, x, y)
         } else {
             (b, a, y, x)
@@ -683,10 +813,16 @@ impl Classes {
             lower,
             upper,
             literal: self.literal(upper),
+            kinds: self.load_of(upper).kinds,
             linked,
             to,
             fact: pending.fact,
         }
+    }
+
+    // Whether a class weighs at most what another one does.
+    fn is_lighter(&self, a: usize, b: usize) -> bool {
+        self.load_of(a).weight <= self.load_of(b).weight
     }
 
     fn merge_one(&mut self, bank: &Bank, pending: Pending) -> Result<Option<Conflict>, AllocError> {
@@ -719,15 +855,17 @@ impl Classes {
         } else {
             pending.right
         };
-        let mut node = self.node(number);
         let is_of_literal = pending.left == literal || pending.right == literal;
+        let at = self.place(number);
+        let Some(node) = self.nodes.get_mut(at) else {
+            return Ok(());
+        };
         if pending.fact == CONGRUENT || !is_of_literal || node.value != NONE {
             return Ok(());
         }
-        self.trail.push(Change::Value(number))?;
         node.value = literal;
         node.value_fact = pending.fact;
-        self.put(number, node);
+        self.trail.push(Change::Value(number))?;
         Ok(())
     }
 
@@ -736,33 +874,38 @@ impl Classes {
         self.turn(merge.linked);
         self.set_link(merge.linked, merge.to, merge.fact);
         self.name_members(merge.lower, merge.upper);
-        let below = self.node(merge.lower);
-        let mut node = self.node(merge.upper);
-        node.weight = node.weight.saturating_add(below.weight);
-        node.members = node.members.saturating_add(below.members);
-        node.apart_count = node.apart_count.saturating_add(below.apart_count);
-        if node.literal == NONE {
-            node.literal = below.literal;
+        let below = self.load_of(merge.lower);
+        let at = self.place(merge.upper);
+        if let Some(node) = self.nodes.get_mut(at) {
+            node.weight = node.weight.saturating_add(below.weight);
+            node.members = node.members.saturating_add(below.members);
+            node.apart_count = node.apart_count.saturating_add(below.aparts);
+            node.kinds |= below.kinds;
+            if node.literal == NONE {
+                node.literal = below.literal;
+            }
         }
-        self.put(merge.upper, node);
         self.swap_next(merge.lower, merge.upper);
         Ok(())
     }
 
     fn set_link(&mut self, number: usize, to: usize, fact: usize) {
-        let mut node = self.node(number);
-        node.to = to;
-        node.fact = fact;
-        self.put(number, node);
+        let at = self.place(number);
+        if let Some(node) = self.nodes.get_mut(at) {
+            node.to = to;
+            node.fact = fact;
+        }
     }
 
     // Each node of the ring of a class is put into the class of this name.
     fn name_members(&mut self, ring: usize, class: usize) {
         let mut at = ring;
         for _ in 0..self.nodes.len() {
-            let mut node = self.node(at);
+            let place = self.place(at);
+            let Some(node) = self.nodes.get_mut(place) else {
+                return;
+            };
             node.class = class;
-            self.put(at, node);
             at = node.next;
             if at == ring {
                 return;
@@ -772,11 +915,16 @@ impl Classes {
 
     // Joins two rings, or takes them apart.
     fn swap_next(&mut self, a: usize, b: usize) {
-        let (mut first, mut second) = (self.node(a), self.node(b));
-        let next = mem::replace(&mut first.next, second.next);
-        second.next = next;
-        self.put(a, first);
-        self.put(b, second);
+        let (first, second) = (self.next(a), self.next(b));
+        self.set_next(a, second);
+        self.set_next(b, first);
+    }
+
+    fn set_next(&mut self, number: usize, next: usize) {
+        let at = self.place(number);
+        if let Some(node) = self.nodes.get_mut(at) {
+            node.next = next;
+        }
     }
 
     // Turns the links between a node and the root of its tree of links round, so that the node is the root.
@@ -784,14 +932,18 @@ impl Classes {
         let mut at = number;
         let (mut to, mut fact) = (NONE, NONE);
         for _ in 0..self.nodes.len() {
-            let old = self.node(at);
-            self.set_link(at, to, fact);
-            if old.to == NONE {
+            let place = self.place(at);
+            let Some(node) = self.nodes.get_mut(place) else {
+                return;
+            };
+            let next = mem::replace(&mut node.to, to);
+            let old = mem::replace(&mut node.fact, fact);
+            if next == NONE {
                 return;
             }
             to = at;
-            fact = old.fact;
-            at = old.to;
+            fact = old;
+            at = next;
         }
     }
 
@@ -807,7 +959,7 @@ impl Classes {
     }
 
     fn sign_uses(&mut self, bank: &Bank, number: usize) -> Result<(), AllocError> {
-        let mut at = self.node(number).uses;
+        let mut at = self.last_use(number);
         for _ in 0..self.uses.len() {
             let Some(entry) = self.uses.get(at).copied() else {
                 break;
@@ -834,7 +986,7 @@ impl Classes {
 
     // Tells the atoms at a node that have a value.
     fn look_at_atoms(&mut self, number: usize) -> Result<(), AllocError> {
-        let mut at = self.node(number).atoms;
+        let mut at = self.last_atom(number);
         for _ in 0..self.atoms.len() {
             let Some(entry) = self.atoms.get(at).copied() else {
                 break;
@@ -848,7 +1000,7 @@ impl Classes {
 
     // Finds an inequality at a node that can't hold.
     fn look_at_aparts(&self, number: usize) -> Option<Conflict> {
-        let mut at = self.node(number).aparts;
+        let mut at = self.last_apart(number);
         for _ in 0..self.aparts.len() {
             let entry = self.aparts.get(at)?;
             at = entry.before;
@@ -874,7 +1026,7 @@ impl Classes {
                 self.add_apart_at(right, new_entry(fact, left, false))?;
             }
         }
-        if self.node(self.class(left)).weight <= self.node(self.class(right)).weight {
+        if self.is_lighter(self.class(left), self.class(right)) {
             self.tell_class(left)?;
         } else {
             self.tell_class(right)?;
@@ -912,17 +1064,19 @@ impl Classes {
     }
 
     fn drop_value(&mut self, number: usize) {
-        let mut node = self.node(number);
-        node.value = NONE;
-        node.value_fact = NONE;
-        self.put(number, node);
+        let at = self.place(number);
+        if let Some(node) = self.nodes.get_mut(at) {
+            node.value = NONE;
+            node.value_fact = NONE;
+        }
     }
 
     fn drop_sign(&mut self) {
         let Some(entry) = self.signs.pop() else {
             return;
         };
-        if let Some(last) = self.lists.get_mut(entry.other) {
+        let list = self.list_of(entry.other);
+        if let Some(last) = self.lists.get_mut(list) {
             *last = entry.before;
         }
     }
@@ -932,9 +1086,10 @@ impl Classes {
         let Some(entry) = self.uses.pop() else {
             return;
         };
-        let mut node = self.node(number);
-        node.uses = entry.before;
-        self.put(number, node);
+        let at = self.place(number);
+        if let Some(node) = self.nodes.get_mut(at) {
+            node.uses = entry.before;
+        }
     }
 
     fn drop_atom(&mut self, number: usize) {
@@ -942,9 +1097,10 @@ impl Classes {
         let Some(entry) = self.atoms.pop() else {
             return;
         };
-        let mut node = self.node(number);
-        node.atoms = entry.before;
-        self.put(number, node);
+        let at = self.place(number);
+        if let Some(node) = self.nodes.get_mut(at) {
+            node.atoms = entry.before;
+        }
     }
 
     fn drop_apart(&mut self, number: usize) {
@@ -952,29 +1108,48 @@ impl Classes {
         let Some(entry) = self.aparts.pop() else {
             return;
         };
-        let mut node = self.node(number);
-        node.aparts = entry.before;
-        self.put(number, node);
+        let at = self.place(number);
+        if let Some(node) = self.nodes.get_mut(at) {
+            node.aparts = entry.before;
+        }
     }
 
     fn take_back(&mut self, merge: Merge) {
         self.swap_next(merge.lower, merge.upper);
         self.name_members(merge.lower, merge.lower);
-        let below = self.node(merge.lower);
-        let mut node = self.node(merge.upper);
-        node.weight = node.weight.saturating_sub(below.weight);
-        node.members = node.members.saturating_sub(below.members);
-        node.apart_count = node.apart_count.saturating_sub(below.apart_count);
-        node.literal = merge.literal;
-        self.put(merge.upper, node);
+        let below = self.load_of(merge.lower);
+        let at = self.place(merge.upper);
+        if let Some(node) = self.nodes.get_mut(at) {
+            node.weight = node.weight.saturating_sub(below.weight);
+            node.members = node.members.saturating_sub(below.members);
+            node.apart_count = node.apart_count.saturating_sub(below.aparts);
+            node.literal = merge.literal;
+            node.kinds = merge.kinds;
+        }
         self.cut(merge.linked, merge.to);
         self.cut(merge.to, merge.linked);
     }
 
     // Links are turned round, so the link of a merge stands at either of its two nodes.
     fn cut(&mut self, number: usize, to: usize) {
-        if self.node(number).to == to {
+        if self.linked(number) == to {
             self.set_link(number, NONE, NONE);
+        }
+    }
+
+    // The fact of a node's link, or NONE.
+    fn link_fact(&self, number: usize) -> usize {
+        match self.node(number) {
+            Some(node) => node.fact,
+            None => NONE,
+        }
+    }
+
+    // The fact that a node is a literal, where it is kept, or NONE.
+    fn value_fact(&self, number: usize) -> usize {
+        match self.node(number) {
+            Some(node) => node.value_fact,
+            None => NONE,
         }
     }
 
@@ -982,7 +1157,7 @@ impl Classes {
     fn depth(&self, number: usize) -> usize {
         let mut at = number;
         for depth in 0..self.nodes.len() {
-            let to = self.node(at).to;
+            let to = self.linked(at);
             if to == NONE {
                 return depth;
             }
@@ -995,7 +1170,7 @@ impl Classes {
     fn skip(&self, number: usize, links: usize) -> usize {
         let mut at = number;
         for _ in 0..links {
-            at = self.node(at).to;
+            at = self.linked(at);
         }
         at
     }
@@ -1004,7 +1179,7 @@ impl Classes {
     fn links_to_value(&self, number: usize, literal: usize, before: usize) -> Option<usize> {
         let mut at = number;
         for links in 0..MOST_LINKS {
-            let node = self.node(at);
+            let node = self.node(at)?;
             if at == literal || node.to == literal {
                 return None;
             }
@@ -1034,7 +1209,7 @@ impl Classes {
         steps.push(Step {
             from: last,
             to: y,
-            fact: self.node(last).value_fact,
+            fact: self.value_fact(last),
         })?;
         Ok(true)
     }
@@ -1050,8 +1225,8 @@ impl Classes {
             if left == right {
                 break;
             }
-            left = self.node(left).to;
-            right = self.node(right).to;
+            left = self.linked(left);
+            right = self.linked(right);
             above = above.saturating_add(1);
             below = below.saturating_add(1);
         }
@@ -1059,9 +1234,9 @@ impl Classes {
         for place in 0..below {
             let node = self.skip(y, below.saturating_sub(place.saturating_add(1)));
             steps.push(Step {
-                from: self.node(node).to,
+                from: self.linked(node),
                 to: node,
-                fact: self.node(node).fact,
+                fact: self.link_fact(node),
             })?;
         }
         Ok(())
@@ -1070,13 +1245,13 @@ impl Classes {
     fn climb(&self, number: usize, links: usize, steps: &mut Vec<Step>) -> Result<(), AllocError> {
         let mut at = number;
         for _ in 0..links {
-            let node = self.node(at);
+            let to = self.linked(at);
             steps.push(Step {
                 from: at,
-                to: node.to,
-                fact: node.fact,
+                to,
+                fact: self.link_fact(at),
             })?;
-            at = node.to;
+            at = to;
         }
         Ok(())
     }

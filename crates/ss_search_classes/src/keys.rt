@@ -2,6 +2,7 @@
 
 use crate::question::NONE;
 use std::alloc::{AllocError, Global};
+use std::mem;
 
 /// A key of three numbers, its value, and the entry before it in its list.
 #[derive(Clone, Copy)]
@@ -14,21 +15,23 @@ struct Entry {
     before: usize,
 }
 
-/// The keys.
+/// The keys. There are at least as many lists as keys.
 #[derive(Drop)]
 pub struct Keys {
     lists: Vec<usize>,
     entries: Vec<Entry>,
 }
 
-const LISTS: usize = 65_536;
+// How many lists there are at first.
+const LISTS: usize = 1024;
 
-fn list_of(first: usize, second: usize, third: usize) -> usize {
+// The list of a key, of so many, a power of 2.
+fn list_of(first: usize, second: usize, third: usize, lists: usize) -> usize {
     let mixed = first
         .wrapping_mul(0x9E3779B1)
         .wrapping_add(second.wrapping_mul(0x85EBCA77))
         .wrapping_add(third.wrapping_mul(0xC2B2AE3D));
-    (mixed / 8192) % LISTS
+    (mixed / 8192) & lists.saturating_sub(1)
 }
 
 impl Keys {
@@ -47,7 +50,8 @@ impl Keys {
 
     /// The value of a key, or NONE.
     pub fn value(&self, first: usize, second: usize, third: usize) -> usize {
-        let mut at = match self.lists.get(list_of(first, second, third)) {
+        let list = list_of(first, second, third, self.lists.len());
+        let mut at = match self.lists.get(list) {
             Some(last) => *last,
             None => NONE,
         };
@@ -71,25 +75,49 @@ impl Keys {
         third: usize,
         value: usize,
     ) -> Result<(), AllocError> {
-        for _ in self.lists.len()..LISTS {
-            self.lists.push(NONE)?;
-        }
-        let list = list_of(first, second, third);
         let at = self.entries.len();
-        let Some(last) = self.lists.get_mut(list) else {
-            return Ok(());
-        };
-        let before = *last;
-        *last = at;
         self.entries.push(Entry {
             first,
             second,
             third,
             value,
-            list,
-            before,
+            list: 0,
+            before: NONE,
         })?;
+        if at < self.lists.len() {
+            self.link(at);
+            return Ok(());
+        }
+        self.grow()
+    }
+
+    // Twice as many lists.
+    fn grow(&mut self) -> Result<(), AllocError> {
+        let count = self.lists.len().saturating_mul(2).max(LISTS);
+        self.lists.truncate(0);
+        for _ in 0..count {
+            self.lists.push(NONE)?;
+        }
+        for at in 0..self.entries.len() {
+            self.link(at);
+        }
         Ok(())
+    }
+
+    // The entry at a place is the last one of its list.
+    fn link(&mut self, at: usize) {
+        let Some(entry) = self.entries.get(at).copied() else {
+            return;
+        };
+        let list = list_of(entry.first, entry.second, entry.third, self.lists.len());
+        let Some(last) = self.lists.get_mut(list) else {
+            return;
+        };
+        let before = mem::replace(last, at);
+        if let Some(place) = self.entries.get_mut(at) {
+            place.list = list;
+            place.before = before;
+        }
     }
 
     /// Whether the key is new. It is added where it is.

@@ -296,25 +296,39 @@ pub fn argument(bank: &Bank, node: usize, place: usize) -> usize {
     }
 }
 
-/// How many arguments a node has.
-pub fn arity(bank: &Bank, node: usize) -> usize {
+/// The arguments of a node.
+pub fn arguments_of(bank: &Bank, node: usize) -> &[TermId] {
     if is_term(node) {
         match term_at(bank, node / 2) {
-            Some(Term::App(_, arguments)) => arguments.len(),
-            _ => 0,
+            Some(Term::App(_, arguments)) => arguments,
+            _ => &[],
         }
     } else {
         match formula_at(bank, first_of(node / 2)) {
-            Some(Formula::Literal { arguments, .. }) => arguments.len(),
-            _ => 0,
+            Some(Formula::Literal { arguments, .. }) => arguments,
+            _ => &[],
         }
     }
 }
 
+/// How many arguments a node has.
+pub fn arity(bank: &Bank, node: usize) -> usize {
+    arguments_of(bank, node).len()
+}
+
 /// Whether a term is a number, a truth value, null or a class name.
 pub fn is_value(bank: &Bank, t: usize) -> bool {
-    let found = term_head(bank, t);
-    found.kind >= NUMBER && found.kind <= CLASS
+    match term_at(bank, t) {
+        Some(Term::App(symbol, _)) => is_value_symbol(*symbol),
+        _ => false,
+    }
+}
+
+fn is_value_symbol(symbol: Symbol) -> bool {
+    matches!(
+        symbol,
+        Symbol::Number(_) | Symbol::Fixed(_) | Symbol::Null | Symbol::ClassName(_)
+    )
 }
 
 /// What kind of formula there is.

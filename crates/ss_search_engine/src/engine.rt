@@ -1,15 +1,17 @@
 // The search on a trail.
 
+ghost use Rattle.std.specs.Prelude.{◌≤◌, length};
 ghost use Rattle.ss_core.specs.Chain.{IsWithinLimits};
 ghost use Rattle.ss_core.specs.View as view;
-ghost use Rattle.ss_terms.specs.Forms.{IsGrown, IsBankOf};
+ghost use Rattle.ss_terms.specs.Forms.{Forms, IsGrown, IsBankOf};
 
 use ss_core::Classes;
 use ss_deriv::Derivation;
 use ss_search_classes::{CONSTANT, NONE, opposite, term_head};
-use ss_search_proof::{Reason, Said, write_lines};
+use ss_search_made::{keep_named, no_names};
+use ss_search_proof::{Reason, Said, plan_lines, write_lines};
 use ss_search_state::{Limits, Mark, State, Step, first_mark};
-use ss_terms::{Bank, FormulaId, Symbol};
+use ss_terms::{Bank, BankMark, FormulaId, Symbol};
 use std::alloc::{AllocError, Global};
 
 /// What a search found.
@@ -181,7 +183,7 @@ impl Engine {
         self.state.settle(bank)
     }
 
-    // Goes through the cases, and takes back what the goal made known.
+    // Goes through the cases, and takes back what the goal made known. The bank has what it had after the premises, and what lines name.
     fn finish(
         &mut self,
         bank: &mut Bank,
@@ -192,15 +194,36 @@ impl Engine {
         requires limits { IsWithinLimits (view.classes program.now) }
         ensures grown { IsGrown bank.old bank.new }
     {
+        let mark = bank.mark();
+        let extent = self.state.extent();
         let root = self.run(bank, program, step)?;
-        let answer = match root {
-            Some(root) => write_lines(self.state.alloc, &mut self.state.reasons, root)?,
-            None => None,
-        };
+        let answer = self.write(bank, mark, root)?;
         self.forget();
+        self.state.cut(extent);
         match answer {
             Some(derivation) => Ok(Answer::Proved(derivation)),
             None => Ok(Answer::Stuck),
+        }
+    }
+
+    // The lines of a proof, where there is one. Of what came behind the mark the bank forgets all that they don't name.
+    fn write(
+        &mut self,
+        bank: &mut Bank,
+        mark: BankMark,
+        root: Option<usize>,
+    ) -> Result<Option<Derivation>, AllocError>
+        ensures grown { (marked : Forms) → IsGrown marked bank.old → length marked.terms ≤ mark.terms → length marked.formulas ≤ mark.formulas → IsGrown marked bank.new }
+    {
+        let alloc = self.state.alloc;
+        let mut names = no_names(alloc, bank, mark)?;
+        if let Some(root) = root {
+            plan_lines(alloc, &mut self.state.reasons, root, &mut names)?;
+        }
+        keep_named(alloc, bank, mark, &mut names)?;
+        match root {
+            Some(root) => write_lines(alloc, &mut self.state.reasons, root, names),
+            None => Ok(None),
         }
     }
 

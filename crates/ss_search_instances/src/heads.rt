@@ -2,8 +2,9 @@
 
 use ss_search_classes::{
     ALLOCATED, AND, BOUND, COMMITTED, CONSTANT, ELEMENT, EXISTS, FIELD, FORALL, Head, Keys, LEVEL,
-    LITERAL, NONE, OR, OWNER, READY, argument, arity, body_of, bound_count, first_of, is_closed,
-    kind_of, node_head, of_pair, of_term, pair_of, part_at, part_count, term_argument, term_head,
+    LITERAL, NONE, OR, OWNER, READY, argument, arguments_of, body_of, bound_count, first_of,
+    is_closed, kind_of, node_head, of_pair, of_term, pair_of, part_at, part_count, term_argument,
+    term_head,
 };
 use ss_terms::Bank;
 use std::alloc::{AllocError, Global};
@@ -66,6 +67,32 @@ impl Heads {
         self.ranges.truncate(0);
         self.patterns.truncate(0);
         self.places.undo(0);
+    }
+
+    /// How many ranges, heads and keys there are.
+    pub fn mark(&self) -> (usize, usize, usize) {
+        (self.ranges.len(), self.patterns.len(), self.places.len())
+    }
+
+    /// Forgets all but so many ranges, heads and keys.
+    pub fn cut(&mut self, mark: (usize, usize, usize)) {
+        let (ranges, patterns, places) = mark;
+        self.ranges.truncate(ranges);
+        self.places.undo(places);
+        for _ in patterns..self.patterns.len() {
+            if let Some(pattern) = self.patterns.pop() {
+                self.unlink(pattern);
+            }
+        }
+    }
+
+    // The last head that is left of the kind, the number and the store of one that is gone has none behind it.
+    fn unlink(&mut self, gone: Pattern) {
+        let last = LAST.saturating_add(gone.kind);
+        let before = self.places.value(last, gone.number, gone.store);
+        if let Some(other) = self.patterns.get_mut(before) {
+            other.next = NONE;
+        }
     }
 
     /// How many heads there are.
@@ -184,10 +211,9 @@ impl Heads {
                 break;
             };
             self.collect_node(bank, next, names)?;
-            for place in 0..arity(bank, next) {
-                let term = argument(bank, next, place);
-                if !is_closed(bank, term) {
-                    self.nodes.push(of_term(term))?;
+            for argument in arguments_of(bank, next) {
+                if !is_closed(bank, argument.0) {
+                    self.nodes.push(of_term(argument.0))?;
                 }
             }
         }

@@ -37,7 +37,7 @@ pub fn terms_alone(alloc: Global, arguments: Arguments) -> Result<Vec<usize>, Al
 }
 
 // Whether the bank has each term.
-fn has_terms(bank: &Bank, ts: &[TermId]) -> bool
+pub(crate) fn has_terms(bank: &Bank, ts: &[TermId]) -> bool
     ensures { IsTrue result → HasTerms bank.now ts.now }
 {
     match ts {
@@ -343,7 +343,7 @@ fn itself_made(alloc: Global, bank: &mut Bank, numbers: &[usize]) -> Result<usiz
 }
 
 // All of these, or NONE where they aren't there.
-fn and_made(bank: &mut Bank, parts: &[FormulaId]) -> Result<usize, AllocError>
+pub(crate) fn and_made(bank: &mut Bank, parts: &[FormulaId]) -> Result<usize, AllocError>
     ensures grown { IsGrown bank.old bank.new }
 {
     if !has_formulas(bank, parts) {

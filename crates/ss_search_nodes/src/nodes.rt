@@ -131,18 +131,8 @@ impl Nodes {
         }
     }
 
-    fn node(&self, pair: usize) -> Node {
-        match self.nodes.get(self.place(pair)) {
-            Some(node) => *node,
-            None => empty_node(),
-        }
-    }
-
-    fn put(&mut self, pair: usize, node: Node) {
-        let at = self.place(pair);
-        if let Some(place) = self.nodes.get_mut(at) {
-            *place = node;
-        }
+    fn node(&self, pair: usize) -> Option<&Node> {
+        self.nodes.get(self.place(pair))
     }
 
     // The pair has a node from now on.
@@ -184,26 +174,29 @@ impl Nodes {
     }
 
     fn take_back(&mut self, change: Change) {
-        let pair = pair_in(change);
-        let mut node = self.node(pair);
         match change {
-            Change::There(_) => self.leave(pair),
-            Change::Open(_) => node.is_open = false,
-            Change::Value(_) => node.value = None,
-            Change::Count(_) => node.count = node.count.saturating_sub(1),
-            Change::First(_) => node.first = NONE,
-            Change::Second(_) => node.second = NONE,
-            Change::Taken(_) => node.is_taken = false,
+            Change::There(pair) => self.leave(pair),
             Change::Left(_) => {
                 let _ = self.left.pop();
             }
-            Change::Parent(_) => {
-                if let Some(parent) = self.parents.pop() {
-                    node.parents = parent.before;
+            Change::Parent(pair) => self.drop_parent(pair),
+            _ => {
+                let at = self.place(pair_in(change));
+                if let Some(node) = self.nodes.get_mut(at) {
+                    clear(node, change);
                 }
             }
         }
-        self.put(pair, node);
+    }
+
+    fn drop_parent(&mut self, pair: usize) {
+        let Some(parent) = self.parents.pop() else {
+            return;
+        };
+        let at = self.place(pair);
+        if let Some(node) = self.nodes.get_mut(at) {
+            node.parents = parent.before;
+        }
     }
 
     /// Nothing is to be done any more.
@@ -215,13 +208,13 @@ impl Nodes {
 
     /// What a formula comes to.
     pub fn value(&self, f: usize) -> Option<bool> {
-        let value = self.node(pair_of(f)).value?;
+        let value = self.node(pair_of(f))?.value?;
         Some(value == is_first(f))
     }
 
     /// Why a pair has its value.
     pub fn ground(&self, pair: usize) -> Option<Ground> {
-        let node = self.node(pair);
+        let node = self.node(pair)?;
         match node.value {
             Some(_) => Some(node.ground),
             None => None,
@@ -230,60 +223,79 @@ impl Nodes {
 
     /// Whether a pair is looked at.
     pub fn is_open(&self, pair: usize) -> bool {
-        self.node(pair).is_open
+        match self.node(pair) {
+            Some(node) => node.is_open,
+            None => false,
+        }
     }
 
     /// The fact by which a formula is known, or NONE.
     pub fn held(&self, f: usize) -> usize {
-        let node = self.node(pair_of(f));
-        if is_first(f) { node.first } else { node.second }
+        match self.node(pair_of(f)) {
+            Some(node) => { if is_first(f) { node.first } else { node.second } }
+            None => NONE,
+        }
     }
 
     /// A formula is known by a fact.
     pub fn hold(&mut self, f: usize, fact: usize) -> Result<(), AllocError> {
         let pair = pair_of(f);
         self.enter(pair)?;
-        let mut node = self.node(pair);
-        if is_first(f) {
-            node.first = fact;
-            self.trail.push(Change::First(pair))?;
-        } else {
-            node.second = fact;
-            self.trail.push(Change::Second(pair))?;
+        let at = self.place(pair);
+        if let Some(node) = self.nodes.get_mut(at) {
+            if is_first(f) {
+                node.first = fact;
+            } else {
+                node.second = fact;
+            }
         }
-        self.put(pair, node);
+        self.trail.push(if is_first(f) {
+            Change::First(pair)
+        } else {
+            Change::Second(pair)
+        })?;
         Ok(())
     }
 
     /// Whether a part of an `or` was made known.
     pub fn is_taken(&self, or: usize) -> bool {
-        self.node(pair_of(or)).is_taken
+        match self.node(pair_of(or)) {
+            Some(node) => node.is_taken,
+            None => false,
+        }
     }
 
     /// Whether there is nothing to do for an `or`: it is true, or one of its parts was made known.
     pub fn is_settled(&self, or: usize) -> bool {
-        let node = self.node(pair_of(or));
-        node.is_taken || node.value == Some(false)
+        match self.node(pair_of(or)) {
+            Some(node) => node.is_taken || node.value == Some(false),
+            None => false,
+        }
     }
 
     /// Whether at most one part of the `or` of a pair isn't refuted.
     pub fn is_unit(&self, pair: usize) -> bool {
-        let node = self.node(pair);
-        node.count.saturating_add(1) >= node.length
+        match self.node(pair) {
+            Some(node) => node.count.saturating_add(1) >= node.length,
+            None => true,
+        }
     }
 
     /// How many parts of an `or` aren't refuted.
     pub fn open_count(&self, or: usize) -> usize {
-        let node = self.node(pair_of(or));
-        node.length.saturating_sub(node.count)
+        match self.node(pair_of(or)) {
+            Some(node) => node.length.saturating_sub(node.count),
+            None => 0,
+        }
     }
 
     /// A part of the `or` of a pair was made known.
     pub fn take(&mut self, pair: usize) -> Result<(), AllocError> {
         self.enter(pair)?;
-        let mut node = self.node(pair);
-        node.is_taken = true;
-        self.put(pair, node);
+        let at = self.place(pair);
+        if let Some(node) = self.nodes.get_mut(at) {
+            node.is_taken = true;
+        }
         self.trail.push(Change::Taken(pair))?;
         Ok(())
     }
@@ -329,13 +341,18 @@ impl Nodes {
             let Some(next) = self.waiting.pop() else {
                 break;
             };
-            if next >= self.places.len()
-                || self.node(next).is_open
-                || is_delayed(bank, first_of(next))
-            {
+            if next >= self.places.len() || self.is_open(next) {
                 continue;
             }
-            if next == pair || self.is_thorough || part_count(bank, first_of(next)) <= LONG {
+            let formula = first_of(next);
+            if kind_of(bank, formula) == LITERAL {
+                self.open(bank, classes, next)?;
+                continue;
+            }
+            if is_delayed(bank, formula) {
+                continue;
+            }
+            if next == pair || self.is_thorough || part_count(bank, formula) <= LONG {
                 self.open(bank, classes, next)?;
             } else {
                 self.left.push(next)?;
@@ -352,7 +369,7 @@ impl Nodes {
             let Some(pair) = self.left.get(place).copied() else {
                 break;
             };
-            if !self.node(pair).is_open {
+            if !self.is_open(pair) {
                 self.open_all(bank, classes, pair)?;
                 has_opened = true;
             }
@@ -363,11 +380,12 @@ impl Nodes {
     fn open(&mut self, bank: &Bank, classes: &mut Classes, pair: usize) -> Result<(), AllocError> {
         self.enter(pair)?;
         self.trail.push(Change::Open(pair))?;
-        let mut node = self.node(pair);
-        node.is_open = true;
-        node.count = 0;
-        node.length = 0;
-        self.put(pair, node);
+        let at = self.place(pair);
+        if let Some(node) = self.nodes.get_mut(at) {
+            node.is_open = true;
+            node.count = 0;
+            node.length = 0;
+        }
         let kind = kind_of(bank, first_of(pair));
         if kind == LITERAL {
             self.open_atom(bank, classes, pair)
@@ -398,9 +416,10 @@ impl Nodes {
 
     fn open_parts(&mut self, bank: &Bank, pair: usize) -> Result<(), AllocError> {
         let length = part_count(bank, first_of(pair));
-        let mut node = self.node(pair);
-        node.length = length;
-        self.put(pair, node);
+        let at = self.place(pair);
+        if let Some(node) = self.nodes.get_mut(at) {
+            node.length = length;
+        }
         if length == 0 {
             self.come(pair, true, Ground::All)?;
         }
@@ -423,14 +442,17 @@ impl Nodes {
     fn add_parent(&mut self, pair: usize, mut parent: Parent) -> Result<(), AllocError> {
         self.enter(pair)?;
         let at = self.parents.len();
-        let mut node = self.node(pair);
-        parent.before = node.parents;
-        node.parents = at;
-        self.put(pair, node);
+        let mut known = None;
+        let place = self.place(pair);
+        if let Some(node) = self.nodes.get_mut(place) {
+            parent.before = node.parents;
+            node.parents = at;
+            known = node.value;
+        }
         self.parents.push(parent)?;
         self.trail.push(Change::Parent(pair))?;
         self.waiting.push(pair)?;
-        match node.value {
+        match known {
             Some(value) => self.count(parent, value),
             None => Ok(()),
         }
@@ -452,18 +474,19 @@ impl Nodes {
             return Ok(false);
         };
         self.enter(coming.pair)?;
-        let mut node = self.node(coming.pair);
-        match node.value {
-            Some(_) => Ok(true),
-            None => {
-                node.value = Some(coming.value);
-                node.ground = coming.ground;
-                self.put(coming.pair, node);
-                self.trail.push(Change::Value(coming.pair))?;
-                self.count_all(node.parents, coming.value)?;
-                Ok(true)
-            }
+        let at = self.place(coming.pair);
+        let Some(node) = self.nodes.get_mut(at) else {
+            return Ok(true);
+        };
+        if node.value.is_some() {
+            return Ok(true);
         }
+        node.value = Some(coming.value);
+        node.ground = coming.ground;
+        let parents = node.parents;
+        self.trail.push(Change::Value(coming.pair))?;
+        self.count_all(parents, coming.value)?;
+        Ok(true)
     }
 
     fn count_all(&mut self, last: usize, value: bool) -> Result<(), AllocError> {
@@ -483,14 +506,19 @@ impl Nodes {
         if value != parent.is_first {
             return self.come(parent.pair, false, Ground::Part(parent.place));
         }
-        let mut node = self.node(parent.pair);
-        node.count = node.count.saturating_add(1);
-        self.put(parent.pair, node);
+        let at = self.place(parent.pair);
+        let Some(node) = self.nodes.get_mut(at) else {
+            return Ok(());
+        };
+        let count = node.count.saturating_add(1);
+        node.count = count;
+        let length = node.length;
+        let is_known = node.second != NONE;
         self.trail.push(Change::Count(parent.pair))?;
-        if node.second != NONE && node.count.saturating_add(1) >= node.length {
+        if is_known && count.saturating_add(1) >= length {
             self.units.push(parent.pair)?;
         }
-        if node.count >= node.length {
+        if count >= length {
             self.come(parent.pair, true, Ground::All)
         } else {
             Ok(())
@@ -542,6 +570,19 @@ pub fn is_held_kind(kind: usize) -> bool {
 /// The `or` of a pair.
 pub fn or_of(pair: usize) -> usize {
     second_of(pair)
+}
+
+// Takes back what a change made of a node.
+fn clear(node: &mut Node, change: Change) {
+    match change {
+        Change::Open(_) => node.is_open = false,
+        Change::Value(_) => node.value = None,
+        Change::Count(_) => node.count = node.count.saturating_sub(1),
+        Change::First(_) => node.first = NONE,
+        Change::Second(_) => node.second = NONE,
+        Change::Taken(_) => node.is_taken = false,
+        _ => {}
+    }
 }
 
 fn pair_in(change: Change) -> usize {

@@ -2,11 +2,13 @@
 #![tactic(auto)]
 
 mod facts;
+mod names;
 mod proof;
 mod reasons;
 mod writing;
 
 pub use facts::{Fact, Facts, GoodName, Range, Reason, RuleKind, Said};
+pub use names::Names;
 pub use proof::{Block, End, Proof};
 pub use reasons::{Reasons, is_equality};
-pub use writing::{good_of, name_of, write_lines};
+pub use writing::{good_of, name_of, plan_lines, write_lines};

@@ -1,6 +1,7 @@
 // The lines of a proof. Each fact is written once, in the lowest case that sees all its uses.
 
 use crate::facts::{Fact, Facts, GoodName, Range, Reason, RuleKind, Said};
+use crate::names::Names;
 use crate::proof::{End, Proof};
 use crate::reasons::Reasons;
 use ss_deriv::{Derivation, Draft, Line, Sum};
@@ -10,19 +11,91 @@ use ss_terms::{FormulaId, TermId};
 use std::alloc::{AllocError, Global};
 use std::collections::BinaryHeap;
 
-/// The derivation of the proof whose outermost block this is.
+/// Finds which facts of the proof whose outermost block this is are written, and where. What they name is named.
+pub fn plan_lines(
+    alloc: Global,
+    reasons: &mut Reasons,
+    root: usize,
+    names: &mut Names,
+) -> Result<(), AllocError> {
+    let Reasons { facts, proof, .. } = reasons;
+    number_blocks(alloc, proof, root)?;
+    place_facts(alloc, facts, proof, root)?;
+    name_all(facts, proof, root, names);
+    Ok(())
+}
+
+// Names what the facts in blocks and the cuts name.
+fn name_all(facts: &Facts, proof: &Proof, root: usize, names: &mut Names) {
+    let mut at = root;
+    for _ in 0..proof.len() {
+        if at == NONE {
+            break;
+        }
+        let block = proof.block(at);
+        name_block(facts, block.facts, names);
+        if let End::Cut(formula) = block.end {
+            names.name_formula(formula);
+        }
+        at = proof.after(at, root);
+    }
+}
+
+// Names what a fact and those behind it in its block name.
+fn name_block(facts: &Facts, first: usize, names: &mut Names) {
+    let mut at = first;
+    for _ in 0..facts.len() {
+        let Some(fact) = facts.fact(at) else {
+            break;
+        };
+        name_fact(facts, fact, names);
+        at = fact.next;
+    }
+}
+
+fn name_fact(facts: &Facts, fact: Fact, names: &mut Names) {
+    match fact.reason {
+        Reason::Chain(_) | Reason::Cong(_) | Reason::Swap(_, _) => name_said(fact.said, names),
+        Reason::Inst(_, range) => name_terms(facts, range, names),
+        Reason::Rule(_, range) => name_terms(facts, range, names),
+        Reason::Good(_, _, range) => name_terms(facts, range, names),
+        Reason::Choose(formula, range) => {
+            names.name_formula(formula);
+            name_terms(facts, range, names);
+        }
+        _ => {}
+    }
+}
+
+fn name_said(said: Said, names: &mut Names) {
+    match said {
+        Said::Formula(formula) => names.name_formula(formula),
+        Said::Equal(left, right) => {
+            names.name_term(left);
+            names.name_term(right);
+        }
+    }
+}
+
+fn name_terms(facts: &Facts, range: Range, names: &mut Names) {
+    for place in range.from..range.to {
+        names.name_term(facts.path_at(place));
+    }
+}
+
+/// The derivation of a planned proof whose outermost block this is, by what is named as the names tell.
 pub fn write_lines(
     alloc: Global,
     reasons: &mut Reasons,
     root: usize,
+    names: Names,
 ) -> Result<Option<Derivation>, AllocError> {
     let Reasons { facts, proof, .. } = reasons;
-    number_blocks(alloc, proof, root)?;
-    place_facts(alloc, facts, proof, root)?;
     let mut writer = Writer {
         alloc,
         lines: Draft::new(alloc),
         known: 0,
+        names,
     };
     writer.write_blocks(facts, proof, root)?;
     let Writer { lines, .. } = writer;
@@ -223,12 +296,13 @@ fn meet(proof: &Proof, first: usize, second: usize) -> usize {
     at
 }
 
-/// The lines so far, and how many facts are known behind them.
+/// The lines so far, how many facts are known behind them, and the numbers of what they name.
 #[derive(Drop)]
 struct Writer {
     alloc: Global,
     lines: Draft,
     known: usize,
+    names: Names,
 }
 
 impl Writer {
@@ -352,8 +426,8 @@ impl Writer {
             return Ok(());
         };
         self.add(Line::Chain {
-            left: TermId(left),
-            right: TermId(right),
+            left: self.term(left),
+            right: self.term(right),
             path,
         })
     }
@@ -364,8 +438,8 @@ impl Writer {
             return Ok(());
         };
         self.add(Line::Cong {
-            left: TermId(left),
-            right: TermId(right),
+            left: self.term(left),
+            right: self.term(right),
             equalities,
         })
     }
@@ -382,13 +456,13 @@ impl Writer {
         };
         self.add(Line::Swap {
             of: known_at(facts, from.0),
-            formula: FormulaId(formula),
+            formula: self.formula(formula),
             equalities,
         })
     }
 
     fn write_inst(&mut self, facts: &Facts, whole: usize, range: Range) -> Result<(), AllocError> {
-        let terms = terms_in(self.alloc, facts, range)?;
+        let terms = self.terms_in(facts, range)?;
         self.add(Line::Inst {
             of: known_at(facts, whole),
             terms,
@@ -401,9 +475,9 @@ impl Writer {
         formula: usize,
         range: Range,
     ) -> Result<(), AllocError> {
-        let constants = terms_in(self.alloc, facts, range)?;
+        let constants = self.terms_in(facts, range)?;
         self.add(Line::Choose {
-            formula: FormulaId(formula),
+            formula: self.formula(formula),
             constants,
         })
     }
@@ -432,7 +506,7 @@ impl Writer {
         rule: RuleKind,
         range: Range,
     ) -> Result<(), AllocError> {
-        let arguments = terms_in(self.alloc, facts, range)?;
+        let arguments = self.terms_in(facts, range)?;
         self.add(Line::Rule {
             name: name_of(rule),
             arguments,
@@ -445,7 +519,7 @@ impl Writer {
         rule: GoodName,
         from: (usize, Range),
     ) -> Result<(), AllocError> {
-        let arguments = terms_in(self.alloc, facts, from.1)?;
+        let arguments = self.terms_in(facts, from.1)?;
         let store = known_at(facts, from.0);
         match good_of(rule) {
             Some(name) => self.add(Line::Good {
@@ -462,6 +536,27 @@ impl Writer {
         self.add(Line::Invariants { store, arguments })
     }
 
+    // A term by the number that it has now.
+    fn term(&self, term: usize) -> TermId {
+        TermId(self.names.term(term))
+    }
+
+    // A formula by the number that it has now.
+    fn formula(&self, formula: usize) -> FormulaId {
+        FormulaId(self.names.formula(formula))
+    }
+
+    // The terms in a part of the paths.
+    fn terms_in(&self, facts: &Facts, range: Range) -> Result<Vec<TermId>, AllocError> {
+        let count = range.to.saturating_sub(range.from);
+        let mut terms = Vec::with_capacity(self.alloc, count)?;
+        for place in range.from..range.to {
+            let term = facts.path_at(place);
+            terms.push(self.term(term))?;
+        }
+        Ok(terms)
+    }
+
     fn write_end(&mut self, facts: &Facts, end: End, cases: usize) -> Result<(), AllocError> {
         match end {
             End::Nothing => Ok(()),
@@ -475,7 +570,7 @@ impl Writer {
                 cases,
             }),
             End::Cut(formula) => self.add(Line::Cut {
-                formula: FormulaId(formula),
+                formula: self.formula(formula),
             }),
         }
     }
@@ -515,17 +610,10 @@ fn known_at(facts: &Facts, number: usize) -> usize {
 
 // The numbers, among what is known, of the facts of a path.
 fn known_path(alloc: Global, facts: &Facts, range: Range) -> Result<Vec<usize>, AllocError> {
-    let mut numbers = Vec::new(alloc);
+    let count = range.to.saturating_sub(range.from);
+    let mut numbers = Vec::with_capacity(alloc, count)?;
     for place in range.from..range.to {
         numbers.push(known_at(facts, facts.path_at(place)))?;
     }
     Ok(numbers)
-}
-
-fn terms_in(alloc: Global, facts: &Facts, range: Range) -> Result<Vec<TermId>, AllocError> {
-    let mut terms = Vec::new(alloc);
-    for place in range.from..range.to {
-        terms.push(TermId(facts.path_at(place)))?;
-    }
-    Ok(terms)
 }

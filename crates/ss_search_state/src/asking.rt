@@ -3,9 +3,9 @@
 use crate::state::State;
 use ss_search_classes::{
     ALLOCATED, AND, AT_MOST, COMMITTED, CONSTANT, ELEMENT, EQUAL, FIELD, LEVEL, LITERAL, NEXT,
-    NONE, OR, OWNER, PUT, READY, SET, argument, arity, code_of_sort, first_of, is_closed,
-    is_delayed, is_first, is_term, is_truth, is_value, kind_of, node_head, of_pair, of_term,
-    pair_argument, pair_head, pair_of, part_at, part_count, sort_at, term_argument, term_head,
+    NONE, OR, OWNER, PUT, READY, SET, arguments_of, code_of_sort, first_of, is_closed, is_delayed,
+    is_first, is_term, is_truth, is_value, kind_of, node_head, of_pair, of_term, pair_argument,
+    pair_head, pair_of, part_at, part_count, sort_at, term_head,
 };
 use ss_search_instances::Clause;
 use ss_search_proof::Reason;
@@ -31,10 +31,9 @@ impl State {
     pub(crate) fn grow_depths(&mut self, bank: &Bank) -> Result<(), AllocError> {
         for term in self.depths.len()..bank.term_count() {
             let mut depth = 0usize;
-            for place in 0..arity(bank, of_term(term)) {
-                let inner = term_argument(bank, term, place);
-                if code_of_sort(sort_at(bank, inner)) != 0 {
-                    depth = depth.max(self.depth(inner));
+            for inner in arguments_of(bank, of_term(term)) {
+                if code_of_sort(sort_at(bank, inner.0)) != 0 {
+                    depth = depth.max(self.depth(inner.0));
                 }
             }
             let kind = term_head(bank, term).kind;
@@ -89,7 +88,7 @@ impl State {
             let Some(next) = self.waiting.pop() else {
                 break;
             };
-            if self.may_ask(bank, next) && self.asked.ask(next)? {
+            if !self.asked.is_asked(next) && self.may_ask(bank, next) && self.asked.ask(next)? {
                 self.equal.add(bank, next)?;
                 self.ask_inside(bank, next)?;
             }
@@ -107,8 +106,8 @@ impl State {
     }
 
     fn is_atom_closed(&self, bank: &Bank, node: usize) -> bool {
-        for place in 0..arity(bank, node) {
-            if !is_closed(bank, argument(bank, node, place)) {
+        for argument in arguments_of(bank, node) {
+            if !is_closed(bank, argument.0) {
                 return false;
             }
         }
@@ -120,9 +119,8 @@ impl State {
         if kind >= SET && kind < EQUAL || kind == CONSTANT {
             return Ok(());
         }
-        for place in 0..arity(bank, node) {
-            let term = argument(bank, node, place);
-            self.waiting.push(of_term(term))?;
+        for argument in arguments_of(bank, node) {
+            self.waiting.push(of_term(argument.0))?;
         }
         Ok(())
     }

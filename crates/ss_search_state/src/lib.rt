@@ -11,4 +11,4 @@ mod state;
 
 pub use asking::reads_store;
 pub use requests::{Request, Wanted, new_request};
-pub use state::{Limits, Mark, State, Step, first_mark};
+pub use state::{Extent, Limits, Mark, State, Step, first_mark};

@@ -4,7 +4,7 @@ use crate::bundles::Piece;
 use crate::requests::{Request, Wanted, new_request};
 use ss_search_classes::{
     AND, AT_MOST, Classes as Equal, Conflict, EQUAL, EXISTS, Event, FORALL, GOOD, Keys, LITERAL,
-    NONE, OR, OWNER, SUB, argument, arity, is_delayed, is_first, is_truth, is_value, is_whole,
+    NONE, OR, OWNER, SUB, arguments_of, is_delayed, is_first, is_truth, is_value, is_whole,
     kind_of, node_head, of_pair, of_term, opposite, pair_argument, pair_head, pair_of, part_at,
     part_count,
 };
@@ -38,6 +38,17 @@ pub struct Mark {
     pub weights: usize,
     pub bounds: usize,
     pub equations: usize,
+}
+
+/// How much stands of what isn't taken back with cases, and the next constant that is new.
+#[derive(Clone, Copy)]
+pub struct Extent {
+    heads: (usize, usize, usize),
+    pieces: usize,
+    places: usize,
+    depths: usize,
+    elements: usize,
+    fresh: usize,
 }
 
 /// What a step of the search came to.
@@ -97,6 +108,8 @@ pub struct State {
     pub(crate) undone: usize,
     // How much was known and asked for when all was last looked through for what else is asked for.
     passed: (usize, usize, usize),
+    // How all stood when the nodes that are asked for were last looked at for first instances, and how many there were.
+    swept: (usize, usize, usize),
     // Of each node that is asked for, how the classes that it speaks of stood when it was last looked at.
     watched: Vec<usize>,
     // How many of the first clauses that may be open were looked at since they were made known for good.
@@ -160,6 +173,7 @@ impl State {
             places: Keys::new(alloc),
             undone: 0,
             passed: (NONE, NONE, NONE),
+            swept: (NONE, NONE, 0),
             watched: Vec::new(alloc),
             unsettled: 0,
         }
@@ -211,6 +225,28 @@ impl State {
         self.is_trial = false;
     }
 
+    /// How much stands of what isn't taken back with cases.
+    pub fn extent(&self) -> Extent {
+        Extent {
+            heads: self.heads.mark(),
+            pieces: self.pieces.len(),
+            places: self.places.len(),
+            depths: self.depths.len(),
+            elements: self.elements.len(),
+            fresh: self.fresh,
+        }
+    }
+
+    /// Takes back all but so much of it: what came after speaks of numbers that the bank forgot.
+    pub fn cut(&mut self, extent: Extent) {
+        self.heads.cut(extent.heads);
+        self.pieces.truncate(extent.pieces);
+        self.places.undo(extent.places);
+        self.depths.truncate(extent.depths);
+        self.elements.truncate(extent.elements);
+        self.fresh = extent.fresh;
+    }
+
     /// One more fact, which waits to be taken apart. Gives its number.
     pub fn learn(
         &mut self,
@@ -258,20 +294,36 @@ impl State {
         Ok(has_moved)
     }
 
-    // How the classes stand of which a node speaks, and how much is known of all objects and of classes.
-    fn stamp_of_all(&self, bank: &Bank, node: usize) -> usize {
-        let mut stamp = self.stamp_of(NONE);
-        if node_head(bank, node).kind == OWNER {
-            stamp = stamp.wrapping_add(self.equal.members(node));
-        }
-        for place in 0..arity(bank, node) {
-            let term = of_term(argument(bank, node, place));
-            stamp = stamp.wrapping_add(self.equal.members(term));
-        }
-        stamp
+    /// From which place on the nodes that are asked for are looked at for first instances: those before stand as they did. All are looked at then.
+    pub fn first_moved(&mut self) -> usize {
+        let (merges, known) = (self.equal.merges(), self.stamp_of_rest());
+        let from = if self.swept.0 == merges && self.swept.1 == known {
+            self.swept.2
+        } else {
+            0
+        };
+        self.swept = (merges, known, self.asked.len());
+        from
+    }
+
+    // How much is known of all objects and of classes, and how often something was taken back.
+    fn stamp_of_rest(&self) -> usize {
+        self.stamp_of(NONE)
             .wrapping_add(self.heads.len())
             .wrapping_add(self.asked.forall_count())
             .wrapping_add(self.asked.sub_count())
+    }
+
+    // How the classes stand of which a node speaks, and how much is known of all objects and of classes.
+    fn stamp_of_all(&self, bank: &Bank, node: usize) -> usize {
+        let mut stamp = self.stamp_of_rest();
+        if node_head(bank, node).kind == OWNER {
+            stamp = stamp.wrapping_add(self.equal.members(node));
+        }
+        for argument in arguments_of(bank, node) {
+            stamp = stamp.wrapping_add(self.equal.members(of_term(argument.0)));
+        }
+        stamp
     }
 
     /// Clauses for which there is nothing left to do aren't looked at any more. What is known stands for good.

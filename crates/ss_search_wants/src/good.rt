@@ -10,7 +10,7 @@ use crate::typed::good_reads;
 use ss_core::Classes;
 use ss_search_classes::{
     ALLOCATED, COMMITTED, EQUAL, FIELD, GROUP, LEVEL, NONE, OWNER, PAIR, READY, SUB, TYPE,
-    argument, is_term, node_head, of_term, pair_argument, pair_head, term_argument, term_head,
+    argument, is_term, node_head, of_term, pair_argument, term_argument, term_head,
 };
 use ss_search_proof::GoodName;
 use ss_search_state::{State, Wanted, new_request};
@@ -25,7 +25,7 @@ pub(crate) fn use_good(
     node: usize,
 ) -> Result<(), AllocError> {
     let head = node_head(bank, node);
-    if !is_term(node) && !is_wanted(state, bank, node) {
+    if !is_term(node) && !is_wanted(state, bank, node, head.kind) {
         return Ok(());
     }
     if head.kind == OWNER {
@@ -48,12 +48,12 @@ pub(crate) fn use_good(
 }
 
 // Whether an atom is open, or was made known by the goal, a case or an instance.
-fn is_wanted(state: &State, bank: &Bank, node: usize) -> bool {
+fn is_wanted(state: &State, bank: &Bank, node: usize, kind: usize) -> bool {
     let pair = node / 2;
     if state.asked.is_relevant(pair) {
         return true;
     }
-    if pair_head(bank, pair).kind == EQUAL {
+    if kind == EQUAL {
         let left = of_term(pair_argument(bank, pair, 0));
         let right = of_term(pair_argument(bank, pair, 1));
         return state.equal.relation(left, right).is_none();

@@ -35,6 +35,9 @@ pub(crate) fn class_of(state: &State, term: usize) -> usize {
 
 // The member of a class of this kind that has so many others before it, or NONE.
 pub(crate) fn member(state: &State, bank: &Bank, node: usize, kind: usize, before: usize) -> usize {
+    if !state.equal.has_kind(node, kind) {
+        return NONE;
+    }
     let mut at = node;
     let mut left = before;
     for _ in 0..state.equal.len() {

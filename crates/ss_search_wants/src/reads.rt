@@ -45,6 +45,9 @@ fn is_change(kind: usize) -> bool {
 // The rule on reads, over each changed store that is equal to the one that is read.
 pub(crate) fn reduce_read(state: &mut State, bank: &Bank, node: usize) -> Result<(), AllocError> {
     let store = of_term(argument(bank, node, 0));
+    if !state.equal.has_kind(store, SET) {
+        return Ok(());
+    }
     let mut at = store;
     for _ in 0..state.equal.len() {
         if is_term(at) && is_change(term_head(bank, at / 2).kind) {

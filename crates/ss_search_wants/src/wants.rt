@@ -5,7 +5,7 @@ use crate::levels::reduce_class;
 use crate::numbers::use_numbers;
 use crate::reads::{not_allocated_next, reduce_equality, reduce_read, split_pairs, use_foralls};
 use ss_core::Classes;
-use ss_search_classes::{ALLOCATED, EQUAL, NONE, OWNER, SUB, node_head};
+use ss_search_classes::{ALLOCATED, EQUAL, NEXT, NONE, OWNER, SUB, argument, node_head, of_term};
 use ss_search_instances::is_read;
 use ss_search_state::{State, reads_store};
 use ss_terms::Bank;
@@ -22,13 +22,14 @@ pub fn work(
         ask_for_more(state, bank)?;
     }
     let before = state.requests.len();
-    for place in 0..usize::MAX {
+    let from = if stage == 1 { state.first_moved() } else { 0 };
+    for place in from..usize::MAX {
         let node = state.asked.node(place);
         if node == NONE || state.left.instances == 0 {
             break;
         }
         if stage == 1 {
-            if state.has_moved(bank, place, node)? {
+            if may_reduce(state, bank, node) && state.has_moved(bank, place, node)? {
                 reduce(state, bank, program, node)?;
             }
         } else if stage == 2 {
@@ -49,6 +50,20 @@ fn ask_for_more(state: &mut State, bank: &Bank) -> Result<(), AllocError> {
         state.find_relevant(bank)?;
     }
     Ok(())
+}
+
+// Whether a node is a read, a literal on classes, or an equality with what may be allocated next.
+fn may_reduce(state: &State, bank: &Bank, node: usize) -> bool {
+    let kind = node_head(bank, node).kind;
+    if kind == EQUAL {
+        return is_side_next(state, argument(bank, node, 0))
+            || is_side_next(state, argument(bank, node, 1));
+    }
+    kind == SUB || reads_store(kind)
+}
+
+fn is_side_next(state: &State, side: usize) -> bool {
+    state.equal.has_kind(of_term(side), NEXT)
 }
 
 // What reads come to, and what is said of all objects.

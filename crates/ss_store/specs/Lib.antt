@@ -3,7 +3,7 @@ pub mod Names
 pub mod Room
 pub mod Slots
 pub mod Whole
-pub mod Scenes
+pub mod Contexts
 pub mod Grouped
 pub mod Effects
 pub mod Listed

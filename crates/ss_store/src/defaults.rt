@@ -6,15 +6,15 @@ ghost use Rattle.ss_core.specs.Chain.{all_fields, most_classes};
 ghost use Rattle.ss_store_rules.specs.Store as model;
 ghost use Rattle.ss_store_rules.specs.Values as values;
 ghost use Rattle.ss_store_rules.specs.Reads as reads;
-ghost use Rattle.ss_store.specs.Scenes.{setting_of};
+ghost use Rattle.ss_store.specs.Contexts.{setting_of};
 ghost use Rattle.ss_store.specs.Listed.{AreListed, holds_at};
 ghost use Rattle.ss_store.specs.Full.{is_full_among, holder_of};
 
 use crate::arithmetic::same_value;
 use crate::before::Before;
+use crate::context::Context;
 use crate::object::{Object, Slot};
 use crate::owners::{is_group, is_in_group, is_pair_upto};
-use crate::scene::Scene;
 use crate::store::Store;
 use ss_core::{ClassId, Classes, DefaultCondition, Ty};
 use ss_store_lists::Lists;
@@ -181,7 +181,7 @@ fn subject(condition: DefaultCondition) -> usize
     }
 }
 
-impl<'a, B: Before> Scene<'a, B> {
+impl<'a, B: Before> Context<'a, B> {
     fn is_this_in(&self, g: u32) -> bool
         ensures { result ≡ values.is_this_in (setting_of B.told self.now) g }
     {

@@ -5,23 +5,23 @@ ghost use Rattle.ss_core.specs.View as view;
 ghost use Rattle.ss_core.specs.Chain.{most_classes};
 ghost use Rattle.ss_store_rules.specs.Values as values;
 ghost use Rattle.ss_store_rules.specs.Reads as reads;
-ghost use Rattle.ss_store.specs.Scenes.{setting_of};
+ghost use Rattle.ss_store.specs.Contexts.{setting_of};
 ghost use Rattle.ss_store.specs.Grouped.{link_behind, step_behind, IsBehind};
 
 use crate::arithmetic::{apply, as_bool, as_int, decides, negate};
 use crate::before::Before;
+use crate::context::Context;
 use crate::names::Names;
-use crate::scene::Scene;
 use crate::store::Store;
 use ss_core::{Core, Expr, Link, Place, Quantifier, Step};
 use ss_store_rules::{Undefined, Value};
 
-impl<'a, B: Before> Scene<'a, B> {
+impl<'a, B: Before> Context<'a, B> {
     // The same inside `old`.
-    fn at_entry(&self) -> Scene<'a, B>
+    fn at_entry(&self) -> Context<'a, B>
         ensures { setting_of B.told result ≡ values.at_entry (setting_of B.told self.now) }
     {
-        Scene {
+        Context {
             classes: self.classes,
             store: self.store,
             entry: self.entry,
@@ -33,65 +33,65 @@ impl<'a, B: Before> Scene<'a, B> {
 
 // The value of an expression, or the first cause why it has none.
 #[cycle(eval)]
-pub(crate) fn eval<B: Before>(scene: &Scene<'_, B>, e: &Expr) -> Result<Value, Undefined>
-    requires { length (view.classes scene.now.classes.now) ≤ most_classes }
-    ensures { result ≡ values.value_of (view.expr e.now) (setting_of B.told scene.now) }
+pub(crate) fn eval<B: Before>(context: &Context<'_, B>, e: &Expr) -> Result<Value, Undefined>
+    requires { length (view.classes context.now.classes.now) ≤ most_classes }
+    ensures { result ≡ values.value_of (view.expr e.now) (setting_of B.told context.now) }
 {
     match e {
         Expr::Int(_, n) => Ok(Value::Int(*n)),
         Expr::Bool(_, b) => Ok(Value::Bool(*b)),
         Expr::Null(_) => Ok(Value::Null),
-        Expr::Local(_, x) => Ok(scene.local(*x)),
+        Expr::Local(_, x) => Ok(context.local(*x)),
         Expr::Iff(_, a, b) => {
-            let left = as_bool(eval(scene, a)?);
-            Ok(Value::Bool(left == as_bool(eval(scene, b)?)))
+            let left = as_bool(eval(context, a)?);
+            Ok(Value::Bool(left == as_bool(eval(context, b)?)))
         }
         Expr::Implies(_, a, b) => {
-            if !as_bool(eval(scene, a)?) {
+            if !as_bool(eval(context, a)?) {
                 return Ok(Value::Bool(true));
             }
-            Ok(Value::Bool(as_bool(eval(scene, b)?)))
+            Ok(Value::Bool(as_bool(eval(context, b)?)))
         }
         Expr::Chain(place, first, links) => {
-            let value = eval(scene, first)?;
-            eval_links(scene, *place, value, links)
+            let value = eval(context, first)?;
+            eval_links(context, *place, value, links)
         }
-        Expr::Negate(place, a) => negate(*place, eval(scene, a)?),
-        Expr::Not(_, a) => Ok(Value::Bool(!as_bool(eval(scene, a)?))),
-        Expr::Cast(place, t, non_null, a) => scene.cast(*place, *t, *non_null, eval(scene, a)?),
+        Expr::Negate(place, a) => negate(*place, eval(context, a)?),
+        Expr::Not(_, a) => Ok(Value::Bool(!as_bool(eval(context, a)?))),
+        Expr::Cast(place, t, non_null, a) => context.cast(*place, *t, *non_null, eval(context, a)?),
         Expr::Path(place, first, steps) => {
-            let value = eval(scene, first)?;
-            eval_steps(scene, *place, value, steps)
+            let value = eval(context, first)?;
+            eval_steps(context, *place, value, steps)
         }
-        Expr::Old(_, a) => eval(&scene.at_entry(), a),
+        Expr::Old(_, a) => eval(&context.at_entry(), a),
         Expr::Quantified(_, quantifier, _, low, high, member) => {
-            let low = as_int(eval(scene, low)?);
-            let high = as_int(eval(scene, high)?);
-            eval_members(scene, *quantifier, low, high, member)
+            let low = as_int(eval(context, low)?);
+            let high = as_int(eval(context, high)?);
+            eval_members(context, *quantifier, low, high, member)
         }
-        Expr::State(place, word, a) => scene.word_value(*place, *word, eval(scene, a)?),
+        Expr::State(place, word, a) => context.word_value(*place, *word, eval(context, a)?),
         Expr::Owners(place, test, a, b) => {
-            let left = eval(scene, a)?;
-            scene.owners_value(*place, *test, left, eval(scene, b)?)
+            let left = eval(context, a)?;
+            context.owners_value(*place, *test, left, eval(context, b)?)
         }
-        Expr::Default(_, condition) => Ok(Value::Bool(scene.default_holds(*condition))),
+        Expr::Default(_, condition) => Ok(Value::Bool(context.default_holds(*condition))),
     }
 }
 
 // The value of a chain that begins with an expression of this value.
 #[cycle(eval)]
 fn eval_links<B: Before>(
-    scene: &Scene<'_, B>,
+    context: &Context<'_, B>,
     place: Place,
     first: Value,
     links: &[Link],
 ) -> Result<Value, Undefined>
-    requires { length (view.classes scene.now.classes.now) ≤ most_classes }
-    ensures { IsBehind (setting_of B.told scene.now) place first (map link_behind links.now) result }
+    requires { length (view.classes context.now.classes.now) ≤ most_classes }
+    ensures { IsBehind (setting_of B.told context.now) place first (map link_behind links.now) result }
 {
     let mut value = first;
     for link in links {
-        value = eval_link(scene, place, value, link)?;
+        value = eval_link(context, place, value, link)?;
     }
     Ok(value)
 }
@@ -99,25 +99,25 @@ fn eval_links<B: Before>(
 // The value of an operand of this value with one link behind it.
 #[cycle(eval)]
 fn eval_link<B: Before>(
-    scene: &Scene<'_, B>,
+    context: &Context<'_, B>,
     place: Place,
     left: Value,
     link: &Link,
 ) -> Result<Value, Undefined>
-    requires { length (view.classes scene.now.classes.now) ≤ most_classes }
-    ensures { IsBehind (setting_of B.told scene.now) place left (link_behind link.now ∷ []) result }
+    requires { length (view.classes context.now.classes.now) ≤ most_classes }
+    ensures { IsBehind (setting_of B.told context.now) place left (link_behind link.now ∷ []) result }
 {
     match link {
         Link::Operation(operator, e) => {
             if decides(*operator, left) {
                 return Ok(Value::Bool(as_bool(left)));
             }
-            let right = eval(scene, e)?;
+            let right = eval(context, e)?;
             apply(*operator, place, left, right)
         }
-        Link::Is(t) => Ok(Value::Bool(scene.is_of(*t, left))),
+        Link::Is(t) => Ok(Value::Bool(context.is_of(*t, left))),
         Link::As(t) => {
-            if scene.is_of(*t, left) {
+            if context.is_of(*t, left) {
                 Ok(left)
             } else {
                 Ok(Value::Null)
@@ -129,17 +129,17 @@ fn eval_link<B: Before>(
 // The value of a path that begins with an expression of this value.
 #[cycle(eval)]
 fn eval_steps<B: Before>(
-    scene: &Scene<'_, B>,
+    context: &Context<'_, B>,
     place: Place,
     first: Value,
     steps: &[Step],
 ) -> Result<Value, Undefined>
-    requires { length (view.classes scene.now.classes.now) ≤ most_classes }
-    ensures { IsBehind (setting_of B.told scene.now) place first (map step_behind steps.now) result }
+    requires { length (view.classes context.now.classes.now) ≤ most_classes }
+    ensures { IsBehind (setting_of B.told context.now) place first (map step_behind steps.now) result }
 {
     let mut value = first;
     for step in steps {
-        value = eval_step(scene, place, value, step)?;
+        value = eval_step(context, place, value, step)?;
     }
     Ok(value)
 }
@@ -147,21 +147,21 @@ fn eval_steps<B: Before>(
 // The value of one step from this value.
 #[cycle(eval)]
 fn eval_step<B: Before>(
-    scene: &Scene<'_, B>,
+    context: &Context<'_, B>,
     place: Place,
     from: Value,
     step: &Step,
 ) -> Result<Value, Undefined>
-    requires { length (view.classes scene.now.classes.now) ≤ most_classes }
-    ensures { IsBehind (setting_of B.told scene.now) place from (step_behind step.now ∷ []) result }
+    requires { length (view.classes context.now.classes.now) ≤ most_classes }
+    ensures { IsBehind (setting_of B.told context.now) place from (step_behind step.now ∷ []) result }
 {
     match step {
-        Step::Field(f) => scene.read_field(place, from, *f),
+        Step::Field(f) => context.read_field(place, from, *f),
         Step::Element(e) => {
-            let index = eval(scene, e)?;
-            scene.read_element(place, from, index)
+            let index = eval(context, e)?;
+            context.read_element(place, from, index)
         }
-        Step::Length => scene.read_length(place, from),
+        Step::Length => context.read_length(place, from),
     }
 }
 
@@ -187,18 +187,18 @@ fn joined(quantifier: Quantifier, left: bool, right: bool) -> bool
 // The value of a quantifier from its bounds.
 #[cycle(eval)]
 fn eval_members<B: Before>(
-    scene: &Scene<'_, B>,
+    context: &Context<'_, B>,
     quantifier: Quantifier,
     low: i32,
     high: i32,
     member: &Expr,
 ) -> Result<Value, Undefined>
-    requires { length (view.classes scene.now.classes.now) ≤ most_classes }
-    ensures { result ≡ values.quantified quantifier (λ i. values.value_of (view.expr member.now) (values.with_bound (setting_of B.told scene.now) i)) (int_gap low high) low }
+    requires { length (view.classes context.now.classes.now) ≤ most_classes }
+    ensures { result ≡ values.quantified quantifier (λ i. values.value_of (view.expr member.now) (values.with_bound (setting_of B.told context.now) i)) (int_gap low high) low }
 {
     let mut holds = of_none(quantifier);
     for i in low..high {
-        let value = eval_member(scene, i, member)?;
+        let value = eval_member(context, i, member)?;
         holds = joined(quantifier, holds, as_bool(value));
     }
     Ok(Value::Bool(holds))
@@ -206,17 +206,21 @@ fn eval_members<B: Before>(
 
 // The value of a member, with this number bound.
 #[cycle(eval)]
-fn eval_member<B: Before>(scene: &Scene<'_, B>, i: i32, member: &Expr) -> Result<Value, Undefined>
-    requires { length (view.classes scene.now.classes.now) ≤ most_classes }
-    ensures { result ≡ values.value_of (view.expr member.now) (values.with_bound (setting_of B.told scene.now) i) }
+fn eval_member<B: Before>(
+    context: &Context<'_, B>,
+    i: i32,
+    member: &Expr,
+) -> Result<Value, Undefined>
+    requires { length (view.classes context.now.classes.now) ≤ most_classes }
+    ensures { result ≡ values.value_of (view.expr member.now) (values.with_bound (setting_of B.told context.now) i) }
 {
-    let names = Names::Bound(scene.names, Value::Int(i));
-    let inner = Scene {
-        classes: scene.classes,
-        store: scene.store,
-        entry: scene.entry,
+    let names = Names::Bound(context.names, Value::Int(i));
+    let inner = Context {
+        classes: context.classes,
+        store: context.store,
+        entry: context.entry,
         names: &names,
-        inside_old: scene.inside_old,
+        inside_old: context.inside_old,
     };
     eval(&inner, member)
 }
@@ -238,14 +242,14 @@ impl Store {
         ensures { result ≡ value_of (view.expr e.now) (setting (classes c.now.classes) self.now.objects (B.told before.now) locals.now) }
     {
         let names = Names::Locals(locals);
-        let scene = Scene {
+        let context = Context {
             classes: &c.classes,
             store: self,
             entry: before,
             names: &names,
             inside_old: false,
         };
-        eval(&scene, e)
+        eval(&context, e)
     }
 
     /// The value that an expression had at the entry of the body, or the first cause why it had none; `before` tells the store
@@ -261,13 +265,13 @@ impl Store {
         ensures { result ≡ value_of (view.expr e.now) (values.at_entry (setting (classes c.now.classes) self.now.objects (B.told before.now) locals.now)) }
     {
         let names = Names::Locals(locals);
-        let scene = Scene {
+        let context = Context {
             classes: &c.classes,
             store: self,
             entry: before,
             names: &names,
             inside_old: true,
         };
-        eval(&scene, e)
+        eval(&context, e)
     }
 }

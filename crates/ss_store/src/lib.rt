@@ -4,6 +4,7 @@
 mod arithmetic;
 mod before;
 mod calls;
+mod context;
 mod copies;
 mod defaults;
 mod effects;
@@ -20,17 +21,16 @@ mod owners;
 mod reads;
 mod ready;
 mod refused;
-mod scene;
 mod store;
 mod words;
 mod writes;
 
 pub use arithmetic::same_value;
 pub use before::Before;
+pub use context::owner_of_pair;
 pub use inputs::{admitted, first_store};
 pub use making::NewStop;
 pub use object::{NO_CLASS, Slot};
 pub use owners::{is_group, is_pair_upto, same_owner};
-pub use scene::owner_of_pair;
 pub use ss_store_rules::{Refused, Undefined, Value};
 pub use store::{Store, slot_value};

@@ -2,11 +2,11 @@
 ghost use Rattle.std.specs.Prelude.{◌≡◌};
 ghost use Rattle.ss_store_rules.specs.Values as values;
 ghost use Rattle.ss_store_rules.specs.Reads.{as_int};
-ghost use Rattle.ss_store.specs.Scenes.{setting_of};
+ghost use Rattle.ss_store.specs.Contexts.{setting_of};
 
 use crate::arithmetic::{as_int, undefined};
 use crate::before::Before;
-use crate::scene::Scene;
+use crate::context::Context;
 use ss_core::{ClassId, FieldId, Kind, Place};
 use ss_store_rules::{Undefined, Value};
 
@@ -20,7 +20,7 @@ pub(crate) fn object_of(place: Place, value: Value) -> Result<u32, Undefined>
     }
 }
 
-impl<'a, B: Before> Scene<'a, B> {
+impl<'a, B: Before> Context<'a, B> {
     /// The object that the value refers to, whose state may be read.
     pub(crate) fn readable_of(&self, place: Place, value: Value) -> Result<u32, Undefined>
         ensures { result ≡ values.readable_of (setting_of B.told self.now) place value }

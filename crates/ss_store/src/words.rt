@@ -2,16 +2,16 @@
 ghost use Rattle.std.specs.Prelude.{◌≡◌};
 ghost use Rattle.ss_core.specs.View.{word_tree, owners_tree};
 ghost use Rattle.ss_store_rules.specs.Values as values;
-ghost use Rattle.ss_store.specs.Scenes.{setting_of};
+ghost use Rattle.ss_store.specs.Contexts.{setting_of};
 
 use crate::before::Before;
+use crate::context::Context;
 use crate::owners::{is_group, is_pair, same_owner};
 use crate::reads::object_of;
-use crate::scene::Scene;
 use ss_core::{OwnerTest, Place, StateWord};
 use ss_store_rules::{Undefined, Value};
 
-impl<'a, B: Before> Scene<'a, B> {
+impl<'a, B: Before> Context<'a, B> {
     fn word_object(&self, place: Place, word: StateWord, value: Value) -> Result<u32, Undefined>
         ensures { result ≡ values.word_object (setting_of B.told self.now) place (word_tree word) value }
     {

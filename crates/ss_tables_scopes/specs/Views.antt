@@ -4,7 +4,7 @@ use Rattle.ss_tables_lookup.specs.Classes.{trees}
 use Rattle.ss_tables_lookup.specs.Views.{type_of, declared_method}
 use Rattle.ss_tables.specs.Scopes.{Scope}
 use Rattle.ss_tables.specs.Statics as statics
-use Rattle.ss_tables_scopes.specs.declared.within.Within.{Within}
+use Rattle.ss_tables_scopes.specs.declared.class_context.ClassContext.{ClassContext}
 use Rattle.ss_tables_scopes.specs.declared.statics.Receiver.{Receiver}
 use Rattle.ss_tables_scopes.specs.declared.statics.Receiver.TheVariants as before
 use Rattle.ss_tables_scopes.specs.declared.statics.Callee.{Callee}
@@ -12,7 +12,7 @@ use Rattle.ss_tables_scopes.specs.declared.statics.Callee.TheVariants as callee
 use Rattle.ss_tables_scopes.specs.Names.{Names, scope_with}
 
 -- the scope of a place with these locals
-abbrev pub scope_of : Within → Names → Scope
+abbrev pub scope_of : ClassContext → Names → Scope
 scope_of w names = scope_with (trees w.tables.now) w.class w.refuses_members w.refuses_this (option_map type_of w.outcome) names
 
 abbrev pub receiver_of : Receiver → statics.Receiver

@@ -1,15 +1,16 @@
 //! The locals that are in scope within a body, and the static types of names, members, links and calls.
 #![tactic(auto)]
 
+mod class_context;
 mod local;
 mod modifiers;
 mod scopes;
 mod scoping;
 mod statics;
 mod types;
-mod within;
 mod words;
 
+pub use class_context::ClassContext;
 pub use local::{LocalInfo, Scopes, is_parameter, local_type};
 pub use modifiers::{has_attribute, is_open_word, is_override_word, is_static_word};
 pub use scopes::NameScopes;
@@ -22,7 +23,6 @@ pub use statics::{
     new_type, place_of_class, read_type, result_type,
 };
 pub use types::{link_type, type_of_cast, type_of_element};
-pub use within::Within;
 pub use words::{
     is_console, is_length, is_owner, is_owner_word, is_print, is_state_call, is_state_read,
     is_state_word,

@@ -9,24 +9,24 @@ ghost use Rattle.ss_tables.specs.Types.{written_type};
 ghost use Rattle.ss_tables_lookup.specs.Classes.{trees};
 ghost use Rattle.ss_tables_scopes.specs.Views.{scope_of};
 
+use crate::class_context::ClassContext;
 use crate::local::{LocalInfo, Scopes};
-use crate::within::Within;
 use ss_ast::{Declaration, Declarator, ForInit, Name, Param, TypeRef};
 use std::alloc::{AllocError, Global};
 
 /// Declares a local of a written type.
 pub fn declare_local(
     alloc: Global,
-    within: Within<'_, '_>,
+    context: ClassContext<'_, '_>,
     locals: &mut Scopes,
     ty: &TypeRef,
     name: &Name,
 ) -> Result<(), AllocError>
-    ensures declared { OnOk result (scope_of within.entry locals.new ≡ declare_local (scope_of within.entry locals.old) (type_tree ty.now) (name_tree name.now)) }
+    ensures declared { OnOk result (scope_of context.entry locals.new ≡ declare_local (scope_of context.entry locals.old) (type_tree ty.now) (name_tree name.now)) }
     ensures around { OnOk result (locals.new.outer ≡ locals.old.outer) }
 {
     let local = LocalInfo {
-        ty: within.tables.written_type(ty),
+        ty: context.tables.written_type(ty),
         is_param: false,
     };
     locals.declare(alloc, name.text.as_str(), local)
@@ -35,15 +35,15 @@ pub fn declare_local(
 /// Declares a parameter.
 pub fn declare_param(
     alloc: Global,
-    within: Within<'_, '_>,
+    context: ClassContext<'_, '_>,
     locals: &mut Scopes,
     param: &Param,
 ) -> Result<(), AllocError>
-    ensures { OnOk result (scope_of within.entry locals.new
-        ≡ declare (scope_of within.entry locals.old) (param_tree param.now).name.text (record { ty = written_type (trees within.entry.tables.now) (param_tree param.now).ty; is_param = true })) }
+    ensures { OnOk result (scope_of context.entry locals.new
+        ≡ declare (scope_of context.entry locals.old) (param_tree param.now).name.text (record { ty = written_type (trees context.entry.tables.now) (param_tree param.now).ty; is_param = true })) }
 {
     let local = LocalInfo {
-        ty: within.tables.written_type(&param.ty),
+        ty: context.tables.written_type(&param.ty),
         is_param: true,
     };
     locals.declare(alloc, param.name.text.as_str(), local)
@@ -52,30 +52,30 @@ pub fn declare_param(
 /// Declares parameters.
 pub fn declare_params(
     alloc: Global,
-    within: Within<'_, '_>,
+    context: ClassContext<'_, '_>,
     locals: &mut Scopes,
     params: &[Param],
 ) -> Result<(), AllocError>
-    ensures { OnOk result (scope_of within.entry locals.new ≡ declare_params (scope_of within.entry locals.old) (map param_tree params.now)) }
+    ensures { OnOk result (scope_of context.entry locals.new ≡ declare_params (scope_of context.entry locals.old) (map param_tree params.now)) }
 {
     for param in params {
-        declare_param(alloc, within, locals, param)?;
+        declare_param(alloc, context, locals, param)?;
     }
     Ok(())
 }
 
 fn declare_all(
     alloc: Global,
-    within: Within<'_, '_>,
+    context: ClassContext<'_, '_>,
     locals: &mut Scopes,
     ty: &TypeRef,
     declarators: &[Declarator],
 ) -> Result<(), AllocError>
-    ensures declared { OnOk result (scope_of within.entry locals.new ≡ declare_all (scope_of within.entry locals.old) (type_tree ty.now) (map declarator_tree declarators.now)) }
+    ensures declared { OnOk result (scope_of context.entry locals.new ≡ declare_all (scope_of context.entry locals.old) (type_tree ty.now) (map declarator_tree declarators.now)) }
     ensures around { OnOk result (locals.new.outer ≡ locals.old.outer) }
 {
     for declarator in declarators {
-        declare_local(alloc, within, locals, ty, &declarator.name)?;
+        declare_local(alloc, context, locals, ty, &declarator.name)?;
     }
     Ok(())
 }
@@ -83,16 +83,16 @@ fn declare_all(
 /// Declares the locals of a declaration.
 pub fn declare_declaration(
     alloc: Global,
-    within: Within<'_, '_>,
+    context: ClassContext<'_, '_>,
     locals: &mut Scopes,
     declaration: &Declaration,
 ) -> Result<(), AllocError>
-    ensures declared { OnOk result (scope_of within.entry locals.new ≡ behind_declaration (scope_of within.entry locals.old) (declaration_tree declaration.now)) }
+    ensures declared { OnOk result (scope_of context.entry locals.new ≡ behind_declaration (scope_of context.entry locals.old) (declaration_tree declaration.now)) }
     ensures around { OnOk result (locals.new.outer ≡ locals.old.outer) }
 {
     declare_all(
         alloc,
-        within,
+        context,
         locals,
         &declaration.ty,
         &declaration.declarators,
@@ -102,16 +102,16 @@ pub fn declare_declaration(
 /// Declares what a `for` begins with.
 pub fn declare_init(
     alloc: Global,
-    within: Within<'_, '_>,
+    context: ClassContext<'_, '_>,
     locals: &mut Scopes,
     init: &Option<ForInit>,
 ) -> Result<(), AllocError>
-    ensures declared { OnOk result (scope_of within.entry locals.new ≡ behind_init (scope_of within.entry locals.old) (option_map for_init_tree init.now)) }
+    ensures declared { OnOk result (scope_of context.entry locals.new ≡ behind_init (scope_of context.entry locals.old) (option_map for_init_tree init.now)) }
     ensures around { OnOk result (locals.new.outer ≡ locals.old.outer) }
 {
     match init {
         Some(ForInit::Declare(declaration)) => {
-            declare_declaration(alloc, within, locals, declaration)
+            declare_declaration(alloc, context, locals, declaration)
         }
         Some(ForInit::Simple(_)) | None => Ok(()),
     }

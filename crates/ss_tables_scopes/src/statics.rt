@@ -12,9 +12,9 @@ ghost use Rattle.ss_tables_lookup.specs.Views.{type_of, method_tree, constructor
 ghost use Rattle.ss_tables_scopes.specs.Names.{Names};
 ghost use Rattle.ss_tables_scopes.specs.Views.{scope_of, receiver_of, callee_of};
 
+use crate::class_context::ClassContext;
 use crate::local::{Scopes, local_type};
 use crate::modifiers::is_static_word;
-use crate::within::Within;
 use crate::words::{
     is_console, is_length, is_owner, is_owner_word, is_print, is_state_call, is_state_read,
     is_state_word,
@@ -63,10 +63,10 @@ pub fn is_member(tables: &Tables<'_>, class: usize, name: &str) -> bool
 }
 
 /// Whether a bare name means something.
-pub fn is_known(within: Within<'_, '_>, locals: &Scopes, name: &str) -> bool
-    ensures { result ≡ is_known (scope_of within.entry locals.now) name.now }
+pub fn is_known(context: ClassContext<'_, '_>, locals: &Scopes, name: &str) -> bool
+    ensures { result ≡ is_known (scope_of context.entry locals.now) name.now }
 {
-    locals.find(name).is_some() || is_member(within.tables, within.class, name)
+    locals.find(name).is_some() || is_member(context.tables, context.class, name)
 }
 
 fn class_or_value(class: Option<usize>, ty: Option<StaticType>) -> Receiver
@@ -80,12 +80,12 @@ fn class_or_value(class: Option<usize>, ty: Option<StaticType>) -> Receiver
 
 /// What a bare name is before a dot.
 pub fn name_receiver(
-    within: Within<'_, '_>,
+    context: ClassContext<'_, '_>,
     locals: &Scopes,
     name: &str,
     ty: Option<StaticType>,
 ) -> Receiver
-    ensures { receiver_of result ≡ name_receiver (scope_of within.entry locals.now) name.now (option_map type_of ty) }
+    ensures { receiver_of result ≡ name_receiver (scope_of context.entry locals.now) name.now (option_map type_of ty) }
 {
     if locals.find(name).is_some() {
         return Receiver::Value(ty);
@@ -96,10 +96,10 @@ pub fn name_receiver(
     if is_owner(name) {
         return Receiver::Owner;
     }
-    if is_member(within.tables, within.class, name) {
+    if is_member(context.tables, context.class, name) {
         return Receiver::Value(ty);
     }
-    class_or_value(within.tables.class_named(name), ty)
+    class_or_value(context.tables.class_named(name), ty)
 }
 
 fn type_of_field(tables: &Tables<'_>, field: Option<(usize, FieldRef<'_>)>) -> Option<StaticType>
@@ -112,23 +112,23 @@ fn type_of_field(tables: &Tables<'_>, field: Option<(usize, FieldRef<'_>)>) -> O
 }
 
 // A field of `this`.
-fn this_field_type(within: Within<'_, '_>, name: &str) -> Option<StaticType>
-    ensures { option_map type_of result ≡ unless_refused within.entry.refuses_members
-        (type_of_field (trees within.entry.tables.now) (field_of (trees within.entry.tables.now) within.entry.class name.now)) }
+fn this_field_type(context: ClassContext<'_, '_>, name: &str) -> Option<StaticType>
+    ensures { option_map type_of result ≡ unless_refused context.entry.refuses_members
+        (type_of_field (trees context.entry.tables.now) (field_of (trees context.entry.tables.now) context.entry.class name.now)) }
 {
-    if within.refuses_members {
+    if context.refuses_members {
         return None;
     }
-    type_of_field(within.tables, within.tables.field_of(within.class, name))
+    type_of_field(context.tables, context.tables.field_of(context.class, name))
 }
 
 /// The static type of a bare name: that of a local, else that of a field of `this`.
-pub fn name_type(within: Within<'_, '_>, locals: &Scopes, name: &str) -> Option<StaticType>
-    ensures { option_map type_of result ≡ name_type (scope_of within.entry locals.now) name.now }
+pub fn name_type(context: ClassContext<'_, '_>, locals: &Scopes, name: &str) -> Option<StaticType>
+    ensures { option_map type_of result ≡ name_type (scope_of context.entry locals.now) name.now }
 {
     match locals.find(name) {
         Some(local) => local_type(local),
-        None => this_field_type(within, name),
+        None => this_field_type(context, name),
     }
 }
 
@@ -241,18 +241,18 @@ fn kind_callee<'p>(wants_static: bool, method: Option<(usize, MethodRef<'p>)>) -
 }
 
 /// What a call of a bare name calls.
-pub fn name_callee<'p>(within: Within<'_, 'p>, locals: &Scopes, name: &str) -> Callee<'p>
-    ensures { callee_of result ≡ name_callee (scope_of within.entry locals.now) name.now }
+pub fn name_callee<'p>(context: ClassContext<'_, 'p>, locals: &Scopes, name: &str) -> Callee<'p>
+    ensures { callee_of result ≡ name_callee (scope_of context.entry locals.now) name.now }
 {
     if locals.find(name).is_some() {
         return Callee::Nothing;
     }
-    if within.tables.field_of(within.class, name).is_some() {
+    if context.tables.field_of(context.class, name).is_some() {
         return Callee::Nothing;
     }
     method_callee(
-        within.refuses_members,
-        within.tables.method_of(within.class, name),
+        context.refuses_members,
+        context.tables.method_of(context.class, name),
     )
 }
 
@@ -318,8 +318,8 @@ fn level_callee<'p>(ty: Option<StaticType>) -> Callee<'p>
 }
 
 // A method or a state word of a value.
-fn value_callee<'p>(within: Within<'_, 'p>, name: &str, ty: Option<StaticType>) -> Callee<'p>
-    ensures { (names : Names) → callee_of result ≡ member_callee (scope_of within.entry names) name.now (receiver_of (Receiver.Value ty)) }
+fn value_callee<'p>(context: ClassContext<'_, 'p>, name: &str, ty: Option<StaticType>) -> Callee<'p>
+    ensures { (names : Names) → callee_of result ≡ member_callee (scope_of context.entry names) name.now (receiver_of (Receiver.Value ty)) }
 {
     if is_state_call(name) {
         return level_callee(ty);
@@ -327,25 +327,25 @@ fn value_callee<'p>(within: Within<'_, 'p>, name: &str, ty: Option<StaticType>) 
     if is_state_read(name) {
         return Callee::Nothing;
     }
-    method_at(within.tables, name, place_of_class(class_of_type(ty)))
+    method_at(context.tables, name, place_of_class(class_of_type(ty)))
 }
 
-fn base_callee<'p>(within: Within<'_, 'p>, name: &str) -> Callee<'p>
-    ensures { (names : Names) → callee_of result ≡ member_callee (scope_of within.entry names) name.now (receiver_of Receiver.Base) }
+fn base_callee<'p>(context: ClassContext<'_, 'p>, name: &str) -> Callee<'p>
+    ensures { (names : Names) → callee_of result ≡ member_callee (scope_of context.entry names) name.now (receiver_of Receiver.Base) }
 {
-    if within.refuses_members || is_state_word(name) {
+    if context.refuses_members || is_state_word(name) {
         return Callee::Nothing;
     }
-    kind_callee(false, within.tables.inherited_method(within.class, name))
+    kind_callee(false, context.tables.inherited_method(context.class, name))
 }
 
-fn class_callee<'p>(within: Within<'_, 'p>, class: usize, name: &str) -> Callee<'p>
-    ensures { (names : Names) → callee_of result ≡ member_callee (scope_of within.entry names) name.now (receiver_of (Receiver.Class class)) }
+fn class_callee<'p>(context: ClassContext<'_, 'p>, class: usize, name: &str) -> Callee<'p>
+    ensures { (names : Names) → callee_of result ≡ member_callee (scope_of context.entry names) name.now (receiver_of (Receiver.Class class)) }
 {
     if is_state_word(name) {
         return Callee::Nothing;
     }
-    kind_callee(true, within.tables.method_of(class, name))
+    kind_callee(true, context.tables.method_of(class, name))
 }
 
 fn console_callee<'p>(name: &str) -> Callee<'p>
@@ -369,15 +369,19 @@ fn owner_callee<'p>(name: &str) -> Callee<'p>
 }
 
 /// What a call of what stands behind a dot calls.
-pub fn member_callee<'p>(within: Within<'_, 'p>, name: &str, receiver: Receiver) -> Callee<'p>
-    ensures { (names : Names) → callee_of result ≡ member_callee (scope_of within.entry names) name.now (receiver_of receiver) }
+pub fn member_callee<'p>(
+    context: ClassContext<'_, 'p>,
+    name: &str,
+    receiver: Receiver,
+) -> Callee<'p>
+    ensures { (names : Names) → callee_of result ≡ member_callee (scope_of context.entry names) name.now (receiver_of receiver) }
 {
     match receiver {
         Receiver::Console => console_callee(name),
         Receiver::Owner => owner_callee(name),
-        Receiver::Base => base_callee(within, name),
-        Receiver::Class(class) => class_callee(within, class, name),
-        Receiver::Value(ty) => value_callee(within, name, ty),
+        Receiver::Base => base_callee(context, name),
+        Receiver::Class(class) => class_callee(context, class, name),
+        Receiver::Value(ty) => value_callee(context, name, ty),
     }
 }
 

@@ -11,8 +11,8 @@ ghost use Rattle.ss_tables_lookup.specs.Views.{type_of};
 ghost use Rattle.ss_tables_scopes.specs.Names.{Names};
 ghost use Rattle.ss_tables_scopes.specs.Views.{scope_of};
 
+use crate::class_context::ClassContext;
 use crate::statics::{cast_type, class_of_type};
-use crate::within::Within;
 use ss_ast::{Link, Operator, TypeRef};
 use ss_tables_lookup::{StaticType, Tables, element_type, nullable};
 
@@ -61,13 +61,13 @@ fn type_of_as(tables: &Tables<'_>, ty: &TypeRef) -> Option<StaticType>
 }
 
 /// The type of an expression with this link behind it.
-pub fn link_type(within: Within<'_, '_>, link: &Link) -> Option<StaticType>
-    ensures { (names : Names) → (p : Place) → (e : ExprTree) → option_map type_of result ≡ static (scope_of within.entry names) (link_behind link.now p e) }
+pub fn link_type(context: ClassContext<'_, '_>, link: &Link) -> Option<StaticType>
+    ensures { (names : Names) → (p : Place) → (e : ExprTree) → option_map type_of result ≡ static (scope_of context.entry names) (link_behind link.now p e) }
 {
     match link {
         Link::Operation(operator, _) => Some(operation_type(*operator)),
         Link::Is(_) => Some(StaticType::Bool),
-        Link::As(ty) => type_of_as(within.tables, ty),
+        Link::As(ty) => type_of_as(context.tables, ty),
     }
 }
 

@@ -1,5 +1,5 @@
 -- What the numbers of a bank stand for, as it grows.
-use Rattle.std.proofs.Common.{◌≡◌, ℕ, zero, suc, ◌+◌, ◌*◌, ◌/◌, ◌%◌, ◌<◌, List, [], ◌∷◌, ◌++◌, length, map, Option, Some, None, true, eqb, refl, sym, ◌∙◌, ap, subst, ⊎_elim, arith}
+use Rattle.std.proofs.Common.{◌≡◌, ℕ, zero, suc, ◌+◌, ◌*◌, ◌/◌, ◌%◌, ◌<◌, List, [], ◌∷◌, ◌++◌, length, map, Option, Some, None, true, eqb, refl, sym, ◌∙◌, ap, subst, ◌⊎◌, ⊎_elim, arith}
 use Rattle.std.proofs.lemmas.List.{length_push, map_push, length-map}
 use Rattle.std.proofs.lemmas.Option.{slice_get_within, slice_get-map}
 use Rattle.std.proofs.lemmas.Bool.{cases_eq, eq-eqb, ne_eqb, false_from_ne_true}
@@ -24,19 +24,19 @@ use Rattle.ss_terms.specs.declared.forms.Term.{Term}
 use Rattle.ss_terms.specs.declared.forms.Formula.{Formula}
 use Rattle.ss_terms.specs.declared.bank.Beside.{Beside}
 use Rattle.ss_terms.specs.declared.bank.BesideTerm.{BesideTerm}
-use Rattle.ss_terms.specs.Forms.{TermShape, Shape, LiteralShape, AndShape, OrShape, ForallShape, ExistsShape, term_shape, shape_of, Forms, term_of, formula_of, build_term, no_term, term_at, with_sign, build_formula, nothing, pair_at, formula_at, HasTerm, HasFormula, TermBelow, ShapeBelow, HasArguments, HasParts, IsTermForm, IsFormulaForm, IsGrown, opposite_shape, is_plain, IsBankOf, predicate_of}
+use Rattle.ss_terms.specs.Forms.{TermShape, Shape, LiteralShape, AndShape, OrShape, ForallShape, ExistsShape, term_shape, shape_of, Forms, term_of, formula_of, build_term, no_term, term_at, with_sign, build_formula, nothing, pair_at, formula_at, HasTerm, HasFormula, TermBelow, ShapeBelow, HasArguments, HasParts, IsTermForm, IsFormulaForm, IsGrown, NamesBelow, AreNamed, opposite_shape, is_plain, IsBankOf, predicate_of}
 use Rattle.ss_terms.specs.Bank.{forms_of, IsPlain, AnyTerm, PairBelow, number, IsBesideTerm, IsBeside, IsBank}
 use Rattle.ss_terms.specs.Highest.{highest_of_term, highest}
 use Rattle.ss_terms.proofs.Same.{term_id, formula_id}
 use Rattle.ss_terms.proofs.Signs.{others_below, other_below, signed_plain, signed_negated, signed_apart, formula_of-opposite}
 use Rattle.ss_terms.proofs.Parts.{neg_formed}
 use Rattle.ss_terms.proofs.Highest.{neg_highest}
-use Rattle.ss_terms.proofs.Trees.{arguments_same, term_same, term_upward, term_equal, AreTermsBelow-more, shape_upward, form_same, form_upward, form_equal, plain_formula}
+use Rattle.ss_terms.proofs.Trees.{arguments_same, term_same, term_upward, term_equal, AreTermsBelow-more, shape_upward, names_below, form_same, form_upward, form_equal, plain_formula}
 
 shape_get : {K X N : Type 0} (form : K → N) (es : List (K × X)) (k : ℕ) (e : K × X) → slice_get es k ≡ Some e → slice_get (map form (keys_of es)) k ≡ Some (form e.0)
 shape_get form es k e at = slice_get-map form (keys_of es) k ∙ ap (option_map form) (slice_get-map (λ x. x.0) es k ∙ ap (option_map (λ x. x.0)) at)
 
-entry_get : {K X : Type 0} (es : List (K × X)) (k : ℕ) (v : X) → slice_get (map (λ e. e.1) es) k ≡ Some v → (e : K × X) × (slice_get es k ≡ Some e) × (e.1 ≡ v)
+pub entry_get : {K X : Type 0} (es : List (K × X)) (k : ℕ) (v : X) → slice_get (map (λ e. e.1) es) k ≡ Some v → (e : K × X) × (slice_get es k ≡ Some e) × (e.1 ≡ v)
 entry_get {K} {X} es k v at = by (slice_get es k) refl (sym (slice_get-map (λ e. e.1) es k) ∙ at)
   where
     by : (o : Option (K × X)) → slice_get es k ≡ o → option_map (λ e. e.1) o ≡ Some v → (e : K × X) × (slice_get es k ≡ Some e) × (e.1 ≡ v)
@@ -46,7 +46,7 @@ entry_get {K} {X} es k v at = by (slice_get es k) refl (sym (slice_get-map (λ e
 shapes_push : {K X N : Type 0} (form : K → N) (es : List (K × X)) (e : K × X) → map form (keys_of (es ++ e ∷ [])) ≡ map form (keys_of es) ++ form e.0 ∷ []
 shapes_push form es e = ap (map form) (map_push (λ x. x.0) es e) ∙ map_push form (keys_of es) e.0
 
-length-shapes : {K X N : Type 0} (form : K → N) (es : List (K × X)) → length (map form (keys_of es)) ≡ length es
+pub length-shapes : {K X N : Type 0} (form : K → N) (es : List (K × X)) → length (map form (keys_of es)) ≡ length es
 length-shapes form es = length-map (keys_of es) form ∙ length-map es (λ x. x.0)
 
 -- a bank
@@ -195,6 +195,7 @@ module _ (fs : List Sort) (ts : List (Term × BesideTerm)) (es : List (Formula �
         negation = (ok.beside k x at).negation;
         formed = λ cs is. (ok.beside k x at).formed cs is ∙ ap (is_well_formed cs []) (sym (pairs_kept k));
         constants = (ok.beside k x at).constants ∙ ap highest (sym (pairs_kept k));
+        named = (ok.beside k x at).named;
       };
     }
       where
@@ -253,8 +254,8 @@ module _ (fs : List Sort) (ts : List (Term × BesideTerm)) (es : List (Formula �
     pub IsBank-pair : is_plain (shape_of e.0) ≡ true → HasParts Old (shape_of e.0) → ((k : ℕ) → slice_get shapes k ≡ Some (shape_of e.0) → ⊥) →
         shape_of e.1.negation ≡ opposite_shape (shape_of e.0) →
         ((cs : List ClassTree) → IsBankOf cs Old → e.1.is_well_formed ≡ is_well_formed cs [] (formula_of (term_at Old) (formula_at Old) (shape_of e.0))) →
-        e.1.highest ≡ highest (formula_of (term_at Old) (formula_at Old) (shape_of e.0)) → IsBank fs ts (es ++ e ∷ [])
-    IsBank-pair plain parts absent negation formed constants = record {
+        e.1.highest ≡ highest (formula_of (term_at Old) (formula_at Old) (shape_of e.0)) → e.1.terms ≡ length Old.terms → IsBank fs ts (es ++ e ∷ [])
+    IsBank-pair plain parts absent negation formed constants terms = record {
       terms_apart = ok.terms_apart;
       formulas_apart =
           subst (AreInterned nothing (build_formula (term_at Old)) (PairBelow (length term_shapes)) IsPlain) (sym (shapes_push shape_of es e))
@@ -265,6 +266,15 @@ module _ (fs : List Sort) (ts : List (Term × BesideTerm)) (es : List (Formula �
       beside = λ k x at. ⊎_elim (old k x) (new k x) (slice_get-push_cases es e x k at);
     }
       where
+        form_there : (i : ℕ) (n : Shape) → slice_get WithPair.formulas i ≡ Some n → (slice_get shapes i ≡ Some n) ⊎ ((i ≡ length shapes) × (shape_of e.0 ≡ n))
+        form_there i n at = slice_get-push_cases shapes (shape_of e.0) n i (ap (λ ns. slice_get ns i) (sym (shapes_push shape_of es e)) ∙ at)
+
+        all_named : AreNamed (length term_shapes) (length shapes + 1) WithPair
+        all_named i n h at = ⊎_elim
+            (λ there. names_below (length term_shapes) (i * 2) n (ok.formulas_apart.below i n there))
+            (λ last. subst (NamesBelow (length term_shapes)) last.1 (names_below (length term_shapes) (length shapes * 2) (shape_of e.0) parts))
+            (form_there i n at)
+
         old : (k : ℕ) (x : Formula × Beside) → slice_get es k ≡ Some x → IsBeside WithPair k x
         old k x at =
             let h : k < length shapes = omega (arith, slice_get_within es k x at, length-shapes shape_of es) in
@@ -272,6 +282,7 @@ module _ (fs : List Sort) (ts : List (Term × BesideTerm)) (es : List (Formula �
               negation = (ok.beside k x at).negation;
               formed = λ cs is. (ok.beside k x at).formed cs is ∙ ap (is_well_formed cs []) (sym (pair_kept k h));
               constants = (ok.beside k x at).constants ∙ ap highest (sym (pair_kept k h));
+              named = λ i n below there. ⊎_elim ((ok.beside k x at).named i n below) (λ last. absurd (omega (arith, last.0, below, h))) (form_there i n there);
             }
 
         new : (k : ℕ) (x : Formula × Beside) → (k ≡ length es) × (e ≡ x) → IsBeside WithPair k x
@@ -279,6 +290,7 @@ module _ (fs : List Sort) (ts : List (Term × BesideTerm)) (es : List (Formula �
           negation = negation;
           formed = λ cs is. formed cs is ∙ ap (is_well_formed cs []) (sym (pair_new k p.0));
           constants = constants ∙ ap highest (sym (pair_new k p.0));
+          named = λ i n below. subst (λ b. slice_get WithPair.formulas i ≡ Some n → NamesBelow b n) (sym terms) (all_named i n (omega (arith, below, p.0, length-shapes shape_of es)));
         })
 
 -- the number after that of a formula stands for the negation

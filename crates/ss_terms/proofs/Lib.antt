@@ -6,4 +6,5 @@ pub mod Parts
 pub mod Highest
 pub mod Trees
 pub mod Banks
+pub mod Fronts
 pub mod Grown

@@ -3,7 +3,7 @@ use Rattle.std.proofs.Common.{◌≡◌, ℕ, zero, suc, ◌+◌, ◌<◌, List,
 use Rattle.std.proofs.lemmas.List.{drop_more}
 use Rattle.ss_core.specs.Tree.{ClassTree}
 use Rattle.ss_logic.specs.declared.Sort.{Sort}
-use Rattle.std.specs.Prelude.{Result, Ok, IfOk}
+use Rattle.std.specs.Prelude.{Result, IfOk}
 use Rattle.ss_logic.specs.Terms.{Symbol, App, terms_from, takes, sort_of, is_well_sorted, are_well_sorted}
 use Rattle.ss_terms.proofs.Sorted.{list_back}
 use Rattle.ss_logic.specs.Formulas.{Predicate, takes_sorts, Formula, Formulas, Literal, And, Or, Forall, Exists, no_formulas, formula_then, formulas_from, is_well_formed, are_well_formed, are_bound_sorts, neg, neg_all}
@@ -65,9 +65,6 @@ module _ (cs : List ClassTree) (bound : List Sort) (b : Forms) (f : Symbol) (ts 
 
 pub if_ok_same : {E : Type 0} (r : Result Bool E) (x y : Bool) → x ≡ y → IfOk r (λ v. v ≡ x) → IfOk r (λ v. v ≡ y)
 if_ok_same r x y e h = subst (λ z. IfOk r (λ v. v ≡ z)) e h
-
-pub if_ok_at : {A E : Type 0} (P : A → Type 0) (r : Result A E) (x : A) → r ≡ Ok x → IfOk r P → P x
-if_ok_at P r x e h = subst (λ z. IfOk z P) e h
 
 pub literal_formed : (cs : List ClassTree) (bound : List Sort) (b : Forms) (s : Bool) (p : Predicate) (ts us : List TermId) → us ≡ ts →
     (takes_sorts p (map (sort_of cs bound) (terms_at b us)) && Sorted cs bound b us) ≡ is_well_formed cs bound (Literal s p (terms_from (terms_at b ts)))

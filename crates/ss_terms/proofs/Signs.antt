@@ -48,27 +48,6 @@ pub others_below : (k : ℕ) (fs : List FormulaId) → AreBelow (k * 2) fs → A
 others_below k [] h = tt
 others_below k (f ∷ fs) h = (other_below k f h.0, others_below k fs h.1)
 
-pub other_other : (f : FormulaId) → other (other f) ≡ f
-other_other f = formula_id _ _ (⊎_elim even odd (split_number f.0))
-  where
-    even : (f.0 ≡ f.0 / 2 * 2 + 0) × (f.0 % 2 ≡ 0) → (other (other f)).0 ≡ f.0
-    even p =
-        let at : (other f).0 ≡ f.0 / 2 * 2 + 1 = ap (λ r. f.0 / 2 * 2 + (1 - r)) p.1 in
-        let h : (other f).0 / 2 ≡ f.0 / 2 = ap (λ n. n / 2) at ∙ half_of (f.0 / 2) 1 (omega arith) in
-        let s : (other f).0 % 2 ≡ 1 = ap (λ n. n % 2) at ∙ sign_of (f.0 / 2) 1 (omega arith) in
-        ap (λ k. k * 2 + (1 - (other f).0 % 2)) h ∙ ap (λ r. f.0 / 2 * 2 + (1 - r)) s ∙ sym p.0
-
-    odd : (f.0 ≡ f.0 / 2 * 2 + 1) × (f.0 % 2 ≡ 1) → (other (other f)).0 ≡ f.0
-    odd p =
-        let at : (other f).0 ≡ f.0 / 2 * 2 + 0 = ap (λ r. f.0 / 2 * 2 + (1 - r)) p.1 in
-        let h : (other f).0 / 2 ≡ f.0 / 2 = ap (λ n. n / 2) at ∙ half_of (f.0 / 2) 0 (omega arith) in
-        let s : (other f).0 % 2 ≡ 0 = ap (λ n. n % 2) at ∙ sign_of (f.0 / 2) 0 (omega arith) in
-        ap (λ k. k * 2 + (1 - (other f).0 % 2)) h ∙ ap (λ r. f.0 / 2 * 2 + (1 - r)) s ∙ sym p.0
-
-pub others_others : (fs : List FormulaId) → map other (map other fs) ≡ fs
-others_others [] = refl
-others_others (f ∷ fs) = ap (λ g. g ∷ map other (map other fs)) (other_other f) ∙ ap (λ gs. f ∷ gs) (others_others fs)
-
 -- the opposite form says the negation
 module _ (terms : TermId → tree.Term) (look : ℕ → Formula) where
   pub formulas-others : (fs : List FormulaId) → formulas_from (map (signed look) (map other fs)) ≡ neg_all (formulas_from (map (signed look) fs))

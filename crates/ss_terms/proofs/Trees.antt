@@ -7,7 +7,7 @@ use Rattle.ss_logic.specs.Formulas.{formulas_from}
 use Rattle.ss_terms_interned.proofs.Halves.{half_below}
 use Rattle.ss_terms.specs.declared.forms.TermId.{TermId}
 use Rattle.ss_terms.specs.declared.forms.FormulaId.{FormulaId}
-use Rattle.ss_terms.specs.Forms.{TermShape, BoundShape, AppShape, Shape, LiteralShape, AndShape, OrShape, ForallShape, ExistsShape, symbol_of, predicate_of, build_term, with_sign, signed, build_formula, AreTermsBelow, AreBelow, TermBelow, ShapeBelow, is_plain}
+use Rattle.ss_terms.specs.Forms.{TermShape, BoundShape, AppShape, Shape, LiteralShape, AndShape, OrShape, ForallShape, ExistsShape, symbol_of, predicate_of, build_term, with_sign, signed, build_formula, AreTermsBelow, AreBelow, TermBelow, ShapeBelow, NamesBelow, is_plain}
 use Rattle.ss_terms.specs.Bank.{IsPlain, PairBelow}
 use Rattle.ss_terms.proofs.Symbols.{symbols_differ, predicates_differ}
 use Rattle.ss_terms.proofs.Same.{term_id}
@@ -74,6 +74,20 @@ shape_upward terms i j h (AndShape fs) b = AreBelow-more i j h fs b
 shape_upward terms i j h (OrShape fs) b = AreBelow-more i j h fs b
 shape_upward terms i j h (ForallShape ss f) b = omega (arith, b)
 shape_upward terms i j h (ExistsShape ss f) b = omega (arith, b)
+
+pub names_below : (terms n : ℕ) (s : Shape) → ShapeBelow terms n s → NamesBelow terms s
+names_below terms n (LiteralShape s p ts) b = b
+names_below terms n (AndShape fs) b = tt
+names_below terms n (OrShape fs) b = tt
+names_below terms n (ForallShape ss f) b = tt
+names_below terms n (ExistsShape ss f) b = tt
+
+pub names_upward : (i j : ℕ) → i ≤ j → (n : Shape) → NamesBelow i n → NamesBelow j n
+names_upward i j h (LiteralShape s p ts) b = AreTermsBelow-more i j h ts b
+names_upward i j h (AndShape fs) b = tt
+names_upward i j h (OrShape fs) b = tt
+names_upward i j h (ForallShape ss f) b = tt
+names_upward i j h (ExistsShape ss f) b = tt
 
 module _ (terms : TermId → tree.Term) (count : ℕ) where
   pub form_same : (look look' : ℕ → logic.Formula) (b : ℕ) → ((t : ℕ) → t < b → look t ≡ look' t) → (n : Shape) → PairBelow count b n → build_formula terms look n ≡ build_formula terms look' n

@@ -1,5 +1,5 @@
 -- What holds of every bank.
-use Rattle.std.specs.Prelude.{◌≡◌, ℕ, ◌*◌, List, [], length, map, true, Some, slice_get}
+use Rattle.std.specs.Prelude.{◌≡◌, ℕ, ◌*◌, ◌+◌, List, [], length, map, true, Some, slice_get}
 use Rattle.std.specs.Map.{keys_of}
 use Rattle.ss_core.specs.Tree.{ClassTree}
 use Rattle.ss_logic.specs.declared.Sort.{Sort}
@@ -14,7 +14,7 @@ use Rattle.ss_terms.specs.declared.forms.Formula.{Formula}
 use Rattle.ss_terms.specs.declared.bank.Beside.{Beside}
 use Rattle.ss_terms.specs.declared.bank.BesideTerm.{BesideTerm}
 use Rattle.ss_terms.specs.Highest.{highest_of_term, highest}
-use Rattle.ss_terms.specs.Forms.{Forms, Shape, term_shape, shape_of, build_term, no_term, term_at, build_formula, nothing, pair_at, TermBelow, ShapeBelow, opposite_shape, IsBankOf}
+use Rattle.ss_terms.specs.Forms.{Forms, Shape, term_shape, shape_of, build_term, no_term, term_at, build_formula, nothing, pair_at, TermBelow, ShapeBelow, AreNamed, opposite_shape, IsBankOf}
 
 abbrev pub forms_of : List Sort → List (Term × BesideTerm) → List (Formula × Beside) → Forms
 forms_of fields terms formulas = record { fields = fields; terms = map term_shape (keys_of terms); formulas = map shape_of (keys_of formulas) }
@@ -47,6 +47,7 @@ pub record IsBeside (b : Forms) (k : ℕ) (e : Formula × Beside) : Type 0 where
   pub negation : shape_of e.1.negation ≡ opposite_shape (shape_of e.0)
   pub formed : (cs : List ClassTree) → IsBankOf cs b → e.1.is_well_formed ≡ is_well_formed cs [] (pair_at b k)
   pub constants : e.1.highest ≡ highest (pair_at b k)
+  pub named : AreNamed e.1.terms (k + 1) b
 
 pub record IsBank (fields : List Sort) (terms : List (Term × BesideTerm)) (formulas : List (Formula × Beside)) : Type 0 where
   pub terms_apart : AreInterned no_term build_term TermBelow AnyTerm (map term_shape (keys_of terms))

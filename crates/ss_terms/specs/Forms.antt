@@ -1,5 +1,5 @@
 -- The terms and formulas that the numbers of a bank stand for.
-use Rattle.std.specs.Prelude.{◌≡◌, ℕ, ◌*◌, ◌-◌, ◌+◌, ◌/◌, ◌%◌, zero, suc, ◌<◌, ◌≤◌, List, [], ◌∷◌, length, map, Bool, true, false, not, Option, Some, None}
+use Rattle.std.specs.Prelude.{◌≡◌, ℕ, ◌*◌, ◌-◌, ◌+◌, ◌/◌, ◌%◌, zero, suc, ◌<◌, ◌≤◌, List, [], ◌∷◌, length, map, Bool, true, false, not, Option, Some, None, slice_get, take}
 use Rattle.ss_core.specs.Tree.{ClassTree, FieldTree}
 use Rattle.ss_core.specs.Chain.{DeclaredField, all_fields}
 use Rattle.ss_logic.specs.declared.Sort.{Sort}
@@ -196,6 +196,32 @@ pub record IsGrown (old new : Forms) : Type 0 where
   pub more_formulas : length old.formulas ≤ length new.formulas
   pub same_terms : (t : TermId) → HasTerm old t → term_at new t ≡ term_at old t
   pub same_formulas : (f : FormulaId) → HasFormula old f → formula_at new f ≡ formula_at old f
+
+-- ---- the first terms and formulas
+
+-- the form names terms below this number alone
+abbrev pub NamesBelow : ℕ → Shape → Type 0
+NamesBelow n (LiteralShape holds p ts) = AreTermsBelow n ts
+NamesBelow n (AndShape fs) = Unit {0}
+NamesBelow n (OrShape fs) = Unit {0}
+NamesBelow n (ForallShape ss f) = Unit {0}
+NamesBelow n (ExistsShape ss f) = Unit {0}
+
+-- the first formulas, so many, name terms below this number alone
+abbrev pub AreNamed : ℕ → ℕ → Forms → Type 0
+AreNamed terms formulas b = (k : ℕ) (n : Shape) → k < formulas → slice_get b.formulas k ≡ Some n → NamesBelow terms n
+
+-- the bank has so many terms and formulas, and the first formulas name the first terms alone
+pub record IsClosed (terms formulas : ℕ) (b : Forms) : Type 0 where
+  pub terms_within : terms ≤ length b.terms
+  pub formulas_within : formulas ≤ length b.formulas
+  pub named : AreNamed terms formulas b
+
+-- the bank's first terms and formulas, so many
+abbrev pub front : ℕ → ℕ → Forms → Forms
+front terms formulas b = record { fields = b.fields; terms = take terms b.terms; formulas = take formulas b.formulas }
+
+-- ---- numbers of what may be there
 
 -- the number of the term, where there is one
 abbrev pub IsTermNumber : Forms → Option tree.Term → Option TermId → Type 0

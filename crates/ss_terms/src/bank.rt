@@ -1,13 +1,13 @@
 // Terms and formulas, each with one number.
 
-ghost use Rattle.std.specs.Prelude.{◌≡◌, ℕ, ◌*◌, ◌<◌, ◌^◌, List, [], length, map, IfOk, true, IsTrue, ◌↔◌, ◌&&◌};
+ghost use Rattle.std.specs.Prelude.{◌≡◌, ℕ, ◌*◌, ◌<◌, ◌≤◌, ◌^◌, List, [], length, map, IfOk, true, false, IsTrue, ◌↔◌, ◌&&◌};
 ghost use Rattle.ss_core.specs.Tree.{ClassTree};
 ghost use Rattle.ss_logic.specs.Terms as tree;
 ghost use Rattle.ss_logic.specs.Terms.{terms_from};
 ghost use Rattle.ss_logic.specs.Formulas as logic;
 ghost use Rattle.ss_logic.specs.Formulas.{neg, formulas_from};
 ghost use Rattle.ss_logic.specs.Equal.{same_term, same_formula};
-ghost use Rattle.ss_terms.specs.Forms.{Forms, LiteralShape, term_shape, shape_of, term_of, term_at, terms_at, formula_of, formula_at, pair_at, HasTerm, HasTerms, HasFormula, HasFormulas, HasArguments, HasParts, IsTermForm, IsFormulaForm, IsGrown, IsBankOf, opposite_shape, other, is_plain};
+ghost use Rattle.ss_terms.specs.Forms.{Forms, LiteralShape, term_shape, shape_of, term_of, term_at, terms_at, formula_of, formula_at, pair_at, HasTerm, HasTerms, HasFormula, HasFormulas, HasArguments, HasParts, IsTermForm, IsFormulaForm, IsGrown, IsBankOf, AreNamed, IsClosed, front, opposite_shape, other, is_plain};
 ghost use Rattle.ss_terms.specs.Bank.{IsBesideTerm};
 ghost use Rattle.ss_terms.specs.Apart.{AreApart};
 ghost use Rattle.ss_terms.specs.Highest.{highest, highest_of_term};
@@ -30,17 +30,25 @@ pub(crate) struct BesideTerm {
     pub(crate) highest: usize,
 }
 
-/// What stands beside a formula: the form of its negation, whether both are well formed and no name in them is unbound, and
-/// the greatest number of a constant in them.
+/// What stands beside a formula: the form of its negation, whether both are well formed and no name in them is unbound, the
+/// greatest number of a constant in them, and how many terms there were when it came.
 #[derive(Drop)]
 pub(crate) struct Beside {
     pub(crate) negation: Formula,
     pub(crate) is_well_formed: bool,
     pub(crate) highest: usize,
+    pub(crate) terms: usize,
+}
+
+/// How far a bank reaches: how many terms it has, and how many formulas, a formula and its negation counted once.
+#[derive(Clone, Copy, Drop)]
+pub struct BankMark {
+    pub terms: usize,
+    pub formulas: usize,
 }
 
 /// Terms and formulas with numbers, over the fields of a program. Equal ones have equal numbers, a number keeps what it
-/// stands for, and each formula stands with its negation. No call takes longer in a larger bank.
+/// stands for, and each formula stands with its negation. But for `forget`, no call takes longer in a larger bank.
 #[derive(Drop)]
 pub struct Bank {
     alloc: Global,
@@ -236,6 +244,58 @@ impl Bank {
         same_sort(beside.sort, sort) && beside.is_well_sorted
     }
 
+    /// How far the bank reaches.
+    pub fn mark(&self) -> BankMark
+        ensures terms { result.terms ≡ length self.now.terms }
+        ensures formulas { result.formulas ≡ length self.now.formulas }
+    {
+        BankMark {
+            terms: self.terms.len(),
+            formulas: self.formulas.len(),
+        }
+    }
+
+    /// Forgets the terms and formulas behind the mark, where no formula before it names a term behind it. Answers whether it did;
+    /// else the bank stays as it was.
+    pub fn forget(&mut self, mark: BankMark) -> bool
+        ensures forgotten { IsTrue result → self.new ≡ front mark.terms mark.formulas self.old }
+        ensures same { result ≡ false → self.new ≡ self.old }
+        ensures grown { (marked : Forms) → IsGrown marked self.old → length marked.terms ≤ mark.terms → length marked.formulas ≤ mark.formulas → IsGrown marked self.new }
+    {
+        if !self.is_closed(mark) {
+            return false;
+        }
+        self.terms.truncate(mark.terms);
+        self.formulas.truncate(mark.formulas);
+        true
+    }
+
+    // Whether the bank reaches the mark, and no formula before it names a term behind it.
+    fn is_closed(&self, mark: BankMark) -> bool
+        ensures { IsTrue result → IsClosed mark.terms mark.formulas self.now }
+    {
+        let end = self.mark();
+        if mark.terms > end.terms {
+            return false;
+        }
+        if mark.formulas > end.formulas {
+            return false;
+        }
+        self.terms_before(mark.formulas) <= mark.terms
+    }
+
+    // The first formulas, so many, name terms below this number alone.
+    fn terms_before(&self, formulas: usize) -> usize
+        requires { formulas ≤ length self.now.formulas }
+        ensures { AreNamed result formulas self.now }
+    {
+        if formulas == 0 {
+            0
+        } else {
+            self.formulas[formulas - 1].terms
+        }
+    }
+
     // The sorts of the program's fields.
     pub(crate) fn fields(&self) -> &[Sort]
         ensures { result.now ≡ self.now.fields }
@@ -305,29 +365,20 @@ impl Bank {
                 arguments,
             } => self.literal(holds, predicate, arguments),
             Formula::And(parts) => {
-                let others = opposites(self.alloc, &parts)?;
-                let number = self.pair(Formula::And(parts), Formula::Or(others))?;
+                let number = self.pair(Formula::And(parts))?;
                 Ok(FormulaId(number * 2))
             }
             Formula::Or(parts) => {
                 let others = opposites(self.alloc, &parts)?;
-                let number = self.pair(Formula::And(others), Formula::Or(parts))?;
+                let number = self.pair(Formula::And(others))?;
                 Ok(FormulaId(number * 2 + 1))
             }
             Formula::Forall(sorts, body) => {
-                let same = Vec::from_slice(self.alloc, &sorts)?;
-                let number = self.pair(
-                    Formula::Forall(sorts, body),
-                    Formula::Exists(same, opposite(body)),
-                )?;
+                let number = self.pair(Formula::Forall(sorts, body))?;
                 Ok(FormulaId(number * 2))
             }
             Formula::Exists(sorts, body) => {
-                let same = Vec::from_slice(self.alloc, &sorts)?;
-                let number = self.pair(
-                    Formula::Forall(same, opposite(body)),
-                    Formula::Exists(sorts, body),
-                )?;
+                let number = self.pair(Formula::Forall(sorts, opposite(body)))?;
                 Ok(FormulaId(number * 2 + 1))
             }
         }
@@ -344,18 +395,12 @@ impl Bank {
         ensures at { IfOk result (λ f. HasFormula self.new f × (formula_at self.new f ≡ formula_of (term_at self.old) (formula_at self.old) (LiteralShape holds predicate arguments.items))) }
         ensures grown { IsGrown self.old self.new }
     {
-        let same = Vec::from_slice(self.alloc, &arguments)?;
         let plain = Formula::Literal {
             holds: true,
             predicate,
             arguments,
         };
-        let negation = Formula::Literal {
-            holds: false,
-            predicate,
-            arguments: same,
-        };
-        let number = self.pair(plain, negation)?;
+        let number = self.pair(plain)?;
         if holds {
             Ok(FormulaId(number * 2))
         } else {
@@ -364,9 +409,8 @@ impl Bank {
     }
 
     // The number of the formula that stands with its negation, both added where they are new.
-    fn pair(&mut self, plain: Formula, negation: Formula) -> Result<usize, AllocError>
+    fn pair(&mut self, plain: Formula) -> Result<usize, AllocError>
         requires plain { is_plain (shape_of plain) ≡ true }
-        requires negation { shape_of negation ≡ opposite_shape (shape_of plain) }
         requires parts { HasParts self.old (shape_of plain) }
         ensures in_bank { IfOk result (λ k. k < length self.new.formulas) }
         ensures small { IfOk result (λ k. k < 2 ^ 63) }
@@ -376,15 +420,54 @@ impl Bank {
         if let Some(number) = place_of_formula(&self.formulas, &plain) {
             return Ok(number);
         }
+        let negation = negated(self.alloc, &plain)?;
         let is_well_formed = self.is_form_under(&[], &plain, self.formula_count())?;
         let highest = self.highest_of_form(&plain);
+        let terms = self.term_count();
         let beside = Beside {
             negation,
             is_well_formed,
             highest,
+            terms,
         };
         let number = add_formula(&mut self.formulas, plain, beside)?;
         Ok(number)
+    }
+}
+
+// The form of the negation.
+fn negated(alloc: Global, form: &Formula) -> Result<Formula, AllocError>
+    ensures { IfOk result (λ n. shape_of n ≡ opposite_shape (shape_of form.now)) }
+{
+    match form {
+        Formula::Literal {
+            holds,
+            predicate,
+            arguments,
+        } => {
+            let arguments = Vec::from_slice(alloc, arguments)?;
+            Ok(Formula::Literal {
+                holds: !*holds,
+                predicate: *predicate,
+                arguments,
+            })
+        }
+        Formula::And(parts) => {
+            let others = opposites(alloc, parts)?;
+            Ok(Formula::Or(others))
+        }
+        Formula::Or(parts) => {
+            let others = opposites(alloc, parts)?;
+            Ok(Formula::And(others))
+        }
+        Formula::Forall(sorts, body) => {
+            let sorts = Vec::from_slice(alloc, sorts)?;
+            Ok(Formula::Exists(sorts, opposite(*body)))
+        }
+        Formula::Exists(sorts, body) => {
+            let sorts = Vec::from_slice(alloc, sorts)?;
+            Ok(Formula::Forall(sorts, opposite(*body)))
+        }
     }
 }
 
@@ -399,7 +482,7 @@ fn opposite(f: FormulaId) -> FormulaId
 fn opposites(alloc: Global, fs: &[FormulaId]) -> Result<Vec<FormulaId>, AllocError>
     ensures { IfOk result (λ v. v.items ≡ map other fs.now) }
 {
-    let mut others = Vec::new(alloc);
+    let mut others = Vec::with_capacity(alloc, fs.len())?;
     for f in fs {
         others.push(opposite(*f))?;
     }

@@ -50,6 +50,56 @@ impl Bank {
         Ok(sorts)
     }
 
+    // Whether the function takes terms of these sorts.
+    fn takes_terms(&self, bound: &[Sort], symbol: Symbol, ts: &[TermId]) -> Result<bool, AllocError>
+        requires { HasTerms self.now ts.now }
+        ensures { (cs : List ClassTree) → IsBankOf cs self.now → IfOk result (λ v. v ≡ tree.takes cs (symbol_of symbol) (map (tree.sort_of cs bound.now) (terms_at self.now ts.now))) }
+    {
+        match ts {
+            [] => Ok(takes(self.fields(), symbol, &[])),
+            [x] => {
+                let sort = self.sort_under(bound, *x);
+                Ok(takes(self.fields(), symbol, &[sort]))
+            }
+            [x, y] => {
+                let first = self.sort_under(bound, *x);
+                let second = self.sort_under(bound, *y);
+                Ok(takes(self.fields(), symbol, &[first, second]))
+            }
+            _ => {
+                let sorts = self.sorts_under(bound, ts)?;
+                Ok(takes(self.fields(), symbol, &sorts))
+            }
+        }
+    }
+
+    // Whether an atom takes terms of these sorts.
+    fn atom_takes(
+        &self,
+        bound: &[Sort],
+        predicate: Predicate,
+        ts: &[TermId],
+    ) -> Result<bool, AllocError>
+        requires { HasTerms self.now ts.now }
+        ensures { (cs : List ClassTree) → IsBankOf cs self.now → IfOk result (λ v. v ≡ logic.takes_sorts (predicate_of predicate) (map (tree.sort_of cs bound.now) (terms_at self.now ts.now))) }
+    {
+        match ts {
+            [x] => {
+                let sort = self.sort_under(bound, *x);
+                Ok(takes_sorts(predicate, &[sort]))
+            }
+            [x, y] => {
+                let first = self.sort_under(bound, *x);
+                let second = self.sort_under(bound, *y);
+                Ok(takes_sorts(predicate, &[first, second]))
+            }
+            _ => {
+                let sorts = self.sorts_under(bound, ts)?;
+                Ok(takes_sorts(predicate, &sorts))
+            }
+        }
+    }
+
     // Whether a term is well sorted.
     #[cycle(sorting)]
     fn is_sorted_under(&self, bound: &[Sort], t: TermId) -> Result<bool, AllocError>
@@ -80,8 +130,8 @@ impl Bank {
         requires there { below ≤ length self.now.terms }
         ensures { (cs : List ClassTree) → IsBankOf cs self.now → IfOk result (λ v. v ≡ tree.is_well_sorted cs bound.now (tree.App (symbol_of symbol) (terms_from (terms_at self.now arguments.now)))) }
     {
-        let sorts = self.sorts_under(bound, arguments)?;
-        if !takes(self.fields(), symbol, &sorts) {
+        let is_taken = self.takes_terms(bound, symbol, arguments)?;
+        if !is_taken {
             return Ok(false);
         }
         self.are_sorted_under(bound, arguments, below)
@@ -117,8 +167,8 @@ impl Bank {
         requires { HasTerms self.now arguments.now }
         ensures { (cs : List ClassTree) → IsBankOf cs self.now → IfOk result (λ v. v ≡ (logic.takes_sorts (predicate_of predicate) (map (tree.sort_of cs bound.now) (terms_at self.now arguments.now)) && tree.are_well_sorted cs bound.now (terms_from (terms_at self.now arguments.now)))) }
     {
-        let sorts = self.sorts_under(bound, arguments)?;
-        if !takes_sorts(predicate, &sorts) {
+        let is_taken = self.atom_takes(bound, predicate, arguments)?;
+        if !is_taken {
             return Ok(false);
         }
         self.are_sorted_under(bound, arguments, self.term_count())

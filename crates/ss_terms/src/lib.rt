@@ -10,7 +10,7 @@ mod makers;
 mod obligation;
 mod sorts;
 
-pub use bank::Bank;
+pub use bank::{Bank, BankMark};
 pub use forms::{Formula, FormulaId, Predicate, Symbol, Term, TermId};
 pub use obligation::Obligation;
 pub use sorts::field_sorts;

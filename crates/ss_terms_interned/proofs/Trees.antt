@@ -1,6 +1,6 @@
 -- What numbers stand for, for any kind of form.
-use Rattle.std.proofs.Common.{◌≡◌, ℕ, zero, suc, ◌+◌, ◌<◌, ◌≤◌, List, [], ◌∷◌, ◌++◌, length, Some, refl, sym, ◌∙◌, ap, subst, inl, inr, ◌⊎◌, ⊎_elim, arith, get_or, add-suc, add-zero, zero-add}
-use Rattle.std.proofs.lemmas.List.{get_or_append_left, get_or_at, length_push}
+use Rattle.std.proofs.Common.{◌≡◌, ℕ, zero, suc, ◌+◌, ◌<◌, ◌≤◌, List, [], ◌∷◌, ◌++◌, length, take, Some, refl, sym, ◌∙◌, ap, subst, inl, inr, ◌⊎◌, ⊎_elim, arith, get_or, add-suc, add-zero, zero-add}
+use Rattle.std.proofs.lemmas.List.{get_or_append_left, get_or_at, length_push, length-take}
 use Rattle.std.proofs.lemmas.Option.{slice_get-get_or}
 use Rattle.std.proofs.lemmas.Bool.{cases_lt}
 use Rattle.std.specs.List.{slice_get}
@@ -14,6 +14,12 @@ slice_get-push_cases [] n m zero e = inr (refl, cc)
 slice_get-push_cases [] n m (suc t) e = cc
 slice_get-push_cases (x ∷ ns) n m zero e = inl e
 slice_get-push_cases (x ∷ ns) n m (suc t) e = ⊎_elim (λ a. inl a) (λ a. inr (ap suc a.0, a.1)) (slice_get-push_cases ns n m t e)
+
+pub slice_get-front : {N : Type 0} (m : ℕ) (ns : List N) (k : ℕ) (n : N) → slice_get (take m ns) k ≡ Some n → slice_get ns k ≡ Some n
+slice_get-front zero ns k n e = cc
+slice_get-front (suc m) [] k n e = e
+slice_get-front (suc m) (x ∷ ns) zero n e = e
+slice_get-front (suc m) (x ∷ ns) (suc k) n e = slice_get-front m ns k n e
 
 module _ {N T : Type 0} (junk : T) (build : (ℕ → T) → N → T) where
   length-trees_from : (ts : List T) (ns : List N) → length (trees_from junk build ts ns) ≡ length ts + length ns
@@ -47,6 +53,26 @@ module _ {N T : Type 0} (junk : T) (build : (ℕ → T) → N → T) where
   tree_at-push_new ns n =
       let l : length (trees_from junk build [] ns) ≡ length ns = omega (arith, length-trees_from [] ns) in
       rw trees_from-push (get_or_at (trees_from junk build [] ns) _ [] junk (length ns) l)
+
+  -- the first forms alone
+  trees_from-front : (ts : List T) (m : ℕ) (ns : List N) (t : ℕ) → t < length ts + length (take m ns) → get_or (trees_from junk build ts (take m ns)) t junk ≡ get_or (trees_from junk build ts ns) t junk
+  trees_from-front ts zero ns t h = let h' : t < length ts = omega (arith, h, length-take 0 ns) in sym (trees_from-kept ts ns t h')
+  trees_from-front ts (suc m) [] t h = refl
+  trees_from-front ts (suc m) (n ∷ ns) t h =
+      let x = build (λ t. get_or ts t junk) n in
+      let l = length_push ts x in
+      trees_from-front (ts ++ x ∷ []) m ns t (omega (arith, h, l))
+
+  pub tree_at-front : (m : ℕ) (ns : List N) (t : ℕ) → t < length (take m ns) → tree_at junk build (take m ns) t ≡ tree_at junk build ns t
+  unfolding tree_at
+  tree_at-front m ns t h = trees_from-front [] m ns t (omega (arith, h))
+
+  pub AreInterned-front : (Below : ℕ → N → Type 0) (Fine : T → Type 0) (m : ℕ) (ns : List N) → AreInterned junk build Below Fine ns → AreInterned junk build Below Fine (take m ns)
+  AreInterned-front Below Fine m ns a = record {
+    below = λ t n e. a.below t n (slice_get-front m ns t n e);
+    fine = λ t h. subst Fine (sym (tree_at-front m ns t h)) (a.fine t (omega (arith, h, length-take m ns)));
+    apart = λ i j hi hj e. a.apart i j (omega (arith, hi, length-take m ns)) (omega (arith, hj, length-take m ns)) (sym (tree_at-front m ns i hi) ∙ e ∙ tree_at-front m ns j hj);
+  }
 
   module _ (Below : ℕ → N → Type 0) (Fine : T → Type 0)
       (same : (look look' : ℕ → T) (b : ℕ) → ((t : ℕ) → t < b → look t ≡ look' t) → (n : N) → Below b n → build look n ≡ build look' n) where

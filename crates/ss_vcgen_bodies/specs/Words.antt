@@ -15,7 +15,7 @@ use Rattle.ss_logic_rules.specs.Shapes.{null_term, class_term, level_of, equal, 
 use Rattle.ss_logic_express.specs.Express.{and_of, or_of, Meant, element_sort}
 use Rattle.ss_logic_frames.specs.Frames.{grown}
 use Rattle.ss_vcgen_heaps.specs.Positions.{Position, Walk, Guard, Always, good, assume_all, check, check_all, evaluate, ended, holds_at, if_reached, local_term, new_term, set_local, with_new, When, Never}
-use Rattle.ss_vcgen_heaps.specs.Contracts.{conditions, contract_scene, is_of_type, no_result}
+use Rattle.ss_vcgen_heaps.specs.Contracts.{conditions, contract_context, is_of_type, no_result}
 use Rattle.ss_vcgen_heaps.specs.Obligations.{classes_of, arguments_at, evaluate_result, exposed_formulas, exposed_terms, frame_formula, is_asked_ready, renewed, result_settled, settle_result, stays_of_type, types_from}
 
 -- ---- the sides of a test
@@ -115,11 +115,11 @@ result_reached w e k = result_settled w e (evaluate_result w e k)
 
 -- the conditions at entry
 abbrev pub entries_said : Walk → Position → List Formula
-entries_said w k = conditions w.body.entry (contract_scene (classes_of w) w.body k.store k.store (arguments_at w k) (no_result w.body))
+entries_said w k = conditions w.body.entry (contract_context (classes_of w) w.body k.store k.store (arguments_at w k) (no_result w.body))
 
 -- the conditions at exit, where the result means this
 abbrev pub exits_said : Walk → List Meant → Position → List Formula
-exits_said w results k = conditions w.body.exit (contract_scene (classes_of w) w.body k.store w.entry (arguments_at w k) results)
+exits_said w results k = conditions w.body.exit (contract_context (classes_of w) w.body k.store w.entry (arguments_at w k) results)
 
 abbrev pub left : Walk → Place → List Meant → Position → Position
 left w at results k =

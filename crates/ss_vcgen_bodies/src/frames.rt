@@ -17,7 +17,7 @@ use ss_terms::{FormulaId, TermId};
 use ss_vcgen_builder::{Builder, Walk};
 use ss_vcgen_calls_made::{entry_said, exit_said, frame_said};
 use ss_vcgen_contracts::Contract;
-use ss_vcgen_evaluated::scene;
+use ss_vcgen_evaluated::context;
 use ss_vcgen_known::argument_types;
 use std::alloc::AllocError;
 
@@ -28,9 +28,9 @@ fn arguments_now(builder: &mut Builder, walk: &Walk<'_>) -> Result<Vec<TermId>, 
     ensures at { IfOk result (λ v. AreOnes builder.new.bank v.items (λ b. spec.arguments_at (walk_at b walk.now) (position_at b builder.old))) }
     ensures stays { IfOk result (λ v. Stays builder.old builder.new) }
 {
-    let scene = scene(builder, walk)?;
+    let context = context(builder, walk)?;
     let types = argument_types(builder.alloc, walk.body)?;
-    let terms = first_terms(builder.alloc, &scene.locals, types.len())?;
+    let terms = first_terms(builder.alloc, &context.locals, types.len())?;
     Ok(terms)
 }
 

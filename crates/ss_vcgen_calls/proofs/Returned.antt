@@ -47,9 +47,9 @@ use Rattle.ss_logic_spans.proofs.Keeping.{heaps_kept}
 use Rattle.ss_logic_spans.proofs.Sorting.{terms_sorted}
 use Rattle.ss_logic_spans.proofs.Growing.{heaps_grown, heaps_of_terms, two_stores}
 use Rattle.ss_logic_spans.proofs.Standing.{entry_arguments}
-use Rattle.ss_logic_spans.proofs.Scenes.{term_argument, plain_exit_arguments, exit_arguments, contract_means}
+use Rattle.ss_logic_spans.proofs.Contexts.{term_argument, plain_exit_arguments, exit_arguments, contract_means}
 use Rattle.ss_vcgen_heaps.specs.Positions.{Counters, Position, Walk, good, assume, assume_all, new_term, with_new, set_store}
-use Rattle.ss_vcgen_heaps.specs.Contracts.{is_of_type, defaults_meant, no_result, contract_scene, conditions, frame_terms}
+use Rattle.ss_vcgen_heaps.specs.Contracts.{is_of_type, defaults_meant, no_result, contract_context, conditions, frame_terms}
 use Rattle.ss_vcgen_heaps.specs.Obligations.{check_entry, result_term, with_result, assume_result, AreValid}
 use Rattle.ss_vcgen_changes.proofs.Standing.{has_objects, is_good}
 use Rattle.ss_sound_outcomes.specs.Points.{Point, HasGrown, Fits, ArePassed}
@@ -273,7 +273,7 @@ module _ (w : Walk) (before : List Object) (table : Table) (chain : IsChain w.pr
         j2 = assume (good zt) j1
 
         abbrev j3 : Position
-        j3 = assume_all (conditions b.exit (contract_scene cs b zt k.store ms (map One rs))) j2
+        j3 = assume_all (conditions b.exit (contract_context cs b zt k.store ms (map One rs))) j2
 
         up : (m' : Structure) → IsAlike j.next m2 m' → IsAlike k.next m m'
         up m' a = alike_twice k.next m m2 m' alike (alike_lower k.next j.next m2 m' rises a)
@@ -283,12 +283,12 @@ module _ (w : Walk) (before : List Object) (table : Table) (chain : IsChain w.pr
             let g1 = assumed_all w before table m2 (with_store z p) (kept cs (frame_terms cs b k.store zt ms []) ∷ grown k.store zt ∷ []) j
             (λ m' a. (kept_true m' (up m' a) (zs m' a), (grown_true m' (up m' a) (zs m' a), tt))) there in
             let g2 = assumed w before table m2 (with_store z p) (good zt) j1 (λ m' a. good_true m' (up m' a) (zs m' a)) g1 in
-            conditions_assumed w before table m2 (with_store z p) b.exit (contract_scene cs b zt k.store ms (map One rs)) (setting cs z p.store (locals_at_exit b vs v)) j2
+            conditions_assumed w before table m2 (with_store z p) b.exit (contract_context cs b zt k.store ms (map One rs)) (setting cs z p.store (locals_at_exit b vs v)) j2
             (λ m' a. exits_mean m' (up m' a) (zs m' a) rs (meant m' a)) r.exit g2
 
         type_agrees : (t : Ty) → b.result ≡ Some t → (x : Term) → Stays j.next m2 (HasValue cs x (standing v)) → j.store ≡ zt → Agrees w before table m2 (assume_all (is_of_type true j3.store t x) j3) (with_store z p)
         type_agrees t e x is store_is =
-            let like = same_assume_all (conditions b.exit (contract_scene cs b zt k.store ms (map One rs))) j2 in
+            let like = same_assume_all (conditions b.exit (contract_context cs b zt k.store ms (map One rs))) j2 in
             assumed_all w before table m2 (with_store z p) (is_of_type true j3.store t x) j3
             (λ m' a.
             let here : IsAlike j.next m2 m' = subst (λ (n : Counters). IsAlike n m2 m') like.next a in
@@ -299,7 +299,7 @@ module _ (w : Walk) (before : List Object) (table : Table) (chain : IsChain w.pr
       returned_as o =
           let result = result_term o (with_new sort.Store k) in
           let called = assume_all (kept cs (frame_terms cs b k.store zt ms []) ∷ grown k.store zt ∷ []) (set_store zt (with_result o (with_new sort.Store k))) in
-          assume_result o result (assume_all (conditions b.exit (contract_scene cs b zt k.store ms (map One result))) (assume (good zt) called))
+          assume_result o result (assume_all (conditions b.exit (contract_context cs b zt k.store ms (map One result))) (assume (good zt) called))
 
       -- in some structure that is alike the position behind the call agrees, and the result has its value there
       pub record HasReturned (o : Option Ty) : Type 0 where
@@ -347,8 +347,8 @@ module _ (w : Walk) (before : List Object) (table : Table) (chain : IsChain w.pr
           let meant = λ (m' : Structure) (a : IsAlike k2.next n2.m' m').
           exit_arguments cs m' b ms vs (arguments_at m' (alike_twice k.next m n2.m' m' alike (alike_lower k.next k2.next n2.m' m' rises a))) t e (One x) v (term_argument cs m' t x v (refl, refl) (n2.is m' a [])) in
           let i = assume (good zt) (assume_all (kept cs (frame_terms cs b k.store zt ms []) ∷ grown k.store zt ∷ []) j) in
-          let c = assume_all (conditions b.exit (contract_scene cs b zt k.store ms (One x ∷ []))) i in
-          let same = (same_assume_all (is_of_type true c.store t x) c).next ∙ (same_assume_all (conditions b.exit (contract_scene cs b zt k.store ms (One x ∷ []))) i).next in
+          let c = assume_all (conditions b.exit (contract_context cs b zt k.store ms (One x ∷ []))) i in
+          let same = (same_assume_all (is_of_type true c.store t x) c).next ∙ (same_assume_all (conditions b.exit (contract_context cs b zt k.store ms (One x ∷ []))) i).next in
           record {
             m' = n2.m';
             alike = alike;

@@ -10,14 +10,14 @@ use Rattle.ss_logic_express.specs.Express.{Meant, One}
 use Rattle.ss_terms.specs.declared.forms.TermId.{TermId}
 use Rattle.ss_terms.specs.Forms.{Forms, term_at, terms_at}
 use Rattle.ss_vcgen_heaps.specs.Positions.{Position, Walk, good, assume, assume_all, set_store, new_term, with_new}
-use Rattle.ss_vcgen_heaps.specs.Contracts.{contract_scene, conditions}
+use Rattle.ss_vcgen_heaps.specs.Contracts.{contract_context, conditions}
 use Rattle.ss_vcgen_heaps.specs.Obligations.{classes_of, result_term, with_result, assume_result, returned}
 use Rattle.ss_vcgen_contracts.specs.declared.contract.Contract.{Contract}
 use Rattle.ss_vcgen_contracts.specs.Views.{contract_of, ones_at}
 use Rattle.ss_core.specs.View.{body}
 use Rattle.ss_vcgen_heaps.specs.Contracts.{seen}
 use Rattle.ss_vcgen_calls_made.specs.Words.{result_said, changes_assumed, promises_assumed}
-use Rattle.ss_vcgen_statements.proofs.Scenes.{IsAlike, alike}
+use Rattle.ss_vcgen_statements.proofs.Contexts.{IsAlike, alike}
 
 pub assumed_alike : (fs : List Formula) (k : Position) → IsAlike (assume_all fs k) k
 assumed_alike [] k = alike k
@@ -47,6 +47,6 @@ returned_at w callee arguments k =
     let rs = result_term callee.result (with_new sort.Store k) in
     let z = new_term sort.Store k in
     let called = changes_assumed (classes_of w) callee k.store arguments (set_store z (with_result callee.result (with_new sort.Store k))) in
-    let fs = conditions callee.exit (contract_scene (classes_of w) callee z k.store arguments (map One rs)) in
+    let fs = conditions callee.exit (contract_context (classes_of w) callee z k.store arguments (map One rs)) in
     let x = assume_all fs (assume (good z) called) in
     ap (λ s. assume_all (result_said callee.result s rs) x) (sym (assumed_alike fs (assume (good z) called)).store) ∙ result_is callee.result rs x

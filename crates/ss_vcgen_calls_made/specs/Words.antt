@@ -14,7 +14,7 @@ use Rattle.ss_logic_rules.specs.Shapes as shape
 use Rattle.ss_logic_express.specs.Express.{Meant, One, element_sort}
 use Rattle.ss_logic_frames.specs.Frames.{kept, grown}
 use Rattle.ss_vcgen_heaps.specs.Positions.{Position, Walk, good, assume, assume_all, check, with_store, evaluate, evaluate_all, meant_at, with_term, term_for}
-use Rattle.ss_vcgen_heaps.specs.Contracts.{is_of_type, contract_scene, conditions, frame_terms}
+use Rattle.ss_vcgen_heaps.specs.Contracts.{is_of_type, contract_context, conditions, frame_terms}
 use Rattle.ss_vcgen_heaps.specs.Obligations.{classes_of, settle_all, arguments_settled}
 
 -- ---- arguments
@@ -43,7 +43,7 @@ changes_assumed cs callee s arguments k = assume_all (kept cs (frame_terms cs ca
 -- the store is good, what the callee promises holds, and its result is of its type
 abbrev pub promises_assumed : List ClassTree → BodyTree → Option Ty → Term → List Meant → List Term → Position → Position
 promises_assumed cs callee t s arguments rs k =
-    assume_all (result_said t k.store rs) (assume_all (conditions callee.exit (contract_scene cs callee k.store s arguments (map One rs))) (assume (good k.store) k))
+    assume_all (result_said t k.store rs) (assume_all (conditions callee.exit (contract_context cs callee k.store s arguments (map One rs))) (assume (good k.store) k))
 
 -- ---- new objects
 

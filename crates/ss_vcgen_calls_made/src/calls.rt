@@ -39,7 +39,7 @@ pub fn entry_said(
     requires fine { IsFine builder.old }
     requires walk { IsWalk builder.old.bank walk.now }
     requires arguments { HasTerms builder.old.bank arguments.now }
-    ensures at { IfOk result (λ v. AreFormulas builder.new.bank v.items (λ b. contract.conditions (contract_of callee.entry).entry (contract.contract_scene (classes walk.now.core.now.classes) (contract_of callee.entry) (term_at b builder.old.store) (term_at b builder.old.store) (ones_at b arguments.now) (contract.no_result (contract_of callee.entry))))) }
+    ensures at { IfOk result (λ v. AreFormulas builder.new.bank v.items (λ b. contract.conditions (contract_of callee.entry).entry (contract.contract_context (classes walk.now.core.now.classes) (contract_of callee.entry) (term_at b builder.old.store) (term_at b builder.old.store) (ones_at b arguments.now) (contract.no_result (contract_of callee.entry))))) }
     ensures stays { IfOk result (λ v. Stays builder.old builder.new) }
 {
     entry_conditions(
@@ -183,7 +183,7 @@ pub fn exit_said(
     requires before { HasTerm builder.old.bank before }
     requires arguments { HasTerms builder.old.bank arguments.now }
     requires results { HasTerms builder.old.bank results.now }
-    ensures at { IfOk result (λ v. AreFormulas builder.new.bank v.items (λ b. contract.conditions (contract_of callee.entry).exit (contract.contract_scene (classes walk.now.core.now.classes) (contract_of callee.entry) (term_at b store) (term_at b before) (ones_at b arguments.now) (ones_at b results.now)))) }
+    ensures at { IfOk result (λ v. AreFormulas builder.new.bank v.items (λ b. contract.conditions (contract_of callee.entry).exit (contract.contract_context (classes walk.now.core.now.classes) (contract_of callee.entry) (term_at b store) (term_at b before) (ones_at b arguments.now) (ones_at b results.now)))) }
     ensures stays { IfOk result (λ v. Stays builder.old builder.new) }
 {
     exit_conditions(

@@ -20,7 +20,7 @@ use Rattle.ss_frames.specs.Calls.{named_at, HasNamed, HasAllNamed}
 use Rattle.ss_frames.proofs.Growing.{HasNamed-grown}
 use Rattle.ss_vcgen_express.specs.declared.meant.Choice.{Choice}
 use Rattle.ss_vcgen_express.specs.Numbers.{choice_at, choices_at, IsTerm, IsFormula, AreFormulas}
-use Rattle.ss_vcgen_express.specs.Scenes.{local_at}
+use Rattle.ss_vcgen_express.specs.Contexts.{local_at}
 use Rattle.ss_vcgen_express.proofs.Grown.{HasFormulas-push}
 use Rattle.ss_vcgen_heaps.specs.Contracts.{defaults_meant}
 use Rattle.ss_vcgen_contracts.specs.Views.{ones_at, AreOnes, IsName, AreNames}

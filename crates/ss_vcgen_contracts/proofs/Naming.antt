@@ -3,7 +3,7 @@ use Rattle.std.proofs.Common.{◌≡◌, Bool, true, false, List, [], ◌∷◌,
 use Rattle.std.proofs.lemmas.List.{append-nil}
 use Rattle.ss_core.specs.Tree.{NamedTree, FieldOf, AllOf, ElementsOf, UptoOf}
 use Rattle.ss_logic.specs.Formulas.{Formula}
-use Rattle.ss_logic_express.specs.Express.{Meant, One, Either, Says, Scene, meant}
+use Rattle.ss_logic_express.specs.Express.{Meant, One, Either, Says, Context, meant}
 use Rattle.ss_machine_rules.specs.Frame.{subject_of}
 use Rattle.ss_terms.specs.declared.forms.TermId.{TermId}
 use Rattle.ss_terms.specs.declared.forms.FormulaId.{FormulaId}
@@ -63,7 +63,7 @@ same_subject true (UptoOf e t) = refl
 same_subject false (UptoOf e t) = refl
 
 -- what one clause names, by its kind
-pub names_by_kind : (seen : Bool) (n : NamedTree) (c : Scene) → named_as (kind_of (name_seen seen n)) (heaps.naming_parts (subject_of n) c) (meant (subject_of n) c) ≡ names_of c (name_seen seen n)
+pub names_by_kind : (seen : Bool) (n : NamedTree) (c : Context) → named_as (kind_of (name_seen seen n)) (heaps.naming_parts (subject_of n) c) (meant (subject_of n) c) ≡ names_of c (name_seen seen n)
 names_by_kind seen n c =
     by_kind (name_seen seen n) (heaps.naming_parts (subject_of n) c) (meant (subject_of n) c)
     ∙ ap (λ e. heaps.named_as (name_seen seen n) (heaps.naming_parts e c) (meant e c)) (sym (same_subject seen n))

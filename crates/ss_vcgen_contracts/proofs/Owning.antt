@@ -8,7 +8,7 @@ use Rattle.ss_core.specs.Tree.{ClassTree, LocalTree, BodyTree}
 use Rattle.ss_core.specs.Chain.{level_above, levels_from, levels}
 use Rattle.ss_core.specs.View as view
 use Rattle.ss_logic.specs.Terms.{Term}
-use Rattle.ss_logic_express.specs.Express.{Meant, One, Scene, local_meant}
+use Rattle.ss_logic_express.specs.Express.{Meant, One, Context, local_meant}
 use Rattle.ss_terms.specs.declared.forms.TermId.{TermId}
 use Rattle.ss_terms.specs.Forms.{Forms, term_at, terms_at, HasTerm, HasTerms}
 use Rattle.ss_frames.specs.Calls.{owner_at, HasOwned}
@@ -109,7 +109,7 @@ owned_if b true cs t o m h =
     ∙ ap (λ x. flat_map (heaps.pairs_of cs t) (heaps.term_of_one x)) (sym h)
 owned_if b false cs t o m h = refl
 
-pub owned_at : (b : Forms) (cs : List ClassTree) (body : BodyTree) (c : Scene) (o : TermId) → local_meant c 0 ≡ One (term_at b o) → map (owner_at b) (owned_for cs body o) ≡ heaps.owned_terms cs body c
+pub owned_at : (b : Forms) (cs : List ClassTree) (body : BodyTree) (c : Context) (o : TermId) → local_meant c 0 ≡ One (term_at b o) → map (owner_at b) (owned_for cs body o) ≡ heaps.owned_terms cs body c
 owned_at b cs body c o h = owned_if b body.flags.ctor cs body.class o (local_meant c 0) h
 
 has_pairs : (b : Forms) (o : TermId) (ls : List ℕ) → HasTerm b o → HasOwned b (pairs_for o ls)

@@ -6,7 +6,7 @@ use Rattle.ss_core.specs.declared.expr.Expr.TheOpen.{Link-F, Step-F}
 use Rattle.ss_core.specs.declared.names.Place.{Place}
 use Rattle.ss_core.specs.Tree.{AtLevel, Unpacked, ThisUnowned, Defaults, OwnedFull, Full, ConsistentArgument, FullArgument, Captured, ExprTree, IntExpr, BoolExpr, NullExpr, LocalExpr, FieldExpr, ElementExpr, LengthExpr, NegateExpr, NotExpr, BinaryExpr, ImpliesExpr, IffExpr, IsExpr, AsExpr, CastExpr, OldExpr, QuantifiedExpr, StateExpr, OwnersExpr, DefaultExpr}
 use Rattle.ss_core.specs.View.{Behind, link_step, step_step}
-use Rattle.ss_logic_express.specs.Express.{and_of, default_said, holds_formula, Scene}
+use Rattle.ss_logic_express.specs.Express.{and_of, default_said, holds_formula, Context}
 use Rattle.ss_vcgen_heaps.specs.Contracts.{seen_condition}
 use Rattle.ss_vcgen_contracts.specs.Seen.{is_at_level, condition_of}
 
@@ -24,7 +24,7 @@ no_level : {X : Type 0} → false ≡ true → X
 no_level h = absurd (true≢false (sym h))
 
 -- the condition that `this` is at a level is seen as that it is consistent
-pub level_seen : (e : ExprTree) (c : Scene) → is_at_level e ≡ true → holds_formula (seen_condition e) c ≡ and_of (default_said c (ConsistentArgument 0) ∷ [])
+pub level_seen : (e : ExprTree) (c : Context) → is_at_level e ≡ true → holds_formula (seen_condition e) c ≡ and_of (default_said c (ConsistentArgument 0) ∷ [])
 level_seen (DefaultExpr p (AtLevel t)) c h = refl
 level_seen (DefaultExpr p Unpacked) c h = no_level h
 level_seen (DefaultExpr p ThisUnowned) c h = no_level h
@@ -90,7 +90,7 @@ pub condition_is : (seen at : Bool) (e : ExprTree) → at ≡ is_at_level e → 
 condition_is false at e h k = refl
 condition_is true at e h k = others_seen e (sym h ∙ k)
 
-pub level_is : (seen : Bool) (e : ExprTree) (c : Scene) → (if seen then is_at_level e else false) ≡ true → holds_formula (condition_of seen e) c ≡ and_of (default_said c (ConsistentArgument 0) ∷ [])
+pub level_is : (seen : Bool) (e : ExprTree) (c : Context) → (if seen then is_at_level e else false) ≡ true → holds_formula (condition_of seen e) c ≡ and_of (default_said c (ConsistentArgument 0) ∷ [])
 level_is true e c h = level_seen e c h
 level_is false e c h = no_level h
 

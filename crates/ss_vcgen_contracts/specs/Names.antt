@@ -3,7 +3,7 @@ use Rattle.std.specs.Prelude.{List, [], ◌∷◌, ◌++◌, map, Bool, if◌the
 use Rattle.ss_core.specs.Tree.{ClassTree, BodyTree, NamedTree, FieldOf, AllOf, ElementsOf, UptoOf}
 use Rattle.ss_logic.specs.Terms.{Term}
 use Rattle.ss_logic.specs.Formulas.{Formula}
-use Rattle.ss_logic_express.specs.Express.{and_of, Meant, One, Either, Says, Scene, meant, at_entry}
+use Rattle.ss_logic_express.specs.Express.{and_of, Meant, One, Either, Says, Context, meant, at_entry}
 use Rattle.ss_logic_frames.specs.Frames as logic
 use Rattle.ss_logic_frames.specs.Frames.{NamesField, NamesAll, NamesUpto, NamesElements}
 use Rattle.ss_machine_rules.specs.Frame.{subject_of}
@@ -44,9 +44,9 @@ named_as k guards (Either xs) = map (λ x. named_by k (and_of (guards ++ x.condi
 named_as k guards (Says f) = []
 
 -- what one clause names
-abbrev pub names_of : Scene → NamedTree → List logic.NamedTerm
+abbrev pub names_of : Context → NamedTree → List logic.NamedTerm
 names_of c n = heaps.named_as n (heaps.naming_parts (subject_of n) c) (meant (subject_of n) c)
 
 -- where what is named stands: inside `old`, before there is a result
-abbrev pub names_scene : List ClassTree → BodyTree → Term → List Meant → Scene
-names_scene cs b before arguments = at_entry (heaps.contract_scene cs b before before arguments (heaps.no_result b))
+abbrev pub names_context : List ClassTree → BodyTree → Term → List Meant → Context
+names_context cs b before arguments = at_entry (heaps.contract_context cs b before before arguments (heaps.no_result b))

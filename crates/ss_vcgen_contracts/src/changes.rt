@@ -10,40 +10,40 @@ ghost use Rattle.ss_frames.specs.Calls.{call_at, HasCall};
 ghost use Rattle.ss_vcgen_express.specs.declared.meant.Meant.TheVariants as meant;
 ghost use Rattle.ss_vcgen_express.specs.Numbers.{IsFormula, IsMeant};
 ghost use Rattle.ss_vcgen_heaps.specs.Contracts as heaps;
-ghost use Rattle.ss_vcgen_contracts.specs.Names.{name_seen, names_scene};
-ghost use Rattle.ss_vcgen_contracts.specs.Views.{contract_of, ones_at, IsScene, AreNames, IsCall};
+ghost use Rattle.ss_vcgen_contracts.specs.Names.{name_seen, names_context};
+ghost use Rattle.ss_vcgen_contracts.specs.Views.{contract_of, ones_at, IsContext, AreNames, IsCall};
 
 use crate::captured::{captured_terms, owned_terms};
+use crate::contexts::{contract_context, no_result};
 use crate::contract::Contract;
 use crate::names::named_terms;
-use crate::scenes::{contract_scene, no_result};
 use ss_core::{Classes, Core};
 use ss_frames::{CallTerms, NamedTerm};
 use ss_terms::{Bank, FormulaId, TermId};
-use ss_vcgen_express::{Scene, local_term};
+use ss_vcgen_express::{Context, local_term};
 use std::alloc::{AllocError, Global};
 
 // Where what is named stands: inside `old`, before there is a result.
-fn names_scene<'p>(
+fn names_context<'p>(
     alloc: Global,
     bank: &mut Bank,
     classes: &'p Classes,
     contract: Contract<'_>,
     before: TermId,
     arguments: &[TermId],
-) -> Result<Scene<'p>, AllocError>
+) -> Result<Context<'p>, AllocError>
     requires limit { length (view.classes classes.now) ≤ most_classes }
     requires before { HasTerm bank.old before }
     requires arguments { HasTerms bank.old arguments.now }
-    ensures at { IfOk result (λ s. IsScene bank.new s (λ b. names_scene (view.classes classes.now) (contract_of contract.entry) (term_at b before) (ones_at b arguments.now))) }
+    ensures at { IfOk result (λ s. IsContext bank.new s (λ b. names_context (view.classes classes.now) (contract_of contract.entry) (term_at b before) (ones_at b arguments.now))) }
     ensures grown { IsGrown bank.old bank.new }
 {
     let results = no_result(alloc, bank, contract.body)?;
-    let mut scene = contract_scene(
+    let mut context = contract_context(
         alloc, bank, classes, contract, before, before, arguments, &results,
     )?;
-    scene.inside_old = true;
-    Ok(scene)
+    context.inside_old = true;
+    Ok(context)
 }
 
 // What the contract names, and the object that a method or constructor is called for.
@@ -60,14 +60,14 @@ fn names_and_object(
     requires arguments { HasTerms bank.old arguments.now }
     ensures names { IfOk result (λ r. AreNames bank.new r.0.items (λ b.
         heaps.named_terms (map (name_seen contract.entry.seen) (map view.named_of contract.entry.body.now.named.items))
-        (names_scene (view.classes classes.now) (contract_of contract.entry) (term_at b before) (ones_at b arguments.now)))) }
+        (names_context (view.classes classes.now) (contract_of contract.entry) (term_at b before) (ones_at b arguments.now)))) }
     ensures object { IfOk result (λ r. IsMeant bank.new (meant.One r.1) (λ b.
-        local_meant (names_scene (view.classes classes.now) (contract_of contract.entry) (term_at b before) (ones_at b arguments.now)) 0)) }
+        local_meant (names_context (view.classes classes.now) (contract_of contract.entry) (term_at b before) (ones_at b arguments.now)) 0)) }
     ensures grown { IsGrown bank.old bank.new }
 {
-    let scene = names_scene(alloc, bank, classes, contract, before, arguments)?;
-    let names = named_terms(alloc, bank, &scene, contract.seen, &contract.body.named)?;
-    let object = local_term(bank, &scene, 0)?;
+    let context = names_context(alloc, bank, classes, contract, before, arguments)?;
+    let names = named_terms(alloc, bank, &context, contract.seen, &contract.body.named)?;
+    let object = local_term(bank, &context, 0)?;
     Ok((names, object))
 }
 

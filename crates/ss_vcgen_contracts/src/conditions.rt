@@ -7,17 +7,17 @@ ghost use Rattle.ss_core.specs.View as view;
 ghost use Rattle.ss_logic_express.specs.Express.{and_of, default_said, holds_formula};
 ghost use Rattle.ss_terms.specs.Forms.{term_at, HasTerm, HasTerms, IsGrown};
 ghost use Rattle.ss_vcgen_express.specs.Numbers.{IsFormula, AreFormulas};
-ghost use Rattle.ss_vcgen_express.specs.Scenes.{scene_at, HasScene};
+ghost use Rattle.ss_vcgen_express.specs.Contexts.{context_at, HasContext};
 ghost use Rattle.ss_vcgen_heaps.specs.Contracts as heaps;
 ghost use Rattle.ss_vcgen_contracts.specs.Seen.{is_level, is_at_level, condition_of};
 ghost use Rattle.ss_vcgen_contracts.specs.Views.{contract_of, ones_at};
 
+use crate::contexts::{contract_context, no_result};
 use crate::contract::Contract;
-use crate::scenes::{contract_scene, no_result};
 use ss_core::{Classes, DefaultCondition, Expr};
 use ss_terms::{Bank, FormulaId, TermId};
 use ss_vcgen_defaults::default_said;
-use ss_vcgen_express::Scene;
+use ss_vcgen_express::Context;
 use ss_vcgen_walk::holds;
 use std::alloc::{AllocError, Global};
 
@@ -78,13 +78,18 @@ fn is_at_level(e: &Expr) -> bool
 fn consistent_this(
     alloc: Global,
     bank: &mut Bank,
-    scene: &Scene<'_>,
+    context: &Context<'_>,
 ) -> Result<FormulaId, AllocError>
-    requires { HasScene bank.old scene.now }
-    ensures at { IfOk result (λ f. IsFormula bank.new f (λ b. and_of (default_said (scene_at b scene.entry.now) (tree.ConsistentArgument 0) ∷ []))) }
+    requires { HasContext bank.old context.now }
+    ensures at { IfOk result (λ f. IsFormula bank.new f (λ b. and_of (default_said (context_at b context.entry.now) (tree.ConsistentArgument 0) ∷ []))) }
     ensures grown { IsGrown bank.old bank.new }
 {
-    let said = default_said(alloc, bank, scene, DefaultCondition::ConsistentArgument(0))?;
+    let said = default_said(
+        alloc,
+        bank,
+        context,
+        DefaultCondition::ConsistentArgument(0),
+    )?;
     bank.and(&[said])
 }
 
@@ -99,36 +104,36 @@ fn is_replaced(seen: bool, e: &Expr) -> bool
 fn condition(
     alloc: Global,
     bank: &mut Bank,
-    scene: &Scene<'_>,
+    context: &Context<'_>,
     seen: bool,
     e: &Expr,
 ) -> Result<FormulaId, AllocError>
-    requires { HasScene bank.old scene.now }
-    ensures at { IfOk result (λ f. IsFormula bank.new f (λ b. holds_formula (condition_of seen (view.expr e.now)) (scene_at b scene.entry.now))) }
+    requires { HasContext bank.old context.now }
+    ensures at { IfOk result (λ f. IsFormula bank.new f (λ b. holds_formula (condition_of seen (view.expr e.now)) (context_at b context.entry.now))) }
     ensures grown { IsGrown bank.old bank.new }
 {
     let replaced = is_replaced(seen, e);
     if replaced {
-        consistent_this(alloc, bank, scene)
+        consistent_this(alloc, bank, context)
     } else {
-        holds(alloc, bank, scene, e)
+        holds(alloc, bank, context, e)
     }
 }
 
 fn all_conditions(
     alloc: Global,
     bank: &mut Bank,
-    scene: &Scene<'_>,
+    context: &Context<'_>,
     seen: bool,
     es: &[Expr],
 ) -> Result<Vec<FormulaId>, AllocError>
-    requires { HasScene bank.old scene.now }
-    ensures at { IfOk result (λ v. AreFormulas bank.new v.items (λ b. heaps.conditions (map (condition_of seen) (view.exprs es.now)) (scene_at b scene.entry.now))) }
+    requires { HasContext bank.old context.now }
+    ensures at { IfOk result (λ v. AreFormulas bank.new v.items (λ b. heaps.conditions (map (condition_of seen) (view.exprs es.now)) (context_at b context.entry.now))) }
     ensures grown { IsGrown bank.old bank.new }
 {
     let mut made = Vec::new(alloc);
     for e in es {
-        let f = condition(alloc, bank, scene, seen, e)?;
+        let f = condition(alloc, bank, context, seen, e)?;
         made.push(f)?;
     }
     Ok(made)
@@ -148,14 +153,14 @@ pub fn entry_conditions(
     requires arguments { HasTerms bank.old arguments.now }
     ensures at { IfOk result (λ v. AreFormulas bank.new v.items (λ b.
         let callee = contract_of contract.entry in
-        heaps.conditions callee.entry (heaps.contract_scene (view.classes classes.now) callee (term_at b store) (term_at b store) (ones_at b arguments.now) (heaps.no_result callee)))) }
+        heaps.conditions callee.entry (heaps.contract_context (view.classes classes.now) callee (term_at b store) (term_at b store) (ones_at b arguments.now) (heaps.no_result callee)))) }
     ensures grown { IsGrown bank.old bank.new }
 {
     let results = no_result(alloc, bank, contract.body)?;
-    let scene = contract_scene(
+    let context = contract_context(
         alloc, bank, classes, contract, store, store, arguments, &results,
     )?;
-    let made = all_conditions(alloc, bank, &scene, contract.seen, &contract.body.entry)?;
+    let made = all_conditions(alloc, bank, &context, contract.seen, &contract.body.entry)?;
     Ok(made)
 }
 
@@ -177,12 +182,12 @@ pub fn exit_conditions(
     requires results { HasTerms bank.old results.now }
     ensures at { IfOk result (λ v. AreFormulas bank.new v.items (λ b.
         let callee = contract_of contract.entry in
-        heaps.conditions callee.exit (heaps.contract_scene (view.classes classes.now) callee (term_at b store) (term_at b entry) (ones_at b arguments.now) (ones_at b results.now)))) }
+        heaps.conditions callee.exit (heaps.contract_context (view.classes classes.now) callee (term_at b store) (term_at b entry) (ones_at b arguments.now) (ones_at b results.now)))) }
     ensures grown { IsGrown bank.old bank.new }
 {
-    let scene = contract_scene(
+    let context = contract_context(
         alloc, bank, classes, contract, store, entry, arguments, results,
     )?;
-    let made = all_conditions(alloc, bank, &scene, contract.seen, &contract.body.exit)?;
+    let made = all_conditions(alloc, bank, &context, contract.seen, &contract.body.exit)?;
     Ok(made)
 }

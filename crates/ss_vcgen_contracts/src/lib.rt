@@ -4,13 +4,13 @@
 mod captured;
 mod changes;
 mod conditions;
+mod contexts;
 mod contract;
 mod names;
-mod scenes;
 mod typed;
 
 pub use changes::{frame, frame_terms, grown};
 pub use conditions::{entry_conditions, exit_conditions};
+pub use contexts::contract_context;
 pub use contract::{Contract, called};
-pub use scenes::contract_scene;
 pub use typed::is_of_type;

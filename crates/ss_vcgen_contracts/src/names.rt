@@ -6,7 +6,7 @@ ghost use Rattle.ss_logic_express.specs.Express.{and_of};
 ghost use Rattle.ss_terms.specs.Forms.{term_at, formula_at, formulas_at, HasTerm, HasFormulas, IsGrown};
 ghost use Rattle.ss_frames.specs.Calls.{named_at, HasAllNamed};
 ghost use Rattle.ss_vcgen_express.specs.Numbers.{choices_at, meant_at, HasChoice, HasChoices, HasMeant};
-ghost use Rattle.ss_vcgen_express.specs.Scenes.{scene_at, HasScene};
+ghost use Rattle.ss_vcgen_express.specs.Contexts.{context_at, HasContext};
 ghost use Rattle.ss_vcgen_heaps.specs.Contracts as heaps;
 ghost use Rattle.ss_machine_rules.specs.Frame.{subject_of};
 ghost use Rattle.ss_vcgen_contracts.specs.Names.{kind_of, name_seen, named_by, named_for, named_as, names_of};
@@ -15,7 +15,7 @@ ghost use Rattle.ss_vcgen_contracts.specs.Views.{IsName, AreNames};
 use ss_core::{ClassId, Expr, FieldId, Modifies};
 use ss_frames::NamedTerm;
 use ss_terms::{Bank, FormulaId, TermId};
-use ss_vcgen_express::{Choice, Meant, Scene, all, all_with};
+use ss_vcgen_express::{Choice, Context, Meant, all, all_with};
 use ss_vcgen_walk::naming;
 use std::alloc::{AllocError, Global};
 
@@ -169,17 +169,17 @@ fn add_name(
     alloc: Global,
     bank: &mut Bank,
     names: &mut Vec<NamedTerm>,
-    scene: &Scene<'_>,
+    context: &Context<'_>,
     seen: bool,
     name: &Modifies,
 ) -> Result<(), AllocError>
     requires names { HasAllNamed bank.old names.old.items }
-    requires scene { HasScene bank.old scene.now }
-    ensures at { IfOk result (λ u. AreNames bank.new names.new.items (λ b. map (named_at b) names.old.items ++ names_of (scene_at b scene.entry.now) (name_seen seen (view.named_of name.now)))) }
+    requires context { HasContext bank.old context.now }
+    ensures at { IfOk result (λ u. AreNames bank.new names.new.items (λ b. map (named_at b) names.old.items ++ names_of (context_at b context.entry.now) (name_seen seen (view.named_of name.now)))) }
     ensures grown { IsGrown bank.old bank.new }
 {
     let kind = kind_of(name, seen);
-    let named = naming(alloc, bank, scene, subject_of(name))?;
+    let named = naming(alloc, bank, context, subject_of(name))?;
     add_meant(alloc, bank, names, kind, &named.0, &named.1)?;
     Ok(())
 }
@@ -188,17 +188,17 @@ fn add_name(
 pub(crate) fn named_terms(
     alloc: Global,
     bank: &mut Bank,
-    scene: &Scene<'_>,
+    context: &Context<'_>,
     seen: bool,
     list: &[Modifies],
 ) -> Result<Vec<NamedTerm>, AllocError>
-    requires { HasScene bank.old scene.now }
-    ensures at { IfOk result (λ v. AreNames bank.new v.items (λ b. heaps.named_terms (map (name_seen seen) (map view.named_of list.now)) (scene_at b scene.entry.now))) }
+    requires { HasContext bank.old context.now }
+    ensures at { IfOk result (λ v. AreNames bank.new v.items (λ b. heaps.named_terms (map (name_seen seen) (map view.named_of list.now)) (context_at b context.entry.now))) }
     ensures grown { IsGrown bank.old bank.new }
 {
     let mut names = Vec::new(alloc);
     for name in list {
-        add_name(alloc, bank, &mut names, scene, seen, name)?;
+        add_name(alloc, bank, &mut names, context, seen, name)?;
     }
     Ok(names)
 }

@@ -84,7 +84,7 @@ if_said : (w : Bool) (g : Slot → Formula) (s : Slot) (a : List Slot) → (if w
 if_said true g s a = refl
 if_said false g s a = refl
 
-pub defaults_of_slots : (c : spec.Scene) (t : ℕ) (x : Term) (f : ℕ) (ds : List DeclaredField) → map (at_default c.now x) (slots_upto c.classes t f ds) ≡ spec.defaults_from c t x f ds
+pub defaults_of_slots : (c : spec.Context) (t : ℕ) (x : Term) (f : ℕ) (ds : List DeclaredField) → map (at_default c.now x) (slots_upto c.classes t f ds) ≡ spec.defaults_from c t x f ds
 defaults_of_slots c t x f [] = refl
 defaults_of_slots c t x f (d ∷ ds) =
     sym (if_said (sub c.classes t d.class) (at_default c.now x) (slot f d.field) (slots_upto c.classes t (f + 1) ds))

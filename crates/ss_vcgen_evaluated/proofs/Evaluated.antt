@@ -1,4 +1,4 @@
--- Scenes at positions, and the checks of parts, one after the other.
+-- Contexts at positions, and the checks of parts, one after the other.
 use Rattle.std.proofs.Common.{◌≡◌, ℕ, zero, suc, ◌+◌, ◌<◌, List, [], ◌∷◌, length, map, drop, ◌++◌, get_or, refl, sym, subst, ◌≤◌, ◌∙◌, ap, arith, Bool, true, false, Option, Some, None}
 use Rattle.std.specs.Prelude.{if◌then◌else◌}
 use Rattle.std.proofs.lemmas.List.{drop_more}
@@ -19,11 +19,11 @@ use Rattle.ss_terms.proofs.Grown.{HasTerm-grown, IsGrown-refl, IsGrown-then}
 use Rattle.ss_vcgen_heaps.specs.Parts as heaps
 use Rattle.ss_vcgen_heaps.specs.Positions as positions
 use Rattle.ss_vcgen_heaps.specs.Positions.{Position}
-use Rattle.ss_vcgen_express.specs.declared.scene.Scene.{Scene}
+use Rattle.ss_vcgen_express.specs.declared.context.Context.{Context}
 use Rattle.ss_vcgen_express.specs.Marked.{Marked, marked, checked_of}
 use Rattle.ss_vcgen_express.specs.declared.meant.Meant.{Meant}
 use Rattle.ss_vcgen_express.specs.Numbers.{IsMeant}
-use Rattle.ss_vcgen_express.specs.Scenes as scenes
+use Rattle.ss_vcgen_express.specs.Contexts as contexts
 use Rattle.ss_vcgen_express.proofs.Grown.{HasMeant-grown}
 use Rattle.ss_vcgen_express.proofs.Marking.{checked_are_parts}
 use Rattle.ss_vcgen_walk.specs.declared.parts.Part.{Part}
@@ -38,13 +38,13 @@ use Rattle.ss_vcgen_builder.specs.declared.builder.Walk.{Walk}
 use Rattle.ss_vcgen_builder.specs.Builder.{locals_at, position_at, walk_at, HasLocals, IsFine, IsWalk, Becomes}
 use Rattle.ss_vcgen_builder.proofs.Held.{HasLocals-grown}
 use Rattle.ss_vcgen_builder.proofs.Builds.{becomes_then, becomes_so}
-use Rattle.ss_vcgen_evaluated.specs.Scenes.{or_else, StandsFor}
+use Rattle.ss_vcgen_evaluated.specs.Contexts.{or_else, StandsFor}
 
 -- ---- the terms of locals
 
-pub or_else_meant : (b : Forms) (null : TermId) (ls : List (Option TermId)) → term_at b null ≡ null_term → map (scenes.local_at b) (map (or_else null) ls) ≡ map positions.meant_of (locals_at b ls)
+pub or_else_meant : (b : Forms) (null : TermId) (ls : List (Option TermId)) → term_at b null ≡ null_term → map (contexts.local_at b) (map (or_else null) ls) ≡ map positions.meant_of (locals_at b ls)
 or_else_meant b null [] e = refl
-or_else_meant b null (None ∷ ls) e = ap (λ t. spec.One t ∷ map (scenes.local_at b) (map (or_else null) ls)) e ∙ ap (λ ms. spec.One null_term ∷ ms) (or_else_meant b null ls e)
+or_else_meant b null (None ∷ ls) e = ap (λ t. spec.One t ∷ map (contexts.local_at b) (map (or_else null) ls)) e ∙ ap (λ ms. spec.One null_term ∷ ms) (or_else_meant b null ls e)
 or_else_meant b null (Some t ∷ ls) e = ap (λ ms. spec.One (term_at b t) ∷ ms) (or_else_meant b null ls e)
 
 pub HasTerms-or_else : (b : Forms) (null : TermId) (ls : List (Option TermId)) → HasTerm b null → HasLocals b ls → HasTerms b (map (or_else null) ls)
@@ -52,14 +52,14 @@ HasTerms-or_else b null [] h l = tt
 HasTerms-or_else b null (None ∷ ls) h l = (h, HasTerms-or_else b null ls h l.1)
 HasTerms-or_else b null (Some t ∷ ls) h l = (l.0, HasTerms-or_else b null ls h l.1)
 
-abbrev scene_from : List ClassTree → tree.Term → tree.Term → Bool → List Ty → List spec.Meant → ℕ → spec.Scene
-scene_from cs n e i ts ms m = record { classes = cs; now = n; entry = e; inside_old = i; types = ts; locals = ms; bound = m }
+abbrev context_from : List ClassTree → tree.Term → tree.Term → Bool → List Ty → List spec.Meant → ℕ → spec.Context
+context_from cs n e i ts ms m = record { classes = cs; now = n; entry = e; inside_old = i; types = ts; locals = ms; bound = m }
 
--- a scene with the terms of the builder is that of its position
-pub scene_stands : (s : Builder) (w : Walk) (a : Forms) (c : Scene) (null : TermId) → IsFine s → IsWalk s.bank w → IsGrown s.bank a → HasTerm a null → term_at a null ≡ null_term →
+-- a context with the terms of the builder is that of its position
+pub context_stands : (s : Builder) (w : Walk) (a : Forms) (c : Context) (null : TermId) → IsFine s → IsWalk s.bank w → IsGrown s.bank a → HasTerm a null → term_at a null ≡ null_term →
     c.classes.now ≡ w.core.now.classes → c.now ≡ s.store → c.entry ≡ w.entry → c.inside_old ≡ false → c.types.items ≡ w.types.now → c.locals.items ≡ map (or_else null) s.locals.items → c.bound ≡ 0 →
-    StandsFor a c (λ b. positions.scene_at (walk_at b w) (position_at b s))
-scene_stands s w a c null fine walk g has is classes now entry inside types locals bound = record {
+    StandsFor a c (λ b. positions.context_at (walk_at b w) (position_at b s))
+context_stands s w a c null fine walk g has is classes now entry inside types locals bound = record {
   has = record {
     now = subst (λ (t : TermId). HasTerm a t) (sym now) (HasTerm-grown s.bank a g s.store fine.store);
     entry = subst (λ (t : TermId). HasTerm a t) (sym entry) (HasTerm-grown s.bank a g w.entry walk.entry);
@@ -67,14 +67,14 @@ scene_stands s w a c null fine walk g has is classes now entry inside types loca
     classes = subst (λ (x : Classes). length (view.classes x) ≤ most_classes) (sym classes) walk.limits.classes;
   };
   is = λ b k.
-      ap (λ (x : Classes). scene_from (view.classes x) (term_at b c.now) (term_at b c.entry) c.inside_old c.types.items (map (scenes.local_at b) c.locals.items) c.bound) classes
-      ∙ ap (λ x. scene_from (view.classes w.core.now.classes) (term_at b x) (term_at b c.entry) c.inside_old c.types.items (map (scenes.local_at b) c.locals.items) c.bound) now
-      ∙ ap (λ x. scene_from (view.classes w.core.now.classes) (term_at b s.store) (term_at b x) c.inside_old c.types.items (map (scenes.local_at b) c.locals.items) c.bound) entry
-      ∙ ap (λ x. scene_from (view.classes w.core.now.classes) (term_at b s.store) (term_at b w.entry) x c.types.items (map (scenes.local_at b) c.locals.items) c.bound) inside
-      ∙ ap (λ x. scene_from (view.classes w.core.now.classes) (term_at b s.store) (term_at b w.entry) false x (map (scenes.local_at b) c.locals.items) c.bound) (types ∙ walk.types)
-      ∙ ap (λ x. scene_from (view.classes w.core.now.classes) (term_at b s.store) (term_at b w.entry) false (local_types (view.body w.body.now)) (map (scenes.local_at b) x) c.bound) locals
-      ∙ ap (λ x. scene_from (view.classes w.core.now.classes) (term_at b s.store) (term_at b w.entry) false (local_types (view.body w.body.now)) x c.bound) (or_else_meant b null s.locals.items (k.same_terms null has ∙ is))
-      ∙ ap (λ x. scene_from (view.classes w.core.now.classes) (term_at b s.store) (term_at b w.entry) false (local_types (view.body w.body.now)) (map positions.meant_of (locals_at b s.locals.items)) x) bound;
+      ap (λ (x : Classes). context_from (view.classes x) (term_at b c.now) (term_at b c.entry) c.inside_old c.types.items (map (contexts.local_at b) c.locals.items) c.bound) classes
+      ∙ ap (λ x. context_from (view.classes w.core.now.classes) (term_at b x) (term_at b c.entry) c.inside_old c.types.items (map (contexts.local_at b) c.locals.items) c.bound) now
+      ∙ ap (λ x. context_from (view.classes w.core.now.classes) (term_at b s.store) (term_at b x) c.inside_old c.types.items (map (contexts.local_at b) c.locals.items) c.bound) entry
+      ∙ ap (λ x. context_from (view.classes w.core.now.classes) (term_at b s.store) (term_at b w.entry) x c.types.items (map (contexts.local_at b) c.locals.items) c.bound) inside
+      ∙ ap (λ x. context_from (view.classes w.core.now.classes) (term_at b s.store) (term_at b w.entry) false x (map (contexts.local_at b) c.locals.items) c.bound) (types ∙ walk.types)
+      ∙ ap (λ x. context_from (view.classes w.core.now.classes) (term_at b s.store) (term_at b w.entry) false (local_types (view.body w.body.now)) (map (contexts.local_at b) x) c.bound) locals
+      ∙ ap (λ x. context_from (view.classes w.core.now.classes) (term_at b s.store) (term_at b w.entry) false (local_types (view.body w.body.now)) x c.bound) (or_else_meant b null s.locals.items (k.same_terms null has ∙ is))
+      ∙ ap (λ x. context_from (view.classes w.core.now.classes) (term_at b s.store) (term_at b w.entry) false (local_types (view.body w.body.now)) (map positions.meant_of (locals_at b s.locals.items)) x) bound;
 }
 
 abbrev pub site_from : List ClassTree → List Ty → Bool → rules.Site
@@ -106,17 +106,17 @@ module _ (w : positions.Walk) where
       by true = refl
       by false = refl
 
-  -- the checks leave the scene as it is
-  pub scene-checked : (ps : List heaps.Part) (k : Position) → positions.scene_at w (positions.check_parts w ps k) ≡ positions.scene_at w k
-  scene-checked [] k = refl
-  scene-checked (p ∷ ps) k = scene-checked ps (positions.check w p.kind p.place p.formula k)
+  -- the checks leave the context as it is
+  pub context-checked : (ps : List heaps.Part) (k : Position) → positions.context_at w (positions.check_parts w ps k) ≡ positions.context_at w k
+  context-checked [] k = refl
+  context-checked (p ∷ ps) k = context-checked ps (positions.check w p.kind p.place p.formula k)
 
-  pub scene-evaluated : (e : ExprTree) (k : Position) → positions.scene_at w (positions.evaluate w e k) ≡ positions.scene_at w k
-  scene-evaluated e k = scene-checked (heaps.parts e (positions.site w) k.known (positions.scene_at w k)) k
+  pub context-evaluated : (e : ExprTree) (k : Position) → positions.context_at w (positions.evaluate w e k) ≡ positions.context_at w k
+  context-evaluated e k = context-checked (heaps.parts e (positions.site w) k.known (positions.context_at w k)) k
 
-  pub scene-evaluated_all : (es : List ExprTree) (k : Position) → positions.scene_at w (positions.evaluate_all w es k) ≡ positions.scene_at w k
-  scene-evaluated_all [] k = refl
-  scene-evaluated_all (e ∷ es) k = scene-evaluated_all es (positions.evaluate w e k) ∙ scene-evaluated e k
+  pub context-evaluated_all : (es : List ExprTree) (k : Position) → positions.context_at w (positions.evaluate_all w es k) ≡ positions.context_at w k
+  context-evaluated_all [] k = refl
+  context-evaluated_all (e ∷ es) k = context-evaluated_all es (positions.evaluate w e k) ∙ context-evaluated e k
 
 -- ---- an expression, and the checks of its parts
 
@@ -124,39 +124,39 @@ pub IsMeant-grown : (a c : Forms) → IsGrown a c → (m : Meant) (says : Forms 
 IsMeant-grown a c g m says h = record { has = HasMeant-grown g m h.has; is = λ b k. h.is b (IsGrown-then a c b g k) }
 
 pub evaluated_becomes : (s t u : Builder) (w : Walk) (e : ExprTree) (ps : List Part) → Becomes s t (λ b. position_at b s) →
-    AreParts t.bank ps (λ b. marked e (positions.site (walk_at b w)) (position_at b s).known (positions.scene_at (walk_at b w) (position_at b s))) →
+    AreParts t.bank ps (λ b. marked e (positions.site (walk_at b w)) (position_at b s).known (positions.context_at (walk_at b w) (position_at b s))) →
     Becomes t u (λ b. positions.check_parts (walk_at b w) (checked_of (parts_at b ps)) (position_at b t)) → Becomes s u (λ b. positions.evaluate (walk_at b w) e (position_at b s))
 evaluated_becomes s t u w e ps p is q =
     becomes_so s u (λ b. positions.check_parts (walk_at b w) (checked_of (parts_at b ps)) (position_at b s)) (λ b. positions.evaluate (walk_at b w) e (position_at b s))
     (becomes_then s t u (λ b. position_at b s) (λ b k. positions.check_parts (walk_at b w) (checked_of (parts_at b ps)) k) p q)
     (λ b k.
     ap (λ ms. positions.check_parts (walk_at b w) (checked_of ms) (position_at b s)) (is.are b (IsGrown-then t.bank u.bank b q.grown k))
-    ∙ ap (λ qs. positions.check_parts (walk_at b w) qs (position_at b s)) (checked_are_parts (positions.site (walk_at b w)) e (position_at b s).known (positions.scene_at (walk_at b w) (position_at b s))))
+    ∙ ap (λ qs. positions.check_parts (walk_at b w) qs (position_at b s)) (checked_are_parts (positions.site (walk_at b w)) e (position_at b s).known (positions.context_at (walk_at b w) (position_at b s))))
 
 -- ---- what the walk over an expression gives at a position
 
--- what the walk gives in the scene, from where the builder is
-abbrev pub Walked : Builder → Walk → Forms → Scene → Meant → List Part → List Part → ExprTree → Type 0
+-- what the walk gives in the context, from where the builder is
+abbrev pub Walked : Builder → Walk → Forms → Context → Meant → List Part → List Part → ExprTree → Type 0
 Walked t w d c m ps before e =
-    Expressed d m ps (λ b. spec.meant e (scenes.scene_at b c)) (λ b. parts_at b before ++ marked e (site_from (view.classes w.core.now.classes) w.types.now (view.body w.body.now).flags.ctor) (tested tests.Nothing (known_of t.known)) (scenes.scene_at b c))
+    Expressed d m ps (λ b. spec.meant e (contexts.context_at b c)) (λ b. parts_at b before ++ marked e (site_from (view.classes w.core.now.classes) w.types.now (view.body w.body.now).flags.ctor) (tested tests.Nothing (known_of t.known)) (contexts.context_at b c))
 
 -- with no tests it is what is known
 pub tested_nothing : (k : rules.Known) → tested tests.Nothing k ≡ k
 tested_nothing k = ap (λ x. tested x k) (sym tests.rolls-Nothing) ∙ ap (λ (f : rules.Known → rules.Known). f k) (fold-roll-Tests (rules.Known → rules.Known) tests_step shape.Nothing)
 
-module _ (s t : Builder) (w : Walk) (d : Forms) (c : Scene) (m : Meant) (ps before : List Part) (e : ExprTree) where
-  pub walked_meant : StandsFor t.bank c (λ b. positions.scene_at (walk_at b w) (position_at b s)) → IsGrown t.bank d → Walked t w d c m ps before e → IsMeant d m (λ b. positions.meant_at (walk_at b w) e (position_at b s))
+module _ (s t : Builder) (w : Walk) (d : Forms) (c : Context) (m : Meant) (ps before : List Part) (e : ExprTree) where
+  pub walked_meant : StandsFor t.bank c (λ b. positions.context_at (walk_at b w) (position_at b s)) → IsGrown t.bank d → Walked t w d c m ps before e → IsMeant d m (λ b. positions.meant_at (walk_at b w) e (position_at b s))
   walked_meant at g r = record { has = r.meant.has; is = λ b k. r.meant.is b k ∙ ap (spec.meant e) (at.is b (IsGrown-then t.bank d b g k)) }
 
-  pub walked_parts : w.types.now ≡ local_types (view.body w.body.now) → Becomes s t (λ b. position_at b s) → StandsFor t.bank c (λ b. positions.scene_at (walk_at b w) (position_at b s)) → IsGrown t.bank d → before ≡ [] →
-      Walked t w d c m ps before e → AreParts d ps (λ b. marked e (positions.site (walk_at b w)) (position_at b s).known (positions.scene_at (walk_at b w) (position_at b s)))
+  pub walked_parts : w.types.now ≡ local_types (view.body w.body.now) → Becomes s t (λ b. position_at b s) → StandsFor t.bank c (λ b. positions.context_at (walk_at b w) (position_at b s)) → IsGrown t.bank d → before ≡ [] →
+      Walked t w d c m ps before e → AreParts d ps (λ b. marked e (positions.site (walk_at b w)) (position_at b s).known (positions.context_at (walk_at b w) (position_at b s)))
   walked_parts types p at g none r = record {
     has = r.parts.has;
     are = λ b k.
         r.parts.are b k
-        ∙ ap (λ (qs : List Part). parts_at b qs ++ marked e (site_from (view.classes w.core.now.classes) w.types.now (view.body w.body.now).flags.ctor) (tested tests.Nothing (known_of t.known)) (scenes.scene_at b c)) none
-        ∙ ap (λ ts. marked e (site_from (view.classes w.core.now.classes) ts (view.body w.body.now).flags.ctor) (tested tests.Nothing (known_of t.known)) (scenes.scene_at b c)) types
-        ∙ ap (λ k. marked e (positions.site (walk_at b w)) k (scenes.scene_at b c)) (tested_nothing (known_of t.known))
-        ∙ ap (λ (x : Position). marked e (positions.site (walk_at b w)) x.known (scenes.scene_at b c)) (p.is t.bank (IsGrown-refl t.bank))
+        ∙ ap (λ (qs : List Part). parts_at b qs ++ marked e (site_from (view.classes w.core.now.classes) w.types.now (view.body w.body.now).flags.ctor) (tested tests.Nothing (known_of t.known)) (contexts.context_at b c)) none
+        ∙ ap (λ ts. marked e (site_from (view.classes w.core.now.classes) ts (view.body w.body.now).flags.ctor) (tested tests.Nothing (known_of t.known)) (contexts.context_at b c)) types
+        ∙ ap (λ k. marked e (positions.site (walk_at b w)) k (contexts.context_at b c)) (tested_nothing (known_of t.known))
+        ∙ ap (λ (x : Position). marked e (positions.site (walk_at b w)) x.known (contexts.context_at b c)) (p.is t.bank (IsGrown-refl t.bank))
         ∙ ap (marked e (positions.site (walk_at b w)) (known_of s.known)) (at.is b (IsGrown-then t.bank d b g k));
   }

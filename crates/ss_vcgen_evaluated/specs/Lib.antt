@@ -1,1 +1,1 @@
-pub mod Scenes
+pub mod Contexts

@@ -9,13 +9,13 @@ ghost use Rattle.ss_vcgen_walk.specs.Parts.{marked_at, parts_at, HasParts, ArePa
 ghost use Rattle.ss_terms.specs.Forms.{HasFormula};
 ghost use Rattle.ss_vcgen_builder.specs.Builder.{position_at, walk_at, IsFine, IsWalk, Becomes};
 
-use crate::scenes::scene;
+use crate::contexts::context;
 use ss_core::Expr;
 use ss_terms::FormulaId;
 use ss_vcgen_builder::{Builder, Walk};
 use ss_vcgen_express::Meant;
-use ss_vcgen_known::{Site, Tests};
-use ss_vcgen_walk::{Part, Sight, express, holds};
+use ss_vcgen_known::{Tests, TypeContext};
+use ss_vcgen_walk::{NullContext, Part, express, holds};
 use std::alloc::AllocError;
 
 // A part is checked, unless it holds by the types.
@@ -54,13 +54,13 @@ fn expressed(
     requires walk { IsWalk builder.old.bank walk.now }
     requires none { parts.old.items ≡ [] }
     ensures meant { IfOk result (λ m. IsMeant builder.new.bank m (λ b. positions.meant_at (walk_at b walk.now) (expr e.now) (position_at b builder.old))) }
-    ensures parts { IfOk result (λ m. AreParts builder.new.bank parts.new.items (λ b. marked (expr e.now) (positions.site (walk_at b walk.now)) (position_at b builder.old).known (positions.scene_at (walk_at b walk.now) (position_at b builder.old)))) }
+    ensures parts { IfOk result (λ m. AreParts builder.new.bank parts.new.items (λ b. marked (expr e.now) (positions.site (walk_at b walk.now)) (position_at b builder.old).known (positions.context_at (walk_at b walk.now) (position_at b builder.old)))) }
     ensures stays { IfOk result (λ m. Becomes builder.old builder.new (λ b. position_at b builder.old)) }
 {
-    let scene = scene(builder, walk)?;
+    let context = context(builder, walk)?;
     let tests = Tests::Nothing;
-    let sight = Sight {
-        site: Site {
+    let nulls = NullContext {
+        typing: TypeContext {
             classes: &walk.core.classes,
             types: walk.types,
             constructs: walk.body.flags.ctor,
@@ -68,7 +68,7 @@ fn expressed(
         known: &builder.known,
         tests: &tests,
     };
-    express(builder.alloc, &mut builder.bank, &sight, &scene, parts, e)
+    express(builder.alloc, &mut builder.bank, &nulls, &context, parts, e)
 }
 
 /// What an expression means at the position; nothing is checked.
@@ -124,6 +124,6 @@ pub fn holds_at(builder: &mut Builder, walk: &Walk, e: &Expr) -> Result<FormulaI
     ensures at { IfOk result (λ f. IsFormula builder.new.bank f (λ b. positions.holds_at (walk_at b walk.now) (position_at b builder.old) (expr e.now))) }
     ensures stays { IfOk result (λ f. Becomes builder.old builder.new (λ b. position_at b builder.old)) }
 {
-    let scene = scene(builder, walk)?;
-    holds(builder.alloc, &mut builder.bank, &scene, e)
+    let context = context(builder, walk)?;
+    holds(builder.alloc, &mut builder.bank, &context, e)
 }

@@ -2,4 +2,4 @@ pub mod Chaining
 pub mod Grown
 pub mod Listing
 pub mod Marking
-pub mod Scenes
+pub mod Contexts

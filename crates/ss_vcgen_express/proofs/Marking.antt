@@ -14,7 +14,7 @@ use Rattle.ss_logic_rules.specs.Shapes.{number, allocated}
 use Rattle.ss_logic.specs.Terms.{app}
 use Rattle.ss_logic.specs.Terms as term
 use Rattle.ss_store_rules.specs.Types.{type_of}
-use Rattle.ss_logic_express.specs.Express.{or_of, Meant, over, said, Scene, at_entry, with_bound, fits_int, meant, not_null, index_fits, readable, under, operation_parts, word_parts, defined}
+use Rattle.ss_logic_express.specs.Express.{or_of, Meant, over, said, Context, at_entry, with_bound, fits_int, meant, not_null, index_fits, readable, under, operation_parts, word_parts, defined}
 use Rattle.ss_vcgen_heaps.specs.Parts as heaps
 use Rattle.ss_vcgen_heaps.specs.Parts.{Part, part, with_formula, is_upwards, parts_under, null_part, readable_parts, cast_part, operation_part, right_parts, parts}
 use Rattle.ss_vcgen_express.specs.Marked.{Marked, marked_part, with_marked, marked_under, marked_null, marked_readable, marked_word, marked_cast, marked_operation, marked_right, in_range, marked, formulas_of, checked_of}
@@ -74,7 +74,7 @@ checked_unless : (t : Bool) (k : Kind) (p : Place) (f : Formula) → checked_of 
 checked_unless true k p f = refl
 checked_unless false k p f = refl
 
-module _ (s : Site) (k : Known) (e : ExprTree) (c : Scene) (p : Place) where
+module _ (s : Site) (k : Known) (e : ExprTree) (c : Context) (p : Place) where
   of_readable : formulas_of (marked_readable s k e c p) ≡ readable c (meant e c)
   of_readable = ap (λ l. not_null (meant e c) ∷ l) (of_if c.inside_old kind.Null p true (over (meant e c) (allocated c.entry)))
 
@@ -158,7 +158,7 @@ module _ (a b : Meant) (p : Place) (qs : List Marked) where
 -- ---- expressions
 
 module _ (s : Site) where
-  pub marked_are_defined : (e : ExprTree) (k : Known) (c : Scene) → formulas_of (marked e s k c) ≡ defined e c
+  pub marked_are_defined : (e : ExprTree) (k : Known) (c : Context) → formulas_of (marked e s k c) ≡ defined e c
   marked_are_defined (IntExpr p n) k c = refl
   marked_are_defined (BoolExpr p b) k c = refl
   marked_are_defined (NullExpr p) k c = refl
@@ -191,7 +191,7 @@ module _ (s : Site) where
       (of_three (marked a s k c) (marked b s k c) (marked_readable s k a c p) (marked_are_defined a k c) (marked_are_defined b k c) (of_readable s k a c p)) (of_readable s k b c p)
   marked_are_defined (DefaultExpr p d) k c = refl
 
-  pub checked_are_parts : (e : ExprTree) (k : Known) (c : Scene) → checked_of (marked e s k c) ≡ parts e s k c
+  pub checked_are_parts : (e : ExprTree) (k : Known) (c : Context) → checked_of (marked e s k c) ≡ parts e s k c
   checked_are_parts (IntExpr p n) k c = refl
   checked_are_parts (BoolExpr p b) k c = refl
   checked_are_parts (NullExpr p) k c = refl

@@ -3,4 +3,4 @@ pub mod Functions
 pub mod Marked
 pub mod Numbers
 pub mod Sayings
-pub mod Scenes
+pub mod Contexts

@@ -13,7 +13,7 @@ use Rattle.ss_logic.specs.Terms.{app}
 use Rattle.ss_logic.specs.Terms as term
 use Rattle.ss_logic.specs.Formulas.{Formula, Forall, neg}
 use Rattle.ss_logic_rules.specs.Shapes.{number, allocated}
-use Rattle.ss_logic_express.specs.Express.{or_of, Meant, over, over_two, said, Scene, at_entry, with_bound, fits_int, out_of_range, meant, not_null, index_fits, not_zero}
+use Rattle.ss_logic_express.specs.Express.{or_of, Meant, over, over_two, said, Context, at_entry, with_bound, fits_int, out_of_range, meant, not_null, index_fits, not_zero}
 use Rattle.ss_vcgen_heaps.specs.Parts.{Part, with_formula, fits_class, is_upwards}
 
 pub record Marked : Type 0 where
@@ -29,17 +29,17 @@ with_marked g m = record m { part = with_formula g m.part }
 abbrev pub marked_under : Formula → List Marked → List Marked
 marked_under f ms = map (with_marked (λ g. or_of (neg f ∷ g ∷ []))) ms
 
-abbrev pub marked_null : Site → Known → ExprTree → Scene → Place → List Marked
+abbrev pub marked_null : Site → Known → ExprTree → Context → Place → List Marked
 marked_null s k e c p = marked_part kind.Null p (not (is_never_null s k c.inside_old e)) (not_null (meant e c))
 
-abbrev pub marked_readable : Site → Known → ExprTree → Scene → Place → List Marked
+abbrev pub marked_readable : Site → Known → ExprTree → Context → Place → List Marked
 marked_readable s k e c p = marked_null s k e c p ++ (if c.inside_old then marked_part kind.Null p true (over (meant e c) (allocated c.entry)) else [])
 
-abbrev pub marked_word : WordTree → Site → Known → ExprTree → Scene → Place → List Marked
+abbrev pub marked_word : WordTree → Site → Known → ExprTree → Context → Place → List Marked
 marked_word New s k e c p = marked_null s k e c p
 marked_word w s k e c p = marked_readable s k e c p
 
-abbrev pub marked_cast : ExprTree → ℕ → Scene → Place → List Marked
+abbrev pub marked_cast : ExprTree → ℕ → Context → Place → List Marked
 marked_cast e t c p = marked_part kind.Cast p (not (is_upwards c.classes (type_of c.classes c.types e) t)) (fits_class t (meant e c))
 
 abbrev pub marked_result : term.Symbol → Meant → Meant → Place → List Marked
@@ -59,10 +59,10 @@ marked_right op.Or a ms = marked_under (neg (said a)) ms
 marked_right o a ms = ms
 
 -- for each value of the bound name that is in range
-abbrev pub in_range : Scene → Meant → Meant → Formula → Formula
+abbrev pub in_range : Context → Meant → Meant → Formula → Formula
 in_range c low high f = Forall (sort.Whole ∷ []) (or_of (out_of_range c low high ++ f ∷ []))
 
-abbrev pub marked : ExprTree → Site → Known → Scene → List Marked
+abbrev pub marked : ExprTree → Site → Known → Context → List Marked
 marked (IntExpr p n) s k c = []
 marked (BoolExpr p b) s k c = []
 marked (NullExpr p) s k c = []

@@ -8,12 +8,12 @@ ghost use Rattle.ss_logic.specs.Terms.{Bound, app, Add};
 ghost use Rattle.ss_logic.specs.Formulas as logic;
 ghost use Rattle.ss_terms.specs.Forms.{formula_at, formulas_at, HasFormula, HasFormulas, IsGrown};
 ghost use Rattle.ss_vcgen_express.specs.Numbers.{meant_at, HasMeant, IsTerm, IsFormula, AreFormulas};
-ghost use Rattle.ss_vcgen_express.specs.Scenes.{scene_at, for_each, for_some, quantified_over};
+ghost use Rattle.ss_vcgen_express.specs.Contexts.{context_at, for_each, for_some, quantified_over};
 
 use crate::chains::{all_with, any_with};
+use crate::context::Context;
 use crate::meant::Meant;
 use crate::sayings::{Relation, Saying};
-use crate::scene::Scene;
 use crate::truths::over;
 use ss_core::Quantifier;
 use ss_logic::Sort;
@@ -69,17 +69,17 @@ fn not_below(
 pub fn out_of_range(
     alloc: Global,
     bank: &mut Bank,
-    scene: &Scene<'_>,
+    context: &Context<'_>,
     low: &Meant,
     high: &Meant,
 ) -> Result<Vec<FormulaId>, AllocError>
     requires low { HasMeant bank.old low.now }
     requires high { HasMeant bank.old high.now }
-    ensures at { IfOk result (λ v. AreFormulas bank.new v.items (λ b. spec.out_of_range (scene_at b scene.entry.now) (meant_at b low.now) (meant_at b high.now))) }
+    ensures at { IfOk result (λ v. AreFormulas bank.new v.items (λ b. spec.out_of_range (context_at b context.entry.now) (meant_at b low.now) (meant_at b high.now))) }
     ensures grown { IsGrown bank.old bank.new }
 {
-    let f = below(alloc, bank, scene.bound, low)?;
-    let g = not_below(alloc, bank, scene.bound, high)?;
+    let f = below(alloc, bank, context.bound, low)?;
+    let g = not_below(alloc, bank, context.bound, high)?;
     Vec::from_slice(alloc, &[f, g])
 }
 

@@ -6,28 +6,28 @@ ghost use Rattle.ss_logic_express.specs.Express as spec;
 ghost use Rattle.ss_terms.specs.Forms.{term_at, Forms, IsGrown};
 ghost use Rattle.ss_vcgen_express.specs.Numbers.{meant_at, HasMeant, IsFormula};
 ghost use Rattle.ss_vcgen_express.specs.Sayings.{related, said_so, HasRelation, HasSaying};
-ghost use Rattle.ss_vcgen_express.specs.Scenes.{scene_at, HasScene};
+ghost use Rattle.ss_vcgen_express.specs.Contexts.{context_at, HasContext};
 
+use crate::context::Context;
 use crate::meant::Meant;
 use crate::sayings::{Relation, Saying};
-use crate::scene::Scene;
 use crate::truths::{over, over_two};
 use ss_core::{OwnerTest, StateWord};
 use ss_terms::{Bank, FormulaId};
 use std::alloc::{AllocError, Global};
 
 // What a question about one object asks for.
-fn asked(scene: &Scene<'_>, word: StateWord) -> Saying
-    ensures in_bank { (b : Forms) → HasScene b scene.entry.now → HasSaying b result }
-    ensures says { (b : Forms) → said_so (term_at b) result ≡ spec.word_said (scene_at b scene.entry.now) (word_tree word) }
+fn asked(context: &Context<'_>, word: StateWord) -> Saying
+    ensures in_bank { (b : Forms) → HasContext b context.entry.now → HasSaying b result }
+    ensures says { (b : Forms) → said_so (term_at b) result ≡ spec.word_said (context_at b context.entry.now) (word_tree word) }
 {
     match word {
-        StateWord::Consistent => Saying::Consistent(scene.state()),
-        StateWord::Committed => Saying::Committed(scene.state()),
-        StateWord::New => Saying::New(scene.entry),
-        StateWord::Level(class) => Saying::AtLevel(scene.state(), class.0),
-        StateWord::Packed(class) => Saying::Packed(scene.state(), class.0),
-        StateWord::Unowned => Saying::Unowned(scene.state()),
+        StateWord::Consistent => Saying::Consistent(context.state()),
+        StateWord::Committed => Saying::Committed(context.state()),
+        StateWord::New => Saying::New(context.entry),
+        StateWord::Level(class) => Saying::AtLevel(context.state(), class.0),
+        StateWord::Packed(class) => Saying::Packed(context.state(), class.0),
+        StateWord::Unowned => Saying::Unowned(context.state()),
     }
 }
 
@@ -35,27 +35,27 @@ fn asked(scene: &Scene<'_>, word: StateWord) -> Saying
 pub fn word_said(
     alloc: Global,
     bank: &mut Bank,
-    scene: &Scene<'_>,
+    context: &Context<'_>,
     word: StateWord,
     m: &Meant,
 ) -> Result<FormulaId, AllocError>
-    requires scene { HasScene bank.old scene.now }
+    requires context { HasContext bank.old context.now }
     requires meant { HasMeant bank.old m.now }
-    ensures at { IfOk result (λ f. IsFormula bank.new f (λ b. spec.over (meant_at b m.now) (spec.word_said (scene_at b scene.entry.now) (word_tree word)))) }
+    ensures at { IfOk result (λ f. IsFormula bank.new f (λ b. spec.over (meant_at b m.now) (spec.word_said (context_at b context.entry.now) (word_tree word)))) }
     ensures grown { IsGrown bank.old bank.new }
 {
-    let saying = asked(scene, word);
+    let saying = asked(context, word);
     over(alloc, bank, m, saying)
 }
 
 // What a question about two objects asks for.
-fn asked_of_two(scene: &Scene<'_>, test: OwnerTest) -> Relation
-    ensures in_bank { (b : Forms) → HasScene b scene.entry.now → HasRelation b result }
-    ensures says { (b : Forms) → related (term_at b) result ≡ spec.owners_said (scene_at b scene.entry.now) (owners_tree test) }
+fn asked_of_two(context: &Context<'_>, test: OwnerTest) -> Relation
+    ensures in_bank { (b : Forms) → HasContext b context.entry.now → HasRelation b result }
+    ensures says { (b : Forms) → related (term_at b) result ≡ spec.owners_said (context_at b context.entry.now) (owners_tree test) }
 {
     match test {
-        OwnerTest::Same => Relation::SameOwner(scene.state()),
-        OwnerTest::Is(class) => Relation::OwnedAt(scene.state(), class.0),
+        OwnerTest::Same => Relation::SameOwner(context.state()),
+        OwnerTest::Is(class) => Relation::OwnedAt(context.state(), class.0),
     }
 }
 
@@ -63,17 +63,17 @@ fn asked_of_two(scene: &Scene<'_>, test: OwnerTest) -> Relation
 pub fn owners_said(
     alloc: Global,
     bank: &mut Bank,
-    scene: &Scene<'_>,
+    context: &Context<'_>,
     test: OwnerTest,
     x: &Meant,
     y: &Meant,
 ) -> Result<FormulaId, AllocError>
-    requires scene { HasScene bank.old scene.now }
+    requires context { HasContext bank.old context.now }
     requires first { HasMeant bank.old x.now }
     requires second { HasMeant bank.old y.now }
-    ensures at { IfOk result (λ f. IsFormula bank.new f (λ b. spec.over_two (meant_at b x.now) (meant_at b y.now) (spec.owners_said (scene_at b scene.entry.now) (owners_tree test)))) }
+    ensures at { IfOk result (λ f. IsFormula bank.new f (λ b. spec.over_two (meant_at b x.now) (meant_at b y.now) (spec.owners_said (context_at b context.entry.now) (owners_tree test)))) }
     ensures grown { IsGrown bank.old bank.new }
 {
-    let relation = asked_of_two(scene, test);
+    let relation = asked_of_two(context, test);
     over_two(alloc, bank, x, y, relation)
 }

@@ -30,9 +30,9 @@ use Rattle.ss_logic_means.specs.Sorts.{HasSort, AreWellFormed}
 use Rattle.ss_logic_means.proofs.Sorting.{sorted_one, sorted_two, equal_formed, all_formed}
 use Rattle.ss_logic_means.proofs.Forming.{F, C, or_two}
 use Rattle.ss_logic_means.proofs.Operating.{int_sort, at_most_formed, fits_formed}
-use Rattle.ss_logic_means.proofs.Scening.{class_sorted, type_sorted, sub_formed, allocated_formed}
+use Rattle.ss_logic_means.proofs.Contexts.{class_sorted, type_sorted, sub_formed, allocated_formed}
 use Rattle.ss_vcgen_heaps.specs.Positions.{Position, Walk, good, assume, assume_all, check, new_term, with_new, set_store, with_store, local_term, meant_at, evaluate, evaluate_all, with_term, term_for, settled}
-use Rattle.ss_vcgen_heaps.specs.Contracts.{is_object, is_of_type, contract_scene, no_result, conditions, frame_terms, seen, called}
+use Rattle.ss_vcgen_heaps.specs.Contracts.{is_object, is_of_type, contract_context, no_result, conditions, frame_terms, seen, called}
 use Rattle.ss_vcgen_heaps.specs.Obligations.{classes_of, settle_all, arguments_settled, check_entry, result_term, with_result, assume_result, returned, keep, call, check_receiver, with_this, call_with, with_ready, constructed, construct, new_array}
 use Rattle.ss_vcgen_positions.specs.At.{HaveTerms}
 use Rattle.ss_vcgen_positions.proofs.Same.{same_evaluate, same_evaluate_all, like_with_term}
@@ -136,7 +136,7 @@ module _ (w : Walk) (formed : IsFormed w.program) (body : IsFormedBody w.program
   module _ (callee : BodyTree) (stated : IsStatedBody cs callee) (ms : List Meant) (are : AreTerms cs (argument_types callee) ms) where
     entered : (at : Place) (k : Position) → IsFormedAt w k → IsFormedAt w (check_entry w at callee ms k)
     entered at k is =
-        checked_all w kind.Precondition at (conditions callee.entry (contract_scene (classes_of w) callee k.store k.store ms (no_result callee))) k
+        checked_all w kind.Precondition at (conditions callee.entry (contract_context (classes_of w) callee k.store k.store ms (no_result callee))) k
         (conditions_formed cs callee k.store k.store is.store is.store ms (no_result callee) are (no_result_terms cs callee) callee.entry stated.entry) is
 
     back : (k : Position) → IsFormedAt w k → IsFormedAt w (returned w callee ms k)
@@ -154,7 +154,7 @@ module _ (w : Walk) (formed : IsFormed w.program) (body : IsFormedBody w.program
         let is_d = assumed_all w frame c (frame_formed cs callee stated.typed s z is.store is_z ms are [] refl, (grown_formed cs s z is.store is_z, tt)) (store_set w z b is_z is_b) in
         let e = assume (good z) d in
         let is_e = assumed w (good z) d (good_formed w z is_z) is_d in
-        let exit = conditions callee.exit (contract_scene (classes_of w) callee z s ms (map One result)) in
+        let exit = conditions callee.exit (contract_context (classes_of w) callee z s ms (map One result)) in
         let f = assume_all exit e in
         let is_f = assumed_all w exit e (conditions_formed cs callee z s is_z is.store ms (map One result) are (result_terms callee.result a) callee.exit stated.exit) is_e in
         result_assumed callee.result a f is_f

@@ -22,7 +22,7 @@ use Rattle.ss_logic_means.specs.Sorts.{HasSort, AreWellFormed}
 use Rattle.ss_logic_means.proofs.Sorting.{sorted_one, sorted_two, equal_formed, all_formed, sort_more}
 use Rattle.ss_logic_means.proofs.Forming.{F, and_two, negation}
 use Rattle.ss_logic_means.proofs.Operating.{at_most_formed, less_formed}
-use Rattle.ss_logic_means.proofs.Scening.{class_sorted, pair_sorted, sub_formed, group_formed, level_sorted, owner_sorted, allocated_formed, committed_formed, consistent_formed}
+use Rattle.ss_logic_means.proofs.Contexts.{class_sorted, pair_sorted, sub_formed, group_formed, level_sorted, owner_sorted, allocated_formed, committed_formed, consistent_formed}
 use Rattle.ss_logic_means.proofs.Stated.{packed_formed}
 use Rattle.ss_vcgen_heaps.specs.Positions.{Position, Walk, check, check_all, local_term, site, with_store}
 use Rattle.ss_vcgen_heaps.specs.Obligations.{classes_of, check_not_null, is_known_local, check_local, may_be_owned, may_be_joined, check_owners, owned_store, write, is_index, write_element, unpack, invariants_said, owned_are_full, pack}

@@ -16,7 +16,7 @@ use Rattle.ss_logic.specs.declared.Sort.TheVariants as sort
 use Rattle.ss_logic.specs.Terms.{Term, sort_of_type, same_sort, sort_of, is_well_sorted, have_sorts}
 use Rattle.ss_logic.specs.Formulas.{Formula, is_well_formed}
 use Rattle.ss_logic.proofs.Truth.{same_sort_refl}
-use Rattle.ss_logic_express.specs.Express.{and_of, Choice, Meant, One, Either, Says, choices, Scene, default_of_sort, meant_or_null, local_meant, meant, defined, not_null}
+use Rattle.ss_logic_express.specs.Express.{and_of, Choice, Meant, One, Either, Says, choices, Context, default_of_sort, meant_or_null, local_meant, meant, defined, not_null}
 use Rattle.ss_logic_frames.specs.Frames.{OwnerTerm, kept}
 use Rattle.ss_logic_frames.specs.Sorted.{is_object, is_name, AreSorted}
 use Rattle.ss_logic_means.specs.Scenes.{has_no_default, is_stated}
@@ -25,12 +25,12 @@ use Rattle.ss_logic_means.proofs.Everywhere.{all_locals, plainly_all, speaks_all
 use Rattle.ss_logic_means.proofs.Expressed.{expressed}
 use Rattle.ss_logic_means.proofs.Forming.{one_sorted}
 use Rattle.ss_logic_means.proofs.Operating.{reference_sort, not_null_formed}
-use Rattle.ss_logic_means.proofs.Scening.{sorted_among}
+use Rattle.ss_logic_means.proofs.Contexts.{sorted_among}
 use Rattle.ss_logic_means.proofs.Sorting.{all_formed, more_formed, sort_more}
 use Rattle.ss_logic_means.proofs.Stated.{condition_formed}
 use Rattle.ss_logic_spans.specs.Spans.{is_typed_name, IsTypedBody}
 use Rattle.ss_logic_spans.proofs.Freeing.{class_if_captured}
-use Rattle.ss_vcgen_heaps.specs.Contracts.{defaults_meant, contract_scene, no_result, conditions, named_term, naming_parts, named_as, named_terms, term_of_one, captured_terms, pairs_of, owned_terms, frame_terms}
+use Rattle.ss_vcgen_heaps.specs.Contracts.{defaults_meant, contract_context, no_result, conditions, named_term, naming_parts, named_as, named_terms, term_of_one, captured_terms, pairs_of, owned_terms, frame_terms}
 use Rattle.ss_vcgen_formed.specs.Places.{IsTerm, AreTerms}
 use Rattle.ss_vcgen_formed.proofs.Kept.{kept_formed}
 
@@ -66,9 +66,9 @@ module _ (cs : List ClassTree) where
   meant_sorted : (a : Ty) (m : Meant) → IsTerm cs a m → (more : List Sort) → HaveSort cs more (sort_of_type a) (choices m)
   meant_sorted a m i more = subst (λ y. HaveSort cs more (sort_of_type a) (choices y)) (sym i.is) (one_sorted cs more (sort_of_type a) i.term (sort_more cs [] more (sort_of_type a) i.term i.sorted))
 
--- a scene of two stores and of terms of the sorts of the types
-pub scene_sorted : (c : Scene) → HasSort c.classes [] sort.Store c.now → HasSort c.classes [] sort.Store c.entry → AreTerms c.classes c.types c.locals → IsSorted c []
-scene_sorted c now entry are = record {
+-- a context of two stores and of terms of the sorts of the types
+pub context_sorted : (c : Context) → HasSort c.classes [] sort.Store c.now → HasSort c.classes [] sort.Store c.entry → AreTerms c.classes c.types c.locals → IsSorted c []
+context_sorted c now entry are = record {
   now = now;
   entry = entry;
   count = terms_count c.classes c.types c.locals are;
@@ -168,18 +168,18 @@ module _ (cs : List ClassTree) (b : BodyTree) where
   no_result_terms = default_terms cs (option_to_list b.result)
 
   module _ (now entry : Term) (is_now : HasSort cs [] sort.Store now) (is_entry : HasSort cs [] sort.Store entry) (ms ns : List Meant) (h : AreTerms cs (argument_types b) ms) (k : AreTerms cs (option_to_list b.result) ns) where
-    abbrev C : Scene
-    C = contract_scene cs b now entry ms ns
+    abbrev C : Context
+    C = contract_context cs b now entry ms ns
 
     pub conditions_formed : (es : List ExprTree) → list_all (is_stated cs (local_types b)) es ≡ true → AreWellFormed cs [] (conditions es C)
     conditions_formed [] is = tt
     conditions_formed (e ∷ es) is =
         let p = and_parts (is_stated cs (local_types b) e) (list_all (is_stated cs (local_types b)) es) is in
-        (condition_formed all_locals C [] (sorted_among all_locals C [] (scene_sorted C is_now is_entry (contract_terms ms ns h k))) refl e (speaks_all e) p.0, conditions_formed es p.1)
+        (condition_formed all_locals C [] (sorted_among all_locals C [] (context_sorted C is_now is_entry (contract_terms ms ns h k))) refl e (speaks_all e) p.0, conditions_formed es p.1)
 
   module _ (typed : IsTypedBody cs b) (before after : Term) (is_before : HasSort cs [] sort.Store before) (is_after : HasSort cs [] sort.Store after) (ms : List Meant) (h : AreTerms cs (argument_types b) ms) where
-    abbrev S : Scene
-    S = record (contract_scene cs b before before ms (no_result b)) { inside_old = true }
+    abbrev S : Context
+    S = record (contract_context cs b before before ms (no_result b)) { inside_old = true }
 
     terms_there : AreTerms cs (local_types b) S.locals
     terms_there = contract_terms ms (no_result b) h no_result_terms
@@ -187,7 +187,7 @@ module _ (cs : List ClassTree) (b : BodyTree) where
     subject_expressed : (x : ExprTree) → has_no_default x ≡ true → is_reference (type_of cs (local_types b) x) ≡ true → IsWellExpressed cs [] sort.Rest (defined x S) (meant x S)
     subject_expressed x none is =
         subst (λ s. IsWellExpressed cs [] s (defined x S) (meant x S)) (reference_sort (type_of cs (local_types b) x) is)
-        (expressed all_locals x S [] (sorted_among all_locals S [] (scene_sorted S is_before is_before terms_there)) (plainly_all x none) (reference_some (type_of cs (local_types b) x) is) (λ _. refl))
+        (expressed all_locals x S [] (sorted_among all_locals S [] (context_sorted S is_before is_before terms_there)) (plainly_all x none) (reference_some (type_of cs (local_types b) x) is) (λ _. refl))
 
     names_sorted : (ns : List NamedTree) → list_all (is_typed_name cs b) ns ≡ true → list_all (is_name cs) (named_terms ns S) ≡ true
     names_sorted [] is = refl

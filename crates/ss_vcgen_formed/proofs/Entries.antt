@@ -14,7 +14,7 @@ use Rattle.ss_logic_means.specs.Sorts.{HasSort, AreWellFormed}
 use Rattle.ss_logic_means.proofs.Sorting.{more_formed}
 use Rattle.ss_logic_means.proofs.Standing.{get_old}
 use Rattle.ss_vcgen_heaps.specs.Positions.{Always, Counters, Position, Walk, good, new_term, with_new}
-use Rattle.ss_vcgen_heaps.specs.Contracts.{is_of_type, contract_scene, no_result, conditions}
+use Rattle.ss_vcgen_heaps.specs.Contracts.{is_of_type, contract_context, no_result, conditions}
 use Rattle.ss_vcgen_heaps.specs.Obligations.{classes_of, is_asked_ready, argument_types_from, arguments_at, enter_arguments, first_position, walk_of, at_entry}
 use Rattle.ss_vcgen_positions.specs.At.{HaveTerms}
 use Rattle.ss_vcgen_positions.proofs.Paths.{IsReachable, IsPlaced}
@@ -178,7 +178,7 @@ module _ (c : CoreTree) (n : ℕ) (b : BodyTree) (next : Counters) (formed : IsF
   first_facts = good start.store ∷ argument_types_from w start.store 0 (argument_types b) start.locals
 
   abbrev entry_facts : List Formula
-  entry_facts = conditions b.entry (contract_scene (classes_of w) b start.store start.store (arguments_at w start) (no_result b))
+  entry_facts = conditions b.entry (contract_context (classes_of w) b start.store start.store (arguments_at w start) (no_result b))
 
   pub entry_formed : IsFormedAt w (at_entry w next)
   entry_formed =

@@ -17,7 +17,7 @@ use Rattle.ss_logic_frames.specs.Sorted.{is_object, is_name, AreSorted}
 use Rattle.ss_logic_means.specs.Sorts.{HasSort, AreWellFormed}
 use Rattle.ss_logic_means.proofs.Sorting.{sorted_two, sorted_three, formed_two, equal_formed, all_formed, more_formed, each_formed, neg_formed, sort_more}
 use Rattle.ss_logic_means.proofs.Forming.{F, and_two, or_two, negation}
-use Rattle.ss_logic_means.proofs.Scening.{class_sorted, type_sorted, pair_sorted, group_formed, level_sorted, owner_sorted, allocated_formed, committed_formed}
+use Rattle.ss_logic_means.proofs.Contexts.{class_sorted, type_sorted, pair_sorted, group_formed, level_sorted, owner_sorted, allocated_formed, committed_formed}
 
 -- ---- under more bound names
 

@@ -21,7 +21,7 @@ use Rattle.ss_logic_means.specs.Sorts.{HasSort}
 use Rattle.ss_logic_means.proofs.Forming.{F, C}
 use Rattle.ss_logic_means.proofs.Standing.{get_old}
 use Rattle.ss_vcgen_heaps.specs.Positions.{Position, Walk, check, check_all, meant_of, meant_at, term_for}
-use Rattle.ss_vcgen_heaps.specs.Contracts.{contract_scene, conditions}
+use Rattle.ss_vcgen_heaps.specs.Contracts.{contract_context, conditions}
 use Rattle.ss_vcgen_heaps.specs.Obligations.{classes_of, arguments_at, result_settled, settle_result, frame_formula, evaluate_result, return_with}
 use Rattle.ss_logic_spans.proofs.Bodies.{formed_typed}
 use Rattle.ss_vcgen_positions.specs.At.{HaveTerms}
@@ -108,7 +108,7 @@ module _ (w : Walk) (body : IsFormedBody w.program w.body) (entry : HasSort w.pr
         let st = result_there e a h reads (result_evaluated e k h reads is have) (result_like e k have) in
         let b = settle_result w e a in
         let ms = arguments_at w b in
-        let fs = conditions w.body.exit (contract_scene (classes_of w) w.body b.store w.entry ms (result_settled w e a)) in
+        let fs = conditions w.body.exit (contract_context (classes_of w) w.body b.store w.entry ms (result_settled w e a)) in
         let stated = formed_stated w.program w.body body in
         let c = check_all w kind.Postcondition at fs b in
         let is_c =

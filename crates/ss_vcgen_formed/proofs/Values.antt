@@ -24,7 +24,7 @@ use Rattle.ss_logic_means.proofs.Forming.{F, C, said_formed}
 use Rattle.ss_logic_means.proofs.Operating.{bool_sort}
 use Rattle.ss_logic_means.proofs.Stated.{plain_condition_formed}
 use Rattle.ss_vcgen_heaps.specs.Parts.{parts}
-use Rattle.ss_vcgen_heaps.specs.Positions.{Position, Walk, term_or_null, local_term, site, scene_at, meant_at, evaluate, evaluate_all, holds_at}
+use Rattle.ss_vcgen_heaps.specs.Positions.{Position, Walk, term_or_null, local_term, site, context_at, meant_at, evaluate, evaluate_all, holds_at}
 use Rattle.ss_vcgen_parts.specs.Placed.{HaveSorts}
 use Rattle.ss_vcgen_parts.proofs.Placed.{position_sorted}
 use Rattle.ss_vcgen_parts.proofs.Values.{parts_formed}
@@ -83,7 +83,7 @@ module _ (w : Walk) (entry : HasSort w.program.classes [] sort.Store w.entry) (x
         absurd (omega (arith, past, within)))
         (or_cases (xs x) (is_bound w.body x) asked)
 
-    sorted_here : IsSortedAmong among (scene_at w k) []
+    sorted_here : IsSortedAmong among (context_at w k) []
     sorted_here = position_sorted w k among is.store entry is.count have_sorts
 
     -- an assigned local has a term of its sort
@@ -100,16 +100,16 @@ module _ (w : Walk) (entry : HasSort w.program.classes [] sort.Store w.entry) (x
     meaning_sorted e reads of =
         let plain = typed_without cs w.body in_code e of in
         subst (λ o. C cs [] (element_sort o) (meant_at w e k)) (type_there (everywhere (is_allowed w.body in_code) e) (type_of cs (local_types w.body) e) of)
-        (expressed among e (scene_at w k) [] sorted_here (plainly_from among e reads plain.0) plain.1 (λ _. refl)).1
+        (expressed among e (context_at w k) [] sorted_here (plainly_from among e reads plain.0) plain.1 (λ _. refl)).1
 
     pub evaluated : (e : ExprTree) → reads_assigned w.body xs e ≡ true → is_some (code_type cs w.body e) ≡ true → IsFormedAt w (evaluate w e k)
     evaluated e reads of =
         let plain = typed_without cs w.body in_code e of in
-        checked_parts w (parts e (site w) k.known (scene_at w k)) k (parts_formed among e (scene_at w k) [] sorted_here refl reads plain.0 plain.1 (site w) k.known) is
+        checked_parts w (parts e (site w) k.known (context_at w k)) k (parts_formed among e (context_at w k) [] sorted_here refl reads plain.0 plain.1 (site w) k.known) is
 
     -- a condition of code, and a test
     pub condition_formed : (words : Words) (e : ExprTree) → reads_assigned w.body xs e ≡ true → is_condition cs w.body words e ≡ true → F cs [] (holds_at w k e)
-    condition_formed words e reads h = let c = condition_typed cs w.body words e h in plain_condition_formed among (scene_at w k) [] sorted_here refl e reads c.0 c.1
+    condition_formed words e reads h = let c = condition_typed cs w.body words e h in plain_condition_formed among (context_at w k) [] sorted_here refl e reads c.0 c.1
 
     pub conditions_formed : (words : Words) (es : List ExprTree) → list_all (reads_assigned w.body xs) es ≡ true → list_all (is_condition cs w.body words) es ≡ true → AreWellFormed cs [] (map (holds_at w k) es)
     conditions_formed words [] reads h = tt

@@ -10,7 +10,7 @@ use Rattle.ss_logic.specs.Terms.{Term, sort_of_type}
 use Rattle.ss_logic.specs.Formulas.{Formula}
 use Rattle.ss_logic_rules.specs.Shapes.{null_term, class_term, equal, differ, sub_atom, allocated, ready}
 use Rattle.ss_logic_rules.specs.Shapes as shape
-use Rattle.ss_logic_express.specs.Express.{and_of, or_of, Choice, Meant, One, Either, Says, Scene, meant, defined, not_null, default_of_sort, fits_int, holds_formula, local_meant}
+use Rattle.ss_logic_express.specs.Express.{and_of, or_of, Choice, Meant, One, Either, Says, Context, meant, defined, not_null, default_of_sort, fits_int, holds_formula, local_meant}
 use Rattle.ss_logic_frames.specs.Frames.{NamedTerm, NamesField, NamesAll, NamesUpto, NamesElements, OwnerTerm, CallTerms}
 use Rattle.ss_machine_rules.specs.Frame.{subject_of}
 
@@ -36,8 +36,8 @@ abbrev pub defaults_meant : List Ty → List Meant
 defaults_meant ts = map (λ t. One (default_of_sort (sort_of_type t))) ts
 
 -- The conditions of a body between these stores, where its arguments and its result mean this. The other locals are as at an entry.
-abbrev pub contract_scene : List ClassTree → BodyTree → Term → Term → List Meant → List Meant → Scene
-contract_scene cs b now entry arguments result = record {
+abbrev pub contract_context : List ClassTree → BodyTree → Term → Term → List Meant → List Meant → Context
+contract_context cs b now entry arguments result = record {
   classes = cs;
   now = now;
   entry = entry;
@@ -51,7 +51,7 @@ contract_scene cs b now entry arguments result = record {
 abbrev pub no_result : BodyTree → List Meant
 no_result b = defaults_meant (option_to_list b.result)
 
-abbrev pub conditions : List ExprTree → Scene → List Formula
+abbrev pub conditions : List ExprTree → Context → List Formula
 conditions es c = map (λ e. holds_formula e c) es
 
 -- ---- what may change
@@ -63,7 +63,7 @@ named_term (ElementsOf e) guard a = NamesElements guard a
 named_term (UptoOf e t) guard o = NamesUpto guard o t
 
 -- it names something where its expression has a value that isn't null
-abbrev pub naming_parts : ExprTree → Scene → List Formula
+abbrev pub naming_parts : ExprTree → Context → List Formula
 naming_parts e c = defined e c ++ not_null (meant e c) ∷ []
 
 abbrev pub named_as : NamedTree → List Formula → Meant → List NamedTerm
@@ -72,7 +72,7 @@ named_as n guards (Either xs) = map (λ x. named_term n (and_of (guards ++ x.con
 named_as n guards (Says f) = []
 
 -- what the `modifies` clause names, as it was at the entry
-abbrev pub named_terms : List NamedTree → Scene → List NamedTerm
+abbrev pub named_terms : List NamedTree → Context → List NamedTerm
 named_terms ns c = flat_map (λ n. named_as n (naming_parts (subject_of n) c) (meant (subject_of n) c)) ns
 
 abbrev pub term_of_one : Meant → List Term
@@ -90,13 +90,13 @@ abbrev pub pairs_of : List ClassTree → ℕ → Term → List OwnerTerm
 pairs_of cs t o = map (λ u. record { object = o; class = u }) (levels cs t)
 
 -- a constructor owns what its object owns at its class and those above
-abbrev pub owned_terms : List ClassTree → BodyTree → Scene → List OwnerTerm
+abbrev pub owned_terms : List ClassTree → BodyTree → Context → List OwnerTerm
 owned_terms cs b c = if b.flags.ctor then flat_map (pairs_of cs b.class) (term_of_one (local_meant c 0)) else []
 
 -- What a body may change between its entry and a later store, where its arguments mean this.
 abbrev pub frame_terms : List ClassTree → BodyTree → Term → Term → List Meant → List Term → CallTerms
 frame_terms cs b before after arguments outside =
-    let c = record (contract_scene cs b before before arguments (no_result b)) { inside_old = true } in
+    let c = record (contract_context cs b before before arguments (no_result b)) { inside_old = true } in
     record {
       before = before;
       after = after;

@@ -21,12 +21,12 @@ use Rattle.ss_logic.specs.Terms.{Set, Put, Unpack, Pack, Capture, Join, New, New
 use Rattle.ss_logic.specs.Formulas.{Formula, Forall, neg, IsValid}
 use Rattle.ss_logic_rules.specs.Shapes.{number, null_term, class_term, level_of, owner_of, pair_of, next_of, equal, differ, at_most, sub_atom, allocated, committed, group}
 use Rattle.ss_logic_rules.specs.Shapes as shape
-use Rattle.ss_logic_express.specs.Express.{and_of, or_of, Meant, One, said, Scene, element_sort, meant, is_full, less, holds_formula}
-use Rattle.ss_logic_express.specs.Invariants.{invariant_scene}
+use Rattle.ss_logic_express.specs.Express.{and_of, or_of, Meant, One, said, Context, element_sort, meant, is_full, less, holds_formula}
+use Rattle.ss_logic_express.specs.Invariants.{invariant_context}
 use Rattle.ss_logic_frames.specs.Frames.{kept, grown}
 use Rattle.ss_vcgen_heaps.specs.Parts.{parts}
-use Rattle.ss_vcgen_heaps.specs.Positions.{Obligation, Guard, Always, When, Never, Counters, Position, Walk, good, assume, assume_all, check, check_all, check_unless, new_term, with_new, set_local, set_store, with_store, ended, meant_of, local_term, site, scene_at, meant_at, evaluate, evaluate_all, holds_at, define, with_term, term_for, settled, meant_settled, first_side, second_side, join, if_reached}
-use Rattle.ss_vcgen_heaps.specs.Contracts.{is_of_type, contract_scene, no_result, conditions, frame_terms, called}
+use Rattle.ss_vcgen_heaps.specs.Positions.{Obligation, Guard, Always, When, Never, Counters, Position, Walk, good, assume, assume_all, check, check_all, check_unless, new_term, with_new, set_local, set_store, with_store, ended, meant_of, local_term, site, context_at, meant_at, evaluate, evaluate_all, holds_at, define, with_term, term_for, settled, meant_settled, first_side, second_side, join, if_reached}
+use Rattle.ss_vcgen_heaps.specs.Contracts.{is_of_type, contract_context, no_result, conditions, frame_terms, called}
 
 -- ---- names for parts of a walk
 
@@ -101,7 +101,7 @@ unpack w at x t k =
 
 -- each invariant of the class has a value, and that is true
 abbrev pub invariants_said : List ClassTree → Term → Term → ℕ → List Formula
-invariants_said cs s o t = conditions (invariants cs t) (invariant_scene cs s o t)
+invariants_said cs s o t = conditions (invariants cs t) (invariant_context cs s o t)
 
 -- what the object owns at the class is at its full level and not committed
 abbrev pub owned_are_full : Term → Term → ℕ → Formula
@@ -132,7 +132,7 @@ arguments_settled w (e ∷ es) k =
 -- the conditions at entry
 abbrev pub check_entry : Walk → Place → BodyTree → List Meant → Position → Position
 check_entry w at callee arguments k =
-    check_all w kind.Precondition at (conditions callee.entry (contract_scene (classes_of w) callee k.store k.store arguments (no_result callee))) k
+    check_all w kind.Precondition at (conditions callee.entry (contract_context (classes_of w) callee k.store k.store arguments (no_result callee))) k
 
 -- a result is a new constant
 abbrev pub result_term : Option Ty → Position → List Term
@@ -155,7 +155,7 @@ returned w callee arguments k =
     let result = result_term callee.result (with_new sort.Store k) in
     let called = assume_all (kept (classes_of w) (frame_terms (classes_of w) callee s z arguments []) ∷ grown s z ∷ []) (set_store z (with_result callee.result (with_new sort.Store k))) in
     assume_result callee.result result
-    (assume_all (conditions callee.exit (contract_scene (classes_of w) callee z s arguments (map One result)))
+    (assume_all (conditions callee.exit (contract_context (classes_of w) callee z s arguments (map One result)))
     (assume (good z) called))
 
 abbrev pub keep : Option ℕ → List Term → Position → Position
@@ -241,7 +241,7 @@ abbrev pub return_with : Walk → Place → Option ExprTree → Position → Pos
 return_with w at e k =
     let evaluated = evaluate_result w e k in
     let settled = settle_result w e evaluated in
-    let c = contract_scene (classes_of w) w.body settled.store w.entry (arguments_at w settled) (result_settled w e evaluated) in
+    let c = contract_context (classes_of w) w.body settled.store w.entry (arguments_at w settled) (result_settled w e evaluated) in
     let met = check_all w kind.Postcondition at (conditions w.body.exit c) settled in
     ended (check w kind.Frame at (frame_formula w [] met) met)
 
@@ -420,7 +420,7 @@ abbrev pub at_entry : Walk → Counters → Position
 at_entry w next =
     let entered = enter_arguments (argument_types w.body) (first_position w.body next) in
     let k = record entered { locals = entered.locals ++ map (λ l. None) w.body.locals ++ (if is_some w.body.result then None ∷ [] else []) } in
-    assume_all (good k.store ∷ argument_types_from w k.store 0 (argument_types w.body) k.locals ++ conditions w.body.entry (contract_scene (classes_of w) w.body k.store k.store (arguments_at w k) (no_result w.body))) k
+    assume_all (good k.store ∷ argument_types_from w k.store 0 (argument_types w.body) k.locals ++ conditions w.body.entry (contract_context (classes_of w) w.body k.store k.store (arguments_at w k) (no_result w.body))) k
 
 -- behind the code of a body
 abbrev pub at_end : Walk → Counters → Position

@@ -19,7 +19,7 @@ use Rattle.ss_logic.specs.Terms as term
 use Rattle.ss_logic.specs.Formulas.{Formula, Forall, neg}
 use Rattle.ss_logic_rules.specs.Shapes.{number, null_term, class_term, equal, at_most, sub_atom, allocated}
 use Rattle.ss_logic_rules.specs.Shapes as shape
-use Rattle.ss_logic_express.specs.Express.{or_of, Meant, over, over_two, said, Scene, at_entry, with_bound, fits_int, out_of_range, meant, not_null, index_fits, not_zero}
+use Rattle.ss_logic_express.specs.Express.{or_of, Meant, over, over_two, said, Context, at_entry, with_bound, fits_int, out_of_range, meant, not_null, index_fits, not_zero}
 
 -- what has to be so, and the check that fails where it isn't
 pub record Part : Type 0 where
@@ -40,14 +40,14 @@ parts_under f parts = map (with_formula (λ g. or_of (neg f ∷ g ∷ []))) part
 -- ---- objects
 
 -- the object isn't null, unless its type says so
-abbrev pub null_part : Site → Known → ExprTree → Scene → Place → List Part
+abbrev pub null_part : Site → Known → ExprTree → Context → Place → List Part
 null_part s k e c p = if is_never_null s k c.inside_old e then [] else part kind.Null p (not_null (meant e c))
 
 -- its state may be read: inside `old` it was allocated at entry
-abbrev pub readable_parts : Site → Known → ExprTree → Scene → Place → List Part
+abbrev pub readable_parts : Site → Known → ExprTree → Context → Place → List Part
 readable_parts s k e c p = null_part s k e c p ++ (if c.inside_old then part kind.Null p (over (meant e c) (allocated c.entry)) else [])
 
-abbrev pub word_parts : WordTree → Site → Known → ExprTree → Scene → Place → List Part
+abbrev pub word_parts : WordTree → Site → Known → ExprTree → Context → Place → List Part
 word_parts New s k e c p = null_part s k e c p
 word_parts w s k e c p = readable_parts s k e c p
 
@@ -62,7 +62,7 @@ is_upwards cs a t = false
 abbrev pub fits_class : ℕ → Meant → Formula
 fits_class t m = over m (λ x. or_of (equal x null_term ∷ sub_atom (shape.type_of x) (class_term t) ∷ []))
 
-abbrev pub cast_part : ExprTree → ℕ → Scene → Place → List Part
+abbrev pub cast_part : ExprTree → ℕ → Context → Place → List Part
 cast_part e t c p = if is_upwards c.classes (type_of c.classes c.types e) t then [] else part kind.Cast p (fits_class t (meant e c))
 
 -- ---- operations
@@ -88,7 +88,7 @@ right_parts o a parts = parts
 
 -- ---- expressions, from the left
 
-abbrev pub parts : ExprTree → Site → Known → Scene → List Part
+abbrev pub parts : ExprTree → Site → Known → Context → List Part
 parts (IntExpr p n) s k c = []
 parts (BoolExpr p b) s k c = []
 parts (NullExpr p) s k c = []

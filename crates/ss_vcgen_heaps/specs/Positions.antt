@@ -16,7 +16,7 @@ use Rattle.ss_logic.specs.Terms.{Constant, Term, app}
 use Rattle.ss_logic.specs.Formulas.{Good, Formula, neg, atom}
 use Rattle.ss_logic.specs.Equal.{same_term}
 use Rattle.ss_logic_rules.specs.Shapes.{null_term, equal}
-use Rattle.ss_logic_express.specs.Express.{and_of, or_of, truth_term, Meant, One, Either, Says, over, said, Scene, element_sort, meant, holds_formula}
+use Rattle.ss_logic_express.specs.Express.{and_of, or_of, truth_term, Meant, One, Either, Says, over, said, Context, element_sort, meant, holds_formula}
 use Rattle.ss_vcgen_heaps.specs.Parts.{Part, parts}
 
 -- what has to be shown for one check: its goal wherever the premises are true
@@ -174,8 +174,8 @@ abbrev pub site : Walk → Site
 site w = site_of w.program w.body
 
 -- where an expression stands at a position
-abbrev pub scene_at : Walk → Position → Scene
-scene_at w k = record {
+abbrev pub context_at : Walk → Position → Context
+context_at w k = record {
   classes = w.program.classes;
   now = k.store;
   entry = w.entry;
@@ -186,11 +186,11 @@ scene_at w k = record {
 }
 
 abbrev pub meant_at : Walk → ExprTree → Position → Meant
-meant_at w e k = meant e (scene_at w k)
+meant_at w e k = meant e (context_at w k)
 
 -- the parts of the expression are checked
 abbrev pub evaluate : Walk → ExprTree → Position → Position
-evaluate w e k = check_parts w (parts e (site w) k.known (scene_at w k)) k
+evaluate w e k = check_parts w (parts e (site w) k.known (context_at w k)) k
 
 abbrev pub evaluate_all : Walk → List ExprTree → Position → Position
 evaluate_all w [] k = k
@@ -198,7 +198,7 @@ evaluate_all w (e ∷ es) k = evaluate_all w es (evaluate w e k)
 
 -- the condition has a value, and that is true
 abbrev pub holds_at : Walk → Position → ExprTree → Formula
-holds_at w k e = holds_formula e (scene_at w k)
+holds_at w k e = holds_formula e (context_at w k)
 
 -- ---- terms for what is meant
 

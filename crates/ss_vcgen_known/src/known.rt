@@ -21,9 +21,9 @@ use crate::facts::{end_of, is_empty, join, joined, side_met, without};
 use crate::fields::{Fields, larger};
 use crate::never_null::is_never_null;
 use crate::sides::Sides;
-use crate::site::Site;
 use crate::tests::Tests;
 use crate::told::{Told, told_by};
+use crate::type_context::TypeContext;
 use crate::types::is_non_null_type;
 use ss_bit_set::BitSet;
 use ss_core::{Body, Callee, Core, Expr, FieldId, Stmt, Ty};
@@ -310,12 +310,12 @@ impl Known {
         requires types { types.now ≡ local_types (view.body body.now) }
         ensures { IfOk result (λ u. known_of self.new ≡ spec.with_local x (spec.is_never_null (spec.site_of (view.core core.now) (view.body body.now)) (known_of self.old) false (view.expr e.now)) (spec.learned (known_of self.old) (view.expr e.now)) (known_of self.old)) }
     {
-        let site = Site {
+        let typing = TypeContext {
             classes: &core.classes,
             types,
             constructs: body.flags.ctor,
         };
-        let non_null = is_never_null(site, self, &Tests::Nothing, false, e);
+        let non_null = is_never_null(typing, self, &Tests::Nothing, false, e);
         let holds = self.says(alloc, e, true)?;
         let fails = self.says(alloc, e, false)?;
         self.set_local(alloc, x, non_null, holds, fails)?;

@@ -7,11 +7,11 @@ ghost use Rattle.ss_core.specs.Tree.{ExprTree, FieldExpr};
 ghost use Rattle.ss_core.specs.View.{classes, expr};
 ghost use Rattle.ss_store_rules.specs.NonNull.{is_non_null_type, is_this_object, is_never_null};
 ghost use Rattle.ss_vcgen_known.specs.Fronts.{link_behind, step_behind, chain_front, path_front};
-ghost use Rattle.ss_vcgen_known.specs.Views.{site_of, known_of, tested};
+ghost use Rattle.ss_vcgen_known.specs.Views.{type_context_of, known_of, tested};
 
 use crate::known::Known;
-use crate::site::Site;
 use crate::tests::{Tests, has_field, knows};
+use crate::type_context::TypeContext;
 use crate::types::{field_type, is_non_null, is_non_null_type};
 use ss_core::{Expr, FieldId, Link, Step, Ty};
 
@@ -79,34 +79,34 @@ fn is_non_null_local(types: &[Ty], x: usize) -> bool
 
 // A field of an object that is `this`, or not.
 fn field_never_null(
-    site: Site<'_>,
+    typing: TypeContext<'_>,
     known: &Known,
     tests: &Tests<'_>,
     old: bool,
     of_this: bool,
     field: FieldId,
 ) -> bool
-    requires { length (classes site.classes.now) ≤ most_classes }
-    ensures { (p : PlaceValue) (e : ExprTree) → of_this ≡ is_this_object e → result ≡ is_never_null (site_of site.entry) (tested tests.now (known_of known.now)) old (FieldExpr p e field.0) }
+    requires { length (classes typing.classes.now) ≤ most_classes }
+    ensures { (p : PlaceValue) (e : ExprTree) → of_this ≡ is_this_object e → result ≡ is_never_null (type_context_of typing.entry) (tested tests.now (known_of known.now)) old (FieldExpr p e field.0) }
 {
-    let is_typed = is_non_null(field_type(site.classes, field));
+    let is_typed = is_non_null(field_type(typing.classes, field));
     let has_value = !of_this || has_field(known, tests, field.0 as usize);
-    is_typed && (!site.constructs || !old && has_value)
+    is_typed && (!typing.constructs || !old && has_value)
 }
 
 fn step_never_null(
-    site: Site<'_>,
+    typing: TypeContext<'_>,
     known: &Known,
     tests: &Tests<'_>,
     old: bool,
     of_this: bool,
     step: &Step,
 ) -> bool
-    requires { length (classes site.classes.now) ≤ most_classes }
-    ensures { (p : PlaceValue) (e : ExprTree) → of_this ≡ is_this_object e → result ≡ is_never_null (site_of site.entry) (tested tests.now (known_of known.now)) old (step_behind step.now p e) }
+    requires { length (classes typing.classes.now) ≤ most_classes }
+    ensures { (p : PlaceValue) (e : ExprTree) → of_this ≡ is_this_object e → result ≡ is_never_null (type_context_of typing.entry) (tested tests.now (known_of known.now)) old (step_behind step.now p e) }
 {
     match step {
-        Step::Field(field) => field_never_null(site, known, tests, old, of_this, *field),
+        Step::Field(field) => field_never_null(typing, known, tests, old, of_this, *field),
         Step::Element(_) | Step::Length => false,
     }
 }
@@ -125,7 +125,7 @@ fn front_is_this(first: &Expr, steps: &[Step], count: usize) -> bool
 
 // A path with this last step.
 fn steps_never_null(
-    site: Site<'_>,
+    typing: TypeContext<'_>,
     known: &Known,
     tests: &Tests<'_>,
     old: bool,
@@ -133,27 +133,33 @@ fn steps_never_null(
     steps: &[Step],
     last: usize,
 ) -> bool
-    requires limit { length (classes site.classes.now) ≤ most_classes }
+    requires limit { length (classes typing.classes.now) ≤ most_classes }
     requires last { last + 1 ≡ length steps.now }
-    ensures { (p : PlaceValue) → result ≡ is_never_null (site_of site.entry) (tested tests.now (known_of known.now)) old (path_front p (expr first.now) steps.now) }
+    ensures { (p : PlaceValue) → result ≡ is_never_null (type_context_of typing.entry) (tested tests.now (known_of known.now)) old (path_front p (expr first.now) steps.now) }
 {
     let of_this = front_is_this(first, steps, last);
-    step_never_null(site, known, tests, old, of_this, &steps[last])
+    step_never_null(typing, known, tests, old, of_this, &steps[last])
 }
 
 /// Whether the value of an expression isn't null, where all this is known and the tests have come out so; `old` where it stands inside
 /// `old`.
 #[cycle(never)]
-pub fn is_never_null(site: Site<'_>, known: &Known, tests: &Tests<'_>, old: bool, e: &Expr) -> bool
-    requires { length (classes site.classes.now) ≤ most_classes }
-    ensures { result ≡ is_never_null (site_of site.entry) (tested tests.now (known_of known.now)) old (expr e.now) }
+pub fn is_never_null(
+    typing: TypeContext<'_>,
+    known: &Known,
+    tests: &Tests<'_>,
+    old: bool,
+    e: &Expr,
+) -> bool
+    requires { length (classes typing.classes.now) ≤ most_classes }
+    ensures { result ≡ is_never_null (type_context_of typing.entry) (tested tests.now (known_of known.now)) old (expr e.now) }
 {
     match e {
-        Expr::Local(_, x) => is_non_null_local(site.types, *x) || knows(known, tests, *x),
+        Expr::Local(_, x) => is_non_null_local(typing.types, *x) || knows(known, tests, *x),
         Expr::Cast(_, _, non_null, _) => *non_null,
-        Expr::Old(_, a) => is_never_null(site, known, tests, true, a),
-        Expr::Path(_, first, steps) => path_never_null(site, known, tests, old, first, steps),
-        Expr::Chain(_, first, links) => chain_never_null(site, known, tests, old, first, links),
+        Expr::Old(_, a) => is_never_null(typing, known, tests, true, a),
+        Expr::Path(_, first, steps) => path_never_null(typing, known, tests, old, first, steps),
+        Expr::Chain(_, first, links) => chain_never_null(typing, known, tests, old, first, links),
         Expr::Int(..)
         | Expr::Bool(..)
         | Expr::Null(..)
@@ -171,38 +177,38 @@ pub fn is_never_null(site: Site<'_>, known: &Known, tests: &Tests<'_>, old: bool
 /// The same of the front of a path: what it begins with, and its first steps.
 #[cycle(never)]
 pub fn path_never_null(
-    site: Site<'_>,
+    typing: TypeContext<'_>,
     known: &Known,
     tests: &Tests<'_>,
     old: bool,
     first: &Expr,
     steps: &[Step],
 ) -> bool
-    requires { length (classes site.classes.now) ≤ most_classes }
-    ensures { (p : PlaceValue) → result ≡ is_never_null (site_of site.entry) (tested tests.now (known_of known.now)) old (path_front p (expr first.now) steps.now) }
+    requires { length (classes typing.classes.now) ≤ most_classes }
+    ensures { (p : PlaceValue) → result ≡ is_never_null (type_context_of typing.entry) (tested tests.now (known_of known.now)) old (path_front p (expr first.now) steps.now) }
 {
     if steps.is_empty() {
-        is_never_null(site, known, tests, old, first)
+        is_never_null(typing, known, tests, old, first)
     } else {
-        steps_never_null(site, known, tests, old, first, steps, steps.len() - 1)
+        steps_never_null(typing, known, tests, old, first, steps, steps.len() - 1)
     }
 }
 
 /// The same of the front of a chain: its first operand, and its first links.
 #[cycle(never)]
 pub fn chain_never_null(
-    site: Site<'_>,
+    typing: TypeContext<'_>,
     known: &Known,
     tests: &Tests<'_>,
     old: bool,
     first: &Expr,
     links: &[Link],
 ) -> bool
-    requires { length (classes site.classes.now) ≤ most_classes }
-    ensures { (p : PlaceValue) → result ≡ is_never_null (site_of site.entry) (tested tests.now (known_of known.now)) old (chain_front p (expr first.now) links.now) }
+    requires { length (classes typing.classes.now) ≤ most_classes }
+    ensures { (p : PlaceValue) → result ≡ is_never_null (type_context_of typing.entry) (tested tests.now (known_of known.now)) old (chain_front p (expr first.now) links.now) }
 {
     if links.is_empty() {
-        is_never_null(site, known, tests, old, first)
+        is_never_null(typing, known, tests, old, first)
     } else {
         false
     }

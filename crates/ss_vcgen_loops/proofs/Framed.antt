@@ -35,7 +35,7 @@ use Rattle.ss_logic_means.proofs.Classes.{IsReferenceOf}
 use Rattle.ss_logic_means.proofs.Typed.{reference_value}
 use Rattle.ss_logic_tables.specs.Elsewhere.{SameElsewhere}
 use Rattle.ss_logic_spans.specs.Spans.{IsArgument, AreArguments, AreReferences, SpanTerms, SpanValues, IsSpan, span_of, terms_of}
-use Rattle.ss_logic_spans.proofs.Scenes.{term_argument}
+use Rattle.ss_logic_spans.proofs.Contexts.{term_argument}
 use Rattle.ss_logic_spans.proofs.Bodies.{formed_typed}
 use Rattle.ss_logic_spans.proofs.Sorting.{terms_sorted}
 use Rattle.ss_logic_spans.proofs.Keeping.{objects_kept, heaps_kept}

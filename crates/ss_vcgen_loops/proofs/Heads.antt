@@ -28,7 +28,7 @@ use Rattle.ss_logic_tables.specs.Tabled.{IsStoreOf, tabled}
 use Rattle.ss_logic_tables.specs.Elsewhere.{SameElsewhere}
 use Rattle.ss_logic_tables.proofs.Tabling.{list_has_its_heap, heap_is_as_before}
 use Rattle.ss_logic_spans.proofs.Bodies.{formed_typed}
-use Rattle.ss_vcgen_heaps.specs.Positions.{Position, Walk, good, check, check_all, scene_at, holds_at}
+use Rattle.ss_vcgen_heaps.specs.Positions.{Position, Walk, good, check, check_all, context_at, holds_at}
 use Rattle.ss_vcgen_heaps.specs.Obligations.{Loop, exposed_terms, frame_at_head, levels_at_head, is_asked_ready, stays_of_type, types_from, renewed, at_head, AreValid}
 use Rattle.ss_sound_outcomes.specs.Points.{Activation, Point, frame_at, scene, IsSound}
 use Rattle.ss_sound_outcomes.specs.Outcomes.{HoldsAtHead, IsTurn, head_of}
@@ -69,7 +69,7 @@ module _ (w : Walk) (before : List Object) (table : Table) (arguments : List Obj
 
   -- conditions that are read at a position are true exactly where they hold
   all_mean : (xs : ℕ → Bool) (m : Structure) (k : Position) (p : Point) → IsAt w before table xs m k p → (es : List ExprTree) → list_all (is_condition cs w.body in_assert) es ≡ true → list_all (reads_assigned w.body xs) es ≡ true →
-      Stays k.next m (λ m'. AllMean cs m' es (scene_at w k) (scene a p))
+      Stays k.next m (λ m'. AllMean cs m' es (context_at w k) (scene a p))
   all_mean xs m k p is [] typed reads m' alike = tt
   all_mean xs m k p is (e ∷ es) typed reads m' alike =
       let t = and_parts (is_condition cs w.body in_assert e) (list_all (is_condition cs w.body in_assert) es) typed in
@@ -80,7 +80,7 @@ module _ (w : Walk) (before : List Object) (table : Table) (arguments : List Obj
 
   pub head_checks : HeadChecks w before table arguments
   head_checks l xs m k p asked here valid =
-      let c = scene_at w k in
+      let c = context_at w k in
       let k1 = check_all w kind.LoopInvariant l.place (map (holds_at w k) l.invariants) k in
       let k2 = check w kind.LoopFrame l.place (frame_at_head w l k) k1 in
       let v2 : AreValid cs k2.listed = (leads_check w kind.LoopLevel l.place (levels_at_head w l k) k2).listed valid in
@@ -200,7 +200,7 @@ module _ (w : Walk) (before : List Object) (table : Table) (arguments : List Obj
           let apart_here : SameElsewhere cs m2.table head_here.at.agrees.entry.heap now = subst (λ z. SameElsewhere cs m2.table z now) (sym former_is) apart in
           let is_good : IsGoodStore cs m2.table now = subst (λ t. IsGoodStore cs t now) (sym table_is) head_here.at.agrees.store_is.good in
           hold_more cs m2 (map (holds_at w h) l.invariants) (frame_at_head w l h ∷ levels_at_head w l h ∷ grown w.entry h.store ∷ good h.store ∷ types_from w h.store 0 (local_types w.body) k.locals h.locals)
-          (conditions_true cs m2 l.invariants (scene_at w h) (scene a q) (all_mean xs m1 h q head_here.at l.invariants asked.typed asked.reads m2 alike) holds.invariants) (
+          (conditions_true cs m2 l.invariants (context_at w h) (scene a q) (all_mean xs m1 h q head_here.at l.invariants asked.typed asked.reads m2 alike) holds.invariants) (
             frame_true w before table arguments entered xs m1 h q head_here m2 alike (exposed_terms l.exposes h) (map (held_by (frame_at a q)) l.exposes) refs apart_here holds.kept,
             (
               (levels_mean cs m2 h (frame_at a q) now (head_here.at.agrees.store_is.is m2 alike []) l.exposes held).1 (subst (λ s. are_exposed cs s (frame_at a q) l.exposes ≡ true) (sym store_here) holds.levels),

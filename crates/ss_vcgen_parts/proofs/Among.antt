@@ -15,7 +15,7 @@ use Rattle.ss_logic.specs.Terms.{Term, app}
 use Rattle.ss_logic.specs.Terms as term
 use Rattle.ss_logic.specs.Formulas.{Formula, Forall, neg}
 use Rattle.ss_logic_rules.specs.Shapes.{number, allocated}
-use Rattle.ss_logic_express.specs.Express.{or_of, Meant, over, over_two, said, Scene, at_entry, with_bound, fits_int, out_of_range, meant, not_null, readable, under, not_zero, index_fits, operation_parts, defined}
+use Rattle.ss_logic_express.specs.Express.{or_of, Meant, over, over_two, said, Context, at_entry, with_bound, fits_int, out_of_range, meant, not_null, readable, under, not_zero, index_fits, operation_parts, defined}
 use Rattle.ss_logic_express.specs.Express as express
 use Rattle.ss_vcgen_heaps.specs.Parts.{Part, part, with_formula, parts_under, null_part, readable_parts, word_parts, is_upwards, fits_class, cast_part, operation_part, right_parts, parts}
 use Rattle.ss_vcgen_parts.specs.Reading.{formulas_of}
@@ -68,7 +68,7 @@ module _ (P : Formula → Type 0) where
   unless true k p f h = tt
   unless false k p f h = (h, tt)
 
-  module _ (s : Site) (k : Known) (e : ExprTree) (c : Scene) (p : Place) where
+  module _ (s : Site) (k : Known) (e : ExprTree) (c : Context) (p : Place) where
     null_among : P (not_null (meant e c)) → Each P (formulas_of (null_part s k e c p))
     null_among h = unless (is_never_null s k c.inside_old e) kind.Null p (not_null (meant e c)) h
 
@@ -87,7 +87,7 @@ module _ (P : Formula → Type 0) where
     asked_among true h = null_among h.0
     asked_among false h = h
 
-  cast_among : (e : ExprTree) (t : ℕ) (c : Scene) (p : Place) → P (fits_class t (meant e c)) → Each P (formulas_of (cast_part e t c p))
+  cast_among : (e : ExprTree) (t : ℕ) (c : Context) (p : Place) → P (fits_class t (meant e c)) → Each P (formulas_of (cast_part e t c p))
   cast_among e t c p h = unless (is_upwards c.classes (type_of c.classes c.types e) t) kind.Cast p (fits_class t (meant e c)) h
 
 -- ---- operations
@@ -127,7 +127,7 @@ module _ (P : Formula → Type 0) (x y : Meant) (p : Place) (ps qs : List Part) 
 -- ---- expressions
 
 module _ (s : Site) where
-  pub parts_among : (x : ExprTree) (k : Known) (c : Scene) (P : Formula → Type 0) → Each P (defined x c) → Each P (formulas_of (parts x s k c))
+  pub parts_among : (x : ExprTree) (k : Known) (c : Context) (P : Formula → Type 0) → Each P (defined x c) → Each P (formulas_of (parts x s k c))
   parts_among (IntExpr p n) k c P a = tt
   parts_among (BoolExpr p b) k c P a = tt
   parts_among (NullExpr p) k c P a = tt

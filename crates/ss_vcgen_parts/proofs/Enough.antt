@@ -32,7 +32,7 @@ use Rattle.ss_logic.specs.Terms as term
 use Rattle.ss_logic.specs.Formulas.{Formula, Forall, neg}
 use Rattle.ss_logic.specs.Objects.{objects_of}
 use Rattle.ss_logic_rules.specs.Shapes.{number, at_most, allocated}
-use Rattle.ss_logic_express.specs.Express.{or_of, Meant, over, said, Scene, at_entry, with_bound, fits_int, out_of_range, meant, not_null, readable, under, index_fits, operation_parts, defined}
+use Rattle.ss_logic_express.specs.Express.{or_of, Meant, over, said, Context, at_entry, with_bound, fits_int, out_of_range, meant, not_null, readable, under, index_fits, operation_parts, defined}
 use Rattle.ss_logic_express.specs.Express as express
 use Rattle.ss_logic_means.specs.Means.{standing}
 use Rattle.ss_logic_means.specs.Scenes.{setting_of, StandsAmong}
@@ -92,13 +92,13 @@ never_is_null h (value.Bool b) r n = absurd r
 
 -- ---- one expression
 module _ (b : BodyTree) (first : List Ty) (constructs : Bool) (among : ℕ → Bool) (m : Structure) (now entry : Heap) where
-  abbrev In : Scene → List ObjectValue → run.Setting
+  abbrev In : Context → List ObjectValue → run.Setting
   In c locals = setting_of m c now entry locals
 
-  abbrev site_of : Scene → Site
+  abbrev site_of : Context → Site
   site_of c = record { classes = c.classes; locals = first; constructs = constructs }
 
-  module _ (c : Scene) (locals : List ObjectValue) (k : Known) (sees : Sees first constructs among k (In c locals) c.types) (e : List Value) (st : StandsAmong among m c now entry locals e) (at : length e ≡ c.bound) where
+  module _ (c : Context) (locals : List ObjectValue) (k : Known) (sees : Sees first constructs among k (In c locals) c.types) (e : List Value) (st : StandsAmong among m c now entry locals e) (at : length e ≡ c.bound) where
     abbrev A : List Formula → Type 0
     A fs = All c.classes m e fs
 
@@ -186,20 +186,20 @@ module _ (b : BodyTree) (first : List Ty) (constructs : Bool) (among : ℕ → B
 
   -- ---- ranges
 
-  abbrev lower_formula : Scene → Meant → Formula
+  abbrev lower_formula : Context → Meant → Formula
   lower_formula c low = neg (over low (λ v. at_most v (Bound c.bound)))
 
-  abbrev upper_formula : Scene → Meant → Formula
+  abbrev upper_formula : Context → Meant → Formula
   upper_formula c high = neg (over high (λ v. at_most (app term.Add (Bound c.bound ∷ number (pos 1) ∷ [])) v))
 
   -- a number of 32 bits
-  int_fits : (c : Scene) (locals : List ObjectValue) (k : Known) → Sees first constructs among k (In c locals) c.types → (x : ExprTree) → is_int (type_of c.classes c.types x) ≡ true → (u : ObjectValue) → run.value_of x (In c locals) ≡ Ok u → fits (as_int u) ≡ true
+  int_fits : (c : Context) (locals : List ObjectValue) (k : Known) → Sees first constructs among k (In c locals) c.types → (x : ExprTree) → is_int (type_of c.classes c.types x) ≡ true → (u : ObjectValue) → run.value_of x (In c locals) ≡ Ok u → fits (as_int u) ≡ true
   int_fits c locals k sees x h u is = int_typed c.classes (objects_of c.classes m.table now) u (typed.gives_int m (In c locals) now refl c.types constructs sees.good x h u is)
 
   -- ---- operations
 
   -- two expressions x and y, of which the second stands behind what is known of the first
-  module _ (c : Scene) (e : List Value) (ps qs : List Part) (fs gs : List Formula) (one : All c.classes m e (formulas_of ps) → All c.classes m e fs) where
+  module _ (c : Context) (e : List Value) (ps qs : List Part) (fs gs : List Formula) (one : All c.classes m e (formulas_of ps) → All c.classes m e fs) where
     abbrev B : List Formula → Type 0
     B hs = All c.classes m e hs
 
@@ -226,7 +226,7 @@ module _ (b : BodyTree) (first : List Ty) (constructs : Bool) (among : ℕ → B
   not_false false h = refl
   not_false true h = absurd (false≢true h)
 
-  module _ (c : Scene) (locals : List ObjectValue) (k : Known) (sees : Sees first constructs among k (In c locals) c.types) (e : List Value) (st : StandsAmong among m c now entry locals e) (at : length e ≡ c.bound) (p : Place) (x y : ExprTree) (reads : reads_plainly among x ≡ true)
+  module _ (c : Context) (locals : List ObjectValue) (k : Known) (sees : Sees first constructs among k (In c locals) c.types) (e : List Value) (st : StandsAmong among m c now entry locals e) (at : length e ≡ c.bound) (p : Place) (x y : ExprTree) (reads : reads_plainly among x ≡ true)
       (one : is_some (type_of c.classes c.types x) ≡ true → All c.classes m e (formulas_of (parts x (site_of c) k c)) → All c.classes m e (defined x c))
       (other : (l : Known) → Sees first constructs among l (In c locals) c.types → is_some (type_of c.classes c.types y) ≡ true → All c.classes m e (formulas_of (parts y (site_of c) l c)) → All c.classes m e (defined y c)) where
     abbrev Left : Option Ty
@@ -288,7 +288,7 @@ module _ (b : BodyTree) (first : List Ty) (constructs : Bool) (among : ℕ → B
 
   -- ---- expressions
 
-  pub enough : (x : ExprTree) (c : Scene) (locals : List ObjectValue) (k : Known) → Sees first constructs among k (In c locals) c.types → (e : List Value) → StandsAmong among m c now entry locals e → length e ≡ c.bound →
+  pub enough : (x : ExprTree) (c : Context) (locals : List ObjectValue) (k : Known) → Sees first constructs among k (In c locals) c.types → (e : List Value) → StandsAmong among m c now entry locals e → length e ≡ c.bound →
       reads_plainly among x ≡ true → is_some (type_of c.classes c.types x) ≡ true → All c.classes m e (formulas_of (parts x (site_of c) k c)) → All c.classes m e (defined x c)
   enough (IntExpr p n) c locals k sees e st at reads is a = tt
   enough (BoolExpr p v) c locals k sees e st at reads is a = tt

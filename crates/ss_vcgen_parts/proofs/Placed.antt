@@ -1,4 +1,4 @@
--- The scene of a position stands for the values of the locals that have terms, and is sorted on them.
+-- The context of a position stands for the values of the locals that have terms, and is sorted on them.
 use Rattle.std.proofs.Common.{◌≡◌, ℕ, zero, suc, List, [], ◌∷◌, length, map, Bool, true, ◌||◌, Option, Some, refl, sym, ◌∙◌, ap, subst, ⊎_elim, arith}
 use Rattle.std.specs.Prelude.{slice_get}
 use Rattle.std.proofs.lemmas.Bool.{or_cases, leb-true}
@@ -18,7 +18,7 @@ use Rattle.ss_logic_means.specs.Sorts.{HasSort, HaveSort, IsSortedAmong}
 use Rattle.ss_logic_means.proofs.Denoting.{one_denotes}
 use Rattle.ss_logic_means.proofs.Forming.{one_sorted}
 use Rattle.ss_logic_means.proofs.Sorting.{sort_more}
-use Rattle.ss_vcgen_heaps.specs.Positions.{Position, Walk, meant_of, scene_at}
+use Rattle.ss_vcgen_heaps.specs.Positions.{Position, Walk, meant_of, context_at}
 use Rattle.ss_vcgen_parts.specs.Placed.{HaveValues, HaveSorts}
 use Rattle.ss_vcgen_parts.specs.Reading.{IsRead}
 
@@ -32,7 +32,7 @@ length_meant [] = refl
 length_meant (l ∷ ls) = ap suc (length_meant ls)
 
 pub position_stands : (w : Walk) (k : Position) (among : ℕ → Bool) (m : Structure) (now entry : Heap) (values : List ObjectValue) → ((e : List Value) → value_of w.program.classes m e k.store ≡ store now) → ((e : List Value) → value_of w.program.classes m e w.entry ≡ store entry) →
-    length k.locals ≡ length values → HaveValues w.program.classes m among k.locals values → StandsAmong among m (scene_at w k) now entry values []
+    length k.locals ≡ length values → HaveValues w.program.classes m among k.locals values → StandsAmong among m (context_at w k) now entry values []
 position_stands w k among m now entry values is_now is_entry count have = record {
   now = is_now;
   entry = is_entry;
@@ -43,7 +43,7 @@ position_stands w k among m now entry values is_now is_entry count have = record
 }
 
 pub position_sorted : (w : Walk) (k : Position) (among : ℕ → Bool) → HasSort w.program.classes [] sort.Store k.store → HasSort w.program.classes [] sort.Store w.entry → length k.locals ≡ length (local_types w.body) →
-    HaveSorts w.program.classes among k.locals (local_types w.body) → IsSortedAmong among (scene_at w k) []
+    HaveSorts w.program.classes among k.locals (local_types w.body) → IsSortedAmong among (context_at w k) []
 position_sorted w k among is_now is_entry count have = record {
   now = is_now;
   entry = is_entry;
@@ -63,9 +63,9 @@ module _ (w : Walk) (k : Position) (assigned : ℕ → Bool) (count : length k.l
   abbrev among : ℕ → Bool
   among x = assigned x || is_bound w.body x
 
-  pub position_read : (m : Structure) (now entry : Heap) (values : List ObjectValue) → IsGoodSetting (setting_of m (scene_at w k) now entry values) (local_types w.body) w.body.flags.ctor → WasReady w.body.flags.ctor (setting_of m (scene_at w k) now entry values) →
-      AreAssigned w.body assigned (setting_of m (scene_at w k) now entry values) → IsTrueOf w.body.flags.ctor k.known (setting_of m (scene_at w k) now entry values) →
-      ((e : List Value) → value_of w.program.classes m e k.store ≡ store now) → ((e : List Value) → value_of w.program.classes m e w.entry ≡ store entry) → HaveValues w.program.classes m assigned k.locals values → IsRead w.body assigned k.known m (scene_at w k) now entry values []
+  pub position_read : (m : Structure) (now entry : Heap) (values : List ObjectValue) → IsGoodSetting (setting_of m (context_at w k) now entry values) (local_types w.body) w.body.flags.ctor → WasReady w.body.flags.ctor (setting_of m (context_at w k) now entry values) →
+      AreAssigned w.body assigned (setting_of m (context_at w k) now entry values) → IsTrueOf w.body.flags.ctor k.known (setting_of m (context_at w k) now entry values) →
+      ((e : List Value) → value_of w.program.classes m e k.store ≡ store now) → ((e : List Value) → value_of w.program.classes m e w.entry ≡ store entry) → HaveValues w.program.classes m assigned k.locals values → IsRead w.body assigned k.known m (context_at w k) now entry values []
   position_read m now entry values good ready so known is_now is_entry have = record {
     types = refl;
     good = good;
@@ -77,7 +77,7 @@ module _ (w : Walk) (k : Position) (assigned : ℕ → Bool) (count : length k.l
     bound = refl;
   }
 
-  pub assigned_sorted : HasSort w.program.classes [] sort.Store k.store → HasSort w.program.classes [] sort.Store w.entry → HaveSorts w.program.classes assigned k.locals (local_types w.body) → IsSortedAmong among (scene_at w k) []
+  pub assigned_sorted : HasSort w.program.classes [] sort.Store k.store → HasSort w.program.classes [] sort.Store w.entry → HaveSorts w.program.classes assigned k.locals (local_types w.body) → IsSortedAmong among (context_at w k) []
   assigned_sorted is_now is_entry have =
       position_sorted w k among is_now is_entry count (λ x t asked there.
       ⊎_elim (λ is. have x t is there) (λ bound. absurd (not_bound w.body (local_types w.body) x t refl bound there)) (or_cases (assigned x) (is_bound w.body x) asked))

@@ -19,7 +19,7 @@ use Rattle.ss_machine_good.specs.Known.{IsNotNull}
 use Rattle.ss_logic.specs.declared.Sort.{Sort}
 use Rattle.ss_logic.specs.Values.{Heap, Value, Structure}
 use Rattle.ss_logic.specs.Formulas.{True, is_well_formed}
-use Rattle.ss_logic_express.specs.Express.{Scene, meant, defined, holds_formula}
+use Rattle.ss_logic_express.specs.Express.{Context, meant, defined, holds_formula}
 use Rattle.ss_logic_means.specs.Means.{standing, Means, Denotes}
 use Rattle.ss_logic_means.specs.Scenes.{setting_of, has_no_default}
 use Rattle.ss_logic_means.specs.Sorts.{IsSortedAmong}
@@ -36,7 +36,7 @@ use Rattle.ss_vcgen_parts.proofs.Among.{parts_among}
 use Rattle.ss_vcgen_parts.proofs.Known.{Sees}
 use Rattle.ss_vcgen_parts.proofs.Enough.{enough}
 
-module _ (b : BodyTree) (assigned : ℕ → Bool) (k : Known) (m : Structure) (c : Scene) (now entry : Heap) (locals : List ObjectValue) (e : List Value) (r : IsRead b assigned k m c now entry locals e) where
+module _ (b : BodyTree) (assigned : ℕ → Bool) (k : Known) (m : Structure) (c : Context) (now entry : Heap) (locals : List ObjectValue) (e : List Value) (r : IsRead b assigned k m c now entry locals e) where
   abbrev S : run.Setting
   S = setting_of m c now entry locals
 
@@ -120,7 +120,7 @@ module _ (b : BodyTree) (assigned : ℕ → Bool) (k : Known) (m : Structure) (c
       plain.condition_means among m now entry x c locals b.flags.ctor r.good e r.stands (plainly_from among x reads stated.0) (subst (λ ts. is_bool (type_of c.classes ts x) ≡ true) (sym r.types) stated.1) r.bound
 
 -- the formula of a condition of code is well formed
-pub condition_sorted : (b : BodyTree) (assigned : ℕ → Bool) (c : Scene) (bound : List Sort) → c.types ≡ local_types b → IsSortedAmong (λ x. assigned x || is_bound b x) c bound → length bound ≡ c.bound → (w : Words) (x : ExprTree) → is_condition c.classes b w x ≡ true → reads_assigned b assigned x ≡ true →
+pub condition_sorted : (b : BodyTree) (assigned : ℕ → Bool) (c : Context) (bound : List Sort) → c.types ≡ local_types b → IsSortedAmong (λ x. assigned x || is_bound b x) c bound → length bound ≡ c.bound → (w : Words) (x : ExprTree) → is_condition c.classes b w x ≡ true → reads_assigned b assigned x ≡ true →
     is_well_formed c.classes bound (holds_formula x c) ≡ true
 condition_sorted b assigned c bound types st at w x is reads =
     let stated = condition_typed c.classes b w x is in

@@ -12,7 +12,7 @@ use Rattle.ss_machine_typed.specs.Settings.{IsGoodSetting}
 use Rattle.ss_logic.specs.declared.Sort.{Sort}
 use Rattle.ss_logic.specs.Values.{Heap, Value, Structure}
 use Rattle.ss_logic.specs.Formulas.{Formula, True, AllTrue, formulas_from, is_well_formed}
-use Rattle.ss_logic_express.specs.Express.{Meant, Scene, meant, defined}
+use Rattle.ss_logic_express.specs.Express.{Meant, Context, meant, defined}
 use Rattle.ss_logic_means.specs.Means.{standing}
 use Rattle.ss_logic_means.specs.Scenes.{setting_of, StandsAmong, has_no_default}
 use Rattle.ss_logic_means.specs.Sorts.{AreWellFormed, IsSortedAmong}
@@ -54,13 +54,13 @@ module _ (cs : List ClassTree) (m : Structure) (e : List Value) where
 
 -- ---- expressions
 
-pub parts_formed : (among : ℕ → Bool) (x : ExprTree) (c : Scene) (bound : List Sort) → IsSortedAmong among c bound → length bound ≡ c.bound → reads_only among x ≡ true → has_no_default x ≡ true → is_some (type_of c.classes c.types x) ≡ true → (s : Site) (k : Known) →
+pub parts_formed : (among : ℕ → Bool) (x : ExprTree) (c : Context) (bound : List Sort) → IsSortedAmong among c bound → length bound ≡ c.bound → reads_only among x ≡ true → has_no_default x ≡ true → is_some (type_of c.classes c.types x) ≡ true → (s : Site) (k : Known) →
     AreWellFormed c.classes bound (formulas_of (parts x s k c))
 parts_formed among x c bound st at reads none is s k =
     let whole = expressed among x c bound st (plainly_from among x reads none) is (λ _. at) in
     formed_each c.classes bound (formulas_of (parts x s k c)) (parts_among s x k c (λ f. is_well_formed c.classes bound f ≡ true) (each_formed c.classes bound (defined x c) whole.0))
 
-pub parts_true : (among : ℕ → Bool) (m : Structure) (now entry : Heap) (x : ExprTree) (c : Scene) (locals : List ObjectValue) (constructs : Bool) → IsGoodSetting (setting_of m c now entry locals) c.types constructs → (e : List Value) → StandsAmong among m c now entry locals e →
+pub parts_true : (among : ℕ → Bool) (m : Structure) (now entry : Heap) (x : ExprTree) (c : Context) (locals : List ObjectValue) (constructs : Bool) → IsGoodSetting (setting_of m c now entry locals) c.types constructs → (e : List Value) → StandsAmong among m c now entry locals e →
     length e ≡ c.bound → reads_only among x ≡ true → has_no_default x ≡ true → is_some (type_of c.classes c.types x) ≡ true → (s : Site) (k : Known) (v : ObjectValue) → run.value_of x (setting_of m c now entry locals) ≡ Ok v →
     AllTrue c.classes m e (formulas_from (formulas_of (parts x s k c)))
 parts_true among m now entry x c locals constructs good e st at reads none is s k v has =

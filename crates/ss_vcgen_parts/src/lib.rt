@@ -6,8 +6,8 @@ mod laws;
 
 pub use laws::{
     conditions_of_code_are_true_where_they_hold, conditions_of_code_are_well_formed,
-    parts_are_well_formed, parts_of_all_values_are_true, parts_of_values_are_true,
-    positions_are_read, scenes_are_sorted_where_locals_are_assigned,
-    scenes_of_positions_are_sorted, scenes_of_positions_stand, true_parts_are_enough,
+    contexts_are_sorted_where_locals_are_assigned, contexts_of_positions_are_sorted,
+    contexts_of_positions_stand, parts_are_well_formed, parts_of_all_values_are_true,
+    parts_of_values_are_true, positions_are_read, true_parts_are_enough,
     true_parts_are_enough_for_all, unchecked_parts_are_true,
 };

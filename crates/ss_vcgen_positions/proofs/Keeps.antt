@@ -9,7 +9,7 @@ use Rattle.ss_store_rules.specs.Values.{Setting, holds}
 use Rattle.ss_machine_rules.specs.Steps.{all_hold}
 use Rattle.ss_logic.specs.Values.{Table, Structure}
 use Rattle.ss_logic.specs.Formulas.{Formula, Hold}
-use Rattle.ss_logic_express.specs.Express.{Scene, holds_formula}
+use Rattle.ss_logic_express.specs.Express.{Context, holds_formula}
 use Rattle.ss_logic_means.specs.Means.{Means}
 use Rattle.ss_vcgen_heaps.specs.Parts.{Part}
 use Rattle.ss_vcgen_heaps.specs.Positions.{Position, Walk, under, assume, assume_all, check, check_all, check_unless, check_parts}
@@ -23,15 +23,15 @@ use Rattle.ss_vcgen_positions.proofs.Leads.{valid_last, leads_check_all, leads_c
 -- ---- conditions
 
 -- each of these conditions is true exactly where it holds
-abbrev pub AllMean : List ClassTree → Structure → List ExprTree → Scene → Setting → Type 0
+abbrev pub AllMean : List ClassTree → Structure → List ExprTree → Context → Setting → Type 0
 AllMean cs m [] c s = Unit {0}
 AllMean cs m (e ∷ es) c s = Means cs m [] (holds_formula e c) (holds e s) × AllMean cs m es c s
 
-pub conditions_hold : (cs : List ClassTree) (m : Structure) (es : List ExprTree) (c : Scene) (s : Setting) → AllMean cs m es c s → Hold cs m (conditions es c) → all_hold es s ≡ true
+pub conditions_hold : (cs : List ClassTree) (m : Structure) (es : List ExprTree) (c : Context) (s : Setting) → AllMean cs m es c s → Hold cs m (conditions es c) → all_hold es s ≡ true
 conditions_hold cs m [] c s a t = refl
 conditions_hold cs m (e ∷ es) c s a t = and_from (holds e s) (all_hold es s) (a.0.0 t.0) (conditions_hold cs m es c s a.1 t.1)
 
-pub conditions_true : (cs : List ClassTree) (m : Structure) (es : List ExprTree) (c : Scene) (s : Setting) → AllMean cs m es c s → all_hold es s ≡ true → Hold cs m (conditions es c)
+pub conditions_true : (cs : List ClassTree) (m : Structure) (es : List ExprTree) (c : Context) (s : Setting) → AllMean cs m es c s → all_hold es s ≡ true → Hold cs m (conditions es c)
 conditions_true cs m [] c s a h = tt
 conditions_true cs m (e ∷ es) c s a h = let p = and_parts (holds e s) (all_hold es s) h in (a.0.1 p.0, conditions_true cs m es c s a.1 p.1)
 
@@ -95,7 +95,7 @@ module _ (w : Walk) (before : List Object) (table : Table) (m : Structure) (p : 
       (λ m' a. (c.0 m' a, z.0 m' a), z.1)
 
   -- conditions whose obligations are valid hold
-  pub conditions_checked : (kind : Kind) (at : Place) (es : List ExprTree) (c : Scene) (s : Setting) (k : Position) → Stays k.next m (λ m'. AllMean w.program.classes m' es c s) →
+  pub conditions_checked : (kind : Kind) (at : Place) (es : List ExprTree) (c : Context) (s : Setting) (k : Position) → Stays k.next m (λ m'. AllMean w.program.classes m' es c s) →
       AreValid w.program.classes (check_all w kind at (conditions es c) k).listed → At k → (all_hold es s ≡ true) × At (check_all w kind at (conditions es c) k)
   conditions_checked kind at es c s k mean v g =
       let z = checked_all kind at (conditions es c) k v g in
@@ -103,5 +103,5 @@ module _ (w : Walk) (before : List Object) (table : Table) (m : Structure) (p : 
       (conditions_hold w.program.classes m es c s (mean m self) (z.0 m self), z.1)
 
   -- conditions that hold are true premises
-  pub conditions_assumed : (es : List ExprTree) (c : Scene) (s : Setting) (k : Position) → Stays k.next m (λ m'. AllMean w.program.classes m' es c s) → all_hold es s ≡ true → At k → At (assume_all (conditions es c) k)
+  pub conditions_assumed : (es : List ExprTree) (c : Context) (s : Setting) (k : Position) → Stays k.next m (λ m'. AllMean w.program.classes m' es c s) → all_hold es s ≡ true → At k → At (assume_all (conditions es c) k)
   conditions_assumed es c s k mean h g = assumed_all (conditions es c) k (λ m' a. conditions_true w.program.classes m' es c s (mean m' a) h) g

@@ -16,7 +16,7 @@ use Rattle.ss_logic.specs.Equal.{same_term}
 use Rattle.ss_logic_rules.specs.Shapes.{equal}
 use Rattle.ss_logic_express.specs.Express.{Meant, One, Either, Says, element_sort}
 use Rattle.ss_vcgen_heaps.specs.Parts.{Part, parts}
-use Rattle.ss_vcgen_heaps.specs.Positions.{Obligation, Guard, Always, When, Never, Position, Walk, under, side, good, assume, assume_all, check, check_all, check_unless, check_parts, new_term, with_new, set_local, set_store, with_store, ended, site, scene_at, evaluate, evaluate_all, has_value, define, with_term, settled, first_side, second_side, join_term, join_locals, join_guard, join_both, join_from, join, if_reached}
+use Rattle.ss_vcgen_heaps.specs.Positions.{Obligation, Guard, Always, When, Never, Position, Walk, under, side, good, assume, assume_all, check, check_all, check_unless, check_parts, new_term, with_new, set_local, set_store, with_store, ended, site, context_at, evaluate, evaluate_all, has_value, define, with_term, settled, first_side, second_side, join_term, join_locals, join_guard, join_both, join_from, join, if_reached}
 use Rattle.ss_vcgen_heaps.specs.Obligations.{AreValid}
 use Rattle.ss_vcgen_positions.specs.At.{IsOff, IsQuiet, HoldIn, Rises, Leads}
 use Rattle.ss_vcgen_positions.proofs.Alike.{rises_self, rises_twice, rises_new}
@@ -117,7 +117,7 @@ module _ (w : Walk) where
       leads_twice k k' (check_parts w ps k') (leads_check p.kind p.place p.formula k) (leads_check_parts ps k')
 
   pub leads_evaluate : (e : ExprTree) (k : Position) → Leads w k (evaluate w e k)
-  leads_evaluate e k = leads_check_parts (parts e (site w) k.known (scene_at w k)) k
+  leads_evaluate e k = leads_check_parts (parts e (site w) k.known (context_at w k)) k
 
   pub leads_evaluate_all : (es : List ExprTree) (k : Position) → Leads w k (evaluate_all w es k)
   leads_evaluate_all [] k = leads_self k

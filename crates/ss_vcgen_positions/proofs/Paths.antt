@@ -25,7 +25,7 @@ use Rattle.ss_logic_rules.specs.Shapes as shape
 use Rattle.ss_logic_frames.specs.Frames.{kept, grown}
 use Rattle.ss_logic_express.specs.Express.{Meant, One, said, element_sort}
 use Rattle.ss_vcgen_heaps.specs.Positions.{Guard, Always, When, Never, Position, Walk, good, assume, assume_all, check, check_all, holds_at, new_term, with_new, set_local, set_store, with_store, local_term, meant_at, evaluate, evaluate_all, define, with_term, term_for, first_side, second_side, join_term, joined_term, join_locals, join_guard, join_both, join_from, join, if_reached}
-use Rattle.ss_vcgen_heaps.specs.Contracts.{is_of_type, contract_scene, conditions, frame_terms, seen, called}
+use Rattle.ss_vcgen_heaps.specs.Contracts.{is_of_type, contract_context, conditions, frame_terms, seen, called}
 use Rattle.ss_vcgen_heaps.specs.Obligations.{classes_of, local_sort, check_not_null, check_local, invariants_said, evaluate_result, check_owners, write, write_element, unpack, pack, settle_all, arguments_settled, check_entry, result_term, with_result, assume_result, returned, keep, call, check_receiver, with_this, call_with, with_ready, constructed, construct, new_array, Loop, loop_of, frame_at_head, levels_at_head, types_from, check_head, renew_from, renewed, at_head, exit_guard, into_body, behind, behind_all}
 use Rattle.ss_vcgen_positions.specs.At.{HaveTerms}
 use Rattle.ss_vcgen_positions.proofs.Leads.{leads_join_locals, leads_join_term}
@@ -151,7 +151,7 @@ module _ (w : Walk) where
       let frame = kept (classes_of w) (frame_terms (classes_of w) callee s z ms []) ∷ grown s z ∷ [] in
       let d = assume_all frame c in
       let e = assume (good z) d in
-      let exit = conditions callee.exit (contract_scene (classes_of w) callee z s ms (map One result)) in
+      let exit = conditions callee.exit (contract_context (classes_of w) callee z s ms (map One result)) in
       let f = assume_all exit e in
       let h = assume_result callee.result result f in
       place_twice k a h (refl, refl)

@@ -18,8 +18,8 @@ use Rattle.ss_logic.specs.Formulas.{Formula}
 use Rattle.ss_logic_rules.specs.Shapes.{null_term, differ}
 use Rattle.ss_logic_express.specs.Express.{Meant, One, Either, Says, element_sort}
 use Rattle.ss_vcgen_heaps.specs.Parts.{Part, parts}
-use Rattle.ss_vcgen_heaps.specs.Positions.{Position, Walk, assume, assume_all, check, check_all, check_unless, check_parts, local_term, site, scene_at, meant_at, evaluate, evaluate_all, with_term, settled}
-use Rattle.ss_vcgen_heaps.specs.Contracts.{contract_scene, no_result, conditions}
+use Rattle.ss_vcgen_heaps.specs.Positions.{Position, Walk, assume, assume_all, check, check_all, check_unless, check_parts, local_term, site, context_at, meant_at, evaluate, evaluate_all, with_term, settled}
+use Rattle.ss_vcgen_heaps.specs.Contracts.{contract_context, no_result, conditions}
 use Rattle.ss_vcgen_heaps.specs.Obligations.{classes_of, check_not_null, is_known_local, check_local, may_be_owned, may_be_joined, check_owners, settle_all, check_entry, check_receiver, settle_result, evaluate_result}
 use Rattle.ss_sound_outcomes.specs.Points.{Point, scene}
 use Rattle.ss_vcgen_positions.specs.At.{activation, Agrees, HaveTerms, IsAt}
@@ -72,7 +72,7 @@ module _ (w : Walk) where
   same_check_parts (p ∷ ps) k = let k' = check w p.kind p.place p.formula k in same_twice k k' (check_parts w ps k') (same_check p.kind p.place p.formula k) (same_check_parts ps k')
 
   pub same_evaluate : (e : ExprTree) (k : Position) → IsSame k (evaluate w e k)
-  same_evaluate e k = same_check_parts (parts e (site w) k.known (scene_at w k)) k
+  same_evaluate e k = same_check_parts (parts e (site w) k.known (context_at w k)) k
 
   pub same_evaluate_all : (es : List ExprTree) (k : Position) → IsSame k (evaluate_all w es k)
   same_evaluate_all [] k = same_self k
@@ -94,7 +94,7 @@ module _ (w : Walk) where
   same_owners mark.Peer at o t v k = same_check kind.PeerOwner at (may_be_joined k.store o v) k
 
   pub same_entry : (at : Place) (callee : BodyTree) (ms : List Meant) (k : Position) → IsSame k (check_entry w at callee ms k)
-  same_entry at callee ms k = same_check_all kind.Precondition at (conditions callee.entry (contract_scene (classes_of w) callee k.store k.store ms (no_result callee))) k
+  same_entry at callee ms k = same_check_all kind.Precondition at (conditions callee.entry (contract_context (classes_of w) callee k.store k.store ms (no_result callee))) k
 
   pub same_receiver : (at : Place) (callee : CalleeTree) (ms : List Meant) (k : Position) → IsSame k (check_receiver w at callee ms k)
   same_receiver at (Dispatched e t m) [] k = same_self k

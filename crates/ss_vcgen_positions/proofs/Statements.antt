@@ -22,7 +22,7 @@ use Rattle.ss_logic_rules.specs.Shapes as shape
 use Rattle.ss_logic_express.specs.Express.{Meant, One, Either, Says, said, element_sort}
 use Rattle.ss_logic_frames.specs.Frames.{kept, grown}
 use Rattle.ss_vcgen_heaps.specs.Positions.{When, Never, Position, Walk, good, assume, assume_all, check, check_all, new_term, with_new, set_local, set_store, with_store, ended, local_term, site, meant_at, evaluate, evaluate_all, holds_at, define, with_term, term_for, settled, first_side, second_side, if_reached}
-use Rattle.ss_vcgen_heaps.specs.Contracts.{is_of_type, contract_scene, no_result, conditions, frame_terms, called}
+use Rattle.ss_vcgen_heaps.specs.Contracts.{is_of_type, contract_context, no_result, conditions, frame_terms, called}
 use Rattle.ss_vcgen_heaps.specs.Obligations.{classes_of, local_sort, check_not_null, is_known_local, check_local, may_be_owned, may_be_joined, check_owners, owned_store, write, is_index, write_element, unpack, invariants_said, owned_are_full, pack, settle_all, arguments_settled, check_entry, result_term, with_result, assume_result, returned, keep, call, check_receiver, with_this, call_with, with_ready, constructed, construct, new_array, arguments_at, result_settled, settle_result, frame_formula, evaluate_result, return_with, Loop, loop_of, frame_at_head, levels_at_head, check_head, renew_from, renewed, types_from, at_head, exit_guard, into_body, behind_loop, with_known, behind, behind_all}
 use Rattle.ss_vcgen_positions.specs.At.{IsOff, Leads}
 use Rattle.ss_vcgen_positions.proofs.Leads.{leads_self, leads_twice, leads_known, leads_set_store, leads_set_local, leads_ended, leads_new, leads_assume, leads_assume_all, leads_check, leads_check_all, leads_check_unless, leads_evaluate, leads_evaluate_all, leads_with_store, leads_define, leads_with_term, leads_settled, leads_first, leads_second, leads_if_reached, leads_joined}
@@ -97,7 +97,7 @@ module _ (w : Walk) where
       leads_twice w k k' (settle_all w es k') (leads_settled w (meant_at w e k) s k) (leads_settle_all es k')
 
   pub leads_entry : (at : Place) (callee : BodyTree) (ms : List Meant) (k : Position) → Leads w k (check_entry w at callee ms k)
-  leads_entry at callee ms k = leads_check_all w kind.Precondition at (conditions callee.entry (contract_scene (classes_of w) callee k.store k.store ms (no_result callee))) k
+  leads_entry at callee ms k = leads_check_all w kind.Precondition at (conditions callee.entry (contract_context (classes_of w) callee k.store k.store ms (no_result callee))) k
 
   pub leads_result : (r : Option Ty) (k : Position) → Leads w k (with_result r k)
   leads_result None k = leads_self w k
@@ -119,7 +119,7 @@ module _ (w : Walk) where
       let frame = kept (classes_of w) (frame_terms (classes_of w) callee s z ms []) ∷ grown s z ∷ [] in
       let d = assume_all frame c in
       let e = assume (good z) d in
-      let exit = conditions callee.exit (contract_scene (classes_of w) callee z s ms (map One result)) in
+      let exit = conditions callee.exit (contract_context (classes_of w) callee z s ms (map One result)) in
       let f = assume_all exit e in
       let h = assume_result callee.result result f in
       leads_twice w k a h (leads_new w sort.Store k)
@@ -225,7 +225,7 @@ module _ (w : Walk) where
   leads_return at e k =
       let a = evaluate_result w e k in
       let b = settle_result w e a in
-      let fs = conditions w.body.exit (contract_scene (classes_of w) w.body b.store w.entry (arguments_at w b) (result_settled w e a)) in
+      let fs = conditions w.body.exit (contract_context (classes_of w) w.body b.store w.entry (arguments_at w b) (result_settled w e a)) in
       let c = check_all w kind.Postcondition at fs b in
       let d = check w kind.Frame at (frame_formula w [] c) c in
       leads_twice w k a (ended d) (leads_evaluate_result e k)

@@ -30,7 +30,7 @@ use Rattle.ss_logic.specs.Values.{Heap, IsNumbered, Table, null, as_store, sort_
 use Rattle.ss_logic.specs.Terms.{Term, sort_of_type}
 use Rattle.ss_logic.specs.Formulas.{Formula, True, Hold}
 use Rattle.ss_logic.specs.Objects.{IsGoodStore, objects_of}
-use Rattle.ss_logic_express.specs.Express.{Scene, holds_formula, element_sort}
+use Rattle.ss_logic_express.specs.Express.{Context, holds_formula, element_sort}
 use Rattle.ss_logic_means.specs.Means.{standing, Means}
 use Rattle.ss_logic_means.specs.Sorts.{HasSort}
 use Rattle.ss_logic_means.proofs.Contracts.{contract_stated}
@@ -38,9 +38,9 @@ use Rattle.ss_logic_tables.specs.Tabled.{IsStoreOf}
 use Rattle.ss_logic_spans.specs.Spans.{AreArguments}
 use Rattle.ss_logic_spans.specs.Conditions.{ContractTerms, ContractValues, IsContract}
 use Rattle.ss_logic_spans.proofs.Standing.{entry_arguments}
-use Rattle.ss_logic_spans.proofs.Scenes.{term_argument, contract_means}
+use Rattle.ss_logic_spans.proofs.Contexts.{term_argument, contract_means}
 use Rattle.ss_vcgen_heaps.specs.Positions.{Always, Counters, Position, Walk, raised, good, assume_all, new_term, with_new, meant_of}
-use Rattle.ss_vcgen_heaps.specs.Contracts.{is_of_type, contract_scene, no_result, conditions}
+use Rattle.ss_vcgen_heaps.specs.Contracts.{is_of_type, contract_context, no_result, conditions}
 use Rattle.ss_vcgen_heaps.specs.Obligations.{classes_of, is_asked_ready, argument_types_from, arguments_at, enter_arguments, first_position, walk_of, at_entry}
 use Rattle.ss_sound_outcomes.specs.Points.{Point, scene, IsSound, ArePassed}
 use Rattle.ss_vcgen_positions.specs.At.{IsAlike, Stays, HasValue, HoldIn, IsOn, IsStore, IsLocal, Agrees, Rises, activation}
@@ -174,7 +174,7 @@ entry_position w next =
     record entered { locals = entered.locals ++ map (λ l. None) w.body.locals ++ (if is_some w.body.result then None ∷ [] else []) }
 
 abbrev entry_assumptions : Walk → Position → List Formula
-entry_assumptions w k = good k.store ∷ argument_types_from w k.store 0 (argument_types w.body) k.locals ++ conditions w.body.entry (contract_scene (classes_of w) w.body k.store k.store (arguments_at w k) (no_result w.body))
+entry_assumptions w k = good k.store ∷ argument_types_from w k.store 0 (argument_types w.body) k.locals ++ conditions w.body.entry (contract_context (classes_of w) w.body k.store k.store (arguments_at w k) (no_result w.body))
 
 entry_is : (w : Walk) (next : Counters) → at_entry w next ≡ assume_all (entry_assumptions w (entry_position w next)) (entry_position w next)
 entry_is w next = refl
@@ -393,8 +393,8 @@ module _ (c : CoreTree) (n : ℕ) (b : BodyTree) (next : Counters) (before : Lis
               (subst (λ xs. AreArguments cs m' (argument_types b) xs arguments) (sym entry_meant) (are_arguments cs k.next m m' a (argument_types b) us arguments all.is.terms));
         }
 
-    abbrev Conditions : Scene
-    Conditions = contract_scene cs b k.store k.store (arguments_at w k) (no_result b)
+    abbrev Conditions : Context
+    Conditions = contract_context cs b k.store k.store (arguments_at w k) (no_result b)
 
     entry_means : (m' : Structure) → IsAlike k.next m m' → (es : List ExprTree) → list_all (is_entry cs b) es ≡ true → AllMean cs m' es Conditions (setting cs before before p.locals)
     entry_means m' a [] all_are = tt

@@ -1,3 +1,3 @@
 pub mod Going
-pub mod Scenes
+pub mod Contexts
 pub mod Steps

@@ -7,12 +7,12 @@ ghost use Rattle.ss_store_rules.specs.NonNull.{is_non_null_type};
 ghost use Rattle.ss_logic.specs.declared.Sort.TheVariants as sort;
 ghost use Rattle.ss_logic.specs.Terms.{Bound};
 ghost use Rattle.ss_logic.specs.Formulas.{Forall};
-ghost use Rattle.ss_logic_express.specs.Invariants.{invariant_scene};
+ghost use Rattle.ss_logic_express.specs.Invariants.{invariant_context};
 ghost use Rattle.ss_terms.specs.Forms.{Forms, term_at, formula_at, HasTerm, HasFormula};
 ghost use Rattle.ss_vcgen_heaps.specs.Contracts as contract;
 ghost use Rattle.ss_vcgen_heaps.specs.Obligations as spec;
 ghost use Rattle.ss_vcgen_express.specs.Numbers.{IsTerm, IsFormula, AreFormulas};
-ghost use Rattle.ss_vcgen_express.specs.Scenes.{scene_at, HasScene};
+ghost use Rattle.ss_vcgen_express.specs.Contexts.{context_at, HasContext};
 ghost use Rattle.ss_vcgen_known.specs.Views.{known_of};
 ghost use Rattle.ss_vcgen_builder.specs.Builder.{position_at, walk_at, IsFine, IsWalk, Becomes};
 ghost use Rattle.ss_vcgen_statements.specs.Words.{Stays, checked_unpack, checked_level, checked_invariants, full_where_owned};
@@ -22,7 +22,7 @@ use ss_core::{ClassId, Expr, Kind, Place, Ty};
 use ss_logic::Sort;
 use ss_terms::{FormulaId, Symbol, Term, TermId};
 use ss_vcgen_builder::{Builder, Walk};
-use ss_vcgen_express::{Relation, Saying, Scene};
+use ss_vcgen_express::{Context, Relation, Saying};
 use ss_vcgen_known::is_non_null;
 use ss_vcgen_walk::conditions;
 use std::alloc::AllocError;
@@ -102,18 +102,18 @@ pub fn unpack(
 }
 
 // Where an invariant of the class stands, of this object.
-fn invariant_scene<'p>(
+fn invariant_context<'p>(
     builder: &Builder,
     walk: &Walk<'p>,
     store: TermId,
     class: ClassId,
     o: TermId,
-) -> Result<Scene<'p>, AllocError>
+) -> Result<Context<'p>, AllocError>
     requires store { HasTerm builder.now.bank store }
     requires limits { IsWithinLimits (classes walk.now.core.now.classes) }
     requires object { HasTerm builder.now.bank o }
-    ensures at { IfOk result (λ c. (b : Forms) → scene_at b c ≡ invariant_scene (classes walk.now.core.now.classes) (term_at b store) (term_at b o) class.0) }
-    ensures has { IfOk result (λ c. HasScene builder.now.bank c) }
+    ensures at { IfOk result (λ c. (b : Forms) → context_at b c ≡ invariant_context (classes walk.now.core.now.classes) (term_at b store) (term_at b o) class.0) }
+    ensures has { IfOk result (λ c. HasContext builder.now.bank c) }
 {
     let object = Ty::Ref {
         class,
@@ -121,7 +121,7 @@ fn invariant_scene<'p>(
     };
     let types = Vec::from_slice(builder.alloc, &[object])?;
     let locals = Vec::from_slice(builder.alloc, &[o])?;
-    Ok(Scene {
+    Ok(Context {
         classes: &walk.core.classes,
         now: store,
         entry: store,
@@ -132,18 +132,18 @@ fn invariant_scene<'p>(
     })
 }
 
-// These conditions in this scene.
+// These conditions in this context.
 fn conditions_said(
     builder: &mut Builder,
-    scene: &Scene<'_>,
+    context: &Context<'_>,
     es: &[Expr],
 ) -> Result<Vec<FormulaId>, AllocError>
     requires fine { IsFine builder.old }
-    requires scene { HasScene builder.old.bank scene.now }
-    ensures at { IfOk result (λ v. AreFormulas builder.new.bank v.items (λ b. contract.conditions (exprs es.now) (scene_at b scene.entry.now))) }
+    requires context { HasContext builder.old.bank context.now }
+    ensures at { IfOk result (λ v. AreFormulas builder.new.bank v.items (λ b. contract.conditions (exprs es.now) (context_at b context.entry.now))) }
     ensures stays { IfOk result (λ v. Stays builder.old builder.new) }
 {
-    conditions(builder.alloc, &mut builder.bank, scene, es)
+    conditions(builder.alloc, &mut builder.bank, context, es)
 }
 
 // Each invariant of the class has a value, and that is true.
@@ -161,10 +161,10 @@ fn invariants_said(
     ensures at { IfOk result (λ v. AreFormulas builder.new.bank v.items (λ b. spec.invariants_said (classes walk.now.core.now.classes) (term_at b store) (term_at b o) class.0)) }
     ensures stays { IfOk result (λ v. Stays builder.old builder.new) }
 {
-    let scene = invariant_scene(builder, walk, store, class, o)?;
+    let context = invariant_context(builder, walk, store, class, o)?;
     match walk.core.classes.declared(class) {
         Some(declared) => {
-            let said = conditions_said(builder, &scene, &declared.invariants)?;
+            let said = conditions_said(builder, &context, &declared.invariants)?;
             Ok(said)
         }
         None => Ok(Vec::new(builder.alloc)),

@@ -16,7 +16,7 @@ use ss_core::{ClassId, Expr, FieldId, Kind, Mark, Place};
 use ss_terms::{FormulaId, Symbol, TermId};
 use ss_vcgen_builder::{Builder, Walk};
 use ss_vcgen_express::{Relation, Saying};
-use ss_vcgen_known::{Site, Tests, is_never_null};
+use ss_vcgen_known::{Tests, TypeContext, is_never_null};
 use std::alloc::AllocError;
 
 /// The value isn't null, or the check is listed.
@@ -32,12 +32,12 @@ pub fn check_not_null(
     requires object { HasTerm builder.old.bank o }
     ensures { OnOk result (Becomes builder.old builder.new (λ b. spec.check_not_null (walk_at b walk.now) at (expr e.now) (term_at b o) (position_at b builder.old))) }
 {
-    let site = Site {
+    let typing = TypeContext {
         classes: &walk.core.classes,
         types: walk.types,
         constructs: walk.body.flags.ctor,
     };
-    let known = is_never_null(site, &builder.known, &Tests::Nothing, false, e);
+    let known = is_never_null(typing, &builder.known, &Tests::Nothing, false, e);
     let f = say(builder, Saying::NotNull, o)?;
     builder.check_unless(known, walk, Kind::Null, at, f)?;
     Ok(())

@@ -18,8 +18,8 @@ use Rattle.ss_machine_typed.specs.Settings.{IsGoodSetting}
 use Rattle.ss_machine_typed.proofs.Older.{older_self}
 use Rattle.ss_logic.specs.Values.{reference, thing, Value, Structure}
 use Rattle.ss_logic.specs.Terms.{Term}
-use Rattle.ss_logic_express.specs.Express.{One, Scene, local_meant, holds_formula}
-use Rattle.ss_logic_express.specs.Invariants.{invariant_scene}
+use Rattle.ss_logic_express.specs.Express.{One, Context, local_meant, holds_formula}
+use Rattle.ss_logic_express.specs.Invariants.{invariant_context}
 use Rattle.ss_logic_means.specs.Means.{standing, Denotes, Means}
 use Rattle.ss_logic_means.specs.Scenes.{setting_of, StandsAmong}
 use Rattle.ss_logic_means.proofs.Denoting.{one_denotes}
@@ -57,8 +57,8 @@ module _ (cs : List ClassTree) (chain : IsChain cs) (beside : NoAlso cs) (l : Li
       others_ready (suc x) v apart f = absurd (let no : ⊥ = cc in no)
 
   module _ (m : Structure) (s o : Term) (has : HasStore cs m s l) (stands : StandsFor cs m o (standing (value.Obj q))) where
-    abbrev C : Scene
-    C = invariant_scene cs s o t
+    abbrev C : Context
+    C = invariant_context cs s o t
 
     this_stands : (x : ℕ) (v : ObjectValue) → all_locals x ≡ true → slice_get This x ≡ Some v → (vs : List Value) → Denotes cs m vs (local_meant C x) (standing v)
     this_stands zero v a e vs = let same : value.Obj q ≡ v = cc in subst (λ u. Denotes cs m vs (One o) (standing u)) same (one_denotes cs m vs o (thing (reference q)) (stands vs))

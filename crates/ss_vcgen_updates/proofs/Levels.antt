@@ -26,7 +26,7 @@ use Rattle.ss_logic.specs.Terms.{Unpack, Pack, Term, app}
 use Rattle.ss_logic.specs.Formulas.{neg}
 use Rattle.ss_logic_rules.specs.Shapes.{class_term, level_of, equal, committed}
 use Rattle.ss_logic_express.specs.Express.{element_sort}
-use Rattle.ss_logic_express.specs.Invariants.{invariant_scene}
+use Rattle.ss_logic_express.specs.Invariants.{invariant_context}
 use Rattle.ss_logic_means.specs.Means.{standing}
 use Rattle.ss_logic_means.specs.Sorts.{HasSort}
 use Rattle.ss_vcgen_heaps.specs.Positions.{Walk, check, check_all, local_term}
@@ -106,7 +106,7 @@ module _ (w : Walk) (before : List Object) (table : Table) (arguments : List Obj
       let term = operand w before table xs m k p is x read in
       let level = equal (level_of k.store o) (class_term (above cs t)) in
       let es = invariants cs t in
-      let c = invariant_scene cs k.store o t in
+      let c = invariant_context cs k.store o t in
       let owned = owned_are_full k.store o t in
       let k1 = check_local w at x k in
       let k2 = check w kind.PackLevel at level k1 in

@@ -33,11 +33,11 @@ use Rattle.ss_logic_spans.specs.Spans.{IsArgument, AreArguments, AreReferences, 
 use Rattle.ss_logic_spans.specs.Conditions.{ContractTerms, ContractValues, IsContract}
 use Rattle.ss_logic_spans.proofs.Bodies.{formed_typed}
 use Rattle.ss_logic_spans.proofs.Keeping.{objects_kept}
-use Rattle.ss_logic_spans.proofs.Scenes.{term_argument, contract_means}
+use Rattle.ss_logic_spans.proofs.Contexts.{term_argument, contract_means}
 use Rattle.ss_logic_spans.proofs.Sorting.{terms_sorted}
 use Rattle.ss_sound_contracts.specs.Served.{HasArguments}
 use Rattle.ss_vcgen_heaps.specs.Positions.{Position, Walk, meant_of}
-use Rattle.ss_vcgen_heaps.specs.Contracts.{defaults_meant, contract_scene}
+use Rattle.ss_vcgen_heaps.specs.Contracts.{defaults_meant, contract_context}
 use Rattle.ss_vcgen_heaps.specs.Obligations.{arguments_at, frame_formula}
 use Rattle.ss_sound_outcomes.specs.Points.{Point}
 use Rattle.ss_sound_outcomes.specs.Outcomes.{locals_at_exit}
@@ -198,7 +198,7 @@ module _ (w : Walk) (before : List Object) (table : Table) (arguments : List Obj
             meant = meant;
           }
 
-      each_means : (es : List ExprTree) → list_all (is_exit cs b) es ≡ true → AllMean cs m' es (contract_scene cs b k.store w.entry (arguments_at w k) ms) (setting cs p.store before (locals_at_exit b arguments v))
+      each_means : (es : List ExprTree) → list_all (is_exit cs b) es ≡ true → AllMean cs m' es (contract_context cs b k.store w.entry (arguments_at w k) ms) (setting cs p.store before (locals_at_exit b arguments v))
       each_means [] h = tt
       each_means (e ∷ es) h =
           let q = and_parts (is_exit cs b e) (list_all (is_exit cs b) es) h in
@@ -208,5 +208,5 @@ module _ (w : Walk) (before : List Object) (table : Table) (arguments : List Obj
           (rw (sym now_is, sym entry_is) means, each_means es q.1)
 
       -- each condition at exit is true exactly where it holds
-      pub exit_means : AllMean cs m' b.exit (contract_scene cs b k.store w.entry (arguments_at w k) ms) (setting cs p.store before (locals_at_exit b arguments v))
+      pub exit_means : AllMean cs m' b.exit (contract_context cs b k.store w.entry (arguments_at w k) ms) (setting cs p.store before (locals_at_exit b arguments v))
       exit_means = each_means b.exit entered.body.exit

@@ -34,7 +34,7 @@ use Rattle.ss_logic_means.proofs.Contracts.{typed_without}
 use Rattle.ss_logic_means.proofs.Everywhere.{plainly_from}
 use Rattle.ss_logic_means.proofs.Expressed.{expressed}
 use Rattle.ss_vcgen_heaps.specs.Parts.{parts}
-use Rattle.ss_vcgen_heaps.specs.Positions.{Position, Walk, site, scene_at, meant_at, evaluate, evaluate_all, holds_at}
+use Rattle.ss_vcgen_heaps.specs.Positions.{Position, Walk, site, context_at, meant_at, evaluate, evaluate_all, holds_at}
 use Rattle.ss_vcgen_heaps.specs.Obligations.{AreValid}
 use Rattle.ss_vcgen_parts.specs.Reading.{formulas_of, IsRead}
 use Rattle.ss_vcgen_parts.specs.Placed.{HaveValues, HaveSorts}
@@ -43,7 +43,7 @@ use Rattle.ss_vcgen_parts.proofs.Read.{read_value, condition_means}
 use Rattle.ss_sound_outcomes.specs.Points.{Activation, Point, scene}
 use Rattle.ss_vcgen_positions.specs.At.{IsAlike, Stays, activation, IsAt, Rises}
 use Rattle.ss_vcgen_positions.proofs.Alike.{rises_self, rises_twice, alike_self, alike_twice, alike_lower}
-use Rattle.ss_vcgen_positions.proofs.Arguments.{scene_like}
+use Rattle.ss_vcgen_positions.proofs.Arguments.{context_like}
 use Rattle.ss_vcgen_positions.proofs.Keeps.{checked_parts}
 use Rattle.ss_vcgen_positions.proofs.Leads.{leads_evaluate, leads_evaluate_all}
 use Rattle.ss_vcgen_positions.proofs.Joins.{typed_sort}
@@ -63,13 +63,13 @@ is_some_type (Some t) h = (t, refl)
 same_value_of : (o : Outcome) (u v : ObjectValue) → o ≡ Ok u → o ≡ Ok v → u ≡ v
 same_value_of o u v e f = cc
 
--- ---- the same scene
+-- ---- the same context
 
--- a meaning goes on at a position of the same scene
+-- a meaning goes on at a position of the same context
 pub meaning_on : (w : Walk) (m m' : Structure) (k k' : Position) (e : ExprTree) (v : ObjectValue) → IsLike k k' → Rises k.next k'.next → IsAlike k.next m m' → HasMeaning w m k e v → HasMeaning w m' k' e v
 meaning_on w m m' k k' e v l r a h = record {
-  is = λ m'' b. subst (λ c. Denotes w.program.classes m'' [] (meant e c) (standing v)) (sym (scene_like w k k' l)) (h.is m'' (alike_twice k.next m m' m'' a (alike_lower k.next k'.next m' m'' r b)));
-  sorted = subst (λ c. HaveSort w.program.classes [] (element_sort (code_type w.program.classes w.body e)) (choices (meant e c))) (sym (scene_like w k k' l)) h.sorted;
+  is = λ m'' b. subst (λ c. Denotes w.program.classes m'' [] (meant e c) (standing v)) (sym (context_like w k k' l)) (h.is m'' (alike_twice k.next m m' m'' a (alike_lower k.next k'.next m' m'' r b)));
+  sorted = subst (λ c. HaveSort w.program.classes [] (element_sort (code_type w.program.classes w.body e)) (choices (meant e c))) (sym (context_like w k k' l)) h.sorted;
   of = h.of;
 }
 
@@ -98,7 +98,7 @@ module _ (w : Walk) (before : List Object) (table : Table) (formed : IsFormed w.
     abbrev former : Heap
     former = is.agrees.entry.heap
 
-    pub setting_is : (m' : Structure) → IsAlike k.next m m' → setting_of m' (scene_at w k) now former p.locals ≡ scene a p
+    pub setting_is : (m' : Structure) → IsAlike k.next m m' → setting_of m' (context_at w k) now former p.locals ≡ scene a p
     setting_is m' alike =
         ap (λ t. setting cs (objects_of cs t now) (objects_of cs t former) p.locals) (alike.table ∙ is.agrees.table_is)
         ∙ ap (λ s. setting cs s (objects_of cs table former) p.locals) is.agrees.store_is.objects
@@ -132,7 +132,7 @@ module _ (w : Walk) (before : List Object) (table : Table) (formed : IsFormed w.
         (λ h. absurd (no_bound x v h there))
         (or_cases (xs x) (is_bound w.body x) asked)
 
-    pub reads_at : (m' : Structure) → IsAlike k.next m m' → IsRead w.body xs k.known m' (scene_at w k) now former p.locals []
+    pub reads_at : (m' : Structure) → IsAlike k.next m m' → IsRead w.body xs k.known m' (context_at w k) now former p.locals []
     reads_at m' alike =
         let same = sym (setting_is m' alike) in
         record {
@@ -155,7 +155,7 @@ module _ (w : Walk) (before : List Object) (table : Table) (formed : IsFormed w.
         (λ h. absurd (let far = leb-true (length (local_types w.body)) x h in let none = slice_get_past (local_types w.body) x far in let no : ⊥ = cc in no))
         (or_cases (xs x) (is_bound w.body x) asked)
 
-    pub sorted_at : IsSortedAmong among (scene_at w k) []
+    pub sorted_at : IsSortedAmong among (context_at w k) []
     sorted_at = position_sorted w k among is.agrees.store_is.sorted is.agrees.entry.sorted is.agrees.count have_sorts
 
     meaning_sorted : (e : ExprTree) → reads_assigned w.body xs e ≡ true → is_some (code_type cs w.body e) ≡ true → HaveSort cs [] (element_sort (code_type cs w.body e)) (choices (meant_at w e k))
@@ -163,15 +163,15 @@ module _ (w : Walk) (before : List Object) (table : Table) (formed : IsFormed w.
         let plain = typed_without cs w.body in_code e typed in
         let t = is_some_type (code_type cs w.body e) typed in
         let same : type_of cs (local_types w.body) e ≡ code_type cs w.body e = code_typed cs w.body e t.0 t.1 ∙ sym t.1 in
-        subst (λ o. HaveSort cs [] (element_sort o) (choices (meant_at w e k))) same (expressed among e (scene_at w k) [] sorted_at (plainly_from among e reads plain.0) plain.1 (λ _. refl)).1
+        subst (λ o. HaveSort cs [] (element_sort o) (choices (meant_at w e k))) same (expressed among e (context_at w k) [] sorted_at (plainly_from among e reads plain.0) plain.1 (λ _. refl)).1
 
     -- an expression of code whose obligations are valid
     pub evaluated : (e : ExprTree) → reads_assigned w.body xs e ≡ true → is_some (code_type cs w.body e) ≡ true → AreValid cs (evaluate w e k).listed → IsEvaluated w before table xs m k p e
     evaluated e reads typed valid =
-        let ps = parts e (site w) k.known (scene_at w k) in
+        let ps = parts e (site w) k.known (context_at w k) in
         let checked = checked_parts w before table m p ps k valid is.agrees in
         let plain = typed_without cs w.body in_code e typed in
-        let read = λ (m' : Structure) (b : IsAlike k.next m m'). read_value w.body xs k.known m' (scene_at w k) now former p.locals [] (reads_at m' b) e reads plain.0 plain.1 (hold_all cs m' (formulas_of ps) (checked.0 m' b)) in
+        let read = λ (m' : Structure) (b : IsAlike k.next m m'). read_value w.body xs k.known m' (context_at w k) now former p.locals [] (reads_at m' b) e reads plain.0 plain.1 (hold_all cs m' (formulas_of ps) (checked.0 m' b)) in
         let self = alike_self k.next m in
         let first = read m self in
         let has : run.value_of e (scene a p) ≡ Ok first.0 = ap (run.value_of e) (sym (setting_is m self)) ∙ first.1 in
@@ -216,4 +216,4 @@ module _ (w : Walk) (before : List Object) (table : Table) (formed : IsFormed w.
       Stays k.next m (λ m'. Means cs m' [] (holds_at w k e) (run.holds e (scene a p)))
   condition_at k p is words e typed reads m' b =
       subst (λ s. Means cs m' [] (holds_at w k e) (run.holds e s)) (setting_is k p is m' b)
-      (condition_means w.body xs k.known m' (scene_at w k) (now k p is) (former k p is) p.locals [] (reads_at k p is m' b) words e typed reads)
+      (condition_means w.body xs k.known m' (context_at w k) (now k p is) (former k p is) p.locals [] (reads_at k p is m' b) words e typed reads)

@@ -30,10 +30,10 @@ use Rattle.ss_logic.specs.Values.{Table, Structure}
 use Rattle.ss_logic_express.specs.Express.{Meant, element_sort}
 use Rattle.ss_logic_means.specs.Sorts.{HasSort}
 use Rattle.ss_logic_spans.specs.Spans.{AreArguments}
-use Rattle.ss_logic_spans.proofs.Scenes.{term_argument, plain_exit_arguments, exit_arguments}
+use Rattle.ss_logic_spans.proofs.Contexts.{term_argument, plain_exit_arguments, exit_arguments}
 use Rattle.ss_sound_contracts.proofs.Exits.{exits_read}
 use Rattle.ss_sound_contracts.proofs.Spans.{frames_read}
-use Rattle.ss_vcgen_heaps.specs.Contracts.{defaults_meant, contract_scene, conditions}
+use Rattle.ss_vcgen_heaps.specs.Contracts.{defaults_meant, contract_context, conditions}
 use Rattle.ss_vcgen_heaps.specs.Positions.{Position, Walk, check, check_all, evaluate, meant_at, with_term, term_for}
 use Rattle.ss_vcgen_heaps.specs.Obligations.{arguments_at, result_settled, frame_formula, return_with, AreValid}
 use Rattle.ss_sound_outcomes.specs.Points.{Activation, Point, scene}
@@ -98,7 +98,7 @@ module _ (w : Walk) (before : List Object) (table : Table) (arguments : List Obj
 
   -- at the position k, where the result means ms
   abbrev met_at : Place → Position → List Meant → Position
-  met_at at k ms = check_all w kind.Postcondition at (conditions b.exit (contract_scene cs b k.store w.entry (arguments_at w k) ms)) k
+  met_at at k ms = check_all w kind.Postcondition at (conditions b.exit (contract_context cs b k.store w.entry (arguments_at w k) ms)) k
 
   left_at : (at : Place) (m : Structure) (k : Position) → IsHere w before table arguments xs m k p → (ms : List Meant) (v : ObjectValue) → ((t : Ty) → b.result ≡ Some t → (has_type cs p.store t v ≡ true) × IsReady p.store v) →
       ((m' : Structure) → IsAlike k.next m m' → AreArguments cs m' (local_types b) (arguments_at w k ++ defaults_meant (types_of b.locals) ++ ms) (locals_at_exit b arguments v)) →
@@ -106,7 +106,7 @@ module _ (w : Walk) (before : List Object) (table : Table) (arguments : List Obj
   left_at at m k here ms v may meant valid =
       let met = met_at at k ms in
       let f = frame_formula w [] met in
-      let c = contract_scene cs b k.store w.entry (arguments_at w k) ms in
+      let c = contract_context cs b k.store w.entry (arguments_at w k) ms in
       let s = setting cs p.store before (locals_at_exit b arguments v) in
       let good = exit_good cs p.store b arguments (arguments_good w before table arguments entered xs m k p here) v may in
       let held = conditions_checked w before table m p kind.Postcondition at b.exit c s k (λ m' alike. exit_means w before table arguments entered xs m k p here m' alike ms v good (meant m' alike))
@@ -162,7 +162,7 @@ module _ (w : Walk) (before : List Object) (table : Table) (arguments : List Obj
       evaluated_valid : AreValid cs there.listed
       evaluated_valid =
           let met = met_at at behind_it result_is in
-          let c = contract_scene cs b behind_it.store w.entry (arguments_at w behind_it) result_is in
+          let c = contract_context cs b behind_it.store w.entry (arguments_at w behind_it) result_is in
           (leads_with_term w (element_sort b.result) (meant_at w e there) there).listed
           ((leads_check_all w kind.Postcondition at (conditions b.exit c) behind_it).listed ((leads_check w kind.Frame at (frame_formula w [] met) met).listed valid))
 

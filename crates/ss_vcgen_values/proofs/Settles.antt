@@ -14,7 +14,7 @@ use Rattle.ss_logic.specs.Terms.{sort_of_type}
 use Rattle.ss_logic_express.specs.Express.{choices, element_sort}
 use Rattle.ss_logic_means.specs.Means.{standing}
 use Rattle.ss_logic_means.specs.Sorts.{HaveSort}
-use Rattle.ss_vcgen_heaps.specs.Positions.{Position, Walk, scene_at, meant_at, with_term, term_for}
+use Rattle.ss_vcgen_heaps.specs.Positions.{Position, Walk, context_at, meant_at, with_term, term_for}
 use Rattle.ss_vcgen_heaps.specs.Obligations.{settle_all, arguments_settled}
 use Rattle.ss_sound_outcomes.specs.Points.{Point}
 use Rattle.ss_vcgen_positions.specs.At.{IsAlike, IsAt}
@@ -36,7 +36,7 @@ fitting_sort cs None t h = absurd (false≢true h)
 fitting_sort cs (Some a) t h = fits_sort cs a t h
 
 module _ (w : Walk) (before : List Object) (table : Table) (xs : ℕ → Bool) (m : Structure) (p : Point) where
-  denoted : (k : Position) (es : List ExprTree) (vs : List ObjectValue) → HaveMeanings w m k es vs → AreDenoted w before table p k.next m (scene_at w k) es vs
+  denoted : (k : Position) (es : List ExprTree) (vs : List ObjectValue) → HaveMeanings w m k es vs → AreDenoted w before table p k.next m (context_at w k) es vs
   denoted k [] [] h = tt
   denoted k [] (v ∷ vs) h = h
   denoted k (e ∷ es) [] h = h

@@ -9,10 +9,10 @@ use Rattle.ss_terms.specs.declared.forms.FormulaId.{FormulaId}
 use Rattle.ss_terms.specs.Forms.{Forms, formula_at, IsGrown}
 use Rattle.ss_terms.proofs.Grown.{IsGrown-then}
 use Rattle.ss_vcgen_express.specs.declared.meant.Meant.{Meant}
-use Rattle.ss_vcgen_express.specs.declared.scene.Scene.{Scene}
+use Rattle.ss_vcgen_express.specs.declared.context.Context.{Context}
 use Rattle.ss_vcgen_express.specs.Marked.{Marked, marked_part, with_marked}
 use Rattle.ss_vcgen_express.specs.Numbers.{meant_at, IsFormula, IsMeant}
-use Rattle.ss_vcgen_express.specs.Scenes.{scene_at}
+use Rattle.ss_vcgen_express.specs.Contexts.{context_at}
 use Rattle.ss_vcgen_walk.specs.declared.parts.Part.{Part}
 use Rattle.ss_vcgen_walk.specs.declared.singles.Single.{Single}
 use Rattle.ss_vcgen_walk.specs.declared.singles.Single.TheVariants as single
@@ -110,7 +110,7 @@ expressed_alone (Err e) a c ps says g h is = tt
 
 -- ---- forms behind their operands
 
-single_apart : (form : Single) (xs ys : List Marked) (c : spec.Scene) (m : spec.Meant) → single_asks form (xs ++ ys) c m ≡ xs ++ single_asks form ys c m
+single_apart : (form : Single) (xs ys : List Marked) (c : spec.Context) (m : spec.Meant) → single_asks form (xs ++ ys) c m ≡ xs ++ single_asks form ys c m
 single_apart (single.Negate p) xs ys c m = append_assoc xs ys _
 single_apart single.Not xs ys c m = refl
 single_apart (single.Is t) xs ys c m = refl
@@ -119,20 +119,20 @@ single_apart (single.Field p f checked) xs ys c m = append_assoc xs ys _
 single_apart (single.Length p checked) xs ys c m = append_assoc xs ys _
 single_apart (single.State p w checked) xs ys c m = append_assoc xs ys _
 
-pub single_behind : {E : Type 0} (r : Result Meant E) (form : Single) (sc : Scene) (a c : Forms) (m : Meant) (ps qs before : List Part) (says : Forms → spec.Meant) (more : Forms → List Marked) → IsGrown a c →
+pub single_behind : {E : Type 0} (r : Result Meant E) (form : Single) (sc : Context) (a c : Forms) (m : Meant) (ps qs before : List Part) (says : Forms → spec.Meant) (more : Forms → List Marked) → IsGrown a c →
     Expressed a m ps says (λ b. parts_at b before ++ more b) →
-    IfOk r (λ n. Expressed c n qs (λ b. single_meant form (scene_at b sc) (meant_at b m)) (λ b. single_asks form (parts_at b ps) (scene_at b sc) (meant_at b m))) →
-    IfOk r (λ n. Expressed c n qs (λ b. single_meant form (scene_at b sc) (says b)) (λ b. parts_at b before ++ single_asks form (more b) (scene_at b sc) (says b)))
+    IfOk r (λ n. Expressed c n qs (λ b. single_meant form (context_at b sc) (meant_at b m)) (λ b. single_asks form (parts_at b ps) (context_at b sc) (meant_at b m))) →
+    IfOk r (λ n. Expressed c n qs (λ b. single_meant form (context_at b sc) (says b)) (λ b. parts_at b before ++ single_asks form (more b) (context_at b sc) (says b)))
 single_behind (Ok n) form sc a c m ps qs before says more g e h = record {
-  meant = record { has = h.meant.has; is = λ b k. h.meant.is b k ∙ ap (single_meant form (scene_at b sc)) (e.meant.is b (IsGrown-then a c b g k)) };
+  meant = record { has = h.meant.has; is = λ b k. h.meant.is b k ∙ ap (single_meant form (context_at b sc)) (e.meant.is b (IsGrown-then a c b g k)) };
   parts = record {
     has = h.parts.has;
     are = λ b k.
         let g2 = IsGrown-then a c b g k in
         h.parts.are b k
-        ∙ ap (λ l. single_asks form l (scene_at b sc) (meant_at b m)) (e.parts.are b g2)
-        ∙ ap (single_asks form (parts_at b before ++ more b) (scene_at b sc)) (e.meant.is b g2)
-        ∙ single_apart form (parts_at b before) (more b) (scene_at b sc) (says b);
+        ∙ ap (λ l. single_asks form l (context_at b sc) (meant_at b m)) (e.parts.are b g2)
+        ∙ ap (single_asks form (parts_at b before ++ more b) (context_at b sc)) (e.meant.is b g2)
+        ∙ single_apart form (parts_at b before) (more b) (context_at b sc) (says b);
   };
 }
 single_behind (Err z) form sc a c m ps qs before says more g e h = tt
@@ -140,49 +140,49 @@ single_behind (Err z) form sc a c m ps qs before says more g e h = tt
 three_apart : (xs ys u v : List Marked) → ((xs ++ ys) ++ u) ++ v ≡ xs ++ ((ys ++ u) ++ v)
 three_apart xs ys u v = ap (λ l. l ++ v) (append_assoc xs ys u) ∙ append_assoc xs (ys ++ u) v
 
-behind_apart : (form : Two) (xs ys : List Marked) (c : spec.Scene) (x y : spec.Meant) → asks_behind form (xs ++ ys) c x y ≡ xs ++ asks_behind form ys c x y
+behind_apart : (form : Two) (xs ys : List Marked) (c : spec.Context) (x y : spec.Meant) → asks_behind form (xs ++ ys) c x y ≡ xs ++ asks_behind form ys c x y
 behind_apart (two.Operation p o bools) xs ys c x y = append_assoc xs ys _
 behind_apart (two.Element p s checked) xs ys c x y = three_apart xs ys (asked_readable checked c x p) (marked_part kind.Index p true (spec.index_fits x y))
 behind_apart two.Implies xs ys c x y = refl
 behind_apart two.Iff xs ys c x y = refl
 behind_apart (two.Owners p w first second) xs ys c x y = three_apart xs ys (asked_readable first c x p) (asked_readable second c y p)
 
-two_apart : (form : Two) (xs ys qs : List Marked) (c : spec.Scene) (x y : spec.Meant) → two_asks form (xs ++ ys) qs c x y ≡ xs ++ two_asks form ys qs c x y
+two_apart : (form : Two) (xs ys qs : List Marked) (c : spec.Context) (x y : spec.Meant) → two_asks form (xs ++ ys) qs c x y ≡ xs ++ two_asks form ys qs c x y
 two_apart form xs ys qs c x y = ap (λ l. asks_behind form l c x y) (append_assoc xs ys (second_asks form x qs)) ∙ behind_apart form xs (ys ++ second_asks form x qs) c x y
 
 -- behind the first operand
-pub first_behind : {E : Type 0} (r : Result Meant E) (form : Two) (sc : Scene) (a c : Forms) (m : Meant) (ps qs before : List Part) (says other : Forms → spec.Meant) (more others : Forms → List Marked) → IsGrown a c →
+pub first_behind : {E : Type 0} (r : Result Meant E) (form : Two) (sc : Context) (a c : Forms) (m : Meant) (ps qs before : List Part) (says other : Forms → spec.Meant) (more others : Forms → List Marked) → IsGrown a c →
     Expressed a m ps says (λ b. parts_at b before ++ more b) →
-    IfOk r (λ n. Expressed c n qs (λ b. two_meant form (scene_at b sc) (meant_at b m) (other b)) (λ b. two_asks form (parts_at b ps) (others b) (scene_at b sc) (meant_at b m) (other b))) →
-    IfOk r (λ n. Expressed c n qs (λ b. two_meant form (scene_at b sc) (says b) (other b)) (λ b. parts_at b before ++ two_asks form (more b) (others b) (scene_at b sc) (says b) (other b)))
+    IfOk r (λ n. Expressed c n qs (λ b. two_meant form (context_at b sc) (meant_at b m) (other b)) (λ b. two_asks form (parts_at b ps) (others b) (context_at b sc) (meant_at b m) (other b))) →
+    IfOk r (λ n. Expressed c n qs (λ b. two_meant form (context_at b sc) (says b) (other b)) (λ b. parts_at b before ++ two_asks form (more b) (others b) (context_at b sc) (says b) (other b)))
 first_behind (Ok n) form sc a c m ps qs before says other more others g e h = record {
-  meant = record { has = h.meant.has; is = λ b k. h.meant.is b k ∙ ap (λ x. two_meant form (scene_at b sc) x (other b)) (e.meant.is b (IsGrown-then a c b g k)) };
+  meant = record { has = h.meant.has; is = λ b k. h.meant.is b k ∙ ap (λ x. two_meant form (context_at b sc) x (other b)) (e.meant.is b (IsGrown-then a c b g k)) };
   parts = record {
     has = h.parts.has;
     are = λ b k.
         let g2 = IsGrown-then a c b g k in
         h.parts.are b k
-        ∙ ap (λ l. two_asks form l (others b) (scene_at b sc) (meant_at b m) (other b)) (e.parts.are b g2)
-        ∙ ap (λ x. two_asks form (parts_at b before ++ more b) (others b) (scene_at b sc) x (other b)) (e.meant.is b g2)
-        ∙ two_apart form (parts_at b before) (more b) (others b) (scene_at b sc) (says b) (other b);
+        ∙ ap (λ l. two_asks form l (others b) (context_at b sc) (meant_at b m) (other b)) (e.parts.are b g2)
+        ∙ ap (λ x. two_asks form (parts_at b before ++ more b) (others b) (context_at b sc) x (other b)) (e.meant.is b g2)
+        ∙ two_apart form (parts_at b before) (more b) (others b) (context_at b sc) (says b) (other b);
   };
 }
 first_behind (Err z) form sc a c m ps qs before says other more others g e h = tt
 
 -- behind the second operand, whose parts are a list of their own
-pub second_behind : {E : Type 0} (r : Result Meant E) (form : Two) (sc : Scene) (a c : Forms) (m n : Meant) (ps qs list : List Part) (other : Forms → spec.Meant) (others : Forms → List Marked) → IsGrown a c →
+pub second_behind : {E : Type 0} (r : Result Meant E) (form : Two) (sc : Context) (a c : Forms) (m n : Meant) (ps qs list : List Part) (other : Forms → spec.Meant) (others : Forms → List Marked) → IsGrown a c →
     Expressed a n list other others →
-    IfOk r (λ v. Expressed c v qs (λ b. two_meant form (scene_at b sc) (meant_at b m) (meant_at b n)) (λ b. two_asks form (parts_at b ps) (parts_at b list) (scene_at b sc) (meant_at b m) (meant_at b n))) →
-    IfOk r (λ v. Expressed c v qs (λ b. two_meant form (scene_at b sc) (meant_at b m) (other b)) (λ b. two_asks form (parts_at b ps) (others b) (scene_at b sc) (meant_at b m) (other b)))
+    IfOk r (λ v. Expressed c v qs (λ b. two_meant form (context_at b sc) (meant_at b m) (meant_at b n)) (λ b. two_asks form (parts_at b ps) (parts_at b list) (context_at b sc) (meant_at b m) (meant_at b n))) →
+    IfOk r (λ v. Expressed c v qs (λ b. two_meant form (context_at b sc) (meant_at b m) (other b)) (λ b. two_asks form (parts_at b ps) (others b) (context_at b sc) (meant_at b m) (other b)))
 second_behind (Ok v) form sc a c m n ps qs list other others g e h = record {
-  meant = record { has = h.meant.has; is = λ b k. h.meant.is b k ∙ ap (two_meant form (scene_at b sc) (meant_at b m)) (e.meant.is b (IsGrown-then a c b g k)) };
+  meant = record { has = h.meant.has; is = λ b k. h.meant.is b k ∙ ap (two_meant form (context_at b sc) (meant_at b m)) (e.meant.is b (IsGrown-then a c b g k)) };
   parts = record {
     has = h.parts.has;
     are = λ b k.
         let g2 = IsGrown-then a c b g k in
         h.parts.are b k
-        ∙ ap (λ l. two_asks form (parts_at b ps) l (scene_at b sc) (meant_at b m) (meant_at b n)) (e.parts.are b g2)
-        ∙ ap (two_asks form (parts_at b ps) (others b) (scene_at b sc) (meant_at b m)) (e.meant.is b g2);
+        ∙ ap (λ l. two_asks form (parts_at b ps) l (context_at b sc) (meant_at b m) (meant_at b n)) (e.parts.are b g2)
+        ∙ ap (two_asks form (parts_at b ps) (others b) (context_at b sc) (meant_at b m)) (e.meant.is b g2);
   };
 }
 second_behind (Err z) form sc a c m n ps qs list other others g e h = tt

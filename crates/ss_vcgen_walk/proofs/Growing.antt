@@ -1,4 +1,4 @@
--- Parts and scenes as the bank grows.
+-- Parts and contexts as the bank grows.
 use Rattle.std.proofs.Common.{◌≡◌, ℕ, zero, suc, ◌<◌, List, [], ◌∷◌, ◌++◌, length, map, get_or, Bool, true, false, refl, ◌∙◌, ap, arith, Result, Ok, Err}
 use Rattle.std.specs.Prelude.{if◌then◌else◌, IfOk}
 use Rattle.std.proofs.lemmas.List.{map_push}
@@ -9,10 +9,10 @@ use Rattle.ss_terms.specs.declared.forms.TermId.{TermId}
 use Rattle.ss_terms.specs.Forms.{Forms, term_at, HasTerm, HasTerms, HasFormula, IsGrown}
 use Rattle.ss_terms.proofs.Grown.{HasFormula-grown}
 use Rattle.ss_vcgen_walk.specs.declared.parts.Part.{Part}
-use Rattle.ss_vcgen_express.specs.declared.scene.Scene.{Scene}
-use Rattle.ss_vcgen_express.specs.Scenes.{local_at, scene_at, state_of, HasScene}
-use Rattle.ss_vcgen_express.proofs.Scenes.{HasScene-grown}
-use Rattle.ss_vcgen_walk.specs.Reading.{IsScene, IsWithName}
+use Rattle.ss_vcgen_express.specs.declared.context.Context.{Context}
+use Rattle.ss_vcgen_express.specs.Contexts.{local_at, context_at, state_of, HasContext}
+use Rattle.ss_vcgen_express.proofs.Contexts.{HasContext-grown}
+use Rattle.ss_vcgen_walk.specs.Reading.{IsContext, IsWithName}
 use Rattle.ss_vcgen_walk.specs.Parts.{marked_at, parts_at, HasParts}
 
 module _ {a b : Forms} (g : IsGrown a b) where
@@ -40,14 +40,14 @@ HasParts-get b [] i d h at = absurd (omega arith)
 HasParts-get b (p ∷ ps) zero d h at = h.0
 HasParts-get b (p ∷ ps) (suc i) d h at = HasParts-get b ps i d h.1 (omega arith)
 
--- ---- scenes
+-- ---- contexts
 
 state_if : (b : Forms) (old : Bool) (x y : TermId) → term_at b (if old then x else y) ≡ (if old then term_at b x else term_at b y)
 state_if b true x y = refl
 state_if b false x y = refl
 
 -- the store that is spoken of
-pub state_is : (b : Forms) (c : Scene) → term_at b (state_of c) ≡ spec.state (scene_at b c)
+pub state_is : (b : Forms) (c : Context) → term_at b (state_of c) ≡ spec.state (context_at b c)
 state_is b c = state_if b c.inside_old c.entry c.now
 
 HasTerms-push : (b : Forms) (ts : List TermId) (t : TermId) → HasTerms b ts → HasTerm b t → HasTerms b (ts ++ t ∷ [])
@@ -55,10 +55,10 @@ HasTerms-push b [] t h at = (at, tt)
 HasTerms-push b (u ∷ us) t h at = (h.0, HasTerms-push b us t h.1 at)
 
 -- one more local, which is a bound name
-pub with_name_is : {E : Type 0} (r : Result Scene E) (a d : Forms) (old : Scene) (name : TermId) → IsGrown a d → HasScene a old → HasTerm d name → term_at d name ≡ Bound old.bound → IfOk r (λ c. IsWithName old name c) →
-    IfOk r (λ c. IsScene d c (λ b. spec.with_bound (scene_at b old)))
+pub with_name_is : {E : Type 0} (r : Result Context E) (a d : Forms) (old : Context) (name : TermId) → IsGrown a d → HasContext a old → HasTerm d name → term_at d name ≡ Bound old.bound → IfOk r (λ c. IsWithName old name c) →
+    IfOk r (λ c. IsContext d c (λ b. spec.with_bound (context_at b old)))
 with_name_is (Ok c) a d old name g h at is w =
-    let there = HasScene-grown g old h in
+    let there = HasContext-grown g old h in
     record {
       has = record {
         now = rw w.now there.now;
@@ -67,14 +67,14 @@ with_name_is (Ok c) a d old name g h at is w =
         classes = rw w.classes there.classes;
       };
       is = λ b k.
-          let o = scene_at b old in
+          let o = context_at b old in
           let named : term_at b name ≡ Bound old.bound = k.same_terms name at ∙ is in
           let all : map (local_at b) c.locals.items ≡ o.locals ++ spec.One (Bound old.bound) ∷ [] =
           ap (map (local_at b)) w.locals ∙ map_push (local_at b) old.locals.items name ∙ ap (λ t. o.locals ++ spec.One t ∷ []) named in
-          ap (λ x. record (scene_at b c) { classes = x }) w.classes
-          ∙ ap (λ x. record (scene_at b c) { classes = o.classes; now = term_at b x }) w.now
-          ∙ ap (λ x. record (scene_at b c) { classes = o.classes; now = o.now; entry = term_at b x }) w.entry
-          ∙ ap (λ x. record (scene_at b c) { classes = o.classes; now = o.now; entry = o.entry; inside_old = x }) w.inside_old
+          ap (λ x. record (context_at b c) { classes = x }) w.classes
+          ∙ ap (λ x. record (context_at b c) { classes = o.classes; now = term_at b x }) w.now
+          ∙ ap (λ x. record (context_at b c) { classes = o.classes; now = o.now; entry = term_at b x }) w.entry
+          ∙ ap (λ x. record (context_at b c) { classes = o.classes; now = o.now; entry = o.entry; inside_old = x }) w.inside_old
           ∙ ap (λ x. record o { types = x; locals = map (local_at b) c.locals.items; bound = c.bound }) w.types
           ∙ ap (λ x. record (spec.with_bound o) { locals = x; bound = c.bound }) all
           ∙ ap (λ x. record (spec.with_bound o) { bound = x }) w.bound;

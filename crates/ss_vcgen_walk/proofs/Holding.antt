@@ -12,10 +12,10 @@ use Rattle.ss_terms.specs.declared.forms.FormulaId.{FormulaId}
 use Rattle.ss_terms.specs.Forms.{Forms, formula_at, formulas_at, HasFormulas, IsGrown}
 use Rattle.ss_terms.proofs.Grown.{IsGrown-then, HasFormulas-grown}
 use Rattle.ss_vcgen_express.specs.declared.meant.Meant.{Meant}
-use Rattle.ss_vcgen_express.specs.declared.scene.Scene.{Scene}
+use Rattle.ss_vcgen_express.specs.declared.context.Context.{Context}
 use Rattle.ss_vcgen_express.specs.Marked.{Marked, marked, formulas_of}
 use Rattle.ss_vcgen_express.specs.Numbers.{IsFormula, AreFormulas}
-use Rattle.ss_vcgen_express.specs.Scenes.{scene_at}
+use Rattle.ss_vcgen_express.specs.Contexts.{context_at}
 use Rattle.ss_vcgen_express.proofs.Grown.{HasFormulas-push}
 use Rattle.ss_vcgen_express.proofs.Marking.{marked_are_defined}
 use Rattle.ss_vcgen_walk.specs.declared.parts.Part.{Part}
@@ -39,15 +39,15 @@ formulas_in_more ps i d made after at e was =
     e ∙ ap (λ l. l ++ (get_or ps i d).formula ∷ []) was ∙ sym (map_push (λ (p : Part). p.formula) (take i ps) (get_or ps i d)) ∙ ap formulas_in (sym (take_more ps i d at))
 
 -- where it is read it is defined
-pub defines : {E : Type 0} (r : Result Meant E) (c : Forms) (ps before : List Part) (t : ExprTree) (site : Site) (k : Known) (sc : Scene) →
-    IfOk r (λ m. Expressed c m ps (λ b. spec.meant t (scene_at b sc)) (λ b. parts_at b before ++ marked t site k (scene_at b sc))) → IfOk r (λ m. Defines c m ps before t sc)
+pub defines : {E : Type 0} (r : Result Meant E) (c : Forms) (ps before : List Part) (t : ExprTree) (site : Site) (k : Known) (sc : Context) →
+    IfOk r (λ m. Expressed c m ps (λ b. spec.meant t (context_at b sc)) (λ b. parts_at b before ++ marked t site k (context_at b sc))) → IfOk r (λ m. Defines c m ps before t sc)
 defines (Ok m) c ps before t site k sc h = record {
   meant = h.meant;
   has = h.parts.has;
   defined = λ b j.
       ap formulas_of (h.parts.are b j)
-      ∙ map-append (λ (x : Marked). x.part.formula) (parts_at b before) (marked t site k (scene_at b sc))
-      ∙ ap (λ l. formulas_of (parts_at b before) ++ l) (marked_are_defined site t k (scene_at b sc));
+      ∙ map-append (λ (x : Marked). x.part.formula) (parts_at b before) (marked t site k (context_at b sc))
+      ∙ ap (λ l. formulas_of (parts_at b before) ++ l) (marked_are_defined site t k (context_at b sc));
 }
 defines (Err z) c ps before t site k sc h = tt
 

@@ -2,4 +2,4 @@ pub mod Asked
 pub mod Forms
 pub mod Parts
 pub mod Reading
-pub mod Sights
+pub mod NullContexts

@@ -7,10 +7,10 @@ use Rattle.ss_logic_express.specs.Express as spec
 use Rattle.ss_terms.specs.declared.forms.TermId.{TermId}
 use Rattle.ss_terms.specs.Forms.{Forms, IsGrown}
 use Rattle.ss_vcgen_express.specs.declared.meant.Meant.{Meant}
-use Rattle.ss_vcgen_express.specs.declared.scene.Scene.{Scene}
+use Rattle.ss_vcgen_express.specs.declared.context.Context.{Context}
 use Rattle.ss_vcgen_express.specs.Marked.{Marked, formulas_of}
 use Rattle.ss_vcgen_express.specs.Numbers.{IsMeant}
-use Rattle.ss_vcgen_express.specs.Scenes.{scene_at, HasScene}
+use Rattle.ss_vcgen_express.specs.Contexts.{context_at, HasContext}
 use Rattle.ss_vcgen_walk.specs.declared.parts.Part.{Part}
 use Rattle.ss_vcgen_walk.specs.Parts.{parts_at, HasParts, AreParts}
 
@@ -19,13 +19,13 @@ pub record Expressed (a : Forms) (m : Meant) (ps : List Part) (says : Forms → 
   pub meant : IsMeant a m says
   pub parts : AreParts a ps say
 
--- the bank has the terms of the scene, and in it and in each that it grows to they stand for this
-pub record IsScene (a : Forms) (c : Scene) (says : Forms → spec.Scene) : Type 0 where
-  pub has : HasScene a c
-  pub is : (b : Forms) → IsGrown a b → scene_at b c ≡ says b
+-- the bank has the terms of the context, and in it and in each that it grows to they stand for this
+pub record IsContext (a : Forms) (c : Context) (says : Forms → spec.Context) : Type 0 where
+  pub has : HasContext a c
+  pub is : (b : Forms) → IsGrown a b → context_at b c ≡ says b
 
 -- it has one more local, a bound name
-pub record IsWithName (old : Scene) (name : TermId) (new : Scene) : Type 0 where
+pub record IsWithName (old : Context) (name : TermId) (new : Context) : Type 0 where
   pub classes : view.classes new.classes.now ≡ view.classes old.classes.now
   pub now : new.now ≡ old.now
   pub entry : new.entry ≡ old.entry
@@ -35,7 +35,7 @@ pub record IsWithName (old : Scene) (name : TermId) (new : Scene) : Type 0 where
   pub bound : new.bound ≡ old.bound + 1
 
 -- the expression means it, and it is defined where it was before and all this holds
-pub record Defines (a : Forms) (m : Meant) (ps before : List Part) (t : ExprTree) (c : Scene) : Type 0 where
-  pub meant : IsMeant a m (λ b. spec.meant t (scene_at b c))
+pub record Defines (a : Forms) (m : Meant) (ps before : List Part) (t : ExprTree) (c : Context) : Type 0 where
+  pub meant : IsMeant a m (λ b. spec.meant t (context_at b c))
   pub has : HasParts a ps
-  pub defined : (b : Forms) → IsGrown a b → formulas_of (parts_at b ps) ≡ formulas_of (parts_at b before) ++ spec.defined t (scene_at b c)
+  pub defined : (b : Forms) → IsGrown a b → formulas_of (parts_at b ps) ≡ formulas_of (parts_at b before) ++ spec.defined t (context_at b c)

@@ -6,14 +6,14 @@ ghost use Rattle.ss_terms.specs.Forms.{term_at, IsGrown};
 ghost use Rattle.ss_vcgen_express.specs.Marked.{marked_part};
 ghost use Rattle.ss_vcgen_express.specs.Numbers.{meant_at, HasMeant};
 ghost use Rattle.ss_vcgen_express.specs.Sayings.{related, said_so, HasRelation, HasSaying};
-ghost use Rattle.ss_vcgen_express.specs.Scenes.{scene_at, HasScene};
+ghost use Rattle.ss_vcgen_express.specs.Contexts.{context_at, HasContext};
 ghost use Rattle.ss_vcgen_walk.specs.Asked.{asked_null, asked_allocated, asked_readable};
 ghost use Rattle.ss_vcgen_walk.specs.Parts.{parts_at, HasParts, AreParts};
 
 use crate::parts::Part;
 use ss_core::{Kind, Place};
 use ss_terms::{Bank, FormulaId};
-use ss_vcgen_express::{Meant, Relation, Saying, Scene, over, over_two};
+use ss_vcgen_express::{Context, Meant, Relation, Saying, over, over_two};
 use std::alloc::{AllocError, Global};
 
 /// The check that fails where a part isn't so.
@@ -103,24 +103,31 @@ pub(crate) fn ask_not_null(
 fn ask_allocated(
     alloc: Global,
     bank: &mut Bank,
-    scene: &Scene<'_>,
+    context: &Context<'_>,
     parts: &mut Vec<Part>,
     place: Place,
     m: &Meant,
 ) -> Result<(), AllocError>
-    requires scene { HasScene bank.old scene.now }
+    requires context { HasContext bank.old context.now }
     requires meant { HasMeant bank.old m.now }
     requires parts { HasParts bank.old parts.old.items }
-    ensures asked { OnOk result (AreParts bank.new parts.new.items (λ b. parts_at b parts.old.items ++ asked_allocated (scene_at b scene.entry.now) (meant_at b m.now) place)) }
+    ensures asked { OnOk result (AreParts bank.new parts.new.items (λ b. parts_at b parts.old.items ++ asked_allocated (context_at b context.entry.now) (meant_at b m.now) place)) }
     ensures grown { IsGrown bank.old bank.new }
 {
-    if scene.inside_old {
+    if context.inside_old {
         let check = Check {
             kind: Kind::Null,
             place,
             checked: true,
         };
-        return ask(alloc, bank, parts, check, m, Saying::Allocated(scene.entry));
+        return ask(
+            alloc,
+            bank,
+            parts,
+            check,
+            m,
+            Saying::Allocated(context.entry),
+        );
     }
     Ok(())
 }
@@ -129,18 +136,18 @@ fn ask_allocated(
 pub(crate) fn ask_readable(
     alloc: Global,
     bank: &mut Bank,
-    scene: &Scene<'_>,
+    context: &Context<'_>,
     parts: &mut Vec<Part>,
     place: Place,
     checked: bool,
     m: &Meant,
 ) -> Result<(), AllocError>
-    requires scene { HasScene bank.old scene.now }
+    requires context { HasContext bank.old context.now }
     requires meant { HasMeant bank.old m.now }
     requires parts { HasParts bank.old parts.old.items }
-    ensures asked { OnOk result (AreParts bank.new parts.new.items (λ b. parts_at b parts.old.items ++ asked_readable checked (scene_at b scene.entry.now) (meant_at b m.now) place)) }
+    ensures asked { OnOk result (AreParts bank.new parts.new.items (λ b. parts_at b parts.old.items ++ asked_readable checked (context_at b context.entry.now) (meant_at b m.now) place)) }
     ensures grown { IsGrown bank.old bank.new }
 {
     ask_not_null(alloc, bank, parts, place, checked, m)?;
-    ask_allocated(alloc, bank, scene, parts, place, m)
+    ask_allocated(alloc, bank, context, parts, place, m)
 }

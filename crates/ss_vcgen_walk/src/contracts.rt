@@ -6,19 +6,19 @@ ghost use Rattle.ss_logic_express.specs.Express as spec;
 ghost use Rattle.ss_terms.specs.Forms.{IsGrown};
 ghost use Rattle.ss_vcgen_express.specs.Marked.{formulas_of};
 ghost use Rattle.ss_vcgen_express.specs.Numbers.{meant_at, HasMeant, IsFormula, AreFormulas, IsMeant};
-ghost use Rattle.ss_vcgen_express.specs.Scenes.{scene_at, HasScene};
+ghost use Rattle.ss_vcgen_express.specs.Contexts.{context_at, HasContext};
 ghost use Rattle.ss_vcgen_heaps.specs.Contracts as heaps;
 ghost use Rattle.ss_vcgen_walk.specs.Parts.{parts_at, HasParts};
 ghost use Rattle.ss_vcgen_walk.specs.Reading.{Defines};
 
+use crate::null_context::NullContext;
 use crate::parts::Part;
-use crate::sight::Sight;
 use crate::walk::express;
 use ss_bit_set::BitSet;
 use ss_core::Expr;
 use ss_terms::{Bank, FormulaId};
-use ss_vcgen_express::{Meant, Saying, Scene, all_with, over, said};
-use ss_vcgen_known::{Fields, Known, Site, Tests};
+use ss_vcgen_express::{Context, Meant, Saying, all_with, over, said};
+use ss_vcgen_known::{Fields, Known, Tests, TypeContext};
 use std::alloc::{AllocError, Global};
 
 // Nothing is known.
@@ -38,27 +38,27 @@ fn nothing(alloc: Global) -> Known {
 fn read(
     alloc: Global,
     bank: &mut Bank,
-    scene: &Scene<'_>,
+    context: &Context<'_>,
     parts: &mut Vec<Part>,
     e: &Expr,
 ) -> Result<Meant, AllocError>
-    requires scene { HasScene bank.old scene.now }
+    requires context { HasContext bank.old context.now }
     requires parts { HasParts bank.old parts.old.items }
-    ensures expressed { IfOk result (λ m. Defines bank.new m parts.new.items parts.old.items (core.expr e.now) scene.entry.now) }
+    ensures expressed { IfOk result (λ m. Defines bank.new m parts.new.items parts.old.items (core.expr e.now) context.entry.now) }
     ensures grown { IsGrown bank.old bank.new }
 {
     let known = nothing(alloc);
     let tests = Tests::Nothing;
-    let sight = Sight {
-        site: Site {
-            classes: scene.classes,
+    let nulls = NullContext {
+        typing: TypeContext {
+            classes: context.classes,
             types: &[],
             constructs: false,
         },
         known: &known,
         tests: &tests,
     };
-    express(alloc, bank, &sight, scene, parts, e)
+    express(alloc, bank, &nulls, context, parts, e)
 }
 
 // What the parts say.
@@ -93,15 +93,15 @@ fn joined(
 pub fn holds(
     alloc: Global,
     bank: &mut Bank,
-    scene: &Scene<'_>,
+    context: &Context<'_>,
     e: &Expr,
 ) -> Result<FormulaId, AllocError>
-    requires { HasScene bank.old scene.now }
-    ensures at { IfOk result (λ f. IsFormula bank.new f (λ b. spec.holds_formula (core.expr e.now) (scene_at b scene.entry.now))) }
+    requires { HasContext bank.old context.now }
+    ensures at { IfOk result (λ f. IsFormula bank.new f (λ b. spec.holds_formula (core.expr e.now) (context_at b context.entry.now))) }
     ensures grown { IsGrown bank.old bank.new }
 {
     let mut parts = Vec::new(alloc);
-    let m = read(alloc, bank, scene, &mut parts, e)?;
+    let m = read(alloc, bank, context, &mut parts, e)?;
     joined(alloc, bank, &parts, &m)
 }
 
@@ -109,16 +109,16 @@ pub fn holds(
 pub fn conditions(
     alloc: Global,
     bank: &mut Bank,
-    scene: &Scene<'_>,
+    context: &Context<'_>,
     es: &[Expr],
 ) -> Result<Vec<FormulaId>, AllocError>
-    requires { HasScene bank.old scene.now }
-    ensures at { IfOk result (λ v. AreFormulas bank.new v.items (λ b. heaps.conditions (core.exprs es.now) (scene_at b scene.entry.now))) }
+    requires { HasContext bank.old context.now }
+    ensures at { IfOk result (λ v. AreFormulas bank.new v.items (λ b. heaps.conditions (core.exprs es.now) (context_at b context.entry.now))) }
     ensures grown { IsGrown bank.old bank.new }
 {
     let mut list = Vec::new(alloc);
     for e in es {
-        let f = holds(alloc, bank, scene, e)?;
+        let f = holds(alloc, bank, context, e)?;
         list.push(f)?;
     }
     Ok(list)
@@ -146,16 +146,16 @@ fn guards(
 pub fn naming(
     alloc: Global,
     bank: &mut Bank,
-    scene: &Scene<'_>,
+    context: &Context<'_>,
     e: &Expr,
 ) -> Result<(Vec<FormulaId>, Meant), AllocError>
-    requires { HasScene bank.old scene.now }
-    ensures parts { IfOk result (λ r. AreFormulas bank.new r.0.items (λ b. heaps.naming_parts (core.expr e.now) (scene_at b scene.entry.now))) }
-    ensures meant { IfOk result (λ r. IsMeant bank.new r.1 (λ b. spec.meant (core.expr e.now) (scene_at b scene.entry.now))) }
+    requires { HasContext bank.old context.now }
+    ensures parts { IfOk result (λ r. AreFormulas bank.new r.0.items (λ b. heaps.naming_parts (core.expr e.now) (context_at b context.entry.now))) }
+    ensures meant { IfOk result (λ r. IsMeant bank.new r.1 (λ b. spec.meant (core.expr e.now) (context_at b context.entry.now))) }
     ensures grown { IsGrown bank.old bank.new }
 {
     let mut parts = Vec::new(alloc);
-    let m = read(alloc, bank, scene, &mut parts, e)?;
+    let m = read(alloc, bank, context, &mut parts, e)?;
     let list = guards(alloc, bank, &parts, &m)?;
     Ok((list, m))
 }

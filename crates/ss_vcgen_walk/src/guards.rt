@@ -6,7 +6,7 @@ ghost use Rattle.ss_logic_express.specs.Express.{said};
 ghost use Rattle.ss_terms.specs.Forms.{formula_at, formulas_at, HasFormula, HasFormulas, IsGrown};
 ghost use Rattle.ss_vcgen_express.specs.Marked.{marked_right, marked_under, with_marked};
 ghost use Rattle.ss_vcgen_express.specs.Numbers.{meant_at, HasMeant, IsFormula};
-ghost use Rattle.ss_vcgen_express.specs.Scenes as scenes;
+ghost use Rattle.ss_vcgen_express.specs.Contexts as contexts;
 ghost use Rattle.ss_vcgen_walk.specs.Parts.{parts_at, HasParts, AreParts};
 
 use crate::parts::Part;
@@ -58,7 +58,7 @@ pub(crate) fn add_for_each(
     requires range { HasFormulas bank.old out.now }
     requires parts { HasParts bank.old parts.old.items }
     requires list { HasParts bank.old list.now }
-    ensures asked { OnOk result (AreParts bank.new parts.new.items (λ b. parts_at b parts.old.items ++ map (with_marked (scenes.for_each (formulas_at b out.now))) (parts_at b list.now))) }
+    ensures asked { OnOk result (AreParts bank.new parts.new.items (λ b. parts_at b parts.old.items ++ map (with_marked (contexts.for_each (formulas_at b out.now))) (parts_at b list.now))) }
     ensures grown { IsGrown bank.old bank.new }
 {
     for part in list {

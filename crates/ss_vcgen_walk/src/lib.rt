@@ -2,17 +2,17 @@
 #![tactic(auto)]
 
 mod asks;
+mod contexts;
 mod contracts;
 mod guards;
+mod null_context;
 mod parts;
-mod scenes;
-mod sight;
 mod singles;
 mod twos;
 mod walk;
 
 pub use contracts::{conditions, holds, naming};
+pub use null_context::NullContext;
 pub use parts::Part;
-pub use sight::Sight;
-pub use ss_vcgen_express::Scene;
+pub use ss_vcgen_express::Context;
 pub use walk::express;

@@ -11,7 +11,7 @@ ghost use Rattle.ss_terms.specs.Forms.{IsGrown};
 ghost use Rattle.ss_vcgen_express.specs.Marked.{marked_part};
 ghost use Rattle.ss_core.specs.declared.names.Kind.TheVariants as kind;
 ghost use Rattle.ss_vcgen_express.specs.Numbers.{meant_at, HasMeant, IsMeant, IsTerm};
-ghost use Rattle.ss_vcgen_express.specs.Scenes.{scene_at, HasScene};
+ghost use Rattle.ss_vcgen_express.specs.Contexts.{context_at, HasContext};
 ghost use Rattle.ss_vcgen_walk.specs.Asked.{asked_word};
 ghost use Rattle.ss_vcgen_walk.specs.Forms.{single_meant, single_asks};
 ghost use Rattle.ss_vcgen_walk.specs.Parts.{parts_at, HasParts, AreParts};
@@ -23,7 +23,7 @@ use crate::parts::Part;
 use ss_core::{ClassId, FieldId, Kind, Place, StateWord};
 use ss_terms::{Bank, Symbol, TermId};
 use ss_vcgen_express::{
-    Function, Meant, Relation, Saying, Scene, as_class, mapped, over, word_said,
+    Context, Function, Meant, Relation, Saying, as_class, mapped, over, word_said,
 };
 use std::alloc::{AllocError, Global};
 
@@ -85,18 +85,18 @@ fn of_class(alloc: Global, bank: &mut Bank, class: ClassId, m: &Meant) -> Result
 fn read(
     alloc: Global,
     bank: &mut Bank,
-    scene: &Scene<'_>,
+    context: &Context<'_>,
     field: FieldId,
     m: &Meant,
 ) -> Result<Meant, AllocError>
-    requires scene { HasScene bank.old scene.now }
+    requires context { HasContext bank.old context.now }
     requires meant { HasMeant bank.old m.now }
-    ensures at { IfOk result (λ r. IsMeant bank.new r (λ b. spec.mapped (λ o. app (term.Field field.0) (spec.state (scene_at b scene.entry.now) ∷ o ∷ [])) (meant_at b m.now))) }
+    ensures at { IfOk result (λ r. IsMeant bank.new r (λ b. spec.mapped (λ o. app (term.Field field.0) (spec.state (context_at b context.entry.now) ∷ o ∷ [])) (meant_at b m.now))) }
     ensures grown { IsGrown bank.old bank.new }
 {
     let function = Function {
         symbol: Symbol::Field(field.0),
-        first: Some(scene.state()),
+        first: Some(context.state()),
     };
     mapped(alloc, bank, function, m)
 }
@@ -118,16 +118,16 @@ fn length(alloc: Global, bank: &mut Bank, m: &Meant) -> Result<Meant, AllocError
 fn answered(
     alloc: Global,
     bank: &mut Bank,
-    scene: &Scene<'_>,
+    context: &Context<'_>,
     word: StateWord,
     m: &Meant,
 ) -> Result<Meant, AllocError>
-    requires scene { HasScene bank.old scene.now }
+    requires context { HasContext bank.old context.now }
     requires meant { HasMeant bank.old m.now }
-    ensures at { IfOk result (λ r. IsMeant bank.new r (λ b. spec.Says (spec.over (meant_at b m.now) (spec.word_said (scene_at b scene.entry.now) (word_tree word))))) }
+    ensures at { IfOk result (λ r. IsMeant bank.new r (λ b. spec.Says (spec.over (meant_at b m.now) (spec.word_said (context_at b context.entry.now) (word_tree word))))) }
     ensures grown { IsGrown bank.old bank.new }
 {
-    let f = word_said(alloc, bank, scene, word, m)?;
+    let f = word_said(alloc, bank, context, word, m)?;
     Ok(Meant::Says(f))
 }
 
@@ -135,13 +135,13 @@ fn answered(
 fn single_meant(
     alloc: Global,
     bank: &mut Bank,
-    scene: &Scene<'_>,
+    context: &Context<'_>,
     form: Single,
     m: &Meant,
 ) -> Result<Meant, AllocError>
-    requires scene { HasScene bank.old scene.now }
+    requires context { HasContext bank.old context.now }
     requires meant { HasMeant bank.old m.now }
-    ensures at { IfOk result (λ r. IsMeant bank.new r (λ b. single_meant form (scene_at b scene.entry.now) (meant_at b m.now))) }
+    ensures at { IfOk result (λ r. IsMeant bank.new r (λ b. single_meant form (context_at b context.entry.now) (meant_at b m.now))) }
     ensures grown { IsGrown bank.old bank.new }
 {
     match form {
@@ -149,9 +149,9 @@ fn single_meant(
         Single::Not => not_so(alloc, bank, m),
         Single::Is(class) => of_class(alloc, bank, class, m),
         Single::As(class) => as_class(alloc, bank, class.0, m),
-        Single::Field(_, field, _) => read(alloc, bank, scene, field, m),
+        Single::Field(_, field, _) => read(alloc, bank, context, field, m),
         Single::Length(_, _) => length(alloc, bank, m),
-        Single::State(_, word, _) => answered(alloc, bank, scene, word, m),
+        Single::State(_, word, _) => answered(alloc, bank, context, word, m),
     }
 }
 
@@ -182,17 +182,17 @@ fn ask_negation(
 fn ask_word(
     alloc: Global,
     bank: &mut Bank,
-    scene: &Scene<'_>,
+    context: &Context<'_>,
     parts: &mut Vec<Part>,
     place: Place,
     word: StateWord,
     checked: bool,
     m: &Meant,
 ) -> Result<(), AllocError>
-    requires scene { HasScene bank.old scene.now }
+    requires context { HasContext bank.old context.now }
     requires meant { HasMeant bank.old m.now }
     requires parts { HasParts bank.old parts.old.items }
-    ensures asked { OnOk result (AreParts bank.new parts.new.items (λ b. parts_at b parts.old.items ++ asked_word (word_tree word) checked (scene_at b scene.entry.now) (meant_at b m.now) place)) }
+    ensures asked { OnOk result (AreParts bank.new parts.new.items (λ b. parts_at b parts.old.items ++ asked_word (word_tree word) checked (context_at b context.entry.now) (meant_at b m.now) place)) }
     ensures grown { IsGrown bank.old bank.new }
 {
     match word {
@@ -201,7 +201,7 @@ fn ask_word(
         | StateWord::Committed
         | StateWord::Level(_)
         | StateWord::Packed(_)
-        | StateWord::Unowned => ask_readable(alloc, bank, scene, parts, place, checked, m),
+        | StateWord::Unowned => ask_readable(alloc, bank, context, parts, place, checked, m),
     }
 }
 
@@ -209,26 +209,26 @@ fn ask_word(
 fn ask_single(
     alloc: Global,
     bank: &mut Bank,
-    scene: &Scene<'_>,
+    context: &Context<'_>,
     parts: &mut Vec<Part>,
     form: Single,
     m: &Meant,
 ) -> Result<(), AllocError>
-    requires scene { HasScene bank.old scene.now }
+    requires context { HasContext bank.old context.now }
     requires meant { HasMeant bank.old m.now }
     requires parts { HasParts bank.old parts.old.items }
-    ensures asked { OnOk result (AreParts bank.new parts.new.items (λ b. single_asks form (parts_at b parts.old.items) (scene_at b scene.entry.now) (meant_at b m.now))) }
+    ensures asked { OnOk result (AreParts bank.new parts.new.items (λ b. single_asks form (parts_at b parts.old.items) (context_at b context.entry.now) (meant_at b m.now))) }
     ensures grown { IsGrown bank.old bank.new }
 {
     match form {
         Single::Negate(place) => ask_negation(alloc, bank, parts, place, m),
         Single::Not | Single::Is(_) | Single::As(_) => Ok(()),
         Single::Field(place, _, checked) => {
-            ask_readable(alloc, bank, scene, parts, place, checked, m)
+            ask_readable(alloc, bank, context, parts, place, checked, m)
         }
         Single::Length(place, checked) => ask_not_null(alloc, bank, parts, place, checked, m),
         Single::State(place, word, checked) => {
-            ask_word(alloc, bank, scene, parts, place, word, checked, m)
+            ask_word(alloc, bank, context, parts, place, word, checked, m)
         }
     }
 }
@@ -237,17 +237,17 @@ fn ask_single(
 pub(crate) fn of_single(
     alloc: Global,
     bank: &mut Bank,
-    scene: &Scene<'_>,
+    context: &Context<'_>,
     parts: &mut Vec<Part>,
     form: Single,
     m: &Meant,
 ) -> Result<Meant, AllocError>
-    requires scene { HasScene bank.old scene.now }
+    requires context { HasContext bank.old context.now }
     requires meant { HasMeant bank.old m.now }
     requires parts { HasParts bank.old parts.old.items }
-    ensures expressed { IfOk result (λ r. Expressed bank.new r parts.new.items (λ b. single_meant form (scene_at b scene.entry.now) (meant_at b m.now)) (λ b. single_asks form (parts_at b parts.old.items) (scene_at b scene.entry.now) (meant_at b m.now))) }
+    ensures expressed { IfOk result (λ r. Expressed bank.new r parts.new.items (λ b. single_meant form (context_at b context.entry.now) (meant_at b m.now)) (λ b. single_asks form (parts_at b parts.old.items) (context_at b context.entry.now) (meant_at b m.now))) }
     ensures grown { IsGrown bank.old bank.new }
 {
-    ask_single(alloc, bank, scene, parts, form, m)?;
-    single_meant(alloc, bank, scene, form, m)
+    ask_single(alloc, bank, context, parts, form, m)?;
+    single_meant(alloc, bank, context, form, m)
 }

@@ -10,7 +10,7 @@ ghost use Rattle.ss_logic_express.specs.Express as spec;
 ghost use Rattle.ss_terms.specs.Forms.{symbol_of, IsGrown};
 ghost use Rattle.ss_vcgen_express.specs.Marked.{marked_part, marked_result, marked_operation};
 ghost use Rattle.ss_vcgen_express.specs.Numbers.{meant_at, HasMeant, IsMeant};
-ghost use Rattle.ss_vcgen_express.specs.Scenes.{scene_at, HasScene};
+ghost use Rattle.ss_vcgen_express.specs.Contexts.{context_at, HasContext};
 ghost use Rattle.ss_vcgen_walk.specs.Asked.{asked_readable};
 ghost use Rattle.ss_vcgen_walk.specs.Forms.{two_meant, second_asks, asks_behind, two_asks};
 ghost use Rattle.ss_vcgen_walk.specs.Parts.{parts_at, HasParts, AreParts};
@@ -23,7 +23,7 @@ use ss_core::{Kind, Operator, OwnerTest, Place};
 use ss_logic::Sort;
 use ss_terms::{Bank, Symbol};
 use ss_vcgen_express::{
-    Function, Meant, Relation, Saying, Scene, implies, operated, owners_said, paired, said,
+    Context, Function, Meant, Relation, Saying, implies, operated, owners_said, paired, said,
     same_truths,
 };
 use std::alloc::{AllocError, Global};
@@ -45,20 +45,20 @@ pub(crate) enum Two {
 fn element(
     alloc: Global,
     bank: &mut Bank,
-    scene: &Scene<'_>,
+    context: &Context<'_>,
     sort: Sort,
     x: &Meant,
     y: &Meant,
 ) -> Result<Meant, AllocError>
-    requires scene { HasScene bank.old scene.now }
+    requires context { HasContext bank.old context.now }
     requires first { HasMeant bank.old x.now }
     requires second { HasMeant bank.old y.now }
-    ensures at { IfOk result (λ r. IsMeant bank.new r (λ b. spec.paired (λ u v. app (term.Element sort) (spec.state (scene_at b scene.entry.now) ∷ u ∷ v ∷ [])) (meant_at b x.now) (meant_at b y.now))) }
+    ensures at { IfOk result (λ r. IsMeant bank.new r (λ b. spec.paired (λ u v. app (term.Element sort) (spec.state (context_at b context.entry.now) ∷ u ∷ v ∷ [])) (meant_at b x.now) (meant_at b y.now))) }
     ensures grown { IsGrown bank.old bank.new }
 {
     let function = Function {
         symbol: Symbol::Element(sort),
-        first: Some(scene.state()),
+        first: Some(context.state()),
     };
     paired(alloc, bank, function, x, y)
 }
@@ -91,18 +91,18 @@ fn as_one(alloc: Global, bank: &mut Bank, x: &Meant, y: &Meant) -> Result<Meant,
 fn owners_answered(
     alloc: Global,
     bank: &mut Bank,
-    scene: &Scene<'_>,
+    context: &Context<'_>,
     test: OwnerTest,
     x: &Meant,
     y: &Meant,
 ) -> Result<Meant, AllocError>
-    requires scene { HasScene bank.old scene.now }
+    requires context { HasContext bank.old context.now }
     requires first { HasMeant bank.old x.now }
     requires second { HasMeant bank.old y.now }
-    ensures at { IfOk result (λ r. IsMeant bank.new r (λ b. spec.Says (spec.over_two (meant_at b x.now) (meant_at b y.now) (spec.owners_said (scene_at b scene.entry.now) (owners_tree test))))) }
+    ensures at { IfOk result (λ r. IsMeant bank.new r (λ b. spec.Says (spec.over_two (meant_at b x.now) (meant_at b y.now) (spec.owners_said (context_at b context.entry.now) (owners_tree test))))) }
     ensures grown { IsGrown bank.old bank.new }
 {
-    let f = owners_said(alloc, bank, scene, test, x, y)?;
+    let f = owners_said(alloc, bank, context, test, x, y)?;
     Ok(Meant::Says(f))
 }
 
@@ -110,23 +110,23 @@ fn owners_answered(
 fn two_meant(
     alloc: Global,
     bank: &mut Bank,
-    scene: &Scene<'_>,
+    context: &Context<'_>,
     form: Two,
     x: Meant,
     y: &Meant,
 ) -> Result<Meant, AllocError>
-    requires scene { HasScene bank.old scene.now }
+    requires context { HasContext bank.old context.now }
     requires first { HasMeant bank.old x }
     requires second { HasMeant bank.old y.now }
-    ensures at { IfOk result (λ r. IsMeant bank.new r (λ b. two_meant form (scene_at b scene.entry.now) (meant_at b x) (meant_at b y.now))) }
+    ensures at { IfOk result (λ r. IsMeant bank.new r (λ b. two_meant form (context_at b context.entry.now) (meant_at b x) (meant_at b y.now))) }
     ensures grown { IsGrown bank.old bank.new }
 {
     match form {
         Two::Operation(_, operator, bools) => operated(alloc, bank, operator, bools, x, y),
-        Two::Element(_, sort, _) => element(alloc, bank, scene, sort, &x, y),
+        Two::Element(_, sort, _) => element(alloc, bank, context, sort, &x, y),
         Two::Implies => implied(alloc, bank, &x, y),
         Two::Iff => as_one(alloc, bank, &x, y),
-        Two::Owners(_, test, _, _) => owners_answered(alloc, bank, scene, test, &x, y),
+        Two::Owners(_, test, _, _) => owners_answered(alloc, bank, context, test, &x, y),
     }
 }
 
@@ -214,21 +214,21 @@ fn ask_operation(
 fn ask_element(
     alloc: Global,
     bank: &mut Bank,
-    scene: &Scene<'_>,
+    context: &Context<'_>,
     parts: &mut Vec<Part>,
     place: Place,
     checked: bool,
     x: &Meant,
     y: &Meant,
 ) -> Result<(), AllocError>
-    requires scene { HasScene bank.old scene.now }
+    requires context { HasContext bank.old context.now }
     requires first { HasMeant bank.old x.now }
     requires second { HasMeant bank.old y.now }
     requires parts { HasParts bank.old parts.old.items }
-    ensures asked { OnOk result (AreParts bank.new parts.new.items (λ b. parts_at b parts.old.items ++ asked_readable checked (scene_at b scene.entry.now) (meant_at b x.now) place ++ marked_part kind.Index place true (spec.index_fits (meant_at b x.now) (meant_at b y.now)))) }
+    ensures asked { OnOk result (AreParts bank.new parts.new.items (λ b. parts_at b parts.old.items ++ asked_readable checked (context_at b context.entry.now) (meant_at b x.now) place ++ marked_part kind.Index place true (spec.index_fits (meant_at b x.now) (meant_at b y.now)))) }
     ensures grown { IsGrown bank.old bank.new }
 {
-    ask_readable(alloc, bank, scene, parts, place, checked, x)?;
+    ask_readable(alloc, bank, context, parts, place, checked, x)?;
     let check = Check {
         kind: Kind::Index,
         place,
@@ -241,7 +241,7 @@ fn ask_element(
 fn ask_owners(
     alloc: Global,
     bank: &mut Bank,
-    scene: &Scene<'_>,
+    context: &Context<'_>,
     parts: &mut Vec<Part>,
     place: Place,
     asks_first: bool,
@@ -249,32 +249,32 @@ fn ask_owners(
     x: &Meant,
     y: &Meant,
 ) -> Result<(), AllocError>
-    requires scene { HasScene bank.old scene.now }
+    requires context { HasContext bank.old context.now }
     requires first { HasMeant bank.old x.now }
     requires second { HasMeant bank.old y.now }
     requires parts { HasParts bank.old parts.old.items }
-    ensures asked { OnOk result (AreParts bank.new parts.new.items (λ b. parts_at b parts.old.items ++ asked_readable asks_first (scene_at b scene.entry.now) (meant_at b x.now) place ++ asked_readable asks_second (scene_at b scene.entry.now) (meant_at b y.now) place)) }
+    ensures asked { OnOk result (AreParts bank.new parts.new.items (λ b. parts_at b parts.old.items ++ asked_readable asks_first (context_at b context.entry.now) (meant_at b x.now) place ++ asked_readable asks_second (context_at b context.entry.now) (meant_at b y.now) place)) }
     ensures grown { IsGrown bank.old bank.new }
 {
-    ask_readable(alloc, bank, scene, parts, place, asks_first, x)?;
-    ask_readable(alloc, bank, scene, parts, place, asks_second, y)
+    ask_readable(alloc, bank, context, parts, place, asks_first, x)?;
+    ask_readable(alloc, bank, context, parts, place, asks_second, y)
 }
 
 // What the form asks behind the parts of its second operand.
 fn ask_behind(
     alloc: Global,
     bank: &mut Bank,
-    scene: &Scene<'_>,
+    context: &Context<'_>,
     parts: &mut Vec<Part>,
     form: Two,
     x: &Meant,
     y: &Meant,
 ) -> Result<(), AllocError>
-    requires scene { HasScene bank.old scene.now }
+    requires context { HasContext bank.old context.now }
     requires first { HasMeant bank.old x.now }
     requires second { HasMeant bank.old y.now }
     requires parts { HasParts bank.old parts.old.items }
-    ensures asked { OnOk result (AreParts bank.new parts.new.items (λ b. asks_behind form (parts_at b parts.old.items) (scene_at b scene.entry.now) (meant_at b x.now) (meant_at b y.now))) }
+    ensures asked { OnOk result (AreParts bank.new parts.new.items (λ b. asks_behind form (parts_at b parts.old.items) (context_at b context.entry.now) (meant_at b x.now) (meant_at b y.now))) }
     ensures grown { IsGrown bank.old bank.new }
 {
     match form {
@@ -282,11 +282,11 @@ fn ask_behind(
             ask_operation(alloc, bank, parts, place, operator, x, y)
         }
         Two::Element(place, _, checked) => {
-            ask_element(alloc, bank, scene, parts, place, checked, x, y)
+            ask_element(alloc, bank, context, parts, place, checked, x, y)
         }
         Two::Implies | Two::Iff => Ok(()),
         Two::Owners(place, _, first, second) => {
-            ask_owners(alloc, bank, scene, parts, place, first, second, x, y)
+            ask_owners(alloc, bank, context, parts, place, first, second, x, y)
         }
     }
 }
@@ -317,44 +317,44 @@ fn add_second(
 fn ask_two_behind(
     alloc: Global,
     bank: &mut Bank,
-    scene: &Scene<'_>,
+    context: &Context<'_>,
     parts: &mut Vec<Part>,
     list: &[Part],
     form: Two,
     x: &Meant,
     y: &Meant,
 ) -> Result<(), AllocError>
-    requires scene { HasScene bank.old scene.now }
+    requires context { HasContext bank.old context.now }
     requires first { HasMeant bank.old x.now }
     requires second { HasMeant bank.old y.now }
     requires parts { HasParts bank.old parts.old.items }
     requires list { HasParts bank.old list.now }
-    ensures asked { OnOk result (AreParts bank.new parts.new.items (λ b. two_asks form (parts_at b parts.old.items) (parts_at b list.now) (scene_at b scene.entry.now) (meant_at b x.now) (meant_at b y.now))) }
+    ensures asked { OnOk result (AreParts bank.new parts.new.items (λ b. two_asks form (parts_at b parts.old.items) (parts_at b list.now) (context_at b context.entry.now) (meant_at b x.now) (meant_at b y.now))) }
     ensures grown { IsGrown bank.old bank.new }
 {
     add_second(alloc, bank, parts, list, form, x)?;
-    ask_behind(alloc, bank, scene, parts, form, x, y)
+    ask_behind(alloc, bank, context, parts, form, x, y)
 }
 
 // The form of two operands that mean this; the parts of the second are these.
 pub(crate) fn of_two(
     alloc: Global,
     bank: &mut Bank,
-    scene: &Scene<'_>,
+    context: &Context<'_>,
     parts: &mut Vec<Part>,
     list: &[Part],
     form: Two,
     x: Meant,
     y: &Meant,
 ) -> Result<Meant, AllocError>
-    requires scene { HasScene bank.old scene.now }
+    requires context { HasContext bank.old context.now }
     requires first { HasMeant bank.old x }
     requires second { HasMeant bank.old y.now }
     requires parts { HasParts bank.old parts.old.items }
     requires list { HasParts bank.old list.now }
-    ensures expressed { IfOk result (λ r. Expressed bank.new r parts.new.items (λ b. two_meant form (scene_at b scene.entry.now) (meant_at b x) (meant_at b y.now)) (λ b. two_asks form (parts_at b parts.old.items) (parts_at b list.now) (scene_at b scene.entry.now) (meant_at b x) (meant_at b y.now))) }
+    ensures expressed { IfOk result (λ r. Expressed bank.new r parts.new.items (λ b. two_meant form (context_at b context.entry.now) (meant_at b x) (meant_at b y.now)) (λ b. two_asks form (parts_at b parts.old.items) (parts_at b list.now) (context_at b context.entry.now) (meant_at b x) (meant_at b y.now))) }
     ensures grown { IsGrown bank.old bank.new }
 {
-    ask_two_behind(alloc, bank, scene, parts, list, form, &x, y)?;
-    two_meant(alloc, bank, scene, form, x, y)
+    ask_two_behind(alloc, bank, context, parts, list, form, &x, y)?;
+    two_meant(alloc, bank, context, form, x, y)
 }

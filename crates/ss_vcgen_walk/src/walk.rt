@@ -13,8 +13,8 @@ ghost use Rattle.ss_store_rules.specs.Types as types;
 ghost use Rattle.ss_terms.specs.Forms.{formulas_at, HasFormulas, IsGrown};
 ghost use Rattle.ss_vcgen_express.specs.Marked.{marked, marked_part, with_marked, in_range};
 ghost use Rattle.ss_vcgen_express.specs.Numbers.{meant_at, HasMeant, IsMeant};
-ghost use Rattle.ss_vcgen_express.specs.Scenes as scenes;
-ghost use Rattle.ss_vcgen_express.specs.Scenes.{scene_at, HasScene};
+ghost use Rattle.ss_vcgen_express.specs.Contexts as contexts;
+ghost use Rattle.ss_vcgen_express.specs.Contexts.{context_at, HasContext};
 ghost use Rattle.ss_vcgen_heaps.specs.Parts.{is_upwards, fits_class};
 ghost use Rattle.ss_vcgen_known.specs.Fronts.{link_behind, step_behind, chain_front, path_front};
 ghost use Rattle.ss_vcgen_known.specs.TellsFront.{TellsFront};
@@ -25,13 +25,13 @@ ghost use Rattle.ss_vcgen_walk.specs.Asked.{asked_null};
 ghost use Rattle.ss_vcgen_walk.specs.Forms.{single_meant, single_asks, two_meant, two_asks, cast_asks};
 ghost use Rattle.ss_vcgen_walk.specs.Parts.{parts_at, HasParts, AreParts};
 ghost use Rattle.ss_vcgen_walk.specs.Reading.{Expressed};
-ghost use Rattle.ss_vcgen_walk.specs.Sights.{site_at, known_at, IsSight, Reads};
+ghost use Rattle.ss_vcgen_walk.specs.NullContexts.{type_context_at, known_at, IsNullContext, Reads};
 
 use crate::asks::{Check, ask, ask_not_null};
+use crate::contexts::{at_entry, with_bound};
 use crate::guards::add_for_each;
+use crate::null_context::NullContext;
 use crate::parts::Part;
-use crate::scenes::{at_entry, with_bound};
-use crate::sight::Sight;
 use crate::singles::{Single, of_single};
 use crate::twos::{Two, of_two};
 use ss_core::{
@@ -41,10 +41,10 @@ use ss_core::{
 use ss_logic::Sort;
 use ss_terms::{Bank, FormulaId, Symbol};
 use ss_vcgen_defaults::default_said;
-use ss_vcgen_express::{Meant, Saying, Scene, local_term, out_of_range, quantified, said};
+use ss_vcgen_express::{Context, Meant, Saying, local_term, out_of_range, quantified, said};
 use ss_vcgen_known::{
-    FrontTold, Site, element_of, is_bool, is_never_null, link_type, path_never_null, step_type,
-    type_of,
+    FrontTold, TypeContext, element_of, is_bool, is_never_null, link_type, path_never_null,
+    step_type, type_of,
 };
 use std::alloc::{AllocError, Global};
 
@@ -74,79 +74,90 @@ fn null(bank: &mut Bank) -> Result<Meant, AllocError>
     Ok(Meant::One(t))
 }
 
-fn local(bank: &mut Bank, scene: &Scene<'_>, x: usize) -> Result<Meant, AllocError>
-    requires { HasScene bank.old scene.now }
-    ensures at { IfOk result (λ r. IsMeant bank.new r (λ b. spec.local_meant (scene_at b scene.entry.now) x)) }
+fn local(bank: &mut Bank, context: &Context<'_>, x: usize) -> Result<Meant, AllocError>
+    requires { HasContext bank.old context.now }
+    ensures at { IfOk result (λ r. IsMeant bank.new r (λ b. spec.local_meant (context_at b context.entry.now) x)) }
     ensures grown { IsGrown bank.old bank.new }
 {
-    let t = local_term(bank, scene, x)?;
+    let t = local_term(bank, context, x)?;
     Ok(Meant::One(t))
 }
 
 fn default_met(
     alloc: Global,
     bank: &mut Bank,
-    scene: &Scene<'_>,
+    context: &Context<'_>,
     condition: DefaultCondition,
 ) -> Result<Meant, AllocError>
-    requires { HasScene bank.old scene.now }
-    ensures at { IfOk result (λ r. IsMeant bank.new r (λ b. spec.Says (spec.default_said (scene_at b scene.entry.now) (default_tree condition)))) }
+    requires { HasContext bank.old context.now }
+    ensures at { IfOk result (λ r. IsMeant bank.new r (λ b. spec.Says (spec.default_said (context_at b context.entry.now) (default_tree condition)))) }
     ensures grown { IsGrown bank.old bank.new }
 {
-    let f = default_said(alloc, bank, scene, condition)?;
+    let f = default_said(alloc, bank, context, condition)?;
     Ok(Meant::Says(f))
 }
 
 // ---- what is checked
 
 // It has to be checked that the value isn't null.
-fn may_be_null(sight: &Sight<'_>, scene: &Scene<'_>, e: &Expr) -> bool
-    requires { IsSight sight.now }
-    ensures { result ≡ not (rules.is_never_null (site_at sight.now) (known_at sight.now) scene.entry.now.inside_old (expr e.now)) }
+fn may_be_null(nulls: &NullContext<'_>, context: &Context<'_>, e: &Expr) -> bool
+    requires { IsNullContext nulls.now }
+    ensures { result ≡ not (rules.is_never_null (type_context_at nulls.now) (known_at nulls.now) context.entry.now.inside_old (expr e.now)) }
 {
-    !is_never_null(sight.site, sight.known, sight.tests, scene.inside_old, e)
+    !is_never_null(
+        nulls.typing,
+        nulls.known,
+        nulls.tests,
+        context.inside_old,
+        e,
+    )
 }
 
 // The same of the front of a path.
-fn front_may_be_null(sight: &Sight<'_>, scene: &Scene<'_>, first: &Expr, steps: &[Step]) -> bool
-    requires { IsSight sight.now }
-    ensures { (p : PlaceValue) → result ≡ not (rules.is_never_null (site_at sight.now) (known_at sight.now) scene.entry.now.inside_old (path_front p (expr first.now) steps.now)) }
+fn front_may_be_null(
+    nulls: &NullContext<'_>,
+    context: &Context<'_>,
+    first: &Expr,
+    steps: &[Step],
+) -> bool
+    requires { IsNullContext nulls.now }
+    ensures { (p : PlaceValue) → result ≡ not (rules.is_never_null (type_context_at nulls.now) (known_at nulls.now) context.entry.now.inside_old (path_front p (expr first.now) steps.now)) }
 {
     !path_never_null(
-        sight.site,
-        sight.known,
-        sight.tests,
-        scene.inside_old,
+        nulls.typing,
+        nulls.known,
+        nulls.tests,
+        context.inside_old,
         first,
         steps,
     )
 }
 
 // A value of the type is one of the class without a check.
-fn goes_upwards(scene: &Scene<'_>, ty: Option<Ty>, class: ClassId) -> bool
-    ensures { result ≡ is_upwards (classes scene.entry.now.classes.now) ty class.0 }
+fn goes_upwards(context: &Context<'_>, ty: Option<Ty>, class: ClassId) -> bool
+    ensures { result ≡ is_upwards (classes context.entry.now.classes.now) ty class.0 }
 {
     match ty {
-        Some(Ty::Ref { class: other, .. }) => scene.classes.is_subclass(other, class),
+        Some(Ty::Ref { class: other, .. }) => context.classes.is_subclass(other, class),
         Some(Ty::Null) => true,
         Some(Ty::Int) | Some(Ty::Bool) | None => false,
     }
 }
 
 // It has to be checked that the value is of the class.
-fn may_be_other(scene: &Scene<'_>, e: &Expr, class: ClassId) -> bool
-    requires { length (classes scene.now.classes.now) ≤ most_classes }
-    ensures { result ≡ not (is_upwards (classes scene.entry.now.classes.now) (types.type_of (classes scene.entry.now.classes.now) scene.entry.now.types.items (expr e.now)) class.0) }
+fn may_be_other(context: &Context<'_>, e: &Expr, class: ClassId) -> bool
+    requires { length (classes context.now.classes.now) ≤ most_classes }
+    ensures { result ≡ not (is_upwards (classes context.entry.now.classes.now) (types.type_of (classes context.entry.now.classes.now) context.entry.now.types.items (expr e.now)) class.0) }
 {
-    !goes_upwards(scene, type_of(scene.classes, &scene.types, e), class)
+    !goes_upwards(context, type_of(context.classes, &context.types, e), class)
 }
 
 // The sort of the elements of an array of this type.
-fn element_sort(scene: &Scene<'_>, array: Option<Ty>) -> Sort
-    requires { length (classes scene.now.classes.now) ≤ most_classes }
-    ensures { result ≡ spec.element_sort (types.element_of (classes scene.entry.now.classes.now) array) }
+fn element_sort(context: &Context<'_>, array: Option<Ty>) -> Sort
+    requires { length (classes context.now.classes.now) ≤ most_classes }
+    ensures { result ≡ spec.element_sort (types.element_of (classes context.entry.now.classes.now) array) }
 {
-    match element_of(scene.classes, array) {
+    match element_of(context.classes, array) {
         Some(Ty::Int) => Sort::Whole,
         Some(Ty::Bool) => Sort::Truth,
         Some(Ty::Null) | Some(Ty::Ref { .. }) | None => Sort::Rest,
@@ -154,34 +165,34 @@ fn element_sort(scene: &Scene<'_>, array: Option<Ty>) -> Sort
 }
 
 fn state_form(
-    sight: &Sight<'_>,
-    scene: &Scene<'_>,
+    nulls: &NullContext<'_>,
+    context: &Context<'_>,
     place: Place,
     word: StateWord,
     e: &Expr,
 ) -> Single
-    requires { IsSight sight.now }
-    ensures { result ≡ single.State place word (not (rules.is_never_null (site_at sight.now) (known_at sight.now) scene.entry.now.inside_old (expr e.now))) }
+    requires { IsNullContext nulls.now }
+    ensures { result ≡ single.State place word (not (rules.is_never_null (type_context_at nulls.now) (known_at nulls.now) context.entry.now.inside_old (expr e.now))) }
 {
-    Single::State(place, word, may_be_null(sight, scene, e))
+    Single::State(place, word, may_be_null(nulls, context, e))
 }
 
 fn owners_form(
-    sight: &Sight<'_>,
-    scene: &Scene<'_>,
+    nulls: &NullContext<'_>,
+    context: &Context<'_>,
     place: Place,
     test: OwnerTest,
     a: &Expr,
     b: &Expr,
 ) -> Two
-    requires { IsSight sight.now }
-    ensures { result ≡ two.Owners place test (not (rules.is_never_null (site_at sight.now) (known_at sight.now) scene.entry.now.inside_old (expr a.now))) (not (rules.is_never_null (site_at sight.now) (known_at sight.now) scene.entry.now.inside_old (expr b.now))) }
+    requires { IsNullContext nulls.now }
+    ensures { result ≡ two.Owners place test (not (rules.is_never_null (type_context_at nulls.now) (known_at nulls.now) context.entry.now.inside_old (expr a.now))) (not (rules.is_never_null (type_context_at nulls.now) (known_at nulls.now) context.entry.now.inside_old (expr b.now))) }
 {
     Two::Owners(
         place,
         test,
-        may_be_null(sight, scene, a),
-        may_be_null(sight, scene, b),
+        may_be_null(nulls, context, a),
+        may_be_null(nulls, context, b),
     )
 }
 
@@ -235,8 +246,8 @@ fn ask_fitting(
 fn ask_cast(
     alloc: Global,
     bank: &mut Bank,
-    sight: &Sight<'_>,
-    scene: &Scene<'_>,
+    nulls: &NullContext<'_>,
+    context: &Context<'_>,
     parts: &mut Vec<Part>,
     place: Place,
     class: ClassId,
@@ -244,16 +255,16 @@ fn ask_cast(
     e: &Expr,
     m: &Meant,
 ) -> Result<(), AllocError>
-    requires sight { IsSight sight.now }
-    requires scene { HasScene bank.old scene.now }
+    requires nulls { IsNullContext nulls.now }
+    requires context { HasContext bank.old context.now }
     requires meant { HasMeant bank.old m.now }
     requires parts { HasParts bank.old parts.old.items }
-    ensures asked { OnOk result (AreParts bank.new parts.new.items (λ b. cast_asks (site_at sight.now) (known_at sight.now) (scene_at b scene.entry.now) place class.0 non_null (expr e.now) (parts_at b parts.old.items) (meant_at b m.now))) }
+    ensures asked { OnOk result (AreParts bank.new parts.new.items (λ b. cast_asks (type_context_at nulls.now) (known_at nulls.now) (context_at b context.entry.now) place class.0 non_null (expr e.now) (parts_at b parts.old.items) (meant_at b m.now))) }
     ensures grown { IsGrown bank.old bank.new }
 {
-    let may_be_null = may_be_null(sight, scene, e);
+    let may_be_null = may_be_null(nulls, context, e);
     ask_passing(alloc, bank, parts, place, non_null, may_be_null, m)?;
-    let checked = may_be_other(scene, e, class);
+    let checked = may_be_other(context, e, class);
     ask_fitting(alloc, bank, parts, place, class, checked, m)
 }
 
@@ -269,7 +280,7 @@ fn quantify(
 ) -> Result<Meant, AllocError>
     requires range { HasFormulas bank.old out.now }
     requires meant { HasMeant bank.old m.now }
-    ensures at { IfOk result (λ r. IsMeant bank.new r (λ b. spec.Says (scenes.quantified_over quantifier (formulas_at b out.now) (spec.said (meant_at b m.now))))) }
+    ensures at { IfOk result (λ r. IsMeant bank.new r (λ b. spec.Says (contexts.quantified_over quantifier (formulas_at b out.now) (spec.said (meant_at b m.now))))) }
     ensures grown { IsGrown bank.old bank.new }
 {
     let f = said(alloc, bank, m)?;
@@ -292,8 +303,8 @@ fn of_member(
     requires parts { HasParts bank.old parts.old.items }
     requires list { HasParts bank.old list.now }
     ensures expressed { IfOk result (λ r. Expressed bank.new r parts.new.items
-        (λ b. spec.Says (scenes.quantified_over quantifier (formulas_at b out.now) (spec.said (meant_at b m.now))))
-        (λ b. parts_at b parts.old.items ++ map (with_marked (scenes.for_each (formulas_at b out.now))) (parts_at b list.now))) }
+        (λ b. spec.Says (contexts.quantified_over quantifier (formulas_at b out.now) (spec.said (meant_at b m.now))))
+        (λ b. parts_at b parts.old.items ++ map (with_marked (contexts.for_each (formulas_at b out.now))) (parts_at b list.now))) }
     ensures grown { IsGrown bank.old bank.new }
 {
     add_for_each(alloc, bank, parts, list, out)?;
@@ -307,63 +318,64 @@ fn of_member(
 pub fn express(
     alloc: Global,
     bank: &mut Bank,
-    sight: &Sight<'_>,
-    scene: &Scene<'_>,
+    nulls: &NullContext<'_>,
+    context: &Context<'_>,
     parts: &mut Vec<Part>,
     e: &Expr,
 ) -> Result<Meant, AllocError>
-    requires sight { IsSight sight.now }
-    requires scene { HasScene bank.old scene.now }
+    requires nulls { IsNullContext nulls.now }
+    requires context { HasContext bank.old context.now }
     requires parts { HasParts bank.old parts.old.items }
-    ensures expressed { IfOk result (λ m. Reads bank.new m parts.new.items parts.old.items (expr e.now) sight.now scene.entry.now) }
+    ensures expressed { IfOk result (λ m. Reads bank.new m parts.new.items parts.old.items (expr e.now) nulls.now context.entry.now) }
     ensures grown { IsGrown bank.old bank.new }
 {
     match e {
         Expr::Int(_, n) => whole(bank, *n),
         Expr::Bool(_, holds) => truth(bank, *holds),
         Expr::Null(_) => null(bank),
-        Expr::Local(_, x) => local(bank, scene, *x),
+        Expr::Local(_, x) => local(bank, context, *x),
         Expr::Iff(_, a, b) => {
-            let m = express(alloc, bank, sight, scene, parts, a)?;
-            behind(alloc, bank, sight, scene, parts, b, Two::Iff, m)
+            let m = express(alloc, bank, nulls, context, parts, a)?;
+            behind(alloc, bank, nulls, context, parts, b, Two::Iff, m)
         }
         Expr::Implies(_, a, b) => {
-            let m = express(alloc, bank, sight, scene, parts, a)?;
-            behind(alloc, bank, sight, scene, parts, b, Two::Implies, m)
+            let m = express(alloc, bank, nulls, context, parts, a)?;
+            behind(alloc, bank, nulls, context, parts, b, Two::Implies, m)
         }
         Expr::Chain(place, first, links) => {
-            let m = express(alloc, bank, sight, scene, parts, first)?;
-            chain(alloc, bank, sight, scene, parts, links, *place, first, m)
+            let m = express(alloc, bank, nulls, context, parts, first)?;
+            chain(alloc, bank, nulls, context, parts, links, *place, first, m)
         }
         Expr::Negate(place, a) => {
-            one(alloc, bank, sight, scene, parts, a, Single::Negate(*place))
+            let form = Single::Negate(*place);
+            one(alloc, bank, nulls, context, parts, a, form)
         }
-        Expr::Not(_, a) => one(alloc, bank, sight, scene, parts, a, Single::Not),
+        Expr::Not(_, a) => one(alloc, bank, nulls, context, parts, a, Single::Not),
         Expr::Cast(place, class, non_null, a) => {
             cast(
-                alloc, bank, sight, scene, parts, a, *place, *class, *non_null,
+                alloc, bank, nulls, context, parts, a, *place, *class, *non_null,
             )
         }
         Expr::Path(place, first, steps) => {
-            let m = express(alloc, bank, sight, scene, parts, first)?;
-            path(alloc, bank, sight, scene, parts, steps, *place, first, m)
+            let m = express(alloc, bank, nulls, context, parts, first)?;
+            path(alloc, bank, nulls, context, parts, steps, *place, first, m)
         }
-        Expr::Old(_, a) => old(alloc, bank, sight, scene, parts, a),
+        Expr::Old(_, a) => old(alloc, bank, nulls, context, parts, a),
         Expr::Quantified(_, quantifier, _, low, high, a) => {
-            let x = express(alloc, bank, sight, scene, parts, low)?;
-            let y = express(alloc, bank, sight, scene, parts, high)?;
-            quantifier_of(alloc, bank, sight, scene, parts, a, *quantifier, &x, &y)
+            let x = express(alloc, bank, nulls, context, parts, low)?;
+            let y = express(alloc, bank, nulls, context, parts, high)?;
+            quantifier_of(alloc, bank, nulls, context, parts, a, *quantifier, &x, &y)
         }
         Expr::State(place, word, a) => {
-            let form = state_form(sight, scene, *place, *word, a);
-            one(alloc, bank, sight, scene, parts, a, form)
+            let form = state_form(nulls, context, *place, *word, a);
+            one(alloc, bank, nulls, context, parts, a, form)
         }
         Expr::Owners(place, test, a, b) => {
-            let form = owners_form(sight, scene, *place, *test, a, b);
-            let m = express(alloc, bank, sight, scene, parts, a)?;
-            behind(alloc, bank, sight, scene, parts, b, form, m)
+            let form = owners_form(nulls, context, *place, *test, a, b);
+            let m = express(alloc, bank, nulls, context, parts, a)?;
+            behind(alloc, bank, nulls, context, parts, b, form, m)
         }
-        Expr::Default(_, condition) => default_met(alloc, bank, scene, *condition),
+        Expr::Default(_, condition) => default_met(alloc, bank, context, *condition),
     }
 }
 
@@ -372,22 +384,22 @@ pub fn express(
 fn one(
     alloc: Global,
     bank: &mut Bank,
-    sight: &Sight<'_>,
-    scene: &Scene<'_>,
+    nulls: &NullContext<'_>,
+    context: &Context<'_>,
     parts: &mut Vec<Part>,
     e: &Expr,
     form: Single,
 ) -> Result<Meant, AllocError>
-    requires sight { IsSight sight.now }
-    requires scene { HasScene bank.old scene.now }
+    requires nulls { IsNullContext nulls.now }
+    requires context { HasContext bank.old context.now }
     requires parts { HasParts bank.old parts.old.items }
     ensures expressed { IfOk result (λ r. Expressed bank.new r parts.new.items
-        (λ b. single_meant form (scene_at b scene.entry.now) (spec.meant (expr e.now) (scene_at b scene.entry.now)))
-        (λ b. parts_at b parts.old.items ++ single_asks form (marked (expr e.now) (site_at sight.now) (known_at sight.now) (scene_at b scene.entry.now)) (scene_at b scene.entry.now) (spec.meant (expr e.now) (scene_at b scene.entry.now)))) }
+        (λ b. single_meant form (context_at b context.entry.now) (spec.meant (expr e.now) (context_at b context.entry.now)))
+        (λ b. parts_at b parts.old.items ++ single_asks form (marked (expr e.now) (type_context_at nulls.now) (known_at nulls.now) (context_at b context.entry.now)) (context_at b context.entry.now) (spec.meant (expr e.now) (context_at b context.entry.now)))) }
     ensures grown { IsGrown bank.old bank.new }
 {
-    let m = express(alloc, bank, sight, scene, parts, e)?;
-    of_single(alloc, bank, scene, parts, form, &m)
+    let m = express(alloc, bank, nulls, context, parts, e)?;
+    of_single(alloc, bank, context, parts, form, &m)
 }
 
 // A form of an operand that means this and a second operand.
@@ -395,25 +407,25 @@ fn one(
 fn behind(
     alloc: Global,
     bank: &mut Bank,
-    sight: &Sight<'_>,
-    scene: &Scene<'_>,
+    nulls: &NullContext<'_>,
+    context: &Context<'_>,
     parts: &mut Vec<Part>,
     e: &Expr,
     form: Two,
     m: Meant,
 ) -> Result<Meant, AllocError>
-    requires sight { IsSight sight.now }
-    requires scene { HasScene bank.old scene.now }
+    requires nulls { IsNullContext nulls.now }
+    requires context { HasContext bank.old context.now }
     requires parts { HasParts bank.old parts.old.items }
     requires meant { HasMeant bank.old m }
     ensures expressed { IfOk result (λ r. Expressed bank.new r parts.new.items
-        (λ b. two_meant form (scene_at b scene.entry.now) (meant_at b m) (spec.meant (expr e.now) (scene_at b scene.entry.now)))
-        (λ b. two_asks form (parts_at b parts.old.items) (marked (expr e.now) (site_at sight.now) (known_at sight.now) (scene_at b scene.entry.now)) (scene_at b scene.entry.now) (meant_at b m) (spec.meant (expr e.now) (scene_at b scene.entry.now)))) }
+        (λ b. two_meant form (context_at b context.entry.now) (meant_at b m) (spec.meant (expr e.now) (context_at b context.entry.now)))
+        (λ b. two_asks form (parts_at b parts.old.items) (marked (expr e.now) (type_context_at nulls.now) (known_at nulls.now) (context_at b context.entry.now)) (context_at b context.entry.now) (meant_at b m) (spec.meant (expr e.now) (context_at b context.entry.now)))) }
     ensures grown { IsGrown bank.old bank.new }
 {
     let mut list = Vec::new(alloc);
-    let n = express(alloc, bank, sight, scene, &mut list, e)?;
-    of_two(alloc, bank, scene, parts, &list, form, m, &n)
+    let n = express(alloc, bank, nulls, context, &mut list, e)?;
+    of_two(alloc, bank, context, parts, &list, form, m, &n)
 }
 
 // An operation behind the front of a chain, which tells this and means this.
@@ -421,8 +433,8 @@ fn behind(
 fn operation(
     alloc: Global,
     bank: &mut Bank,
-    sight: &Sight<'_>,
-    scene: &Scene<'_>,
+    nulls: &NullContext<'_>,
+    context: &Context<'_>,
     parts: &mut Vec<Part>,
     e: &Expr,
     place: Place,
@@ -431,28 +443,28 @@ fn operation(
     told: &FrontTold,
     m: Meant,
 ) -> Result<Meant, AllocError>
-    requires sight { IsSight sight.now }
-    requires scene { HasScene bank.old scene.now }
+    requires nulls { IsNullContext nulls.now }
+    requires context { HasContext bank.old context.now }
     requires parts { HasParts bank.old parts.old.items }
     requires meant { HasMeant bank.old m }
     ensures expressed { (t : ExprTree) → TellsFront told.now t → IfOk result (λ r. Expressed bank.new r parts.new.items
-        (λ b. spec.operated operator bools (meant_at b m) (spec.meant (expr e.now) (scene_at b scene.entry.now)))
-        (λ b. two_asks (two.Operation place operator bools) (parts_at b parts.old.items) (marked (expr e.now) (site_at sight.now) (rules.known_right operator t (known_at sight.now)) (scene_at b scene.entry.now)) (scene_at b scene.entry.now) (meant_at b m) (spec.meant (expr e.now) (scene_at b scene.entry.now)))) }
+        (λ b. spec.operated operator bools (meant_at b m) (spec.meant (expr e.now) (context_at b context.entry.now)))
+        (λ b. two_asks (two.Operation place operator bools) (parts_at b parts.old.items) (marked (expr e.now) (type_context_at nulls.now) (rules.known_right operator t (known_at nulls.now)) (context_at b context.entry.now)) (context_at b context.entry.now) (meant_at b m) (spec.meant (expr e.now) (context_at b context.entry.now)))) }
     ensures grown { IsGrown bank.old bank.new }
 {
-    let tests = (&*told).on_right(operator, &*sight.tests);
-    let site = Site {
-        classes: &*sight.site.classes,
-        types: &*sight.site.types,
-        constructs: sight.site.constructs,
+    let tests = (&*told).on_right(operator, &*nulls.tests);
+    let typing = TypeContext {
+        classes: &*nulls.typing.classes,
+        types: &*nulls.typing.types,
+        constructs: nulls.typing.constructs,
     };
-    let inner = Sight {
-        site,
-        known: &*sight.known,
+    let inner = NullContext {
+        typing,
+        known: &*nulls.known,
         tests: &tests,
     };
     let form = Two::Operation(place, operator, bools);
-    behind(alloc, bank, &inner, scene, parts, e, form, m)
+    behind(alloc, bank, &inner, context, parts, e, form, m)
 }
 
 // A link behind the front of a chain, which tells this, means this and has this type.
@@ -460,8 +472,8 @@ fn operation(
 fn linked(
     alloc: Global,
     bank: &mut Bank,
-    sight: &Sight<'_>,
-    scene: &Scene<'_>,
+    nulls: &NullContext<'_>,
+    context: &Context<'_>,
     parts: &mut Vec<Part>,
     link: &Link,
     place: Place,
@@ -469,21 +481,21 @@ fn linked(
     ty: Option<Ty>,
     m: Meant,
 ) -> Result<Meant, AllocError>
-    requires sight { IsSight sight.now }
-    requires scene { HasScene bank.old scene.now }
-    requires front { (q : List PartValue) × (t : ExprTree) × Reads bank.old m parts.old.items q t sight.now scene.now }
-    ensures expressed { (q : List PartValue) (t : ExprTree) → Reads bank.old m parts.old.items q t sight.now scene.entry.now
+    requires nulls { IsNullContext nulls.now }
+    requires context { HasContext bank.old context.now }
+    requires front { (q : List PartValue) × (t : ExprTree) × Reads bank.old m parts.old.items q t nulls.now context.now }
+    ensures expressed { (q : List PartValue) (t : ExprTree) → Reads bank.old m parts.old.items q t nulls.now context.entry.now
         → TellsFront told.now t
-        → ty ≡ types.type_of (classes scene.entry.now.classes.now) scene.entry.now.types.items t
-        → IfOk result (λ r. Reads bank.new r parts.new.items q (link_behind link.now place t) sight.now scene.entry.now) }
+        → ty ≡ types.type_of (classes context.entry.now.classes.now) context.entry.now.types.items t
+        → IfOk result (λ r. Reads bank.new r parts.new.items q (link_behind link.now place t) nulls.now context.entry.now) }
     ensures grown { IsGrown bank.old bank.new }
 {
     match link {
         Link::Operation(operator, e) => operation(
             alloc,
             bank,
-            sight,
-            scene,
+            nulls,
+            context,
             parts,
             e,
             place,
@@ -492,8 +504,8 @@ fn linked(
             told,
             m,
         ),
-        Link::Is(class) => of_single(alloc, bank, scene, parts, Single::Is(*class), &m),
-        Link::As(class) => of_single(alloc, bank, scene, parts, Single::As(*class), &m),
+        Link::Is(class) => of_single(alloc, bank, context, parts, Single::Is(*class), &m),
+        Link::As(class) => of_single(alloc, bank, context, parts, Single::As(*class), &m),
     }
 }
 
@@ -502,29 +514,29 @@ fn linked(
 fn chain(
     alloc: Global,
     bank: &mut Bank,
-    sight: &Sight<'_>,
-    scene: &Scene<'_>,
+    nulls: &NullContext<'_>,
+    context: &Context<'_>,
     parts: &mut Vec<Part>,
     links: &[Link],
     place: Place,
     first: &Expr,
     m: Meant,
 ) -> Result<Meant, AllocError>
-    requires sight { IsSight sight.now }
-    requires scene { HasScene bank.old scene.now }
-    requires front { (q : List PartValue) × Reads bank.old m parts.old.items q (expr first.now) sight.now scene.now }
-    ensures expressed { (q : List PartValue) → Reads bank.old m parts.old.items q (expr first.now) sight.now scene.entry.now
-        → IfOk result (λ r. Reads bank.new r parts.new.items q (chain_front place (expr first.now) links.now) sight.now scene.entry.now) }
+    requires nulls { IsNullContext nulls.now }
+    requires context { HasContext bank.old context.now }
+    requires front { (q : List PartValue) × Reads bank.old m parts.old.items q (expr first.now) nulls.now context.now }
+    ensures expressed { (q : List PartValue) → Reads bank.old m parts.old.items q (expr first.now) nulls.now context.entry.now
+        → IfOk result (λ r. Reads bank.new r parts.new.items q (chain_front place (expr first.now) links.now) nulls.now context.entry.now) }
     ensures grown { IsGrown bank.old bank.new }
 {
     let mut front = m;
-    let mut ty = type_of(scene.classes, &scene.types, first);
+    let mut ty = type_of(context.classes, &context.types, first);
     let mut told = FrontTold::new(alloc, first)?;
     for link in links {
         front = linked(
-            alloc, bank, sight, scene, parts, link, place, &told, ty, front,
+            alloc, bank, nulls, context, parts, link, place, &told, ty, front,
         )?;
-        ty = link_type(scene.classes, &scene.types, ty, link);
+        ty = link_type(context.classes, &context.types, ty, link);
         told.add(link)?;
     }
     Ok(front)
@@ -535,8 +547,8 @@ fn chain(
 fn stepped(
     alloc: Global,
     bank: &mut Bank,
-    sight: &Sight<'_>,
-    scene: &Scene<'_>,
+    nulls: &NullContext<'_>,
+    context: &Context<'_>,
     parts: &mut Vec<Part>,
     step: &Step,
     place: Place,
@@ -544,28 +556,28 @@ fn stepped(
     ty: Option<Ty>,
     m: Meant,
 ) -> Result<Meant, AllocError>
-    requires sight { IsSight sight.now }
-    requires scene { HasScene bank.old scene.now }
-    requires front { (q : List PartValue) × (t : ExprTree) × Reads bank.old m parts.old.items q t sight.now scene.now }
-    ensures expressed { (q : List PartValue) (t : ExprTree) → Reads bank.old m parts.old.items q t sight.now scene.entry.now
-        → checked ≡ not (rules.is_never_null (site_at sight.now) (known_at sight.now) scene.entry.now.inside_old t)
-        → ty ≡ types.type_of (classes scene.entry.now.classes.now) scene.entry.now.types.items t
-        → IfOk result (λ r. Reads bank.new r parts.new.items q (step_behind step.now place t) sight.now scene.entry.now) }
+    requires nulls { IsNullContext nulls.now }
+    requires context { HasContext bank.old context.now }
+    requires front { (q : List PartValue) × (t : ExprTree) × Reads bank.old m parts.old.items q t nulls.now context.now }
+    ensures expressed { (q : List PartValue) (t : ExprTree) → Reads bank.old m parts.old.items q t nulls.now context.entry.now
+        → checked ≡ not (rules.is_never_null (type_context_at nulls.now) (known_at nulls.now) context.entry.now.inside_old t)
+        → ty ≡ types.type_of (classes context.entry.now.classes.now) context.entry.now.types.items t
+        → IfOk result (λ r. Reads bank.new r parts.new.items q (step_behind step.now place t) nulls.now context.entry.now) }
     ensures grown { IsGrown bank.old bank.new }
 {
     match step {
         Step::Field(field) => {
             let form = Single::Field(place, *field, checked);
-            of_single(alloc, bank, scene, parts, form, &m)
+            of_single(alloc, bank, context, parts, form, &m)
         }
         Step::Element(e) => {
-            let form = Two::Element(place, element_sort(scene, ty), checked);
-            behind(alloc, bank, sight, scene, parts, e, form, m)
+            let form = Two::Element(place, element_sort(context, ty), checked);
+            behind(alloc, bank, nulls, context, parts, e, form, m)
         }
         Step::Length => of_single(
             alloc,
             bank,
-            scene,
+            context,
             parts,
             Single::Length(place, checked),
             &m,
@@ -578,29 +590,29 @@ fn stepped(
 fn path(
     alloc: Global,
     bank: &mut Bank,
-    sight: &Sight<'_>,
-    scene: &Scene<'_>,
+    nulls: &NullContext<'_>,
+    context: &Context<'_>,
     parts: &mut Vec<Part>,
     steps: &[Step],
     place: Place,
     first: &Expr,
     m: Meant,
 ) -> Result<Meant, AllocError>
-    requires sight { IsSight sight.now }
-    requires scene { HasScene bank.old scene.now }
-    requires front { (q : List PartValue) × Reads bank.old m parts.old.items q (expr first.now) sight.now scene.now }
-    ensures expressed { (q : List PartValue) → Reads bank.old m parts.old.items q (expr first.now) sight.now scene.entry.now
-        → IfOk result (λ r. Reads bank.new r parts.new.items q (path_front place (expr first.now) steps.now) sight.now scene.entry.now) }
+    requires nulls { IsNullContext nulls.now }
+    requires context { HasContext bank.old context.now }
+    requires front { (q : List PartValue) × Reads bank.old m parts.old.items q (expr first.now) nulls.now context.now }
+    ensures expressed { (q : List PartValue) → Reads bank.old m parts.old.items q (expr first.now) nulls.now context.entry.now
+        → IfOk result (λ r. Reads bank.new r parts.new.items q (path_front place (expr first.now) steps.now) nulls.now context.entry.now) }
     ensures grown { IsGrown bank.old bank.new }
 {
     let mut front = m;
-    let mut ty = type_of(scene.classes, &scene.types, first);
+    let mut ty = type_of(context.classes, &context.types, first);
     for (i, step) in steps.iter().enumerate() {
-        let checked = front_may_be_null(sight, scene, first, &steps[..i]);
+        let checked = front_may_be_null(nulls, context, first, &steps[..i]);
         front = stepped(
-            alloc, bank, sight, scene, parts, step, place, checked, ty, front,
+            alloc, bank, nulls, context, parts, step, place, checked, ty, front,
         )?;
-        ty = step_type(scene.classes, &scene.types, ty, step);
+        ty = step_type(context.classes, &context.types, ty, step);
     }
     Ok(front)
 }
@@ -610,23 +622,23 @@ fn path(
 fn cast(
     alloc: Global,
     bank: &mut Bank,
-    sight: &Sight<'_>,
-    scene: &Scene<'_>,
+    nulls: &NullContext<'_>,
+    context: &Context<'_>,
     parts: &mut Vec<Part>,
     e: &Expr,
     place: Place,
     class: ClassId,
     non_null: bool,
 ) -> Result<Meant, AllocError>
-    requires sight { IsSight sight.now }
-    requires scene { HasScene bank.old scene.now }
+    requires nulls { IsNullContext nulls.now }
+    requires context { HasContext bank.old context.now }
     requires parts { HasParts bank.old parts.old.items }
-    ensures expressed { IfOk result (λ r. Reads bank.new r parts.new.items parts.old.items (CastExpr place class.0 non_null (expr e.now)) sight.now scene.entry.now) }
+    ensures expressed { IfOk result (λ r. Reads bank.new r parts.new.items parts.old.items (CastExpr place class.0 non_null (expr e.now)) nulls.now context.entry.now) }
     ensures grown { IsGrown bank.old bank.new }
 {
-    let m = express(alloc, bank, sight, scene, parts, e)?;
+    let m = express(alloc, bank, nulls, context, parts, e)?;
     ask_cast(
-        alloc, bank, sight, scene, parts, place, class, non_null, e, &m,
+        alloc, bank, nulls, context, parts, place, class, non_null, e, &m,
     )?;
     Ok(m)
 }
@@ -636,19 +648,19 @@ fn cast(
 fn old(
     alloc: Global,
     bank: &mut Bank,
-    sight: &Sight<'_>,
-    scene: &Scene<'_>,
+    nulls: &NullContext<'_>,
+    context: &Context<'_>,
     parts: &mut Vec<Part>,
     e: &Expr,
 ) -> Result<Meant, AllocError>
-    requires sight { IsSight sight.now }
-    requires scene { HasScene bank.old scene.now }
+    requires nulls { IsNullContext nulls.now }
+    requires context { HasContext bank.old context.now }
     requires parts { HasParts bank.old parts.old.items }
-    ensures expressed { (p : PlaceValue) → IfOk result (λ r. Reads bank.new r parts.new.items parts.old.items (OldExpr p (expr e.now)) sight.now scene.entry.now) }
+    ensures expressed { (p : PlaceValue) → IfOk result (λ r. Reads bank.new r parts.new.items parts.old.items (OldExpr p (expr e.now)) nulls.now context.entry.now) }
     ensures grown { IsGrown bank.old bank.new }
 {
-    let inner = at_entry(alloc, scene)?;
-    express(alloc, bank, sight, &inner, parts, e)
+    let inner = at_entry(alloc, context)?;
+    express(alloc, bank, nulls, &inner, parts, e)
 }
 
 // The member of a quantifier.
@@ -656,21 +668,21 @@ fn old(
 fn member(
     alloc: Global,
     bank: &mut Bank,
-    sight: &Sight<'_>,
-    scene: &Scene<'_>,
+    nulls: &NullContext<'_>,
+    context: &Context<'_>,
     parts: &mut Vec<Part>,
     e: &Expr,
 ) -> Result<Meant, AllocError>
-    requires sight { IsSight sight.now }
-    requires scene { HasScene bank.old scene.now }
+    requires nulls { IsNullContext nulls.now }
+    requires context { HasContext bank.old context.now }
     requires parts { HasParts bank.old parts.old.items }
     ensures expressed { IfOk result (λ r. Expressed bank.new r parts.new.items
-        (λ b. spec.meant (expr e.now) (spec.with_bound (scene_at b scene.entry.now)))
-        (λ b. parts_at b parts.old.items ++ marked (expr e.now) (site_at sight.now) (known_at sight.now) (spec.with_bound (scene_at b scene.entry.now)))) }
+        (λ b. spec.meant (expr e.now) (spec.with_bound (context_at b context.entry.now)))
+        (λ b. parts_at b parts.old.items ++ marked (expr e.now) (type_context_at nulls.now) (known_at nulls.now) (spec.with_bound (context_at b context.entry.now)))) }
     ensures grown { IsGrown bank.old bank.new }
 {
-    let inner = with_bound(alloc, bank, scene)?;
-    express(alloc, bank, sight, &inner, parts, e)
+    let inner = with_bound(alloc, bank, context)?;
+    express(alloc, bank, nulls, &inner, parts, e)
 }
 
 // A quantifier, whose bounds mean this.
@@ -678,26 +690,26 @@ fn member(
 fn quantifier_of(
     alloc: Global,
     bank: &mut Bank,
-    sight: &Sight<'_>,
-    scene: &Scene<'_>,
+    nulls: &NullContext<'_>,
+    context: &Context<'_>,
     parts: &mut Vec<Part>,
     e: &Expr,
     quantifier: Quantifier,
     low: &Meant,
     high: &Meant,
 ) -> Result<Meant, AllocError>
-    requires sight { IsSight sight.now }
-    requires scene { HasScene bank.old scene.now }
+    requires nulls { IsNullContext nulls.now }
+    requires context { HasContext bank.old context.now }
     requires parts { HasParts bank.old parts.old.items }
     requires low { HasMeant bank.old low.now }
     requires high { HasMeant bank.old high.now }
     ensures expressed { IfOk result (λ r. Expressed bank.new r parts.new.items
-        (λ b. spec.Says (spec.quantified_said (scene_at b scene.entry.now) quantifier (meant_at b low.now) (meant_at b high.now) (spec.said (spec.meant (expr e.now) (spec.with_bound (scene_at b scene.entry.now))))))
-        (λ b. parts_at b parts.old.items ++ map (with_marked (in_range (scene_at b scene.entry.now) (meant_at b low.now) (meant_at b high.now))) (marked (expr e.now) (site_at sight.now) (known_at sight.now) (spec.with_bound (scene_at b scene.entry.now))))) }
+        (λ b. spec.Says (spec.quantified_said (context_at b context.entry.now) quantifier (meant_at b low.now) (meant_at b high.now) (spec.said (spec.meant (expr e.now) (spec.with_bound (context_at b context.entry.now))))))
+        (λ b. parts_at b parts.old.items ++ map (with_marked (in_range (context_at b context.entry.now) (meant_at b low.now) (meant_at b high.now))) (marked (expr e.now) (type_context_at nulls.now) (known_at nulls.now) (spec.with_bound (context_at b context.entry.now))))) }
     ensures grown { IsGrown bank.old bank.new }
 {
-    let out = out_of_range(alloc, bank, scene, low, high)?;
+    let out = out_of_range(alloc, bank, context, low, high)?;
     let mut list = Vec::new(alloc);
-    let m = member(alloc, bank, sight, scene, &mut list, e)?;
+    let m = member(alloc, bank, nulls, context, &mut list, e)?;
     of_member(alloc, bank, parts, &list, quantifier, &out, &m)
 }

@@ -8,8 +8,8 @@ use Rattle.ss_delayed.proofs.ends.+walk.Given as goal
 
 abbrev pub invariant-walk_along-loop-statement : goal.invariant-walk_along-loop-statement
 invariant-walk_along-loop-statement l = record {
-  behind : walked_along (numbers_of l.site.numbers) (stmt_trees (map stmt_of (drop l.statement-index l.statements))) (known_of l.known)
-      ≡ walked_along (numbers_of l.site.numbers) (stmt_trees (map stmt_of l.statements)) (known_of l.fn.first);
-  noted : l.found.items ++ ended_along (unassigned_faults (typed l.site.program.now) l.site.class.0 l.site.end) (numbers_of l.site.numbers) (stmt_trees (map stmt_of (drop l.statement-index l.statements))) (known_of l.known)
-      ≡ l.fn.found.items ++ ended_along (unassigned_faults (typed l.site.program.now) l.site.class.0 l.site.end) (numbers_of l.site.numbers) (stmt_trees (map stmt_of l.statements)) (known_of l.fn.first);
+  behind : walked_along (numbers_of l.context.numbers) (stmt_trees (map stmt_of (drop l.statement-index l.statements))) (known_of l.known)
+      ≡ walked_along (numbers_of l.context.numbers) (stmt_trees (map stmt_of l.statements)) (known_of l.fn.first);
+  noted : l.found.items ++ ended_along (unassigned_faults (typed l.context.program.now) l.context.class.0 l.context.end) (numbers_of l.context.numbers) (stmt_trees (map stmt_of (drop l.statement-index l.statements))) (known_of l.known)
+      ≡ l.fn.found.items ++ ended_along (unassigned_faults (typed l.context.program.now) l.context.class.0 l.context.end) (numbers_of l.context.numbers) (stmt_trees (map stmt_of l.statements)) (known_of l.fn.first);
 }

@@ -5,9 +5,9 @@ use Rattle.ss_delayed.proofs.escapes.+uses.Goals as goal
 pub find_uses-returns-in_ok-find_in_links-in-Chain : goal.find_uses-returns-in_ok-find_in_links-in-Chain
 find_uses-returns-in_ok-find_in_links-in-Chain t c =
     let a = c.in-Chain in
-    chain_found (use_of c.args.allowed) a.field-0 a.first a.links c.args.e.now c.deref-in-Chain-2.result.now c.deref-in-Chain.result.now
-    c.args.found.now.items c.find_uses-in-Chain.new.found.items c.find_in_links.new.found.items
-    a.is c.deref-in-Chain.ensures c.deref-in-Chain-2.ensures.value c.in_ok-find_uses-in-Chain.ensures c.in_ok-find_in_links-in-Chain.ensures
+    chain_found (use_of c.args.allowed) a.field-0 a.first a.links c.args.e.now c.deref-in-Chain.result.now c.deref.result.now
+    c.args.found.now.items c.find_uses.new.found.items c.find_in_links.new.found.items
+    a.is c.deref.ensures c.deref-in-Chain.ensures.value c.in_ok-find_uses-in-Chain.ensures c.in_ok-find_in_links-in-Chain.ensures
 
 pub find_uses-returns-in_ok-find_in_steps-in-Path : goal.find_uses-returns-in_ok-find_in_steps-in-Path
 find_uses-returns-in_ok-find_in_steps-in-Path t c =
@@ -30,5 +30,5 @@ pub find_uses-returns-in_ok-find_in_each-in-Base : goal.find_uses-returns-in_ok-
 find_uses-returns-in_ok-find_in_each-in-Base t c =
     let a = c.in-Base in
     base_found (use_of c.args.allowed) a.place a.field-1 a.field-2 a.list c.args.e.now c.deref-in-Base.result.now
-    c.args.found.now.items c.push-in-Base.new.self.items c.find_in_each-in-Base.new.found.items
+    c.args.found.now.items c.push.new.self.items c.find_in_each.new.found.items
     a.is c.deref-in-Base.ensures.value c.in_ok-push-in-Base.ensures.items c.in_ok-find_in_each-in-Base.ensures

@@ -4,14 +4,14 @@ use Rattle.ss_typed.specs.View.{expr}
 use Rattle.ss_expand_rules.specs.Code.{after}
 use Rattle.ss_expand_rules.specs.Simple as simple
 use Rattle.ss_expand_expressions.specs.Sources.{stmts_of}
-use Rattle.ss_expand_lifting.specs.Settings.{setting_of}
+use Rattle.ss_expand_lifting.specs.Contexts.{context_of}
 use Rattle.ss_expand_lifting.proofs.Codes.{assign_is_behind}
 use Rattle.ss_expand_lifting.proofs.Statements.{kept_target}
 use Rattle.ss_expand_lifting.proofs.assignments.assign_behind.Goals as goal
 
 pub returns-in_ok-assign_settled-in-Some : goal.returns-in_ok-assign_settled-in-Some
 returns-in_ok-assign_settled-in-Some c =
-    let s = setting_of c.args.setting.now in
+    let s = context_of c.args.context.now in
     let e = expr c.args.e.now in
     let now = stmts_of c.settle.new.code.statements in
     let made = c.settle.new.made.items in
@@ -21,6 +21,6 @@ returns-in_ok-assign_settled-in-Some c =
 
 pub returns-in_ok-assign_settled-in-None : goal.returns-in_ok-assign_settled-in-None
 returns-in_ok-assign_settled-in-None c =
-    let s = setting_of c.args.setting.now in
+    let s = context_of c.args.context.now in
     assign_is_behind s (expr c.args.e.now) (stmts_of c.args.code.now.statements) _ _ _ (simple.settle s (expr c.args.target.now) c.args.made.now.items) _
     (kept_target (expr c.args.target.now) _ _ _ None _ c.in-None.is c.in_ok-kept.ensures) c.in_ok-assign_settled-in-None.ensures

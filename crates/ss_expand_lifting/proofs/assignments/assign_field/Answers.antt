@@ -5,12 +5,12 @@ use Rattle.ss_typed.specs.View.{expr}
 use Rattle.ss_expand_rules.specs.Code.{after}
 use Rattle.ss_expand_rules.specs.Simple as simple
 use Rattle.ss_expand_expressions.specs.Sources.{stmts_of}
-use Rattle.ss_expand_lifting.specs.Settings.{setting_of}
+use Rattle.ss_expand_lifting.specs.Contexts.{context_of}
 use Rattle.ss_expand_lifting.proofs.assignments.assign_field.Goals as goal
 
 pub returns : goal.returns
 returns c =
-    let s = setting_of c.args.setting.now in
+    let s = context_of c.args.context.now in
     let p = c.args.place in
     let before = stmts_of c.args.code.now.statements in
     let e = expr c.args.e.now in

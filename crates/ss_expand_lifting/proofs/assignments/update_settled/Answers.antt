@@ -6,12 +6,12 @@ use Rattle.ss_expand_rules.specs.Calls.{has_call}
 use Rattle.ss_expand_rules.specs.Code.{after}
 use Rattle.ss_expand_rules.specs.Simple as simple
 use Rattle.ss_expand_expressions.specs.Sources.{stmts_of}
-use Rattle.ss_expand_lifting.specs.Settings.{setting_of}
+use Rattle.ss_expand_lifting.specs.Contexts.{context_of}
 use Rattle.ss_expand_lifting.proofs.assignments.update_settled.Goals as goal
 
 pub returns : goal.returns
 returns c =
-    let s = setting_of c.args.setting.now in
+    let s = context_of c.args.context.now in
     let target = expr c.args.target.now in
     let e = expr c.args.e.now in
     let before = stmts_of c.args.code.now.statements in

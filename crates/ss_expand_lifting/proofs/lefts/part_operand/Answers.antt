@@ -2,7 +2,7 @@ use Rattle.std.proofs.Common.{◌≡◌, take, refl, ap, ◌∙◌}
 use Rattle.ss_typed.specs.View.{expr}
 use Rattle.ss_typed.specs.Parts.{stepped}
 use Rattle.ss_expand_expressions.specs.Sources.{stmts_of}
-use Rattle.ss_expand_lifting.specs.Settings.{setting_of}
+use Rattle.ss_expand_lifting.specs.Contexts.{context_of}
 use Rattle.ss_expand_lifting.proofs.Links.{stepped_split, steps_go_along, operand_along}
 use Rattle.ss_expand_lifting.proofs.lefts.part_operand.Goals as goal
 
@@ -10,7 +10,7 @@ pub returns : goal.returns
 returns c =
     let part = c.args.part in
     let p = part.place in
-    let s = setting_of c.args.setting.now in
+    let s = context_of c.args.context.now in
     let e = expr part.first.now in
     let steps = part.steps.now in
     let before = stmts_of c.args.code.now.statements in

@@ -10,7 +10,7 @@ use Rattle.ss_expand_expressions.specs.Parameters.{param_types}
 use Rattle.ss_typed.specs.Parts.{link_behind, linked, step_behind, stepped}
 use Rattle.ss_expand_expressions.specs.Sources.{stmts_of, source_of, lifted_behind, valued_behind, listed_behind}
 use Rattle.ss_expand_expressions.proofs.Shapes.{linked_next, stepped_next}
-use Rattle.ss_expand_lifting.specs.Settings.{setting_of}
+use Rattle.ss_expand_lifting.specs.Contexts.{context_of}
 use Rattle.ss_expand_lifting.specs.Operations.{test_of, values_of}
 use Rattle.ss_expand_lifting.proofs.Joins.{with_call, without_call, unlifted_behind, value_as_it_is, values_as_they_are, binary_kept, size_kept, size_plain, values_kept, values_plain, kept_any}
 use Rattle.ss_expand_lifting.proofs.Links.{link_next_calls, step_next_calls, link_place, step_place, step_lazy, operand_along, links_go_along, steps_go_along}
@@ -22,37 +22,37 @@ use Rattle.ss_expand_lifting.proofs.lifting.+lifting.Goals as goal
 pub lift-returns-in_ok-value-in-Iff : goal.lift-returns-in_ok-value-in-Iff
 lift-returns-in_ok-value-in-Iff t c = λ h.
     let a = c.in-Iff in
-    iff_lifts (setting_of c.args.setting.now) a.place a.a a.b c.args.e.now _ _ _ _ (stmts_of c.args.code.now.statements) _ _ _ _ _ c.args.made.now.items _ _ a.is
+    iff_lifts (context_of c.args.context.now) a.place a.a a.b c.args.e.now _ _ _ _ (stmts_of c.args.code.now.statements) _ _ _ _ _ c.args.made.now.items _ _ a.is
     c.deref.ensures c.deref-in-Iff.ensures c.any_object.ensures c.any_object-in-Iff.ensures
     c.in_ok-left-in-Iff.ensures c.in_ok-right-in-Iff.ensures c.in_ok-value-in-Iff.ensures
 
 pub lift-returns-in_ok-negated-in-Negate : goal.lift-returns-in_ok-negated-in-Negate
 lift-returns-in_ok-negated-in-Negate t c = λ h.
     let a = c.in-Negate in
-    negate_lifts (setting_of c.args.setting.now) a.place a.e c.args.e.now _ _ (stmts_of c.args.code.now.statements) _ _ _ c.args.made.now.items _ a.is
+    negate_lifts (context_of c.args.context.now) a.place a.e c.args.e.now _ _ (stmts_of c.args.code.now.statements) _ _ _ c.args.made.now.items _ a.is
     c.deref-in-Negate.ensures c.any_object-in-Negate.ensures c.in_ok-value-in-Negate.ensures c.in_ok-negated-in-Negate.ensures
 
 pub lift-returns-in_ok-negated-in-Not : goal.lift-returns-in_ok-negated-in-Not
 lift-returns-in_ok-negated-in-Not t c = λ h.
     let a = c.in-Not in
-    not_lifts (setting_of c.args.setting.now) a.place a.e c.args.e.now _ _ (stmts_of c.args.code.now.statements) _ _ _ c.args.made.now.items _ a.is
+    not_lifts (context_of c.args.context.now) a.place a.e c.args.e.now _ _ (stmts_of c.args.code.now.statements) _ _ _ c.args.made.now.items _ a.is
     c.deref-in-Not.ensures c.any_object-in-Not.ensures c.in_ok-value-in-Not.ensures c.in_ok-negated-in-Not.ensures
 
 pub lift-returns-in_ok-cast-in-Cast : goal.lift-returns-in_ok-cast-in-Cast
 lift-returns-in_ok-cast-in-Cast t c = λ h.
     let a = c.in-Cast in
-    cast_lifts (setting_of c.args.setting.now) a.place a.class a.non_null a.e c.args.e.now _ _ (stmts_of c.args.code.now.statements) _ _ _ c.args.made.now.items _ a.is
+    cast_lifts (context_of c.args.context.now) a.place a.class a.non_null a.e c.args.e.now _ _ (stmts_of c.args.code.now.statements) _ _ _ c.args.made.now.items _ a.is
     c.deref-in-Cast.ensures c.any_object-in-Cast.ensures c.in_ok-value-in-Cast.ensures c.in_ok-cast-in-Cast.ensures
 
 pub lift-returns-in_ok-size-in-NewArray : goal.lift-returns-in_ok-size-in-NewArray
 lift-returns-in_ok-size-in-NewArray t c = λ h.
     let a = c.in-NewArray in
-    new_array_lifts (setting_of c.args.setting.now) a.place a.class a.e c.args.e.now _ (stmts_of c.args.code.now.statements) _ _ c.args.made.now.items _ a.is
+    new_array_lifts (context_of c.args.context.now) a.place a.class a.e c.args.e.now _ (stmts_of c.args.code.now.statements) _ _ c.args.made.now.items _ a.is
     c.deref-in-NewArray.ensures c.in_ok-size-in-NewArray.ensures
 
 pub lift_kept-returns : goal.lift_kept-returns
 lift_kept-returns t c =
-    c.in_ok-value.ensures (setting_of c.args.setting.now) (typed.expr c.args.e.now) (stmts_of c.args.code.now.statements) c.args.made.now.items refl c.in_ok-operand.ensures
+    c.in_ok-value.ensures (context_of c.args.context.now) (typed.expr c.args.e.now) (stmts_of c.args.code.now.statements) c.args.made.now.items refl c.in_ok-operand.ensures
 
 pub lift_links-loop-link-preserved : goal.lift_links-loop-link-preserved
 lift_links-loop-link-preserved t c = λ e before types h g.
@@ -87,7 +87,7 @@ lift_link-returns t c = λ e before types h calls.
     let p = c.args.place in
     let link = c.args.link.now in
     record {
-      lifted = c.in_ok-source.ensures e before types h ∙ ap (lifted_behind before) (sym (with_call (setting_of c.args.setting.now) (link_behind link p e) types calls));
+      lifted = c.in_ok-source.ensures e before types h ∙ ap (lifted_behind before) (sym (with_call (context_of c.args.context.now) (link_behind link p e) types calls));
       place = sym (link_place link p e);
       ty = sym (c.link_type.ensures p e);
       calls = sym calls;
@@ -99,7 +99,7 @@ lift_step-returns t c = λ e before types h calls.
     let p = c.args.place in
     let step = c.args.step.now in
     record {
-      lifted = c.in_ok-source.ensures e before types h ∙ ap (lifted_behind before) (sym (with_call (setting_of c.args.setting.now) (step_behind step p e) types calls));
+      lifted = c.in_ok-source.ensures e before types h ∙ ap (lifted_behind before) (sym (with_call (context_of c.args.context.now) (step_behind step p e) types calls));
       place = sym (step_place step p e);
       ty = sym (c.step_type-ty.ensures p e (sym h.ty));
       calls = sym calls;
@@ -108,14 +108,14 @@ lift_step-returns t c = λ e before types h calls.
 
 pub lift_element-returns : goal.lift_element-returns
 lift_element-returns t c = λ e before types h.
-    let s = setting_of c.args.setting.now in
+    let s = context_of c.args.context.now in
     let i = typed.expr c.args.index.now in
     binary_kept (ElementExpr c.args.place) s e i _ _ before _ _ _ _ _ types _ _ c.any_object.ensures c.any_object-2.ensures
     (c.in_ok-array.ensures s e before types refl h) c.in_ok-index.ensures c.in_ok-value.ensures
 
 pub lift_call-returns : goal.lift_call-returns
 lift_call-returns t c = λ e ty before types h.
-    let s = setting_of c.args.setting.now in
+    let s = context_of c.args.context.now in
     let es = arguments (typed.exprs c.args.es.now) in
     call_lifts s c.args.place e c.args.method ty es _ _ _ _ before _ _ _ _ _ types _ _
     (c.class_of_type-class.ensures ∙ ap elab.class_of_type h.ty) (c.params_in-params.ensures ∙ ap lookups.param_types_in c.method_at.ensures)
@@ -124,7 +124,7 @@ lift_call-returns t c = λ e ty before types h.
 
 pub lift_lazily-returns : goal.lift_lazily-returns
 lift_lazily-returns t c =
-    let s = setting_of c.args.setting.now in
+    let s = context_of c.args.context.now in
     let b = typed.expr c.args.b.now in
     lazily_ends c.args.place b (test_of c.args.place c.args.holds) c.args.x (stmts_of c.args.code.now.statements) _ _ _ (LocalExpr c.args.place c.args.x) _ _ _ c.args.made.now.items _ (elab.right_side s b c.args.made.now.items)
     (c.in_ok-source.ensures ∙ ap (λ code. lifted_behind code (elab.right_side s b c.args.made.now.items)) c.new-inner.ensures)
@@ -132,66 +132,66 @@ lift_lazily-returns t c =
 
 pub arguments-returns : goal.arguments-returns
 arguments-returns t c =
-    c.in_ok-values.ensures ∙ ap (λ k. listed_behind (stmts_of c.args.code.now.statements) (values_of (setting_of c.args.setting.now) (param_types c.args.params.now) k (arguments (typed.exprs c.args.es.now)) c.args.made.now.items)) c.have_call.ensures
+    c.in_ok-values.ensures ∙ ap (λ k. listed_behind (stmts_of c.args.code.now.statements) (values_of (context_of c.args.context.now) (param_types c.args.params.now) k (arguments (typed.exprs c.args.es.now)) c.args.made.now.items)) c.have_call.ensures
 
 pub lift_all-loop-e-preserved : goal.lift_all-loop-e-preserved
 lift_all-loop-e-preserved t c =
-    argument_joins (setting_of c.args.setting.now) c.args.es.now c.loop-e.e-index c.e-item.result (param_types c.loop-e.rest.now) _ _ (stmts_of c.loop-e.code.statements) _ c.loop-e.values.items _ _ c.loop-e.made.items _
+    argument_joins (context_of c.args.context.now) c.args.es.now c.loop-e.e-index c.e-item.result (param_types c.loop-e.rest.now) _ _ (stmts_of c.loop-e.code.statements) _ c.loop-e.values.items _ _ c.loop-e.made.items _
     c.loop-e-test.true c.e-item.is c.first_type.ensures c.other_params-rest.ensures c.in_ok-push.ensures.items c.in_ok-value.ensures
     ∙ c.loop-e.invariant
 
 pub lift_all-returns : goal.lift_all-returns
 lift_all-returns t c =
-    arguments_join (setting_of c.args.setting.now) c.args.es.now c.loop-e.e-index (param_types c.args.params.now) (param_types c.loop-e.rest.now) (stmts_of c.args.code.now.statements) _ c.loop-e.values.items c.args.made.now.items _
+    arguments_join (context_of c.args.context.now) c.args.es.now c.loop-e.e-index (param_types c.args.params.now) (param_types c.loop-e.rest.now) (stmts_of c.args.code.now.statements) _ c.loop-e.values.items c.args.made.now.items _
     c.loop-e-test.false c.loop-e.invariant
 
 pub right_side-returns-in_ok-source : goal.right_side-returns-in_ok-source
 right_side-returns-in_ok-source t c =
     c.in_ok-source.ensures (sym c.has_call.ensures ∙ c.if-has_call.true)
-    ∙ ap (lifted_behind (stmts_of c.args.code.now.statements)) (sym (with_call (setting_of c.args.setting.now) (typed.expr c.args.e.now) c.args.made.now.items (sym c.has_call.ensures ∙ c.if-has_call.true)))
+    ∙ ap (lifted_behind (stmts_of c.args.code.now.statements)) (sym (with_call (context_of c.args.context.now) (typed.expr c.args.e.now) c.args.made.now.items (sym c.has_call.ensures ∙ c.if-has_call.true)))
 
 pub right_side-returns-in_ok-value : goal.right_side-returns-in_ok-value
 right_side-returns-in_ok-value t c =
     unlifted_behind (stmts_of c.args.code.now.statements) _ _ c.args.made.now.items c.in_ok-value.ensures
-    ∙ ap (lifted_behind (stmts_of c.args.code.now.statements)) (sym (without_call (setting_of c.args.setting.now) (typed.expr c.args.e.now) c.args.made.now.items (sym c.has_call.ensures ∙ c.if-has_call.false)))
+    ∙ ap (lifted_behind (stmts_of c.args.code.now.statements)) (sym (without_call (context_of c.args.context.now) (typed.expr c.args.e.now) c.args.made.now.items (sym c.has_call.ensures ∙ c.if-has_call.false)))
 
 pub lift_negated-returns-in_ok-negated : goal.lift_negated-returns-in_ok-negated
 lift_negated-returns-in_ok-negated t c =
-    negation_lifts (setting_of c.args.setting.now) (typed.expr c.args.a.now) (stmts_of c.args.code.now.statements) _ _ _ _ c.args.made.now.items _
+    negation_lifts (context_of c.args.context.now) (typed.expr c.args.a.now) (stmts_of c.args.code.now.statements) _ _ _ _ c.args.made.now.items _
     (sym c.has_call.ensures ∙ c.if-has_call.true) c.in_ok-value.ensures c.place_of.ensures c.in_ok-negated.ensures
 
 pub lift_negated-returns-in_ok-negated-2 : goal.lift_negated-returns-in_ok-negated-2
 lift_negated-returns-in_ok-negated-2 t c =
-    negation_stays (setting_of c.args.setting.now) (typed.expr c.args.a.now) (stmts_of c.args.code.now.statements) _ _ _ c.args.made.now.items
+    negation_stays (context_of c.args.context.now) (typed.expr c.args.a.now) (stmts_of c.args.code.now.statements) _ _ _ c.args.made.now.items
     (sym c.has_call.ensures ∙ c.if-has_call.false) c.in_ok-value-2.ensures c.place_of-else-has_call.ensures c.in_ok-negated-2.ensures
 
 pub lift_size-returns-in_ok-value : goal.lift_size-returns-in_ok-value
 lift_size-returns-in_ok-value t c =
-    c.in_ok-value.ensures ∙ kept_any (setting_of c.args.setting.now) _ (typed.expr c.args.e.now) (stmts_of c.args.code.now.statements) c.args.made.now.items c.any_object.ensures
-    ∙ ap (valued_behind (stmts_of c.args.code.now.statements)) (sym (size_kept (setting_of c.args.setting.now) (typed.expr c.args.e.now) c.args.made.now.items (sym c.has_call.ensures ∙ c.if-has_call.true)))
+    c.in_ok-value.ensures ∙ kept_any (context_of c.args.context.now) _ (typed.expr c.args.e.now) (stmts_of c.args.code.now.statements) c.args.made.now.items c.any_object.ensures
+    ∙ ap (valued_behind (stmts_of c.args.code.now.statements)) (sym (size_kept (context_of c.args.context.now) (typed.expr c.args.e.now) c.args.made.now.items (sym c.has_call.ensures ∙ c.if-has_call.true)))
 
 pub lift_size-returns-in_ok-value-2 : goal.lift_size-returns-in_ok-value-2
 lift_size-returns-in_ok-value-2 t c =
     value_as_it_is (stmts_of c.args.code.now.statements) _ _ c.args.made.now.items c.in_ok-value-2.ensures
-    ∙ ap (valued_behind (stmts_of c.args.code.now.statements)) (sym (size_plain (setting_of c.args.setting.now) (typed.expr c.args.e.now) c.args.made.now.items (sym c.has_call.ensures ∙ c.if-has_call.false)))
+    ∙ ap (valued_behind (stmts_of c.args.code.now.statements)) (sym (size_plain (context_of c.args.context.now) (typed.expr c.args.e.now) c.args.made.now.items (sym c.has_call.ensures ∙ c.if-has_call.false)))
 
 pub lift_values-returns-in_ok-values : goal.lift_values-returns-in_ok-values
 lift_values-returns-in_ok-values t c =
-    c.in_ok-values.ensures ∙ ap (listed_behind (stmts_of c.args.code.now.statements)) (sym (values_kept (setting_of c.args.setting.now) (param_types c.args.params.now) c.args.kept (arguments (typed.exprs c.args.es.now)) c.args.made.now.items c.if-kept.true))
+    c.in_ok-values.ensures ∙ ap (listed_behind (stmts_of c.args.code.now.statements)) (sym (values_kept (context_of c.args.context.now) (param_types c.args.params.now) c.args.kept (arguments (typed.exprs c.args.es.now)) c.args.made.now.items c.if-kept.true))
 
 pub lift_values-returns-in_ok-values-2 : goal.lift_values-returns-in_ok-values-2
 lift_values-returns-in_ok-values-2 t c =
     values_as_they_are (stmts_of c.args.code.now.statements) _ _ c.args.made.now.items c.in_ok-values-2.ensures
-    ∙ ap (listed_behind (stmts_of c.args.code.now.statements)) (sym (values_plain (setting_of c.args.setting.now) (param_types c.args.params.now) c.args.kept (arguments (typed.exprs c.args.es.now)) c.args.made.now.items c.if-kept.false))
+    ∙ ap (listed_behind (stmts_of c.args.code.now.statements)) (sym (values_plain (context_of c.args.context.now) (param_types c.args.params.now) c.args.kept (arguments (typed.exprs c.args.es.now)) c.args.made.now.items c.if-kept.false))
 
 pub lift_operation-returns-in_ok-source : goal.lift_operation-returns-in_ok-source
 lift_operation-returns-in_ok-source t c = λ e before types h.
-    operation_lifts_lazily (setting_of c.args.setting.now) c.args.place c.args.operator e (typed.expr c.args.b.now) before (stmts_of c.args.code.now.statements) _ (source_of c.args.operand.source) _ _ _ types c.args.made.now.items _ _ _
+    operation_lifts_lazily (context_of c.args.context.now) c.args.place c.args.operator e (typed.expr c.args.b.now) before (stmts_of c.args.code.now.statements) _ (source_of c.args.operand.source) _ _ _ types c.args.made.now.items _ _ _
     (sym c.is_lazy_operator.ensures ∙ c.if-is_lazy_operator.true) h.lifted h.place c.in_ok-x.ensures.number c.in_ok-x.ensures.kept c.is_and-holds.ensures c.in_ok-source.ensures
 
 pub lift_operation-returns-in_ok-value : goal.lift_operation-returns-in_ok-value
 lift_operation-returns-in_ok-value t c = λ e before types h.
-    let s = setting_of c.args.setting.now in
+    let s = context_of c.args.context.now in
     operation_lifts_strictly s c.args.place c.args.operator e (typed.expr c.args.b.now) _ _ before _ _ _ _ _ types _ _
     (sym c.is_lazy_operator.ensures ∙ c.if-is_lazy_operator.false) c.any_object.ensures c.any_object-else-is_lazy_operator.ensures
     (c.in_ok-left.ensures s e before types refl h) c.in_ok-right.ensures c.in_ok-value.ensures
@@ -199,25 +199,25 @@ lift_operation-returns-in_ok-value t c = λ e before types h.
 pub lift-returns-in_ok-source-in-Implies : goal.lift-returns-in_ok-source-in-Implies
 lift-returns-in_ok-source-in-Implies t c = λ h.
     let a = c.in-Implies in
-    implies_lifts (setting_of c.args.setting.now) a.place a.a a.b c.args.e.now _ _ _ _ (stmts_of c.args.code.now.statements) _ _ _ _ _ c.args.made.now.items _ _ _ a.is
+    implies_lifts (context_of c.args.context.now) a.place a.a a.b c.args.e.now _ _ _ _ (stmts_of c.args.code.now.statements) _ _ _ _ _ c.args.made.now.items _ _ _ a.is
     c.deref-in-Implies.ensures c.deref-in-Implies-2.ensures c.deref-in-Implies-3.ensures c.place_of.ensures c.in_ok-negated-in-Implies.ensures c.in_ok-x-in-Implies.ensures.number c.in_ok-x-in-Implies.ensures.kept c.in_ok-source-in-Implies.ensures
 
 pub lift-returns-in_ok-values-in-New : goal.lift-returns-in_ok-values-in-New
 lift-returns-in_ok-values-in-New t c = λ h.
     let a = c.in-New in
-    new_lifts (setting_of c.args.setting.now) a.place a.class a.es c.args.e.now _ _ (stmts_of c.args.code.now.statements) _ _ c.args.made.now.items _ a.is
+    new_lifts (context_of c.args.context.now) a.place a.class a.es c.args.e.now _ _ (stmts_of c.args.code.now.statements) _ _ c.args.made.now.items _ a.is
     c.deref-in-New.ensures.value (c.params_in-params.ensures ∙ ap lookups.param_types_in c.constructor_of.ensures) c.in_ok-values-in-New.ensures
 
 pub lift-returns-in_ok-callee-in-Static : goal.lift-returns-in_ok-callee-in-Static
 lift-returns-in_ok-callee-in-Static t c = λ h.
     let a = c.in-Static in
-    static_lifts (setting_of c.args.setting.now) a.place a.number a.field-2 a.es c.args.e.now _ _ _ (stmts_of c.args.code.now.statements) _ _ c.args.made.now.items _ a.is
+    static_lifts (context_of c.args.context.now) a.place a.number a.field-2 a.es c.args.e.now _ _ _ (stmts_of c.args.code.now.statements) _ _ c.args.made.now.items _ a.is
     c.deref-in-Static.ensures.value (c.params_in-params-in-Static.ensures ∙ ap lookups.param_types_in c.body_at.ensures) c.in_ok-callee-in-Static.ensures c.in_ok-values-in-Static.ensures
 
 pub lift-returns-in_ok-callee-in-Base : goal.lift-returns-in_ok-callee-in-Base
 lift-returns-in_ok-callee-in-Base t c = λ h.
     let a = c.in-Base in
-    base_lifts (setting_of c.args.setting.now) a.place a.method a.field-2 a.es c.args.e.now _ _ _ _ (stmts_of c.args.code.now.statements) _ _ c.args.made.now.items _ a.is
+    base_lifts (context_of c.args.context.now) a.place a.method a.field-2 a.es c.args.e.now _ _ _ _ (stmts_of c.args.code.now.statements) _ _ c.args.made.now.items _ a.is
     c.deref-in-Base.ensures.value c.above_of-above.ensures (c.params_in-params-in-Base.ensures ∙ ap lookups.param_types_in c.method_at.ensures) c.in_ok-callee-in-Base.ensures c.in_ok-values-in-Base.ensures
 
 pub lift-lift_links-requires : goal.lift-lift_links-requires
@@ -233,7 +233,7 @@ lift-lift_steps-requires t c =
 pub lift-returns-in_ok-whole-in-Chain : goal.lift-returns-in_ok-whole-in-Chain
 lift-returns-in_ok-whole-in-Chain t c = λ h.
     let a = c.in-Chain in
-    let s = setting_of c.args.setting.now in
+    let s = context_of c.args.context.now in
     let before = stmts_of c.args.code.now.statements in
     let types = c.args.made.now.items in
     let front = c.in_ok-front-in-Chain.ensures.front s _ before types _ _ refl c.in_ok-operand-in-Chain.ensures in
@@ -244,7 +244,7 @@ lift-returns-in_ok-whole-in-Chain t c = λ h.
 pub lift-returns-in_ok-whole-in-Path : goal.lift-returns-in_ok-whole-in-Path
 lift-returns-in_ok-whole-in-Path t c = λ h.
     let a = c.in-Path in
-    let s = setting_of c.args.setting.now in
+    let s = context_of c.args.context.now in
     let before = stmts_of c.args.code.now.statements in
     let types = c.args.made.now.items in
     let front = c.in_ok-front-in-Path.ensures.front s _ before types _ _ refl c.in_ok-operand-in-Path.ensures in
@@ -255,48 +255,48 @@ lift-returns-in_ok-whole-in-Path t c = λ h.
 pub lift_behind-returns-in_ok-source-in-Operation : goal.lift_behind-returns-in_ok-source-in-Operation
 lift_behind-returns-in_ok-source-in-Operation t c = λ e before types h.
     let a = c.in-Operation in
-    let s = setting_of c.args.setting.now in
+    let s = context_of c.args.context.now in
     let p = c.args.place in
     link_lifts s p e _ c.args.link.now _ before _ _ types _ a.is (operation_is a.operator a.b p e) (c.in_ok-source-in-Operation.ensures e before types h)
 
 pub lift_behind-returns-in_ok-source-in-Is : goal.lift_behind-returns-in_ok-source-in-Is
 lift_behind-returns-in_ok-source-in-Is t c = λ e before types h.
     let a = c.in-Is in
-    let s = setting_of c.args.setting.now in
+    let s = context_of c.args.context.now in
     let p = c.args.place in
     link_lifts s p e _ c.args.link.now _ before _ _ types _ a.is (is_is a.class p e) (c.in_ok-source-in-Is.ensures s e before types refl h)
 
 pub lift_behind-returns-in_ok-source-in-As : goal.lift_behind-returns-in_ok-source-in-As
 lift_behind-returns-in_ok-source-in-As t c = λ e before types h.
     let a = c.in-As in
-    let s = setting_of c.args.setting.now in
+    let s = context_of c.args.context.now in
     let p = c.args.place in
     link_lifts s p e _ c.args.link.now _ before _ _ types _ a.is (as_is a.class p e) (c.in_ok-source-in-As.ensures s e before types refl h)
 
 pub lift_onward-returns-in_ok-source-in-Field : goal.lift_onward-returns-in_ok-source-in-Field
 lift_onward-returns-in_ok-source-in-Field t c = λ e before types h.
     let a = c.in-Field in
-    let s = setting_of c.args.setting.now in
+    let s = context_of c.args.context.now in
     let p = c.args.place in
     step_lifts s p e _ c.args.step.now _ before _ _ types _ a.is (field_is a.field a.field-1 p e) (c.in_ok-source-in-Field.ensures s e a.field-1 before types refl h)
 
 pub lift_onward-returns-in_ok-source-in-Element : goal.lift_onward-returns-in_ok-source-in-Element
 lift_onward-returns-in_ok-source-in-Element t c = λ e before types h.
     let a = c.in-Element in
-    let s = setting_of c.args.setting.now in
+    let s = context_of c.args.context.now in
     let p = c.args.place in
     step_lifts s p e _ c.args.step.now _ before _ _ types _ a.is (element_is a.index p e) (c.in_ok-source-in-Element.ensures e before types h)
 
 pub lift_onward-returns-in_ok-source-in-Length : goal.lift_onward-returns-in_ok-source-in-Length
 lift_onward-returns-in_ok-source-in-Length t c = λ e before types h.
     let a = c.in-Length in
-    let s = setting_of c.args.setting.now in
+    let s = context_of c.args.context.now in
     let p = c.args.place in
     step_lifts s p e _ c.args.step.now _ before _ _ types _ a.is (length_is p e) (c.in_ok-source-in-Length.ensures s e before types refl h)
 
 pub lift_onward-returns-in_ok-source-in-Call : goal.lift_onward-returns-in_ok-source-in-Call
 lift_onward-returns-in_ok-source-in-Call t c = λ e before types h.
     let a = c.in-Call in
-    let s = setting_of c.args.setting.now in
+    let s = context_of c.args.context.now in
     let p = c.args.place in
     step_lifts s p e _ c.args.step.now _ before _ _ types _ a.is (call_is a.method a.field-1 a.es p e ∙ ap (λ xs. CallOf p e a.method a.field-1 (arguments (typed.exprs xs))) (sym c.deref.ensures.value)) (c.in_ok-source-in-Call.ensures e a.field-1 before types h)

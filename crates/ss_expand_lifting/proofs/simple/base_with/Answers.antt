@@ -8,21 +8,21 @@ use Rattle.ss_typed.specs.Lookups as lookups
 use Rattle.ss_expand_expressions.specs.Sources.{stmts_of, listed_behind}
 use Rattle.ss_expand_bodies.specs.Origins.{origin_of}
 use Rattle.ss_expand_bodies.proofs.ByClass.{listed_by_class}
-use Rattle.ss_expand_lifting.specs.Settings.{setting_of}
+use Rattle.ss_expand_lifting.specs.Contexts.{context_of}
 use Rattle.ss_expand_lifting.proofs.Statements.{base_behind}
 use Rattle.ss_expand_lifting.proofs.simple.base_with.Goals as goal
 
 pub number_among-requires : goal.number_among-requires
-number_among-requires c = record { by_class = listed_by_class (typed c.args.setting.now.program.now) (map origin_of c.args.setting.now.origins.now) c.args.setting.now.listed }
+number_among-requires c = record { by_class = listed_by_class (typed c.args.context.now.program.now) (map origin_of c.args.context.now.origins.now) c.args.context.now.listed }
 
 pub returns : goal.returns
 returns c =
-    let s = setting_of c.args.setting.now in
+    let s = context_of c.args.context.now in
     let t = c.args.above.0 in
     let before = stmts_of c.args.code.now.statements in
     let es = arguments (exprs c.args.es.now) in
     let kinds = c.args.made.now.items in
-    let listed = c.args.setting.now.listed in
+    let listed = c.args.context.now.listed in
     base_behind s c.args.place t _ before _ _ _ _ _ (arguments_of s (lookups.param_types_in (lookups.constructor_of s.program t)) es kinds)
     (c.in_ok-values.ensures ∙ ap (λ ts. listed_behind before (arguments_of s ts es kinds)) (c.params_in-params.ensures ∙ ap lookups.param_types_in c.constructor_of.ensures))
     (c.in_ok-number.ensures ∙ ap (λ os. unwrap_or (position (program.same_origin (program.Constructor t)) os) 0) listed)

@@ -4,13 +4,13 @@ use Rattle.ss_expand_rules.specs.Code.{after}
 use Rattle.ss_expand_rules.specs.Simple as simple
 use Rattle.ss_expand_expressions.specs.Sources.{stmts_of}
 use Rattle.ss_ast.proofs.Loops.{drop_item}
-use Rattle.ss_expand_lifting.specs.Settings.{setting_of}
+use Rattle.ss_expand_lifting.specs.Contexts.{context_of}
 use Rattle.ss_expand_lifting.proofs.Statements.{declared_next}
 use Rattle.ss_expand_lifting.proofs.simple.declare.Goals as goal
 
 pub loop-declarator-preserved : goal.loop-declarator-preserved
 loop-declarator-preserved c =
-    let s = setting_of c.args.setting.now in
+    let s = context_of c.args.context.now in
     let ds = c.args.declarators.now in
     let i = c.loop-declarator.declarator-index in
     let d = c.declarator-item.result in

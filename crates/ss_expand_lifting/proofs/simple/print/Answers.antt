@@ -5,7 +5,7 @@ use Rattle.ss_expand_rules.specs.Code.{after}
 use Rattle.ss_expand_rules.specs.Lifting as lifting
 use Rattle.ss_expand_rules.specs.Simple as simple
 use Rattle.ss_expand_expressions.specs.Sources.{stmts_of}
-use Rattle.ss_expand_lifting.specs.Settings.{setting_of}
+use Rattle.ss_expand_lifting.specs.Contexts.{context_of}
 use Rattle.ss_expand_lifting.proofs.Codes.{coded_as}
 use Rattle.ss_expand_lifting.proofs.Statements.{printed_behind}
 use Rattle.ss_expand_lifting.proofs.simple.print.Goals as goal
@@ -13,7 +13,7 @@ use Rattle.ss_expand_lifting.proofs.simple.print.Goals as goal
 pub returns-in_ok-add_print-in-Some : goal.returns-in_ok-add_print-in-Some
 returns-in_ok-add_print-in-Some c =
     let a = c.in-Some in
-    let s = setting_of c.args.setting.now in
+    let s = context_of c.args.context.now in
     let before = stmts_of c.args.code.now.statements in
     let kinds = c.args.made.now.items in
     printed_behind c.args.place c.args.line before _ _ _ _ (lifting.value s (expr a.e) kinds) c.in_ok-value-in-Some.ensures c.in_ok-add_print-in-Some.ensures
@@ -21,7 +21,7 @@ returns-in_ok-add_print-in-Some c =
 
 pub returns-in_ok-add_print-in-None : goal.returns-in_ok-add_print-in-None
 returns-in_ok-add_print-in-None c =
-    let s = setting_of c.args.setting.now in
+    let s = context_of c.args.context.now in
     let before = stmts_of c.args.code.now.statements in
     let kinds = c.args.made.now.items in
     ap (λ code. coded_as code kinds) c.in_ok-add_print-in-None.ensures

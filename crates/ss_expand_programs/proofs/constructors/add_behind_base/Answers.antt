@@ -5,13 +5,13 @@ use Rattle.ss_expand_rules.specs.Code.{after}
 use Rattle.ss_expand_rules.specs.Simple.{base_call}
 use Rattle.ss_expand_rules.specs.Statements.{stmts}
 use Rattle.ss_expand_expressions.specs.Sources.{stmts_of}
-use Rattle.ss_expand_lifting.specs.Settings.{setting_of}
+use Rattle.ss_expand_lifting.specs.Contexts.{context_of}
 use Rattle.ss_expand_programs.proofs.Codes.{one_then}
 use Rattle.ss_expand_programs.proofs.constructors.add_behind_base.Goals as goal
 
 pub returns-clause-coded : goal.returns-clause-coded
 returns-clause-coded c =
-    let s = setting_of c.args.setting.now in
+    let s = context_of c.args.context.now in
     let base = c.args.base.now in
     let rest = stmt_trees (map typed.stmt_of c.args.stmts.now) in
     let m0 = c.args.made.now.items in

@@ -7,13 +7,13 @@ use Rattle.ss_expand_rules.specs.Constructors.{before_all, base_alone}
 use Rattle.ss_expand_rules.specs.Ends.{all_can_end}
 use Rattle.ss_expand_rules.specs.Statements.{stmts}
 use Rattle.ss_expand_expressions.specs.Sources.{stmts_of}
-use Rattle.ss_expand_lifting.specs.Settings.{setting_of}
+use Rattle.ss_expand_lifting.specs.Contexts.{context_of}
 use Rattle.ss_expand_programs.proofs.Lists.{ends_all, rest_of}
 use Rattle.ss_expand_programs.proofs.constructors.add_with_implied.Goals as goal
 
 pub returns-clause-coded : goal.returns-clause-coded
 returns-clause-coded c =
-    let s = setting_of c.args.setting.now in
+    let s = context_of c.args.context.now in
     let n = c.in_ok-length.length in
     let front = stmt_trees (map typed.stmt_of (take n c.args.stmts.now)) in
     c.in_ok-reached.ensures.coded
@@ -22,7 +22,7 @@ returns-clause-coded c =
 
 pub returns-clause-ends : goal.returns-clause-ends
 returns-clause-ends c =
-    let s = setting_of c.args.setting.now in
+    let s = context_of c.args.context.now in
     let n = c.in_ok-length.length in
     let front = stmt_trees (map typed.stmt_of (take n c.args.stmts.now)) in
     let others = stmt_trees (map typed.stmt_of (drop n c.args.stmts.now)) in

@@ -9,12 +9,12 @@ use Rattle.ss_expand_rules.specs.Lifting.{Lifted, Valued, right_side, in_local, 
 use Rattle.ss_expand_expressions.specs.Operands.{valued_as}
 use Rattle.ss_expand_expressions.specs.Sources.{stmts_of, lifted_by, valued_by, valued_behind}
 use Rattle.ss_expand_expressions.proofs.Behind.{in_local_behind}
-use Rattle.ss_expand_lifting.specs.Settings.{setting_of}
+use Rattle.ss_expand_lifting.specs.Contexts.{context_of}
 use Rattle.ss_expand_programs.proofs.exposing.put_object.Goals as goal
 
 pub returns-clause-kept : goal.returns-clause-kept
 returns-clause-kept c =
-    let s = setting_of c.args.setting.now in
+    let s = context_of c.args.context.now in
     let e = expr c.args.e.now in
     let before = stmts_of c.args.code.now.statements in
     let l = right_side s e c.args.made.now.items in
@@ -35,5 +35,5 @@ returns-clause-kept c =
 
 pub returns-clause-number : goal.returns-clause-number
 returns-clause-number c =
-    let s = setting_of c.args.setting.now in
+    let s = context_of c.args.context.now in
     c.in_ok-x.ensures ∙ ap (λ (ts : List Ty). next s.numbers ts) c.deref.ensures.value ∙ ap (λ (y : Lifted). next s.numbers y.made) c.in_ok-source.ensures

@@ -8,13 +8,13 @@ use Rattle.ss_expand_rules.specs.Constructors.{before_all, initializers_from}
 use Rattle.ss_expand_rules.specs.Statements.{stmts}
 use Rattle.ss_expand_expressions.specs.Sources.{stmts_of}
 use Rattle.ss_ast.proofs.Loops.{drop_item}
-use Rattle.ss_expand_lifting.specs.Settings.{setting_of}
+use Rattle.ss_expand_lifting.specs.Contexts.{context_of}
 use Rattle.ss_expand_programs.proofs.Lists.{initialize_all}
 use Rattle.ss_expand_programs.proofs.initializers.add_fields.Goals as goal
 
 pub loop-field-preserved : goal.loop-field-preserved
 loop-field-preserved c = λ more.
-    let s = setting_of c.args.setting.now in
+    let s = context_of c.args.context.now in
     let t = s.body.class in
     let fields = c.args.fields.now in
     let i = c.loop-field.field-index in

@@ -4,12 +4,12 @@ use Rattle.ss_core.specs.Tree as core
 use Rattle.ss_expand_rules.specs.Statements.{pack_of, pack_this}
 use Rattle.ss_expand_expressions.specs.Sources.{stmts_of}
 use Rattle.ss_expand_bodies.specs.Exposes.{opened_of}
-use Rattle.ss_expand_lifting.specs.Settings.{setting_of}
+use Rattle.ss_expand_lifting.specs.Contexts.{context_of}
 use Rattle.ss_expand_programs.proofs.leaving.add_all_packs.Goals as goal
 
 pub returns : goal.returns
 returns c =
-    let s = setting_of c.args.setting.now in
+    let s = context_of c.args.context.now in
     let before = stmts_of c.args.code.now.statements in
     let last = pack_this s c.args.place in
     c.in_ok-add_pack_this.ensures s refl

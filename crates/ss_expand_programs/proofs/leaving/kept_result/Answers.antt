@@ -7,12 +7,12 @@ use Rattle.ss_expand_rules.specs.Lifting.{Lifted, right_side, in_temporary}
 use Rattle.ss_expand_rules.specs.Statements.{result_type}
 use Rattle.ss_expand_expressions.specs.Sources.{stmts_of, lifted_by}
 use Rattle.ss_expand_expressions.proofs.Behind.{in_temporary_behind}
-use Rattle.ss_expand_lifting.specs.Settings.{setting_of}
+use Rattle.ss_expand_lifting.specs.Contexts.{context_of}
 use Rattle.ss_expand_programs.proofs.leaving.kept_result.Goals as goal
 
 pub returns : goal.returns
 returns c =
-    let s = setting_of c.args.setting.now in
+    let s = context_of c.args.context.now in
     let e = expr c.args.e.now in
     let before = stmts_of c.args.code.now.statements in
     let l = right_side s e c.args.made.now.items in

@@ -3,14 +3,14 @@ use Rattle.ss_core.specs.View as core
 use Rattle.ss_typed.specs.View.{expr}
 use Rattle.ss_expand_rules.specs.Code.{Coded, after}
 use Rattle.ss_expand_expressions.specs.Sources.{stmts_of}
-use Rattle.ss_expand_lifting.specs.Settings.{setting_of}
+use Rattle.ss_expand_lifting.specs.Contexts.{context_of}
 use Rattle.ss_expand_programs.specs.Returns.{returned_value}
 use Rattle.ss_expand_programs.proofs.Codes.{returned, left_with}
 use Rattle.ss_expand_programs.proofs.leaving.leave_with.Goals as goal
 
 pub returns : goal.returns
 returns c =
-    let s = setting_of c.args.setting.now in
+    let s = context_of c.args.context.now in
     let e = expr c.args.e.now in
     let before = stmts_of c.args.code.now.statements in
     let made = c.args.made.now.items in

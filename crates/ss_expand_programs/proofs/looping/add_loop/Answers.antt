@@ -17,7 +17,7 @@ returns c =
     let before = stmts_of c.args.code.now.statements in
     let with = λ (e : Expr) (es : List core.ExprTree) (xs : List core.ExposedTree). LoopStmt c.args.place es (code_of (stmts_of c.args.prelude.statements)) (expr e) (code_of (stmts_of c.args.turn.statements)) xs in
     let at = with c.args.test.value in
-    let es = all_plain (numbers_of c.args.setting.now.numbers.now) (exprs c.args.invariants.now) in
+    let es = all_plain (numbers_of c.args.context.now.numbers.now) (exprs c.args.invariants.now) in
     c.in_ok-add.ensures
     ∙ ap (λ (x : core.StmtTree). before ++ x ∷ [])
     (c.loop_of-made.ensures

@@ -10,14 +10,14 @@ use Rattle.ss_expand_rules.specs.Statements.{begin, loop_while, stmt}
 use Rattle.ss_expand_expressions.specs.Sources.{stmts_of}
 use Rattle.ss_ast.proofs.Loops.{drop_item}
 use Rattle.ss_expand_bodies.specs.Exposes.{opened_of}
-use Rattle.ss_expand_lifting.specs.Settings.{setting_of}
+use Rattle.ss_expand_lifting.specs.Contexts.{context_of}
 use Rattle.ss_expand_programs.specs.Loops.{tested, turn_of}
 use Rattle.ss_expand_programs.proofs.Codes.{coded, one_then, behind_new, value_behind_new, branched, looped, loop_tested, turned, exposed_by, stmts_where, next_stmt, ends_next}
 use Rattle.ss_expand_programs.proofs.statements.+statements.Goals as goal
 
 pub add_if-returns : goal.add_if-returns
 add_if-returns t c =
-    let s = setting_of c.args.setting.now in
+    let s = context_of c.args.context.now in
     let f = stmt s (typed.stmt_of c.args.first.now) in
     let m1 = c.boxed_value.new.made.items in
     let m2 = c.add_stmt.new.made.items in
@@ -31,7 +31,7 @@ add_if-returns t c =
 
 pub add_while-returns : goal.add_while-returns
 add_while-returns t c =
-    let s = setting_of c.args.setting.now in
+    let s = context_of c.args.context.now in
     let f = stmt s (typed.stmt_of c.args.turn.now) in
     let v = value s (typed.expr c.args.e.now) c.args.made.now.items in
     let m1 = c.boxed_value.new.made.items in
@@ -46,7 +46,7 @@ add_while-returns t c =
 
 pub add_turns-returns : goal.add_turns-returns
 add_turns-returns t c =
-    let s = setting_of c.args.setting.now in
+    let s = context_of c.args.context.now in
     let a = typed.stmt_of c.args.turn.now in
     let x = option_map typed.simple_of c.args.step.now in
     let e = option_map typed.expr c.args.test.now in
@@ -68,7 +68,7 @@ add_turns-returns t c =
 
 pub add_for-returns : goal.add_for-returns
 add_for-returns t c =
-    let s = setting_of c.args.setting.now in
+    let s = context_of c.args.context.now in
     let p = c.args.place in
     let i = option_map typed.init_of c.args.beginning.now in
     let e = option_map typed.expr c.args.test.now in
@@ -78,17 +78,17 @@ add_for-returns t c =
 
 pub add_expose-returns-clause-coded : goal.add_expose-returns-clause-coded
 add_expose-returns-clause-coded t c =
-    let s = setting_of c.args.setting.now in
+    let s = context_of c.args.context.now in
     exposed_by s c.args.place (typed.expr c.args.e.now) (option_map (λ u. u.0) c.args.class) (typed.block c.args.block.now)
     (stmts_of c.args.code.now.statements) (stmts_of c.open.new.code.statements) (stmts_of c.add_block.new.code.statements) (stmts_of c.close.new.code.statements)
-    c.args.made.now.items c.open.new.made.items c.add_block.new.made.items (opened_of c.in_ok-opened.opened) (setting_of c.in_ok-inner.inner) c.in_ok-reached.reached
+    c.args.made.now.items c.open.new.made.items c.add_block.new.made.items (opened_of c.in_ok-opened.opened) (context_of c.in_ok-inner.inner) c.in_ok-reached.reached
     c.in_ok-opened.ensures.coded c.in_ok-opened.ensures.opened
     c.in_ok-inner.ensures
     c.in_ok-reached.ensures.coded c.in_ok-reached.ensures.ends c.in_ok-close.ensures
 
 pub add_stmts-loop-stmt-preserved : goal.add_stmts-loop-stmt-preserved
 add_stmts-loop-stmt-preserved t c =
-    let s = setting_of c.args.setting.now in
+    let s = context_of c.args.context.now in
     let all = c.args.stmts.now in
     let i = c.loop-stmt.stmt-index in
     let x = c.stmt-item.result in

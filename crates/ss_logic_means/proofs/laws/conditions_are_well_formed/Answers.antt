@@ -1,5 +1,5 @@
 use Rattle.ss_logic_means.proofs.Everywhere.{all_locals, speaks_all}
-use Rattle.ss_logic_means.proofs.Scening.{sorted_among}
+use Rattle.ss_logic_means.proofs.Contexts.{sorted_among}
 use Rattle.ss_logic_means.proofs.Stated.{condition_formed}
 use Rattle.ss_logic_means.proofs.laws.conditions_are_well_formed.Goals as goal
 

@@ -1,5 +1,5 @@
 use Rattle.ss_logic_means.proofs.Everywhere.{all_locals, plainly_all}
-use Rattle.ss_logic_means.proofs.Scening.{sorted_among}
+use Rattle.ss_logic_means.proofs.Contexts.{sorted_among}
 use Rattle.ss_logic_means.proofs.Expressed.{expressed}
 use Rattle.ss_logic_means.proofs.laws.expressions_are_well_formed.Goals as goal
 

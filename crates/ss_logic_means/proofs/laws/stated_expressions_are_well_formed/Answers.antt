@@ -1,5 +1,5 @@
 use Rattle.ss_logic_means.proofs.Everywhere.{all_locals, speaks_all}
-use Rattle.ss_logic_means.proofs.Scening.{sorted_among}
+use Rattle.ss_logic_means.proofs.Contexts.{sorted_among}
 use Rattle.ss_logic_means.proofs.Stated.{stated_expressed}
 use Rattle.ss_logic_means.proofs.laws.stated_expressions_are_well_formed.Goals as goal
 

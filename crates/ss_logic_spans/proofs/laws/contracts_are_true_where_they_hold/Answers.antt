@@ -1,4 +1,4 @@
-use Rattle.ss_logic_spans.proofs.Scenes.{contract_means}
+use Rattle.ss_logic_spans.proofs.Contexts.{contract_means}
 use Rattle.ss_logic_spans.proofs.laws.contracts_are_true_where_they_hold.Goals as goal
 
 pub returns : goal.returns

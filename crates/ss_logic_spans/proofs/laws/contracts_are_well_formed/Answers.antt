@@ -1,4 +1,4 @@
-use Rattle.ss_logic_spans.proofs.Scenes.{contract_formed}
+use Rattle.ss_logic_spans.proofs.Contexts.{contract_formed}
 use Rattle.ss_logic_spans.proofs.laws.contracts_are_well_formed.Goals as goal
 
 pub returns : goal.returns

@@ -9,7 +9,7 @@ use Rattle.ss_nonnull_rules.specs.Faults.{inside, wanted_if, handed}
 use Rattle.ss_typed.specs.Parts.{link_behind, step_behind}
 use Rattle.ss_nonnull_facts.specs.Called.{called_types}
 use Rattle.ss_typed.proofs.Grouping.{as_is, call_is, element_is, field_is, is_is, length_is, operation_is}
-use Rattle.ss_nonnull.specs.Codes.{path_of, site_of, seen_of}
+use Rattle.ss_nonnull.specs.Codes.{path_of, context_of, seen_of}
 use Rattle.ss_nonnull.specs.Seen.{seen, plain}
 use Rattle.ss_nonnull_rules.specs.NonNull.{Known}
 use Rattle.ss_typed.specs.declared.expr.TypedExpr.{TypedExpr}
@@ -22,7 +22,7 @@ use Rattle.ss_nonnull.proofs.expr.+expr.Goals as goal
 pub check-returns-in_ok-longer-in-Chain : goal.check-returns-in_ok-longer-in-Chain
 check-returns-in_ok-longer-in-Chain t c =
     let a = c.in-Chain in
-    let w = chain_walked (site_of c.args.site.now) (path_of c.args.known.now) c.args.found.now.items _ _ _ _ a.place a.first a.links c.args.e.now _ _ a.is
+    let w = chain_walked (context_of c.args.context.now) (path_of c.args.known.now) c.args.found.now.items _ _ _ _ a.place a.first a.links c.args.e.now _ _ a.is
     c.deref-in-Chain.ensures c.deref-in-Chain-2.ensures.value c.in_ok-head-in-Chain.ensures.seen c.in_ok-head-in-Chain.ensures.noted
     c.in_ok-longer-in-Chain.ensures in
     record { seen = w.is; noted = w.noted }
@@ -30,7 +30,7 @@ check-returns-in_ok-longer-in-Chain t c =
 pub check-returns-in_ok-longer-in-Path : goal.check-returns-in_ok-longer-in-Path
 check-returns-in_ok-longer-in-Path t c =
     let a = c.in-Path in
-    let w = path_walked (site_of c.args.site.now) (path_of c.args.known.now) c.args.found.now.items _ _ _ _ a.place a.first a.steps c.args.e.now _ _ a.is
+    let w = path_walked (context_of c.args.context.now) (path_of c.args.known.now) c.args.found.now.items _ _ _ _ a.place a.first a.steps c.args.e.now _ _ a.is
     c.deref-in-Path.ensures c.deref-in-Path-2.ensures.value c.in_ok-head-in-Path.ensures.seen c.in_ok-head-in-Path.ensures.noted
     c.in_ok-longer-in-Path.ensures in
     record { seen = w.is; noted = w.noted }
@@ -47,41 +47,41 @@ check-check_steps-requires t c =
 
 pub check_wanted-returns-clause-noted : goal.check_wanted-returns-clause-noted
 check_wanted-returns-clause-noted t c =
-    wanted_noted (site_of c.args.site.now) (path_of c.args.known.now) (expr c.args.e.now) c.args.wanted _ c.args.found.now.items _ _
+    wanted_noted (context_of c.args.context.now) (path_of c.args.known.now) (expr c.args.e.now) c.args.wanted _ c.args.found.now.items _ _
     c.in_ok-head.ensures.seen c.in_ok-head.ensures.noted c.in_ok-note_lacking.ensures
 
 pub check_links-loop-link-init : goal.check_links-loop-link-init
-check_links-loop-link-init t c = no_parts link_behind (site_of c.args.site.now) (path_of c.args.known.now) c.args.found.now.items (seen_of c.args.first) c.args.place c.args.links.now
+check_links-loop-link-init t c = no_parts link_behind (context_of c.args.context.now) (path_of c.args.known.now) c.args.found.now.items (seen_of c.args.first) c.args.place c.args.links.now
 
 pub check_links-loop-link-preserved : goal.check_links-loop-link-preserved
 check_links-loop-link-preserved t c =
-    part_leads link_behind (site_of c.args.site.now) (path_of c.args.known.now) c.args.found.now.items _ _ (seen_of c.args.first) _ _ c.args.place c.args.links.now c.loop-link.link-index c.link-item.result
+    part_leads link_behind (context_of c.args.context.now) (path_of c.args.known.now) c.args.found.now.items _ _ (seen_of c.args.first) _ _ c.args.place c.args.links.now c.loop-link.link-index c.link-item.result
     c.loop-link-test.true c.link-item.is c.in_ok-head.ensures c.loop-link.invariant
 
 pub check_links-returns : goal.check_links-returns
 check_links-returns t c =
-    parts_led link_behind (site_of c.args.site.now) (path_of c.args.known.now) c.args.found.now.items _ (seen_of c.args.first) _ c.args.place c.args.links.now c.loop-link.link-index c.loop-link-test.false c.loop-link.invariant
+    parts_led link_behind (context_of c.args.context.now) (path_of c.args.known.now) c.args.found.now.items _ (seen_of c.args.first) _ c.args.place c.args.links.now c.loop-link.link-index c.loop-link-test.false c.loop-link.invariant
 
 pub check_steps-loop-step-init : goal.check_steps-loop-step-init
-check_steps-loop-step-init t c = no_parts step_behind (site_of c.args.site.now) (path_of c.args.known.now) c.args.found.now.items (seen_of c.args.first) c.args.place c.args.steps.now
+check_steps-loop-step-init t c = no_parts step_behind (context_of c.args.context.now) (path_of c.args.known.now) c.args.found.now.items (seen_of c.args.first) c.args.place c.args.steps.now
 
 pub check_steps-loop-step-preserved : goal.check_steps-loop-step-preserved
 check_steps-loop-step-preserved t c =
-    part_leads step_behind (site_of c.args.site.now) (path_of c.args.known.now) c.args.found.now.items _ _ (seen_of c.args.first) _ _ c.args.place c.args.steps.now c.loop-step.step-index c.step-item.result
+    part_leads step_behind (context_of c.args.context.now) (path_of c.args.known.now) c.args.found.now.items _ _ (seen_of c.args.first) _ _ c.args.place c.args.steps.now c.loop-step.step-index c.step-item.result
     c.loop-step-test.true c.step-item.is c.in_ok-head.ensures c.loop-step.invariant
 
 pub check_steps-returns : goal.check_steps-returns
 check_steps-returns t c =
-    parts_led step_behind (site_of c.args.site.now) (path_of c.args.known.now) c.args.found.now.items _ (seen_of c.args.first) _ c.args.place c.args.steps.now c.loop-step.step-index c.loop-step-test.false c.loop-step.invariant
+    parts_led step_behind (context_of c.args.context.now) (path_of c.args.known.now) c.args.found.now.items _ (seen_of c.args.first) _ c.args.place c.args.steps.now c.loop-step.step-index c.loop-step-test.false c.loop-step.invariant
 
 pub check_operation-returns : goal.check_operation-returns
 check_operation-returns t c =
-    operation_leads (site_of c.args.site.now) (path_of c.args.known.now) c.args.found.now.items _ (seen_of c.args.head) _ _ c.args.place c.args.operator (expr c.args.operand.now)
+    operation_leads (context_of c.args.context.now) (path_of c.args.known.now) c.args.found.now.items _ (seen_of c.args.head) _ _ c.args.place c.args.operator (expr c.args.operand.now)
     c.in_ok-right.ensures.seen c.in_ok-right.ensures.noted c.in_ok-whole.ensures
 
 pub check_right-returns-in_ok-right-in-Some : goal.check_right-returns-in_ok-right-in-Some
 check_right-returns-in_ok-right-in-Some t c =
-    let s = site_of c.args.site.now in
+    let s = context_of c.args.context.now in
     let k = path_of c.args.known.now in
     let b = expr c.args.operand.now in
     let v = seen_of c.args.head.now in
@@ -95,7 +95,7 @@ check_right-returns-in_ok-right-in-Some t c =
 
 pub check_right-returns-in_ok-right-in-None : goal.check_right-returns-in_ok-right-in-None
 check_right-returns-in_ok-right-in-None t c =
-    let s = site_of c.args.site.now in
+    let s = context_of c.args.context.now in
     let k = path_of c.args.known.now in
     let b = expr c.args.operand.now in
     let f = c.args.found.now.items in
@@ -109,14 +109,14 @@ pub check_link-returns-in_ok-longer-in-Operation : goal.check_link-returns-in_ok
 check_link-returns-in_ok-longer-in-Operation t c =
     let a = c.in-Operation in
     let p = c.args.place in
-    leads_by (site_of c.args.site.now) (path_of c.args.known.now) c.args.found.now.items _ (seen_of c.args.head) _ (λ (e : ExprTree). BinaryOf p a.operator e (expr a.right)) (link_behind c.args.link.now p)
+    leads_by (context_of c.args.context.now) (path_of c.args.known.now) c.args.found.now.items _ (seen_of c.args.head) _ (λ (e : ExprTree). BinaryOf p a.operator e (expr a.right)) (link_behind c.args.link.now p)
     (λ e. ap (λ (l : TypedLink). link_behind l p e) a.is ∙ operation_is a.operator a.right p e) c.in_ok-longer-in-Operation.ensures
 
 pub check_link-returns-in_ok-longer-in-Is : goal.check_link-returns-in_ok-longer-in-Is
 check_link-returns-in_ok-longer-in-Is t c =
     let a = c.in-Is in
     let p = c.args.place in
-    let s = site_of c.args.site.now in
+    let s = context_of c.args.context.now in
     let k = path_of c.args.known.now in
     leads_by s k c.args.found.now.items _ (seen_of c.args.head) _ (λ (e : ExprTree). IsOf p e a.field-0.0) (link_behind c.args.link.now p)
     (λ e. ap (λ (l : TypedLink). link_behind l p e) a.is ∙ is_is a.field-0 p e)
@@ -126,7 +126,7 @@ pub check_link-returns-in-As : goal.check_link-returns-in-As
 check_link-returns-in-As t c =
     let a = c.in-As in
     let p = c.args.place in
-    let s = site_of c.args.site.now in
+    let s = context_of c.args.context.now in
     let k = path_of c.args.known.now in
     leads_by s k c.args.found.now.items _ (seen_of c.args.head) _ (λ (e : ExprTree). AsOf p e a.class.0) (link_behind c.args.link.now p)
     (λ e. ap (λ (l : TypedLink). link_behind l p e) a.is ∙ as_is a.class p e)
@@ -136,7 +136,7 @@ pub check_step-returns-in-Field : goal.check_step-returns-in-Field
 check_step-returns-in-Field t c =
     let a = c.in-Field in
     let p = c.args.place in
-    let s = site_of c.args.site.now in
+    let s = context_of c.args.context.now in
     let k = path_of c.args.known.now in
     leads_by s k c.args.found.now.items _ (seen_of c.args.head) _ (λ (e : ExprTree). FieldOf p e a.field.0 a.ty) (step_behind c.args.step.now p)
     (λ e. ap (λ (l : TypedStep). step_behind l p e) a.is ∙ field_is a.field a.ty p e)
@@ -146,7 +146,7 @@ pub check_step-returns-in-Element : goal.check_step-returns-in-Element
 check_step-returns-in-Element t c =
     let a = c.in-Element in
     let p = c.args.place in
-    let s = site_of c.args.site.now in
+    let s = context_of c.args.context.now in
     let k = path_of c.args.known.now in
     leads_by s k c.args.found.now.items _ (seen_of c.args.head) _ (λ (e : ExprTree). ElementOf p e (expr a.index)) (step_behind c.args.step.now p)
     (λ e. ap (λ (l : TypedStep). step_behind l p e) a.is ∙ element_is a.index p e)
@@ -156,7 +156,7 @@ pub check_step-returns-in-Length : goal.check_step-returns-in-Length
 check_step-returns-in-Length t c =
     let a = c.in-Length in
     let p = c.args.place in
-    let s = site_of c.args.site.now in
+    let s = context_of c.args.context.now in
     let k = path_of c.args.known.now in
     leads_by s k c.args.found.now.items _ (seen_of c.args.head) _ (λ (e : ExprTree). LengthOf p e) (step_behind c.args.step.now p)
     (λ e. ap (λ (l : TypedStep). step_behind l p e) a.is ∙ length_is p e)
@@ -166,7 +166,7 @@ pub check_step-returns : goal.check_step-returns
 check_step-returns t c =
     let a = c.in-Call in
     let p = c.args.place in
-    let s = site_of c.args.site.now in
+    let s = context_of c.args.context.now in
     let k = path_of c.args.known.now in
     let es = arguments (map expr a.list.items) in
     leads_by s k c.args.found.now.items _ (seen_of c.args.head) _ (λ (e : ExprTree). CallOf p e a.method a.ty es) (step_behind c.args.step.now p)
@@ -176,7 +176,7 @@ check_step-returns t c =
 
 pub check_arguments-loop-i-preserved : goal.check_arguments-loop-i-preserved
 check_arguments-loop-i-preserved t c =
-    let s = site_of c.args.site.now in
+    let s = context_of c.args.context.now in
     let k = path_of c.args.known.now in
     let e = expr c.index-list-i.result in
     one_more s k (called_types c.args.entered) c.args.list.now c.loop-i.i c.index-list-i.result c.loop-i.found.items _ _
@@ -186,4 +186,4 @@ check_arguments-loop-i-preserved t c =
 
 pub check_arguments-returns : goal.check_arguments-returns
 check_arguments-returns t c =
-    all_done (site_of c.args.site.now) (path_of c.args.known.now) (called_types c.args.entered) c.args.list.now c.loop-i.i _ _ c.loop-i-test.false c.loop-i.invariant
+    all_done (context_of c.args.context.now) (path_of c.args.known.now) (called_types c.args.entered) c.args.list.now c.loop-i.i _ _ c.loop-i-test.false c.loop-i.invariant

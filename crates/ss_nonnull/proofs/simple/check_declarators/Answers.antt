@@ -1,10 +1,10 @@
-use Rattle.ss_nonnull.specs.Codes.{path_of, site_of}
+use Rattle.ss_nonnull.specs.Codes.{path_of, context_of}
 use Rattle.ss_nonnull.proofs.Points.{one_known, one_noted, all_known, all_noted}
 use Rattle.ss_nonnull.proofs.simple.check_declarators.Goals as goal
 
 pub loop-declared-preserved : goal.loop-declared-preserved
 loop-declared-preserved c =
-    let s = site_of c.args.site.now in
+    let s = context_of c.args.context.now in
     let l = c.loop-declared in
     record {
       known = one_known s c.args.declarators.now l.declared-index c.declared-item.result (path_of l.reached) _ _ c.loop-declared-test.true c.declared-item.is c.in_ok-reached.ensures.known l.invariant.known;
@@ -15,7 +15,7 @@ loop-declared-preserved c =
 
 pub returns : goal.returns
 returns c =
-    let s = site_of c.args.site.now in
+    let s = context_of c.args.context.now in
     let l = c.loop-declared in
     record {
       known = all_known s c.args.declarators.now l.declared-index (path_of l.reached) _ c.loop-declared-test.false l.invariant.known;

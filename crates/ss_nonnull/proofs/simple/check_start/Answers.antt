@@ -1,7 +1,7 @@
 use Rattle.std.proofs.Common.{ap, sym, ◌∙◌}
 use Rattle.std.specs.Prelude.{option_map}
 use Rattle.ss_typed.specs.View.{expr}
-use Rattle.ss_nonnull.specs.Codes.{path_of, site_of}
+use Rattle.ss_nonnull.specs.Codes.{path_of, context_of}
 use Rattle.ss_nonnull.specs.Paths.{starts_never}
 use Rattle.ss_nonnull.specs.Seen.{Seen}
 use Rattle.ss_nonnull.proofs.simple.check_start.Goals as goal
@@ -9,4 +9,4 @@ use Rattle.ss_nonnull.proofs.simple.check_start.Goals as goal
 pub returns-in_ok-head-in-Some-clause-never : goal.returns-in_ok-head-in-Some-clause-never
 returns-in_ok-head-in-Some-clause-never c =
     ap (λ (v : Seen). v.never_null) c.in_ok-head-in-Some.ensures.seen
-    ∙ sym (ap (λ o. starts_never (site_of c.args.site.now) (path_of c.args.known.now) (option_map expr o)) c.in-Some.is)
+    ∙ sym (ap (λ o. starts_never (context_of c.args.context.now) (path_of c.args.known.now) (option_map expr o)) c.in-Some.is)

@@ -8,7 +8,7 @@ use Rattle.ss_typed.specs.declared.stmt.TypedStmt.TheFolds.{fold_out-TypedBlock}
 use Rattle.ss_nonnull_rules.specs.Faults.{inside}
 use Rattle.ss_nonnull.proofs.Seeing.{joined}
 use Rattle.ss_paths.specs.Sets.{among}
-use Rattle.ss_nonnull.specs.Codes.{path_of, site_of, seen_of}
+use Rattle.ss_nonnull.specs.Codes.{path_of, context_of, seen_of}
 use Rattle.ss_nonnull.specs.Paths.{told, left_by}
 use Rattle.ss_nonnull.specs.Walks.{known_behind, known_behind_block, known_at_head, known_at_end, stmt_faults, block_faults}
 use Rattle.ss_nonnull.proofs.Shapes.{if_shape, else_shape, while_shape, for_shape, expose_shape}
@@ -18,7 +18,7 @@ use Rattle.ss_nonnull.proofs.stmts.+stmt.Goals as goal
 pub check_stmt-returns-in-While : goal.check_stmt-returns-in-While
 check_stmt-returns-in-While t c =
     let a = c.in-While in
-    let s = site_of c.args.site.now in
+    let s = context_of c.args.context.now in
     let k = path_of c.args.known in
     let f = c.args.found.now.items in
     let e = expr a.test in
@@ -44,7 +44,7 @@ check_stmt-returns-in-While t c =
 pub check_stmt-returns-in-For : goal.check_stmt-returns-in-For
 check_stmt-returns-in-For t c =
     let a = c.in-For in
-    let s = site_of c.args.site.now in
+    let s = context_of c.args.context.now in
     let k = path_of c.args.known in
     let f = c.args.found.now.items in
     let first = option_map init_of a.first in
@@ -76,7 +76,7 @@ check_stmt-returns-in-For t c =
 pub check_stmt-returns-in-If-clause-noted : goal.check_stmt-returns-in-If-clause-noted
 check_stmt-returns-in-If-clause-noted t c =
     let a = c.in-If in
-    let s = site_of c.args.site.now in
+    let s = context_of c.args.context.now in
     let k = path_of c.args.known in
     let f = c.args.found.now.items in
     let e = expr a.test in
@@ -91,7 +91,7 @@ check_stmt-returns-in-If-clause-noted t c =
 pub check_stmt-returns-in-Some-clause-noted : goal.check_stmt-returns-in-Some-clause-noted
 check_stmt-returns-in-Some-clause-noted t c =
     let a = c.in-If in
-    let s = site_of c.args.site.now in
+    let s = context_of c.args.context.now in
     let k = path_of c.args.known in
     let f = c.args.found.now.items in
     let e = expr a.test in
@@ -110,7 +110,7 @@ check_stmt-returns-in-Some-clause-noted t c =
 pub check_stmt-returns-in-Expose-clause-noted : goal.check_stmt-returns-in-Expose-clause-noted
 check_stmt-returns-in-Expose-clause-noted t c =
     let a = c.in-Expose in
-    let s = site_of c.args.site.now in
+    let s = context_of c.args.context.now in
     let k = path_of c.args.known in
     let f = c.args.found.now.items in
     joined f _ _ (inside s k (expr a.e)) (block_faults s (block a.inner) k) c.in_ok-check-in-Expose.ensures.noted c.in_ok-behind-in-Expose.ensures.noted
@@ -118,7 +118,7 @@ check_stmt-returns-in-Expose-clause-noted t c =
 
 pub check_block-returns-clause-known : goal.check_block-returns-clause-known
 check_block-returns-clause-known t c =
-    let s = site_of c.args.site.now in
+    let s = context_of c.args.context.now in
     let k = path_of c.args.known in
     let b = c.args.inner.now in
     c.in_ok-behind.ensures.known
@@ -128,7 +128,7 @@ check_block-returns-clause-known t c =
 
 pub check_all-loop-stmt-preserved : goal.check_all-loop-stmt-preserved
 check_all-loop-stmt-preserved t c =
-    let s = site_of c.args.site.now in
+    let s = context_of c.args.context.now in
     let l = c.loop-stmt in
     record {
       known = one_known s c.args.stmts.now l.stmt-index c.stmt-item.result (path_of l.reached) _ _ c.loop-stmt-test.true c.stmt-item.is c.in_ok-reached.ensures.known l.invariant.known;
@@ -139,7 +139,7 @@ check_all-loop-stmt-preserved t c =
 
 pub check_all-returns : goal.check_all-returns
 check_all-returns t c =
-    let s = site_of c.args.site.now in
+    let s = context_of c.args.context.now in
     let l = c.loop-stmt in
     record {
       known = all_known s c.args.stmts.now l.stmt-index (path_of l.reached) _ c.loop-stmt-test.false l.invariant.known;

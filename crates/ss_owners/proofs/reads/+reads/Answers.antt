@@ -1,3 +1,4 @@
+use Rattle.std.proofs.lemmas.Result.{on_ok_weaker}
 use Rattle.ss_owners.proofs.Reading.{chain_reached, chain_noted, step_leads, steps_led, quantified_noted}
 use Rattle.ss_owners.proofs.reads.+reads.Goals as goal
 
@@ -23,11 +24,11 @@ find_reads-returns-in_ok-find_in_links-in-Chain-clause-noted t c =
     c.args.found.now.items c.find_reads-in-Chain.new.found.items c.find_in_links.new.found.items
     a.is c.deref-in-Chain.ensures c.deref-in-Chain-2.ensures.value c.in_ok-head-in-Chain.ensures.noted c.in_ok-find_in_links-in-Chain.ensures
 
-pub find_reads-returns-in_ok-find_reads-in-Quantified-3-clause-noted : goal.find_reads-returns-in_ok-find_reads-in-Quantified-3-clause-noted
-find_reads-returns-in_ok-find_reads-in-Quantified-3-clause-noted t c =
+pub find_reads-returns-in_ok-find_reads-in-Quantified-2-clause-noted : goal.find_reads-returns-in_ok-find_reads-in-Quantified-2-clause-noted
+find_reads-returns-in_ok-find_reads-in-Quantified-2-clause-noted t c =
     let a = c.in-Quantified in
-    quantified_noted c.args.marks.now a.field-0 a.field-1 a.field-2 a.low a.high a.member c.args.e.now
+    on_ok_weaker _ (quantified_noted c.args.marks.now a.field-0 a.field-1 a.field-2 a.low a.high a.member c.args.e.now
     c.deref-in-Quantified.result.now c.deref-in-Quantified-2.result.now c.deref-in-Quantified-3.result.now
-    c.args.found.now.items c.find_reads-in-Quantified.new.found.items c.find_reads-in-Quantified-2.new.found.items c.find_reads-in-Quantified-3.new.found.items
+    c.args.found.now.items c.find_reads-in-Quantified.new.found.items c.find_reads-in-Quantified-2.new.found.items c.find_in_operand.new.found.items
     a.is c.deref-in-Quantified.ensures c.deref-in-Quantified-2.ensures c.deref-in-Quantified-3.ensures
-    c.in_ok-find_reads-in-Quantified.ensures.noted c.in_ok-find_reads-in-Quantified-2.ensures.noted c.in_ok-find_reads-in-Quantified-3.ensures.noted
+    c.in_ok-find_reads-in-Quantified.ensures.noted c.in_ok-find_reads-in-Quantified-2.ensures.noted) c.find_in_operand.ensures.noted

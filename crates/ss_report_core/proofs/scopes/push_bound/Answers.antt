@@ -3,13 +3,13 @@ use Rattle.std.proofs.lemmas.List.{length-append}
 use Rattle.ss_core.specs.View as view
 use Rattle.ss_report_core.specs.Names.{is_among, local_names}
 use Rattle.ss_report_core.specs.Tables.{texts}
-use Rattle.ss_report_core.specs.Scenes.{names_in}
+use Rattle.ss_report_core.specs.Contexts.{names_in}
 use Rattle.ss_report_core.proofs.NameTexts.{marked_is, written_as, table_length, length-texts, take-all}
 use Rattle.ss_report_core.proofs.scopes.push_bound.Goals as goal
 
 pub returns : goal.returns
 returns c =
-    let s = c.args.scene.now in
+    let s = c.args.context.now in
     let ls = local_names (view.body s.locals.now.body.now) in
     let bs = s.bound.now in
     let counted : c.len-count.result ≡ length ls = omega (arith, table_length s.locals.now.table.texts.items ls s.locals.now.written.texts) in

@@ -6,16 +6,16 @@ use Rattle.ss_report_core.specs.Tables.{texts}
 use Rattle.ss_report_core.proofs.NameTexts.{marked_is, written_as, bound_text, past_text, length-texts, length_front}
 use Rattle.ss_report_core.proofs.scopes.push_bound_at.Goals as goal
 
-pub returns-then-k-scene : goal.returns-then-k-scene
-returns-then-k-scene c =
-    let s = c.args.scene.now in
+pub returns-then-k-context : goal.returns-then-k-context
+returns-then-k-context c =
+    let s = c.args.context.now in
     let ls = local_names (view.body s.locals.now.body.now) in
     let past : length (texts s.bound.now) ≤ c.args.k = omega (arith, length-texts s.bound.now) in
     rw (past_text ls (texts s.bound.now) c.args.k c.args.number c.requires past) (sym (append-nil c.args.out.now.items))
 
 pub returns : goal.returns
 returns c =
-    let s = c.args.scene.now in
+    let s = c.args.context.now in
     let ls = local_names (view.body s.locals.now.body.now) in
     let bs = texts s.bound.now in
     let front = ls ++ take c.args.k bs in

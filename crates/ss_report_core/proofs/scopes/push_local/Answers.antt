@@ -7,7 +7,7 @@ use Rattle.ss_report_core.proofs.scopes.push_local.Goals as goal
 
 pub returns-then-x-count : goal.returns-then-x-count
 returns-then-x-count c =
-    let s = c.args.scene.now in
+    let s = c.args.context.now in
     let ls = local_names (view.body s.locals.now.body.now) in
     let inside : c.args.x < length ls = omega arith in
     written_as _ _ _ _ _ (c.text.ensures ∙ sym (own_text ls (texts s.bound.now) c.args.x inside)) c.push_bytes.ensures

@@ -3,7 +3,7 @@ use Rattle.std.proofs.lemmas.List.{append-nil}
 use Rattle.ss_core.specs.declared.stmt.Stmt.{Stmt}
 use Rattle.ss_core.specs.View as view
 use Rattle.ss_report_core.specs.Names.{local_names}
-use Rattle.ss_report_core.specs.Scenes.{core_of}
+use Rattle.ss_report_core.specs.Contexts.{core_of}
 use Rattle.ss_report_core.specs.Stmts.{code_text}
 use Rattle.ss_report_core.proofs.whole.push_statements.Goals as goal
 

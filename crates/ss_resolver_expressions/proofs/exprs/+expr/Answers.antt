@@ -4,7 +4,7 @@ use Rattle.ss_ast.specs.Expressions.{expr_tree}
 use Rattle.ss_tables_lookup.specs.Views.{type_of}
 use Rattle.ss_typed.specs.View as view
 use Rattle.ss_resolver_rules.specs.Expressions.{expr, class_named_by}
-use Rattle.ss_resolver_expressions.specs.Scenes.{env_of, part, part_view, numbers_of}
+use Rattle.ss_resolver_expressions.specs.Environments.{env_of, part, part_view, numbers_of}
 use Rattle.ss_ast.specs.Parts.{link_behind, postfix_behind}
 use Rattle.ss_resolver_expressions.proofs.Loops.{none_yet, one_more, drop_all}
 use Rattle.ss_ast.proofs.Falls.{links_fall, postfixes_fall}
@@ -15,77 +15,77 @@ pub walk-returns-in_ok-longer-in-Chain-clause-part : goal.walk-returns-in_ok-lon
 walk-returns-in_ok-longer-in-Chain-clause-part t c =
     let a = c.in-Chain in
     let b = c.in_ok-before-in-Chain in
-    walked.chain_walked c.args.scene.now c.args.around.now _ a.place a.first a.links c.args.e.now _ _ _ _ a.is c.deref-in-Chain.ensures c.deref-in-Chain-2.ensures.value b.ensures.kept b.ensures.part c.in_ok-longer-in-Chain.ensures.part
+    walked.chain_walked c.args.context.now c.args.names.now _ a.place a.first a.links c.args.e.now _ _ _ _ a.is c.deref-in-Chain.ensures c.deref-in-Chain-2.ensures.value b.ensures.kept b.ensures.part c.in_ok-longer-in-Chain.ensures.part
 
 pub walk-returns-in_ok-longer-in-Path-clause-part : goal.walk-returns-in_ok-longer-in-Path-clause-part
 walk-returns-in_ok-longer-in-Path-clause-part t c =
     let a = c.in-Path in
     let b = c.in_ok-before-in-Path in
-    walked.path_walked c.args.scene.now c.args.around.now _ a.place a.first a.postfixes c.args.e.now _ _ _ _ a.is c.deref.ensures c.deref-in-Path.ensures.value b.ensures.kept b.ensures.part c.in_ok-longer-in-Path.ensures.part
+    walked.path_walked c.args.context.now c.args.names.now _ a.place a.first a.postfixes c.args.e.now _ _ _ _ a.is c.deref.ensures c.deref-in-Path.ensures.value b.ensures.kept b.ensures.part c.in_ok-longer-in-Path.ensures.part
 
 pub walk-returns-in_ok-whole-in-Paren-clause-part : goal.walk-returns-in_ok-whole-in-Paren-clause-part
 walk-returns-in_ok-whole-in-Paren-clause-part t c =
     let a = c.in-Paren in
     let b = c.in_ok-inner-in-Paren in
-    walked.paren_walked c.args.scene.now c.args.around.now _ _ _ c.args.e.now _ _ _ a.is c.deref-in-Paren.ensures b.ensures.kept b.ensures.part c.in_ok-whole-in-Paren.ensures
+    walked.paren_walked c.args.context.now c.args.names.now _ _ _ c.args.e.now _ _ _ a.is c.deref-in-Paren.ensures b.ensures.kept b.ensures.part c.in_ok-whole-in-Paren.ensures
 
 pub walk-returns-in_ok-whole-in-Old-clause-part : goal.walk-returns-in_ok-whole-in-Old-clause-part
 walk-returns-in_ok-whole-in-Old-clause-part t c =
     let a = c.in-Old in
     let b = c.in_ok-inner-in-Old in
-    walked.old_walked c.args.scene.now c.args.around.now _ _ _ c.args.e.now _ _ _ a.is c.deref-in-Old.ensures b.ensures.kept b.ensures.part c.in_ok-whole-in-Old.ensures
+    walked.old_walked c.args.context.now c.args.names.now _ _ _ c.args.e.now _ _ _ a.is c.deref-in-Old.ensures b.ensures.kept b.ensures.part c.in_ok-whole-in-Old.ensures
 
 pub walk-returns-in_ok-whole-in-Negate-clause-part : goal.walk-returns-in_ok-whole-in-Negate-clause-part
 walk-returns-in_ok-whole-in-Negate-clause-part t c =
     let a = c.in-Negate in
-    walked.negate_walked c.args.scene.now c.args.around.now _ _ c.args.e.now _ _ _ a.is c.deref-in-Negate.ensures c.in_ok-inner-in-Negate.ensures.tree c.in_ok-whole-in-Negate.ensures
+    walked.negate_walked c.args.context.now c.args.names.now _ _ c.args.e.now _ _ _ a.is c.deref-in-Negate.ensures c.in_ok-inner-in-Negate.ensures.tree c.in_ok-whole-in-Negate.ensures
 
 pub walk-returns-in_ok-whole-in-Not-clause-part : goal.walk-returns-in_ok-whole-in-Not-clause-part
 walk-returns-in_ok-whole-in-Not-clause-part t c =
     let a = c.in-Not in
-    walked.not_walked c.args.scene.now c.args.around.now _ _ c.args.e.now _ _ _ a.is c.deref-in-Not.ensures c.in_ok-inner-in-Not.ensures.tree c.in_ok-whole-in-Not.ensures
+    walked.not_walked c.args.context.now c.args.names.now _ _ c.args.e.now _ _ _ a.is c.deref-in-Not.ensures c.in_ok-inner-in-Not.ensures.tree c.in_ok-whole-in-Not.ensures
 
 pub walk-returns-in_ok-whole-in-Iff-clause-part : goal.walk-returns-in_ok-whole-in-Iff-clause-part
 walk-returns-in_ok-whole-in-Iff-clause-part t c =
-    walked.iff_walked c.args.scene.now c.args.around.now _ _ _ _ c.args.e.now _ _ _ _ _ c.in-Iff.is c.deref-in-Iff.ensures c.deref-in-Iff-2.ensures c.in_ok-a-in-Iff.ensures.kept
+    walked.iff_walked c.args.context.now c.args.names.now _ _ _ _ c.args.e.now _ _ _ _ _ c.in-Iff.is c.deref-in-Iff.ensures c.deref-in-Iff-2.ensures c.in_ok-a-in-Iff.ensures.kept
     c.in_ok-a-in-Iff.ensures.tree c.in_ok-b-in-Iff.ensures.tree c.in_ok-whole-in-Iff.ensures
 
 pub walk-returns-in_ok-whole-in-Implies-clause-part : goal.walk-returns-in_ok-whole-in-Implies-clause-part
 walk-returns-in_ok-whole-in-Implies-clause-part t c =
-    walked.implies_walked c.args.scene.now c.args.around.now _ _ _ _ c.args.e.now _ _ _ _ _ c.in-Implies.is c.deref-in-Implies.ensures c.deref-in-Implies-2.ensures c.in_ok-a-in-Implies.ensures.kept
+    walked.implies_walked c.args.context.now c.args.names.now _ _ _ _ c.args.e.now _ _ _ _ _ c.in-Implies.is c.deref-in-Implies.ensures c.deref-in-Implies-2.ensures c.in_ok-a-in-Implies.ensures.kept
     c.in_ok-a-in-Implies.ensures.tree c.in_ok-b-in-Implies.ensures.tree c.in_ok-whole-in-Implies.ensures
 
 pub walk-returns-in_ok-whole-in-Cast-clause-part : goal.walk-returns-in_ok-whole-in-Cast-clause-part
 walk-returns-in_ok-whole-in-Cast-clause-part t c =
-    walked.cast_walked c.args.scene.now c.args.around.now _ _ _ c.args.e.now _ _ _ c.in-Cast.is c.deref-in-Cast.ensures c.in_ok-inner-in-Cast.ensures.tree c.in_ok-whole-in-Cast.ensures
+    walked.cast_walked c.args.context.now c.args.names.now _ _ _ c.args.e.now _ _ _ c.in-Cast.is c.deref-in-Cast.ensures c.in_ok-inner-in-Cast.ensures.tree c.in_ok-whole-in-Cast.ensures
 
 pub walk-returns-in_ok-whole-in-New-clause-part : goal.walk-returns-in_ok-whole-in-New-clause-part
 walk-returns-in_ok-whole-in-New-clause-part t c =
-    walked.new_walked c.args.scene.now c.args.around.now _ _ _ c.args.e.now _ _ _ c.in-New.is c.deref-in-New.ensures.value c.in_ok-values-in-New.ensures.trees c.in_ok-whole-in-New.ensures
+    walked.new_walked c.args.context.now c.args.names.now _ _ _ c.args.e.now _ _ _ c.in-New.is c.deref-in-New.ensures.value c.in_ok-values-in-New.ensures.trees c.in_ok-whole-in-New.ensures
 
 pub walk-returns-in_ok-whole-in-NewArray-clause-part : goal.walk-returns-in_ok-whole-in-NewArray-clause-part
 walk-returns-in_ok-whole-in-NewArray-clause-part t c =
-    walked.new_array_walked c.args.scene.now c.args.around.now _ _ _ _ c.args.e.now _ _ _ c.in-NewArray.is c.deref-in-NewArray.ensures c.in_ok-length-in-NewArray.ensures.tree c.in_ok-whole-in-NewArray.ensures
+    walked.new_array_walked c.args.context.now c.args.names.now _ _ _ _ c.args.e.now _ _ _ c.in-NewArray.is c.deref-in-NewArray.ensures c.in_ok-length-in-NewArray.ensures.tree c.in_ok-whole-in-NewArray.ensures
 
 pub walk-returns-in_ok-whole-in-Quantified-clause-part : goal.walk-returns-in_ok-whole-in-Quantified-clause-part
 walk-returns-in_ok-whole-in-Quantified-clause-part t c =
     let a = c.in-Quantified in
     let low = c.in_ok-low-in-Quantified.ensures in
     let high = c.in_ok-high-in-Quantified.ensures in
-    walked.quantified_walked c.args.scene.now c.args.around.now _ _ _ _ _ _ _ _ c.args.e.now _ _ _ _ _ _ _ a.is c.deref-in-Quantified.ensures c.deref-in-Quantified-2.ensures c.deref-in-Quantified-3.ensures low.kept high.kept
+    walked.quantified_walked c.args.context.now c.args.names.now _ _ _ _ _ _ _ _ c.args.e.now _ _ _ _ _ _ _ a.is c.deref-in-Quantified.ensures c.deref-in-Quantified-2.ensures c.deref-in-Quantified-3.ensures low.kept high.kept
     low.tree high.tree c.in_ok-member-in-Quantified.ensures.tree c.in_ok-whole-in-Quantified.ensures
 
 pub resolve_boxed-returns-clause-tree : goal.resolve_boxed-returns-clause-tree
 resolve_boxed-returns-clause-tree t c =
-    walked.resolved c.args.scene.now c.args.around.now _ c.args.e.now (part_view c.in_ok-whole.whole) _ c.in_ok-whole.ensures.kept c.in_ok-whole.ensures.part c.in_ok-tree.ensures
+    walked.resolved c.args.context.now c.args.names.now _ c.args.e.now (part_view c.in_ok-whole.whole) _ c.in_ok-whole.ensures.kept c.in_ok-whole.ensures.part c.in_ok-tree.ensures
 
 pub resolve_member-returns-clause-tree : goal.resolve_member-returns-clause-tree
 resolve_member-returns-clause-tree t c =
-    walked.member_resolved c.args.scene.now c.args.around.now _ c.args.name.now _ c.args.e.now _ c.as_str.ensures.value c.in_ok-enter_member.ensures c.in_ok-inner.ensures.tree
+    walked.member_resolved c.args.context.now c.args.names.now _ c.args.name.now _ c.args.e.now _ c.as_str.ensures.value c.in_ok-enter_member.ensures c.in_ok-inner.ensures.tree
 
 pub resolve_member-returns-clause-kept : goal.resolve_member-returns-clause-kept
 resolve_member-returns-clause-kept t c =
-    walked.member_kept c.args.around.now _ _ _ c.as_str.result.now c.in_ok-enter_member.ensures c.in_ok-inner.ensures.kept c.leave_member.ensures
+    walked.member_kept c.args.names.now _ _ _ c.as_str.result.now c.in_ok-enter_member.ensures c.in_ok-inner.ensures.kept c.leave_member.ensures
 
 pub walk_links-loop-link-init : goal.walk_links-loop-link-init
 walk_links-loop-link-init t c =
@@ -96,7 +96,7 @@ walk_links-loop-link-preserved t c =
     let l = c.loop-link in
     let b = c.in_ok-before in
     record {
-      part = walked.one_more_part link_behind c.args.scene.now c.args.around.now l.around c.args.place c.args.links.now l.link-index c.link-item.result (part_view c.args.first) (part_view l.before) (part_view b.before)
+      part = walked.one_more_part link_behind c.args.context.now c.args.names.now l.names c.args.place c.args.links.now l.link-index c.link-item.result (part_view c.args.first) (part_view l.before) (part_view b.before)
           l.invariant.kept c.loop-link-test.true c.link-item.is b.ensures.part l.invariant.part;
       kept = b.ensures.kept ∙ l.invariant.kept;
     }
@@ -105,7 +105,7 @@ pub walk_links-returns : goal.walk_links-returns
 walk_links-returns t c =
     let l = c.loop-link in
     record {
-      part = walked.all_parts link_behind c.args.scene.now c.args.around.now c.args.place c.args.links.now l.link-index (part_view c.args.first) (part_view l.before) c.loop-link-test.false l.invariant.part;
+      part = walked.all_parts link_behind c.args.context.now c.args.names.now c.args.place c.args.links.now l.link-index (part_view c.args.first) (part_view l.before) c.loop-link-test.false l.invariant.part;
       kept = l.invariant.kept;
     }
 
@@ -118,7 +118,7 @@ walk_postfixes-loop-postfix-preserved t c =
     let l = c.loop-postfix in
     let b = c.in_ok-before in
     record {
-      part = walked.one_more_part postfix_behind c.args.scene.now c.args.around.now l.around c.args.place c.args.postfixes.now l.postfix-index c.postfix-item.result (part_view c.args.first) (part_view l.before) (part_view b.before)
+      part = walked.one_more_part postfix_behind c.args.context.now c.args.names.now l.names c.args.place c.args.postfixes.now l.postfix-index c.postfix-item.result (part_view c.args.first) (part_view l.before) (part_view b.before)
           l.invariant.kept c.loop-postfix-test.true c.postfix-item.is b.ensures.part l.invariant.part;
       kept = b.ensures.kept ∙ l.invariant.kept;
     }
@@ -127,7 +127,7 @@ pub walk_postfixes-returns : goal.walk_postfixes-returns
 walk_postfixes-returns t c =
     let l = c.loop-postfix in
     record {
-      part = walked.all_parts postfix_behind c.args.scene.now c.args.around.now c.args.place c.args.postfixes.now l.postfix-index (part_view c.args.first) (part_view l.before) c.loop-postfix-test.false l.invariant.part;
+      part = walked.all_parts postfix_behind c.args.context.now c.args.names.now c.args.place c.args.postfixes.now l.postfix-index (part_view c.args.first) (part_view l.before) c.loop-postfix-test.false l.invariant.part;
       kept = l.invariant.kept;
     }
 
@@ -136,53 +136,53 @@ walk_link-returns-in_ok-whole-in-Operation-clause-part t c =
     λ u h.
     let a = c.in-Operation in
     let r = c.in_ok-right-in-Operation.ensures in
-    walked.operation_walked c.args.scene.now c.args.around.now _ c.args.place a.operator a.operand c.args.link.now _ (view.expr c.in_ok-whole-in-Operation.whole.value) (part_view c.args.before) (option_map type_of c.link_type-known.result) u a.is r.kept r.tree
-    c.in_ok-whole-in-Operation.ensures (c.link_type-known.ensures c.args.around.now.names c.args.place u) h
+    walked.operation_walked c.args.context.now c.args.names.now _ c.args.place a.operator a.operand c.args.link.now _ (view.expr c.in_ok-whole-in-Operation.whole.value) (part_view c.args.before) (option_map type_of c.link_type-known.result) u a.is r.kept r.tree
+    c.in_ok-whole-in-Operation.ensures (c.link_type-known.ensures c.args.names.now.names c.args.place u) h
 
 pub walk_link-returns-in_ok-whole-in-Is-clause-part : goal.walk_link-returns-in_ok-whole-in-Is-clause-part
 walk_link-returns-in_ok-whole-in-Is-clause-part t c =
     λ u h.
-    walked.is_walked c.args.scene.now c.args.around.now c.args.place c.in-Is.ty c.args.link.now (view.expr c.in_ok-whole-in-Is.whole.value) (option_map type_of c.link_type-known.result) u c.in-Is.is
-    (c.link_type-known.ensures c.args.around.now.names c.args.place u) (c.in_ok-whole-in-Is.ensures u h)
+    walked.is_walked c.args.context.now c.args.names.now c.args.place c.in-Is.ty c.args.link.now (view.expr c.in_ok-whole-in-Is.whole.value) (option_map type_of c.link_type-known.result) u c.in-Is.is
+    (c.link_type-known.ensures c.args.names.now.names c.args.place u) (c.in_ok-whole-in-Is.ensures u h)
 
 pub walk_link-returns-in_ok-whole-in-As-clause-part : goal.walk_link-returns-in_ok-whole-in-As-clause-part
 walk_link-returns-in_ok-whole-in-As-clause-part t c =
     λ u h.
-    walked.as_walked c.args.scene.now c.args.around.now c.args.place c.in-As.ty c.args.link.now (view.expr c.in_ok-whole-in-As.whole.value) (option_map type_of c.link_type-known.result) u c.in-As.is
-    (c.link_type-known.ensures c.args.around.now.names c.args.place u) (c.in_ok-whole-in-As.ensures u h)
+    walked.as_walked c.args.context.now c.args.names.now c.args.place c.in-As.ty c.args.link.now (view.expr c.in_ok-whole-in-As.whole.value) (option_map type_of c.link_type-known.result) u c.in-As.is
+    (c.link_type-known.ensures c.args.names.now.names c.args.place u) (c.in_ok-whole-in-As.ensures u h)
 
 pub walk_postfix-returns-in_ok-longer-in-Member-clause-part : goal.walk_postfix-returns-in_ok-longer-in-Member-clause-part
 walk_postfix-returns-in_ok-longer-in-Member-clause-part t c =
-    λ u h. walked.member_walked c.args.scene.now c.args.around.now c.args.place c.in-Member.name c.args.postfix.now _ u c.in-Member.is (c.in_ok-longer-in-Member.ensures u h)
+    λ u h. walked.member_walked c.args.context.now c.args.names.now c.args.place c.in-Member.name c.args.postfix.now _ u c.in-Member.is (c.in_ok-longer-in-Member.ensures u h)
 
 pub walk_postfix-returns-in_ok-longer-in-Element-clause-part : goal.walk_postfix-returns-in_ok-longer-in-Element-clause-part
 walk_postfix-returns-in_ok-longer-in-Element-clause-part t c =
     λ u h.
     let a = c.in-Element in
     let r = c.in_ok-index-in-Element.ensures in
-    walked.element_walked c.args.scene.now c.args.around.now _ c.args.place a.index c.args.postfix.now _ (part_view c.args.before) _ u a.is r.kept r.tree c.in_ok-longer-in-Element.ensures h
+    walked.element_walked c.args.context.now c.args.names.now _ c.args.place a.index c.args.postfix.now _ (part_view c.args.before) _ u a.is r.kept r.tree c.in_ok-longer-in-Element.ensures h
 
 pub walk_postfix-returns-in_ok-longer-in-Call-clause-part : goal.walk_postfix-returns-in_ok-longer-in-Call-clause-part
 walk_postfix-returns-in_ok-longer-in-Call-clause-part t c =
     λ u h.
     let a = c.in-Call in
     let g = c.in_ok-given-in-Call.ensures in
-    walked.call_walked c.args.scene.now c.args.around.now _ c.args.place a.written c.deref.result.now c.args.postfix.now _ _ (part_view c.args.before) _ u a.is c.deref.ensures.value g.kept g.values g.classes c.in_ok-longer-in-Call.ensures h
+    walked.call_walked c.args.context.now c.args.names.now _ c.args.place a.written c.deref.result.now c.args.postfix.now _ _ (part_view c.args.before) _ u a.is c.deref.ensures.value g.kept g.values g.classes c.in_ok-longer-in-Call.ensures h
 
 pub resolve_values-loop-argument-init : goal.resolve_values-loop-argument-init
 resolve_values-loop-argument-init t c =
     record {
-      trees = none_yet (expr (env_of c.args.scene.now c.args.around.now)) expr_tree (view.exprs c.new-values.result.items) c.args.written.now (ap view.exprs c.new-values.ensures.items);
+      trees = none_yet (expr (env_of c.args.context.now c.args.names.now)) expr_tree (view.exprs c.new-values.result.items) c.args.written.now (ap view.exprs c.new-values.ensures.items);
       kept = search rules;
     }
 
 pub resolve_values-loop-argument-preserved : goal.resolve_values-loop-argument-preserved
 resolve_values-loop-argument-preserved t c =
-    let s = c.args.scene.now in
+    let s = c.args.context.now in
     let l = c.loop-argument in
     let v = c.in_ok-value in
     record {
-      trees = one_more (λ (a : Expr). expr (env_of s c.args.around.now) (expr_tree a)) (view.exprs l.values.items) _ _ c.args.written.now l.argument-index c.argument-item.result (view.expr v.value.value)
+      trees = one_more (λ (a : Expr). expr (env_of s c.args.names.now) (expr_tree a)) (view.exprs l.values.items) _ _ c.args.written.now l.argument-index c.argument-item.result (view.expr v.value.value)
           c.loop-argument-test.true c.argument-item.is
           (v.ensures.tree ∙ ap (λ k. expr (env_of s k) (expr_tree c.argument-item.result)) l.invariant.kept)
           c.in_ok-add_value.ensures
@@ -194,22 +194,22 @@ pub resolve_values-returns : goal.resolve_values-returns
 resolve_values-returns t c =
     let l = c.loop-argument in
     record {
-      trees = drop_all (λ (a : Expr). expr (env_of c.args.scene.now c.args.around.now) (expr_tree a)) (view.exprs l.values.items) _ c.args.written.now l.argument-index c.loop-argument-test.false l.invariant.trees;
+      trees = drop_all (λ (a : Expr). expr (env_of c.args.context.now c.args.names.now) (expr_tree a)) (view.exprs l.values.items) _ c.args.written.now l.argument-index c.loop-argument-test.false l.invariant.trees;
       kept = l.invariant.kept;
     }
 
 pub resolve_given-loop-argument-init : goal.resolve_given-loop-argument-init
 resolve_given-loop-argument-init t c =
     record {
-      values = none_yet (expr (env_of c.args.scene.now c.args.around.now)) expr_tree (view.exprs c.new-values.result.items) c.args.written.now (ap view.exprs c.new-values.ensures.items);
-      classes = none_yet (class_named_by (env_of c.args.scene.now c.args.around.now)) expr_tree (numbers_of c.new-classes.result.items) c.args.written.now (ap numbers_of c.new-classes.ensures.items);
+      values = none_yet (expr (env_of c.args.context.now c.args.names.now)) expr_tree (view.exprs c.new-values.result.items) c.args.written.now (ap view.exprs c.new-values.ensures.items);
+      classes = none_yet (class_named_by (env_of c.args.context.now c.args.names.now)) expr_tree (numbers_of c.new-classes.result.items) c.args.written.now (ap numbers_of c.new-classes.ensures.items);
       kept = search rules;
     }
 
 pub resolve_given-loop-argument-preserved : goal.resolve_given-loop-argument-preserved
 resolve_given-loop-argument-preserved t c =
-    let s = c.args.scene.now in
-    let n = c.args.around.now in
+    let s = c.args.context.now in
+    let n = c.args.names.now in
     let l = c.loop-argument in
     let item = c.argument-item.result in
     let w = c.in_ok-part.ensures in
@@ -232,8 +232,8 @@ pub resolve_given-returns : goal.resolve_given-returns
 resolve_given-returns t c =
     let l = c.loop-argument in
     record {
-      values = drop_all (λ (a : Expr). expr (env_of c.args.scene.now c.args.around.now) (expr_tree a)) (view.exprs l.given.values.items) _ c.args.written.now l.argument-index c.loop-argument-test.false l.invariant.values;
-      classes = drop_all (λ (a : Expr). class_named_by (env_of c.args.scene.now c.args.around.now) (expr_tree a)) (numbers_of l.given.classes.items) _ c.args.written.now l.argument-index c.loop-argument-test.false l.invariant.classes;
+      values = drop_all (λ (a : Expr). expr (env_of c.args.context.now c.args.names.now) (expr_tree a)) (view.exprs l.given.values.items) _ c.args.written.now l.argument-index c.loop-argument-test.false l.invariant.values;
+      classes = drop_all (λ (a : Expr). class_named_by (env_of c.args.context.now c.args.names.now) (expr_tree a)) (numbers_of l.given.classes.items) _ c.args.written.now l.argument-index c.loop-argument-test.false l.invariant.classes;
       kept = l.invariant.kept;
     }
 
@@ -248,7 +248,7 @@ walk-walk_postfixes-requires t c =
     (omega (arith, postfixes_fall a.place a.first a.postfixes c.args.e.now c.deref-in-Path.result.now a.is c.deref-in-Path.ensures.value), tt)
 
 pub walk-returns-in_ok-whole-in-This-clause-part : goal.walk-returns-in_ok-whole-in-This-clause-part
-walk-returns-in_ok-whole-in-This-clause-part t c = walked.this_walked c.args.scene.now c.args.around.now _ c.args.e.now _ c.in-This.is c.in_ok-whole-in-This.ensures
+walk-returns-in_ok-whole-in-This-clause-part t c = walked.this_walked c.args.context.now c.args.names.now _ c.args.e.now _ c.in-This.is c.in_ok-whole-in-This.ensures
 
 pub walk-returns-in_ok-whole-in-Result-clause-part : goal.walk-returns-in_ok-whole-in-Result-clause-part
-walk-returns-in_ok-whole-in-Result-clause-part t c = walked.result_walked c.args.scene.now c.args.around.now _ c.args.e.now _ c.in-Result.is c.in_ok-whole-in-Result.ensures
+walk-returns-in_ok-whole-in-Result-clause-part t c = walked.result_walked c.args.context.now c.args.names.now _ c.args.e.now _ c.in-Result.is c.in_ok-whole-in-Result.ensures

@@ -7,6 +7,6 @@ use Rattle.ss_resolver_names.proofs.assigned.+assigned.Given as goal
 
 abbrev pub invariant-note_stmts-loop-stmt : goal.invariant-note_stmts-loop-stmt
 invariant-note_stmts-loop-stmt l = record {
-  named : stmts_params (scope_of l.within l.locals) (names_of l.names.keys) (stmt_trees (map stmt_tree (drop l.stmt-index l.stmts))) ≡ stmts_params (scope_of l.within l.fn.locals) (names_of l.fn.names.keys) (stmt_trees (map stmt_tree l.stmts));
+  named : stmts_params (scope_of l.context l.locals) (names_of l.names.keys) (stmt_trees (map stmt_tree (drop l.stmt-index l.stmts))) ≡ stmts_params (scope_of l.context l.fn.locals) (names_of l.fn.names.keys) (stmt_trees (map stmt_tree l.stmts));
   around : l.locals.outer ≡ l.fn.locals.outer;
 }

@@ -12,7 +12,7 @@ use Rattle.ss_resolver_names.proofs.assigned.note_target.Goals as goal
 pub returns-in-Some : goal.returns-in-Some
 returns-in-Some c =
     let l = c.args.locals.now in
-    let s = scope_of c.args.within l in
+    let s = scope_of c.args.context l in
     let t = expr_tree c.args.target.now in
     let n = string_bytes c.in-Some.name.now in
     let ns = names_of c.args.names.now.keys in
@@ -21,5 +21,5 @@ returns-in-Some c =
 
 pub returns-in-None : goal.returns-in-None
 returns-in-None c =
-    let s = scope_of c.args.within c.args.locals.now in
+    let s = scope_of c.args.context c.args.locals.now in
     sym (target_of_other s (names_of c.args.names.now.keys) (expr_tree c.args.target.now) (sym c.bare_name.ensures ∙ ap text_of c.in-None.is))

@@ -19,9 +19,9 @@ use Rattle.ss_resolver_names_members.proofs.members.check_method.Goals as goal
 pub returns : goal.returns
 returns c =
     let l = c.args.locals.now in
-    let s = scope_of c.args.within l in
+    let s = scope_of c.args.context l in
     let m = c.args.method.now in
-    let cs = trees c.args.within.tables.now in
+    let cs = trees c.args.context.tables.now in
     let old = c.args.faults.now.items in
     let mid = c.check_result.new.faults.items in
     let new = c.check_body.new.faults.items in

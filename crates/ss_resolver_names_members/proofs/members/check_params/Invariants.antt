@@ -7,6 +7,6 @@ use Rattle.ss_resolver_names_members.proofs.members.check_params.Given as goal
 
 abbrev pub invariant-loop-param : goal.invariant-loop-param
 invariant-loop-param l = record {
-  noted : l.faults.items ++ params_faults (scope_of l.within l.locals) (map param_tree (drop l.param-index l.params)) ≡ l.fn.faults.items ++ params_faults (scope_of l.within l.fn.locals) (map param_tree l.params);
-  declared : declare_params (scope_of l.within l.locals) (map param_tree (drop l.param-index l.params)) ≡ declare_params (scope_of l.within l.fn.locals) (map param_tree l.params);
+  noted : l.faults.items ++ params_faults (scope_of l.context l.locals) (map param_tree (drop l.param-index l.params)) ≡ l.fn.faults.items ++ params_faults (scope_of l.context l.fn.locals) (map param_tree l.params);
+  declared : declare_params (scope_of l.context l.locals) (map param_tree (drop l.param-index l.params)) ≡ declare_params (scope_of l.context l.fn.locals) (map param_tree l.params);
 }

@@ -6,6 +6,6 @@ use Rattle.ss_resolver_names_members.proofs.stmts.check_all.Given as goal
 
 abbrev pub invariant-loop-e : goal.invariant-loop-e
 invariant-loop-e l = record {
-  noted : l.faults.items ++ faults_of_all (scope_of l.within l.fn.locals) (map expr_tree (drop l.e-index l.exprs)) ≡ l.fn.faults.items ++ faults_of_all (scope_of l.within l.fn.locals) (map expr_tree l.exprs);
+  noted : l.faults.items ++ faults_of_all (scope_of l.context l.fn.locals) (map expr_tree (drop l.e-index l.exprs)) ≡ l.fn.faults.items ++ faults_of_all (scope_of l.context l.fn.locals) (map expr_tree l.exprs);
   kept : l.locals ≡ l.fn.locals;
 }

@@ -8,7 +8,7 @@ use Rattle.ss_resolver_names_members.proofs.stmts.check_declarators.Given as goa
 
 abbrev pub invariant-loop-declarator : goal.invariant-loop-declarator
 invariant-loop-declarator l = record {
-  noted : l.faults.items ++ declarators_faults (scope_of l.within l.locals) (type_tree l.ty) (map declarator_tree (drop l.declarator-index l.declarators)) ≡ l.fn.faults.items ++ declarators_faults (scope_of l.within l.fn.locals) (type_tree l.ty) (map declarator_tree l.declarators);
-  declared : declare_all (scope_of l.within l.locals) (type_tree l.ty) (map declarator_tree (drop l.declarator-index l.declarators)) ≡ declare_all (scope_of l.within l.fn.locals) (type_tree l.ty) (map declarator_tree l.declarators);
+  noted : l.faults.items ++ declarators_faults (scope_of l.context l.locals) (type_tree l.ty) (map declarator_tree (drop l.declarator-index l.declarators)) ≡ l.fn.faults.items ++ declarators_faults (scope_of l.context l.fn.locals) (type_tree l.ty) (map declarator_tree l.declarators);
+  declared : declare_all (scope_of l.context l.locals) (type_tree l.ty) (map declarator_tree (drop l.declarator-index l.declarators)) ≡ declare_all (scope_of l.context l.fn.locals) (type_tree l.ty) (map declarator_tree l.declarators);
   around : l.locals.outer ≡ l.fn.locals.outer;
 }

@@ -21,7 +21,7 @@ use Rattle.ss_resolver_names_members.proofs.walk.+expr.Goals as goal
 
 pub check-returns-clause-noted : goal.check-returns-clause-noted
 check-returns-clause-noted t c =
-    let w = c.args.within in
+    let w = c.args.context in
     let s = scope_of w c.args.locals.now in
     let x = prefix_view c.in_ok-read.read in
     let mid = c.walk.new.faults.items in
@@ -30,14 +30,14 @@ check-returns-clause-noted t c =
 
 pub check-returns-clause-typed : goal.check-returns-clause-typed
 check-returns-clause-typed t c =
-    let w = c.args.within in
+    let w = c.args.context in
     let s = scope_of w c.args.locals.now in
     let x = prefix_view c.in_ok-read.read in
     c.prefix_value.ensures ∙ ap (λ n. prefix_value (scope_of w n) x) c.in_ok-read.ensures.kept ∙ read_typed s (expr_tree c.args.e.now) x c.in_ok-read.ensures.begun
 
 pub walk_links-loop-link-preserved : goal.walk_links-loop-link-preserved
 walk_links-loop-link-preserved t c =
-    let w = c.args.within in
+    let w = c.args.context in
     let s = scope_of w c.args.locals.now in
     let at = c.args.place in
     let links = c.args.links.now in
@@ -61,7 +61,7 @@ walk_links-loop-link-preserved t c =
 
 pub walk_postfixes-loop-postfix-preserved : goal.walk_postfixes-loop-postfix-preserved
 walk_postfixes-loop-postfix-preserved t c =
-    let w = c.args.within in
+    let w = c.args.context in
     let s = scope_of w c.args.locals.now in
     let at = c.args.place in
     let postfixes = c.args.postfixes.now in
@@ -86,7 +86,7 @@ walk_postfixes-loop-postfix-preserved t c =
 pub walk-returns-in_ok-before-in-Chain-clause-noted : goal.walk-returns-in_ok-before-in-Chain-clause-noted
 walk-returns-in_ok-before-in-Chain-clause-noted t c =
     let a = c.in-Chain in
-    let w = c.args.within in
+    let w = c.args.context in
     let s = scope_of w c.args.locals.now in
     let x = prefix_view c.in_ok-before-in-Chain.before in
     let found = c.args.faults.now.items in
@@ -102,7 +102,7 @@ walk-returns-in_ok-before-in-Chain-clause-noted t c =
 pub walk-returns-in_ok-before-in-Chain-clause-begun : goal.walk-returns-in_ok-before-in-Chain-clause-begun
 walk-returns-in_ok-before-in-Chain-clause-begun t c =
     let a = c.in-Chain in
-    let w = c.args.within in
+    let w = c.args.context in
     let s = scope_of w c.args.locals.now in
     let x = prefix_view c.in_ok-before-in-Chain.before in
     let found = c.args.faults.now.items in
@@ -118,7 +118,7 @@ walk-returns-in_ok-before-in-Chain-clause-begun t c =
 pub walk-returns-in_ok-before-in-Path-clause-noted : goal.walk-returns-in_ok-before-in-Path-clause-noted
 walk-returns-in_ok-before-in-Path-clause-noted t c =
     let a = c.in-Path in
-    let w = c.args.within in
+    let w = c.args.context in
     let s = scope_of w c.args.locals.now in
     let x = prefix_view c.in_ok-before-in-Path.before in
     let found = c.args.faults.now.items in
@@ -134,7 +134,7 @@ walk-returns-in_ok-before-in-Path-clause-noted t c =
 pub walk-returns-in_ok-before-in-Path-clause-begun : goal.walk-returns-in_ok-before-in-Path-clause-begun
 walk-returns-in_ok-before-in-Path-clause-begun t c =
     let a = c.in-Path in
-    let w = c.args.within in
+    let w = c.args.context in
     let s = scope_of w c.args.locals.now in
     let x = prefix_view c.in_ok-before-in-Path.before in
     let found = c.args.faults.now.items in
@@ -149,13 +149,13 @@ walk-returns-in_ok-before-in-Path-clause-begun t c =
 
 pub walk_link-returns-in_ok-check-in-Operation-clause-noted : goal.walk_link-returns-in_ok-check-in-Operation-clause-noted
 walk_link-returns-in_ok-check-in-Operation-clause-noted t c = λ e found o b.
-    let s = scope_of c.args.within c.args.locals.now in
+    let s = scope_of c.args.context c.args.locals.now in
     link_noted s e found c.args.faults.now.items c.add_pending.new.faults.items _ (expr_faults s (expr_tree c.in-Operation.operand)) (prefix_view c.args.before) o b c.in_ok-add_pending.ensures c.in_ok-check-in-Operation.ensures.noted
     ∙ ap (λ u. found ++ settled s u) (sym (ap (λ (l : Link). link_behind l c.args.place e) c.in-Operation.is ∙ operation_is c.in-Operation.field-0 c.in-Operation.operand c.args.place e))
 
 pub walk_link-returns-in_ok-check-in-Operation-clause-begun : goal.walk_link-returns-in_ok-check-in-Operation-clause-begun
 walk_link-returns-in_ok-check-in-Operation-clause-begun t c = λ e.
-    let s = scope_of c.args.within c.args.locals.now in
+    let s = scope_of c.args.context c.args.locals.now in
     let p = c.args.place in
     let form : link_behind c.args.link.now p e ≡ BinaryOf p c.in-Operation.field-0 e (expr_tree c.in-Operation.operand) =
     ap (λ (l : Link). link_behind l p e) c.in-Operation.is ∙ operation_is c.in-Operation.field-0 c.in-Operation.operand p e in
@@ -163,39 +163,39 @@ walk_link-returns-in_ok-check-in-Operation-clause-begun t c = λ e.
 
 pub walk_link-returns-in_ok-check_type-in-Is-clause-noted : goal.walk_link-returns-in_ok-check_type-in-Is-clause-noted
 walk_link-returns-in_ok-check_type-in-Is-clause-noted t c = λ e found o b.
-    let s = scope_of c.args.within c.args.locals.now in
+    let s = scope_of c.args.context c.args.locals.now in
     link_noted s e found c.args.faults.now.items c.add_pending.new.faults.items _ (type_faults s.classes (type_tree c.in-Is.ty)) (prefix_view c.args.before) o b c.in_ok-add_pending.ensures c.in_ok-check_type-in-Is.ensures
     ∙ ap (λ u. found ++ settled s u) (sym (ap (λ (l : Link). link_behind l c.args.place e) c.in-Is.is ∙ is_is c.in-Is.ty c.args.place e))
 
 pub walk_link-returns-in_ok-check_type-in-Is-clause-begun : goal.walk_link-returns-in_ok-check_type-in-Is-clause-begun
 walk_link-returns-in_ok-check_type-in-Is-clause-begun t c = λ e.
-    let s = scope_of c.args.within c.args.locals.now in
+    let s = scope_of c.args.context c.args.locals.now in
     let p = c.args.place in
     let form : link_behind c.args.link.now p e ≡ IsOf p e (type_tree c.in-Is.ty) = ap (λ (l : Link). link_behind l p e) c.in-Is.is ∙ is_is c.in-Is.ty p e in
     link_begun s _ _ _ form refl (c.link_type-known.ensures c.args.locals.now p e)
 
 pub walk_link-returns-in_ok-check_type-in-As-clause-noted : goal.walk_link-returns-in_ok-check_type-in-As-clause-noted
 walk_link-returns-in_ok-check_type-in-As-clause-noted t c = λ e found o b.
-    let s = scope_of c.args.within c.args.locals.now in
+    let s = scope_of c.args.context c.args.locals.now in
     link_noted s e found c.args.faults.now.items c.add_pending.new.faults.items _ (type_faults s.classes (type_tree c.in-As.ty)) (prefix_view c.args.before) o b c.in_ok-add_pending.ensures c.in_ok-check_type-in-As.ensures
     ∙ ap (λ u. found ++ settled s u) (sym (ap (λ (l : Link). link_behind l c.args.place e) c.in-As.is ∙ as_is c.in-As.ty c.args.place e))
 
 pub walk_link-returns-in_ok-check_type-in-As-clause-begun : goal.walk_link-returns-in_ok-check_type-in-As-clause-begun
 walk_link-returns-in_ok-check_type-in-As-clause-begun t c = λ e.
-    let s = scope_of c.args.within c.args.locals.now in
+    let s = scope_of c.args.context c.args.locals.now in
     let p = c.args.place in
     let form : link_behind c.args.link.now p e ≡ AsOf p e (type_tree c.in-As.ty) = ap (λ (l : Link). link_behind l p e) c.in-As.is ∙ as_is c.in-As.ty p e in
     link_begun s _ _ _ form refl (c.link_type-known.ensures c.args.locals.now p e)
 
 pub walk_postfix-returns-in_ok-check-in-Element-clause-noted : goal.walk_postfix-returns-in_ok-check-in-Element-clause-noted
 walk_postfix-returns-in_ok-check-in-Element-clause-noted t c = λ e found o b.
-    let s = scope_of c.args.within c.args.locals.now in
+    let s = scope_of c.args.context c.args.locals.now in
     element_noted s c.args.place e (expr_tree c.in-Element.index) found c.args.faults.now.items c.add_pending.new.faults.items _ (prefix_view c.args.before) o b c.in_ok-add_pending-in-Element.ensures c.in_ok-check-in-Element.ensures.noted
     ∙ ap (λ u. found ++ settled s u) (sym (ap (λ (l : Postfix). postfix_behind l c.args.place e) c.in-Element.is ∙ element_is c.in-Element.index c.args.place e))
 
 pub walk_postfix-returns-in_ok-check_arguments-in-Call-clause-noted : goal.walk_postfix-returns-in_ok-check_arguments-in-Call-clause-noted
 walk_postfix-returns-in_ok-check_arguments-in-Call-clause-noted t c = λ e found o b.
-    let s = scope_of c.args.within c.args.locals.now in
+    let s = scope_of c.args.context c.args.locals.now in
     let x = prefix_view c.args.before in
     let mid = c.add_called.new.faults.items in
     call_noted s c.args.place e (arguments (map expr_tree c.in-Call.arguments.items)) found c.args.faults.now.items mid _ x o b c.in_ok-add_called-in-Call.ensures
@@ -204,7 +204,7 @@ walk_postfix-returns-in_ok-check_arguments-in-Call-clause-noted t c = λ e found
 
 pub check_argument-returns-then-names_class-clause-noted : goal.check_argument-returns-then-names_class-clause-noted
 check_argument-returns-then-names_class-clause-noted t c =
-    let w = c.args.within in
+    let w = c.args.context in
     let l = c.args.locals.now in
     let s = scope_of w l in
     let e = expr_tree c.args.argument.now in
@@ -214,7 +214,7 @@ check_argument-returns-then-names_class-clause-noted t c =
 pub walk-returns-in_ok-check_member-in-Quantified-clause-noted : goal.walk-returns-in_ok-check_member-in-Quantified-clause-noted
 walk-returns-in_ok-check_member-in-Quantified-clause-noted t c =
     let a = c.in-Quantified in
-    let w = c.args.within in
+    let w = c.args.context in
     let s = scope_of w c.args.locals.now in
     let low = expr_tree c.deref-in-Quantified.result.now in
     let high = expr_tree c.deref-in-Quantified-2.result.now in

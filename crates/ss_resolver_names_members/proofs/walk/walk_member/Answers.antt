@@ -8,7 +8,7 @@ use Rattle.ss_resolver_names_members.proofs.walk.walk_member.Goals as goal
 
 pub returns-clause-noted : goal.returns-clause-noted
 returns-clause-noted c = λ e found o b.
-    let s = scope_of c.args.within c.args.locals.now in
+    let s = scope_of c.args.context c.args.locals.now in
     let x = prefix_view c.args.before in
     let n = name_tree c.args.name.now in
     let old = c.args.faults.now.items in

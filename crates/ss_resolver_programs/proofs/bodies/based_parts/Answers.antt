@@ -9,5 +9,5 @@ returns-clause-base c = c.in_ok-base.ensures.tree
 
 pub returns-clause-parts : goal.returns-clause-parts
 returns-clause-parts c =
-    based_parts_are c.args.scene.now c.args.around.now _ (constructor_tree c.args.constructor) _ _ c.in_ok-parts.parts
+    based_parts_are c.args.context.now c.args.names.now _ (constructor_tree c.args.constructor) _ _ c.in_ok-parts.parts
     (ap (map param_tree) c.deref.ensures.value) (ap (map clause_tree) c.deref-2.ensures.value) c.in_ok-base.ensures.kept c.in_ok-parts.ensures

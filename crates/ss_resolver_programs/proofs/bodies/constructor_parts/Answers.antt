@@ -11,10 +11,10 @@ pub returns-clause-base : goal.returns-clause-base
 returns-clause-base c =
     let m = constructor_tree c.args.constructor in
     subst (λ e. IfOk c.based_parts.result (λ b. option_map view.base b.base ≡ option_map (base_of e) m.base))
-    (constructor_env_is c.args.scene.now _ m _ (ap (map param_tree) c.deref.ensures.value) c.in_ok-around.ensures) c.based_parts.ensures.base
+    (constructor_env_is c.args.context.now _ m _ (ap (map param_tree) c.deref.ensures.value) c.in_ok-names.ensures) c.based_parts.ensures.base
 
 pub returns-clause-parts : goal.returns-clause-parts
 returns-clause-parts c =
     let m = constructor_tree c.args.constructor in
     subst (λ e. IfOk c.based_parts.result (λ b. AreParts e m.params m.clauses m.body b.parts))
-    (constructor_env_is c.args.scene.now _ m _ (ap (map param_tree) c.deref.ensures.value) c.in_ok-around.ensures) c.based_parts.ensures.parts
+    (constructor_env_is c.args.context.now _ m _ (ap (map param_tree) c.deref.ensures.value) c.in_ok-names.ensures) c.based_parts.ensures.parts

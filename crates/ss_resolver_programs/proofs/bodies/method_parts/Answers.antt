@@ -9,7 +9,7 @@ pub returns : goal.returns
 returns c =
     IfOk-weaker c.resolve_parts.result _ _
     (λ p h.
-    method_parts_are c.args.scene.now c.method_scene-within.result _ (method_tree c.args.method) _ _ _ p c.first_local-first.result c.is_static.result
+    method_parts_are c.args.context.now c.method_context-own.result _ (method_tree c.args.method) _ _ _ p c.first_local-first.result c.is_static.result
     (ap (map param_tree) c.deref.ensures.value) (ap (map param_tree) c.deref-2.ensures.value) (ap (map clause_tree) c.deref-3.ensures.value)
-    c.method_scene-within.ensures c.is_static.ensures c.first_local-first.ensures c.in_ok-around.ensures h)
+    c.method_context-own.ensures c.is_static.ensures c.first_local-first.ensures c.in_ok-names.ensures h)
     c.resolve_parts.ensures

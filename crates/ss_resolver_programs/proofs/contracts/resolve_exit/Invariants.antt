@@ -2,11 +2,11 @@ use Rattle.std.proofs.Common.{◌≡◌, ◌++◌, map, drop}
 use Rattle.ss_ast.specs.Programs.{clause_tree}
 use Rattle.ss_typed.specs.View.{exprs}
 use Rattle.ss_resolver_rules.specs.Programs.{exit_in}
-use Rattle.ss_resolver_expressions.specs.Scenes.{env_of}
+use Rattle.ss_resolver_expressions.specs.Environments.{env_of}
 use Rattle.ss_resolver_programs.proofs.contracts.resolve_exit.Given as goal
 
 abbrev pub invariant-loop-clause : goal.invariant-loop-clause
 invariant-loop-clause l = record {
-  trees : exprs l.list.items ++ exit_in (env_of l.scene l.fn.around) (map clause_tree (drop l.clause-index l.clauses)) ≡ exit_in (env_of l.scene l.fn.around) (map clause_tree l.clauses);
-  kept : l.around ≡ l.fn.around;
+  trees : exprs l.list.items ++ exit_in (env_of l.context l.fn.names) (map clause_tree (drop l.clause-index l.clauses)) ≡ exit_in (env_of l.context l.fn.names) (map clause_tree l.clauses);
+  kept : l.names ≡ l.fn.names;
 }

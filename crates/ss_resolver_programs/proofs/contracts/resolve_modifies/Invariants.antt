@@ -1,12 +1,12 @@
 use Rattle.std.proofs.Common.{◌≡◌, map, drop}
 use Rattle.ss_ast.specs.Programs.{clause_tree}
 use Rattle.ss_resolver_rules.specs.Programs.{modifies_in}
-use Rattle.ss_resolver_expressions.specs.Scenes.{env_of}
+use Rattle.ss_resolver_expressions.specs.Environments.{env_of}
 use Rattle.ss_resolver_programs.specs.Terms.{terms_of, joined}
 use Rattle.ss_resolver_programs.proofs.contracts.resolve_modifies.Given as goal
 
 abbrev pub invariant-loop-clause : goal.invariant-loop-clause
 invariant-loop-clause l = record {
-  trees : joined (terms_of l.terms) (modifies_in (env_of l.scene l.fn.around) (map clause_tree (drop l.clause-index l.clauses))) ≡ modifies_in (env_of l.scene l.fn.around) (map clause_tree l.clauses);
-  kept : l.around ≡ l.fn.around;
+  trees : joined (terms_of l.terms) (modifies_in (env_of l.context l.fn.names) (map clause_tree (drop l.clause-index l.clauses))) ≡ modifies_in (env_of l.context l.fn.names) (map clause_tree l.clauses);
+  kept : l.names ≡ l.fn.names;
 }

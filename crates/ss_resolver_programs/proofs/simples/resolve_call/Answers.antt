@@ -3,14 +3,14 @@ use Rattle.std.specs.Prelude.{unwrap_or, slice_get}
 use Rattle.ss_ast.specs.Expressions.{expr_tree, arguments}
 use Rattle.ss_typed.specs.Tree as typed
 use Rattle.ss_resolver_rules.specs.Expressions.{first_class, third_class}
-use Rattle.ss_resolver_expressions.specs.Scenes.{env_of, part_view, part_called, given, numbers_of}
+use Rattle.ss_resolver_expressions.specs.Environments.{env_of, part_view, part_called, given, numbers_of}
 use Rattle.ss_resolver_expressions.proofs.PartIs.{args_are, first_is, third_is}
 use Rattle.ss_resolver_programs.proofs.simples.resolve_call.Goals as goal
 
 pub returns-clause-tree : goal.returns-clause-tree
 returns-clause-tree c =
-    let s = c.args.scene.now in
-    let e = env_of s c.args.around.now in
+    let s = c.args.context.now in
+    let e = env_of s c.args.names.now in
     let ts = map expr_tree c.args.written.now in
     let g = c.in_ok-given.given in
     let x = part_view c.args.before in

@@ -1,14 +1,14 @@
 use Rattle.std.proofs.Common.{map, sym, ap, ◌∙◌}
 use Rattle.ss_ast.specs.Expressions.{expr_tree, grouped, arguments}
 use Rattle.ss_ast.specs.Parts.{postfix_behind}
-use Rattle.ss_resolver_expressions.specs.Scenes.{env_of, part, part_view}
+use Rattle.ss_resolver_expressions.specs.Environments.{env_of, part, part_view}
 use Rattle.ss_resolver_programs.specs.Alone.{part_alone}
 use Rattle.ss_resolver_programs.proofs.simples.resolve_path_call.Goals as goal
 
 pub returns-clause-tree : goal.returns-clause-tree
 returns-clause-tree c =
-    let s = c.args.scene.now in
-    let e = env_of s c.args.around.now in
+    let s = c.args.context.now in
+    let e = env_of s c.args.names.now in
     let at = c.args.place in
     let es = arguments (map expr_tree c.args.written.now) in
     let first = expr_tree c.args.first.now in

@@ -6,8 +6,8 @@ use Rattle.ss_resolver_programs.proofs.stmts.resolve_heading.Goals as goal
 
 pub returns-clause-test : goal.returns-clause-test
 returns-clause-test c =
-    test_is c.args.scene.now _ _ (option_map expr_tree c.args.test.now) _ c.in_ok-first.ensures.behind c.in_ok-test.ensures.tree
+    test_is c.args.context.now _ _ (option_map expr_tree c.args.test.now) _ c.in_ok-first.ensures.behind c.in_ok-test.ensures.tree
 
 pub returns-clause-step : goal.returns-clause-step
 returns-clause-step c =
-    step_is c.args.scene.now _ _ _ (option_map simple_tree c.args.step.now) _ c.in_ok-first.ensures.behind c.in_ok-test.ensures.kept c.in_ok-step.ensures.tree
+    step_is c.args.context.now _ _ _ (option_map simple_tree c.args.step.now) _ c.in_ok-first.ensures.behind c.in_ok-test.ensures.kept c.in_ok-step.ensures.tree

@@ -18,16 +18,16 @@ link_never k s (shape.As u) at t = refl
 pub returns-else-is_empty : goal.returns-else-is_empty
 returns-else-is_empty t c =
     let a = c.in-Chain in
-    let k = c.args.within.class in
-    let s = scope_of c.args.within c.args.locals.now in
+    let k = c.args.context.class in
+    let s = scope_of c.args.context c.args.locals.now in
     sym (ap (λ e. is_own_field k s (expr_tree e)) a.is ∙ ap (is_own_field k s) (chain_is a.field-0 a.first a.links)
     ∙ chain_some (is_own_field k s) (λ p. false) (link_never k s) a.field-0 (expr_tree a.first.value) a.links.items a.links.len a.links.ok.0 c.if-is_empty.ensures)
 
 pub returns-then-is_empty-2 : goal.returns-then-is_empty-2
 returns-then-is_empty-2 t c =
     let a = c.in-Path in
-    let k = c.args.within.class in
-    let s = scope_of c.args.within c.args.locals.now in
+    let k = c.args.context.class in
+    let s = scope_of c.args.context c.args.locals.now in
     c.is_own_field-then-is_empty-2.ensures ∙ ap (λ e. is_own_field k s (expr_tree e)) c.deref-then-is_empty-2.ensures
     ∙ sym (ap (λ e. is_own_field k s (expr_tree e)) a.is ∙ ap (is_own_field k s) (path_is a.field-0 a.first a.postfixes)
     ∙ ap (is_own_field k s) (path_alone a.field-0 (expr_tree a.first.value) a.postfixes.items a.postfixes.len a.postfixes.ok.0 c.if-is_empty-2.ensures))
@@ -35,5 +35,5 @@ returns-then-is_empty-2 t c =
 pub returns-else-is_empty-2 : goal.returns-else-is_empty-2
 returns-else-is_empty-2 t c =
     let a = c.in-Path in
-    path_there (is_own_field c.args.within.class (scope_of c.args.within c.args.locals.now)) a.field-0 a.first a.postfixes c.args.e.now c.deref-else-is_empty-2.result.now c.as_slice.result.now
+    path_there (is_own_field c.args.context.class (scope_of c.args.context c.args.locals.now)) a.field-0 a.first a.postfixes c.args.e.now c.deref-else-is_empty-2.result.now c.as_slice.result.now
     c.is_own_path.result a.postfixes.len (c.is_own_path.ensures c.args.locals.now a.field-0) a.is c.deref-else-is_empty-2.ensures c.as_slice.ensures.value a.postfixes.ok.0 c.if-is_empty-2.ensures

@@ -2,14 +2,14 @@ use Rattle.std.proofs.Common.{◌≡◌, ap, ◌∙◌, rules}
 use Rattle.ss_ast.specs.Expressions.{expr_tree}
 use Rattle.ss_resolver_types_expressions.specs.Statements.{may_stand_alone}
 use Rattle.ss_resolver_types_expressions.specs.Heads.{ending}
-use Rattle.ss_resolver_types_expressions.specs.Codes.{around_of, head_of}
+use Rattle.ss_resolver_types_expressions.specs.Codes.{context_of, head_of}
 use Rattle.ss_resolver_types.specs.Bodies.{alone_at}
 use Rattle.ss_resolver_types.proofs.Uses.{alone_is, use_noted}
 use Rattle.ss_resolver_types.proofs.simple.check_alone.Goals as goal
 
 pub returns-clause-noted : goal.returns-clause-noted
 returns-clause-noted c =
-    let a = around_of c.args.around.now c.args.locals.now in
+    let a = context_of c.args.context.now c.args.locals.now in
     let t = expr_tree c.args.e.now in
     let ends : head_of c.in_ok-head.head ≡ ending a.scope t = search rules in
     let same : c.may_stand_alone.result ≡ may_stand_alone a.scope t = c.may_stand_alone.ensures ∙ ap alone_at ends ∙ alone_is a.scope t in

@@ -11,7 +11,7 @@ use Rattle.ss_resolver_types_expressions.specs.Wants.{Known}
 use Rattle.ss_resolver_types_expressions.specs.Calls.{wants_of}
 use Rattle.ss_resolver_types_expressions.specs.Expressions.{argument_where, operand}
 use Rattle.ss_resolver_types_expressions.specs.Heads.{AValueOf, value_at}
-use Rattle.ss_resolver_types_expressions.specs.Codes.{want_of, around_of, called_of, head_of}
+use Rattle.ss_resolver_types_expressions.specs.Codes.{want_of, context_of, called_of, head_of}
 use Rattle.ss_resolver_types_expressions.proofs.Endings.{joined, element_leads, call_leads, operation_leads, is_leads, as_leads, operation_noted}
 use Rattle.ss_ast.proofs.Falls.{links_fall, postfixes_fall}
 use Rattle.ss_resolver_types_expressions.proofs.Walks.{known_read, noted_read, chain_walked, path_walked, part_leads, parts_led, no_parts}
@@ -21,7 +21,7 @@ use Rattle.ss_resolver_types_expressions.proofs.expr.+expr.Goals as goal
 pub walk-returns-in_ok-longer-in-Chain : goal.walk-returns-in_ok-longer-in-Chain
 walk-returns-in_ok-longer-in-Chain t c =
     let a = c.in-Chain in
-    let w = chain_walked c.args.around.now c.args.locals.now _ c.args.found.now.items _ _ _ _ a.place a.first a.links c.args.e.now _ _ a.is
+    let w = chain_walked c.args.context.now c.args.locals.now _ c.args.found.now.items _ _ _ _ a.place a.first a.links c.args.e.now _ _ a.is
     c.deref-in-Chain.ensures c.deref-in-Chain-2.ensures.value c.in_ok-head-in-Chain.ensures.same c.in_ok-head-in-Chain.ensures.head c.in_ok-head-in-Chain.ensures.noted
     c.in_ok-longer-in-Chain.ensures.walked in
     record { head = w.is; noted = w.noted; same = c.in_ok-longer-in-Chain.ensures.same ∙ c.in_ok-head-in-Chain.ensures.same }
@@ -29,7 +29,7 @@ walk-returns-in_ok-longer-in-Chain t c =
 pub walk-returns-in_ok-longer-in-Path : goal.walk-returns-in_ok-longer-in-Path
 walk-returns-in_ok-longer-in-Path t c =
     let a = c.in-Path in
-    let w = path_walked c.args.around.now c.args.locals.now _ c.args.found.now.items _ _ _ _ a.place a.first a.postfixes c.args.e.now _ _ a.is
+    let w = path_walked c.args.context.now c.args.locals.now _ c.args.found.now.items _ _ _ _ a.place a.first a.postfixes c.args.e.now _ _ a.is
     c.deref-in-Path.ensures c.deref-in-Path-2.ensures.value c.in_ok-head-in-Path.ensures.same c.in_ok-head-in-Path.ensures.head c.in_ok-head-in-Path.ensures.noted
     c.in_ok-longer-in-Path.ensures.walked in
     record { head = w.is; noted = w.noted; same = c.in_ok-longer-in-Path.ensures.same ∙ c.in_ok-head-in-Path.ensures.same }
@@ -52,11 +52,11 @@ check_length-returns-clause-noted t c = joined c.args.found.now.items _ _ _ _ c.
 
 pub check-returns-clause-known : goal.check-returns-clause-known
 check-returns-clause-known t c =
-    known_read c.args.around.now c.args.locals.now _ _ (expr_tree c.args.e.now) _ c.in_ok-head.ensures.same c.in_ok-head.ensures.head c.in_ok-known.ensures.known
+    known_read c.args.context.now c.args.locals.now _ _ (expr_tree c.args.e.now) _ c.in_ok-head.ensures.same c.in_ok-head.ensures.head c.in_ok-known.ensures.known
 
 pub check-returns-clause-noted : goal.check-returns-clause-noted
 check-returns-clause-noted t c =
-    noted_read c.args.around.now c.args.locals.now _ _ (expr_tree c.args.e.now) c.args.found.now.items _ _ c.in_ok-head.ensures.same c.in_ok-head.ensures.head c.in_ok-head.ensures.noted c.in_ok-known.ensures.noted
+    noted_read c.args.context.now c.args.locals.now _ _ (expr_tree c.args.e.now) c.args.found.now.items _ _ c.in_ok-head.ensures.same c.in_ok-head.ensures.head c.in_ok-head.ensures.noted c.in_ok-known.ensures.noted
 
 pub walk_links-loop-link-init : goal.walk_links-loop-link-init
 walk_links-loop-link-init t c = record { same = search rules; walked = no_parts link_behind _ _ _ c.args.place c.args.links.now }
@@ -65,7 +65,7 @@ pub walk_links-loop-link-preserved : goal.walk_links-loop-link-preserved
 walk_links-loop-link-preserved t c = record {
   same = c.in_ok-head.ensures.same ∙ c.loop-link.invariant.same;
   walked =
-      part_leads link_behind c.args.around.now c.args.locals.now c.loop-link.locals c.args.found.now.items _ _ (head_of c.args.first) _ _ c.args.place c.args.links.now c.loop-link.link-index c.link-item.result
+      part_leads link_behind c.args.context.now c.args.locals.now c.loop-link.locals c.args.found.now.items _ _ (head_of c.args.first) _ _ c.args.place c.args.links.now c.loop-link.link-index c.link-item.result
       c.loop-link.invariant.same c.loop-link-test.true c.link-item.is c.in_ok-head.ensures.walked c.loop-link.invariant.walked;
 }
 
@@ -82,7 +82,7 @@ pub walk_postfixes-loop-postfix-preserved : goal.walk_postfixes-loop-postfix-pre
 walk_postfixes-loop-postfix-preserved t c = record {
   same = c.in_ok-head.ensures.same ∙ c.loop-postfix.invariant.same;
   walked =
-      part_leads postfix_behind c.args.around.now c.args.locals.now c.loop-postfix.locals c.args.found.now.items _ _ (head_of c.args.first) _ _ c.args.place c.args.postfixes.now c.loop-postfix.postfix-index c.postfix-item.result
+      part_leads postfix_behind c.args.context.now c.args.locals.now c.loop-postfix.locals c.args.found.now.items _ _ (head_of c.args.first) _ _ c.args.place c.args.postfixes.now c.loop-postfix.postfix-index c.postfix-item.result
       c.loop-postfix.invariant.same c.loop-postfix-test.true c.postfix-item.is c.in_ok-head.ensures.walked c.loop-postfix.invariant.walked;
 }
 
@@ -94,59 +94,59 @@ walk_postfixes-returns t c = record {
 
 pub walk_link-returns-in_ok-check_operation-in-Operation-clause-walked : goal.walk_link-returns-in_ok-check_operation-in-Operation-clause-walked
 walk_link-returns-in_ok-check_operation-in-Operation-clause-walked t c =
-    operation_leads (around_of c.args.around.now c.args.locals.now) c.args.found.now.items _ (head_of c.args.head) _ c.args.link.now c.args.place c.in-Operation.operator c.in-Operation.right (option_map type_of c.link_type-known.result) c.in-Operation.is
+    operation_leads (context_of c.args.context.now c.args.locals.now) c.args.found.now.items _ (head_of c.args.head) _ c.args.link.now c.args.place c.in-Operation.operator c.in-Operation.right (option_map type_of c.link_type-known.result) c.in-Operation.is
     c.other-longer.ensures (c.link_type-known.ensures c.args.locals.now c.args.place) c.in_ok-check_operation-in-Operation.ensures.noted
 
 pub walk_link-returns-in_ok-note_class_test-in-Is-clause-walked : goal.walk_link-returns-in_ok-note_class_test-in-Is-clause-walked
 walk_link-returns-in_ok-note_class_test-in-Is-clause-walked t c =
-    is_leads (around_of c.args.around.now c.args.locals.now) c.args.found.now.items _ (head_of c.args.head) _ c.args.link.now c.args.place c.in-Is.ty (option_map type_of c.link_type-known.result) c.in-Is.is
+    is_leads (context_of c.args.context.now c.args.locals.now) c.args.found.now.items _ (head_of c.args.head) _ c.args.link.now c.args.place c.in-Is.ty (option_map type_of c.link_type-known.result) c.in-Is.is
     c.other-longer.ensures (c.link_type-known.ensures c.args.locals.now c.args.place) c.in_ok-note_class_test-in-Is.ensures
 
 pub walk_link-returns-in_ok-note_class_test-in-As-clause-walked : goal.walk_link-returns-in_ok-note_class_test-in-As-clause-walked
 walk_link-returns-in_ok-note_class_test-in-As-clause-walked t c =
-    as_leads (around_of c.args.around.now c.args.locals.now) c.args.found.now.items _ (head_of c.args.head) _ c.args.link.now c.args.place c.in-As.ty (option_map type_of c.link_type-known.result) c.in-As.is
+    as_leads (context_of c.args.context.now c.args.locals.now) c.args.found.now.items _ (head_of c.args.head) _ c.args.link.now c.args.place c.in-As.ty (option_map type_of c.link_type-known.result) c.in-As.is
     c.other-longer.ensures (c.link_type-known.ensures c.args.locals.now c.args.place) c.in_ok-note_class_test-in-As.ensures
 
 pub check_operation-returns-clause-noted : goal.check_operation-returns-clause-noted
 check_operation-returns-clause-noted t c =
-    operation_noted (around_of c.args.around.now c.args.locals.now) c.args.found.now.items _ _ _ (head_of c.args.head) c.args.place (operand c.args.operator) (expr_tree c.args.second.now) _ _
+    operation_noted (context_of c.args.context.now c.args.locals.now) c.args.found.now.items _ _ _ (head_of c.args.head) c.args.place (operand c.args.operator) (expr_tree c.args.second.now) _ _
     c.in_ok-left.ensures.known c.in_ok-left.ensures.noted c.in_ok-right.ensures.known c.in_ok-right.ensures.noted c.in_ok-note_operands.ensures
 
 pub walk_element-returns-clause-walked : goal.walk_element-returns-clause-walked
 walk_element-returns-clause-walked t c =
-    element_leads (around_of c.args.around.now c.args.locals.now) c.args.found.now.items _ _ (head_of c.args.head) _ c.args.place (expr_tree c.args.index.now)
+    element_leads (context_of c.args.context.now c.args.locals.now) c.args.found.now.items _ _ (head_of c.args.head) _ c.args.place (expr_tree c.args.index.now)
     (ap (AValueOf form.Element) (c.value.ensures ∙ ap (value_at c.args.place) (c.type_of_element.ensures
     ∙ ap (λ (v : Known). option_and_then element_type (option_and_then class_of v.ty)) c.in_ok-known.ensures.known)))
     c.in_ok-known.ensures.noted c.in_ok-check_as.ensures.noted
 
 pub walk_call-returns-clause-walked : goal.walk_call-returns-clause-walked
 walk_call-returns-clause-walked t c =
-    call_leads (around_of c.args.around.now c.args.locals.now) c.args.found.now.items _ (head_of c.args.head) _ c.args.place (arguments (map expr_tree c.args.list.now)) _ _ _ _
+    call_leads (context_of c.args.context.now c.args.locals.now) c.args.found.now.items _ (head_of c.args.head) _ c.args.place (arguments (map expr_tree c.args.list.now)) _ _ _ _
     c.callee_at-callee.ensures c.is_question.ensures c.count-number.ensures c.called_at-called.ensures c.call.ensures c.in_ok-check_call.ensures.noted
 
 pub check_call-returns-clause-noted : goal.check_call-returns-clause-noted
 check_call-returns-clause-noted t c =
-    let a = around_of c.args.around.now c.args.locals.now in
-    let cs = trees c.args.around.now.within.tables.now in
+    let a = context_of c.args.context.now c.args.locals.now in
+    let cs = trees c.args.context.now.within.tables.now in
     call_noted a c.args.place c.args.is_call _ (called_of cs c.args.called) (arguments (map expr_tree c.args.list.now)) _ c.args.found.now.items _ _
     c.count-number.ensures (c.in_ok-note_whole.ensures c.args.locals.now) (c.unless_wrong-wanted.ensures cs) c.in_ok-check_arguments.ensures.noted
 
 pub check_arguments-loop-i-preserved : goal.check_arguments-loop-i-preserved
 check_arguments-loop-i-preserved t c =
-    let a = c.args.around.now in
+    let a = c.args.context.now in
     let cs = trees a.within.tables.now in
-    let here = subst (λ (n : Names). c.check_argument.new.found.items ≡ c.loop-i.found.items ++ argument_where (around_of a n) (option_map want_of c.want_at-want.result) (expr_tree c.index-list-i.result)) c.loop-i.invariant.same c.in_ok-check_argument.ensures.noted in
+    let here = subst (λ (n : Names). c.check_argument.new.found.items ≡ c.loop-i.found.items ++ argument_where (context_of a n) (option_map want_of c.want_at-want.result) (expr_tree c.index-list-i.result)) c.loop-i.invariant.same c.in_ok-check_argument.ensures.noted in
     record {
       same = c.in_ok-check_argument.ensures.same ∙ c.loop-i.invariant.same;
       noted =
-          one_more (around_of a c.args.locals.now) (wants_of (called_of cs c.args.called)) c.args.list.now c.loop-i.i c.index-list-i.result _ _ _
+          one_more (context_of a c.args.locals.now) (wants_of (called_of cs c.args.called)) c.args.list.now c.loop-i.i c.index-list-i.result _ _ _
           c.loop-i-test.true c.index-list-i.is
-          (here ∙ ap (λ w. c.loop-i.found.items ++ argument_where (around_of a c.args.locals.now) w (expr_tree c.index-list-i.result)) c.want_at-want.ensures)
+          (here ∙ ap (λ w. c.loop-i.found.items ++ argument_where (context_of a c.args.locals.now) w (expr_tree c.index-list-i.result)) c.want_at-want.ensures)
           c.loop-i.invariant.noted;
     }
 
 pub check_arguments-returns : goal.check_arguments-returns
 check_arguments-returns t c = record {
-  noted = all_done _ (wants_of (called_of (trees c.args.around.now.within.tables.now) c.args.called)) c.args.list.now c.loop-i.i _ _ c.loop-i-test.false c.loop-i.invariant.noted;
+  noted = all_done _ (wants_of (called_of (trees c.args.context.now.within.tables.now) c.args.called)) c.args.list.now c.loop-i.i _ _ c.loop-i-test.false c.loop-i.invariant.noted;
   same = c.loop-i.invariant.same;
 }

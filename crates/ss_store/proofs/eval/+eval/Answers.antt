@@ -2,7 +2,7 @@ use Rattle.std.proofs.Common.{pos, ◌+ℤ◌, ◌+◌, map, drop, sym, ap, ◌�
 use Rattle.std.proofs.lemmas.Result.{err_from_is_err_and}
 use Rattle.ss_core.specs.View.{expr}
 use Rattle.ss_store_rules.specs.Values.{value_of, joined}
-use Rattle.ss_store.specs.Scenes.{setting_of}
+use Rattle.ss_store.specs.Contexts.{setting_of}
 use Rattle.ss_store.specs.Grouped.{link_behind, step_behind}
 use Rattle.ss_store.proofs.Groups.{chain_strict, path_strict, map_drop, leads_on, link_ends, step_ends, leads_home}
 use Rattle.ss_store.proofs.Members.{member_of, gap_above, no_gap, next_is, next_member, failed_member, last_member, bounds_are}
@@ -15,7 +15,7 @@ use Rattle.ss_store.proofs.eval.+eval.Goals as goal
 pub eval-returns-in_err-value-in-Chain : goal.eval-returns-in_err-value-in-Chain
 eval-returns-in_err-value-in-Chain g t c =
     let a = c.in-Chain in
-    let s = setting_of g.B.Before.told c.args.scene.now in
+    let s = setting_of g.B.Before.told c.args.context.now in
     let p = err_from_is_err_and c.from_residual-in_err-value-in-Chain.result c.from_residual-in_err-value-in-Chain.ensures.1 in
     rw (p.1, p.2)
     (sym (ap (λ e. value_of (expr e) s) a.is
@@ -25,7 +25,7 @@ eval-returns-in_err-value-in-Chain g t c =
 pub eval-returns-in_err-value-in-Path : goal.eval-returns-in_err-value-in-Path
 eval-returns-in_err-value-in-Path g t c =
     let a = c.in-Path in
-    let s = setting_of g.B.Before.told c.args.scene.now in
+    let s = setting_of g.B.Before.told c.args.context.now in
     let p = err_from_is_err_and c.from_residual-in_err-value-in-Path.result c.from_residual-in_err-value-in-Path.ensures.1 in
     rw (p.1, p.2)
     (sym (ap (λ e. value_of (expr e) s) a.is
@@ -34,7 +34,7 @@ eval-returns-in_err-value-in-Path g t c =
 
 pub eval_links-returns-in_err-value : goal.eval_links-returns-in_err-value
 eval_links-returns-in_err-value g t c =
-    let s = setting_of g.B.Before.told c.args.scene.now in
+    let s = setting_of g.B.Before.told c.args.context.now in
     let p = err_from_is_err_and c.from_residual.result c.from_residual.ensures.1 in
     let v = c.loop-link.value in
     let i = c.loop-link.link-index in
@@ -48,7 +48,7 @@ eval_links-returns-in_err-value g t c =
 
 pub eval_links-loop-link-preserved : goal.eval_links-loop-link-preserved
 eval_links-loop-link-preserved g t c =
-    let s = setting_of g.B.Before.told c.args.scene.now in
+    let s = setting_of g.B.Before.told c.args.context.now in
     let i = c.loop-link.link-index in
     let all = c.args.links.now in
     let x = c.link-item.result in
@@ -59,12 +59,12 @@ eval_links-loop-link-preserved g t c =
 
 pub eval_links-returns : goal.eval_links-returns
 eval_links-returns g t c =
-    leads_home link_behind c.args.links.now c.loop-link.link-index (setting_of g.B.Before.told c.args.scene.now) c.args.place c.loop-link.value c.args.first
+    leads_home link_behind c.args.links.now c.loop-link.link-index (setting_of g.B.Before.told c.args.context.now) c.args.place c.loop-link.value c.args.first
     (map link_behind c.args.links.now) c.loop-link-test.false c.loop-link.invariant
 
 pub eval_steps-returns-in_err-value : goal.eval_steps-returns-in_err-value
 eval_steps-returns-in_err-value g t c =
-    let s = setting_of g.B.Before.told c.args.scene.now in
+    let s = setting_of g.B.Before.told c.args.context.now in
     let p = err_from_is_err_and c.from_residual.result c.from_residual.ensures.1 in
     let v = c.loop-step.value in
     let i = c.loop-step.step-index in
@@ -78,7 +78,7 @@ eval_steps-returns-in_err-value g t c =
 
 pub eval_steps-loop-step-preserved : goal.eval_steps-loop-step-preserved
 eval_steps-loop-step-preserved g t c =
-    let s = setting_of g.B.Before.told c.args.scene.now in
+    let s = setting_of g.B.Before.told c.args.context.now in
     let i = c.loop-step.step-index in
     let all = c.args.steps.now in
     let x = c.step-item.result in
@@ -89,12 +89,12 @@ eval_steps-loop-step-preserved g t c =
 
 pub eval_steps-returns : goal.eval_steps-returns
 eval_steps-returns g t c =
-    leads_home step_behind c.args.steps.now c.loop-step.step-index (setting_of g.B.Before.told c.args.scene.now) c.args.place c.loop-step.value c.args.first
+    leads_home step_behind c.args.steps.now c.loop-step.step-index (setting_of g.B.Before.told c.args.context.now) c.args.place c.loop-step.value c.args.first
     (map step_behind c.args.steps.now) c.loop-step-test.false c.loop-step.invariant
 
 pub eval_members-returns-in_err-value : goal.eval_members-returns-in_err-value
 eval_members-returns-in_err-value g t c =
-    let f = member_of (setting_of g.B.Before.told c.args.scene.now) (expr c.args.member.now) in
+    let f = member_of (setting_of g.B.Before.told c.args.context.now) (expr c.args.member.now) in
     let q = c.args.quantifier in
     let i = to_z w32 c.loop-i.i-bits in
     let high = to_z w32 (of_z w32 c.args.high) in
@@ -105,7 +105,7 @@ eval_members-returns-in_err-value g t c =
 
 pub eval_members-loop-i-preserved : goal.eval_members-loop-i-preserved
 eval_members-loop-i-preserved g t c =
-    let f = member_of (setting_of g.B.Before.told c.args.scene.now) (expr c.args.member.now) in
+    let f = member_of (setting_of g.B.Before.told c.args.context.now) (expr c.args.member.now) in
     let q = c.args.quantifier in
     let i = to_z w32 c.loop-i.i-bits in
     let high = to_z w32 (of_z w32 c.args.high) in
@@ -118,7 +118,7 @@ eval_members-loop-i-preserved g t c =
 
 pub eval_members-returns : goal.eval_members-returns
 eval_members-returns g t c =
-    let f = member_of (setting_of g.B.Before.told c.args.scene.now) (expr c.args.member.now) in
+    let f = member_of (setting_of g.B.Before.told c.args.context.now) (expr c.args.member.now) in
     let q = c.args.quantifier in
     let i = to_z w32 c.loop-i.i-bits in
     let high = to_z w32 (of_z w32 c.args.high) in

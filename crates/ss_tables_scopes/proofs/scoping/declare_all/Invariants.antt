@@ -7,6 +7,6 @@ use Rattle.ss_tables_scopes.proofs.scoping.declare_all.Given as goal
 
 abbrev pub invariant-loop-declarator : goal.invariant-loop-declarator
 invariant-loop-declarator l = record {
-  declared : declare_all (scope_of l.within l.locals) (type_tree l.ty) (map declarator_tree (drop l.declarator-index l.declarators)) ≡ declare_all (scope_of l.within l.fn.locals) (type_tree l.ty) (map declarator_tree l.declarators);
+  declared : declare_all (scope_of l.context l.locals) (type_tree l.ty) (map declarator_tree (drop l.declarator-index l.declarators)) ≡ declare_all (scope_of l.context l.fn.locals) (type_tree l.ty) (map declarator_tree l.declarators);
   around : l.locals.outer ≡ l.fn.locals.outer;
 }

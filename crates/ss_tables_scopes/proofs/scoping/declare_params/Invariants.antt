@@ -6,4 +6,4 @@ use Rattle.ss_tables_scopes.proofs.scoping.declare_params.Given as goal
 
 abbrev pub invariant-loop-param : goal.invariant-loop-param
 invariant-loop-param l =
-    declare_params (scope_of l.within l.locals) (map param_tree (drop l.param-index l.params)) ≡ declare_params (scope_of l.within l.fn.locals) (map param_tree l.params)
+    declare_params (scope_of l.context l.locals) (map param_tree (drop l.param-index l.params)) ≡ declare_params (scope_of l.context l.fn.locals) (map param_tree l.params)

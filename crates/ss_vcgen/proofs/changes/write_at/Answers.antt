@@ -12,7 +12,7 @@ use Rattle.ss_vcgen_express.specs.Numbers.{meant_at as value_at}
 use Rattle.ss_vcgen_express.proofs.Grown.{HasMeant-grown}
 use Rattle.ss_vcgen_builder.specs.Builder.{position_at, walk_at}
 use Rattle.ss_vcgen_builder.proofs.Builds.{IsWalk-grown}
-use Rattle.ss_vcgen_statements.proofs.Scenes.{all_alike, meant_alike}
+use Rattle.ss_vcgen_statements.proofs.Contexts.{all_alike, meant_alike}
 use Rattle.ss_vcgen_statements.proofs.Steps.{then, so}
 use Rattle.ss_vcgen.specs.Behind.{with_two, element_written}
 use Rattle.ss_vcgen.proofs.changes.write_at.Goals as goal

@@ -7,7 +7,7 @@ use Rattle.ss_terms.specs.Forms.{term_at}
 use Rattle.ss_terms.proofs.Grown.{IsGrown-then}
 use Rattle.ss_vcgen_contracts.specs.Views.{ones_at}
 use Rattle.ss_vcgen_heaps.specs.Positions.{Position}
-use Rattle.ss_vcgen_heaps.specs.Contracts.{conditions, contract_scene, no_result}
+use Rattle.ss_vcgen_heaps.specs.Contracts.{conditions, contract_context, no_result}
 use Rattle.ss_vcgen_builder.proofs.Builds.{IsWalk-grown}
 use Rattle.ss_vcgen_statements.proofs.Steps.{stays_then}
 use Rattle.ss_vcgen_bodies.proofs.frames.entries_said.Goals as goal
@@ -29,7 +29,7 @@ returns-clause-at c =
     let g2 = c.in_ok-said.ensures.stays.grown in
     let cs = classes c.args.walk.now.core.now.classes in
     let callee = body c.args.walk.now.body.now in
-    let said = λ (z : Term) (ms : List Meant). conditions callee.entry (contract_scene cs callee z z ms (no_result callee)) in
+    let said = λ (z : Term) (ms : List Meant). conditions callee.entry (contract_context cs callee z z ms (no_result callee)) in
     record {
       has = c.in_ok-said.ensures.at.has;
       are = λ b k.

@@ -5,7 +5,7 @@ use Rattle.ss_terms.specs.declared.forms.TermId.{TermId}
 use Rattle.ss_terms.specs.Forms.{Forms, term_at}
 use Rattle.ss_terms.proofs.Grown.{IsGrown-then, HasTerm-grown, HasTerms-grown}
 use Rattle.ss_vcgen_contracts.specs.Views.{ones_at}
-use Rattle.ss_vcgen_heaps.specs.Contracts.{conditions, contract_scene}
+use Rattle.ss_vcgen_heaps.specs.Contracts.{conditions, contract_context}
 use Rattle.ss_vcgen_builder.proofs.Builds.{IsWalk-grown}
 use Rattle.ss_vcgen_statements.proofs.Steps.{stays_then}
 use Rattle.ss_vcgen_bodies.proofs.frames.exits_said.Goals as goal
@@ -36,7 +36,7 @@ returns-clause-at c =
     let g2 = c.in_ok-said.ensures.stays.grown in
     let cs = classes c.args.walk.now.core.now.classes in
     let callee = body c.args.walk.now.body.now in
-    let said = λ (b : Forms) (ms : List Meant). conditions callee.exit (contract_scene cs callee (term_at b s.store) (term_at b c.args.walk.now.entry) ms (ones_at b c.args.results.now)) in
+    let said = λ (b : Forms) (ms : List Meant). conditions callee.exit (contract_context cs callee (term_at b s.store) (term_at b c.args.walk.now.entry) ms (ones_at b c.args.results.now)) in
     record {
       has = c.in_ok-said.ensures.at.has;
       are = λ b k.

@@ -8,7 +8,7 @@ use Rattle.ss_vcgen_contracts.specs.Views.{ones_at}
 use Rattle.ss_vcgen_heaps.specs.Positions.{Position, evaluate, meant_at, term_for, with_term}
 use Rattle.ss_vcgen_express.specs.Numbers.{meant_at as value_at}
 use Rattle.ss_vcgen_builder.specs.Builder.{position_at, walk_at}
-use Rattle.ss_vcgen_statements.proofs.Scenes.{evaluate_alike, meant_alike}
+use Rattle.ss_vcgen_statements.proofs.Contexts.{evaluate_alike, meant_alike}
 use Rattle.ss_vcgen_statements.proofs.Steps.{then, so}
 use Rattle.ss_vcgen_bodies.specs.Words.{reached_result}
 use Rattle.ss_vcgen_bodies.proofs.returns.settle_there.Goals as goal

@@ -9,7 +9,7 @@ use Rattle.ss_vcgen_heaps.specs.Obligations.{into_body}
 use Rattle.ss_vcgen_builder.specs.Builder.{position_at, walk_at}
 use Rattle.ss_vcgen_builder.proofs.Builds.{IsSpot-grown}
 use Rattle.ss_vcgen_statements.proofs.Steps.{then, so, then_formula}
-use Rattle.ss_vcgen_statements.proofs.Scenes.{evaluate_alike}
+use Rattle.ss_vcgen_statements.proofs.Contexts.{evaluate_alike}
 use Rattle.ss_vcgen_bodies.specs.Words.{other_side}
 use Rattle.ss_vcgen_bodies.proofs.Spots.{spot_so}
 use Rattle.ss_vcgen_bodies.proofs.sides.enter_side.Goals as goal

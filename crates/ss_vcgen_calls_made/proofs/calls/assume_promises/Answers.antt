@@ -6,7 +6,7 @@ use Rattle.ss_vcgen_builder.proofs.Builds.{IsWalk-grown}
 use Rattle.ss_vcgen_statements.proofs.Steps.{then, so, then_formula, then_formulas, formula_later, formulas_later}
 use Rattle.ss_core.specs.View.{classes}
 use Rattle.ss_vcgen_heaps.specs.Positions.{good, assume, assume_all}
-use Rattle.ss_vcgen_heaps.specs.Contracts.{conditions, contract_scene}
+use Rattle.ss_vcgen_heaps.specs.Contracts.{conditions, contract_context}
 use Rattle.ss_vcgen_contracts.specs.Views.{contract_of, ones_at}
 use Rattle.ss_vcgen_calls_made.specs.Words.{result_said, promises_assumed}
 use Rattle.ss_vcgen_calls_made.proofs.Returning.{ones_of}
@@ -67,8 +67,8 @@ assume_all-requires-2-clause-formulas c =
     let t5 = c.assume_all.new.self in
     let e5 = c.in_ok-assume_all.ensures in
     let g5 = e5.grown in
-    let F5 = λ (b : Forms). assume_all (conditions (contract_of c.args.callee).exit (contract_scene (classes c.args.walk.now.core.now.classes) (contract_of c.args.callee) (term_at b s.store) (term_at b c.args.before) (ones_at b c.args.arguments.now) (ones_at b c.args.results.now))) (F4 b) in
-    let p5 = then_formulas s t4 t5 F4 p4 c.deref.result.now (λ b. conditions (contract_of c.args.callee).exit (contract_scene (classes c.args.walk.now.core.now.classes) (contract_of c.args.callee) (term_at b s.store) (term_at b c.args.before) (ones_at b c.args.arguments.now) (ones_at b c.args.results.now))) (λ b f k. assume_all f k) (formulas_later t2.bank t4.bank g2_4 c.deref.result.now (λ b. conditions (contract_of c.args.callee).exit (contract_scene (classes c.args.walk.now.core.now.classes) (contract_of c.args.callee) (term_at b s.store) (term_at b c.args.before) (ones_at b c.args.arguments.now) (ones_at b c.args.results.now))) (rw c.deref.ensures.value c.in_ok-said.ensures.at)) e5 in
+    let F5 = λ (b : Forms). assume_all (conditions (contract_of c.args.callee).exit (contract_context (classes c.args.walk.now.core.now.classes) (contract_of c.args.callee) (term_at b s.store) (term_at b c.args.before) (ones_at b c.args.arguments.now) (ones_at b c.args.results.now))) (F4 b) in
+    let p5 = then_formulas s t4 t5 F4 p4 c.deref.result.now (λ b. conditions (contract_of c.args.callee).exit (contract_context (classes c.args.walk.now.core.now.classes) (contract_of c.args.callee) (term_at b s.store) (term_at b c.args.before) (ones_at b c.args.arguments.now) (ones_at b c.args.results.now))) (λ b f k. assume_all f k) (formulas_later t2.bank t4.bank g2_4 c.deref.result.now (λ b. conditions (contract_of c.args.callee).exit (contract_context (classes c.args.walk.now.core.now.classes) (contract_of c.args.callee) (term_at b s.store) (term_at b c.args.before) (ones_at b c.args.arguments.now) (ones_at b c.args.results.now))) (rw c.deref.ensures.value c.in_ok-said.ensures.at)) e5 in
     let g3_5 = IsGrown-then t3.bank t4.bank t5.bank g4 g5 in
     rw c.deref-2.ensures.value (HasFormulas-grown t3.bank t5.bank g3_5 c.in_ok-typed.typed.items c.in_ok-typed.ensures.at.has)
 
@@ -149,8 +149,8 @@ returns c =
     let t5 = c.assume_all.new.self in
     let e5 = c.in_ok-assume_all.ensures in
     let g5 = e5.grown in
-    let F5 = λ (b : Forms). assume_all (conditions (contract_of c.args.callee).exit (contract_scene (classes c.args.walk.now.core.now.classes) (contract_of c.args.callee) (term_at b s.store) (term_at b c.args.before) (ones_at b c.args.arguments.now) (ones_at b c.args.results.now))) (F4 b) in
-    let p5 = then_formulas s t4 t5 F4 p4 c.deref.result.now (λ b. conditions (contract_of c.args.callee).exit (contract_scene (classes c.args.walk.now.core.now.classes) (contract_of c.args.callee) (term_at b s.store) (term_at b c.args.before) (ones_at b c.args.arguments.now) (ones_at b c.args.results.now))) (λ b f k. assume_all f k) (formulas_later t2.bank t4.bank g2_4 c.deref.result.now (λ b. conditions (contract_of c.args.callee).exit (contract_scene (classes c.args.walk.now.core.now.classes) (contract_of c.args.callee) (term_at b s.store) (term_at b c.args.before) (ones_at b c.args.arguments.now) (ones_at b c.args.results.now))) (rw c.deref.ensures.value c.in_ok-said.ensures.at)) e5 in
+    let F5 = λ (b : Forms). assume_all (conditions (contract_of c.args.callee).exit (contract_context (classes c.args.walk.now.core.now.classes) (contract_of c.args.callee) (term_at b s.store) (term_at b c.args.before) (ones_at b c.args.arguments.now) (ones_at b c.args.results.now))) (F4 b) in
+    let p5 = then_formulas s t4 t5 F4 p4 c.deref.result.now (λ b. conditions (contract_of c.args.callee).exit (contract_context (classes c.args.walk.now.core.now.classes) (contract_of c.args.callee) (term_at b s.store) (term_at b c.args.before) (ones_at b c.args.arguments.now) (ones_at b c.args.results.now))) (λ b f k. assume_all f k) (formulas_later t2.bank t4.bank g2_4 c.deref.result.now (λ b. conditions (contract_of c.args.callee).exit (contract_context (classes c.args.walk.now.core.now.classes) (contract_of c.args.callee) (term_at b s.store) (term_at b c.args.before) (ones_at b c.args.arguments.now) (ones_at b c.args.results.now))) (rw c.deref.ensures.value c.in_ok-said.ensures.at)) e5 in
     let g3_5 = IsGrown-then t3.bank t4.bank t5.bank g4 g5 in
     let t6 = c.assume_all-2.new.self in
     let e6 = c.in_ok-assume_all-2.ensures in
@@ -158,4 +158,4 @@ returns c =
     let F6 = λ (b : Forms). assume_all (result_said c.args.callee.body.now.result (term_at b s.store) (terms_at b c.args.results.now)) (F5 b) in
     let p6 = then_formulas s t5 t6 F5 p5 c.deref-2.result.now (λ b. result_said c.args.callee.body.now.result (term_at b s.store) (terms_at b c.args.results.now)) (λ b f k. assume_all f k) (formulas_later t3.bank t5.bank g3_5 c.deref-2.result.now (λ b. result_said c.args.callee.body.now.result (term_at b s.store) (terms_at b c.args.results.now)) (rw c.deref-2.ensures.value c.in_ok-typed.ensures.at)) e6 in
     so s t6 F6 (λ b. promises_assumed (classes c.args.walk.now.core.now.classes) (contract_of c.args.callee) c.args.callee.body.now.result (term_at b c.args.before) (ones_at b c.args.arguments.now) (terms_at b c.args.results.now) (F0 b))
-    (λ b k. ap (λ ms. assume_all (result_said c.args.callee.body.now.result (term_at b s.store) (terms_at b c.args.results.now)) (assume_all (conditions (contract_of c.args.callee).exit (contract_scene (classes c.args.walk.now.core.now.classes) (contract_of c.args.callee) (term_at b s.store) (term_at b c.args.before) (ones_at b c.args.arguments.now) ms)) (assume (good (term_at b s.store)) (F0 b)))) (ones_of b c.args.results.now)) p6
+    (λ b k. ap (λ ms. assume_all (result_said c.args.callee.body.now.result (term_at b s.store) (terms_at b c.args.results.now)) (assume_all (conditions (contract_of c.args.callee).exit (contract_context (classes c.args.walk.now.core.now.classes) (contract_of c.args.callee) (term_at b s.store) (term_at b c.args.before) (ones_at b c.args.arguments.now) ms)) (assume (good (term_at b s.store)) (F0 b)))) (ones_of b c.args.results.now)) p6

@@ -10,7 +10,7 @@ use Rattle.ss_vcgen_heaps.specs.Positions as spec
 use Rattle.ss_vcgen_heaps.specs.Positions.{evaluate, check, with_term, term_for}
 use Rattle.ss_vcgen_express.specs.Numbers.{meant_at, IsTerm, IsFormula}
 use Rattle.ss_vcgen_builder.specs.Builder.{position_at, walk_at}
-use Rattle.ss_vcgen_statements.proofs.Scenes.{meant_alike, evaluate_alike}
+use Rattle.ss_vcgen_statements.proofs.Contexts.{meant_alike, evaluate_alike}
 use Rattle.ss_vcgen_statements.proofs.Steps.{then, so, then_formula, term_later}
 use Rattle.ss_vcgen_calls_made.specs.Words.{length_term}
 use Rattle.ss_vcgen_calls_made.proofs.objects.check_length.Goals as goal

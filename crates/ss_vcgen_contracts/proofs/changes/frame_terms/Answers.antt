@@ -5,7 +5,7 @@ use Rattle.ss_terms.specs.Forms.{term_at, terms_at, HasTerms}
 use Rattle.ss_terms.proofs.Grown.{HasTerm-grown, HasTerms-grown}
 use Rattle.ss_frames.specs.Calls.{named_at, owner_at, HasOwned}
 use Rattle.ss_vcgen_heaps.specs.Contracts as heaps
-use Rattle.ss_vcgen_contracts.specs.Names.{names_scene}
+use Rattle.ss_vcgen_contracts.specs.Names.{names_context}
 use Rattle.ss_vcgen_contracts.specs.Views.{contract_of, ones_at}
 use Rattle.ss_vcgen_contracts.proofs.Framing.{frame_is}
 use Rattle.ss_vcgen_contracts.proofs.Owning.{captured_of_body, has_captured_behind, owned_at, has_owned}
@@ -33,6 +33,6 @@ returns-clause-at c =
       is = λ b k.
           frame_is cs c.args.contract.seen body (term_at b c.args.before) (term_at b c.args.after) (ones_at b ts) (map (named_at b) c.in_ok-found.found.0.items) (terms_at b c.in_ok-captured.captured.items)
           (map (owner_at b) c.in_ok-owned.owned.items) (terms_at b c.in_ok-outside.outside.items) (c.in_ok-found.ensures.names.are b k) (ap (terms_at b) c.in_ok-captured.ensures ∙ captured_of_body b n body.params ts)
-          (ap (map (owner_at b)) c.in_ok-owned.ensures ∙ owned_at b cs body (names_scene cs (contract_of c.args.contract) (term_at b c.args.before) (ones_at b ts)) object (sym (c.in_ok-found.ensures.object.is b k)))
+          (ap (map (owner_at b)) c.in_ok-owned.ensures ∙ owned_at b cs body (names_context cs (contract_of c.args.contract) (term_at b c.args.before) (ones_at b ts)) object (sym (c.in_ok-found.ensures.object.is b k)))
           ∙ ap (λ os. heaps.frame_terms cs (contract_of c.args.contract) (term_at b c.args.before) (term_at b c.args.after) (ones_at b ts) (terms_at b os)) c.in_ok-outside.ensures.items;
     }

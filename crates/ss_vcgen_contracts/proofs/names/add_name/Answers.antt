@@ -6,7 +6,7 @@ use Rattle.ss_terms.specs.Forms.{formulas_at}
 use Rattle.ss_terms.proofs.Grown.{IsGrown-then}
 use Rattle.ss_frames.specs.Calls.{named_at}
 use Rattle.ss_vcgen_express.specs.Numbers.{meant_at}
-use Rattle.ss_vcgen_express.specs.Scenes.{scene_at}
+use Rattle.ss_vcgen_express.specs.Contexts.{context_at}
 use Rattle.ss_vcgen_heaps.specs.Contracts as heaps
 use Rattle.ss_vcgen_contracts.specs.Names.{named_as}
 use Rattle.ss_vcgen_contracts.proofs.Listing.{HasAllNamed-grown}
@@ -18,7 +18,7 @@ add_meant-requires-clause-names c = HasAllNamed-grown c.args.bank.now c.naming.n
 
 pub returns-clause-at : goal.returns-clause-at
 returns-clause-at c =
-    let s = c.args.scene.now in
+    let s = c.args.context.now in
     let n = view.named_of c.args.name.now in
     let kind = c.kind_of-kind.result in
     let m = c.in_ok-named.named.1 in
@@ -31,8 +31,8 @@ returns-clause-at c =
           ∙ ap (λ l. map (named_at b) c.args.names.now.items ++ l)
           (ap (λ fs. named_as kind (formulas_at b fs) (meant_at b m)) c.deref.ensures.value
           ∙ ap (λ gs. named_as kind gs (meant_at b m)) (c.in_ok-named.ensures.parts.are b h)
-          ∙ ap (named_as kind (heaps.naming_parts e (scene_at b s))) (c.in_ok-named.ensures.meant.is b h)
-          ∙ ap (λ u. named_as kind (heaps.naming_parts u (scene_at b s)) (meant u (scene_at b s))) c.subject_of.ensures
-          ∙ ap (λ i. named_as i (heaps.naming_parts (subject_of n) (scene_at b s)) (meant (subject_of n) (scene_at b s))) c.kind_of-kind.ensures
-          ∙ names_by_kind c.args.seen n (scene_at b s));
+          ∙ ap (named_as kind (heaps.naming_parts e (context_at b s))) (c.in_ok-named.ensures.meant.is b h)
+          ∙ ap (λ u. named_as kind (heaps.naming_parts u (context_at b s)) (meant u (context_at b s))) c.subject_of.ensures
+          ∙ ap (λ i. named_as i (heaps.naming_parts (subject_of n) (context_at b s)) (meant (subject_of n) (context_at b s))) c.kind_of-kind.ensures
+          ∙ names_by_kind c.args.seen n (context_at b s));
     }

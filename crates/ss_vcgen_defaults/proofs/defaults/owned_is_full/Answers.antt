@@ -9,7 +9,7 @@ use Rattle.ss_vcgen_defaults.proofs.defaults.owned_is_full.Goals as goal
 
 pub returns-clause-at : goal.returns-clause-at
 returns-clause-at c =
-    let e = c.args.scene.now in
+    let e = c.args.context.now in
     formula_so c.all.result c.all.new.bank (λ b. and_of (formulas_at b c.deref-2.result.now)) (λ b. owned_is_full (classes e.classes.now) c.args.class.0 (term_at b e.now) (term_at b c.args.v) (term_at b c.args.x))
     (λ b k.
     ap (λ fs. and_of fs)

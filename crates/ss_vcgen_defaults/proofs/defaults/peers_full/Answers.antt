@@ -10,14 +10,14 @@ use Rattle.ss_vcgen_defaults.proofs.defaults.peers_full.Goals as goal
 
 pub is_full_if_peer-requires : goal.is_full_if_peer-requires
 is_full_if_peer-requires c = record {
-  store = HasTerm-grown c.args.bank.now c.bound_name.new.bank c.in_ok-v.ensures.grown c.args.scene.now.now c.requires.scene.now;
+  store = HasTerm-grown c.args.bank.now c.bound_name.new.bank c.in_ok-v.ensures.grown c.args.context.now.now c.requires.context.now;
   object = c.in_ok-v.ensures.at.has;
   peer = HasTerm-grown c.args.bank.now c.bound_name.new.bank c.in_ok-v.ensures.grown c.args.x c.requires.object;
 }
 
 pub returns-clause-at : goal.returns-clause-at
 returns-clause-at c =
-    let e = c.args.scene.now in
+    let e = c.args.context.now in
     formula_so c.for_all.result c.for_all.new.bank (λ b. Forall (sort.Rest ∷ []) (formula_at b c.in_ok-f.f)) (λ b. Forall (sort.Rest ∷ []) (full_if_peer (term_at b e.now) (Bound e.bound) (term_at b c.args.x)))
     (λ b k.
     let kf = IsGrown-then c.is_full_if_peer.new.bank c.for_all.new.bank b c.for_all.ensures.grown k in

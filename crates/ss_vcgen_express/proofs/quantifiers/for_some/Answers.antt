@@ -4,7 +4,7 @@ use Rattle.ss_logic.specs.declared.Sort.TheVariants as sort
 use Rattle.ss_logic.specs.Formulas.{Formula, Exists, neg}
 use Rattle.ss_terms.specs.Forms.{formula_at, formulas_at}
 use Rattle.ss_terms.proofs.Grown.{IsGrown-then, formulas_at-grown}
-use Rattle.ss_vcgen_express.specs.Scenes.{for_some}
+use Rattle.ss_vcgen_express.specs.Contexts.{for_some}
 use Rattle.ss_vcgen_express.proofs.Grown.{formula_so}
 use Rattle.ss_vcgen_express.proofs.quantifiers.for_some.Goals as goal
 

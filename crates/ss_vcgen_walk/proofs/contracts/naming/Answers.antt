@@ -4,7 +4,7 @@ use Rattle.ss_logic_express.specs.Express as spec
 use Rattle.ss_terms.proofs.Grown.{IsGrown-then}
 use Rattle.ss_vcgen_express.specs.Marked.{formulas_of}
 use Rattle.ss_vcgen_express.specs.Numbers.{meant_at}
-use Rattle.ss_vcgen_express.specs.Scenes.{scene_at}
+use Rattle.ss_vcgen_express.specs.Contexts.{context_at}
 use Rattle.ss_vcgen_express.proofs.Grown.{HasMeant-grown}
 use Rattle.ss_vcgen_walk.specs.Parts.{parts_at}
 use Rattle.ss_vcgen_walk.proofs.contracts.naming.Goals as goal
@@ -26,8 +26,8 @@ returns-clause-parts c =
           c.in_ok-list.ensures.at.are b k
           ∙ ap (λ l. formulas_of (parts_at b l) ++ spec.not_null (meant_at b c.in_ok-m.m) ∷ []) c.deref.ensures.value
           ∙ ap (λ l. l ++ spec.not_null (meant_at b c.in_ok-m.m) ∷ []) (read.defined b g)
-          ∙ ap (λ l. (formulas_of (parts_at b l) ++ spec.defined (expr a.e.now) (scene_at b a.scene.now)) ++ spec.not_null (meant_at b c.in_ok-m.m) ∷ []) c.new-parts.ensures.items
-          ∙ ap (λ x. spec.defined (expr a.e.now) (scene_at b a.scene.now) ++ spec.not_null x ∷ []) (read.meant.is b g);
+          ∙ ap (λ l. (formulas_of (parts_at b l) ++ spec.defined (expr a.e.now) (context_at b a.context.now)) ++ spec.not_null (meant_at b c.in_ok-m.m) ∷ []) c.new-parts.ensures.items
+          ∙ ap (λ x. spec.defined (expr a.e.now) (context_at b a.context.now) ++ spec.not_null x ∷ []) (read.meant.is b g);
     }
 
 pub returns-clause-meant : goal.returns-clause-meant

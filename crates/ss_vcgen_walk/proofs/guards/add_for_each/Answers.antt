@@ -1,6 +1,6 @@
 use Rattle.ss_terms.specs.Forms.{Forms, formulas_at}
 use Rattle.ss_terms.proofs.Grown.{IsGrown-refl, IsGrown-then, HasFormulas-grown}
-use Rattle.ss_vcgen_express.specs.Scenes.{for_each}
+use Rattle.ss_vcgen_express.specs.Contexts.{for_each}
 use Rattle.ss_vcgen_walk.proofs.Composing.{parts_next, parts_none}
 use Rattle.ss_vcgen_walk.proofs.Growing.{HasParts-grown, HasParts-get, no_part}
 use Rattle.ss_vcgen_walk.proofs.guards.add_for_each.Goals as goal

@@ -1,7 +1,7 @@
 use Rattle.std.proofs.Common.{◌++◌, map, take}
 use Rattle.ss_terms.specs.Forms.{formulas_at, IsGrown}
 use Rattle.ss_vcgen_express.specs.Marked.{with_marked}
-use Rattle.ss_vcgen_express.specs.Scenes.{for_each}
+use Rattle.ss_vcgen_express.specs.Contexts.{for_each}
 use Rattle.ss_vcgen_walk.specs.Parts.{parts_at, AreParts}
 use Rattle.ss_vcgen_walk.proofs.guards.add_for_each.Given as goal
 

@@ -5,7 +5,7 @@ use Rattle.ss_logic_express.specs.Express.{index_fits}
 use Rattle.ss_terms.specs.Forms.{Forms}
 use Rattle.ss_vcgen_express.specs.Marked.{Marked, marked_part}
 use Rattle.ss_vcgen_express.specs.Numbers.{meant_at}
-use Rattle.ss_vcgen_express.specs.Scenes.{scene_at}
+use Rattle.ss_vcgen_express.specs.Contexts.{context_at}
 use Rattle.ss_vcgen_express.proofs.Grown.{HasMeant-grown}
 use Rattle.ss_vcgen_walk.specs.Asked.{asked_readable}
 use Rattle.ss_vcgen_walk.specs.Parts.{parts_at}
@@ -21,6 +21,6 @@ pub returns-clause-asked : goal.returns-clause-asked
 returns-clause-asked c =
     let a = c.args in
     on_ok_weaker c.ask_two.result
-    (parts_then c.ask_readable.new.bank c.ask_two.new.bank c.ask_readable.new.parts.items c.ask_two.new.parts.items (λ (b : Forms). parts_at b a.parts.now.items ++ asked_readable a.checked (scene_at b a.scene.now) (meant_at b a.x.now) a.place)
+    (parts_then c.ask_readable.new.bank c.ask_two.new.bank c.ask_readable.new.parts.items c.ask_two.new.parts.items (λ (b : Forms). parts_at b a.parts.now.items ++ asked_readable a.checked (context_at b a.context.now) (meant_at b a.x.now) a.place)
     (λ (b : Forms) (ps : List Marked). ps ++ marked_part kind.Index a.place true (index_fits (meant_at b a.x.now) (meant_at b a.y.now))) c.ask_two.ensures.grown c.in_ok-ask_readable.ensures.asked)
     c.ask_two.ensures.asked

@@ -3,9 +3,9 @@ use Rattle.std.proofs.lemmas.Result.{on_ok_weaker}
 use Rattle.ss_terms.specs.Forms.{Forms}
 use Rattle.ss_vcgen_express.specs.Marked.{Marked}
 use Rattle.ss_vcgen_express.specs.Numbers.{meant_at}
-use Rattle.ss_vcgen_express.specs.Scenes.{scene_at}
+use Rattle.ss_vcgen_express.specs.Contexts.{context_at}
 use Rattle.ss_vcgen_express.proofs.Grown.{HasMeant-grown}
-use Rattle.ss_vcgen_express.proofs.Scenes.{HasScene-grown}
+use Rattle.ss_vcgen_express.proofs.Contexts.{HasContext-grown}
 use Rattle.ss_vcgen_walk.specs.Forms.{second_asks, asks_behind}
 use Rattle.ss_vcgen_walk.specs.Parts.{parts_at}
 use Rattle.ss_vcgen_walk.proofs.Composing.{parts_then}
@@ -14,12 +14,12 @@ use Rattle.ss_vcgen_walk.proofs.twos.ask_two_behind.Goals as goal
 pub ask_behind-requires : goal.ask_behind-requires
 ask_behind-requires c =
     let g = c.add_second.ensures.grown in
-    record { scene = HasScene-grown g c.args.scene.now c.requires.scene; first = HasMeant-grown g c.args.x.now c.requires.first; second = HasMeant-grown g c.args.y.now c.requires.second; parts = c.in_ok-add_second.ensures.asked.has }
+    record { context = HasContext-grown g c.args.context.now c.requires.context; first = HasMeant-grown g c.args.x.now c.requires.first; second = HasMeant-grown g c.args.y.now c.requires.second; parts = c.in_ok-add_second.ensures.asked.has }
 
 pub returns-clause-asked : goal.returns-clause-asked
 returns-clause-asked c =
     let a = c.args in
     on_ok_weaker c.ask_behind.result
     (parts_then c.add_second.new.bank c.ask_behind.new.bank c.add_second.new.parts.items c.ask_behind.new.parts.items (λ (b : Forms). parts_at b a.parts.now.items ++ second_asks a.form (meant_at b a.x.now) (parts_at b a.list.now))
-    (λ (b : Forms) (ps : List Marked). asks_behind a.form ps (scene_at b a.scene.now) (meant_at b a.x.now) (meant_at b a.y.now)) c.ask_behind.ensures.grown c.in_ok-add_second.ensures.asked)
+    (λ (b : Forms) (ps : List Marked). asks_behind a.form ps (context_at b a.context.now) (meant_at b a.x.now) (meant_at b a.y.now)) c.ask_behind.ensures.grown c.in_ok-add_second.ensures.asked)
     c.ask_behind.ensures.asked

@@ -7,13 +7,13 @@ use Rattle.ss_store_rules.specs.NonNull.{is_never_null}
 use Rattle.ss_terms.specs.Forms.{Forms}
 use Rattle.ss_vcgen_express.specs.Marked.{Marked, marked_part}
 use Rattle.ss_vcgen_express.specs.Numbers.{meant_at}
-use Rattle.ss_vcgen_express.specs.Scenes.{scene_at}
+use Rattle.ss_vcgen_express.specs.Contexts.{context_at}
 use Rattle.ss_vcgen_express.proofs.Grown.{HasMeant-grown}
 use Rattle.ss_vcgen_heaps.specs.Parts.{fits_class}
 use Rattle.ss_vcgen_walk.specs.Asked.{asked_null}
 use Rattle.ss_vcgen_walk.specs.Forms.{cast_asks}
 use Rattle.ss_vcgen_walk.specs.Parts.{parts_at}
-use Rattle.ss_vcgen_walk.specs.Sights.{site_at, known_at}
+use Rattle.ss_vcgen_walk.specs.NullContexts.{type_context_at, known_at}
 use Rattle.ss_vcgen_walk.proofs.Composing.{parts_so, parts_then}
 use Rattle.ss_vcgen_walk.proofs.walk.ask_cast.Goals as goal
 
@@ -29,7 +29,7 @@ returns-clause-asked c =
     let fitting = λ (b : Forms) (y : Bool) (ps : List Marked). ps ++ marked_part kind.Cast a.place y (fits_class a.class.0 (meant_at b a.m.now)) in
     on_ok_weaker c.ask_fitting.result
     (λ h. parts_so d qs (λ (b : Forms). fitting b c.may_be_other-checked.result (passing b c.may_be_null-may_be_null.result))
-    (λ (b : Forms). cast_asks (site_at a.sight.now) (known_at a.sight.now) (scene_at b a.scene.now) a.place a.class.0 a.non_null (expr a.e.now) (parts_at b a.parts.now.items) (meant_at b a.m.now))
-    (λ b k. ap (λ x. fitting b c.may_be_other-checked.result (passing b x)) c.may_be_null-may_be_null.ensures ∙ ap (λ y. fitting b y (passing b (not (is_never_null (site_at a.sight.now) (known_at a.sight.now) a.scene.now.inside_old (expr a.e.now))))) c.may_be_other-checked.ensures)
+    (λ (b : Forms). cast_asks (type_context_at a.nulls.now) (known_at a.nulls.now) (context_at b a.context.now) a.place a.class.0 a.non_null (expr a.e.now) (parts_at b a.parts.now.items) (meant_at b a.m.now))
+    (λ b k. ap (λ x. fitting b c.may_be_other-checked.result (passing b x)) c.may_be_null-may_be_null.ensures ∙ ap (λ y. fitting b y (passing b (not (is_never_null (type_context_at a.nulls.now) (known_at a.nulls.now) a.context.now.inside_old (expr a.e.now))))) c.may_be_other-checked.ensures)
     (parts_then c.ask_passing.new.bank d c.ask_passing.new.parts.items qs (λ (b : Forms). passing b c.may_be_null-may_be_null.result) (λ (b : Forms). fitting b c.may_be_other-checked.result) c.ask_fitting.ensures.grown c.in_ok-ask_passing.ensures.asked h))
     c.ask_fitting.ensures.asked

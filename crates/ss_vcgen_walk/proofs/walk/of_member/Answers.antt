@@ -4,7 +4,7 @@ use Rattle.ss_terms.specs.Forms.{Forms, formulas_at}
 use Rattle.ss_terms.proofs.Grown.{HasFormulas-grown}
 use Rattle.ss_vcgen_express.specs.Marked.{with_marked}
 use Rattle.ss_vcgen_express.specs.Numbers.{meant_at}
-use Rattle.ss_vcgen_express.specs.Scenes.{for_each, quantified_over}
+use Rattle.ss_vcgen_express.specs.Contexts.{for_each, quantified_over}
 use Rattle.ss_vcgen_express.proofs.Grown.{HasMeant-grown}
 use Rattle.ss_vcgen_walk.specs.Parts.{parts_at}
 use Rattle.ss_vcgen_walk.proofs.Composing.{AreParts-grown, expressed_by}

@@ -1,9 +1,9 @@
-use Rattle.std.proofs.Common.{◌∙◌, sym, arith}
+use Rattle.std.proofs.Common.{◌∙◌, sym, refl, arith}
 use Rattle.ss_terms.specs.declared.forms.TermId.{TermId}
 use Rattle.ss_terms.specs.Forms.{symbol_of, term_at}
 use Rattle.ss_terms.proofs.Sorted.{closed_sorted}
 use Rattle.ss_terms.proofs.Trees.{AreTermsBelow-more}
-use Rattle.ss_terms.proofs.Parts.{AreTermsBelow-get, not_taken, taken, if_ok_same, if_ok_at}
+use Rattle.ss_terms.proofs.Parts.{AreTermsBelow-get, not_taken, taken, if_ok_same}
 use Rattle.ss_terms.proofs.bank.Bank.+sorting.Goals as goal
 
 pub are_sorted_under-is_sorted_under-requires : goal.are_sorted_under-is_sorted_under-requires
@@ -13,19 +13,17 @@ are_sorted_under-is_sorted_under-requires t c =
     let room = c.requires.there in
     let d = c.decreases in (omega (arith, small, d), omega (arith, small, room))
 
-pub is_applied_under-sorts_under-requires : goal.is_applied_under-sorts_under-requires
-is_applied_under-sorts_under-requires t c = AreTermsBelow-more c.args.below _ c.requires.there c.args.arguments.now c.requires.below
+pub is_applied_under-takes_terms-requires : goal.is_applied_under-takes_terms-requires
+is_applied_under-takes_terms-requires t c = AreTermsBelow-more c.args.below _ c.requires.there c.args.arguments.now c.requires.below
 
-pub is_applied_under-returns-then-not-takes : goal.is_applied_under-returns-then-not-takes
-is_applied_under-returns-then-not-takes t c = λ cs is.
-    not_taken cs c.args.bound.now c.args.self.now (symbol_of c.args.symbol) c.args.arguments.now c.deref.result.now
-    (c.deref.ensures.value ∙ if_ok_at _ _ _ c.in_ok-sorts.was (c.sorts_under.ensures cs is)) (c.if-not-takes.ensures cs (c.fields.ensures ∙ is))
+pub is_applied_under-returns-then-not-is_taken : goal.is_applied_under-returns-then-not-is_taken
+is_applied_under-returns-then-not-is_taken t c = λ cs is.
+    not_taken cs c.args.bound.now c.args.self.now (symbol_of c.args.symbol) c.args.arguments.now _ refl (sym c.if-not-is_taken.true ∙ c.in_ok-is_taken.ensures cs is)
 
 pub is_applied_under-returns : goal.is_applied_under-returns
 is_applied_under-returns t c = λ cs is.
     if_ok_same c.are_sorted_under.result _ _
-    (taken cs c.args.bound.now c.args.self.now (symbol_of c.args.symbol) c.args.arguments.now c.deref.result.now
-    (c.deref.ensures.value ∙ if_ok_at _ _ _ c.in_ok-sorts.was (c.sorts_under.ensures cs is)) (c.if-not-takes.ensures cs (c.fields.ensures ∙ is)))
+    (taken cs c.args.bound.now c.args.self.now (symbol_of c.args.symbol) c.args.arguments.now _ refl (sym c.if-not-is_taken.false ∙ c.in_ok-is_taken.ensures cs is))
     (c.are_sorted_under.ensures cs is)
 
 pub is_sorted_under-returns-then-is_well_sorted : goal.is_sorted_under-returns-then-is_well_sorted

@@ -1,17 +1,13 @@
 use Rattle.std.proofs.Common.{◌*◌, sym, ap, ◌∙◌, subst, length, map, refl}
 use Rattle.ss_logic.specs.Formulas.{neg}
 use Rattle.ss_terms.specs.Forms.{AndShape, OrShape, ForallShape, ExistsShape, HasParts, AreBelow, shape_of, other, formula_of, term_at, formula_at}
-use Rattle.ss_terms.proofs.Signs.{others_others, others_below}
+use Rattle.ss_terms.proofs.Signs.{others_below}
 use Rattle.ss_terms.proofs.Banks.{negated_at, opposite_form}
 use Rattle.ss_terms.proofs.bank.Bank.formula.Goals as goal
 
-pub pair-requires-in-Or-clause-negation : goal.pair-requires-in-Or-clause-negation
-pair-requires-in-Or-clause-negation c =
-    ap OrShape (sym (ap (map other) (c.in_ok-others-in-Or.ensures ∙ ap (map other) c.deref-in-Or.ensures.value) ∙ others_others c.in-Or.parts.items))
-
 pub pair-requires-in-Or-clause-parts : goal.pair-requires-in-Or-clause-parts
 pair-requires-in-Or-clause-parts c =
-    subst (AreBelow (length c.args.self.now.formulas * 2)) (sym (c.in_ok-others-in-Or.ensures ∙ ap (map other) c.deref-in-Or.ensures.value))
+    subst (AreBelow (length c.args.self.now.formulas * 2)) (sym (c.in_ok-others-in-Or.ensures ∙ ap (map other) c.deref.ensures.value))
     (others_below (length c.args.self.now.formulas) c.in-Or.parts.items (subst (λ n. HasParts c.args.self.now (shape_of n)) c.in-Or.is c.requires))
 
 pub returns-in_ok-number-in-Or-clause-at : goal.returns-in_ok-number-in-Or-clause-at
@@ -20,7 +16,7 @@ returns-in_ok-number-in-Or-clause-at c =
     let at = negated_at c.pair-in-Or.new.self c.in_ok-number-in-Or.number (record { 0 = _ }) refl c.in_ok-number-in-Or.ensures.in_bank in (
       at.0,
       at.1
-          ∙ ap neg (c.in_ok-number-in-Or.ensures.at ∙ ap (λ fs. formula_of (term_at b) (formula_at b) (AndShape fs)) (c.in_ok-others-in-Or.ensures ∙ ap (map other) c.deref-in-Or.ensures.value))
+          ∙ ap neg (c.in_ok-number-in-Or.ensures.at ∙ ap (λ fs. formula_of (term_at b) (formula_at b) (AndShape fs)) (c.in_ok-others-in-Or.ensures ∙ ap (map other) c.deref.ensures.value))
           ∙ opposite_form b (OrShape c.in-Or.parts.items)
           ∙ ap (λ n. formula_of (term_at b) (formula_at b) (shape_of n)) (sym c.in-Or.is),
     )
@@ -32,8 +28,7 @@ returns-in_ok-number-in-Exists-clause-at c =
       at.0,
       at.1
           ∙ ap neg (c.in_ok-number-in-Exists.ensures.at
-          ∙ ap (λ ss. formula_of (term_at b) (formula_at b) (ForallShape ss c.opposite-in-Exists.result)) (c.in_ok-same-in-Exists.ensures.items ∙ c.deref-in-Exists.ensures.value)
-          ∙ ap (λ f. formula_of (term_at b) (formula_at b) (ForallShape c.in-Exists.sorts.items f)) c.opposite-in-Exists.ensures)
+          ∙ ap (λ f. formula_of (term_at b) (formula_at b) (ForallShape c.in-Exists.sorts.items f)) c.opposite.ensures)
           ∙ opposite_form b (ExistsShape c.in-Exists.sorts.items c.in-Exists.body)
           ∙ ap (λ n. formula_of (term_at b) (formula_at b) (shape_of n)) (sym c.in-Exists.is),
     )

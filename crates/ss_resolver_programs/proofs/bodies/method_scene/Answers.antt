@@ -1,5 +1,0 @@
-use Rattle.ss_resolver_programs.proofs.Bodied.{result_is}
-use Rattle.ss_resolver_programs.proofs.bodies.method_scene.Goals as goal
-
-pub returns : goal.returns
-returns c = λ a. result_is c.args.scene.now c.outcome_of.result _ a c.outcome_of.ensures
