@@ -73,8 +73,15 @@ pub enum Stmt {
     If(Place, Expr, Box<Stmt>, Option<Box<Stmt>>),
     /// The test, the invariants and the body.
     While(Place, Expr, Vec<Expr>, Box<Stmt>),
-    /// The beginning, the test, the step, the invariants and the body.
-    For(Place, Option<ForInit>, Option<Expr>, Option<Simple>, Vec<Expr>, Box<Stmt>),
+    /// `for (first; test; step) invariant ..; body`
+    For {
+        place: Place,
+        first: Option<ForInit>,
+        test: Option<Expr>,
+        step: Option<Simple>,
+        invariants: Vec<Expr>,
+        body: Box<Stmt>,
+    },
     Return(Place, Option<Expr>),
     Assert(Place, Expr),
     Assume(Place, Expr),

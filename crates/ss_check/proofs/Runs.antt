@@ -1,11 +1,11 @@
 -- Whole runs.
 use Rattle.std.proofs.Common.{◌≡◌, ℕ, ◌+◌, ◌*◌, ◌<◌, List, [], ◌∷◌, ◌++◌, length, map, take, drop, reverse, Bool, true, false, Some, None, refl, sym, ◌∙◌, ap, arith, get_or, nat_lt}
-use Rattle.std.proofs.lemmas.List.{drop_more, drop-map, reverse-append, reverse-reverse, map_push, length_push, length-take-le}
+use Rattle.std.proofs.lemmas.List.{drop_more, drop-map, reverse-append, map_push, length_push, length-take-le}
 use Rattle.std.proofs.lemmas.Bool.{and_parts, ltb-true}
 use Rattle.std.specs.Prelude.{if◌then◌else◌}
 use Rattle.ss_core.specs.Tree.{ClassTree}
 use Rattle.ss_logic.specs.Formulas.{Formula}
-use Rattle.ss_logic_derivations.specs.Steps.{State, Open, Between, add_fact, fact_of, step_open, step, bad_from, at_end, Nowhere, Case as TreeCase, Cut as TreeCut, Inst as TreeInst, Rule as TreeRule, GoodLine as TreeGood, InvariantsLine as TreeInvariants, Swap as TreeSwap}
+use Rattle.ss_logic_derivations.specs.Steps.{State, Open, Between, add_fact, fact_of, step_open, step, bad_from, Nowhere, Case as TreeCase, Cut as TreeCut, Inst as TreeInst, Rule as TreeRule, GoodLine as TreeGood, InvariantsLine as TreeInvariants, Swap as TreeSwap}
 use Rattle.ss_terms.specs.declared.forms.TermId.{TermId}
 use Rattle.ss_terms.specs.declared.forms.FormulaId.{FormulaId}
 use Rattle.ss_deriv.specs.declared.line.Line.{Line}
@@ -15,7 +15,7 @@ use Rattle.ss_deriv.specs.Lines.{all_below, is_within, line_in, line_of}
 use Rattle.ss_terms.proofs.Grown.{HasTerm-grown, HasTerms-grown, HasFormula-grown, terms_at-grown, formulas_at-grown}
 use Rattle.ss_check_steps.specs.Numbered.{IsStepped}
 use Rattle.ss_check.specs.Within.{LineWithin}
-use Rattle.ss_check_steps.specs.Stack.{cases_from, IsStack, state_of, AreCases, IsReopened}
+use Rattle.ss_check_steps.specs.Stack.{IsStack, state_of, AreCases, IsReopened}
 use Rattle.ss_check_steps.proofs.Numbers.{HasFormulas-take, HasFormulas-push}
 use Rattle.ss_check_steps.proofs.Stacks.{cases_from-longer, cases_from-cut, IsStack-longer}
 
@@ -154,18 +154,6 @@ module _ (cs : List ClassTree) (a b : Forms) (grown : IsGrown a b) (premises : L
       let e : step cs (formulas_at a premises) (formula_at a goal) state (line_of a line) ≡ None =
       ap (λ t. step cs (formulas_at a premises) (formula_at a goal) state (if t then line_in a line else Nowhere)) h ∙ nowhere cs (formulas_at a premises) (formula_at a goal) state in
       rw (front, e) refl
-
--- the end of the lines
-pub done_end : (b : Forms) (o : Bool) (known : List FormulaId) (w : List (ℕ × FormulaId)) (n : ℕ) → o ≡ false → w ≡ [] → at_end (state_of b o known w) n ≡ None
-done_end b o known w n e f = rw (e, f) refl
-
-pub not_done_end : (b : Forms) (o : Bool) (known : List FormulaId) (w : List (ℕ × FormulaId)) (n : ℕ) → ((o ≡ false) × (w ≡ []) → ⊥) → at_end (state_of b o known w) n ≡ Some n
-not_done_end b true known w n h = refl
-not_done_end b false known w n h = by_stack (reverse w) refl
-  where
-    by_stack : (s : List (ℕ × FormulaId)) → reverse w ≡ s → at_end (Between (cases_from b known s)) n ≡ Some n
-    by_stack [] e = absurd (h (refl, sym (reverse-reverse w) ∙ ap reverse e))
-    by_stack (c ∷ s) e = refl
 
 pub counted : (terms formulas n m : ℕ) (line : Line) (held : Bool) → terms ≡ n → formulas ≡ m → held ≡ is_within terms formulas line → is_within n m line ≡ held
 counted terms formulas n m line held e f h = sym (ap (λ k. is_within n k line) f) ∙ sym (ap (λ k. is_within k formulas line) e) ∙ sym h

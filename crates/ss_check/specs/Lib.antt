@@ -1,1 +1,2 @@
+pub mod Delayed
 pub mod Within

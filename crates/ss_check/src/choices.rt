@@ -9,6 +9,7 @@ ghost use Rattle.ss_logic_derivations.specs.Steps.{choice};
 ghost use Rattle.ss_terms.specs.Forms.{formula_at, formulas_at, terms_at, HasTerms, HasFormula, HasFormulas, IsGrown, IsBankOf};
 ghost use Rattle.ss_check_steps.specs.Numbered.{IsNumberOf};
 
+use crate::context::CheckContext;
 use ss_core::Classes;
 use ss_logic::Sort;
 use ss_terms::{Bank, Formula, FormulaId, TermId};
@@ -34,27 +35,25 @@ fn used(
 
 /// Whether the terms are new constants of these sorts.
 fn are_choices(
-    alloc: Global,
     bank: &Bank,
-    premises: &[FormulaId],
-    goal: FormulaId,
+    context: &CheckContext<'_>,
     known: &[FormulaId],
     sorts: &[Sort],
     body: FormulaId,
     ts: &[TermId],
 ) -> Result<bool, AllocError>
-    requires premises { HasFormulas bank.now premises.now }
-    requires goal { HasFormula bank.now goal }
+    requires premises { HasFormulas bank.now context.now.premises.now }
+    requires goal { HasFormula bank.now context.now.goal }
     requires known { HasFormulas bank.now known.now }
     requires body { HasFormula bank.now body }
     requires terms { HasTerms bank.now ts.now }
-    ensures { IfOk result (λ yes. yes ≡ (steps.are_constants sorts.now (terms_at bank.now ts.now) && steps.are_new (formula_at bank.now body ∷ formula_at bank.now goal ∷ formulas_at bank.now premises.now ++ formulas_at bank.now known.now) (terms_at bank.now ts.now))) }
+    ensures { IfOk result (λ yes. yes ≡ (steps.are_constants sorts.now (terms_at bank.now ts.now) && steps.are_new (formula_at bank.now body ∷ formula_at bank.now context.now.goal ∷ formulas_at bank.now context.now.premises.now ++ formulas_at bank.now known.now) (terms_at bank.now ts.now))) }
 {
     if !are_constants(bank, sorts, ts) {
         return Ok(false);
     }
-    let used = used(alloc, body, goal, premises, known)?;
-    are_new(alloc, bank, &used, ts)
+    let used = used(context.alloc, body, context.goal, context.premises, known)?;
+    are_new(context.alloc, bank, &used, ts)
 }
 
 /// There is nothing of the kind, or the constants are such.
@@ -81,31 +80,28 @@ fn chosen(
 
 /// For an `exists`: there is nothing of the kind, or these new constants are such.
 pub(crate) fn choose(
-    alloc: Global,
     bank: &mut Bank,
-    classes: &Classes,
-    premises: &[FormulaId],
-    goal: FormulaId,
+    context: &CheckContext<'_>,
     known: &[FormulaId],
     f: FormulaId,
     ts: &[TermId],
 ) -> Result<Option<FormulaId>, AllocError>
-    requires bank { IsBankOf (view.classes classes.now) bank.old }
-    requires premises { HasFormulas bank.old premises.now }
-    requires goal { HasFormula bank.old goal }
+    requires bank { IsBankOf (view.classes context.now.classes.now) bank.old }
+    requires premises { HasFormulas bank.old context.now.premises.now }
+    requires goal { HasFormula bank.old context.now.goal }
     requires known { HasFormulas bank.old known.now }
     requires formula { HasFormula bank.old f }
     requires terms { HasTerms bank.old ts.now }
-    ensures fact { IfOk result (λ o. IsNumberOf bank.new o (choice (formula_at bank.old goal ∷ formulas_at bank.old premises.now ++ formulas_at bank.old known.now) (formula_at bank.old f) (terms_at bank.old ts.now))) }
+    ensures fact { IfOk result (λ o. IsNumberOf bank.new o (choice (formula_at bank.old context.now.goal ∷ formulas_at bank.old context.now.premises.now ++ formulas_at bank.old known.now) (formula_at bank.old f) (terms_at bank.old ts.now))) }
     ensures grown { IsGrown bank.old bank.new }
 {
     match bank.formula_node(f) {
         Formula::Exists(sorts, body) => {
             let body = *body;
-            if !are_choices(alloc, bank, premises, goal, known, sorts, body, ts)? {
+            if !are_choices(bank, context, known, sorts, body, ts)? {
                 return Ok(None);
             }
-            chosen(alloc, bank, classes, f, body, ts)
+            chosen(context.alloc, bank, context.classes, f, body, ts)
         }
         _ => Ok(None),
     }

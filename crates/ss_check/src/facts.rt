@@ -10,51 +10,45 @@ ghost use Rattle.ss_check_steps.specs.Numbered.{IsNumberOf};
 ghost use Rattle.ss_check.specs.Within.{LineWithin};
 
 use crate::choices::choose;
+use crate::context::CheckContext;
 use crate::instances::{good, invariants, rule};
 use crate::sums::sum;
 use ss_check_steps::{chain, cong, inst, known_at, part, swap};
-use ss_core::Classes;
 use ss_deriv::Line;
 use ss_terms::{Bank, FormulaId};
-use std::alloc::{AllocError, Global};
+use std::alloc::AllocError;
 
 /// The formula that a line makes known.
 pub(crate) fn fact(
-    alloc: Global,
     bank: &mut Bank,
-    classes: &Classes,
-    premises: &[FormulaId],
-    goal: FormulaId,
+    context: &CheckContext<'_>,
     known: &[FormulaId],
     line: &Line,
 ) -> Result<Option<FormulaId>, AllocError>
-    requires bank { IsBankOf (view.classes classes.now) bank.old }
-    requires limits { IsWithinLimits (view.classes classes.now) }
-    requires premises { HasFormulas bank.old premises.now }
-    requires goal { HasFormula bank.old goal }
+    requires bank { IsBankOf (view.classes context.now.classes.now) bank.old }
+    requires limits { IsWithinLimits (view.classes context.now.classes.now) }
+    requires premises { HasFormulas bank.old context.now.premises.now }
+    requires goal { HasFormula bank.old context.now.goal }
     requires known { HasFormulas bank.old known.now }
     requires line { LineWithin bank.old line.now }
-    ensures fact { IfOk result (λ o. IsNumberOf bank.new o (fact_of (view.classes classes.now) (formulas_at bank.old premises.now) (formula_at bank.old goal) (formulas_at bank.old known.now) (line_in bank.old line.now))) }
+    ensures fact { IfOk result (λ o. IsNumberOf bank.new o (fact_of (view.classes context.now.classes.now) (formulas_at bank.old context.now.premises.now) (formula_at bank.old context.now.goal) (formulas_at bank.old known.now) (line_in bank.old line.now))) }
     ensures grown { IsGrown bank.old bank.new }
 {
+    let alloc = context.alloc;
     match line {
-        Line::Premise { number } => Ok(known_at(bank, premises, *number)),
-        Line::Denied => Ok(Some(bank.negation(goal))),
+        Line::Premise { number } => Ok(known_at(bank, context.premises, *number)),
+        Line::Denied => Ok(Some(bank.negation(context.goal))),
         Line::Part { of, part: j } => Ok(part(bank, known, *of, *j)),
-        Line::Inst { of, terms } => inst(alloc, bank, classes, known, *of, terms),
-        Line::Choose { formula, constants } => {
-            choose(
-                alloc, bank, classes, premises, goal, known, *formula, constants,
-            )
-        }
-        Line::Rule { name, arguments } => rule(alloc, bank, classes, *name, arguments),
+        Line::Inst { of, terms } => inst(alloc, bank, context.classes, known, *of, terms),
+        Line::Choose { formula, constants } => { choose(bank, context, known, *formula, constants) }
+        Line::Rule { name, arguments } => rule(alloc, bank, context.classes, *name, arguments),
         Line::Good {
             name,
             store,
             arguments,
-        } => good(alloc, bank, classes, known, *name, *store, arguments),
+        } => good(bank, context, known, *name, *store, arguments),
         Line::Invariants { store, arguments } => {
-            invariants(alloc, bank, classes, known, *store, arguments)
+            invariants(alloc, bank, context.classes, known, *store, arguments)
         }
         Line::Chain { left, right, path } => chain(alloc, bank, known, *left, *right, path),
         Line::Cong {
@@ -67,7 +61,7 @@ pub(crate) fn fact(
             formula,
             equalities,
         } => Ok(swap(bank, known, *of, *formula, equalities)),
-        Line::Sum(line) => sum(alloc, bank, classes, known, line),
+        Line::Sum(line) => sum(alloc, bank, context.classes, known, line),
         _ => Ok(None),
     }
 }

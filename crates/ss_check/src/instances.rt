@@ -10,6 +10,7 @@ ghost use Rattle.ss_logic_derivations.specs.Steps.{good_store};
 ghost use Rattle.ss_terms.specs.Forms.{formulas_at, terms_at, HasTerms, HasFormulas, IsGrown, IsBankOf};
 ghost use Rattle.ss_check_steps.specs.Numbered.{IsNumberOf};
 
+use crate::context::CheckContext;
 use ss_check_steps::{good_store_at, known_at};
 use ss_core::Classes;
 use ss_logic_rules::{GoodRule, RuleName};
@@ -36,19 +37,18 @@ pub(crate) fn rule(
 
 /// The instance of a rule on good stores, of the store of a known `good`.
 pub(crate) fn good(
-    alloc: Global,
     bank: &mut Bank,
-    classes: &Classes,
+    context: &CheckContext<'_>,
     known: &[FormulaId],
     name: GoodRule,
     i: usize,
     ts: &[TermId],
 ) -> Result<Option<FormulaId>, AllocError>
-    requires bank { IsBankOf (view.classes classes.now) bank.old }
+    requires bank { IsBankOf (view.classes context.now.classes.now) bank.old }
     requires known { HasFormulas bank.old known.now }
     requires terms { HasTerms bank.old ts.now }
-    requires limits { IsWithinLimits (view.classes classes.now) }
-    ensures fact { IfOk result (λ o. IsNumberOf bank.new o (option_and_then (λ s. good_instance_of (view.classes classes.now) name s (terms_at bank.old ts.now)) (option_and_then good_store (slice_get (formulas_at bank.old known.now) i)))) }
+    requires limits { IsWithinLimits (view.classes context.now.classes.now) }
+    ensures fact { IfOk result (λ o. IsNumberOf bank.new o (option_and_then (λ s. good_instance_of (view.classes context.now.classes.now) name s (terms_at bank.old ts.now)) (option_and_then good_store (slice_get (formulas_at bank.old known.now) i)))) }
     ensures grown { IsGrown bank.old bank.new }
 {
     let Some(f) = known_at(bank, known, i) else {
@@ -57,7 +57,7 @@ pub(crate) fn good(
     let Some(store) = good_store_at(bank, f) else {
         return Ok(None);
     };
-    good_instance(alloc, bank, classes, name, store, ts)
+    good_instance(context.alloc, bank, context.classes, name, store, ts)
 }
 
 /// The instance of the rule on invariants, of the store of a known `good`.

@@ -9,10 +9,14 @@ ghost use Rattle.ss_logic_derivations.specs.Steps.{add_fact, fact_of, step_open,
 ghost use Rattle.ss_terms.specs.Forms.{formula_at, formulas_at, HasFormula, HasFormulas, IsGrown, IsBankOf};
 ghost use Rattle.ss_deriv.specs.Lines.{line_in, lines_of, is_within, all_below};
 ghost use Rattle.ss_check_steps.specs.Numbered.{IsStepped};
+ghost use Rattle.ss_check.specs.Delayed.{meant_state};
 ghost use Rattle.ss_check.specs.Within.{LineWithin};
+ghost use Rattle.ss_check.specs.declared.steps.CheckStop.TheVariants.{Memory};
 ghost use Rattle.ss_check_steps.specs.Stack.{AreCases, state_of, waiting_of};
 
+use crate::context::CheckContext;
 use crate::facts::fact;
+use crate::told::{Told, told_line};
 use ss_check_steps::{Cases, close, cut, learn, reopen, split};
 use ss_core::{Classes, Core};
 use ss_deriv::{Derivation, Line};
@@ -29,28 +33,33 @@ pub enum CheckStop {
     Memory,
 }
 
+impl From<AllocError> for CheckStop {
+    ghost from_gives = { λ _ stop. stop ≡ Memory };
+
+    fn from(_error: AllocError) -> CheckStop {
+        CheckStop::Memory
+    }
+}
+
 /// Makes known what a line gives.
 fn add(
-    alloc: Global,
     bank: &mut Bank,
-    classes: &Classes,
-    premises: &[FormulaId],
-    goal: FormulaId,
+    context: &CheckContext<'_>,
     cases: &mut Cases,
     line: &Line,
 ) -> Result<bool, AllocError>
-    requires bank { IsBankOf (view.classes classes.now) bank.old }
-    requires limits { IsWithinLimits (view.classes classes.now) }
-    requires premises { HasFormulas bank.old premises.now }
-    requires goal { HasFormula bank.old goal }
+    requires bank { IsBankOf (view.classes context.now.classes.now) bank.old }
+    requires limits { IsWithinLimits (view.classes context.now.classes.now) }
+    requires premises { HasFormulas bank.old context.now.premises.now }
+    requires goal { HasFormula bank.old context.now.goal }
     requires line { LineWithin bank.old line.now }
     requires fine { AreCases bank.old cases.old.known.items cases.old.waiting.items }
     requires is_open { cases.old.is_open ≡ true }
     ensures grown { IsGrown bank.old bank.new }
     ensures fine { IfOk result (λ _. AreCases bank.new cases.new.known.items cases.new.waiting.items) }
-    ensures step { IfOk result (λ yes. IsStepped yes (add_fact (view.classes classes.now) (formulas_at bank.old cases.old.known.items) (waiting_of bank.old cases.old.known.items cases.old.waiting.items) (fact_of (view.classes classes.now) (formulas_at bank.old premises.now) (formula_at bank.old goal) (formulas_at bank.old cases.old.known.items) (line_in bank.old line.now))) (state_of bank.new cases.new.is_open cases.new.known.items cases.new.waiting.items)) }
+    ensures step { IfOk result (λ yes. IsStepped yes (add_fact (view.classes context.now.classes.now) (formulas_at bank.old cases.old.known.items) (waiting_of bank.old cases.old.known.items cases.old.waiting.items) (fact_of (view.classes context.now.classes.now) (formulas_at bank.old context.now.premises.now) (formula_at bank.old context.now.goal) (formulas_at bank.old cases.old.known.items) (line_in bank.old line.now))) (state_of bank.new cases.new.is_open cases.new.known.items cases.new.waiting.items)) }
 {
-    let Some(f) = fact(alloc, bank, classes, premises, goal, &cases.known, line)? else {
+    let Some(f) = fact(bank, context, &cases.known, line)? else {
         return Ok(false);
     };
     if !bank.is_well_formed(f) {
@@ -62,54 +71,49 @@ fn add(
 
 /// A line in an open case.
 fn step_in_case(
-    alloc: Global,
     bank: &mut Bank,
-    classes: &Classes,
-    premises: &[FormulaId],
-    goal: FormulaId,
+    context: &CheckContext<'_>,
     cases: &mut Cases,
     line: &Line,
 ) -> Result<bool, AllocError>
-    requires bank { IsBankOf (view.classes classes.now) bank.old }
-    requires limits { IsWithinLimits (view.classes classes.now) }
-    requires premises { HasFormulas bank.old premises.now }
-    requires goal { HasFormula bank.old goal }
+    requires bank { IsBankOf (view.classes context.now.classes.now) bank.old }
+    requires limits { IsWithinLimits (view.classes context.now.classes.now) }
+    requires premises { HasFormulas bank.old context.now.premises.now }
+    requires goal { HasFormula bank.old context.now.goal }
     requires line { LineWithin bank.old line.now }
     requires fine { AreCases bank.old cases.old.known.items cases.old.waiting.items }
     requires is_open { cases.old.is_open ≡ true }
     ensures grown { IsGrown bank.old bank.new }
     ensures fine { IfOk result (λ _. AreCases bank.new cases.new.known.items cases.new.waiting.items) }
-    ensures step { IfOk result (λ yes. IsStepped yes (step_open (view.classes classes.now) (formulas_at bank.old premises.now) (formula_at bank.old goal) (formulas_at bank.old cases.old.known.items) (waiting_of bank.old cases.old.known.items cases.old.waiting.items) (line_in bank.old line.now)) (state_of bank.new cases.new.is_open cases.new.known.items cases.new.waiting.items)) }
+    ensures step { IfOk result (λ yes. IsStepped yes (step_open (view.classes context.now.classes.now) (formulas_at bank.old context.now.premises.now) (formula_at bank.old context.now.goal) (formulas_at bank.old cases.old.known.items) (waiting_of bank.old cases.old.known.items cases.old.waiting.items) (line_in bank.old line.now)) (state_of bank.new cases.new.is_open cases.new.known.items cases.new.waiting.items)) }
 {
     match line {
-        Line::Split { of, cases: count } => split(alloc, bank, cases, *of, *count),
-        Line::Cut { formula } => cut(bank, classes, cases, *formula),
+        Line::Split { of, cases: count } => split(context.alloc, bank, cases, *of, *count),
+        Line::Cut { formula } => cut(bank, context.classes, cases, *formula),
         Line::Clash { left, right } => Ok(close(bank, cases, *left, *right)),
-        _ => add(alloc, bank, classes, premises, goal, cases, line),
+        _ => add(bank, context, cases, line),
     }
 }
 
+/// A line, where each formula that is known stands for itself.
 fn step_line(
-    alloc: Global,
     bank: &mut Bank,
-    classes: &Classes,
-    premises: &[FormulaId],
-    goal: FormulaId,
+    context: &CheckContext<'_>,
     cases: &mut Cases,
     line: &Line,
 ) -> Result<bool, AllocError>
-    requires bank { IsBankOf (view.classes classes.now) bank.old }
-    requires limits { IsWithinLimits (view.classes classes.now) }
-    requires premises { HasFormulas bank.old premises.now }
-    requires goal { HasFormula bank.old goal }
+    requires bank { IsBankOf (view.classes context.now.classes.now) bank.old }
+    requires limits { IsWithinLimits (view.classes context.now.classes.now) }
+    requires premises { HasFormulas bank.old context.now.premises.now }
+    requires goal { HasFormula bank.old context.now.goal }
     requires line { LineWithin bank.old line.now }
     requires fine { AreCases bank.old cases.old.known.items cases.old.waiting.items }
     ensures grown { IsGrown bank.old bank.new }
     ensures fine { IfOk result (λ _. AreCases bank.new cases.new.known.items cases.new.waiting.items) }
-    ensures step { IfOk result (λ yes. IsStepped yes (step (view.classes classes.now) (formulas_at bank.old premises.now) (formula_at bank.old goal) (state_of bank.old cases.old.is_open cases.old.known.items cases.old.waiting.items) (line_in bank.old line.now)) (state_of bank.new cases.new.is_open cases.new.known.items cases.new.waiting.items)) }
+    ensures step { IfOk result (λ yes. IsStepped yes (step (view.classes context.now.classes.now) (formulas_at bank.old context.now.premises.now) (formula_at bank.old context.now.goal) (state_of bank.old cases.old.is_open cases.old.known.items cases.old.waiting.items) (line_in bank.old line.now)) (state_of bank.new cases.new.is_open cases.new.known.items cases.new.waiting.items)) }
 {
     if cases.is_open {
-        return step_in_case(alloc, bank, classes, premises, goal, cases, line);
+        return step_in_case(bank, context, cases, line);
     }
     match line {
         Line::Case => {
@@ -118,6 +122,62 @@ fn step_line(
         }
         _ => Ok(false),
     }
+}
+
+/// A line in an open case, where formulas that are known stand for others.
+fn step_in_open(
+    bank: &mut Bank,
+    context: &CheckContext<'_>,
+    cases: &mut Cases,
+    line: &Line,
+) -> Result<bool, AllocError>
+    requires bank { IsBankOf (view.classes context.now.classes.now) bank.old }
+    requires limits { IsWithinLimits (view.classes context.now.classes.now) }
+    requires premises { HasFormulas bank.old context.now.premises.now }
+    requires goal { HasFormula bank.old context.now.goal }
+    requires line { LineWithin bank.old line.now }
+    requires fine { AreCases bank.old cases.old.known.items cases.old.waiting.items }
+    requires is_open { cases.old.is_open ≡ true }
+    ensures grown { IsGrown bank.old bank.new }
+    ensures fine { IfOk result (λ _. AreCases bank.new cases.new.known.items cases.new.waiting.items) }
+    ensures step { IfOk result (λ yes. IsStepped yes (step (view.classes context.now.classes.now) (formulas_at bank.old context.now.premises.now) (formula_at bank.old context.now.goal) (meant_state (view.classes context.now.classes.now) (state_of bank.old cases.old.is_open cases.old.known.items cases.old.waiting.items)) (line_in bank.old line.now)) (meant_state (view.classes context.now.classes.now) (state_of bank.new cases.new.is_open cases.new.known.items cases.new.waiting.items))) }
+{
+    let told = told_line(bank, context, &cases.known, line)?;
+    match told {
+        Told::Plain => {
+            let yes = step_line(bank, context, cases, line)?;
+            Ok(yes)
+        }
+        Told::Nothing => Ok(false),
+        Told::Fact(f) => {
+            learn(bank, cases, f)?;
+            Ok(true)
+        }
+    }
+}
+
+/// A line, where formulas that are known stand for others.
+fn step_meant(
+    bank: &mut Bank,
+    context: &CheckContext<'_>,
+    cases: &mut Cases,
+    line: &Line,
+) -> Result<bool, AllocError>
+    requires bank { IsBankOf (view.classes context.now.classes.now) bank.old }
+    requires limits { IsWithinLimits (view.classes context.now.classes.now) }
+    requires premises { HasFormulas bank.old context.now.premises.now }
+    requires goal { HasFormula bank.old context.now.goal }
+    requires line { LineWithin bank.old line.now }
+    requires fine { AreCases bank.old cases.old.known.items cases.old.waiting.items }
+    ensures grown { IsGrown bank.old bank.new }
+    ensures fine { IfOk result (λ _. AreCases bank.new cases.new.known.items cases.new.waiting.items) }
+    ensures step { IfOk result (λ yes. IsStepped yes (step (view.classes context.now.classes.now) (formulas_at bank.old context.now.premises.now) (formula_at bank.old context.now.goal) (meant_state (view.classes context.now.classes.now) (state_of bank.old cases.old.is_open cases.old.known.items cases.old.waiting.items)) (line_in bank.old line.now)) (meant_state (view.classes context.now.classes.now) (state_of bank.new cases.new.is_open cases.new.known.items cases.new.waiting.items))) }
+{
+    if cases.is_open {
+        return step_in_open(bank, context, cases, line);
+    }
+    let yes = step_line(bank, context, cases, line)?;
+    Ok(yes)
 }
 
 /// No case is left.
@@ -152,9 +212,9 @@ fn is_line_within(line: &Line, terms: usize, formulas: usize) -> bool
     }
 }
 
-/// Checks that a derivation derives the goal of an obligation from its premises, and so, in a program whose invariants are admissible, that the
-/// goal is true in every structure in which the premises are. The first line that is no step is refused, also one that names a term or a
-/// formula that the bank doesn't have.
+/// Checks that a derivation derives the goal of an obligation from its premises. So, in a program whose invariants are
+/// admissible, the goal is true in every structure in which the premises are. The first line that is no step is refused, also
+/// one that names a term or a formula that the bank doesn't have.
 pub fn check(
     alloc: Global,
     bank: &mut Bank,
@@ -203,15 +263,20 @@ fn check_lines(
 {
     let terms = bank.term_count();
     let formulas = bank.formula_count();
+    let context = CheckContext {
+        alloc,
+        classes,
+        premises,
+        goal,
+    };
     let mut cases = Cases::new(alloc);
     for (i, line) in lines.iter().enumerate() {
         if !is_line_within(line, terms, formulas) {
             return Err(CheckStop::BadStep { at: i + 1 });
         }
-        match step_line(alloc, bank, classes, premises, goal, &mut cases, line) {
-            Ok(true) => {}
-            Ok(false) => return Err(CheckStop::BadStep { at: i + 1 }),
-            Err(_) => return Err(CheckStop::Memory),
+        let is_step = step_meant(bank, &context, &mut cases, line)?;
+        if !is_step {
+            return Err(CheckStop::BadStep { at: i + 1 });
         }
     }
     if !is_done(&cases) {

@@ -8,6 +8,7 @@ use Rattle.std.proofs.lemmas.Bool.{ne_eqb, eq-eqb}
 use Rattle.ss_logic.specs.Terms.{Term}
 use Rattle.ss_logic.specs.Formulas.{Formula, formulas_from, formula_list}
 use Rattle.ss_logic_derivations.specs.Steps.{part_at, part_of, other_side, walk, count_of, cases_of}
+use Rattle.ss_terms.specs.Lists.{SmallVec}
 use Rattle.ss_terms.specs.declared.forms.FormulaId.{FormulaId}
 use Rattle.ss_terms.specs.declared.forms.Formula.TheVariants.{And as AndForm, Or as OrForm}
 use Rattle.ss_terms.specs.Forms.{Forms, formula_at, formulas_at, HasFormula, HasFormulas, IsFormulaForm, IsFormulaNumber}
@@ -38,7 +39,7 @@ part_number b [] j h = refl
 part_number b (f ∷ fs) zero h = (h.0, refl)
 part_number b (f ∷ fs) (suc j) h = part_number b fs j h.1
 
-pub part_and : (b : Forms) (f : FormulaId) (v : Vec FormulaId Global) (j : ℕ) (r : Option FormulaId) → HasFormula b f → IsFormulaForm b f (AndForm v) →
+pub part_and : (b : Forms) (f : FormulaId) (v : SmallVec FormulaId) (j : ℕ) (r : Option FormulaId) → HasFormula b f → IsFormulaForm b f (AndForm v) →
     r ≡ slice_get v.items j → IsNumberOf b r (part_of j (formula_at b f))
 part_and b f v j r h n e = rw (e, n.built) (part_number b v.items j (AreBelow-more f.0 (length b.formulas * 2) (omega (arith, h)) v.items n.below))
 
@@ -68,17 +69,17 @@ length-formulas_at : (b : Forms) (fs : List FormulaId) → length (formulas_at b
 length-formulas_at b [] = refl
 length-formulas_at b (f ∷ fs) = ap suc (length-formulas_at b fs)
 
-pub cases_of_other : (b : Forms) (f : FormulaId) (k : ℕ) (v : Vec FormulaId Global) → IsFormulaForm b f (OrForm v) → (length v.items ≡ k → ⊥) → cases_of k (formula_at b f) ≡ None
+pub cases_of_other : (b : Forms) (f : FormulaId) (k : ℕ) (v : SmallVec FormulaId) → IsFormulaForm b f (OrForm v) → (length v.items ≡ k → ⊥) → cases_of k (formula_at b f) ≡ None
 cases_of_other b f k v n h = rw (n.built, count_of-from (formulas_at b v.items), length-formulas_at b v.items, ne_eqb (length v.items) k h) refl
 
-cases_of_or : (b : Forms) (f : FormulaId) (k : ℕ) (v : Vec FormulaId Global) → HasFormula b f → IsFormulaForm b f (OrForm v) → length v.items ≡ k →
+cases_of_or : (b : Forms) (f : FormulaId) (k : ℕ) (v : SmallVec FormulaId) → HasFormula b f → IsFormulaForm b f (OrForm v) → length v.items ≡ k →
     HasFormulas b v.items × (cases_of k (formula_at b f) ≡ Some (formulas_at b v.items))
 cases_of_or b f k v l n h = (
   AreBelow-more f.0 (length b.formulas * 2) (omega (arith, l)) v.items n.below,
   rw (n.built, count_of-from (formulas_at b v.items), length-formulas_at b v.items, eq-eqb (length v.items) k h, formula_list-from (formulas_at b v.items)) refl,
 )
 
-pub cases_copied : (b : Forms) (f : FormulaId) (k : ℕ) (v w : Vec FormulaId Global) → HasFormula b f → IsFormulaForm b f (OrForm v) → length v.items ≡ k → w.items ≡ v.items →
+pub cases_copied : (b : Forms) (f : FormulaId) (k : ℕ) (v : SmallVec FormulaId) (w : Vec FormulaId Global) → HasFormula b f → IsFormulaForm b f (OrForm v) → length v.items ≡ k → w.items ≡ v.items →
     AreNumbersOf b (Some w) (cases_of k (formula_at b f))
 cases_copied b f k v w l n h e = let p = cases_of_or b f k v l n h in (subst (HasFormulas b) (sym e) p.0, p.1 ∙ ap (λ fs. Some (formulas_at b fs)) (sym e))
 

@@ -8,7 +8,7 @@ ghost use Rattle.ss_terms.specs.Forms.{formula_at, formulas_at, term_at, HasTerm
 ghost use Rattle.ss_check_steps.specs.Numbered.{IsNumberOf};
 
 use crate::reads::{is_congruent_at, is_swapped_at, known_at, part_at, walk_at};
-use ss_terms::{Bank, Formula, FormulaId, Predicate, TermId};
+use ss_terms::{Arguments, Bank, Formula, FormulaId, Predicate, TermId};
 use std::alloc::{AllocError, Global};
 
 /// A part of a known `and`.
@@ -29,7 +29,7 @@ fn equality(alloc: Global, bank: &mut Bank, x: TermId, y: TermId) -> Result<Form
     ensures at { IfOk result (λ f. HasFormula bank.new f × (formula_at bank.new f ≡ equal (term_at bank.old x) (term_at bank.old y))) }
     ensures grown { IsGrown bank.old bank.new }
 {
-    let arguments = vec![in alloc; x, y]?;
+    let arguments = Arguments::from_slice(alloc, &[x, y])?;
     bank.formula(Formula::Literal {
         holds: true,
         predicate: Predicate::Equal,

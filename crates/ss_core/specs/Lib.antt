@@ -5,3 +5,4 @@ pub mod Marks
 pub mod Kinds
 pub mod Rules
 pub mod Operations
+pub mod Types

@@ -10,6 +10,7 @@ mod expr;
 mod names;
 mod rules;
 mod stmt;
+mod types;
 
 pub use body::{Body, BodyFlags, Core, Local, Modifies};
 pub use chain::{MOST_ABOVE, MOST_CLASSES, MOST_FIELDS, MOST_LEVELS};
@@ -19,3 +20,4 @@ pub use expr::{DefaultCondition, Expr, Link, Operator, OwnerTest, Quantifier, St
 pub use names::{BodyId, ClassId, FieldId, FrontStop, Kind, Mark, Place, Ty};
 pub use rules::Rule;
 pub use stmt::{Callee, Exposed, Loop, Stmt};
+pub use types::is_non_null;

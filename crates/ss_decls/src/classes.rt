@@ -14,7 +14,7 @@ use crate::members::parse_members;
 use crate::usings::{skip_accesses, skip_usings};
 use ss_ast::{ClassDecl, Name, Symbol, Token, TokenKind, Word};
 use ss_grammar::fault::{Fault, Stop};
-use ss_parser_expressions::heads::{expect, expect_name, expect_word};
+use ss_parser_expression_trees::heads::{expect, expect_name, expect_word};
 use std::alloc::Global;
 
 // Members and `}`.

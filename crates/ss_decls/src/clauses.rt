@@ -17,7 +17,7 @@ use ss_ast::{Block, Clause, Expr, Modified, Symbol, Token, TokenKind, Word};
 use ss_grammar::fault::Stop;
 use ss_parser::headings::parse_ended;
 use ss_parser::statements::parse_whole_block;
-use ss_parser_expressions::heads::expect;
+use ss_parser_expression_trees::heads::expect;
 use std::alloc::Global;
 
 /// A condition and its `;`.

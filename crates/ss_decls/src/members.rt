@@ -5,7 +5,7 @@ ghost use Rattle.ss_ast.specs.Expressions.{name_tree, type_tree, type_name_tree}
 ghost use Rattle.ss_ast.specs.Programs.{base_call_tree, member_kind_tree, member_tree};
 ghost use Rattle.ss_grammar.specs.Stops.{Gives, GivesMore};
 ghost use Rattle.ss_grammar_expressions.specs.Heads.{pieces};
-ghost use Rattle.ss_parser_expressions.specs.View.{start_of};
+ghost use Rattle.ss_parser_expression_trees.specs.View.{start_of};
 ghost use Rattle.ss_grammar_programs.specs.Again.{another};
 ghost use Rattle.ss_grammar_programs.specs.Heads.{begins_member};
 ghost use Rattle.ss_grammar_programs.specs.Grammar.{join_word};
@@ -21,8 +21,8 @@ use ss_ast::{
 use ss_core::Place;
 use ss_grammar::fault::{Fault, Stop};
 use ss_parser::declarations::parse_decls_from;
+use ss_parser_expression_trees::heads::{Start, expect, expect_name, expect_word};
 use ss_parser_expressions::arguments::parse_args_end;
-use ss_parser_expressions::heads::{Start, expect, expect_name, expect_word};
 use ss_parser_expressions::types::parse_type_end;
 use std::alloc::{AllocError, Global};
 

@@ -16,9 +16,9 @@ use ss_ast::{Expr, Modified, Postfix, Symbol, Token, TokenKind};
 use ss_core::Place;
 use ss_grammar::fault::{Fault, Stop};
 use ss_parser::posts::parse_prim;
+use ss_parser_expression_trees::build;
+use ss_parser_expression_trees::heads::{expect, expect_name};
 use ss_parser_expressions::arguments::{parse_args_end, parse_index_end};
-use ss_parser_expressions::build;
-use ss_parser_expressions::heads::{expect, expect_name};
 use std::alloc::{AllocError, Global};
 
 /// What stands behind a path in a term.

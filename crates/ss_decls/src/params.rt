@@ -13,7 +13,7 @@ ghost use Rattle.ss_grammar_programs.specs.Parser.{attribute_end, attribute, att
 use ss_ast::{Name, Param, Symbol, Token, TokenKind};
 use ss_core::Place;
 use ss_grammar::fault::{Fault, Stop};
-use ss_parser_expressions::heads::{expect, expect_name};
+use ss_parser_expression_trees::heads::{expect, expect_name};
 use ss_parser_expressions::types::parse_type;
 use std::alloc::Global;
 

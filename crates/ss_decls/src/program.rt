@@ -13,8 +13,8 @@ use crate::classes::parse_declarations;
 use ss_ast::{Program, Symbol, Token, TokenKind};
 use ss_core::{FrontStop, Place, Rule};
 use ss_grammar::fault::Stop;
+use ss_parser_expression_trees::heads::next_symbol;
 use ss_parser_expressions::LEVELS;
-use ss_parser_expressions::heads::next_symbol;
 use ss_parser_expressions::refusal::refused;
 use std::alloc::Global;
 

@@ -10,7 +10,7 @@ ghost use Rattle.ss_grammar_programs.specs.Parser.{accesses, skipped_name, dotte
 use crate::heads::next_access;
 use ss_ast::{Symbol, Token, TokenKind, Word};
 use ss_grammar::fault::{Fault, Stop};
-use ss_parser_expressions::heads::expect;
+use ss_parser_expression_trees::heads::expect;
 
 /// What is behind the access words that stand here.
 #[tactic(auto, unfolding(ss_grammar_programs::specs::Parser::accesses))]

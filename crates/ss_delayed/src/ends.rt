@@ -141,10 +141,7 @@ fn walk(
         TypedStmt::Block(block) | TypedStmt::Expose(_, _, _, block) => {
             walk_in(context, block, known, found)
         }
-        TypedStmt::Simple(done) => {
-            let behind = behind_done(context.numbers, done, known)?;
-            Ok(behind)
-        }
+        TypedStmt::Simple(done) => Ok(behind_done(context.numbers, done, known)?),
         TypedStmt::If(_, _, first, None) => {
             let around = copy(&known)?;
             let behind = walk(context, first, known, found)?;
@@ -157,14 +154,17 @@ fn walk(
             Ok(join(after_first, after_second))
         }
         TypedStmt::While(_, test, _, repeated) => {
-            let inside = copy(&known)?;
-            let _repeated = walk(context, repeated, inside, found)?;
+            let _repeated = walk(context, repeated, copy(&known)?, found)?;
             Ok(leave(is_true(test), known))
         }
-        TypedStmt::For(_, first, test, _, _, repeated) => {
+        TypedStmt::For {
+            first,
+            test,
+            body: repeated,
+            ..
+        } => {
             let begun = behind_first(context.numbers, first, known)?;
-            let inside = copy(&begun)?;
-            let _repeated = walk(context, repeated, inside, found)?;
+            let _repeated = walk(context, repeated, copy(&begun)?, found)?;
             Ok(leave(is_endless(test), begun))
         }
         TypedStmt::Return(..) => {

@@ -10,9 +10,9 @@ ghost use Rattle.ss_delayed_rules.specs.Constructors.{unassigned, base_not_delay
 ghost use Rattle.ss_delayed.specs.Walked.{known_of};
 
 use ss_bit_set::BitSet;
-use ss_core::{Class, ClassId, Field, Place, Rule};
+use ss_core::{Class, ClassId, Field, Place, Rule, is_non_null};
 use ss_faults::Fault;
-use ss_paths_assigned::{Assigned, class_at, is_non_null};
+use ss_paths_assigned::{Assigned, class_at};
 use ss_typed::Typed;
 use std::alloc::AllocError;
 

@@ -81,7 +81,7 @@ fn base_at(statement: &TypedStmt) -> Option<BaseCall<'_>>
         | TypedStmt::Declare(_)
         | TypedStmt::If(..)
         | TypedStmt::While(..)
-        | TypedStmt::For(..)
+        | TypedStmt::For { .. }
         | TypedStmt::Return(..)
         | TypedStmt::Assert(..)
         | TypedStmt::Assume(..)

@@ -197,32 +197,34 @@ fn find_at(allowed: Use, statement: &TypedStmt, found: &mut Vec<Place>) -> Resul
         TypedStmt::Simple(done) => find_done(allowed, done, found),
         TypedStmt::If(_, test, first, None) => {
             find_uses(allowed, test, found)?;
-            find_at(allowed, first, found)?;
-            Ok(())
+            find_at(allowed, first, found)
         }
         TypedStmt::If(_, test, first, Some(second)) => {
             find_uses(allowed, test, found)?;
             find_at(allowed, first, found)?;
-            find_at(allowed, second, found)?;
-            Ok(())
+            find_at(allowed, second, found)
         }
         TypedStmt::While(_, test, invariants, repeated) => {
             find_uses(allowed, test, found)?;
             find_in_all(allowed, invariants, found)?;
-            find_at(allowed, repeated, found)?;
-            Ok(())
+            find_at(allowed, repeated, found)
         }
-        TypedStmt::For(_, first, test, step, invariants, repeated) => {
+        TypedStmt::For {
+            first,
+            test,
+            step,
+            invariants,
+            body: repeated,
+            ..
+        } => {
             find_in_heading(allowed, first, test, step, invariants, found)?;
-            find_at(allowed, repeated, found)?;
-            Ok(())
+            find_at(allowed, repeated, found)
         }
         TypedStmt::Return(_, e) => find_if(allowed, e, found),
         TypedStmt::Assert(_, e) | TypedStmt::Assume(_, e) => find_uses(allowed, e, found),
         TypedStmt::Expose(_, exposed, _, block) => {
             find_uses(allowed, exposed, found)?;
-            find_in(allowed, block, found)?;
-            Ok(())
+            find_in(allowed, block, found)
         }
         TypedStmt::Empty(_) => Ok(()),
     }

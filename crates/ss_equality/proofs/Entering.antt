@@ -13,6 +13,19 @@ use Rattle.ss_equality_rules.specs.Classes.{Classed, lists_of}
 use Rattle.ss_equality_rules.proofs.Classes.{entered, widened, no_end_pushed}
 use Rattle.ss_equality.proofs.Lists.{lists_long, list_pushed, no_users_pushed, form_upward}
 
+-- where there is room for one more term and no list of users yet
+pub more_ends : (forms : List Term) (users : List (Vec ℕ Global)) (ends ends' : List (Option ℕ)) (es : List Join) (v : Classed) →
+    ◌≡◌ {A = Classed} (record { forms = map term_shape forms; users = lists_of users; log = es }) v →
+    AreClasses (map term_shape forms) (lists_of users) ends es → v.log ≡ [] → ends' ≡ ends ++ None ∷ [] → AreClasses (map term_shape forms) (lists_of users) ends' es
+more_ends forms users ends ends' es v view are empty pushed =
+    let none = ap (λ (c : Classed). c.log) view ∙ empty in
+    subst (AreClasses (map term_shape forms) (lists_of users) ends') (sym none)
+    (widened (map term_shape forms) (lists_of users) (lists_of users) ends ends' (subst (AreClasses (map term_shape forms) (lists_of users) ends) none are)
+    are.lists_long
+    (omega (arith, are.ends_long, ap length pushed, length_push ends None))
+    (λ a j at. no_end_pushed ends a j (subst (λ xs. slice_get xs a ≡ Some (Some j)) pushed at))
+    (λ r w h. h))
+
 module _ (forms : List Term) (users users1 users2 : List (Vec ℕ Global)) (ends ends' : List (Option ℕ)) (es : List Join) (v : Classed)
     (view : ◌≡◌ {A = Classed} (record { forms = map term_shape forms; users = lists_of users; log = es }) v)
     (are : AreClasses (map term_shape forms) (lists_of users) ends es) (empty : v.log ≡ [])

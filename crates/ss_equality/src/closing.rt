@@ -13,14 +13,14 @@ ghost use Rattle.ss_equality_rules.specs.Whole.{Begins, IsKeyOf, Goes, IsWhole};
 use crate::classes::Classes;
 use crate::signatures::Signatures;
 use ss_equality_rules::Pending;
-use ss_terms::{Bank, Term, TermId};
+use ss_terms::{Arguments, Bank, Term, TermId};
 use std::alloc::{AllocError, Global};
 
 // The names of the classes of these terms.
-fn names(alloc: Global, classes: &Classes, terms: &[TermId]) -> Result<Vec<TermId>, AllocError>
+fn names(alloc: Global, classes: &Classes, terms: &[TermId]) -> Result<Arguments, AllocError>
     ensures { IfOk result (λ v. v.items ≡ map (named classes.now.log) terms.now) }
 {
-    let mut names = Vec::new(alloc);
+    let mut names = Arguments::new(alloc);
     for term in terms {
         names.push(TermId(classes.name(term.0)))?;
     }
@@ -106,7 +106,7 @@ fn copied(alloc: Global, form: &Term) -> Result<Term, AllocError>
     match form {
         Term::Bound(k) => Ok(Term::Bound(*k)),
         Term::App(symbol, arguments) => {
-            let arguments = Vec::from_slice(alloc, arguments)?;
+            let arguments = Arguments::from_slice(alloc, arguments)?;
             Ok(Term::App(*symbol, arguments))
         }
     }

@@ -137,13 +137,9 @@ pub fn number_among(origins: &[Origin], origin: Origin) -> Result<BodyId, AllocE
     requires by_class { IsByClass (map origin_of origins.now) }
     ensures { IfOk result (λ n. n.0 ≡ unwrap_or (position (elab.same_origin (origin_of origin)) (map origin_of origins.now)) 0) }
 {
-    match find_in_class(origins, origin) {
-        Some(place) => match u32::try_from(place) {
-            Ok(number) => Ok(BodyId(number)),
-            Err(_) => Err(AllocError),
-        },
-        None => Ok(BodyId(0)),
-    }
+    let place = find_in_class(origins, origin).unwrap_or(0);
+    let number = u32::try_from(place).map_err(|_| AllocError)?;
+    Ok(BodyId(number))
 }
 
 // The place among these entries of the method with this written body.

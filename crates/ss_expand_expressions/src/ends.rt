@@ -26,7 +26,7 @@ pub fn can_end(stmt: &TypedStmt) -> bool
         TypedStmt::Block(block) => block_can_end(block),
         TypedStmt::If(_, _, first, Some(second)) => can_end(first) || can_end(second),
         TypedStmt::While(_, e, _, _) => !is_true(e),
-        TypedStmt::For(_, _, test, _, _, _) => !is_always(test),
+        TypedStmt::For { test, .. } => !is_always(test),
         TypedStmt::Return(..) => false,
         TypedStmt::Expose(_, _, _, block) => block_can_end(block),
         TypedStmt::Declare(..)

@@ -1,6 +1,6 @@
 // Expressions without calls in the numbers of the core program.
 
-ghost use Rattle.std.specs.Prelude.{◌≡◌, IfOk, option_map};
+ghost use Rattle.std.specs.Prelude.{◌≡◌, IfOk, option_map, string_bytes};
 ghost use Rattle.ss_core.specs.Tree as tree;
 ghost use Rattle.ss_core.specs.View as core;
 ghost use Rattle.ss_typed.specs.Tree.{ExprTree};
@@ -10,8 +10,8 @@ ghost use Rattle.ss_expand_expressions.specs.Views.{numbers_of, core_link_behind
 ghost use Rattle.ss_typed.specs.Parts.{link_behind, linked, step_behind, stepped};
 
 use crate::locals::Numbers;
-use ss_core::{Expr, Link, Place, Step};
-use ss_typed::{TypedExpr, TypedLink, TypedStep};
+use ss_core::{ClassId, Expr, Link, Place, Quantifier, StateWord, Step};
+use ss_typed::{TypedExpr, TypedLink, TypedStep, place_of};
 use std::alloc::{AllocError, Global};
 
 /// The expression of the core program. A call, which stands in none that is read so, is null.
@@ -22,7 +22,6 @@ pub fn plain(alloc: Global, numbers: &Numbers, e: &TypedExpr) -> Result<Expr, Al
     match e {
         TypedExpr::Int(place, n) => Ok(Expr::Int(*place, *n)),
         TypedExpr::Bool(place, b) => Ok(Expr::Bool(*place, *b)),
-        TypedExpr::Null(place) => Ok(Expr::Null(*place)),
         TypedExpr::This(place, _) => Ok(Expr::Local(*place, 0)),
         TypedExpr::Local(place, x, _) => Ok(Expr::Local(*place, numbers.number(*x))),
         TypedExpr::Result(place, _) => Ok(Expr::Local(*place, numbers.outcome)),
@@ -41,9 +40,7 @@ pub fn plain(alloc: Global, numbers: &Numbers, e: &TypedExpr) -> Result<Expr, Al
         }
         TypedExpr::Negate(place, e) => Ok(Expr::Negate(*place, plain_boxed(alloc, numbers, e)?)),
         TypedExpr::Not(place, e) => Ok(Expr::Not(*place, plain_boxed(alloc, numbers, e)?)),
-        TypedExpr::Cast(place, class, non_null, e) => {
-            Ok(Expr::Cast(*place, *class, *non_null, plain_boxed(alloc, numbers, e)?))
-        }
+        TypedExpr::Cast(at, class, non_null, e) => cast(alloc, numbers, *at, *class, *non_null, e),
         TypedExpr::Path(place, first, steps) => {
             let first = plain_boxed(alloc, numbers, first)?;
             whole_path(alloc, *place, first, plain_steps(alloc, numbers, steps)?)
@@ -52,21 +49,62 @@ pub fn plain(alloc: Global, numbers: &Numbers, e: &TypedExpr) -> Result<Expr, Al
         TypedExpr::Quantified(place, quantifier, name, low, high, e) => {
             let low = plain_boxed(alloc, numbers, low)?;
             let high = plain_boxed(alloc, numbers, high)?;
-            let e = plain_boxed(alloc, numbers, e)?;
-            Ok(Expr::Quantified(*place, *quantifier, name.clone()?, low, high, e))
+            quantified(alloc, numbers, *place, *quantifier, name, e, low, high)
         }
-        TypedExpr::State(place, word, e) => {
-            Ok(Expr::State(*place, *word, plain_boxed(alloc, numbers, e)?))
-        }
+        TypedExpr::State(place, word, e) => state(alloc, numbers, *place, *word, e),
         TypedExpr::Owners(place, test, a, b) => {
             let left = plain_boxed(alloc, numbers, a)?;
             Ok(Expr::Owners(*place, *test, left, plain_boxed(alloc, numbers, b)?))
         }
-        TypedExpr::New(place, ..)
-        | TypedExpr::NewArray(place, ..)
-        | TypedExpr::Static(place, ..)
-        | TypedExpr::Base(place, ..) => Ok(Expr::Null(*place)),
+        _ => Ok(Expr::Null(place_of(e))),
     }
+}
+
+// A cast.
+#[cycle(plain)]
+fn cast(
+    alloc: Global,
+    numbers: &Numbers,
+    place: Place,
+    class: ClassId,
+    non_null: bool,
+    e: &TypedExpr,
+) -> Result<Expr, AllocError>
+    ensures { IfOk result (λ r. core.expr r ≡ tree.CastExpr place class.0 non_null (elab.plain (numbers_of numbers.now) (typed.expr e.now))) }
+{
+    Ok(Expr::Cast(place, class, non_null, plain_boxed(alloc, numbers, e)?))
+}
+
+// A question about the state of an object.
+#[cycle(plain)]
+fn state(
+    alloc: Global,
+    numbers: &Numbers,
+    place: Place,
+    word: StateWord,
+    e: &TypedExpr,
+) -> Result<Expr, AllocError>
+    ensures { IfOk result (λ r. core.expr r ≡ tree.StateExpr place (core.word_tree word) (elab.plain (numbers_of numbers.now) (typed.expr e.now))) }
+{
+    Ok(Expr::State(place, word, plain_boxed(alloc, numbers, e)?))
+}
+
+// A quantifier between these bounds.
+#[cycle(plain)]
+fn quantified(
+    alloc: Global,
+    numbers: &Numbers,
+    place: Place,
+    quantifier: Quantifier,
+    name: &String,
+    e: &TypedExpr,
+    low: Box<Expr>,
+    high: Box<Expr>,
+) -> Result<Expr, AllocError>
+    ensures { IfOk result (λ r. core.expr r ≡ tree.QuantifiedExpr place quantifier (string_bytes name.now) (core.expr low.value) (core.expr high.value) (elab.plain (numbers_of numbers.now) (typed.expr e.now))) }
+{
+    let member = plain_boxed(alloc, numbers, e)?;
+    Ok(Expr::Quantified(place, quantifier, name.clone()?, low, high, member))
 }
 
 // The same in a box.

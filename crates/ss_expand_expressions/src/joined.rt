@@ -100,3 +100,30 @@ pub fn iff_of(alloc: Global, place: Place, left: Expr, right: Expr) -> Result<Ex
     let left = Box::new(alloc, left)?;
     Ok(Expr::Iff(place, left, Box::new(alloc, right)?))
 }
+
+/// `-a`
+pub fn negate_of(alloc: Global, place: Place, value: Expr) -> Result<Expr, AllocError>
+    ensures { IfOk result (λ r. core.expr r ≡ tree.NegateExpr place (core.expr value)) }
+{
+    Ok(Expr::Negate(place, Box::new(alloc, value)?))
+}
+
+/// `!a`
+pub fn not_of(alloc: Global, place: Place, value: Expr) -> Result<Expr, AllocError>
+    ensures { IfOk result (λ r. core.expr r ≡ tree.NotExpr place (core.expr value)) }
+{
+    Ok(Expr::Not(place, Box::new(alloc, value)?))
+}
+
+/// `(T)a`, or `(T!)a` where null doesn't pass.
+pub fn cast_of(
+    alloc: Global,
+    place: Place,
+    class: ClassId,
+    non_null: bool,
+    value: Expr,
+) -> Result<Expr, AllocError>
+    ensures { IfOk result (λ r. core.expr r ≡ tree.CastExpr place class.0 non_null (core.expr value)) }
+{
+    Ok(Expr::Cast(place, class, non_null, Box::new(alloc, value)?))
+}

@@ -20,11 +20,14 @@ pub use calls::{has_call, link_has_call, links_have_call, step_has_call, steps_h
 pub use ends::{block_can_end, can_end};
 pub use expressions::{PlainSteps, plain, plain_links, plain_steps, whole_chain, whole_path};
 pub use joined::{
-    as_of, binary, element_of, field_of, iff_of, is_of, length_of, with_link, with_step,
+    as_of, binary, cast_of, element_of, field_of, iff_of, is_of, length_of, negate_of, not_of,
+    with_link, with_step,
 };
 pub use kinds::{is_lazy, is_lazy_link, is_lazy_operator};
 pub use locals::Numbers;
 pub use operands::{Operand, begin_lazy, end_lazy, keep};
 pub use operators::{compound, default_of, step_operator};
-pub use sources::{Source, add_stmt, dropped, in_local, in_temporary, next, put, valued};
+pub use sources::{
+    Source, add_stmt, dispatched, dropped, in_local, in_temporary, next, put, valued,
+};
 pub use types::{any_object, class_of_type, temporary_type};

@@ -2,6 +2,7 @@
 
 ghost use Rattle.std.specs.Prelude.{◌≡◌, ◌++◌, ◌∷◌, [], IfOk, OnOk, MatchOption};
 ghost use Rattle.ss_typed.specs.Tree.{ExprTree};
+ghost use Rattle.ss_core.specs.Tree as tree;
 ghost use Rattle.ss_core.specs.View as core;
 ghost use Rattle.ss_expand_rules.specs.Calls as calls;
 ghost use Rattle.ss_typed.specs.Shapes.{place_of};
@@ -47,6 +48,19 @@ pub fn dropped(source: Source) -> Option<Stmt>
         Source::CreatedArray(at, class, size) => Some(Stmt::NewArray(at, None, class, size)),
         Source::Called(at, callee, values) => Some(Stmt::Call(at, None, callee, values)),
     }
+}
+
+/// A call of an instance method on this receiver.
+pub fn dispatched(
+    place: Place,
+    class: ClassId,
+    method: usize,
+    receiver: Expr,
+    values: Vec<Expr>,
+) -> Source
+    ensures { source_of result ≡ lifting.Called place (tree.Dispatched (core.expr receiver) class.0 method) (core.exprs values.items) }
+{
+    Source::Called(place, Callee::Dispatched(receiver, class, method), values)
 }
 
 /// The number of the next temporary, where so many are made. There is no room for so many that it doesn't fit.

@@ -13,7 +13,7 @@ use Rattle.ss_tables.specs.Members.{MethodTree, ConstructorTree, methods_of_kind
 use Rattle.ss_resolver_types_expressions.specs.Ends as ends
 use Rattle.ss_resolver_types_expressions.specs.Members.{closing_brace, method_body, method_scope, result_faults, params_faults, clauses_faults, end_faults, surplus_words, implied_base, kind_faults, member_faults}
 use Rattle.ss_resolver_types_expressions.specs.Statements.{block_faults}
-use Rattle.ss_resolver_types_expressions.specs.Faults.{no_return, fault_where}
+use Rattle.ss_resolver_types_heads.specs.Faults.{no_return, fault_where}
 use Rattle.ss_faults.specs.declared.Fault.{Fault}
 use Rattle.ss_ast.specs.declared.class.Modifier.{Modifier}
 use Rattle.ss_ast.specs.Expressions.{NameTree, TypeTree}

@@ -30,10 +30,10 @@ use Rattle.ss_resolver_names_rules.specs.Faults.{twice_in, type_faults}
 use Rattle.ss_resolver_names_rules.specs.Expressions.{expr_faults}
 use Rattle.ss_resolver_names_rules.specs.Statements as names
 use Rattle.ss_resolver_names_rules.specs.Statements.{faults_of_any, faults_of_all, declarators_faults, faults_of_any_simple, heading_faults, named_class_faults}
-use Rattle.ss_resolver_types_expressions.specs.Faults.{bad_type, fault_where}
-use Rattle.ss_resolver_types_expressions.specs.Wants.{Want, ABool, AnInt, Printable, OfType, bare, wrong, place_of, Known, known}
-use Rattle.ss_resolver_types_expressions.specs.Calls.{Taking, Unknown, Refused, called_console, called_member, argument_wants, wants_of, is_wrong_call, whole_call}
-use Rattle.ss_resolver_types_expressions.specs.Expressions.{AsValue, is_text, argument, argument_faults, condition_faults, faults, faults_as, mark_faults}
+use Rattle.ss_resolver_types_heads.specs.Faults.{bad_type, fault_where}
+use Rattle.ss_resolver_types_heads.specs.Wants.{Want, ABool, AnInt, Printable, OfType, bare, wrong, place_of, Known, known}
+use Rattle.ss_resolver_types_heads.specs.Calls.{Taking, Unknown, Refused, called_console, called_member, argument_wants, wants_of, is_wrong_call, whole_call}
+use Rattle.ss_resolver_types_heads.specs.Expressions.{AsValue, is_text, argument, argument_faults, condition_faults, faults, faults_as, mark_faults}
 use Rattle.ss_resolver_types_expressions.specs.Statements as types
 use Rattle.ss_resolver_types_expressions.specs.Statements.{Outcome, Nothing, Gives, Body, in_code, initial_faults, declarator_faults, target_faults, assigned_faults, is_target, may_stand_alone, condition, conditions, test, test_faults, step_faults, exposed_want}
 use Rattle.ss_expand_formed.proofs.Facts.{none_left}

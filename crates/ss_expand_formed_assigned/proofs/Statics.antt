@@ -26,10 +26,10 @@ use Rattle.ss_resolver_rules.specs.declared.known.Known.{Known}
 use Rattle.ss_resolver_rules.specs.declared.known.Known.TheVariants.{Variable, BoundName}
 use Rattle.ss_resolver_rules.specs.Numbers.{class_in}
 use Rattle.ss_resolver_rules.specs.Expressions.{this, read_field, known_or_field, third_class, owner_question, called_behind, called_bare, expr, args}
-use Rattle.ss_resolver_types_expressions.specs.Faults.{bad_type, fault_where}
-use Rattle.ss_resolver_types_expressions.specs.Wants.{Want, AnInt, ABool, AReference, AnArray, AnyValue, OfType, Printable, OfDeclared, OfClass, ClassName, Known as Value, known as value_of, wrong}
-use Rattle.ss_resolver_types_expressions.specs.Calls.{ExprContext, Called, Taking, Refused, Unknown, param_wants, constructed, taking, method_or_field, called_on_class, called_method, called_name, called_owner, called_on_declared, called_on_object, class_of_known, has_no_members, asks_level, called_value, called_member, wants_of, is_wrong_call, argument_wants, whole_call}
-use Rattle.ss_resolver_types_expressions.specs.Expressions.{AsValue, BeforeDot, AsCallee, wanted, is_misused, is_value_receiver, word_faults, read_faults, condition_faults, argument, newly, faults, argument_faults, no_class, operand_faults, operand, conditional, bound}
+use Rattle.ss_resolver_types_heads.specs.Faults.{bad_type, fault_where}
+use Rattle.ss_resolver_types_heads.specs.Wants.{Want, AnInt, ABool, AReference, AnArray, AnyValue, OfType, Printable, OfDeclared, OfClass, ClassName, Known as Value, known as value_of, wrong}
+use Rattle.ss_resolver_types_heads.specs.Calls.{ExprContext, Called, Taking, Refused, Unknown, param_wants, constructed, taking, method_or_field, called_on_class, called_method, called_name, called_owner, called_on_declared, called_on_object, class_of_known, has_no_members, asks_level, called_value, called_member, wants_of, is_wrong_call, argument_wants, whole_call}
+use Rattle.ss_resolver_types_heads.specs.Expressions.{AsValue, BeforeDot, AsCallee, wanted, is_misused, is_value_receiver, word_faults, read_faults, condition_faults, argument, newly, faults, argument_faults, no_class, operand_faults, operand, conditional, bound}
 use Rattle.ss_expand_formed.proofs.Facts.{none_left, or_false}
 use Rattle.ss_expand_formed_locals.proofs.Facts.{on_either}
 use Rattle.ss_expand_formed_assigned.proofs.Reading.{May, reads, read_all}

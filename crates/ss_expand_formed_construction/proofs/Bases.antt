@@ -15,10 +15,10 @@ use Rattle.ss_resolver_rules.specs.Names as names
 use Rattle.ss_resolver_rules.specs.Expressions.{expr, args}
 use Rattle.ss_resolver_rules.specs.Statements as rules
 use Rattle.ss_resolver_rules.specs.Statements.{printed, print, is_line, call_alone, alone, simple, first, behind_first, block, stmt, stmts}
-use Rattle.ss_resolver_types_expressions.specs.Faults.{bad_type, fault_where}
-use Rattle.ss_resolver_types_expressions.specs.Calls.{ExprContext, called, argument_wants, whole_call}
-use Rattle.ss_resolver_types_expressions.specs.Wants.{place_of}
-use Rattle.ss_resolver_types_expressions.specs.Expressions.{AsValue, condition_faults, faults, faults_as, argument_faults}
+use Rattle.ss_resolver_types_heads.specs.Faults.{bad_type, fault_where}
+use Rattle.ss_resolver_types_heads.specs.Calls.{ExprContext, called, argument_wants, whole_call}
+use Rattle.ss_resolver_types_heads.specs.Wants.{place_of}
+use Rattle.ss_resolver_types_heads.specs.Expressions.{AsValue, condition_faults, faults, faults_as, argument_faults}
 use Rattle.ss_resolver_types_expressions.specs.Statements.{Body, in_code, simple_faults, init_faults, test_faults, step_faults, conditions, test, exposed_want, stmt_faults, block_faults, stmts_faults}
 use Rattle.ss_resolver_types_expressions.specs.Members.{constructor_body, base_call, is_first_assignment, base_faults, outermost_faults, constructor_stmts}
 use Rattle.ss_expand_rules.specs.Constructors.{before_all}

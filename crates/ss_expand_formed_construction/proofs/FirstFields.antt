@@ -22,12 +22,12 @@ use Rattle.ss_resolver_rules.specs.Expressions.{this, read_field, known_or_field
 use Rattle.ss_resolver_rules.specs.Statements.{simple, stmt, stmts}
 use Rattle.ss_resolver_rules.specs.Statements as rules
 use Rattle.ss_resolver_rules.specs.Programs.{param_env, resolved}
-use Rattle.ss_resolver_types_expressions.specs.Faults.{bad_type, fault_where}
-use Rattle.ss_resolver_types_expressions.specs.Wants.{place_of}
-use Rattle.ss_resolver_types_expressions.specs.Calls.{ExprContext}
-use Rattle.ss_resolver_types_expressions.specs.Expressions.{AsValue, faults}
+use Rattle.ss_resolver_types_heads.specs.Faults.{bad_type, fault_where}
+use Rattle.ss_resolver_types_heads.specs.Wants.{place_of}
+use Rattle.ss_resolver_types_heads.specs.Calls.{ExprContext}
+use Rattle.ss_resolver_types_heads.specs.Expressions.{AsValue, faults}
 use Rattle.ss_resolver_types_expressions.specs.Statements.{in_code, is_target, target_faults, assigned_faults, simple_faults, stmt_faults}
-use Rattle.ss_resolver_types_expressions.specs.Wants.{AnInt, wrong}
+use Rattle.ss_resolver_types_heads.specs.Wants.{AnInt, wrong}
 use Rattle.ss_resolver_types_expressions.specs.Members.{constructor_body, base_call, is_this, has_field, is_own_field, is_first_assignment, outermost_faults, constructor_stmts}
 use Rattle.ss_typed.specs.Shapes as shapes
 use Rattle.ss_typed.specs.Shapes.{has_base, is_base}

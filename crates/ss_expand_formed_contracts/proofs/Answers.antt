@@ -23,9 +23,9 @@ use Rattle.ss_typed.specs.Tree as typed
 use Rattle.ss_owners_rules.specs.Words.{Allowed, allows_result, allows_old, allows_state, allows_question, unless, misplaced}
 use Rattle.ss_resolver_names_rules.specs.Faults.{type_faults}
 use Rattle.ss_resolver_names_rules.specs.Expressions.{expr_faults, has_member, before_dot, read_faults, callee_faults, called_faults, arguments_faults, asked_class, class_argument}
-use Rattle.ss_resolver_types_expressions.specs.Wants.{AnInt, ABool, AReference, AnArray, ClassName, known, wrong}
-use Rattle.ss_resolver_types_expressions.specs.Calls.{ExprContext, Called, Taking, Refused, Unknown, called, called_member, called_owner, asks_level, is_wrong_call, argument_wants, whole_call}
-use Rattle.ss_resolver_types_expressions.specs.Expressions.{AsValue, BeforeDot, AsCallee, used_member, is_wrong_read, is_no_read, reads_method, is_method_name, is_question, condition_faults, is_name, argument, faults, argument_faults, no_class}
+use Rattle.ss_resolver_types_heads.specs.Wants.{AnInt, ABool, AReference, AnArray, ClassName, known, wrong}
+use Rattle.ss_resolver_types_heads.specs.Calls.{ExprContext, Called, Taking, Refused, Unknown, called, called_member, called_owner, asks_level, is_wrong_call, argument_wants, whole_call}
+use Rattle.ss_resolver_types_heads.specs.Expressions.{AsValue, BeforeDot, AsCallee, used_member, is_wrong_read, is_no_read, reads_method, is_method_name, is_question, condition_faults, is_name, argument, faults, argument_faults, no_class}
 use Rattle.ss_resolver_rules.specs.declared.known.Known.TheVariants.{BoundName}
 use Rattle.ss_resolver_rules.specs.Numbers.{class_in}
 use Rattle.ss_resolver_rules.specs.Expressions.{read_field, field_behind, state_word, member, third_class, owner_question, called_behind, expr, args}

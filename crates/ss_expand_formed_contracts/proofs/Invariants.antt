@@ -27,8 +27,8 @@ use Rattle.ss_paths.specs.Fields.{fields_in}
 use Rattle.ss_resolver_names_rules.specs.Expressions.{expr_faults}
 use Rattle.ss_resolver_names_rules.specs.Members as names
 use Rattle.ss_resolver_names_rules.specs.Programs.{program_faults}
-use Rattle.ss_resolver_types_expressions.specs.Wants.{ABool, wrong}
-use Rattle.ss_resolver_types_expressions.specs.Expressions.{AsValue, faults, faults_as}
+use Rattle.ss_resolver_types_heads.specs.Wants.{ABool, wrong}
+use Rattle.ss_resolver_types_heads.specs.Expressions.{AsValue, faults, faults_as}
 use Rattle.ss_resolver_types_expressions.specs.Members as types
 use Rattle.ss_resolver_types_expressions.specs.Programs as programs
 use Rattle.ss_resolver_rules.specs.Names.{class_env}

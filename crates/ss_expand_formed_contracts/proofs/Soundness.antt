@@ -22,8 +22,8 @@ use Rattle.ss_resolver_names_rules.specs.Expressions.{expr_faults}
 use Rattle.ss_resolver_names_rules.specs.Members as names
 use Rattle.ss_resolver_names_rules.specs.Members.{in_method, written_type_faults}
 use Rattle.ss_resolver_names_rules.specs.Programs.{program_faults}
-use Rattle.ss_resolver_types_expressions.specs.Wants.{ABool, wrong}
-use Rattle.ss_resolver_types_expressions.specs.Expressions.{AsValue, faults}
+use Rattle.ss_resolver_types_heads.specs.Wants.{ABool, wrong}
+use Rattle.ss_resolver_types_heads.specs.Expressions.{AsValue, faults}
 use Rattle.ss_resolver_types_expressions.specs.Members as types
 use Rattle.ss_resolver_rules.specs.Numbers.{type_id}
 use Rattle.ss_resolver_rules.specs.Expressions.{expr}

@@ -28,10 +28,10 @@ use Rattle.ss_resolver_names_rules.specs.Expressions.{expr_faults, declares, has
 use Rattle.ss_resolver_names_rules.specs.Members as names
 use Rattle.ss_resolver_names_rules.specs.Members.{modified_expr}
 use Rattle.ss_resolver_names_rules.specs.Programs.{program_faults}
-use Rattle.ss_resolver_types_expressions.specs.Faults.{bad_type, fault_where}
-use Rattle.ss_resolver_types_expressions.specs.Wants.{AnArray, OfClass, has_no_value, known, wrong, is_object_of, place_of}
-use Rattle.ss_resolver_types_expressions.specs.Calls.{without_members}
-use Rattle.ss_resolver_types_expressions.specs.Expressions.{AsValue, BeforeDot, faults, used_member, is_wrong_read}
+use Rattle.ss_resolver_types_heads.specs.Faults.{bad_type, fault_where}
+use Rattle.ss_resolver_types_heads.specs.Wants.{AnArray, OfClass, has_no_value, known, wrong, is_object_of, place_of}
+use Rattle.ss_resolver_types_heads.specs.Calls.{without_members}
+use Rattle.ss_resolver_types_heads.specs.Expressions.{AsValue, BeforeDot, faults, used_member, is_wrong_read}
 use Rattle.ss_resolver_types_expressions.specs.Statements.{Body, is_target, is_length_of}
 use Rattle.ss_resolver_types_expressions.specs.Members as types
 use Rattle.ss_resolver_types_expressions.specs.Members.{is_field_term}

@@ -22,9 +22,9 @@ use Rattle.ss_typed.specs.Tree.{ExprTree, OwnersOf}
 use Rattle.ss_owners_rules.specs.Words.{Allowed, allows_question, allows_old, allows_result, allows_state, unless, misplaced}
 use Rattle.ss_resolver_names_rules.specs.Faults.{type_faults}
 use Rattle.ss_resolver_names_rules.specs.Expressions.{expr_faults, before_dot, read_faults, called_faults, callee_faults, asked_class, class_argument, arguments_faults}
-use Rattle.ss_resolver_types_expressions.specs.Wants.{Want, ABool, AnInt, AReference, AnArray, ClassName, known, has_no_value, wrong}
-use Rattle.ss_resolver_types_expressions.specs.Calls.{ExprContext, Called, Taking, Refused, called_owner, called_member, is_wrong_call, argument_wants, whole_call}
-use Rattle.ss_resolver_types_expressions.specs.Expressions.{AsValue, BeforeDot, AsCallee, no_class, is_question, condition_faults, is_name, faults, argument_faults}
+use Rattle.ss_resolver_types_heads.specs.Wants.{Want, ABool, AnInt, AReference, AnArray, ClassName, known, has_no_value, wrong}
+use Rattle.ss_resolver_types_heads.specs.Calls.{ExprContext, Called, Taking, Refused, called_owner, called_member, is_wrong_call, argument_wants, whole_call}
+use Rattle.ss_resolver_types_heads.specs.Expressions.{AsValue, BeforeDot, AsCallee, no_class, is_question, condition_faults, is_name, faults, argument_faults}
 use Rattle.ss_resolver_rules.specs.declared.known.Known.TheVariants.{BoundName}
 use Rattle.ss_resolver_rules.specs.Expressions.{first_class, third_class, state_question, owner_question, called_behind, expr, args}
 use Rattle.ss_expand_formed.proofs.Facts.{none_left, not_false}

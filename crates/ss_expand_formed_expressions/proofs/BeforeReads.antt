@@ -18,9 +18,9 @@ use Rattle.ss_tables.specs.Statics as statics
 use Rattle.ss_typed.specs.Tree.{ExprTree, StateOf, LengthOf}
 use Rattle.ss_owners_rules.specs.Words.{Allowed, allows_state, unless, misplaced}
 use Rattle.ss_resolver_names_rules.specs.Expressions.{declares, has_member, expr_faults, before_dot, read_faults}
-use Rattle.ss_resolver_types_expressions.specs.Wants.{known}
-use Rattle.ss_resolver_types_expressions.specs.Calls.{ExprContext, has_no_members}
-use Rattle.ss_resolver_types_expressions.specs.Expressions.{AsValue, BeforeDot, used_member, is_wrong_read, is_method_name, reads_method, faults}
+use Rattle.ss_resolver_types_heads.specs.Wants.{known}
+use Rattle.ss_resolver_types_heads.specs.Calls.{ExprContext, has_no_members}
+use Rattle.ss_resolver_types_heads.specs.Expressions.{AsValue, BeforeDot, used_member, is_wrong_read, is_method_name, reads_method, faults}
 use Rattle.ss_resolver_rules.specs.Numbers.{class_in}
 use Rattle.ss_resolver_rules.specs.Expressions.{read_field, field_behind, state_word, expr}
 use Rattle.ss_expand_formed.proofs.Facts.{none_left, or_false}

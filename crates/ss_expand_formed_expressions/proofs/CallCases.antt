@@ -13,9 +13,9 @@ use Rattle.ss_tables.specs.Statics.{AMethod, name_callee, count}
 use Rattle.ss_typed.specs.Types.{type_of}
 use Rattle.ss_resolver_names_rules.specs.Expressions.{arguments_faults}
 use Rattle.ss_resolver_names_rules.specs.Programs.{program_faults}
-use Rattle.ss_resolver_types_expressions.specs.Wants.{known}
-use Rattle.ss_resolver_types_expressions.specs.Calls.{ExprContext, Called, Taking, Refused, param_wants, called_method, called_name, argument_wants, is_wrong_call}
-use Rattle.ss_resolver_types_expressions.specs.Expressions.{argument_faults}
+use Rattle.ss_resolver_types_heads.specs.Wants.{known}
+use Rattle.ss_resolver_types_heads.specs.Calls.{ExprContext, Called, Taking, Refused, param_wants, called_method, called_name, argument_wants, is_wrong_call}
+use Rattle.ss_resolver_types_heads.specs.Expressions.{argument_faults}
 use Rattle.ss_resolver_rules.specs.Numbers.{type_id}
 use Rattle.ss_resolver_rules.specs.Expressions.{this, called_bare, args}
 use Rattle.ss_resolver_rules.specs.Programs.{resolved}

@@ -17,10 +17,10 @@ use Rattle.ss_tables.specs.Statics as statics
 use Rattle.ss_resolver_names_rules.specs.Faults.{unless, unknown}
 use Rattle.ss_resolver_names_rules.specs.Expressions.{expr_faults, before_dot, read_faults, has_member, is_inherited, called_faults, callee_faults, asked_class, class_argument, arguments_faults}
 use Rattle.ss_resolver_names_rules.specs.Programs.{program_faults}
-use Rattle.ss_resolver_types_expressions.specs.Faults.{bad_type}
-use Rattle.ss_resolver_types_expressions.specs.Wants.{Want, known}
-use Rattle.ss_resolver_types_expressions.specs.Calls.{ExprContext, Called, Refused, Unknown, method_or_field, called_on_class, called_base, called_member, called_name, argument_wants, is_wrong_call, whole_call}
-use Rattle.ss_resolver_types_expressions.specs.Expressions.{AsValue, BeforeDot, AsCallee, is_question, condition_faults, faults, faults_as, argument_faults}
+use Rattle.ss_resolver_types_heads.specs.Faults.{bad_type}
+use Rattle.ss_resolver_types_heads.specs.Wants.{Want, known}
+use Rattle.ss_resolver_types_heads.specs.Calls.{ExprContext, Called, Refused, Unknown, method_or_field, called_on_class, called_base, called_member, called_name, argument_wants, is_wrong_call, whole_call}
+use Rattle.ss_resolver_types_heads.specs.Expressions.{AsValue, BeforeDot, AsCallee, is_question, condition_faults, faults, faults_as, argument_faults}
 use Rattle.ss_resolver_rules.specs.Numbers.{number_or_object}
 use Rattle.ss_resolver_rules.specs.Expressions.{base_call, called_behind, expr, args}
 use Rattle.ss_resolver_rules.specs.Programs.{resolved}

@@ -19,9 +19,9 @@ use Rattle.ss_tables.specs.Statics as statics
 use Rattle.ss_typed.specs.Tree.{NullOf}
 use Rattle.ss_resolver_names_rules.specs.Expressions.{declares, has_member, arguments_faults}
 use Rattle.ss_resolver_names_rules.specs.Programs.{program_faults}
-use Rattle.ss_resolver_types_expressions.specs.Wants.{Printable, gives_nothing, has_no_value}
-use Rattle.ss_resolver_types_expressions.specs.Calls.{ExprContext, Called, Taking, Refused, Unknown, param_wants, called_console, called_on_object, called_on_declared, called_on_class, method_or_field, without_members, argument_wants, is_wrong_call}
-use Rattle.ss_resolver_types_expressions.specs.Expressions.{argument_faults}
+use Rattle.ss_resolver_types_heads.specs.Wants.{Printable, gives_nothing, has_no_value}
+use Rattle.ss_resolver_types_heads.specs.Calls.{ExprContext, Called, Taking, Refused, Unknown, param_wants, called_console, called_on_object, called_on_declared, called_on_class, method_or_field, without_members, argument_wants, is_wrong_call}
+use Rattle.ss_resolver_types_heads.specs.Expressions.{argument_faults}
 use Rattle.ss_resolver_rules.specs.Expressions.{call_of, method_call, place_or_own, called_behind, expr, args}
 use Rattle.ss_resolver_rules.specs.Programs.{resolved}
 use Rattle.ss_expand_formed.specs.Laws.{core_of}

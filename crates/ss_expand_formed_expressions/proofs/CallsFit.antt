@@ -15,9 +15,9 @@ use Rattle.ss_tables.specs.Statics.{Receiver, TheConsole, TheOwner, TheBase, ACl
 use Rattle.ss_tables.specs.Statics as statics
 use Rattle.ss_resolver_names_rules.specs.Expressions.{has_member, arguments_faults}
 use Rattle.ss_resolver_names_rules.specs.Programs.{program_faults}
-use Rattle.ss_resolver_types_expressions.specs.Wants.{ClassName, has_no_value, known}
-use Rattle.ss_resolver_types_expressions.specs.Calls.{ExprContext, Taking, Refused, called_on_object, called_member, has_no_members, without_members, class_of_known, asks_level, argument_wants, is_wrong_call}
-use Rattle.ss_resolver_types_expressions.specs.Expressions.{AsValue, is_question, faults, argument_faults}
+use Rattle.ss_resolver_types_heads.specs.Wants.{ClassName, has_no_value, known}
+use Rattle.ss_resolver_types_heads.specs.Calls.{ExprContext, Taking, Refused, called_on_object, called_member, has_no_members, without_members, class_of_known, asks_level, argument_wants, is_wrong_call}
+use Rattle.ss_resolver_types_heads.specs.Expressions.{AsValue, is_question, faults, argument_faults}
 use Rattle.ss_expand_formed.proofs.Facts.{or_false}
 use Rattle.ss_expand_formed_expressions.proofs.Fit.{Context}
 use Rattle.ss_expand_formed_expressions.proofs.Scopes.{refusing, expr_context}

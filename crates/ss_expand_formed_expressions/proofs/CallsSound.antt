@@ -24,9 +24,9 @@ use Rattle.ss_typed.specs.Types.{class_type, type_of}
 use Rattle.ss_resolver_names_rules.specs.Expressions.{expr_faults, arguments_faults}
 use Rattle.ss_resolver_names_rules.specs.Faults.{class_faults, type_name_faults}
 use Rattle.ss_resolver_names_rules.specs.Programs.{program_faults}
-use Rattle.ss_resolver_types_expressions.specs.Wants.{AnInt, OfType, gives_nothing, has_no_value, may_stand_for, suits, wrong}
-use Rattle.ss_resolver_types_expressions.specs.Calls.{ExprContext, Taking, param_wants, constructed, argument_wants, whole_call, is_wrong_call}
-use Rattle.ss_resolver_types_expressions.specs.Expressions.{AsValue, faults, argument_faults}
+use Rattle.ss_resolver_types_heads.specs.Wants.{AnInt, OfType, gives_nothing, has_no_value, may_stand_for, suits, wrong}
+use Rattle.ss_resolver_types_heads.specs.Calls.{ExprContext, Taking, param_wants, constructed, argument_wants, whole_call, is_wrong_call}
+use Rattle.ss_resolver_types_heads.specs.Expressions.{AsValue, faults, argument_faults}
 use Rattle.ss_resolver_rules.specs.Numbers.{number_or_object, class_id, class_in, array_class, type_id, method_id, table_place}
 use Rattle.ss_resolver_rules.specs.Expressions.{method_call, expr, args}
 use Rattle.ss_resolver_rules.specs.Programs.{method_env, method_body, resolved}

@@ -20,7 +20,7 @@ use Rattle.ss_tables.specs.Classes.{Declared, declared_in, or_else, class_named,
 use Rattle.ss_tables.specs.Classes as tables
 use Rattle.ss_tables.specs.Types.{written_type}
 use Rattle.ss_resolver_names_rules.specs.Programs.{program_faults}
-use Rattle.ss_resolver_types_expressions.specs.Wants.{in_chain, stands_above, is_below, may_stand_for}
+use Rattle.ss_resolver_types_heads.specs.Wants.{in_chain, stands_above, is_below, may_stand_for}
 use Rattle.ss_resolver_rules.specs.Numbers.{number_or_object, type_id, field_place, field_id}
 use Rattle.ss_resolver_rules.specs.Programs.{field}
 use Rattle.ss_store_rules.specs.Changes.{is_array, class_of_field}

@@ -6,8 +6,8 @@ use Rattle.ss_ast.specs.Programs.{ClassTree, ProgramTree}
 use Rattle.ss_typed.specs.Types.{type_of}
 use Rattle.ss_resolver_names_rules.specs.Expressions.{expr_faults}
 use Rattle.ss_resolver_names_rules.specs.Programs.{program_faults}
-use Rattle.ss_resolver_types_expressions.specs.Wants.{Want, ABool}
-use Rattle.ss_resolver_types_expressions.specs.Expressions.{faults_as}
+use Rattle.ss_resolver_types_heads.specs.Wants.{Want, ABool}
+use Rattle.ss_resolver_types_heads.specs.Expressions.{faults_as}
 use Rattle.ss_resolver_rules.specs.Names.{Env}
 use Rattle.ss_resolver_rules.specs.Expressions.{expr}
 use Rattle.ss_resolver_rules.specs.Programs.{resolved}

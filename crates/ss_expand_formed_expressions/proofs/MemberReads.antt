@@ -25,8 +25,8 @@ use Rattle.ss_typed.specs.Types.{type_of}
 use Rattle.ss_resolver_names_rules.specs.Faults.{unless, unknown}
 use Rattle.ss_resolver_names_rules.specs.Expressions.{declares, has_member, expr_faults}
 use Rattle.ss_resolver_names_rules.specs.Programs.{program_faults}
-use Rattle.ss_resolver_types_expressions.specs.Calls.{without_members}
-use Rattle.ss_resolver_types_expressions.specs.Expressions.{is_method_name, reads_method, name_faults}
+use Rattle.ss_resolver_types_heads.specs.Calls.{without_members}
+use Rattle.ss_resolver_types_heads.specs.Expressions.{is_method_name, reads_method, name_faults}
 use Rattle.ss_resolver_rules.specs.Names.{known}
 use Rattle.ss_resolver_rules.specs.declared.known.Known.{Known}
 use Rattle.ss_resolver_rules.specs.declared.known.Known.TheVariants.{Variable, BoundName}

@@ -17,9 +17,9 @@ use Rattle.ss_tables.specs.Statics.{static as static_of}
 use Rattle.ss_typed.specs.Types.{class_type, type_of}
 use Rattle.ss_resolver_names_rules.specs.Faults.{type_faults}
 use Rattle.ss_resolver_names_rules.specs.Programs.{program_faults}
-use Rattle.ss_resolver_types_expressions.specs.Wants.{Want, AnInt, ABool, AReference, AnArray, is_unsuited, suits, has_no_value, known, wrong}
-use Rattle.ss_resolver_types_expressions.specs.Wants as wants
-use Rattle.ss_resolver_types_expressions.specs.Expressions.{AsValue, faults, is_number_name, is_number_type}
+use Rattle.ss_resolver_types_heads.specs.Wants.{Want, AnInt, ABool, AReference, AnArray, is_unsuited, suits, has_no_value, known, wrong}
+use Rattle.ss_resolver_types_heads.specs.Wants as wants
+use Rattle.ss_resolver_types_heads.specs.Expressions.{AsValue, faults, is_number_name, is_number_type}
 use Rattle.ss_resolver_rules.specs.Names.{Known_names, Env}
 use Rattle.ss_resolver_rules.specs.declared.known.Known.{Known}
 use Rattle.ss_resolver_rules.specs.declared.known.Known.TheVariants.{Variable, BoundName}

@@ -19,9 +19,9 @@ use Rattle.ss_tables.specs.Statics as statics
 use Rattle.ss_typed.specs.Tree.{StateOf, OwnersOf}
 use Rattle.ss_typed.specs.Types.{type_of}
 use Rattle.ss_resolver_names_rules.specs.Expressions.{expr_faults, asked_class, arguments_faults}
-use Rattle.ss_resolver_types_expressions.specs.Wants.{Want, AReference, ClassName, has_no_value, known, wrong}
-use Rattle.ss_resolver_types_expressions.specs.Calls.{ExprContext, Called, Taking, Refused, called_owner, asks_level, called_value, is_wrong_call, argument_wants}
-use Rattle.ss_resolver_types_expressions.specs.Expressions.{AsValue, faults, argument_faults}
+use Rattle.ss_resolver_types_heads.specs.Wants.{Want, AReference, ClassName, has_no_value, known, wrong}
+use Rattle.ss_resolver_types_heads.specs.Calls.{ExprContext, Called, Taking, Refused, called_owner, asks_level, called_value, is_wrong_call, argument_wants}
+use Rattle.ss_resolver_types_heads.specs.Expressions.{AsValue, faults, argument_faults}
 use Rattle.ss_resolver_rules.specs.Expressions.{class_named_by, first_class, third_class, state_question, owner_question, called_behind, expr, args}
 use Rattle.ss_resolver_rules.specs.Programs.{resolved}
 use Rattle.ss_expand_rules.specs.Calls.{has_call}

@@ -9,7 +9,7 @@ use Rattle.ss_tables.specs.Scopes.{Scope, local_named}
 use Rattle.ss_tables.specs.Statics.{Receiver, TheConsole, TheOwner, AClass, AValue, is_member, class_or_value, receiver, static}
 use Rattle.ss_resolver_names_rules.specs.Faults.{unless, unknown}
 use Rattle.ss_resolver_names_rules.specs.Expressions.{expr_faults}
-use Rattle.ss_resolver_types_expressions.specs.Expressions.{AsValue, BeforeDot, name_faults, is_value_receiver, faults}
+use Rattle.ss_resolver_types_heads.specs.Expressions.{AsValue, BeforeDot, name_faults, is_value_receiver, faults}
 use Rattle.ss_expand_formed_expressions.proofs.Scopes.{refusing, expr_context, receiver_alike}
 
 -- a bare name before a dot, by what it may be

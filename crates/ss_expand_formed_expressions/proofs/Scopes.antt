@@ -13,10 +13,10 @@ use Rattle.ss_tables.specs.Types.{class_of, element_type}
 use Rattle.ss_tables.specs.Scopes.{Scope, local_named}
 use Rattle.ss_tables.specs.Statics.{Receiver, TheConsole, TheOwner, AValue, is_member, class_or_value, name_receiver, receiver, type_of_field, type_of_local, unless_refused, name_type, read_type, AMethod, NoCallee, method_callee, name_callee, member_callee, count, called_with, call_type, callee, static}
 use Rattle.ss_faults.specs.declared.Fault.{Fault}
-use Rattle.ss_resolver_types_expressions.specs.Faults.{fault_where, bad_type}
-use Rattle.ss_resolver_types_expressions.specs.Wants.{AnArray, AnInt, wrong}
-use Rattle.ss_resolver_types_expressions.specs.Calls.{ExprContext, Refused, Taking, param_wants, called_method, called_name, is_wrong_call, called}
-use Rattle.ss_resolver_types_expressions.specs.Expressions.{AsValue, BeforeDot, AsCallee, name_faults, is_misused, is_value_receiver, faults}
+use Rattle.ss_resolver_types_heads.specs.Faults.{fault_where, bad_type}
+use Rattle.ss_resolver_types_heads.specs.Wants.{AnArray, AnInt, wrong}
+use Rattle.ss_resolver_types_heads.specs.Calls.{ExprContext, Refused, Taking, param_wants, called_method, called_name, is_wrong_call, called}
+use Rattle.ss_resolver_types_heads.specs.Expressions.{AsValue, BeforeDot, AsCallee, name_faults, is_misused, is_value_receiver, faults}
 use Rattle.ss_expand_formed.proofs.Facts.{none_left, and_false}
 
 abbrev pub refusing : Bool → Bool → Scope → Scope

@@ -24,11 +24,11 @@ use Rattle.ss_typed.specs.Types as typed
 use Rattle.ss_resolver_names_rules.specs.Faults.{type_faults, type_name_faults}
 use Rattle.ss_resolver_names_rules.specs.Expressions.{expr_faults, before_dot, read_faults, has_member, callee_faults, called_faults, arguments_faults, asked_class, class_argument}
 use Rattle.ss_resolver_names_rules.specs.Programs.{program_faults}
-use Rattle.ss_resolver_types_expressions.specs.Faults.{bad_type}
-use Rattle.ss_resolver_types_expressions.specs.Wants.{Want, AnInt, ABool, AReference, AnArray, AnyValue, Known, known, has_no_value, are_alike, misfit, wrong}
-use Rattle.ss_resolver_types_expressions.specs.Wants as wants
-use Rattle.ss_resolver_types_expressions.specs.Calls.{ExprContext, without_members, has_no_members, called, called_member, is_wrong_call, argument_wants, whole_call}
-use Rattle.ss_resolver_types_expressions.specs.Expressions.{AsValue, BeforeDot, AsCallee, operand_faults, operand, comparison_faults, are_unlike, no_class, word_faults, used_member, is_wrong_read, is_no_read, reads_method, is_question, condition_faults, faults, argument_faults, is_number_type}
+use Rattle.ss_resolver_types_heads.specs.Faults.{bad_type}
+use Rattle.ss_resolver_types_heads.specs.Wants.{Want, AnInt, ABool, AReference, AnArray, AnyValue, Known, known, has_no_value, are_alike, misfit, wrong}
+use Rattle.ss_resolver_types_heads.specs.Wants as wants
+use Rattle.ss_resolver_types_heads.specs.Calls.{ExprContext, without_members, has_no_members, called, called_member, is_wrong_call, argument_wants, whole_call}
+use Rattle.ss_resolver_types_heads.specs.Expressions.{AsValue, BeforeDot, AsCallee, operand_faults, operand, comparison_faults, are_unlike, no_class, word_faults, used_member, is_wrong_read, is_no_read, reads_method, is_question, condition_faults, faults, argument_faults, is_number_type}
 use Rattle.ss_resolver_rules.specs.declared.known.Known.TheVariants.{BoundName}
 use Rattle.ss_resolver_rules.specs.Numbers.{class_in, written_class}
 use Rattle.ss_resolver_rules.specs.Expressions.{as_int, expr, args}

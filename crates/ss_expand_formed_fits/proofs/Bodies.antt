@@ -27,9 +27,9 @@ use Rattle.ss_resolver_names_rules.specs.Statements.{faults_of_all}
 use Rattle.ss_resolver_names_rules.specs.Statements as naming_in
 use Rattle.ss_resolver_names_rules.specs.Members as naming
 use Rattle.ss_resolver_names_rules.specs.Programs.{program_faults}
-use Rattle.ss_resolver_types_expressions.specs.Calls.{ExprContext, Taking, base_wants, takes_nothing, argument_wants, is_wrong_call, whole_call}
-use Rattle.ss_resolver_types_expressions.specs.Wants.{Want}
-use Rattle.ss_resolver_types_expressions.specs.Expressions.{argument_faults}
+use Rattle.ss_resolver_types_heads.specs.Calls.{ExprContext, Taking, base_wants, takes_nothing, argument_wants, is_wrong_call, whole_call}
+use Rattle.ss_resolver_types_heads.specs.Wants.{Want}
+use Rattle.ss_resolver_types_heads.specs.Expressions.{argument_faults}
 use Rattle.ss_resolver_types_expressions.specs.Statements.{Nothing, in_code}
 use Rattle.ss_resolver_types_expressions.specs.Statements as typing_in
 use Rattle.ss_resolver_types_expressions.specs.Members as typing

@@ -14,7 +14,7 @@ use Rattle.ss_owners_rules.specs.Words.{misplaced_declared, misplaced_if, NoWord
 use Rattle.ss_resolver_names_rules.specs.Faults.{type_faults, twice_in}
 use Rattle.ss_resolver_names_rules.specs.Statements as naming
 use Rattle.ss_resolver_names_rules.specs.Programs.{program_faults}
-use Rattle.ss_resolver_types_expressions.specs.Expressions.{mark_faults}
+use Rattle.ss_resolver_types_heads.specs.Expressions.{mark_faults}
 use Rattle.ss_resolver_types_expressions.specs.Statements.{Body, Outcome, initial_faults}
 use Rattle.ss_resolver_types_expressions.specs.Statements as typing
 use Rattle.ss_resolver_rules.specs.Numbers.{type_id}

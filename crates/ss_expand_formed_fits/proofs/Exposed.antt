@@ -15,8 +15,8 @@ use Rattle.ss_typed.specs.Tree.{ExprTree}
 use Rattle.ss_typed.specs.Types.{type_of}
 use Rattle.ss_resolver_names_rules.specs.Statements.{named_class_faults}
 use Rattle.ss_resolver_names_rules.specs.Programs.{program_faults}
-use Rattle.ss_resolver_types_expressions.specs.Wants.{Want, AnyValue, OfDeclared, OfClass, suits, is_below}
-use Rattle.ss_resolver_types_expressions.specs.Wants as wants
+use Rattle.ss_resolver_types_heads.specs.Wants.{Want, AnyValue, OfDeclared, OfClass, suits, is_below}
+use Rattle.ss_resolver_types_heads.specs.Wants as wants
 use Rattle.ss_resolver_types_expressions.specs.Statements.{exposed_want}
 use Rattle.ss_resolver_rules.specs.Numbers.{number_or_object, class_id}
 use Rattle.ss_resolver_rules.specs.Expressions.{expr}

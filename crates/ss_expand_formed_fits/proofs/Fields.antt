@@ -22,8 +22,8 @@ use Rattle.ss_resolver_names_rules.specs.Faults.{type_faults}
 use Rattle.ss_resolver_names_rules.specs.Statements.{faults_of_any}
 use Rattle.ss_resolver_names_rules.specs.Members as naming
 use Rattle.ss_resolver_names_rules.specs.Programs.{program_faults}
-use Rattle.ss_resolver_types_expressions.specs.Calls.{ExprContext}
-use Rattle.ss_resolver_types_expressions.specs.Expressions.{mark_faults}
+use Rattle.ss_resolver_types_heads.specs.Calls.{ExprContext}
+use Rattle.ss_resolver_types_heads.specs.Expressions.{mark_faults}
 use Rattle.ss_resolver_types_expressions.specs.Statements.{initial_faults}
 use Rattle.ss_resolver_types_expressions.specs.Members as typing
 use Rattle.ss_resolver_types_expressions.specs.Programs as phases

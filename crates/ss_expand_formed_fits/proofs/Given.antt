@@ -14,9 +14,9 @@ use Rattle.ss_owners_rules.specs.Words.{Allowed, NoWord, OfEntry, allows_result,
 use Rattle.ss_resolver_names_rules.specs.Expressions.{expr_faults, arguments_faults}
 use Rattle.ss_resolver_names_rules.specs.Statements.{faults_of_all}
 use Rattle.ss_resolver_names_rules.specs.Programs.{program_faults}
-use Rattle.ss_resolver_types_expressions.specs.Wants.{Want, ABool, OfType, may_stand_for, suits}
-use Rattle.ss_resolver_types_expressions.specs.Calls.{ExprContext, Taking, base_wants, argument_wants, is_wrong_call}
-use Rattle.ss_resolver_types_expressions.specs.Expressions.{AsValue, faults, argument_faults, faults_as}
+use Rattle.ss_resolver_types_heads.specs.Wants.{Want, ABool, OfType, may_stand_for, suits}
+use Rattle.ss_resolver_types_heads.specs.Calls.{ExprContext, Taking, base_wants, argument_wants, is_wrong_call}
+use Rattle.ss_resolver_types_heads.specs.Expressions.{AsValue, faults, argument_faults, faults_as}
 use Rattle.ss_resolver_types_expressions.specs.Statements.{Outcome, conditions}
 use Rattle.ss_resolver_rules.specs.Expressions.{expr, args}
 use Rattle.ss_resolver_rules.specs.Programs.{resolved}

@@ -13,7 +13,7 @@ use Rattle.ss_typed.specs.Tree.{TypedTree}
 use Rattle.ss_owners_rules.specs.Words.{misplaced_at, misplaced_along, misplaced_in}
 use Rattle.ss_resolver_names_rules.specs.Statements as naming
 use Rattle.ss_resolver_names_rules.specs.Programs.{program_faults}
-use Rattle.ss_resolver_types_expressions.specs.Calls.{Taking, base_wants, whole_call}
+use Rattle.ss_resolver_types_heads.specs.Calls.{Taking, base_wants, whole_call}
 use Rattle.ss_resolver_types_expressions.specs.Statements.{Nothing, stmt_faults}
 use Rattle.ss_resolver_types_expressions.specs.Members.{constructor_body, base_call, is_first_assignment, outermost_faults, constructor_stmts, constructor_block, calls_base, block_calls_base}
 use Rattle.ss_resolver_rules.specs.Names.{Env}

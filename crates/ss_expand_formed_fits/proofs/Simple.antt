@@ -24,11 +24,11 @@ use Rattle.ss_owners_rules.specs.Words.{misplaced_done, misplaced, NoWord}
 use Rattle.ss_resolver_names_rules.specs.Expressions.{expr_faults, before_dot, read_faults, called_faults, callee_faults, arguments_faults, asked_class}
 use Rattle.ss_resolver_names_rules.specs.Statements as naming
 use Rattle.ss_resolver_names_rules.specs.Programs.{program_faults}
-use Rattle.ss_resolver_types_expressions.specs.Faults.{bad_type}
-use Rattle.ss_resolver_types_expressions.specs.Wants.{AnInt, OfType, Printable, has_no_value, place_of, suits, wrong}
-use Rattle.ss_resolver_types_expressions.specs.Wants as wants
-use Rattle.ss_resolver_types_expressions.specs.Calls.{ExprContext, Taking, Unknown, called, called_console, argument_wants, is_wrong_call, whole_call, called_member}
-use Rattle.ss_resolver_types_expressions.specs.Expressions.{AsValue, AsCallee, BeforeDot, argument, argument_faults, condition_faults, is_question, faults, faults_as}
+use Rattle.ss_resolver_types_heads.specs.Faults.{bad_type}
+use Rattle.ss_resolver_types_heads.specs.Wants.{AnInt, OfType, Printable, has_no_value, place_of, suits, wrong}
+use Rattle.ss_resolver_types_heads.specs.Wants as wants
+use Rattle.ss_resolver_types_heads.specs.Calls.{ExprContext, Taking, Unknown, called, called_console, argument_wants, is_wrong_call, whole_call, called_member}
+use Rattle.ss_resolver_types_heads.specs.Expressions.{AsValue, AsCallee, BeforeDot, argument, argument_faults, condition_faults, is_question, faults, faults_as}
 use Rattle.ss_resolver_types_expressions.specs.Statements.{is_target, target_faults, assigned_faults}
 use Rattle.ss_resolver_types_expressions.specs.Statements as typing
 use Rattle.ss_resolver_rules.specs.Expressions.{expr}

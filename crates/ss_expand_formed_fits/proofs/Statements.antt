@@ -14,8 +14,8 @@ use Rattle.ss_owners_rules.specs.Words.{NoWord, OfEntry, misplaced, misplaced_if
 use Rattle.ss_resolver_names_rules.specs.Expressions.{expr_faults}
 use Rattle.ss_resolver_names_rules.specs.Statements as naming
 use Rattle.ss_resolver_names_rules.specs.Programs.{program_faults}
-use Rattle.ss_resolver_types_expressions.specs.Calls.{ExprContext}
-use Rattle.ss_resolver_types_expressions.specs.Expressions.{AsValue, faults, faults_as}
+use Rattle.ss_resolver_types_heads.specs.Calls.{ExprContext}
+use Rattle.ss_resolver_types_heads.specs.Expressions.{AsValue, faults, faults_as}
 use Rattle.ss_resolver_types_expressions.specs.Statements.{Body, Outcome, Nothing, Gives, return_faults, exposed_want}
 use Rattle.ss_resolver_types_expressions.specs.Statements as typing
 use Rattle.ss_resolver_rules.specs.Numbers.{class_id}

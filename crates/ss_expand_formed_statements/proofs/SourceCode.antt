@@ -30,10 +30,10 @@ use Rattle.ss_resolver_names_rules.specs.Faults.{class_faults, type_name_faults,
 use Rattle.ss_resolver_names_rules.specs.Faults as names_faults
 use Rattle.ss_resolver_names_rules.specs.Expressions.{declares, has_member, is_inherited, expr_faults, before_dot, read_faults, called_faults, callee_faults, asked_class, class_argument, arguments_faults}
 use Rattle.ss_resolver_names_rules.specs.Programs.{program_faults}
-use Rattle.ss_resolver_types_expressions.specs.Faults.{bad_type}
-use Rattle.ss_resolver_types_expressions.specs.Wants.{Want, AnInt, ABool, AReference, AnArray, AnyValue, OfType, ClassName, Known, known, has_no_value, gives_nothing, is_unsuited, misfit, wrong}
-use Rattle.ss_resolver_types_expressions.specs.Calls.{ExprContext, Called, Taking, Refused, Unknown, param_wants, wants_above, base_wants, called_console, called_method, called_on_class, called_on_declared, called_on_object, called_name, called_member, called_value, constructed, method_or_field, without_members, has_no_members, class_of_known, asks_level, is_wrong_call, argument_wants, whole_call}
-use Rattle.ss_resolver_types_expressions.specs.Expressions.{AsValue, BeforeDot, AsCallee, no_class, operand, operand_faults, is_question, condition_faults, faults, faults_as, argument_faults}
+use Rattle.ss_resolver_types_heads.specs.Faults.{bad_type}
+use Rattle.ss_resolver_types_heads.specs.Wants.{Want, AnInt, ABool, AReference, AnArray, AnyValue, OfType, ClassName, Known, known, has_no_value, gives_nothing, is_unsuited, misfit, wrong}
+use Rattle.ss_resolver_types_heads.specs.Calls.{ExprContext, Called, Taking, Refused, Unknown, param_wants, wants_above, base_wants, called_console, called_method, called_on_class, called_on_declared, called_on_object, called_name, called_member, called_value, constructed, method_or_field, without_members, has_no_members, class_of_known, asks_level, is_wrong_call, argument_wants, whole_call}
+use Rattle.ss_resolver_types_heads.specs.Expressions.{AsValue, BeforeDot, AsCallee, no_class, operand, operand_faults, is_question, condition_faults, faults, faults_as, argument_faults}
 use Rattle.ss_resolver_rules.specs.Names.{Env}
 use Rattle.ss_resolver_rules.specs.declared.known.Known.{Known as KnownName}
 use Rattle.ss_resolver_rules.specs.declared.known.Known.TheVariants.{Variable, BoundName}

@@ -1,5 +1,5 @@
 -- What each form of an expression with a call is lifted to.
-use Rattle.std.proofs.Common.{◌≡◌, ◌<◌, ◌≤◌, ◌+◌, ℕ, suc, length, get_or, add-one, Bool, true, false, List, [], ◌∷◌, ◌++◌, Option, Vec, Box, Global, take, drop, sym, ap, ◌∙◌}
+use Rattle.std.proofs.Common.{◌≡◌, ◌<◌, ◌≤◌, ◌+◌, ℕ, suc, length, get_or, add-one, Bool, true, false, List, [], ◌∷◌, ◌++◌, Option, Vec, Box, Global, take, drop, refl, subst, sym, ap, ◌∙◌}
 use Rattle.std.specs.Prelude.{◌||◌}
 use Rattle.std.proofs.lemmas.List.{drop_all}
 use Rattle.ss_core.specs.declared.names.Place.{Place}
@@ -27,7 +27,7 @@ use Rattle.ss_expand_rules.specs.Lifting.{ElaborationContext, Source, Pure, Crea
 use Rattle.ss_core.specs.declared.names.Ty.TheVariants as ty
 use Rattle.ss_typed.specs.Parts.{link_behind, linked, step_behind, stepped}
 use Rattle.ss_expand_expressions.specs.Sources.{lifted_behind, valued_behind, listed_behind}
-use Rattle.ss_expand_expressions.specs.Operands.{valued_as}
+use Rattle.ss_expand_expressions.specs.Operands.{IsBegun, valued_as}
 use Rattle.std.proofs.lemmas.List.{map-append}
 use Rattle.ss_ast.proofs.Loops.{drop_item}
 use Rattle.ss_typed.proofs.Grouping.{chain_is, path_is}
@@ -36,33 +36,26 @@ use Rattle.ss_expand_lifting.proofs.Joins.{lifted_as, listed_as, with_call, unli
 use Rattle.ss_expand_lifting.proofs.Forms.{iff_is, implies_is, negate_is, not_is, cast_is, new_is, new_array_is, static_is, base_is}
 use Rattle.ss_expand_lifting.proofs.Links.{linked_split, stepped_split}
 
-pub iff_lifts : (s : ElaborationContext) (p : Place) (a b : Box TypedExpr Global) (e x y : TypedExpr) (w u : Ty) (before now after : List core.StmtTree) (left right value : core.ExprTree) (types made more : List Ty)
-    → e ≡ variant.Iff p a b → x ≡ a.value → y ≡ b.value → w ≡ any_object → u ≡ any_object
-    → valued_as now left made ≡ valued_behind before (operand s.numbers w (expr x) (lifted s (expr x)) types)
-    → valued_as after right more ≡ valued_behind now (operand s.numbers u (expr y) (lifted s (expr y)) made)
-    → value ≡ IffExpr p left right → lifted_as after (Pure value) more ≡ lifted_behind before (lifted s (expr e) types)
-iff_lifts s p a b e x y w u before now after left right value types made more is xs ys any also h k v =
-    binary_kept (IffExpr p) s (expr x) (expr y) w u before now after left right value types made more any also h k v
-    ∙ ap (λ z. lifted_behind before (lifted s (IffOf p (expr z) (expr y)) types)) xs
+pub iff_lifts : (s : ElaborationContext) (p : Place) (a b : Box TypedExpr Global) (e x y : TypedExpr) (before : List core.StmtTree) (r : Lifted) (types : List Ty)
+    → e ≡ variant.Iff p a b → x ≡ a.value → y ≡ b.value
+    → r ≡ lifted_behind before (lifted s (IffOf p (expr x) (expr y)) types) → r ≡ lifted_behind before (lifted s (expr e) types)
+iff_lifts s p a b e x y before r types is xs ys h =
+    h ∙ ap (λ z. lifted_behind before (lifted s (IffOf p (expr z) (expr y)) types)) xs
     ∙ ap (λ z. lifted_behind before (lifted s (IffOf p (expr a.value) (expr z)) types)) ys
     ∙ ap (λ z. lifted_behind before (lifted s z types)) (sym (ap expr is ∙ iff_is p a b))
 
-pub negate_lifts : (s : ElaborationContext) (p : Place) (a : Box TypedExpr Global) (e x : TypedExpr) (w : Ty) (before now : List core.StmtTree) (v value : core.ExprTree) (types made : List Ty)
-    → e ≡ variant.Negate p a → x ≡ a.value → w ≡ any_object
-    → valued_as now v made ≡ valued_behind before (operand s.numbers w (expr x) (lifted s (expr x)) types)
-    → value ≡ NegateExpr p v → lifted_as now (Pure value) made ≡ lifted_behind before (lifted s (expr e) types)
-negate_lifts s p a e x w before now v value types made is xs any h k =
-    unary_kept (NegateExpr p) s (expr x) w before now v value types made any h k
-    ∙ ap (λ z. lifted_behind before (lifted s (NegateOf p (expr z)) types)) xs
+pub negate_lifts : (s : ElaborationContext) (p : Place) (a : Box TypedExpr Global) (e x : TypedExpr) (before : List core.StmtTree) (r : Lifted) (types : List Ty)
+    → e ≡ variant.Negate p a → x ≡ a.value
+    → r ≡ lifted_behind before (lifted s (NegateOf p (expr x)) types) → r ≡ lifted_behind before (lifted s (expr e) types)
+negate_lifts s p a e x before r types is xs h =
+    h ∙ ap (λ z. lifted_behind before (lifted s (NegateOf p (expr z)) types)) xs
     ∙ ap (λ z. lifted_behind before (lifted s z types)) (sym (ap expr is ∙ negate_is p a))
 
-pub not_lifts : (s : ElaborationContext) (p : Place) (a : Box TypedExpr Global) (e x : TypedExpr) (w : Ty) (before now : List core.StmtTree) (v value : core.ExprTree) (types made : List Ty)
-    → e ≡ variant.Not p a → x ≡ a.value → w ≡ any_object
-    → valued_as now v made ≡ valued_behind before (operand s.numbers w (expr x) (lifted s (expr x)) types)
-    → value ≡ NotExpr p v → lifted_as now (Pure value) made ≡ lifted_behind before (lifted s (expr e) types)
-not_lifts s p a e x w before now v value types made is xs any h k =
-    unary_kept (NotExpr p) s (expr x) w before now v value types made any h k
-    ∙ ap (λ z. lifted_behind before (lifted s (NotOf p (expr z)) types)) xs
+pub not_lifts : (s : ElaborationContext) (p : Place) (a : Box TypedExpr Global) (e x : TypedExpr) (before : List core.StmtTree) (r : Lifted) (types : List Ty)
+    → e ≡ variant.Not p a → x ≡ a.value
+    → r ≡ lifted_behind before (lifted s (NotOf p (expr x)) types) → r ≡ lifted_behind before (lifted s (expr e) types)
+not_lifts s p a e x before r types is xs h =
+    h ∙ ap (λ z. lifted_behind before (lifted s (NotOf p (expr z)) types)) xs
     ∙ ap (λ z. lifted_behind before (lifted s z types)) (sym (ap expr is ∙ not_is p a))
 
 pub cast_lifts : (s : ElaborationContext) (p : Place) (c : ClassId) (non_null : Bool) (a : Box TypedExpr Global) (e x : TypedExpr) (w : Ty) (before now : List core.StmtTree) (v value : core.ExprTree) (types made : List Ty)
@@ -74,18 +67,23 @@ cast_lifts s p c non_null a e x w before now v value types made is xs any h k =
     ∙ ap (λ z. lifted_behind before (lifted s (CastOf p c.0 non_null (expr z)) types)) xs
     ∙ ap (λ z. lifted_behind before (lifted s z types)) (sym (ap expr is ∙ cast_is p c non_null a))
 
-pub implies_lifts : (s : ElaborationContext) (p : Place) (a b : Box TypedExpr Global) (e x w y : TypedExpr) (q : Place) (before begun mid : List core.StmtTree) (first : Source) (r : Lifted) (v : core.ExprTree) (types made kept : List Ty) (n : ℕ)
-    → e ≡ variant.Implies p a b → x ≡ a.value → w ≡ a.value → y ≡ b.value → q ≡ place_of (expr w)
-    → lifted_as begun first made ≡ lifted_behind before (negated s.numbers (expr x) (lifted s (expr x)) types)
-    → n ≡ next s.numbers made → valued_as mid v kept ≡ in_temporary s.numbers q ty.Bool (lifted_as begun first made)
-    → r ≡ lazily_in p (expr y) (test_of p false) n (valued_as mid v kept) (right_side s (expr y))
+pub begun_there : (s : ElaborationContext) (p q : Place) (l m : Lifted) (x : ℕ) (code : List core.StmtTree) (made : List Ty)
+    → q ≡ p → l ≡ m → IsBegun s.numbers q l x code made → IsBegun s.numbers p m x code made
+begun_there s p q l m x code made at is h = subst (λ (z : Lifted). IsBegun s.numbers p z x code made) is (subst (λ (z : Place). IsBegun s.numbers z l x code made) at h)
+
+pub implies_lifts : (s : ElaborationContext) (p : Place) (a b : Box TypedExpr Global) (e x y : TypedExpr) (before mid : List core.StmtTree) (r : Lifted) (types kept : List Ty) (n : ℕ) (q : Place) (goes : Bool)
+    → e ≡ variant.Implies p a b → x ≡ a.value → y ≡ b.value → q ≡ p → goes ≡ false
+    → IsBegun s.numbers (place_of (expr x)) (lifted_behind before (negated s.numbers (expr x) (lifted s (expr x)) types)) n mid kept
+    → r ≡ lazily_in q (expr y) (test_of q goes) n (valued_as mid (LocalExpr q n) kept) (right_side s (expr y))
     → r ≡ lifted_behind before (lifted s (expr e) types)
-implies_lifts s p a b e x w y q before begun mid first r v types made kept n is xs ws ys place h m k l =
+implies_lifts s p a b e x y before mid r types kept n q goes is xs ys at fails begun l =
     let left = negated s.numbers (expr x) (lifted s (expr x)) types in
-    let at : q ≡ place_of (expr x) = place ∙ ap (λ z. place_of (expr z)) (ws ∙ sym xs) in
-    l ∙ lazily_behind s.numbers p (expr x) (expr y) (test_of p false) before mid left (right_side s (expr y)) v kept n
-    (m ∙ ap (λ (z : Lifted). next s.numbers z.made) h)
-    (begun_behind s.numbers (place_of (expr x)) ty.Bool before (valued_as mid v kept) (lifted_as begun first made) left (k ∙ ap (λ z. in_temporary s.numbers z ty.Bool (lifted_as begun first made)) at) h)
+    let v = LocalExpr (place_of (expr x)) n in
+    l ∙ ap (λ z. lazily_in z (expr y) (test_of z goes) n (valued_as mid (LocalExpr z n) kept) (right_side s (expr y))) at
+    ∙ ap (λ z. lazily_in p (expr y) (test_of p z) n (valued_as mid (LocalExpr p n) kept) (right_side s (expr y))) fails
+    ∙ lazily_behind s.numbers p (expr x) (expr y) (test_of p false) before mid left (right_side s (expr y)) v kept n
+    begun.number
+    (begun_behind s.numbers (place_of (expr x)) ty.Bool before (valued_as mid v kept) (lifted_behind before left) left begun.kept refl)
     ∙ ap (λ z. lifted_behind before (lifted s (ImpliesOf p (expr z) (expr y)) types)) xs
     ∙ ap (λ z. lifted_behind before (lifted s (ImpliesOf p (expr a.value) (expr z)) types)) ys
     ∙ ap (λ z. lifted_behind before (lifted s z types)) (sym (ap expr is ∙ implies_is p a b))
@@ -108,44 +106,56 @@ path_lifts s p first steps e x ls rest n before now r types made is xs lss rs ca
     ∙ ap (λ z. lifted_behind before (right_side s z types)) (stepped_split p (expr x) ls n ∙ ap (λ z. stepped p (expr x) z) lss ∙ ap (λ z. stepped p (expr z) steps.items) xs ∙ sym (ap expr is ∙ path_is p first steps))
     ∙ ap (lifted_behind before) (with_call s (expr e) types call)
 
-pub new_lifts : (s : ElaborationContext) (p : Place) (c : ClassId) (es : Vec TypedExpr Global) (e : TypedExpr) (xs : List TypedExpr) (ts : List Ty) (before now : List core.StmtTree) (vs : List core.ExprTree) (types made : List Ty)
-    → e ≡ variant.New p c es → xs ≡ es.items → ts ≡ lookups.param_types_in (lookups.constructor_of s.program c.0)
-    → listed_as now vs made ≡ listed_behind before (arguments_of s ts (arguments (exprs xs)) types)
-    → lifted_as now (Created p c.0 vs) made ≡ lifted_behind before (lifted s (expr e) types)
-new_lifts s p c es e xs ts before now vs types made is list t h =
-    ap (called (Created p c.0)) h
-    ∙ ap (λ z. lifted_behind before (called (Created p c.0) (arguments_of s z (arguments (exprs xs)) types))) t
-    ∙ ap (λ z. lifted_behind before (lifted s (NewOf p c.0 (arguments (exprs z))) types)) list
+pub new_called : (s : ElaborationContext) (p : Place) (c : ClassId) (xs : List TypedExpr) (ts : List Ty) (before now : List core.StmtTree) (vs : List core.ExprTree) (types made : List Ty)
+    → ts ≡ lookups.param_types_in (lookups.constructor_of s.program c.0) → listed_as now vs made ≡ listed_behind before (arguments_of s ts (arguments (exprs xs)) types)
+    → lifted_as now (Created p c.0 vs) made ≡ lifted_behind before (lifted s (NewOf p c.0 (arguments (exprs xs))) types)
+new_called s p c xs ts before now vs types made t h =
+    ap (called (Created p c.0)) h ∙ ap (λ z. lifted_behind before (called (Created p c.0) (arguments_of s z (arguments (exprs xs)) types))) t
+
+pub new_lifts : (s : ElaborationContext) (p : Place) (c : ClassId) (es : Vec TypedExpr Global) (e : TypedExpr) (xs : List TypedExpr) (before : List core.StmtTree) (r : Lifted) (types : List Ty)
+    → e ≡ variant.New p c es → xs ≡ es.items
+    → r ≡ lifted_behind before (lifted s (NewOf p c.0 (arguments (exprs xs))) types) → r ≡ lifted_behind before (lifted s (expr e) types)
+new_lifts s p c es e xs before r types is list h =
+    h ∙ ap (λ z. lifted_behind before (lifted s (NewOf p c.0 (arguments (exprs z))) types)) list
     ∙ ap (λ z. lifted_behind before (lifted s z types)) (sym (ap expr is ∙ new_is p c es))
 
-pub new_array_lifts : (s : ElaborationContext) (p : Place) (c : ClassId) (a : Box TypedExpr Global) (e x : TypedExpr) (before now : List core.StmtTree) (v : core.ExprTree) (types made : List Ty)
-    → e ≡ variant.NewArray p c a → x ≡ a.value → valued_as now v made ≡ valued_behind before (size_of s (expr x) types)
-    → lifted_as now (CreatedArray p c.0 v) made ≡ lifted_behind before (lifted s (expr e) types)
-new_array_lifts s p c a e x before now v types made is xs h =
-    array_behind p c.0 s (expr x) before now v types made h
-    ∙ ap (λ z. lifted_behind before (lifted s (NewArrayOf p c.0 (expr z)) types)) xs
+pub new_array_lifts : (s : ElaborationContext) (p : Place) (c : ClassId) (a : Box TypedExpr Global) (e x : TypedExpr) (before : List core.StmtTree) (r : Lifted) (types : List Ty)
+    → e ≡ variant.NewArray p c a → x ≡ a.value
+    → r ≡ lifted_behind before (lifted s (NewArrayOf p c.0 (expr x)) types) → r ≡ lifted_behind before (lifted s (expr e) types)
+new_array_lifts s p c a e x before r types is xs h =
+    h ∙ ap (λ z. lifted_behind before (lifted s (NewArrayOf p c.0 (expr z)) types)) xs
     ∙ ap (λ z. lifted_behind before (lifted s z types)) (sym (ap expr is ∙ new_array_is p c a))
 
-pub static_lifts : (s : ElaborationContext) (p : Place) (n : BodyId) (t : Option Ty) (es : Vec TypedExpr Global) (e : TypedExpr) (xs : List TypedExpr) (ts : List Ty) (m : ℕ) (before now : List core.StmtTree) (vs : List core.ExprTree) (types made : List Ty)
-    → e ≡ variant.Static p n t es → xs ≡ es.items → ts ≡ lookups.param_types_in (lookups.body_at s.program n.0) → m ≡ program.number_of_written s.program n.0
+pub static_called : (s : ElaborationContext) (p : Place) (n : BodyId) (t : Option Ty) (xs : List TypedExpr) (ts : List Ty) (m : ℕ) (before now : List core.StmtTree) (vs : List core.ExprTree) (types made : List Ty)
+    → ts ≡ lookups.param_types_in (lookups.body_at s.program n.0) → m ≡ program.number_of_written s.program n.0
     → listed_as now vs made ≡ listed_behind before (arguments_of s ts (arguments (exprs xs)) types)
-    → lifted_as now (Called p (Static m) vs) made ≡ lifted_behind before (lifted s (expr e) types)
-static_lifts s p n t es e xs ts m before now vs types made is list q k h =
+    → lifted_as now (Called p (Static m) vs) made ≡ lifted_behind before (lifted s (StaticOf p n.0 t (arguments (exprs xs))) types)
+static_called s p n t xs ts m before now vs types made q k h =
     ap (called (Called p (Static m))) h
     ∙ ap (λ z. lifted_behind before (called (Called p (Static z)) (arguments_of s ts (arguments (exprs xs)) types))) k
     ∙ ap (λ z. lifted_behind before (called (Called p (Static (program.number_of_written s.program n.0))) (arguments_of s z (arguments (exprs xs)) types))) q
-    ∙ ap (λ z. lifted_behind before (lifted s (StaticOf p n.0 t (arguments (exprs z))) types)) list
+
+pub static_lifts : (s : ElaborationContext) (p : Place) (n : BodyId) (t : Option Ty) (es : Vec TypedExpr Global) (e : TypedExpr) (xs : List TypedExpr) (before : List core.StmtTree) (r : Lifted) (types : List Ty)
+    → e ≡ variant.Static p n t es → xs ≡ es.items
+    → r ≡ lifted_behind before (lifted s (StaticOf p n.0 t (arguments (exprs xs))) types) → r ≡ lifted_behind before (lifted s (expr e) types)
+static_lifts s p n t es e xs before r types is list h =
+    h ∙ ap (λ z. lifted_behind before (lifted s (StaticOf p n.0 t (arguments (exprs z))) types)) list
     ∙ ap (λ z. lifted_behind before (lifted s z types)) (sym (ap expr is ∙ static_is p n t es))
 
-pub base_lifts : (s : ElaborationContext) (p : Place) (m : ℕ) (t : Option Ty) (es : Vec TypedExpr Global) (e : TypedExpr) (xs : List TypedExpr) (ts : List Ty) (a n : ℕ) (before now : List core.StmtTree) (vs : List core.ExprTree) (types made : List Ty)
-    → e ≡ variant.Base p m t es → xs ≡ es.items → a ≡ program.above_of s.program s.body.class → ts ≡ lookups.param_types_in (program.method_at s.program a m) → n ≡ program.number_in_table s.program a m
+pub base_called : (s : ElaborationContext) (p : Place) (m : ℕ) (t : Option Ty) (xs : List TypedExpr) (ts : List Ty) (a n : ℕ) (before now : List core.StmtTree) (vs : List core.ExprTree) (types made : List Ty)
+    → a ≡ program.above_of s.program s.body.class → ts ≡ lookups.param_types_in (program.method_at s.program a m) → n ≡ program.number_in_table s.program a m
     → listed_as now vs made ≡ listed_behind before (arguments_of s ts (arguments (exprs xs)) types)
-    → lifted_as now (Called p (Base n) vs) made ≡ lifted_behind before (lifted s (expr e) types)
-base_lifts s p m t es e xs ts a n before now vs types made is list above q k h =
+    → lifted_as now (Called p (Base n) vs) made ≡ lifted_behind before (lifted s (BaseOf p m t (arguments (exprs xs))) types)
+base_called s p m t xs ts a n before now vs types made above q k h =
     ap (called (Called p (Base n))) h
     ∙ ap (λ z. lifted_behind before (called (Called p (Base z)) (arguments_of s ts (arguments (exprs xs)) types))) (k ∙ ap (λ z. program.number_in_table s.program z m) above)
     ∙ ap (λ z. lifted_behind before (called (Called p (Base (program.number_in_table s.program (program.above_of s.program s.body.class) m))) (arguments_of s z (arguments (exprs xs)) types))) (q ∙ ap (λ z. lookups.param_types_in (program.method_at s.program z m)) above)
-    ∙ ap (λ z. lifted_behind before (lifted s (BaseOf p m t (arguments (exprs z))) types)) list
+
+pub base_lifts : (s : ElaborationContext) (p : Place) (m : ℕ) (t : Option Ty) (es : Vec TypedExpr Global) (e : TypedExpr) (xs : List TypedExpr) (before : List core.StmtTree) (r : Lifted) (types : List Ty)
+    → e ≡ variant.Base p m t es → xs ≡ es.items
+    → r ≡ lifted_behind before (lifted s (BaseOf p m t (arguments (exprs xs))) types) → r ≡ lifted_behind before (lifted s (expr e) types)
+base_lifts s p m t es e xs before r types is list h =
+    h ∙ ap (λ z. lifted_behind before (lifted s (BaseOf p m t (arguments (exprs z))) types)) list
     ∙ ap (λ z. lifted_behind before (lifted s z types)) (sym (ap expr is ∙ base_is p m t es))
 
 -- ---- calls of instance methods

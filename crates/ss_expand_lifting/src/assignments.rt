@@ -22,7 +22,7 @@ ghost use Rattle.ss_expand_lifting.specs.Made.{coded_by};
 use crate::code::Code;
 use crate::context::ElaborationContext;
 use crate::lefts::{Left, left_of, plain_part};
-use crate::lifting::{lift_operand, lift_operation};
+use crate::lifting::{PlacedOperator, lift_operand, lift_operation};
 use crate::operations::are_kept;
 use crate::settled::{boxed, field_path, settle, this_of};
 use ss_ast::{AssignOperator, StepOperator};
@@ -32,7 +32,7 @@ use ss_expand_expressions::{
     Operand, Source, binary, has_call, is_lazy_operator, plain, put, step_operator, valued,
 };
 use ss_typed::{TypedExpr, operation_type, place_of};
-use std::alloc::{AllocError, Global};
+use std::alloc::AllocError;
 
 // Adds the write of a field, with its mark and the class that declares it.
 fn add_field_write(
@@ -75,7 +75,6 @@ fn add_element_write(
 
 // Adds the write of a field or an element whose object and index parts stay as they are.
 fn add_write(
-    alloc: Global,
     context: &ElaborationContext<'_>,
     left: Left<'_>,
     value: Expr,
@@ -87,13 +86,13 @@ fn add_write(
     let numbers = context.numbers;
     match left {
         Left::Field(place, object, field, _) => {
-            let object = plain_part(alloc, numbers, object)?;
+            let object = plain_part(context.alloc, numbers, object)?;
             add_field_write(context, place, object, field, value, code)?;
             Ok(())
         }
         Left::Element(place, array, index) => {
-            let array = plain_part(alloc, numbers, array)?;
-            let index = plain(alloc, numbers, index)?;
+            let array = plain_part(context.alloc, numbers, array)?;
+            let index = plain(context.alloc, numbers, index)?;
             add_element_write(place, array, index, value, code)?;
             Ok(())
         }
@@ -116,7 +115,6 @@ pub(crate) fn add_put(
 
 // Adds the write of what has been lifted to a left side that is no local.
 fn assign_value(
-    alloc: Global,
     context: &ElaborationContext<'_>,
     left: Left<'_>,
     right: Operand,
@@ -136,13 +134,12 @@ fn assign_value(
         right.ty,
         right.source,
     )?;
-    add_write(alloc, context, left, value, code)?;
+    add_write(context, left, value, code)?;
     Ok(())
 }
 
 // Adds what assigns the right side, which has been lifted, to a left side whose parts are settled.
 fn assign_operand(
-    alloc: Global,
     context: &ElaborationContext<'_>,
     target: &TypedExpr,
     right: Operand,
@@ -161,7 +158,7 @@ fn assign_operand(
             Ok(())
         }
         _ => {
-            assign_value(alloc, context, left, right, code, made)?;
+            assign_value(context, left, right, code, made)?;
             Ok(())
         }
     }
@@ -169,7 +166,6 @@ fn assign_operand(
 
 // Adds what assigns the right side to a left side whose parts are settled.
 fn assign_settled(
-    alloc: Global,
     context: &ElaborationContext<'_>,
     target: &TypedExpr,
     e: &TypedExpr,
@@ -179,14 +175,13 @@ fn assign_settled(
     ensures { OnOk result (coded_by code.new made.new
         ≡ after (stmts_of code.old.statements) (elab.assign_settled (context_of context.now) (typed.expr target.now) (typed.expr e.now) made.old.items)) }
 {
-    let right = lift_operand(alloc, context, e, code, made)?;
-    assign_operand(alloc, context, target, right, code, made)?;
+    let right = lift_operand(context, e, code, made)?;
+    assign_operand(context, target, right, code, made)?;
     Ok(())
 }
 
 // Adds what assigns the right side, where the parts of the left side are evaluated before it.
 fn assign_behind(
-    alloc: Global,
     context: &ElaborationContext<'_>,
     target: &TypedExpr,
     e: &TypedExpr,
@@ -196,14 +191,14 @@ fn assign_behind(
     ensures { OnOk result (coded_by code.new made.new
         ≡ after (stmts_of code.old.statements) (elab.assign_behind (context_of context.now) (typed.expr e.now) (elab.settle (context_of context.now) (typed.expr target.now) made.old.items))) }
 {
-    let kept = settle(alloc, context, target, code, made)?;
+    let kept = settle(context, target, code, made)?;
     match kept {
         Some(settled) => {
-            assign_settled(alloc, context, &settled, e, code, made)?;
+            assign_settled(context, &settled, e, code, made)?;
             Ok(())
         }
         None => {
-            assign_settled(alloc, context, target, e, code, made)?;
+            assign_settled(context, target, e, code, made)?;
             Ok(())
         }
     }
@@ -211,7 +206,6 @@ fn assign_behind(
 
 // Adds `target = e`.
 fn assign(
-    alloc: Global,
     context: &ElaborationContext<'_>,
     target: &TypedExpr,
     e: &TypedExpr,
@@ -222,17 +216,16 @@ fn assign(
         ≡ after (stmts_of code.old.statements) (elab.assign (context_of context.now) (typed.expr target.now) (typed.expr e.now) made.old.items)) }
 {
     if are_kept(has_call(target), has_call(e)) {
-        assign_behind(alloc, context, target, e, code, made)?;
+        assign_behind(context, target, e, code, made)?;
         Ok(())
     } else {
-        assign_settled(alloc, context, target, e, code, made)?;
+        assign_settled(context, target, e, code, made)?;
         Ok(())
     }
 }
 
 // An operation on an operand that stands before it, as the right side of an assignment.
 fn operation_on(
-    alloc: Global,
     context: &ElaborationContext<'_>,
     operator: Operator,
     operand: Operand,
@@ -247,7 +240,8 @@ fn operation_on(
 {
     let place = operand.place;
     if are_kept(operand.has_call, has_call(e)) {
-        let source = lift_operation(alloc, context, place, operator, e, operand, code, made)?;
+        let placed = PlacedOperator { place, operator };
+        let source = lift_operation(context, placed, e, operand, code, made)?;
         Ok(source)
     } else {
         let before = &mut code.statements;
@@ -259,15 +253,14 @@ fn operation_on(
             operand.ty,
             operand.source,
         )?;
-        let right = plain(alloc, context.numbers, e)?;
-        let value = binary(alloc, place, operator, left, right)?;
+        let right = plain(context.alloc, context.numbers, e)?;
+        let value = binary(context.alloc, place, operator, left, right)?;
         Ok(Source::Pure(value))
     }
 }
 
 // Adds `target = target op e` to a left side whose parts are settled.
 fn update_settled(
-    alloc: Global,
     context: &ElaborationContext<'_>,
     operator: Operator,
     target: &TypedExpr,
@@ -279,10 +272,10 @@ fn update_settled(
         ≡ after (stmts_of code.old.statements) (elab.assign_settled (context_of context.now) (typed.expr target.now)
         (tree.BinaryOf (shapes.place_of (typed.expr target.now)) operator (typed.expr target.now) (typed.expr e.now)) made.old.items)) }
 {
-    let read = lift_operand(alloc, context, target, code, made)?;
+    let read = lift_operand(context, target, code, made)?;
     let place = read.place;
     let calls = are_kept(read.has_call, has_call(e));
-    let source = operation_on(alloc, context, operator, read, e, code, made)?;
+    let source = operation_on(context, operator, read, e, code, made)?;
     let right = Operand {
         source,
         place,
@@ -290,13 +283,12 @@ fn update_settled(
         has_call: calls,
         is_lazy: is_lazy_operator(operator),
     };
-    assign_operand(alloc, context, target, right, code, made)?;
+    assign_operand(context, target, right, code, made)?;
     Ok(())
 }
 
 // Adds `target op= e`, with the parts of the left side evaluated once.
 fn update(
-    alloc: Global,
     context: &ElaborationContext<'_>,
     operator: Operator,
     target: &TypedExpr,
@@ -307,14 +299,14 @@ fn update(
     ensures { OnOk result (coded_by code.new made.new
         ≡ after (stmts_of code.old.statements) (elab.update (context_of context.now) operator (typed.expr target.now) (typed.expr e.now) made.old.items)) }
 {
-    let kept = settle(alloc, context, target, code, made)?;
+    let kept = settle(context, target, code, made)?;
     match kept {
         Some(settled) => {
-            update_settled(alloc, context, operator, &settled, e, code, made)?;
+            update_settled(context, operator, &settled, e, code, made)?;
             Ok(())
         }
         None => {
-            update_settled(alloc, context, operator, target, e, code, made)?;
+            update_settled(context, operator, target, e, code, made)?;
             Ok(())
         }
     }
@@ -322,7 +314,6 @@ fn update(
 
 /// Adds a plain or a compound assignment.
 pub(crate) fn assignment(
-    alloc: Global,
     context: &ElaborationContext<'_>,
     target: &TypedExpr,
     operator: AssignOperator,
@@ -334,20 +325,15 @@ pub(crate) fn assignment(
         ≡ after (stmts_of code.old.statements) (elab.assignment (context_of context.now) (typed.expr target.now) operator (typed.expr e.now) made.old.items)) }
 {
     match operator {
-        AssignOperator::Set => assign(alloc, context, target, e, code, made),
-        AssignOperator::Add => update(alloc, context, Operator::Add, target, e, code, made),
-        AssignOperator::Subtract => {
-            update(alloc, context, Operator::Subtract, target, e, code, made)
-        }
-        AssignOperator::Multiply => {
-            update(alloc, context, Operator::Multiply, target, e, code, made)
-        }
+        AssignOperator::Set => assign(context, target, e, code, made),
+        AssignOperator::Add => update(context, Operator::Add, target, e, code, made),
+        AssignOperator::Subtract => { update(context, Operator::Subtract, target, e, code, made) }
+        AssignOperator::Multiply => { update(context, Operator::Multiply, target, e, code, made) }
     }
 }
 
 /// Adds `p++` or `p--`.
 pub(crate) fn one_more(
-    alloc: Global,
     context: &ElaborationContext<'_>,
     target: &TypedExpr,
     operator: StepOperator,
@@ -358,35 +344,33 @@ pub(crate) fn one_more(
         ≡ after (stmts_of code.old.statements) (elab.one_more (context_of context.now) (typed.expr target.now) operator made.old.items)) }
 {
     let one = TypedExpr::Int(place_of(target), 1);
-    update(
-        alloc,
-        context,
-        step_operator(operator),
-        target,
-        &one,
-        code,
-        made,
-    )?;
+    update(context, step_operator(operator), target, &one, code, made)?;
     Ok(())
 }
 
-/// Adds `this.f = e` at this place.
+/// A field of `this` at its place.
+#[derive(Clone, Copy)]
+pub struct OwnField {
+    pub place: Place,
+    pub field: FieldId,
+    pub ty: Ty,
+}
+
+/// Adds `this.f = e` at the place of the field.
 pub fn assign_field(
-    alloc: Global,
     context: &ElaborationContext<'_>,
-    place: Place,
-    field: FieldId,
-    ty: Ty,
+    own: OwnField,
     e: &TypedExpr,
     code: &mut Code,
     made: &mut Vec<Ty>,
 ) -> Result<(), AllocError>
     ensures { OnOk result (coded_by code.new made.new
         ≡ after (stmts_of code.old.statements) (elab.simple (context_of context.now)
-        (tree.AssignOf (tree.FieldOf place (tree.ThisOf place context.now.body.now.class.0) field.0 ty) operator.Set (typed.expr e.now)) made.old.items)) }
+        (tree.AssignOf (tree.FieldOf own.place (tree.ThisOf own.place context.now.body.now.class.0) own.field.0 own.ty) operator.Set (typed.expr e.now)) made.old.items)) }
 {
-    let this = boxed(alloc, this_of(place, context.body.class))?;
-    let target = field_path(alloc, place, this, field, ty)?;
-    assign(alloc, context, &target, e, code, made)?;
+    let OwnField { place, field, ty } = own;
+    let this = boxed(context.alloc, this_of(place, context.body.class))?;
+    let target = field_path(context.alloc, place, this, field, ty)?;
+    assign(context, &target, e, code, made)?;
     Ok(())
 }

@@ -10,10 +10,12 @@ ghost use Rattle.ss_expand_bodies.specs.Origins.{origin_of};
 use ss_expand_bodies::{Opened, Origin};
 use ss_expand_expressions::Numbers;
 use ss_typed::{Typed, TypedBody};
+use std::alloc::Global;
 
 /// The context in which the code of a body is elaborated.
 #[derive(Drop)]
 pub struct ElaborationContext<'a> {
+    pub alloc: Global,
     pub program: &'a Typed,
     /// The bodies of the core program in their order.
     pub origins: &'a [Origin],

@@ -118,7 +118,6 @@ pub(crate) fn plain_part(
 
 /// The part lifted, with what is known of it.
 pub(crate) fn part_operand(
-    alloc: Global,
     context: &ElaborationContext<'_>,
     part: Part<'_>,
     code: &mut Code,
@@ -126,9 +125,15 @@ pub(crate) fn part_operand(
 ) -> Result<Operand, AllocError>
     ensures { IfOk result (λ o. IsOperand (context_of context.now) (part_tree part.entry) (stmts_of code.old.statements) made.old.items code.new.statements made.new o) }
 {
-    let first = lift_operand(alloc, context, part.first, code, made)?;
-    let front = front_of_path(alloc, context.numbers, part.place, first, part.steps)?;
+    let first = lift_operand(context, part.first, code, made)?;
+    let front = front_of_path(
+        context.alloc,
+        context.numbers,
+        part.place,
+        first,
+        part.steps,
+    )?;
     let rest = steps_behind(part.steps, front.length);
-    let whole = lift_steps(alloc, context, part.place, rest, front.operand, code, made)?;
+    let whole = lift_steps(context, part.place, rest, front.operand, code, made)?;
     Ok(whole)
 }

@@ -11,7 +11,7 @@ mod operations;
 mod settled;
 mod simple;
 
-pub use assignments::assign_field;
+pub use assignments::{OwnField, assign_field};
 pub use code::Code;
 pub use context::ElaborationContext;
 pub use lifting::{arguments, right_side, value};

@@ -11,43 +11,18 @@ ghost use Rattle.ss_expand_rules.specs.Calls as calls;
 ghost use Rattle.ss_expand_rules.specs.Lifting as elab;
 ghost use Rattle.ss_expand_rules.specs.Numbers.{plain_arguments};
 ghost use Rattle.ss_expand_expressions.specs.Views.{numbers_of};
-ghost use Rattle.ss_expand_expressions.specs.Sources.{stmts_of, source_of, lifted_by, valued_by, lifted_behind, valued_behind};
+ghost use Rattle.ss_expand_expressions.specs.Sources.{stmts_of, lifted_by, valued_by, lifted_behind, valued_behind};
 ghost use Rattle.ss_expand_expressions.specs.Operands.{IsOperand};
 ghost use Rattle.ss_expand_lifting.specs.Operations.{is_and, test_of, receiver_of};
 
-use ss_core::{Callee, ClassId, Expr, FieldId, Operator, Place, Stmt, Ty};
+use crate::context::ElaborationContext;
+use ss_core::{ClassId, Expr, FieldId, Operator, Place, Stmt, Ty};
 use ss_expand_expressions::{
-    Numbers, Operand, Source, any_object, as_of, field_of, is_of, keep, length_of, plain, valued,
+    Numbers, Operand, Source, any_object, as_of, field_of, is_of, keep, length_of, not_of, plain,
+    valued,
 };
 use ss_typed::TypedExpr;
 use std::alloc::{AllocError, Global};
-
-/// `-a`
-pub(crate) fn negate_of(alloc: Global, place: Place, value: Expr) -> Result<Expr, AllocError>
-    ensures { IfOk result (λ r. core.expr r ≡ tree.NegateExpr place (core.expr value)) }
-{
-    Ok(Expr::Negate(place, Box::new(alloc, value)?))
-}
-
-/// `!a`
-pub(crate) fn not_of(alloc: Global, place: Place, value: Expr) -> Result<Expr, AllocError>
-    ensures { IfOk result (λ r. core.expr r ≡ tree.NotExpr place (core.expr value)) }
-{
-    Ok(Expr::Not(place, Box::new(alloc, value)?))
-}
-
-/// `(T)a`, or `(T!)a` where null doesn't pass.
-pub(crate) fn cast_of(
-    alloc: Global,
-    place: Place,
-    class: ClassId,
-    non_null: bool,
-    value: Expr,
-) -> Result<Expr, AllocError>
-    ensures { IfOk result (λ r. core.expr r ≡ tree.CastExpr place class.0 non_null (core.expr value)) }
-{
-    Ok(Expr::Cast(place, class, non_null, Box::new(alloc, value)?))
-}
 
 /// Whether it is `&&`.
 pub(crate) fn is_and(operator: Operator) -> bool
@@ -70,7 +45,7 @@ pub(crate) fn is_and(operator: Operator) -> bool
     }
 }
 
-/// The test of a lazy operation at this place, whose left side is in the local x: it goes on where that holds, or where it fails.
+/// The test of a lazy operation at this place, whose left side is in the local x. It goes on where that holds, or where it fails.
 pub(crate) fn lazy_test(
     alloc: Global,
     place: Place,
@@ -89,8 +64,7 @@ pub(crate) fn lazy_test(
 
 /// `a is T` of an operand that stands before it.
 pub(crate) fn operand_is(
-    alloc: Global,
-    numbers: &Numbers,
+    context: &ElaborationContext<'_>,
     place: Place,
     class: ClassId,
     operand: Operand,
@@ -98,18 +72,17 @@ pub(crate) fn operand_is(
     made: &mut Vec<Ty>,
 ) -> Result<Source, AllocError>
     ensures { (s : elab.ElaborationContext) → (e : ExprTree) → (before : List tree.StmtTree) → (types : List Ty)
-        → s.numbers ≡ numbers_of numbers.now → IsOperand s e before types code.old made.old operand
+        → s.numbers ≡ numbers_of context.now.numbers.now → IsOperand s e before types code.old made.old operand
         → IfOk result (λ r. lifted_by code.new made.new r ≡ lifted_behind before (elab.lifted s (IsOf place e class.0) types)) }
 {
-    let value = keep(numbers, code, made, any_object(), operand)?;
-    let test = is_of(alloc, place, value, class)?;
+    let value = keep(context.numbers, code, made, any_object(), operand)?;
+    let test = is_of(context.alloc, place, value, class)?;
     Ok(Source::Pure(test))
 }
 
 /// `a as T` of an operand that stands before it.
 pub(crate) fn operand_as(
-    alloc: Global,
-    numbers: &Numbers,
+    context: &ElaborationContext<'_>,
     place: Place,
     class: ClassId,
     operand: Operand,
@@ -117,18 +90,17 @@ pub(crate) fn operand_as(
     made: &mut Vec<Ty>,
 ) -> Result<Source, AllocError>
     ensures { (s : elab.ElaborationContext) → (e : ExprTree) → (before : List tree.StmtTree) → (types : List Ty)
-        → s.numbers ≡ numbers_of numbers.now → IsOperand s e before types code.old made.old operand
+        → s.numbers ≡ numbers_of context.now.numbers.now → IsOperand s e before types code.old made.old operand
         → IfOk result (λ r. lifted_by code.new made.new r ≡ lifted_behind before (elab.lifted s (AsOf place e class.0) types)) }
 {
-    let value = keep(numbers, code, made, any_object(), operand)?;
-    let cast = as_of(alloc, place, value, class)?;
+    let value = keep(context.numbers, code, made, any_object(), operand)?;
+    let cast = as_of(context.alloc, place, value, class)?;
     Ok(Source::Pure(cast))
 }
 
 /// `o.f` of an operand that stands before it.
 pub(crate) fn operand_field(
-    alloc: Global,
-    numbers: &Numbers,
+    context: &ElaborationContext<'_>,
     place: Place,
     field: FieldId,
     operand: Operand,
@@ -136,29 +108,28 @@ pub(crate) fn operand_field(
     made: &mut Vec<Ty>,
 ) -> Result<Source, AllocError>
     ensures { (s : elab.ElaborationContext) → (e : ExprTree) → (t : Ty) → (before : List tree.StmtTree) → (types : List Ty)
-        → s.numbers ≡ numbers_of numbers.now → IsOperand s e before types code.old made.old operand
+        → s.numbers ≡ numbers_of context.now.numbers.now → IsOperand s e before types code.old made.old operand
         → IfOk result (λ r. lifted_by code.new made.new r ≡ lifted_behind before (elab.lifted s (FieldOf place e field.0 t) types)) }
 {
-    let object = keep(numbers, code, made, any_object(), operand)?;
-    let value = field_of(alloc, place, object, field)?;
+    let object = keep(context.numbers, code, made, any_object(), operand)?;
+    let value = field_of(context.alloc, place, object, field)?;
     Ok(Source::Pure(value))
 }
 
 /// `a.Length` of an operand that stands before it.
 pub(crate) fn operand_length(
-    alloc: Global,
-    numbers: &Numbers,
+    context: &ElaborationContext<'_>,
     place: Place,
     operand: Operand,
     code: &mut Vec<Stmt>,
     made: &mut Vec<Ty>,
 ) -> Result<Source, AllocError>
     ensures { (s : elab.ElaborationContext) → (e : ExprTree) → (before : List tree.StmtTree) → (types : List Ty)
-        → s.numbers ≡ numbers_of numbers.now → IsOperand s e before types code.old made.old operand
+        → s.numbers ≡ numbers_of context.now.numbers.now → IsOperand s e before types code.old made.old operand
         → IfOk result (λ r. lifted_by code.new made.new r ≡ lifted_behind before (elab.lifted s (LengthOf place e) types)) }
 {
-    let array = keep(numbers, code, made, any_object(), operand)?;
-    let length = length_of(alloc, place, array)?;
+    let array = keep(context.numbers, code, made, any_object(), operand)?;
+    let length = length_of(context.alloc, place, array)?;
     Ok(Source::Pure(length))
 }
 
@@ -211,17 +182,4 @@ pub(crate) fn keep_receiver(
         )?;
         Ok(value)
     }
-}
-
-/// A call of an instance method on this receiver.
-pub(crate) fn dispatched(
-    place: Place,
-    class: ClassId,
-    method: usize,
-    receiver: Expr,
-    values: Vec<Expr>,
-) -> Source
-    ensures { source_of result ≡ elab.Called place (tree.Dispatched (core.expr receiver) class.0 method) (core.exprs values.items) }
-{
-    Source::Called(place, Callee::Dispatched(receiver, class, method), values)
 }

@@ -102,7 +102,6 @@ fn element_path(
 
 // Puts what has been lifted into a temporary, which stands for it from then on.
 fn settle_operand(
-    alloc: Global,
     context: &ElaborationContext<'_>,
     operand: Operand,
     code: &mut Code,
@@ -117,13 +116,12 @@ fn settle_operand(
     let place = operand.place;
     in_local(&mut code.statements, made, place, x, ty, operand.source)?;
     let settled = local_of(place, x, ty);
-    let kept = boxed(alloc, settled)?;
+    let kept = boxed(context.alloc, settled)?;
     Ok(kept)
 }
 
 // An index, or an object without steps, in a temporary; `this` stays.
 fn settle_whole(
-    alloc: Global,
     context: &ElaborationContext<'_>,
     e: &TypedExpr,
     code: &mut Code,
@@ -134,17 +132,16 @@ fn settle_whole(
 {
     if is_this(e) {
         let this = this_again(e);
-        let kept = boxed(alloc, this)?;
+        let kept = boxed(context.alloc, this)?;
         return Ok(kept);
     }
-    let operand = lift_operand(alloc, context, e, code, made)?;
-    let settled = settle_operand(alloc, context, operand, code, made)?;
+    let operand = lift_operand(context, e, code, made)?;
+    let settled = settle_operand(context, operand, code, made)?;
     Ok(settled)
 }
 
 // An object part in a temporary; `this` stays.
 fn settle_part(
-    alloc: Global,
     context: &ElaborationContext<'_>,
     part: Part<'_>,
     code: &mut Code,
@@ -154,18 +151,17 @@ fn settle_part(
         ≡ settled_behind (stmts_of code.old.statements) (elab.settle_part (context_of context.now) (part_tree part.entry) made.old.items)) }
 {
     if part.steps.is_empty() {
-        let settled = settle_whole(alloc, context, part.first, code, made)?;
+        let settled = settle_whole(context, part.first, code, made)?;
         return Ok(settled);
     }
-    let operand = part_operand(alloc, context, part, code, made)?;
-    let settled = settle_operand(alloc, context, operand, code, made)?;
+    let operand = part_operand(context, part, code, made)?;
+    let settled = settle_operand(context, operand, code, made)?;
     Ok(settled)
 }
 
-/// The object and index parts of a left side in temporaries, from the left, and the left side of these; none where it stays as it
-/// is.
+/// The object and index parts of a left side in temporaries, from the left, and the left side of these. None where it stays as
+/// it is.
 pub(crate) fn settle(
-    alloc: Global,
     context: &ElaborationContext<'_>,
     target: &TypedExpr,
     code: &mut Code,
@@ -176,14 +172,14 @@ pub(crate) fn settle(
 {
     match left_of(target) {
         Left::Field(place, object, field, ty) => {
-            let object = settle_part(alloc, context, object, code, made)?;
-            let settled = field_path(alloc, place, object, field, ty)?;
+            let object = settle_part(context, object, code, made)?;
+            let settled = field_path(context.alloc, place, object, field, ty)?;
             Ok(Some(settled))
         }
         Left::Element(place, array, index) => {
-            let array = settle_part(alloc, context, array, code, made)?;
-            let index = settle_whole(alloc, context, index, code, made)?;
-            let settled = element_path(alloc, place, array, index)?;
+            let array = settle_part(context, array, code, made)?;
+            let index = settle_whole(context, index, code, made)?;
+            let settled = element_path(context.alloc, place, array, index)?;
             Ok(Some(settled))
         }
         Left::Local(..) | Left::Other => Ok(None),

@@ -25,7 +25,6 @@ use std::alloc::{AllocError, Global};
 
 // What a declared local begins with.
 fn first_value(
-    alloc: Global,
     context: &ElaborationContext<'_>,
     declarator: &TypedDeclarator,
     code: &mut Code,
@@ -36,7 +35,7 @@ fn first_value(
 {
     match &declarator.initial {
         Some(e) => {
-            let source = right_side(alloc, context, e, code, made)?;
+            let source = right_side(context, e, code, made)?;
             Ok(source)
         }
         None => Ok(Source::Pure(default_of(declarator.place, declarator.ty))),
@@ -45,7 +44,6 @@ fn first_value(
 
 // Adds what a declared local begins with.
 fn declare_one(
-    alloc: Global,
     context: &ElaborationContext<'_>,
     declarator: &TypedDeclarator,
     code: &mut Code,
@@ -54,14 +52,13 @@ fn declare_one(
     ensures { OnOk result (coded_by code.new made.new
         ≡ after (stmts_of code.old.statements) (elab.declared_as (context_of context.now) (typed.declarator declarator.now) (typed.declarator declarator.now).initial made.old.items)) }
 {
-    let source = first_value(alloc, context, declarator, code, made)?;
+    let source = first_value(context, declarator, code, made)?;
     add_put(declarator.place, declarator.local, source, code)?;
     Ok(())
 }
 
 /// Adds what declared locals begin with.
 pub fn declare(
-    alloc: Global,
     context: &ElaborationContext<'_>,
     declarators: &[TypedDeclarator],
     code: &mut Code,
@@ -71,7 +68,7 @@ pub fn declare(
         ≡ after (stmts_of code.old.statements) (elab.declare (context_of context.now) (map typed.declarator declarators.now) made.old.items)) }
 {
     for declarator in declarators {
-        declare_one(alloc, context, declarator, code, made)?;
+        declare_one(context, declarator, code, made)?;
     }
     Ok(())
 }
@@ -90,7 +87,6 @@ fn add_dropped(source: Source, code: &mut Code) -> Result<(), AllocError>
 
 // Adds a call alone, which keeps nothing.
 fn alone(
-    alloc: Global,
     context: &ElaborationContext<'_>,
     e: &TypedExpr,
     code: &mut Code,
@@ -99,7 +95,7 @@ fn alone(
     ensures { OnOk result (coded_by code.new made.new
         ≡ after (stmts_of code.old.statements) (elab.alone (lifting.right_side (context_of context.now) (typed.expr e.now) made.old.items))) }
 {
-    let source = right_side(alloc, context, e, code, made)?;
+    let source = right_side(context, e, code, made)?;
     add_dropped(source, code)?;
     Ok(())
 }
@@ -118,7 +114,6 @@ fn add_print(
 
 // Adds the print of a value, where there is one.
 fn print(
-    alloc: Global,
     context: &ElaborationContext<'_>,
     place: Place,
     e: &Option<TypedExpr>,
@@ -131,7 +126,7 @@ fn print(
 {
     match e {
         Some(e) => {
-            let value = value(alloc, context, e, code, made)?;
+            let value = value(context, e, code, made)?;
             add_print(place, Some(value), line, code)?;
             Ok(())
         }
@@ -177,7 +172,6 @@ fn add_base_call(
 
 // Adds the call of the constructor of this class.
 fn base_with(
-    alloc: Global,
     context: &ElaborationContext<'_>,
     place: Place,
     es: &[TypedExpr],
@@ -190,7 +184,7 @@ fn base_with(
         (lifting.arguments_of (context_of context.now) (lookups.param_types_in (lookups.constructor_of (typed.typed context.now.program.now) above.0)) (tree.arguments (typed.exprs es.now)) made.old.items))) }
 {
     let params = params_in(constructor_of(context.program, above));
-    let values = arguments(alloc, context, params, es, code, made)?;
+    let values = arguments(context, params, es, code, made)?;
     let number = number_among(context.origins, Origin::Constructor(above))?;
     add_base_call(place, number, values, code)?;
     add_ready(context, place, above, code)?;
@@ -199,7 +193,6 @@ fn base_with(
 
 /// Adds `base(..)` at this place, with what makes `this` ready behind it.
 pub fn base_call(
-    alloc: Global,
     context: &ElaborationContext<'_>,
     place: Place,
     es: &[TypedExpr],
@@ -214,7 +207,7 @@ pub fn base_call(
         add_ready(context, place, above, code)?;
         Ok(())
     } else {
-        base_with(alloc, context, place, es, above, code, made)?;
+        base_with(context, place, es, above, code, made)?;
         Ok(())
     }
 }
@@ -237,7 +230,6 @@ fn print_text(
 
 /// Adds the code of a statement that has no other inside.
 pub fn simple_statement(
-    alloc: Global,
     context: &ElaborationContext<'_>,
     statement: &TypedSimple,
     code: &mut Code,
@@ -248,18 +240,14 @@ pub fn simple_statement(
 {
     match statement {
         TypedSimple::Assign(target, operator, e) => {
-            assignment(alloc, context, target, *operator, e, code, made)
+            assignment(context, target, *operator, e, code, made)
         }
-        TypedSimple::Step(target, operator) => {
-            one_more(alloc, context, target, *operator, code, made)
-        }
-        TypedSimple::Alone(e) => alone(alloc, context, e, code, made),
-        TypedSimple::Print(place, e, line) => {
-            print(alloc, context, *place, e, *line, code, made)
-        }
+        TypedSimple::Step(target, operator) => { one_more(context, target, *operator, code, made) }
+        TypedSimple::Alone(e) => alone(context, e, code, made),
+        TypedSimple::Print(place, e, line) => { print(context, *place, e, *line, code, made) }
         TypedSimple::PrintText(place, text, line) => {
-            print_text(alloc, *place, text, *line, code)
+            print_text(context.alloc, *place, text, *line, code)
         }
-        TypedSimple::Base(place, es) => base_call(alloc, context, *place, es, code, made),
+        TypedSimple::Base(place, es) => base_call(context, *place, es, code, made),
     }
 }

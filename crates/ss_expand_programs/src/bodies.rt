@@ -43,7 +43,6 @@ fn statements_of(block: &TypedBlock) -> &[TypedStmt]
 // Adds the statements of the body, of a constructor with what it has beside its block. The result says whether their end can be
 // reached.
 fn add_own(
-    alloc: Global,
     context: &ElaborationContext<'_>,
     code: &mut Code,
     made: &mut Vec<Ty>,
@@ -54,10 +53,10 @@ fn add_own(
 {
     let stmts = statements_of(&context.body.block);
     if context.body.flags.ctor {
-        let reached = add_constructor(alloc, context, stmts, code, made)?;
+        let reached = add_constructor(context, stmts, code, made)?;
         Ok(reached)
     } else {
-        let reached = add_stmts(alloc, context, stmts, code, made)?;
+        let reached = add_stmts(context, stmts, code, made)?;
         Ok(reached)
     }
 }
@@ -93,7 +92,6 @@ fn add_last_return(
 
 // Adds all statements of the body.
 fn add_all(
-    alloc: Global,
     context: &ElaborationContext<'_>,
     code: &mut Code,
     made: &mut Vec<Ty>,
@@ -101,7 +99,7 @@ fn add_all(
     ensures { OnOk result (coded_by code.new made.new
         ≡ after (stmts_of code.old.statements) (statements.stmts (context_of context.now) (bodies.statements (typed.typed context.now.program.now) (typed.body context.now.body.now)) made.old.items)) }
 {
-    let reached = add_own(alloc, context, code, made)?;
+    let reached = add_own(context, code, made)?;
     add_last_return(context, code, reached)?;
     Ok(())
 }
@@ -122,6 +120,7 @@ fn write_behind(
 {
     let numbers = numbers(alloc, body, temporaries)?;
     let context = ElaborationContext {
+        alloc,
         program,
         origins,
         body,
@@ -129,7 +128,7 @@ fn write_behind(
         exposes: Vec::new(alloc),
     };
     let mut made = Vec::new(alloc);
-    add_all(alloc, &context, code, &mut made)?;
+    add_all(&context, code, &mut made)?;
     Ok(made)
 }
 

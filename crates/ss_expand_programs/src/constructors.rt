@@ -18,11 +18,10 @@ use crate::statements::add_stmts;
 use ss_core::Ty;
 use ss_expand_lifting::{Code, ElaborationContext, base_call};
 use ss_typed::{TypedBase, TypedStmt, has_base};
-use std::alloc::{AllocError, Global};
+use std::alloc::AllocError;
 
 // Adds `base()`, at the constructor's name, between these statements.
 fn add_base_between(
-    alloc: Global,
     context: &ElaborationContext<'_>,
     front: &[TypedStmt],
     others: &[TypedStmt],
@@ -34,15 +33,14 @@ fn add_base_between(
         ≡ after (stmts_of code.old.statements) (statements.stmts (context_of context.now) (constructors.before_all (stmt_trees (map typed.stmt_of front.now)) (Before (constructors.base_alone (typed.body context.now.body.now)) (stmt_trees (map typed.stmt_of others.now)))) made.old.items)) }
     ensures ends { IfOk result (λ reached. reached ≡ ends.all_can_end (stmt_trees (map typed.stmt_of others.now))) }
 {
-    add_stmts(alloc, context, front, code, made)?;
-    base_call(alloc, context, context.body.place, &[], code, made)?;
-    let reached = add_stmts(alloc, context, others, code, made)?;
+    add_stmts(context, front, code, made)?;
+    base_call(context, context.body.place, &[], code, made)?;
+    let reached = add_stmts(context, others, code, made)?;
     Ok(reached)
 }
 
 // Adds the statements of the block, with `base()` where it is put.
 fn add_with_implied(
-    alloc: Global,
     context: &ElaborationContext<'_>,
     stmts: &[TypedStmt],
     code: &mut Code,
@@ -52,16 +50,15 @@ fn add_with_implied(
         ≡ after (stmts_of code.old.statements) (statements.stmts (context_of context.now) (with_implied (typed.typed context.now.program.now) (typed.body context.now.body.now) (constructors.base_alone (typed.body context.now.body.now)) (stmt_trees (map typed.stmt_of stmts.now))) made.old.items)) }
     ensures ends { IfOk result (λ reached. reached ≡ ends.all_can_end (with_implied (typed.typed context.now.program.now) (typed.body context.now.body.now) (constructors.base_alone (typed.body context.now.body.now)) (stmt_trees (map typed.stmt_of stmts.now)))) }
 {
-    let length = front_length(alloc, context.program, context.body, stmts)?;
+    let length = front_length(context.alloc, context.program, context.body, stmts)?;
     let front = &stmts[..length];
     let others = &stmts[length..];
-    let reached = add_base_between(alloc, context, front, others, code, made)?;
+    let reached = add_base_between(context, front, others, code, made)?;
     Ok(reached)
 }
 
 // Adds the statements of the block, behind the call of the constructor above that the heading writes.
 fn add_behind_base(
-    alloc: Global,
     context: &ElaborationContext<'_>,
     base: &TypedBase,
     stmts: &[TypedStmt],
@@ -72,14 +69,13 @@ fn add_behind_base(
         ≡ after (stmts_of code.old.statements) (statements.stmts (context_of context.now) (Before (constructors.base_above (typed.base base.now)) (stmt_trees (map typed.stmt_of stmts.now))) made.old.items)) }
     ensures ends { IfOk result (λ reached. reached ≡ ends.all_can_end (stmt_trees (map typed.stmt_of stmts.now))) }
 {
-    base_call(alloc, context, base.place, &base.arguments, code, made)?;
-    let reached = add_stmts(alloc, context, stmts, code, made)?;
+    base_call(context, base.place, &base.arguments, code, made)?;
+    let reached = add_stmts(context, stmts, code, made)?;
     Ok(reached)
 }
 
 // Adds the statements of the block, with a call of the constructor above.
 fn add_with_base(
-    alloc: Global,
     context: &ElaborationContext<'_>,
     base: &Option<TypedBase>,
     stmts: &[TypedStmt],
@@ -91,12 +87,12 @@ fn add_with_base(
     ensures ends { IfOk result (λ reached. reached ≡ ends.all_can_end (constructors.with_base (typed.typed context.now.program.now) (typed.body context.now.body.now) (option_map typed.base base.now) (stmt_trees (map typed.stmt_of stmts.now)))) }
 {
     match base {
-        Some(base) => add_behind_base(alloc, context, base, stmts, code, made),
+        Some(base) => add_behind_base(context, base, stmts, code, made),
         None => {
             if has_base(stmts) {
-                add_stmts(alloc, context, stmts, code, made)
+                add_stmts(context, stmts, code, made)
             } else {
-                add_with_implied(alloc, context, stmts, code, made)
+                add_with_implied(context, stmts, code, made)
             }
         }
     }
@@ -104,7 +100,6 @@ fn add_with_base(
 
 /// Adds the statements of the constructor, whose block has these. The result says whether their end can be reached.
 pub fn add_constructor(
-    alloc: Global,
     context: &ElaborationContext<'_>,
     stmts: &[TypedStmt],
     code: &mut Code,
@@ -114,7 +109,7 @@ pub fn add_constructor(
         ≡ after (stmts_of code.old.statements) (statements.stmts (context_of context.now) (constructed (typed.typed context.now.program.now) (typed.body context.now.body.now) (stmt_trees (map typed.stmt_of stmts.now))) made.old.items)) }
     ensures ends { IfOk result (λ reached. reached ≡ ends.all_can_end (constructed (typed.typed context.now.program.now) (typed.body context.now.body.now) (stmt_trees (map typed.stmt_of stmts.now)))) }
 {
-    add_initializers(alloc, context, code, made)?;
-    let reached = add_with_base(alloc, context, &context.body.base, stmts, code, made)?;
+    add_initializers(context, code, made)?;
+    let reached = add_with_base(context, &context.body.base, stmts, code, made)?;
     Ok(reached)
 }

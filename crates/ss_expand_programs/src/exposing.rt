@@ -33,7 +33,6 @@ fn exposed_class(e: &TypedExpr, class: Option<ClassId>) -> ClassId
 
 // Puts the object into a temporary, whose number is the result.
 fn put_object(
-    alloc: Global,
     context: &ElaborationContext<'_>,
     e: &TypedExpr,
     code: &mut Code,
@@ -43,7 +42,7 @@ fn put_object(
         ≡ valued_behind (stmts_of code.old.statements) (object_of (context_of context.now) (typed.expr e.now) made.old.items)) }
     ensures number { IfOk result (λ x. x ≡ lifting.next (context_of context.now).numbers (lifting.right_side (context_of context.now) (typed.expr e.now) made.old.items).made) }
 {
-    let source = right_side(alloc, context, e, code, made)?;
+    let source = right_side(context, e, code, made)?;
     let x = next(context.numbers, made)?;
     let ty = temporary_type(any_object(), type_of(e));
     let place = place_of(e);
@@ -61,7 +60,6 @@ fn add_unpack(code: &mut Code, place: Place, local: usize, class: ClassId) -> Re
 
 /// Adds the beginning: the object in a temporary, and its unpack.
 pub fn open(
-    alloc: Global,
     context: &ElaborationContext<'_>,
     place: Place,
     e: &TypedExpr,
@@ -73,7 +71,7 @@ pub fn open(
         ≡ after (stmts_of code.old.statements) (opening (context_of context.now) place (typed.expr e.now) (option_map (λ t. t.0) class) made.old.items)) }
     ensures opened { IfOk result (λ o. opened_of o ≡ opened_by (context_of context.now) place (typed.expr e.now) (option_map (λ t. t.0) class) made.old.items) }
 {
-    let local = put_object(alloc, context, e, code, made)?;
+    let local = put_object(context, e, code, made)?;
     let class = exposed_class(e, class);
     add_unpack(code, place, local, class)?;
     Ok(Opened {
@@ -94,14 +92,14 @@ fn with_opened(alloc: Global, exposes: &[Opened], opened: Opened) -> Result<Vec<
 
 /// The same context inside one more `expose`.
 pub fn within<'a>(
-    alloc: Global,
     context: &ElaborationContext<'a>,
     opened: Opened,
 ) -> Result<ElaborationContext<'a>, AllocError>
     ensures { IfOk result (λ s. context_of s ≡ statements.within (context_of context.now) (opened_of opened)) }
 {
-    let exposes = with_opened(alloc, &context.exposes, opened)?;
+    let exposes = with_opened(context.alloc, &context.exposes, opened)?;
     Ok(ElaborationContext {
+        alloc: context.alloc,
         program: context.program,
         origins: context.origins,
         body: context.body,

@@ -49,19 +49,30 @@ fn wrapper_result(outcome: Option<Ty>, x: usize) -> Option<usize>
     }
 }
 
+/// A method that a class inherits: its place in the table of the class, and the body in a class above.
+#[derive(Clone, Copy)]
+pub struct InheritedMethod<'p> {
+    pub class: ClassId,
+    pub method: usize,
+    pub body: &'p TypedBody,
+}
+
 // Its code.
 fn code_of(
     alloc: Global,
     program: &Typed,
     origins: &[Origin],
     place: Place,
-    class: ClassId,
-    method: usize,
-    body: &TypedBody,
+    inherited: InheritedMethod<'_>,
 ) -> Result<Vec<Stmt>, AllocError>
     requires listed { map origin_of origins.now ≡ elab_program.bodies (typed.typed program.now) }
-    ensures { IfOk result (λ code. stmts_of code ≡ inherited_code (typed.typed program.now) place class.0 method (typed.body body.now)) }
+    ensures { IfOk result (λ code. stmts_of code ≡ inherited_code (typed.typed program.now) place inherited.entry.class.0 inherited.entry.method (typed.body inherited.entry.body.now)) }
 {
+    let InheritedMethod {
+        class,
+        method,
+        body,
+    } = inherited;
     let number = number_in_table(program, origins, above_of(program, class), method)?;
     let first = first_of_wrapper(body)?;
     let second = first.checked_add(1).ok_or(AllocError)?;
@@ -79,23 +90,22 @@ fn temporaries_of(alloc: Global, types: &[Ty]) -> Result<Vec<Local>, AllocError>
     Ok(locals)
 }
 
-/// The body of the class, whose name stands at this place, for a method that it inherits at this place of its table, with these
-/// declarations in the classes above.
+/// The body of the class, whose name stands at this place, for a method that it inherits, with these declarations in the classes
+/// above.
 pub fn wrapper_body(
     alloc: Global,
     program: &Typed,
     origins: &[Origin],
     place: Place,
-    class: ClassId,
-    method: usize,
-    body: &TypedBody,
+    inherited: InheritedMethod<'_>,
     declared: &[&TypedBody],
 ) -> Result<Body, AllocError>
     requires listed { map origin_of origins.now ≡ elab_program.bodies (typed.typed program.now) }
-    ensures { IfOk result (λ b. core.body b ≡ bodies.wrapper_body (typed.typed program.now) place class.0 method (typed.body body.now) (map (λ b. typed.body b.now) declared.now)) }
+    ensures { IfOk result (λ b. core.body b ≡ bodies.wrapper_body (typed.typed program.now) place inherited.entry.class.0 inherited.entry.method (typed.body inherited.entry.body.now) (map (λ b. typed.body b.now) declared.now)) }
 {
+    let InheritedMethod { class, body, .. } = inherited;
     let types = wrapper_types(alloc, class, body.result)?;
-    let code = code_of(alloc, program, origins, place, class, method, body)?;
+    let code = code_of(alloc, program, origins, place, inherited)?;
     let numbers = wrapper_numbers(alloc, body, types.len())?;
     let contract = contract_of(alloc, &numbers, place, body, class, declared)?;
     Ok(Body {

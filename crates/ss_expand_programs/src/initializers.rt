@@ -15,46 +15,54 @@ ghost use Rattle.ss_expand_lifting.specs.Contexts.{context_of};
 
 use ss_core::{ClassId, Field, FieldId, Place, Ty};
 use ss_expand_bodies::field_at;
-use ss_expand_lifting::{Code, ElaborationContext, assign_field};
+use ss_expand_lifting::{Code, ElaborationContext, OwnField, assign_field};
 use ss_paths_assigned::Fields;
 use ss_typed::{Typed, TypedClass, TypedExpr, TypedField, members_of};
 use std::alloc::{AllocError, Global};
 
+/// The number of a field, and the value with which it begins.
+#[derive(Clone, Copy)]
+struct InitialValue<'p> {
+    number: FieldId,
+    value: &'p TypedExpr,
+}
+
 // Adds the assignment with which the field of `this` begins.
 fn add_assignment(
-    alloc: Global,
     context: &ElaborationContext<'_>,
-    number: FieldId,
     place: Place,
     field: &Field,
-    e: &TypedExpr,
+    initial: InitialValue<'_>,
     code: &mut Code,
     made: &mut Vec<Ty>,
 ) -> Result<(), AllocError>
     ensures { (more : StmtTrees) → OnOk result (after (stmts_of code.new.statements) (statements.stmts (context_of context.now) more made.new.items)
-        ≡ after (stmts_of code.old.statements) (statements.stmts (context_of context.now) (Before (constructors.initial_assignment context.now.body.now.class.0 number.0 place (core.field_of field.now) (typed.expr e.now)) more) made.old.items)) }
+        ≡ after (stmts_of code.old.statements) (statements.stmts (context_of context.now) (Before (constructors.initial_assignment context.now.body.now.class.0 initial.entry.number.0 place (core.field_of field.now) (typed.expr initial.entry.value.now)) more) made.old.items)) }
 {
-    assign_field(alloc, context, place, number, field.ty, e, code, made)?;
+    let own = OwnField {
+        place,
+        field: initial.number,
+        ty: field.ty,
+    };
+    assign_field(context, own, initial.value, code, made)?;
     Ok(())
 }
 
 // The same of a field that is declared, where there is one.
 fn add_declared(
-    alloc: Global,
     context: &ElaborationContext<'_>,
-    number: FieldId,
     member: &TypedField,
     found: Option<(ClassId, &Field)>,
-    e: &TypedExpr,
+    initial: InitialValue<'_>,
     code: &mut Code,
     made: &mut Vec<Ty>,
 ) -> Result<(), AllocError>
     ensures { (more : StmtTrees) → OnOk result (after (stmts_of code.new.statements) (statements.stmts (context_of context.now) more made.new.items)
-        ≡ after (stmts_of code.old.statements) (statements.stmts (context_of context.now) (constructors.initialize context.now.body.now.class.0 number.0 (typed.field member.now) (Some (typed.expr e.now)) (option_map (λ p. in_class p.0.0 (core.field_of p.1.now)) found.entry) more) made.old.items)) }
+        ≡ after (stmts_of code.old.statements) (statements.stmts (context_of context.now) (constructors.initialize context.now.body.now.class.0 initial.entry.number.0 (typed.field member.now) (Some (typed.expr initial.entry.value.now)) (option_map (λ p. in_class p.0.0 (core.field_of p.1.now)) found.entry) more) made.old.items)) }
 {
     match found {
         Some((_, field)) => {
-            add_assignment(alloc, context, number, member.place, field, e, code, made)?;
+            add_assignment(context, member.place, field, initial, code, made)?;
             Ok(())
         }
         None => Ok(()),
@@ -63,7 +71,6 @@ fn add_declared(
 
 // Adds the assignment with which the field of this number begins, where it begins with a value.
 fn add_initial(
-    alloc: Global,
     context: &ElaborationContext<'_>,
     number: FieldId,
     field: &TypedField,
@@ -74,9 +81,10 @@ fn add_initial(
         ≡ after (stmts_of code.old.statements) (statements.stmts (context_of context.now) (constructors.initialize context.now.body.now.class.0 number.0 (typed.field field.now) (option_map typed.expr field.now.initial) (elab.field_at (typed.typed context.now.program.now) number.0) more) made.old.items)) }
 {
     match &field.initial {
-        Some(e) => {
+        Some(value) => {
             let found = field_at(context.program, number);
-            add_declared(alloc, context, number, field, found, e, code, made)?;
+            let initial = InitialValue { number, value };
+            add_declared(context, field, found, initial, code, made)?;
             Ok(())
         }
         None => Ok(()),
@@ -92,7 +100,6 @@ fn number_behind(number: u32) -> Result<u32, AllocError>
 
 // Adds the assignments of these fields, of which the first has this number.
 fn add_fields(
-    alloc: Global,
     context: &ElaborationContext<'_>,
     first: u32,
     fields: &[TypedField],
@@ -104,7 +111,7 @@ fn add_fields(
 {
     let mut number = first;
     for field in fields {
-        add_initial(alloc, context, FieldId(number), field, code, made)?;
+        add_initial(context, FieldId(number), field, code, made)?;
         number = number_behind(number)?;
     }
     Ok(())
@@ -114,10 +121,7 @@ fn add_fields(
 fn as_number(fields: usize) -> Result<u32, AllocError>
     ensures { IfOk result (λ n. n ≡ fields) }
 {
-    match u32::try_from(fields) {
-        Ok(number) => Ok(number),
-        Err(_) => Err(AllocError),
-    }
+    u32::try_from(fields).map_err(|_| AllocError)
 }
 
 // The number of the first field of a class.
@@ -131,7 +135,6 @@ fn first_field(alloc: Global, program: &Typed, class: ClassId) -> Result<u32, Al
 
 // Adds the assignments of the fields of a class.
 fn add_members(
-    alloc: Global,
     context: &ElaborationContext<'_>,
     members: Option<&TypedClass>,
     code: &mut Code,
@@ -142,8 +145,8 @@ fn add_members(
 {
     match members {
         Some(members) => {
-            let first = first_field(alloc, context.program, context.body.class)?;
-            add_fields(alloc, context, first, &members.fields, code, made)?;
+            let first = first_field(context.alloc, context.program, context.body.class)?;
+            add_fields(context, first, &members.fields, code, made)?;
             Ok(())
         }
         None => Ok(()),
@@ -152,7 +155,6 @@ fn add_members(
 
 /// Adds the assignments with which the fields of the body's class begin.
 pub fn add_initializers(
-    alloc: Global,
     context: &ElaborationContext<'_>,
     code: &mut Code,
     made: &mut Vec<Ty>,
@@ -161,6 +163,6 @@ pub fn add_initializers(
         ≡ after (stmts_of code.old.statements) (statements.stmts (context_of context.now) (constructors.before_all (constructors.initializers (typed.typed context.now.program.now) context.now.body.now.class.0) more) made.old.items)) }
 {
     let members = members_of(context.program, context.body.class);
-    add_members(alloc, context, members, code, made)?;
+    add_members(context, members, code, made)?;
     Ok(())
 }

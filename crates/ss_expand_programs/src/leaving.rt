@@ -1,6 +1,6 @@
 // Returns.
 
-ghost use Rattle.std.specs.Prelude.{◌≡◌, ◌++◌, ◌∷◌, [], None, IfOk, OnOk, option_map};
+ghost use Rattle.std.specs.Prelude.{◌≡◌, ◌++◌, ◌∷◌, [], false, None, IfOk, OnOk, option_map};
 ghost use Rattle.ss_core.specs.Tree.{ReturnStmt};
 ghost use Rattle.ss_core.specs.View as core;
 ghost use Rattle.ss_typed.specs.View as typed;
@@ -17,7 +17,7 @@ use ss_expand_bodies::{add_pack_this, add_packs};
 use ss_expand_expressions::{any_object, in_temporary};
 use ss_expand_lifting::{Code, ElaborationContext, right_side, value};
 use ss_typed::{TypedExpr, place_of};
-use std::alloc::{AllocError, Global};
+use std::alloc::AllocError;
 
 // Adds the packs before a return at this place: of the exposes around it, from the innermost outwards, and of a constructor's `this`.
 fn add_all_packs(
@@ -58,7 +58,6 @@ fn result_type(ty: Option<Ty>) -> Ty
 
 // The value of a return inside an `expose`, in a temporary of the result's type.
 fn kept_result(
-    alloc: Global,
     context: &ElaborationContext<'_>,
     e: &TypedExpr,
     code: &mut Code,
@@ -67,7 +66,7 @@ fn kept_result(
     ensures { IfOk result (λ v. valued_by code.new.statements made.new v
         ≡ valued_behind (stmts_of code.old.statements) (statements.kept_result (context_of context.now) (typed.expr e.now) (lifting.right_side (context_of context.now) (typed.expr e.now) made.old.items))) }
 {
-    let source = right_side(alloc, context, e, code, made)?;
+    let source = right_side(context, e, code, made)?;
     let ty = result_type(context.body.result);
     let place = place_of(e);
     let before = &mut code.statements;
@@ -77,7 +76,6 @@ fn kept_result(
 
 // The value of a return, which inside an `expose` is in a temporary.
 fn returned_value(
-    alloc: Global,
     context: &ElaborationContext<'_>,
     e: &TypedExpr,
     code: &mut Code,
@@ -87,14 +85,13 @@ fn returned_value(
         ≡ valued_behind (stmts_of code.old.statements) (returned_value (context_of context.now) (typed.expr e.now) made.old.items)) }
 {
     match context.exposes.as_slice() {
-        [] => value(alloc, context, e, code, made),
-        [_, ..] => kept_result(alloc, context, e, code, made),
+        [] => value(context, e, code, made),
+        [_, ..] => kept_result(context, e, code, made),
     }
 }
 
 // Adds a return of a value.
 fn leave_with(
-    alloc: Global,
     context: &ElaborationContext<'_>,
     place: Place,
     e: &TypedExpr,
@@ -104,7 +101,7 @@ fn leave_with(
     ensures { OnOk result (coded_by code.new made.new
         ≡ after (stmts_of code.old.statements) (statements.leave_value (context_of context.now) place (typed.expr e.now) (context_of context.now).exposes made.old.items)) }
 {
-    let value = returned_value(alloc, context, e, code, made)?;
+    let value = returned_value(context, e, code, made)?;
     add_return(context, code, place, Some(value))?;
     Ok(())
 }
@@ -121,23 +118,26 @@ pub fn leave_empty(
     Ok(())
 }
 
-/// Adds a return.
+/// Adds a return. The result says whether its end can be reached.
 pub fn leave(
-    alloc: Global,
     context: &ElaborationContext<'_>,
     place: Place,
     e: &Option<TypedExpr>,
     code: &mut Code,
     made: &mut Vec<Ty>,
-) -> Result<(), AllocError>
-    ensures { OnOk result (coded_by code.new made.new
+) -> Result<bool, AllocError>
+    ensures coded { OnOk result (coded_by code.new made.new
         ≡ after (stmts_of code.old.statements) (statements.leave (context_of context.now) place (option_map typed.expr e.now) made.old.items)) }
+    ensures ends { IfOk result (λ reached. reached ≡ false) }
 {
     match e {
-        Some(e) => leave_with(alloc, context, place, e, code, made),
+        Some(e) => {
+            leave_with(context, place, e, code, made)?;
+            Ok(false)
+        }
         None => {
             leave_empty(context, code, place)?;
-            Ok(())
+            Ok(false)
         }
     }
 }

@@ -22,32 +22,34 @@ use ss_expand_lifting::{Code, ElaborationContext, declare, simple_statement, val
 use ss_typed::{TypedExpr, TypedInit, TypedSimple};
 use std::alloc::{AllocError, Global};
 
-/// Adds an `assert`.
+/// Adds an `assert`. The result says whether its end can be reached.
 pub fn add_assert(
-    alloc: Global,
     context: &ElaborationContext<'_>,
     place: Place,
     e: &TypedExpr,
     code: &mut Code,
-) -> Result<(), AllocError>
-    ensures { OnOk result (stmts_of code.new.statements ≡ stmts_of code.old.statements ++ AssertStmt place (elab.plain (numbers_of context.now.numbers.now) (typed.expr e.now)) ∷ []) }
+) -> Result<bool, AllocError>
+    ensures coded { OnOk result (stmts_of code.new.statements ≡ stmts_of code.old.statements ++ AssertStmt place (elab.plain (numbers_of context.now.numbers.now) (typed.expr e.now)) ∷ []) }
+    ensures ends { IfOk result (λ reached. reached ≡ true) }
 {
-    let e = plain(alloc, context.numbers, e)?;
-    code.add(Stmt::Assert(place, e))
+    let e = plain(context.alloc, context.numbers, e)?;
+    code.add(Stmt::Assert(place, e))?;
+    Ok(true)
 }
 
-/// Adds an `assume`.
+/// Adds an `assume`. The result says whether its end can be reached.
 pub fn add_assume(
-    alloc: Global,
     context: &ElaborationContext<'_>,
     place: Place,
     e: &TypedExpr,
     code: &mut Code,
-) -> Result<(), AllocError>
-    ensures { OnOk result (stmts_of code.new.statements ≡ stmts_of code.old.statements ++ AssumeStmt place (elab.plain (numbers_of context.now.numbers.now) (typed.expr e.now)) ∷ []) }
+) -> Result<bool, AllocError>
+    ensures coded { OnOk result (stmts_of code.new.statements ≡ stmts_of code.old.statements ++ AssumeStmt place (elab.plain (numbers_of context.now.numbers.now) (typed.expr e.now)) ∷ []) }
+    ensures ends { IfOk result (λ reached. reached ≡ true) }
 {
-    let e = plain(alloc, context.numbers, e)?;
-    code.add(Stmt::Assume(place, e))
+    let e = plain(context.alloc, context.numbers, e)?;
+    code.add(Stmt::Assume(place, e))?;
+    Ok(true)
 }
 
 // The expression in a box.
@@ -59,7 +61,6 @@ fn boxed(alloc: Global, e: Expr) -> Result<Box<Expr>, AllocError>
 
 /// The value in a box.
 pub fn boxed_value(
-    alloc: Global,
     context: &ElaborationContext<'_>,
     e: &TypedExpr,
     code: &mut Code,
@@ -68,8 +69,8 @@ pub fn boxed_value(
     ensures { IfOk result (λ v. valued_by code.new.statements made.new v.value
         ≡ valued_behind (stmts_of code.old.statements) (lifting.value (context_of context.now) (typed.expr e.now) made.old.items)) }
 {
-    let value = value(alloc, context, e, code, made)?;
-    let kept = boxed(alloc, value)?;
+    let value = value(context, e, code, made)?;
+    let kept = boxed(context.alloc, value)?;
     Ok(kept)
 }
 
@@ -89,14 +90,13 @@ pub fn add_branch(
 
 // The invariants of a loop.
 fn invariants_of(
-    alloc: Global,
     context: &ElaborationContext<'_>,
     invariants: &[TypedExpr],
 ) -> Result<Vec<Expr>, AllocError>
     ensures { IfOk result (λ es. core.exprs es.items ≡ elab.all_plain (numbers_of context.now.numbers.now) (typed.exprs invariants.now)) }
 {
-    let mut exprs = Vec::new(alloc);
-    add_plain(alloc, &mut exprs, context.numbers, invariants)?;
+    let mut exprs = Vec::new(context.alloc);
+    add_plain(context.alloc, &mut exprs, context.numbers, invariants)?;
     Ok(exprs)
 }
 
@@ -121,21 +121,27 @@ fn loop_of(
     })
 }
 
+/// The test of a loop, and what is done before it each time.
+#[derive(Drop)]
+pub struct LoopTest {
+    pub prelude: Code,
+    pub test: Box<Expr>,
+}
+
 /// Adds a loop with this prelude, this test and this body.
 pub fn add_loop(
-    alloc: Global,
     context: &ElaborationContext<'_>,
     code: &mut Code,
     place: Place,
     invariants: &[TypedExpr],
-    prelude: Code,
-    test: Box<Expr>,
+    head: LoopTest,
     turn: Code,
 ) -> Result<(), AllocError>
-    ensures { OnOk result (stmts_of code.new.statements ≡ stmts_of code.old.statements ++ LoopStmt place (elab.all_plain (numbers_of context.now.numbers.now) (typed.exprs invariants.now)) (core.code_of (stmts_of prelude.statements)) (core.expr test.value) (core.code_of (stmts_of turn.statements)) (map statements.exposed (map opened_of context.now.exposes.items)) ∷ []) }
+    ensures { OnOk result (stmts_of code.new.statements ≡ stmts_of code.old.statements ++ LoopStmt place (elab.all_plain (numbers_of context.now.numbers.now) (typed.exprs invariants.now)) (core.code_of (stmts_of head.prelude.statements)) (core.expr head.test.value) (core.code_of (stmts_of turn.statements)) (map statements.exposed (map opened_of context.now.exposes.items)) ∷ []) }
 {
-    let invariants = invariants_of(alloc, context, invariants)?;
-    let exposes = list_exposed(alloc, &context.exposes)?;
+    let LoopTest { prelude, test } = head;
+    let invariants = invariants_of(context, invariants)?;
+    let exposes = list_exposed(context.alloc, &context.exposes)?;
     let test = Box::into_inner(test);
     let made = loop_of(place, invariants, prelude, test, turn, exposes);
     code.add(made)?;
@@ -151,7 +157,6 @@ fn boxed_true(alloc: Global, place: Place) -> Result<Box<Expr>, AllocError>
 
 /// The test of a `for`, which without one is `true`.
 pub fn test_of(
-    alloc: Global,
     context: &ElaborationContext<'_>,
     place: Place,
     test: &Option<TypedExpr>,
@@ -162,9 +167,9 @@ pub fn test_of(
         ≡ valued_behind (stmts_of code.old.statements) (tested (context_of context.now) place (option_map typed.expr test.now) made.old.items)) }
 {
     match test {
-        Some(e) => boxed_value(alloc, context, e, code, made),
+        Some(e) => boxed_value(context, e, code, made),
         None => {
-            let test = boxed_true(alloc, place)?;
+            let test = boxed_true(context.alloc, place)?;
             Ok(test)
         }
     }
@@ -172,7 +177,6 @@ pub fn test_of(
 
 /// Adds what a `for` begins with.
 pub fn begin(
-    alloc: Global,
     context: &ElaborationContext<'_>,
     beginning: &Option<TypedInit>,
     code: &mut Code,
@@ -182,15 +186,14 @@ pub fn begin(
         ≡ after (stmts_of code.old.statements) (statements.begin (context_of context.now) (option_map typed.init_of beginning.now) made.old.items)) }
 {
     match beginning {
-        Some(TypedInit::Declare(declarators)) => declare(alloc, context, declarators, code, made),
-        Some(TypedInit::Simple(stmt)) => simple_statement(alloc, context, stmt, code, made),
+        Some(TypedInit::Declare(declarators)) => declare(context, declarators, code, made),
+        Some(TypedInit::Simple(stmt)) => simple_statement(context, stmt, code, made),
         None => Ok(()),
     }
 }
 
 // Adds the step of a `for`.
 fn advance(
-    alloc: Global,
     context: &ElaborationContext<'_>,
     step: &Option<TypedSimple>,
     code: &mut Code,
@@ -200,14 +203,13 @@ fn advance(
         ≡ after (stmts_of code.old.statements) (statements.advance (context_of context.now) (option_map typed.simple_of step.now) made.old.items)) }
 {
     match step {
-        Some(stmt) => simple_statement(alloc, context, stmt, code, made),
+        Some(stmt) => simple_statement(context, stmt, code, made),
         None => Ok(()),
     }
 }
 
 /// Adds it where the end of the turn before it can be reached.
 pub fn advance_where(
-    alloc: Global,
     context: &ElaborationContext<'_>,
     reached: bool,
     step: &Option<TypedSimple>,
@@ -218,7 +220,7 @@ pub fn advance_where(
         ≡ after (stmts_of code.old.statements) ((if reached then statements.advance (context_of context.now) (option_map typed.simple_of step.now) else nothing) made.old.items)) }
 {
     if reached {
-        advance(alloc, context, step, code, made)
+        advance(context, step, code, made)
     } else {
         Ok(())
     }

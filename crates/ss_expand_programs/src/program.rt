@@ -16,7 +16,7 @@ ghost use Rattle.ss_expand_programs.specs.Limits.{HasFewClasses};
 
 use crate::bodies::written_body;
 use crate::declarations::declarations;
-use crate::inherited::wrapper_body;
+use crate::inherited::{InheritedMethod, wrapper_body};
 use ss_core::{Body, Class, ClassId, Core, Place};
 use ss_expand_bodies::{
     Origin, elaborate_classes, is_declared_by, list_bodies, method_at, number_of_written,
@@ -160,21 +160,18 @@ fn wrapper_at(
     alloc: Global,
     program: &Typed,
     origins: &[Origin],
-    class: ClassId,
-    method: usize,
-    body: &TypedBody,
+    inherited: InheritedMethod<'_>,
     members: Option<&TypedClass>,
 ) -> Result<Option<Body>, AllocError>
     requires listed { map origin_of origins.now ≡ elab_program.bodies (typed.typed program.now) }
-    ensures { IfOk result (λ b. option_map core.body b ≡ elaborated.wrapper_at (typed.typed program.now) class.0 method (typed.body body.now) (option_map (λ m. typed.members m.now) members.entry)) }
+    ensures { IfOk result (λ b. option_map core.body b ≡ elaborated.wrapper_at (typed.typed program.now) inherited.entry.class.0 inherited.entry.method (typed.body inherited.entry.body.now) (option_map (λ m. typed.members m.now) members.entry)) }
 {
+    let InheritedMethod { class, method, .. } = inherited;
     match members {
         Some(members) => {
             let declared = declarations(alloc, program, class, method)?;
             let place = members.place;
-            let wrapper = wrapper_body(
-                alloc, program, origins, place, class, method, body, &declared,
-            )?;
+            let wrapper = wrapper_body(alloc, program, origins, place, inherited, &declared)?;
             Ok(Some(wrapper))
         }
         None => Ok(None),
@@ -216,7 +213,12 @@ fn method_body(
         Ok(Some(body))
     } else {
         let members = members_of(program, class);
-        wrapper_at(alloc, program, origins, class, method, body, members)
+        let inherited = InheritedMethod {
+            class,
+            method,
+            body,
+        };
+        wrapper_at(alloc, program, origins, inherited, members)
     }
 }
 

@@ -59,9 +59,8 @@ fn earlier(fault: Fault, other: Option<Fault>) -> Fault
 pub fn answer(found: Result<Option<Fault>, AllocError>) -> Result<(), FrontStop>
     ensures { (o : Option fault.Fault) → IfOk found (λ f. f ≡ o) → Answers o result }
 {
-    match found {
-        Ok(None) => Ok(()),
-        Ok(Some(Fault { rule, place })) => Err(FrontStop::Refused { rule, place }),
-        Err(_) => Err(FrontStop::Memory),
+    match found? {
+        None => Ok(()),
+        Some(Fault { rule, place }) => Err(FrontStop::Refused { rule, place }),
     }
 }

@@ -1,3 +1,4 @@
+pub mod Declaring
 pub mod Growing
 pub mod Making
 pub mod Meaning

@@ -2,6 +2,8 @@
 use Rattle.std.proofs.Common.{◌≡◌, ℕ, zero, suc, ◌+◌, ◌<◌, List, [], ◌∷◌, ◌++◌, length, map, take, get_or, Bool, true, false, if◌then◌else◌, refl, sym, ◌∙◌, ap, subst, arith}
 use Rattle.std.proofs.lemmas.List.{take_more}
 use Rattle.ss_core.specs.Tree.{ClassTree}
+use Rattle.ss_core.specs.Chain.{sub}
+use Rattle.ss_store_rules.specs.Changes.{field_class}
 use Rattle.ss_logic.specs.Formulas.{Formula}
 use Rattle.ss_logic_frames.specs.Frames as logic
 use Rattle.ss_logic_frames.specs.Frames.{names_field, names_level, names_elements, all_named, field_kept, fields_kept}
@@ -17,45 +19,51 @@ use Rattle.ss_frames.specs.Calls.{named_at, call_at, IsMade, AreMade, is_named_a
 use Rattle.ss_frames.proofs.Growing.{AreMade-append, AreMade-one, AreMade-grown, AreMade-as, AreMade-then}
 
 abbrev pub names_of : List ClassTree → Part → logic.NamedTerm → List Formula
-names_of cs (part.Field f) = names_field cs f
+names_of cs (part.Field f c) = names_field cs f
 names_of cs part.Level = names_level
 names_of cs part.Elements = names_elements
 
 -- how many names are bound where it may be named
 abbrev pub depth : Part → ℕ
-depth (part.Field f) = 1
+depth (part.Field f c) = 1
 depth part.Level = 1
 depth part.Elements = 2
 
+-- the class beside a field declares it
+abbrev pub IsPart : List ClassTree → Part → Type 0
+IsPart cs (part.Field f c) = c.0 ≡ field_class cs f
+IsPart cs part.Level = Unit {0}
+IsPart cs part.Elements = Unit {0}
+
 module _ (cs : List ClassTree) (b : Forms) where
-  one_named : (p : Part) (x : NamedTerm) → names_of cs p (named_at b x) ≡ (if names_part cs p x then is_named_at b (depth p) x ∷ [] else [])
-  one_named (part.Field f) (At g o h) = refl
-  one_named (part.Field f) (All g o) = refl
-  one_named (part.Field f) (Upto g o t) = refl
-  one_named (part.Field f) (Elements g a) = refl
-  one_named part.Level (At g o h) = refl
-  one_named part.Level (All g o) = refl
-  one_named part.Level (Upto g o t) = refl
-  one_named part.Level (Elements g a) = refl
-  one_named part.Elements (At g o h) = refl
-  one_named part.Elements (All g o) = refl
-  one_named part.Elements (Upto g o t) = refl
-  one_named part.Elements (Elements g a) = refl
+  one_named : (p : Part) → IsPart cs p → (x : NamedTerm) → names_of cs p (named_at b x) ≡ (if names_part cs p x then is_named_at b (depth p) x ∷ [] else [])
+  one_named (part.Field f c) is (At g o h) = refl
+  one_named (part.Field f c) is (All g o) = refl
+  one_named (part.Field f c) is (Upto g o t) = ap (λ n. if sub cs t.0 n then is_named_at b 1 (Upto g o t) ∷ [] else []) (sym is)
+  one_named (part.Field f c) is (Elements g a) = refl
+  one_named part.Level is (At g o h) = refl
+  one_named part.Level is (All g o) = refl
+  one_named part.Level is (Upto g o t) = refl
+  one_named part.Level is (Elements g a) = refl
+  one_named part.Elements is (At g o h) = refl
+  one_named part.Elements is (All g o) = refl
+  one_named part.Elements is (Upto g o t) = refl
+  one_named part.Elements is (Elements g a) = refl
 
   pick_one : (t : Bool) (f : FormulaId) (x : Formula) (fs : List FormulaId) (xs : List Formula) → IsMade b f x → AreMade b fs xs →
       AreMade b (if t then f ∷ fs else fs) ((if t then x ∷ [] else []) ++ xs)
   pick_one true f x fs xs h k = AreMade-then b f x fs xs h k
   pick_one false f x fs xs h k = k
 
-  picked_marks : (p : Part) (ks : List Mark) → AreMarks b (depth p) ks → AreMade b (picked cs p ks) (all_named (names_of cs p) (map (named_at b) (map term_of_mark ks)))
-  picked_marks p [] h = (tt, refl)
-  picked_marks p (k ∷ ks) h =
+  picked_marks : (p : Part) → IsPart cs p → (ks : List Mark) → AreMarks b (depth p) ks → AreMade b (picked cs p ks) (all_named (names_of cs p) (map (named_at b) (map term_of_mark ks)))
+  picked_marks p is [] h = (tt, refl)
+  picked_marks p is (k ∷ ks) h =
       let rest = all_named (names_of cs p) (map (named_at b) (map term_of_mark ks)) in
-      subst (λ ys. AreMade b (picked cs p (k ∷ ks)) (ys ++ rest)) (sym (one_named p k.term))
-      (pick_one (names_part cs p k.term) k.formula (is_named_at b (depth p) k.term) (picked cs p ks) rest h.0 (picked_marks p ks h.1))
+      subst (λ ys. AreMade b (picked cs p (k ∷ ks)) (ys ++ rest)) (sym (one_named p is k.term))
+      (pick_one (names_part cs p k.term) k.formula (is_named_at b (depth p) k.term) (picked cs p ks) rest h.0 (picked_marks p is ks h.1))
 
-  pub picked_made : (p : Part) (m : CallTerms) (ks : List Mark) → AreNamed b (depth p) m ks → AreMade b (picked cs p ks) (all_named (names_of cs p) (call_at b m).named)
-  picked_made p m ks h = subst (λ xs. AreMade b (picked cs p ks) (all_named (names_of cs p) (map (named_at b) xs))) h.terms (picked_marks p ks h.made)
+  pub picked_made : (p : Part) → IsPart cs p → (m : CallTerms) (ks : List Mark) → AreNamed b (depth p) m ks → AreMade b (picked cs p ks) (all_named (names_of cs p) (call_at b m).named)
+  picked_made p is m ks h = subst (λ xs. AreMade b (picked cs p ks) (all_named (names_of cs p) (map (named_at b) xs))) h.terms (picked_marks p is ks h.made)
 
 with_one : (t : Bool) (f : FormulaId) (fs gs hs : List FormulaId) → fs ≡ gs ++ hs → (if t then f ∷ fs else fs) ≡ (if t then f ∷ gs else gs) ++ hs
 with_one true f fs gs hs e = ap (λ is. f ∷ is) e

@@ -2,8 +2,7 @@
 use Rattle.std.specs.Prelude.{◌≡◌, ℕ, List, [], ◌∷◌, map, Bool, true, false, ◌==◌, if◌then◌else◌}
 use Rattle.ss_core.specs.declared.names.ClassId.{ClassId}
 use Rattle.ss_core.specs.Tree.{ClassTree}
-use Rattle.ss_core.specs.Chain.{sub}
-use Rattle.ss_store_rules.specs.Changes.{field_class}
+use Rattle.ss_core.specs.Chain.{sub, DeclaredField, all_fields}
 use Rattle.ss_logic.specs.Terms.{Term}
 use Rattle.ss_logic.specs.Formulas.{Formula}
 use Rattle.ss_logic_frames.specs.Frames as logic
@@ -107,11 +106,20 @@ pub record AreNamed (b : Forms) (n : ℕ) (m : CallTerms) (ks : List Mark) : Typ
   pub terms : map term_of_mark ks ≡ m.named.items
   pub made : AreMarks b n ks
 
+-- the class that declares the field
+abbrev pub declaring_class : DeclaredField → ℕ
+declaring_class d = d.class
+
+-- the classes that declare the program's fields, in the order of their numbers
+abbrev pub declaring_classes : List ClassTree → List ℕ
+declaring_classes cs = map declaring_class (all_fields cs)
+
+-- the term names the part, where the class beside a field declares it
 abbrev pub names_part : List ClassTree → Part → NamedTerm → Bool
-names_part cs (part.Field f) (At g o h) = h.0 == f
-names_part cs (part.Field f) (All g o) = true
-names_part cs (part.Field f) (Upto g o t) = sub cs t.0 (field_class cs f)
-names_part cs (part.Field f) (Elements g a) = false
+names_part cs (part.Field f c) (At g o h) = h.0 == f
+names_part cs (part.Field f c) (All g o) = true
+names_part cs (part.Field f c) (Upto g o t) = sub cs t.0 c.0
+names_part cs (part.Field f c) (Elements g a) = false
 names_part cs part.Level (At g o h) = false
 names_part cs part.Level (All g o) = true
 names_part cs part.Level (Upto g o t) = true

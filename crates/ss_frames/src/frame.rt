@@ -14,7 +14,8 @@ ghost use Rattle.ss_frames.specs.Calls.{call_at, HasCall, IsTerm, IsMade, AreMad
 
 use crate::bound::{not_bound, outside};
 use crate::calls::CallTerms;
-use crate::marks::{Mark, Part, marks, pick};
+use crate::context::FrameContext;
+use crate::marks::{Part, marks, pick};
 use crate::objects::object_kept;
 use crate::parts::{joined, unless};
 use crate::same::{is_full, same_elements};
@@ -25,53 +26,60 @@ use std::alloc::{AllocError, Global};
 
 // An object that was allocated and isn't free keeps all that isn't named.
 fn objects_kept(
-    alloc: Global,
+    context: &FrameContext<'_>,
     b: &mut Bank,
-    classes: &Classes,
-    m: &CallTerms,
-    object: TermId,
     free: &[FormulaId],
     outside: &[FormulaId],
 ) -> Result<FormulaId, AllocError>
-    requires bank { IsBankOf (view.classes classes.now) b.old }
-    requires classes { length (view.classes classes.now) ≤ most_classes }
-    requires call { HasCall b.old m.now }
-    requires object { IsTerm b.old object the_object }
-    requires free { AreMade b.old free.now (neg (allocated (term_at b.old m.now.before) the_object) ∷ is_free (call_at b.old m.now)) }
-    requires outside { AreMade b.old outside.now (is_outside (call_at b.old m.now)) }
-    ensures at { IfOk result (λ f. IsMade b.new f (objects_kept (view.classes classes.now) (call_at b.old m.now))) }
+    requires bank { IsBankOf (view.classes context.now.classes.now) b.old }
+    requires classes { length (view.classes context.now.classes.now) ≤ most_classes }
+    requires call { HasCall b.old context.now.call.now }
+    requires object { IsTerm b.old context.now.object the_object }
+    requires free { AreMade b.old free.now (neg (allocated (term_at b.old context.now.call.now.before) the_object) ∷ is_free (call_at b.old context.now.call.now)) }
+    requires outside { AreMade b.old outside.now (is_outside (call_at b.old context.now.call.now)) }
+    ensures at { IfOk result (λ f. IsMade b.new f (objects_kept (view.classes context.now.classes.now) (call_at b.old context.now.call.now))) }
     ensures grown { IsGrown b.old b.new }
 {
-    let marks = marks(alloc, b, classes, 1, object, m)?;
-    let keeps = object_kept(alloc, b, classes, m, object, &marks, outside)?;
-    let body = unless(alloc, b, free, keeps)?;
+    let marks = marks(
+        context.alloc,
+        b,
+        context.classes,
+        1,
+        context.object,
+        context.call,
+    )?;
+    let keeps = object_kept(context, b, &marks, outside)?;
+    let body = unless(context.alloc, b, free, keeps)?;
     b.forall(&[Sort::Rest], body)
 }
 
 // An array that was allocated and isn't free keeps its elements, unless they are named.
 fn elements_kept(
-    alloc: Global,
+    context: &FrameContext<'_>,
     b: &mut Bank,
-    classes: &Classes,
-    m: &CallTerms,
-    object: TermId,
     index: TermId,
     free: &[FormulaId],
 ) -> Result<FormulaId, AllocError>
-    requires bank { IsBankOf (view.classes classes.now) b.old }
-    requires classes { length (view.classes classes.now) ≤ most_classes }
-    requires call { HasCall b.old m.now }
-    requires object { IsTerm b.old object the_object }
+    requires bank { IsBankOf (view.classes context.now.classes.now) b.old }
+    requires call { HasCall b.old context.now.call.now }
+    requires object { IsTerm b.old context.now.object the_object }
     requires index { IsTerm b.old index the_index }
-    requires free { AreMade b.old free.now (neg (allocated (term_at b.old m.now.before) the_object) ∷ is_free (call_at b.old m.now)) }
-    ensures at { IfOk result (λ f. IsMade b.new f (elements_kept (call_at b.old m.now))) }
+    requires free { AreMade b.old free.now (neg (allocated (term_at b.old context.now.call.now.before) the_object) ∷ is_free (call_at b.old context.now.call.now)) }
+    ensures at { IfOk result (λ f. IsMade b.new f (elements_kept (call_at b.old context.now.call.now))) }
     ensures grown { IsGrown b.old b.new }
 {
-    let marks = marks(alloc, b, classes, 2, object, m)?;
-    let named = pick(alloc, classes, Part::Elements, &marks)?;
-    let parts = joined(alloc, free, &named)?;
-    let same = same_elements(alloc, b, m, object, index)?;
-    let body = unless(alloc, b, &parts, same)?;
+    let marks = marks(
+        context.alloc,
+        b,
+        context.classes,
+        2,
+        context.object,
+        context.call,
+    )?;
+    let named = pick(context.alloc, context.classes, Part::Elements, &marks)?;
+    let parts = joined(context.alloc, free, &named)?;
+    let same = same_elements(context.alloc, b, context.call, context.object, index)?;
+    let body = unless(context.alloc, b, &parts, same)?;
     b.forall(&[Sort::Rest, Sort::Whole], body)
 }
 
@@ -137,8 +145,14 @@ fn all_kept(
 {
     let free = not_bound(alloc, b, m, object)?;
     let outside = outside(alloc, b, m, object)?;
-    let objects = objects_kept(alloc, b, classes, m, object, &free, &outside)?;
-    let elements = elements_kept(alloc, b, classes, m, object, index, &free)?;
+    let context = FrameContext {
+        alloc,
+        classes,
+        call: m,
+        object,
+    };
+    let objects = objects_kept(&context, b, &free, &outside)?;
+    let elements = elements_kept(&context, b, index, &free)?;
     let others = others_full(alloc, b, m, object, &free, &outside)?;
     b.and(&[objects, elements, others])
 }

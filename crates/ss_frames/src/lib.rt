@@ -3,6 +3,8 @@
 
 mod bound;
 mod calls;
+mod context;
+mod fields;
 mod frame;
 mod growth;
 mod laws;

@@ -1,15 +1,13 @@
 // Named terms, each with the formula that an object is the one that it names.
 
-ghost use Rattle.std.specs.Prelude.{◌≡◌, ◌≤◌, ◌++◌, [], ◌∷◌, length, if◌then◌else◌, IfOk, OnOk};
-ghost use Rattle.ss_core.specs.Chain.{most_classes};
+ghost use Rattle.std.specs.Prelude.{◌≡◌, ◌++◌, [], ◌∷◌, if◌then◌else◌, IfOk, OnOk};
 ghost use Rattle.ss_core.specs.View as view;
-ghost use Rattle.ss_store_rules.specs.Changes.{field_class};
 ghost use Rattle.ss_logic_frames.specs.Frames.{the_object};
 ghost use Rattle.ss_terms.specs.Forms.{IsGrown, IsBankOf};
 ghost use Rattle.ss_frames.specs.Calls.{guard_of, object_of, HasNamed, HasCall, IsTerm, IsMade, is_named_at, AreNamed, names_part, picked};
 
 use crate::calls::{CallTerms, NamedTerm};
-use ss_core::{ClassId, Classes, FieldId};
+use ss_core::{ClassId, Classes};
 use ss_terms::{Bank, FormulaId, TermId};
 use ss_terms_lifts::lift;
 use std::alloc::{AllocError, Global};
@@ -24,23 +22,12 @@ pub(crate) struct Mark {
 /// A part of an object that may be named.
 #[derive(Clone, Copy)]
 pub(crate) enum Part {
-    /// A field.
-    Field(u32),
+    /// A field, and the class that declares it.
+    Field(u32, ClassId),
     /// The level.
     Level,
     /// The elements.
     Elements,
-}
-
-// The class that declares the field.
-fn class_of_field(classes: &Classes, f: u32) -> ClassId
-    requires { length (view.classes classes.now) ≤ most_classes }
-    ensures { result.0 ≡ field_class (view.classes classes.now) f }
-{
-    match classes.field(FieldId(f)) {
-        Some((class, _)) => class,
-        None => ClassId(0),
-    }
 }
 
 impl NamedTerm {
@@ -70,17 +57,13 @@ impl NamedTerm {
 
     // Whether it names the part.
     fn names(self, classes: &Classes, part: Part) -> bool
-        requires { length (view.classes classes.now) ≤ most_classes }
         ensures { result ≡ names_part (view.classes classes.now) part self }
     {
         match part {
-            Part::Field(f) => match self {
+            Part::Field(f, class) => match self {
                 NamedTerm::At(_, _, field) => field.0 == f,
                 NamedTerm::All(_, _) => true,
-                NamedTerm::Upto(_, _, t) => {
-                    let class = class_of_field(classes, f);
-                    classes.is_subclass(t, class)
-                }
+                NamedTerm::Upto(_, _, t) => classes.is_subclass(t, class),
                 NamedTerm::Elements(_, _) => false,
             },
             Part::Level => match self {
@@ -150,7 +133,6 @@ pub(crate) fn pick(
     part: Part,
     marks: &[Mark],
 ) -> Result<Vec<FormulaId>, AllocError>
-    requires { length (view.classes classes.now) ≤ most_classes }
     ensures { IfOk result (λ v. v.items ≡ picked (view.classes classes.now) part marks.now) }
 {
     let mut made = Vec::new(alloc);

@@ -92,26 +92,23 @@ impl Lexer {
         requires columns { self.old.place.column + length text.now < 2 ^ 32 }
         ensures { Took (meaning self.old.signed form text.now) text.now self.old self.new result }
     {
-        match meaning_of(alloc, self.signed, form, text) {
-            Ok(Meaning::Nothing) => {
+        match meaning_of(alloc, self.signed, form, text)? {
+            Meaning::Nothing => {
                 self.place = place_after(self.place, text);
                 Ok(())
             }
-            Ok(Meaning::Token(kind)) => {
-                if self.push(kind).is_err() {
-                    return Err(FrontStop::Memory);
-                }
+            Meaning::Token(kind) => {
+                self.push(kind)?;
                 self.place = place_after(self.place, text);
                 Ok(())
             }
-            Ok(Meaning::Fault(rule, sound)) => {
+            Meaning::Fault(rule, sound) => {
                 let (front, _) = text.split_at(sound);
                 Err(FrontStop::Refused {
                     rule,
                     place: place_after(self.place, front),
                 })
             }
-            Err(_) => Err(FrontStop::Memory),
         }
     }
 }
@@ -139,15 +136,13 @@ fn read_tokens(alloc: Global, bytes: &[u8]) -> Result<Vec<Token>, FrontStop>
         lexer.take(alloc, form, text)?;
         rest = behind;
     }
-    match lexer.push(TokenKind::TextEnd) {
-        Ok(()) => Ok(lexer.tokens),
-        Err(_) => Err(FrontStop::Memory),
-    }
+    lexer.push(TokenKind::TextEnd)?;
+    Ok(lexer.tokens)
 }
 
-/// The tokens of a source. Refused comes with the first fault: rule 5 at 1:1 where there are more than `MAX_BYTES` bytes,
-/// and else rule 1 at a byte or a backslash that can't stand there, 2 and 3 where a comment or a string begins that isn't
-/// closed, and 4 at a number that is too large.
+/// The tokens of a source. Refused comes with the first fault. That is rule 5 at 1:1 where there are more than `MAX_BYTES`
+/// bytes. Else it is rule 1 at a byte or a backslash that can't stand there, or 4 at a number that is too large. Or it is rule
+/// 2 or 3 where a comment or a string begins that isn't closed.
 pub fn tokens(alloc: Global, bytes: &[u8]) -> Result<Vec<Token>, FrontStop>
     ensures reads { Answers bytes.now result }
     ensures only { (a : Answer) → IsReadAs bytes.now a → IsAnswer a result }

@@ -22,6 +22,14 @@ use ss_linear_sums::{LinearSum, Part, SumFact};
 use ss_terms::Bank;
 use std::alloc::{AllocError, Global};
 
+// The facts among which contradictions are looked for, over a bank.
+#[derive(Clone, Copy)]
+struct FactContext<'a> {
+    alloc: Global,
+    bank: &'a Bank,
+    facts: &'a [Option<SumFact>],
+}
+
 // A number with its weight. None where that leaves 128 bits.
 fn times(w: i64, n: i128) -> Option<i128>
     ensures { IfSome result (λ z. z ≡ w *ℤ n) }
@@ -160,16 +168,11 @@ pub(crate) fn is_false(sum: &LinearSum) -> bool
 }
 
 // Whether the sum of known facts with these weights is a contradiction.
-fn is_contradiction(
-    alloc: Global,
-    bank: &Bank,
-    facts: &[Option<SumFact>],
-    parts: &[(usize, i64)],
-) -> Result<bool, AllocError>
-    requires { HaveParts bank.now facts.now }
-    ensures { (cs : List ClassTree) (known : List Formula) → AreFacts cs bank.now known facts.now → IfOk result (IsTested cs known parts.now) }
+fn is_contradiction(context: &FactContext<'_>, parts: &[(usize, i64)]) -> Result<bool, AllocError>
+    requires { HaveParts context.now.bank.now context.now.facts.now }
+    ensures { (cs : List ClassTree) (known : List Formula) → AreFacts cs context.now.bank.now known context.now.facts.now → IfOk result (IsTested cs known parts.now) }
 {
-    let found = weighted(alloc, bank, facts, parts)?;
+    let found = weighted(context.alloc, context.bank, context.facts, parts)?;
     match found {
         Some(sum) => Ok(is_false(&sum)),
         None => Ok(false),
@@ -178,21 +181,19 @@ fn is_contradiction(
 
 // Whether the sum of two facts with these weights is a contradiction.
 fn is_pair(
-    alloc: Global,
-    bank: &Bank,
-    facts: &[Option<SumFact>],
+    context: &FactContext<'_>,
     a: &SumFact,
     b: &SumFact,
     first: (usize, i64),
     second: (usize, i64),
 ) -> Result<bool, AllocError>
-    requires facts { HaveParts bank.now facts.now }
-    requires parts { HasParts bank.now a.now.sum.parts.items }
-    requires others { HasParts bank.now b.now.sum.parts.items }
-    ensures { (cs : List ClassTree) (known : List Formula) → AreFacts cs bank.now known facts.now → two.fact_at cs known first.0 ≡ Some (linear.fact_at bank.now a.now) → two.fact_at cs known second.0 ≡ Some (linear.fact_at bank.now b.now) → IfOk result (IsTested cs known (first ∷ second ∷ [])) }
+    requires facts { HaveParts context.now.bank.now context.now.facts.now }
+    requires parts { HasParts context.now.bank.now a.now.sum.parts.items }
+    requires others { HasParts context.now.bank.now b.now.sum.parts.items }
+    ensures { (cs : List ClassTree) (known : List Formula) → AreFacts cs context.now.bank.now known context.now.facts.now → two.fact_at cs known first.0 ≡ Some (linear.fact_at context.now.bank.now a.now) → two.fact_at cs known second.0 ≡ Some (linear.fact_at context.now.bank.now b.now) → IfOk result (IsTested cs known (first ∷ second ∷ [])) }
 {
-    if may_contradict(bank, a, first.1, b, second.1) {
-        is_contradiction(alloc, bank, facts, &[first, second])
+    if may_contradict(context.bank, a, first.1, b, second.1) {
+        is_contradiction(context, &[first, second])
     } else {
         Ok(false)
     }
@@ -200,48 +201,41 @@ fn is_pair(
 
 // The weights of two facts with which their sum is a contradiction.
 fn of_two(
-    alloc: Global,
-    bank: &Bank,
-    facts: &[Option<SumFact>],
+    context: &FactContext<'_>,
     a: &SumFact,
     b: &SumFact,
     i: usize,
     j: usize,
 ) -> Result<Option<(i64, i64)>, AllocError>
-    requires facts { HaveParts bank.now facts.now }
-    requires parts { HasParts bank.now a.now.sum.parts.items }
-    requires others { HasParts bank.now b.now.sum.parts.items }
-    ensures { (cs : List ClassTree) (known : List Formula) → AreFacts cs bank.now known facts.now → two.fact_at cs known i ≡ Some (linear.fact_at bank.now a.now) → two.fact_at cs known j ≡ Some (linear.fact_at bank.now b.now) → IfOk result (AreWeights cs known i j) }
+    requires facts { HaveParts context.now.bank.now context.now.facts.now }
+    requires parts { HasParts context.now.bank.now a.now.sum.parts.items }
+    requires others { HasParts context.now.bank.now b.now.sum.parts.items }
+    ensures { (cs : List ClassTree) (known : List Formula) → AreFacts cs context.now.bank.now known context.now.facts.now → two.fact_at cs known i ≡ Some (linear.fact_at context.now.bank.now a.now) → two.fact_at cs known j ≡ Some (linear.fact_at context.now.bank.now b.now) → IfOk result (AreWeights cs known i j) }
 {
-    if is_pair(alloc, bank, facts, a, b, (i, 1), (j, 1))? {
+    if is_pair(context, a, b, (i, 1), (j, 1))? {
         return Ok(Some((1, 1)));
     }
-    if is_pair(alloc, bank, facts, a, b, (i, 1), (j, -1))? {
+    if is_pair(context, a, b, (i, 1), (j, -1))? {
         return Ok(Some((1, -1)));
     }
-    if is_pair(alloc, bank, facts, a, b, (i, -1), (j, 1))? {
+    if is_pair(context, a, b, (i, -1), (j, 1))? {
         return Ok(Some((-1, 1)));
     }
-    if is_pair(alloc, bank, facts, a, b, (i, -1), (j, -1))? {
+    if is_pair(context, a, b, (i, -1), (j, -1))? {
         return Ok(Some((-1, -1)));
     }
     Ok(None)
 }
 
 // The weight of a fact with which it is a contradiction by itself.
-fn of_one(
-    alloc: Global,
-    bank: &Bank,
-    facts: &[Option<SumFact>],
-    i: usize,
-) -> Result<Option<i64>, AllocError>
-    requires { HaveParts bank.now facts.now }
-    ensures { (cs : List ClassTree) (known : List Formula) → AreFacts cs bank.now known facts.now → IfOk result (IsWeight cs known i) }
+fn of_one(context: &FactContext<'_>, i: usize) -> Result<Option<i64>, AllocError>
+    requires { HaveParts context.now.bank.now context.now.facts.now }
+    ensures { (cs : List ClassTree) (known : List Formula) → AreFacts cs context.now.bank.now known context.now.facts.now → IfOk result (IsWeight cs known i) }
 {
-    if is_contradiction(alloc, bank, facts, &[(i, 1)])? {
+    if is_contradiction(context, &[(i, 1)])? {
         return Ok(Some(1));
     }
-    if is_contradiction(alloc, bank, facts, &[(i, -1)])? {
+    if is_contradiction(context, &[(i, -1)])? {
         return Ok(Some(-1));
     }
     Ok(None)
@@ -273,63 +267,58 @@ fn pair(
 
 // A contradiction of two facts.
 fn of_facts(
-    alloc: Global,
-    bank: &Bank,
-    facts: &[Option<SumFact>],
+    context: &FactContext<'_>,
     a: &SumFact,
     b: &SumFact,
     i: usize,
     j: usize,
 ) -> Result<Option<Vec<(usize, i64)>>, AllocError>
-    requires facts { HaveParts bank.now facts.now }
-    requires parts { HasParts bank.now a.now.sum.parts.items }
-    requires others { HasParts bank.now b.now.sum.parts.items }
-    ensures { (cs : List ClassTree) (known : List Formula) → AreFacts cs bank.now known facts.now → two.fact_at cs known i ≡ Some (linear.fact_at bank.now a.now) → two.fact_at cs known j ≡ Some (linear.fact_at bank.now b.now) → IfOk result (IsContradictionOr cs known (IsFreeOf cs known i j)) }
+    requires facts { HaveParts context.now.bank.now context.now.facts.now }
+    requires parts { HasParts context.now.bank.now a.now.sum.parts.items }
+    requires others { HasParts context.now.bank.now b.now.sum.parts.items }
+    ensures { (cs : List ClassTree) (known : List Formula) → AreFacts cs context.now.bank.now known context.now.facts.now → two.fact_at cs known i ≡ Some (linear.fact_at context.now.bank.now a.now) → two.fact_at cs known j ≡ Some (linear.fact_at context.now.bank.now b.now) → IfOk result (IsContradictionOr cs known (IsFreeOf cs known i j)) }
 {
-    if !may_meet(bank, a, b) {
+    if !may_meet(context.bank, a, b) {
         return Ok(None);
     }
-    match of_two(alloc, bank, facts, a, b, i, j)? {
-        Some(weights) => Ok(Some(pair(alloc, i, j, weights)?)),
+    match of_two(context, a, b, i, j)? {
+        Some(weights) => Ok(Some(pair(context.alloc, i, j, weights)?)),
         None => Ok(None),
     }
 }
 
 // A contradiction of a fact and the one at another place.
 fn with_other(
-    alloc: Global,
-    bank: &Bank,
-    facts: &[Option<SumFact>],
+    context: &FactContext<'_>,
     a: &SumFact,
     other: &Option<SumFact>,
     i: usize,
     j: usize,
 ) -> Result<Option<Vec<(usize, i64)>>, AllocError>
-    requires facts { HaveParts bank.now facts.now }
-    requires parts { HasParts bank.now a.now.sum.parts.items }
-    requires others { IfSome other.now (λ f. HasParts bank.now f.sum.parts.items) }
-    ensures { (cs : List ClassTree) (known : List Formula) → AreFacts cs bank.now known facts.now → two.fact_at cs known i ≡ Some (linear.fact_at bank.now a.now) → IsFactOf bank.now other.now (two.fact_at cs known j) → IfOk result (IsContradictionOr cs known (IsFreeOf cs known i j)) }
+    requires facts { HaveParts context.now.bank.now context.now.facts.now }
+    requires parts { HasParts context.now.bank.now a.now.sum.parts.items }
+    requires others { IfSome other.now (λ f. HasParts context.now.bank.now f.sum.parts.items) }
+    ensures { (cs : List ClassTree) (known : List Formula) → AreFacts cs context.now.bank.now known context.now.facts.now → two.fact_at cs known i ≡ Some (linear.fact_at context.now.bank.now a.now) → IsFactOf context.now.bank.now other.now (two.fact_at cs known j) → IfOk result (IsContradictionOr cs known (IsFreeOf cs known i j)) }
 {
     match other {
-        Some(b) => of_facts(alloc, bank, facts, a, b, i, j),
+        Some(b) => of_facts(context, a, b, i, j),
         None => Ok(None),
     }
 }
 
 // A contradiction of a fact and another one.
 fn with_second(
-    alloc: Global,
-    bank: &Bank,
-    facts: &[Option<SumFact>],
+    context: &FactContext<'_>,
     i: usize,
     a: &SumFact,
 ) -> Result<Option<Vec<(usize, i64)>>, AllocError>
-    requires facts { HaveParts bank.now facts.now }
-    requires parts { HasParts bank.now a.now.sum.parts.items }
-    ensures { (cs : List ClassTree) (known : List Formula) → AreFacts cs bank.now known facts.now → two.fact_at cs known i ≡ Some (linear.fact_at bank.now a.now) → IfOk result (IsContradictionOr cs known ((j : ℕ) → IsFreeOf cs known i j)) }
+    requires facts { HaveParts context.now.bank.now context.now.facts.now }
+    requires parts { HasParts context.now.bank.now a.now.sum.parts.items }
+    ensures { (cs : List ClassTree) (known : List Formula) → AreFacts cs context.now.bank.now known context.now.facts.now → two.fact_at cs known i ≡ Some (linear.fact_at context.now.bank.now a.now) → IfOk result (IsContradictionOr cs known ((j : ℕ) → IsFreeOf cs known i j)) }
 {
+    let facts = context.facts;
     for (j, other) in facts.iter().enumerate() {
-        match with_other(alloc, bank, facts, a, other, i, j)? {
+        match with_other(context, a, other, i, j)? {
             Some(parts) => return Ok(Some(parts)),
             None => {}
         }
@@ -339,39 +328,36 @@ fn with_second(
 
 // A contradiction of the fact at another place and this one.
 fn before(
-    alloc: Global,
-    bank: &Bank,
-    facts: &[Option<SumFact>],
+    context: &FactContext<'_>,
     a: &SumFact,
     other: &Option<SumFact>,
     i: usize,
     j: usize,
 ) -> Result<Option<Vec<(usize, i64)>>, AllocError>
-    requires facts { HaveParts bank.now facts.now }
-    requires parts { HasParts bank.now a.now.sum.parts.items }
-    requires others { IfSome other.now (λ f. HasParts bank.now f.sum.parts.items) }
-    ensures { (cs : List ClassTree) (known : List Formula) → AreFacts cs bank.now known facts.now → two.fact_at cs known i ≡ Some (linear.fact_at bank.now a.now) → IsFactOf bank.now other.now (two.fact_at cs known j) → IfOk result (IsContradictionOr cs known (IsFreeOf cs known j i)) }
+    requires facts { HaveParts context.now.bank.now context.now.facts.now }
+    requires parts { HasParts context.now.bank.now a.now.sum.parts.items }
+    requires others { IfSome other.now (λ f. HasParts context.now.bank.now f.sum.parts.items) }
+    ensures { (cs : List ClassTree) (known : List Formula) → AreFacts cs context.now.bank.now known context.now.facts.now → two.fact_at cs known i ≡ Some (linear.fact_at context.now.bank.now a.now) → IsFactOf context.now.bank.now other.now (two.fact_at cs known j) → IfOk result (IsContradictionOr cs known (IsFreeOf cs known j i)) }
 {
     match other {
-        Some(b) => of_facts(alloc, bank, facts, b, a, j, i),
+        Some(b) => of_facts(context, b, a, j, i),
         None => Ok(None),
     }
 }
 
 // A contradiction of another fact and this one.
 fn with_first(
-    alloc: Global,
-    bank: &Bank,
-    facts: &[Option<SumFact>],
+    context: &FactContext<'_>,
     i: usize,
     a: &SumFact,
 ) -> Result<Option<Vec<(usize, i64)>>, AllocError>
-    requires facts { HaveParts bank.now facts.now }
-    requires parts { HasParts bank.now a.now.sum.parts.items }
-    ensures { (cs : List ClassTree) (known : List Formula) → AreFacts cs bank.now known facts.now → two.fact_at cs known i ≡ Some (linear.fact_at bank.now a.now) → IfOk result (IsContradictionOr cs known ((j : ℕ) → IsFreeOf cs known j i)) }
+    requires facts { HaveParts context.now.bank.now context.now.facts.now }
+    requires parts { HasParts context.now.bank.now a.now.sum.parts.items }
+    ensures { (cs : List ClassTree) (known : List Formula) → AreFacts cs context.now.bank.now known context.now.facts.now → two.fact_at cs known i ≡ Some (linear.fact_at context.now.bank.now a.now) → IfOk result (IsContradictionOr cs known ((j : ℕ) → IsFreeOf cs known j i)) }
 {
+    let facts = context.facts;
     for (j, other) in facts.iter().enumerate() {
-        match before(alloc, bank, facts, a, other, i, j)? {
+        match before(context, a, other, i, j)? {
             Some(parts) => return Ok(Some(parts)),
             None => {}
         }
@@ -381,77 +367,69 @@ fn with_first(
 
 // A contradiction of a fact and another one, in any order.
 fn with_any(
-    alloc: Global,
-    bank: &Bank,
-    facts: &[Option<SumFact>],
+    context: &FactContext<'_>,
     i: usize,
     a: &SumFact,
 ) -> Result<Option<Vec<(usize, i64)>>, AllocError>
-    requires facts { HaveParts bank.now facts.now }
-    requires parts { HasParts bank.now a.now.sum.parts.items }
-    ensures { (cs : List ClassTree) (known : List Formula) → AreFacts cs bank.now known facts.now → two.fact_at cs known i ≡ Some (linear.fact_at bank.now a.now) → IfOk result (IsContradictionOr cs known (IsFreeOfAll cs known i)) }
+    requires facts { HaveParts context.now.bank.now context.now.facts.now }
+    requires parts { HasParts context.now.bank.now a.now.sum.parts.items }
+    ensures { (cs : List ClassTree) (known : List Formula) → AreFacts cs context.now.bank.now known context.now.facts.now → two.fact_at cs known i ≡ Some (linear.fact_at context.now.bank.now a.now) → IfOk result (IsContradictionOr cs known (IsFreeOfAll cs known i)) }
 {
-    match with_second(alloc, bank, facts, i, a)? {
+    match with_second(context, i, a)? {
         Some(parts) => Ok(Some(parts)),
-        None => with_first(alloc, bank, facts, i, a),
+        None => with_first(context, i, a),
     }
 }
 
 // A contradiction of a fact alone, or with another one.
 fn of_other(
-    alloc: Global,
-    bank: &Bank,
-    facts: &[Option<SumFact>],
+    context: &FactContext<'_>,
     i: usize,
     a: &SumFact,
 ) -> Result<Option<Vec<(usize, i64)>>, AllocError>
-    requires facts { HaveParts bank.now facts.now }
-    requires parts { HasParts bank.now a.now.sum.parts.items }
-    ensures { (cs : List ClassTree) (known : List Formula) → AreFacts cs bank.now known facts.now → two.fact_at cs known i ≡ Some (linear.fact_at bank.now a.now) → IfOk result (IsContradictionOr cs known (IsFreeAlone cs known i × IsFreeOfAll cs known i)) }
+    requires facts { HaveParts context.now.bank.now context.now.facts.now }
+    requires parts { HasParts context.now.bank.now a.now.sum.parts.items }
+    ensures { (cs : List ClassTree) (known : List Formula) → AreFacts cs context.now.bank.now known context.now.facts.now → two.fact_at cs known i ≡ Some (linear.fact_at context.now.bank.now a.now) → IfOk result (IsContradictionOr cs known (IsFreeAlone cs known i × IsFreeOfAll cs known i)) }
 {
-    match of_one(alloc, bank, facts, i)? {
-        Some(w) => Ok(Some(one(alloc, (i, w))?)),
-        None => with_any(alloc, bank, facts, i, a),
+    match of_one(context, i)? {
+        Some(w) => Ok(Some(one(context.alloc, (i, w))?)),
+        None => with_any(context, i, a),
     }
 }
 
 // The same of a fact that these numbers may meet. Then it is no contradiction with others that they meet.
 fn of_fact(
-    alloc: Global,
-    bank: &Bank,
-    facts: &[Option<SumFact>],
+    context: &FactContext<'_>,
     i: usize,
     a: &SumFact,
     numbers: &Numbers,
 ) -> Result<Option<Vec<(usize, i64)>>, AllocError>
-    requires facts { HaveParts bank.now facts.now }
-    requires nodes { AreNodesOf bank.now numbers.now.nodes }
-    requires parts { HasParts bank.now a.now.sum.parts.items }
-    ensures { (cs : List ClassTree) (known : List Formula) → AreFacts cs bank.now known facts.now → two.fact_at cs known i ≡ Some (linear.fact_at bank.now a.now) → IfOk result (IsContradictionOr cs known (IsClear cs known (numbers_at bank.now numbers.now) i)) }
+    requires facts { HaveParts context.now.bank.now context.now.facts.now }
+    requires nodes { AreNodesOf context.now.bank.now numbers.now.nodes }
+    requires parts { HasParts context.now.bank.now a.now.sum.parts.items }
+    ensures { (cs : List ClassTree) (known : List Formula) → AreFacts cs context.now.bank.now known context.now.facts.now → two.fact_at cs known i ≡ Some (linear.fact_at context.now.bank.now a.now) → IfOk result (IsContradictionOr cs known (IsClear cs known (numbers_at context.now.bank.now numbers.now) i)) }
 {
-    if is_met(bank, numbers, a) {
+    if is_met(context.bank, numbers, a) {
         Ok(None)
     } else {
-        of_other(alloc, bank, facts, i, a)
+        of_other(context, i, a)
     }
 }
 
 // A contradiction of the fact at a place alone, or with another one.
 fn of_place(
-    alloc: Global,
-    bank: &Bank,
-    facts: &[Option<SumFact>],
+    context: &FactContext<'_>,
     i: usize,
     first: &Option<SumFact>,
     numbers: &Numbers,
 ) -> Result<Option<Vec<(usize, i64)>>, AllocError>
-    requires facts { HaveParts bank.now facts.now }
-    requires nodes { AreNodesOf bank.now numbers.now.nodes }
-    requires first { IfSome first.now (λ f. HasParts bank.now f.sum.parts.items) }
-    ensures { (cs : List ClassTree) (known : List Formula) → AreFacts cs bank.now known facts.now → IsFactOf bank.now first.now (two.fact_at cs known i) → IfOk result (IsContradictionOr cs known (IsClear cs known (numbers_at bank.now numbers.now) i)) }
+    requires facts { HaveParts context.now.bank.now context.now.facts.now }
+    requires nodes { AreNodesOf context.now.bank.now numbers.now.nodes }
+    requires first { IfSome first.now (λ f. HasParts context.now.bank.now f.sum.parts.items) }
+    ensures { (cs : List ClassTree) (known : List Formula) → AreFacts cs context.now.bank.now known context.now.facts.now → IsFactOf context.now.bank.now first.now (two.fact_at cs known i) → IfOk result (IsContradictionOr cs known (IsClear cs known (numbers_at context.now.bank.now numbers.now) i)) }
 {
     match first {
-        Some(a) => of_fact(alloc, bank, facts, i, a, numbers),
+        Some(a) => of_fact(context, i, a, numbers),
         None => Ok(None),
     }
 }
@@ -468,8 +446,9 @@ pub(crate) fn of_few(
     requires nodes { AreNodesOf bank.now numbers.now.nodes }
     ensures { (cs : List ClassTree) (known : List Formula) → AreFacts cs bank.now known facts.now → IfOk result (IsContradictionOr cs known ((i : ℕ) → IsClear cs known (numbers_at bank.now numbers.now) i)) }
 {
+    let context = FactContext { alloc, bank, facts };
     for (i, first) in facts.iter().enumerate() {
-        match of_place(alloc, bank, facts, i, first, numbers)? {
+        match of_place(&context, i, first, numbers)? {
             Some(parts) => return Ok(Some(parts)),
             None => {}
         }

@@ -40,30 +40,36 @@ fn read(list: &[FormulaId], i: usize) -> Option<FormulaId>
     list.get(i).copied()
 }
 
+/// The facts that are known, over a bank.
+#[derive(Clone, Copy)]
+struct KnownContext<'a> {
+    alloc: Global,
+    bank: &'a Bank,
+    known: &'a [FormulaId],
+}
+
 /// Adds a known fact with its weight to a sum.
 fn add_known(
-    alloc: Global,
-    bank: &Bank,
+    context: &KnownContext<'_>,
     table: &mut SumTable,
-    known: &[FormulaId],
     sum: &mut LinearSum,
     i: usize,
     w: i128,
 ) -> Result<bool, AllocError>
-    requires known { HasFormulas bank.now known.now }
-    requires kept { AreKept bank.now table.old.kept.items }
-    requires sum { HasParts bank.now sum.old.parts.items }
-    ensures kept { IfOk result (λ _. AreKept bank.now table.new.kept.items) }
-    ensures has { IfOk result (λ _. HasParts bank.now sum.new.parts.items) }
-    ensures added { (cs : List ClassTree) → IsBankOf cs bank.now → IfOk result (λ yes. Became yes (with_known cs (formulas_at bank.now known.now) (sum_at bank.now sum.old) i w) (sum_at bank.now sum.new)) }
+    requires known { HasFormulas context.now.bank.now context.now.known.now }
+    requires kept { AreKept context.now.bank.now table.old.kept.items }
+    requires sum { HasParts context.now.bank.now sum.old.parts.items }
+    ensures kept { IfOk result (λ _. AreKept context.now.bank.now table.new.kept.items) }
+    ensures has { IfOk result (λ _. HasParts context.now.bank.now sum.new.parts.items) }
+    ensures added { (cs : List ClassTree) → IsBankOf cs context.now.bank.now → IfOk result (λ yes. Became yes (with_known cs (formulas_at context.now.bank.now context.now.known.now) (sum_at context.now.bank.now sum.old) i w) (sum_at context.now.bank.now sum.new)) }
 {
-    let Some(f) = read(known, i) else {
+    let Some(f) = read(context.known, i) else {
         return Ok(false);
     };
-    let Some(fact) = sum_fact(alloc, bank, table, f)? else {
+    let Some(fact) = sum_fact(context.alloc, context.bank, table, f)? else {
         return Ok(false);
     };
-    add_weighted(bank, sum, w, &fact)
+    add_weighted(context.bank, sum, w, &fact)
 }
 
 /// The weighted sum of known facts, where there is one: each part is a fact's place and its weight.
@@ -79,16 +85,9 @@ pub fn weighted(
 {
     let mut table = SumTable::new(alloc);
     let mut sum = number_sum(alloc, 0);
+    let context = KnownContext { alloc, bank, known };
     for part in parts {
-        match add_known(
-            alloc,
-            bank,
-            &mut table,
-            known,
-            &mut sum,
-            part.0,
-            wide(part.1),
-        ) {
+        match add_known(&context, &mut table, &mut sum, part.0, wide(part.1)) {
             Ok(true) => {}
             Ok(false) => return Ok(None),
             Err(e) => return Err(e),

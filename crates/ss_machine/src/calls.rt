@@ -33,6 +33,13 @@ impl Site {
     }
 }
 
+// Where a body is entered from, and where it returns to.
+#[derive(Clone, Copy)]
+struct Entrance {
+    place: Place,
+    into: Target,
+}
+
 // The number of the result among the locals of a body, where it has one.
 fn result_local(body: &Body) -> Option<usize>
     ensures { result ≡ steps.result_local (view.body body.now) }
@@ -78,13 +85,12 @@ impl<'a> Machine<'a> {
         alloc: Global,
         core: &Core,
         body: Option<&'a Body>,
-        place: Place,
-        into: Target,
+        entrance: Entrance,
         arguments: Vec<Value>,
     ) -> Result<(), Halt>
         requires { length (view.classes core.now.classes) ≤ most_classes }
         ensures { Does result
-            (steps.enter (view.core core.now) (option_map (λ b. view.body b.now) body.entry) place (target_of into) arguments.items (running self.old) (waiting self.old) self.old.stores.now)
+            (steps.enter (view.core core.now) (option_map (λ b. view.body b.now) body.entry) entrance.place (target_of entrance.into) arguments.items (running self.old) (waiting self.old) self.old.stores.now)
             self.new }
     {
         let Some(body) = body else {
@@ -92,8 +98,8 @@ impl<'a> Machine<'a> {
         };
         let locals = locals_at_entry(body, arguments)?;
         let holds = self.stores.all_hold_at_entry(core, &body.entry, &locals);
-        ensure(holds, Kind::Precondition, place)?;
-        self.push(Frame::at_entry(alloc, body, locals, into))
+        ensure(holds, Kind::Precondition, entrance.place)?;
+        self.push(Frame::at_entry(alloc, body, locals, entrance.into))
     }
 
     // `x = e.M(..)`
@@ -116,14 +122,11 @@ impl<'a> Machine<'a> {
             return Err(Halt::Fails(Kind::Null, site.place));
         };
         let body = method_at(core, self.stores.class_of(o), receiver.2);
-        self.enter(
-            alloc,
-            core,
-            body,
-            site.place,
-            Target::Call(site.into),
-            arguments,
-        )
+        let entrance = Entrance {
+            place: site.place,
+            into: Target::Call(site.into),
+        };
+        self.enter(alloc, core, body, entrance, arguments)
     }
 
     // `x = C.M(..)`
@@ -141,14 +144,11 @@ impl<'a> Machine<'a> {
             self.new }
     {
         let arguments = self.eval_all(alloc, core, es)?;
-        self.enter(
-            alloc,
-            core,
-            body_at(core, number),
-            site.place,
-            Target::Call(site.into),
-            arguments,
-        )
+        let entrance = Entrance {
+            place: site.place,
+            into: Target::Call(site.into),
+        };
+        self.enter(alloc, core, body_at(core, number), entrance, arguments)
     }
 
     // A call of this body on `this`.
@@ -169,14 +169,11 @@ impl<'a> Machine<'a> {
             self.new }
     {
         let arguments = self.with_arguments(alloc, core, this(&self.top.locals), es)?;
-        self.enter(
-            alloc,
-            core,
-            body_at(core, number),
-            site.place,
-            Target::Call(site.into),
-            arguments,
-        )
+        let entrance = Entrance {
+            place: site.place,
+            into: Target::Call(site.into),
+        };
+        self.enter(alloc, core, body_at(core, number), entrance, arguments)
     }
 
     // A call, by what it enters.
@@ -219,14 +216,11 @@ impl<'a> Machine<'a> {
         let o = self.stores.new_object(core, class)?;
         set_local(&mut arguments, 0, Value::Obj(o));
         let body = constructor_of(core, class);
-        self.enter(
-            alloc,
-            core,
-            body,
-            site.place,
-            Target::New(site.into),
-            arguments,
-        )
+        let entrance = Entrance {
+            place: site.place,
+            into: Target::New(site.into),
+        };
+        self.enter(alloc, core, body, entrance, arguments)
     }
 
     // The caller goes on with the result, and behind a `new` with the object, which is ready from then on.

@@ -12,7 +12,7 @@ use Rattle.ss_journal.specs.Undo.{restored, entries_of, joined}
 use Rattle.ss_journal.specs.Saved.{counts, has_header, HasMore, AreSame}
 use Rattle.ss_journal.proofs.Undo.{entries-entered, entries-left}
 use Rattle.ss_machine_stores.specs.Shapes.{Timeline, rest_of}
-use Rattle.ss_machine_stores.specs.Whole.{is_listed, HasMoreListed, AreCounted, AreWhole}
+use Rattle.ss_machine_saves.specs.Whole.{is_listed, HasMoreListed, AreCounted, AreWhole}
 use Rattle.ss_machine_stores.proofs.Kept.{AreKept, whole_more, ready_kept}
 use Rattle.ss_machine_stores.proofs.New.{object_whole, array_whole}
 

@@ -12,7 +12,7 @@ use Rattle.ss_journal.specs.declared.changes.OldHeader.{OldHeader}
 use Rattle.ss_journal.specs.Shapes.{OldContent, Segment}
 use Rattle.ss_journal.specs.Undo.{header_of, content_of, with_header, with_content, entries_of, headers_of, contents_of}
 use Rattle.ss_machine_stores.specs.Shapes.{entry_of}
-use Rattle.ss_machine_stores.specs.Whole.{agrees, is_listed, AreWhole}
+use Rattle.ss_machine_saves.specs.Whole.{agrees, is_listed, AreWhole}
 use Rattle.ss_machine_stores.specs.Spans.{keeps, headers_keep, contents_keep, all_keep}
 use Rattle.ss_machine_stores.proofs.Untouched.{untouched, full_is_kept, kept_by_all}
 use Rattle.ss_machine_stores.proofs.Entries.{entry_object}

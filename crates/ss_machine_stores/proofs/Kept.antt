@@ -24,8 +24,8 @@ use Rattle.ss_journal.specs.Shapes.{Segment}
 use Rattle.ss_journal.specs.Undo.{entries_of}
 use Rattle.ss_journal.specs.Saved.{has_header, has_content, counts, HasMore}
 use Rattle.ss_journal.proofs.Undo.{IsOfHeaders, IsOfContents, entries_stay, entries_stay_too}
-use Rattle.ss_machine_stores.specs.Whole.{agrees_with, agrees, is_listed, HasMoreListed, AreCounted, AreWhole}
-use Rattle.ss_machine_stores.specs.Moved.{group_joined, group_captured, group_for, moved_group, HasContent, IsGroupSaved, IsReadyForLevel, IsReadyForWrite}
+use Rattle.ss_machine_saves.specs.Whole.{agrees_with, agrees, is_listed, HasMoreListed, AreCounted, AreWhole}
+use Rattle.ss_machine_saves.specs.Moved.{group_joined, group_captured, group_for, moved_group, HasContent, IsGroupSaved, IsReadyForLevel, IsReadyForWrite}
 use Rattle.ss_machine_stores.specs.Stops.{answer_of, IsMade}
 use Rattle.ss_machine_stores.proofs.Untouched.{same_self}
 

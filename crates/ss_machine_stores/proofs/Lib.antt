@@ -8,5 +8,3 @@ pub mod Entries
 pub mod Keeping
 pub mod New
 pub mod Entering
-pub mod Listing
-pub mod Held

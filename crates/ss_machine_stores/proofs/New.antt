@@ -14,7 +14,7 @@ use Rattle.ss_store_rules.proofs.Objects.{each_pushed, length-pushed}
 use Rattle.ss_store_rules.proofs.Defaults.{field_default}
 use Rattle.ss_journal.specs.Shapes.{Segment}
 use Rattle.ss_journal.specs.Saved.{counts}
-use Rattle.ss_machine_stores.specs.Whole.{agrees_with, agrees, is_listed, AreCounted, AreWhole}
+use Rattle.ss_machine_saves.specs.Whole.{agrees_with, agrees, is_listed, AreCounted, AreWhole}
 use Rattle.ss_machine_stores.proofs.Untouched.{same_self}
 
 both : (a b : Bool) → a ≡ true → b ≡ true → (a && b) ≡ true

@@ -13,7 +13,7 @@ use Rattle.ss_store_rules.specs.declared.Owner.{Owner}
 use Rattle.ss_store_rules.specs.declared.Owner.TheVariants as owner
 use Rattle.ss_store_rules.specs.Store.{Object, slot_value}
 use Rattle.ss_store_rules.specs.Reads.{same_value, same_owner, object_at, field_read, element_read, is_full}
-use Rattle.ss_machine_stores.specs.Whole.{agrees_with, agrees}
+use Rattle.ss_machine_saves.specs.Whole.{agrees_with, agrees}
 use Rattle.ss_machine_rules.specs.declared.Location.{Location}
 use Rattle.ss_machine_rules.specs.declared.Location.TheVariants as location
 use Rattle.ss_machine_rules.specs.Frame.{Span, unless, names_elements, all_named, unkept_field, unkept_elements_from, unkept_elements, unkept_level, unkept_committed, unkept_owner, unkept_of_old, unkept_of_new, is_outside, unkept_at, unkept_from}

@@ -2,5 +2,3 @@ pub mod Shapes
 pub mod Firsts
 pub mod Spans
 pub mod Stops
-pub mod Whole
-pub mod Moved

@@ -12,7 +12,7 @@ use Rattle.ss_journal.specs.Shapes.{Segment}
 use Rattle.ss_journal.specs.Undo.{entries_of, headers_of, contents_of}
 use Rattle.ss_machine_rules.specs.Frame as frame
 use Rattle.ss_machine_stores.specs.Shapes.{entry_of}
-use Rattle.ss_machine_stores.specs.Whole.{AreWhole}
+use Rattle.ss_machine_saves.specs.Whole.{AreWhole}
 use Rattle.ss_machine_stores.specs.declared.span.Span.{Span}
 
 abbrev pub span_between : Classes → Body → List Value → List Object → List Object → List Value → frame.Span

@@ -6,12 +6,10 @@ ghost use Rattle.ss_store_rules.specs.Changes.{unpack_of, pack_of, write_of, wri
 ghost use Rattle.ss_store_rules.specs.Admissible.{invariants_hold};
 ghost use Rattle.ss_machine_stores.specs.Stops.{IsMade};
 
-use crate::levels::{drop_all_full, list};
-use crate::logs::{log_content, log_level, log_write};
-use crate::owners::mark_of;
 use crate::stop::{ChangeStop, answer_of};
 use crate::stores::Stores;
 use ss_core::{ClassId, Core, FieldId};
+use ss_machine_saves::{drop_all_full, list, log_content, log_level, log_write, mark_of};
 use ss_store::NewStop;
 use ss_store_rules::Value;
 use std::alloc::AllocError;
@@ -23,10 +21,8 @@ impl Stores {
         ensures change { IsMade self.old.now self.new.now result (unpack_of (classes c.now.classes) self.old.now o t.0) }
         ensures entries { self.new.entries ≡ self.old.entries }
     {
-        match log_level(&mut self.journal, &mut self.unfull, &self.store, o, t) {
-            Ok(()) => answer_of(self.store.unpack(c, o, t)),
-            Err(_) => Err(ChangeStop::Memory),
-        }
+        log_level(&mut self.journal, &mut self.unfull, &self.store, o, t)?;
+        answer_of(self.store.unpack(c, o, t))
     }
 
     /// The object goes to the level `t`, and what it owns at `t` is committed. Refused with the first check that fails: Null,
@@ -36,14 +32,10 @@ impl Stores {
         ensures change { IsMade self.old.now self.new.now result (pack_of (classes c.now.classes) (invariants_hold (classes c.now.classes)) self.old.now o t.0) }
         ensures entries { self.new.entries ≡ self.old.entries }
     {
-        match log_level(&mut self.journal, &mut self.unfull, &self.store, o, t) {
-            Ok(()) => {
-                let changed = self.store.pack(c, o, t);
-                drop_all_full(&mut self.unfull, &self.store);
-                answer_of(changed)
-            }
-            Err(_) => Err(ChangeStop::Memory),
-        }
+        log_level(&mut self.journal, &mut self.unfull, &self.store, o, t)?;
+        let changed = self.store.pack(c, o, t);
+        drop_all_full(&mut self.unfull, &self.store);
+        answer_of(changed)
     }
 
     /// The field gets the value, after the owners that its mark asks for. Refused with the first check that fails: Null,
@@ -54,10 +46,8 @@ impl Stores {
         ensures entries { self.new.entries ≡ self.old.entries }
     {
         let mark = mark_of(&c.classes, f);
-        match log_write(&mut self.journal, &self.store, mark, o, v) {
-            Ok(()) => answer_of(self.store.write(c, o, f, v)),
-            Err(_) => Err(ChangeStop::Memory),
-        }
+        log_write(&mut self.journal, &self.store, mark, o, v)?;
+        answer_of(self.store.write(c, o, f, v))
     }
 
     /// The element gets the value. Refused with the first check that fails: Null, Index, WriteCommitted. After a refusal or
@@ -66,10 +56,8 @@ impl Stores {
         ensures change { IsMade self.old.now self.new.now result (write_element_of self.old.now a i v) }
         ensures entries { self.new.entries ≡ self.old.entries }
     {
-        match log_content(&mut self.journal, &self.store, a) {
-            Ok(()) => answer_of(self.store.write_element(a, i, v)),
-            Err(_) => Err(ChangeStop::Memory),
-        }
+        log_content(&mut self.journal, &self.store, a)?;
+        answer_of(self.store.write_element(a, i, v))
     }
 
     /// The object is ready from now on. An error is want of memory, and all is as before.

@@ -4,10 +4,7 @@
 mod changes;
 mod entry;
 mod free;
-mod levels;
-mod logs;
 mod named;
-mod owners;
 mod span;
 mod stop;
 mod stores;

@@ -1,8 +1,10 @@
 // Why a change isn't made.
 ghost use Rattle.std.specs.Prelude.{◌≡◌};
+ghost use Rattle.ss_machine_stores.specs.declared.stop.ChangeStop.TheVariants.{Memory};
 ghost use Rattle.ss_machine_stores.specs.Stops.{answer_of};
 
 use ss_store_rules::Refused;
+use std::alloc::AllocError;
 
 /// Why the store isn't changed.
 #[derive(Clone, Copy, Debug, PartialEq, Eq)]
@@ -11,6 +13,14 @@ pub enum ChangeStop {
     Refused(Refused),
     /// There is no memory to log what changes.
     Memory,
+}
+
+impl From<AllocError> for ChangeStop {
+    ghost from_gives = { λ _ stop. stop ≡ Memory };
+
+    fn from(_error: AllocError) -> ChangeStop {
+        ChangeStop::Memory
+    }
 }
 
 /// The answer to a change that the store made or refused.

@@ -37,7 +37,7 @@ pub struct Stores {
 impl Model for Stores {
     ghost use Rattle.ss_journal.specs.Undo.{entries_of};
     ghost use Rattle.ss_machine_stores.specs.Shapes.{Timeline};
-    ghost use Rattle.ss_machine_stores.specs.Whole.{AreWhole};
+    ghost use Rattle.ss_machine_saves.specs.Whole.{AreWhole};
 
     ghost Value = { Timeline };
 

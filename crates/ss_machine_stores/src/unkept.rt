@@ -255,9 +255,7 @@ impl<'a> Span<'a> {
         if self.all_keep() {
             return Ok(None);
         }
-        match u32::try_from(self.store.count()) {
-            Ok(n) => Ok(self.unkept_below(n)),
-            Err(_) => Err(AllocError),
-        }
+        let n = u32::try_from(self.store.count()).map_err(|_| AllocError)?;
+        Ok(self.unkept_below(n))
     }
 }

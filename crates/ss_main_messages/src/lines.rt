@@ -161,9 +161,9 @@ fn marked(alloc: Global, part: &[u8], count: u32) -> Result<String, AllocError>
     if part.is_empty() {
         return Ok(String::new(alloc));
     }
-    let mut text = shown_part(alloc, part)?;
-    text.push_str("\n")?;
-    text.push_str(&mark(alloc, count)?)?;
+    let shown = shown_part(alloc, part)?;
+    let mark = mark(alloc, count)?;
+    let text = format!(in alloc; "{shown}\n{mark}")?;
     Ok(text)
 }
 

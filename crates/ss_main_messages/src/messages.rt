@@ -1,7 +1,7 @@
 // The messages of a run of the program.
 
 ghost use Rattle.std.specs.Prelude.{◌≡◌, IfOk, string_bytes};
-ghost use Rattle.ss_main_messages.specs.Messages.{error as error_of, failed_message as failed_as, heading as heading_of, is_foreign as is_foreign_byte, message as message_of, refused_message as refused_as, said_of, stopped_message as stopped_as};
+ghost use Rattle.ss_main_messages.specs.Messages.{error as error_of, failed_message as failed_as, is_foreign as is_foreign_byte, message as message_of, refused_message as refused_as, said_of, stopped_message as stopped_as};
 
 use crate::lines::{line_at, pointed};
 use crate::sentences::{failure, sentence};
@@ -39,15 +39,6 @@ pub fn unread_message(alloc: Global, file: &str, why: Unread) -> Result<String, 
     }
 }
 
-// The file and the place.
-fn heading(alloc: Global, file: &str, place: Place) -> Result<String, AllocError>
-    ensures { IfOk result (λ text. string_bytes text ≡ heading_of file.now place) }
-{
-    let Place { line, column } = place;
-    let text = format!(in alloc; "{file}:{line}:{column}: ")?;
-    Ok(text)
-}
-
 /// The file, the place and what is said of it, and below them the line of the source with a mark.
 pub(crate) fn message(
     alloc: Global,
@@ -58,10 +49,9 @@ pub(crate) fn message(
 ) -> Result<String, AllocError>
     ensures { IfOk result (λ text. string_bytes text ≡ message_of file.now source.now place said.now) }
 {
-    let mut text = heading(alloc, file, place)?;
-    text.push_str(said)?;
-    text.push_str("\n")?;
-    text.push_str(&pointed(alloc, source, place)?)?;
+    let Place { line, column } = place;
+    let shown = pointed(alloc, source, place)?;
+    let text = format!(in alloc; "{file}:{line}:{column}: {said}\n{shown}")?;
     Ok(text)
 }
 

@@ -41,12 +41,12 @@ fn read_line<'a>(line: &'a str, prefix: &str) -> Option<Unproved<'a>> {
 fn push_budget(text: &mut String, behind: &str) -> Result<(), AllocError> {
     match behind.split_once(", ") {
         Some((_, budget)) => {
-            text.push_str("    this isn't decided: ")?;
-            text.push_str(budget)?;
-            if budget.ends_with(" splits") {
-                text.push_str(" aren't enough")?;
-            }
-            text.push_str("\n")
+            let behind = if budget.ends_with(" splits") {
+                " aren't enough"
+            } else {
+                ""
+            };
+            writeln!(text, "    this isn't decided: {budget}{behind}")
         }
         None => Ok(()),
     }
@@ -67,9 +67,7 @@ fn unproved_message(
 fn push_values(text: &mut String, values: Option<&String>) -> Result<(), AllocError> {
     match values {
         Some(values) if !values.is_empty() => {
-            text.push_str("    a model that refutes it: ")?;
-            text.push_str(values.as_str())?;
-            text.push_str("\n")
+            writeln!(text, "    a model that refutes it: {values}")
         }
         _ => Ok(()),
     }

@@ -41,40 +41,46 @@ fn values_of(
     values_text(alloc, bank, &reading, position)
 }
 
+// An obligation of a list, the classes of a model that refutes it, and where it stands.
+#[derive(Clone, Copy)]
+struct Refuted<'a> {
+    listed: &'a Listed,
+    classes: &'a [usize],
+    located: &'a Located,
+}
+
 // The values in a model that refutes the ground form of an obligation.
 fn text_of(
     alloc: Global,
     bank: &mut Bank,
     trail: &[FormulaId],
     core: &Core,
-    listed: &Listed,
-    classes: &[usize],
-    located: &Located,
+    refuted: &Refuted<'_>,
     limits: Limits,
 ) -> Result<String, AllocError>
     requires bank { IsBankOf (view.classes core.now.classes) bank.old }
     requires limits { IsWithinLimits (view.classes core.now.classes) }
     requires trail { HasFormulas bank.old trail.now }
-    requires placed { IsPlaced bank.old (length trail.now) listed.now }
+    requires placed { IsPlaced bank.old (length trail.now) refuted.now.listed.now }
     ensures grown { IsGrown bank.old bank.new }
 {
-    let Some(body) = core.bodies.get(listed.body.0 as usize) else {
+    let Some(body) = core.bodies.get(refuted.listed.body.0 as usize) else {
         return Ok(String::new(alloc));
     };
     let position = Position {
         core,
         body,
-        locals: &located.locals,
-        store: located.store,
+        locals: &refuted.located.locals,
+        store: refuted.located.store,
     };
-    let obligation = listed.obligation(trail);
+    let obligation = refuted.listed.obligation(trail);
     let Limits {
         rounds,
         instances,
         ..
     } = limits;
     match ground(alloc, bank, core, &obligation, rounds, instances) {
-        Ok(formulas) => values_of(alloc, bank, &formulas, classes, &position),
+        Ok(formulas) => values_of(alloc, bank, &formulas, refuted.classes, &position),
         Err(GroundStop::TooMany { .. }) => Ok(String::new(alloc)),
         Err(GroundStop::Memory) => Err(AllocError),
     }
@@ -110,16 +116,12 @@ fn text_at(
     let Some(listed) = list.get(one.obligation) else {
         return Ok(String::new(alloc));
     };
-    text_of(
-        alloc,
-        bank,
-        trail,
-        core,
+    let refuted = Refuted {
         listed,
-        &one.model.classes,
+        classes: &one.model.classes,
         located,
-        limits,
-    )
+    };
+    text_of(alloc, bank, trail, core, &refuted, limits)
 }
 
 // A text for each obligation whose values are told.

@@ -20,7 +20,7 @@ use Rattle.ss_nonnull_rules.specs.Program.{initializer_context, initializer_faul
 use Rattle.ss_paths.proofs.Among.{same_sets}
 use Rattle.std.proofs.lemmas.List.{drop_all}
 use Rattle.ss_ast.proofs.Loops.{drop_item}
-use Rattle.ss_nonnull.specs.Paths.{with_begun}
+use Rattle.ss_nonnull_seen.specs.Paths.{with_begun}
 use Rattle.ss_nonnull.specs.Initial.{begun_below, begun_with, initial_faults, type_of_field, each_initial, context_with, class_faults}
 
 -- ---- what is known before each

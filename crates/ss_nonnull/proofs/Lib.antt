@@ -1,4 +1,3 @@
-pub mod Seeing
 pub mod Walking
 pub mod Arguments
 pub mod Points
@@ -7,4 +6,3 @@ pub mod Statements
 pub mod Initials
 pub mod Naming
 pub mod Wholes
-pub mod Listing

@@ -11,11 +11,11 @@ use Rattle.ss_nonnull_rules.specs.NonNull.{NullContext, Known, is_never_null, st
 use Rattle.ss_nonnull_rules.specs.Faults.{starts, inside, wanted_if}
 use Rattle.ss_core.specs.declared.names.Ty.{Ty}
 use Rattle.ss_typed.specs.Types.{type_of}
-use Rattle.ss_nonnull.proofs.Seeing.{joined}
+use Rattle.ss_nonnull_seen.proofs.Seeing.{joined}
 use Rattle.ss_typed.specs.Shapes.{local_of}
 use Rattle.std.proofs.lemmas.List.{drop_all}
 use Rattle.ss_ast.proofs.Loops.{drop_item}
-use Rattle.ss_nonnull.specs.Paths.{with_fact, assigned_known, fields_known, starts_never}
+use Rattle.ss_nonnull_seen.specs.Paths.{with_fact, assigned_known, fields_known, starts_never}
 use Rattle.ss_nonnull.specs.Walks.{known_behind_all, all_faults}
 
 -- ---- declared locals

@@ -15,10 +15,10 @@ use Rattle.ss_nonnull_rules.specs.Faults.{inside}
 use Rattle.ss_typed.specs.Assigned.{assigned, step_locals}
 use Rattle.std.proofs.lemmas.List.{drop_all}
 use Rattle.ss_ast.proofs.Loops.{drop_item}
-use Rattle.ss_nonnull.specs.Seen.{Seen, seen}
-use Rattle.ss_nonnull.specs.Paths.{told, untold, met_paths, left_by}
+use Rattle.ss_nonnull_seen.specs.Seen.{Seen, seen}
+use Rattle.ss_nonnull_seen.specs.Paths.{told, untold, met_paths, left_by}
 use Rattle.ss_nonnull.specs.Walks.{known_behind, known_behind_block, known_at_end, known_behind_first, known_at_head, stmt_faults, along_faults, heading_faults, step_faults_of, test_seen, test_faults}
-use Rattle.ss_nonnull.proofs.Seeing.{joined}
+use Rattle.ss_nonnull_seen.proofs.Seeing.{joined}
 
 -- ---- heads of loops
 

@@ -13,7 +13,7 @@ use Rattle.ss_nonnull_rules.specs.Faults.{inside}
 use Rattle.ss_typed.specs.Parts.{link_behind, step_behind}
 use Rattle.std.proofs.lemmas.List.{take_all}
 use Rattle.ss_typed.proofs.Grouping.{chain_is, path_is, grouped_more}
-use Rattle.ss_nonnull.specs.Seen.{Seen, seen, IsSeen, Leads}
+use Rattle.ss_nonnull_seen.specs.Seen.{Seen, seen, IsSeen, Leads}
 
 pub chain_walked : (s : NullContext) (k : Option Known) (f0 f1 f2 : List Fault) (v0 v1 : Seen) (p : Place) (first : Box TypedExpr Global) (links : Vec TypedLink Global) (e f : TypedExpr) (ls : List TypedLink)
     → e ≡ view.Chain p first links → f ≡ first.value → ls ≡ links.items

@@ -8,7 +8,7 @@ use Rattle.ss_nonnull_rules.specs.NonNull.{NullContext}
 use Rattle.ss_nonnull_rules.specs.Program.{null_context_of, body_faults, bodies_faults}
 use Rattle.ss_ast.proofs.Loops.{drop_item}
 use Rattle.ss_nonnull.specs.Initial.{base_call_faults, code_faults, faults_in_body}
-use Rattle.ss_nonnull.proofs.Seeing.{joined}
+use Rattle.ss_nonnull_seen.proofs.Seeing.{joined}
 
 pub body_noted : (p : TypedTree) (b : BodyTree) (s : NullContext) (f0 f1 f2 : List Fault)
     → s ≡ null_context_of p b → f1 ≡ f0 ++ base_call_faults s b.class b.base → f2 ≡ f1 ++ code_faults s b → f2 ≡ f0 ++ faults_in_body p b

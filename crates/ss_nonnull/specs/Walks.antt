@@ -7,7 +7,7 @@ use Rattle.ss_nonnull_rules.specs.Facts.{forgotten}
 use Rattle.ss_nonnull_rules.specs.NonNull.{NullContext, Known, known_flow}
 use Rattle.ss_nonnull_rules.specs.Faults.{inside, null_check}
 use Rattle.ss_core.specs.declared.names.Place.{Place}
-use Rattle.ss_nonnull.specs.Seen.{Seen, seen}
+use Rattle.ss_nonnull_seen.specs.Seen.{Seen, seen}
 
 abbrev pub known_behind : NullContext → StmtTree → Option Known → Option Known
 known_behind s st k = option_and_then (behind (known_flow s) st) k

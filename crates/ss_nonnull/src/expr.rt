@@ -1,28 +1,27 @@
 // Expressions: the faults inside them, and what is seen of them.
 
-ghost use Rattle.std.specs.Prelude.{◌≡◌, ◌++◌, true, false, Option, Some, List, IfOk, OnOk, map, option_map};
-ghost use Rattle.ss_typed.specs.Tree.{ExprTree, BinaryOf, ElementOf, CallOf, arguments};
+ghost use Rattle.std.specs.Prelude.{◌≡◌, ◌++◌, false, Option, Some, List, IfOk, OnOk, map, option_map};
+ghost use Rattle.ss_core.specs.Chain.{above};
+ghost use Rattle.ss_typed.specs.Tree.{ExprTree, NotOf, OldOf, BinaryOf, ElementOf, CallOf, arguments};
 ghost use Rattle.ss_typed.specs.View.{expr, grouped};
 ghost use Rattle.ss_nonnull_rules.specs.NonNull.{is_set_result, known_right};
-ghost use Rattle.ss_nonnull_rules.specs.Faults.{inside, handed, wanted_if};
+ghost use Rattle.ss_nonnull_rules.specs.Faults.{inside, handed, wanted_if, parameters, body_in_table, constructor_parameters};
 ghost use Rattle.ss_typed.specs.Parts.{link_behind, step_behind};
 ghost use Rattle.ss_nonnull_facts.specs.Called.{called_types};
-ghost use Rattle.ss_nonnull.specs.Codes.{path_of, context_of, seen_of};
-ghost use Rattle.ss_nonnull.specs.Seen.{Leads, seen, plain};
-ghost use Rattle.ss_typed.specs.Types.{class_type};
+ghost use Rattle.ss_nonnull_seen.specs.Codes.{path_of, context_of, seen_of};
+ghost use Rattle.ss_nonnull_seen.specs.Seen.{Leads, seen, plain, by_type};
 
-use crate::context::NullContext;
-use crate::known::Known;
-use crate::seen::{
-    Seen, aged, called, class_tested, element_read, field_read, learn_side, learnt_at, literal,
-    local_read, negated, note_lacking, null_literal, operated, plain, this_object,
-};
-use ss_core::{ClassId, Operator, Place, Ty};
+use ss_core::{BodyId, ClassId, Operator, Place, Ty, is_non_null};
 use ss_faults::Fault;
 use ss_nonnull_facts::{
-    Called, base_method, constructor, is_non_null, method_of, static_method, type_at,
+    Called, base_method, constructor, is_non_null_type, method_of, static_method, type_at,
 };
-use ss_typed::{TypedExpr, TypedLink, TypedStep, class_type};
+use ss_nonnull_seen::{
+    Known, NullContext, Seen, aged, called, class_tested, element_read, field_read, learn_side,
+    learnt_at, literal, local_read, negated, note_lacking, null_literal, operated, plain,
+    this_object,
+};
+use ss_typed::{TypedExpr, TypedLink, TypedStep, class_type, place_of, type_of};
 use std::alloc::{AllocError, Global};
 
 // A truth value or a number that says nothing.
@@ -42,17 +41,17 @@ fn is_set_result(ty: Option<Ty>) -> bool
     }
 }
 
-// What `new` gives.
-fn made(alloc: Global, place: Place, class: ClassId) -> Seen
-    ensures { seen_of result ≡ plain place (Some (class_type class.0 true)) true }
+// What is seen of an expression by its place and its type alone.
+fn by_type(alloc: Global, e: &TypedExpr) -> Seen
+    ensures { seen_of result ≡ by_type (expr e.now) }
 {
-    plain(alloc, place, Some(class_type(class, true)), true)
+    let ty = type_of(e);
+    plain(alloc, place_of(e), ty, is_non_null_type(ty))
 }
 
 /// Notes the faults inside an expression, and says what is seen of it.
 #[cycle(expr)]
 pub fn check(
-    alloc: Global,
     context: &NullContext<'_>,
     known: &Option<Known>,
     found: &mut Vec<Fault>,
@@ -61,100 +60,165 @@ pub fn check(
     ensures seen { IfOk result (λ v. seen_of v ≡ seen (context_of context.now) (path_of known.now) (expr e.now)) }
     ensures noted { OnOk result (found.new.items ≡ found.old.items ++ inside (context_of context.now) (path_of known.now) (expr e.now)) }
 {
+    let alloc = context.alloc;
     match e {
-        TypedExpr::Int(place, _) => Ok(value(alloc, *place, Ty::Int)),
+        TypedExpr::Int(place, _) | TypedExpr::Bound(place, _) => Ok(value(alloc, *place, Ty::Int)),
         TypedExpr::Bool(place, truth) => Ok(literal(alloc, *place, *truth)),
         TypedExpr::Null(place) => Ok(null_literal(alloc, *place)),
         TypedExpr::This(place, class) => Ok(this_object(alloc, *place, *class)),
         TypedExpr::Local(place, local, ty) => Ok(local_read(alloc, known, *place, *local, *ty)),
         TypedExpr::Result(place, ty) => Ok(plain(alloc, *place, *ty, is_set_result(*ty))),
-        TypedExpr::Bound(place, _) => Ok(value(alloc, *place, Ty::Int)),
-        TypedExpr::Iff(place, a, b) => {
-            check(alloc, context, known, found, a)?;
-            check(alloc, context, known, found, b)?;
-            Ok(value(alloc, *place, Ty::Bool))
-        }
-        TypedExpr::Implies(place, a, b) => {
-            check(alloc, context, known, found, a)?;
-            check(alloc, context, known, found, b)?;
-            Ok(value(alloc, *place, Ty::Bool))
+        TypedExpr::Iff(_, a, b) | TypedExpr::Implies(_, a, b) | TypedExpr::Owners(_, _, a, b) => {
+            check(context, known, found, a)?;
+            Ok(check_last(context, known, found, b, e)?)
         }
         TypedExpr::Chain(place, first, links) => {
-            let head = check(alloc, context, known, found, first)?;
-            let longer = check_links(alloc, context, known, found, *place, head, links)?;
-            Ok(longer)
+            let head = check(context, known, found, first)?;
+            Ok(check_links(context, known, found, *place, head, links)?)
         }
-        TypedExpr::Negate(place, inner) => {
-            check(alloc, context, known, found, inner)?;
-            Ok(value(alloc, *place, Ty::Int))
-        }
-        TypedExpr::Not(place, inner) => {
-            let head = check(alloc, context, known, found, inner)?;
-            Ok(negated(*place, head))
-        }
-        TypedExpr::Cast(place, class, non_null, inner) => {
-            check(alloc, context, known, found, inner)?;
-            let ty = class_type(*class, *non_null);
-            Ok(plain(alloc, *place, Some(ty), *non_null))
-        }
+        TypedExpr::Negate(_, inner) => Ok(check_last(context, known, found, inner, e)?),
+        TypedExpr::Not(at, inner) => Ok(check_not(context, known, found, *at, inner)?),
+        TypedExpr::Cast(_, _, _, inner) => Ok(check_last(context, known, found, inner, e)?),
         TypedExpr::Path(place, first, steps) => {
-            let head = check(alloc, context, known, found, first)?;
-            let longer = check_steps(alloc, context, known, found, *place, head, steps)?;
-            Ok(longer)
+            let head = check(context, known, found, first)?;
+            Ok(check_steps(context, known, found, *place, head, steps)?)
         }
-        TypedExpr::Old(place, inner) => {
-            let before = NullContext {
-                program: context.program,
-                class: context.class,
-                numbers: context.numbers,
-                constructs: context.constructs,
-                in_old: true,
-                result: context.result,
-            };
-            let head = check(alloc, &before, known, found, inner)?;
-            Ok(aged(alloc, *place, &head))
+        TypedExpr::Old(at, inner) => Ok(check_old(context, known, found, *at, inner)?),
+        TypedExpr::Quantified(_, _, _, low, high, member) => {
+            check(context, known, found, low)?;
+            check(context, known, found, high)?;
+            Ok(check_last(context, known, found, member, e)?)
         }
-        TypedExpr::Quantified(place, _, _, low, high, member) => {
-            check(alloc, context, known, found, low)?;
-            check(alloc, context, known, found, high)?;
-            check(alloc, context, known, found, member)?;
-            Ok(value(alloc, *place, Ty::Bool))
+        TypedExpr::State(_, _, inner) => Ok(check_last(context, known, found, inner, e)?),
+        TypedExpr::New(_, class, list) => Ok(make(context, known, found, list, *class, e)?),
+        TypedExpr::NewArray(_, _, size) => Ok(check_last(context, known, found, size, e)?),
+        TypedExpr::Static(_, number, _, list) => {
+            Ok(check_static(context, known, found, list, *number, e)?)
         }
-        TypedExpr::State(place, _, inner) => {
-            check(alloc, context, known, found, inner)?;
-            Ok(value(alloc, *place, Ty::Bool))
-        }
-        TypedExpr::Owners(place, _, a, b) => {
-            check(alloc, context, known, found, a)?;
-            check(alloc, context, known, found, b)?;
-            Ok(value(alloc, *place, Ty::Bool))
-        }
-        TypedExpr::New(place, class, list) => {
-            let entered = constructor(context.program, *class);
-            check_arguments(alloc, context, known, found, entered, list)?;
-            Ok(made(alloc, *place, *class))
-        }
-        TypedExpr::NewArray(place, class, length) => {
-            check(alloc, context, known, found, length)?;
-            Ok(made(alloc, *place, *class))
-        }
-        TypedExpr::Static(place, number, ty, list) => {
-            let entered = static_method(context.program, Some(*number));
-            check_arguments(alloc, context, known, found, entered, list)?;
-            Ok(called(alloc, *place, *ty))
-        }
-        TypedExpr::Base(place, method, ty, list) => {
-            let entered = base_method(context.program, context.class, *method);
-            check_arguments(alloc, context, known, found, entered, list)?;
-            Ok(called(alloc, *place, *ty))
+        TypedExpr::Base(_, method, _, list) => {
+            Ok(check_base(context, known, found, list, *method, e)?)
         }
     }
+}
+
+// The last operand of an expression of which nothing is seen but its place and its type.
+#[cycle(expr)]
+fn check_last(
+    context: &NullContext<'_>,
+    known: &Option<Known>,
+    found: &mut Vec<Fault>,
+    operand: &TypedExpr,
+    whole: &TypedExpr,
+) -> Result<Seen, AllocError>
+    ensures seen { IfOk result (λ v. seen_of v ≡ by_type (expr whole.now)) }
+    ensures noted { OnOk result (found.new.items ≡ found.old.items ++ inside (context_of context.now) (path_of known.now) (expr operand.now)) }
+{
+    check(context, known, found, operand)?;
+    Ok(by_type(context.alloc, whole))
+}
+
+// A `!` before an expression.
+#[cycle(expr)]
+fn check_not(
+    context: &NullContext<'_>,
+    known: &Option<Known>,
+    found: &mut Vec<Fault>,
+    place: Place,
+    e: &TypedExpr,
+) -> Result<Seen, AllocError>
+    ensures seen { IfOk result (λ v. seen_of v ≡ seen (context_of context.now) (path_of known.now) (NotOf place (expr e.now))) }
+    ensures noted { OnOk result (found.new.items ≡ found.old.items ++ inside (context_of context.now) (path_of known.now) (expr e.now)) }
+{
+    let head = check(context, known, found, e)?;
+    Ok(negated(place, head))
+}
+
+// `old(..)`.
+#[cycle(expr)]
+fn check_old(
+    context: &NullContext<'_>,
+    known: &Option<Known>,
+    found: &mut Vec<Fault>,
+    place: Place,
+    e: &TypedExpr,
+) -> Result<Seen, AllocError>
+    ensures seen { IfOk result (λ v. seen_of v ≡ seen (context_of context.now) (path_of known.now) (OldOf place (expr e.now))) }
+    ensures noted { OnOk result (found.new.items ≡ found.old.items ++ inside (context_of context.now) (path_of known.now) (OldOf place (expr e.now))) }
+{
+    let before = NullContext {
+        alloc: context.alloc,
+        program: context.program,
+        class: context.class,
+        numbers: context.numbers,
+        constructs: context.constructs,
+        in_old: true,
+        result: context.result,
+    };
+    let head = check(&before, known, found, e)?;
+    Ok(aged(context.alloc, place, &head))
+}
+
+// A new object of this class, made with these arguments.
+#[cycle(expr)]
+fn make(
+    context: &NullContext<'_>,
+    known: &Option<Known>,
+    found: &mut Vec<Fault>,
+    list: &[TypedExpr],
+    class: ClassId,
+    whole: &TypedExpr,
+) -> Result<Seen, AllocError>
+    ensures seen { IfOk result (λ v. seen_of v ≡ by_type (expr whole.now)) }
+    ensures noted { OnOk result (found.new.items ≡ found.old.items
+        ++ handed (context_of context.now) (path_of known.now) (arguments (map expr list.now)) (constructor_parameters (context_of context.now).program class.0)) }
+{
+    let entered = constructor(context.program, class);
+    check_arguments(context, known, found, entered, list)?;
+    Ok(by_type(context.alloc, whole))
+}
+
+// A call of the static method with this number.
+#[cycle(expr)]
+fn check_static(
+    context: &NullContext<'_>,
+    known: &Option<Known>,
+    found: &mut Vec<Fault>,
+    list: &[TypedExpr],
+    number: BodyId,
+    whole: &TypedExpr,
+) -> Result<Seen, AllocError>
+    ensures seen { IfOk result (λ v. seen_of v ≡ by_type (expr whole.now)) }
+    ensures noted { OnOk result (found.new.items ≡ found.old.items
+        ++ handed (context_of context.now) (path_of known.now) (arguments (map expr list.now)) (parameters (context_of context.now).program (Some number.0))) }
+{
+    let entered = static_method(context.program, Some(number));
+    check_arguments(context, known, found, entered, list)?;
+    Ok(by_type(context.alloc, whole))
+}
+
+// A call of the method at this place of the table of the class above.
+#[cycle(expr)]
+fn check_base(
+    context: &NullContext<'_>,
+    known: &Option<Known>,
+    found: &mut Vec<Fault>,
+    list: &[TypedExpr],
+    method: usize,
+    whole: &TypedExpr,
+) -> Result<Seen, AllocError>
+    ensures seen { IfOk result (λ v. seen_of v ≡ by_type (expr whole.now)) }
+    ensures noted { OnOk result (found.new.items ≡ found.old.items
+        ++ handed (context_of context.now) (path_of known.now) (arguments (map expr list.now))
+        (parameters (context_of context.now).program (body_in_table (context_of context.now).program (above (context_of context.now).program.classes (context_of context.now).class) method))) }
+{
+    let entered = base_method(context.program, context.class, method);
+    check_arguments(context, known, found, entered, list)?;
+    Ok(by_type(context.alloc, whole))
 }
 
 /// The same, and a fault where it may be null and a value of this type is wanted.
 #[cycle(expr)]
 pub fn check_wanted(
-    alloc: Global,
     context: &NullContext<'_>,
     known: &Option<Known>,
     found: &mut Vec<Fault>,
@@ -165,7 +229,7 @@ pub fn check_wanted(
     ensures noted { OnOk result (found.new.items ≡ found.old.items
         ++ (inside (context_of context.now) (path_of known.now) (expr e.now) ++ wanted_if (context_of context.now) (path_of known.now) (expr e.now) wanted)) }
 {
-    let head = check(alloc, context, known, found, e)?;
+    let head = check(context, known, found, e)?;
     note_lacking(found, wanted, &head)?;
     Ok(head)
 }
@@ -173,7 +237,6 @@ pub fn check_wanted(
 // The links of a chain, behind its first operand.
 #[cycle(expr)]
 fn check_links(
-    alloc: Global,
     context: &NullContext<'_>,
     known: &Option<Known>,
     found: &mut Vec<Fault>,
@@ -186,14 +249,13 @@ fn check_links(
 {
     let mut head = first;
     for link in links {
-        head = check_link(alloc, context, known, found, place, head, link)?;
+        head = check_link(context, known, found, place, head, link)?;
     }
     Ok(head)
 }
 
 #[cycle(expr)]
 fn check_link(
-    alloc: Global,
     context: &NullContext<'_>,
     known: &Option<Known>,
     found: &mut Vec<Fault>,
@@ -203,11 +265,14 @@ fn check_link(
 ) -> Result<Seen, AllocError>
     ensures { IfOk result (λ v. Leads (context_of context.now) (path_of known.now) found.old.items (seen_of head) found.new.items (seen_of v) (link_behind link.now place)) }
 {
+    let alloc = context.alloc;
     match link {
         TypedLink::Operation(operator, right) => {
-            let longer = check_operation(
-                alloc, context, known, found, place, head, *operator, right,
-            )?;
+            let placed = PlacedOperator {
+                place,
+                operator: *operator,
+            };
+            let longer = check_operation(context, known, found, head, placed, right)?;
             Ok(longer)
         }
         TypedLink::Is(_) => {
@@ -218,29 +283,34 @@ fn check_link(
     }
 }
 
+// An operator at its place.
+#[derive(Clone, Copy)]
+struct PlacedOperator {
+    place: Place,
+    operator: Operator,
+}
+
 #[cycle(expr)]
 fn check_operation(
-    alloc: Global,
     context: &NullContext<'_>,
     known: &Option<Known>,
     found: &mut Vec<Fault>,
-    place: Place,
     head: Seen,
-    operator: Operator,
+    placed: PlacedOperator,
     operand: &TypedExpr,
 ) -> Result<Seen, AllocError>
     ensures { IfOk result (λ v. Leads (context_of context.now) (path_of known.now) found.old.items (seen_of head) found.new.items (seen_of v)
-        (λ (e : ExprTree). BinaryOf place operator e (expr operand.now))) }
+        (λ (e : ExprTree). BinaryOf placed.place placed.operator e (expr operand.now))) }
 {
-    let right = check_right(alloc, context, known, found, operator, &head, operand)?;
-    let whole = operated(alloc, place, operator, head, right)?;
+    let PlacedOperator { place, operator } = placed;
+    let right = check_right(context, known, found, operator, &head, operand)?;
+    let whole = operated(context.alloc, place, operator, head, right)?;
     Ok(whole)
 }
 
 // The right operand, which is read only where the left one leads to it.
 #[cycle(expr)]
 fn check_right(
-    alloc: Global,
     context: &NullContext<'_>,
     known: &Option<Known>,
     found: &mut Vec<Fault>,
@@ -256,11 +326,11 @@ fn check_right(
     match learnt_at(operator) {
         Some(truth) => {
             let more = learn_side(known, head, truth)?;
-            let right = check(alloc, context, &more, found, operand)?;
+            let right = check(context, &more, found, operand)?;
             Ok(right)
         }
         None => {
-            let right = check(alloc, context, known, found, operand)?;
+            let right = check(context, known, found, operand)?;
             Ok(right)
         }
     }
@@ -269,7 +339,6 @@ fn check_right(
 // The steps of a path, behind what it begins with.
 #[cycle(expr)]
 fn check_steps(
-    alloc: Global,
     context: &NullContext<'_>,
     known: &Option<Known>,
     found: &mut Vec<Fault>,
@@ -282,14 +351,13 @@ fn check_steps(
 {
     let mut head = first;
     for step in steps {
-        head = check_step(alloc, context, known, found, place, head, step)?;
+        head = check_step(context, known, found, place, head, step)?;
     }
     Ok(head)
 }
 
 #[cycle(expr)]
 fn check_step(
-    alloc: Global,
     context: &NullContext<'_>,
     known: &Option<Known>,
     found: &mut Vec<Fault>,
@@ -300,18 +368,16 @@ fn check_step(
     ensures { IfOk result (λ v. Leads (context_of context.now) (path_of known.now) found.old.items (seen_of head) found.new.items (seen_of v) (step_behind step.now place)) }
 {
     match step {
-        TypedStep::Field(field, ty) => {
-            Ok(field_read(alloc, context, known, place, *field, *ty, &head))
-        }
+        TypedStep::Field(field, ty) => { Ok(field_read(context, known, place, *field, *ty, &head)) }
         TypedStep::Element(index) => {
-            check(alloc, context, known, found, index)?;
-            Ok(element_read(alloc, place, &head))
+            check(context, known, found, index)?;
+            Ok(element_read(context.alloc, place, &head))
         }
-        TypedStep::Length => Ok(value(alloc, place, Ty::Int)),
+        TypedStep::Length => Ok(value(context.alloc, place, Ty::Int)),
         TypedStep::Call(method, ty, list) => {
             let entered = method_of(context.program, head.ty, *method);
-            check_arguments(alloc, context, known, found, entered, list)?;
-            Ok(called(alloc, place, *ty))
+            check_arguments(context, known, found, entered, list)?;
+            Ok(called(context.alloc, place, *ty))
         }
     }
 }
@@ -319,7 +385,6 @@ fn check_step(
 /// Each argument stands where a value of its parameter's type is wanted.
 #[cycle(expr)]
 pub fn check_arguments(
-    alloc: Global,
     context: &NullContext<'_>,
     known: &Option<Known>,
     found: &mut Vec<Fault>,
@@ -331,7 +396,7 @@ pub fn check_arguments(
 {
     for (i, e) in list.iter().enumerate() {
         let wanted = type_at(entered, i);
-        check_wanted(alloc, context, known, found, wanted, e)?;
+        check_wanted(context, known, found, wanted, e)?;
     }
     Ok(())
 }

@@ -9,16 +9,15 @@ ghost use Rattle.ss_typed.specs.View.{typed, expr, field, members};
 ghost use Rattle.ss_core.specs.Kinds.{class_number};
 ghost use Rattle.ss_nonnull_rules.specs.Program.{classes_faults};
 ghost use Rattle.ss_paths_assigned.specs.Codes.{numbers_of, assigned_of};
-ghost use Rattle.ss_nonnull.specs.Codes.{known_of, path_of, context_of};
+ghost use Rattle.ss_nonnull_seen.specs.Codes.{known_of, path_of, context_of};
 ghost use Rattle.ss_nonnull.specs.Initial.{begun_with, initial_faults, type_of_field, each_initial, context_with, class_faults};
 ghost use Rattle.ss_nonnull_rules.specs.Program.{only_fields};
 
-use crate::context::NullContext;
 use crate::expr::check_wanted;
-use crate::known::{Known, begin};
 use ss_bit_set::BitSet;
 use ss_core::{Class, Field, Ty};
 use ss_faults::Fault;
+use ss_nonnull_seen::{Known, NullContext, begin};
 use ss_paths_assigned::{Assigned, Numbers};
 use ss_typed::{Typed, TypedClass, TypedExpr, TypedField};
 use std::alloc::{AllocError, Global};
@@ -61,7 +60,6 @@ fn type_of_field(declared: Option<&Field>) -> Option<Ty>
 
 // An initializer stands where a value of the field's type is wanted.
 fn check_initial(
-    alloc: Global,
     context: &NullContext<'_>,
     known: &Option<Known>,
     found: &mut Vec<Fault>,
@@ -75,7 +73,7 @@ fn check_initial(
     };
     match initial {
         Some(e) => {
-            check_wanted(alloc, context, known, found, Some(ty), e)?;
+            check_wanted(context, known, found, Some(ty), e)?;
             Ok(())
         }
         None => Ok(()),
@@ -90,7 +88,6 @@ fn starts_with_value(declared: &TypedField) -> bool
 
 // The initializers of a class, one after the other.
 fn check_initials(
-    alloc: Global,
     context: &NullContext<'_>,
     found: &mut Vec<Fault>,
     class: Option<&Class>,
@@ -99,10 +96,10 @@ fn check_initials(
     ensures { OnOk result (found.new.items ≡ found.old.items
         ++ each_initial (context_of context.now) (map field fields.now) 0 (map field fields.now) (fields_in (option_map (λ c. class_of c.now) class.entry))) }
 {
-    let mut known = nothing_begun(alloc);
+    let mut known = nothing_begun(context.alloc);
     for (place, declared) in fields.iter().enumerate() {
         let ty = type_of_field(field_at(class, place));
-        check_initial(alloc, context, &known, found, ty, &declared.initial)?;
+        check_initial(context, &known, found, ty, &declared.initial)?;
         known = begin(known, place, starts_with_value(declared))?;
     }
     Ok(())
@@ -135,10 +132,16 @@ fn class_number(place: usize) -> Result<usize, AllocError>
 }
 
 // Where the initializers of a class stand.
-fn context_in<'p>(program: &'p Typed, class: usize, numbers: Numbers) -> NullContext<'p>
+fn context_in<'p>(
+    alloc: Global,
+    program: &'p Typed,
+    class: usize,
+    numbers: Numbers,
+) -> NullContext<'p>
     ensures { context_of result ≡ context_with (typed program.now) class (numbers_of numbers) }
 {
     NullContext {
+        alloc,
         program,
         class,
         numbers,
@@ -163,8 +166,8 @@ fn check_class(
     let class = class_at(program, place);
     let count = field_count(class);
     let numbers = Numbers { first, count };
-    let context = context_in(program, class_number(place)?, numbers);
-    check_initials(alloc, &context, found, class, &declared.fields)?;
+    let context = context_in(alloc, program, class_number(place)?, numbers);
+    check_initials(&context, found, class, &declared.fields)?;
     let behind = first.checked_add(count).ok_or(AllocError)?;
     Ok(behind)
 }

@@ -3,13 +3,10 @@
 #![tactic(auto)]
 
 mod bodies;
-mod context;
 mod expr;
 mod initializers;
-mod known;
 mod overrides;
 mod program;
-mod seen;
 mod simple;
 mod stmts;
 

@@ -11,9 +11,9 @@ ghost use Rattle.ss_nonnull_rules.specs.Overrides.{body_named, overridden, agree
 ghost use Rattle.ss_tables_lookup.specs.Places.{places_of};
 ghost use Rattle.ss_nonnull.specs.Names.{entry_names, table_names, mark_fault};
 
-use ss_core::{BodyId, Class, ClassId, Entry, Place, Rule};
+use ss_core::{BodyId, Class, ClassId, Entry, Place, Rule, is_non_null};
 use ss_faults::Fault;
-use ss_nonnull_facts::{body_of_entry, entry_at, is_non_null, is_non_null_type};
+use ss_nonnull_facts::{body_of_entry, entry_at, is_non_null_type};
 use ss_tables_lookup::NameMap;
 use ss_typed::{Typed, TypedBody, TypedParam, body_at};
 use std::alloc::{AllocError, Global};

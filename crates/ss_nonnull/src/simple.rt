@@ -5,25 +5,22 @@ ghost use Rattle.ss_typed.specs.Tree.{AssignOf, arguments};
 ghost use Rattle.ss_typed.specs.View.{expr, declarator, simple_of, init_of};
 ghost use Rattle.ss_nonnull_rules.specs.NonNull.{known_declared, known_done};
 ghost use Rattle.ss_nonnull_rules.specs.Faults.{inside, inside_if, starts, handed_to_base, done_faults, returned_faults};
-ghost use Rattle.ss_nonnull.specs.Codes.{path_of, context_of, seen_of};
-ghost use Rattle.ss_nonnull.specs.Seen.{seen};
-ghost use Rattle.ss_nonnull.specs.Paths.{starts_never, fields_known, assigned_known};
+ghost use Rattle.ss_nonnull_seen.specs.Codes.{path_of, context_of, seen_of};
+ghost use Rattle.ss_nonnull_seen.specs.Seen.{seen};
+ghost use Rattle.ss_nonnull_seen.specs.Paths.{starts_never, fields_known, assigned_known};
 ghost use Rattle.ss_nonnull.specs.Walks.{known_behind_all, all_faults, known_behind_first, heading_faults, step_faults_of, test_seen, test_faults};
 
-use crate::context::NullContext;
 use crate::expr::{check, check_arguments, check_wanted};
-use crate::known::{Known, assign, declare, set_left};
-use crate::seen::{Seen, literal, note_null};
 use ss_ast::AssignOperator;
-use ss_core::{Place, Ty};
+use ss_core::{Place, Ty, is_non_null};
 use ss_faults::Fault;
-use ss_nonnull_facts::{above, constructor, is_non_null};
+use ss_nonnull_facts::{above, constructor};
+use ss_nonnull_seen::{Known, NullContext, Seen, assign, declare, literal, note_null, set_left};
 use ss_typed::{TypedDeclarator, TypedExpr, TypedInit, TypedSimple};
-use std::alloc::{AllocError, Global};
+use std::alloc::AllocError;
 
 // An expression, where there is one.
 fn check_any(
-    alloc: Global,
     context: &NullContext<'_>,
     known: &Option<Known>,
     found: &mut Vec<Fault>,
@@ -33,7 +30,7 @@ fn check_any(
 {
     match e {
         Some(e) => {
-            check(alloc, context, known, found, e)?;
+            check(context, known, found, e)?;
             Ok(())
         }
         None => Ok(()),
@@ -42,7 +39,6 @@ fn check_any(
 
 /// The arguments of `base(..)`.
 pub fn check_base(
-    alloc: Global,
     context: &NullContext<'_>,
     known: &Option<Known>,
     found: &mut Vec<Fault>,
@@ -54,13 +50,12 @@ pub fn check_base(
         context.program,
         above(&context.program.classes, context.class),
     );
-    check_arguments(alloc, context, known, found, entered, list)?;
+    check_arguments(context, known, found, entered, list)?;
     Ok(())
 }
 
 /// A result that is handed out.
 pub fn check_returned(
-    alloc: Global,
     context: &NullContext<'_>,
     known: &Option<Known>,
     found: &mut Vec<Fault>,
@@ -70,7 +65,7 @@ pub fn check_returned(
 {
     match e {
         Some(e) => {
-            check_wanted(alloc, context, known, found, context.result, e)?;
+            check_wanted(context, known, found, context.result, e)?;
             Ok(())
         }
         None => Ok(()),
@@ -79,7 +74,6 @@ pub fn check_returned(
 
 // The test of a `for`.
 pub fn check_test(
-    alloc: Global,
     context: &NullContext<'_>,
     known: &Option<Known>,
     found: &mut Vec<Fault>,
@@ -91,10 +85,10 @@ pub fn check_test(
 {
     match test {
         Some(test) => {
-            let head = check(alloc, context, known, found, test)?;
+            let head = check(context, known, found, test)?;
             Ok(head)
         }
-        None => Ok(literal(alloc, place, true)),
+        None => Ok(literal(context.alloc, place, true)),
     }
 }
 
@@ -102,7 +96,6 @@ pub fn check_test(
 
 // What a declared local starts with; whether that isn't null.
 fn check_start(
-    alloc: Global,
     context: &NullContext<'_>,
     known: &Option<Known>,
     found: &mut Vec<Fault>,
@@ -115,7 +108,7 @@ fn check_start(
 {
     match initial {
         Some(e) => {
-            let head = check_wanted(alloc, context, known, found, Some(ty), e)?;
+            let head = check_wanted(context, known, found, Some(ty), e)?;
             Ok(head.never_null)
         }
         None => {
@@ -126,7 +119,6 @@ fn check_start(
 }
 
 fn check_declarator(
-    alloc: Global,
     context: &NullContext<'_>,
     known: Option<Known>,
     found: &mut Vec<Fault>,
@@ -137,7 +129,6 @@ fn check_declarator(
         ++ starts (context_of context.now) (path_of known) declared.now.place declared.now.ty (declarator declared.now).initial) }
 {
     let non_null = check_start(
-        alloc,
         context,
         &known,
         found,
@@ -151,7 +142,6 @@ fn check_declarator(
 
 /// Declared locals, one after the other.
 pub fn check_declarators(
-    alloc: Global,
     context: &NullContext<'_>,
     known: Option<Known>,
     found: &mut Vec<Fault>,
@@ -162,7 +152,7 @@ pub fn check_declarators(
 {
     let mut reached = known;
     for declared in declarators {
-        reached = check_declarator(alloc, context, reached, found, declared)?;
+        reached = check_declarator(context, reached, found, declared)?;
     }
     Ok(reached)
 }
@@ -187,7 +177,6 @@ fn assigned(
 
 /// A simple statement.
 pub fn check_simple(
-    alloc: Global,
     context: &NullContext<'_>,
     known: Option<Known>,
     found: &mut Vec<Fault>,
@@ -198,8 +187,8 @@ pub fn check_simple(
 {
     match stmt {
         TypedSimple::Assign(left, operator, e) => {
-            let target = check(alloc, context, &known, found, left)?;
-            let head = check_wanted(alloc, context, &known, found, target.ty, e)?;
+            let target = check(context, &known, found, left)?;
+            let head = check_wanted(context, &known, found, target.ty, e)?;
             let behind = assigned(
                 context,
                 known,
@@ -211,17 +200,17 @@ pub fn check_simple(
             Ok(behind)
         }
         TypedSimple::Step(left, _) => {
-            check(alloc, context, &known, found, left)?;
+            check(context, &known, found, left)?;
             let behind = assign(known, context.numbers, stmt)?;
             Ok(behind)
         }
         TypedSimple::Alone(e) => {
-            check(alloc, context, &known, found, e)?;
+            check(context, &known, found, e)?;
             let behind = assign(known, context.numbers, stmt)?;
             Ok(behind)
         }
         TypedSimple::Print(_, e, _) => {
-            check_any(alloc, context, &known, found, e)?;
+            check_any(context, &known, found, e)?;
             let behind = assign(known, context.numbers, stmt)?;
             Ok(behind)
         }
@@ -230,7 +219,7 @@ pub fn check_simple(
             Ok(behind)
         }
         TypedSimple::Base(_, list) => {
-            check_base(alloc, context, &known, found, list)?;
+            check_base(context, &known, found, list)?;
             let behind = assign(known, context.numbers, stmt)?;
             Ok(behind)
         }
@@ -239,7 +228,6 @@ pub fn check_simple(
 
 /// What a `for` begins with.
 pub fn check_first(
-    alloc: Global,
     context: &NullContext<'_>,
     known: Option<Known>,
     found: &mut Vec<Fault>,
@@ -250,11 +238,11 @@ pub fn check_first(
 {
     match first {
         Some(TypedInit::Declare(declarators)) => {
-            let behind = check_declarators(alloc, context, known, found, declarators)?;
+            let behind = check_declarators(context, known, found, declarators)?;
             Ok(behind)
         }
         Some(TypedInit::Simple(stmt)) => {
-            let behind = check_simple(alloc, context, known, found, stmt)?;
+            let behind = check_simple(context, known, found, stmt)?;
             Ok(behind)
         }
         None => Ok(known),
@@ -263,7 +251,6 @@ pub fn check_first(
 
 /// The step of a `for`.
 pub fn check_step(
-    alloc: Global,
     context: &NullContext<'_>,
     known: Option<Known>,
     found: &mut Vec<Fault>,
@@ -273,7 +260,7 @@ pub fn check_step(
 {
     match step {
         Some(stmt) => {
-            check_simple(alloc, context, known, found, stmt)?;
+            check_simple(context, known, found, stmt)?;
             Ok(())
         }
         None => Ok(()),

@@ -1,20 +1,23 @@
 // Statements: the faults along them, and what is known behind them.
 
-ghost use Rattle.std.specs.Prelude.{◌≡◌, ◌++◌, None, IfOk, OnOk, map, option_map};
-ghost use Rattle.ss_typed.specs.Tree.{stmt_trees};
-ghost use Rattle.ss_typed.specs.View.{simple_of, block, stmt_of};
+ghost use Rattle.std.specs.Prelude.{◌≡◌, ◌++◌, List, None, IfOk, OnOk, map, option_map};
+ghost use Rattle.ss_core.specs.declared.names.Place.{Place as PlaceValue};
+ghost use Rattle.ss_typed.specs.Tree.{ExprTree, WhileOf, ForOf, stmt_trees};
+ghost use Rattle.ss_typed.specs.View.{expr, simple_of, init_of, block, stmt_of};
 ghost use Rattle.ss_typed.specs.Assigned.{assigned, step_locals};
-ghost use Rattle.ss_nonnull.specs.Codes.{path_of, context_of};
+ghost use Rattle.ss_nonnull_seen.specs.Codes.{path_of, context_of};
 ghost use Rattle.ss_nonnull.specs.Walks.{known_behind, known_behind_block, known_at_end, known_at_head, stmt_faults, block_faults, along_faults};
 
-use crate::context::NullContext;
 use crate::expr::check;
-use crate::known::{Known, forget, learn, learned, leave, meet};
 use crate::simple::{
     check_declarators, check_first, check_returned, check_simple, check_step, check_test,
 };
+use ss_core::Place;
 use ss_faults::Fault;
-use ss_typed::{TypedBlock, TypedSimple, TypedStmt, assigned_in_loop, assigned_within};
+use ss_nonnull_seen::{Known, NullContext, forget, learn, learned, leave, meet};
+use ss_typed::{
+    TypedBlock, TypedExpr, TypedInit, TypedSimple, TypedStmt, assigned_in_loop, assigned_within,
+};
 use std::alloc::{AllocError, Global};
 
 // At the head of a `while`.
@@ -47,7 +50,6 @@ fn at_head_of_for(
 /// Notes the faults along a statement, and says what is known behind it.
 #[cycle(stmt)]
 fn check_stmt(
-    alloc: Global,
     context: &NullContext<'_>,
     known: Option<Known>,
     found: &mut Vec<Fault>,
@@ -57,66 +59,105 @@ fn check_stmt(
     ensures noted { OnOk result (found.new.items ≡ found.old.items ++ stmt_faults (context_of context.now) (stmt_of stmt.now) (path_of known)) }
 {
     match stmt {
-        TypedStmt::Block(inner) => {
-            let behind = check_block(alloc, context, known, found, inner)?;
-            Ok(behind)
-        }
-        TypedStmt::Declare(declarators) => {
-            let behind = check_declarators(alloc, context, known, found, declarators)?;
-            Ok(behind)
-        }
-        TypedStmt::Simple(stmt) => {
-            let behind = check_simple(alloc, context, known, found, stmt)?;
-            Ok(behind)
-        }
+        TypedStmt::Block(inner) => check_block(context, known, found, inner),
+        TypedStmt::Declare(list) => check_declarators(context, known, found, list),
+        TypedStmt::Simple(simple) => check_simple(context, known, found, simple),
         TypedStmt::If(_, test, first, second) => {
-            let seen = check(alloc, context, &known, found, test)?;
+            let seen = check(context, &known, found, test)?;
             let holding = learned(&known, &seen.holds)?;
             let failing = learn(known, &seen.fails)?;
-            let one = check_stmt(alloc, context, holding, found, first)?;
+            let one = check_stmt(context, holding, found, first)?;
             match second {
-                Some(second) => {
-                    let other = check_stmt(alloc, context, failing, found, second)?;
-                    Ok(meet(one, other))
-                }
+                Some(second) => Ok(meet(one, check_stmt(context, failing, found, second)?)),
                 None => Ok(meet(one, failing)),
             }
         }
-        TypedStmt::While(_, test, _, body) => {
-            let head = at_head(alloc, known, body)?;
-            let seen = check(alloc, context, &head, found, test)?;
-            let repeated = learned(&head, &seen.holds)?;
-            check_stmt(alloc, context, repeated, found, body)?;
-            let behind = leave(head, seen.is_true, &seen.fails)?;
-            Ok(behind)
-        }
-        TypedStmt::For(place, first, test, step, _, body) => {
-            let begun = check_first(alloc, context, known, found, first)?;
-            let head = at_head_of_for(alloc, begun, body, step)?;
-            let seen = check_test(alloc, context, &head, found, *place, test)?;
-            let repeated = learned(&head, &seen.holds)?;
-            let end = check_stmt(alloc, context, repeated, found, body)?;
-            check_step(alloc, context, end, found, step)?;
-            let behind = leave(head, seen.is_true, &seen.fails)?;
-            Ok(behind)
+        TypedStmt::While(_, test, _, body) => check_while(context, known, found, body, test),
+        TypedStmt::For {
+            place,
+            first,
+            test,
+            step,
+            body,
+            ..
+        } => {
+            let heading = ForHeading { first, test, step };
+            check_for(context, known, found, body, *place, heading)
         }
         TypedStmt::Return(_, e) => {
-            check_returned(alloc, context, &known, found, e)?;
+            check_returned(context, &known, found, e)?;
             Ok(None)
         }
         TypedStmt::Expose(_, e, _, inner) => {
-            check(alloc, context, &known, found, e)?;
-            let behind = check_block(alloc, context, known, found, inner)?;
+            check(context, &known, found, e)?;
+            let behind = check_block(context, known, found, inner)?;
             Ok(behind)
         }
         TypedStmt::Assert(..) | TypedStmt::Assume(..) | TypedStmt::Empty(..) => Ok(known),
     }
 }
 
+// A `while` at any place, with any invariants.
+#[cycle(stmt)]
+fn check_while(
+    context: &NullContext<'_>,
+    known: Option<Known>,
+    found: &mut Vec<Fault>,
+    body: &TypedStmt,
+    test: &TypedExpr,
+) -> Result<Option<Known>, AllocError>
+    ensures known { (p : PlaceValue) → (es : List ExprTree)
+        → IfOk result (λ k. path_of k ≡ known_behind (context_of context.now) (WhileOf p (expr test.now) es (stmt_of body.now)) (path_of known)) }
+    ensures noted { (p : PlaceValue) → (es : List ExprTree)
+        → OnOk result (found.new.items ≡ found.old.items ++ stmt_faults (context_of context.now) (WhileOf p (expr test.now) es (stmt_of body.now)) (path_of known)) }
+{
+    let head = at_head(context.alloc, known, body)?;
+    let seen = check(context, &head, found, test)?;
+    let repeated = learned(&head, &seen.holds)?;
+    check_stmt(context, repeated, found, body)?;
+    let behind = leave(head, seen.is_true, &seen.fails)?;
+    Ok(behind)
+}
+
+/// What stands between the parentheses of a `for`.
+#[derive(Clone, Copy)]
+struct ForHeading<'p> {
+    first: &'p Option<TypedInit>,
+    test: &'p Option<TypedExpr>,
+    step: &'p Option<TypedSimple>,
+}
+
+// A `for` with any invariants.
+#[cycle(stmt)]
+fn check_for(
+    context: &NullContext<'_>,
+    known: Option<Known>,
+    found: &mut Vec<Fault>,
+    body: &TypedStmt,
+    place: Place,
+    heading: ForHeading<'_>,
+) -> Result<Option<Known>, AllocError>
+    ensures known { (es : List ExprTree)
+        → IfOk result (λ k. path_of k ≡ known_behind (context_of context.now)
+        (ForOf place (option_map init_of heading.entry.first.now) (option_map expr heading.entry.test.now) (option_map simple_of heading.entry.step.now) es (stmt_of body.now)) (path_of known)) }
+    ensures noted { (es : List ExprTree)
+        → OnOk result (found.new.items ≡ found.old.items ++ stmt_faults (context_of context.now)
+        (ForOf place (option_map init_of heading.entry.first.now) (option_map expr heading.entry.test.now) (option_map simple_of heading.entry.step.now) es (stmt_of body.now)) (path_of known)) }
+{
+    let ForHeading { first, test, step } = heading;
+    let begun = check_first(context, known, found, first)?;
+    let head = at_head_of_for(context.alloc, begun, body, step)?;
+    let seen = check_test(context, &head, found, place, test)?;
+    let repeated = learned(&head, &seen.holds)?;
+    let end = check_stmt(context, repeated, found, body)?;
+    check_step(context, end, found, step)?;
+    let behind = leave(head, seen.is_true, &seen.fails)?;
+    Ok(behind)
+}
+
 /// A block.
 #[cycle(stmt)]
 pub fn check_block(
-    alloc: Global,
     context: &NullContext<'_>,
     known: Option<Known>,
     found: &mut Vec<Fault>,
@@ -125,13 +166,12 @@ pub fn check_block(
     ensures known { IfOk result (λ k. path_of k ≡ known_behind_block (context_of context.now) (block inner.now) (path_of known)) }
     ensures noted { OnOk result (found.new.items ≡ found.old.items ++ block_faults (context_of context.now) (block inner.now) (path_of known)) }
 {
-    let behind = check_all(alloc, context, known, found, &inner.statements)?;
+    let behind = check_all(context, known, found, &inner.statements)?;
     Ok(behind)
 }
 
 #[cycle(stmt)]
 fn check_all(
-    alloc: Global,
     context: &NullContext<'_>,
     known: Option<Known>,
     found: &mut Vec<Fault>,
@@ -142,7 +182,7 @@ fn check_all(
 {
     let mut reached = known;
     for stmt in stmts {
-        reached = check_stmt(alloc, context, reached, found, stmt)?;
+        reached = check_stmt(context, reached, found, stmt)?;
     }
     Ok(reached)
 }

@@ -9,5 +9,4 @@ pub use called::{
     Called, above, base_method, body_of_entry, constructor, entry_at, method_of, static_method,
     type_at,
 };
-pub use ss_paths_assigned::is_non_null;
 pub use types::is_non_null_type;

@@ -13,7 +13,7 @@ use Rattle.ss_paths.specs.Assigned.{Assigned, has_field, assigned_by, both_assig
 use Rattle.ss_typed.specs.Shapes.{is_this}
 use Rattle.ss_nonnull_rules.specs.Facts.{says, forgotten}
 
--- Where an expression stands.
+-- The context of an expression: the program, the class, whether it stands in a constructor or in `old`, and the body's result.
 pub record NullContext : Type 0 where
   pub program : TypedTree
   -- the class, and the numbers of its fields

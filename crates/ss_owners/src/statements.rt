@@ -129,7 +129,14 @@ fn find_at(statement: &TypedStmt, found: &mut Vec<Place>) -> Result<(), AllocErr
             find_in_all(Allowed::OfEntry, invariants, found)?;
             find_at(repeated, found)
         }
-        TypedStmt::For(_, first, test, step, invariants, repeated) => {
+        TypedStmt::For {
+            first,
+            test,
+            step,
+            invariants,
+            body: repeated,
+            ..
+        } => {
             find_in_heading(first, test, step, invariants, found)?;
             find_at(repeated, found)
         }

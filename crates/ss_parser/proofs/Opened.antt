@@ -9,9 +9,9 @@ use Rattle.ss_grammar_expressions.specs.Parser.{Gets, Inner, give, opened, postf
 use Rattle.ss_grammar_statements.specs.Heads.{PrimHead, prim_opens, prim_place, StartHead, PrimFirst, start_opens, StartFirst, unless_block}
 use Rattle.ss_grammar_statements.specs.Grammar.{statement_of}
 use Rattle.ss_grammar_statements.specs.Parser.{Nesting, prim_behind, post_behind, simple_then, start_behind, start_end, stmt_behind, one_stmt}
-use Rattle.ss_parser.specs.declared.heads.StmtWord.{StmtWord}
-use Rattle.ss_parser.specs.declared.heads.StmtWord.TheVariants as word
-use Rattle.ss_parser.specs.View.{word_first}
+use Rattle.ss_parser_statement_trees.specs.declared.heads.StmtWord.{StmtWord}
+use Rattle.ss_parser_statement_trees.specs.declared.heads.StmtWord.TheVariants as word
+use Rattle.ss_parser_statement_trees.specs.View.{word_first}
 
 opened_bind : {A B : Type 0} (b : Bool) (n : ℕ) (k : Gets A) (g : Gets B) (f : A × List Piece → Result (B × List Piece) (Fault × List Piece)) → ((ts : List Piece) → g ts ≡ (k ts >>= f)) → (t : Piece) (ts : List Piece) → opened b n g t ts ≡ (opened b n k t ts >>= f)
 opened_bind false n k g f e t ts = e ts

@@ -10,11 +10,11 @@ ghost use Rattle.ss_grammar_expressions.specs.Parser.{below};
 ghost use Rattle.ss_grammar_statements.specs.Grammar.{join_declarator};
 ghost use Rattle.ss_grammar_statements.specs.Parser.{initial, declarator, decls_from, decls, declaration};
 
-use crate::build;
 use ss_ast::{Declarator, ForInit, Name, Symbol, Token, TokenKind, TypeRef};
 use ss_grammar::fault::Stop;
+use ss_parser_expression_trees::heads::{expect_name, next_symbol};
 use ss_parser_expressions::expressions::parse_expression;
-use ss_parser_expressions::heads::{expect_name, next_symbol};
+use ss_parser_statement_trees::build;
 use std::alloc::Global;
 
 // What a declared name begins with, where it is written.

@@ -9,14 +9,14 @@ ghost use Rattle.ss_grammar_expressions.specs.Parser.{below};
 ghost use Rattle.ss_grammar_statements.specs.Heads.{ExposeFirst};
 ghost use Rattle.ss_grammar_statements.specs.Parser.{expose_body, expose_end, stmt_behind, nested_below};
 
-use crate::build;
 use crate::governed::parse_inner_block;
 use crate::headings::parse_level;
 use ss_ast::{Expr, Name, Stmt, Symbol, Token, TokenKind};
 use ss_core::Place;
 use ss_grammar::fault::{Fault, Stop};
+use ss_parser_expression_trees::heads::expect;
 use ss_parser_expressions::arguments::inner_expression;
-use ss_parser_expressions::heads::expect;
+use ss_parser_statement_trees::build;
 use std::alloc::Global;
 
 // The rest of an `expose`, from its `)` on.

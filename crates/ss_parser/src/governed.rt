@@ -9,16 +9,16 @@ ghost use Rattle.ss_grammar_expressions.specs.Parser.{below};
 ghost use Rattle.ss_grammar_statements.specs.Heads.{IfFirst};
 ghost use Rattle.ss_grammar_statements.specs.Grammar.{TheStatements, TheGoverned};
 ghost use Rattle.ss_grammar_statements.specs.Parser.{block_behind, inner_block, in_block, governed, other_side, else_end, if_end, stmt_behind, nested_below};
-ghost use Rattle.ss_parser.specs.View.{listed_of};
+ghost use Rattle.ss_parser_statement_trees.specs.View.{listed_of};
 
-use crate::build;
-use crate::build::StmtList;
 use crate::statements::{parse_other, parse_statements};
 use ss_ast::{Block, Expr, Stmt, Symbol, Token, TokenKind, Word};
 use ss_core::Place;
 use ss_grammar::fault::{Fault, Stop};
+use ss_parser_expression_trees::heads::expect;
 use ss_parser_expressions::arguments::parse_paren_end;
-use ss_parser_expressions::heads::expect;
+use ss_parser_statement_trees::build;
+use ss_parser_statement_trees::build::StmtList;
 use std::alloc::Global;
 
 // The statements of a block, one level deeper.

@@ -9,14 +9,14 @@ ghost use Rattle.ss_grammar_expressions.specs.Heads.{the_word, pieces};
 ghost use Rattle.ss_grammar_expressions.specs.Grammar.{join_argument};
 ghost use Rattle.ss_grammar_expressions.specs.Parser.{below, whole_expression};
 ghost use Rattle.ss_grammar_statements.specs.Parser.{ended, some_of, optional, simple, for_init, invariants, at_end, heading, nested_below};
-ghost use Rattle.ss_parser.specs.View.{value_of, init_of, step_of, heading_of};
+ghost use Rattle.ss_parser_statement_trees.specs.View.{value_of, init_of, step_of, heading_of};
 
-use crate::build::Heading;
 use crate::simples::{parse_for_init, parse_simple};
 use ss_ast::{Expr, ForInit, Name, Simple, Symbol, Token, TokenKind, Word};
 use ss_grammar::fault::Stop;
+use ss_parser_expression_trees::heads::{expect, expect_name, next_word, then_symbol};
 use ss_parser_expressions::expressions::parse_expression;
-use ss_parser_expressions::heads::{expect, expect_name, next_word, then_symbol};
+use ss_parser_statement_trees::build::Heading;
 use std::alloc::Global;
 
 /// An expression and a `;`.

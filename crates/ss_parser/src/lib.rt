@@ -3,12 +3,10 @@
 #![tactic(auto)]
 
 mod blocks;
-pub mod build;
 pub mod declarations;
 mod exposes;
 mod governed;
 pub mod headings;
-pub mod heads;
 mod loops;
 pub mod posts;
 pub mod simples;

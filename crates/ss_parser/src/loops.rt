@@ -9,17 +9,17 @@ ghost use Rattle.ss_grammar_expressions.specs.Parser.{below};
 ghost use Rattle.ss_grammar_statements.specs.Heads.{WhileFirst, ForFirst};
 ghost use Rattle.ss_grammar_statements.specs.Grammar.{TheHeading};
 ghost use Rattle.ss_grammar_statements.specs.Parser.{while_body, while_end, for_body, for_end, stmt_behind, heading, nested_below};
-ghost use Rattle.ss_parser.specs.View.{heading_of};
+ghost use Rattle.ss_parser_statement_trees.specs.View.{heading_of};
 ghost use Rattle.ss_parser.specs.Loops.{guarded};
 
-use crate::build;
-use crate::build::{Guarded, Heading};
 use crate::governed::parse_governed;
 use crate::headings::{parse_heading, parse_invariants};
 use ss_ast::{Expr, Stmt, Symbol, Token, TokenKind};
 use ss_core::Place;
 use ss_grammar::fault::{Fault, Stop};
 use ss_parser_expressions::arguments::parse_paren_end;
+use ss_parser_statement_trees::build;
+use ss_parser_statement_trees::build::{Guarded, Heading};
 use std::alloc::Global;
 
 // The heading of a `for`, one level deeper.

@@ -8,16 +8,16 @@ ghost use Rattle.ss_grammar_expressions.specs.Heads.{pieces, AToken};
 ghost use Rattle.ss_grammar_expressions.specs.Parser.{below, opened};
 ghost use Rattle.ss_grammar_statements.specs.Heads.{prim_opens, prim_place};
 ghost use Rattle.ss_grammar_statements.specs.Parser.{prim_behind, prim, post_behind, post};
-ghost use Rattle.ss_parser.specs.View.{prim_start_of};
+ghost use Rattle.ss_parser_statement_trees.specs.View.{prim_start_of};
 
-use crate::heads::{PrimStart, prim_start};
 use ss_ast::{Expr, Token};
 use ss_core::Place;
 use ss_grammar::fault::{Fault, Stop};
+use ss_parser_expression_trees::build::in_parentheses;
 use ss_parser_expressions::arguments::parse_paren_end;
-use ss_parser_expressions::build::in_parentheses;
 use ss_parser_expressions::paths::{parse_new, parse_old, parse_postfixes};
 use ss_parser_expressions::quantifiers::parse_quantified;
+use ss_parser_statement_trees::heads::{PrimStart, prim_start};
 use std::alloc::Global;
 
 // What a path begins with, behind its first token, which is `first`.

@@ -10,21 +10,23 @@ ghost use Rattle.ss_grammar_expressions.specs.Grammar.{named};
 ghost use Rattle.ss_grammar_expressions.specs.Parser.{below, opened};
 ghost use Rattle.ss_grammar_statements.specs.Heads.{prim_opens, start_opens, NextName, PrimFirst};
 ghost use Rattle.ss_grammar_statements.specs.Parser.{simple_end, simple, simple_then, simple_from, array_declared, element_first, element_or_declared, next_behind, name_behind, start_behind, for_init};
-ghost use Rattle.ss_parser.specs.View.{prim_start_of, init_start_of};
+ghost use Rattle.ss_parser_statement_trees.specs.View.{prim_start_of, init_start_of};
 
-use crate::build;
 use crate::declarations::{parse_declaration, parse_decls_from};
-use crate::heads::{InitStart, PrimStart, SimpleStart, init_start, simple_start};
 use crate::posts::{parse_post, parse_post_from};
 use ss_ast::{Expr, ForInit, Name, Simple, Symbol, Token, TokenKind};
 use ss_core::Place;
 use ss_grammar::fault::{Fault, Stop};
+use ss_parser_expression_trees::build::{element_of, name_expr};
+use ss_parser_expression_trees::heads::expect;
 use ss_parser_expressions::arguments::parse_index_end;
-use ss_parser_expressions::build::{element_of, name_expr};
 use ss_parser_expressions::expressions::parse_expression;
-use ss_parser_expressions::heads::expect;
 use ss_parser_expressions::paths::parse_postfixes;
 use ss_parser_expressions::types::{parse_bang, parse_type_end};
+use ss_parser_statement_trees::build;
+use ss_parser_statement_trees::heads::{
+    InitStart, PrimStart, SimpleStart, init_start, simple_start,
+};
 use std::alloc::Global;
 
 // What is behind the path of a simple statement.

@@ -10,20 +10,20 @@ ghost use Rattle.ss_grammar_expressions.specs.Heads.{pieces, AToken};
 ghost use Rattle.ss_grammar_expressions.specs.Parser.{below};
 ghost use Rattle.ss_grammar_statements.specs.Heads.{stmt_head, StartFirst, ReturnFirst, AssertFirst, AssumeFirst};
 ghost use Rattle.ss_grammar_statements.specs.Parser.{one_stmt, stmt_behind, other, joins_stmt, statements, nested_below, block};
-ghost use Rattle.ss_parser.specs.View.{init_start_of, word_first, stmt_start_of, listed_of};
+ghost use Rattle.ss_parser_statement_trees.specs.View.{init_start_of, word_first, stmt_start_of, listed_of};
 
-use crate::build;
-use crate::build::StmtList;
 use crate::exposes::parse_expose;
 use crate::governed::{parse_block_behind, parse_if};
 use crate::headings::{parse_ended, parse_optional_value};
-use crate::heads::{InitStart, StmtStart, StmtWord, next_start, stmt_start};
 use crate::loops::{parse_for, parse_while};
 use crate::simples::parse_start;
 use ss_ast::{Block, Stmt, Symbol, Token, TokenKind};
 use ss_core::Place;
 use ss_grammar::fault::{Fault, Stop};
-use ss_parser_expressions::heads::expect;
+use ss_parser_expression_trees::heads::expect;
+use ss_parser_statement_trees::build;
+use ss_parser_statement_trees::build::StmtList;
+use ss_parser_statement_trees::heads::{InitStart, StmtStart, StmtWord, next_start, stmt_start};
 use std::alloc::Global;
 
 // What is behind `return`.

@@ -9,9 +9,9 @@ ghost use Rattle.ss_grammar_expressions.specs.Grammar.{TheExpression, join_argum
 ghost use Rattle.ss_grammar_expressions.specs.Parser.{below, args, some_args, args_end, index_end, paren_end};
 
 use crate::expressions::parse_expression;
-use crate::heads::{expect, next_symbol, then_symbol};
 use ss_ast::{Expr, Symbol, Token, TokenKind};
 use ss_grammar::fault::Stop;
+use ss_parser_expression_trees::heads::{expect, next_symbol, then_symbol};
 use std::alloc::Global;
 
 /// An expression one level deeper.

@@ -6,19 +6,19 @@ ghost use Rattle.ss_grammar.specs.Stops.{Gives};
 ghost use Rattle.ss_grammar_expressions.specs.Heads.{pieces};
 ghost use Rattle.ss_grammar_expressions.specs.Grammar.{TheNamed};
 ghost use Rattle.ss_grammar_expressions.specs.Parser.{below, postfixes, cast_end, cast_only, bare_end, closed, word_paren, name_paren, other_paren, paren, enclosed};
-ghost use Rattle.ss_parser_expressions.specs.View.{start_of, inside_of};
+ghost use Rattle.ss_parser_expression_trees.specs.View.{start_of, inside_of};
 
 use crate::arguments::parse_paren_end;
-use crate::build;
-use crate::build::Inside;
 use crate::enclosed::parse_named;
-use crate::heads::{Start, expect, is_castable, type_word};
 use crate::paths::parse_postfixes;
 use crate::types::inner_type_end;
 use crate::unaries::inner_unary;
 use ss_ast::{Expr, Name, Symbol, Token, TokenKind, TypeName, TypeRef, Word};
 use ss_core::Place;
 use ss_grammar::fault::{Fault, Stop};
+use ss_parser_expression_trees::build;
+use ss_parser_expression_trees::build::Inside;
+use ss_parser_expression_trees::heads::{Start, expect, is_castable, type_word};
 use std::alloc::Global;
 
 // What is behind `(` and a name, up to the `)`.

@@ -7,15 +7,15 @@ ghost use Rattle.ss_grammar.specs.Stops.{Gives};
 ghost use Rattle.ss_grammar_expressions.specs.Heads.{pieces, link_head};
 ghost use Rattle.ss_grammar_expressions.specs.Parser.{below, joins, link_behind, chain, operand};
 ghost use Rattle.ss_ast.specs.Parts.{link_behind as link_tree};
-ghost use Rattle.ss_parser_expressions.specs.View.{joint_of};
+ghost use Rattle.ss_parser_expression_trees.specs.View.{joint_of};
 
-use crate::build;
-use crate::heads::{Joint, next_joint};
 use crate::types::parse_plain_type;
 use crate::unaries::parse_unary;
 use ss_ast::{Expr, Link, Token};
 use ss_core::Place;
 use ss_grammar::fault::{Fault, Stop};
+use ss_parser_expression_trees::build;
+use ss_parser_expression_trees::heads::{Joint, next_joint};
 use std::alloc::Global;
 
 // An operand of operators above this rank.

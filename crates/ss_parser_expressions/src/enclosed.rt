@@ -5,18 +5,18 @@ ghost use Rattle.ss_ast.specs.Expressions.{expr_tree, name_tree};
 ghost use Rattle.ss_grammar.specs.Stops.{Gives};
 ghost use Rattle.ss_grammar_expressions.specs.Heads.{pieces};
 ghost use Rattle.ss_grammar_expressions.specs.Parser.{below, rest_of, array_end, element_end, element_or_array, named_rest, named_end};
-ghost use Rattle.ss_parser_expressions.specs.View.{inside_of};
+ghost use Rattle.ss_parser_expression_trees.specs.View.{inside_of};
 
 use crate::arguments::parse_index_end;
-use crate::build;
-use crate::build::Inside;
 use crate::expressions::parse_expression_from;
-use crate::heads::expect;
 use crate::paths::parse_postfixes;
 use crate::types::parse_bang;
 use ss_ast::{Expr, Name, Symbol, Token, TokenKind};
 use ss_core::Place;
 use ss_grammar::fault::{Fault, Stop};
+use ss_parser_expression_trees::build;
+use ss_parser_expression_trees::build::Inside;
+use ss_parser_expression_trees::heads::expect;
 use std::alloc::Global;
 
 // The rest of an expression, behind the beginning of its first path.

@@ -7,12 +7,12 @@ ghost use Rattle.ss_grammar_expressions.specs.Heads.{pieces};
 ghost use Rattle.ss_grammar_expressions.specs.Grammar.{TheImplication};
 ghost use Rattle.ss_grammar_expressions.specs.Parser.{below, right_side, implication_end, implication_from, implication, iff_end, expression_from, whole_expression};
 
-use crate::build;
 use crate::chains::parse_chain;
 use crate::unaries::parse_unary;
 use ss_ast::{Expr, Symbol, Token, TokenKind};
 use ss_core::Place;
 use ss_grammar::fault::{Fault, Stop};
+use ss_parser_expression_trees::build;
 use std::alloc::Global;
 
 // The right side of `==>`, one level deeper.

@@ -3,13 +3,11 @@
 #![tactic(auto)]
 
 pub mod arguments;
-pub mod build;
 mod casts;
 mod chains;
 mod enclosed;
 mod expr;
 pub mod expressions;
-pub mod heads;
 pub mod paths;
 pub mod quantifiers;
 pub mod refusal;

@@ -8,14 +8,14 @@ ghost use Rattle.ss_grammar_expressions.specs.First.{tokened};
 ghost use Rattle.ss_grammar_expressions.specs.Heads.{pieces, postfix_head};
 ghost use Rattle.ss_grammar_expressions.specs.Parser.{below, postfix, postfixes, new, old, new_end};
 ghost use Rattle.ss_ast.specs.Parts.{postfix_behind as postfix_tree};
-ghost use Rattle.ss_parser_expressions.specs.View.{start_of};
+ghost use Rattle.ss_parser_expression_trees.specs.View.{start_of};
 
 use crate::arguments::{parse_args_end, parse_index_end, parse_paren_end};
-use crate::build;
-use crate::heads::{Start, expect_name, expect_type};
 use ss_ast::{Expr, Name, Postfix, Symbol, Token, TokenKind, TypeName};
 use ss_core::Place;
 use ss_grammar::fault::{Fault, Stop};
+use ss_parser_expression_trees::build;
+use ss_parser_expression_trees::heads::{Start, expect_name, expect_type};
 use std::alloc::Global;
 
 /// A postfix of a path, where one begins.

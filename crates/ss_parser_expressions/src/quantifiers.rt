@@ -8,12 +8,12 @@ ghost use Rattle.ss_grammar_expressions.specs.Grammar.{TheRange};
 ghost use Rattle.ss_grammar_expressions.specs.Parser.{below, range_high, range_end, range, body, bound, bounds_and_body, quantified_behind, quantified, unary_behind, bound_name};
 
 use crate::arguments::{inner_expression, parse_paren_end};
-use crate::build;
-use crate::heads::{expect, expect_name, expect_word, then_symbol};
 use crate::paths::parse_postfixes;
 use ss_ast::{Expr, Name, Quantifier, Symbol, Token, TokenKind, Word};
 use ss_core::Place;
 use ss_grammar::fault::{Fault, Stop};
+use ss_parser_expression_trees::build;
+use ss_parser_expression_trees::heads::{expect, expect_name, expect_word, then_symbol};
 use std::alloc::Global;
 
 // The bounds of a quantifier, one level deeper.

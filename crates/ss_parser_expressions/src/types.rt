@@ -7,11 +7,11 @@ ghost use Rattle.ss_grammar.specs.Stops.{Gives};
 ghost use Rattle.ss_grammar_expressions.specs.Heads.{pieces, type_head};
 ghost use Rattle.ss_grammar_expressions.specs.Grammar.{TheTypeEnd};
 ghost use Rattle.ss_grammar_expressions.specs.Parser.{below, brackets, bang_end, type_end, plain_type};
-ghost use Rattle.ss_parser_expressions.specs.View.{start_of};
+ghost use Rattle.ss_parser_expression_trees.specs.View.{start_of};
 
-use crate::heads::{Start, expect, expect_type};
 use ss_ast::{Symbol, Token, TokenKind, TypeRef};
 use ss_grammar::fault::{Fault, Stop};
+use ss_parser_expression_trees::heads::{Start, expect, expect_type};
 
 /// A type.
 #[tactic(auto)]

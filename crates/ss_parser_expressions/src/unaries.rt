@@ -6,16 +6,16 @@ ghost use Rattle.ss_grammar.specs.Stops.{Gives};
 ghost use Rattle.ss_grammar_expressions.specs.Heads.{pieces};
 ghost use Rattle.ss_grammar_expressions.specs.Grammar.{TheUnary};
 ghost use Rattle.ss_grammar_expressions.specs.Parser.{below, negation, negated, unary_behind, unary};
-ghost use Rattle.ss_parser_expressions.specs.View.{opening_of};
+ghost use Rattle.ss_parser_expression_trees.specs.View.{opening_of};
 
-use crate::build;
 use crate::casts::parse_paren;
-use crate::heads::{Opening, UnaryStart, unary_start};
 use crate::paths::{parse_new, parse_old, parse_postfixes};
 use crate::quantifiers::parse_then_postfixes;
 use ss_ast::{Expr, Quantifier, Token, TokenKind};
 use ss_core::Place;
 use ss_grammar::fault::{Fault, Stop};
+use ss_parser_expression_trees::build;
+use ss_parser_expression_trees::heads::{Opening, UnaryStart, unary_start};
 use std::alloc::Global;
 
 /// A unary expression one level deeper.

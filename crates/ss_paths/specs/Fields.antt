@@ -1,17 +1,9 @@
 -- The fields of a class, by number.
-use Rattle.std.specs.Prelude.{ℕ, ◌+◌, ◌-◌, List, [], length, sum_by, take, Bool, true, false, ◌&&◌, nat_le, nat_lt, Option, Some, None, slice_get}
-use Rattle.ss_core.specs.declared.names.Ty.{Ty}
-use Rattle.ss_core.specs.declared.names.Ty.TheVariants as ty
+use Rattle.std.specs.Prelude.{ℕ, ◌+◌, ◌-◌, List, [], length, sum_by, take, Bool, ◌&&◌, nat_le, nat_lt, Option, Some, None, slice_get}
 use Rattle.ss_core.specs.Tree as core
+pub use Rattle.ss_core.specs.Types.{is_non_null}
 use Rattle.ss_typed.specs.Tree.{FieldTree, MembersTree, TypedTree}
 use Rattle.ss_typed.specs.Lookups.{class_place}
-
--- a value of the type is never null (OOPSLA 2003)
-abbrev pub is_non_null : Ty → Bool
-is_non_null ty.Int = false
-is_non_null ty.Bool = false
-is_non_null ty.Null = false
-is_non_null (ty.Ref t non_null) = non_null
 
 abbrev pub fields_in : Option core.ClassTree → List core.FieldTree
 fields_in None = []

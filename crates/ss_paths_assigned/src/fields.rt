@@ -4,23 +4,13 @@ ghost use Rattle.std.specs.Prelude.{◌≡◌, ◌++◌, ◌+◌, List, ◌∷�
 ghost use Rattle.ss_core.specs.Tree.{ClassTree};
 ghost use Rattle.ss_core.specs.View.{class_of, classes};
 ghost use Rattle.ss_typed.specs.View.{members, typed};
-ghost use Rattle.ss_paths.specs.Fields.{is_non_null, fields_in, field_count, field_numbers, is_among};
+ghost use Rattle.ss_paths.specs.Fields.{fields_in, field_count, field_numbers, is_among};
 ghost use Rattle.ss_typed.specs.Lookups.{class_place};
 ghost use Rattle.ss_paths_assigned.specs.Numbered.{firsts_from};
 
-use ss_core::{Class, ClassId, FieldId, Ty};
+use ss_core::{Class, ClassId, FieldId};
 use ss_typed::{Typed, TypedClass, class_place};
 use std::alloc::{AllocError, Global};
-
-/// Whether a value of the type is never null.
-pub fn is_non_null(ty: Ty) -> bool
-    ensures { result ≡ is_non_null ty }
-{
-    match ty {
-        Ty::Int | Ty::Bool | Ty::Null => false,
-        Ty::Ref { non_null, .. } => non_null,
-    }
-}
 
 /// The numbers of the fields that a class declares: the first one, and how many there are.
 #[derive(Clone, Copy, Debug, PartialEq, Eq)]

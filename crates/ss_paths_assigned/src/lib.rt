@@ -8,5 +8,5 @@ mod opening;
 
 pub use assigned::Assigned;
 pub use beginning::{assigned_by_initializers, assigned_first, started_in};
-pub use fields::{Fields, Numbers, class_at, is_non_null, members_at};
+pub use fields::{Fields, Numbers, class_at, members_at};
 pub use opening::count_first;

@@ -61,7 +61,7 @@ fn is_first(fields: &Fields<'_>, class: ClassId, statement: &TypedStmt) -> bool
         | TypedStmt::Declare(_)
         | TypedStmt::If(..)
         | TypedStmt::While(..)
-        | TypedStmt::For(..)
+        | TypedStmt::For { .. }
         | TypedStmt::Return(..)
         | TypedStmt::Assert(..)
         | TypedStmt::Assume(..)

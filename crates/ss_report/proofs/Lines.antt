@@ -86,6 +86,14 @@ module _ {X : Type 0} (c : CoreTree) (f : X → tree.Obligation) where
       let split : text ++ lines_from c cs us i (drop i (map f xs)) ≡ text ++ (line ++ rest) = ap (λ os. text ++ lines_from c cs us i os) (next xs i d small) in
       ap (λ t. t ++ lines_from c ds vs (i + 1) (drop (i + 1) (map f xs))) (e ∙ ap (λ l. text ++ l) told) ∙ ap (λ l. (text ++ line) ++ l) same ∙ append_assoc text line rest ∙ sym split ∙ h
 
+-- the parts of a text, one behind the other
+pub four_parts : (a b c d : List ℕ) → a ++ (b ++ (c ++ d)) ≡ a ++ b ++ c ++ d
+four_parts a b c d = simp append_assoc
+
+-- those of a check; the place is three of them
+pub check_parts : (k a l c m i n d b : List ℕ) → k ++ (a ++ (l ++ (c ++ (m ++ (i ++ (n ++ (d ++ b))))))) ≡ k ++ a ++ (l ++ c ++ m) ++ i ++ n ++ d ++ b
+check_parts k a l c m i n d b = simp append_assoc
+
 -- a text to which three parts are added
 pub three_parts : (old first second new a b d l : List ℕ) → first ≡ old ++ a → second ≡ first ++ b → new ≡ second ++ d → d ≡ l → new ≡ old ++ (a ++ (b ++ l))
 three_parts old first second new a b d l p q r e =

@@ -2,7 +2,7 @@
 use Rattle.std.specs.Prelude.{ℕ, ◌+◌, List, [], ◌∷◌, ◌++◌, Bool, true, false, ◌==◌, Option, Some, None, slice_get, if◌then◌else◌}
 use Rattle.std.specs.List.{list_any}
 use Rattle.ss_core.specs.Tree.{BodyTree, CoreTree}
-use Rattle.ss_report_core.specs.Names.{declared_name}
+use Rattle.ss_report_names.specs.Names.{declared_name}
 use Rattle.ss_vcgen_heaps.specs.Positions.{Obligation}
 use Rattle.ss_search.specs.declared.answers.Countered.{Countered}
 use Rattle.ss_search.specs.declared.answers.Undecided.{Undecided}

@@ -1,12 +1,20 @@
 // The text of a verdict.
 
 ghost use Rattle.std.specs.Prelude.{◌≡◌, ◌++◌, IfOk, OnOk, string_bytes};
-ghost use Rattle.ss_search.specs.declared.answers.Budget.TheVariants.{Splits, Instances};
-ghost use Rattle.ss_report.specs.Texts.{kind_name as kind_words, check_text, budget_text as budget_words, not_proved_line, undecided_line, place_text as place_words};
+ghost use Rattle.ss_report.specs.Texts.{kind_name as kind_words, check_text, budget_text as budget_words, not_proved_line, undecided_line};
 
 use ss_core::{Kind, Place};
 use ss_search::Budget;
 use std::alloc::{AllocError, Global};
+
+/// A check: its kind, its place, and the names of its class and of its body.
+#[derive(Clone, Copy)]
+pub(crate) struct Check<'a> {
+    pub(crate) kind: Kind,
+    pub(crate) place: Place,
+    pub(crate) class: &'a str,
+    pub(crate) body: &'a str,
+}
 
 /// The name of a kind.
 pub fn kind_name(kind: Kind) -> &'static str
@@ -39,63 +47,25 @@ pub fn kind_name(kind: Kind) -> &'static str
 }
 
 // Adds a check: `KIND at LINE:COLUMN in CLASS.NAME`.
-fn push_check(
-    alloc: Global,
-    text: &mut String,
-    kind: Kind,
-    place: Place,
-    class: &str,
-    body: &str,
-) -> Result<(), AllocError>
-    ensures { OnOk result (string_bytes text.new ≡ string_bytes text.old ++ check_text kind place class.now body.now) }
+fn push_check(text: &mut String, check: &Check<'_>) -> Result<(), AllocError>
+    ensures { OnOk result (string_bytes text.new ≡ string_bytes text.old ++ check_text check.now.kind check.now.place check.now.class.now check.now.body.now) }
 {
-    text.push_str(kind_name(kind))?;
-    text.push_str(" at ")?;
-    text.push_str(&place_text(alloc, place)?)?;
-    text.push_str(" in ")?;
-    text.push_str(class)?;
-    text.push_str(".")?;
-    text.push_str(body)?;
+    let kind = kind_name(check.kind);
+    let Place { line, column } = check.place;
+    let class = check.class;
+    let body = check.body;
+    write!(text, "{kind} at {line}:{column} in {class}.{body}")?;
     Ok(())
 }
 
 /// Adds the line of an obligation that a model refutes: `not proved: KIND at LINE:COLUMN in CLASS.NAME` and a line end.
-pub(crate) fn push_not_proved(
-    alloc: Global,
-    text: &mut String,
-    kind: Kind,
-    place: Place,
-    class: &str,
-    body: &str,
-) -> Result<(), AllocError>
-    ensures { OnOk result (string_bytes text.new ≡ string_bytes text.old ++ not_proved_line kind place class.now body.now) }
+pub(crate) fn push_not_proved(text: &mut String, check: &Check<'_>) -> Result<(), AllocError>
+    ensures { OnOk result (string_bytes text.new ≡ string_bytes text.old ++ not_proved_line check.now.kind check.now.place check.now.class.now check.now.body.now) }
 {
     text.push_str("not proved: ")?;
-    push_check(alloc, text, kind, place, class, body)?;
+    push_check(text, check)?;
     text.push_str("\n")?;
     Ok(())
-}
-
-// How many splits weren't enough, and a line end.
-fn splits_text(alloc: Global, splits: u64) -> Result<String, AllocError>
-    ensures { IfOk result (λ text. string_bytes text ≡ budget_words (Splits splits)) }
-{
-    let mut text = String::from_str(alloc, ", ")?;
-    text.push_str(&splits.to_string(alloc)?)?;
-    text.push_str(" splits")?;
-    text.push_str("\n")?;
-    Ok(text)
-}
-
-// Than which limit there are more instances, and a line end.
-fn instances_text(alloc: Global, limit: u32) -> Result<String, AllocError>
-    ensures { IfOk result (λ text. string_bytes text ≡ budget_words (Instances limit)) }
-{
-    let mut text = String::from_str(alloc, ", more than ")?;
-    text.push_str(&limit.to_string(alloc)?)?;
-    text.push_str(" instances")?;
-    text.push_str("\n")?;
-    Ok(text)
 }
 
 // Which budget wasn't enough, and a line end.
@@ -103,8 +73,8 @@ fn budget_text(alloc: Global, over: Budget) -> Result<String, AllocError>
     ensures { IfOk result (λ text. string_bytes text ≡ budget_words over) }
 {
     match over {
-        Budget::Splits(splits) => splits_text(alloc, splits),
-        Budget::Instances(limit) => instances_text(alloc, limit),
+        Budget::Splits(splits) => format!(in alloc; ", {splits} splits\n"),
+        Budget::Instances(limit) => format!(in alloc; ", more than {limit} instances\n"),
     }
 }
 
@@ -113,26 +83,13 @@ fn budget_text(alloc: Global, over: Budget) -> Result<String, AllocError>
 pub(crate) fn push_undecided(
     alloc: Global,
     text: &mut String,
-    kind: Kind,
-    place: Place,
-    class: &str,
-    body: &str,
+    check: &Check<'_>,
     over: Budget,
 ) -> Result<(), AllocError>
-    ensures { OnOk result (string_bytes text.new ≡ string_bytes text.old ++ undecided_line kind place class.now body.now over) }
+    ensures { OnOk result (string_bytes text.new ≡ string_bytes text.old ++ undecided_line check.now.kind check.now.place check.now.class.now check.now.body.now over) }
 {
     text.push_str("undecided: ")?;
-    push_check(alloc, text, kind, place, class, body)?;
+    push_check(text, check)?;
     text.push_str(&budget_text(alloc, over)?)?;
     Ok(())
-}
-
-// The line and the column of a place, with a colon between them.
-fn place_text(alloc: Global, place: Place) -> Result<String, AllocError>
-    ensures { IfOk result (λ text. string_bytes text ≡ place_words place) }
-{
-    let mut text = place.line.to_string(alloc)?;
-    text.push_str(":")?;
-    text.push_str(&place.column.to_string(alloc)?)?;
-    Ok(text)
 }

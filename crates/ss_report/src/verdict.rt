@@ -9,7 +9,7 @@ ghost use Rattle.ss_vcgen.specs.Built.{trees};
 ghost use Rattle.ss_search.specs.Listed.{countered_numbers, countered_of, undecided_numbers, undecided_of, AreRisingFrom};
 ghost use Rattle.ss_report.specs.Verdict.{verdict_text as verdict_of, listed_text as lines_of, line_of, is_countered, budget_of, class_of_body, name_of_body};
 
-use crate::texts::{push_not_proved, push_undecided};
+use crate::texts::{Check, push_not_proved, push_undecided};
 use ss_core::{BodyId, Core};
 use ss_search::{Budget, Countered, Undecided, Verdict};
 use ss_vcgen::{Listed, Obligations};
@@ -51,19 +51,17 @@ fn push_line(
 {
     let class = class_name(program, obligation.body);
     let body = body_name(program, obligation.body);
+    let check = Check {
+        kind: obligation.kind,
+        place: obligation.place,
+        class,
+        body,
+    };
     if refuted {
-        return push_not_proved(alloc, text, obligation.kind, obligation.place, class, body);
+        return push_not_proved(text, &check);
     }
     match over {
-        Some(over) => push_undecided(
-            alloc,
-            text,
-            obligation.kind,
-            obligation.place,
-            class,
-            body,
-            over,
-        ),
+        Some(over) => push_undecided(alloc, text, &check, over),
         None => Ok(()),
     }
 }

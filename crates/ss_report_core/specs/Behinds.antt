@@ -10,7 +10,7 @@ use Rattle.ss_core.specs.declared.stmt.Loop.{Loop}
 use Rattle.ss_core.specs.declared.stmt.Stmt.TheFolds.{fold-Loop}
 use Rattle.ss_core.specs.Tree.{ClassTree, StmtTree, ExprTree, DefaultExpr, Full, WordTree, Unowned, OwnersTree, SameOwner, OwnedAt}
 use Rattle.ss_core.specs.View.{Behind, expr_step, link_step, step_step, stmt_step, loop_step}
-use Rattle.ss_report_core.specs.Names.{class_name}
+use Rattle.ss_report_names.specs.Names.{class_name}
 use Rattle.ss_report_core.specs.Exprs.{expr_text, word_text}
 
 abbrev pub link_behind : Link → Behind

@@ -6,7 +6,7 @@ use Rattle.ss_core.specs.declared.expr.Operator.TheVariants as operator
 use Rattle.ss_core.specs.declared.expr.Quantifier.{Quantifier}
 use Rattle.ss_core.specs.declared.expr.Quantifier.TheVariants as quantifier
 use Rattle.ss_core.specs.Tree.{WordTree, Consistent, Committed, New, Level, Packed, Unowned, OwnersTree, SameOwner, OwnedAt, ExprTree, IntExpr, BoolExpr, NullExpr, LocalExpr, FieldExpr, ElementExpr, LengthExpr, NegateExpr, NotExpr, BinaryExpr, ImpliesExpr, IffExpr, IsExpr, AsExpr, CastExpr, OldExpr, QuantifiedExpr, StateExpr, OwnersExpr, DefaultExpr, ClassTree}
-use Rattle.ss_report_core.specs.Names.{class_name, field_name, marked, local_text}
+use Rattle.ss_report_names.specs.Names.{class_name, field_name, marked, local_text}
 
 abbrev pub bool_text : Bool → List ℕ
 bool_text true = codes "true"

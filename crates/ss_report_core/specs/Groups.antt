@@ -6,7 +6,7 @@ use Rattle.std.specs.List.{flat_map}
 use Rattle.ss_core.specs.declared.body.Body.{Body}
 use Rattle.ss_core.specs.Tree.{ClassTree, BodyTree, CoreTree}
 use Rattle.ss_core.specs.View as view
-use Rattle.ss_report_core.specs.Names.{class_name}
+use Rattle.ss_report_names.specs.Names.{class_name}
 use Rattle.ss_report_core.specs.Stmts.{line}
 use Rattle.ss_report_core.specs.Text.{body_text, bodies_of}
 

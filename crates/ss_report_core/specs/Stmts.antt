@@ -2,7 +2,7 @@
 use Rattle.std.specs.Prelude.{ℕ, List, [], ◌∷◌, ◌++◌, codes, Bool, ◌==◌, if◌then◌else◌, Option, Some, None, slice_get}
 use Rattle.std.specs.List.{flat_map}
 use Rattle.ss_core.specs.Tree.{ExprTree, CalleeTree, Dispatched, Static, Base, BaseConstructor, StmtTree, AssignStmt, WriteStmt, WriteElementStmt, NewStmt, NewArrayStmt, CallStmt, ReadyStmt, IfStmt, LoopStmt, UnpackStmt, PackStmt, AssertStmt, AssumeStmt, PrintStmt, PrintTextStmt, ReturnStmt, CodeTree, NoCode, Then, CoreTree}
-use Rattle.ss_report_core.specs.Names.{class_name, element_name, field_name, method_name, title_of_body, name_of_body, local_text}
+use Rattle.ss_report_names.specs.Names.{class_name, element_name, field_name, method_name, title_of_body, name_of_body, local_text}
 use Rattle.ss_report_core.specs.Exprs.{expr_text}
 
 -- ---- literals

@@ -2,7 +2,7 @@
 use Rattle.std.specs.Prelude.{ℕ, List, [], ◌∷◌, ◌++◌, codes, filter, ◌==◌, ◌+◌, ◌*◌}
 use Rattle.std.specs.List.{flat_map}
 use Rattle.ss_core.specs.Tree.{ClassTree, BodyTree, CoreTree}
-use Rattle.ss_report_core.specs.Names.{class_name, title, local_names}
+use Rattle.ss_report_names.specs.Names.{class_name, title, local_names}
 use Rattle.ss_report_core.specs.Stmts.{line, deeper, code_text}
 
 -- its title, its statements one level deep, and the line `end`

@@ -3,24 +3,20 @@
 ghost use Rattle.std.specs.Prelude.{◌≡◌, ℕ, List, [], ◌∷◌, ◌++◌, IfOk, OnOk, codes, map, length, replicate, string_bytes};
 ghost use Rattle.ss_core.specs.View as view;
 ghost use Rattle.ss_report_core.specs.Exprs as texts;
-ghost use Rattle.ss_report_core.specs.Names.{class_name};
-ghost use Rattle.ss_report_core.specs.Tables as tables;
-ghost use Rattle.ss_report_core.specs.Contexts.{classes_of, names_in};
+ghost use Rattle.ss_report_names.specs.Names.{class_name};
+ghost use Rattle.ss_report_names.specs.Tables as tables;
+ghost use Rattle.ss_report_names.specs.Contexts.{classes_of, names_in};
 ghost use Rattle.ss_report_core.specs.Behinds.{link_behind, step_behind, link_text, step_text, links_text, steps_text};
 ghost use Rattle.ss_report_core.specs.Behinds as behinds;
 
-use crate::context::Context;
-use crate::fields::field_name;
-use crate::joins::{push_both, push_class_between};
-use crate::scopes::{push_bound, push_local};
 use crate::words::{bool_text, null_mark, operator_text, push_int, quantifier_text};
 use ss_core::{ClassId, Classes, Expr, Link, OwnerTest, Quantifier, StateWord, Step};
+use ss_report_names::{Context, field_name, push_both, push_bound, push_class_between, push_local};
 use std::alloc::{AllocError, Global};
 
 /// The text of an expression.
 #[cycle(expr)]
 pub(crate) fn push_expr(
-    alloc: Global,
     out: &mut Vec<u8>,
     context: &Context<'_>,
     e: &Expr,
@@ -28,39 +24,39 @@ pub(crate) fn push_expr(
     ensures { OnOk result (out.new.items ≡ out.old.items ++ texts.expr_text (classes_of context.now.program.now) (names_in context.now) (view.expr e.now)) }
 {
     match e {
-        Expr::Int(_, n) => push_int(alloc, out, *n),
+        Expr::Int(_, n) => push_int(context.alloc, out, *n),
         Expr::Bool(_, b) => out.extend_from_slice(bool_text(*b)),
         Expr::Null(_) => out.extend_from_slice(b"null"),
-        Expr::Local(_, x) => push_local(alloc, out, context, *x),
+        Expr::Local(_, x) => push_local(out, context, *x),
         Expr::Iff(_, a, b) => {
-            push_between(alloc, out, context, b"(", a, b" <==> ")?;
-            push_between(alloc, out, context, b"", b, b")")
+            push_between(out, context, b"(", a, b" <==> ")?;
+            push_between(out, context, b"", b, b")")
         }
         Expr::Implies(_, a, b) => {
-            push_between(alloc, out, context, b"(", a, b" ==> ")?;
-            push_between(alloc, out, context, b"", b, b")")
+            push_between(out, context, b"(", a, b" ==> ")?;
+            push_between(out, context, b"", b, b")")
         }
         Expr::Chain(_, first, links) => {
-            push_opened(alloc, out, context, links.len(), first)?;
-            push_links(alloc, out, context, links)
+            push_opened(out, context, links.len(), first)?;
+            push_links(out, context, links)
         }
-        Expr::Negate(_, a) => push_between(alloc, out, context, b"(- ", a, b")"),
-        Expr::Not(_, a) => push_between(alloc, out, context, b"(! ", a, b")"),
-        Expr::Cast(_, t, non_null, a) => push_cast(alloc, out, context, *t, *non_null, a),
+        Expr::Negate(_, a) => push_between(out, context, b"(- ", a, b")"),
+        Expr::Not(_, a) => push_between(out, context, b"(! ", a, b")"),
+        Expr::Cast(_, t, non_null, a) => push_cast(out, context, *t, *non_null, a),
         Expr::Path(_, first, steps) => {
-            push_expr(alloc, out, context, first)?;
-            push_steps(alloc, out, context, steps)
+            push_expr(out, context, first)?;
+            push_steps(out, context, steps)
         }
-        Expr::Old(_, a) => push_between(alloc, out, context, b"old(", a, b")"),
+        Expr::Old(_, a) => push_between(out, context, b"old(", a, b")"),
         Expr::Quantified(_, quantifier, name, low, high, member) => {
-            push_low(alloc, out, context, *quantifier, name, low)?;
-            push_expr(alloc, out, context, high)?;
-            push_member(alloc, out, context, name, member)
+            push_low(out, context, *quantifier, name, low)?;
+            push_expr(out, context, high)?;
+            push_member(out, context, name, member)
         }
-        Expr::State(_, word, a) => push_state(alloc, out, context, *word, a),
+        Expr::State(_, word, a) => push_state(out, context, *word, a),
         Expr::Owners(_, test, a, b) => {
-            push_between(alloc, out, context, owners_before(*test), a, b", ")?;
-            push_owned(alloc, out, context, *test, b)
+            push_between(out, context, owners_before(*test), a, b", ")?;
+            push_owned(out, context, *test, b)
         }
         Expr::Default(_, _) => Ok(()),
     }
@@ -69,7 +65,6 @@ pub(crate) fn push_expr(
 /// An expression between two texts.
 #[cycle(expr)]
 pub(crate) fn push_between(
-    alloc: Global,
     out: &mut Vec<u8>,
     context: &Context<'_>,
     before: &[u8],
@@ -79,13 +74,12 @@ pub(crate) fn push_between(
     ensures { OnOk result (out.new.items ≡ out.old.items ++ (before.now ++ texts.expr_text (classes_of context.now.program.now) (names_in context.now) (view.expr e.now) ++ behind.now)) }
 {
     out.extend_from_slice(before)?;
-    push_expr(alloc, out, context, e)?;
+    push_expr(out, context, e)?;
     out.extend_from_slice(behind)
 }
 
 #[cycle(expr)]
 fn push_cast(
-    alloc: Global,
     out: &mut Vec<u8>,
     context: &Context<'_>,
     t: ClassId,
@@ -96,7 +90,7 @@ fn push_cast(
 {
     let classes = &context.program.whole.classes;
     push_class_between(out, classes, b"((", t, null_mark(non_null))?;
-    push_between(alloc, out, context, b") ", e, b")")
+    push_between(out, context, b") ", e, b")")
 }
 
 // This many open parentheses.
@@ -112,7 +106,6 @@ fn push_opens(out: &mut Vec<u8>, count: usize) -> Result<(), AllocError>
 // This many open parentheses, and an expression.
 #[cycle(expr)]
 fn push_opened(
-    alloc: Global,
     out: &mut Vec<u8>,
     context: &Context<'_>,
     count: usize,
@@ -121,38 +114,28 @@ fn push_opened(
     ensures { OnOk result (out.new.items ≡ out.old.items ++ (replicate count 40 ++ texts.expr_text (classes_of context.now.program.now) (names_in context.now) (view.expr e.now))) }
 {
     push_opens(out, count)?;
-    push_expr(alloc, out, context, e)
+    push_expr(out, context, e)
 }
 
 #[cycle(expr)]
-fn push_links(
-    alloc: Global,
-    out: &mut Vec<u8>,
-    context: &Context<'_>,
-    links: &[Link],
-) -> Result<(), AllocError>
+fn push_links(out: &mut Vec<u8>, context: &Context<'_>, links: &[Link]) -> Result<(), AllocError>
     ensures { OnOk result (out.new.items ≡ out.old.items ++ links_text (classes_of context.now.program.now) (names_in context.now) (map link_behind links.now)) }
 {
     for link in links {
-        push_link(alloc, out, context, link)?;
+        push_link(out, context, link)?;
     }
     Ok(())
 }
 
 // What a link writes behind an operand.
 #[cycle(expr)]
-fn push_link(
-    alloc: Global,
-    out: &mut Vec<u8>,
-    context: &Context<'_>,
-    link: &Link,
-) -> Result<(), AllocError>
+fn push_link(out: &mut Vec<u8>, context: &Context<'_>, link: &Link) -> Result<(), AllocError>
     ensures { OnOk result (out.new.items ≡ out.old.items ++ link_text (classes_of context.now.program.now) (names_in context.now) (link_behind link.now)) }
 {
     let classes = &context.program.whole.classes;
     match link {
         Link::Operation(operator, e) => {
-            push_between(alloc, out, context, operator_text(*operator), e, b")")
+            push_between(out, context, operator_text(*operator), e, b")")
         }
         Link::Is(t) => push_class_between(out, classes, b" is ", *t, b")"),
         Link::As(t) => push_class_between(out, classes, b" as ", *t, b")"),
@@ -160,39 +143,28 @@ fn push_link(
 }
 
 #[cycle(expr)]
-fn push_steps(
-    alloc: Global,
-    out: &mut Vec<u8>,
-    context: &Context<'_>,
-    steps: &[Step],
-) -> Result<(), AllocError>
+fn push_steps(out: &mut Vec<u8>, context: &Context<'_>, steps: &[Step]) -> Result<(), AllocError>
     ensures { OnOk result (out.new.items ≡ out.old.items ++ steps_text (classes_of context.now.program.now) (names_in context.now) (map step_behind steps.now)) }
 {
     for step in steps {
-        push_step(alloc, out, context, step)?;
+        push_step(out, context, step)?;
     }
     Ok(())
 }
 
 #[cycle(expr)]
-fn push_step(
-    alloc: Global,
-    out: &mut Vec<u8>,
-    context: &Context<'_>,
-    step: &Step,
-) -> Result<(), AllocError>
+fn push_step(out: &mut Vec<u8>, context: &Context<'_>, step: &Step) -> Result<(), AllocError>
     ensures { OnOk result (out.new.items ≡ out.old.items ++ step_text (classes_of context.now.program.now) (names_in context.now) (step_behind step.now)) }
 {
     match step {
         Step::Field(f) => push_both(out, b".", field_name(context.program, *f)),
-        Step::Element(e) => push_between(alloc, out, context, b"[", e, b"]"),
+        Step::Element(e) => push_between(out, context, b"[", e, b"]"),
         Step::Length => out.extend_from_slice(b".Length"),
     }
 }
 
 // A quantifier up to its bounds.
 fn push_head(
-    alloc: Global,
     out: &mut Vec<u8>,
     context: &Context<'_>,
     quantifier: Quantifier,
@@ -202,14 +174,13 @@ fn push_head(
 {
     out.extend_from_slice(quantifier_text(quantifier))?;
     out.extend_from_slice(b"{int ")?;
-    push_bound(alloc, out, context, name)?;
+    push_bound(out, context, name)?;
     out.extend_from_slice(b" in (")
 }
 
 // A quantifier up to its second bound.
 #[cycle(expr)]
 fn push_low(
-    alloc: Global,
     out: &mut Vec<u8>,
     context: &Context<'_>,
     quantifier: Quantifier,
@@ -218,8 +189,8 @@ fn push_low(
 ) -> Result<(), AllocError>
     ensures { OnOk result (out.new.items ≡ out.old.items ++ (texts.head_text (names_in context.now) quantifier name.now ++ texts.expr_text (classes_of context.now.program.now) (names_in context.now) (view.expr low.now) ++ codes ": ")) }
 {
-    push_head(alloc, out, context, quantifier, name)?;
-    push_between(alloc, out, context, b"", low, b": ")
+    push_head(out, context, quantifier, name)?;
+    push_between(out, context, b"", low, b": ")
 }
 
 // These names, and behind them one more.
@@ -238,7 +209,6 @@ fn with_name<'a>(
 // The member of a quantifier, in which the name is bound, with what stands before and behind it.
 #[cycle(expr)]
 fn push_member(
-    alloc: Global,
     out: &mut Vec<u8>,
     context: &Context<'_>,
     name: &str,
@@ -246,19 +216,19 @@ fn push_member(
 ) -> Result<(), AllocError>
     ensures { OnOk result (out.new.items ≡ out.old.items ++ (codes "); " ++ texts.expr_text (classes_of context.now.program.now) (names_in context.now ++ name.now ∷ []) (view.expr member.now) ++ codes "}")) }
 {
-    let bound = with_name(alloc, context.bound, name)?;
+    let bound = with_name(context.alloc, context.bound, name)?;
     let inner = Context {
+        alloc: context.alloc,
         program: context.program,
         locals: context.locals,
         bound: &bound,
     };
-    push_between(alloc, out, &inner, b"); ", member, b"}")
+    push_between(out, &inner, b"); ", member, b"}")
 }
 
 // A question about the state of the object that an expression gives.
 #[cycle(expr)]
 fn push_state(
-    alloc: Global,
     out: &mut Vec<u8>,
     context: &Context<'_>,
     word: StateWord,
@@ -267,14 +237,13 @@ fn push_state(
     ensures { OnOk result (out.new.items ≡ out.old.items ++ (behinds.word_before (view.word_tree word) ++ texts.expr_text (classes_of context.now.program.now) (names_in context.now) (view.expr e.now) ++ behinds.word_behind (classes_of context.now.program.now) (view.word_tree word))) }
 {
     out.extend_from_slice(word_before(word))?;
-    push_expr(alloc, out, context, e)?;
+    push_expr(out, context, e)?;
     push_word(out, &context.program.whole.classes, word)
 }
 
 // The second of two objects whose owners are compared, and what stands behind it.
 #[cycle(expr)]
 fn push_owned(
-    alloc: Global,
     out: &mut Vec<u8>,
     context: &Context<'_>,
     test: OwnerTest,
@@ -282,7 +251,7 @@ fn push_owned(
 ) -> Result<(), AllocError>
     ensures { OnOk result (out.new.items ≡ out.old.items ++ (texts.expr_text (classes_of context.now.program.now) (names_in context.now) (view.expr e.now) ++ behinds.owners_behind (classes_of context.now.program.now) (view.owners_tree test))) }
 {
-    push_expr(alloc, out, context, e)?;
+    push_expr(out, context, e)?;
     push_owners(out, &context.program.whole.classes, test)
 }
 

@@ -4,19 +4,18 @@ ghost use Rattle.std.specs.Prelude.{◌≡◌, [], ◌∷◌, ◌++◌, IfOk, On
 ghost use Rattle.std.specs.List.{flat_map};
 ghost use Rattle.ss_core.specs.View as view;
 ghost use Rattle.ss_report_core.specs.Exprs.{expr_text};
-ghost use Rattle.ss_report_core.specs.Names as names;
+ghost use Rattle.ss_report_names.specs.Names as names;
 ghost use Rattle.ss_report_core.specs.Stmts as texts;
-ghost use Rattle.ss_report_core.specs.Contexts.{core_of, classes_of, names_in};
+ghost use Rattle.ss_report_names.specs.Contexts.{core_of, classes_of, names_in};
 ghost use Rattle.ss_report_core.specs.Behinds.{loop_of};
 
-use crate::context::Context;
 use crate::exprs::{push_between, push_expr};
-use crate::fields::field_name;
-use crate::joins::{push_both, push_class_between};
-use crate::names::{body_name, method_name, push_class, push_element, push_title_of};
-use crate::scopes::push_local;
 use crate::words::{print_word, push_literal};
 use ss_core::{Callee, ClassId, Expr, FieldId, Loop, Stmt};
+use ss_report_names::{
+    Context, body_name, field_name, method_name, push_both, push_class, push_class_between,
+    push_element, push_local, push_title_of,
+};
 use std::alloc::{AllocError, Global};
 
 // A line of a fixed text.
@@ -29,7 +28,6 @@ fn push_fixed(out: &mut Vec<u8>, indent: &[u8], text: &[u8]) -> Result<(), Alloc
 
 // A line of a word and an expression.
 fn push_worded(
-    alloc: Global,
     out: &mut Vec<u8>,
     context: &Context<'_>,
     indent: &[u8],
@@ -39,12 +37,11 @@ fn push_worded(
     ensures { OnOk result (out.new.items ≡ out.old.items ++ texts.line indent.now (word.now ++ expr_text (classes_of context.now.program.now) (names_in context.now) (view.expr e.now))) }
 {
     out.extend_from_slice(indent)?;
-    push_between(alloc, out, context, word, e, b"\n")
+    push_between(out, context, word, e, b"\n")
 }
 
 // An expression behind a blank, where there is one.
 fn push_behind_blank(
-    alloc: Global,
     out: &mut Vec<u8>,
     context: &Context<'_>,
     e: &Option<Expr>,
@@ -55,61 +52,45 @@ fn push_behind_blank(
         None => Ok(()),
         Some(e) => {
             out.extend_from_slice(b" ")?;
-            push_expr(alloc, out, context, e)
+            push_expr(out, context, e)
         }
     }
 }
 
 // Expressions, each behind a comma.
-fn push_more_args(
-    alloc: Global,
-    out: &mut Vec<u8>,
-    context: &Context<'_>,
-    args: &[Expr],
-) -> Result<(), AllocError>
+fn push_more_args(out: &mut Vec<u8>, context: &Context<'_>, args: &[Expr]) -> Result<(), AllocError>
     ensures { OnOk result (out.new.items ≡ out.old.items ++ flat_map (texts.behind_comma (core_of context.now.program.now) (names_in context.now)) (map view.expr args.now)) }
 {
     for arg in args {
         out.extend_from_slice(b", ")?;
-        push_expr(alloc, out, context, arg)?;
+        push_expr(out, context, arg)?;
     }
     Ok(())
 }
 
-fn push_args(
-    alloc: Global,
-    out: &mut Vec<u8>,
-    context: &Context<'_>,
-    args: &[Expr],
-) -> Result<(), AllocError>
+fn push_args(out: &mut Vec<u8>, context: &Context<'_>, args: &[Expr]) -> Result<(), AllocError>
     ensures { OnOk result (out.new.items ≡ out.old.items ++ texts.args_text (core_of context.now.program.now) (names_in context.now) (map view.expr args.now)) }
 {
     match args {
         [] => Ok(()),
         [first, others @ ..] => {
-            push_expr(alloc, out, context, first)?;
-            push_more_args(alloc, out, context, others)
+            push_expr(out, context, first)?;
+            push_more_args(out, context, others)
         }
     }
 }
 
 // The arguments in parentheses, and the end of the line.
-fn push_arguments(
-    alloc: Global,
-    out: &mut Vec<u8>,
-    context: &Context<'_>,
-    args: &[Expr],
-) -> Result<(), AllocError>
+fn push_arguments(out: &mut Vec<u8>, context: &Context<'_>, args: &[Expr]) -> Result<(), AllocError>
     ensures { OnOk result (out.new.items ≡ out.old.items ++ (codes "(" ++ texts.args_text (core_of context.now.program.now) (names_in context.now) (map view.expr args.now) ++ codes ")\n")) }
 {
     out.extend_from_slice(b"(")?;
-    push_args(alloc, out, context, args)?;
+    push_args(out, context, args)?;
     out.extend_from_slice(b")\n")
 }
 
 // The local that keeps a result.
 fn push_kept(
-    alloc: Global,
     out: &mut Vec<u8>,
     context: &Context<'_>,
     kept: Option<usize>,
@@ -119,7 +100,7 @@ fn push_kept(
     match kept {
         None => Ok(()),
         Some(x) => {
-            push_local(alloc, out, context, x)?;
+            push_local(out, context, x)?;
             out.extend_from_slice(b" = ")
         }
     }
@@ -127,7 +108,6 @@ fn push_kept(
 
 // The indentation, and the local that keeps a result.
 fn push_start(
-    alloc: Global,
     out: &mut Vec<u8>,
     context: &Context<'_>,
     indent: &[u8],
@@ -136,22 +116,17 @@ fn push_start(
     ensures { OnOk result (out.new.items ≡ out.old.items ++ (indent.now ++ texts.kept_text (names_in context.now) kept)) }
 {
     out.extend_from_slice(indent)?;
-    push_kept(alloc, out, context, kept)
+    push_kept(out, context, kept)
 }
 
 // What a call enters.
-fn push_callee(
-    alloc: Global,
-    out: &mut Vec<u8>,
-    context: &Context<'_>,
-    callee: &Callee,
-) -> Result<(), AllocError>
+fn push_callee(out: &mut Vec<u8>, context: &Context<'_>, callee: &Callee) -> Result<(), AllocError>
     ensures { OnOk result (out.new.items ≡ out.old.items ++ texts.callee_text (core_of context.now.program.now) (names_in context.now) (view.callee_tree callee.now)) }
 {
     let whole = context.program.whole;
     match callee {
         Callee::Dispatched(e, t, m) => {
-            push_between(alloc, out, context, b"", e, b".")?;
+            push_between(out, context, b"", e, b".")?;
             out.extend_from_slice(method_name(&whole.classes, *t, *m))
         }
         Callee::Static(n) => push_title_of(out, &whole.classes, &whole.bodies, *n),
@@ -170,7 +145,6 @@ fn deeper(alloc: Global, indent: &[u8]) -> Result<Vec<u8>, AllocError>
 }
 
 fn push_assign(
-    alloc: Global,
     out: &mut Vec<u8>,
     context: &Context<'_>,
     indent: &[u8],
@@ -180,12 +154,11 @@ fn push_assign(
     ensures { OnOk result (out.new.items ≡ out.old.items ++ texts.line indent.now (names.local_text (names_in context.now) x ++ codes " = " ++ expr_text (classes_of context.now.program.now) (names_in context.now) (view.expr e.now))) }
 {
     out.extend_from_slice(indent)?;
-    push_local(alloc, out, context, x)?;
-    push_between(alloc, out, context, b" = ", e, b"\n")
+    push_local(out, context, x)?;
+    push_between(out, context, b" = ", e, b"\n")
 }
 
 fn push_write(
-    alloc: Global,
     out: &mut Vec<u8>,
     context: &Context<'_>,
     indent: &[u8],
@@ -195,13 +168,12 @@ fn push_write(
 ) -> Result<(), AllocError>
     ensures { OnOk result (out.new.items ≡ out.old.items ++ texts.line indent.now (expr_text (classes_of context.now.program.now) (names_in context.now) (view.expr object.now) ++ codes "." ++ names.field_name (classes_of context.now.program.now) field.0 ++ codes " = " ++ expr_text (classes_of context.now.program.now) (names_in context.now) (view.expr value.now))) }
 {
-    push_between(alloc, out, context, indent, object, b".")?;
+    push_between(out, context, indent, object, b".")?;
     out.extend_from_slice(field_name(context.program, field))?;
-    push_between(alloc, out, context, b" = ", value, b"\n")
+    push_between(out, context, b" = ", value, b"\n")
 }
 
 fn push_write_element(
-    alloc: Global,
     out: &mut Vec<u8>,
     context: &Context<'_>,
     indent: &[u8],
@@ -211,13 +183,12 @@ fn push_write_element(
 ) -> Result<(), AllocError>
     ensures { OnOk result (out.new.items ≡ out.old.items ++ texts.line indent.now (expr_text (classes_of context.now.program.now) (names_in context.now) (view.expr array.now) ++ codes "[" ++ expr_text (classes_of context.now.program.now) (names_in context.now) (view.expr index.now) ++ codes "] = " ++ expr_text (classes_of context.now.program.now) (names_in context.now) (view.expr value.now))) }
 {
-    push_between(alloc, out, context, indent, array, b"[")?;
-    push_expr(alloc, out, context, index)?;
-    push_between(alloc, out, context, b"] = ", value, b"\n")
+    push_between(out, context, indent, array, b"[")?;
+    push_expr(out, context, index)?;
+    push_between(out, context, b"] = ", value, b"\n")
 }
 
 fn push_new(
-    alloc: Global,
     out: &mut Vec<u8>,
     context: &Context<'_>,
     indent: &[u8],
@@ -227,14 +198,13 @@ fn push_new(
 ) -> Result<(), AllocError>
     ensures { OnOk result (out.new.items ≡ out.old.items ++ texts.line indent.now (texts.kept_text (names_in context.now) kept ++ codes "new " ++ names.class_name (classes_of context.now.program.now) t.0 ++ codes "(" ++ texts.args_text (core_of context.now.program.now) (names_in context.now) (map view.expr args.now) ++ codes ")")) }
 {
-    push_start(alloc, out, context, indent, kept)?;
+    push_start(out, context, indent, kept)?;
     out.extend_from_slice(b"new ")?;
     push_class(out, &context.program.whole.classes, t)?;
-    push_arguments(alloc, out, context, args)
+    push_arguments(out, context, args)
 }
 
 fn push_new_array(
-    alloc: Global,
     out: &mut Vec<u8>,
     context: &Context<'_>,
     indent: &[u8],
@@ -244,14 +214,13 @@ fn push_new_array(
 ) -> Result<(), AllocError>
     ensures { OnOk result (out.new.items ≡ out.old.items ++ texts.line indent.now (texts.kept_text (names_in context.now) kept ++ codes "new " ++ names.element_name (classes_of context.now.program.now) t.0 ++ codes "[" ++ expr_text (classes_of context.now.program.now) (names_in context.now) (view.expr count.now) ++ codes "]")) }
 {
-    push_start(alloc, out, context, indent, kept)?;
+    push_start(out, context, indent, kept)?;
     out.extend_from_slice(b"new ")?;
     push_element(out, &context.program.whole.classes, t)?;
-    push_between(alloc, out, context, b"[", count, b"]\n")
+    push_between(out, context, b"[", count, b"]\n")
 }
 
 fn push_call(
-    alloc: Global,
     out: &mut Vec<u8>,
     context: &Context<'_>,
     indent: &[u8],
@@ -261,32 +230,41 @@ fn push_call(
 ) -> Result<(), AllocError>
     ensures { OnOk result (out.new.items ≡ out.old.items ++ texts.line indent.now (texts.kept_text (names_in context.now) kept ++ texts.callee_text (core_of context.now.program.now) (names_in context.now) (view.callee_tree callee.now) ++ codes "(" ++ texts.args_text (core_of context.now.program.now) (names_in context.now) (map view.expr args.now) ++ codes ")")) }
 {
-    push_start(alloc, out, context, indent, kept)?;
-    push_callee(alloc, out, context, callee)?;
-    push_arguments(alloc, out, context, args)
+    push_start(out, context, indent, kept)?;
+    push_callee(out, context, callee)?;
+    push_arguments(out, context, args)
 }
 
-// A line of a word, a local, another word and a class.
-fn push_change(
-    alloc: Global,
+fn push_unpack(
     out: &mut Vec<u8>,
     context: &Context<'_>,
     indent: &[u8],
-    before: &[u8],
     x: usize,
-    between: &[u8],
     t: ClassId,
 ) -> Result<(), AllocError>
-    ensures { OnOk result (out.new.items ≡ out.old.items ++ texts.line indent.now (before.now ++ names.local_text (names_in context.now) x ++ between.now ++ names.class_name (classes_of context.now.program.now) t.0)) }
+    ensures { OnOk result (out.new.items ≡ out.old.items ++ texts.line indent.now (codes "unpack " ++ names.local_text (names_in context.now) x ++ codes " from " ++ names.class_name (classes_of context.now.program.now) t.0)) }
 {
-    push_both(out, indent, before)?;
-    push_local(alloc, out, context, x)?;
-    push_class_between(out, &context.program.whole.classes, between, t, b"\n")
+    push_both(out, indent, b"unpack ")?;
+    push_local(out, context, x)?;
+    push_class_between(out, &context.program.whole.classes, b" from ", t, b"\n")
+}
+
+fn push_pack(
+    out: &mut Vec<u8>,
+    context: &Context<'_>,
+    indent: &[u8],
+    x: usize,
+    t: ClassId,
+) -> Result<(), AllocError>
+    ensures { OnOk result (out.new.items ≡ out.old.items ++ texts.line indent.now (codes "pack " ++ names.local_text (names_in context.now) x ++ codes " as " ++ names.class_name (classes_of context.now.program.now) t.0)) }
+{
+    push_both(out, indent, b"pack ")?;
+    push_local(out, context, x)?;
+    push_class_between(out, &context.program.whole.classes, b" as ", t, b"\n")
 }
 
 // A line of a word and, where there is one, an expression.
 fn push_optional(
-    alloc: Global,
     out: &mut Vec<u8>,
     context: &Context<'_>,
     indent: &[u8],
@@ -296,7 +274,7 @@ fn push_optional(
     ensures { OnOk result (out.new.items ≡ out.old.items ++ texts.line indent.now (word.now ++ texts.behind_blank (core_of context.now.program.now) (names_in context.now) (option_map view.expr e.now))) }
 {
     push_both(out, indent, word)?;
-    push_behind_blank(alloc, out, context, e)?;
+    push_behind_blank(out, context, e)?;
     out.extend_from_slice(b"\n")
 }
 
@@ -315,7 +293,6 @@ fn push_print_text(
 }
 
 fn push_invariants(
-    alloc: Global,
     out: &mut Vec<u8>,
     context: &Context<'_>,
     indent: &[u8],
@@ -324,7 +301,7 @@ fn push_invariants(
     ensures { OnOk result (out.new.items ≡ out.old.items ++ flat_map (texts.invariant_text (core_of context.now.program.now) (names_in context.now) indent.now) (map view.expr invariants.now)) }
 {
     for e in invariants {
-        push_worded(alloc, out, context, indent, b"invariant ", e)?;
+        push_worded(out, context, indent, b"invariant ", e)?;
     }
     Ok(())
 }
@@ -332,7 +309,6 @@ fn push_invariants(
 /// The text of a statement with this indentation.
 #[cycle(stmt)]
 fn push_stmt(
-    alloc: Global,
     out: &mut Vec<u8>,
     context: &Context<'_>,
     indent: &[u8],
@@ -341,44 +317,41 @@ fn push_stmt(
     ensures { OnOk result (out.new.items ≡ out.old.items ++ texts.stmt_text (core_of context.now.program.now) (names_in context.now) indent.now (view.stmt_of stmt.now)) }
 {
     match stmt {
-        Stmt::Assign(_, x, e) => push_assign(alloc, out, context, indent, *x, e),
+        Stmt::Assign(_, x, e) => push_assign(out, context, indent, *x, e),
         Stmt::Write {
             object,
             field,
             value,
             ..
-        } => push_write(alloc, out, context, indent, object, *field, value),
-        Stmt::WriteElement(_, a, i, e) => push_write_element(alloc, out, context, indent, a, i, e),
-        Stmt::New(_, kept, t, args) => push_new(alloc, out, context, indent, *kept, *t, args),
-        Stmt::NewArray(_, kept, t, e) => push_new_array(alloc, out, context, indent, *kept, *t, e),
+        } => push_write(out, context, indent, object, *field, value),
+        Stmt::WriteElement(_, a, i, e) => push_write_element(out, context, indent, a, i, e),
+        Stmt::New(_, kept, t, args) => push_new(out, context, indent, *kept, *t, args),
+        Stmt::NewArray(_, kept, t, e) => push_new_array(out, context, indent, *kept, *t, e),
         Stmt::Call(_, kept, callee, args) => {
-            push_call(alloc, out, context, indent, *kept, callee, args)
+            push_call(out, context, indent, *kept, callee, args)
         }
         Stmt::Ready(_) => push_fixed(out, indent, b"ready this"),
         Stmt::If(_, e, a, b) => {
-            push_worded(alloc, out, context, indent, b"if ", e)?;
-            push_branch(alloc, out, context, indent, b"then", a)?;
-            push_else(alloc, out, context, indent, b)
+            push_worded(out, context, indent, b"if ", e)?;
+            push_branch(out, context, indent, b"then", a)?;
+            push_else(out, context, indent, b)
         }
-        Stmt::Loop(l) => push_loop(alloc, out, context, indent, l),
-        Stmt::Unpack(_, x, t) => {
-            push_change(alloc, out, context, indent, b"unpack ", *x, b" from ", *t)
-        }
-        Stmt::Pack(_, x, t) => push_change(alloc, out, context, indent, b"pack ", *x, b" as ", *t),
-        Stmt::Assert(_, e) => push_worded(alloc, out, context, indent, b"assert ", e),
-        Stmt::Assume(_, e) => push_worded(alloc, out, context, indent, b"assume ", e),
+        Stmt::Loop(l) => push_loop(out, context, indent, l),
+        Stmt::Unpack(_, x, t) => push_unpack(out, context, indent, *x, *t),
+        Stmt::Pack(_, x, t) => push_pack(out, context, indent, *x, *t),
+        Stmt::Assert(_, e) => push_worded(out, context, indent, b"assert ", e),
+        Stmt::Assume(_, e) => push_worded(out, context, indent, b"assume ", e),
         Stmt::Print(_, e, newline) => {
-            push_optional(alloc, out, context, indent, print_word(*newline), e)
+            push_optional(out, context, indent, print_word(*newline), e)
         }
         Stmt::PrintText(_, text, newline) => push_print_text(out, indent, text, *newline),
-        Stmt::Return(_, e) => push_optional(alloc, out, context, indent, b"return", e),
+        Stmt::Return(_, e) => push_optional(out, context, indent, b"return", e),
     }
 }
 
 // Statements one level deeper.
 #[cycle(stmt)]
 fn push_deeper(
-    alloc: Global,
     out: &mut Vec<u8>,
     context: &Context<'_>,
     indent: &[u8],
@@ -386,14 +359,13 @@ fn push_deeper(
 ) -> Result<(), AllocError>
     ensures { OnOk result (out.new.items ≡ out.old.items ++ texts.code_text (core_of context.now.program.now) (names_in context.now) (texts.deeper indent.now) (view.block code.now)) }
 {
-    let inner = deeper(alloc, indent)?;
-    push_code(alloc, out, context, &inner, code)
+    let inner = deeper(context.alloc, indent)?;
+    push_code(out, context, &inner, code)
 }
 
 // A line of a word, and the statements of a branch.
 #[cycle(stmt)]
 fn push_branch(
-    alloc: Global,
     out: &mut Vec<u8>,
     context: &Context<'_>,
     indent: &[u8],
@@ -403,13 +375,12 @@ fn push_branch(
     ensures { OnOk result (out.new.items ≡ out.old.items ++ texts.line indent.now word.now ++ texts.code_text (core_of context.now.program.now) (names_in context.now) (texts.deeper indent.now) (view.block code.now)) }
 {
     push_fixed(out, indent, word)?;
-    push_deeper(alloc, out, context, indent, code)
+    push_deeper(out, context, indent, code)
 }
 
 // The second branch of an `if`, and its end.
 #[cycle(stmt)]
 fn push_else(
-    alloc: Global,
     out: &mut Vec<u8>,
     context: &Context<'_>,
     indent: &[u8],
@@ -417,13 +388,12 @@ fn push_else(
 ) -> Result<(), AllocError>
     ensures { OnOk result (out.new.items ≡ out.old.items ++ (texts.line indent.now (codes "else") ++ texts.code_text (core_of context.now.program.now) (names_in context.now) (texts.deeper indent.now) (view.block code.now) ++ texts.line indent.now (codes "done"))) }
 {
-    push_branch(alloc, out, context, indent, b"else", code)?;
+    push_branch(out, context, indent, b"else", code)?;
     push_fixed(out, indent, b"done")
 }
 
 // The head of a loop: its line and its invariants.
 fn push_loop_head(
-    alloc: Global,
     out: &mut Vec<u8>,
     context: &Context<'_>,
     indent: &[u8],
@@ -432,12 +402,11 @@ fn push_loop_head(
     ensures { OnOk result (out.new.items ≡ out.old.items ++ texts.line indent.now (codes "loop") ++ flat_map (texts.invariant_text (core_of context.now.program.now) (names_in context.now) indent.now) (map view.expr invariants.now)) }
 {
     push_fixed(out, indent, b"loop")?;
-    push_invariants(alloc, out, context, indent, invariants)
+    push_invariants(out, context, indent, invariants)
 }
 
 #[cycle(stmt)]
 fn push_loop(
-    alloc: Global,
     out: &mut Vec<u8>,
     context: &Context<'_>,
     indent: &[u8],
@@ -445,17 +414,16 @@ fn push_loop(
 ) -> Result<(), AllocError>
     ensures { OnOk result (out.new.items ≡ out.old.items ++ texts.stmt_text (core_of context.now.program.now) (names_in context.now) indent.now (loop_of l.now)) }
 {
-    push_loop_head(alloc, out, context, indent, &l.invariants)?;
-    push_deeper(alloc, out, context, indent, &l.prelude)?;
-    push_worded(alloc, out, context, indent, b"test ", &l.test)?;
-    push_deeper(alloc, out, context, indent, &l.body)?;
+    push_loop_head(out, context, indent, &l.invariants)?;
+    push_deeper(out, context, indent, &l.prelude)?;
+    push_worded(out, context, indent, b"test ", &l.test)?;
+    push_deeper(out, context, indent, &l.body)?;
     push_fixed(out, indent, b"done")
 }
 
 /// The texts of statements with this indentation, one after the other.
 #[cycle(stmt)]
 pub(crate) fn push_code(
-    alloc: Global,
     out: &mut Vec<u8>,
     context: &Context<'_>,
     indent: &[u8],
@@ -464,7 +432,7 @@ pub(crate) fn push_code(
     ensures { OnOk result (out.new.items ≡ out.old.items ++ texts.code_text (core_of context.now.program.now) (names_in context.now) indent.now (view.block code.now)) }
 {
     for stmt in code {
-        push_stmt(alloc, out, context, indent, stmt)?;
+        push_stmt(out, context, indent, stmt)?;
     }
     Ok(())
 }

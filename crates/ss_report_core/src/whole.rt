@@ -4,18 +4,17 @@ ghost use Rattle.std.specs.Prelude.{◌≡◌, [], ◌∷◌, ◌++◌, IfOk, On
 ghost use Rattle.std.specs.List.{flat_map};
 ghost use Rattle.ss_core.specs.View as view;
 ghost use Rattle.ss_report_core.specs.Groups as grouped;
-ghost use Rattle.ss_report_core.specs.Names as names;
-ghost use Rattle.ss_report_core.specs.Contexts.{core_of, classes_of};
+ghost use Rattle.ss_report_names.specs.Names as names;
+ghost use Rattle.ss_report_names.specs.Contexts.{core_of, classes_of};
 ghost use Rattle.ss_report_core.specs.Stmts.{line, deeper, code_text};
 ghost use Rattle.ss_report_core.specs.Text as texts;
 
-use crate::context::{Context, Locals, Program};
 use crate::groups::bodies_by_class;
-use crate::joins::{push_both, push_class_between};
-use crate::names::push_title;
-use crate::scopes::push_bytes;
 use crate::stmts::push_code;
 use ss_core::{Body, Class, Core};
+use ss_report_names::{
+    Context, Locals, Program, push_both, push_bytes, push_class_between, push_title,
+};
 use std::alloc::{AllocError, Global};
 
 // The line with the class and the name of a body.
@@ -38,11 +37,12 @@ fn push_statements(
 {
     let locals = Locals::new(alloc, body)?;
     let context = Context {
+        alloc,
         program,
         locals: &locals,
         bound: &[],
     };
-    push_code(alloc, out, &context, b"  ", &body.code)
+    push_code(out, &context, b"  ", &body.code)
 }
 
 fn push_body(

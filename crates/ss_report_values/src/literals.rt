@@ -6,6 +6,7 @@ ghost use Rattle.ss_terms.specs.Forms.{symbol_of, term_at, terms_at, HasTerm};
 ghost use Rattle.ss_report_values.specs.Literals as spec;
 
 use ss_terms::{Bank, Symbol, Term, TermId};
+use std::fmt;
 
 /// What a term is.
 #[derive(Clone, Copy, PartialEq, Eq, PartialOrd, Ord)]
@@ -13,6 +14,17 @@ pub enum Value {
     Number(i128),
     Truth(bool),
     Null,
+}
+
+impl fmt::Display for Value {
+    fn fmt<W: fmt::Write>(&self, f: &mut fmt::Formatter<W>) -> fmt::Result {
+        match *self {
+            Value::Number(n) => write!(f, "{n}"),
+            Value::Truth(true) => f.write_str("True"),
+            Value::Truth(false) => f.write_str("False"),
+            Value::Null => f.write_str("null"),
+        }
+    }
 }
 
 /// The terms of a ground form, each once in order, and the classes that a model gives to them.

@@ -37,7 +37,7 @@ impl Telling {
         value: Value,
     ) -> Result<(), AllocError> {
         if self.count < MOST_VALUES {
-            push_told(&mut self.text, self.alloc, name, field, value)?;
+            push_told(&mut self.text, name, field, value)?;
         } else if self.count == MOST_VALUES {
             self.text.push_str(", ..")?;
         }
@@ -48,7 +48,6 @@ impl Telling {
 
 fn push_told(
     text: &mut String,
-    alloc: Global,
     name: &str,
     field: Option<&str>,
     value: Value,
@@ -56,27 +55,8 @@ fn push_told(
     if !text.is_empty() {
         text.push_str(", ")?;
     }
-    push_name(text, name, field)?;
-    text.push_str(" = ")?;
-    push_value(text, alloc, value)
-}
-
-fn push_name(text: &mut String, name: &str, field: Option<&str>) -> Result<(), AllocError> {
-    text.push_str(name)?;
     match field {
-        Some(field) => {
-            text.push_str(".")?;
-            text.push_str(field)
-        }
-        None => Ok(()),
-    }
-}
-
-fn push_value(text: &mut String, alloc: Global, value: Value) -> Result<(), AllocError> {
-    match value {
-        Value::Number(n) => text.push_str(&n.to_string(alloc)?),
-        Value::Truth(true) => text.push_str("True"),
-        Value::Truth(false) => text.push_str("False"),
-        Value::Null => text.push_str("null"),
+        Some(field) => write!(text, "{name}.{field} = {value}"),
+        None => write!(text, "{name} = {value}"),
     }
 }

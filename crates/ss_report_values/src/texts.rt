@@ -14,26 +14,34 @@ use ss_core::{ClassId, Classes, Field, FieldId, MOST_LEVELS, Ty};
 use ss_terms::Bank;
 use std::alloc::{AllocError, Global};
 
+// What a model says of the terms of a bank, found by their numbers.
+#[derive(Clone, Copy)]
+struct ModelContext<'a> {
+    bank: &'a Bank,
+    reading: &'a Reading<'a>,
+    index: &'a Index,
+}
+
 // What the term of a local is, where the bank has it.
-fn value_of(bank: &Bank, reading: &Reading<'_>, index: &Index, local: &Named<'_>) -> Option<Value>
-    requires { IsIndex bank.now reading.now index.now }
+fn value_of(model: &ModelContext<'_>, local: &Named<'_>) -> Option<Value>
+    requires { IsIndex model.now.bank.now model.now.reading.now model.now.index.now }
 {
-    if bank.has_term(local.term) {
-        index.value_at(bank, reading, local.term)
+    if model.bank.has_term(local.term) {
+        model.index.value_at(model.bank, model.reading, local.term)
     } else {
         None
     }
 }
 
 // The class of the object that a local refers to; nothing where its value is told.
-fn object_of(bank: &Bank, reading: &Reading<'_>, index: &Index, local: &Named<'_>) -> Option<usize>
-    requires { IsIndex bank.now reading.now index.now }
+fn object_of(model: &ModelContext<'_>, local: &Named<'_>) -> Option<usize>
+    requires { IsIndex model.now.bank.now model.now.reading.now model.now.index.now }
 {
-    if value_of(bank, reading, index, local).is_some() {
+    if value_of(model, local).is_some() {
         return None;
     }
-    if bank.has_term(local.term) {
-        index.class_of(bank, reading, local.term)
+    if model.bank.has_term(local.term) {
+        model.index.class_of(model.bank, model.reading, local.term)
     } else {
         None
     }
@@ -92,16 +100,14 @@ impl Telling {
     // Tells the locals that have a value.
     fn tell_locals(
         &mut self,
-        bank: &Bank,
-        reading: &Reading<'_>,
-        index: &Index,
+        model: &ModelContext<'_>,
         named: &[Named<'_>],
     ) -> Result<(), AllocError>
-        requires { IsIndex bank.now reading.now index.now }
+        requires { IsIndex model.now.bank.now model.now.reading.now model.now.index.now }
     {
         let mut rest = named;
         while let [first, others @ ..] = rest {
-            if let Some(value) = value_of(bank, reading, index, first) {
+            if let Some(value) = value_of(model, first) {
                 if first.is_told(others) {
                     self.tell(first.name, None, value)?;
                 }
@@ -153,13 +159,11 @@ impl Telling {
     fn tell_objects(
         &mut self,
         classes: &Classes,
-        bank: &Bank,
-        reading: &Reading<'_>,
-        index: &Index,
+        model: &ModelContext<'_>,
         fields: &Fields,
         named: &[Named<'_>],
     ) -> Result<(), AllocError>
-        requires index { IsIndex bank.now reading.now index.now }
+        requires index { IsIndex model.now.bank.now model.now.reading.now model.now.index.now }
         requires limits { IsWithinLimits (view.classes classes.now) }
     {
         let mut rest = named;
@@ -167,7 +171,7 @@ impl Telling {
             if self.is_full() {
                 return Ok(());
             }
-            if let Some(object) = object_of(bank, reading, index, first) {
+            if let Some(object) = object_of(model, first) {
                 let values = fields.of(object);
                 if !values.is_empty() && first.is_told(others) {
                     self.tell_fields(classes, first, object, values)?;
@@ -181,37 +185,39 @@ impl Telling {
     // Tells the locals, and then the fields of the objects to which they refer.
     fn tell_all(
         &mut self,
-        bank: &Bank,
-        reading: &Reading<'_>,
-        index: &Index,
+        model: &ModelContext<'_>,
         position: &Position<'_>,
     ) -> Result<(), AllocError>
-        requires index { IsIndex bank.now reading.now index.now }
-        requires terms { HasTerms bank.now reading.now.terms.now }
+        requires index { IsIndex model.now.bank.now model.now.reading.now model.now.index.now }
+        requires terms { HasTerms model.now.bank.now model.now.reading.now.terms.now }
         requires limits { IsWithinLimits (view.classes position.now.core.now.classes) }
     {
         let named = named_locals(self.alloc, position)?;
-        self.tell_locals(bank, reading, index, &named)?;
-        let fields = Fields::at(self.alloc, bank, reading, index, position.store)?;
+        self.tell_locals(model, &named)?;
+        let fields = Fields::at(
+            self.alloc,
+            model.bank,
+            model.reading,
+            model.index,
+            position.store,
+        )?;
         let classes = &position.core.classes;
-        self.tell_objects(classes, bank, reading, index, &fields, &named)
+        self.tell_objects(classes, model, &fields, &named)
     }
 }
 
 // The text of what is told.
 fn told(
     alloc: Global,
-    bank: &Bank,
-    reading: &Reading<'_>,
-    index: &Index,
+    model: &ModelContext<'_>,
     position: &Position<'_>,
 ) -> Result<String, AllocError>
-    requires index { IsIndex bank.now reading.now index.now }
-    requires terms { HasTerms bank.now reading.now.terms.now }
+    requires index { IsIndex model.now.bank.now model.now.reading.now model.now.index.now }
+    requires terms { HasTerms model.now.bank.now model.now.reading.now.terms.now }
     requires limits { IsWithinLimits (view.classes position.now.core.now.classes) }
 {
     let mut telling = Telling::new(alloc);
-    telling.tell_all(bank, reading, index, position)?;
+    telling.tell_all(model, position)?;
     let Telling { text, .. } = telling;
     Ok(text)
 }
@@ -229,5 +235,10 @@ pub fn values_text(
     requires limits { IsWithinLimits (view.classes position.now.core.now.classes) }
 {
     let index = Index::new(alloc, bank, reading)?;
-    told(alloc, bank, reading, &index, position)
+    let model = ModelContext {
+        bank,
+        reading,
+        index: &index,
+    };
+    told(alloc, &model, position)
 }

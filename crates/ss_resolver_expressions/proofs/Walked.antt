@@ -77,23 +77,27 @@ path_walked s n m p first postfixes e f ls x y is f_is ls_is same h longer =
     ∙ ap (λ (xs : List Postfix). grouped p (expr_tree f) (map postfix_behind xs)) (sym ls_is) in
     here s n m y _ (expr_tree e) same whole (longer (expr_tree f) (back s n m x (expr_tree f) same h))
 
-pub paren_walked : (s : ResolutionContext) (n m : LocalContext) (p : Place) (inner : Box Expr Global) (e f : Expr) (x y : Part)
-    → e ≡ view.Paren p inner → f ≡ inner.value → m ≡ n → x ≡ part (env_of s n) (expr_tree f)
+pub paren_walked : (s : ResolutionContext) (n m : LocalContext) (p : Place) (f : Expr) (x y : Part) → m ≡ n → x ≡ part (env_of s n) (expr_tree f)
     → ((at : Place) → (t : text.ExprTree) → x ≡ part (env_of s m) t → y ≡ part (env_of s m) (text.ParenOf at t))
-    → y ≡ part (env_of s n) (expr_tree e)
-paren_walked s n m p inner e f x y is f_is same h whole =
-    here s n m y (text.ParenOf p (expr_tree f)) (expr_tree e) same
-    (ap expr_tree is ∙ shapes.paren_is p inner ∙ ap (λ (v : Expr). text.ParenOf p (expr_tree v)) (sym f_is))
-    (whole p (expr_tree f) (back s n m x (expr_tree f) same h))
+    → y ≡ part (env_of s n) (text.ParenOf p (expr_tree f))
+paren_walked s n m p f x y same h whole =
+    here s n m y (text.ParenOf p (expr_tree f)) (text.ParenOf p (expr_tree f)) same refl (whole p (expr_tree f) (back s n m x (expr_tree f) same h))
 
-pub old_walked : (s : ResolutionContext) (n m : LocalContext) (p : Place) (inner : Box Expr Global) (e f : Expr) (x y : Part)
-    → e ≡ view.Old p inner → f ≡ inner.value → m ≡ n → x ≡ part (env_of s n) (expr_tree f)
+pub paren_read : (s : ResolutionContext) (n : LocalContext) (p : Place) (inner : Box Expr Global) (e f : Expr) (y : Part)
+    → e ≡ view.Paren p inner → f ≡ inner.value → y ≡ part (env_of s n) (text.ParenOf p (expr_tree f)) → y ≡ part (env_of s n) (expr_tree e)
+paren_read s n p inner e f y is f_is whole =
+    here s n n y (text.ParenOf p (expr_tree f)) (expr_tree e) refl (ap expr_tree is ∙ shapes.paren_is p inner ∙ ap (λ (v : Expr). text.ParenOf p (expr_tree v)) (sym f_is)) whole
+
+pub old_walked : (s : ResolutionContext) (n m : LocalContext) (p : Place) (f : Expr) (x y : Part) → m ≡ n → x ≡ part (env_of s n) (expr_tree f)
     → ((t : text.ExprTree) → x ≡ part (env_of s m) t → y ≡ part (env_of s m) (text.OldOf p t))
-    → y ≡ part (env_of s n) (expr_tree e)
-old_walked s n m p inner e f x y is f_is same h whole =
-    here s n m y (text.OldOf p (expr_tree f)) (expr_tree e) same
-    (ap expr_tree is ∙ shapes.old_is p inner ∙ ap (λ (v : Expr). text.OldOf p (expr_tree v)) (sym f_is))
-    (whole (expr_tree f) (back s n m x (expr_tree f) same h))
+    → y ≡ part (env_of s n) (text.OldOf p (expr_tree f))
+old_walked s n m p f x y same h whole =
+    here s n m y (text.OldOf p (expr_tree f)) (text.OldOf p (expr_tree f)) same refl (whole (expr_tree f) (back s n m x (expr_tree f) same h))
+
+pub old_read : (s : ResolutionContext) (n : LocalContext) (p : Place) (inner : Box Expr Global) (e f : Expr) (y : Part)
+    → e ≡ view.Old p inner → f ≡ inner.value → y ≡ part (env_of s n) (text.OldOf p (expr_tree f)) → y ≡ part (env_of s n) (expr_tree e)
+old_read s n p inner e f y is f_is whole =
+    here s n n y (text.OldOf p (expr_tree f)) (expr_tree e) refl (ap expr_tree is ∙ shapes.old_is p inner ∙ ap (λ (v : Expr). text.OldOf p (expr_tree v)) (sym f_is)) whole
 
 pub negate_walked : (s : ResolutionContext) (n : LocalContext) (p : Place) (inner : Box Expr Global) (e f : Expr) (a : typed.ExprTree) (y : Part)
     → e ≡ view.Negate p inner → f ≡ inner.value → a ≡ expr (env_of s n) (expr_tree f) → y ≡ AnOther (Some ty.Int) (typed.NegateOf p a)
@@ -127,30 +131,24 @@ implies_walked s n m p a b e f g u v y is f_is g_is same h i w =
     ∙ ap (λ v. AnOther (Some ty.Bool) (typed.ImpliesOf p (expr (env_of s n) (expr_tree a.value)) v)) (here_tree s n m v (expr_tree g) same i ∙ ap (λ (v : Expr). expr (env_of s n) (expr_tree v)) g_is)
     ∙ ap (part (env_of s n)) (sym (ap expr_tree is ∙ shapes.implies_is p a b))
 
-pub cast_walked : (s : ResolutionContext) (n : LocalContext) (p : Place) (c : TypeRef) (inner : Box Expr Global) (e f : Expr) (a : typed.ExprTree) (y : Part)
-    → e ≡ view.Cast p c inner → f ≡ inner.value → a ≡ expr (env_of s n) (expr_tree f)
-    → ((k : LocalContext) → (t : text.ExprTree) → a ≡ expr (env_of s k) t → y ≡ part (env_of s k) (text.CastOf p (type_tree c) t))
-    → y ≡ part (env_of s n) (expr_tree e)
-cast_walked s n p c inner e f a y is f_is h whole =
-    whole n (expr_tree f) h
+pub cast_read : (s : ResolutionContext) (n : LocalContext) (p : Place) (c : TypeRef) (inner : Box Expr Global) (e f : Expr) (y : Part)
+    → e ≡ view.Cast p c inner → f ≡ inner.value → y ≡ part (env_of s n) (text.CastOf p (type_tree c) (expr_tree f)) → y ≡ part (env_of s n) (expr_tree e)
+cast_read s n p c inner e f y is f_is whole =
+    whole
     ∙ ap (λ (v : Expr). part (env_of s n) (text.CastOf p (type_tree c) (expr_tree v))) f_is
     ∙ ap (part (env_of s n)) (sym (ap expr_tree is ∙ shapes.cast_is p c inner))
 
-pub new_walked : (s : ResolutionContext) (n : LocalContext) (p : Place) (name : Name) (es : Vec Expr Global) (e : Expr) (fs : List Expr) (values : List typed.ExprTree) (y : Part)
-    → e ≡ view.New p name es → fs ≡ es.items → values ≡ map (expr (env_of s n)) (map expr_tree fs)
-    → ((k : LocalContext) → (ts : List text.ExprTree) → values ≡ map (expr (env_of s k)) ts → y ≡ part (env_of s k) (text.NewOf p (name_tree name) (arguments ts)))
-    → y ≡ part (env_of s n) (expr_tree e)
-new_walked s n p name es e fs values y is fs_is h whole =
-    whole n (map expr_tree fs) h
+pub new_read : (s : ResolutionContext) (n : LocalContext) (p : Place) (name : Name) (es : Vec Expr Global) (e : Expr) (fs : List Expr) (y : Part)
+    → e ≡ view.New p name es → fs ≡ es.items → y ≡ part (env_of s n) (text.NewOf p (name_tree name) (arguments (map expr_tree fs))) → y ≡ part (env_of s n) (expr_tree e)
+new_read s n p name es e fs y is fs_is whole =
+    whole
     ∙ ap (λ (xs : List Expr). part (env_of s n) (text.NewOf p (name_tree name) (arguments (map expr_tree xs)))) fs_is
     ∙ ap (part (env_of s n)) (sym (ap expr_tree is ∙ shapes.new_is p name es))
 
-pub new_array_walked : (s : ResolutionContext) (n : LocalContext) (p q : Place) (c : TypeName) (size : Box Expr Global) (e f : Expr) (a : typed.ExprTree) (y : Part)
-    → e ≡ view.NewArray p q c size → f ≡ size.value → a ≡ expr (env_of s n) (expr_tree f)
-    → ((k : LocalContext) → (at : Place) → (t : text.ExprTree) → a ≡ expr (env_of s k) t → y ≡ part (env_of s k) (text.NewArrayOf p at (type_name_tree c) t))
-    → y ≡ part (env_of s n) (expr_tree e)
-new_array_walked s n p q c size e f a y is f_is h whole =
-    whole n q (expr_tree f) h
+pub new_array_read : (s : ResolutionContext) (n : LocalContext) (p q : Place) (c : TypeName) (size : Box Expr Global) (e f : Expr) (y : Part)
+    → e ≡ view.NewArray p q c size → f ≡ size.value → y ≡ part (env_of s n) (text.NewArrayOf p q (type_name_tree c) (expr_tree f)) → y ≡ part (env_of s n) (expr_tree e)
+new_array_read s n p q c size e f y is f_is whole =
+    whole
     ∙ ap (λ (v : Expr). part (env_of s n) (text.NewArrayOf p q (type_name_tree c) (expr_tree v))) f_is
     ∙ ap (part (env_of s n)) (sym (ap expr_tree is ∙ shapes.new_array_is p q c size))
 

@@ -19,7 +19,7 @@ use ss_resolver_tables::{class_number, field_id, type_id};
 use ss_tables_lookup::{FieldRef, declared_place, is_array_number};
 use ss_tables_scopes::is_state_read;
 use ss_typed::{TypedExpr, TypedStep};
-use std::alloc::{AllocError, Global};
+use std::alloc::AllocError;
 
 /// The object of the class in which a place is.
 pub(crate) fn this(context: &ResolutionContext<'_, '_>, place: Place) -> TypedExpr
@@ -30,7 +30,6 @@ pub(crate) fn this(context: &ResolutionContext<'_, '_>, place: Place) -> TypedEx
 
 // A field of what stands before the dot.
 fn read_field(
-    alloc: Global,
     context: &ResolutionContext<'_, '_>,
     place: Place,
     object: Box<TypedExpr>,
@@ -39,7 +38,7 @@ fn read_field(
     ensures { (a : LocalContext) → IfOk result (λ e. view.expr e.value ≡ read_field (env_of context.now a) place (view.expr object.value) (option_map declared_field field.entry)) }
 {
     let Some((class, field)) = field else {
-        return null_tree(alloc, place);
+        return null_tree(context.within.alloc, place);
     };
     let tables = context.within.tables;
     let number = field_id(
@@ -49,11 +48,15 @@ fn read_field(
         field.declarator.name.text.as_str(),
     );
     let ty = type_id(tables, field.ty);
-    add_step(alloc, place, object, TypedStep::Field(number, ty))
+    add_step(
+        context.within.alloc,
+        place,
+        object,
+        TypedStep::Field(number, ty),
+    )
 }
 
 fn known_or_field(
-    alloc: Global,
     context: &ResolutionContext<'_, '_>,
     place: Place,
     name: &str,
@@ -62,19 +65,24 @@ fn known_or_field(
     ensures { (a : LocalContext) → IfOk result (λ e. view.expr e.value ≡ known_or_field (env_of context.now a) place name.now known) }
 {
     match known {
-        Some(Known::Variable(number, ty)) => Ok(boxed(alloc, TypedExpr::Local(place, number, ty))?),
-        Some(Known::BoundName(number)) => Ok(boxed(alloc, TypedExpr::Bound(place, number))?),
+        Some(Known::Variable(number, ty)) => Ok(boxed(
+            context.within.alloc,
+            TypedExpr::Local(place, number, ty),
+        )?),
+        Some(Known::BoundName(number)) => Ok(boxed(
+            context.within.alloc,
+            TypedExpr::Bound(place, number),
+        )?),
         None => {
             let field = context.within.tables.field_of(context.within.class, name);
-            let object = boxed(alloc, this(context, place))?;
-            read_field(alloc, context, place, object, field)
+            let object = boxed(context.within.alloc, this(context, place))?;
+            read_field(context, place, object, field)
         }
     }
 }
 
 /// A bare name: a local, else a field of `this`.
 pub(crate) fn bare_name(
-    alloc: Global,
     context: &ResolutionContext<'_, '_>,
     names: &LocalNames,
     place: Place,
@@ -82,11 +90,10 @@ pub(crate) fn bare_name(
 ) -> Result<Box<TypedExpr>, AllocError>
     ensures { IfOk result (λ e. view.expr e.value ≡ bare_name (env_of context.now names.now) place name.now) }
 {
-    known_or_field(alloc, context, place, name, names.find(name))
+    known_or_field(context, place, name, names.find(name))
 }
 
 fn field_behind(
-    alloc: Global,
     context: &ResolutionContext<'_, '_>,
     place: Place,
     object: Box<TypedExpr>,
@@ -99,7 +106,7 @@ fn field_behind(
         None => Ok(object),
         Some(class) => {
             let field = context.within.tables.field_of(class, name);
-            read_field(alloc, context, place, object, field)
+            read_field(context, place, object, field)
         }
     }
 }
@@ -129,7 +136,6 @@ pub(crate) fn state_question(name: &str, class: ClassId) -> StateWord
 
 /// What is read behind a dot of an object or array of the class with this number.
 pub(crate) fn member(
-    alloc: Global,
     context: &ResolutionContext<'_, '_>,
     place: Place,
     object: Box<TypedExpr>,
@@ -140,10 +146,10 @@ pub(crate) fn member(
 {
     if is_state_read(name) {
         let word = state_word(name);
-        return Ok(boxed(alloc, TypedExpr::State(place, word, object))?);
+        return Ok(boxed(context.within.alloc, TypedExpr::State(place, word, object))?);
     }
     if is_array_number(class) {
-        return add_step(alloc, place, object, TypedStep::Length);
+        return add_step(context.within.alloc, place, object, TypedStep::Length);
     }
-    field_behind(alloc, context, place, object, name, declared_place(class))
+    field_behind(context, place, object, name, declared_place(class))
 }

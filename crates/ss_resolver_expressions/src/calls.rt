@@ -35,28 +35,41 @@ pub struct Asked {
     pub third: ClassId,
 }
 
+/// A call as it is written: its place, the object before it, and the arguments.
+#[derive(Drop)]
+pub(crate) struct WrittenCall {
+    pub(crate) place: Place,
+    pub(crate) object: Box<TypedExpr>,
+    pub(crate) args: Vec<TypedExpr>,
+}
+
 // A call of a method of the class with this number, on an object where the method isn't static.
 fn method_call(
-    alloc: Global,
     context: &ResolutionContext<'_, '_>,
-    place: Place,
     class: usize,
-    object: Box<TypedExpr>,
-    args: Vec<TypedExpr>,
+    call: WrittenCall,
     declared: usize,
     method: MethodRef<'_>,
 ) -> Result<Box<TypedExpr>, AllocError>
-    ensures { (a : LocalContext) → IfOk result (λ e. view.expr e.value ≡ method_call (env_of context.now a) place class (view.expr object.value) (given args.items) (declared_method (declared, method.entry))) }
+    ensures { (a : LocalContext) → IfOk result (λ e. view.expr e.value ≡ method_call (env_of context.now a) call.place class (view.expr call.object.value) (given call.args.items) (declared_method (declared, method.entry))) }
 {
+    let WrittenCall {
+        place,
+        object,
+        args,
+    } = call;
     let tables = context.within.tables;
     let name = method.method.name.text.as_str();
     let ty = result_type(tables, &method.method.returns);
     if is_static(method) {
         let body = method_id(tables, context.bodies, declared, name);
-        return Ok(boxed(alloc, TypedExpr::Static(place, body, ty, args))?);
+        return Ok(boxed(
+            context.within.alloc,
+            TypedExpr::Static(place, body, ty, args),
+        )?);
     }
     let step = TypedStep::Call(table_place(tables, context.tables, class, name), ty, args);
-    add_step(alloc, place, object, step)
+    add_step(context.within.alloc, place, object, step)
 }
 
 // A call of a method of the class above, on `this`.
@@ -96,31 +109,26 @@ fn class_of_value(context: &ResolutionContext<'_, '_>, ty: Option<StaticType>) -
 
 // A method that is called, by what stands before the dot.
 fn call_of(
-    alloc: Global,
     context: &ResolutionContext<'_, '_>,
-    place: Place,
     receiver: Receiver,
-    object: Box<TypedExpr>,
-    args: Vec<TypedExpr>,
+    call: WrittenCall,
     declared: usize,
     method: MethodRef<'_>,
 ) -> Result<Box<TypedExpr>, AllocError>
-    ensures { (a : LocalContext) → IfOk result (λ e. view.expr e.value ≡ call_of (env_of context.now a) place (receiver_of receiver) (view.expr object.value) (given args.items) (declared_method (declared, method.entry))) }
+    ensures { (a : LocalContext) → IfOk result (λ e. view.expr e.value ≡ call_of (env_of context.now a) call.place (receiver_of receiver) (view.expr call.object.value) (given call.args.items) (declared_method (declared, method.entry))) }
 {
     match receiver {
         Receiver::Base => {
             let above = context.within.tables.above(context.within.class);
-            let whole = base_call(context, place, args, declared, method, above);
-            Ok(boxed(alloc, whole)?)
+            let whole = base_call(context, call.place, call.args, declared, method, above);
+            Ok(boxed(context.within.alloc, whole)?)
         }
-        Receiver::Class(class) => {
-            method_call(alloc, context, place, class, object, args, declared, method)
-        }
+        Receiver::Class(class) => method_call(context, class, call, declared, method),
         Receiver::Value(ty) => {
             let class = class_of_value(context, ty);
-            method_call(alloc, context, place, class, object, args, declared, method)
+            method_call(context, class, call, declared, method)
         }
-        Receiver::Console | Receiver::Owner => null_tree(alloc, place),
+        Receiver::Console | Receiver::Owner => null_tree(context.within.alloc, call.place),
     }
 }
 
@@ -195,55 +203,48 @@ fn state_asked(
 // A state word or a question about owners.
 fn question(
     alloc: Global,
-    place: Place,
     receiver: Receiver,
-    object: Box<TypedExpr>,
+    call: WrittenCall,
     name: &str,
     asked: Asked,
-    args: Vec<TypedExpr>,
 ) -> Result<Box<TypedExpr>, AllocError>
     ensures { (e : Env) → (es : Arguments) → asked.first.0 ≡ first_class e es → asked.third.0 ≡ third_class e es
-        → IfOk result (λ r. view.expr r.value ≡ question e place (receiver_of receiver) (view.expr object.value) name.now es (given args.items)) }
+        → IfOk result (λ r. view.expr r.value ≡ question e call.place (receiver_of receiver) (view.expr call.object.value) name.now es (given call.args.items)) }
 {
     match receiver {
-        Receiver::Owner => owner_question(alloc, place, name, asked.third, args),
+        Receiver::Owner => owner_question(alloc, call.place, name, asked.third, call.args),
         Receiver::Base | Receiver::Class(_) | Receiver::Value(_) => {
-            state_asked(alloc, place, object, name, asked.first)
+            state_asked(alloc, call.place, call.object, name, asked.first)
         }
-        Receiver::Console => null_tree(alloc, place),
+        Receiver::Console => null_tree(alloc, call.place),
     }
 }
 
 // What is called behind a dot.
 pub(crate) fn called_behind(
-    alloc: Global,
     context: &ResolutionContext<'_, '_>,
-    place: Place,
     receiver: Receiver,
-    object: Box<TypedExpr>,
+    call: WrittenCall,
     name: &str,
     asked: Asked,
-    args: Vec<TypedExpr>,
     callee: Callee<'_>,
 ) -> Result<Box<TypedExpr>, AllocError>
     ensures { (a : LocalContext) → (es : Arguments) → asked.first.0 ≡ first_class (env_of context.now a) es → asked.third.0 ≡ third_class (env_of context.now a) es
-        → IfOk result (λ r. view.expr r.value ≡ called_behind (env_of context.now a) place (receiver_of receiver) (view.expr object.value) name.now es (given args.items) (callee_of callee.entry)) }
+        → IfOk result (λ r. view.expr r.value ≡ called_behind (env_of context.now a) call.place (receiver_of receiver) (view.expr call.object.value) name.now es (given call.args.items) (callee_of callee.entry)) }
 {
     match callee {
-        Callee::Method(declared, method) => {
-            call_of(
-                alloc, context, place, receiver, object, args, declared, method,
-            )
+        Callee::Method(declared, method) => call_of(context, receiver, call, declared, method),
+        Callee::Word(_) => question(context.within.alloc, receiver, call, name, asked),
+        Callee::Print(_) | Callee::Base => null_tree(context.within.alloc, call.place),
+        Callee::Nothing => {
+            let step = TypedStep::Call(0, None, call.args);
+            add_step(context.within.alloc, call.place, call.object, step)
         }
-        Callee::Word(_) => question(alloc, place, receiver, object, name, asked, args),
-        Callee::Print(_) | Callee::Base => null_tree(alloc, place),
-        Callee::Nothing => add_step(alloc, place, object, TypedStep::Call(0, None, args)),
     }
 }
 
 // A method of the class or of one above, called by its bare name.
 pub(crate) fn called_bare(
-    alloc: Global,
     context: &ResolutionContext<'_, '_>,
     place: Place,
     at: Place,
@@ -254,20 +255,17 @@ pub(crate) fn called_bare(
 {
     match callee {
         Callee::Method(declared, method) => {
-            let object = boxed(alloc, this(context, at))?;
-            method_call(
-                alloc,
-                context,
+            let object = boxed(context.within.alloc, this(context, at))?;
+            let call = WrittenCall {
                 place,
-                context.within.class,
                 object,
                 args,
-                declared,
-                method,
-            )
+            };
+            method_call(context, context.within.class, call, declared, method)
         }
         Callee::Word(_) | Callee::Print(_) | Callee::Base | Callee::Nothing => null_tree(
-            alloc, place,
+            context.within.alloc,
+            place,
         ),
     }
 }

@@ -11,7 +11,7 @@ ghost use Rattle.ss_resolver_expressions.specs.Environments.{env_of, given, part
 
 use crate::bare::{bare_name, member, this};
 use crate::build::{boxed, null_tree};
-use crate::calls::{Asked, called_bare, called_behind};
+use crate::calls::{Asked, WrittenCall, called_bare, called_behind};
 use crate::context::ResolutionContext;
 use crate::local_names::LocalNames;
 use crate::parts::{Part, part_receiver, part_type};
@@ -21,7 +21,7 @@ use ss_resolver_tables::class_id;
 use ss_tables_lookup::StaticType;
 use ss_tables_scopes::{call_type, called_with, class_of_type, member_callee, name_callee};
 use ss_typed::TypedExpr;
-use std::alloc::{AllocError, Global};
+use std::alloc::AllocError;
 
 // The number of the class of a type.
 fn number_of(ty: Option<StaticType>) -> usize
@@ -35,7 +35,6 @@ fn number_of(ty: Option<StaticType>) -> usize
 
 /// The tree of an expression whose value is read.
 pub fn finish(
-    alloc: Global,
     context: &ResolutionContext<'_, '_>,
     names: &LocalNames,
     part: Part<'_>,
@@ -43,10 +42,10 @@ pub fn finish(
     ensures { IfOk result (λ e. view.expr e.value ≡ part_value (env_of context.now names.now) (part_view part.entry)) }
 {
     match part {
-        Part::Name(place, name) => bare_name(alloc, context, names, place, name),
-        Part::Base(place) => Ok(boxed(alloc, this(context, place))?),
+        Part::Name(place, name) => bare_name(context, names, place, name),
+        Part::Base(place) => Ok(boxed(context.within.alloc, this(context, place))?),
         Part::Member(place, _, ty, object, name) => {
-            member(alloc, context, place, object, name, number_of(ty))
+            member(context, place, object, name, number_of(ty))
         }
         Part::Other(_, value) => Ok(value),
     }
@@ -54,7 +53,6 @@ pub fn finish(
 
 /// The tree of a call of it.
 pub fn called(
-    alloc: Global,
     context: &ResolutionContext<'_, '_>,
     names: &LocalNames,
     place: Place,
@@ -68,15 +66,18 @@ pub fn called(
     match part {
         Part::Name(at, name) => {
             let callee = name_callee(context.within, names.names(), name);
-            called_bare(alloc, context, place, at, args, callee)
+            called_bare(context, place, at, args, callee)
         }
         Part::Member(_, receiver, _, object, name) => {
             let callee = member_callee(context.within, name, receiver);
-            called_behind(
-                alloc, context, place, receiver, object, name, asked, args, callee,
-            )
+            let call = WrittenCall {
+                place,
+                object,
+                args,
+            };
+            called_behind(context, receiver, call, name, asked, callee)
         }
-        Part::Base(_) | Part::Other(..) => null_tree(alloc, place),
+        Part::Base(_) | Part::Other(..) => null_tree(context.within.alloc, place),
     }
 }
 
@@ -97,7 +98,6 @@ pub fn part_class(
 
 /// A member behind a dot.
 pub fn dotted<'p>(
-    alloc: Global,
     context: &ResolutionContext<'_, '_>,
     names: &LocalNames,
     place: Place,
@@ -109,7 +109,7 @@ pub fn dotted<'p>(
 {
     let receiver = part_receiver(context, names, &before);
     let ty = part_type(context, names, &before);
-    let object = finish(alloc, context, names, before)?;
+    let object = finish(context, names, before)?;
     Ok(Part::Member(place, receiver, ty, object, name.text.as_str()))
 }
 

@@ -25,18 +25,25 @@ pub(crate) fn as_int(n: i64) -> i32
     }
 }
 
+/// The bounds of a quantifier.
+#[derive(Drop)]
+pub(crate) struct Bounds {
+    pub(crate) low: Box<TypedExpr>,
+    pub(crate) high: Box<TypedExpr>,
+}
+
 /// A quantifier.
 pub(crate) fn quantified(
     alloc: Global,
     place: Place,
     quantifier: Quantifier,
     name: &Name,
-    low: Box<TypedExpr>,
-    high: Box<TypedExpr>,
+    bounds: Bounds,
     member: Box<TypedExpr>,
 ) -> Result<Box<TypedExpr>, AllocError>
-    ensures { IfOk result (λ e. view.expr e.value ≡ QuantifiedOf place quantifier (name_tree name.now).text (view.expr low.value) (view.expr high.value) (view.expr member.value)) }
+    ensures { IfOk result (λ e. view.expr e.value ≡ QuantifiedOf place quantifier (name_tree name.now).text (view.expr bounds.low.value) (view.expr bounds.high.value) (view.expr member.value)) }
 {
+    let Bounds { low, high } = bounds;
     let name = String::from_str(alloc, name.text.as_str())?;
     Ok(boxed(
         alloc,

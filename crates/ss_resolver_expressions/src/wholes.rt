@@ -16,7 +16,7 @@ use crate::bare::this;
 use crate::build::{add_link, add_step, add_value, boxed};
 use crate::context::ResolutionContext;
 use crate::finishing::{called, finish, part_call_type, part_class};
-use crate::leaves::{as_int, asked_of, quantified};
+use crate::leaves::{Bounds, as_int, asked_of, quantified};
 use crate::local_names::LocalNames;
 use crate::parts::{Part, part_type};
 use ss_ast::{Name, Operator, Quantifier, TypeName, TypeRef};
@@ -63,24 +63,25 @@ pub(crate) fn text<'p>(alloc: Global, place: Place) -> Result<Part<'p>, AllocErr
 }
 
 pub(crate) fn this_word<'p>(
-    alloc: Global,
     context: &ResolutionContext<'_, '_>,
     place: Place,
 ) -> Result<Part<'p>, AllocError>
     ensures { (a : LocalContext) → IfOk result (λ r. part_view r ≡ part (env_of context.now a) (ThisOf place)) }
 {
-    let whole = boxed(alloc, this(context, place))?;
+    let whole = boxed(context.within.alloc, this(context, place))?;
     Ok(Part::Other(context.within.this_type(), whole))
 }
 
 pub(crate) fn outcome<'p>(
-    alloc: Global,
     context: &ResolutionContext<'_, '_>,
     place: Place,
 ) -> Result<Part<'p>, AllocError>
     ensures { (a : LocalContext) → IfOk result (λ r. part_view r ≡ part (env_of context.now a) (ResultOf place)) }
 {
-    let whole = boxed(alloc, TypedExpr::Result(place, context.outcome))?;
+    let whole = boxed(
+        context.within.alloc,
+        TypedExpr::Result(place, context.outcome),
+    )?;
     Ok(Part::Other(context.within.outcome, whole))
 }
 
@@ -138,7 +139,6 @@ fn new_array_value(
 }
 
 pub(crate) fn in_parentheses<'p>(
-    alloc: Global,
     context: &ResolutionContext<'_, '_>,
     names: &LocalNames,
     inner: Part<'p>,
@@ -147,12 +147,11 @@ pub(crate) fn in_parentheses<'p>(
         → IfOk result (λ r. part_view r ≡ part (env_of context.now names.now) (ParenOf at t)) }
 {
     let ty = part_type(context, names, &inner);
-    let value = finish(alloc, context, names, inner)?;
+    let value = finish(context, names, inner)?;
     Ok(Part::Other(ty, value))
 }
 
 pub(crate) fn old<'p>(
-    alloc: Global,
     context: &ResolutionContext<'_, '_>,
     names: &LocalNames,
     place: Place,
@@ -162,8 +161,8 @@ pub(crate) fn old<'p>(
         → IfOk result (λ r. part_view r ≡ part (env_of context.now names.now) (OldOf place t)) }
 {
     let ty = part_type(context, names, &inner);
-    let value = finish(alloc, context, names, inner)?;
-    let whole = old_value(alloc, place, value)?;
+    let value = finish(context, names, inner)?;
+    let whole = old_value(context.within.alloc, place, value)?;
     Ok(Part::Other(ty, whole))
 }
 
@@ -214,7 +213,6 @@ pub(crate) fn implies<'p>(
 }
 
 pub(crate) fn cast<'p>(
-    alloc: Global,
     context: &ResolutionContext<'_, '_>,
     place: Place,
     ty: &TypeRef,
@@ -226,12 +224,11 @@ pub(crate) fn cast<'p>(
     let tables = context.within.tables;
     let class = written_class(tables, ty);
     let known = type_of_cast(tables, ty);
-    let whole = cast_value(alloc, place, class, ty.non_null, inner)?;
+    let whole = cast_value(context.within.alloc, place, class, ty.non_null, inner)?;
     Ok(Part::Other(known, whole))
 }
 
 pub(crate) fn new_object<'p>(
-    alloc: Global,
     context: &ResolutionContext<'_, '_>,
     place: Place,
     name: &Name,
@@ -245,12 +242,11 @@ pub(crate) fn new_object<'p>(
     let class = class_id(tables, text);
     let count = count_of(&values);
     let ty = new_type(tables, count, text);
-    let whole = new_value(alloc, place, class, values)?;
+    let whole = new_value(context.within.alloc, place, class, values)?;
     Ok(Part::Other(ty, whole))
 }
 
 pub(crate) fn new_array<'p>(
-    alloc: Global,
     context: &ResolutionContext<'_, '_>,
     place: Place,
     name: &TypeName,
@@ -262,22 +258,22 @@ pub(crate) fn new_array<'p>(
     let tables = context.within.tables;
     let class = array_class(tables, name);
     let ty = tables.array_type(true, name);
-    let whole = new_array_value(alloc, place, class, length)?;
+    let whole = new_array_value(context.within.alloc, place, class, length)?;
     Ok(Part::Other(ty, whole))
 }
 
 pub(crate) fn quantified_part<'p>(
-    alloc: Global,
+    context: &ResolutionContext<'_, '_>,
     place: Place,
     quantifier: Quantifier,
     name: &Name,
-    low: Box<TypedExpr>,
-    high: Box<TypedExpr>,
+    bounds: Bounds,
     member: Box<TypedExpr>,
 ) -> Result<Part<'p>, AllocError>
-    ensures { IfOk result (λ r. part_view r ≡ AnOther (Some ty.Bool) (typed.QuantifiedOf place quantifier (name_tree name.now).text (view.expr low.value) (view.expr high.value) (view.expr member.value))) }
+    ensures { IfOk result (λ r. part_view r ≡ AnOther (Some ty.Bool) (typed.QuantifiedOf place quantifier (name_tree name.now).text (view.expr bounds.low.value) (view.expr bounds.high.value) (view.expr member.value))) }
 {
-    let whole = quantified(alloc, place, quantifier, name, low, high, member)?;
+    let alloc = context.within.alloc;
+    let whole = quantified(alloc, place, quantifier, name, bounds, member)?;
     Ok(Part::Other(Some(StaticType::Bool), whole))
 }
 
@@ -285,7 +281,6 @@ pub(crate) fn quantified_part<'p>(
 
 /// An operation.
 pub(crate) fn operation(
-    alloc: Global,
     context: &ResolutionContext<'_, '_>,
     names: &LocalNames,
     place: Place,
@@ -296,15 +291,14 @@ pub(crate) fn operation(
     ensures { (t : ExprTree) → (u : ExprTree) → part_view before.entry ≡ part (env_of context.now names.now) t → view.expr right.value ≡ resolved.expr (env_of context.now names.now) u
         → IfOk result (λ r. view.expr r.value ≡ resolved.expr (env_of context.now names.now) (BinaryOf place operator t u)) }
 {
-    let left = finish(alloc, context, names, before)?;
+    let left = finish(context, names, before)?;
     let link = TypedLink::Operation(operator, Box::into_inner(right));
-    let whole = add_link(alloc, place, left, link)?;
+    let whole = add_link(context.within.alloc, place, left, link)?;
     Ok(whole)
 }
 
 /// `is T` behind an expression.
 pub(crate) fn is_of(
-    alloc: Global,
     context: &ResolutionContext<'_, '_>,
     names: &LocalNames,
     place: Place,
@@ -314,15 +308,14 @@ pub(crate) fn is_of(
     ensures { (t : ExprTree) → part_view before.entry ≡ part (env_of context.now names.now) t
         → IfOk result (λ r. view.expr r.value ≡ resolved.expr (env_of context.now names.now) (IsOf place t (type_tree ty.now))) }
 {
-    let left = finish(alloc, context, names, before)?;
+    let left = finish(context, names, before)?;
     let class = written_class(context.within.tables, ty);
-    let whole = add_link(alloc, place, left, TypedLink::Is(class))?;
+    let whole = add_link(context.within.alloc, place, left, TypedLink::Is(class))?;
     Ok(whole)
 }
 
 /// `as T` behind an expression.
 pub(crate) fn as_of(
-    alloc: Global,
     context: &ResolutionContext<'_, '_>,
     names: &LocalNames,
     place: Place,
@@ -332,14 +325,13 @@ pub(crate) fn as_of(
     ensures { (t : ExprTree) → part_view before.entry ≡ part (env_of context.now names.now) t
         → IfOk result (λ r. view.expr r.value ≡ resolved.expr (env_of context.now names.now) (AsOf place t (type_tree ty.now))) }
 {
-    let left = finish(alloc, context, names, before)?;
+    let left = finish(context, names, before)?;
     let class = written_class(context.within.tables, ty);
-    let whole = add_link(alloc, place, left, TypedLink::As(class))?;
+    let whole = add_link(context.within.alloc, place, left, TypedLink::As(class))?;
     Ok(whole)
 }
 
 pub(crate) fn element<'p>(
-    alloc: Global,
     context: &ResolutionContext<'_, '_>,
     names: &LocalNames,
     place: Place,
@@ -351,9 +343,9 @@ pub(crate) fn element<'p>(
 {
     let array = part_type(context, names, &before);
     let ty = type_of_element(array);
-    let object = finish(alloc, context, names, before)?;
+    let object = finish(context, names, before)?;
     let step = TypedStep::Element(Box::into_inner(index));
-    let whole = add_step(alloc, place, object, step)?;
+    let whole = add_step(context.within.alloc, place, object, step)?;
     Ok(Part::Other(ty, whole))
 }
 
@@ -366,7 +358,6 @@ pub struct Given {
 
 /// One more argument.
 pub(crate) fn add_given(
-    alloc: Global,
     context: &ResolutionContext<'_, '_>,
     names: &LocalNames,
     given: &mut Given,
@@ -379,14 +370,13 @@ pub(crate) fn add_given(
 {
     let class = part_class(context, names, &argument);
     given.classes.push(class)?;
-    let value = finish(alloc, context, names, argument)?;
+    let value = finish(context, names, argument)?;
     add_value(&mut given.values, value)?;
     Ok(())
 }
 
 /// A call.
 pub(crate) fn call<'p>(
-    alloc: Global,
     context: &ResolutionContext<'_, '_>,
     names: &LocalNames,
     place: Place,
@@ -401,6 +391,6 @@ pub(crate) fn call<'p>(
     let count = count_of(&given.values);
     let ty = part_call_type(context, names, &before, count);
     let asked = asked_of(&given.classes);
-    let whole = called(alloc, context, names, place, before, asked, given.values)?;
+    let whole = called(context, names, place, before, asked, given.values)?;
     Ok(Part::Other(ty, whole))
 }

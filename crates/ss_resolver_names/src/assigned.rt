@@ -39,7 +39,6 @@ fn note_if_param(
 
 // Notes a parameter that is assigned.
 fn note_target(
-    alloc: Global,
     context: ClassContext<'_, '_>,
     locals: &Scopes,
     names: &mut IndexSet<String>,
@@ -51,14 +50,13 @@ fn note_target(
         Some(name) => {
             let text = name.as_str();
             let local = locals.find(text);
-            note_if_param(alloc, names, text, local)
+            note_if_param(context.alloc, names, text, local)
         }
         None => Ok(()),
     }
 }
 
 fn note_simple(
-    alloc: Global,
     context: ClassContext<'_, '_>,
     locals: &Scopes,
     names: &mut IndexSet<String>,
@@ -67,14 +65,13 @@ fn note_simple(
     ensures { OnOk result (names_of names.new.keys ≡ simple_params (scope_of context.entry locals.now) (names_of names.old.keys) (simple_tree stmt.now)) }
 {
     match stmt {
-        Simple::Assign(target, _, _) => note_target(alloc, context, locals, names, target),
-        Simple::Step(target, _) => note_target(alloc, context, locals, names, target),
+        Simple::Assign(target, _, _) => note_target(context, locals, names, target),
+        Simple::Step(target, _) => note_target(context, locals, names, target),
         Simple::Alone(_) => Ok(()),
     }
 }
 
 fn note_init(
-    alloc: Global,
     context: ClassContext<'_, '_>,
     locals: &Scopes,
     names: &mut IndexSet<String>,
@@ -83,13 +80,12 @@ fn note_init(
     ensures { OnOk result (names_of names.new.keys ≡ init_params (scope_of context.entry locals.now) (names_of names.old.keys) (option_map for_init_tree init.now)) }
 {
     match init {
-        Some(ForInit::Simple(stmt)) => note_simple(alloc, context, locals, names, stmt),
+        Some(ForInit::Simple(stmt)) => note_simple(context, locals, names, stmt),
         Some(ForInit::Declare(_)) | None => Ok(()),
     }
 }
 
 fn note_step(
-    alloc: Global,
     context: ClassContext<'_, '_>,
     locals: &Scopes,
     names: &mut IndexSet<String>,
@@ -98,14 +94,13 @@ fn note_step(
     ensures { OnOk result (names_of names.new.keys ≡ step_params (scope_of context.entry locals.now) (names_of names.old.keys) (option_map simple_tree step.now)) }
 {
     match step {
-        Some(stmt) => note_simple(alloc, context, locals, names, stmt),
+        Some(stmt) => note_simple(context, locals, names, stmt),
         None => Ok(()),
     }
 }
 
 // What a `for` begins with, and its step.
 fn note_heading(
-    alloc: Global,
     context: ClassContext<'_, '_>,
     locals: &mut Scopes,
     names: &mut IndexSet<String>,
@@ -117,15 +112,14 @@ fn note_heading(
     ensures declared { OnOk result (scope_of context.entry locals.new ≡ behind_init (scope_of context.entry locals.old) (option_map for_init_tree init.now)) }
     ensures around { OnOk result (locals.new.outer ≡ locals.old.outer) }
 {
-    note_init(alloc, context, locals, names, init)?;
-    declare_init(alloc, context, locals, init)?;
-    note_step(alloc, context, locals, names, step)
+    note_init(context, locals, names, init)?;
+    declare_init(context, locals, init)?;
+    note_step(context, locals, names, step)
 }
 
 // Notes the parameters that a statement assigns.
 #[cycle(assigned)]
 fn note_stmt(
-    alloc: Global,
     context: ClassContext<'_, '_>,
     locals: &mut Scopes,
     names: &mut IndexSet<String>,
@@ -136,21 +130,26 @@ fn note_stmt(
     ensures around { OnOk result (locals.new.outer ≡ locals.old.outer) }
 {
     match stmt {
-        Stmt::Block(block) => note_block(alloc, context, locals, names, block),
-        Stmt::Declare(declaration) => declare_declaration(alloc, context, locals, declaration),
-        Stmt::Simple(stmt) => note_simple(alloc, context, locals, names, stmt),
-        Stmt::If(_, _, first, None) => note_governed(alloc, context, locals, names, first),
+        Stmt::Block(block) => note_block(context, locals, names, block),
+        Stmt::Declare(declaration) => declare_declaration(context, locals, declaration),
+        Stmt::Simple(stmt) => note_simple(context, locals, names, stmt),
+        Stmt::If(_, _, first, None) => note_governed(context, locals, names, first),
         Stmt::If(_, _, first, Some(second)) => {
-            note_governed(alloc, context, locals, names, first)?;
-            note_governed(alloc, context, locals, names, second)
+            note_governed(context, locals, names, first)?;
+            note_governed(context, locals, names, second)
         }
-        Stmt::While(_, _, _, body) => note_governed(alloc, context, locals, names, body),
-        Stmt::For(_, init, _, step, _, body) => {
-            locals.enter(alloc)?;
-            note_heading(alloc, context, locals, names, init, step)?;
-            note_loop(alloc, context, locals, names, body)
+        Stmt::While(_, _, _, body) => note_governed(context, locals, names, body),
+        Stmt::For {
+            first,
+            step,
+            body,
+            ..
+        } => {
+            locals.enter(context.alloc)?;
+            note_heading(context, locals, names, first, step)?;
+            note_loop(context, locals, names, body)
         }
-        Stmt::Expose(_, _, _, block) => note_block(alloc, context, locals, names, block),
+        Stmt::Expose(_, _, _, block) => note_block(context, locals, names, block),
         Stmt::Return(..) | Stmt::Assert(..) | Stmt::Assume(..) | Stmt::Empty(_) => Ok(()),
     }
 }
@@ -158,7 +157,6 @@ fn note_stmt(
 // .. and the body of a `for`, at whose end the scope of its heading ends.
 #[cycle(assigned)]
 fn note_loop(
-    alloc: Global,
     context: ClassContext<'_, '_>,
     locals: &mut Scopes,
     names: &mut IndexSet<String>,
@@ -167,7 +165,7 @@ fn note_loop(
     ensures named { OnOk result (names_of names.new.keys ≡ stmt_params (enter (scope_of context.entry locals.old)) (names_of names.old.keys) (stmt_tree body.now)) }
     ensures closed { OnOk result (locals.new ≡ left locals.old) }
 {
-    note_governed(alloc, context, locals, names, body)?;
+    note_governed(context, locals, names, body)?;
     locals.leave();
     Ok(())
 }
@@ -175,7 +173,6 @@ fn note_loop(
 // .. and a statement that another one governs, in a scope of its own.
 #[cycle(assigned)]
 fn note_governed(
-    alloc: Global,
     context: ClassContext<'_, '_>,
     locals: &mut Scopes,
     names: &mut IndexSet<String>,
@@ -184,8 +181,8 @@ fn note_governed(
     ensures named { OnOk result (names_of names.new.keys ≡ stmt_params (enter (scope_of context.entry locals.old)) (names_of names.old.keys) (stmt_tree stmt.now)) }
     ensures kept { OnOk result (locals.new ≡ locals.old) }
 {
-    locals.enter(alloc)?;
-    note_stmt(alloc, context, locals, names, stmt)?;
+    locals.enter(context.alloc)?;
+    note_stmt(context, locals, names, stmt)?;
     locals.leave();
     Ok(())
 }
@@ -193,7 +190,6 @@ fn note_governed(
 /// Notes the parameters that a block assigns.
 #[cycle(assigned)]
 pub fn note_block(
-    alloc: Global,
     context: ClassContext<'_, '_>,
     locals: &mut Scopes,
     names: &mut IndexSet<String>,
@@ -202,15 +198,14 @@ pub fn note_block(
     ensures named { OnOk result (names_of names.new.keys ≡ block_params (scope_of context.entry locals.old) (names_of names.old.keys) (block_tree block.now)) }
     ensures kept { OnOk result (locals.new ≡ locals.old) }
 {
-    locals.enter(alloc)?;
-    note_stmts(alloc, context, locals, names, &block.statements)?;
+    locals.enter(context.alloc)?;
+    note_stmts(context, locals, names, &block.statements)?;
     locals.leave();
     Ok(())
 }
 
 #[cycle(assigned)]
 fn note_stmts(
-    alloc: Global,
     context: ClassContext<'_, '_>,
     locals: &mut Scopes,
     names: &mut IndexSet<String>,
@@ -220,7 +215,7 @@ fn note_stmts(
     ensures around { OnOk result (locals.new.outer ≡ locals.old.outer) }
 {
     for stmt in stmts {
-        note_stmt(alloc, context, locals, names, stmt)?;
+        note_stmt(context, locals, names, stmt)?;
     }
     Ok(())
 }

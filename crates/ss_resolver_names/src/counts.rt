@@ -25,21 +25,19 @@ use std::alloc::{AllocError, Global};
 
 // How many parameters a block assigns.
 fn assigned_params(
-    alloc: Global,
     context: ClassContext<'_, '_>,
     locals: &mut Scopes,
     body: &Block,
 ) -> Result<usize, AllocError>
     ensures { IfOk result (λ n. n ≡ length (block_params (scope_of context.entry locals.old) [] (block_tree body.now))) }
 {
-    let mut names = IndexSet::new(alloc);
-    note_block(alloc, context, locals, &mut names, body)?;
+    let mut names = IndexSet::new(context.alloc);
+    note_block(context, locals, &mut names, body)?;
     Ok(names.len())
 }
 
 // The locals of a block in the scope of its parameters.
 fn locals_in(
-    alloc: Global,
     context: ClassContext<'_, '_>,
     locals: &mut Scopes,
     body: &Block,
@@ -47,7 +45,7 @@ fn locals_in(
     ensures { IfOk result (λ n. n ≡ locals_in (scope_of context.entry locals.old) (block_tree body.now)) }
 {
     let declared = block_locals(body)?;
-    let assigned = assigned_params(alloc, context, locals, body)?;
+    let assigned = assigned_params(context, locals, body)?;
     plus(declared, assigned)
 }
 
@@ -61,6 +59,7 @@ fn method_locals(
     ensures { IfOk result (λ n. n ≡ method_locals (trees tables.now) class (method_tree method.entry)) }
 {
     let context = ClassContext {
+        alloc,
         tables,
         class,
         refuses_members: false,
@@ -68,8 +67,8 @@ fn method_locals(
         outcome: None,
     };
     let mut locals = NameScopes::new(alloc);
-    declare_params(alloc, context, &mut locals, &method.method.params)?;
-    locals_in(alloc, context, &mut locals, &method.method.body)
+    declare_params(context, &mut locals, &method.method.params)?;
+    locals_in(context, &mut locals, &method.method.body)
 }
 
 fn constructor_locals(
@@ -82,6 +81,7 @@ fn constructor_locals(
     ensures { IfOk result (λ n. n ≡ constructor_locals (trees tables.now) class (constructor_tree constructor.entry)) }
 {
     let context = ClassContext {
+        alloc,
         tables,
         class,
         refuses_members: false,
@@ -89,8 +89,8 @@ fn constructor_locals(
         outcome: None,
     };
     let mut locals = NameScopes::new(alloc);
-    declare_params(alloc, context, &mut locals, &constructor.constructor.params)?;
-    locals_in(alloc, context, &mut locals, &constructor.constructor.body)
+    declare_params(context, &mut locals, &constructor.constructor.params)?;
+    locals_in(context, &mut locals, &constructor.constructor.body)
 }
 
 // A body with so many locals, at its name.

@@ -27,7 +27,7 @@ fn stmt_locals(stmt: &Stmt) -> Result<usize, AllocError>
         Stmt::If(_, _, first, None) => stmt_locals(first),
         Stmt::If(_, _, first, Some(second)) => plus(stmt_locals(first)?, stmt_locals(second)?),
         Stmt::While(_, _, _, body) => stmt_locals(body),
-        Stmt::For(_, init, _, _, _, body) => plus(init_locals(init), stmt_locals(body)?),
+        Stmt::For { first, body, .. } => plus(init_locals(first), stmt_locals(body)?),
         Stmt::Expose(_, _, _, block) => block_locals(block),
         Stmt::Simple(_) | Stmt::Return(..) | Stmt::Assert(..) | Stmt::Assume(..) | Stmt::Empty(_) =>
             Ok(0),

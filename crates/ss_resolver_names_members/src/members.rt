@@ -29,7 +29,6 @@ use std::alloc::{AllocError, Global};
 
 // A parameter.
 fn check_param(
-    alloc: Global,
     context: ClassContext<'_, '_>,
     locals: &mut Scopes,
     faults: &mut Vec<Fault>,
@@ -42,12 +41,11 @@ fn check_param(
 {
     check_type(context.tables, faults, &param.ty)?;
     check_local(locals, faults, &param.name)?;
-    declare_param(alloc, context, locals, param)
+    declare_param(context, locals, param)
 }
 
 // Parameters.
 fn check_params(
-    alloc: Global,
     context: ClassContext<'_, '_>,
     locals: &mut Scopes,
     faults: &mut Vec<Fault>,
@@ -57,7 +55,7 @@ fn check_params(
     ensures declared { OnOk result (scope_of context.entry locals.new ≡ declare_params (scope_of context.entry locals.old) (map param_tree params.now)) }
 {
     for param in params {
-        check_param(alloc, context, locals, faults, param)?;
+        check_param(context, locals, faults, param)?;
     }
     Ok(())
 }
@@ -71,7 +69,6 @@ fn modified_expr(modified: &Modified) -> &Expr
 }
 
 fn check_modified(
-    alloc: Global,
     context: ClassContext<'_, '_>,
     locals: &mut Scopes,
     faults: &mut Vec<Fault>,
@@ -81,7 +78,7 @@ fn check_modified(
     ensures kept { OnOk result (locals.new ≡ locals.old) }
 {
     for modified in list {
-        check(alloc, context, locals, faults, modified_expr(modified))?;
+        check(context, locals, faults, modified_expr(modified))?;
     }
     Ok(())
 }
@@ -95,6 +92,7 @@ fn in_method<'t, 'p>(
     ensures { (names : Names) → scope_of result names ≡ in_method (scope_of context.entry names) is_static (option_map type_of outcome) }
 {
     ClassContext {
+        alloc: context.alloc,
         tables: context.tables,
         class: context.class,
         refuses_members: is_static,
@@ -104,7 +102,6 @@ fn in_method<'t, 'p>(
 }
 
 fn check_clause(
-    alloc: Global,
     context: ClassContext<'_, '_>,
     locals: &mut Scopes,
     faults: &mut Vec<Fault>,
@@ -115,15 +112,14 @@ fn check_clause(
 {
     match clause {
         Clause::Requires(e) | Clause::Ensures(e) => {
-            check(alloc, context, locals, faults, e)?;
+            check(context, locals, faults, e)?;
             Ok(())
         }
-        Clause::Modifies(list) => check_modified(alloc, context, locals, faults, list),
+        Clause::Modifies(list) => check_modified(context, locals, faults, list),
     }
 }
 
 fn check_clauses(
-    alloc: Global,
     context: ClassContext<'_, '_>,
     locals: &mut Scopes,
     faults: &mut Vec<Fault>,
@@ -133,7 +129,7 @@ fn check_clauses(
     ensures kept { OnOk result (locals.new ≡ locals.old) }
 {
     for clause in clauses {
-        check_clause(alloc, context, locals, faults, clause)?;
+        check_clause(context, locals, faults, clause)?;
     }
     Ok(())
 }
@@ -152,7 +148,6 @@ fn check_result(
 }
 
 fn check_base(
-    alloc: Global,
     context: ClassContext<'_, '_>,
     locals: &mut Scopes,
     faults: &mut Vec<Fault>,
@@ -162,13 +157,12 @@ fn check_base(
     ensures kept { OnOk result (locals.new ≡ locals.old) }
 {
     match base {
-        Some(base) => check_all(alloc, context, locals, faults, &base.arguments),
+        Some(base) => check_all(context, locals, faults, &base.arguments),
         None => Ok(()),
     }
 }
 
 fn check_initials(
-    alloc: Global,
     context: ClassContext<'_, '_>,
     locals: &mut Scopes,
     faults: &mut Vec<Fault>,
@@ -178,33 +172,37 @@ fn check_initials(
     ensures kept { OnOk result (locals.new ≡ locals.old) }
 {
     for declarator in declarators {
-        check_any(alloc, context, locals, faults, &declarator.initial)?;
+        check_any(context, locals, faults, &declarator.initial)?;
     }
     Ok(())
 }
 
+/// A method or a constructor behind its name.
+#[derive(Clone, Copy)]
+struct WrittenBody<'m> {
+    params: &'m [Param],
+    base: &'m Option<BaseCall>,
+    clauses: &'m [Clause],
+    block: &'m Block,
+}
+
 // The parameters, the contract and the body.
 fn check_body(
-    alloc: Global,
     context: ClassContext<'_, '_>,
     locals: &mut Scopes,
     faults: &mut Vec<Fault>,
-    params: &[Param],
-    base: &Option<BaseCall>,
-    clauses: &[Clause],
-    block: &Block,
+    written: WrittenBody<'_>,
 ) -> Result<(), AllocError>
-    ensures { OnOk result (faults.new.items ≡ faults.old.items ++ body_faults (scope_of context.entry locals.old) (map param_tree params.now)
-        (option_map base_call_tree base.now) (map clause_tree clauses.now) (block_tree block.now)) }
+    ensures { OnOk result (faults.new.items ≡ faults.old.items ++ body_faults (scope_of context.entry locals.old) (map param_tree written.entry.params.now)
+        (option_map base_call_tree written.entry.base.now) (map clause_tree written.entry.clauses.now) (block_tree written.entry.block.now)) }
 {
-    check_params(alloc, context, locals, faults, params)?;
-    check_base(alloc, context, locals, faults, base)?;
-    check_clauses(alloc, context, locals, faults, clauses)?;
-    check_block(alloc, context, locals, faults, block)
+    check_params(context, locals, faults, written.params)?;
+    check_base(context, locals, faults, written.base)?;
+    check_clauses(context, locals, faults, written.clauses)?;
+    check_block(context, locals, faults, written.block)
 }
 
 fn check_method(
-    alloc: Global,
     context: ClassContext<'_, '_>,
     locals: &mut Scopes,
     faults: &mut Vec<Fault>,
@@ -217,19 +215,19 @@ fn check_method(
     let outcome = result_type(context.tables, &method.returns);
     let inner = in_method(context, is_static_word(words), outcome);
     check_body(
-        alloc,
         inner,
         locals,
         faults,
-        &method.params,
-        &None,
-        &method.clauses,
-        &method.body,
+        WrittenBody {
+            params: &method.params,
+            base: &None,
+            clauses: &method.clauses,
+            block: &method.body,
+        },
     )
 }
 
 fn check_constructor(
-    alloc: Global,
     context: ClassContext<'_, '_>,
     locals: &mut Scopes,
     faults: &mut Vec<Fault>,
@@ -239,14 +237,15 @@ fn check_constructor(
         (option_map base_call_tree constructor.now.base) (map clause_tree constructor.now.clauses.items) (block_tree constructor.now.body)) }
 {
     check_body(
-        alloc,
         context,
         locals,
         faults,
-        &constructor.params,
-        &constructor.base,
-        &constructor.clauses,
-        &constructor.body,
+        WrittenBody {
+            params: &constructor.params,
+            base: &constructor.base,
+            clauses: &constructor.clauses,
+            block: &constructor.body,
+        },
     )
 }
 
@@ -262,6 +261,7 @@ fn check_member(
     ensures { OnOk result (faults.new.items ≡ faults.old.items ++ kind_faults (class_scope (trees tables.now) class) (member_tree member.now).modifiers (member_tree member.now).kind) }
 {
     let context = ClassContext {
+        alloc,
         tables,
         class,
         refuses_members: false,
@@ -272,30 +272,17 @@ fn check_member(
     match &member.kind {
         MemberKind::Fields(declaration) => {
             check_type(tables, faults, &declaration.ty)?;
-            check_initials(
-                alloc,
-                context,
-                &mut locals,
-                faults,
-                &declaration.declarators,
-            )
+            check_initials(context, &mut locals, faults, &declaration.declarators)
         }
         MemberKind::Invariant(e) => {
-            check(alloc, context, &mut locals, faults, e)?;
+            check(context, &mut locals, faults, e)?;
             Ok(())
         }
         MemberKind::Method(method) => {
-            check_method(
-                alloc,
-                context,
-                &mut locals,
-                faults,
-                &member.modifiers,
-                method,
-            )
+            check_method(context, &mut locals, faults, &member.modifiers, method)
         }
         MemberKind::Constructor(constructor) => {
-            check_constructor(alloc, context, &mut locals, faults, constructor)
+            check_constructor(context, &mut locals, faults, constructor)
         }
     }
 }

@@ -4,6 +4,7 @@ ghost use Rattle.std.specs.Prelude.{◌≡◌, ◌++◌, map, OnOk, option_map};
 ghost use Rattle.ss_ast.specs.Expressions.{expr_tree, name_tree, type_tree};
 ghost use Rattle.ss_ast.specs.Statements.{declarator_tree, declaration_tree, simple_tree, for_init_tree, block_tree, stmt_tree, stmt_trees};
 ghost use Rattle.ss_tables.specs.Scopes.{enter, behind, behind_init, declare_all, declare_local};
+ghost use Rattle.ss_resolver_names_rules.specs.Expressions.{expr_faults};
 ghost use Rattle.ss_resolver_names_rules.specs.Faults.{twice_in};
 ghost use Rattle.ss_resolver_names_rules.specs.Statements.{faults_of_all, faults_of_any, named_class_faults, declarators_faults, declaration_faults, simple_faults, faults_of_any_simple, init_faults, heading_faults, stmt_faults, block_faults, stmts_faults};
 ghost use Rattle.ss_tables.specs.Named.{left};
@@ -17,11 +18,24 @@ use ss_core::Rule;
 use ss_faults::Fault;
 use ss_tables_lookup::Tables;
 use ss_tables_scopes::{ClassContext, LocalInfo, Scopes};
-use std::alloc::{AllocError, Global};
+use std::alloc::AllocError;
+
+// An expression alone.
+fn check_one(
+    context: ClassContext<'_, '_>,
+    locals: &mut Scopes,
+    faults: &mut Vec<Fault>,
+    e: &Expr,
+) -> Result<(), AllocError>
+    ensures noted { OnOk result (faults.new.items ≡ faults.old.items ++ expr_faults (scope_of context.entry locals.old) (expr_tree e.now)) }
+    ensures kept { OnOk result (locals.new ≡ locals.old) }
+{
+    check(context, locals, faults, e)?;
+    Ok(())
+}
 
 /// Some expressions, one after the other.
 pub fn check_all(
-    alloc: Global,
     context: ClassContext<'_, '_>,
     locals: &mut Scopes,
     faults: &mut Vec<Fault>,
@@ -31,14 +45,13 @@ pub fn check_all(
     ensures kept { OnOk result (locals.new ≡ locals.old) }
 {
     for e in exprs {
-        check(alloc, context, locals, faults, e)?;
+        check(context, locals, faults, e)?;
     }
     Ok(())
 }
 
 /// An expression, where there is one.
 pub fn check_any(
-    alloc: Global,
     context: ClassContext<'_, '_>,
     locals: &mut Scopes,
     faults: &mut Vec<Fault>,
@@ -48,7 +61,7 @@ pub fn check_any(
     ensures kept { OnOk result (locals.new ≡ locals.old) }
 {
     if let Some(e) = e {
-        check(alloc, context, locals, faults, e)?;
+        check(context, locals, faults, e)?;
     }
     Ok(())
 }
@@ -65,7 +78,6 @@ pub fn check_local(locals: &Scopes, faults: &mut Vec<Fault>, name: &Name) -> Res
 
 // A declared local.
 fn check_declarator(
-    alloc: Global,
     context: ClassContext<'_, '_>,
     locals: &mut Scopes,
     faults: &mut Vec<Fault>,
@@ -77,18 +89,17 @@ fn check_declarator(
     ensures kept { OnOk result (scope_of context.entry locals.new ≡ declare_local (scope_of context.entry locals.old) (type_tree ty.now) (declarator_tree declarator.now).name) }
     ensures around { OnOk result (locals.new.outer ≡ locals.old.outer) }
 {
-    check_any(alloc, context, locals, faults, &declarator.initial)?;
+    check_any(context, locals, faults, &declarator.initial)?;
     check_local(locals, faults, &declarator.name)?;
     let local = LocalInfo {
         ty: context.tables.written_type(ty),
         is_param: false,
     };
-    locals.declare(alloc, declarator.name.text.as_str(), local)
+    locals.declare(context.alloc, declarator.name.text.as_str(), local)
 }
 
 // A declaration.
 fn check_declaration(
-    alloc: Global,
     context: ClassContext<'_, '_>,
     locals: &mut Scopes,
     faults: &mut Vec<Fault>,
@@ -100,7 +111,6 @@ fn check_declaration(
 {
     check_type(context.tables, faults, &declaration.ty)?;
     check_declarators(
-        alloc,
         context,
         locals,
         faults,
@@ -110,7 +120,6 @@ fn check_declaration(
 }
 
 fn check_declarators(
-    alloc: Global,
     context: ClassContext<'_, '_>,
     locals: &mut Scopes,
     faults: &mut Vec<Fault>,
@@ -122,14 +131,13 @@ fn check_declarators(
     ensures around { OnOk result (locals.new.outer ≡ locals.old.outer) }
 {
     for declarator in declarators {
-        check_declarator(alloc, context, locals, faults, ty, declarator)?;
+        check_declarator(context, locals, faults, ty, declarator)?;
     }
     Ok(())
 }
 
 // A statement that may stand in the heading of a `for`.
 fn check_simple(
-    alloc: Global,
     context: ClassContext<'_, '_>,
     locals: &mut Scopes,
     faults: &mut Vec<Fault>,
@@ -140,23 +148,22 @@ fn check_simple(
 {
     match stmt {
         Simple::Assign(target, _, value) => {
-            check(alloc, context, locals, faults, target)?;
-            check(alloc, context, locals, faults, value)?;
+            check(context, locals, faults, target)?;
+            check(context, locals, faults, value)?;
             Ok(())
         }
         Simple::Step(target, _) => {
-            check(alloc, context, locals, faults, target)?;
+            check(context, locals, faults, target)?;
             Ok(())
         }
         Simple::Alone(e) => {
-            check(alloc, context, locals, faults, e)?;
+            check(context, locals, faults, e)?;
             Ok(())
         }
     }
 }
 
 fn check_any_simple(
-    alloc: Global,
     context: ClassContext<'_, '_>,
     locals: &mut Scopes,
     faults: &mut Vec<Fault>,
@@ -166,14 +173,13 @@ fn check_any_simple(
     ensures kept { OnOk result (locals.new ≡ locals.old) }
 {
     match stmt {
-        Some(stmt) => check_simple(alloc, context, locals, faults, stmt),
+        Some(stmt) => check_simple(context, locals, faults, stmt),
         None => Ok(()),
     }
 }
 
 // What a `for` begins with.
 fn check_init(
-    alloc: Global,
     context: ClassContext<'_, '_>,
     locals: &mut Scopes,
     faults: &mut Vec<Fault>,
@@ -185,16 +191,15 @@ fn check_init(
 {
     match init {
         Some(ForInit::Declare(declaration)) => {
-            check_declaration(alloc, context, locals, faults, declaration)
+            check_declaration(context, locals, faults, declaration)
         }
-        Some(ForInit::Simple(stmt)) => check_simple(alloc, context, locals, faults, stmt),
+        Some(ForInit::Simple(stmt)) => check_simple(context, locals, faults, stmt),
         None => Ok(()),
     }
 }
 
 // The test, the step and the invariants of a `for`.
 fn check_heading(
-    alloc: Global,
     context: ClassContext<'_, '_>,
     locals: &mut Scopes,
     faults: &mut Vec<Fault>,
@@ -205,29 +210,35 @@ fn check_heading(
     ensures noted { OnOk result (faults.new.items ≡ faults.old.items ++ heading_faults (scope_of context.entry locals.old) (option_map expr_tree test.now) (option_map simple_tree step.now) (map expr_tree invariants.now)) }
     ensures kept { OnOk result (locals.new ≡ locals.old) }
 {
-    check_any(alloc, context, locals, faults, test)?;
-    check_any_simple(alloc, context, locals, faults, step)?;
-    check_all(alloc, context, locals, faults, invariants)
+    check_any(context, locals, faults, test)?;
+    check_any_simple(context, locals, faults, step)?;
+    check_all(context, locals, faults, invariants)
+}
+
+/// What stands between the parentheses of a `for`.
+#[derive(Clone, Copy)]
+struct WrittenHeading<'p> {
+    first: &'p Option<ForInit>,
+    test: &'p Option<Expr>,
+    step: &'p Option<Simple>,
 }
 
 // What a `for` begins with, and its heading.
 fn check_start(
-    alloc: Global,
     context: ClassContext<'_, '_>,
     locals: &mut Scopes,
     faults: &mut Vec<Fault>,
-    init: &Option<ForInit>,
-    test: &Option<Expr>,
-    step: &Option<Simple>,
+    heading: WrittenHeading<'_>,
     invariants: &[Expr],
 ) -> Result<(), AllocError>
-    ensures noted { OnOk result (faults.new.items ≡ faults.old.items ++ (init_faults (scope_of context.entry locals.old) (option_map for_init_tree init.now)
-        ++ heading_faults (behind_init (scope_of context.entry locals.old) (option_map for_init_tree init.now)) (option_map expr_tree test.now) (option_map simple_tree step.now) (map expr_tree invariants.now))) }
-    ensures kept { OnOk result (scope_of context.entry locals.new ≡ behind_init (scope_of context.entry locals.old) (option_map for_init_tree init.now)) }
+    ensures noted { OnOk result (faults.new.items ≡ faults.old.items ++ (init_faults (scope_of context.entry locals.old) (option_map for_init_tree heading.entry.first.now)
+        ++ heading_faults (behind_init (scope_of context.entry locals.old) (option_map for_init_tree heading.entry.first.now)) (option_map expr_tree heading.entry.test.now) (option_map simple_tree heading.entry.step.now) (map expr_tree invariants.now))) }
+    ensures kept { OnOk result (scope_of context.entry locals.new ≡ behind_init (scope_of context.entry locals.old) (option_map for_init_tree heading.entry.first.now)) }
     ensures around { OnOk result (locals.new.outer ≡ locals.old.outer) }
 {
-    check_init(alloc, context, locals, faults, init)?;
-    check_heading(alloc, context, locals, faults, test, step, invariants)
+    let WrittenHeading { first, test, step } = heading;
+    check_init(context, locals, faults, first)?;
+    check_heading(context, locals, faults, test, step, invariants)
 }
 
 // The class that an `expose` names.
@@ -246,7 +257,6 @@ fn check_named_class(
 
 #[cycle(stmt)]
 fn check_stmt(
-    alloc: Global,
     context: ClassContext<'_, '_>,
     locals: &mut Scopes,
     faults: &mut Vec<Fault>,
@@ -257,48 +267,69 @@ fn check_stmt(
     ensures around { OnOk result (locals.new.outer ≡ locals.old.outer) }
 {
     match stmt {
-        Stmt::Block(block) => check_block(alloc, context, locals, faults, block),
-        Stmt::Declare(declaration) => {
-            check_declaration(alloc, context, locals, faults, declaration)
-        }
-        Stmt::Simple(stmt) => check_simple(alloc, context, locals, faults, stmt),
+        Stmt::Block(block) => check_block(context, locals, faults, block),
+        Stmt::Declare(declared) => check_declaration(context, locals, faults, declared),
+        Stmt::Simple(stmt) => check_simple(context, locals, faults, stmt),
         Stmt::If(_, test, first, None) => {
-            check(alloc, context, locals, faults, test)?;
-            check_governed(alloc, context, locals, faults, first)
+            check(context, locals, faults, test)?;
+            check_governed(context, locals, faults, first)
         }
         Stmt::If(_, test, first, Some(second)) => {
-            check(alloc, context, locals, faults, test)?;
-            check_governed(alloc, context, locals, faults, first)?;
-            check_governed(alloc, context, locals, faults, second)
+            check(context, locals, faults, test)?;
+            check_governed(context, locals, faults, first)?;
+            check_governed(context, locals, faults, second)
         }
         Stmt::While(_, test, invariants, body) => {
-            check(alloc, context, locals, faults, test)?;
-            check_all(alloc, context, locals, faults, invariants)?;
-            check_governed(alloc, context, locals, faults, body)
+            check(context, locals, faults, test)?;
+            check_all(context, locals, faults, invariants)?;
+            check_governed(context, locals, faults, body)
         }
-        Stmt::For(_, init, test, step, invariants, body) => {
-            locals.enter(alloc)?;
-            check_start(alloc, context, locals, faults, init, test, step, invariants)?;
-            check_loop(alloc, context, locals, faults, body)
+        Stmt::For {
+            first,
+            test,
+            step,
+            invariants,
+            body,
+            ..
+        } => {
+            let heading = WrittenHeading { first, test, step };
+            check_for(context, locals, faults, body, heading, invariants)
         }
-        Stmt::Return(_, e) => check_any(alloc, context, locals, faults, e),
-        Stmt::Assert(_, e) | Stmt::Assume(_, e) => {
-            check(alloc, context, locals, faults, e)?;
-            Ok(())
-        }
+        Stmt::Return(_, e) => check_any(context, locals, faults, e),
+        Stmt::Assert(_, e) | Stmt::Assume(_, e) => check_one(context, locals, faults, e),
         Stmt::Expose(_, e, name, block) => {
-            check(alloc, context, locals, faults, e)?;
+            check(context, locals, faults, e)?;
             check_named_class(context.tables, faults, name)?;
-            check_block(alloc, context, locals, faults, block)
+            check_block(context, locals, faults, block)
         }
         Stmt::Empty(_) => Ok(()),
     }
 }
 
+// A `for`, whose heading has a scope of its own.
+#[cycle(stmt)]
+fn check_for(
+    context: ClassContext<'_, '_>,
+    locals: &mut Scopes,
+    faults: &mut Vec<Fault>,
+    body: &Stmt,
+    heading: WrittenHeading<'_>,
+    invariants: &[Expr],
+) -> Result<(), AllocError>
+    ensures noted { OnOk result (faults.new.items ≡ faults.old.items ++ (init_faults (enter (scope_of context.entry locals.old)) (option_map for_init_tree heading.entry.first.now)
+        ++ heading_faults (behind_init (enter (scope_of context.entry locals.old)) (option_map for_init_tree heading.entry.first.now)) (option_map expr_tree heading.entry.test.now) (option_map simple_tree heading.entry.step.now) (map expr_tree invariants.now)
+        ++ stmt_faults (enter (behind_init (enter (scope_of context.entry locals.old)) (option_map for_init_tree heading.entry.first.now))) (stmt_tree body.now))) }
+    ensures kept { OnOk result (locals.new ≡ locals.old) }
+{
+    locals.enter(context.alloc)?;
+    check_start(context, locals, faults, heading, invariants)?;
+    check_loop(context, locals, faults, body)?;
+    Ok(())
+}
+
 // The body of a `for`, at whose end the scope of its heading ends.
 #[cycle(stmt)]
 fn check_loop(
-    alloc: Global,
     context: ClassContext<'_, '_>,
     locals: &mut Scopes,
     faults: &mut Vec<Fault>,
@@ -307,7 +338,7 @@ fn check_loop(
     ensures noted { OnOk result (faults.new.items ≡ faults.old.items ++ stmt_faults (enter (scope_of context.entry locals.old)) (stmt_tree body.now)) }
     ensures closed { OnOk result (locals.new ≡ left locals.old) }
 {
-    check_governed(alloc, context, locals, faults, body)?;
+    check_governed(context, locals, faults, body)?;
     locals.leave();
     Ok(())
 }
@@ -315,7 +346,6 @@ fn check_loop(
 // A statement that another one governs, in a scope of its own.
 #[cycle(stmt)]
 fn check_governed(
-    alloc: Global,
     context: ClassContext<'_, '_>,
     locals: &mut Scopes,
     faults: &mut Vec<Fault>,
@@ -324,8 +354,8 @@ fn check_governed(
     ensures noted { OnOk result (faults.new.items ≡ faults.old.items ++ stmt_faults (enter (scope_of context.entry locals.old)) (stmt_tree stmt.now)) }
     ensures kept { OnOk result (locals.new ≡ locals.old) }
 {
-    locals.enter(alloc)?;
-    check_stmt(alloc, context, locals, faults, stmt)?;
+    locals.enter(context.alloc)?;
+    check_stmt(context, locals, faults, stmt)?;
     locals.leave();
     Ok(())
 }
@@ -333,7 +363,6 @@ fn check_governed(
 /// A block, which has a scope of its own.
 #[cycle(stmt)]
 pub fn check_block(
-    alloc: Global,
     context: ClassContext<'_, '_>,
     locals: &mut Scopes,
     faults: &mut Vec<Fault>,
@@ -342,15 +371,14 @@ pub fn check_block(
     ensures noted { OnOk result (faults.new.items ≡ faults.old.items ++ block_faults (scope_of context.entry locals.old) (block_tree block.now)) }
     ensures kept { OnOk result (locals.new ≡ locals.old) }
 {
-    locals.enter(alloc)?;
-    check_stmts(alloc, context, locals, faults, &block.statements)?;
+    locals.enter(context.alloc)?;
+    check_stmts(context, locals, faults, &block.statements)?;
     locals.leave();
     Ok(())
 }
 
 #[cycle(stmt)]
 fn check_stmts(
-    alloc: Global,
     context: ClassContext<'_, '_>,
     locals: &mut Scopes,
     faults: &mut Vec<Fault>,
@@ -360,7 +388,7 @@ fn check_stmts(
     ensures around { OnOk result (locals.new.outer ≡ locals.old.outer) }
 {
     for stmt in stmts {
-        check_stmt(alloc, context, locals, faults, stmt)?;
+        check_stmt(context, locals, faults, stmt)?;
     }
     Ok(())
 }

@@ -29,7 +29,7 @@ use ss_tables_scopes::{
     ClassContext, LocalInfo, Scopes, call_type, called_with, count, link_type, new_type,
     type_of_cast, type_of_element,
 };
-use std::alloc::{AllocError, Global};
+use std::alloc::AllocError;
 
 // A dot and a name behind the beginning of a path.
 fn walk_member<'a>(
@@ -53,7 +53,6 @@ fn walk_member<'a>(
 /// The faults of an expression, up to those that the next part of a path decides.
 #[cycle(expr)]
 pub fn walk<'a>(
-    alloc: Global,
     context: ClassContext<'_, '_>,
     locals: &mut Scopes,
     faults: &mut Vec<Fault>,
@@ -65,29 +64,29 @@ pub fn walk<'a>(
 {
     match e {
         Expr::Iff(_, a, b) | Expr::Implies(_, a, b) => {
-            check(alloc, context, locals, faults, a)?;
-            walk_operand(alloc, context, locals, faults, StaticType::Bool, b)
+            check(context, locals, faults, a)?;
+            walk_operand(context, locals, faults, StaticType::Bool, b)
         }
         Expr::Chain(place, first, links) => {
-            let before = walk(alloc, context, locals, faults, first)?;
-            walk_links(alloc, context, locals, faults, *place, before, links)
+            let before = walk(context, locals, faults, first)?;
+            walk_links(context, locals, faults, *place, before, links)
         }
         Expr::Path(place, first, postfixes) => {
-            let before = walk(alloc, context, locals, faults, first)?;
-            walk_postfixes(alloc, context, locals, faults, *place, before, postfixes)
+            let before = walk(context, locals, faults, first)?;
+            walk_postfixes(context, locals, faults, *place, before, postfixes)
         }
-        Expr::Negate(_, e) => walk_operand(alloc, context, locals, faults, StaticType::Int, e),
-        Expr::Not(_, e) => walk_operand(alloc, context, locals, faults, StaticType::Bool, e),
-        Expr::Cast(_, ty, e) => walk_cast(alloc, context, locals, faults, ty, e),
-        Expr::Paren(_, e) | Expr::Old(_, e) => walk_paren(alloc, context, locals, faults, e),
-        Expr::New(_, name, exprs) => walk_new(alloc, context, locals, faults, name, exprs),
+        Expr::Negate(_, e) => walk_operand(context, locals, faults, StaticType::Int, e),
+        Expr::Not(_, e) => walk_operand(context, locals, faults, StaticType::Bool, e),
+        Expr::Cast(_, ty, e) => walk_cast(context, locals, faults, ty, e),
+        Expr::Paren(_, e) | Expr::Old(_, e) => walk_paren(context, locals, faults, e),
+        Expr::New(_, name, exprs) => walk_new(context, locals, faults, name, exprs),
         Expr::NewArray(_, place, name, length) => {
-            walk_new_array(alloc, context, locals, faults, *place, name, length)
+            walk_new_array(context, locals, faults, *place, name, length)
         }
         Expr::Quantified(_, _, name, low, high, body) => {
-            check(alloc, context, locals, faults, low)?;
-            check(alloc, context, locals, faults, high)?;
-            check_member(alloc, context, locals, faults, name, body)?;
+            check(context, locals, faults, low)?;
+            check(context, locals, faults, high)?;
+            check_member(context, locals, faults, name, body)?;
             Ok(Prefix::Value(Some(StaticType::Bool)))
         }
         Expr::Number(..) => Ok(Prefix::Value(Some(StaticType::Int))),
@@ -104,7 +103,6 @@ pub fn walk<'a>(
 // The operand of an operation of this type.
 #[cycle(expr)]
 fn walk_operand<'a>(
-    alloc: Global,
     context: ClassContext<'_, '_>,
     locals: &mut Scopes,
     faults: &mut Vec<Fault>,
@@ -115,14 +113,13 @@ fn walk_operand<'a>(
     ensures begun { IfOk result (λ r. prefix_view r ≡ AnOther (Some (type_of ty))) }
     ensures kept { OnOk result (locals.new ≡ locals.old) }
 {
-    check(alloc, context, locals, faults, e)?;
+    check(context, locals, faults, e)?;
     Ok(Prefix::Value(Some(ty)))
 }
 
 // A cast to a written type.
 #[cycle(expr)]
 fn walk_cast<'a>(
-    alloc: Global,
     context: ClassContext<'_, '_>,
     locals: &mut Scopes,
     faults: &mut Vec<Fault>,
@@ -134,14 +131,13 @@ fn walk_cast<'a>(
     ensures kept { OnOk result (locals.new ≡ locals.old) }
 {
     check_type(context.tables, faults, ty)?;
-    check(alloc, context, locals, faults, e)?;
+    check(context, locals, faults, e)?;
     Ok(Prefix::Value(type_of_cast(context.tables, ty)))
 }
 
 // An expression in parentheses, or inside `old`.
 #[cycle(expr)]
 fn walk_paren<'a>(
-    alloc: Global,
     context: ClassContext<'_, '_>,
     locals: &mut Scopes,
     faults: &mut Vec<Fault>,
@@ -151,14 +147,13 @@ fn walk_paren<'a>(
     ensures begun { IfOk result (λ r. prefix_view r ≡ AnOther (static (scope_of context.entry locals.old) (expr_tree e.now))) }
     ensures kept { OnOk result (locals.new ≡ locals.old) }
 {
-    let ty = check(alloc, context, locals, faults, e)?;
+    let ty = check(context, locals, faults, e)?;
     Ok(Prefix::Value(ty))
 }
 
 // A new object of the class of this name.
 #[cycle(expr)]
 fn walk_new<'a>(
-    alloc: Global,
     context: ClassContext<'_, '_>,
     locals: &mut Scopes,
     faults: &mut Vec<Fault>,
@@ -171,14 +166,13 @@ fn walk_new<'a>(
     ensures kept { OnOk result (locals.new ≡ locals.old) }
 {
     check_class(context.tables, faults, name.text.as_str(), name.place)?;
-    check_arguments(alloc, context, locals, faults, None, exprs)?;
+    check_arguments(context, locals, faults, None, exprs)?;
     Ok(Prefix::Value(new_type(context.tables, count(exprs), name.text.as_str())))
 }
 
 // A new array of elements of this type.
 #[cycle(expr)]
 fn walk_new_array<'a>(
-    alloc: Global,
     context: ClassContext<'_, '_>,
     locals: &mut Scopes,
     faults: &mut Vec<Fault>,
@@ -192,14 +186,13 @@ fn walk_new_array<'a>(
     ensures kept { OnOk result (locals.new ≡ locals.old) }
 {
     check_type_name(context.tables, faults, place, name)?;
-    check(alloc, context, locals, faults, length)?;
+    check(context, locals, faults, length)?;
     Ok(Prefix::Value(context.tables.array_type(true, name)))
 }
 
 /// The faults of an expression whose value is read, and its static type.
 #[cycle(expr)]
 pub fn check(
-    alloc: Global,
     context: ClassContext<'_, '_>,
     locals: &mut Scopes,
     faults: &mut Vec<Fault>,
@@ -209,7 +202,7 @@ pub fn check(
     ensures typed { IfOk result (λ r. option_map type_of r ≡ static (scope_of context.entry locals.old) (expr_tree e.now)) }
     ensures kept { OnOk result (locals.new ≡ locals.old) }
 {
-    let read = walk(alloc, context, locals, faults, e)?;
+    let read = walk(context, locals, faults, e)?;
     add_pending(context, locals, faults, read)?;
     Ok(prefix_value(context, locals, read))
 }
@@ -217,7 +210,6 @@ pub fn check(
 // The member of a quantifier, in which the bound name is an `int`.
 #[cycle(expr)]
 fn check_member(
-    alloc: Global,
     context: ClassContext<'_, '_>,
     locals: &mut Scopes,
     faults: &mut Vec<Fault>,
@@ -227,13 +219,13 @@ fn check_member(
     ensures noted { OnOk result (faults.new.items ≡ faults.old.items ++ expr_faults (within_quantifier (scope_of context.entry locals.old) (name_tree name.now)) (expr_tree body.now)) }
     ensures kept { OnOk result (locals.new ≡ locals.old) }
 {
-    locals.enter(alloc)?;
+    locals.enter(context.alloc)?;
     let local = LocalInfo {
         ty: Some(StaticType::Int),
         is_param: false,
     };
-    locals.declare(alloc, name.text.as_str(), local)?;
-    check(alloc, context, locals, faults, body)?;
+    locals.declare(context.alloc, name.text.as_str(), local)?;
+    check(context, locals, faults, body)?;
     locals.leave();
     Ok(())
 }
@@ -241,7 +233,6 @@ fn check_member(
 // What stands behind the first operand of a chain.
 #[cycle(expr)]
 fn walk_links<'a>(
-    alloc: Global,
     context: ClassContext<'_, '_>,
     locals: &mut Scopes,
     faults: &mut Vec<Fault>,
@@ -257,14 +248,13 @@ fn walk_links<'a>(
 {
     let mut before = first;
     for link in links {
-        before = walk_link(alloc, context, locals, faults, place, before, link)?;
+        before = walk_link(context, locals, faults, place, before, link)?;
     }
     Ok(before)
 }
 
 #[cycle(expr)]
 fn walk_link<'a>(
-    alloc: Global,
     context: ClassContext<'_, '_>,
     locals: &mut Scopes,
     faults: &mut Vec<Fault>,
@@ -281,7 +271,7 @@ fn walk_link<'a>(
     let known = link_type(context, link);
     match link {
         Link::Operation(_, operand) => {
-            check(alloc, context, locals, faults, operand)?;
+            check(context, locals, faults, operand)?;
             Ok(Prefix::Value(known))
         }
         Link::Is(ty) => {
@@ -298,7 +288,6 @@ fn walk_link<'a>(
 // What stands behind the beginning of a path.
 #[cycle(expr)]
 fn walk_postfixes<'a>(
-    alloc: Global,
     context: ClassContext<'_, '_>,
     locals: &mut Scopes,
     faults: &mut Vec<Fault>,
@@ -314,14 +303,13 @@ fn walk_postfixes<'a>(
 {
     let mut before = first;
     for postfix in postfixes {
-        before = walk_postfix(alloc, context, locals, faults, place, before, postfix)?;
+        before = walk_postfix(context, locals, faults, place, before, postfix)?;
     }
     Ok(before)
 }
 
 #[cycle(expr)]
 fn walk_postfix<'a>(
-    alloc: Global,
     context: ClassContext<'_, '_>,
     locals: &mut Scopes,
     faults: &mut Vec<Fault>,
@@ -340,7 +328,7 @@ fn walk_postfix<'a>(
         Postfix::Element(index) => {
             add_pending(context, locals, faults, before)?;
             let ty = prefix_value(context, locals, before);
-            check(alloc, context, locals, faults, index)?;
+            check(context, locals, faults, index)?;
             Ok(Prefix::Value(type_of_element(ty)))
         }
         Postfix::Call(arguments) => {
@@ -348,7 +336,7 @@ fn walk_postfix<'a>(
             let callee = called_with(count(arguments), prefix_callee(context, locals, before));
             let ty = call_type(context.tables, callee);
             let asked = prefix_asked(before);
-            check_arguments(alloc, context, locals, faults, asked, arguments)?;
+            check_arguments(context, locals, faults, asked, arguments)?;
             Ok(Prefix::Value(ty))
         }
     }
@@ -357,7 +345,6 @@ fn walk_postfix<'a>(
 // Arguments, of which one may name a class.
 #[cycle(expr)]
 pub fn check_arguments(
-    alloc: Global,
     context: ClassContext<'_, '_>,
     locals: &mut Scopes,
     faults: &mut Vec<Fault>,
@@ -369,7 +356,7 @@ pub fn check_arguments(
 {
     let mut which = asked;
     for argument in exprs {
-        check_argument(alloc, context, locals, faults, which, argument)?;
+        check_argument(context, locals, faults, which, argument)?;
         which = behind_argument(which);
     }
     Ok(())
@@ -377,7 +364,6 @@ pub fn check_arguments(
 
 #[cycle(expr)]
 fn check_argument(
-    alloc: Global,
     context: ClassContext<'_, '_>,
     locals: &mut Scopes,
     faults: &mut Vec<Fault>,
@@ -388,10 +374,10 @@ fn check_argument(
     ensures kept { OnOk result (locals.new ≡ locals.old) }
 {
     if names_class(which) {
-        let named = walk(alloc, context, locals, faults, argument)?;
+        let named = walk(context, locals, faults, argument)?;
         return add_asked(context, locals, faults, named);
     }
-    check(alloc, context, locals, faults, argument)?;
+    check(context, locals, faults, argument)?;
     Ok(())
 }
 

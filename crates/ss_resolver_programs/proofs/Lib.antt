@@ -1,9 +1,5 @@
-pub mod Alones
 pub mod Clauses
-pub mod Left
 pub mod Beginnings
 pub mod Limited
-pub mod Governed
 pub mod Steps
 pub mod Bodied
-pub mod Blocks

@@ -17,13 +17,12 @@ ghost use Rattle.ss_resolver_expressions.specs.Environments.{env_of};
 ghost use Rattle.ss_resolver_programs.specs.Parts.{param_in, AreParts};
 
 use crate::contracts::{resolve_base, resolve_entry, resolve_exit, resolve_modifies};
-use crate::decls::declare_params;
 use crate::locals::list_locals;
 use crate::marks::copy_names;
-use crate::stmts::resolve_block;
 use ss_ast::{Block, Clause, Param, TypeRef};
 use ss_core::Local;
 use ss_resolver_expressions::{LocalNames, ResolutionContext};
+use ss_resolver_statements::{declare_params, resolve_block};
 use ss_resolver_tables::{class_number, declared_result, type_id};
 use ss_tables_lookup::{ConstructorRef, MethodRef, StaticType, Tables};
 use ss_tables_scopes::{ClassContext, has_attribute, is_static};
@@ -84,7 +83,6 @@ fn resolve_params(
 
 // The names with the parameters of a body, where the first local has this number.
 fn enter_params(
-    alloc: Global,
     context: &ResolutionContext<'_, '_>,
     first: usize,
     params: &[Param],
@@ -94,8 +92,8 @@ fn enter_params(
     requires this { context.now.within.refuses_this ≡ false }
     ensures { IfOk result (λ a. env_of context.now a ≡ declare_params (record (class_env (trees context.now.within.tables.now) context.now.within.class) { next = first }) (map param_tree params.now)) }
 {
-    let mut names = LocalNames::new(alloc, first);
-    declare_params(alloc, context, &mut names, params)?;
+    let mut names = LocalNames::new(context.within.alloc, first);
+    declare_params(context, &mut names, params)?;
     Ok(names)
 }
 
@@ -112,7 +110,6 @@ pub struct Parts {
 
 // The parts of a body whose parameters are in scope.
 fn resolve_parts<'p>(
-    alloc: Global,
     context: &ResolutionContext<'_, 'p>,
     names: &mut LocalNames,
     params: &[Param],
@@ -122,12 +119,12 @@ fn resolve_parts<'p>(
     ensures { IfOk result (λ p. AreParts (env_of context.now names.old) (map param_tree params.now) (map clause_tree clauses.now) (block_tree body.now) p) }
 {
     let tables = context.within.tables;
-    let params = resolve_params(alloc, tables, params)?;
-    let locals = list_locals(alloc, tables, body)?;
-    let entry = resolve_entry(alloc, context, names, clauses)?;
-    let exit = resolve_exit(alloc, context, names, clauses)?;
-    let modifies = resolve_modifies(alloc, context, names, clauses)?;
-    let block = resolve_block(alloc, context, names, body)?;
+    let params = resolve_params(context.within.alloc, tables, params)?;
+    let locals = list_locals(context.within.alloc, tables, body)?;
+    let entry = resolve_entry(context, names, clauses)?;
+    let exit = resolve_exit(context, names, clauses)?;
+    let modifies = resolve_modifies(context, names, clauses)?;
+    let block = resolve_block(context, names, body)?;
     Ok(Parts {
         params,
         locals,
@@ -167,6 +164,7 @@ fn method_context<'t, 'p>(
     let tables = context.within.tables;
     ResolutionContext {
         within: ClassContext {
+            alloc: context.within.alloc,
             tables,
             class: context.within.class,
             refuses_members: context.within.refuses_members,
@@ -213,7 +211,6 @@ fn first_local(is_static: bool) -> usize
 
 // What a method has besides its heading, where `result` has its type.
 fn method_parts<'p>(
-    alloc: Global,
     context: &ResolutionContext<'_, 'p>,
     method: MethodRef<'p>,
 ) -> Result<Parts, AllocError>
@@ -226,9 +223,8 @@ fn method_parts<'p>(
     let written = method.method;
     let own = method_context(context, &written.returns);
     let first = first_local(is_static(method));
-    let mut names = enter_params(alloc, context, first, &written.params)?;
+    let mut names = enter_params(context, first, &written.params)?;
     resolve_parts(
-        alloc,
         &own,
         &mut names,
         &written.params,
@@ -239,7 +235,6 @@ fn method_parts<'p>(
 
 /// A method.
 pub(crate) fn resolve_method<'p>(
-    alloc: Global,
     context: &ResolutionContext<'_, 'p>,
     method: MethodRef<'p>,
 ) -> Result<TypedBody, AllocError>
@@ -249,9 +244,9 @@ pub(crate) fn resolve_method<'p>(
     ensures { IfOk result (λ b. view.body b ≡ method_body (trees context.now.within.tables.now) context.now.within.class (method_tree method.entry)) }
 {
     let written = method.method;
-    let name = String::from_str(alloc, written.name.text.as_str())?;
-    let attributes = copy_names(alloc, &method.member.attributes)?;
-    let parts = method_parts(alloc, context, method)?;
+    let name = String::from_str(context.within.alloc, written.name.text.as_str())?;
+    let attributes = copy_names(context.within.alloc, &method.member.attributes)?;
+    let parts = method_parts(context, method)?;
     Ok(TypedBody {
         class: class_number(context.within.class),
         name,
@@ -278,7 +273,6 @@ pub struct Based {
 
 // The same where its parameters are in scope.
 fn based_parts<'p>(
-    alloc: Global,
     context: &ResolutionContext<'_, 'p>,
     names: &mut LocalNames,
     constructor: ConstructorRef<'p>,
@@ -287,9 +281,8 @@ fn based_parts<'p>(
     ensures parts { IfOk result (λ b. AreParts (env_of context.now names.old) (constructor_tree constructor.entry).params (constructor_tree constructor.entry).clauses (constructor_tree constructor.entry).body b.parts) }
 {
     let written = constructor.constructor;
-    let base = resolve_base(alloc, context, names, &written.base)?;
+    let base = resolve_base(context, names, &written.base)?;
     let parts = resolve_parts(
-        alloc,
         context,
         names,
         &written.params,
@@ -300,7 +293,6 @@ fn based_parts<'p>(
 }
 
 fn constructor_parts<'p>(
-    alloc: Global,
     context: &ResolutionContext<'_, 'p>,
     constructor: ConstructorRef<'p>,
 ) -> Result<Based, AllocError>
@@ -313,13 +305,12 @@ fn constructor_parts<'p>(
         (constructor_tree constructor.entry).params (constructor_tree constructor.entry).clauses (constructor_tree constructor.entry).body b.parts) }
 {
     let written = constructor.constructor;
-    let mut names = enter_params(alloc, context, 1, &written.params)?;
-    based_parts(alloc, context, &mut names, constructor)
+    let mut names = enter_params(context, 1, &written.params)?;
+    based_parts(context, &mut names, constructor)
 }
 
 /// A constructor.
 pub(crate) fn resolve_constructor<'p>(
-    alloc: Global,
     context: &ResolutionContext<'_, 'p>,
     constructor: ConstructorRef<'p>,
 ) -> Result<TypedBody, AllocError>
@@ -329,9 +320,9 @@ pub(crate) fn resolve_constructor<'p>(
     ensures { IfOk result (λ b. view.body b ≡ constructor_body (trees context.now.within.tables.now) context.now.within.class (constructor_tree constructor.entry)) }
 {
     let written = constructor.constructor;
-    let name = String::from_str(alloc, written.name.text.as_str())?;
-    let attributes = copy_names(alloc, constructor.attributes)?;
-    let whole = constructor_parts(alloc, context, constructor)?;
+    let name = String::from_str(context.within.alloc, written.name.text.as_str())?;
+    let attributes = copy_names(context.within.alloc, constructor.attributes)?;
+    let whole = constructor_parts(context, constructor)?;
     let parts = whole.parts;
     Ok(TypedBody {
         class: class_number(context.within.class),

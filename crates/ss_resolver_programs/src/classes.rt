@@ -19,13 +19,12 @@ ghost use Rattle.ss_resolver_tables.specs.Limits.{HasFewClasses};
 ghost use Rattle.ss_resolver_tables.specs.Slots.{slot_of, slots_of};
 ghost use Rattle.ss_resolver_expressions.specs.Environments.{env_of};
 
-use crate::built::value_in;
-use crate::decls::resolve_option;
 use crate::marks::copy_names;
 use crate::whole::Whole;
 use ss_ast::{ClassDecl, Member, MemberKind, Name};
 use ss_core::{BodyId, Class, ClassId, Entry, Field, Mark};
 use ss_resolver_expressions::{LocalNames, ResolutionContext, resolve_boxed};
+use ss_resolver_statements::{resolve_option, value_in};
 use ss_resolver_tables::{Slot, constructor_id, number_or_object, table_at, type_id};
 use ss_tables_lookup::{FieldRef, Shelf, Tables};
 use ss_typed::{TypedClass, TypedExpr, TypedField, TypedInvariant};
@@ -157,7 +156,6 @@ pub(crate) fn core_class(
 }
 
 fn resolve_field<'p>(
-    alloc: Global,
     context: &ResolutionContext<'_, 'p>,
     names: &mut LocalNames,
     field: FieldRef<'p>,
@@ -165,8 +163,8 @@ fn resolve_field<'p>(
     ensures tree { IfOk result (λ f. view.field f ≡ field_member (env_of context.now names.old) (field_tree field.entry)) }
     ensures kept { OnOk result (names.new ≡ names.old) }
 {
-    let attributes = copy_names(alloc, field.attributes)?;
-    let initial = resolve_option(alloc, context, names, &field.declarator.initial)?;
+    let attributes = copy_names(context.within.alloc, field.attributes)?;
+    let initial = resolve_option(context, names, &field.declarator.initial)?;
     Ok(TypedField {
         place: field.declarator.name.place,
         attributes,
@@ -176,7 +174,6 @@ fn resolve_field<'p>(
 
 // One more field.
 fn add_field<'p>(
-    alloc: Global,
     context: &ResolutionContext<'_, 'p>,
     names: &mut LocalNames,
     list: &mut Vec<TypedField>,
@@ -185,13 +182,12 @@ fn add_field<'p>(
     ensures trees { OnOk result (map view.field list.new.items ≡ map view.field list.old.items ++ field_member (env_of context.now names.old) (field_tree field.entry) ∷ []) }
     ensures kept { OnOk result (names.new ≡ names.old) }
 {
-    let field = resolve_field(alloc, context, names, field)?;
+    let field = resolve_field(context, names, field)?;
     list.push(field)?;
     Ok(())
 }
 
 fn resolve_fields<'p>(
-    alloc: Global,
     context: &ResolutionContext<'_, 'p>,
     names: &mut LocalNames,
     fields: &[FieldRef<'p>],
@@ -199,9 +195,9 @@ fn resolve_fields<'p>(
     ensures trees { IfOk result (λ v. map view.field v.items ≡ map (field_member (env_of context.now names.old)) (map field_tree fields.now)) }
     ensures kept { OnOk result (names.new ≡ names.old) }
 {
-    let mut list = Vec::new(alloc);
+    let mut list = Vec::new(context.within.alloc);
     for field in fields {
-        add_field(alloc, context, names, &mut list, *field)?;
+        add_field(context, names, &mut list, *field)?;
     }
     Ok(list)
 }
@@ -223,7 +219,6 @@ fn push_invariant(
 
 // The invariant that a member is, if it is one.
 fn add_invariant<'p>(
-    alloc: Global,
     context: &ResolutionContext<'_, 'p>,
     names: &mut LocalNames,
     list: &mut Vec<TypedInvariant>,
@@ -234,8 +229,8 @@ fn add_invariant<'p>(
 {
     match &member.kind {
         MemberKind::Invariant(condition) => {
-            let attributes = copy_names(alloc, &member.attributes)?;
-            let condition = resolve_boxed(alloc, context, names, condition)?;
+            let attributes = copy_names(context.within.alloc, &member.attributes)?;
+            let condition = resolve_boxed(context, names, condition)?;
             push_invariant(list, attributes, condition)?;
             Ok(())
         }
@@ -244,7 +239,6 @@ fn add_invariant<'p>(
 }
 
 fn resolve_invariants<'p>(
-    alloc: Global,
     context: &ResolutionContext<'_, 'p>,
     names: &mut LocalNames,
     members: &'p [Member],
@@ -252,9 +246,9 @@ fn resolve_invariants<'p>(
     ensures trees { IfOk result (λ v. map view.invariant_of v.items ≡ invariants_in (env_of context.now names.old) (map member_tree members.now)) }
     ensures kept { OnOk result (names.new ≡ names.old) }
 {
-    let mut list = Vec::new(alloc);
+    let mut list = Vec::new(context.within.alloc);
     for member in members {
-        add_invariant(alloc, context, names, &mut list, member)?;
+        add_invariant(context, names, &mut list, member)?;
     }
     Ok(list)
 }
@@ -272,7 +266,6 @@ fn written_constructor(context: &ResolutionContext<'_, '_>, shelf: &Shelf<'_>) -
 
 // The same where the names of the class are known.
 fn members_in<'p>(
-    alloc: Global,
     context: &ResolutionContext<'_, 'p>,
     names: &mut LocalNames,
     shelf: &Shelf<'p>,
@@ -282,8 +275,8 @@ fn members_in<'p>(
     requires shelved { shelf_of shelf.now ≡ shelves.shelf (trees context.now.within.tables.now) (class_tree written.now) }
     ensures { IfOk result (λ c. view.members c ≡ resolved.members (trees context.now.within.tables.now) context.now.within.class (class_tree written.now)) }
 {
-    let fields = resolve_fields(alloc, context, names, &shelf.fields)?;
-    let invariants = resolve_invariants(alloc, context, names, &written.members)?;
+    let fields = resolve_fields(context, names, &shelf.fields)?;
+    let invariants = resolve_invariants(context, names, &written.members)?;
     Ok(TypedClass {
         place: written.name.place,
         constructor: written_constructor(context, shelf),
@@ -294,7 +287,6 @@ fn members_in<'p>(
 
 /// What a class has beside its entry in the table of classes.
 pub(crate) fn resolve_members<'p>(
-    alloc: Global,
     context: &ResolutionContext<'_, 'p>,
     shelf: &Shelf<'p>,
     written: &'p ClassDecl,
@@ -305,6 +297,6 @@ pub(crate) fn resolve_members<'p>(
     requires shelved { shelf_of shelf.now ≡ shelves.shelf (trees context.now.within.tables.now) (class_tree written.now) }
     ensures { IfOk result (λ c. view.members c ≡ resolved.members (trees context.now.within.tables.now) context.now.within.class (class_tree written.now)) }
 {
-    let mut names = LocalNames::new(alloc, 1);
-    members_in(alloc, context, &mut names, shelf, written)
+    let mut names = LocalNames::new(context.within.alloc, 1);
+    members_in(context, &mut names, shelf, written)
 }

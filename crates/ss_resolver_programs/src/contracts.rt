@@ -25,7 +25,6 @@ fn add_value(list: &mut Vec<TypedExpr>, value: Box<TypedExpr>) -> Result<(), All
 
 // What this clause says of the entry.
 fn add_entry<'p>(
-    alloc: Global,
     context: &ResolutionContext<'_, 'p>,
     names: &mut LocalNames,
     list: &mut Vec<TypedExpr>,
@@ -36,7 +35,7 @@ fn add_entry<'p>(
 {
     match clause {
         Clause::Requires(condition) => {
-            let condition = resolve_boxed(alloc, context, names, condition)?;
+            let condition = resolve_boxed(context, names, condition)?;
             add_value(list, condition)?;
             Ok(())
         }
@@ -46,7 +45,6 @@ fn add_entry<'p>(
 
 /// What the `requires` clauses say.
 pub(crate) fn resolve_entry<'p>(
-    alloc: Global,
     context: &ResolutionContext<'_, 'p>,
     names: &mut LocalNames,
     clauses: &'p [Clause],
@@ -54,16 +52,15 @@ pub(crate) fn resolve_entry<'p>(
     ensures trees { IfOk result (λ v. view.exprs v.items ≡ entry_in (env_of context.now names.old) (map clause_tree clauses.now)) }
     ensures kept { OnOk result (names.new ≡ names.old) }
 {
-    let mut list = Vec::new(alloc);
+    let mut list = Vec::new(context.within.alloc);
     for clause in clauses {
-        add_entry(alloc, context, names, &mut list, clause)?;
+        add_entry(context, names, &mut list, clause)?;
     }
     Ok(list)
 }
 
 // What this clause says of the exit.
 fn add_exit<'p>(
-    alloc: Global,
     context: &ResolutionContext<'_, 'p>,
     names: &mut LocalNames,
     list: &mut Vec<TypedExpr>,
@@ -74,7 +71,7 @@ fn add_exit<'p>(
 {
     match clause {
         Clause::Ensures(condition) => {
-            let condition = resolve_boxed(alloc, context, names, condition)?;
+            let condition = resolve_boxed(context, names, condition)?;
             add_value(list, condition)?;
             Ok(())
         }
@@ -84,7 +81,6 @@ fn add_exit<'p>(
 
 /// What the `ensures` clauses say.
 pub(crate) fn resolve_exit<'p>(
-    alloc: Global,
     context: &ResolutionContext<'_, 'p>,
     names: &mut LocalNames,
     clauses: &'p [Clause],
@@ -92,9 +88,9 @@ pub(crate) fn resolve_exit<'p>(
     ensures trees { IfOk result (λ v. view.exprs v.items ≡ exit_in (env_of context.now names.old) (map clause_tree clauses.now)) }
     ensures kept { OnOk result (names.new ≡ names.old) }
 {
-    let mut list = Vec::new(alloc);
+    let mut list = Vec::new(context.within.alloc);
     for clause in clauses {
-        add_exit(alloc, context, names, &mut list, clause)?;
+        add_exit(context, names, &mut list, clause)?;
     }
     Ok(list)
 }
@@ -114,7 +110,6 @@ fn elements_of(array: Box<TypedExpr>) -> TypedModifies
 }
 
 fn resolve_modified<'p>(
-    alloc: Global,
     context: &ResolutionContext<'_, 'p>,
     names: &mut LocalNames,
     term: &'p Modified,
@@ -124,15 +119,15 @@ fn resolve_modified<'p>(
 {
     match term {
         Modified::All(object) => {
-            let object = resolve_boxed(alloc, context, names, object)?;
+            let object = resolve_boxed(context, names, object)?;
             Ok(all_of(object))
         }
         Modified::Elements(array) => {
-            let array = resolve_boxed(alloc, context, names, array)?;
+            let array = resolve_boxed(context, names, array)?;
             Ok(elements_of(array))
         }
         Modified::One(field) => {
-            let field = resolve_boxed(alloc, context, names, field)?;
+            let field = resolve_boxed(context, names, field)?;
             Ok(one_of(Box::into_inner(field)))
         }
     }
@@ -140,7 +135,6 @@ fn resolve_modified<'p>(
 
 // One more term.
 fn add_term<'p>(
-    alloc: Global,
     context: &ResolutionContext<'_, 'p>,
     names: &mut LocalNames,
     list: &mut Vec<TypedModifies>,
@@ -149,14 +143,13 @@ fn add_term<'p>(
     ensures trees { OnOk result (map view.modified list.new.items ≡ map view.modified list.old.items ++ modified (env_of context.now names.old) (modified_tree term.now) ∷ []) }
     ensures kept { OnOk result (names.new ≡ names.old) }
 {
-    let term = resolve_modified(alloc, context, names, term)?;
+    let term = resolve_modified(context, names, term)?;
     list.push(term)?;
     Ok(())
 }
 
 // The terms of a clause behind others.
 fn resolve_terms<'p>(
-    alloc: Global,
     context: &ResolutionContext<'_, 'p>,
     names: &mut LocalNames,
     before: Vec<TypedModifies>,
@@ -167,7 +160,7 @@ fn resolve_terms<'p>(
 {
     let mut list = before;
     for term in terms {
-        add_term(alloc, context, names, &mut list, term)?;
+        add_term(context, names, &mut list, term)?;
     }
     Ok(list)
 }
@@ -183,7 +176,6 @@ fn or_none(alloc: Global, terms: Option<Vec<TypedModifies>>) -> Vec<TypedModifie
 
 // One more clause behind those with these terms.
 fn with_clause<'p>(
-    alloc: Global,
     context: &ResolutionContext<'_, 'p>,
     names: &mut LocalNames,
     terms: Option<Vec<TypedModifies>>,
@@ -194,8 +186,8 @@ fn with_clause<'p>(
 {
     match clause {
         Clause::Modifies(more) => {
-            let before = or_none(alloc, terms);
-            let list = resolve_terms(alloc, context, names, before, more)?;
+            let before = or_none(context.within.alloc, terms);
+            let list = resolve_terms(context, names, before, more)?;
             Ok(Some(list))
         }
         Clause::Requires(_) | Clause::Ensures(_) => Ok(terms),
@@ -204,7 +196,6 @@ fn with_clause<'p>(
 
 /// The terms of all `modifies` clauses, where there is one.
 pub(crate) fn resolve_modifies<'p>(
-    alloc: Global,
     context: &ResolutionContext<'_, 'p>,
     names: &mut LocalNames,
     clauses: &'p [Clause],
@@ -214,14 +205,13 @@ pub(crate) fn resolve_modifies<'p>(
 {
     let mut terms = None;
     for clause in clauses {
-        terms = with_clause(alloc, context, names, terms, clause)?;
+        terms = with_clause(context, names, terms, clause)?;
     }
     Ok(terms)
 }
 
 /// `: base(..)` where it is written.
 pub(crate) fn resolve_base<'p>(
-    alloc: Global,
     context: &ResolutionContext<'_, 'p>,
     names: &mut LocalNames,
     base: &'p Option<BaseCall>,
@@ -231,7 +221,7 @@ pub(crate) fn resolve_base<'p>(
 {
     match base {
         Some(base) => {
-            let arguments = resolve_values(alloc, context, names, &base.arguments)?;
+            let arguments = resolve_values(context, names, &base.arguments)?;
             Ok(Some(TypedBase {
                 place: base.place,
                 arguments,

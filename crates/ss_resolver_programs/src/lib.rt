@@ -3,19 +3,13 @@
 #![tactic(auto)]
 
 mod bodies;
-mod built;
-mod built_simples;
 mod classes;
 mod contracts;
-mod decls;
 mod fields;
-mod forms;
 mod locals;
 mod mains;
 mod marks;
 mod program;
-mod simples;
-mod stmts;
 mod whole;
 
 pub use program::resolve_program;

@@ -131,7 +131,7 @@ fn list_stmt(
             list_stmt(alloc, tables, locals, otherwise)
         }
         Stmt::While(_, _, _, body) => list_stmt(alloc, tables, locals, body),
-        Stmt::For(_, first, _, _, _, body) => {
+        Stmt::For { first, body, .. } => {
             list_first(alloc, tables, locals, first)?;
             list_stmt(alloc, tables, locals, body)
         }

@@ -76,7 +76,7 @@ fn add_members<'p>(
     match whole.tables.shelf(class) {
         Some(shelf) => {
             let context = whole.context(class);
-            let members = resolve_members(alloc, &context, shelf, written)?;
+            let members = resolve_members(&context, shelf, written)?;
             list.push(members)?;
             Ok(())
         }
@@ -109,7 +109,6 @@ fn add_body(list: &mut Vec<TypedBody>, body: TypedBody) -> Result<(), AllocError
 }
 
 fn add_constructors<'p>(
-    alloc: Global,
     context: &ResolutionContext<'_, 'p>,
     list: &mut Vec<TypedBody>,
     constructors: &[ConstructorRef<'p>],
@@ -120,13 +119,12 @@ fn add_constructors<'p>(
     ensures { OnOk result (map view.body list.new.items ≡ map view.body list.old.items ++ map (constructor_body (trees context.now.within.tables.now) context.now.within.class) (map constructor_tree constructors.now)) }
 {
     for constructor in constructors {
-        add_constructor(alloc, context, list, *constructor)?;
+        add_constructor(context, list, *constructor)?;
     }
     Ok(())
 }
 
 fn add_constructor<'p>(
-    alloc: Global,
     context: &ResolutionContext<'_, 'p>,
     list: &mut Vec<TypedBody>,
     constructor: ConstructorRef<'p>,
@@ -136,13 +134,12 @@ fn add_constructor<'p>(
     requires this { context.now.within.refuses_this ≡ false }
     ensures { OnOk result (map view.body list.new.items ≡ map view.body list.old.items ++ constructor_body (trees context.now.within.tables.now) context.now.within.class (constructor_tree constructor.entry) ∷ []) }
 {
-    let body = resolve_constructor(alloc, context, constructor)?;
+    let body = resolve_constructor(context, constructor)?;
     add_body(list, body)?;
     Ok(())
 }
 
 fn add_method<'p>(
-    alloc: Global,
     context: &ResolutionContext<'_, 'p>,
     list: &mut Vec<TypedBody>,
     method: MethodRef<'p>,
@@ -152,13 +149,12 @@ fn add_method<'p>(
     requires this { context.now.within.refuses_this ≡ false }
     ensures { OnOk result (map view.body list.new.items ≡ map view.body list.old.items ++ method_body (trees context.now.within.tables.now) context.now.within.class (method_tree method.entry) ∷ []) }
 {
-    let body = resolve_method(alloc, context, method)?;
+    let body = resolve_method(context, method)?;
     add_body(list, body)?;
     Ok(())
 }
 
 fn add_methods<'p>(
-    alloc: Global,
     context: &ResolutionContext<'_, 'p>,
     list: &mut Vec<TypedBody>,
     methods: &[MethodRef<'p>],
@@ -169,14 +165,13 @@ fn add_methods<'p>(
     ensures { OnOk result (map view.body list.new.items ≡ map view.body list.old.items ++ map (method_body (trees context.now.within.tables.now) context.now.within.class) (map method_tree methods.now)) }
 {
     for method in methods {
-        add_method(alloc, context, list, *method)?;
+        add_method(context, list, *method)?;
     }
     Ok(())
 }
 
 // The bodies of a class: its constructors and then its methods.
 fn add_shelf<'p>(
-    alloc: Global,
     context: &ResolutionContext<'_, 'p>,
     list: &mut Vec<TypedBody>,
     shelf: &Shelf<'p>,
@@ -188,8 +183,8 @@ fn add_shelf<'p>(
     requires shelved { shelf_of shelf.now ≡ shelves.shelf (trees context.now.within.tables.now) (class_tree written.now) }
     ensures { OnOk result (map view.body list.new.items ≡ map view.body list.old.items ++ bodies_of (trees context.now.within.tables.now) context.now.within.class (class_tree written.now)) }
 {
-    add_constructors(alloc, context, list, &shelf.constructors)?;
-    add_methods(alloc, context, list, &shelf.methods)
+    add_constructors(context, list, &shelf.constructors)?;
+    add_methods(context, list, &shelf.methods)
 }
 
 // The bodies of one more class.
@@ -206,7 +201,7 @@ fn add_bodies<'p>(
     match whole.tables.shelf(class) {
         Some(shelf) => {
             let context = whole.context(class);
-            add_shelf(alloc, &context, list, shelf, written)
+            add_shelf(&context, list, shelf, written)
         }
         None => unreachable!(),
     }
@@ -262,6 +257,7 @@ fn resolve_numbered<'p>(
     let bodies = body_starts(alloc, &program.classes)?;
     let methods = method_tables(alloc, tables, &bodies)?;
     let whole = Whole {
+        alloc,
         tables,
         fields: &fields,
         bodies: &bodies,

@@ -10,10 +10,12 @@ use ss_resolver_expressions::ResolutionContext;
 use ss_resolver_tables::{MethodTable, Starts};
 use ss_tables_lookup::Tables;
 use ss_tables_scopes::ClassContext;
+use std::alloc::Global;
 
 /// The classes of a program, the numbers of their fields and bodies, and their tables of methods.
 #[derive(Clone, Copy)]
 pub(crate) struct Whole<'t, 'p> {
+    pub alloc: Global,
     pub tables: &'t Tables<'p>,
     pub fields: &'t Starts,
     pub bodies: &'t Starts,
@@ -36,6 +38,7 @@ impl<'t, 'p> Whole<'t, 'p> {
     {
         ResolutionContext {
             within: ClassContext {
+                alloc: self.alloc,
                 tables: self.tables,
                 class,
                 refuses_members: false,

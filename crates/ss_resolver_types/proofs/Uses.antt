@@ -5,13 +5,13 @@ use Rattle.ss_core.specs.declared.names.Place.{Place}
 use Rattle.ss_ast.specs.Expressions.{ExprTree, MemberOf, ElementOf, CallOf, NameOf, BaseOf, NewOf, NewArrayOf}
 use Rattle.ss_tables.specs.Scopes.{Scope}
 use Rattle.ss_faults.specs.declared.Fault.{Fault}
-use Rattle.ss_resolver_types_expressions.specs.Faults.{bad_type, fault_where}
-use Rattle.ss_resolver_types_expressions.specs.Wants.{place_of}
-use Rattle.ss_resolver_types_expressions.specs.Calls.{ExprContext}
-use Rattle.ss_resolver_types_expressions.specs.Expressions.{AsValue, faults}
+use Rattle.ss_resolver_types_heads.specs.Faults.{bad_type, fault_where}
+use Rattle.ss_resolver_types_heads.specs.Wants.{place_of}
+use Rattle.ss_resolver_types_heads.specs.Calls.{ExprContext}
+use Rattle.ss_resolver_types_heads.specs.Expressions.{AsValue, faults}
 use Rattle.ss_resolver_types_expressions.specs.Statements.{is_target, may_stand_alone}
 use Rattle.ss_resolver_types_expressions.specs.Members.{is_field_term}
-use Rattle.ss_resolver_types_expressions.specs.Heads.{ending}
+use Rattle.ss_resolver_types_heads.specs.Heads.{ending}
 use Rattle.ss_resolver_types.specs.Bodies.{target_at, alone_at, field_term_at}
 
 pub target_is : (s : Scope) (e : ExprTree) → target_at (ending s e) ≡ is_target s e

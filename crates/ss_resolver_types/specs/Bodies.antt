@@ -11,16 +11,16 @@ use Rattle.ss_tables.specs.Types.{class_of}
 use Rattle.ss_tables.specs.Scopes.{Scope, local_named, enter, behind_init}
 use Rattle.ss_tables_lookup.specs.Views.{type_of}
 use Rattle.ss_faults.specs.declared.Fault.{Fault}
-use Rattle.ss_resolver_types_expressions.specs.declared.heads.Form.TheVariants as form
+use Rattle.ss_resolver_types_heads.specs.declared.heads.Form.TheVariants as form
 use Rattle.ss_resolver_types.specs.declared.body.Outcome.{Outcome as CodeOutcome}
 use Rattle.ss_resolver_types.specs.declared.body.Outcome.TheVariants as outcome
 use Rattle.ss_resolver_types.specs.declared.body.Body.{Body as CodeBody}
-use Rattle.ss_resolver_types_expressions.specs.Wants.{AnInt, OfType, Known, misfit}
-use Rattle.ss_resolver_types_expressions.specs.Calls.{ExprContext}
-use Rattle.ss_resolver_types_expressions.specs.Expressions.{faults_as}
+use Rattle.ss_resolver_types_heads.specs.Wants.{AnInt, OfType, Known, misfit}
+use Rattle.ss_resolver_types_heads.specs.Calls.{ExprContext}
+use Rattle.ss_resolver_types_heads.specs.Expressions.{faults_as}
 use Rattle.ss_resolver_types_expressions.specs.Statements.{Outcome, Nothing, Gives, Body, is_length_of, conditions, init_faults, test_faults, step_faults, stmt_faults}
 use Rattle.ss_resolver_types_expressions.specs.Members.{written_base, implied_base, block_calls_base, clauses_faults, constructor_body, constructor_block}
-use Rattle.ss_resolver_types_expressions.specs.Heads.{Head, ABareName, ABaseWord, AMember, AValueOf}
+use Rattle.ss_resolver_types_heads.specs.Heads.{Head, ABareName, ABaseWord, AMember, AValueOf}
 
 abbrev pub outcome_of : CodeOutcome → Outcome
 outcome_of outcome.Nothing = Nothing

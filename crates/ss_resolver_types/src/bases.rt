@@ -191,7 +191,7 @@ pub fn is_first_assignment(context: ClassContext<'_, '_>, locals: &Scopes, stmt:
         | Stmt::Declare(..)
         | Stmt::If(..)
         | Stmt::While(..)
-        | Stmt::For(..)
+        | Stmt::For { .. }
         | Stmt::Return(..)
         | Stmt::Assert(..)
         | Stmt::Assume(..)
@@ -293,7 +293,7 @@ pub fn base_call(stmt: &Stmt) -> Option<(Place, &[Expr])>
         | Stmt::Declare(..)
         | Stmt::If(..)
         | Stmt::While(..)
-        | Stmt::For(..)
+        | Stmt::For { .. }
         | Stmt::Return(..)
         | Stmt::Assert(..)
         | Stmt::Assume(..)

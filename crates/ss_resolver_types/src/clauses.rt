@@ -5,22 +5,21 @@ ghost use Rattle.ss_ast.specs.Expressions.{expr_tree, type_tree};
 ghost use Rattle.ss_ast.specs.Programs.{OneOf, param_tree, modified_tree, clause_tree};
 ghost use Rattle.ss_tables_scopes.specs.Views.{scope_of};
 ghost use Rattle.ss_tables_lookup.specs.Views.{type_of};
-ghost use Rattle.ss_resolver_types_expressions.specs.Wants.{ABool};
-ghost use Rattle.ss_resolver_types_expressions.specs.Expressions.{faults_as};
+ghost use Rattle.ss_resolver_types_heads.specs.Wants.{ABool};
+ghost use Rattle.ss_resolver_types_heads.specs.Expressions.{faults_as};
 ghost use Rattle.ss_resolver_types_expressions.specs.Members.{before, after, type_of_result, gives_none, term_faults, terms_faults, clause_faults, clauses_faults, params_faults, result_faults};
-ghost use Rattle.ss_resolver_types_expressions.specs.Codes.{context_of, head_of};
+ghost use Rattle.ss_resolver_types_heads.specs.Codes.{context_of, head_of};
 ghost use Rattle.ss_resolver_types.specs.Bodies.{body_of, outcome_of, field_term_at};
 
 use crate::body::{Body, Outcome};
 use crate::simple::{check_condition, is_member_target, read};
 use ss_ast::{Clause, Expr, Modified, Param, TypeRef};
 use ss_faults::Fault;
-use ss_resolver_types_expressions::{
-    ExprContext, Head, Want, check_as, note_bad_type, note_mark, place_of,
-};
+use ss_resolver_types_expressions::{check_as, place_of};
+use ss_resolver_types_heads::{ExprContext, Head, Want, note_bad_type, note_mark};
 use ss_tables_lookup::StaticType;
 use ss_tables_scopes::Scopes;
-use std::alloc::{AllocError, Global};
+use std::alloc::AllocError;
 
 // Whether `modifies` may name it as a field.
 fn is_field_term(context: &ExprContext<'_, '_>, locals: &Scopes, head: Head<'_>) -> bool
@@ -35,7 +34,6 @@ fn is_field_term(context: &ExprContext<'_, '_>, locals: &Scopes, head: Head<'_>)
 
 // A field that `modifies` names.
 fn check_field_term(
-    alloc: Global,
     context: &ExprContext<'_, '_>,
     locals: &mut Scopes,
     found: &mut Vec<Fault>,
@@ -44,14 +42,13 @@ fn check_field_term(
     ensures noted { OnOk result (found.new.items ≡ found.old.items ++ term_faults (context_of context.now locals.old) (OneOf (expr_tree e.now))) }
     ensures same { OnOk result (locals.new ≡ locals.old) }
 {
-    let (head, _) = read(alloc, context, locals, found, e)?;
+    let (head, _) = read(context, locals, found, e)?;
     note_bad_type(found, !is_field_term(context, locals, head), place_of(e))?;
     Ok(())
 }
 
 // A term of `modifies`.
 fn check_term(
-    alloc: Global,
     context: &ExprContext<'_, '_>,
     locals: &mut Scopes,
     found: &mut Vec<Fault>,
@@ -62,19 +59,18 @@ fn check_term(
 {
     match term {
         Modified::All(e) => {
-            check_as(alloc, context, locals, found, Want::OfClass(0), e)?;
+            check_as(context, locals, found, Want::OfClass(0), e)?;
             Ok(())
         }
         Modified::Elements(e) => {
-            check_as(alloc, context, locals, found, Want::AnArray, e)?;
+            check_as(context, locals, found, Want::AnArray, e)?;
             Ok(())
         }
-        Modified::One(e) => check_field_term(alloc, context, locals, found, e),
+        Modified::One(e) => check_field_term(context, locals, found, e),
     }
 }
 
 fn check_terms(
-    alloc: Global,
     context: &ExprContext<'_, '_>,
     locals: &mut Scopes,
     found: &mut Vec<Fault>,
@@ -84,7 +80,7 @@ fn check_terms(
     ensures same { OnOk result (locals.new ≡ locals.old) }
 {
     for term in terms {
-        check_term(alloc, context, locals, found, term)?;
+        check_term(context, locals, found, term)?;
     }
     Ok(())
 }
@@ -110,7 +106,6 @@ fn gives_none(outcome: Outcome) -> bool
 
 // `ensures`, in which `result` is a fault where the body has none.
 fn check_ensures(
-    alloc: Global,
     body: &Body<'_, '_>,
     locals: &mut Scopes,
     found: &mut Vec<Fault>,
@@ -125,13 +120,12 @@ fn check_ensures(
         in_condition: true,
         lacks_result: gives_none(body.outcome),
     };
-    check_as(alloc, &context, locals, found, Want::ABool, e)?;
+    check_as(&context, locals, found, Want::ABool, e)?;
     Ok(())
 }
 
 // `modifies`
 fn check_modifies(
-    alloc: Global,
     body: &Body<'_, '_>,
     locals: &mut Scopes,
     found: &mut Vec<Fault>,
@@ -146,12 +140,11 @@ fn check_modifies(
         in_condition: true,
         lacks_result: false,
     };
-    check_terms(alloc, &context, locals, found, terms)
+    check_terms(&context, locals, found, terms)
 }
 
 // A clause of a contract.
 fn check_clause(
-    alloc: Global,
     body: &Body<'_, '_>,
     locals: &mut Scopes,
     found: &mut Vec<Fault>,
@@ -161,15 +154,14 @@ fn check_clause(
     ensures same { OnOk result (locals.new ≡ locals.old) }
 {
     match clause {
-        Clause::Requires(e) => check_condition(alloc, body, locals, found, e),
-        Clause::Ensures(e) => check_ensures(alloc, body, locals, found, e),
-        Clause::Modifies(terms) => check_modifies(alloc, body, locals, found, terms),
+        Clause::Requires(e) => check_condition(body, locals, found, e),
+        Clause::Ensures(e) => check_ensures(body, locals, found, e),
+        Clause::Modifies(terms) => check_modifies(body, locals, found, terms),
     }
 }
 
 /// A contract.
 pub fn check_clauses(
-    alloc: Global,
     body: &Body<'_, '_>,
     locals: &mut Scopes,
     found: &mut Vec<Fault>,
@@ -179,7 +171,7 @@ pub fn check_clauses(
     ensures same { OnOk result (locals.new ≡ locals.old) }
 {
     for clause in clauses {
-        check_clause(alloc, body, locals, found, clause)?;
+        check_clause(body, locals, found, clause)?;
     }
     Ok(())
 }

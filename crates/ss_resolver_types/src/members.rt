@@ -9,13 +9,13 @@ ghost use Rattle.ss_tables.specs.Scopes.{param_scope, behind};
 ghost use Rattle.ss_tables_lookup.specs.Classes.{trees};
 ghost use Rattle.ss_tables_lookup.specs.Views.{type_of};
 ghost use Rattle.ss_tables_scopes.specs.Views.{scope_of};
-ghost use Rattle.ss_resolver_types_expressions.specs.Faults.{bad_type};
-ghost use Rattle.ss_resolver_types_expressions.specs.Wants.{ABool};
-ghost use Rattle.ss_resolver_types_expressions.specs.Expressions.{faults_as, mark_faults};
+ghost use Rattle.ss_resolver_types_heads.specs.Faults.{bad_type};
+ghost use Rattle.ss_resolver_types_heads.specs.Wants.{ABool};
+ghost use Rattle.ss_resolver_types_heads.specs.Expressions.{faults_as, mark_faults};
 ghost use Rattle.ss_resolver_types_expressions.specs.Statements.{block_faults};
 ghost use Rattle.ss_resolver_types_expressions.specs.Members.{surplus_words, clauses_faults, outcome_of, type_of_result, method_scope, end_faults, constructor_body, base_faults, written_base, block_calls_base, outermost_faults, constructor_stmts, constructor_block, constructor_faults, title_faults, implied_base, kind_faults, method_body, method_faults, fields_faults, in_class, member_faults};
 ghost use Rattle.ss_resolver_types_expressions.specs.Members.{base_call as spec_base_call, is_first_assignment};
-ghost use Rattle.ss_resolver_types_expressions.specs.Codes.{context_of};
+ghost use Rattle.ss_resolver_types_heads.specs.Codes.{context_of};
 ghost use Rattle.ss_resolver_types.specs.Bodies as bodies;
 
 use crate::bases::{base_call, calls_base, is_first_assignment};
@@ -29,9 +29,9 @@ use ss_ast::{
 };
 use ss_core::Place;
 use ss_faults::Fault;
-use ss_resolver_types_expressions::{
-    ExprContext, Want, block_reaches_end, call_above, check_as, check_call, note_bad_type,
-    note_end, note_mark, takes_nothing,
+use ss_resolver_types_expressions::{PlacedCall, block_reaches_end, check_as, check_call};
+use ss_resolver_types_heads::{
+    ExprContext, Want, call_above, note_bad_type, note_end, note_mark, takes_nothing,
 };
 use ss_tables_lookup::Tables;
 use ss_tables_scopes::{ClassContext, NameScopes, Scopes, declare_params, is_static_word};
@@ -72,7 +72,6 @@ fn note_surplus(found: &mut Vec<Fault>, member: &Member) -> Result<(), AllocErro
 // ---- fields and invariants
 
 fn check_fields(
-    alloc: Global,
     context: &ExprContext<'_, '_>,
     locals: &mut Scopes,
     found: &mut Vec<Fault>,
@@ -83,7 +82,7 @@ fn check_fields(
     ensures same { OnOk result (locals.new ≡ locals.old) }
 {
     for declarator in declarators {
-        check_initial(alloc, context, locals, found, ty, &declarator.initial)?;
+        check_initial(context, locals, found, ty, &declarator.initial)?;
     }
     Ok(())
 }
@@ -101,6 +100,7 @@ fn check_declared(
 {
     let context = ExprContext {
         within: ClassContext {
+            alloc,
             tables,
             class,
             refuses_members: false,
@@ -114,7 +114,6 @@ fn check_declared(
     let mut locals = NameScopes::new(alloc);
     note_mark(found, &declaration.ty)?;
     check_fields(
-        alloc,
         &context,
         &mut locals,
         found,
@@ -135,6 +134,7 @@ fn check_invariant(
 {
     let context = ExprContext {
         within: ClassContext {
+            alloc,
             tables,
             class,
             refuses_members: false,
@@ -146,7 +146,7 @@ fn check_invariant(
         lacks_result: false,
     };
     let mut locals = NameScopes::new(alloc);
-    check_as(alloc, &context, &mut locals, found, Want::ABool, e)?;
+    check_as(&context, &mut locals, found, Want::ABool, e)?;
     Ok(())
 }
 
@@ -175,7 +175,6 @@ fn check_end(
 
 // The contract and the body of a method, with its parameters in scope.
 fn check_inner(
-    alloc: Global,
     body: &Body<'_, '_>,
     found: &mut Vec<Fault>,
     method: &Method,
@@ -187,10 +186,10 @@ fn check_inner(
         ++ (clauses_faults (bodies.body_of body.now) (method_scope (trees body.now.within.tables.now) body.now.within.class (bodies.body_of body.now) (map param_tree method.now.params.items)) (map clause_tree method.now.clauses.items)
         ++ block_faults (bodies.body_of body.now) (method_scope (trees body.now.within.tables.now) body.now.within.class (bodies.body_of body.now) (map param_tree method.now.params.items)) (block_tree method.now.body))) }
 {
-    let mut locals = NameScopes::new(alloc);
-    declare_params(alloc, body.within, &mut locals, &method.params)?;
-    check_clauses(alloc, body, &mut locals, found, &method.clauses)?;
-    check_block(alloc, body, &mut locals, found, &method.body)
+    let mut locals = NameScopes::new(body.within.alloc);
+    declare_params(body.within, &mut locals, &method.params)?;
+    check_clauses(body, &mut locals, found, &method.clauses)?;
+    check_block(body, &mut locals, found, &method.body)
 }
 
 fn check_method(
@@ -210,6 +209,7 @@ fn check_method(
     let is_static = is_static_word(words);
     let body = Body {
         within: ClassContext {
+            alloc,
             tables,
             class,
             refuses_members: is_static,
@@ -221,7 +221,7 @@ fn check_method(
     };
     note_result(found, &method.returns)?;
     note_params(found, &method.params)?;
-    check_inner(alloc, &body, found, method)?;
+    check_inner(&body, found, method)?;
     check_end(found, &method.returns, &method.body)
 }
 
@@ -243,7 +243,6 @@ pub fn note_implied_base(
 
 // The arguments of `base(..)`, which stands at this place.
 fn check_base(
-    alloc: Global,
     body: &Body<'_, '_>,
     locals: &mut Scopes,
     found: &mut Vec<Fault>,
@@ -260,12 +259,16 @@ fn check_base(
         lacks_result: false,
     };
     let called = call_above(body.within.tables, body.within.class);
-    check_call(alloc, &context, locals, found, place, false, called, list)
+    let placed = PlacedCall {
+        place,
+        is_call: false,
+        called,
+    };
+    check_call(&context, locals, found, placed, list)
 }
 
 // `: base(..)`, where it is written.
 fn check_written_base(
-    alloc: Global,
     body: &Body<'_, '_>,
     locals: &mut Scopes,
     found: &mut Vec<Fault>,
@@ -275,14 +278,13 @@ fn check_written_base(
     ensures same { OnOk result (locals.new ≡ locals.old) }
 {
     match base {
-        Some(base) => check_base(alloc, body, locals, found, base.place, &base.arguments),
+        Some(base) => check_base(body, locals, found, base.place, &base.arguments),
         None => Ok(()),
     }
 }
 
 // A statement of the outermost block, where `base(..)` may stand or not.
 fn check_outermost(
-    alloc: Global,
     body: &Body<'_, '_>,
     locals: &mut Scopes,
     found: &mut Vec<Fault>,
@@ -296,11 +298,11 @@ fn check_outermost(
     ensures outer { OnOk result (locals.new.outer ≡ locals.old.outer) }
 {
     if !may_call {
-        return check_stmt(alloc, body, locals, found, stmt);
+        return check_stmt(body, locals, found, stmt);
     }
     match base_call(stmt) {
-        Some((place, list)) => check_base(alloc, body, locals, found, place, list),
-        None => check_stmt(alloc, body, locals, found, stmt),
+        Some((place, list)) => check_base(body, locals, found, place, list),
+        None => check_stmt(body, locals, found, stmt),
     }
 }
 
@@ -313,7 +315,6 @@ fn may_still_call(may_call: bool, body: &Body<'_, '_>, locals: &Scopes, stmt: &S
 
 // The statements of the outermost block.
 fn check_all_outermost(
-    alloc: Global,
     body: &Body<'_, '_>,
     locals: &mut Scopes,
     found: &mut Vec<Fault>,
@@ -326,7 +327,7 @@ fn check_all_outermost(
     let mut may = may_call;
     for stmt in stmts {
         let may_next = may_still_call(may, body, locals, stmt);
-        check_outermost(alloc, body, locals, found, may, stmt)?;
+        check_outermost(body, locals, found, may, stmt)?;
         may = may_next;
     }
     Ok(())
@@ -334,7 +335,6 @@ fn check_all_outermost(
 
 // The outermost block.
 fn check_outermost_block(
-    alloc: Global,
     body: &Body<'_, '_>,
     locals: &mut Scopes,
     found: &mut Vec<Fault>,
@@ -344,8 +344,8 @@ fn check_outermost_block(
     requires { bodies.body_of body.now ≡ constructor_body }
     ensures { OnOk result (found.new.items ≡ found.old.items ++ constructor_block body.now.within.class (scope_of body.now.within locals.old) may_call (block_tree block.now)) }
 {
-    locals.enter(alloc)?;
-    check_all_outermost(alloc, body, locals, found, may_call, &block.statements)
+    locals.enter(body.within.alloc)?;
+    check_all_outermost(body, locals, found, may_call, &block.statements)
 }
 
 // A name that isn't that of the class.
@@ -369,7 +369,6 @@ fn writes_base(constructor: &Constructor) -> bool
 
 // What calls the constructor of the class above.
 fn check_bases(
-    alloc: Global,
     body: &Body<'_, '_>,
     locals: &mut Scopes,
     found: &mut Vec<Fault>,
@@ -379,7 +378,7 @@ fn check_bases(
         ++ bodies.bases_faults (trees body.now.within.tables.now) body.now.within.class (scope_of body.now.within locals.old) (name_tree constructor.now.name) (option_map base_call_tree constructor.now.base) (block_tree constructor.now.body)) }
     ensures same { OnOk result (locals.new ≡ locals.old) }
 {
-    check_written_base(alloc, body, locals, found, &constructor.base)?;
+    check_written_base(body, locals, found, &constructor.base)?;
     let is_written = writes_base(constructor);
     note_implied_base(
         body.within.tables,
@@ -398,7 +397,6 @@ fn lacks_base(constructor: &Constructor) -> bool
 
 // The contract and the body.
 fn check_built(
-    alloc: Global,
     body: &Body<'_, '_>,
     locals: &mut Scopes,
     found: &mut Vec<Fault>,
@@ -408,14 +406,13 @@ fn check_built(
     ensures { OnOk result (found.new.items ≡ found.old.items
         ++ bodies.built_faults body.now.within.class (scope_of body.now.within locals.old) (option_map base_call_tree constructor.now.base) (map clause_tree constructor.now.clauses.items) (block_tree constructor.now.body)) }
 {
-    check_clauses(alloc, body, locals, found, &constructor.clauses)?;
+    check_clauses(body, locals, found, &constructor.clauses)?;
     let may_call = lacks_base(constructor);
-    check_outermost_block(alloc, body, locals, found, may_call, &constructor.body)
+    check_outermost_block(body, locals, found, may_call, &constructor.body)
 }
 
 // All but the name and the types of the parameters, with the parameters in scope.
 fn check_constructed(
-    alloc: Global,
     body: &Body<'_, '_>,
     found: &mut Vec<Fault>,
     constructor: &Constructor,
@@ -430,10 +427,10 @@ fn check_constructed(
         ++ bodies.built_faults body.now.within.class (param_scope (trees body.now.within.tables.now) body.now.within.class (map param_tree constructor.now.params.items))
         (option_map base_call_tree constructor.now.base) (map clause_tree constructor.now.clauses.items) (block_tree constructor.now.body))) }
 {
-    let mut locals = NameScopes::new(alloc);
-    declare_params(alloc, body.within, &mut locals, &constructor.params)?;
-    check_bases(alloc, body, &mut locals, found, constructor)?;
-    check_built(alloc, body, &mut locals, found, constructor)
+    let mut locals = NameScopes::new(body.within.alloc);
+    declare_params(body.within, &mut locals, &constructor.params)?;
+    check_bases(body, &mut locals, found, constructor)?;
+    check_built(body, &mut locals, found, constructor)
 }
 
 fn check_constructor(
@@ -451,6 +448,7 @@ fn check_constructor(
 {
     let body = Body {
         within: ClassContext {
+            alloc,
             tables,
             class,
             refuses_members: false,
@@ -462,7 +460,7 @@ fn check_constructor(
     };
     note_title(found, declaration, &constructor.name)?;
     note_params(found, &constructor.params)?;
-    check_constructed(alloc, &body, found, constructor)
+    check_constructed(&body, found, constructor)
 }
 
 // ---- members

@@ -6,27 +6,26 @@ ghost use Rattle.ss_ast.specs.Statements.{AssignOf, StepOf, AloneOf, simple_tree
 ghost use Rattle.ss_tables.specs.Words.{is_state_word};
 ghost use Rattle.ss_tables.specs.Types.{class_of};
 ghost use Rattle.ss_tables_scopes.specs.Views.{scope_of};
-ghost use Rattle.ss_resolver_types_expressions.specs.Wants.{known};
-ghost use Rattle.ss_resolver_types_expressions.specs.Expressions.{AsValue, faults, faults_as};
+ghost use Rattle.ss_resolver_types_heads.specs.Wants.{known};
+ghost use Rattle.ss_resolver_types_heads.specs.Expressions.{AsValue, faults, faults_as};
 ghost use Rattle.ss_resolver_types_expressions.specs.Statements.{in_code, condition, conditions, initial_faults, target_faults, simple_faults, is_length_of};
-ghost use Rattle.ss_resolver_types_expressions.specs.Heads.{ending};
-ghost use Rattle.ss_resolver_types_expressions.specs.Codes.{want_of, known_of, context_of, head_of};
+ghost use Rattle.ss_resolver_types_heads.specs.Heads.{ending};
+ghost use Rattle.ss_resolver_types_heads.specs.Codes.{want_of, known_of, context_of, head_of};
 ghost use Rattle.ss_resolver_types.specs.Bodies.{body_of, target_at, alone_at, assigned_at};
 
 use crate::body::Body;
 use ss_ast::{AssignOperator, Expr, Simple, StepOperator, TypeRef};
 use ss_faults::Fault;
-use ss_resolver_types_expressions::{
-    ExprContext, Form, Head, Known, Want, check_as, note_bad_type, note_misfit, place_of, settle,
-    walk,
+use ss_resolver_types_expressions::{check_as, place_of, walk};
+use ss_resolver_types_heads::{
+    ExprContext, Form, Head, Known, Want, note_bad_type, note_misfit, settle,
 };
 use ss_tables_lookup::is_array_number;
 use ss_tables_scopes::{Scopes, class_of_type, is_length, is_state_word};
-use std::alloc::{AllocError, Global};
+use std::alloc::AllocError;
 
 /// An expression of the code that is to be what is wanted.
 pub fn check_in_code(
-    alloc: Global,
     body: &Body<'_, '_>,
     locals: &mut Scopes,
     found: &mut Vec<Fault>,
@@ -42,13 +41,12 @@ pub fn check_in_code(
         in_condition: false,
         lacks_result: false,
     };
-    check_as(alloc, &context, locals, found, want, e)?;
+    check_as(&context, locals, found, want, e)?;
     Ok(())
 }
 
 /// `assert`, `assume` and the invariants of a loop.
 pub fn check_condition(
-    alloc: Global,
     body: &Body<'_, '_>,
     locals: &mut Scopes,
     found: &mut Vec<Fault>,
@@ -63,13 +61,12 @@ pub fn check_condition(
         in_condition: true,
         lacks_result: false,
     };
-    check_as(alloc, &context, locals, found, Want::ABool, e)?;
+    check_as(&context, locals, found, Want::ABool, e)?;
     Ok(())
 }
 
 /// The invariants of a loop.
 pub fn check_conditions(
-    alloc: Global,
     body: &Body<'_, '_>,
     locals: &mut Scopes,
     found: &mut Vec<Fault>,
@@ -79,14 +76,13 @@ pub fn check_conditions(
     ensures same { OnOk result (locals.new ≡ locals.old) }
 {
     for e in list {
-        check_condition(alloc, body, locals, found, e)?;
+        check_condition(body, locals, found, e)?;
     }
     Ok(())
 }
 
 /// What a local or a field begins with.
 pub fn check_initial(
-    alloc: Global,
     context: &ExprContext<'_, '_>,
     locals: &mut Scopes,
     found: &mut Vec<Fault>,
@@ -99,7 +95,7 @@ pub fn check_initial(
     match initial {
         Some(e) => {
             let want = Want::OfType(context.within.tables.written_type(ty));
-            check_as(alloc, context, locals, found, want, e)?;
+            check_as(context, locals, found, want, e)?;
             Ok(())
         }
         None => Ok(()),
@@ -108,7 +104,6 @@ pub fn check_initial(
 
 /// An expression whose value is read, with how it ends and what is known of it.
 pub fn read<'e>(
-    alloc: Global,
     context: &ExprContext<'_, '_>,
     locals: &mut Scopes,
     found: &mut Vec<Fault>,
@@ -119,7 +114,7 @@ pub fn read<'e>(
     ensures noted { OnOk result (found.new.items ≡ found.old.items ++ faults (context_of context.now locals.old) AsValue (expr_tree e.now)) }
     ensures same { OnOk result (locals.new ≡ locals.old) }
 {
-    let head = walk(alloc, context, locals, found, e)?;
+    let head = walk(context, locals, found, e)?;
     let known = settle(context, locals, found, head)?;
     Ok((head, known))
 }
@@ -171,7 +166,6 @@ fn may_stand_alone(head: Head<'_>) -> bool
 
 // What is assigned.
 fn check_target(
-    alloc: Global,
     context: &ExprContext<'_, '_>,
     locals: &mut Scopes,
     found: &mut Vec<Fault>,
@@ -181,14 +175,13 @@ fn check_target(
     ensures noted { OnOk result (found.new.items ≡ found.old.items ++ target_faults (context_of context.now locals.old) (expr_tree e.now)) }
     ensures same { OnOk result (locals.new ≡ locals.old) }
 {
-    let (head, known) = read(alloc, context, locals, found, e)?;
+    let (head, known) = read(context, locals, found, e)?;
     note_bad_type(found, !is_target(head), place_of(e))?;
     Ok(known)
 }
 
 // What a target gets.
 fn check_assigned(
-    alloc: Global,
     context: &ExprContext<'_, '_>,
     locals: &mut Scopes,
     found: &mut Vec<Fault>,
@@ -201,19 +194,18 @@ fn check_assigned(
 {
     match operator {
         AssignOperator::Set => {
-            check_as(alloc, context, locals, found, Want::OfType(target.ty), e)?;
+            check_as(context, locals, found, Want::OfType(target.ty), e)?;
             Ok(())
         }
         AssignOperator::Add | AssignOperator::Subtract | AssignOperator::Multiply => {
             note_misfit(context.within.tables, found, Want::AnInt, target)?;
-            check_as(alloc, context, locals, found, Want::AnInt, e)?;
+            check_as(context, locals, found, Want::AnInt, e)?;
             Ok(())
         }
     }
 }
 
 fn check_assignment(
-    alloc: Global,
     context: &ExprContext<'_, '_>,
     locals: &mut Scopes,
     found: &mut Vec<Fault>,
@@ -224,12 +216,11 @@ fn check_assignment(
     ensures noted { OnOk result (found.new.items ≡ found.old.items ++ simple_faults (context_of context.now locals.old) (AssignOf (expr_tree target.now) operator (expr_tree e.now))) }
     ensures same { OnOk result (locals.new ≡ locals.old) }
 {
-    let known = check_target(alloc, context, locals, found, target)?;
-    check_assigned(alloc, context, locals, found, operator, known, e)
+    let known = check_target(context, locals, found, target)?;
+    check_assigned(context, locals, found, operator, known, e)
 }
 
 fn check_step(
-    alloc: Global,
     context: &ExprContext<'_, '_>,
     locals: &mut Scopes,
     found: &mut Vec<Fault>,
@@ -239,12 +230,11 @@ fn check_step(
     ensures noted { OnOk result (found.new.items ≡ found.old.items ++ simple_faults (context_of context.now locals.old) (StepOf (expr_tree target.now) operator)) }
     ensures same { OnOk result (locals.new ≡ locals.old) }
 {
-    let known = check_target(alloc, context, locals, found, target)?;
+    let known = check_target(context, locals, found, target)?;
     note_misfit(context.within.tables, found, Want::AnInt, known)
 }
 
 fn check_alone(
-    alloc: Global,
     context: &ExprContext<'_, '_>,
     locals: &mut Scopes,
     found: &mut Vec<Fault>,
@@ -253,14 +243,13 @@ fn check_alone(
     ensures noted { OnOk result (found.new.items ≡ found.old.items ++ simple_faults (context_of context.now locals.old) (AloneOf (expr_tree e.now))) }
     ensures same { OnOk result (locals.new ≡ locals.old) }
 {
-    let (head, _) = read(alloc, context, locals, found, e)?;
+    let (head, _) = read(context, locals, found, e)?;
     note_bad_type(found, !may_stand_alone(head), place_of(e))?;
     Ok(())
 }
 
 /// A statement that may also stand in the heading of a `for`.
 pub fn check_simple(
-    alloc: Global,
     body: &Body<'_, '_>,
     locals: &mut Scopes,
     found: &mut Vec<Fault>,
@@ -277,11 +266,9 @@ pub fn check_simple(
     };
     match stmt {
         Simple::Assign(target, operator, e) => {
-            check_assignment(alloc, &context, locals, found, target, *operator, e)
+            check_assignment(&context, locals, found, target, *operator, e)
         }
-        Simple::Step(target, operator) => {
-            check_step(alloc, &context, locals, found, target, *operator)
-        }
-        Simple::Alone(e) => check_alone(alloc, &context, locals, found, e),
+        Simple::Step(target, operator) => { check_step(&context, locals, found, target, *operator) }
+        Simple::Alone(e) => check_alone(&context, locals, found, e),
     }
 }

@@ -7,10 +7,10 @@ ghost use Rattle.ss_tables.specs.Scopes.{enter, behind, behind_init, behind_decl
 ghost use Rattle.ss_tables_lookup.specs.Classes.{trees};
 ghost use Rattle.ss_tables_scopes.specs.Views.{scope_of};
 ghost use Rattle.ss_resolver_types_expressions.specs.Statements.{initial_faults, declarator_faults, declaration_faults, init_faults, test_faults, step_faults, return_faults, exposed_want, in_code, stmt_faults, block_faults, stmts_faults};
-ghost use Rattle.ss_resolver_types_expressions.specs.Faults.{bad_type};
-ghost use Rattle.ss_resolver_types_expressions.specs.Wants.{place_within};
-ghost use Rattle.ss_resolver_types_expressions.specs.Expressions.{AsValue, faults};
-ghost use Rattle.ss_resolver_types_expressions.specs.Codes.{want_of};
+ghost use Rattle.ss_resolver_types_heads.specs.Faults.{bad_type};
+ghost use Rattle.ss_resolver_types_heads.specs.Wants.{place_within};
+ghost use Rattle.ss_resolver_types_heads.specs.Expressions.{AsValue, faults};
+ghost use Rattle.ss_resolver_types_heads.specs.Codes.{want_of};
 ghost use Rattle.ss_resolver_types.specs.Bodies.{body_of, heading_faults, for_faults};
 
 use crate::body::{Body, Outcome};
@@ -20,16 +20,14 @@ use crate::simple::{
 use ss_ast::{Block, Declaration, Declarator, Expr, ForInit, Name, Simple, Stmt, TypeRef};
 use ss_core::Place;
 use ss_faults::Fault;
-use ss_resolver_types_expressions::{
-    ExprContext, Want, check, note_bad_type, note_mark, place_within,
-};
+use ss_resolver_types_expressions::{check, place_within};
+use ss_resolver_types_heads::{ExprContext, Want, note_bad_type, note_mark};
 use ss_tables_lookup::Tables;
 use ss_tables_scopes::{LocalInfo, Scopes};
-use std::alloc::{AllocError, Global};
+use std::alloc::AllocError;
 
 // What a declared local begins with.
 fn check_first_value(
-    alloc: Global,
     body: &Body<'_, '_>,
     locals: &mut Scopes,
     found: &mut Vec<Fault>,
@@ -45,12 +43,11 @@ fn check_first_value(
         in_condition: false,
         lacks_result: false,
     };
-    check_initial(alloc, &context, locals, found, ty, initial)
+    check_initial(&context, locals, found, ty, initial)
 }
 
 // A declared local, which is in scope from then on.
 fn check_declarator(
-    alloc: Global,
     body: &Body<'_, '_>,
     locals: &mut Scopes,
     found: &mut Vec<Fault>,
@@ -61,16 +58,15 @@ fn check_declarator(
     ensures scope { OnOk result (scope_of body.now.within locals.new ≡ declare_local (scope_of body.now.within locals.old) (type_tree ty.now) (declarator_tree declarator.now).name) }
     ensures outer { OnOk result (locals.new.outer ≡ locals.old.outer) }
 {
-    check_first_value(alloc, body, locals, found, ty, &declarator.initial)?;
+    check_first_value(body, locals, found, ty, &declarator.initial)?;
     let known = LocalInfo {
         ty: body.within.tables.written_type(ty),
         is_param: false,
     };
-    locals.declare(alloc, declarator.name.text.as_str(), known)
+    locals.declare(body.within.alloc, declarator.name.text.as_str(), known)
 }
 
 fn check_declarators(
-    alloc: Global,
     body: &Body<'_, '_>,
     locals: &mut Scopes,
     found: &mut Vec<Fault>,
@@ -82,13 +78,12 @@ fn check_declarators(
     ensures outer { OnOk result (locals.new.outer ≡ locals.old.outer) }
 {
     for declarator in declarators {
-        check_declarator(alloc, body, locals, found, ty, declarator)?;
+        check_declarator(body, locals, found, ty, declarator)?;
     }
     Ok(())
 }
 
 fn check_declaration(
-    alloc: Global,
     body: &Body<'_, '_>,
     locals: &mut Scopes,
     found: &mut Vec<Fault>,
@@ -100,7 +95,6 @@ fn check_declaration(
 {
     note_mark(found, &declaration.ty)?;
     check_declarators(
-        alloc,
         body,
         locals,
         found,
@@ -111,7 +105,6 @@ fn check_declaration(
 
 // What a `for` begins with.
 fn check_init(
-    alloc: Global,
     body: &Body<'_, '_>,
     locals: &mut Scopes,
     found: &mut Vec<Fault>,
@@ -123,16 +116,15 @@ fn check_init(
 {
     match init {
         Some(ForInit::Declare(declaration)) => {
-            check_declaration(alloc, body, locals, found, declaration)
+            check_declaration(body, locals, found, declaration)
         }
-        Some(ForInit::Simple(stmt)) => check_simple(alloc, body, locals, found, stmt),
+        Some(ForInit::Simple(stmt)) => check_simple(body, locals, found, stmt),
         None => Ok(()),
     }
 }
 
 // The test of a `for`.
 fn check_test(
-    alloc: Global,
     body: &Body<'_, '_>,
     locals: &mut Scopes,
     found: &mut Vec<Fault>,
@@ -142,14 +134,13 @@ fn check_test(
     ensures same { OnOk result (locals.new ≡ locals.old) }
 {
     match test {
-        Some(e) => check_in_code(alloc, body, locals, found, Want::ABool, e),
+        Some(e) => check_in_code(body, locals, found, Want::ABool, e),
         None => Ok(()),
     }
 }
 
 // The step of a `for`.
 fn check_step(
-    alloc: Global,
     body: &Body<'_, '_>,
     locals: &mut Scopes,
     found: &mut Vec<Fault>,
@@ -159,14 +150,21 @@ fn check_step(
     ensures same { OnOk result (locals.new ≡ locals.old) }
 {
     match step {
-        Some(stmt) => check_simple(alloc, body, locals, found, stmt),
+        Some(stmt) => check_simple(body, locals, found, stmt),
         None => Ok(()),
     }
 }
 
+/// What stands between the parentheses of a `for`.
+#[derive(Clone, Copy)]
+struct WrittenHeading<'p> {
+    first: &'p Option<ForInit>,
+    test: &'p Option<Expr>,
+    step: &'p Option<Simple>,
+}
+
 // The test, the step and the invariants of a `for`.
 fn check_heading(
-    alloc: Global,
     body: &Body<'_, '_>,
     locals: &mut Scopes,
     found: &mut Vec<Fault>,
@@ -177,14 +175,13 @@ fn check_heading(
     ensures noted { OnOk result (found.new.items ≡ found.old.items ++ heading_faults (body_of body.now) (scope_of body.now.within locals.old) (option_map expr_tree test.now) (option_map simple_tree step.now) (map expr_tree invariants.now)) }
     ensures same { OnOk result (locals.new ≡ locals.old) }
 {
-    check_test(alloc, body, locals, found, test)?;
-    check_step(alloc, body, locals, found, step)?;
-    check_conditions(alloc, body, locals, found, invariants)
+    check_test(body, locals, found, test)?;
+    check_step(body, locals, found, step)?;
+    check_conditions(body, locals, found, invariants)
 }
 
 // A value that is returned where none is wanted.
 fn check_surplus(
-    alloc: Global,
     body: &Body<'_, '_>,
     locals: &mut Scopes,
     found: &mut Vec<Fault>,
@@ -199,13 +196,12 @@ fn check_surplus(
         in_condition: false,
         lacks_result: false,
     };
-    check(alloc, &context, locals, found, e)?;
+    check(&context, locals, found, e)?;
     note_bad_type(found, true, place_within(e))
 }
 
 // A `return`, which gives a value exactly where the body does.
 fn check_return(
-    alloc: Global,
     body: &Body<'_, '_>,
     locals: &mut Scopes,
     found: &mut Vec<Fault>,
@@ -217,11 +213,9 @@ fn check_return(
 {
     match (body.outcome, e) {
         (Outcome::Nothing, None) => Ok(()),
-        (Outcome::Nothing, Some(e)) => check_surplus(alloc, body, locals, found, e),
+        (Outcome::Nothing, Some(e)) => check_surplus(body, locals, found, e),
         (Outcome::Gives(_), None) => note_bad_type(found, true, place),
-        (Outcome::Gives(ty), Some(e)) => {
-            check_in_code(alloc, body, locals, found, Want::OfType(ty), e)
-        }
+        (Outcome::Gives(ty), Some(e)) => { check_in_code(body, locals, found, Want::OfType(ty), e) }
     }
 }
 
@@ -241,7 +235,6 @@ fn exposed_want(tables: &Tables<'_>, name: &Option<Name>) -> Want
 /// A statement; a declaration changes what is in scope behind it.
 #[cycle(stmt)]
 pub fn check_stmt(
-    alloc: Global,
     body: &Body<'_, '_>,
     locals: &mut Scopes,
     found: &mut Vec<Fault>,
@@ -252,35 +245,41 @@ pub fn check_stmt(
     ensures outer { OnOk result (locals.new.outer ≡ locals.old.outer) }
 {
     match stmt {
-        Stmt::Block(block) => check_block(alloc, body, locals, found, block),
-        Stmt::Declare(declaration) => check_declaration(alloc, body, locals, found, declaration),
-        Stmt::Simple(stmt) => check_simple(alloc, body, locals, found, stmt),
+        Stmt::Block(block) => check_block(body, locals, found, block),
+        Stmt::Declare(declaration) => check_declaration(body, locals, found, declaration),
+        Stmt::Simple(stmt) => check_simple(body, locals, found, stmt),
         Stmt::If(_, test, first, None) => {
-            check_in_code(alloc, body, locals, found, Want::ABool, test)?;
-            check_governed(alloc, body, locals, found, first)
+            check_in_code(body, locals, found, Want::ABool, test)?;
+            check_governed(body, locals, found, first)
         }
         Stmt::If(_, test, first, Some(second)) => {
-            check_in_code(alloc, body, locals, found, Want::ABool, test)?;
-            check_governed(alloc, body, locals, found, first)?;
-            check_governed(alloc, body, locals, found, second)
+            check_in_code(body, locals, found, Want::ABool, test)?;
+            check_governed(body, locals, found, first)?;
+            check_governed(body, locals, found, second)
         }
         Stmt::While(_, test, invariants, inner) => {
-            check_in_code(alloc, body, locals, found, Want::ABool, test)?;
-            check_conditions(alloc, body, locals, found, invariants)?;
-            check_governed(alloc, body, locals, found, inner)
+            check_in_code(body, locals, found, Want::ABool, test)?;
+            check_conditions(body, locals, found, invariants)?;
+            check_governed(body, locals, found, inner)
         }
-        Stmt::For(_, init, test, step, invariants, inner) => {
-            check_for(
-                alloc, body, locals, found, inner, init, test, step, invariants,
-            )
+        Stmt::For {
+            first,
+            test,
+            step,
+            invariants,
+            body: inner,
+            ..
+        } => {
+            let heading = WrittenHeading { first, test, step };
+            check_for(body, locals, found, inner, heading, invariants)
         }
-        Stmt::Return(place, e) => check_return(alloc, body, locals, found, *place, e),
-        Stmt::Assert(_, e) => check_condition(alloc, body, locals, found, e),
-        Stmt::Assume(_, e) => check_condition(alloc, body, locals, found, e),
+        Stmt::Return(place, e) => check_return(body, locals, found, *place, e),
+        Stmt::Assert(_, e) => check_condition(body, locals, found, e),
+        Stmt::Assume(_, e) => check_condition(body, locals, found, e),
         Stmt::Expose(_, e, name, block) => {
             let want = exposed_want(body.within.tables, name);
-            check_in_code(alloc, body, locals, found, want, e)?;
-            check_block(alloc, body, locals, found, block)
+            check_in_code(body, locals, found, want, e)?;
+            check_block(body, locals, found, block)
         }
         Stmt::Empty(_) => Ok(()),
     }
@@ -288,24 +287,21 @@ pub fn check_stmt(
 
 #[cycle(stmt)]
 fn check_for(
-    alloc: Global,
     body: &Body<'_, '_>,
     locals: &mut Scopes,
     found: &mut Vec<Fault>,
     inner: &Stmt,
-    init: &Option<ForInit>,
-    test: &Option<Expr>,
-    step: &Option<Simple>,
+    heading: WrittenHeading<'_>,
     invariants: &[Expr],
 ) -> Result<(), AllocError>
-    ensures noted { OnOk result (found.new.items ≡ found.old.items ++ for_faults (body_of body.now) (enter (scope_of body.now.within locals.old)) (option_map for_init_tree init.now)
-        (option_map expr_tree test.now) (option_map simple_tree step.now) (map expr_tree invariants.now) (stmt_tree inner.now)) }
+    ensures noted { OnOk result (found.new.items ≡ found.old.items ++ for_faults (body_of body.now) (enter (scope_of body.now.within locals.old)) (option_map for_init_tree heading.entry.first.now)
+        (option_map expr_tree heading.entry.test.now) (option_map simple_tree heading.entry.step.now) (map expr_tree invariants.now) (stmt_tree inner.now)) }
     ensures same { OnOk result (locals.new ≡ locals.old) }
 {
-    locals.enter(alloc)?;
-    check_init(alloc, body, locals, found, init)?;
-    check_heading(alloc, body, locals, found, test, step, invariants)?;
-    check_governed(alloc, body, locals, found, inner)?;
+    locals.enter(body.within.alloc)?;
+    check_init(body, locals, found, heading.first)?;
+    check_heading(body, locals, found, heading.test, heading.step, invariants)?;
+    check_governed(body, locals, found, inner)?;
     locals.leave();
     Ok(())
 }
@@ -313,7 +309,6 @@ fn check_for(
 // A statement that another one governs, in a scope of its own.
 #[cycle(stmt)]
 fn check_governed(
-    alloc: Global,
     body: &Body<'_, '_>,
     locals: &mut Scopes,
     found: &mut Vec<Fault>,
@@ -322,8 +317,8 @@ fn check_governed(
     ensures noted { OnOk result (found.new.items ≡ found.old.items ++ stmt_faults (body_of body.now) (enter (scope_of body.now.within locals.old)) (stmt_tree stmt.now)) }
     ensures same { OnOk result (locals.new ≡ locals.old) }
 {
-    locals.enter(alloc)?;
-    check_stmt(alloc, body, locals, found, stmt)?;
+    locals.enter(body.within.alloc)?;
+    check_stmt(body, locals, found, stmt)?;
     locals.leave();
     Ok(())
 }
@@ -331,7 +326,6 @@ fn check_governed(
 /// A block, which has a scope of its own.
 #[cycle(stmt)]
 pub fn check_block(
-    alloc: Global,
     body: &Body<'_, '_>,
     locals: &mut Scopes,
     found: &mut Vec<Fault>,
@@ -340,15 +334,14 @@ pub fn check_block(
     ensures noted { OnOk result (found.new.items ≡ found.old.items ++ block_faults (body_of body.now) (scope_of body.now.within locals.old) (block_tree block.now)) }
     ensures same { OnOk result (locals.new ≡ locals.old) }
 {
-    locals.enter(alloc)?;
-    check_stmts(alloc, body, locals, found, &block.statements)?;
+    locals.enter(body.within.alloc)?;
+    check_stmts(body, locals, found, &block.statements)?;
     locals.leave();
     Ok(())
 }
 
 #[cycle(stmt)]
 fn check_stmts(
-    alloc: Global,
     body: &Body<'_, '_>,
     locals: &mut Scopes,
     found: &mut Vec<Fault>,
@@ -358,7 +351,7 @@ fn check_stmts(
     ensures outer { OnOk result (locals.new.outer ≡ locals.old.outer) }
 {
     for stmt in stmts {
-        check_stmt(alloc, body, locals, found, stmt)?;
+        check_stmt(body, locals, found, stmt)?;
     }
     Ok(())
 }

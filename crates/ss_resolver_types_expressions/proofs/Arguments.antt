@@ -5,13 +5,13 @@ use Rattle.ss_ast.specs.Expressions.{ExprTree, Arguments, NoMore, Argument, argu
 use Rattle.ss_ast.specs.declared.expr.Expr.{Expr}
 use Rattle.ss_tables.specs.Statics.{count}
 use Rattle.ss_faults.specs.declared.Fault.{Fault}
-use Rattle.ss_resolver_types_expressions.specs.Faults.{bad_type, call_in_condition, fault_where}
-use Rattle.ss_resolver_types_expressions.specs.Wants.{Want, Printable, ClassName, bare, place_within}
+use Rattle.ss_resolver_types_heads.specs.Faults.{bad_type, call_in_condition, fault_where}
+use Rattle.ss_resolver_types_heads.specs.Wants.{Want, Printable, ClassName, bare, place_within}
 use Rattle.ss_core.specs.declared.names.Place.{Place}
-use Rattle.ss_resolver_types_expressions.specs.Calls.{ExprContext, Called, whole_call, is_wrong_call, argument_wants}
-use Rattle.ss_resolver_types_expressions.specs.Expressions.{argument_faults, argument_where, argument, wanted, is_name, is_text, condition_faults}
-use Rattle.ss_resolver_types_expressions.specs.Heads.{names_class, is_printed, call_faults}
-use Rattle.ss_resolver_types_expressions.proofs.Endings.{joined}
+use Rattle.ss_resolver_types_heads.specs.Calls.{ExprContext, Called, whole_call, is_wrong_call, argument_wants}
+use Rattle.ss_resolver_types_heads.specs.Expressions.{argument_faults, argument_where, argument, wanted, is_name, is_text, condition_faults}
+use Rattle.ss_resolver_types_heads.specs.Heads.{names_class, is_printed, call_faults}
+use Rattle.ss_resolver_types_heads.proofs.Endings.{joined}
 use Rattle.std.proofs.lemmas.List.{drop_all}
 use Rattle.ss_ast.proofs.Loops.{drop_item}
 

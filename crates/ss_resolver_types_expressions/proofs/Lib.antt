@@ -1,5 +1,3 @@
-pub mod Chains
-pub mod Endings
 pub mod Walks
 pub mod Arguments
 pub mod Constructors

@@ -10,15 +10,15 @@ use Rattle.ss_faults.specs.declared.Fault.{Fault}
 use Rattle.ss_tables.specs.Scopes.{Local}
 use Rattle.ss_tables_scopes.specs.Names.{Names}
 use Rattle.ss_tables.specs.Named.{entered, left, with_name}
-use Rattle.ss_resolver_types_expressions.specs.declared.context.ExprContext.{ExprContext as CodeContext}
+use Rattle.ss_resolver_types_heads.specs.declared.context.ExprContext.{ExprContext as CodeContext}
 use Rattle.ss_ast.specs.Parts.{link_behind, postfix_behind}
-use Rattle.ss_resolver_types_expressions.specs.Wants.{Known, known}
-use Rattle.ss_resolver_types_expressions.specs.Expressions.{AsValue, AsCallee, faults}
-use Rattle.ss_resolver_types_expressions.specs.Heads.{Head, ending, known_at, rest_read, IsWalked, Leads}
-use Rattle.ss_resolver_types_expressions.specs.Codes.{context_of}
-use Rattle.ss_resolver_types_expressions.specs.Calls.{ExprContext}
+use Rattle.ss_resolver_types_heads.specs.Wants.{Known, known}
+use Rattle.ss_resolver_types_heads.specs.Expressions.{AsValue, AsCallee, faults}
+use Rattle.ss_resolver_types_heads.specs.Heads.{Head, ending, known_at, rest_read, IsWalked, Leads}
+use Rattle.ss_resolver_types_heads.specs.Codes.{context_of}
+use Rattle.ss_resolver_types_heads.specs.Calls.{ExprContext}
 use Rattle.std.proofs.lemmas.List.{take_all}
-use Rattle.ss_resolver_types_expressions.proofs.Endings.{known_is, read_noted}
+use Rattle.ss_resolver_types_heads.proofs.Endings.{known_is, read_noted}
 use Rattle.ss_ast.proofs.Grouping.{chain_is, path_is, grouped_more}
 
 -- an expression that is walked and then settled is read

@@ -14,10 +14,10 @@ use Rattle.ss_tables.specs.Types.{written_type}
 use Rattle.ss_tables.specs.Scopes.{Scope, local_named, class_scope, declare_params, param_scope, enter, behind}
 use Rattle.ss_tables.specs.Statics.{count}
 use Rattle.ss_faults.specs.declared.Fault.{Fault}
-use Rattle.ss_resolver_types_expressions.specs.Faults.{bad_type, no_return, fault_where}
-use Rattle.ss_resolver_types_expressions.specs.Wants.{ABool, AnArray, OfClass, place_of}
-use Rattle.ss_resolver_types_expressions.specs.Calls.{ExprContext, Taking, base_wants, takes_nothing, argument_wants, whole_call}
-use Rattle.ss_resolver_types_expressions.specs.Expressions.{AsValue, faults, faults_as, argument_faults, mark_faults}
+use Rattle.ss_resolver_types_heads.specs.Faults.{bad_type, no_return, fault_where}
+use Rattle.ss_resolver_types_heads.specs.Wants.{ABool, AnArray, OfClass, place_of}
+use Rattle.ss_resolver_types_heads.specs.Calls.{ExprContext, Taking, base_wants, takes_nothing, argument_wants, whole_call}
+use Rattle.ss_resolver_types_heads.specs.Expressions.{AsValue, faults, faults_as, argument_faults, mark_faults}
 use Rattle.ss_resolver_types_expressions.specs.Ends.{block_reaches_end}
 use Rattle.ss_resolver_types_expressions.specs.Statements.{Outcome, Nothing, Gives, Body, in_code, is_target, initial_faults, stmt_faults, block_faults}
 

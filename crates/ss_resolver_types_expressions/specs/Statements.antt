@@ -13,10 +13,10 @@ use Rattle.ss_tables.specs.Types.{written_type, class_of}
 use Rattle.ss_tables.specs.Scopes.{Scope, enter, declare_local, behind, behind_init}
 use Rattle.ss_tables.specs.Statics.{callee, static}
 use Rattle.ss_faults.specs.declared.Fault.{Fault}
-use Rattle.ss_resolver_types_expressions.specs.Faults.{bad_type, fault_where}
-use Rattle.ss_resolver_types_expressions.specs.Wants.{Want, AnInt, ABool, AnyValue, OfType, OfDeclared, OfClass, place_of, place_within, wrong}
-use Rattle.ss_resolver_types_expressions.specs.Calls.{ExprContext}
-use Rattle.ss_resolver_types_expressions.specs.Expressions.{AsValue, faults, faults_as, mark_faults, is_question}
+use Rattle.ss_resolver_types_heads.specs.Faults.{bad_type, fault_where}
+use Rattle.ss_resolver_types_heads.specs.Wants.{Want, AnInt, ABool, AnyValue, OfType, OfDeclared, OfClass, place_of, place_within, wrong}
+use Rattle.ss_resolver_types_heads.specs.Calls.{ExprContext}
+use Rattle.ss_resolver_types_heads.specs.Expressions.{AsValue, faults, faults_as, mark_faults, is_question}
 
 -- what a body gives: nothing, or a value of a type, which may be unknown
 pub data Outcome : Type 0 where

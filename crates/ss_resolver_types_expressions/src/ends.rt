@@ -64,7 +64,7 @@ fn reaches_end(stmt: &Stmt) -> bool
         Stmt::Block(block) => block_reaches_end(block),
         Stmt::If(_, _, first, Some(second)) => reaches_end(first) || reaches_end(second),
         Stmt::While(_, e, _, _) => !is_always(e),
-        Stmt::For(_, _, test, _, _, _) => !is_endless(test),
+        Stmt::For { test, .. } => !is_endless(test),
         Stmt::Return(..) => false,
         Stmt::Expose(_, _, _, block) => block_reaches_end(block),
         Stmt::Declare(..)

@@ -1,43 +1,58 @@
 // Expressions: the faults within them, and what is known of them.
 
-ghost use Rattle.std.specs.Prelude.{◌≡◌, ◌++◌, ◌&&◌, true, List, IfOk, OnOk, map, option_map};
-ghost use Rattle.ss_ast.specs.Expressions.{ExprTree, ElementOf, CallOf, grouped, expr_tree, name_tree, type_tree, arguments};
+ghost use Rattle.std.specs.Prelude.{◌≡◌, ◌++◌, ◌&&◌, true, List, Some, IfOk, OnOk, map, option_map};
+ghost use Rattle.ss_core.specs.declared.names.Ty.TheVariants as ty;
+ghost use Rattle.ss_ast.specs.Expressions.{ExprTree, ElementOf, CallOf, NewOf, grouped, expr_tree, name_tree, type_tree, type_name_tree, arguments};
 ghost use Rattle.ss_ast.specs.Programs.{ClassTree};
+ghost use Rattle.ss_tables.specs.Statics.{static, cast_type};
+ghost use Rattle.ss_tables.specs.Types.{array_type, written_type};
 ghost use Rattle.ss_tables_scopes.specs.Names.{Names};
 ghost use Rattle.ss_tables_scopes.specs.Views.{callee_of};
 ghost use Rattle.ss_tables_lookup.specs.Classes.{trees};
 ghost use Rattle.ss_tables_lookup.specs.Views.{type_of};
 ghost use Rattle.ss_ast.specs.Parts.{link_behind, postfix_behind};
-ghost use Rattle.ss_resolver_types_expressions.specs.Faults.{call_in_condition, fault_where};
-ghost use Rattle.ss_resolver_types_expressions.specs.Wants.{AnInt, ABool, AReference, known, bare};
-ghost use Rattle.ss_resolver_types_expressions.specs.Calls.{wants_of, whole_call, argument_wants};
-ghost use Rattle.ss_resolver_types_expressions.specs.Expressions.{AsValue, AsCallee, faults, faults_as, argument_where, argument_faults, condition_faults, no_class, is_text, operand};
-ghost use Rattle.ss_resolver_types_expressions.specs.Heads.{ending, value_at, AValueOf, Leads, names_class, is_printed, within_bound, call, operation_faults, call_faults};
-ghost use Rattle.ss_resolver_types_expressions.specs.Codes.{want_of, known_of, context_of, called_of, head_of};
+ghost use Rattle.ss_resolver_types_heads.specs.Faults.{bad_type, call_in_condition, fault_where};
+ghost use Rattle.ss_resolver_types_heads.specs.Wants.{AnInt, ABool, AReference, AnyValue, known, bare};
+ghost use Rattle.ss_resolver_types_heads.specs.Calls.{wants_of, whole_call, argument_wants};
+ghost use Rattle.ss_resolver_types_heads.specs.Expressions.{AsValue, AsCallee, faults, faults_as, argument_where, argument_faults, condition_faults, no_class, is_text, operand};
+ghost use Rattle.ss_resolver_types_heads.specs.Heads.{ending, value_at, AValueOf, Leads, names_class, is_printed, within_bound, call, operation_faults, call_faults};
+ghost use Rattle.ss_resolver_types_heads.specs.Codes.{want_of, known_of, context_of, called_of, head_of};
 
-use crate::calls::{Called, call_new, is_wrong_call, want_at};
-use crate::context::ExprContext;
-use crate::heads::{
-    Form, Head, called_at, callee_at, note_class_test, settle, settle_as, value, walk_dot,
-};
-use crate::operations::{gives_nothing, is_question, note_no_class, note_operands};
 use crate::shapes::{is_name, is_text, place_within};
-use crate::wants::{Known, Want, note_bad_type, note_call, note_misfit};
-use ss_ast::{Expr, Link, Name, Operator, Postfix, TypeRef};
+use ss_ast::{Expr, Link, Name, Operator, Postfix, TypeName, TypeRef};
 use ss_core::Place;
 use ss_faults::Fault;
+use ss_resolver_types_heads::{
+    Called, ExprContext, Form, Head, Known, Want, call_new, called_at, callee_at, gives_nothing,
+    is_question, is_wrong_call, note_bad_type, note_call, note_class_test, note_misfit,
+    note_no_class, note_operands, settle, settle_as, value, walk_dot, want_at,
+};
 use ss_tables_lookup::{StaticType, Tables};
 use ss_tables_scopes::{
     Callee, LocalInfo, Scopes, call_type, called_with, count, link_type, new_type, type_of_cast,
     type_of_element,
 };
-use std::alloc::{AllocError, Global};
+use std::alloc::AllocError;
 
 // An expression that isn't a path.
 fn other<'e>(place: Place, ty: Option<StaticType>) -> Head<'e>
     ensures { head_of result ≡ AValueOf Form.Other (value_at place (option_map type_of ty)) }
 {
     Head::Value(Form::Other, value(place, ty))
+}
+
+// A word of this type, which where it is a fault doesn't stand there.
+fn word<'e>(
+    found: &mut Vec<Fault>,
+    is_fault: bool,
+    place: Place,
+    ty: Option<StaticType>,
+) -> Result<Head<'e>, AllocError>
+    ensures head { IfOk result (λ h. head_of h ≡ AValueOf Form.Other (value_at place (option_map type_of ty))) }
+    ensures noted { OnOk result (found.new.items ≡ found.old.items ++ fault_where is_fault (bad_type place)) }
+{
+    note_bad_type(found, is_fault, place)?;
+    Ok(other(place, ty))
 }
 
 // ---- calls
@@ -141,7 +156,6 @@ fn is_printed_text(want: Want, e: &Expr) -> bool
 /// Notes the faults within an expression that it has where it is called, and says how it ends.
 #[cycle(expr)]
 pub fn walk<'e>(
-    alloc: Global,
     context: &ExprContext<'_, '_>,
     locals: &mut Scopes,
     found: &mut Vec<Fault>,
@@ -152,93 +166,181 @@ pub fn walk<'e>(
     ensures same { OnOk result (locals.new ≡ locals.old) }
 {
     match e {
-        Expr::Iff(place, a, b) => {
-            check_as(alloc, context, locals, found, Want::ABool, a)?;
-            check_as(alloc, context, locals, found, Want::ABool, b)?;
-            Ok(other(*place, Some(StaticType::Bool)))
-        }
-        Expr::Implies(place, a, b) => {
-            check_as(alloc, context, locals, found, Want::ABool, a)?;
-            check_as(alloc, context, locals, found, Want::ABool, b)?;
-            Ok(other(*place, Some(StaticType::Bool)))
+        Expr::Iff(place, a, b) | Expr::Implies(place, a, b) => {
+            check_as(context, locals, found, Want::ABool, a)?;
+            walk_truth(context, locals, found, *place, b)
         }
         Expr::Chain(place, first, links) => {
-            let head = walk(alloc, context, locals, found, first)?;
-            let longer = walk_links(alloc, context, locals, found, *place, head, links)?;
-            Ok(longer)
+            let head = walk(context, locals, found, first)?;
+            Ok(walk_links(context, locals, found, *place, head, links)?)
         }
-        Expr::Negate(place, inner) => {
-            check_as(alloc, context, locals, found, Want::AnInt, inner)?;
-            Ok(other(*place, Some(StaticType::Int)))
-        }
-        Expr::Not(place, inner) => {
-            check_as(alloc, context, locals, found, Want::ABool, inner)?;
-            Ok(other(*place, Some(StaticType::Bool)))
-        }
-        Expr::Cast(place, ty, inner) => {
-            check_cast(alloc, context, locals, found, ty, inner)?;
-            Ok(other(*place, type_of_cast(context.within.tables, ty)))
-        }
+        Expr::Negate(place, inner) => walk_whole(context, locals, found, *place, inner),
+        Expr::Not(place, inner) => walk_truth(context, locals, found, *place, inner),
+        Expr::Cast(place, ty, inner) => walk_cast(context, locals, found, *place, ty, inner),
         Expr::Path(place, first, postfixes) => {
-            let head = walk(alloc, context, locals, found, first)?;
-            let longer = walk_postfixes(alloc, context, locals, found, *place, head, postfixes)?;
-            Ok(longer)
+            let head = walk(context, locals, found, first)?;
+            Ok(walk_postfixes(context, locals, found, *place, head, postfixes)?)
         }
         Expr::Name(place, name) => Ok(Head::Name(*place, name)),
         Expr::Base(place) => Ok(Head::Base(*place)),
         Expr::Number(place, _) => Ok(other(*place, Some(StaticType::Int))),
-        Expr::Text(place, _) => {
-            note_bad_type(found, true, *place)?;
-            Ok(other(*place, None))
-        }
+        Expr::Text(place, _) => Ok(word(found, true, *place, None)?),
         Expr::Truth(place, _) => Ok(other(*place, Some(StaticType::Bool))),
         Expr::Null(place) => Ok(other(*place, Some(StaticType::Null))),
-        Expr::This(place) => {
-            note_bad_type(found, context.is_static, *place)?;
-            Ok(other(*place, context.within.this_type()))
-        }
-        Expr::Result(place) => {
-            note_bad_type(found, context.lacks_result, *place)?;
-            Ok(other(*place, context.within.outcome))
-        }
-        Expr::Paren(_, inner) => {
-            let known = check(alloc, context, locals, found, inner)?;
-            Ok(Head::Value(Form::Other, known))
-        }
-        Expr::Old(place, inner) => {
-            let known = check_as(alloc, context, locals, found, Want::AnyValue, inner)?;
-            Ok(other(*place, known.ty))
-        }
-        Expr::New(place, name, list) => {
-            let called = call_new(context.within.tables, name.text.as_str());
-            check_call(alloc, context, locals, found, *place, true, called, list)?;
-            let ty = new_type(context.within.tables, count(list), name.text.as_str());
-            Ok(Head::Value(Form::New, value(*place, ty)))
-        }
-        Expr::NewArray(place, _, name, length) => {
-            check_length(alloc, context, locals, found, *place, length)?;
-            let ty = context.within.tables.array_type(true, name);
-            Ok(Head::Value(Form::New, value(*place, ty)))
-        }
+        Expr::This(at) => Ok(word(found, context.is_static, *at, context.within.this_type())?),
+        Expr::Result(at) => Ok(word(found, context.lacks_result, *at, context.within.outcome)?),
+        Expr::Paren(_, inner) => walk_paren(context, locals, found, inner),
+        Expr::Old(place, inner) => walk_old(context, locals, found, *place, inner),
+        Expr::New(place, name, list) => walk_new(context, locals, found, *place, name, list),
+        Expr::NewArray(at, _, ty, size) => walk_array(context, locals, found, *at, ty, size),
         Expr::Quantified(place, _, name, low, high, body) => {
             let inner = ExprContext {
-                within: context.within,
-                is_static: context.is_static,
                 in_condition: true,
-                lacks_result: context.lacks_result,
+                ..*context
             };
-            check_as(alloc, &inner, locals, found, Want::AnInt, low)?;
-            check_as(alloc, &inner, locals, found, Want::AnInt, high)?;
-            check_bound(alloc, &inner, locals, found, name, body)?;
+            check_as(&inner, locals, found, Want::AnInt, low)?;
+            check_as(&inner, locals, found, Want::AnInt, high)?;
+            check_bound(&inner, locals, found, name, body)?;
             Ok(other(*place, Some(StaticType::Bool)))
         }
     }
 }
 
+// The last operand of an operation on truth values that gives one.
+#[cycle(expr)]
+fn walk_truth<'e>(
+    context: &ExprContext<'_, '_>,
+    locals: &mut Scopes,
+    found: &mut Vec<Fault>,
+    place: Place,
+    e: &Expr,
+) -> Result<Head<'e>, AllocError>
+    ensures head { IfOk result (λ h. head_of h ≡ AValueOf Form.Other (value_at place (Some ty.Bool))) }
+    ensures noted { OnOk result (found.new.items ≡ found.old.items ++ faults_as (context_of context.now locals.old) ABool (expr_tree e.now)) }
+    ensures same { OnOk result (locals.new ≡ locals.old) }
+{
+    check_as(context, locals, found, Want::ABool, e)?;
+    Ok(other(place, Some(StaticType::Bool)))
+}
+
+// A minus before a number.
+#[cycle(expr)]
+fn walk_whole<'e>(
+    context: &ExprContext<'_, '_>,
+    locals: &mut Scopes,
+    found: &mut Vec<Fault>,
+    place: Place,
+    e: &Expr,
+) -> Result<Head<'e>, AllocError>
+    ensures head { IfOk result (λ h. head_of h ≡ AValueOf Form.Other (value_at place (Some ty.Int))) }
+    ensures noted { OnOk result (found.new.items ≡ found.old.items ++ faults_as (context_of context.now locals.old) AnInt (expr_tree e.now)) }
+    ensures same { OnOk result (locals.new ≡ locals.old) }
+{
+    check_as(context, locals, found, Want::AnInt, e)?;
+    Ok(other(place, Some(StaticType::Int)))
+}
+
+// An expression in parentheses.
+#[cycle(expr)]
+fn walk_paren<'e>(
+    context: &ExprContext<'_, '_>,
+    locals: &mut Scopes,
+    found: &mut Vec<Fault>,
+    e: &Expr,
+) -> Result<Head<'e>, AllocError>
+    ensures head { IfOk result (λ h. head_of h ≡ AValueOf Form.Other (known (context_of context.now locals.old).scope (expr_tree e.now))) }
+    ensures noted { OnOk result (found.new.items ≡ found.old.items ++ faults (context_of context.now locals.old) AsValue (expr_tree e.now)) }
+    ensures same { OnOk result (locals.new ≡ locals.old) }
+{
+    let known = check(context, locals, found, e)?;
+    Ok(Head::Value(Form::Other, known))
+}
+
+// `old(..)`.
+#[cycle(expr)]
+fn walk_old<'e>(
+    context: &ExprContext<'_, '_>,
+    locals: &mut Scopes,
+    found: &mut Vec<Fault>,
+    place: Place,
+    e: &Expr,
+) -> Result<Head<'e>, AllocError>
+    ensures head { IfOk result (λ h. head_of h ≡ AValueOf Form.Other (value_at place (static (context_of context.now locals.old).scope (expr_tree e.now)))) }
+    ensures noted { OnOk result (found.new.items ≡ found.old.items ++ faults_as (context_of context.now locals.old) AnyValue (expr_tree e.now)) }
+    ensures same { OnOk result (locals.new ≡ locals.old) }
+{
+    let known = check_as(context, locals, found, Want::AnyValue, e)?;
+    Ok(other(place, known.ty))
+}
+
+// A cast to a type, which is one of references.
+#[cycle(expr)]
+fn walk_cast<'e>(
+    context: &ExprContext<'_, '_>,
+    locals: &mut Scopes,
+    found: &mut Vec<Fault>,
+    place: Place,
+    to: &TypeRef,
+    e: &Expr,
+) -> Result<Head<'e>, AllocError>
+    ensures head { IfOk result (λ h. head_of h ≡ AValueOf Form.Other (value_at place (cast_type (written_type (trees context.now.within.tables.now) (type_tree to.now))))) }
+    ensures noted { OnOk result (found.new.items ≡ found.old.items ++ (no_class (type_tree to.now) ++ faults_as (context_of context.now locals.old) AReference (expr_tree e.now))) }
+    ensures same { OnOk result (locals.new ≡ locals.old) }
+{
+    note_no_class(found, to)?;
+    check_as(context, locals, found, Want::AReference, e)?;
+    Ok(other(place, type_of_cast(context.within.tables, to)))
+}
+
+// A new object of the class of this name.
+#[cycle(expr)]
+fn walk_new<'e>(
+    context: &ExprContext<'_, '_>,
+    locals: &mut Scopes,
+    found: &mut Vec<Fault>,
+    place: Place,
+    name: &Name,
+    list: &[Expr],
+) -> Result<Head<'e>, AllocError>
+    ensures head { IfOk result (λ h. head_of h ≡ ending (context_of context.now locals.old).scope (NewOf place (name_tree name.now) (arguments (map expr_tree list.now)))) }
+    ensures noted { OnOk result (found.new.items ≡ found.old.items ++ faults (context_of context.now locals.old) AsCallee (NewOf place (name_tree name.now) (arguments (map expr_tree list.now)))) }
+    ensures same { OnOk result (locals.new ≡ locals.old) }
+{
+    let called = call_new(context.within.tables, name.text.as_str());
+    let placed = PlacedCall {
+        place,
+        is_call: true,
+        called,
+    };
+    check_call(context, locals, found, placed, list)?;
+    let ty = new_type(context.within.tables, count(list), name.text.as_str());
+    Ok(Head::Value(Form::New, value(place, ty)))
+}
+
+// A new array of elements of this type.
+#[cycle(expr)]
+fn walk_array<'e>(
+    context: &ExprContext<'_, '_>,
+    locals: &mut Scopes,
+    found: &mut Vec<Fault>,
+    place: Place,
+    name: &TypeName,
+    e: &Expr,
+) -> Result<Head<'e>, AllocError>
+    ensures head { IfOk result (λ h. head_of h ≡ AValueOf Form.New (value_at place (array_type (trees context.now.within.tables.now) true (type_name_tree name.now)))) }
+    ensures noted { OnOk result (found.new.items ≡ found.old.items
+        ++ (condition_faults (context_of context.now locals.old) place true ++ faults_as (context_of context.now locals.old) AnInt (expr_tree e.now))) }
+    ensures same { OnOk result (locals.new ≡ locals.old) }
+{
+    note_in_condition(context, found, place, true)?;
+    check_as(context, locals, found, Want::AnInt, e)?;
+    let ty = context.within.tables.array_type(true, name);
+    Ok(Head::Value(Form::New, value(place, ty)))
+}
+
 /// Notes the faults of an expression whose value is read, and says what is known of it.
 #[cycle(expr)]
 pub fn check(
-    alloc: Global,
     context: &ExprContext<'_, '_>,
     locals: &mut Scopes,
     found: &mut Vec<Fault>,
@@ -248,7 +350,7 @@ pub fn check(
     ensures noted { OnOk result (found.new.items ≡ found.old.items ++ faults (context_of context.now locals.old) AsValue (expr_tree e.now)) }
     ensures same { OnOk result (locals.new ≡ locals.old) }
 {
-    let head = walk(alloc, context, locals, found, e)?;
+    let head = walk(context, locals, found, e)?;
     let known = settle(context, locals, found, head)?;
     Ok(known)
 }
@@ -256,7 +358,6 @@ pub fn check(
 /// The same, and that it isn't what is wanted where it stands.
 #[cycle(expr)]
 pub fn check_as(
-    alloc: Global,
     context: &ExprContext<'_, '_>,
     locals: &mut Scopes,
     found: &mut Vec<Fault>,
@@ -267,52 +368,14 @@ pub fn check_as(
     ensures noted { OnOk result (found.new.items ≡ found.old.items ++ faults_as (context_of context.now locals.old) (want_of want) (expr_tree e.now)) }
     ensures same { OnOk result (locals.new ≡ locals.old) }
 {
-    let known = check(alloc, context, locals, found, e)?;
+    let known = check(context, locals, found, e)?;
     note_misfit(context.within.tables, found, want, known)?;
     Ok(known)
-}
-
-// A cast to a type, which is one of references.
-#[cycle(expr)]
-fn check_cast(
-    alloc: Global,
-    context: &ExprContext<'_, '_>,
-    locals: &mut Scopes,
-    found: &mut Vec<Fault>,
-    ty: &TypeRef,
-    e: &Expr,
-) -> Result<(), AllocError>
-    ensures noted { OnOk result (found.new.items ≡ found.old.items ++ (no_class (type_tree ty.now) ++ faults_as (context_of context.now locals.old) AReference (expr_tree e.now))) }
-    ensures same { OnOk result (locals.new ≡ locals.old) }
-{
-    note_no_class(found, ty)?;
-    check_as(alloc, context, locals, found, Want::AReference, e)?;
-    Ok(())
-}
-
-// The length of a new array.
-#[cycle(expr)]
-fn check_length(
-    alloc: Global,
-    context: &ExprContext<'_, '_>,
-    locals: &mut Scopes,
-    found: &mut Vec<Fault>,
-    place: Place,
-    e: &Expr,
-) -> Result<(), AllocError>
-    ensures noted { OnOk result (found.new.items ≡ found.old.items
-        ++ (condition_faults (context_of context.now locals.old) place true ++ faults_as (context_of context.now locals.old) AnInt (expr_tree e.now))) }
-    ensures same { OnOk result (locals.new ≡ locals.old) }
-{
-    note_in_condition(context, found, place, true)?;
-    check_as(alloc, context, locals, found, Want::AnInt, e)?;
-    Ok(())
 }
 
 // The member of a quantifier, in whose scope the bound name is.
 #[cycle(expr)]
 fn check_bound(
-    alloc: Global,
     context: &ExprContext<'_, '_>,
     locals: &mut Scopes,
     found: &mut Vec<Fault>,
@@ -326,9 +389,9 @@ fn check_bound(
         ty: Some(StaticType::Int),
         is_param: false,
     };
-    locals.enter(alloc)?;
-    locals.declare(alloc, name.text.as_str(), known)?;
-    check_as(alloc, context, locals, found, Want::ABool, body)?;
+    locals.enter(context.within.alloc)?;
+    locals.declare(context.within.alloc, name.text.as_str(), known)?;
+    check_as(context, locals, found, Want::ABool, body)?;
     locals.leave();
     Ok(())
 }
@@ -336,7 +399,6 @@ fn check_bound(
 // The links of a chain, behind its first operand.
 #[cycle(expr)]
 fn walk_links<'e>(
-    alloc: Global,
     context: &ExprContext<'_, '_>,
     locals: &mut Scopes,
     found: &mut Vec<Fault>,
@@ -350,14 +412,13 @@ fn walk_links<'e>(
 {
     let mut head = first;
     for link in links {
-        head = walk_link(alloc, context, locals, found, place, head, link)?;
+        head = walk_link(context, locals, found, place, head, link)?;
     }
     Ok(head)
 }
 
 #[cycle(expr)]
 fn walk_link<'e>(
-    alloc: Global,
     context: &ExprContext<'_, '_>,
     locals: &mut Scopes,
     found: &mut Vec<Fault>,
@@ -373,7 +434,11 @@ fn walk_link<'e>(
     let longer = other(place, known);
     match link {
         Link::Operation(operator, right) => {
-            check_operation(alloc, context, locals, found, place, head, *operator, right)?;
+            let placed = PlacedOperator {
+                place,
+                operator: *operator,
+            };
+            check_operation(context, locals, found, head, placed, right)?;
             Ok(longer)
         }
         Link::Is(ty) => {
@@ -387,23 +452,29 @@ fn walk_link<'e>(
     }
 }
 
+// An operator at its place.
+#[derive(Clone, Copy)]
+struct PlacedOperator {
+    place: Place,
+    operator: Operator,
+}
+
 // An operation behind its first operand.
 #[cycle(expr)]
 fn check_operation(
-    alloc: Global,
     context: &ExprContext<'_, '_>,
     locals: &mut Scopes,
     found: &mut Vec<Fault>,
-    place: Place,
     head: Head<'_>,
-    operator: Operator,
+    placed: PlacedOperator,
     second: &Expr,
 ) -> Result<(), AllocError>
-    ensures noted { OnOk result (found.new.items ≡ found.old.items ++ operation_faults (context_of context.now locals.old) place (operand operator) (head_of head.entry) (expr_tree second.now)) }
+    ensures noted { OnOk result (found.new.items ≡ found.old.items ++ operation_faults (context_of context.now locals.old) placed.place (operand placed.operator) (head_of head.entry) (expr_tree second.now)) }
     ensures same { OnOk result (locals.new ≡ locals.old) }
 {
+    let PlacedOperator { place, operator } = placed;
     let left = settle(context, locals, found, head)?;
-    let right = check(alloc, context, locals, found, second)?;
+    let right = check(context, locals, found, second)?;
     note_operands(context.within.tables, found, place, operator, left, right)?;
     Ok(())
 }
@@ -411,7 +482,6 @@ fn check_operation(
 // The postfixes of a path, behind what it begins with.
 #[cycle(expr)]
 fn walk_postfixes<'e>(
-    alloc: Global,
     context: &ExprContext<'_, '_>,
     locals: &mut Scopes,
     found: &mut Vec<Fault>,
@@ -425,14 +495,13 @@ fn walk_postfixes<'e>(
 {
     let mut head = first;
     for postfix in postfixes {
-        head = walk_postfix(alloc, context, locals, found, place, head, postfix)?;
+        head = walk_postfix(context, locals, found, place, head, postfix)?;
     }
     Ok(head)
 }
 
 #[cycle(expr)]
 fn walk_postfix<'e>(
-    alloc: Global,
     context: &ExprContext<'_, '_>,
     locals: &mut Scopes,
     found: &mut Vec<Fault>,
@@ -450,11 +519,11 @@ fn walk_postfix<'e>(
             Ok(longer)
         }
         Postfix::Element(index) => {
-            let longer = walk_element(alloc, context, locals, found, place, head, index)?;
+            let longer = walk_element(context, locals, found, place, head, index)?;
             Ok(longer)
         }
         Postfix::Call(list) => {
-            let longer = walk_call(alloc, context, locals, found, place, head, list)?;
+            let longer = walk_call(context, locals, found, place, head, list)?;
             Ok(longer)
         }
     }
@@ -462,7 +531,6 @@ fn walk_postfix<'e>(
 
 #[cycle(expr)]
 fn walk_element<'e>(
-    alloc: Global,
     context: &ExprContext<'_, '_>,
     locals: &mut Scopes,
     found: &mut Vec<Fault>,
@@ -475,13 +543,12 @@ fn walk_element<'e>(
     ensures same { OnOk result (locals.new ≡ locals.old) }
 {
     let known = settle_as(context, locals, found, Want::AnArray, head)?;
-    check_as(alloc, context, locals, found, Want::AnInt, index)?;
+    check_as(context, locals, found, Want::AnInt, index)?;
     Ok(Head::Value(Form::Element, value(place, type_of_element(known.ty))))
 }
 
 #[cycle(expr)]
 fn walk_call<'e>(
-    alloc: Global,
     context: &ExprContext<'_, '_>,
     locals: &mut Scopes,
     found: &mut Vec<Fault>,
@@ -496,46 +563,51 @@ fn walk_call<'e>(
     let callee = callee_at(context, locals, head);
     let number = count(list);
     let called = called_at(context, locals, number, head);
-    check_call(
-        alloc,
-        context,
-        locals,
-        found,
+    let placed = PlacedCall {
         place,
-        !is_question(callee),
+        is_call: !is_question(callee),
         called,
-        list,
-    )?;
+    };
+    check_call(context, locals, found, placed, list)?;
     Ok(call(context.within.tables, place, number, callee))
+}
+
+/// A call at its place: whether it is one that no condition has, and what is called.
+#[derive(Clone, Copy)]
+pub struct PlacedCall<'p> {
+    pub place: Place,
+    pub is_call: bool,
+    pub called: Called<'p>,
 }
 
 /// Notes the faults of a call besides those of what is called.
 #[cycle(expr)]
 pub fn check_call(
-    alloc: Global,
     context: &ExprContext<'_, '_>,
     locals: &mut Scopes,
     found: &mut Vec<Fault>,
-    place: Place,
-    is_call: bool,
-    called: Called<'_>,
+    placed: PlacedCall<'_>,
     list: &[Expr],
 ) -> Result<(), AllocError>
-    ensures noted { OnOk result (found.new.items ≡ found.old.items ++ call_faults (context_of context.now locals.old) place is_call
-        (called_of (trees context.now.within.tables.now) called.entry) (arguments (map expr_tree list.now))) }
+    ensures noted { OnOk result (found.new.items ≡ found.old.items ++ call_faults (context_of context.now locals.old) placed.entry.place placed.entry.is_call
+        (called_of (trees context.now.within.tables.now) placed.entry.called) (arguments (map expr_tree list.now))) }
     ensures same { OnOk result (locals.new ≡ locals.old) }
 {
+    let PlacedCall {
+        place,
+        is_call,
+        called,
+    } = placed;
     let number = count(list);
     note_whole(context, found, place, is_call, number, called)?;
     let wanted = unless_wrong(number, called);
-    check_arguments(alloc, context, locals, found, wanted, list)?;
+    check_arguments(context, locals, found, wanted, list)?;
     Ok(())
 }
 
 // Each argument is what is wanted in its place.
 #[cycle(expr)]
 fn check_arguments(
-    alloc: Global,
     context: &ExprContext<'_, '_>,
     locals: &mut Scopes,
     found: &mut Vec<Fault>,
@@ -548,14 +620,13 @@ fn check_arguments(
 {
     for (i, e) in list.iter().enumerate() {
         let want = want_at(context.within.tables, called, i);
-        check_argument(alloc, context, locals, found, want, e)?;
+        check_argument(context, locals, found, want, e)?;
     }
     Ok(())
 }
 
 #[cycle(expr)]
 fn check_argument(
-    alloc: Global,
     context: &ExprContext<'_, '_>,
     locals: &mut Scopes,
     found: &mut Vec<Fault>,
@@ -566,7 +637,7 @@ fn check_argument(
     ensures same { OnOk result (locals.new ≡ locals.old) }
 {
     let Some(want) = want else {
-        check(alloc, context, locals, found, e)?;
+        check(context, locals, found, e)?;
         return Ok(());
     };
     if names_class(want) {
@@ -576,6 +647,6 @@ fn check_argument(
     if is_printed_text(want, e) {
         return Ok(());
     }
-    check_as(alloc, context, locals, found, want, e)?;
+    check_as(context, locals, found, want, e)?;
     Ok(())
 }

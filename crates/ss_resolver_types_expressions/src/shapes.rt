@@ -2,8 +2,8 @@
 
 ghost use Rattle.std.specs.Prelude.{◌≡◌};
 ghost use Rattle.ss_ast.specs.Expressions.{expr_tree};
-ghost use Rattle.ss_resolver_types_expressions.specs.Wants.{place_of, place_within, bare};
-ghost use Rattle.ss_resolver_types_expressions.specs.Expressions.{is_name, is_text};
+ghost use Rattle.ss_resolver_types_heads.specs.Wants.{place_of, place_within, bare};
+ghost use Rattle.ss_resolver_types_heads.specs.Expressions.{is_name, is_text};
 
 use ss_ast::Expr;
 use ss_core::Place;

@@ -6,6 +6,7 @@ ghost use Rattle.ss_core.specs.View as view;
 ghost use Rattle.ss_logic_ground.specs.Ground.{ground_form};
 ghost use Rattle.ss_logic_means.specs.Sorts.{AreWellFormed};
 ghost use Rattle.ss_logic_origins.specs.Origins.{AreAccepted};
+ghost use Rattle.ss_rules.specs.declared.rules.GroundStop.TheVariants.{Memory};
 ghost use Rattle.ss_rules_opened.specs.Choices.{choices_at, HasChoices};
 ghost use Rattle.ss_rules_origins.specs.Views.{ComeFrom};
 ghost use Rattle.ss_terms.specs.Forms.{formula_at, formulas_at, HasFormula, HasFormulas, IsGrown, IsBankOf};
@@ -13,7 +14,7 @@ ghost use Rattle.ss_terms.specs.Forms.{formula_at, formulas_at, HasFormula, HasF
 use ss_core::Core;
 use ss_rules_ground::{GroundForm, Grounded};
 use ss_terms::{Bank, FormulaId, Obligation};
-use std::alloc::Global;
+use std::alloc::{AllocError, Global};
 
 /// Why a ground form isn't made.
 #[derive(Clone, Copy, Debug, PartialEq, Eq)]
@@ -22,6 +23,14 @@ pub enum GroundStop {
     TooMany { limit: u32 },
     /// Memory ran out.
     Memory,
+}
+
+impl From<AllocError> for GroundStop {
+    ghost from_gives = { λ _ stop. stop ≡ Memory };
+
+    fn from(_error: AllocError) -> GroundStop {
+        GroundStop::Memory
+    }
 }
 
 /// The formulas of the ground form of an obligation after so many rounds, where they are at most `limit`. What the bank had before stays.
@@ -45,10 +54,11 @@ pub fn ground(
     let Obligation { premises, goal, .. } = *obligation;
     let classes = &program.classes;
     let most = limit as usize;
-    match ss_rules_ground::ground(alloc, bank, classes, premises, goal, rounds as usize, most) {
-        Ok(GroundForm::Formulas(formulas)) => Ok(formulas),
-        Ok(GroundForm::TooMany) => Err(GroundStop::TooMany { limit }),
-        Err(_) => Err(GroundStop::Memory),
+    let rounds = rounds as usize;
+    let found = ss_rules_ground::ground(alloc, bank, classes, premises, goal, rounds, most)?;
+    match found {
+        GroundForm::Formulas(formulas) => Ok(formulas),
+        GroundForm::TooMany => Err(GroundStop::TooMany { limit }),
     }
 }
 
@@ -78,9 +88,11 @@ pub fn ground_with_origins(
     let classes = &program.classes;
     let most = limit as usize;
     let rounds = rounds as usize;
-    match ss_rules_ground::ground_with_origins(alloc, bank, classes, premises, goal, rounds, most) {
-        Ok(Some(found)) => Ok(found),
-        Ok(None) => Err(GroundStop::TooMany { limit }),
-        Err(_) => Err(GroundStop::Memory),
+    let found = ss_rules_ground::ground_with_origins(
+        alloc, bank, classes, premises, goal, rounds, most,
+    )?;
+    match found {
+        Some(grounded) => Ok(grounded),
+        None => Err(GroundStop::TooMany { limit }),
     }
 }

@@ -1,5 +1,5 @@
 -- Arguments of another number say nothing.
-use Rattle.std.proofs.Common.{◌≡◌, ℕ, ◌<◌, ◌≤◌, List, [], ◌∷◌, length, Bool, refl, sym, ◌∙◌, ap, subst, arith, get_or, Option, Some, None, Vec, Global}
+use Rattle.std.proofs.Common.{◌≡◌, ℕ, ◌<◌, ◌≤◌, List, [], ◌∷◌, length, Bool, refl, sym, ◌∙◌, ap, subst, arith, get_or, Option, Some, None}
 use Rattle.ss_logic.specs.declared.Sort.{Sort}
 use Rattle.ss_logic.specs.declared.Sort.TheVariants as sort
 use Rattle.ss_logic.specs.Terms as tree
@@ -8,6 +8,7 @@ use Rattle.ss_logic_rules.specs.declared.RuleName.{RuleName}
 use Rattle.ss_logic_rules.specs.Reads as reads
 use Rattle.ss_logic_rules.specs.Rules as rules
 use Rattle.ss_logic_ground.specs.Asked as spec
+use Rattle.ss_terms.specs.Lists.{SmallVec}
 use Rattle.ss_terms.specs.declared.forms.TermId.{TermId}
 use Rattle.ss_terms.specs.declared.forms.Symbol.{Symbol}
 use Rattle.ss_terms.specs.declared.forms.Term.TheVariants.{App as AppForm}
@@ -123,7 +124,7 @@ asked_two-long b name (t ∷ u ∷ v ∷ ts) h = refl
 
 -- ---- arguments of a term of the bank
 
-pub arguments_there : (b : Forms) (t : TermId) (f : Symbol) (v : Vec TermId Global) (ts : List TermId) → ts ≡ v.items → HasTerm b t → IsTermForm b t (AppForm f v) → HasTerms b ts
+pub arguments_there : (b : Forms) (t : TermId) (f : Symbol) (v : SmallVec TermId) (ts : List TermId) → ts ≡ v.items → HasTerm b t → IsTermForm b t (AppForm f v) → HasTerms b ts
 arguments_there b t f v ts e h n = subst (HasTerms b) (sym e) (AreTermsBelow-more t.0 (length b.terms) (omega (arith, h)) v.items n.below)
 
 -- ---- stores

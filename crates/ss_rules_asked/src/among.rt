@@ -8,12 +8,12 @@ ghost use Rattle.ss_rules_asked.specs.Numbers.{asked_in, HasAsked, Asks};
 ghost use Rattle.ss_rules_asked.specs.Sentences.{among};
 
 use crate::asked::{Argument, Asked, Rule, ask};
+use crate::context::AskingContext;
 use crate::forms::{is_class_name, store_before};
 use crate::lists::{AtTerm, ask_at_terms};
-use ss_core::Classes;
 use ss_logic_rules::RuleName;
-use ss_terms::{Bank, TermId};
-use std::alloc::{AllocError, Global};
+use ss_terms::TermId;
+use std::alloc::AllocError;
 
 /// Sentences at a term for which the other terms are needed: on the owner of a new object, and on two classes.
 #[derive(Clone, Copy)]
@@ -25,29 +25,34 @@ pub(crate) enum Among {
 // The owner of the new object, where the store is one with a new object.
 #[tactic(auto, using(crate::proofs::Asking::nothing_asked, crate::proofs::Asking::asked_then))]
 fn ask_at_new(
-    alloc: Global,
-    bank: &Bank,
-    classes: &Classes,
+    context: &AskingContext<'_>,
     asked: &mut Vec<Asked>,
     terms: &[TermId],
     t: TermId,
 ) -> Result<(), AllocError>
-    requires bank { IsBankOf (view.classes classes.now) bank.now }
-    requires asked { HasAsked bank.now asked.old.items }
-    requires terms { HasTerms bank.now terms.now }
-    requires term { HasTerm bank.now t }
-    ensures { OnOk result (Asks bank.now asked.new.items (asked_in bank.now asked.old.items ++ spec.asked_at_new (terms_at bank.now terms.now) (term_at bank.now t))) }
+    requires bank { IsBankOf (view.classes context.now.classes.now) context.now.bank.now }
+    requires asked { HasAsked context.now.bank.now asked.old.items }
+    requires terms { HasTerms context.now.bank.now terms.now }
+    requires term { HasTerm context.now.bank.now t }
+    ensures { OnOk result (Asks context.now.bank.now asked.new.items (asked_in context.now.bank.now asked.old.items ++ spec.asked_at_new (terms_at context.now.bank.now terms.now) (term_at context.now.bank.now t))) }
 {
-    match store_before(bank, t) {
+    match store_before(context.bank, t) {
         Some(s) => {
             ask(
-                alloc,
-                bank,
+                context.alloc,
+                context.bank,
                 asked,
                 Rule::True(RuleName::Fresh),
                 &[Argument::Number(1), Argument::Term(t)],
             )?;
-            ask_at_terms(alloc, bank, classes, asked, AtTerm::Owner(t, s), terms)
+            ask_at_terms(
+                context.alloc,
+                context.bank,
+                context.classes,
+                asked,
+                AtTerm::Owner(t, s),
+                terms,
+            )
         }
         None => Ok(()),
     }
@@ -56,21 +61,26 @@ fn ask_at_new(
 // A class name and each other one.
 #[tactic(auto, using(crate::proofs::Asking::nothing_asked))]
 fn ask_of_class(
-    alloc: Global,
-    bank: &Bank,
-    classes: &Classes,
+    context: &AskingContext<'_>,
     asked: &mut Vec<Asked>,
     terms: &[TermId],
     c: TermId,
 ) -> Result<(), AllocError>
-    requires bank { IsBankOf (view.classes classes.now) bank.now }
-    requires asked { HasAsked bank.now asked.old.items }
-    requires terms { HasTerms bank.now terms.now }
-    requires term { HasTerm bank.now c }
-    ensures { OnOk result (Asks bank.now asked.new.items (asked_in bank.now asked.old.items ++ spec.asked_of_class (terms_at bank.now terms.now) (term_at bank.now c))) }
+    requires bank { IsBankOf (view.classes context.now.classes.now) context.now.bank.now }
+    requires asked { HasAsked context.now.bank.now asked.old.items }
+    requires terms { HasTerms context.now.bank.now terms.now }
+    requires term { HasTerm context.now.bank.now c }
+    ensures { OnOk result (Asks context.now.bank.now asked.new.items (asked_in context.now.bank.now asked.old.items ++ spec.asked_of_class (terms_at context.now.bank.now terms.now) (term_at context.now.bank.now c))) }
 {
-    if is_class_name(bank, c) {
-        ask_at_terms(alloc, bank, classes, asked, AtTerm::OtherClass(c), terms)
+    if is_class_name(context.bank, c) {
+        ask_at_terms(
+            context.alloc,
+            context.bank,
+            context.classes,
+            asked,
+            AtTerm::OtherClass(c),
+            terms,
+        )
     } else {
         Ok(())
     }
@@ -78,42 +88,38 @@ fn ask_of_class(
 
 // At one term.
 fn ask_among(
-    alloc: Global,
-    bank: &Bank,
-    classes: &Classes,
+    context: &AskingContext<'_>,
     asked: &mut Vec<Asked>,
     sentence: Among,
     terms: &[TermId],
     t: TermId,
 ) -> Result<(), AllocError>
-    requires bank { IsBankOf (view.classes classes.now) bank.now }
-    requires asked { HasAsked bank.now asked.old.items }
-    requires terms { HasTerms bank.now terms.now }
-    requires term { HasTerm bank.now t }
-    ensures { OnOk result (Asks bank.now asked.new.items (asked_in bank.now asked.old.items ++ among sentence (terms_at bank.now terms.now) (term_at bank.now t))) }
+    requires bank { IsBankOf (view.classes context.now.classes.now) context.now.bank.now }
+    requires asked { HasAsked context.now.bank.now asked.old.items }
+    requires terms { HasTerms context.now.bank.now terms.now }
+    requires term { HasTerm context.now.bank.now t }
+    ensures { OnOk result (Asks context.now.bank.now asked.new.items (asked_in context.now.bank.now asked.old.items ++ among sentence (terms_at context.now.bank.now terms.now) (term_at context.now.bank.now t))) }
 {
     match sentence {
-        Among::New => ask_at_new(alloc, bank, classes, asked, terms, t),
-        Among::Class => ask_of_class(alloc, bank, classes, asked, terms, t),
+        Among::New => ask_at_new(context, asked, terms, t),
+        Among::Class => ask_of_class(context, asked, terms, t),
     }
 }
 
 /// At each term. An error is want of memory.
 pub(crate) fn ask_among_all(
-    alloc: Global,
-    bank: &Bank,
-    classes: &Classes,
+    context: &AskingContext<'_>,
     asked: &mut Vec<Asked>,
     sentence: Among,
     terms: &[TermId],
 ) -> Result<(), AllocError>
-    requires bank { IsBankOf (view.classes classes.now) bank.now }
-    requires asked { HasAsked bank.now asked.old.items }
-    requires terms { HasTerms bank.now terms.now }
-    ensures { OnOk result (Asks bank.now asked.new.items (asked_in bank.now asked.old.items ++ flat_map (among sentence (terms_at bank.now terms.now)) (terms_at bank.now terms.now))) }
+    requires bank { IsBankOf (view.classes context.now.classes.now) context.now.bank.now }
+    requires asked { HasAsked context.now.bank.now asked.old.items }
+    requires terms { HasTerms context.now.bank.now terms.now }
+    ensures { OnOk result (Asks context.now.bank.now asked.new.items (asked_in context.now.bank.now asked.old.items ++ flat_map (among sentence (terms_at context.now.bank.now terms.now)) (terms_at context.now.bank.now terms.now))) }
 {
     for t in terms {
-        ask_among(alloc, bank, classes, asked, sentence, terms, *t)?;
+        ask_among(context, asked, sentence, terms, *t)?;
     }
     Ok(())
 }

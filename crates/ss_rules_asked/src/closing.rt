@@ -9,6 +9,7 @@ ghost use Rattle.ss_rules_asked.specs.Readings.{reading_at, readings_at, HasRead
 
 use crate::among::{Among, ask_among_all};
 use crate::asked::Asked;
+use crate::context::AskingContext;
 use crate::couples::{ask_of_counts, ask_of_pairs};
 use crate::forms::{Reading, is_constant_store};
 use crate::gathered::{all_counts, pairs, readings, store_equations};
@@ -92,7 +93,12 @@ fn ask_about_stores(
     let reads = readings(alloc, bank, atoms, terms)?;
     ask_at_all_reads(alloc, bank, asked, atoms, &reads)?;
     ask_at_terms(alloc, bank, classes, asked, AtTerm::Next, terms)?;
-    ask_among_all(alloc, bank, classes, asked, Among::New, terms)
+    let context = AskingContext {
+        alloc,
+        bank,
+        classes,
+    };
+    ask_among_all(&context, asked, Among::New, terms)
 }
 
 // About classes.
@@ -111,7 +117,12 @@ fn ask_about_classes(
     ensures { OnOk result (Asks bank.now asked.new.items (asked_in bank.now asked.old.items ++ spec.asked_about_classes (formulas_at bank.now atoms.now) (terms_at bank.now terms.now))) }
 {
     let counts = all_counts(alloc, bank, atoms)?;
-    ask_among_all(alloc, bank, classes, asked, Among::Class, terms)?;
+    let context = AskingContext {
+        alloc,
+        bank,
+        classes,
+    };
+    ask_among_all(&context, asked, Among::Class, terms)?;
     ask_at_atoms(alloc, bank, asked, AtAtom::Count, atoms)?;
     ask_of_counts(alloc, bank, asked, &counts)?;
     ask_at_terms(alloc, bank, classes, asked, AtTerm::Itself, terms)

@@ -4,6 +4,7 @@
 mod among;
 mod asked;
 mod closing;
+mod context;
 mod couples;
 mod forms;
 mod gathered;

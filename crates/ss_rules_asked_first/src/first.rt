@@ -10,7 +10,7 @@ ghost use Rattle.ss_rules_asked_first.specs.Good as words;
 
 use crate::gathered::good_stores;
 use crate::goods::{Sentence, ask_by_sentences};
-use crate::near::gather;
+use crate::near::{AskingContext, gather};
 use ss_core::Classes;
 use ss_logic_rules::GoodRule;
 use ss_rules_asked::{Asked, AtAtom, AtTerm, ask_at_atoms, ask_at_terms};
@@ -42,7 +42,12 @@ fn ask_about_good(
         Sentence::Good(GoodRule::Typed),
         Sentence::Good(GoodRule::Ready),
     ];
-    ask_by_sentences(alloc, bank, &near, asked, &stores, &sentences)
+    let context = AskingContext {
+        alloc,
+        bank,
+        near: &near,
+    };
+    ask_by_sentences(&context, asked, &stores, &sentences)
 }
 
 /// What is asked for first in a round of a list with these atoms and terms. An error is want of memory.

@@ -25,7 +25,15 @@ pub(crate) struct Near {
     pub(crate) reads: Vec<Reading>,
 }
 
-/// Gathers it from the terms and atoms of a list. An error is want of memory.
+/// The context in which is asked: the bank, and what lies near its good stores.
+#[derive(Clone, Copy)]
+pub(crate) struct AskingContext<'a> {
+    pub(crate) alloc: Global,
+    pub(crate) bank: &'a Bank,
+    pub(crate) near: &'a Near,
+}
+
+/// Gathers what lies near from the terms and atoms of a list. An error is want of memory.
 pub(crate) fn gather(
     alloc: Global,
     bank: &Bank,

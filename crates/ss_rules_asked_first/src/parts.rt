@@ -7,6 +7,7 @@ ghost use Rattle.ss_rules_asked.specs.Readings.{others_at, HasOthers};
 ghost use Rattle.ss_rules_asked_first.specs.Named.{AreArguments};
 ghost use Rattle.ss_rules_asked_first.specs.Good.{owner_at, owners_at, HasOwner, HasOwners};
 
+use crate::near::AskingContext;
 use crate::owners::Owner;
 use ss_rules_asked::{Argument, Asked, Others, Rule, ask};
 use ss_terms::Bank;
@@ -54,106 +55,101 @@ fn joined(
 
 /// Asks for the instance at arguments from three places. An error is want of memory.
 pub(crate) fn ask_with(
-    alloc: Global,
-    bank: &Bank,
+    context: &AskingContext<'_>,
     asked: &mut Vec<Asked>,
     rule: Rule,
     first: &[Argument],
     middle: &[Argument],
     last: &[Argument],
 ) -> Result<(), AllocError>
-    requires asked { HasAsked bank.now asked.old.items }
-    requires rule { HasRule bank.now rule }
-    requires first { HasArguments bank.now first.now }
-    requires middle { HasArguments bank.now middle.now }
-    requires last { HasArguments bank.now last.now }
-    ensures { OnOk result (Asks bank.now asked.new.items (asked_in bank.now asked.old.items ++ asked_with (rule_at bank.now rule) (arguments_at bank.now first.now ++ arguments_at bank.now middle.now ++ arguments_at bank.now last.now) ∷ [])) }
+    requires asked { HasAsked context.now.bank.now asked.old.items }
+    requires rule { HasRule context.now.bank.now rule }
+    requires first { HasArguments context.now.bank.now first.now }
+    requires middle { HasArguments context.now.bank.now middle.now }
+    requires last { HasArguments context.now.bank.now last.now }
+    ensures { OnOk result (Asks context.now.bank.now asked.new.items (asked_in context.now.bank.now asked.old.items ++ asked_with (rule_at context.now.bank.now rule) (arguments_at context.now.bank.now first.now ++ arguments_at context.now.bank.now middle.now ++ arguments_at context.now.bank.now last.now) ∷ [])) }
 {
-    let all = joined(alloc, first, middle, last)?;
-    ask(alloc, bank, asked, rule, &all)
+    let all = joined(context.alloc, first, middle, last)?;
+    ask(context.alloc, context.bank, asked, rule, &all)
 }
 
 /// And from two. An error is want of memory.
 pub(crate) fn ask_short(
-    alloc: Global,
-    bank: &Bank,
+    context: &AskingContext<'_>,
     asked: &mut Vec<Asked>,
     rule: Rule,
     first: &[Argument],
     last: &[Argument],
 ) -> Result<(), AllocError>
-    requires asked { HasAsked bank.now asked.old.items }
-    requires rule { HasRule bank.now rule }
-    requires first { HasArguments bank.now first.now }
-    requires last { HasArguments bank.now last.now }
-    ensures { OnOk result (Asks bank.now asked.new.items (asked_in bank.now asked.old.items ++ asked_with (rule_at bank.now rule) (arguments_at bank.now first.now ++ arguments_at bank.now last.now) ∷ [])) }
+    requires asked { HasAsked context.now.bank.now asked.old.items }
+    requires rule { HasRule context.now.bank.now rule }
+    requires first { HasArguments context.now.bank.now first.now }
+    requires last { HasArguments context.now.bank.now last.now }
+    ensures { OnOk result (Asks context.now.bank.now asked.new.items (asked_in context.now.bank.now asked.old.items ++ asked_with (rule_at context.now.bank.now rule) (arguments_at context.now.bank.now first.now ++ arguments_at context.now.bank.now last.now) ∷ [])) }
 {
-    ask_with(alloc, bank, asked, rule, first, &[], last)
+    ask_with(context, asked, rule, first, &[], last)
 }
 
 /// At each of the last ones. An error is want of memory.
 pub(crate) fn ask_with_each(
-    alloc: Global,
-    bank: &Bank,
+    context: &AskingContext<'_>,
     asked: &mut Vec<Asked>,
     rule: Rule,
     first: &[Argument],
     middle: &[Argument],
     lasts: &[Argument],
 ) -> Result<(), AllocError>
-    requires asked { HasAsked bank.now asked.old.items }
-    requires rule { HasRule bank.now rule }
-    requires first { HasArguments bank.now first.now }
-    requires middle { HasArguments bank.now middle.now }
-    requires lasts { HasArguments bank.now lasts.now }
-    ensures { OnOk result (Asks bank.now asked.new.items (asked_in bank.now asked.old.items ++ map (λ t. asked_with (rule_at bank.now rule) (arguments_at bank.now first.now ++ arguments_at bank.now middle.now ++ t ∷ [])) (arguments_at bank.now lasts.now))) }
+    requires asked { HasAsked context.now.bank.now asked.old.items }
+    requires rule { HasRule context.now.bank.now rule }
+    requires first { HasArguments context.now.bank.now first.now }
+    requires middle { HasArguments context.now.bank.now middle.now }
+    requires lasts { HasArguments context.now.bank.now lasts.now }
+    ensures { OnOk result (Asks context.now.bank.now asked.new.items (asked_in context.now.bank.now asked.old.items ++ map (λ t. asked_with (rule_at context.now.bank.now rule) (arguments_at context.now.bank.now first.now ++ arguments_at context.now.bank.now middle.now ++ t ∷ [])) (arguments_at context.now.bank.now lasts.now))) }
 {
     for last in lasts {
-        ask_with(alloc, bank, asked, rule, first, middle, &[*last])?;
+        ask_with(context, asked, rule, first, middle, &[*last])?;
     }
     Ok(())
 }
 
 // At one owner.
 fn ask_with_owner(
-    alloc: Global,
-    bank: &Bank,
+    context: &AskingContext<'_>,
     asked: &mut Vec<Asked>,
     rule: Rule,
     first: &[Argument],
     middle: &[Argument],
     p: Owner,
 ) -> Result<(), AllocError>
-    requires asked { HasAsked bank.now asked.old.items }
-    requires rule { HasRule bank.now rule }
-    requires first { HasArguments bank.now first.now }
-    requires middle { HasArguments bank.now middle.now }
-    requires owner { HasOwner bank.now p }
-    ensures { OnOk result (Asks bank.now asked.new.items (asked_in bank.now asked.old.items ++ asked_with (rule_at bank.now rule) (arguments_at bank.now first.now ++ arguments_at bank.now middle.now ++ owner_at bank.now p) ∷ [])) }
+    requires asked { HasAsked context.now.bank.now asked.old.items }
+    requires rule { HasRule context.now.bank.now rule }
+    requires first { HasArguments context.now.bank.now first.now }
+    requires middle { HasArguments context.now.bank.now middle.now }
+    requires owner { HasOwner context.now.bank.now p }
+    ensures { OnOk result (Asks context.now.bank.now asked.new.items (asked_in context.now.bank.now asked.old.items ++ asked_with (rule_at context.now.bank.now rule) (arguments_at context.now.bank.now first.now ++ arguments_at context.now.bank.now middle.now ++ owner_at context.now.bank.now p) ∷ [])) }
 {
     let parts = [Argument::Term(p.object), Argument::Term(p.class)];
-    ask_with(alloc, bank, asked, rule, first, middle, &parts)
+    ask_with(context, asked, rule, first, middle, &parts)
 }
 
 /// At each owner. An error is want of memory.
 pub(crate) fn ask_with_owners(
-    alloc: Global,
-    bank: &Bank,
+    context: &AskingContext<'_>,
     asked: &mut Vec<Asked>,
     rule: Rule,
     first: &[Argument],
     middle: &[Argument],
     owners: &[Owner],
 ) -> Result<(), AllocError>
-    requires asked { HasAsked bank.now asked.old.items }
-    requires rule { HasRule bank.now rule }
-    requires first { HasArguments bank.now first.now }
-    requires middle { HasArguments bank.now middle.now }
-    requires owners { HasOwners bank.now owners.now }
-    ensures { OnOk result (Asks bank.now asked.new.items (asked_in bank.now asked.old.items ++ map (λ p. asked_with (rule_at bank.now rule) (arguments_at bank.now first.now ++ arguments_at bank.now middle.now ++ p)) (owners_at bank.now owners.now))) }
+    requires asked { HasAsked context.now.bank.now asked.old.items }
+    requires rule { HasRule context.now.bank.now rule }
+    requires first { HasArguments context.now.bank.now first.now }
+    requires middle { HasArguments context.now.bank.now middle.now }
+    requires owners { HasOwners context.now.bank.now owners.now }
+    ensures { OnOk result (Asks context.now.bank.now asked.new.items (asked_in context.now.bank.now asked.old.items ++ map (λ p. asked_with (rule_at context.now.bank.now rule) (arguments_at context.now.bank.now first.now ++ arguments_at context.now.bank.now middle.now ++ p)) (owners_at context.now.bank.now owners.now))) }
 {
     for p in owners {
-        ask_with_owner(alloc, bank, asked, rule, first, middle, *p)?;
+        ask_with_owner(context, asked, rule, first, middle, *p)?;
     }
     Ok(())
 }

@@ -12,7 +12,7 @@ use Rattle.ss_logic_ground.specs.Opened.{start}
 use Rattle.ss_terms.specs.declared.forms.FormulaId.{FormulaId}
 use Rattle.ss_terms.specs.Forms.{Forms, formula_at, formulas_at, HasFormulas, IsGrown}
 use Rattle.ss_terms.proofs.Grown.{formulas_at-grown}
-use Rattle.ss_terms.proofs.Parts.{AreBelow-get}
+use Rattle.ss_terms.proofs.Tested.{AreBelow-get}
 use Rattle.ss_rules_asked.specs.declared.asked.Asked.{Asked}
 use Rattle.ss_rules_asked.specs.Numbers.{Asks}
 use Rattle.ss_rules_occurring.specs.declared.found.FormulaList.{FormulaList}

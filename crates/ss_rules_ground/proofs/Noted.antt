@@ -17,7 +17,7 @@ use Rattle.ss_logic_occurring.proofs.Lists.{map_to}
 use Rattle.ss_logic_origins.proofs.Listed.{with_includes}
 use Rattle.ss_terms.specs.declared.forms.FormulaId.{FormulaId}
 use Rattle.ss_terms.specs.Forms.{Forms, formula_at, formulas_at, HasFormulas, IsGrown}
-use Rattle.ss_terms.proofs.Parts.{AreBelow-get}
+use Rattle.ss_terms.proofs.Tested.{AreBelow-get}
 use Rattle.ss_rules_occurring.specs.declared.found.FormulaList.{FormulaList}
 use Rattle.ss_rules_occurring.specs.Found.{formulas_of, Holds}
 use Rattle.ss_rules_origins.specs.declared.origins.Source.TheVariants as source

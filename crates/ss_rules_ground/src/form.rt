@@ -18,11 +18,12 @@ ghost use Rattle.ss_rules_origins.specs.Views.{ComeFrom, StillCome};
 ghost use Rattle.ss_rules_ground.specs.Comes.{Comes};
 ghost use Rattle.ss_rules_ground.specs.Grounds.{ground_at, grounded_at, start_source, HasGround, IsGrounded};
 
+use crate::context::GroundContext;
 use crate::rounds::closed_rounds;
 use ss_core::Classes;
 use ss_rules_occurring::FormulaList;
 use ss_rules_opened::{Choice, Started, start};
-use ss_rules_origins::{Origin, Source, add_from};
+use ss_rules_origins::{Origin, OriginList, Source, add_from};
 use ss_rules_said::Made;
 use ss_terms::{Bank, FormulaId};
 use std::alloc::{AllocError, Global};
@@ -47,11 +48,10 @@ pub struct Grounded {
     pub choices: Vec<Choice>,
 }
 
-// The list with which a ground form starts, where each formula comes from, and the choices.
+// The list with which a ground form starts, and the choices.
 #[derive(Drop)]
 struct Begun {
-    list: FormulaList,
-    origins: Vec<Origin>,
+    listed: OriginList,
     choices: Vec<Choice>,
 }
 
@@ -67,23 +67,20 @@ fn source_at(place: usize, count: usize) -> Source
 }
 
 // The formulas, each once, and where each comes from.
-fn each_once(
-    alloc: Global,
-    bank: &Bank,
-    fs: &[FormulaId],
-    origins: &mut Vec<Origin>,
-) -> Result<FormulaList, AllocError>
+fn each_once(alloc: Global, bank: &Bank, fs: &[FormulaId]) -> Result<OriginList, AllocError>
     requires { HasFormulas bank.now fs.now }
-    ensures list { IfOk result (λ list. Holds bank.now list (with_formulas [] (formulas_at bank.now fs.now))) }
-    ensures noted { IfOk result (λ list. (cs : List ClassTree) (premises : List logic.Formula) (goal : logic.Formula) (choices : List words.Choice) → origins.old.items ≡ [] → formulas_at bank.now fs.now ≡ map (words.opened_by choices) (premises ++ logic.neg goal ∷ []) → ComeFrom cs premises goal choices bank.now (formulas_of bank.now list) origins.new.items) }
+    ensures list { IfOk result (λ listed. Holds bank.now listed.list (with_formulas [] (formulas_at bank.now fs.now))) }
+    ensures noted { IfOk result (λ listed. (cs : List ClassTree) (premises : List logic.Formula) (goal : logic.Formula) (choices : List words.Choice) → formulas_at bank.now fs.now ≡ map (words.opened_by choices) (premises ++ logic.neg goal ∷ []) → ComeFrom cs premises goal choices bank.now (formulas_of bank.now listed.list) listed.origins.items) }
 {
-    let mut list = FormulaList::new(alloc, bank);
+    let list = FormulaList::new(alloc, bank);
+    let origins = Vec::new(alloc);
+    let mut listed = OriginList { list, origins };
     let count = fs.len();
     for place in 0..count {
         let source = source_at(place, count);
-        add_from(alloc, bank, &mut list, origins, fs[place], source, &[])?;
+        add_from(alloc, bank, &mut listed, fs[place], source, &[])?;
     }
-    Ok(list)
+    Ok(listed)
 }
 
 // What there is at the start.
@@ -97,19 +94,14 @@ fn begin(
     requires bank { IsBankOf (view.classes classes.now) bank.old }
     requires premises { HasFormulas bank.old premises.now }
     requires goal { HasFormula bank.old goal }
-    ensures at { IfOk result (λ r. Holds bank.new r.list (with_formulas [] (opened.start (formulas_at bank.old premises.now) (formula_at bank.old goal)))) }
-    ensures noted { IfOk result (λ r. IsGrounded (view.classes classes.now) (formulas_at bank.old premises.now) (formula_at bank.old goal) bank.new (formulas_of bank.new r.list) r.origins.items r.choices.items) }
+    ensures at { IfOk result (λ r. Holds bank.new r.listed.list (with_formulas [] (opened.start (formulas_at bank.old premises.now) (formula_at bank.old goal)))) }
+    ensures noted { IfOk result (λ r. IsGrounded (view.classes classes.now) (formulas_at bank.old premises.now) (formula_at bank.old goal) bank.new (formulas_of bank.new r.listed.list) r.listed.origins.items r.choices.items) }
     ensures grown { IsGrown bank.old bank.new }
 {
     let started = start(alloc, bank, classes, premises, goal)?;
     let Started { formulas, choices } = started;
-    let mut origins = Vec::new(alloc);
-    let list = each_once(alloc, bank, &formulas, &mut origins)?;
-    Ok(Begun {
-        list,
-        origins,
-        choices,
-    })
+    let listed = each_once(alloc, bank, &formulas)?;
+    Ok(Begun { listed, choices })
 }
 
 // The formulas alone.
@@ -145,23 +137,19 @@ fn go_on(
 ) -> Result<bool, AllocError>
     requires bank { IsBankOf (view.classes classes.now) bank.old }
     requires limits { IsWithinLimits (view.classes classes.now) }
-    requires list { HasFound bank.old begun.old.list }
-    ensures done { IfOk result (λ few. Comes bank.new few begun.new.list (option_and_then (rounds_of (view.classes classes.now) limit rounds) (closed (view.classes classes.now) limit (formulas_of bank.old begun.old.list)))) }
-    ensures noted { OnOk result (StillCome (view.classes classes.now) bank.old (formulas_of bank.old begun.old.list) begun.old.origins.items bank.new (formulas_of bank.new begun.new.list) begun.new.origins.items) }
+    requires list { HasFound bank.old begun.old.listed.list }
+    ensures done { IfOk result (λ few. Comes bank.new few begun.new.listed.list (option_and_then (rounds_of (view.classes classes.now) limit rounds) (closed (view.classes classes.now) limit (formulas_of bank.old begun.old.listed.list)))) }
+    ensures noted { OnOk result (StillCome (view.classes classes.now) bank.old (formulas_of bank.old begun.old.listed.list) begun.old.listed.origins.items bank.new (formulas_of bank.new begun.new.listed.list) begun.new.listed.origins.items) }
     ensures choices { begun.new.choices.items ≡ begun.old.choices.items }
     ensures grown { IsGrown bank.old bank.new }
 {
     let mut made = Made::new(alloc);
-    closed_rounds(
+    let context = GroundContext {
         alloc,
-        bank,
         classes,
-        &mut begun.list,
-        &mut begun.origins,
-        &mut made,
-        rounds,
         limit,
-    )
+    };
+    closed_rounds(&context, bank, &mut begun.listed, &mut made, rounds)
 }
 
 /// The ground form of an obligation after so many rounds, and where each formula of it comes from. None where it has more than `limit` formulas.
@@ -192,11 +180,8 @@ pub fn ground_with_origins(
     if !few {
         return Ok(None);
     }
-    let Begun {
-        list,
-        origins,
-        choices,
-    } = begun;
+    let Begun { listed, choices } = begun;
+    let OriginList { list, origins } = listed;
     let FormulaList { list, numbers } = list;
     drop(numbers);
     Ok(Some(Grounded {

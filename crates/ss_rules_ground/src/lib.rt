@@ -1,6 +1,7 @@
 //! The ground form of an obligation over the bank of terms and formulas over stores.
 #![tactic(auto)]
 
+mod context;
 mod form;
 mod rounds;
 

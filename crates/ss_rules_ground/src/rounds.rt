@@ -16,12 +16,13 @@ ghost use Rattle.ss_rules_occurring.specs.Found.{formulas_of, HasFound, Holds};
 ghost use Rattle.ss_rules_origins.specs.Views.{StillCome};
 ghost use Rattle.ss_rules_ground.specs.Comes.{Comes, IsClosed};
 
+use crate::context::GroundContext;
 use ss_core::Classes;
 use ss_rules_asked::{Asked, asked_to_close};
 use ss_rules_asked_first::asked_first;
 use ss_rules_matching::add_forall_instances;
 use ss_rules_occurring::{FormulaList, atoms, quantified, terms};
-use ss_rules_origins::Origin;
+use ss_rules_origins::OriginList;
 use ss_rules_said::{Made, add_said};
 use ss_terms::{Bank, FormulaId};
 use std::alloc::{AllocError, Global};
@@ -47,47 +48,44 @@ fn add_due(
     alloc: Global,
     bank: &mut Bank,
     classes: &Classes,
-    list: &mut FormulaList,
-    origins: &mut Vec<Origin>,
+    listed: &mut OriginList,
     made: &mut Made,
 ) -> Result<(), AllocError>
     requires bank { IsBankOf (view.classes classes.now) bank.old }
     requires limits { IsWithinLimits (view.classes classes.now) }
-    requires list { HasFound bank.old list.old }
+    requires list { HasFound bank.old listed.old.list }
     requires made { AreMade (view.classes classes.now) bank.old made.old }
-    ensures added { OnOk result (Holds bank.new list.new (with_formulas (formulas_of bank.old list.old) (spec.due (view.classes classes.now) (formulas_of bank.old list.old)))) }
-    ensures noted { OnOk result (StillCome (view.classes classes.now) bank.old (formulas_of bank.old list.old) origins.old.items bank.new (formulas_of bank.new list.new) origins.new.items) }
+    ensures added { OnOk result (Holds bank.new listed.new.list (with_formulas (formulas_of bank.old listed.old.list) (spec.due (view.classes classes.now) (formulas_of bank.old listed.old.list)))) }
+    ensures noted { OnOk result (StillCome (view.classes classes.now) bank.old (formulas_of bank.old listed.old.list) listed.old.origins.items bank.new (formulas_of bank.new listed.new.list) listed.new.origins.items) }
     ensures made { OnOk result (AreMade (view.classes classes.now) bank.new made.new) }
     ensures grown { IsGrown bank.old bank.new }
 {
-    let asked = due(alloc, bank, classes, list)?;
-    made.add_said(alloc, bank, classes, list, origins, asked)
+    let asked = due(alloc, bank, classes, &listed.list)?;
+    made.add_said(alloc, bank, classes, listed, asked)
 }
 
 /// Adds what is due again until nothing is new. Answers whether there are at most `limit` formulas.
 pub(crate) fn close(
-    alloc: Global,
+    context: &GroundContext<'_>,
     bank: &mut Bank,
-    classes: &Classes,
-    list: &mut FormulaList,
-    origins: &mut Vec<Origin>,
+    listed: &mut OriginList,
     made: &mut Made,
-    limit: usize,
 ) -> Result<bool, AllocError>
-    requires bank { IsBankOf (view.classes classes.now) bank.old }
-    requires limits { IsWithinLimits (view.classes classes.now) }
-    requires list { HasFound bank.old list.old }
-    requires made { AreMade (view.classes classes.now) bank.old made.old }
-    ensures closed { IfOk result (λ few. Comes bank.new few list.new (spec.closed (view.classes classes.now) limit (formulas_of bank.old list.old))) }
-    ensures noted { OnOk result (StillCome (view.classes classes.now) bank.old (formulas_of bank.old list.old) origins.old.items bank.new (formulas_of bank.new list.new) origins.new.items) }
-    ensures made { OnOk result (AreMade (view.classes classes.now) bank.new made.new) }
+    requires bank { IsBankOf (view.classes context.now.classes.now) bank.old }
+    requires limits { IsWithinLimits (view.classes context.now.classes.now) }
+    requires list { HasFound bank.old listed.old.list }
+    requires made { AreMade (view.classes context.now.classes.now) bank.old made.old }
+    ensures closed { IfOk result (λ few. Comes bank.new few listed.new.list (spec.closed (view.classes context.now.classes.now) context.now.limit (formulas_of bank.old listed.old.list))) }
+    ensures noted { OnOk result (StillCome (view.classes context.now.classes.now) bank.old (formulas_of bank.old listed.old.list) listed.old.origins.items bank.new (formulas_of bank.new listed.new.list) listed.new.origins.items) }
+    ensures made { OnOk result (AreMade (view.classes context.now.classes.now) bank.new made.new) }
     ensures grown { IsGrown bank.old bank.new }
 {
+    let limit = context.limit;
     for step in 0..limit {
         let _ = step;
-        let before = list.list.len();
-        add_due(alloc, bank, classes, list, origins, made)?;
-        let after = list.list.len();
+        let before = listed.list.list.len();
+        add_due(context.alloc, bank, context.classes, listed, made)?;
+        let after = listed.list.list.len();
         if after > limit {
             return Ok(false);
         }
@@ -120,77 +118,70 @@ fn add_first(
     alloc: Global,
     bank: &mut Bank,
     classes: &Classes,
-    list: &mut FormulaList,
-    origins: &mut Vec<Origin>,
+    listed: &mut OriginList,
 ) -> Result<(), AllocError>
     requires bank { IsBankOf (view.classes classes.now) bank.old }
     requires limits { IsWithinLimits (view.classes classes.now) }
-    requires list { HasFound bank.old list.old }
-    ensures added { OnOk result (Holds bank.new list.new (with_formulas (formulas_of bank.old list.old) (spec.first_step (view.classes classes.now) (formulas_of bank.old list.old)))) }
-    ensures noted { OnOk result (StillCome (view.classes classes.now) bank.old (formulas_of bank.old list.old) origins.old.items bank.new (formulas_of bank.new list.new) origins.new.items) }
+    requires list { HasFound bank.old listed.old.list }
+    ensures added { OnOk result (Holds bank.new listed.new.list (with_formulas (formulas_of bank.old listed.old.list) (spec.first_step (view.classes classes.now) (formulas_of bank.old listed.old.list)))) }
+    ensures noted { OnOk result (StillCome (view.classes classes.now) bank.old (formulas_of bank.old listed.old.list) listed.old.origins.items bank.new (formulas_of bank.new listed.new.list) listed.new.origins.items) }
     ensures grown { IsGrown bank.old bank.new }
 {
-    let asked = due_first(alloc, bank, classes, list)?;
-    add_said(alloc, bank, classes, list, origins, &asked)
+    let asked = due_first(alloc, bank, classes, &listed.list)?;
+    add_said(alloc, bank, classes, listed, &asked)
 }
 
 // Adds the instances of a quantified formula, and closes the list, which stays closed where nothing is new.
 fn at_forall(
-    alloc: Global,
+    context: &GroundContext<'_>,
     bank: &mut Bank,
-    classes: &Classes,
-    list: &mut FormulaList,
-    origins: &mut Vec<Origin>,
+    listed: &mut OriginList,
     made: &mut Made,
     f: FormulaId,
-    limit: usize,
 ) -> Result<bool, AllocError>
-    requires bank { IsBankOf (view.classes classes.now) bank.old }
-    requires limits { IsWithinLimits (view.classes classes.now) }
-    requires list { HasFound bank.old list.old }
-    requires made { AreMade (view.classes classes.now) bank.old made.old }
-    requires was_closed { IsClosed (view.classes classes.now) limit (formulas_of bank.old list.old) }
+    requires bank { IsBankOf (view.classes context.now.classes.now) bank.old }
+    requires limits { IsWithinLimits (view.classes context.now.classes.now) }
+    requires list { HasFound bank.old listed.old.list }
+    requires made { AreMade (view.classes context.now.classes.now) bank.old made.old }
+    requires was_closed { IsClosed (view.classes context.now.classes.now) context.now.limit (formulas_of bank.old listed.old.list) }
     requires formula { HasFormula bank.old f }
-    ensures closed { IfOk result (λ few. Comes bank.new few list.new (spec.closed (view.classes classes.now) limit (with_formulas (formulas_of bank.old list.old) (forall_instances (formulas_of bank.old list.old) (formula_at bank.old f))))) }
-    ensures noted { OnOk result (Contains (occurring.quantified (formulas_of bank.old list.old)) (formula_at bank.old f) → StillCome (view.classes classes.now) bank.old (formulas_of bank.old list.old) origins.old.items bank.new (formulas_of bank.new list.new) origins.new.items) }
-    ensures made { OnOk result (AreMade (view.classes classes.now) bank.new made.new) }
+    ensures closed { IfOk result (λ few. Comes bank.new few listed.new.list (spec.closed (view.classes context.now.classes.now) context.now.limit (with_formulas (formulas_of bank.old listed.old.list) (forall_instances (formulas_of bank.old listed.old.list) (formula_at bank.old f))))) }
+    ensures noted { OnOk result (Contains (occurring.quantified (formulas_of bank.old listed.old.list)) (formula_at bank.old f) → StillCome (view.classes context.now.classes.now) bank.old (formulas_of bank.old listed.old.list) listed.old.origins.items bank.new (formulas_of bank.new listed.new.list) listed.new.origins.items) }
+    ensures made { OnOk result (AreMade (view.classes context.now.classes.now) bank.new made.new) }
     ensures grown { IsGrown bank.old bank.new }
 {
-    let before = list.list.len();
-    add_forall_instances(alloc, bank, classes, list, origins, f)?;
-    let after = list.list.len();
+    let before = listed.list.list.len();
+    add_forall_instances(context.alloc, bank, context.classes, listed, f)?;
+    let after = listed.list.list.len();
     if after == before {
         return Ok(true);
     }
-    close(alloc, bank, classes, list, origins, made, limit)
+    close(context, bank, listed, made)
 }
 
 // Does so with each of them, from the last to the first.
 fn at_foralls(
-    alloc: Global,
+    context: &GroundContext<'_>,
     bank: &mut Bank,
-    classes: &Classes,
-    list: &mut FormulaList,
-    origins: &mut Vec<Origin>,
+    listed: &mut OriginList,
     made: &mut Made,
     fs: &[FormulaId],
-    limit: usize,
 ) -> Result<bool, AllocError>
-    requires bank { IsBankOf (view.classes classes.now) bank.old }
-    requires limits { IsWithinLimits (view.classes classes.now) }
-    requires list { HasFound bank.old list.old }
-    requires made { AreMade (view.classes classes.now) bank.old made.old }
-    requires was_closed { IsClosed (view.classes classes.now) limit (formulas_of bank.old list.old) }
+    requires bank { IsBankOf (view.classes context.now.classes.now) bank.old }
+    requires limits { IsWithinLimits (view.classes context.now.classes.now) }
+    requires list { HasFound bank.old listed.old.list }
+    requires made { AreMade (view.classes context.now.classes.now) bank.old made.old }
+    requires was_closed { IsClosed (view.classes context.now.classes.now) context.now.limit (formulas_of bank.old listed.old.list) }
     requires formulas { HasFormulas bank.old fs.now }
-    ensures closed { IfOk result (λ few. Comes bank.new few list.new (spec.foralls_step (view.classes classes.now) limit (reverse (formulas_at bank.old fs.now)) (formulas_of bank.old list.old))) }
-    ensures noted { OnOk result (Includes (occurring.quantified (formulas_of bank.old list.old)) (formulas_at bank.old fs.now) → StillCome (view.classes classes.now) bank.old (formulas_of bank.old list.old) origins.old.items bank.new (formulas_of bank.new list.new) origins.new.items) }
-    ensures made { OnOk result (AreMade (view.classes classes.now) bank.new made.new) }
+    ensures closed { IfOk result (λ few. Comes bank.new few listed.new.list (spec.foralls_step (view.classes context.now.classes.now) context.now.limit (reverse (formulas_at bank.old fs.now)) (formulas_of bank.old listed.old.list))) }
+    ensures noted { OnOk result (Includes (occurring.quantified (formulas_of bank.old listed.old.list)) (formulas_at bank.old fs.now) → StillCome (view.classes context.now.classes.now) bank.old (formulas_of bank.old listed.old.list) listed.old.origins.items bank.new (formulas_of bank.new listed.new.list) listed.new.origins.items) }
+    ensures made { OnOk result (AreMade (view.classes context.now.classes.now) bank.new made.new) }
     ensures grown { IsGrown bank.old bank.new }
 {
     let mut i = fs.len();
     while i > 0 {
         i -= 1;
-        let few = at_forall(alloc, bank, classes, list, origins, made, fs[i], limit)?;
+        let few = at_forall(context, bank, listed, made, fs[i])?;
         if !few {
             return Ok(false);
         }
@@ -200,110 +191,89 @@ fn at_foralls(
 
 // Adds the first instances of a round and closes the list.
 fn first(
-    alloc: Global,
+    context: &GroundContext<'_>,
     bank: &mut Bank,
-    classes: &Classes,
-    list: &mut FormulaList,
-    origins: &mut Vec<Origin>,
+    listed: &mut OriginList,
     made: &mut Made,
-    limit: usize,
 ) -> Result<bool, AllocError>
-    requires bank { IsBankOf (view.classes classes.now) bank.old }
-    requires limits { IsWithinLimits (view.classes classes.now) }
-    requires list { HasFound bank.old list.old }
-    requires made { AreMade (view.classes classes.now) bank.old made.old }
-    ensures closed { IfOk result (λ few. Comes bank.new few list.new (spec.closed (view.classes classes.now) limit (with_formulas (formulas_of bank.old list.old) (spec.first_step (view.classes classes.now) (formulas_of bank.old list.old))))) }
-    ensures noted { OnOk result (StillCome (view.classes classes.now) bank.old (formulas_of bank.old list.old) origins.old.items bank.new (formulas_of bank.new list.new) origins.new.items) }
-    ensures made { OnOk result (AreMade (view.classes classes.now) bank.new made.new) }
+    requires bank { IsBankOf (view.classes context.now.classes.now) bank.old }
+    requires limits { IsWithinLimits (view.classes context.now.classes.now) }
+    requires list { HasFound bank.old listed.old.list }
+    requires made { AreMade (view.classes context.now.classes.now) bank.old made.old }
+    ensures closed { IfOk result (λ few. Comes bank.new few listed.new.list (spec.closed (view.classes context.now.classes.now) context.now.limit (with_formulas (formulas_of bank.old listed.old.list) (spec.first_step (view.classes context.now.classes.now) (formulas_of bank.old listed.old.list))))) }
+    ensures noted { OnOk result (StillCome (view.classes context.now.classes.now) bank.old (formulas_of bank.old listed.old.list) listed.old.origins.items bank.new (formulas_of bank.new listed.new.list) listed.new.origins.items) }
+    ensures made { OnOk result (AreMade (view.classes context.now.classes.now) bank.new made.new) }
     ensures grown { IsGrown bank.old bank.new }
 {
-    add_first(alloc, bank, classes, list, origins)?;
-    close(alloc, bank, classes, list, origins, made, limit)
+    add_first(context.alloc, bank, context.classes, listed)?;
+    close(context, bank, listed, made)
 }
 
 // Does a round, of which these are the quantified formulas.
 fn round_with(
-    alloc: Global,
+    context: &GroundContext<'_>,
     bank: &mut Bank,
-    classes: &Classes,
-    list: &mut FormulaList,
-    origins: &mut Vec<Origin>,
+    listed: &mut OriginList,
     made: &mut Made,
     fs: &[FormulaId],
-    limit: usize,
 ) -> Result<bool, AllocError>
-    requires bank { IsBankOf (view.classes classes.now) bank.old }
-    requires limits { IsWithinLimits (view.classes classes.now) }
-    requires list { HasFound bank.old list.old }
-    requires made { AreMade (view.classes classes.now) bank.old made.old }
+    requires bank { IsBankOf (view.classes context.now.classes.now) bank.old }
+    requires limits { IsWithinLimits (view.classes context.now.classes.now) }
+    requires list { HasFound bank.old listed.old.list }
+    requires made { AreMade (view.classes context.now.classes.now) bank.old made.old }
     requires formulas { HasFormulas bank.old fs.now }
-    ensures done { IfOk result (λ few. Comes bank.new few list.new (option_and_then (spec.foralls_step (view.classes classes.now) limit (reverse (formulas_at bank.old fs.now))) (spec.closed (view.classes classes.now) limit (with_formulas (formulas_of bank.old list.old) (spec.first_step (view.classes classes.now) (formulas_of bank.old list.old)))))) }
-    ensures noted { OnOk result (Includes (occurring.quantified (formulas_of bank.old list.old)) (formulas_at bank.old fs.now) → StillCome (view.classes classes.now) bank.old (formulas_of bank.old list.old) origins.old.items bank.new (formulas_of bank.new list.new) origins.new.items) }
-    ensures made { OnOk result (AreMade (view.classes classes.now) bank.new made.new) }
+    ensures done { IfOk result (λ few. Comes bank.new few listed.new.list (option_and_then (spec.foralls_step (view.classes context.now.classes.now) context.now.limit (reverse (formulas_at bank.old fs.now))) (spec.closed (view.classes context.now.classes.now) context.now.limit (with_formulas (formulas_of bank.old listed.old.list) (spec.first_step (view.classes context.now.classes.now) (formulas_of bank.old listed.old.list)))))) }
+    ensures noted { OnOk result (Includes (occurring.quantified (formulas_of bank.old listed.old.list)) (formulas_at bank.old fs.now) → StillCome (view.classes context.now.classes.now) bank.old (formulas_of bank.old listed.old.list) listed.old.origins.items bank.new (formulas_of bank.new listed.new.list) listed.new.origins.items) }
+    ensures made { OnOk result (AreMade (view.classes context.now.classes.now) bank.new made.new) }
     ensures grown { IsGrown bank.old bank.new }
 {
-    let few = first(alloc, bank, classes, list, origins, made, limit)?;
+    let few = first(context, bank, listed, made)?;
     if !few {
         return Ok(false);
     }
-    at_foralls(alloc, bank, classes, list, origins, made, fs, limit)
+    at_foralls(context, bank, listed, made, fs)
 }
 
 // Does a round.
 fn round(
-    alloc: Global,
+    context: &GroundContext<'_>,
     bank: &mut Bank,
-    classes: &Classes,
-    list: &mut FormulaList,
-    origins: &mut Vec<Origin>,
+    listed: &mut OriginList,
     made: &mut Made,
-    limit: usize,
 ) -> Result<bool, AllocError>
-    requires bank { IsBankOf (view.classes classes.now) bank.old }
-    requires limits { IsWithinLimits (view.classes classes.now) }
-    requires list { HasFound bank.old list.old }
-    requires made { AreMade (view.classes classes.now) bank.old made.old }
-    ensures done { IfOk result (λ few. Comes bank.new few list.new (spec.round (view.classes classes.now) limit (formulas_of bank.old list.old))) }
-    ensures noted { OnOk result (StillCome (view.classes classes.now) bank.old (formulas_of bank.old list.old) origins.old.items bank.new (formulas_of bank.new list.new) origins.new.items) }
-    ensures made { OnOk result (AreMade (view.classes classes.now) bank.new made.new) }
+    requires bank { IsBankOf (view.classes context.now.classes.now) bank.old }
+    requires limits { IsWithinLimits (view.classes context.now.classes.now) }
+    requires list { HasFound bank.old listed.old.list }
+    requires made { AreMade (view.classes context.now.classes.now) bank.old made.old }
+    ensures done { IfOk result (λ few. Comes bank.new few listed.new.list (spec.round (view.classes context.now.classes.now) context.now.limit (formulas_of bank.old listed.old.list))) }
+    ensures noted { OnOk result (StillCome (view.classes context.now.classes.now) bank.old (formulas_of bank.old listed.old.list) listed.old.origins.items bank.new (formulas_of bank.new listed.new.list) listed.new.origins.items) }
+    ensures made { OnOk result (AreMade (view.classes context.now.classes.now) bank.new made.new) }
     ensures grown { IsGrown bank.old bank.new }
 {
-    let found = quantified(alloc, bank, &list.list)?;
-    round_with(
-        alloc,
-        bank,
-        classes,
-        list,
-        origins,
-        made,
-        &found.list,
-        limit,
-    )
+    let found = quantified(context.alloc, bank, &listed.list.list)?;
+    round_with(context, bank, listed, made, &found.list)
 }
 
 // Does so many rounds.
 fn rounds(
-    alloc: Global,
+    context: &GroundContext<'_>,
     bank: &mut Bank,
-    classes: &Classes,
-    list: &mut FormulaList,
-    origins: &mut Vec<Origin>,
+    listed: &mut OriginList,
     made: &mut Made,
     count: usize,
-    limit: usize,
 ) -> Result<bool, AllocError>
-    requires bank { IsBankOf (view.classes classes.now) bank.old }
-    requires limits { IsWithinLimits (view.classes classes.now) }
-    requires list { HasFound bank.old list.old }
-    requires made { AreMade (view.classes classes.now) bank.old made.old }
-    ensures done { IfOk result (λ few. Comes bank.new few list.new (spec.rounds_of (view.classes classes.now) limit count (formulas_of bank.old list.old))) }
-    ensures noted { OnOk result (StillCome (view.classes classes.now) bank.old (formulas_of bank.old list.old) origins.old.items bank.new (formulas_of bank.new list.new) origins.new.items) }
-    ensures made { OnOk result (AreMade (view.classes classes.now) bank.new made.new) }
+    requires bank { IsBankOf (view.classes context.now.classes.now) bank.old }
+    requires limits { IsWithinLimits (view.classes context.now.classes.now) }
+    requires list { HasFound bank.old listed.old.list }
+    requires made { AreMade (view.classes context.now.classes.now) bank.old made.old }
+    ensures done { IfOk result (λ few. Comes bank.new few listed.new.list (spec.rounds_of (view.classes context.now.classes.now) context.now.limit count (formulas_of bank.old listed.old.list))) }
+    ensures noted { OnOk result (StillCome (view.classes context.now.classes.now) bank.old (formulas_of bank.old listed.old.list) listed.old.origins.items bank.new (formulas_of bank.new listed.new.list) listed.new.origins.items) }
+    ensures made { OnOk result (AreMade (view.classes context.now.classes.now) bank.new made.new) }
     ensures grown { IsGrown bank.old bank.new }
 {
     for number in 0..count {
         let _ = number;
-        let few = round(alloc, bank, classes, list, origins, made, limit)?;
+        let few = round(context, bank, listed, made)?;
         if !few {
             return Ok(false);
         }
@@ -313,27 +283,24 @@ fn rounds(
 
 /// Closes a list and does so many rounds. Answers whether there were never more than `limit` formulas.
 pub(crate) fn closed_rounds(
-    alloc: Global,
+    context: &GroundContext<'_>,
     bank: &mut Bank,
-    classes: &Classes,
-    list: &mut FormulaList,
-    origins: &mut Vec<Origin>,
+    listed: &mut OriginList,
     made: &mut Made,
     count: usize,
-    limit: usize,
 ) -> Result<bool, AllocError>
-    requires bank { IsBankOf (view.classes classes.now) bank.old }
-    requires limits { IsWithinLimits (view.classes classes.now) }
-    requires list { HasFound bank.old list.old }
-    requires made { AreMade (view.classes classes.now) bank.old made.old }
-    ensures done { IfOk result (λ few. Comes bank.new few list.new (option_and_then (spec.rounds_of (view.classes classes.now) limit count) (spec.closed (view.classes classes.now) limit (formulas_of bank.old list.old)))) }
-    ensures noted { OnOk result (StillCome (view.classes classes.now) bank.old (formulas_of bank.old list.old) origins.old.items bank.new (formulas_of bank.new list.new) origins.new.items) }
-    ensures made { OnOk result (AreMade (view.classes classes.now) bank.new made.new) }
+    requires bank { IsBankOf (view.classes context.now.classes.now) bank.old }
+    requires limits { IsWithinLimits (view.classes context.now.classes.now) }
+    requires list { HasFound bank.old listed.old.list }
+    requires made { AreMade (view.classes context.now.classes.now) bank.old made.old }
+    ensures done { IfOk result (λ few. Comes bank.new few listed.new.list (option_and_then (spec.rounds_of (view.classes context.now.classes.now) context.now.limit count) (spec.closed (view.classes context.now.classes.now) context.now.limit (formulas_of bank.old listed.old.list)))) }
+    ensures noted { OnOk result (StillCome (view.classes context.now.classes.now) bank.old (formulas_of bank.old listed.old.list) listed.old.origins.items bank.new (formulas_of bank.new listed.new.list) listed.new.origins.items) }
+    ensures made { OnOk result (AreMade (view.classes context.now.classes.now) bank.new made.new) }
     ensures grown { IsGrown bank.old bank.new }
 {
-    let few = close(alloc, bank, classes, list, origins, made, limit)?;
+    let few = close(context, bank, listed, made)?;
     if !few {
         return Ok(false);
     }
-    rounds(alloc, bank, classes, list, origins, made, count, limit)
+    rounds(context, bank, listed, made, count)
 }

@@ -9,7 +9,7 @@ ghost use Rattle.ss_logic_rules.specs.Reads.{look_from, look_of, look_of_one, lo
 ghost use Rattle.ss_terms.specs.Forms.{Forms, term_at, terms_at, HasTerm, HasTerms, IsBankOf};
 ghost use Rattle.ss_rules_looks.specs.Looks.{look_in, HasLook, IsLookOf, fitting};
 
-use ss_core::{ClassId, Classes, FieldId, Mark, Ty};
+use ss_core::{Classes, FieldId, Mark, Ty};
 use ss_logic::Sort;
 use ss_rules_basic::natural;
 use ss_terms::{Bank, TermId};
@@ -96,6 +96,31 @@ pub fn field_named(b: &Bank, classes: &Classes, t: TermId) -> Option<u32>
 ghost use Rattle.ss_logic_rules.specs.Shapes.{natural_of};
 ghost use Rattle.ss_rules_looks.specs.Looks.{existing};
 
+// Whether the program of the bank has the field.
+fn is_field_of(b: &Bank, classes: &Classes, f: u32) -> bool
+    requires { IsBankOf (view.classes classes.now) b.now }
+    ensures { result ≡ has_field (view.classes classes.now) f }
+{
+    let _ = classes;
+    b.is_field(f)
+}
+
+// The number of a field, where the program of the bank has the field that the literal names. No class is looked at.
+fn field_of_bank(b: &Bank, classes: &Classes, t: TermId) -> Option<u32>
+    requires bank { IsBankOf (view.classes classes.now) b.now }
+    requires term { HasTerm b.now t }
+    requires fields { length (all_fields (view.classes classes.now)) ≤ 2 ^ 32 }
+    ensures { result ≡ existing (view.classes classes.now) (natural_of (term_at b.now t)) }
+{
+    let n = natural(b, t)?;
+    let f = u32::try_from(n).ok()?;
+    if is_field_of(b, classes, f) {
+        Some(f)
+    } else {
+        None
+    }
+}
+
 // The read of this number with no argument.
 fn bare_look(number: u128) -> Option<Look>
     ensures { (b : Forms) → IsLookOf b result (look_of number []) }
@@ -166,16 +191,16 @@ ghost use Rattle.ss_rules_looks.specs.Looks.{look_sorted};
 
 // The read of a field or an element.
 fn pair_look(b: &Bank, classes: &Classes, number: u128, o: TermId, x: TermId) -> Option<Look>
+    requires bank { IsBankOf (view.classes classes.now) b.now }
     requires object { HasTerm b.now o }
     requires other { HasTerm b.now x }
-    requires classes { length (view.classes classes.now) ≤ most_classes }
     requires fields { length (all_fields (view.classes classes.now)) ≤ 2 ^ 32 }
     ensures { IsLookOf b.now result (with_field (view.classes classes.now) (look_of_two number (term_at b.now o) (term_at b.now x))) }
 {
     if number != 0 {
         return element_look(number, o, x);
     }
-    match field_named(b, classes, x) {
+    match field_of_bank(b, classes, x) {
         Some(f) => Some(Look::Field(o, f)),
         None => None,
     }
@@ -185,8 +210,8 @@ ghost use Rattle.ss_rules_looks.specs.Looks.{with_field};
 
 // The read of this number, where the program has its field.
 fn numbered_look(b: &Bank, classes: &Classes, number: u128, arguments: &[TermId]) -> Option<Look>
+    requires bank { IsBankOf (view.classes classes.now) b.now }
     requires arguments { HasTerms b.now arguments.now }
-    requires classes { length (view.classes classes.now) ≤ most_classes }
     requires fields { length (all_fields (view.classes classes.now)) ≤ 2 ^ 32 }
     ensures { IsLookOf b.now result (with_field (view.classes classes.now) (look_of number (terms_at b.now arguments.now))) }
 {

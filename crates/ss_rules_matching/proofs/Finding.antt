@@ -9,6 +9,7 @@ use Rattle.ss_core.specs.Tree.{ClassTree}
 use Rattle.ss_logic.specs.Terms.{Symbol, Term, Bound, App, Terms, no_terms, term_then, terms_from, takes, sorts_of, is_well_sorted, are_well_sorted}
 use Rattle.ss_logic.specs.Equal.{same_term, same_symbol, equal_terms, same_term_equal, equal_symbols, symbols_discrete, answer_from}
 use Rattle.ss_logic_ground.specs.Matching as spec
+use Rattle.ss_terms.specs.Lists.{SmallVec}
 use Rattle.ss_terms.specs.declared.forms.TermId.{TermId}
 use Rattle.ss_terms.specs.declared.forms.Symbol as form
 use Rattle.ss_terms.specs.declared.forms.Term.TheVariants.{App as AppForm}
@@ -280,7 +281,7 @@ ok_these (Err z) b x y e h = tt
 
 -- ---- arguments of a term of the bank
 
-pub arguments_there : (b : Forms) (t : TermId) (f : form.Symbol) (v : Vec TermId Global) (ts : List TermId) → ts ≡ v.items → HasTerm b t → IsTermForm b t (AppForm f v) → HasTerms b ts
+pub arguments_there : (b : Forms) (t : TermId) (f : form.Symbol) (v : SmallVec TermId) (ts : List TermId) → ts ≡ v.items → HasTerm b t → IsTermForm b t (AppForm f v) → HasTerms b ts
 arguments_there b t f v ts e h n = subst (HasTerms b) (sym e) (AreTermsBelow-more t.0 (length b.terms) (omega (arith, h)) v.items n.below)
 
 pub these_same : (b : Forms) (r : Option (Vec TermId Global)) (x y : Option (List Term)) → x ≡ y → AreThese b r x → AreThese b r y

@@ -13,9 +13,8 @@ ghost use Rattle.ss_rules_matching.specs.Matches.{tuples_at, HasTuples, places, 
 
 use crate::places::{Tuple, places};
 use ss_core::Classes;
-use ss_logic::Sort;
-use ss_rules_occurring::FormulaList;
-use ss_rules_origins::{Origin, Source, add_from};
+use ss_rules_occurring::QuantifiedFormula;
+use ss_rules_origins::{OriginList, Source, add_from};
 use ss_terms::{Bank, Formula, FormulaId, TermId};
 use ss_terms_puts::put;
 use std::alloc::{AllocError, Global};
@@ -46,24 +45,22 @@ fn add_instance(
     alloc: Global,
     bank: &mut Bank,
     classes: &Classes,
-    list: &mut FormulaList,
-    origins: &mut Vec<Origin>,
-    whole: FormulaId,
-    body: FormulaId,
+    listed: &mut OriginList,
+    formula: &QuantifiedFormula<'_>,
     ts: &[TermId],
 ) -> Result<(), AllocError>
     requires bank { IsBankOf (view.classes classes.now) bank.old }
-    requires list { HasFound bank.old list.old }
-    requires whole { HasFormula bank.old whole }
-    requires body { HasFormula bank.old body }
+    requires list { HasFound bank.old listed.old.list }
+    requires whole { HasFormula bank.old formula.now.whole }
+    requires body { HasFormula bank.old formula.now.body }
     requires terms { HasTerms bank.old ts.now }
-    ensures added { OnOk result (Holds bank.new list.new (with_formula (formulas_of bank.old list.old) (instance_there (formula_at bank.old whole) (formula_at bank.old body) (terms_at bank.old ts.now)))) }
-    ensures noted { OnOk result (IsInstance (view.classes classes.now) (formulas_of bank.old list.old) (formula_at bank.old whole) (terms_at bank.old ts.now) (instance_there (formula_at bank.old whole) (formula_at bank.old body) (terms_at bank.old ts.now)) → StillCome (view.classes classes.now) bank.old (formulas_of bank.old list.old) origins.old.items bank.new (formulas_of bank.new list.new) origins.new.items) }
+    ensures added { OnOk result (Holds bank.new listed.new.list (with_formula (formulas_of bank.old listed.old.list) (instance_there (formula_at bank.old formula.now.whole) (formula_at bank.old formula.now.body) (terms_at bank.old ts.now)))) }
+    ensures noted { OnOk result (IsInstance (view.classes classes.now) (formulas_of bank.old listed.old.list) (formula_at bank.old formula.now.whole) (terms_at bank.old ts.now) (instance_there (formula_at bank.old formula.now.whole) (formula_at bank.old formula.now.body) (terms_at bank.old ts.now)) → StillCome (view.classes classes.now) bank.old (formulas_of bank.old listed.old.list) listed.old.origins.items bank.new (formulas_of bank.new listed.new.list) listed.new.origins.items) }
     ensures grown { IsGrown bank.old bank.new }
 {
-    let f = instance(alloc, bank, classes, whole, body, ts)?;
-    let source = Source::Forall(whole);
-    add_from(alloc, bank, list, origins, f, source, ts)
+    let f = instance(alloc, bank, classes, formula.whole, formula.body, ts)?;
+    let source = Source::Forall(formula.whole);
+    add_from(alloc, bank, listed, f, source, ts)
 }
 
 // Adds those at each place.
@@ -71,32 +68,21 @@ fn add_instances(
     alloc: Global,
     bank: &mut Bank,
     classes: &Classes,
-    list: &mut FormulaList,
-    origins: &mut Vec<Origin>,
-    whole: FormulaId,
-    body: FormulaId,
+    listed: &mut OriginList,
+    formula: &QuantifiedFormula<'_>,
     places: &[Tuple],
 ) -> Result<(), AllocError>
     requires bank { IsBankOf (view.classes classes.now) bank.old }
-    requires list { HasFound bank.old list.old }
-    requires whole { HasFormula bank.old whole }
-    requires body { HasFormula bank.old body }
+    requires list { HasFound bank.old listed.old.list }
+    requires whole { HasFormula bank.old formula.now.whole }
+    requires body { HasFormula bank.old formula.now.body }
     requires places { HasTuples bank.old places.now }
-    ensures added { OnOk result (Holds bank.new list.new (with_formulas (formulas_of bank.old list.old) (map (instance_there (formula_at bank.old whole) (formula_at bank.old body)) (tuples_at bank.old places.now)))) }
-    ensures noted { OnOk result (AreInstances (view.classes classes.now) (formulas_of bank.old list.old) (formula_at bank.old whole) (formula_at bank.old body) (tuples_at bank.old places.now) → StillCome (view.classes classes.now) bank.old (formulas_of bank.old list.old) origins.old.items bank.new (formulas_of bank.new list.new) origins.new.items) }
+    ensures added { OnOk result (Holds bank.new listed.new.list (with_formulas (formulas_of bank.old listed.old.list) (map (instance_there (formula_at bank.old formula.now.whole) (formula_at bank.old formula.now.body)) (tuples_at bank.old places.now)))) }
+    ensures noted { OnOk result (AreInstances (view.classes classes.now) (formulas_of bank.old listed.old.list) (formula_at bank.old formula.now.whole) (formula_at bank.old formula.now.body) (tuples_at bank.old places.now) → StillCome (view.classes classes.now) bank.old (formulas_of bank.old listed.old.list) listed.old.origins.items bank.new (formulas_of bank.new listed.new.list) listed.new.origins.items) }
     ensures grown { IsGrown bank.old bank.new }
 {
     for place in places {
-        add_instance(
-            alloc,
-            bank,
-            classes,
-            list,
-            origins,
-            whole,
-            body,
-            &place.terms,
-        )?;
+        add_instance(alloc, bank, classes, listed, formula, &place.terms)?;
     }
     Ok(())
 }
@@ -106,22 +92,26 @@ fn add_at_places(
     alloc: Global,
     bank: &mut Bank,
     classes: &Classes,
-    list: &mut FormulaList,
-    origins: &mut Vec<Origin>,
-    whole: FormulaId,
-    sorts: &[Sort],
-    body: FormulaId,
+    listed: &mut OriginList,
+    formula: &QuantifiedFormula<'_>,
 ) -> Result<(), AllocError>
     requires bank { IsBankOf (view.classes classes.now) bank.old }
-    requires list { HasFound bank.old list.old }
-    requires whole { HasFormula bank.old whole }
-    requires body { HasFormula bank.old body }
-    ensures added { OnOk result (Holds bank.new list.new (with_formulas (formulas_of bank.old list.old) (map (instance_there (formula_at bank.old whole) (formula_at bank.old body)) (places (formulas_of bank.old list.old) sorts.now (formula_at bank.old body))))) }
-    ensures noted { OnOk result (AreInstances (view.classes classes.now) (formulas_of bank.old list.old) (formula_at bank.old whole) (formula_at bank.old body) (places (formulas_of bank.old list.old) sorts.now (formula_at bank.old body)) → StillCome (view.classes classes.now) bank.old (formulas_of bank.old list.old) origins.old.items bank.new (formulas_of bank.new list.new) origins.new.items) }
+    requires list { HasFound bank.old listed.old.list }
+    requires whole { HasFormula bank.old formula.now.whole }
+    requires body { HasFormula bank.old formula.now.body }
+    ensures added { OnOk result (Holds bank.new listed.new.list (with_formulas (formulas_of bank.old listed.old.list) (map (instance_there (formula_at bank.old formula.now.whole) (formula_at bank.old formula.now.body)) (places (formulas_of bank.old listed.old.list) formula.now.sorts.now (formula_at bank.old formula.now.body))))) }
+    ensures noted { OnOk result (AreInstances (view.classes classes.now) (formulas_of bank.old listed.old.list) (formula_at bank.old formula.now.whole) (formula_at bank.old formula.now.body) (places (formulas_of bank.old listed.old.list) formula.now.sorts.now (formula_at bank.old formula.now.body)) → StillCome (view.classes classes.now) bank.old (formulas_of bank.old listed.old.list) listed.old.origins.items bank.new (formulas_of bank.new listed.new.list) listed.new.origins.items) }
     ensures grown { IsGrown bank.old bank.new }
 {
-    let found = places(alloc, bank, classes, &list.list, sorts, body)?;
-    add_instances(alloc, bank, classes, list, origins, whole, body, &found)
+    let found = places(
+        alloc,
+        bank,
+        classes,
+        &listed.list.list,
+        formula.sorts,
+        formula.body,
+    )?;
+    add_instances(alloc, bank, classes, listed, formula, &found)
 }
 
 /// Adds the instances of a formula at the terms of the list, where it is a `forall`, and notes of what they are instances. An error is want
@@ -130,22 +120,26 @@ pub fn add_forall_instances(
     alloc: Global,
     bank: &mut Bank,
     classes: &Classes,
-    list: &mut FormulaList,
-    origins: &mut Vec<Origin>,
+    listed: &mut OriginList,
     f: FormulaId,
 ) -> Result<(), AllocError>
     requires bank { IsBankOf (view.classes classes.now) bank.old }
-    requires list { HasFound bank.old list.old }
+    requires list { HasFound bank.old listed.old.list }
     requires formula { HasFormula bank.old f }
-    ensures added { OnOk result (Holds bank.new list.new (with_formulas (formulas_of bank.old list.old) (forall_instances (formulas_of bank.old list.old) (formula_at bank.old f)))) }
-    ensures noted { OnOk result (Contains (quantified (formulas_of bank.old list.old)) (formula_at bank.old f) → StillCome (view.classes classes.now) bank.old (formulas_of bank.old list.old) origins.old.items bank.new (formulas_of bank.new list.new) origins.new.items) }
+    ensures added { OnOk result (Holds bank.new listed.new.list (with_formulas (formulas_of bank.old listed.old.list) (forall_instances (formulas_of bank.old listed.old.list) (formula_at bank.old f)))) }
+    ensures noted { OnOk result (Contains (quantified (formulas_of bank.old listed.old.list)) (formula_at bank.old f) → StillCome (view.classes classes.now) bank.old (formulas_of bank.old listed.old.list) listed.old.origins.items bank.new (formulas_of bank.new listed.new.list) listed.new.origins.items) }
     ensures grown { IsGrown bank.old bank.new }
 {
     match bank.formula_node(f) {
         Formula::Forall(sorts, body) => {
             let body = *body;
             let sorts = Vec::from_slice(alloc, sorts)?;
-            add_at_places(alloc, bank, classes, list, origins, f, &sorts, body)
+            let formula = QuantifiedFormula {
+                whole: f,
+                sorts: &sorts,
+                body,
+            };
+            add_at_places(alloc, bank, classes, listed, &formula)
         }
         _ => Ok(()),
     }

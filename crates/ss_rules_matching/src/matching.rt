@@ -13,6 +13,15 @@ use ss_core::Classes;
 use ss_terms::{Bank, Formula, FormulaId, Predicate, Symbol, Term, TermId};
 use std::alloc::{AllocError, Global};
 
+/// The context in which terms and atoms are matched: the bank of these classes, and how many bound names patterns have.
+#[derive(Clone, Copy)]
+pub(crate) struct MatchingContext<'a> {
+    pub(crate) alloc: Global,
+    pub(crate) bank: &'a Bank,
+    pub(crate) classes: &'a Classes,
+    pub(crate) count: usize,
+}
+
 fn is_same_function(f: Symbol, g: Symbol) -> bool
     ensures { result ≡ same_symbol (symbol_of f) (symbol_of g) }
 {
@@ -46,51 +55,49 @@ fn with_found(bank: &Bank, found: &mut [Option<TermId>], k: usize, t: TermId) ->
 // Whether the pattern is the term, where terms stand for its bound names. One without bound names isn't walked.
 #[cycle(matching)]
 fn matched(
-    bank: &Bank,
-    classes: &Classes,
+    context: &MatchingContext<'_>,
     found: &mut [Option<TermId>],
     pattern: TermId,
     t: TermId,
 ) -> bool
-    requires bank { IsBankOf (view.classes classes.now) bank.now }
-    requires found { HasAllFound bank.now found.old }
-    requires pattern { HasTerm bank.now pattern }
-    requires term { HasTerm bank.now t }
-    ensures { IsMatch bank.now result found.new (spec.matched (all_found_at bank.now found.old) (term_at bank.now pattern) (term_at bank.now t)) }
+    requires bank { IsBankOf (view.classes context.now.classes.now) context.now.bank.now }
+    requires found { HasAllFound context.now.bank.now found.old }
+    requires pattern { HasTerm context.now.bank.now pattern }
+    requires term { HasTerm context.now.bank.now t }
+    ensures { IsMatch context.now.bank.now result found.new (spec.matched (all_found_at context.now.bank.now found.old) (term_at context.now.bank.now pattern) (term_at context.now.bank.now t)) }
 {
-    if bank.is_well_sorted(pattern) {
-        return bank.is_same_term(pattern, t);
+    if context.bank.is_well_sorted(pattern) {
+        return context.bank.is_same_term(pattern, t);
     }
-    match bank.term_node(pattern) {
-        Term::Bound(k) => with_found(bank, found, *k, t),
-        Term::App(f, ts) => matched_at(bank, classes, found, *f, ts, t, pattern.0),
+    match context.bank.term_node(pattern) {
+        Term::Bound(k) => with_found(context.bank, found, *k, t),
+        Term::App(f, ts) => matched_at(context, found, *f, ts, t, pattern.0),
     }
 }
 
 // Whether a function at patterns below a number is the term.
 #[cycle(matching)]
 fn matched_at(
-    bank: &Bank,
-    classes: &Classes,
+    context: &MatchingContext<'_>,
     found: &mut [Option<TermId>],
     f: Symbol,
     patterns: &[TermId],
     t: TermId,
     bound: usize,
 ) -> bool
-    requires bank { IsBankOf (view.classes classes.now) bank.now }
-    requires found { HasAllFound bank.now found.old }
+    requires bank { IsBankOf (view.classes context.now.classes.now) context.now.bank.now }
+    requires found { HasAllFound context.now.bank.now found.old }
     requires below { AreTermsBelow bound patterns.now }
-    requires in_bank { bound ≤ length bank.now.terms }
-    requires term { HasTerm bank.now t }
-    ensures { IsMatch bank.now result found.new (spec.matched (all_found_at bank.now found.old) (App (symbol_of f) (terms_from (terms_at bank.now patterns.now))) (term_at bank.now t)) }
+    requires in_bank { bound ≤ length context.now.bank.now.terms }
+    requires term { HasTerm context.now.bank.now t }
+    ensures { IsMatch context.now.bank.now result found.new (spec.matched (all_found_at context.now.bank.now found.old) (App (symbol_of f) (terms_from (terms_at context.now.bank.now patterns.now))) (term_at context.now.bank.now t)) }
 {
-    match bank.term_node(t) {
+    match context.bank.term_node(t) {
         Term::App(g, us) => {
             if !is_same_function(f, *g) {
                 return false;
             }
-            all_matched(bank, classes, found, patterns, us, bound)
+            all_matched(context, found, patterns, us, bound)
         }
         Term::Bound(_) => false,
     }
@@ -99,25 +106,24 @@ fn matched_at(
 // Whether patterns below a number are the terms, one by one.
 #[cycle(matching)]
 fn all_matched(
-    bank: &Bank,
-    classes: &Classes,
+    context: &MatchingContext<'_>,
     found: &mut [Option<TermId>],
     patterns: &[TermId],
     ts: &[TermId],
     bound: usize,
 ) -> bool
-    requires bank { IsBankOf (view.classes classes.now) bank.now }
-    requires found { HasAllFound bank.now found.old }
+    requires bank { IsBankOf (view.classes context.now.classes.now) context.now.bank.now }
+    requires found { HasAllFound context.now.bank.now found.old }
     requires below { AreTermsBelow bound patterns.now }
-    requires in_bank { bound ≤ length bank.now.terms }
-    requires terms { HasTerms bank.now ts.now }
-    ensures { IsMatch bank.now result found.new (spec.all_matched (all_found_at bank.now found.old) (terms_from (terms_at bank.now patterns.now)) (terms_from (terms_at bank.now ts.now))) }
+    requires in_bank { bound ≤ length context.now.bank.now.terms }
+    requires terms { HasTerms context.now.bank.now ts.now }
+    ensures { IsMatch context.now.bank.now result found.new (spec.all_matched (all_found_at context.now.bank.now found.old) (terms_from (terms_at context.now.bank.now patterns.now)) (terms_from (terms_at context.now.bank.now ts.now))) }
 {
     if patterns.len() != ts.len() {
         return false;
     }
     for i in 0..patterns.len() {
-        if !matched(bank, classes, found, patterns[i], ts[i]) {
+        if !matched(context, found, patterns[i], ts[i]) {
             return false;
         }
     }
@@ -158,64 +164,55 @@ fn nothing_found(alloc: Global, count: usize) -> Result<Vec<Option<TermId>>, All
 
 /// The terms that stand for the first bound names of the pattern, where it is the term. An error is want of memory.
 pub(crate) fn match_term(
-    alloc: Global,
-    bank: &Bank,
-    classes: &Classes,
-    count: usize,
+    context: &MatchingContext<'_>,
     pattern: TermId,
     t: TermId,
 ) -> Result<Option<Vec<TermId>>, AllocError>
-    requires bank { IsBankOf (view.classes classes.now) bank.now }
-    requires pattern { HasTerm bank.now pattern }
-    requires term { HasTerm bank.now t }
-    ensures { IfOk result (λ r. AreThese bank.now r (spec.match_term count (term_at bank.now pattern) (term_at bank.now t))) }
+    requires bank { IsBankOf (view.classes context.now.classes.now) context.now.bank.now }
+    requires pattern { HasTerm context.now.bank.now pattern }
+    requires term { HasTerm context.now.bank.now t }
+    ensures { IfOk result (λ r. AreThese context.now.bank.now r (spec.match_term context.now.count (term_at context.now.bank.now pattern) (term_at context.now.bank.now t))) }
 {
-    let mut found = nothing_found(alloc, count)?;
-    if !matched(bank, classes, &mut found, pattern, t) {
+    let mut found = nothing_found(context.alloc, context.count)?;
+    if !matched(context, &mut found, pattern, t) {
         return Ok(None);
     }
-    all_found(alloc, bank, &found)
+    all_found(context.alloc, context.bank, &found)
 }
 
 // And those for which patterns are the terms, one by one.
 fn match_terms(
-    alloc: Global,
-    bank: &Bank,
-    classes: &Classes,
-    count: usize,
+    context: &MatchingContext<'_>,
     patterns: &[TermId],
     ts: &[TermId],
 ) -> Result<Option<Vec<TermId>>, AllocError>
-    requires bank { IsBankOf (view.classes classes.now) bank.now }
-    requires patterns { HasTerms bank.now patterns.now }
-    requires terms { HasTerms bank.now ts.now }
-    ensures { IfOk result (λ r. AreThese bank.now r (option_and_then spec.all_found (spec.all_matched (replicate count None) (terms_from (terms_at bank.now patterns.now)) (terms_from (terms_at bank.now ts.now))))) }
+    requires bank { IsBankOf (view.classes context.now.classes.now) context.now.bank.now }
+    requires patterns { HasTerms context.now.bank.now patterns.now }
+    requires terms { HasTerms context.now.bank.now ts.now }
+    ensures { IfOk result (λ r. AreThese context.now.bank.now r (option_and_then spec.all_found (spec.all_matched (replicate context.now.count None) (terms_from (terms_at context.now.bank.now patterns.now)) (terms_from (terms_at context.now.bank.now ts.now))))) }
 {
-    let mut found = nothing_found(alloc, count)?;
-    if !all_matched(bank, classes, &mut found, patterns, ts, bank.term_count()) {
+    let mut found = nothing_found(context.alloc, context.count)?;
+    if !all_matched(context, &mut found, patterns, ts, context.bank.term_count()) {
         return Ok(None);
     }
-    all_found(alloc, bank, &found)
+    all_found(context.alloc, context.bank, &found)
 }
 
 // For which an atom of patterns is the atom.
 fn match_atom_of(
-    alloc: Global,
-    bank: &Bank,
-    classes: &Classes,
-    count: usize,
+    context: &MatchingContext<'_>,
     holds: bool,
     predicate: Predicate,
     patterns: &[TermId],
     f: FormulaId,
 ) -> Result<Option<Vec<TermId>>, AllocError>
-    requires bank { IsBankOf (view.classes classes.now) bank.now }
-    requires patterns { HasTerms bank.now patterns.now }
-    requires formula { HasFormula bank.now f }
-    ensures { IfOk result (λ r. AreThese bank.now r (spec.match_atom count (Literal holds (predicate_of predicate) (terms_from (terms_at bank.now patterns.now))) (formula_at bank.now f))) }
+    requires bank { IsBankOf (view.classes context.now.classes.now) context.now.bank.now }
+    requires patterns { HasTerms context.now.bank.now patterns.now }
+    requires formula { HasFormula context.now.bank.now f }
+    ensures { IfOk result (λ r. AreThese context.now.bank.now r (spec.match_atom context.now.count (Literal holds (predicate_of predicate) (terms_from (terms_at context.now.bank.now patterns.now))) (formula_at context.now.bank.now f))) }
 {
     let _ = holds;
-    match bank.formula_node(f) {
+    match context.bank.formula_node(f) {
         Formula::Literal {
             predicate: other,
             arguments,
@@ -224,7 +221,7 @@ fn match_atom_of(
             if !is_same_predicate(predicate, *other) {
                 return Ok(None);
             }
-            match_terms(alloc, bank, classes, count, patterns, arguments)
+            match_terms(context, patterns, arguments)
         }
         _ => Ok(None),
     }
@@ -232,26 +229,21 @@ fn match_atom_of(
 
 /// The terms that stand for the first bound names of a pattern, where its atom is that of the formula. An error is want of memory.
 pub(crate) fn match_atom(
-    alloc: Global,
-    bank: &Bank,
-    classes: &Classes,
-    count: usize,
+    context: &MatchingContext<'_>,
     pattern: FormulaId,
     f: FormulaId,
 ) -> Result<Option<Vec<TermId>>, AllocError>
-    requires bank { IsBankOf (view.classes classes.now) bank.now }
-    requires pattern { HasFormula bank.now pattern }
-    requires formula { HasFormula bank.now f }
-    ensures { IfOk result (λ r. AreThese bank.now r (spec.match_atom count (formula_at bank.now pattern) (formula_at bank.now f))) }
+    requires bank { IsBankOf (view.classes context.now.classes.now) context.now.bank.now }
+    requires pattern { HasFormula context.now.bank.now pattern }
+    requires formula { HasFormula context.now.bank.now f }
+    ensures { IfOk result (λ r. AreThese context.now.bank.now r (spec.match_atom context.now.count (formula_at context.now.bank.now pattern) (formula_at context.now.bank.now f))) }
 {
-    match bank.formula_node(pattern) {
+    match context.bank.formula_node(pattern) {
         Formula::Literal {
             holds,
             predicate,
             arguments,
-        } => match_atom_of(
-            alloc, bank, classes, count, *holds, *predicate, arguments, f,
-        ),
+        } => match_atom_of(context, *holds, *predicate, arguments, f),
         _ => Ok(None),
     }
 }

@@ -8,7 +8,7 @@ ghost use Rattle.ss_terms.specs.Forms.{term_at, terms_at, formula_at, formulas_a
 ghost use Rattle.ss_rules_matching.specs.Matches as words;
 ghost use Rattle.ss_rules_matching.specs.Matches.{tuples_at, HasTuples, AreTuples};
 
-use crate::matching::{match_atom, match_term};
+use crate::matching::{MatchingContext, match_atom, match_term};
 use crate::triggers::{Wanted, atom_triggers, wanted_everywhere};
 use ss_core::Classes;
 use ss_logic::Sort;
@@ -20,6 +20,13 @@ use std::alloc::{AllocError, Global};
 #[derive(Drop)]
 pub(crate) struct Tuple {
     pub(crate) terms: Vec<TermId>,
+}
+
+// The triggers of a body: the terms and the atoms that are matched.
+#[derive(Clone, Copy)]
+struct Triggers<'a> {
+    terms: &'a [TermId],
+    atoms: &'a [FormulaId],
 }
 
 // Adds terms, if there are any.
@@ -45,143 +52,114 @@ fn add_tuple(
 // ---- at the terms and atoms that match
 
 fn add_at_term(
-    alloc: Global,
-    bank: &Bank,
-    classes: &Classes,
-    count: usize,
+    context: &MatchingContext<'_>,
     tuples: &mut Vec<Tuple>,
     patterns: &[TermId],
     t: TermId,
 ) -> Result<(), AllocError>
-    requires bank { IsBankOf (view.classes classes.now) bank.now }
-    requires tuples { HasTuples bank.now tuples.old.items }
-    requires patterns { HasTerms bank.now patterns.now }
-    requires term { HasTerm bank.now t }
-    ensures { OnOk result (AreTuples bank.now tuples.new.items (tuples_at bank.now tuples.old.items ++ filter_map (λ p. spec.match_term count p (term_at bank.now t)) (terms_at bank.now patterns.now))) }
+    requires bank { IsBankOf (view.classes context.now.classes.now) context.now.bank.now }
+    requires tuples { HasTuples context.now.bank.now tuples.old.items }
+    requires patterns { HasTerms context.now.bank.now patterns.now }
+    requires term { HasTerm context.now.bank.now t }
+    ensures { OnOk result (AreTuples context.now.bank.now tuples.new.items (tuples_at context.now.bank.now tuples.old.items ++ filter_map (λ p. spec.match_term context.now.count p (term_at context.now.bank.now t)) (terms_at context.now.bank.now patterns.now))) }
 {
     for p in patterns {
-        let found = match_term(alloc, bank, classes, count, *p, t)?;
-        add_tuple(bank, tuples, found)?;
+        let found = match_term(context, *p, t)?;
+        add_tuple(context.bank, tuples, found)?;
     }
     Ok(())
 }
 
 fn add_at_terms(
-    alloc: Global,
-    bank: &Bank,
-    classes: &Classes,
-    count: usize,
+    context: &MatchingContext<'_>,
     tuples: &mut Vec<Tuple>,
     patterns: &[TermId],
     ts: &[TermId],
 ) -> Result<(), AllocError>
-    requires bank { IsBankOf (view.classes classes.now) bank.now }
-    requires tuples { HasTuples bank.now tuples.old.items }
-    requires patterns { HasTerms bank.now patterns.now }
-    requires terms { HasTerms bank.now ts.now }
-    ensures { OnOk result (AreTuples bank.now tuples.new.items (tuples_at bank.now tuples.old.items ++ flat_map (λ t. filter_map (λ p. spec.match_term count p t) (terms_at bank.now patterns.now)) (terms_at bank.now ts.now))) }
+    requires bank { IsBankOf (view.classes context.now.classes.now) context.now.bank.now }
+    requires tuples { HasTuples context.now.bank.now tuples.old.items }
+    requires patterns { HasTerms context.now.bank.now patterns.now }
+    requires terms { HasTerms context.now.bank.now ts.now }
+    ensures { OnOk result (AreTuples context.now.bank.now tuples.new.items (tuples_at context.now.bank.now tuples.old.items ++ flat_map (λ t. filter_map (λ p. spec.match_term context.now.count p t) (terms_at context.now.bank.now patterns.now)) (terms_at context.now.bank.now ts.now))) }
 {
     for t in ts {
-        add_at_term(alloc, bank, classes, count, tuples, patterns, *t)?;
+        add_at_term(context, tuples, patterns, *t)?;
     }
     Ok(())
 }
 
 fn add_at_atom(
-    alloc: Global,
-    bank: &Bank,
-    classes: &Classes,
-    count: usize,
+    context: &MatchingContext<'_>,
     tuples: &mut Vec<Tuple>,
     patterns: &[FormulaId],
     f: FormulaId,
 ) -> Result<(), AllocError>
-    requires bank { IsBankOf (view.classes classes.now) bank.now }
-    requires tuples { HasTuples bank.now tuples.old.items }
-    requires patterns { HasFormulas bank.now patterns.now }
-    requires formula { HasFormula bank.now f }
-    ensures { OnOk result (AreTuples bank.now tuples.new.items (tuples_at bank.now tuples.old.items ++ filter_map (λ p. spec.match_atom count p (formula_at bank.now f)) (formulas_at bank.now patterns.now))) }
+    requires bank { IsBankOf (view.classes context.now.classes.now) context.now.bank.now }
+    requires tuples { HasTuples context.now.bank.now tuples.old.items }
+    requires patterns { HasFormulas context.now.bank.now patterns.now }
+    requires formula { HasFormula context.now.bank.now f }
+    ensures { OnOk result (AreTuples context.now.bank.now tuples.new.items (tuples_at context.now.bank.now tuples.old.items ++ filter_map (λ p. spec.match_atom context.now.count p (formula_at context.now.bank.now f)) (formulas_at context.now.bank.now patterns.now))) }
 {
     for p in patterns {
-        let found = match_atom(alloc, bank, classes, count, *p, f)?;
-        add_tuple(bank, tuples, found)?;
+        let found = match_atom(context, *p, f)?;
+        add_tuple(context.bank, tuples, found)?;
     }
     Ok(())
 }
 
 fn add_at_atoms(
-    alloc: Global,
-    bank: &Bank,
-    classes: &Classes,
-    count: usize,
+    context: &MatchingContext<'_>,
     tuples: &mut Vec<Tuple>,
     patterns: &[FormulaId],
     fs: &[FormulaId],
 ) -> Result<(), AllocError>
-    requires bank { IsBankOf (view.classes classes.now) bank.now }
-    requires tuples { HasTuples bank.now tuples.old.items }
-    requires patterns { HasFormulas bank.now patterns.now }
-    requires formulas { HasFormulas bank.now fs.now }
-    ensures { OnOk result (AreTuples bank.now tuples.new.items (tuples_at bank.now tuples.old.items ++ flat_map (λ f. filter_map (λ p. spec.match_atom count p f) (formulas_at bank.now patterns.now)) (formulas_at bank.now fs.now))) }
+    requires bank { IsBankOf (view.classes context.now.classes.now) context.now.bank.now }
+    requires tuples { HasTuples context.now.bank.now tuples.old.items }
+    requires patterns { HasFormulas context.now.bank.now patterns.now }
+    requires formulas { HasFormulas context.now.bank.now fs.now }
+    ensures { OnOk result (AreTuples context.now.bank.now tuples.new.items (tuples_at context.now.bank.now tuples.old.items ++ flat_map (λ f. filter_map (λ p. spec.match_atom context.now.count p f) (formulas_at context.now.bank.now patterns.now)) (formulas_at context.now.bank.now fs.now))) }
 {
     for f in fs {
-        add_at_atom(alloc, bank, classes, count, tuples, patterns, *f)?;
+        add_at_atom(context, tuples, patterns, *f)?;
     }
     Ok(())
 }
 
 // Of these terms and atoms.
 fn matches(
-    alloc: Global,
-    bank: &Bank,
-    classes: &Classes,
-    count: usize,
-    for_terms: &[TermId],
-    for_atoms: &[FormulaId],
+    context: &MatchingContext<'_>,
+    triggers: &Triggers<'_>,
     ts: &[TermId],
     fs: &[FormulaId],
 ) -> Result<Vec<Tuple>, AllocError>
-    requires bank { IsBankOf (view.classes classes.now) bank.now }
-    requires for_terms { HasTerms bank.now for_terms.now }
-    requires for_atoms { HasFormulas bank.now for_atoms.now }
-    requires terms { HasTerms bank.now ts.now }
-    requires formulas { HasFormulas bank.now fs.now }
-    ensures { IfOk result (λ v. AreTuples bank.now v.items (flat_map (λ t. filter_map (λ p. spec.match_term count p t) (terms_at bank.now for_terms.now)) (terms_at bank.now ts.now) ++ flat_map (λ f. filter_map (λ p. spec.match_atom count p f) (formulas_at bank.now for_atoms.now)) (formulas_at bank.now fs.now))) }
+    requires bank { IsBankOf (view.classes context.now.classes.now) context.now.bank.now }
+    requires for_terms { HasTerms context.now.bank.now triggers.now.terms.now }
+    requires for_atoms { HasFormulas context.now.bank.now triggers.now.atoms.now }
+    requires terms { HasTerms context.now.bank.now ts.now }
+    requires formulas { HasFormulas context.now.bank.now fs.now }
+    ensures { IfOk result (λ v. AreTuples context.now.bank.now v.items (flat_map (λ t. filter_map (λ p. spec.match_term context.now.count p t) (terms_at context.now.bank.now triggers.now.terms.now)) (terms_at context.now.bank.now ts.now) ++ flat_map (λ f. filter_map (λ p. spec.match_atom context.now.count p f) (formulas_at context.now.bank.now triggers.now.atoms.now)) (formulas_at context.now.bank.now fs.now))) }
 {
-    let mut tuples = Vec::new(alloc);
-    add_at_terms(alloc, bank, classes, count, &mut tuples, for_terms, ts)?;
-    add_at_atoms(alloc, bank, classes, count, &mut tuples, for_atoms, fs)?;
+    let mut tuples = Vec::new(context.alloc);
+    add_at_terms(context, &mut tuples, triggers.terms, ts)?;
+    add_at_atoms(context, &mut tuples, triggers.atoms, fs)?;
     Ok(tuples)
 }
 
 // Of those of a list.
 fn match_places(
-    alloc: Global,
-    bank: &Bank,
-    classes: &Classes,
-    count: usize,
-    for_terms: &[TermId],
-    for_atoms: &[FormulaId],
+    context: &MatchingContext<'_>,
+    triggers: &Triggers<'_>,
     fs: &[FormulaId],
 ) -> Result<Vec<Tuple>, AllocError>
-    requires bank { IsBankOf (view.classes classes.now) bank.now }
-    requires for_terms { HasTerms bank.now for_terms.now }
-    requires for_atoms { HasFormulas bank.now for_atoms.now }
-    requires formulas { HasFormulas bank.now fs.now }
-    ensures { IfOk result (λ v. AreTuples bank.now v.items (words.match_places count (terms_at bank.now for_terms.now) (formulas_at bank.now for_atoms.now) (formulas_at bank.now fs.now))) }
+    requires bank { IsBankOf (view.classes context.now.classes.now) context.now.bank.now }
+    requires for_terms { HasTerms context.now.bank.now triggers.now.terms.now }
+    requires for_atoms { HasFormulas context.now.bank.now triggers.now.atoms.now }
+    requires formulas { HasFormulas context.now.bank.now fs.now }
+    ensures { IfOk result (λ v. AreTuples context.now.bank.now v.items (words.match_places context.now.count (terms_at context.now.bank.now triggers.now.terms.now) (formulas_at context.now.bank.now triggers.now.atoms.now) (formulas_at context.now.bank.now fs.now))) }
 {
-    let atoms = atoms(alloc, bank, fs)?;
-    let terms = terms(alloc, bank, &atoms.list)?;
-    matches(
-        alloc,
-        bank,
-        classes,
-        count,
-        for_terms,
-        for_atoms,
-        &terms.list,
-        &atoms.list,
-    )
+    let atoms = atoms(context.alloc, context.bank, fs)?;
+    let terms = terms(context.alloc, context.bank, &atoms.list)?;
+    matches(context, triggers, &terms.list, &atoms.list)
 }
 
 // ---- at whole numbers
@@ -254,10 +232,10 @@ fn no_formula(bank: &Bank, fs: &[FormulaId]) -> bool
 }
 
 // Whether there is no trigger for the one whole number.
-fn is_counted(bank: &Bank, sorts: &[Sort], for_terms: &[TermId], for_atoms: &[FormulaId]) -> bool
-    ensures { result ≡ (ask.is_empty (terms_at bank.now for_terms.now) && ask.is_empty (formulas_at bank.now for_atoms.now) && spec.is_one_whole sorts.now) }
+fn is_counted(bank: &Bank, sorts: &[Sort], triggers: &Triggers<'_>) -> bool
+    ensures { result ≡ (ask.is_empty (terms_at bank.now triggers.now.terms.now) && ask.is_empty (formulas_at bank.now triggers.now.atoms.now) && spec.is_one_whole sorts.now) }
 {
-    no_term(bank, for_terms) && no_formula(bank, for_atoms) && is_one_whole(sorts)
+    no_term(bank, triggers.terms) && no_formula(bank, triggers.atoms) && is_one_whole(sorts)
 }
 
 // By these triggers.
@@ -267,19 +245,24 @@ fn places_by(
     classes: &Classes,
     fs: &[FormulaId],
     sorts: &[Sort],
-    for_terms: &[TermId],
-    for_atoms: &[FormulaId],
+    triggers: &Triggers<'_>,
 ) -> Result<Vec<Tuple>, AllocError>
     requires bank { IsBankOf (view.classes classes.now) bank.now }
-    requires for_terms { HasTerms bank.now for_terms.now }
-    requires for_atoms { HasFormulas bank.now for_atoms.now }
+    requires for_terms { HasTerms bank.now triggers.now.terms.now }
+    requires for_atoms { HasFormulas bank.now triggers.now.atoms.now }
     requires formulas { HasFormulas bank.now fs.now }
-    ensures { IfOk result (λ v. AreTuples bank.now v.items (words.places_by (formulas_at bank.now fs.now) sorts.now (terms_at bank.now for_terms.now) (formulas_at bank.now for_atoms.now))) }
+    ensures { IfOk result (λ v. AreTuples bank.now v.items (words.places_by (formulas_at bank.now fs.now) sorts.now (terms_at bank.now triggers.now.terms.now) (formulas_at bank.now triggers.now.atoms.now))) }
 {
-    if is_counted(bank, sorts, for_terms, for_atoms) {
+    if is_counted(bank, sorts, triggers) {
         return number_places(alloc, bank, fs);
     }
-    match_places(alloc, bank, classes, sorts.len(), for_terms, for_atoms, fs)
+    let context = MatchingContext {
+        alloc,
+        bank,
+        classes,
+        count: sorts.len(),
+    };
+    match_places(&context, triggers, fs)
 }
 
 /// The terms of a list that stand in place of the bound names of a `forall`. An error is want of memory.
@@ -299,5 +282,9 @@ pub(crate) fn places(
     let count = sorts.len();
     let for_terms = wanted_everywhere(alloc, bank, Wanted::Trigger(count), &[body])?;
     let for_atoms = atom_triggers(alloc, bank, count, body)?;
-    places_by(alloc, bank, classes, fs, sorts, &for_terms, &for_atoms)
+    let triggers = Triggers {
+        terms: &for_terms,
+        atoms: &for_atoms,
+    };
+    places_by(alloc, bank, classes, fs, sorts, &triggers)
 }

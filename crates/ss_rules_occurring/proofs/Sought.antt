@@ -6,6 +6,7 @@ use Rattle.ss_logic.specs.declared.Sort.{Sort}
 use Rattle.ss_logic.specs.Terms.{Terms}
 use Rattle.ss_logic.specs.Formulas.{Predicate, Formula, Literal, formulas_from}
 use Rattle.ss_logic_ground.specs.Occurring.{with_formula, with_formulas, atoms_in, all_atoms_in, quantified_in, all_quantified_in, literals_in, all_literals_in}
+use Rattle.ss_terms.specs.Lists.{SmallVec}
 use Rattle.ss_terms.specs.declared.forms.FormulaId.{FormulaId}
 use Rattle.ss_terms.specs.declared.forms.TermId.{TermId}
 use Rattle.ss_terms.specs.declared.forms.Predicate as form
@@ -43,12 +44,12 @@ all_literals-map [] = refl
 all_literals-map (f ∷ fs) = ap (λ gs. literals_in f ++ gs) (all_literals-map fs)
 
 module _ (b : Forms) (f : FormulaId) where
-  pub found_in_and : (w : Sought) (v : Vec FormulaId Global) → IsFormulaForm b f (AndForm v) → flat_map (found_in w) (formulas_at b v.items) ≡ found_in w (formula_at b f)
+  pub found_in_and : (w : Sought) (v : SmallVec FormulaId) → IsFormulaForm b f (AndForm v) → flat_map (found_in w) (formulas_at b v.items) ≡ found_in w (formula_at b f)
   found_in_and sought.Atoms v n = sym (all_atoms-map (formulas_at b v.items)) ∙ sym (ap atoms_in n.built)
   found_in_and sought.Quantified v n = sym (all_quantified-map (formulas_at b v.items)) ∙ sym (ap quantified_in n.built)
   found_in_and sought.Everywhere v n = sym (all_literals-map (formulas_at b v.items)) ∙ sym (ap literals_in n.built)
 
-  pub found_in_or : (w : Sought) (v : Vec FormulaId Global) → IsFormulaForm b f (OrForm v) → flat_map (found_in w) (formulas_at b v.items) ≡ found_in w (formula_at b f)
+  pub found_in_or : (w : Sought) (v : SmallVec FormulaId) → IsFormulaForm b f (OrForm v) → flat_map (found_in w) (formulas_at b v.items) ≡ found_in w (formula_at b f)
   found_in_or sought.Atoms v n = sym (all_atoms-map (formulas_at b v.items)) ∙ sym (ap atoms_in n.built)
   found_in_or sought.Quantified v n = sym (all_quantified-map (formulas_at b v.items)) ∙ sym (ap quantified_in n.built)
   found_in_or sought.Everywhere v n = sym (all_literals-map (formulas_at b v.items)) ∙ sym (ap literals_in n.built)
@@ -68,7 +69,7 @@ module _ (b : Forms) (f : FormulaId) where
   literal_found sought.Quantified found x h p ts e = rw e refl
   literal_found sought.Everywhere found x h p ts e = rw e refl
 
-  pub found_in_literal : (w : Sought) (found : List Formula) (h : Bool) (p : form.Predicate) (v : Vec TermId Global) → IsFormulaForm b f (LiteralForm h p v) → with_literal w found (formula_at b f) ≡ with_formulas found (found_in w (formula_at b f))
+  pub found_in_literal : (w : Sought) (found : List Formula) (h : Bool) (p : form.Predicate) (v : SmallVec TermId) → IsFormulaForm b f (LiteralForm h p v) → with_literal w found (formula_at b f) ≡ with_formulas found (found_in w (formula_at b f))
   found_in_literal w found h p v n = literal_found w found (formula_at b f) _ _ _ n.built
 
 -- ---- one more of a list

@@ -1,5 +1,5 @@
 -- Terms walked with a stack.
-use Rattle.std.proofs.Common.{◌≡◌, ℕ, suc, ◌+◌, ◌<◌, List, [], ◌∷◌, ◌++◌, length, take, drop, get_or, reverse, Bool, true, false, not, refl, sym, ◌∙◌, ap, subst, arith, Vec, Global, if◌then◌else◌}
+use Rattle.std.proofs.Common.{◌≡◌, ℕ, suc, ◌+◌, ◌<◌, List, [], ◌∷◌, ◌++◌, length, take, drop, get_or, reverse, Bool, true, false, not, refl, sym, ◌∙◌, ap, subst, arith, if◌then◌else◌}
 use Rattle.std.specs.List.{list_any}
 use Rattle.std.proofs.Math.Seq.{drop-cons}
 use Rattle.std.proofs.lemmas.Bool.{not-true, not-false}
@@ -9,6 +9,7 @@ use Rattle.ss_logic.specs.Terms.{Term, Bound, App, terms_from}
 use Rattle.ss_logic.specs.Formulas.{Formula}
 use Rattle.ss_logic.specs.Equal.{same_term}
 use Rattle.ss_logic_ground.specs.Occurring.{with_term, with_arguments, with_terms_of, with_terms_of_all}
+use Rattle.ss_terms.specs.Lists.{SmallVec}
 use Rattle.ss_terms.specs.declared.forms.TermId.{TermId}
 use Rattle.ss_terms.specs.declared.forms.FormulaId.{FormulaId}
 use Rattle.ss_terms.specs.declared.forms.Symbol.{Symbol}
@@ -82,7 +83,7 @@ module _ (b : Forms) (found : TermList) (stack : List TermId) (t : TermId) (h : 
   pub step_bound : (k : ℕ) → IsTermForm b t (BoundForm k) → IsStep b found stack t found stack
   step_bound k n = step_same (ap (with_term (terms_of b found)) n.built)
 
-  pub step_known : (f : Symbol) (v : Vec TermId Global) (new : Bool) → IsTermForm b t (AppForm f v) → new ≡ not (list_any (same_term (term_at b t)) (terms_of b found)) → new ≡ false → (after : TermList) →
+  pub step_known : (f : Symbol) (v : SmallVec TermId) (new : Bool) → IsTermForm b t (AppForm f v) → new ≡ not (list_any (same_term (term_at b t)) (terms_of b found)) → new ≡ false → (after : TermList) →
       HoldsTerms b after (if new then terms_of b found ++ term_at b t ∷ [] else terms_of b found) → IsStep b found stack t after stack
   step_known f v new n e old_one after held =
       let old = not-false (list_any (same_term (term_at b t)) (terms_of b found)) (sym e ∙ old_one) in
@@ -100,7 +101,7 @@ module _ (b : Forms) (found : TermList) (stack : List TermId) (t : TermId) (h : 
         smaller = let p = size-positive (term_at b t) in let s = smaller_one b stack t in omega (arith, p, s);
       }
 
-  pub step_new : (f : Symbol) (v : Vec TermId Global) (new : Bool) → HasTerm b t → IsTermForm b t (AppForm f v) → new ≡ not (list_any (same_term (term_at b t)) (terms_of b found)) → new ≡ true → (after : TermList) →
+  pub step_new : (f : Symbol) (v : SmallVec TermId) (new : Bool) → HasTerm b t → IsTermForm b t (AppForm f v) → new ≡ not (list_any (same_term (term_at b t)) (terms_of b found)) → new ≡ true → (after : TermList) →
       HoldsTerms b after (if new then terms_of b found ++ term_at b t ∷ [] else terms_of b found) → (more : List TermId) → more ≡ stack ++ reverse v.items → IsStep b found stack t after more
   step_new f v new at n e new_one after held more is =
       let old = not-true (list_any (same_term (term_at b t)) (terms_of b found)) (sym e ∙ new_one) in

@@ -4,6 +4,7 @@ use Rattle.ss_logic.specs.declared.Sort.{Sort}
 use Rattle.ss_logic.specs.Formulas.{Formula, Literal, And, Or, Forall, Exists, formulas_from, formula_then}
 use Rattle.ss_logic.specs.Equal.{same_formula}
 use Rattle.ss_logic_ground.specs.Opened.{replaced, all_replaced}
+use Rattle.ss_terms.specs.Lists.{SmallVec}
 use Rattle.ss_terms.specs.declared.forms.FormulaId.{FormulaId}
 use Rattle.ss_terms.specs.declared.forms.Formula.TheVariants.{And as AndForm, Or as OrForm, Forall as ForallForm, Exists as ExistsForm}
 use Rattle.ss_terms.specs.Forms.{Forms, formula_at, formulas_at, IsFormulaForm}
@@ -13,10 +14,10 @@ all_replaced-map x y [] = refl
 all_replaced-map x y (f ∷ fs) = ap (formula_then (replaced x y f)) (all_replaced-map x y fs)
 
 module _ (x y : Formula) (a : Forms) (f : FormulaId) where
-  pub replaced_and : (b : Forms) (v : Vec FormulaId Global) (made : List FormulaId) → IsFormulaForm a f (AndForm v) → formulas_at b made ≡ map (replaced x y) (formulas_at a v.items) → And (formulas_from (formulas_at b made)) ≡ replaced x y (formula_at a f)
+  pub replaced_and : (b : Forms) (v : SmallVec FormulaId) (made : List FormulaId) → IsFormulaForm a f (AndForm v) → formulas_at b made ≡ map (replaced x y) (formulas_at a v.items) → And (formulas_from (formulas_at b made)) ≡ replaced x y (formula_at a f)
   replaced_and b v made n e = ap (λ xs. And (formulas_from xs)) e ∙ sym (ap And (all_replaced-map x y (formulas_at a v.items))) ∙ sym (ap (replaced x y) n.built)
 
-  pub replaced_or : (b : Forms) (v : Vec FormulaId Global) (made : List FormulaId) → IsFormulaForm a f (OrForm v) → formulas_at b made ≡ map (replaced x y) (formulas_at a v.items) → Or (formulas_from (formulas_at b made)) ≡ replaced x y (formula_at a f)
+  pub replaced_or : (b : Forms) (v : SmallVec FormulaId) (made : List FormulaId) → IsFormulaForm a f (OrForm v) → formulas_at b made ≡ map (replaced x y) (formulas_at a v.items) → Or (formulas_from (formulas_at b made)) ≡ replaced x y (formula_at a f)
   replaced_or b v made n e = ap (λ xs. Or (formulas_from xs)) e ∙ sym (ap Or (all_replaced-map x y (formulas_at a v.items))) ∙ sym (ap (replaced x y) n.built)
 
   at_forall : (g : Formula) (ss : List Sort) (h : Formula) → g ≡ Forall ss h → (if same_formula x g then y else g) ≡ replaced x y g

@@ -13,7 +13,7 @@ use crate::constants::{fresh_constants, joined};
 use crate::replacing::all_replaced;
 use ss_core::Classes;
 use ss_logic::Sort;
-use ss_rules_occurring::quantified;
+use ss_rules_occurring::{QuantifiedFormula, quantified};
 use ss_terms::{Bank, Formula, FormulaId, TermId};
 use ss_terms_puts::put;
 use std::alloc::{AllocError, Global};
@@ -137,30 +137,35 @@ fn note(
     Ok(())
 }
 
-// Opens an `exists` with these sorts and this body.
+// Opens an `exists`.
 fn open_with(
     alloc: Global,
     bank: &mut Bank,
     classes: &Classes,
     state: &mut Opening,
     choices: &mut Vec<Choice>,
-    f: FormulaId,
-    sorts: &[Sort],
-    body: FormulaId,
+    formula: &QuantifiedFormula<'_>,
 ) -> Result<(), AllocError>
     requires bank { IsBankOf (view.classes classes.now) bank.old }
     requires state { HasOpening bank.old state.old }
     requires choices { HasChoices bank.old choices.old.items }
-    requires formula { HasFormula bank.old f }
-    requires body { HasFormula bank.old body }
-    ensures is { OnOk result (IsOpening bank.new state.new (spec.fresh_constants sorts.now (terms_at bank.old state.old.used.items) ++ terms_at bank.old state.old.used.items) (map (spec.replaced (formula_at bank.old f) (logic.put (spec.fresh_constants sorts.now (terms_at bank.old state.old.used.items)) (formula_at bank.old body))) (formulas_at bank.old state.old.list.items))) }
+    requires formula { HasFormula bank.old formula.now.whole }
+    requires body { HasFormula bank.old formula.now.body }
+    ensures is { OnOk result (IsOpening bank.new state.new (spec.fresh_constants formula.now.sorts.now (terms_at bank.old state.old.used.items) ++ terms_at bank.old state.old.used.items) (map (spec.replaced (formula_at bank.old formula.now.whole) (logic.put (spec.fresh_constants formula.now.sorts.now (terms_at bank.old state.old.used.items)) (formula_at bank.old formula.now.body))) (formulas_at bank.old state.old.list.items))) }
     ensures has { OnOk result (HasChoices bank.new choices.new.items) }
-    ensures noted { OnOk result (choices_at bank.new choices.new.items ≡ choices_at bank.old choices.old.items ++ choice_of (formula_at bank.old f) (spec.fresh_constants sorts.now (terms_at bank.old state.old.used.items)) ∷ []) }
+    ensures noted { OnOk result (choices_at bank.new choices.new.items ≡ choices_at bank.old choices.old.items ++ choice_of (formula_at bank.old formula.now.whole) (spec.fresh_constants formula.now.sorts.now (terms_at bank.old state.old.used.items)) ∷ []) }
     ensures grown { IsGrown bank.old bank.new }
 {
-    let found = at_fresh(alloc, bank, classes, &state.used, sorts, body)?;
-    put_in_place(alloc, bank, state, f, &found)?;
-    note(bank, choices, f, found)
+    let found = at_fresh(
+        alloc,
+        bank,
+        classes,
+        &state.used,
+        formula.sorts,
+        formula.body,
+    )?;
+    put_in_place(alloc, bank, state, formula.whole, &found)?;
+    note(bank, choices, formula.whole, found)
 }
 
 // Opens a formula, where it is an `exists`.
@@ -185,7 +190,12 @@ fn open_at(
         Formula::Exists(sorts, body) => {
             let body = *body;
             let sorts = Vec::from_slice(alloc, sorts)?;
-            open_with(alloc, bank, classes, state, choices, f, &sorts, body)
+            let formula = QuantifiedFormula {
+                whole: f,
+                sorts: &sorts,
+                body,
+            };
+            open_with(alloc, bank, classes, state, choices, &formula)
         }
         _ => Ok(()),
     }

@@ -5,7 +5,7 @@ ghost use Rattle.ss_logic.specs.Equal.{same_formula};
 ghost use Rattle.ss_logic_ground.specs.Opened as spec;
 ghost use Rattle.ss_terms.specs.Forms.{formula_at, formulas_at, HasFormula, HasFormulas, AreBelow, IsGrown};
 
-use ss_terms::{Bank, Formula, FormulaId};
+use ss_terms::{Bank, Formula, FormulaId, Parts};
 use std::alloc::{AllocError, Global};
 
 // The other one in place of the formula itself.
@@ -37,12 +37,12 @@ fn replaced(
     match bank.formula_node(f) {
         Formula::Literal { .. } => Ok(f),
         Formula::And(parts) => {
-            let parts = Vec::from_slice(alloc, parts)?;
+            let parts = Parts::from_slice(alloc, parts)?;
             let parts = replaced_below(alloc, bank, from, to, &parts, f.0)?;
             bank.formula(Formula::And(parts))
         }
         Formula::Or(parts) => {
-            let parts = Vec::from_slice(alloc, parts)?;
+            let parts = Parts::from_slice(alloc, parts)?;
             let parts = replaced_below(alloc, bank, from, to, &parts, f.0)?;
             bank.formula(Formula::Or(parts))
         }
@@ -60,7 +60,7 @@ fn replaced_below(
     to: FormulaId,
     fs: &[FormulaId],
     bound: usize,
-) -> Result<Vec<FormulaId>, AllocError>
+) -> Result<Parts, AllocError>
     requires from { HasFormula bank.old from }
     requires to { HasFormula bank.old to }
     requires below { AreBelow bound fs.now }
@@ -69,7 +69,7 @@ fn replaced_below(
     ensures at { IfOk result (λ gs. formulas_at bank.new gs.items ≡ map (spec.replaced (formula_at bank.old from) (formula_at bank.old to)) (formulas_at bank.old fs.now)) }
     ensures grown { IsGrown bank.old bank.new }
 {
-    let mut made = Vec::new(alloc);
+    let mut made = Parts::new(alloc);
     for f in fs {
         let g = replaced(alloc, bank, from, to, *f)?;
         made.push(g)?;
@@ -93,5 +93,7 @@ pub(crate) fn all_replaced(
     ensures grown { IsGrown bank.old bank.new }
 {
     let count = bank.formula_count();
-    replaced_below(alloc, bank, from, to, fs, count)
+    let made = replaced_below(alloc, bank, from, to, fs, count)?;
+    let list = Vec::from_slice(alloc, &made)?;
+    Ok(list)
 }

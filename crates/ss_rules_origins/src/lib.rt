@@ -3,4 +3,4 @@
 
 mod origins;
 
-pub use origins::{Origin, Source, add_from};
+pub use origins::{Origin, OriginList, Source, add_from};

@@ -33,30 +33,38 @@ pub struct Origin {
     pub terms: Vec<TermId>,
 }
 
+/// A list of formulas, and where each of them comes from.
+#[derive(Drop)]
+pub struct OriginList {
+    /// The formulas.
+    pub list: FormulaList,
+    /// Where each of them comes from.
+    pub origins: Vec<Origin>,
+}
+
 /// Adds a formula, where it isn't there yet, and then notes where it comes from. An error is want of memory.
 pub fn add_from(
     alloc: Global,
     bank: &Bank,
-    list: &mut FormulaList,
-    origins: &mut Vec<Origin>,
+    listed: &mut OriginList,
     f: FormulaId,
     source: Source,
     terms: &[TermId],
 ) -> Result<(), AllocError>
-    requires list { HasFound bank.now list.old }
+    requires list { HasFound bank.now listed.old.list }
     requires formula { HasFormula bank.now f }
     requires source { HasSource bank.now source }
     requires terms { HasTerms bank.now terms.now }
-    ensures added { OnOk result (Holds bank.now list.new (with_formula (formulas_of bank.now list.old) (formula_at bank.now f))) }
-    ensures noted { OnOk result (StillComeWith bank.now (formulas_of bank.now list.old) origins.old.items (origin_with bank.now source (terms_at bank.now terms.now)) (formula_at bank.now f) (formulas_of bank.now list.new) origins.new.items) }
+    ensures added { OnOk result (Holds bank.now listed.new.list (with_formula (formulas_of bank.now listed.old.list) (formula_at bank.now f))) }
+    ensures noted { OnOk result (StillComeWith bank.now (formulas_of bank.now listed.old.list) listed.old.origins.items (origin_with bank.now source (terms_at bank.now terms.now)) (formula_at bank.now f) (formulas_of bank.now listed.new.list) listed.new.origins.items) }
 {
-    let before = list.list.len();
-    list.add(bank, f)?;
-    let after = list.list.len();
+    let before = listed.list.list.len();
+    listed.list.add(bank, f)?;
+    let after = listed.list.list.len();
     if after == before {
         return Ok(());
     }
     let terms = Vec::from_slice(alloc, terms)?;
-    origins.push(Origin { source, terms })?;
+    listed.origins.push(Origin { source, terms })?;
     Ok(())
 }

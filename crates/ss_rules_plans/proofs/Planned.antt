@@ -7,7 +7,7 @@ use Rattle.ss_logic_rules.specs.Shapes.{given}
 use Rattle.ss_terms.specs.declared.forms.TermId.{TermId}
 use Rattle.ss_terms.specs.Forms.{Forms, no_term, symbol_of, predicate_of, term_at, terms_at, HasTerm, HasTerms, AreTermsBelow, IsGrown}
 use Rattle.ss_terms.proofs.Grown.{HasTerms-grown, terms_at-grown, HasTerm-grown}
-use Rattle.ss_terms.proofs.Parts.{AreTermsBelow-get}
+use Rattle.ss_terms.proofs.Tested.{AreTermsBelow-get}
 use Rattle.ss_rules_sentences.specs.declared.facts.Fact.{Fact}
 use Rattle.ss_rules_sentences.specs.declared.sentences.Sentence.{Sentence}
 use Rattle.ss_rules_sentences.specs.Facts.{fact_at, sentence_at, HasFact, HasFacts, HasSentence, HasSentences}

@@ -63,7 +63,7 @@ impl Claim {
 fn resolve_claims(alloc: Global, made: &[TermId], claims: &[Claim]) -> Result<Vec<Fact>, AllocError>
     ensures { IfOk result (λ v. v.items ≡ map (fact_of made.now) claims.now) }
 {
-    let mut facts = Vec::new(alloc);
+    let mut facts = Vec::with_capacity(alloc, claims.len())?;
     for claim in claims {
         facts.push(claim.resolve(made))?;
     }
@@ -113,7 +113,7 @@ fn resolve_all(
     ensures has { IfOk result (λ v. (b : Forms) → HasTerms b made.now → HasClauses b (length made.now) clauses.now → HasSentences b v.items) }
     ensures says { IfOk result (λ v. (b : Forms) → HasTerms b made.now → HasClauses b (length made.now) clauses.now → map (sentence_at b) v.items ≡ map (clause_at (slot_value (term_at b) (terms_at b made.now))) clauses.now) }
 {
-    let mut sentences = Vec::new(alloc);
+    let mut sentences = Vec::with_capacity(alloc, clauses.len())?;
     for clause in clauses {
         let sentence = clause.resolve(alloc, made)?;
         sentences.push(sentence)?;

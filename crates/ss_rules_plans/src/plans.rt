@@ -81,7 +81,7 @@ pub(crate) fn make_terms(
     ensures at { IfOk result (λ v. terms_at b.new v.items ≡ planned (term_at b.old) [] plans.now) }
     ensures grown { IsGrown b.old b.new }
 {
-    let mut made = Vec::new(alloc);
+    let mut made = Vec::with_capacity(alloc, plans.len())?;
     for plan in plans {
         let t = plan.make(b, &made)?;
         made.push(t)?;

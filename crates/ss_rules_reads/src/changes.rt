@@ -11,9 +11,10 @@ ghost use Rattle.ss_terms.specs.Forms.{term_at, formula_at, HasTerm, HasFormula,
 ghost use Rattle.ss_rules_looks.specs.Looks.{look_in, HasLook};
 ghost use Rattle.ss_rules_reads.specs.Changes.{element_placed, cleared};
 
-use crate::placed::{added_atom, placed_term};
+use crate::context::ReadContext;
+use crate::placed::{Places, added_atom, placed_term};
 use crate::same::same_read;
-use ss_core::{ClassId, Classes};
+use ss_core::ClassId;
 use ss_logic::Sort;
 use ss_rules_looks::Look;
 use ss_rules_plans::{Claim, Clause, Plan, Slot, fill};
@@ -27,31 +28,55 @@ pub(crate) struct Stores {
     pub(crate) before: TermId,
 }
 
+/// A field, the object of which it was set, and to what.
+#[derive(Clone, Copy)]
+pub(crate) struct FieldWrite {
+    pub(crate) field: u32,
+    pub(crate) object: TermId,
+    pub(crate) value: TermId,
+}
+
+/// An array, the place of it that was written, and what was put there.
+#[derive(Clone, Copy)]
+pub(crate) struct ElementWrite {
+    pub(crate) array: TermId,
+    pub(crate) index: TermId,
+    pub(crate) value: TermId,
+}
+
 // A field of an object where that field of one was set.
 fn set_field(
     alloc: Global,
     b: &mut Bank,
     stores: Stores,
-    f: u32,
     p: TermId,
-    o: TermId,
-    v: TermId,
+    written: FieldWrite,
 ) -> Result<FormulaId, AllocError>
     requires after { HasTerm b.old stores.after }
     requires before { HasTerm b.old stores.before }
     requires read { HasTerm b.old p }
-    requires object { HasTerm b.old o }
-    requires value { HasTerm b.old v }
-    ensures at { IfOk result (λ r. HasFormula b.new r × (formula_at b.new r ≡ all_of (over_set (term_at b.old stores.after) f (term_at b.old stores.before) (term_at b.old o) (term_at b.old v) (FieldLook (term_at b.old p) f)))) }
+    requires object { HasTerm b.old written.object }
+    requires value { HasTerm b.old written.value }
+    ensures at { IfOk result (λ r. HasFormula b.new r × (formula_at b.new r ≡ all_of (over_set (term_at b.old stores.after) written.field (term_at b.old stores.before) (term_at b.old written.object) (term_at b.old written.value) (FieldLook (term_at b.old p) written.field)))) }
     ensures grown { IsGrown b.old b.new }
 {
-    let is_same = b.is_same_term(p, o);
-    let (p, o, v) = (Slot::Known(p), Slot::Known(o), Slot::Known(v));
+    let FieldWrite {
+        field,
+        object,
+        value,
+    } = written;
+    let is_same = b.is_same_term(p, object);
+    let (p, o, v) = (Slot::Known(p), Slot::Known(object), Slot::Known(value));
     let plans = [
-        Plan::Two(Symbol::Field(f), Slot::Known(stores.after), p),
-        Plan::Two(Symbol::Field(f), Slot::Known(stores.before), p),
+        Plan::Two(Symbol::Field(field), Slot::Known(stores.after), p),
+        Plan::Two(Symbol::Field(field), Slot::Known(stores.before), p),
     ];
-    placed_term(alloc, b, &plans, (p, o), is_same, v)
+    let places = Places {
+        read: p,
+        changed: o,
+        is_same,
+    };
+    placed_term(alloc, b, &plans, places, v)
 }
 
 // A read where a field of an object was set.
@@ -59,23 +84,21 @@ pub(crate) fn set_read(
     alloc: Global,
     b: &mut Bank,
     stores: Stores,
-    f: u32,
-    o: TermId,
-    v: TermId,
+    written: FieldWrite,
     look: Look,
 ) -> Result<FormulaId, AllocError>
     requires after { HasTerm b.old stores.after }
     requires before { HasTerm b.old stores.before }
-    requires object { HasTerm b.old o }
-    requires value { HasTerm b.old v }
+    requires object { HasTerm b.old written.object }
+    requires value { HasTerm b.old written.value }
     requires look { HasLook b.old look }
-    ensures at { IfOk result (λ r. HasFormula b.new r × (formula_at b.new r ≡ all_of (over_set (term_at b.old stores.after) f (term_at b.old stores.before) (term_at b.old o) (term_at b.old v) (look_in b.old look)))) }
+    ensures at { IfOk result (λ r. HasFormula b.new r × (formula_at b.new r ≡ all_of (over_set (term_at b.old stores.after) written.field (term_at b.old stores.before) (term_at b.old written.object) (term_at b.old written.value) (look_in b.old look)))) }
     ensures grown { IsGrown b.old b.new }
 {
     match look {
         Look::Field(p, g) => {
-            if g == f {
-                return set_field(alloc, b, stores, f, p, o, v);
+            if g == written.field {
+                return set_field(alloc, b, stores, p, written);
             }
             same_read(alloc, b, look, (stores.after, stores.before))
         }
@@ -90,29 +113,28 @@ fn put_element(
     stores: Stores,
     sort: Sort,
     read: (TermId, TermId),
-    written: (TermId, TermId),
-    v: TermId,
+    written: ElementWrite,
 ) -> Result<FormulaId, AllocError>
     requires after { HasTerm b.old stores.after }
     requires before { HasTerm b.old stores.before }
     requires read_array { HasTerm b.old read.0 }
     requires read_index { HasTerm b.old read.1 }
-    requires array { HasTerm b.old written.0 }
-    requires index { HasTerm b.old written.1 }
-    requires value { HasTerm b.old v }
-    ensures at { IfOk result (λ r. HasFormula b.new r × (formula_at b.new r ≡ all_of (element_placed (term_at b.old stores.after) (term_at b.old stores.before) (term_at b.old written.0) (term_at b.old written.1) (term_at b.old v) sort (term_at b.old read.0) (term_at b.old read.1)))) }
+    requires array { HasTerm b.old written.array }
+    requires index { HasTerm b.old written.index }
+    requires value { HasTerm b.old written.value }
+    ensures at { IfOk result (λ r. HasFormula b.new r × (formula_at b.new r ≡ all_of (element_placed (term_at b.old stores.after) (term_at b.old stores.before) (term_at b.old written.array) (term_at b.old written.index) (term_at b.old written.value) sort (term_at b.old read.0) (term_at b.old read.1)))) }
     ensures grown { IsGrown b.old b.new }
 {
-    let same_array = b.is_same_term(read.0, written.0);
-    let same_index = b.is_same_term(read.1, written.1);
+    let same_array = b.is_same_term(read.0, written.array);
+    let same_index = b.is_same_term(read.1, written.index);
     let (array, index) = (Slot::Known(read.0), Slot::Known(read.1));
-    let (a, i) = (Slot::Known(written.0), Slot::Known(written.1));
+    let (a, i) = (Slot::Known(written.array), Slot::Known(written.index));
     let (after, before) = (Slot::Known(stores.after), Slot::Known(stores.before));
     let plans = [
         Plan::Three(Symbol::Element(sort), after, array, index),
         Plan::Three(Symbol::Element(sort), before, array, index),
     ];
-    let changed = Claim::Is(Predicate::Equal, Slot::Made(0), Slot::Known(v));
+    let changed = Claim::Is(Predicate::Equal, Slot::Made(0), Slot::Known(written.value));
     let kept = Claim::Is(Predicate::Equal, Slot::Made(0), Slot::Made(1));
     let at_array = Claim::Is(Predicate::Equal, array, a);
     let at_index = Claim::Is(Predicate::Equal, index, i);
@@ -146,23 +168,22 @@ pub(crate) fn put_read(
     alloc: Global,
     b: &mut Bank,
     stores: Stores,
-    written: (TermId, TermId),
-    v: TermId,
+    written: ElementWrite,
     look: Look,
 ) -> Result<FormulaId, AllocError>
     requires after { HasTerm b.old stores.after }
     requires before { HasTerm b.old stores.before }
-    requires array { HasTerm b.old written.0 }
-    requires index { HasTerm b.old written.1 }
-    requires value { HasTerm b.old v }
+    requires array { HasTerm b.old written.array }
+    requires index { HasTerm b.old written.index }
+    requires value { HasTerm b.old written.value }
     requires look { HasLook b.old look }
-    ensures at { (cs : List ClassTree) → IsBankOf cs b.old → IfOk result (λ r. HasFormula b.new r × (formula_at b.new r ≡ all_of (over_put cs (term_at b.old stores.after) (term_at b.old stores.before) (term_at b.old written.0) (term_at b.old written.1) (term_at b.old v) (look_in b.old look)))) }
+    ensures at { (cs : List ClassTree) → IsBankOf cs b.old → IfOk result (λ r. HasFormula b.new r × (formula_at b.new r ≡ all_of (over_put cs (term_at b.old stores.after) (term_at b.old stores.before) (term_at b.old written.array) (term_at b.old written.index) (term_at b.old written.value) (look_in b.old look)))) }
     ensures grown { IsGrown b.old b.new }
 {
     match look {
         Look::Element(sort, a, i) => {
-            if has_sort(b, v, sort) {
-                return put_element(alloc, b, stores, sort, (a, i), written, v);
+            if has_sort(b, written.value, sort) {
+                return put_element(alloc, b, stores, sort, (a, i), written);
             }
             same_read(alloc, b, look, (stores.after, stores.before))
         }
@@ -208,7 +229,12 @@ fn placed_level(
         Plan::Two(Symbol::Level, Slot::Known(stores.before), p),
         Plan::Leaf(Symbol::ClassName(t)),
     ];
-    placed_term(alloc, b, &plans, (p, o), is_same, Slot::Made(2))
+    let places = Places {
+        read: p,
+        changed: o,
+        is_same,
+    };
+    placed_term(alloc, b, &plans, places, Slot::Made(2))
 }
 
 // Whether an object is committed, where one was unpacked from a class.
@@ -289,28 +315,27 @@ fn packed_committed(
 
 // A read where an object was unpacked from a class.
 pub(crate) fn unpacked_read(
-    alloc: Global,
+    context: &ReadContext<'_>,
     b: &mut Bank,
-    classes: &Classes,
     stores: Stores,
     t: u16,
     o: TermId,
-    look: Look,
 ) -> Result<FormulaId, AllocError>
     requires after { HasTerm b.old stores.after }
     requires before { HasTerm b.old stores.before }
     requires object { HasTerm b.old o }
-    requires look { HasLook b.old look }
-    ensures at { IfOk result (λ r. HasFormula b.new r × (formula_at b.new r ≡ all_of (over_unpack (view.classes classes.now) (term_at b.old stores.after) t (term_at b.old stores.before) (term_at b.old o) (look_in b.old look)))) }
+    requires look { HasLook b.old context.now.look }
+    ensures at { IfOk result (λ r. HasFormula b.new r × (formula_at b.new r ≡ all_of (over_unpack (view.classes context.now.classes.now) (term_at b.old stores.after) t (term_at b.old stores.before) (term_at b.old o) (look_in b.old context.now.look)))) }
     ensures grown { IsGrown b.old b.new }
 {
+    let look = context.look;
     match look {
         Look::Level(p) => {
-            let above = classes.above(ClassId(t));
-            placed_level(alloc, b, stores, above.0, o, p)
+            let above = context.classes.above(ClassId(t));
+            placed_level(context.alloc, b, stores, above.0, o, p)
         }
-        Look::Committed(p) => unpacked_committed(alloc, b, stores, t, o, p),
-        _ => same_read(alloc, b, look, (stores.after, stores.before)),
+        Look::Committed(p) => unpacked_committed(context.alloc, b, stores, t, o, p),
+        _ => same_read(context.alloc, b, look, (stores.after, stores.before)),
     }
 }
 
@@ -356,11 +381,15 @@ pub(crate) fn ready_read(
         return same_read(alloc, b, look, (stores.after, stores.before));
     };
     let is_same = b.is_same_term(p, o);
-    let places = (Slot::Known(p), Slot::Known(o));
+    let places = Places {
+        read: Slot::Known(p),
+        changed: Slot::Known(o),
+        is_same,
+    };
     let atoms = (
         Predicate::Ready,
         Slot::Known(stores.after),
         Slot::Known(stores.before),
     );
-    added_atom(alloc, b, &[], places, is_same, atoms)
+    added_atom(alloc, b, &[], places, atoms)
 }

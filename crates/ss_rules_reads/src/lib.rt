@@ -2,6 +2,7 @@
 #![tactic(auto)]
 
 mod changes;
+mod context;
 mod new;
 mod owners;
 mod placed;

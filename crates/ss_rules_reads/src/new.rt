@@ -1,25 +1,23 @@
 // What reads give over stores with a new object.
 
-ghost use Rattle.std.specs.Prelude.{◌≡◌, ◌≤◌, [], ◌∷◌, IfOk};
-ghost use Rattle.ss_core.specs.Chain.{most_classes};
+ghost use Rattle.std.specs.Prelude.{◌≡◌, [], ◌∷◌, IfOk};
 ghost use Rattle.ss_core.specs.View as view;
 ghost use Rattle.ss_logic.specs.Equal.{same_term};
 ghost use Rattle.ss_logic.specs.Terms as tree;
-ghost use Rattle.ss_logic.specs.Terms.{app, field_sort, sort_of_type};
+ghost use Rattle.ss_logic.specs.Terms.{app, field_sort};
 ghost use Rattle.ss_logic.specs.Formulas.{neg};
 ghost use Rattle.ss_logic_rules.specs.Shapes.{all_of, next_of, class_term, level_of, differ, committed, ready, where_different};
 ghost use Rattle.ss_logic_rules.specs.Reads.{default_term, same_over, new_at, new_atom, over_new};
-ghost use Rattle.ss_terms.specs.Forms.{symbol_of, term_at, formula_at, HasTerm, HasFormula, IsGrown};
+ghost use Rattle.ss_terms.specs.Forms.{symbol_of, term_at, formula_at, HasTerm, HasFormula, IsGrown, IsBankOf};
 ghost use Rattle.ss_rules_looks.specs.Looks.{look_in, HasLook};
 ghost use Rattle.ss_rules_reads.specs.New.{signed, newly_allocated};
 
 use crate::changes::Stores;
-use crate::placed::{added_atom, placed_atom, placed_term};
-use crate::same::same_read;
-use ss_core::{Classes, Ty};
+use crate::placed::{Places, added_atom, placed_atom, placed_term};
+use ss_core::Classes;
 use ss_logic::Sort;
 use ss_rules_basic::next_store;
-use ss_rules_looks::{Look, type_of_field};
+use ss_rules_looks::Look;
 use ss_rules_plans::{Claim, Clause, Plan, Slot, fill};
 use ss_terms::{Bank, FormulaId, Predicate, Symbol, TermId};
 use std::alloc::{AllocError, Global};
@@ -37,19 +35,13 @@ fn is_next(b: &Bank, t: TermId, s: TermId) -> bool
 }
 
 // The sort of a field.
-fn sort_of_field(classes: &Classes, f: u32) -> Sort
-    requires { length (view.classes classes.now) ≤ most_classes }
+fn sort_of_field(b: &Bank, classes: &Classes, f: u32) -> Sort
+    requires { IsBankOf (view.classes classes.now) b.now }
     ensures { result ≡ field_sort (view.classes classes.now) f }
 {
-    match type_of_field(classes, f) {
-        Ty::Int => Sort::Whole,
-        Ty::Bool => Sort::Truth,
-        Ty::Null => Sort::Rest,
-        Ty::Ref { .. } => Sort::Rest,
-    }
+    let _ = classes;
+    b.sort_of_field(f)
 }
-
-ghost use Rattle.std.specs.Prelude.{length};
 
 // What a new field or element of the sort has.
 fn default_of(sort: Sort) -> Symbol
@@ -72,7 +64,7 @@ fn new_field(
     p: TermId,
     f: u32,
 ) -> Result<FormulaId, AllocError>
-    requires classes { length (view.classes classes.now) ≤ most_classes }
+    requires bank { IsBankOf (view.classes classes.now) b.old }
     requires after { HasTerm b.old stores.after }
     requires before { HasTerm b.old stores.before }
     requires read { HasTerm b.old p }
@@ -80,7 +72,7 @@ fn new_field(
     ensures grown { IsGrown b.old b.new }
 {
     let is_same = is_next(b, p, stores.before);
-    let value = default_of(sort_of_field(classes, f));
+    let value = default_of(sort_of_field(b, classes, f));
     let (after, before) = (Slot::Known(stores.after), Slot::Known(stores.before));
     let p = Slot::Known(p);
     let plans = [
@@ -89,7 +81,12 @@ fn new_field(
         Plan::One(Symbol::Next, before),
         Plan::Leaf(value),
     ];
-    placed_term(alloc, b, &plans, (p, Slot::Made(2)), is_same, Slot::Made(3))
+    let places = Places {
+        read: p,
+        changed: Slot::Made(2),
+        is_same,
+    };
+    placed_term(alloc, b, &plans, places, Slot::Made(3))
 }
 
 ghost use Rattle.ss_logic_rules.specs.Reads.{FieldLook, ElementLook, LevelLook, OwnerLook, CommittedLook, ReadyLook};
@@ -120,7 +117,12 @@ fn new_element(
         Plan::One(Symbol::Next, before),
         Plan::Leaf(value),
     ];
-    placed_term(alloc, b, &plans, (a, Slot::Made(2)), is_same, Slot::Made(3))
+    let places = Places {
+        read: a,
+        changed: Slot::Made(2),
+        is_same,
+    };
+    placed_term(alloc, b, &plans, places, Slot::Made(3))
 }
 
 // The level of an object, where there is a new one at this level.
@@ -146,7 +148,12 @@ fn new_level(
         Plan::One(Symbol::Next, before),
         Plan::Leaf(Symbol::ClassName(t)),
     ];
-    placed_term(alloc, b, &plans, (p, Slot::Made(2)), is_same, Slot::Made(3))
+    let places = Places {
+        read: p,
+        changed: Slot::Made(2),
+        is_same,
+    };
+    placed_term(alloc, b, &plans, places, Slot::Made(3))
 }
 
 // The owner of an object, where there is a new one.
@@ -210,9 +217,13 @@ fn new_allocated(
     let is_same = is_next(b, p, stores.before);
     let (after, before) = (Slot::Known(stores.after), Slot::Known(stores.before));
     let plans = [Plan::One(Symbol::Next, before)];
-    let places = (Slot::Known(p), Slot::Made(0));
+    let places = Places {
+        read: Slot::Known(p),
+        changed: Slot::Made(0),
+        is_same,
+    };
     let atoms = (Predicate::Allocated, after, before);
-    added_atom(alloc, b, &plans, places, is_same, atoms)
+    added_atom(alloc, b, &plans, places, atoms)
 }
 
 // Whether an object is committed, where there is a new one.
@@ -231,10 +242,14 @@ fn new_committed(
     let is_same = is_next(b, p, stores.before);
     let (after, before) = (Slot::Known(stores.after), Slot::Known(stores.before));
     let plans = [Plan::One(Symbol::Next, before)];
-    let places = (Slot::Known(p), Slot::Made(0));
+    let places = Places {
+        read: Slot::Known(p),
+        changed: Slot::Made(0),
+        is_same,
+    };
     let claim = Claim::Not(Predicate::Committed, after, Slot::Known(p));
     let atoms = (Predicate::Committed, after, before);
-    placed_atom(alloc, b, &plans, places, is_same, claim, atoms)
+    placed_atom(alloc, b, &plans, places, claim, atoms)
 }
 
 // Whether an object is ready, where there is a new one that is ready.
@@ -254,14 +269,18 @@ fn new_ready(
     let is_same = is_next(b, p, stores.before);
     let (after, before) = (Slot::Known(stores.after), Slot::Known(stores.before));
     let plans = [Plan::One(Symbol::Next, before)];
-    let places = (Slot::Known(p), Slot::Made(0));
+    let places = Places {
+        read: Slot::Known(p),
+        changed: Slot::Made(0),
+        is_same,
+    };
     let atoms = (Predicate::Ready, after, before);
     if is_ready {
         let claim = Claim::Is(Predicate::Ready, after, Slot::Known(p));
-        return placed_atom(alloc, b, &plans, places, is_same, claim, atoms);
+        return placed_atom(alloc, b, &plans, places, claim, atoms);
     }
     let claim = Claim::Not(Predicate::Ready, after, Slot::Known(p));
-    placed_atom(alloc, b, &plans, places, is_same, claim, atoms)
+    placed_atom(alloc, b, &plans, places, claim, atoms)
 }
 
 // A read where there is a new object at this level, ready or not.
@@ -273,7 +292,7 @@ pub(crate) fn new_read(
     made: (u16, bool),
     look: Look,
 ) -> Result<FormulaId, AllocError>
-    requires classes { length (view.classes classes.now) ≤ most_classes }
+    requires bank { IsBankOf (view.classes classes.now) b.old }
     requires after { HasTerm b.old stores.after }
     requires before { HasTerm b.old stores.before }
     requires look { HasLook b.old look }

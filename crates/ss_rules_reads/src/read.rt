@@ -11,7 +11,10 @@ ghost use Rattle.ss_rules_basic.specs.Arguments.{IsInstance};
 ghost use Rattle.ss_rules_looks.specs.Looks.{look_in, HasLook};
 ghost use Rattle.ss_rules_reads.specs.Changes.{over_changed};
 
-use crate::changes::{Stores, packed_read, put_read, ready_read, set_read, unpacked_read};
+use crate::changes::{
+    ElementWrite, FieldWrite, Stores, packed_read, put_read, ready_read, set_read, unpacked_read,
+};
+use crate::context::ReadContext;
 use crate::new::new_read;
 use crate::owners::{captured_read, joined_read};
 use crate::same::{equal_read, same_read};
@@ -23,23 +26,28 @@ use std::alloc::{AllocError, Global};
 
 // A read over a store with a new object.
 fn over_one(
-    alloc: Global,
+    context: &ReadContext<'_>,
     b: &mut Bank,
-    classes: &Classes,
     stores: Stores,
     symbol: Symbol,
-    look: Look,
 ) -> Result<Option<FormulaId>, AllocError>
-    requires classes { length (view.classes classes.now) ≤ most_classes }
+    requires bank { IsBankOf (view.classes context.now.classes.now) b.old }
     requires after { HasTerm b.old stores.after }
     requires before { HasTerm b.old stores.before }
-    requires look { HasLook b.old look }
-    ensures at { IfOk result (λ o. IsInstance b.new o (option_map all_of (over_changed (view.classes classes.now) (term_at b.old stores.after) (look_in b.old look) (symbol_of symbol) (term_at b.old stores.before ∷ [])))) }
+    requires look { HasLook b.old context.now.look }
+    ensures at { IfOk result (λ o. IsInstance b.new o (option_map all_of (over_changed (view.classes context.now.classes.now) (term_at b.old stores.after) (look_in b.old context.now.look) (symbol_of symbol) (term_at b.old stores.before ∷ [])))) }
     ensures grown { IsGrown b.old b.new }
 {
     match symbol {
         Symbol::New(_) => {
-            let f = new_read(alloc, b, classes, stores, (0, false), look)?;
+            let f = new_read(
+                context.alloc,
+                b,
+                context.classes,
+                stores,
+                (0, false),
+                context.look,
+            )?;
             Ok(Some(f))
         }
         _ => Ok(None),
@@ -48,37 +56,43 @@ fn over_one(
 
 // A read over a store with a change at an object, or with a new array.
 fn over_two(
-    alloc: Global,
+    context: &ReadContext<'_>,
     b: &mut Bank,
-    classes: &Classes,
     stores: Stores,
     symbol: Symbol,
     o: TermId,
-    look: Look,
 ) -> Result<Option<FormulaId>, AllocError>
-    requires classes { length (view.classes classes.now) ≤ most_classes }
+    requires bank { IsBankOf (view.classes context.now.classes.now) b.old }
+    requires classes { length (view.classes context.now.classes.now) ≤ most_classes }
     requires after { HasTerm b.old stores.after }
     requires before { HasTerm b.old stores.before }
     requires object { HasTerm b.old o }
-    requires look { HasLook b.old look }
-    ensures at { IfOk result (λ r. IsInstance b.new r (option_map all_of (over_changed (view.classes classes.now) (term_at b.old stores.after) (look_in b.old look) (symbol_of symbol) (term_at b.old stores.before ∷ term_at b.old o ∷ [])))) }
+    requires look { HasLook b.old context.now.look }
+    ensures at { IfOk result (λ r. IsInstance b.new r (option_map all_of (over_changed (view.classes context.now.classes.now) (term_at b.old stores.after) (look_in b.old context.now.look) (symbol_of symbol) (term_at b.old stores.before ∷ term_at b.old o ∷ [])))) }
     ensures grown { IsGrown b.old b.new }
 {
     match symbol {
         Symbol::Unpack(t) => {
-            let f = unpacked_read(alloc, b, classes, stores, t, o, look)?;
+            let f = unpacked_read(context, b, stores, t, o)?;
             Ok(Some(f))
         }
         Symbol::Pack(t) => {
-            let f = packed_read(alloc, b, stores, t, o, look)?;
+            let f = packed_read(context.alloc, b, stores, t, o, context.look)?;
             Ok(Some(f))
         }
         Symbol::NewArray(t) => {
-            let f = new_read(alloc, b, classes, stores, (t, true), look)?;
+            let f = new_read(
+                context.alloc,
+                b,
+                context.classes,
+                stores,
+                (t, true),
+                context.look,
+            )?;
             Ok(Some(f))
         }
         Symbol::MakeReady => {
-            let f = ready_read(alloc, b, stores, o, look)?;
+            let f = ready_read(context.alloc, b, stores, o, context.look)?;
             Ok(Some(f))
         }
         _ => Ok(None),
@@ -87,34 +101,36 @@ fn over_two(
 
 // A read over a store with a field set, or with other owners.
 fn over_three(
-    alloc: Global,
+    context: &ReadContext<'_>,
     b: &mut Bank,
-    classes: &Classes,
     stores: Stores,
     symbol: Symbol,
     objects: (TermId, TermId),
-    look: Look,
 ) -> Result<Option<FormulaId>, AllocError>
     requires after { HasTerm b.old stores.after }
     requires before { HasTerm b.old stores.before }
     requires first { HasTerm b.old objects.0 }
     requires second { HasTerm b.old objects.1 }
-    requires look { HasLook b.old look }
-    ensures at { IfOk result (λ r. IsInstance b.new r (option_map all_of (over_changed (view.classes classes.now) (term_at b.old stores.after) (look_in b.old look) (symbol_of symbol) (term_at b.old stores.before ∷ term_at b.old objects.0 ∷ term_at b.old objects.1 ∷ [])))) }
+    requires look { HasLook b.old context.now.look }
+    ensures at { IfOk result (λ r. IsInstance b.new r (option_map all_of (over_changed (view.classes context.now.classes.now) (term_at b.old stores.after) (look_in b.old context.now.look) (symbol_of symbol) (term_at b.old stores.before ∷ term_at b.old objects.0 ∷ term_at b.old objects.1 ∷ [])))) }
     ensures grown { IsGrown b.old b.new }
 {
-    let _ = classes;
     match symbol {
         Symbol::Set(f) => {
-            let r = set_read(alloc, b, stores, f, objects.0, objects.1, look)?;
+            let written = FieldWrite {
+                field: f,
+                object: objects.0,
+                value: objects.1,
+            };
+            let r = set_read(context.alloc, b, stores, written, context.look)?;
             Ok(Some(r))
         }
         Symbol::Capture(t) => {
-            let r = captured_read(alloc, b, stores, t, objects, look)?;
+            let r = captured_read(context.alloc, b, stores, t, objects, context.look)?;
             Ok(Some(r))
         }
         Symbol::Join => {
-            let r = joined_read(alloc, b, stores, objects, look)?;
+            let r = joined_read(context.alloc, b, stores, objects, context.look)?;
             Ok(Some(r))
         }
         _ => Ok(None),
@@ -123,29 +139,25 @@ fn over_three(
 
 // A read over a store with an element put into an array.
 fn over_four(
-    alloc: Global,
+    context: &ReadContext<'_>,
     b: &mut Bank,
-    classes: &Classes,
     stores: Stores,
     symbol: Symbol,
-    written: (TermId, TermId, TermId),
-    look: Look,
+    written: ElementWrite,
 ) -> Result<Option<FormulaId>, AllocError>
-    requires bank { IsBankOf (view.classes classes.now) b.old }
+    requires bank { IsBankOf (view.classes context.now.classes.now) b.old }
     requires after { HasTerm b.old stores.after }
     requires before { HasTerm b.old stores.before }
-    requires array { HasTerm b.old written.0 }
-    requires index { HasTerm b.old written.1 }
-    requires value { HasTerm b.old written.2 }
-    requires look { HasLook b.old look }
-    ensures at { IfOk result (λ r. IsInstance b.new r (option_map all_of (over_changed (view.classes classes.now) (term_at b.old stores.after) (look_in b.old look) (symbol_of symbol) (term_at b.old stores.before ∷ term_at b.old written.0 ∷ term_at b.old written.1 ∷ term_at b.old written.2 ∷ [])))) }
+    requires array { HasTerm b.old written.array }
+    requires index { HasTerm b.old written.index }
+    requires value { HasTerm b.old written.value }
+    requires look { HasLook b.old context.now.look }
+    ensures at { IfOk result (λ r. IsInstance b.new r (option_map all_of (over_changed (view.classes context.now.classes.now) (term_at b.old stores.after) (look_in b.old context.now.look) (symbol_of symbol) (term_at b.old stores.before ∷ term_at b.old written.array ∷ term_at b.old written.index ∷ term_at b.old written.value ∷ [])))) }
     ensures grown { IsGrown b.old b.new }
 {
-    let _ = classes;
-    let (a, i, v) = written;
     match symbol {
         Symbol::Put => {
-            let r = put_read(alloc, b, stores, (a, i), v, look)?;
+            let r = put_read(context.alloc, b, stores, written, context.look)?;
             Ok(Some(r))
         }
         _ => Ok(None),
@@ -154,42 +166,38 @@ fn over_four(
 
 // A read over the store that the function makes of these arguments.
 fn over_form(
-    alloc: Global,
+    context: &ReadContext<'_>,
     b: &mut Bank,
-    classes: &Classes,
     after: TermId,
     symbol: Symbol,
     arguments: &[TermId],
-    look: Look,
 ) -> Result<Option<FormulaId>, AllocError>
-    requires bank { IsBankOf (view.classes classes.now) b.old }
-    requires classes { length (view.classes classes.now) ≤ most_classes }
+    requires bank { IsBankOf (view.classes context.now.classes.now) b.old }
+    requires classes { length (view.classes context.now.classes.now) ≤ most_classes }
     requires after { HasTerm b.old after }
     requires arguments { HasTerms b.old arguments.now }
-    requires look { HasLook b.old look }
-    ensures at { IfOk result (λ r. IsInstance b.new r (option_map all_of (over_changed (view.classes classes.now) (term_at b.old after) (look_in b.old look) (symbol_of symbol) (terms_at b.old arguments.now)))) }
+    requires look { HasLook b.old context.now.look }
+    ensures at { IfOk result (λ r. IsInstance b.new r (option_map all_of (over_changed (view.classes context.now.classes.now) (term_at b.old after) (look_in b.old context.now.look) (symbol_of symbol) (terms_at b.old arguments.now)))) }
     ensures grown { IsGrown b.old b.new }
 {
     match arguments {
-        [s] => over_one(
-            alloc,
-            b,
-            classes,
-            Stores { after, before: *s },
-            symbol,
-            look,
-        ),
+        [s] => over_one(context, b, Stores { after, before: *s }, symbol),
         [s, o] => {
             let stores = Stores { after, before: *s };
-            over_two(alloc, b, classes, stores, symbol, *o, look)
+            over_two(context, b, stores, symbol, *o)
         }
         [s, o, e] => {
             let stores = Stores { after, before: *s };
-            over_three(alloc, b, classes, stores, symbol, (*o, *e), look)
+            over_three(context, b, stores, symbol, (*o, *e))
         }
         [s, a, i, v] => {
             let stores = Stores { after, before: *s };
-            over_four(alloc, b, classes, stores, symbol, (*a, *i, *v), look)
+            let written = ElementWrite {
+                array: *a,
+                index: *i,
+                value: *v,
+            };
+            over_four(context, b, stores, symbol, written)
         }
         _ => Ok(None),
     }
@@ -221,7 +229,12 @@ fn over_store(
         Term::App(symbol, arguments) => {
             let symbol = *symbol;
             let arguments = Vec::from_slice(alloc, arguments)?;
-            over_form(alloc, b, classes, s, symbol, &arguments, look)
+            let context = ReadContext {
+                alloc,
+                classes,
+                look,
+            };
+            over_form(&context, b, s, symbol, &arguments)
         }
         Term::Bound(_) => Ok(None),
     }

@@ -2,6 +2,7 @@
 #![tactic(auto)]
 
 mod arguments;
+mod context;
 mod made;
 mod saying;
 

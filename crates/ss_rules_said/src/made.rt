@@ -13,11 +13,11 @@ ghost use Rattle.ss_rules_origins.specs.Views.{StillCome};
 ghost use Rattle.ss_rules_said.specs.AreMade.{AreMade, AreNumbers};
 ghost use Rattle.ss_rules_said.specs.Said.{with_said};
 
+use crate::context::SayingContext;
 use crate::saying::{add_found, say};
 use ss_core::Classes;
 use ss_rules_asked::Asked;
-use ss_rules_occurring::FormulaList;
-use ss_rules_origins::Origin;
+use ss_rules_origins::OriginList;
 use ss_terms::{Bank, FormulaId};
 use std::alloc::{AllocError, Global};
 
@@ -56,18 +56,17 @@ impl Made {
     // What an instance says, where its arguments fit the rule. It is made where it isn't the one at this place, behind which the place goes.
     fn say(
         &self,
-        alloc: Global,
+        context: &SayingContext<'_>,
         bank: &mut Bank,
-        classes: &Classes,
         place: &mut usize,
         asked: &Asked,
     ) -> Result<Option<FormulaId>, AllocError>
-        requires bank { IsBankOf (view.classes classes.now) bank.old }
-        requires limits { IsWithinLimits (view.classes classes.now) }
-        requires made { AreMade (view.classes classes.now) bank.old self.now }
+        requires bank { IsBankOf (view.classes context.now.classes.now) bank.old }
+        requires limits { IsWithinLimits (view.classes context.now.classes.now) }
+        requires made { AreMade (view.classes context.now.classes.now) bank.old self.now }
         requires rule { HasRule bank.old asked.now.rule }
         requires arguments { HasArguments bank.old asked.now.arguments.items }
-        ensures at { IfOk result (λ o. IsFormulaNumber bank.new (said (view.classes classes.now) (asked_at bank.old asked.now)) o) }
+        ensures at { IfOk result (λ o. IsFormulaNumber bank.new (said (view.classes context.now.classes.now) (asked_at bank.old asked.now)) o) }
         ensures grown { IsGrown bank.old bank.new }
     {
         match self.at(*place, asked) {
@@ -75,7 +74,7 @@ impl Made {
                 *place = place.saturating_add(1);
                 Ok(found)
             }
-            None => say(alloc, bank, classes, asked),
+            None => say(context.alloc, bank, context.classes, asked),
         }
     }
 
@@ -86,21 +85,21 @@ impl Made {
         alloc: Global,
         bank: &mut Bank,
         classes: &Classes,
-        list: &mut FormulaList,
-        origins: &mut Vec<Origin>,
+        listed: &mut OriginList,
         asked: Vec<Asked>,
     ) -> Result<(), AllocError>
         requires bank { IsBankOf (view.classes classes.now) bank.old }
         requires limits { IsWithinLimits (view.classes classes.now) }
         requires made { AreMade (view.classes classes.now) bank.old self.old }
-        requires list { HasFound bank.old list.old }
+        requires list { HasFound bank.old listed.old.list }
         requires asked { HasAsked bank.old asked.items }
-        ensures added { OnOk result (Holds bank.new list.new (with_formulas (formulas_of bank.old list.old) (all_said (view.classes classes.now) (asked_in bank.old asked.items)))) }
-        ensures noted { OnOk result (StillCome (view.classes classes.now) bank.old (formulas_of bank.old list.old) origins.old.items bank.new (formulas_of bank.new list.new) origins.new.items) }
+        ensures added { OnOk result (Holds bank.new listed.new.list (with_formulas (formulas_of bank.old listed.old.list) (all_said (view.classes classes.now) (asked_in bank.old asked.items)))) }
+        ensures noted { OnOk result (StillCome (view.classes classes.now) bank.old (formulas_of bank.old listed.old.list) listed.old.origins.items bank.new (formulas_of bank.new listed.new.list) listed.new.origins.items) }
         ensures made { OnOk result (AreMade (view.classes classes.now) bank.new self.new) }
         ensures grown { IsGrown bank.old bank.new }
     {
-        let found = self.add_each(alloc, bank, classes, list, origins, &asked)?;
+        let context = SayingContext { alloc, classes };
+        let found = self.add_each(&context, bank, listed, &asked)?;
         self.asked = asked;
         self.found = found;
         Ok(())
@@ -109,54 +108,50 @@ impl Made {
     // Adds what an instance says to the list, where it isn't there yet. Gives what it says.
     fn add_one(
         &self,
-        alloc: Global,
+        context: &SayingContext<'_>,
         bank: &mut Bank,
-        classes: &Classes,
-        list: &mut FormulaList,
-        origins: &mut Vec<Origin>,
+        listed: &mut OriginList,
         place: &mut usize,
         asked: &Asked,
     ) -> Result<Option<FormulaId>, AllocError>
-        requires bank { IsBankOf (view.classes classes.now) bank.old }
-        requires limits { IsWithinLimits (view.classes classes.now) }
-        requires made { AreMade (view.classes classes.now) bank.old self.now }
-        requires list { HasFound bank.old list.old }
+        requires bank { IsBankOf (view.classes context.now.classes.now) bank.old }
+        requires limits { IsWithinLimits (view.classes context.now.classes.now) }
+        requires made { AreMade (view.classes context.now.classes.now) bank.old self.now }
+        requires list { HasFound bank.old listed.old.list }
         requires rule { HasRule bank.old asked.now.rule }
         requires arguments { HasArguments bank.old asked.now.arguments.items }
-        ensures added { OnOk result (Holds bank.new list.new (with_said (formulas_of bank.old list.old) (said (view.classes classes.now) (asked_at bank.old asked.now)))) }
-        ensures noted { OnOk result (StillCome (view.classes classes.now) bank.old (formulas_of bank.old list.old) origins.old.items bank.new (formulas_of bank.new list.new) origins.new.items) }
-        ensures at { IfOk result (λ o. IsFormulaNumber bank.new (said (view.classes classes.now) (asked_at bank.old asked.now)) o) }
+        ensures added { OnOk result (Holds bank.new listed.new.list (with_said (formulas_of bank.old listed.old.list) (said (view.classes context.now.classes.now) (asked_at bank.old asked.now)))) }
+        ensures noted { OnOk result (StillCome (view.classes context.now.classes.now) bank.old (formulas_of bank.old listed.old.list) listed.old.origins.items bank.new (formulas_of bank.new listed.new.list) listed.new.origins.items) }
+        ensures at { IfOk result (λ o. IsFormulaNumber bank.new (said (view.classes context.now.classes.now) (asked_at bank.old asked.now)) o) }
         ensures grown { IsGrown bank.old bank.new }
     {
-        let found = self.say(alloc, bank, classes, place, asked)?;
-        add_found(alloc, bank, list, origins, asked, found)?;
+        let found = self.say(context, bank, place, asked)?;
+        add_found(context.alloc, bank, listed, asked, found)?;
         Ok(found)
     }
 
     // Adds what each of the instances says. Gives what each says.
     fn add_each(
         &self,
-        alloc: Global,
+        context: &SayingContext<'_>,
         bank: &mut Bank,
-        classes: &Classes,
-        list: &mut FormulaList,
-        origins: &mut Vec<Origin>,
+        listed: &mut OriginList,
         asked: &[Asked],
     ) -> Result<Vec<Option<FormulaId>>, AllocError>
-        requires bank { IsBankOf (view.classes classes.now) bank.old }
-        requires limits { IsWithinLimits (view.classes classes.now) }
-        requires made { AreMade (view.classes classes.now) bank.old self.now }
-        requires list { HasFound bank.old list.old }
+        requires bank { IsBankOf (view.classes context.now.classes.now) bank.old }
+        requires limits { IsWithinLimits (view.classes context.now.classes.now) }
+        requires made { AreMade (view.classes context.now.classes.now) bank.old self.now }
+        requires list { HasFound bank.old listed.old.list }
         requires asked { HasAsked bank.old asked.now }
-        ensures added { OnOk result (Holds bank.new list.new (with_formulas (formulas_of bank.old list.old) (all_said (view.classes classes.now) (asked_in bank.old asked.now)))) }
-        ensures noted { OnOk result (StillCome (view.classes classes.now) bank.old (formulas_of bank.old list.old) origins.old.items bank.new (formulas_of bank.new list.new) origins.new.items) }
-        ensures numbers { IfOk result (λ fs. AreNumbers (view.classes classes.now) bank.new asked.now fs.items) }
+        ensures added { OnOk result (Holds bank.new listed.new.list (with_formulas (formulas_of bank.old listed.old.list) (all_said (view.classes context.now.classes.now) (asked_in bank.old asked.now)))) }
+        ensures noted { OnOk result (StillCome (view.classes context.now.classes.now) bank.old (formulas_of bank.old listed.old.list) listed.old.origins.items bank.new (formulas_of bank.new listed.new.list) listed.new.origins.items) }
+        ensures numbers { IfOk result (λ fs. AreNumbers (view.classes context.now.classes.now) bank.new asked.now fs.items) }
         ensures grown { IsGrown bank.old bank.new }
     {
-        let mut all = Vec::new(alloc);
+        let mut all = Vec::new(context.alloc);
         let mut place = 0;
         for one in asked {
-            let found = self.add_one(alloc, bank, classes, list, origins, &mut place, one)?;
+            let found = self.add_one(context, bank, listed, &mut place, one)?;
             all.push(found)?;
         }
         Ok(all)

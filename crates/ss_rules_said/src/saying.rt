@@ -20,8 +20,7 @@ use ss_logic_rules::GoodRule;
 use ss_rules_asked::{Asked, Rule};
 use ss_rules_instances::{good_instance, instance};
 use ss_rules_invariants::invariants;
-use ss_rules_occurring::FormulaList;
-use ss_rules_origins::{Origin, Source};
+use ss_rules_origins::{Origin, OriginList, Source};
 use ss_terms::{Bank, FormulaId, Predicate, TermId};
 use std::alloc::{AllocError, Global};
 
@@ -139,28 +138,27 @@ pub(crate) fn say(
 fn add_new(
     alloc: Global,
     bank: &mut Bank,
-    list: &mut FormulaList,
-    origins: &mut Vec<Origin>,
+    listed: &mut OriginList,
     asked: &Asked,
     f: FormulaId,
 ) -> Result<(), AllocError>
-    requires list { HasFound bank.old list.old }
+    requires list { HasFound bank.old listed.old.list }
     requires formula { HasFormula bank.old f }
     requires rule { HasRule bank.old asked.now.rule }
     requires arguments { HasArguments bank.old asked.now.arguments.items }
-    ensures added { OnOk result (Holds bank.new list.new (with_formula (formulas_of bank.old list.old) (formula_at bank.old f))) }
-    ensures noted { OnOk result ((cs : List ClassTree) → said cs (asked_at bank.old asked.now) ≡ Some (formula_at bank.old f) → StillCome cs bank.old (formulas_of bank.old list.old) origins.old.items bank.new (formulas_of bank.new list.new) origins.new.items) }
+    ensures added { OnOk result (Holds bank.new listed.new.list (with_formula (formulas_of bank.old listed.old.list) (formula_at bank.old f))) }
+    ensures noted { OnOk result ((cs : List ClassTree) → said cs (asked_at bank.old asked.now) ≡ Some (formula_at bank.old f) → StillCome cs bank.old (formulas_of bank.old listed.old.list) listed.old.origins.items bank.new (formulas_of bank.new listed.new.list) listed.new.origins.items) }
     ensures grown { IsGrown bank.old bank.new }
 {
-    let before = list.list.len();
-    list.add(bank, f)?;
-    let after = list.list.len();
+    let before = listed.list.list.len();
+    listed.list.add(bank, f)?;
+    let after = listed.list.list.len();
     if after == before {
         return Ok(());
     }
     let terms = terms_of_arguments(alloc, bank, &asked.arguments)?;
     let source = Source::Rule(asked.rule);
-    origins.push(Origin { source, terms })?;
+    listed.origins.push(Origin { source, terms })?;
     Ok(())
 }
 
@@ -168,21 +166,20 @@ fn add_new(
 pub(crate) fn add_found(
     alloc: Global,
     bank: &mut Bank,
-    list: &mut FormulaList,
-    origins: &mut Vec<Origin>,
+    listed: &mut OriginList,
     asked: &Asked,
     found: Option<FormulaId>,
 ) -> Result<(), AllocError>
-    requires list { HasFound bank.old list.old }
+    requires list { HasFound bank.old listed.old.list }
     requires rule { HasRule bank.old asked.now.rule }
     requires arguments { HasArguments bank.old asked.now.arguments.items }
     requires found { IfSome found (HasFormula bank.old) }
-    ensures added { OnOk result (Holds bank.new list.new (with_said (formulas_of bank.old list.old) (option_map (formula_at bank.old) found))) }
-    ensures noted { OnOk result ((cs : List ClassTree) → said cs (asked_at bank.old asked.now) ≡ option_map (formula_at bank.old) found → StillCome cs bank.old (formulas_of bank.old list.old) origins.old.items bank.new (formulas_of bank.new list.new) origins.new.items) }
+    ensures added { OnOk result (Holds bank.new listed.new.list (with_said (formulas_of bank.old listed.old.list) (option_map (formula_at bank.old) found))) }
+    ensures noted { OnOk result ((cs : List ClassTree) → said cs (asked_at bank.old asked.now) ≡ option_map (formula_at bank.old) found → StillCome cs bank.old (formulas_of bank.old listed.old.list) listed.old.origins.items bank.new (formulas_of bank.new listed.new.list) listed.new.origins.items) }
     ensures grown { IsGrown bank.old bank.new }
 {
     match found {
-        Some(f) => add_new(alloc, bank, list, origins, asked, f),
+        Some(f) => add_new(alloc, bank, listed, asked, f),
         None => Ok(()),
     }
 }
@@ -192,21 +189,20 @@ fn add_one_said(
     alloc: Global,
     bank: &mut Bank,
     classes: &Classes,
-    list: &mut FormulaList,
-    origins: &mut Vec<Origin>,
+    listed: &mut OriginList,
     asked: &Asked,
 ) -> Result<(), AllocError>
     requires bank { IsBankOf (view.classes classes.now) bank.old }
     requires limits { IsWithinLimits (view.classes classes.now) }
-    requires list { HasFound bank.old list.old }
+    requires list { HasFound bank.old listed.old.list }
     requires rule { HasRule bank.old asked.now.rule }
     requires arguments { HasArguments bank.old asked.now.arguments.items }
-    ensures added { OnOk result (Holds bank.new list.new (with_said (formulas_of bank.old list.old) (said (view.classes classes.now) (asked_at bank.old asked.now)))) }
-    ensures noted { OnOk result (StillCome (view.classes classes.now) bank.old (formulas_of bank.old list.old) origins.old.items bank.new (formulas_of bank.new list.new) origins.new.items) }
+    ensures added { OnOk result (Holds bank.new listed.new.list (with_said (formulas_of bank.old listed.old.list) (said (view.classes classes.now) (asked_at bank.old asked.now)))) }
+    ensures noted { OnOk result (StillCome (view.classes classes.now) bank.old (formulas_of bank.old listed.old.list) listed.old.origins.items bank.new (formulas_of bank.new listed.new.list) listed.new.origins.items) }
     ensures grown { IsGrown bank.old bank.new }
 {
     let found = say(alloc, bank, classes, asked)?;
-    add_found(alloc, bank, list, origins, asked, found)
+    add_found(alloc, bank, listed, asked, found)
 }
 
 /// Adds what each of the instances says to the list, where it isn't there yet, and then notes where it comes from. An error is want of
@@ -215,20 +211,19 @@ pub fn add_said(
     alloc: Global,
     bank: &mut Bank,
     classes: &Classes,
-    list: &mut FormulaList,
-    origins: &mut Vec<Origin>,
+    listed: &mut OriginList,
     asked: &[Asked],
 ) -> Result<(), AllocError>
     requires bank { IsBankOf (view.classes classes.now) bank.old }
     requires limits { IsWithinLimits (view.classes classes.now) }
-    requires list { HasFound bank.old list.old }
+    requires list { HasFound bank.old listed.old.list }
     requires asked { HasAsked bank.old asked.now }
-    ensures added { OnOk result (Holds bank.new list.new (with_formulas (formulas_of bank.old list.old) (all_said (view.classes classes.now) (asked_in bank.old asked.now)))) }
-    ensures noted { OnOk result (StillCome (view.classes classes.now) bank.old (formulas_of bank.old list.old) origins.old.items bank.new (formulas_of bank.new list.new) origins.new.items) }
+    ensures added { OnOk result (Holds bank.new listed.new.list (with_formulas (formulas_of bank.old listed.old.list) (all_said (view.classes classes.now) (asked_in bank.old asked.now)))) }
+    ensures noted { OnOk result (StillCome (view.classes classes.now) bank.old (formulas_of bank.old listed.old.list) listed.old.origins.items bank.new (formulas_of bank.new listed.new.list) listed.new.origins.items) }
     ensures grown { IsGrown bank.old bank.new }
 {
     for one in asked {
-        add_one_said(alloc, bank, classes, list, origins, one)?;
+        add_one_said(alloc, bank, classes, listed, one)?;
     }
     Ok(())
 }

@@ -6,7 +6,7 @@ ghost use Rattle.ss_terms.specs.Forms.{HasFormula, HasFormulas, formula_at, form
 ghost use Rattle.ss_rules_sentences.specs.Facts.{denied_at, HasFacts, sentence_at, HasSentence, HasSentences};
 
 use crate::facts::Fact;
-use ss_terms::{Bank, Formula, FormulaId};
+use ss_terms::{Bank, Formula, FormulaId, Parts};
 use std::alloc::{AllocError, Global};
 
 /// A literal that holds where others do.
@@ -72,13 +72,13 @@ impl Sentence {
 }
 
 // The numbers of the negations.
-fn negations(alloc: Global, b: &mut Bank, facts: &[Fact]) -> Result<Vec<FormulaId>, AllocError>
+fn negations(alloc: Global, b: &mut Bank, facts: &[Fact]) -> Result<Parts, AllocError>
     requires { HasFacts b.old facts.now }
     ensures there { IfOk result (λ v. HasFormulas b.new v.items) }
     ensures at { IfOk result (λ v. formulas_at b.new v.items ≡ map (denied_at b.old) facts.now) }
     ensures grown { IsGrown b.old b.new }
 {
-    let mut made = Vec::with_capacity(alloc, facts.len() + 1)?;
+    let mut made = Parts::with_capacity(alloc, facts.len() + 1)?;
     for fact in facts {
         let f = fact.negated().make(b)?;
         made.push(f)?;

@@ -21,7 +21,7 @@ use ss_rules::{GroundStop, ground_with_origins};
 use ss_rules_ground::Grounded;
 use ss_search_candidates::find_candidate;
 use ss_search_models::{countermodel, told};
-use ss_search_procedure::{Settled, settle_by};
+use ss_search_procedure::{Settled, Unsettled, settle_by};
 use ss_terms::{Bank, FormulaId, Obligation};
 use std::alloc::{AllocError, Global};
 
@@ -121,15 +121,11 @@ fn decide(
     let Ok(decisions) = told(alloc, bank, &grounded.formulas) else {
         return Found::Memory;
     };
-    match settle_by(
-        alloc,
-        bank,
-        classes,
-        obligation,
+    let unsettled = Unsettled {
         grounded,
-        &decisions.list,
-        splits,
-    ) {
+        decisions: &decisions.list,
+    };
+    match settle_by(alloc, bank, classes, obligation, &unsettled, splits) {
         Ok(Settled::Closed(derivation)) => Found::Proved(derivation),
         Ok(Settled::Countered(model)) => Found::Countered(model),
         Ok(Settled::Spent) => Found::Spent { splits },

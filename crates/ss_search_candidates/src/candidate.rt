@@ -6,10 +6,10 @@ ghost use Rattle.ss_linear_network.specs.Made.{AreNodesOf};
 
 use crate::numbers::{Known, compares};
 use ss_rules_occurring::atoms;
-use ss_search_classes::{
+use ss_search_engine::{Engine, Order};
+use ss_search_question::{
     EQUAL, LITERAL, first_of, kind_of, of_pair, of_term, pair_argument, pair_head,
 };
-use ss_search_engine::{Engine, Order};
 use ss_search_state::State;
 use ss_terms::{Bank, FormulaId};
 use std::alloc::{AllocError, Global};

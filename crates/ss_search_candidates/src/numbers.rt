@@ -11,7 +11,7 @@ use ss_linear::{is_so, numbers_of};
 use ss_linear_network::Numbers;
 use ss_linear_sums::{SumFact, SumTable, equality_fact, sum_fact};
 use ss_logic::Sort;
-use ss_search_classes::{
+use ss_search_question::{
     ADD, AT_MOST, LITERAL, MULTIPLY, SUBTRACT, first_of, kind_of, of_term, opposite, pair_head,
     term_head,
 };

@@ -4,7 +4,7 @@ ghost use Rattle.std.specs.Prelude.{◌≤◌, length};
 
 use indexmap::IndexMap;
 use ss_linear_sums::{LinearSum, Part, SumFact};
-use ss_search_classes::{NONE, of_term, term_at};
+use ss_search_question::{NONE, of_term, term_at};
 use ss_search_state::State;
 use ss_terms::{Bank, Symbol, Term};
 use std::alloc::{AllocError, Global};

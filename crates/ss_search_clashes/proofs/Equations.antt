@@ -4,6 +4,7 @@ use Rattle.std.specs.Prelude.{◌==◌, IfSome}
 use Rattle.ss_logic.specs.declared.Sort.{Sort}
 use Rattle.ss_logic.specs.Terms.{Term, term_then, no_terms, terms_from}
 use Rattle.ss_logic.specs.Formulas.{Equal, Formula, Literal}
+use Rattle.ss_terms.specs.Lists.{SmallVec}
 use Rattle.ss_terms.specs.declared.forms.TermId.{TermId}
 use Rattle.ss_terms.specs.declared.forms.FormulaId.{FormulaId}
 use Rattle.ss_terms.specs.declared.forms.Predicate as form
@@ -34,14 +35,14 @@ no_sides b o e = subst (λ x. AreSides b x None) (sym e) refl
 -- ---- forms
 
 module _ (b : Forms) (f : FormulaId) where
-  pub literal_form : (s : Bool) (p : form.Predicate) (v : Vec TermId Global) (ts : List TermId) (r : Option Equality) → IsFormulaForm b f (LiteralForm s p v) → ts ≡ v.items → AreSides b (sides_of (Literal s (predicate_of p) (terms_from (terms_at b ts)))) r →
+  pub literal_form : (s : Bool) (p : form.Predicate) (v : SmallVec TermId) (ts : List TermId) (r : Option Equality) → IsFormulaForm b f (LiteralForm s p v) → ts ≡ v.items → AreSides b (sides_of (Literal s (predicate_of p) (terms_from (terms_at b ts)))) r →
       AreSides b (sides_of (formula_at b f)) r
   literal_form s p v ts r at e h = subst (λ g. AreSides b (sides_of g) r) (sym (at.built ∙ ap (λ us. Literal s (predicate_of p) (terms_from (terms_at b us))) (sym e))) h
 
-  pub and_form : (v : Vec FormulaId Global) → IsFormulaForm b f (AndForm v) → AreSides b (sides_of (formula_at b f)) None
+  pub and_form : (v : SmallVec FormulaId) → IsFormulaForm b f (AndForm v) → AreSides b (sides_of (formula_at b f)) None
   and_form v at = subst (λ g. AreSides b (sides_of g) None) (sym at.built) refl
 
-  pub or_form : (v : Vec FormulaId Global) → IsFormulaForm b f (OrForm v) → AreSides b (sides_of (formula_at b f)) None
+  pub or_form : (v : SmallVec FormulaId) → IsFormulaForm b f (OrForm v) → AreSides b (sides_of (formula_at b f)) None
   or_form v at = subst (λ g. AreSides b (sides_of g) None) (sym at.built) refl
 
   pub forall_form : (ss : Vec Sort Global) (g : FormulaId) → IsFormulaForm b f (ForallForm ss g) → AreSides b (sides_of (formula_at b f)) None

@@ -2,6 +2,7 @@
 use Rattle.std.proofs.Common.{◌≡◌, ℕ, List, map, Bool, true, false, refl, sym, ◌∙◌, ap, subst, Vec, Global}
 use Rattle.ss_logic.specs.declared.Sort.{Sort}
 use Rattle.ss_logic.specs.Formulas.{neg}
+use Rattle.ss_terms.specs.Lists.{SmallVec}
 use Rattle.ss_terms.specs.declared.forms.TermId.{TermId}
 use Rattle.ss_terms.specs.declared.forms.FormulaId.{FormulaId}
 use Rattle.ss_terms.specs.declared.forms.Predicate as form
@@ -14,7 +15,7 @@ use Rattle.ss_search_clashes.specs.Says.{Key, AtomKey, QuantifiedKey, Says}
 use Rattle.ss_search_clashes.proofs.Numbers.{classes_numbered}
 
 module _ (b : Forms) (class : Classing) (f : FormulaId) where
-  pub literal_says : (classes : List ℕ) → IsClassing b classes class → (s : Bool) (p : form.Predicate) (v : Vec TermId Global) (ns : List ℕ) → IsFormulaForm b f (LiteralForm s p v) → ns ≡ map (class_number classes) v.items →
+  pub literal_says : (classes : List ℕ) → IsClassing b classes class → (s : Bool) (p : form.Predicate) (v : SmallVec TermId) (ns : List ℕ) → IsFormulaForm b f (LiteralForm s p v) → ns ≡ map (class_number classes) v.items →
       Says b class (formula_at b f) (AtomKey (predicate_of p) ns) s
   literal_says classes c s p v ns at e = subst (λ x. Says b class x (AtomKey (predicate_of p) ns) s) (sym at.built) (ap (AtomKey (predicate_of p)) (e ∙ sym (classes_numbered b classes class c v.items at.below)), refl)
 
@@ -24,8 +25,8 @@ module _ (b : Forms) (class : Classing) (f : FormulaId) where
   pub exists_says : (ss : Vec Sort Global) (g n : FormulaId) → HasFormula b n → formula_at b n ≡ neg (formula_at b f) → IsFormulaForm b f (ExistsForm ss g) → Says b class (formula_at b f) (QuantifiedKey n.0) false
   exists_says ss g n h e at = subst (λ x. Says b class x (QuantifiedKey n.0) false) (sym at.built) (n, h, e ∙ ap neg at.built, refl, refl)
 
-  pub and_silent : (v : Vec FormulaId Global) → IsFormulaForm b f (AndForm v) → (k : Key) (holds : Bool) → Says b class (formula_at b f) k holds → ⊥
+  pub and_silent : (v : SmallVec FormulaId) → IsFormulaForm b f (AndForm v) → (k : Key) (holds : Bool) → Says b class (formula_at b f) k holds → ⊥
   and_silent v at k holds h = subst (λ x. Says b class x k holds) at.built h
 
-  pub or_silent : (v : Vec FormulaId Global) → IsFormulaForm b f (OrForm v) → (k : Key) (holds : Bool) → Says b class (formula_at b f) k holds → ⊥
+  pub or_silent : (v : SmallVec FormulaId) → IsFormulaForm b f (OrForm v) → (k : Key) (holds : Bool) → Says b class (formula_at b f) k holds → ⊥
   or_silent v at k holds h = subst (λ x. Says b class x k holds) at.built h

@@ -7,7 +7,7 @@ use Rattle.ss_terms.specs.declared.forms.TermId.{TermId}
 use Rattle.ss_terms.specs.declared.forms.FormulaId.{FormulaId}
 use Rattle.ss_terms.specs.Forms.{Forms, term_at, terms_at, HasTerm, HasTerms, HasFormula, HasFormulas}
 use Rattle.ss_terms.specs.Apart.{AreApart}
-use Rattle.ss_terms.proofs.Parts.{AreTermsBelow-get, AreBelow-get}
+use Rattle.ss_terms.proofs.Tested.{AreTermsBelow-get, AreBelow-get}
 use Rattle.ss_equality_rules.specs.Equal.{Equations, IsEqual, AreFormsOf, class_number, AreClassesOf}
 use Rattle.ss_equality_rules.proofs.Lists.{maps_length, maps_at}
 use Rattle.ss_search_procedure_rules.specs.Clashes.{classes_in}

@@ -13,11 +13,10 @@ ghost use Rattle.ss_search_clashing.specs.Cases.{AtClasses, IsAt, AreAt, CloseCa
 use crate::facts::{Fact, end, fact_at};
 use crate::opposing::opposing;
 use ss_deriv::Line;
-use ss_equality::Congruence;
 use ss_search_clashes::{Against, Clash, Equality, sides};
-use ss_search_equating::equate;
+use ss_search_equating::{CongruenceContext, equate};
 use ss_terms::{Bank, FormulaId, TermId};
-use std::alloc::{AllocError, Global};
+use std::alloc::AllocError;
 
 // The terms of which the formula says that they differ.
 fn different_terms(bank: &Bank, f: FormulaId) -> Equality
@@ -34,47 +33,31 @@ fn different_terms(bank: &Bank, f: FormulaId) -> Equality
 }
 
 // Lines that close the case by a formula that says that two terms of one class differ.
-fn differing(
-    alloc: Global,
-    bank: &Bank,
-    congruence: &Congruence,
-    count: usize,
-    fact: Fact,
-) -> Result<Vec<Line>, AllocError>
-    requires formula { HasFormula bank.now fact.formula }
-    requires forms { AreFormsOf bank.now congruence.now.terms }
-    requires differs { AtClasses bank.now congruence.now (λ class. differs class (formula_at bank.now fact.formula) ≡ true) }
-    ensures { IfOk result (λ v. CloseCase bank.now congruence.now.merges count (λ cs fs. IsAt cs bank.now fs fact) v.items) }
+fn differing(context: &CongruenceContext<'_>, fact: Fact) -> Result<Vec<Line>, AllocError>
+    requires formula { HasFormula context.now.bank.now fact.formula }
+    requires forms { AreFormsOf context.now.bank.now context.now.congruence.now.terms }
+    requires differs { AtClasses context.now.bank.now context.now.congruence.now (λ class. differs class (formula_at context.now.bank.now fact.formula) ≡ true) }
+    ensures { IfOk result (λ v. CloseCase context.now.bank.now context.now.congruence.now.merges context.now.count (λ cs fs. IsAt cs context.now.bank.now fs fact) v.items) }
 {
-    bank.numbers_are_apart();
-    let equality = different_terms(bank, fact.formula);
-    let shown = equate(
-        alloc,
-        bank,
-        congruence,
-        count,
-        equality.left,
-        equality.right,
-    )?;
+    context.bank.numbers_are_apart();
+    let equality = different_terms(context.bank, fact.formula);
+    let shown = equate(context, equality.left, equality.right)?;
     let place = shown.place;
     end(shown.lines, place, fact.place)
 }
 
 // Lines that close the case by two different values of one class.
 fn equal_values(
-    alloc: Global,
-    bank: &Bank,
-    congruence: &Congruence,
-    count: usize,
+    context: &CongruenceContext<'_>,
     s: TermId,
     t: TermId,
 ) -> Result<Vec<Line>, AllocError>
-    requires forms { AreFormsOf bank.now congruence.now.terms }
-    requires values { AtClasses bank.now congruence.now (λ class. AreOneClass bank.now class s t) }
-    ensures { IfOk result (λ v. CloseCase bank.now congruence.now.merges count (λ cs fs. Unit {0}) v.items) }
+    requires forms { AreFormsOf context.now.bank.now context.now.congruence.now.terms }
+    requires values { AtClasses context.now.bank.now context.now.congruence.now (λ class. AreOneClass context.now.bank.now class s t) }
+    ensures { IfOk result (λ v. CloseCase context.now.bank.now context.now.congruence.now.merges context.now.count (λ cs fs. Unit {0}) v.items) }
 {
-    bank.numbers_are_apart();
-    let shown = equate(alloc, bank, congruence, count, s, t)?;
+    context.bank.numbers_are_apart();
+    let shown = equate(context, s, t)?;
     let place = shown.place;
     end(shown.lines, place, place)
 }
@@ -82,57 +65,51 @@ fn equal_values(
 /// Lines that close the case in which so many formulas are known. Among these are those of a clash, and those of the merges at their reasons. An
 /// error is want of memory.
 pub fn close(
-    alloc: Global,
-    bank: &Bank,
-    congruence: &Congruence,
-    count: usize,
+    context: &CongruenceContext<'_>,
     known: &[FormulaId],
     places: &[usize],
     clash: Clash,
 ) -> Result<Vec<Line>, AllocError>
-    requires known { HasFormulas bank.now known.now }
+    requires known { HasFormulas context.now.bank.now known.now }
     requires places { length places.now ≡ length known.now }
-    requires forms { AreFormsOf bank.now congruence.now.terms }
-    requires clash { AtClasses bank.now congruence.now (λ class. IsClash bank.now class known.now clash) }
-    ensures { IfOk result (λ v. CloseCase bank.now congruence.now.merges count (λ cs fs. AreAt cs bank.now fs known.now places.now) v.items) }
+    requires forms { AreFormsOf context.now.bank.now context.now.congruence.now.terms }
+    requires clash { AtClasses context.now.bank.now context.now.congruence.now (λ class. IsClash context.now.bank.now class known.now clash) }
+    ensures { IfOk result (λ v. CloseCase context.now.bank.now context.now.congruence.now.merges context.now.count (λ cs fs. AreAt cs context.now.bank.now fs known.now places.now) v.items) }
 {
     match clash {
         Clash::Differs(i) => {
             let fact = fact_at(known, places, i);
-            differing(alloc, bank, congruence, count, fact)
+            differing(context, fact)
         }
         Clash::Opposed(i, j) => {
             let left = fact_at(known, places, i);
             let right = fact_at(known, places, j);
-            opposing(alloc, bank, congruence, count, left, right)
+            opposing(context, left, right)
         }
-        Clash::Values(s, t) => equal_values(alloc, bank, congruence, count, s, t),
+        Clash::Values(s, t) => equal_values(context, s, t),
     }
 }
 
 /// Lines that close the case in which a formula is known too that doesn't fit the known ones. An error is want of memory.
 pub fn close_against(
-    alloc: Global,
-    bank: &Bank,
-    congruence: &Congruence,
-    count: usize,
+    context: &CongruenceContext<'_>,
     known: &[FormulaId],
     places: &[usize],
     fact: Fact,
     against: Against,
 ) -> Result<Vec<Line>, AllocError>
-    requires known { HasFormulas bank.now known.now }
+    requires known { HasFormulas context.now.bank.now known.now }
     requires places { length places.now ≡ length known.now }
-    requires fact { HasFormula bank.now fact.formula }
-    requires forms { AreFormsOf bank.now congruence.now.terms }
-    requires against { AtClasses bank.now congruence.now (λ class. IsAgainst bank.now class known.now fact.formula against) }
-    ensures { IfOk result (λ v. CloseCase bank.now congruence.now.merges count (λ cs fs. AreAt cs bank.now fs known.now places.now × IsAt cs bank.now fs fact) v.items) }
+    requires fact { HasFormula context.now.bank.now fact.formula }
+    requires forms { AreFormsOf context.now.bank.now context.now.congruence.now.terms }
+    requires against { AtClasses context.now.bank.now context.now.congruence.now (λ class. IsAgainst context.now.bank.now class known.now fact.formula against) }
+    ensures { IfOk result (λ v. CloseCase context.now.bank.now context.now.congruence.now.merges context.now.count (λ cs fs. AreAt cs context.now.bank.now fs known.now places.now × IsAt cs context.now.bank.now fs fact) v.items) }
 {
     match against {
-        Against::Classes => differing(alloc, bank, congruence, count, fact),
+        Against::Classes => differing(context, fact),
         Against::Known(i) => {
             let other = fact_at(known, places, i);
-            opposing(alloc, bank, congruence, count, fact, other)
+            opposing(context, fact, other)
         }
     }
 }

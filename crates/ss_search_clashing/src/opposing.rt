@@ -9,10 +9,9 @@ ghost use Rattle.ss_search_clashing.specs.Cases.{AreOpposed, AtClasses, IsAt, Cl
 
 use crate::facts::{Fact, end, end_at_once};
 use ss_deriv::Line;
-use ss_equality::Congruence;
-use ss_search_equating::swap;
+use ss_search_equating::{CongruenceContext, swap};
 use ss_terms::{Bank, Formula, FormulaId, TermId};
-use std::alloc::{AllocError, Global};
+use std::alloc::AllocError;
 
 // The arguments of a literal.
 fn arguments(bank: &Bank, f: FormulaId) -> &[TermId]
@@ -32,27 +31,24 @@ fn arguments(bank: &Bank, f: FormulaId) -> &[TermId]
 /// Lines that close the case by two formulas, of which one says that something holds, and the other that it doesn't. An error is want
 /// of memory.
 pub(crate) fn opposing(
-    alloc: Global,
-    bank: &Bank,
-    congruence: &Congruence,
-    count: usize,
+    context: &CongruenceContext<'_>,
     left: Fact,
     right: Fact,
 ) -> Result<Vec<Line>, AllocError>
-    requires left { HasFormula bank.now left.formula }
-    requires right { HasFormula bank.now right.formula }
-    requires forms { AreFormsOf bank.now congruence.now.terms }
-    requires opposed { AtClasses bank.now congruence.now (λ class. AreOpposed class (formula_at bank.now left.formula) (formula_at bank.now right.formula)) }
-    ensures { IfOk result (λ v. CloseCase bank.now congruence.now.merges count (λ cs fs. IsAt cs bank.now fs left × IsAt cs bank.now fs right) v.items) }
+    requires left { HasFormula context.now.bank.now left.formula }
+    requires right { HasFormula context.now.bank.now right.formula }
+    requires forms { AreFormsOf context.now.bank.now context.now.congruence.now.terms }
+    requires opposed { AtClasses context.now.bank.now context.now.congruence.now (λ class. AreOpposed class (formula_at context.now.bank.now left.formula) (formula_at context.now.bank.now right.formula)) }
+    ensures { IfOk result (λ v. CloseCase context.now.bank.now context.now.congruence.now.merges context.now.count (λ cs fs. IsAt cs context.now.bank.now fs left × IsAt cs context.now.bank.now fs right) v.items) }
 {
-    bank.numbers_are_apart();
-    let denied = bank.negation(right.formula);
-    if bank.is_same_formula(left.formula, denied) {
-        return end_at_once(alloc, left.place, right.place);
+    context.bank.numbers_are_apart();
+    let denied = context.bank.negation(right.formula);
+    if context.bank.is_same_formula(left.formula, denied) {
+        return end_at_once(context.alloc, left.place, right.place);
     }
-    let xs = arguments(bank, left.formula);
-    let ys = arguments(bank, right.formula);
-    let shown = swap(alloc, bank, congruence, count, left.place, xs, denied, ys)?;
+    let xs = arguments(context.bank, left.formula);
+    let ys = arguments(context.bank, right.formula);
+    let shown = swap(context, left.place, xs, denied, ys)?;
     let place = shown.place;
     end(shown.lines, place, right.place)
 }

@@ -1,8 +1,8 @@
 // Which nodes are equal, by equalities and by congruence, with the facts that say so. Everything can be taken back.
 
-use crate::question::{
-    ADD, FIELD, LEVEL, MULTIPLY, NEXT, NONE, OWNER, PAIR, READY_MADE, SET, TYPE, arguments_of,
-    first_of, is_term, is_value, node_head, of_pair, of_term, same_head,
+use ss_search_question::{
+    ADD, BOUND, Head, MULTIPLY, NONE, Places, USED, arguments_of, first_of, is_read, is_term,
+    is_value, is_whole, mark_of, node_head, of_pair, of_term, same_head,
 };
 use ss_terms::Bank;
 use std::alloc::{AllocError, Global};
@@ -11,12 +11,14 @@ use std::mem;
 /// In place of a fact: two nodes have one head and equal arguments.
 pub const CONGRUENT: usize = NONE - 1;
 
-/// What is kept of a node: its class, the next member of it in a ring, one step of the equalities that joined the class, the
-/// literal that it is by a fact that joined no class, with that fact, and the last use, atom and inequality in which the term
-/// stands. What is kept of a class stands at the node that it is named by: its weight, how many members it has, how it stood when
-/// they were last asked for, how many inequalities they stand in, its literal, and the marks of the kinds of its terms.
+/// What is kept of a node: its head, its class, and the next member of it in a ring. Also one step of the equalities that joined
+/// the class. Also the literal that it is by a fact that joined no class, with that fact. Also the last use, atom and inequality
+/// in which the term stands. What is kept of a class stands at the node that it is named by. That is its weight, how many
+/// members it has, and how it stood when they were last asked for. Also how many inequalities they stand in, its literal, and
+/// the marks of the kinds of its terms and of their use.
 #[derive(Clone, Copy)]
 struct Node {
+    head: Head,
     class: usize,
     next: usize,
     to: usize,
@@ -35,7 +37,7 @@ struct Node {
 }
 
 /// An entry of a node's list: a number, the other side and whether this is the left one, and the entry before it. In a list of
-/// signatures the other side is the signature.
+/// signatures the other side is the signature, in a list of uses it is the node itself.
 #[derive(Clone, Copy)]
 struct Entry {
     number: usize,
@@ -44,7 +46,8 @@ struct Entry {
     before: usize,
 }
 
-/// What a class weighs, how many members it has, how many inequalities they stand in, its literal, and the marks of the kinds of its terms.
+/// What a class weighs, how many members it has, and how many inequalities they stand in. Also its literal, and the marks of the
+/// kinds of its terms.
 #[derive(Clone, Copy)]
 struct Load {
     weight: usize,
@@ -74,13 +77,12 @@ struct Pending {
     fact: usize,
 }
 
-/// What has to be taken back.
+/// What has to be taken back. With a node go its uses of others and its first signature.
 #[derive(Clone, Copy)]
 enum Change {
     Merge(Merge),
     Value(usize),
     There(usize),
-    Use(usize),
     Atom(usize),
     Apart(usize),
     Sign,
@@ -94,8 +96,8 @@ pub struct Step {
     pub fact: usize,
 }
 
-/// Two nodes of one class that can't be equal: two literals, or the sides of an inequality; or an `or` of which each part is
-/// refuted; or a fact and its negation.
+/// Two nodes of one class that can't be equal: two literals, or the sides of an inequality. Or an `or` of which each part is
+/// refuted, or a fact and its negation.
 #[derive(Clone, Copy)]
 pub enum Conflict {
     Literals(usize, usize),
@@ -104,8 +106,8 @@ pub enum Conflict {
     Facts(usize, usize),
 }
 
-/// Why an atom has its value: its sides are in one class, or in the classes of these literals, or differ by the fact, with
-/// whether the fact names the sides the other way round; or it is in the class of this literal itself.
+/// Why an atom has its value: its sides are in one class, or in the classes of these literals, or differ by the fact. With the
+/// fact stands whether it names the sides the other way round. Or the atom is in the class of this literal itself.
 #[derive(Clone, Copy)]
 pub enum Why {
     Equal,
@@ -131,7 +133,7 @@ const MOST_LINKS: usize = 16;
 /// The classes of equal nodes. A node that is there has its place among those that are kept; else its place is NONE.
 #[derive(Drop)]
 pub struct Classes {
-    places: Vec<usize>,
+    places: Places,
     nodes: Vec<Node>,
     uses: Vec<Entry>,
     atoms: Vec<Entry>,
@@ -143,15 +145,17 @@ pub struct Classes {
     moved: Vec<usize>,
     waiting: Vec<usize>,
     pending: Vec<Pending>,
-    merges: usize,
+    number_merges: usize,
+    shifts: usize,
     // The sums, differences and products that are there.
     sums: Vec<usize>,
     yes: usize,
     no: usize,
 }
 
-fn empty_node(number: usize) -> Node {
+fn empty_node(number: usize, head: Head) -> Node {
     Node {
+        head,
         class: number,
         next: number,
         to: NONE,
@@ -170,32 +174,11 @@ fn empty_node(number: usize) -> Node {
     }
 }
 
-// The mark of a kind of terms. Kinds of changed stores have one, and kinds that aren't looked for in classes too.
-fn mark_of(kind: usize) -> usize {
-    if kind == FIELD {
-        1
-    } else if kind == TYPE {
-        2
-    } else if kind == LEVEL {
-        4
-    } else if kind == OWNER {
-        8
-    } else if kind == PAIR {
-        16
-    } else if kind == NEXT {
-        32
-    } else if kind >= SET && kind <= READY_MADE {
-        64
-    } else {
-        128
-    }
-}
-
 impl Classes {
     /// No node. The terms `true` and `false` are these.
     pub fn new(alloc: Global, yes: usize, no: usize) -> Self {
         Classes {
-            places: Vec::new(alloc),
+            places: Places::new(alloc),
             nodes: Vec::new(alloc),
             uses: Vec::new(alloc),
             atoms: Vec::new(alloc),
@@ -207,7 +190,8 @@ impl Classes {
             moved: Vec::new(alloc),
             waiting: Vec::new(alloc),
             pending: Vec::new(alloc),
-            merges: 0,
+            number_merges: 0,
+            shifts: 0,
             sums: Vec::new(alloc),
             yes: of_term(yes),
             no: of_term(no),
@@ -215,10 +199,7 @@ impl Classes {
     }
 
     fn place(&self, number: usize) -> usize {
-        match self.places.get(number) {
-            Some(place) => *place,
-            None => NONE,
-        }
+        self.places.place(number)
     }
 
     fn node(&self, number: usize) -> Option<&Node> {
@@ -247,27 +228,25 @@ impl Classes {
 
     // A node that isn't there is kept from now on.
     fn keep(&mut self, number: usize, node: Node) -> Result<(), AllocError> {
-        for _ in self.places.len()..number.saturating_add(1) {
-            self.places.push(NONE)?;
-        }
+        self.places.grow(number.saturating_add(1))?;
         let at = self.nodes.len();
-        if let Some(place) = self.places.get_mut(number) {
-            *place = at;
-        }
+        self.places.put(number, at)?;
         self.nodes.push(node)?;
         self.trail.push(Change::There(number))?;
         Ok(())
     }
 
-    // The node that was kept last isn't there any more.
+    // The node that was kept last isn't there any more, nor what came with it.
     fn leave(&mut self, number: usize) {
+        if self.last_signed() == number {
+            self.drop_sign();
+        }
+        self.drop_uses(number);
         let _ = self.nodes.pop();
         if is_term(number) && self.sums.last().copied() == Some(number / 2) {
             let _ = self.sums.pop();
         }
-        if let Some(place) = self.places.get_mut(number) {
-            *place = NONE;
-        }
+        self.places.clear(number);
     }
 
     /// The node of `true`.
@@ -280,9 +259,14 @@ impl Classes {
         self.no
     }
 
-    /// How many merges there were.
-    pub fn merges(&self) -> usize {
-        self.merges
+    /// How many merges of whole numbers there were.
+    pub fn number_merges(&self) -> usize {
+        self.number_merges
+    }
+
+    /// How many merges there were of classes with an argument of a node, an owner, or a reference that is allocated next.
+    pub fn shifts(&self) -> usize {
+        self.shifts
     }
 
     /// How many changes stand.
@@ -327,12 +311,55 @@ impl Classes {
         }
     }
 
-    /// Whether a node's class stands in another way than it did when this was asked last.
-    pub fn sweep(&mut self, number: usize, stamp: usize) -> bool {
+    /// The kind of a node that is there.
+    pub fn kind(&self, number: usize) -> usize {
+        match self.node(number) {
+            Some(node) => node.head.kind,
+            None => BOUND,
+        }
+    }
+
+    // The head of a node, which needn't be there.
+    fn head(&self, bank: &Bank, number: usize) -> Head {
+        match self.node(number) {
+            Some(node) => node.head,
+            None => node_head(bank, number),
+        }
+    }
+
+    /// A member of the class of a node that is there. It is of a kind of terms, and from the node on so many others of that kind
+    /// come before it. NONE where there is none.
+    pub fn member(&self, number: usize, kind: usize, before: usize) -> usize {
+        let mut at = number;
+        let mut left = before;
+        for _ in 0..self.nodes.len() {
+            let Some(node) = self.node(at) else {
+                break;
+            };
+            if node.head.kind == kind {
+                if left == 0 {
+                    return at;
+                }
+                left = left.saturating_sub(1);
+            }
+            at = node.next;
+            if at == number {
+                break;
+            }
+        }
+        NONE
+    }
+
+    /// Whether a node's class has no literal, and has not as many members, beyond a base, as when this was asked last.
+    pub fn sweep(&mut self, number: usize, base: usize) -> bool {
         let at = self.place(self.class(number));
         let Some(node) = self.nodes.get_mut(at) else {
-            return stamp != NONE;
+            return false;
         };
+        if node.literal != NONE {
+            return false;
+        }
+        let stamp = node.members.wrapping_add(base);
         let has_moved = node.swept != stamp;
         node.swept = stamp;
         has_moved
@@ -421,9 +448,11 @@ impl Classes {
         self.waiting.truncate(0);
     }
 
-    fn load(&mut self, number: usize, aparts: usize) {
+    // One more entry of a node, which counts for its class: so many inequalities, and this mark.
+    fn load(&mut self, number: usize, aparts: usize, mark: usize) {
         let at = self.place(self.class(number));
         if let Some(node) = self.nodes.get_mut(at) {
+            node.kinds |= mark;
             node.weight = node.weight.saturating_add(1);
             node.apart_count = node.apart_count.saturating_add(aparts);
         }
@@ -481,11 +510,12 @@ impl Classes {
     }
 
     fn enter(&mut self, bank: &Bank, number: usize) -> Result<(), AllocError> {
-        let mut node = empty_node(number);
+        let head = node_head(bank, number);
+        let kind = head.kind;
+        let mut node = empty_node(number, head);
         if is_term(number) && is_value(bank, number / 2) {
             node.literal = number;
         }
-        let kind = node_head(bank, number).kind;
         if is_term(number) {
             node.kinds = mark_of(kind);
         }
@@ -498,7 +528,7 @@ impl Classes {
             self.add_use(of_term(argument.0), number)?;
         }
         if !arguments.is_empty() {
-            self.sign(bank, number)?;
+            let _ = self.sign(bank, number)?;
         }
         Ok(())
     }
@@ -513,18 +543,17 @@ impl Classes {
         }
         self.uses.push(Entry {
             number: user,
-            other: NONE,
+            other: number,
             is_left: true,
             before,
         })?;
-        self.trail.push(Change::Use(number))?;
-        self.load(number, 0);
+        self.load(number, 0, USED);
         Ok(())
     }
 
     // One number for the head of a node and the classes of its arguments.
     fn signature(&self, bank: &Bank, number: usize) -> usize {
-        let found = node_head(bank, number);
+        let found = self.head(bank, number);
         let mut mixed = found
             .kind
             .wrapping_mul(0x9E3779B1)
@@ -546,7 +575,7 @@ impl Classes {
     /// Whether two nodes have one head and equal arguments.
     pub fn are_congruent(&self, bank: &Bank, x: usize, y: usize) -> bool {
         let (left, right) = (arguments_of(bank, x), arguments_of(bank, y));
-        if left.len() != right.len() || !same_head(node_head(bank, x), node_head(bank, y)) {
+        if left.len() != right.len() || !same_head(self.head(bank, x), self.head(bank, y)) {
             return false;
         }
         for place in 0..left.len() {
@@ -585,20 +614,30 @@ impl Classes {
         self.find_congruent(bank, self.signature(bank, number), number)
     }
 
-    fn sign(&mut self, bank: &Bank, number: usize) -> Result<(), AllocError> {
+    // A node that is congruent to no other gets its signature. Whether it did.
+    fn sign(&mut self, bank: &Bank, number: usize) -> Result<bool, AllocError> {
         let signature = self.signature(bank, number);
         let found = self.find_congruent(bank, signature, number);
         if found != NONE {
-            return self.expect(number, found);
+            self.expect(number, found)?;
+            return Ok(false);
         }
         let at = self.signs.len();
         self.signs.push(new_entry(number, signature, true))?;
-        self.trail.push(Change::Sign)?;
         if at < self.lists.len() {
             self.list_sign(at);
-            return Ok(());
+        } else {
+            self.grow_lists()?;
         }
-        self.grow_lists()
+        Ok(true)
+    }
+
+    // The node of the last signature, or NONE.
+    fn last_signed(&self) -> usize {
+        match self.signs.last() {
+            Some(entry) => entry.number,
+            None => NONE,
+        }
     }
 
     // Twice as many lists.
@@ -665,8 +704,11 @@ impl Classes {
 
     // Tells the value of an atom that is no equality.
     fn tell_mark(&mut self, node: usize) -> Result<(), AllocError> {
+        if is_term(node) {
+            return Ok(());
+        }
         let literal = self.literal(node);
-        if is_term(node) || literal == NONE {
+        if literal == NONE {
             return Ok(());
         }
         self.events.push(Event {
@@ -695,7 +737,7 @@ impl Classes {
         }
         self.atoms.push(entry)?;
         self.trail.push(Change::Atom(number))?;
-        self.load(number, 0);
+        self.load(number, 0, 0);
         Ok(())
     }
 
@@ -708,7 +750,7 @@ impl Classes {
         }
         self.aparts.push(entry)?;
         self.trail.push(Change::Apart(number))?;
-        self.load(number, 1);
+        self.load(number, 1, 0);
         Ok(())
     }
 
@@ -800,51 +842,47 @@ impl Classes {
         Ok(None)
     }
 
-    // The merge of the classes of two nodes: the lighter one is put into the other.
-    fn merge_of(&self, pending: Pending) -> Merge {
-        let (x, y) = (pending.left, pending.right);
-        let (a, b) = (self.class(x), self.class(y));
-        let (lower, upper, linked, to) = if self.is_lighter(a, b) {
-            (a, b, x, y)
-        } else {
-            (b, a, y, x)
-        };
-        Merge {
-            lower,
-            upper,
-            literal: self.literal(upper),
-            kinds: self.load_of(upper).kinds,
-            linked,
-            to,
-            fact: pending.fact,
-        }
-    }
-
     // Whether a class weighs at most what another one does.
     fn is_lighter(&self, a: usize, b: usize) -> bool {
         self.load_of(a).weight <= self.load_of(b).weight
     }
 
     fn merge_one(&mut self, bank: &Bank, pending: Pending) -> Result<Option<Conflict>, AllocError> {
-        if self.class(pending.left) == self.class(pending.right) {
+        let (a, b) = (self.class(pending.left), self.class(pending.right));
+        if a == b {
             self.keep_value(pending)?;
             return Ok(None);
         }
-        let merge = self.merge_of(pending);
-        self.merges = self.merges.saturating_add(1);
-        let moving = self.literal(merge.lower);
+        let (first, second) = (self.load_of(a), self.load_of(b));
+        let (merge, below) = if first.weight <= second.weight {
+            (merge_of(pending, (a, b), second), first)
+        } else {
+            (merge_of(turned(pending), (b, a), first), second)
+        };
+        self.count_merge(bank, pending.left, first.kinds | second.kinds);
+        let moving = below.literal;
         self.moved.truncate(0);
         self.gather(merge.lower)?;
         let count = self.moved.len();
         if moving != NONE && merge.literal == NONE {
             self.gather(merge.upper)?;
         }
-        self.join(merge)?;
+        self.join(merge, below)?;
         if moving != NONE && merge.literal != NONE {
             return Ok(Some(Conflict::Literals(moving, merge.literal)));
         }
         self.sign_moved(bank, count)?;
         self.look_at_moved()
+    }
+
+    // One more merge, of classes with these marks, for this node.
+    fn count_merge(&mut self, bank: &Bank, number: usize, kinds: usize) {
+        if is_term(number) && is_whole(bank, number / 2) {
+            self.number_merges = self.number_merges.saturating_add(1);
+        }
+        if is_read(kinds) {
+            self.shifts = self.shifts.saturating_add(1);
+        }
     }
 
     // A fact that a node is the literal of its class, where that was known without it: paths to the literal are shorter by it.
@@ -869,12 +907,12 @@ impl Classes {
         Ok(())
     }
 
-    fn join(&mut self, merge: Merge) -> Result<(), AllocError> {
+    // Makes a merge, of whose lower class this is kept.
+    fn join(&mut self, merge: Merge, below: Load) -> Result<(), AllocError> {
         self.trail.push(Change::Merge(merge))?;
         self.turn(merge.linked);
         self.set_link(merge.linked, merge.to, merge.fact);
         self.name_members(merge.lower, merge.upper);
-        let below = self.load_of(merge.lower);
         let at = self.place(merge.upper);
         if let Some(node) = self.nodes.get_mut(at) {
             node.weight = node.weight.saturating_add(below.weight);
@@ -964,7 +1002,9 @@ impl Classes {
             let Some(entry) = self.uses.get(at).copied() else {
                 break;
             };
-            self.sign(bank, entry.number)?;
+            if self.sign(bank, entry.number)? {
+                self.trail.push(Change::Sign)?;
+            }
             at = entry.before;
         }
         Ok(())
@@ -1054,7 +1094,6 @@ impl Classes {
                 Some(Change::Merge(merge)) => self.take_back(merge),
                 Some(Change::Value(number)) => self.drop_value(number),
                 Some(Change::There(number)) => self.leave(number),
-                Some(Change::Use(number)) => self.drop_use(number),
                 Some(Change::Atom(number)) => self.drop_atom(number),
                 Some(Change::Apart(number)) => self.drop_apart(number),
                 Some(Change::Sign) => self.drop_sign(),
@@ -1081,14 +1120,21 @@ impl Classes {
         }
     }
 
-    fn drop_use(&mut self, number: usize) {
-        self.unload(number, 0);
-        let Some(entry) = self.uses.pop() else {
-            return;
-        };
-        let at = self.place(number);
-        if let Some(node) = self.nodes.get_mut(at) {
-            node.uses = entry.before;
+    // Takes back the last uses that are uses by this node.
+    fn drop_uses(&mut self, user: usize) {
+        for _ in 0..self.uses.len() {
+            let Some(entry) = self.uses.last().copied() else {
+                return;
+            };
+            if entry.number != user {
+                return;
+            }
+            let _ = self.uses.pop();
+            self.unload(entry.other, 0);
+            let at = self.place(entry.other);
+            if let Some(node) = self.nodes.get_mut(at) {
+                node.uses = entry.before;
+            }
         }
     }
 
@@ -1191,8 +1237,8 @@ impl Classes {
         None
     }
 
-    /// Adds the steps on the path from one node to another of its class. Where a fact older than another one says of a node near the first that it is
-    /// the other, which is a literal, the path ends with that fact. Whether it does.
+    /// Adds the steps on the path from one node to another of its class. The other may be a literal. Where a fact older than
+    /// another one says of a node near the first that it is this literal, the path ends with that fact. Whether it does.
     pub fn path(
         &self,
         x: usize,
@@ -1274,6 +1320,29 @@ impl Classes {
         } else {
             Some(literal == self.yes)
         }
+    }
+}
+
+// The merge of the first class into the second, of which this is kept: the left node is of the first.
+fn merge_of(pending: Pending, classes: (usize, usize), above: Load) -> Merge {
+    let (lower, upper) = classes;
+    Merge {
+        lower,
+        upper,
+        literal: above.literal,
+        kinds: above.kinds,
+        linked: pending.left,
+        to: pending.right,
+        fact: pending.fact,
+    }
+}
+
+// The same merge with its sides the other way round.
+fn turned(pending: Pending) -> Pending {
+    Pending {
+        left: pending.right,
+        right: pending.left,
+        fact: pending.fact,
     }
 }
 

@@ -6,8 +6,9 @@ ghost use Rattle.ss_terms.specs.Forms.{IsGrown, IsBankOf};
 
 use crate::engine::{Engine, Split};
 use ss_core::Classes;
-use ss_search_classes::{Conflict, LITERAL, NONE, kind_of, part_at, part_count};
-use ss_search_proof::{Reason, Said};
+use ss_search_classes::Conflict;
+use ss_search_facts::{Reason, Said};
+use ss_search_question::{LITERAL, NONE, kind_of, part_at, part_count};
 use ss_search_state::{Mark, Step};
 use ss_search_wants::{use_levels, use_positions, work};
 use ss_terms::Bank;
@@ -63,15 +64,18 @@ impl Engine {
         if let Step::Conflict(_) = &step {
             return Ok(Closed::Next(step));
         }
-        if self.state.requests.is_empty() {
-            self.go_on(bank, program)
-        } else {
-            Ok(Closed::Next(Step::Goes))
+        if !self.state.requests.is_empty() {
+            return Ok(Closed::Next(Step::Goes));
         }
+        let closed = self.go_on(bank, program)?;
+        Ok(self.unless_lemma(closed))
     }
 
     // Asks for instances, looks ahead or opens a case. `Rests` where there is nothing left.
     fn go_on(&mut self, bank: &Bank, program: &Classes) -> Result<Closed, AllocError> {
+        if self.look_at_same(bank)? {
+            return self.after_look(bank);
+        }
         for stage in 1..4 {
             if self.works(bank, program, stage)? {
                 return Ok(Closed::Next(Step::Goes));
@@ -98,21 +102,30 @@ impl Engine {
         Ok(self.state.open_bundles(bank)? || has_worked || !self.state.equal.is_settled())
     }
 
-    // Looks ahead. Where that finds nothing, all parts of a long `or` of the goal are asked for, and then the cases of a clause are opened.
+    // Looks ahead. Where that finds nothing, all parts of a long `or` of the goal are asked for. Then lemmas are tried, and then
+    // the cases of a clause are opened.
     fn look_or_split(&mut self, bank: &Bank, place: usize) -> Result<Closed, AllocError> {
         if self.look_ahead(bank)? {
-            self.after_look(bank)
-        } else if self.state.ask_parts(bank, place)? {
-            Ok(Closed::Next(Step::Goes))
-        } else {
+            return self.after_look(bank);
+        }
+        if self.state.ask_parts(bank, place)? {
+            return Ok(Closed::Next(Step::Goes));
+        }
+        let literal = self.next_lemma(bank, place);
+        if literal == NONE {
             self.open_split(bank, place)
+        } else {
+            self.open_lemma(literal)
         }
     }
 
-    // Looks ahead, and asks for more where that finds nothing; at the end looks at all numbers together.
+    // Looks ahead, and asks for more where that finds nothing; at the end looks at all numbers together. In a lemma no more is asked for.
     fn look_or_widen(&mut self, bank: &Bank, program: &Classes) -> Result<Closed, AllocError> {
         if self.look_ahead(bank)? {
             return self.after_look(bank);
+        }
+        if self.lemma.is_some() {
+            return Ok(Closed::Next(Step::Rests));
         }
         if self.state.open_rest(bank)?
             || self.state.widen(bank)?
@@ -281,6 +294,9 @@ impl Engine {
 
     // A block closes the case that this fact is the own one of. Goes on with the next case, or with what is around.
     fn close_case(&mut self, bank: &Bank, fact: usize, block: usize) -> Result<Closed, AllocError> {
+        if let Some(lemma) = self.lemma_of(fact) {
+            return self.end_lemma(lemma, block);
+        }
         self.state.discharge(fact);
         let Some(split) = self.find_split(fact) else {
             return Ok(Closed::Root(block));

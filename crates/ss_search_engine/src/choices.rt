@@ -1,8 +1,9 @@
 // What is split and tried next.
 
 use crate::engine::Engine;
-use ss_search_classes::{
-    AND, LITERAL, NONE, OR, is_first, kind_of, opposite, pair_of, part_at, part_count,
+use ss_search_question::{
+    AND, AT_MOST, LITERAL, NONE, OR, is_first, kind_of, opposite, pair_head, pair_of, part_at,
+    part_count,
 };
 use ss_terms::Bank;
 use std::alloc::AllocError;
@@ -39,7 +40,10 @@ impl Engine {
         for at in 0..self.state.asked.live_count() {
             let place = self.state.asked.live(at);
             let clause = self.state.asked.clause(place);
-            if of_goal && clause.origin != 2 || !self.is_open_clause(bank, clause.formula) {
+            if of_goal && clause.origin != 2
+                || self.is_spared(place, clause.origin)
+                || !self.is_open_clause(bank, clause.formula)
+            {
                 continue;
             }
             let count = self.state.nodes.open_count(clause.formula);
@@ -51,7 +55,7 @@ impl Engine {
         best
     }
 
-    fn is_open_clause(&self, bank: &Bank, formula: usize) -> bool {
+    pub(crate) fn is_open_clause(&self, bank: &Bank, formula: usize) -> bool {
         self.state.asked.is_relevant(pair_of(formula))
             && !self.state.nodes.is_settled(formula)
             && !self.state.nodes.has_held_part(bank, formula)
@@ -101,6 +105,31 @@ impl Engine {
             }
         }
         self.quiet = self.state.progress;
+        Ok(false)
+    }
+
+    // Tries that two numbers differ which come to the same. Whether a literal was refuted.
+    pub(crate) fn look_at_same(&mut self, bank: &Bank) -> Result<bool, AllocError> {
+        for _ in 0..u64::MAX {
+            let Some(formula) = self.state.same.last().copied() else {
+                break;
+            };
+            if self.look_at_orders(bank, formula)? {
+                return Ok(true);
+            }
+            let _ = self.state.same.pop();
+        }
+        Ok(false)
+    }
+
+    // Tries the open comparisons of a clause. Whether one was refuted.
+    fn look_at_orders(&mut self, bank: &Bank, formula: usize) -> Result<bool, AllocError> {
+        for place in 0..part_count(bank, formula) {
+            let part = part_at(bank, formula, place);
+            if pair_head(bank, pair_of(part)).kind == AT_MOST && self.look_at(bank, part)? {
+                return Ok(true);
+            }
+        }
         Ok(false)
     }
 

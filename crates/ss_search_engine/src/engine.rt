@@ -7,9 +7,10 @@ ghost use Rattle.ss_terms.specs.Forms.{Forms, IsGrown, IsBankOf};
 
 use ss_core::Classes;
 use ss_deriv::Derivation;
-use ss_search_classes::{CONSTANT, NONE, opposite, term_head};
+use ss_search_facts::{Reason, Said};
 use ss_search_made::{keep_named, no_names};
-use ss_search_proof::{Reason, Said, plan_lines, write_lines};
+use ss_search_proof::{plan_lines, write_lines};
+use ss_search_question::{CONSTANT, NONE, opposite, term_head};
 use ss_search_state::{Limits, Mark, State, Step, first_mark};
 use ss_terms::{Bank, BankMark, FormulaId, Symbol};
 use std::alloc::{AllocError, Global};
@@ -37,6 +38,19 @@ pub(crate) struct Split {
     pub(crate) clause: usize,
 }
 
+/// A lemma that is open: the literal that is tried, with its fact, and what stood before. Then how many splits were open and hypotheses handed over,
+/// how many clauses were known, and what is kept of the limits until it ends.
+#[derive(Clone, Copy)]
+pub(crate) struct Lemma {
+    pub(crate) literal: usize,
+    pub(crate) case: usize,
+    pub(crate) start: Mark,
+    pub(crate) splits: usize,
+    pub(crate) handed: usize,
+    pub(crate) clauses: usize,
+    pub(crate) kept: Limits,
+}
+
 /// A search that serves all obligations of a program. What the premises of the last obligation made known stays, and is used
 /// where the next obligation is of the same body.
 #[derive(Drop)]
@@ -57,6 +71,8 @@ pub struct Engine {
     pub(crate) look_from: usize,
     // A block that closes more than the literal that was tried.
     pub(crate) pending_block: Option<usize>,
+    // The lemma that is open.
+    pub(crate) lemma: Option<Lemma>,
     // Whether literals are the first cases of a split.
     pub(crate) literals_first: bool,
     // From which clause on, in their order, an open one is looked for.
@@ -129,6 +145,7 @@ impl Engine {
             quiet: NONE,
             look_from: 0,
             pending_block: None,
+            lemma: None,
             literals_first: false,
             scan_from: 0,
             weights: Vec::new(alloc),
@@ -235,6 +252,7 @@ impl Engine {
         self.quiet = NONE;
         self.look_from = 0;
         self.pending_block = None;
+        self.lemma = None;
         self.is_clean = true;
     }
 

@@ -6,14 +6,14 @@ ghost use Rattle.ss_terms.specs.Forms.{IsGrown, IsBankOf};
 
 use crate::engine::Engine;
 use ss_core::Classes;
-use ss_search_classes::{EXISTS, NONE, kind_of, pair_of};
+use ss_search_facts::{GoodName, Reason, RuleKind, Said};
 use ss_search_made::{
     Arguments, arguments_of, atom_made, choice_made, constants_of, delayed_made, good_made,
     inst_made, piece_made, rule_made, term_made, terms_alone,
 };
-use ss_search_proof::{GoodName, Reason, RuleKind, Said};
+use ss_search_question::{EXISTS, NONE, kind_of, pair_of};
 use ss_search_state::{Request, Wanted};
-use ss_terms::{Bank, Symbol};
+use ss_terms::{Bank, Predicate, Symbol};
 use std::alloc::AllocError;
 
 fn arguments_in(request: Request) -> Arguments {
@@ -90,7 +90,9 @@ impl Engine {
             ),
             Wanted::Owner => self.make_read(bank, Symbol::Owner, request),
             Wanted::Level => self.make_read(bank, Symbol::Level, request),
-            Wanted::Allocated => self.make_atom(bank, request),
+            Wanted::Allocated => self.make_atom(bank, Predicate::Allocated, request),
+            Wanted::Group => self.make_atom(bank, Predicate::IsGroup, request),
+            Wanted::Same => self.make_same(bank, program, request),
         }
     }
 
@@ -105,9 +107,32 @@ impl Engine {
         requires limits { IsWithinLimits (view.classes program.now) }
         ensures grown { IsGrown bank.old bank.new }
     {
-        let numbers = arguments_of(self.state.alloc, bank, arguments_in(request))?;
+        let numbers = arguments_of(
+            self.state.alloc,
+            bank,
+            &mut self.state.numerals,
+            arguments_in(request),
+        )?;
         let made = rule_made(self.state.alloc, bank, program, rule, &numbers)?;
         self.learn_rule(made, rule, &numbers)
+    }
+
+    // That two whole numbers are equal, or one is below the other, which is tried next.
+    fn make_same(
+        &mut self,
+        bank: &mut Bank,
+        program: &Classes,
+        request: Request,
+    ) -> Result<(), AllocError>
+        requires bank { IsBankOf (view.classes program.now) bank.old }
+        requires limits { IsWithinLimits (view.classes program.now) }
+        ensures grown { IsGrown bank.old bank.new }
+    {
+        let numbers = terms_alone(self.state.alloc, arguments_in(request))?;
+        let made = rule_made(self.state.alloc, bank, program, RuleKind::Apart, &numbers)?;
+        self.learn_rule(made, RuleKind::Apart, &numbers)?;
+        self.state.same.push(made)?;
+        Ok(())
     }
 
     fn learn_rule(
@@ -139,7 +164,12 @@ impl Engine {
         requires limits { IsWithinLimits (view.classes program.now) }
         ensures grown { IsGrown bank.old bank.new }
     {
-        let numbers = arguments_of(self.state.alloc, bank, arguments_in(request))?;
+        let numbers = arguments_of(
+            self.state.alloc,
+            bank,
+            &mut self.state.numerals,
+            arguments_in(request),
+        )?;
         let made = good_made(self.state.alloc, bank, program, (rule.0, rule.1), &numbers)?;
         self.learn_good(made, rule, &numbers)
     }
@@ -279,10 +309,16 @@ impl Engine {
     }
 
     // An atom that is made is asked for.
-    fn make_atom(&mut self, bank: &mut Bank, request: Request) -> Result<(), AllocError>
+    fn make_atom(
+        &mut self,
+        bank: &mut Bank,
+        predicate: Predicate,
+        request: Request,
+    ) -> Result<(), AllocError>
         ensures grown { IsGrown bank.old bank.new }
     {
-        let made = atom_made(self.state.alloc, bank, &[request.first, request.second])?;
+        let numbers = terms_alone(self.state.alloc, arguments_in(request))?;
+        let made = atom_made(self.state.alloc, bank, predicate, &numbers)?;
         self.state.nodes.grow(bank)?;
         if made == NONE {
             return Ok(());

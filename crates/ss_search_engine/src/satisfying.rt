@@ -2,11 +2,11 @@
 
 use crate::cases::Closed;
 use crate::engine::Engine;
-use ss_search_classes::{
+use ss_search_facts::{Reason, Said};
+use ss_search_question::{
     AT_MOST, EQUAL, EXISTS, LITERAL, NONE, is_first, is_truth, kind_of, of_pair, pair_argument,
     pair_head, pair_of, part_at, part_count,
 };
-use ss_search_proof::{Reason, Said};
 use ss_search_state::{Mark, State, Step};
 use ss_terms::{Bank, FormulaId};
 use std::alloc::AllocError;

@@ -11,14 +11,14 @@ ghost use Rattle.ss_search_equating.specs.Ways.{ArePaired};
 ghost use Rattle.ss_search_equating.specs.Said.{MakeKnown, AreEqual, IsLiteralAt};
 ghost use Rattle.ss_search_equating.specs.Placed.{IsReady};
 
+use crate::context::{CongruenceContext, JoinContext};
 use crate::ends::ends;
 use crate::needed::needed;
 use crate::placing::{add, chain, chain_arguments, place_all};
 use ss_deriv::Line;
-use ss_equality::Congruence;
 use ss_equality_rules::Join;
-use ss_terms::{Bank, FormulaId, TermId};
-use std::alloc::{AllocError, Global};
+use ss_terms::{FormulaId, TermId};
+use std::alloc::AllocError;
 
 /// Lines, and the place of the fact that they are for.
 #[derive(Drop)]
@@ -38,26 +38,29 @@ struct Prepared {
 }
 
 fn prepare(
-    alloc: Global,
-    bank: &Bank,
-    congruence: &Congruence,
+    context: &CongruenceContext<'_>,
     joins: &[Join],
-    known: usize,
     xs: &[TermId],
     ys: &[TermId],
 ) -> Result<Prepared, AllocError>
-    requires forms { AreFormsOf bank.now congruence.now.terms }
-    requires caused { AreCaused congruence.now.terms congruence.now.merges joins.now }
-    requires log { IsLog (length congruence.now.terms) joins.now }
+    requires forms { AreFormsOf context.now.bank.now context.now.congruence.now.terms }
+    requires caused { AreCaused context.now.congruence.now.terms context.now.congruence.now.merges joins.now }
+    requires log { IsLog (length context.now.congruence.now.terms) joins.now }
     requires paired { ArePaired joins.now xs.now ys.now }
-    ensures { IfOk result (λ r. IsReady bank.now congruence.now.terms congruence.now.merges joins.now xs.now ys.now known r.ends.items r.places.items r.lines.items) }
+    ensures { IfOk result (λ r. IsReady context.now.bank.now context.now.congruence.now.terms context.now.congruence.now.merges joins.now xs.now ys.now context.now.count r.ends.items r.places.items r.lines.items) }
 {
-    let ends = ends(alloc, joins, bank.term_count())?;
-    let marks = needed(alloc, bank, congruence, joins, &ends, xs, ys)?;
-    let mut lines = Vec::new(alloc);
-    let places = place_all(
-        alloc, bank, congruence, joins, &ends, &marks, known, &mut lines,
-    )?;
+    let ends = ends(context.alloc, joins, context.bank.term_count())?;
+    let joined = JoinContext {
+        alloc: context.alloc,
+        bank: context.bank,
+        congruence: context.congruence,
+        joins,
+        ends: &ends,
+        known: context.count,
+    };
+    let marks = needed(&joined, xs, ys)?;
+    let mut lines = Vec::new(context.alloc);
+    let places = place_all(&joined, &marks, &mut lines)?;
     Ok(Prepared {
         ends,
         places,
@@ -67,34 +70,25 @@ fn prepare(
 
 /// Lines that make known that two terms are equal, where so many formulas are known, those of the merges at their reasons among
 /// them. An error is want of memory.
-pub fn equate(
-    alloc: Global,
-    bank: &Bank,
-    congruence: &Congruence,
-    known: usize,
-    x: TermId,
-    y: TermId,
-) -> Result<Shown, AllocError>
-    requires left { HasTerm bank.now x }
-    requires right { HasTerm bank.now y }
-    requires forms { AreFormsOf bank.now congruence.now.terms }
-    requires equal { IsEqual congruence.now.terms congruence.now.merges x.0 y.0 }
-    ensures { IfOk result (λ s. MakeKnown bank.now congruence.now.merges known (λ cs fs. is_well_sorted cs [] (term_at bank.now x) ≡ true) (equal (term_at bank.now x) (term_at bank.now y)) s.lines.items s.place) }
+pub fn equate(context: &CongruenceContext<'_>, x: TermId, y: TermId) -> Result<Shown, AllocError>
+    requires left { HasTerm context.now.bank.now x }
+    requires right { HasTerm context.now.bank.now y }
+    requires forms { AreFormsOf context.now.bank.now context.now.congruence.now.terms }
+    requires equal { IsEqual context.now.congruence.now.terms context.now.congruence.now.merges x.0 y.0 }
+    ensures { IfOk result (λ s. MakeKnown context.now.bank.now context.now.congruence.now.merges context.now.count (λ cs fs. is_well_sorted cs [] (term_at context.now.bank.now x) ≡ true) (equal (term_at context.now.bank.now x) (term_at context.now.bank.now y)) s.lines.items s.place) }
 {
-    bank.numbers_are_apart();
-    let joins = congruence.joins();
-    let mut prepared = prepare(alloc, bank, congruence, joins, known, &[x], &[y])?;
-    let place = chain(
-        alloc,
-        bank,
+    context.bank.numbers_are_apart();
+    let joins = context.congruence.joins();
+    let mut prepared = prepare(context, joins, &[x], &[y])?;
+    let joined = JoinContext {
+        alloc: context.alloc,
+        bank: context.bank,
+        congruence: context.congruence,
         joins,
-        &prepared.ends,
-        &prepared.places,
-        known,
-        &mut prepared.lines,
-        x,
-        y,
-    )?;
+        ends: &prepared.ends,
+        known: context.count,
+    };
+    let place = chain(&joined, &prepared.places, &mut prepared.lines, x, y)?;
     Ok(Shown {
         lines: prepared.lines,
         place,
@@ -104,38 +98,33 @@ pub fn equate(
 /// Lines that make a literal known, where the same is known of terms that are equal to its terms one by one. An error is want of
 /// memory.
 pub fn swap(
-    alloc: Global,
-    bank: &Bank,
-    congruence: &Congruence,
-    known: usize,
+    context: &CongruenceContext<'_>,
     of: usize,
     xs: &[TermId],
     literal: FormulaId,
     ys: &[TermId],
 ) -> Result<Shown, AllocError>
-    requires left { HasTerms bank.now xs.now }
-    requires right { HasTerms bank.now ys.now }
-    requires literal { HasFormula bank.now literal }
-    requires forms { AreFormsOf bank.now congruence.now.terms }
-    requires equal { AreEqual congruence.now xs.now ys.now }
-    ensures { IfOk result (λ s. MakeKnown bank.now congruence.now.merges known (λ cs fs. IsLiteralAt cs bank.now fs of xs.now literal ys.now) (formula_at bank.now literal) s.lines.items s.place) }
+    requires left { HasTerms context.now.bank.now xs.now }
+    requires right { HasTerms context.now.bank.now ys.now }
+    requires literal { HasFormula context.now.bank.now literal }
+    requires forms { AreFormsOf context.now.bank.now context.now.congruence.now.terms }
+    requires equal { AreEqual context.now.congruence.now xs.now ys.now }
+    ensures { IfOk result (λ s. MakeKnown context.now.bank.now context.now.congruence.now.merges context.now.count (λ cs fs. IsLiteralAt cs context.now.bank.now fs of xs.now literal ys.now) (formula_at context.now.bank.now literal) s.lines.items s.place) }
 {
-    bank.numbers_are_apart();
-    let joins = congruence.joins();
-    let mut prepared = prepare(alloc, bank, congruence, joins, known, xs, ys)?;
-    let equalities = chain_arguments(
-        alloc,
-        bank,
+    context.bank.numbers_are_apart();
+    let joins = context.congruence.joins();
+    let mut prepared = prepare(context, joins, xs, ys)?;
+    let joined = JoinContext {
+        alloc: context.alloc,
+        bank: context.bank,
+        congruence: context.congruence,
         joins,
-        &prepared.ends,
-        &prepared.places,
-        known,
-        &mut prepared.lines,
-        xs,
-        ys,
-    )?;
+        ends: &prepared.ends,
+        known: context.count,
+    };
+    let equalities = chain_arguments(&joined, &prepared.places, &mut prepared.lines, xs, ys)?;
     let place = add(
-        known,
+        context.count,
         &mut prepared.lines,
         Line::Swap {
             of,

@@ -2,10 +2,12 @@
 //! classes.
 #![tactic(auto)]
 
+mod context;
 mod ends;
 mod equating;
 mod needed;
 mod placing;
 mod ways;
 
+pub use context::CongruenceContext;
 pub use equating::{Shown, equate, swap};

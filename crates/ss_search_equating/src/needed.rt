@@ -11,9 +11,9 @@ ghost use Rattle.ss_equality_rules.specs.Whole.{AreCaused};
 ghost use Rattle.ss_search_equating.specs.Ways.{way, ways, ArePaired, AreEnds};
 ghost use Rattle.ss_search_equating.specs.Needed.{Marks, MarksJoin, AreNeeded};
 
+use crate::context::JoinContext;
 use crate::ends::join_at;
 use crate::ways::way;
-use ss_equality::Congruence;
 use ss_equality_rules::Join;
 use ss_terms::{Bank, Term, TermId};
 use std::alloc::{AllocError, Global};
@@ -99,83 +99,67 @@ pub(crate) fn arguments(bank: &Bank, t: usize) -> &[TermId]
 }
 
 // Marks what a marked join by congruence needs: the ways between its arguments.
-fn mark_join(
-    alloc: Global,
-    bank: &Bank,
-    congruence: &Congruence,
-    joins: &[Join],
-    ends: &[Option<usize>],
-    marks: &mut [bool],
-    number: usize,
-) -> Result<(), AllocError>
-    requires forms { AreFormsOf bank.now congruence.now.terms }
-    requires caused { AreCaused congruence.now.terms congruence.now.merges joins.now }
-    requires ends { AreEnds joins.now ends.now }
-    requires long { length marks.old ≡ length joins.now }
-    requires number { number < length joins.now }
-    ensures { OnOk result ((e : Join) → slice_get joins.now number ≡ Some e → MarksJoin congruence.now.terms joins.now number e marks.old marks.new) }
+fn mark_join(context: &JoinContext<'_>, marks: &mut [bool], number: usize) -> Result<(), AllocError>
+    requires forms { AreFormsOf context.now.bank.now context.now.congruence.now.terms }
+    requires caused { AreCaused context.now.congruence.now.terms context.now.congruence.now.merges context.now.joins.now }
+    requires ends { AreEnds context.now.joins.now context.now.ends.now }
+    requires long { length marks.old ≡ length context.now.joins.now }
+    requires number { number < length context.now.joins.now }
+    ensures { OnOk result ((e : Join) → slice_get context.now.joins.now number ≡ Some e → MarksJoin context.now.congruence.now.terms context.now.joins.now number e marks.old marks.new) }
 {
-    let _merges = congruence.mark();
+    let _merges = context.congruence.mark();
     if !is_marked(marks, number) {
         return Ok(());
     }
-    let join = join_at(joins, number);
+    let join = join_at(context.joins, number);
     match join.why {
         Some(_) => Ok(()),
         None => {
-            let xs = arguments(bank, join.left);
-            let ys = arguments(bank, join.right);
-            mark_ways(alloc, joins, ends, marks, xs, ys)
+            let xs = arguments(context.bank, join.left);
+            let ys = arguments(context.bank, join.right);
+            mark_ways(context.alloc, context.joins, context.ends, marks, xs, ys)
         }
     }
 }
 
 // Marks the joins that are needed, where none is marked.
 fn mark_all(
-    alloc: Global,
-    bank: &Bank,
-    congruence: &Congruence,
-    joins: &[Join],
-    ends: &[Option<usize>],
+    context: &JoinContext<'_>,
     marks: &mut [bool],
     xs: &[TermId],
     ys: &[TermId],
 ) -> Result<(), AllocError>
-    requires forms { AreFormsOf bank.now congruence.now.terms }
-    requires caused { AreCaused congruence.now.terms congruence.now.merges joins.now }
-    requires ends { AreEnds joins.now ends.now }
-    requires long { length marks.old ≡ length joins.now }
+    requires forms { AreFormsOf context.now.bank.now context.now.congruence.now.terms }
+    requires caused { AreCaused context.now.congruence.now.terms context.now.congruence.now.merges context.now.joins.now }
+    requires ends { AreEnds context.now.joins.now context.now.ends.now }
+    requires long { length marks.old ≡ length context.now.joins.now }
     requires none { (j : ℕ) → slice_get marks.old j ≡ Some true → ⊥ }
-    requires paired { ArePaired joins.now xs.now ys.now }
-    ensures { OnOk result (AreNeeded congruence.now.terms joins.now xs.now ys.now 0 marks.new) }
+    requires paired { ArePaired context.now.joins.now xs.now ys.now }
+    ensures { OnOk result (AreNeeded context.now.congruence.now.terms context.now.joins.now xs.now ys.now 0 marks.new) }
 {
-    mark_ways(alloc, joins, ends, marks, xs, ys)?;
-    let mut number = joins.len();
+    mark_ways(context.alloc, context.joins, context.ends, marks, xs, ys)?;
+    let mut number = context.joins.len();
     while number > 0 {
         number -= 1;
-        mark_join(alloc, bank, congruence, joins, ends, marks, number)?;
+        mark_join(context, marks, number)?;
     }
     Ok(())
 }
 
 /// Which joins are needed for the ways between the terms of two lists.
 pub(crate) fn needed(
-    alloc: Global,
-    bank: &Bank,
-    congruence: &Congruence,
-    joins: &[Join],
-    ends: &[Option<usize>],
+    context: &JoinContext<'_>,
     xs: &[TermId],
     ys: &[TermId],
 ) -> Result<Vec<bool>, AllocError>
-    requires forms { AreFormsOf bank.now congruence.now.terms }
-    requires caused { AreCaused congruence.now.terms congruence.now.merges joins.now }
-    requires ends { AreEnds joins.now ends.now }
-    requires paired { ArePaired joins.now xs.now ys.now }
-    ensures long { IfOk result (λ v. length v.items ≡ length joins.now) }
-    ensures needed { IfOk result (λ v. AreNeeded congruence.now.terms joins.now xs.now ys.now 0 v.items) }
+    requires forms { AreFormsOf context.now.bank.now context.now.congruence.now.terms }
+    requires caused { AreCaused context.now.congruence.now.terms context.now.congruence.now.merges context.now.joins.now }
+    requires ends { AreEnds context.now.joins.now context.now.ends.now }
+    requires paired { ArePaired context.now.joins.now xs.now ys.now }
+    ensures long { IfOk result (λ v. length v.items ≡ length context.now.joins.now) }
+    ensures needed { IfOk result (λ v. AreNeeded context.now.congruence.now.terms context.now.joins.now xs.now ys.now 0 v.items) }
 {
-    let mut marks = no_marks(alloc, joins.len())?;
-    mark_all(alloc, bank, congruence, joins, ends, &mut marks, xs, ys)?;
+    let mut marks = no_marks(context.alloc, context.joins.len())?;
+    mark_all(context, &mut marks, xs, ys)?;
     Ok(marks)
 }

@@ -13,13 +13,13 @@ ghost use Rattle.ss_search_equating.specs.Ways.{way, ArePaired, AreEnds};
 ghost use Rattle.ss_search_equating.specs.Needed.{AreClosed};
 ghost use Rattle.ss_search_equating.specs.Placed.{places_of, chain_between, chains, AddsChains, IsPlaced, ArePlaced};
 
+use crate::context::JoinContext;
 use crate::ends::join_at;
 use crate::needed::{arguments, is_marked};
 use crate::ways::way;
 use ss_deriv::Line;
-use ss_equality::Congruence;
 use ss_equality_rules::Join;
-use ss_terms::{Bank, TermId};
+use ss_terms::TermId;
 use std::alloc::{AllocError, Global};
 
 fn place_at(places: &[usize], number: usize) -> usize
@@ -64,27 +64,23 @@ pub(crate) fn add(known: usize, lines: &mut Vec<Line>, line: Line) -> Result<usi
 
 /// The line that two terms of one class are equal.
 pub(crate) fn chain(
-    alloc: Global,
-    bank: &Bank,
-    joins: &[Join],
-    ends: &[Option<usize>],
+    context: &JoinContext<'_>,
     places: &[usize],
-    known: usize,
     lines: &mut Vec<Line>,
     x: TermId,
     y: TermId,
 ) -> Result<usize, AllocError>
-    requires left { HasTerm bank.now x }
-    requires right { HasTerm bank.now y }
-    requires ends { AreEnds joins.now ends.now }
-    requires same { name joins.now x.0 ≡ name joins.now y.0 }
-    ensures added { OnOk result (lines_of bank.now lines.new.items ≡ lines_of bank.now lines.old.items ++ tree.Chain (term_at bank.now x) (term_at bank.now y) (places_of places.now (way joins.now x.0 y.0)) ∷ []) }
-    ensures place { IfOk result (λ p. p ≡ known + length lines.old.items) }
+    requires left { HasTerm context.now.bank.now x }
+    requires right { HasTerm context.now.bank.now y }
+    requires ends { AreEnds context.now.joins.now context.now.ends.now }
+    requires same { name context.now.joins.now x.0 ≡ name context.now.joins.now y.0 }
+    ensures added { OnOk result (lines_of context.now.bank.now lines.new.items ≡ lines_of context.now.bank.now lines.old.items ++ tree.Chain (term_at context.now.bank.now x) (term_at context.now.bank.now y) (places_of places.now (way context.now.joins.now x.0 y.0)) ∷ []) }
+    ensures place { IfOk result (λ p. p ≡ context.now.known + length lines.old.items) }
 {
-    let _count = bank.term_count();
-    let path = path(alloc, joins, ends, places, x.0, y.0)?;
+    let _count = context.bank.term_count();
+    let path = path(context.alloc, context.joins, context.ends, places, x.0, y.0)?;
     add(
-        known,
+        context.known,
         lines,
         Line::Chain {
             left: x,
@@ -96,93 +92,69 @@ pub(crate) fn chain(
 
 // The line on two arguments, where they differ.
 fn chain_pair(
-    alloc: Global,
-    bank: &Bank,
-    joins: &[Join],
-    ends: &[Option<usize>],
+    context: &JoinContext<'_>,
     places: &[usize],
-    known: usize,
     lines: &mut Vec<Line>,
     equalities: &mut Vec<usize>,
     x: TermId,
     y: TermId,
 ) -> Result<(), AllocError>
-    requires left { HasTerm bank.now x }
-    requires right { HasTerm bank.now y }
-    requires ends { AreEnds joins.now ends.now }
-    requires same { name joins.now x.0 ≡ name joins.now y.0 }
-    ensures { OnOk result (AddsChains bank.now (chain_between bank.now joins.now places.now x y) known lines.old.items lines.new.items equalities.old.items equalities.new.items) }
+    requires left { HasTerm context.now.bank.now x }
+    requires right { HasTerm context.now.bank.now y }
+    requires ends { AreEnds context.now.joins.now context.now.ends.now }
+    requires same { name context.now.joins.now x.0 ≡ name context.now.joins.now y.0 }
+    ensures { OnOk result (AddsChains context.now.bank.now (chain_between context.now.bank.now context.now.joins.now places.now x y) context.now.known lines.old.items lines.new.items equalities.old.items equalities.new.items) }
 {
-    if bank.is_same_term(x, y) {
+    if context.bank.is_same_term(x, y) {
         return Ok(());
     }
-    let place = chain(alloc, bank, joins, ends, places, known, lines, x, y)?;
+    let place = chain(context, places, lines, x, y)?;
     equalities.push(place)?;
     Ok(())
 }
 
 /// The lines on the arguments that differ, and the places of what they make known.
 pub(crate) fn chain_arguments(
-    alloc: Global,
-    bank: &Bank,
-    joins: &[Join],
-    ends: &[Option<usize>],
+    context: &JoinContext<'_>,
     places: &[usize],
-    known: usize,
     lines: &mut Vec<Line>,
     xs: &[TermId],
     ys: &[TermId],
 ) -> Result<Vec<usize>, AllocError>
-    requires left { HasTerms bank.now xs.now }
-    requires right { HasTerms bank.now ys.now }
-    requires ends { AreEnds joins.now ends.now }
-    requires paired { ArePaired joins.now xs.now ys.now }
-    ensures { IfOk result (λ v. AddsChains bank.now (chains bank.now joins.now places.now xs.now ys.now) known lines.old.items lines.new.items [] v.items) }
+    requires left { HasTerms context.now.bank.now xs.now }
+    requires right { HasTerms context.now.bank.now ys.now }
+    requires ends { AreEnds context.now.joins.now context.now.ends.now }
+    requires paired { ArePaired context.now.joins.now xs.now ys.now }
+    ensures { IfOk result (λ v. AddsChains context.now.bank.now (chains context.now.bank.now context.now.joins.now places.now xs.now ys.now) context.now.known lines.old.items lines.new.items [] v.items) }
 {
-    let mut equalities = Vec::new(alloc);
+    let mut equalities = Vec::new(context.alloc);
     for i in 0..xs.len() {
-        chain_pair(
-            alloc,
-            bank,
-            joins,
-            ends,
-            places,
-            known,
-            lines,
-            &mut equalities,
-            xs[i],
-            ys[i],
-        )?;
+        chain_pair(context, places, lines, &mut equalities, xs[i], ys[i])?;
     }
     Ok(equalities)
 }
 
 // The lines of a join by congruence, and the place of its equality.
 fn place_congruence(
-    alloc: Global,
-    bank: &Bank,
-    congruence: &Congruence,
-    joins: &[Join],
-    ends: &[Option<usize>],
+    context: &JoinContext<'_>,
     places: &[usize],
-    known: usize,
     lines: &mut Vec<Line>,
     number: usize,
 ) -> Result<usize, AllocError>
-    requires forms { AreFormsOf bank.now congruence.now.terms }
-    requires caused { AreCaused congruence.now.terms congruence.now.merges joins.now }
-    requires ends { AreEnds joins.now ends.now }
-    requires number { number < length joins.now }
-    requires congruent { (e : Join) → slice_get joins.now number ≡ Some e → e.why ≡ None }
-    ensures { IfOk result (λ p. (e : Join) → slice_get joins.now number ≡ Some e → IsPlaced bank.now congruence.now.terms congruence.now.merges joins.now places.now known e lines.old.items lines.new.items p) }
+    requires forms { AreFormsOf context.now.bank.now context.now.congruence.now.terms }
+    requires caused { AreCaused context.now.congruence.now.terms context.now.congruence.now.merges context.now.joins.now }
+    requires ends { AreEnds context.now.joins.now context.now.ends.now }
+    requires number { number < length context.now.joins.now }
+    requires congruent { (e : Join) → slice_get context.now.joins.now number ≡ Some e → e.why ≡ None }
+    ensures { IfOk result (λ p. (e : Join) → slice_get context.now.joins.now number ≡ Some e → IsPlaced context.now.bank.now context.now.congruence.now.terms context.now.congruence.now.merges context.now.joins.now places.now context.now.known e lines.old.items lines.new.items p) }
 {
-    let _merges = congruence.mark();
-    let join = join_at(joins, number);
-    let xs = arguments(bank, join.left);
-    let ys = arguments(bank, join.right);
-    let equalities = chain_arguments(alloc, bank, joins, ends, places, known, lines, xs, ys)?;
+    let _merges = context.congruence.mark();
+    let join = join_at(context.joins, number);
+    let xs = arguments(context.bank, join.left);
+    let ys = arguments(context.bank, join.right);
+    let equalities = chain_arguments(context, places, lines, xs, ys)?;
     add(
-        known,
+        context.known,
         lines,
         Line::Cong {
             left: TermId(join.left),
@@ -194,86 +166,65 @@ fn place_congruence(
 
 // The place of the equality of a join, with the lines that make it known.
 fn place_join(
-    alloc: Global,
-    bank: &Bank,
-    congruence: &Congruence,
-    joins: &[Join],
-    ends: &[Option<usize>],
+    context: &JoinContext<'_>,
     places: &[usize],
-    known: usize,
     lines: &mut Vec<Line>,
     number: usize,
 ) -> Result<usize, AllocError>
-    requires forms { AreFormsOf bank.now congruence.now.terms }
-    requires caused { AreCaused congruence.now.terms congruence.now.merges joins.now }
-    requires ends { AreEnds joins.now ends.now }
-    requires number { number < length joins.now }
-    ensures { IfOk result (λ p. (e : Join) → slice_get joins.now number ≡ Some e → IsPlaced bank.now congruence.now.terms congruence.now.merges joins.now places.now known e lines.old.items lines.new.items p) }
+    requires forms { AreFormsOf context.now.bank.now context.now.congruence.now.terms }
+    requires caused { AreCaused context.now.congruence.now.terms context.now.congruence.now.merges context.now.joins.now }
+    requires ends { AreEnds context.now.joins.now context.now.ends.now }
+    requires number { number < length context.now.joins.now }
+    ensures { IfOk result (λ p. (e : Join) → slice_get context.now.joins.now number ≡ Some e → IsPlaced context.now.bank.now context.now.congruence.now.terms context.now.congruence.now.merges context.now.joins.now places.now context.now.known e lines.old.items lines.new.items p) }
 {
-    match join_at(joins, number).why {
-        Some(merge) => Ok(congruence.because(merge)),
-        None => place_congruence(
-            alloc, bank, congruence, joins, ends, places, known, lines, number,
-        ),
+    match join_at(context.joins, number).why {
+        Some(merge) => Ok(context.congruence.because(merge)),
+        None => place_congruence(context, places, lines, number),
     }
 }
 
 // The place of the equality of a join that is needed; any place for another.
 fn place_needed(
-    alloc: Global,
-    bank: &Bank,
-    congruence: &Congruence,
-    joins: &[Join],
-    ends: &[Option<usize>],
+    context: &JoinContext<'_>,
     marks: &[bool],
     places: &[usize],
-    known: usize,
     lines: &mut Vec<Line>,
 ) -> Result<usize, AllocError>
-    requires forms { AreFormsOf bank.now congruence.now.terms }
-    requires caused { AreCaused congruence.now.terms congruence.now.merges joins.now }
-    requires ends { AreEnds joins.now ends.now }
-    requires long { length marks.now ≡ length joins.now }
-    requires closed { AreClosed congruence.now.terms joins.now 0 marks.now }
-    requires more { length places.now < length joins.now }
-    requires placed { ArePlaced bank.now congruence.now.merges joins.now known marks.now places.now lines.old.items }
-    ensures { IfOk result (λ p. ArePlaced bank.now congruence.now.merges joins.now known marks.now (places.now ++ p ∷ []) lines.new.items) }
+    requires forms { AreFormsOf context.now.bank.now context.now.congruence.now.terms }
+    requires caused { AreCaused context.now.congruence.now.terms context.now.congruence.now.merges context.now.joins.now }
+    requires ends { AreEnds context.now.joins.now context.now.ends.now }
+    requires long { length marks.now ≡ length context.now.joins.now }
+    requires closed { AreClosed context.now.congruence.now.terms context.now.joins.now 0 marks.now }
+    requires more { length places.now < length context.now.joins.now }
+    requires placed { ArePlaced context.now.bank.now context.now.congruence.now.merges context.now.joins.now context.now.known marks.now places.now lines.old.items }
+    ensures { IfOk result (λ p. ArePlaced context.now.bank.now context.now.congruence.now.merges context.now.joins.now context.now.known marks.now (places.now ++ p ∷ []) lines.new.items) }
 {
-    bank.numbers_are_apart();
+    context.bank.numbers_are_apart();
     let number = places.len();
     if !is_marked(marks, number) {
         return Ok(0);
     }
-    place_join(
-        alloc, bank, congruence, joins, ends, places, known, lines, number,
-    )
+    place_join(context, places, lines, number)
 }
 
 /// The place of the equality of each join that is needed, with the lines that make it known.
 pub(crate) fn place_all(
-    alloc: Global,
-    bank: &Bank,
-    congruence: &Congruence,
-    joins: &[Join],
-    ends: &[Option<usize>],
+    context: &JoinContext<'_>,
     marks: &[bool],
-    known: usize,
     lines: &mut Vec<Line>,
 ) -> Result<Vec<usize>, AllocError>
-    requires forms { AreFormsOf bank.now congruence.now.terms }
-    requires caused { AreCaused congruence.now.terms congruence.now.merges joins.now }
-    requires ends { AreEnds joins.now ends.now }
-    requires long { length marks.now ≡ length joins.now }
-    requires closed { AreClosed congruence.now.terms joins.now 0 marks.now }
+    requires forms { AreFormsOf context.now.bank.now context.now.congruence.now.terms }
+    requires caused { AreCaused context.now.congruence.now.terms context.now.congruence.now.merges context.now.joins.now }
+    requires ends { AreEnds context.now.joins.now context.now.ends.now }
+    requires long { length marks.now ≡ length context.now.joins.now }
+    requires closed { AreClosed context.now.congruence.now.terms context.now.joins.now 0 marks.now }
     requires empty { lines.old.items ≡ [] }
-    ensures long { IfOk result (λ v. length v.items ≡ length joins.now) }
-    ensures placed { IfOk result (λ v. ArePlaced bank.now congruence.now.merges joins.now known marks.now v.items lines.new.items) }
+    ensures long { IfOk result (λ v. length v.items ≡ length context.now.joins.now) }
+    ensures placed { IfOk result (λ v. ArePlaced context.now.bank.now context.now.congruence.now.merges context.now.joins.now context.now.known marks.now v.items lines.new.items) }
 {
-    let mut places = Vec::new(alloc);
-    for _number in 0..joins.len() {
-        let place = place_needed(
-            alloc, bank, congruence, joins, ends, marks, &places, known, lines,
-        )?;
+    let mut places = Vec::new(context.alloc);
+    for _number in 0..context.joins.len() {
+        let place = place_needed(context, marks, &places, lines)?;
         places.push(place)?;
     }
     Ok(places)

@@ -1,6 +1,6 @@
 // What is asked for, the clauses that are known, and what is known of stores, classes and quantified formulas.
 
-use ss_search_classes::NONE;
+use ss_search_question::NONE;
 use std::alloc::{AllocError, Global};
 
 /// A known `or`: its formula, its fact, and what it comes from.

@@ -1,6 +1,6 @@
 // The reads by which a `forall` is asked for an instance.
 
-use ss_search_classes::{
+use ss_search_question::{
     ALLOCATED, AND, BOUND, COMMITTED, CONSTANT, ELEMENT, EXISTS, FIELD, FORALL, Head, Keys, LEVEL,
     LITERAL, NONE, OR, OWNER, READY, argument, arguments_of, body_of, bound_count, first_of,
     is_closed, kind_of, node_head, of_pair, of_term, pair_of, part_at, part_count, term_argument,
@@ -31,7 +31,9 @@ pub struct Heads {
     // Where the range of a `forall` stands, and the first and the last head of a kind, with a number, over a store. Of the `and` of a
     // `forall`: in which part each read over the newest store stands, and this store.
     places: Keys,
+    // The reads that were found. Where those of the parts of an `and` were, the last one first, how many had been found before each turn.
     found: Vec<Pattern>,
+    ends: Vec<usize>,
     formulas: Vec<usize>,
     nodes: Vec<usize>,
 }
@@ -57,6 +59,7 @@ impl Heads {
             patterns: Vec::new(alloc),
             places: Keys::new(alloc),
             found: Vec::new(alloc),
+            ends: Vec::new(alloc),
             formulas: Vec::new(alloc),
             nodes: Vec::new(alloc),
         }
@@ -160,24 +163,75 @@ impl Heads {
     fn find(&mut self, bank: &Bank, forall: usize) -> Result<(), AllocError> {
         let names = bound_count(bank, forall);
         let body = body_of(bank, forall);
-        self.found.truncate(0);
-        self.collect(bank, body, names)?;
-        let newest = self.newest(bank);
         let last = if kind_of(bank, body) == OR {
             part_at(bank, body, part_count(bank, body).saturating_sub(1))
         } else {
             body
         };
+        self.found.truncate(0);
         if kind_of(bank, last) == AND {
-            for place in 0..part_count(bank, last) {
-                self.found.truncate(0);
-                self.collect(bank, part_at(bank, last, place), names)?;
-                self.note(last, newest, place)?;
-                self.keep(forall, newest)?;
-            }
-            Ok(())
-        } else {
-            self.keep(forall, newest)
+            self.collect_parts(bank, last, names)?;
+            self.collect_conditions(bank, body, names)?;
+            return self.keep_parts(bank, forall, last);
+        }
+        self.collect(bank, body, names)?;
+        let newest = self.newest(bank);
+        let count = self.found.len();
+        self.keep(forall, newest, (0, count))
+    }
+
+    // Finds the reads in each part of an `and`, the last one first.
+    fn collect_parts(&mut self, bank: &Bank, whole: usize, names: usize) -> Result<(), AllocError> {
+        let count = part_count(bank, whole);
+        self.ends.truncate(0);
+        self.ends.push(0)?;
+        for turn in 0..count {
+            let place = count.saturating_sub(turn.saturating_add(1));
+            self.collect(bank, part_at(bank, whole, place), names)?;
+            self.ends.push(self.found.len())?;
+        }
+        Ok(())
+    }
+
+    // Finds the reads in the parts of an `or` but the last one, from the end. A formula that is no `or` has none.
+    fn collect_conditions(
+        &mut self,
+        bank: &Bank,
+        body: usize,
+        names: usize,
+    ) -> Result<(), AllocError> {
+        if kind_of(bank, body) != OR {
+            return Ok(());
+        }
+        let count = part_count(bank, body).saturating_sub(1);
+        for turn in 0..count {
+            let place = count.saturating_sub(turn.saturating_add(1));
+            self.collect(bank, part_at(bank, body, place), names)?;
+        }
+        Ok(())
+    }
+
+    // Keeps the heads in each part of a `forall`'s `and`, and notes where they stand.
+    fn keep_parts(&mut self, bank: &Bank, forall: usize, whole: usize) -> Result<(), AllocError> {
+        let newest = self.newest(bank);
+        let count = part_count(bank, whole);
+        if self.store(whole) == NONE {
+            self.places.add(STORE, whole, 0, newest)?;
+        }
+        for place in 0..count {
+            let turn = count.saturating_sub(place.saturating_add(1));
+            let range = (self.end(turn), self.end(turn.saturating_add(1)));
+            self.note((whole, newest), place, range)?;
+            self.keep(forall, newest, range)?;
+        }
+        Ok(())
+    }
+
+    // How many reads had been found before a turn.
+    fn end(&self, turn: usize) -> usize {
+        match self.ends.get(turn) {
+            Some(end) => *end,
+            None => 0,
         }
     }
 
@@ -240,12 +294,15 @@ impl Heads {
         Ok(())
     }
 
-    // The reads over the newest store that were found stand in this part of an `and`.
-    fn note(&mut self, whole: usize, newest: usize, part: usize) -> Result<(), AllocError> {
-        if self.store(whole) == NONE {
-            self.places.add(STORE, whole, 0, newest)?;
-        }
-        for at in 0..self.found.len() {
+    // The reads over the newest store between two places of what was found stand in this part of an `and`.
+    fn note(
+        &mut self,
+        read: (usize, usize),
+        part: usize,
+        range: (usize, usize),
+    ) -> Result<(), AllocError> {
+        let (whole, newest) = read;
+        for at in range.0..range.1 {
             let Some(pattern) = self.found.get(at).copied() else {
                 break;
             };
@@ -260,18 +317,30 @@ impl Heads {
     // The newest store of the reads that were found.
     fn newest(&self, bank: &Bank) -> usize {
         let mut newest = NONE;
+        let mut highest = (0usize, 0usize);
         for pattern in &self.found {
-            if newest == NONE || is_newer(bank, pattern.store, newest) {
+            if pattern.store == newest {
+                continue;
+            }
+            let found = rank(bank, pattern.store);
+            if newest == NONE || is_higher(found, highest) {
                 newest = pattern.store;
+                highest = found;
             }
         }
         newest
     }
 
-    // Keeps the reads over the newest store as heads of a `forall`, without `alloc` and `own` where others are left.
-    fn keep(&mut self, forall: usize, newest: usize) -> Result<(), AllocError> {
-        let most = self.most_telling(newest);
-        for place in 0..self.found.len() {
+    // Keeps the reads over the newest store between two places of what was found as heads of a `forall`. Where others are left,
+    // `alloc` and `own` go.
+    fn keep(
+        &mut self,
+        forall: usize,
+        newest: usize,
+        range: (usize, usize),
+    ) -> Result<(), AllocError> {
+        let most = self.most_telling(newest, range);
+        for place in range.0..range.1 {
             let Some(mut pattern) = self.found.get(place).copied() else {
                 break;
             };
@@ -301,9 +370,12 @@ impl Heads {
         Ok(())
     }
 
-    fn most_telling(&self, newest: usize) -> usize {
+    fn most_telling(&self, newest: usize, range: (usize, usize)) -> usize {
         let mut most = 0;
-        for pattern in &self.found {
+        for place in range.0..range.1 {
+            let Some(pattern) = self.found.get(place) else {
+                break;
+            };
             if pattern.store == newest && telling(pattern.kind) > most {
                 most = telling(pattern.kind);
             }
@@ -372,10 +444,14 @@ fn rank(bank: &Bank, store: usize) -> (usize, usize) {
     (0, 0)
 }
 
+// Whether a store of the first rank is newer than one of the second.
+fn is_higher(a: (usize, usize), b: (usize, usize)) -> bool {
+    a.0 > b.0 || (a.0 == b.0 && a.1 > b.1)
+}
+
 /// Whether a store is newer than another one.
 pub fn is_newer(bank: &Bank, store: usize, other: usize) -> bool {
-    let (a, b) = (rank(bank, store), rank(bank, other));
-    a.0 > b.0 || (a.0 == b.0 && a.1 > b.1)
+    is_higher(rank(bank, store), rank(bank, other))
 }
 
 /// The pair of an atom as a formula.

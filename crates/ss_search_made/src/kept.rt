@@ -5,12 +5,12 @@ ghost use Rattle.ss_terms.specs.Forms.{Forms, IsGrown};
 
 use crate::made::{and_made, has_terms};
 use ss_logic::Sort;
-use ss_search_classes::{
+use ss_search_proof::Names;
+use ss_search_question::{
     AND, FORALL, LITERAL, NONE, argument, arity, body_of, first_of, formula_at, kind_of, of_pair,
     of_term, part_at, part_count, term_at,
 };
-use ss_search_proof::Names;
-use ss_terms::{Bank, BankMark, Formula, FormulaId, Predicate, Term, TermId};
+use ss_terms::{Arguments, Bank, BankMark, Formula, FormulaId, Parts, Predicate, Term, TermId};
 use std::alloc::{AllocError, Global};
 
 /// A term that is named: its number, and its form over the numbers before.
@@ -114,7 +114,7 @@ fn copied_term(alloc: Global, bank: &Bank, number: usize) -> Result<Option<Term>
     match term_at(bank, number) {
         Some(Term::Bound(name)) => Ok(Some(Term::Bound(*name))),
         Some(Term::App(symbol, arguments)) => {
-            let copied = Vec::from_slice(alloc, arguments)?;
+            let copied = Arguments::from_slice(alloc, arguments)?;
             Ok(Some(Term::App(*symbol, copied)))
         }
         None => Ok(None),
@@ -148,7 +148,7 @@ fn copied_formula(
                 arguments,
             },
         ) => {
-            let copied = Vec::from_slice(alloc, arguments)?;
+            let copied = Arguments::from_slice(alloc, arguments)?;
             Ok(Some(Formula::Literal {
                 holds: *holds,
                 predicate: *predicate,
@@ -156,7 +156,7 @@ fn copied_formula(
             }))
         }
         Some(Formula::And(parts)) => {
-            let copied = Vec::from_slice(alloc, parts)?;
+            let copied = Parts::from_slice(alloc, parts)?;
             Ok(Some(Formula::And(copied)))
         }
         Some(Formula::Forall(sorts, body)) => {

@@ -1,5 +1,5 @@
-//! What the search makes in the bank: instances, new constants, and terms and atoms that are asked for. Numbers are looked up
-//! before they are used, so nothing is asked of them.
+//! What the search makes in the bank: instances, new constants, and terms and atoms that are asked for. And what it keeps of
+//! that: what isn't named is forgotten. Numbers are looked up before they are used, so nothing is asked of them.
 #![tactic(auto)]
 
 mod kept;

@@ -8,11 +8,12 @@ ghost use Rattle.ss_terms.specs.Forms.{HasTerms, HasFormulas, IsGrown, IsBankOf}
 use ss_core::Classes;
 use ss_rules_instances::{good_instance, instance};
 use ss_rules_invariants::invariants;
-use ss_search_classes::{
+use ss_search_facts::{GoodName, RuleKind};
+use ss_search_proof::{good_of, name_of};
+use ss_search_question::{
     FORALL, NONE, body_of, bound_count, bound_sort, code_of_sort, delayed_term, delayed_whole,
     is_closed, kind_of, opposite, part_at, part_count, sort_at,
 };
-use ss_search_proof::{GoodName, RuleKind, good_of, name_of};
 use ss_terms::{Bank, FormulaId, Predicate, Symbol, TermId};
 use ss_terms_puts::put;
 use std::alloc::{AllocError, Global};
@@ -87,14 +88,41 @@ fn terms_of(
     Ok(Some(terms))
 }
 
+// How many of the first numbers have their terms kept at most.
+const MOST_NUMERALS: usize = 65_536;
+
+// The term of a number is kept.
+fn keep_numeral(numerals: &mut Vec<usize>, number: usize, term: usize) -> Result<(), AllocError> {
+    if number >= MOST_NUMERALS {
+        return Ok(());
+    }
+    for _ in numerals.len()..number.saturating_add(1) {
+        numerals.push(NONE)?;
+    }
+    if let Some(place) = numerals.get_mut(number) {
+        *place = term;
+    }
+    Ok(())
+}
+
 // The term of a small number, or NONE.
-fn number_term(bank: &mut Bank, number: usize) -> Result<usize, AllocError>
+fn number_term(
+    bank: &mut Bank,
+    numerals: &mut Vec<usize>,
+    number: usize,
+) -> Result<usize, AllocError>
     ensures grown { IsGrown bank.old bank.new }
 {
     if number >= 4_294_967_296 {
         return Ok(NONE);
     }
+    if let Some(kept) = numerals.get(number).copied() {
+        if kept != NONE {
+            return Ok(kept);
+        }
+    }
     let term = bank.number(number as i128)?;
+    keep_numeral(numerals, number, term.0)?;
     Ok(term.0)
 }
 
@@ -117,25 +145,30 @@ fn add_number(numbers: &mut Vec<usize>, number: usize) -> Result<(), AllocError>
     Ok(())
 }
 
-/// The numbers of the terms of arguments, in their order.
+/// The numbers of the terms of arguments, in their order. The terms of numbers are kept, by the number.
 pub fn arguments_of(
     alloc: Global,
     bank: &mut Bank,
+    numerals: &mut Vec<usize>,
     arguments: Arguments,
 ) -> Result<Vec<usize>, AllocError>
     ensures grown { IsGrown bank.old bank.new }
 {
-    let (sentence, field) = numbers_of(bank, arguments)?;
+    let (sentence, field) = numbers_of(bank, numerals, arguments)?;
     let class = class_term(bank, arguments.class)?;
     listed(alloc, arguments, (sentence, field, class))
 }
 
 // The terms of the number of a sentence and of that of a field.
-fn numbers_of(bank: &mut Bank, arguments: Arguments) -> Result<(usize, usize), AllocError>
+fn numbers_of(
+    bank: &mut Bank,
+    numerals: &mut Vec<usize>,
+    arguments: Arguments,
+) -> Result<(usize, usize), AllocError>
     ensures grown { IsGrown bank.old bank.new }
 {
-    let sentence = number_term(bank, arguments.sentence)?;
-    let field = number_term(bank, arguments.field)?;
+    let sentence = number_term(bank, numerals, arguments.sentence)?;
+    let field = number_term(bank, numerals, arguments.field)?;
     Ok((sentence, field))
 }
 
@@ -482,13 +515,18 @@ pub fn term_made(
     Ok(made.0)
 }
 
-/// That a store has an object, or NONE.
-pub fn atom_made(alloc: Global, bank: &mut Bank, numbers: &[usize]) -> Result<usize, AllocError>
+/// The predicate at these terms, or NONE.
+pub fn atom_made(
+    alloc: Global,
+    bank: &mut Bank,
+    predicate: Predicate,
+    numbers: &[usize],
+) -> Result<usize, AllocError>
     ensures grown { IsGrown bank.old bank.new }
 {
     let Some(terms) = terms_of(alloc, bank, numbers)? else {
         return Ok(NONE);
     };
-    let made = bank.atom(true, Predicate::Allocated, &terms)?;
+    let made = bank.atom(true, predicate, &terms)?;
     Ok(made.0)
 }

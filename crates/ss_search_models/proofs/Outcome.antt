@@ -12,6 +12,7 @@ use Rattle.ss_paths.specs.Sets.{put, none}
 use Rattle.ss_logic.specs.declared.Sort.{Sort}
 use Rattle.ss_logic.specs.Formulas.{Formula, formulas_from}
 use Rattle.ss_logic_countermodels.specs.Refuting.{Model, comes_out, all_come_true, some_comes_true}
+use Rattle.ss_terms.specs.Lists.{SmallVec}
 use Rattle.ss_terms.specs.declared.forms.TermId.{TermId}
 use Rattle.ss_terms.specs.declared.forms.FormulaId.{FormulaId}
 use Rattle.ss_terms.specs.declared.forms.Predicate as form
@@ -74,13 +75,13 @@ module _ (b : Forms) (m : Model) where
   some_true-map (f ∷ fs) = ap (λ v. comes_out m f || v) (some_true-map fs)
 
   module _ (f : FormulaId) where
-    pub outcome_of_and : (v : Vec FormulaId Global) → IsFormulaForm b f (AndForm v) → list_all (comes_out m) (formulas_at b v.items) ≡ comes_out m (formula_at b f)
+    pub outcome_of_and : (v : SmallVec FormulaId) → IsFormulaForm b f (AndForm v) → list_all (comes_out m) (formulas_at b v.items) ≡ comes_out m (formula_at b f)
     outcome_of_and v n = sym (all_true-map (formulas_at b v.items)) ∙ sym (ap (comes_out m) n.built)
 
-    pub outcome_of_or : (v : Vec FormulaId Global) → IsFormulaForm b f (OrForm v) → list_any (comes_out m) (formulas_at b v.items) ≡ comes_out m (formula_at b f)
+    pub outcome_of_or : (v : SmallVec FormulaId) → IsFormulaForm b f (OrForm v) → list_any (comes_out m) (formulas_at b v.items) ≡ comes_out m (formula_at b f)
     outcome_of_or v n = sym (some_true-map (formulas_at b v.items)) ∙ sym (ap (comes_out m) n.built)
 
-    pub outcome_of_literal : (h : Bool) (p : form.Predicate) (v : Vec TermId Global) (g : Formula) (t : Bool) → IsFormulaForm b f (LiteralForm h p v) → g ≡ told_of (formula_at b f) → t ≡ m.truth g → beq t h ≡ comes_out m (formula_at b f)
+    pub outcome_of_literal : (h : Bool) (p : form.Predicate) (v : SmallVec TermId) (g : Formula) (t : Bool) → IsFormulaForm b f (LiteralForm h p v) → g ≡ told_of (formula_at b f) → t ≡ m.truth g → beq t h ≡ comes_out m (formula_at b f)
     outcome_of_literal h p v g t n told e = ap (λ x. beq x h) (e ∙ ap m.truth (told ∙ ap told_of n.built)) ∙ sym (ap (comes_out m) n.built)
 
     pub outcome_of_forall : (ss : Vec Sort Global) (g : FormulaId) (t : Bool) → IsFormulaForm b f (ForallForm ss g) → t ≡ m.truth (formula_at b f) → t ≡ comes_out m (formula_at b f)

@@ -10,6 +10,7 @@ use Rattle.ss_logic.specs.Formulas.{Formula, Literal, And, Or, Forall, Exists}
 use Rattle.ss_logic.specs.Equal.{same_symbol, same_term, same_predicate, same_term_equal}
 use Rattle.ss_logic_derivations.specs.Steps.{is_value}
 use Rattle.ss_logic_countermodels.specs.Refuting.{Model, classes_of, same_classes, are_congruent, are_alike, are_apart, implies}
+use Rattle.ss_terms.specs.Lists.{SmallVec}
 use Rattle.ss_terms.specs.declared.forms.TermId.{TermId}
 use Rattle.ss_terms.specs.declared.forms.FormulaId.{FormulaId}
 use Rattle.ss_terms.specs.declared.forms.Symbol as form
@@ -142,24 +143,24 @@ module _ (gs : Givens) (m : Model) (b : Forms) where
   pub bound_said : (t : TermId) (k : ℕ) → IsTermForm b t (BoundForm k) → IsFunctionSaid gs m (term_at b t)
   bound_said t k n = subst (IsFunctionSaid gs m) (sym n.built) tt
 
-  pub function_said : (t : TermId) (f : form.Symbol) (v : Vec TermId Global) (ns : List ℕ) (n : ℕ) → IsTermForm b t (AppForm f v) → ns ≡ map m.class (terms_at b v.items) → n ≡ m.class (term_at b t) →
+  pub function_said : (t : TermId) (f : form.Symbol) (v : SmallVec TermId) (ns : List ℕ) (n : ℕ) → IsTermForm b t (AppForm f v) → ns ≡ map m.class (terms_at b v.items) → n ≡ m.class (term_at b t) →
       given_to gs (FunctionKey (symbol_of f) ns) ≡ Some (given.Class n) → IsFunctionSaid gs m (term_at b t)
   function_said t f v ns n at cs c h =
       subst (IsFunctionSaid gs m) (sym at.built)
       (ap (λ us. given_to gs (FunctionKey (symbol_of f) (map m.class us))) (list_back (terms_at b v.items))
       ∙ ap (λ us. given_to gs (FunctionKey (symbol_of f) us)) (sym cs) ∙ h ∙ ap (λ k. Some (given.Class k)) (c ∙ ap m.class at.built))
 
-  pub atom_said : (f : FormulaId) (s : Bool) (p : predicate.Predicate) (v : Vec TermId Global) (ns : List ℕ) (t : Bool) → IsFormulaForm b f (LiteralForm s p v) → ns ≡ map m.class (terms_at b v.items) → t ≡ m.truth (formula_at b f) →
+  pub atom_said : (f : FormulaId) (s : Bool) (p : predicate.Predicate) (v : SmallVec TermId) (ns : List ℕ) (t : Bool) → IsFormulaForm b f (LiteralForm s p v) → ns ≡ map m.class (terms_at b v.items) → t ≡ m.truth (formula_at b f) →
       given_to gs (AtomKey (predicate_of p) ns) ≡ Some (given.Truth t) → IsAtomSaid gs m (formula_at b f)
   atom_said f s p v ns t at cs c h =
       subst (IsAtomSaid gs m) (sym at.built)
       (ap (λ us. given_to gs (AtomKey (predicate_of p) (map m.class us))) (list_back (terms_at b v.items))
       ∙ ap (λ us. given_to gs (AtomKey (predicate_of p) us)) (sym cs) ∙ h ∙ ap (λ k. Some (given.Truth k)) (c ∙ ap m.truth at.built))
 
-  pub and_said : (f : FormulaId) (v : Vec FormulaId Global) → IsFormulaForm b f (AndForm v) → IsAtomSaid gs m (formula_at b f)
+  pub and_said : (f : FormulaId) (v : SmallVec FormulaId) → IsFormulaForm b f (AndForm v) → IsAtomSaid gs m (formula_at b f)
   and_said f v n = subst (IsAtomSaid gs m) (sym n.built) tt
 
-  pub or_said : (f : FormulaId) (v : Vec FormulaId Global) → IsFormulaForm b f (OrForm v) → IsAtomSaid gs m (formula_at b f)
+  pub or_said : (f : FormulaId) (v : SmallVec FormulaId) → IsFormulaForm b f (OrForm v) → IsAtomSaid gs m (formula_at b f)
   or_said f v n = subst (IsAtomSaid gs m) (sym n.built) tt
 
   pub forall_said : (f : FormulaId) (ss : Vec Sort Global) (g : FormulaId) → IsFormulaForm b f (ForallForm ss g) → IsAtomSaid gs m (formula_at b f)
@@ -173,7 +174,7 @@ module _ (gs : Givens) (m : Model) (b : Forms) where
 
 -- ---- arguments
 
-pub arguments_there : (b : Forms) (t : TermId) (f : form.Symbol) (v : Vec TermId Global) (xs : List TermId) → HasTerm b t → IsTermForm b t (AppForm f v) → xs ≡ v.items → HasTerms b xs
+pub arguments_there : (b : Forms) (t : TermId) (f : form.Symbol) (v : SmallVec TermId) (xs : List TermId) → HasTerm b t → IsTermForm b t (AppForm f v) → xs ≡ v.items → HasTerms b xs
 arguments_there b t f v xs at n e = subst (HasTerms b) (sym e) (AreTermsBelow-more t.0 (length b.terms) (omega (arith, at)) v.items n.below)
 
 pub if_agreed : {E : Type 0} (P Q : Type 0) (r : Result Bool E) → (P → Q) → IfOk r (λ v. v ≡ true → P) → IfOk r (λ v. v ≡ true → Q)

@@ -13,6 +13,7 @@ use Rattle.ss_logic.specs.Formulas.{Formula, formulas_from}
 use Rattle.ss_logic.specs.Equal.{same_formula, same_formula_equal}
 use Rattle.ss_logic_ground.specs.Occurring.{with_formula, with_formulas}
 use Rattle.ss_logic_countermodels.specs.Refuting.{told_in, all_told_in}
+use Rattle.ss_terms.specs.Lists.{SmallVec}
 use Rattle.ss_terms.specs.declared.forms.TermId.{TermId}
 use Rattle.ss_terms.specs.declared.forms.FormulaId.{FormulaId}
 use Rattle.ss_terms.specs.declared.forms.Predicate as form
@@ -119,13 +120,13 @@ all_told-map [] = refl
 all_told-map (f ∷ fs) = ap (λ gs. told_in f ++ gs) (all_told-map fs)
 
 module _ (b : Forms) (f : FormulaId) where
-  pub told_in_and : (v : Vec FormulaId Global) → IsFormulaForm b f (AndForm v) → flat_map told_in (formulas_at b v.items) ≡ told_in (formula_at b f)
+  pub told_in_and : (v : SmallVec FormulaId) → IsFormulaForm b f (AndForm v) → flat_map told_in (formulas_at b v.items) ≡ told_in (formula_at b f)
   told_in_and v n = sym (all_told-map (formulas_at b v.items)) ∙ sym (ap told_in n.built)
 
-  pub told_in_or : (v : Vec FormulaId Global) → IsFormulaForm b f (OrForm v) → flat_map told_in (formulas_at b v.items) ≡ told_in (formula_at b f)
+  pub told_in_or : (v : SmallVec FormulaId) → IsFormulaForm b f (OrForm v) → flat_map told_in (formulas_at b v.items) ≡ told_in (formula_at b f)
   told_in_or v n = sym (all_told-map (formulas_at b v.items)) ∙ sym (ap told_in n.built)
 
-  pub told_in_literal : (h : Bool) (p : form.Predicate) (v : Vec TermId Global) → IsFormulaForm b f (LiteralForm h p v) → told_of (formula_at b f) ∷ [] ≡ told_in (formula_at b f)
+  pub told_in_literal : (h : Bool) (p : form.Predicate) (v : SmallVec TermId) → IsFormulaForm b f (LiteralForm h p v) → told_of (formula_at b f) ∷ [] ≡ told_in (formula_at b f)
   told_in_literal h p v n = ap (λ x. told_of x ∷ []) n.built ∙ sym (ap told_in n.built)
 
   pub told_in_forall : (ss : Vec Sort Global) (g : FormulaId) → IsFormulaForm b f (ForallForm ss g) → told_of (formula_at b f) ∷ [] ≡ told_in (formula_at b f)

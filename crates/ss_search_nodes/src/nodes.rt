@@ -1,9 +1,10 @@
 // What the formulas inside the known `or`s come to, counted from their atoms up.
 //
-// A formula and its negation are one pair with one node, which speaks of the first of the two: an atom, an `and` or a `forall`.
+// A formula and its negation are one pair with one node. It speaks of the first of the two: an atom, an `and` or a `forall`.
 
-use ss_search_classes::{
-    AND, Classes, EQUAL, FORALL, LITERAL, NONE, OR, Why, first_of, is_delayed, is_first, kind_of,
+use ss_search_classes::{Classes, Why};
+use ss_search_question::{
+    AND, EQUAL, FORALL, LITERAL, NONE, OR, Places, first_of, is_delayed, is_first, kind_of,
     pair_argument, pair_head, pair_of, part_at, part_count, second_of,
 };
 use ss_terms::Bank;
@@ -20,9 +21,9 @@ pub enum Ground {
     Known(usize),
 }
 
-/// Of a pair: whether it is looked at, what its first formula comes to and why, how many parts it has and how many of them
-/// are true, the last of the nodes that it is a part of, the facts by which its first and its second formula are known, and
-/// whether a part of its `or` was made known.
+/// Of a pair: whether it is looked at, and what its first formula comes to and why. Also how many parts it has and how many of
+/// them are true, and the last of the nodes that it is a part of. Also the facts by which its first and its second formula are
+/// known, and whether a part of its `or` was made known.
 #[derive(Clone, Copy)]
 struct Node {
     is_open: bool,
@@ -73,7 +74,7 @@ pub const LONG: usize = 16;
 /// The nodes of the pairs of which something is known or was asked, and where that of each pair stands, or NONE.
 #[derive(Drop)]
 pub struct Nodes {
-    places: Vec<usize>,
+    places: Places,
     nodes: Vec<Node>,
     parents: Vec<Parent>,
     trail: Vec<Change>,
@@ -103,7 +104,7 @@ impl Nodes {
     /// No node.
     pub fn new(alloc: Global) -> Self {
         Nodes {
-            places: Vec::new(alloc),
+            places: Places::new(alloc),
             nodes: Vec::new(alloc),
             parents: Vec::new(alloc),
             trail: Vec::new(alloc),
@@ -117,18 +118,13 @@ impl Nodes {
 
     /// Each pair of the bank that is new, with nothing known of it.
     pub fn grow(&mut self, bank: &Bank) -> Result<(), AllocError> {
-        for _ in self.places.len()..bank.formula_count() / 2 {
-            self.places.push(NONE)?;
-        }
+        self.places.grow(bank.formula_count() / 2)?;
         Ok(())
     }
 
     // Where the node of a pair stands, or NONE.
     fn place(&self, pair: usize) -> usize {
-        match self.places.get(pair) {
-            Some(place) => *place,
-            None => NONE,
-        }
+        self.places.place(pair)
     }
 
     fn node(&self, pair: usize) -> Option<&Node> {
@@ -137,14 +133,11 @@ impl Nodes {
 
     // The pair has a node from now on.
     fn enter(&mut self, pair: usize) -> Result<(), AllocError> {
-        let at = self.nodes.len();
-        if self.place(pair) != NONE {
+        if self.place(pair) != NONE || pair >= self.places.len() {
             return Ok(());
         }
-        let Some(place) = self.places.get_mut(pair) else {
-            return Ok(());
-        };
-        *place = at;
+        let at = self.nodes.len();
+        self.places.put(pair, at)?;
         self.nodes.push(empty_node())?;
         self.trail.push(Change::There(pair))?;
         Ok(())
@@ -153,9 +146,7 @@ impl Nodes {
     // The pair, whose node is the last one, has none any more.
     fn leave(&mut self, pair: usize) {
         let _ = self.nodes.pop();
-        if let Some(place) = self.places.get_mut(pair) {
-            *place = NONE;
-        }
+        self.places.clear(pair);
     }
 
     /// How many changes stand.
@@ -329,6 +320,11 @@ impl Nodes {
         self.is_thorough = true;
     }
 
+    /// Whether long pairs are looked at wherever they stand.
+    pub fn is_thorough(&self) -> bool {
+        self.is_thorough
+    }
+
     /// Looks at a pair and at all pairs inside it, but for delayed and long ones and what is inside them.
     pub fn open_all(
         &mut self,
@@ -468,25 +464,32 @@ impl Nodes {
         Ok(())
     }
 
-    /// Gives the next node its value, and counts it where it is a part. Whether there was one.
-    pub fn spread(&mut self) -> Result<bool, AllocError> {
-        let Some(coming) = self.coming.pop() else {
-            return Ok(false);
-        };
+    /// Gives each node its value that will have one, and counts it where it is a part.
+    pub fn spread(&mut self) -> Result<(), AllocError> {
+        for _ in 0..u64::MAX {
+            let Some(coming) = self.coming.pop() else {
+                break;
+            };
+            self.give(coming)?;
+        }
+        Ok(())
+    }
+
+    // Gives a node its value, where it has none.
+    fn give(&mut self, coming: Coming) -> Result<(), AllocError> {
         self.enter(coming.pair)?;
         let at = self.place(coming.pair);
         let Some(node) = self.nodes.get_mut(at) else {
-            return Ok(true);
+            return Ok(());
         };
         if node.value.is_some() {
-            return Ok(true);
+            return Ok(());
         }
         node.value = Some(coming.value);
         node.ground = coming.ground;
         let parents = node.parents;
         self.trail.push(Change::Value(coming.pair))?;
-        self.count_all(parents, coming.value)?;
-        Ok(true)
+        self.count_all(parents, coming.value)
     }
 
     fn count_all(&mut self, last: usize, value: bool) -> Result<(), AllocError> {
@@ -533,6 +536,22 @@ impl Nodes {
             }
         }
         NONE
+    }
+
+    /// The place of the only part of an `or` that isn't refuted, where that comes to nothing yet, or NONE.
+    pub fn only_open(&self, bank: &Bank, or: usize) -> usize {
+        let mut found = NONE;
+        for place in 0..part_count(bank, or) {
+            let value = self.value(part_at(bank, or, place));
+            if value == Some(false) {
+                continue;
+            }
+            if value == Some(true) || found != NONE {
+                return NONE;
+            }
+            found = place;
+        }
+        found
     }
 
     /// The place of the first part of an `or` that is true, or NONE.

@@ -248,6 +248,16 @@ impl Rows {
         Ok(())
     }
 
+    /// Whether what was added to the row comes to 0.
+    pub fn is_zero(&self) -> bool {
+        for place in self.begun..self.entries.len() {
+            if self.entry(place).factor != 0 {
+                return false;
+            }
+        }
+        self.fits && self.bound == 0
+    }
+
     /// Ends a row of parts.
     pub fn end(&mut self, is_equation: bool) -> Result<(), AllocError> {
         let origin = Origin::Parts(self.begun_parts, self.parts.len());

@@ -12,7 +12,7 @@ use Rattle.ss_logic_derivations.specs.Steps as tree
 use Rattle.ss_logic_derivations.specs.Steps.{count_of, chosen, is_literal, is_quantified, is_cut}
 use Rattle.ss_terms.specs.declared.forms.FormulaId.{FormulaId}
 use Rattle.ss_terms.specs.Forms.{Forms, formula_at, formulas_at, HasFormula}
-use Rattle.ss_terms.proofs.Parts.{neg_formed}
+use Rattle.ss_terms.proofs.Tested.{neg_formed}
 use Rattle.ss_deriv.specs.declared.line.Line.{Line}
 use Rattle.ss_deriv.specs.declared.line.Line.TheVariants.{Split, Cut, Clash, Case}
 use Rattle.ss_deriv.specs.Lines.{line_of, lines_of}

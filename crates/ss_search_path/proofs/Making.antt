@@ -19,7 +19,7 @@ use Rattle.ss_logic_derivations.specs.Steps.{Premise, Denied, Part, Inst, Choose
 use Rattle.ss_logic_instances.proofs.Ruling.{instance_formed}
 use Rattle.ss_logic_instances.proofs.Goods.{good_instance_formed}
 use Rattle.ss_logic_instances.proofs.Putting.{forall_formed, choice_formed, part_formed}
-use Rattle.ss_terms.proofs.Parts.{neg_formed}
+use Rattle.ss_terms.proofs.Tested.{neg_formed}
 use Rattle.ss_search_path.specs.Paths.{Makes}
 
 module _ (cs : List ClassTree) (premises : List Formula) (goal : Formula) (known : List Formula) where

@@ -26,6 +26,13 @@ pub fn add_case(cases: &mut Vec<Line>, mut closing: Vec<Line>) -> Result<(), All
     Ok(())
 }
 
+/// A known `or`: its place, and how many parts it has.
+#[derive(Clone, Copy)]
+pub struct Branching {
+    pub place: usize,
+    pub count: usize,
+}
+
 impl Path {
     // Closed cases, and then one that is open.
     fn enter(&mut self, mut closed: Vec<Line>) -> Result<(), AllocError>
@@ -49,22 +56,23 @@ impl Path {
         Ok(())
     }
 
-    /// Of a known `or` of so many parts this one is known. Each other part has a case that is closed: those in front of it, and those
-    /// behind it.
+    /// Of a known `or` this part is known. Each other part has a case that is closed: those in front of it, and those behind it.
     pub fn unit(
         &mut self,
         bank: &Bank,
-        of: usize,
-        cases: usize,
+        branching: Branching,
         front: Vec<Line>,
         back: Vec<Line>,
         f: FormulaId,
     ) -> Result<(), AllocError>
         ensures known { OnOk result (self.new.known.items ≡ self.old.known.items ++ f ∷ []) }
-        ensures goes_on { OnOk result ((cs : List ClassTree) (premises : List Formula) (goal : Formula) (fs : Formulas) (one two : List Formula) → slice_get (known_on bank.now self.old) of ≡ Some (Or fs) → count_of fs ≡ cases → formula_list fs ≡ one ++ formula_at bank.now f ∷ two → AreCases cs premises goal (known_on bank.now self.old) one (lines_of bank.now front.items) → AreCases cs premises goal (known_on bank.now self.old) two (lines_of bank.now back.items) → GoesOn cs premises goal bank.now self.old self.new) }
+        ensures goes_on { OnOk result ((cs : List ClassTree) (premises : List Formula) (goal : Formula) (fs : Formulas) (one two : List Formula) → slice_get (known_on bank.now self.old) branching.place ≡ Some (Or fs) → count_of fs ≡ branching.count → formula_list fs ≡ one ++ formula_at bank.now f ∷ two → AreCases cs premises goal (known_on bank.now self.old) one (lines_of bank.now front.items) → AreCases cs premises goal (known_on bank.now self.old) two (lines_of bank.now back.items) → GoesOn cs premises goal bank.now self.old self.new) }
     {
         let _ = bank;
-        self.before.push(Line::Split { of, cases })?;
+        self.before.push(Line::Split {
+            of: branching.place,
+            cases: branching.count,
+        })?;
         self.enter(front)?;
         self.leave(back, f)?;
         Ok(())

@@ -7,5 +7,5 @@ mod finishing;
 mod path;
 mod trials;
 
-pub use cases::add_case;
+pub use cases::{Branching, add_case};
 pub use path::{Mark, Path};

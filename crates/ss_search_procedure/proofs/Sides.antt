@@ -7,7 +7,7 @@ use Rattle.ss_logic.specs.Formulas.{Formula, Formulas, Literal, And, Or, Forall,
 use Rattle.ss_logic.proofs.Truth.{neg_neg}
 use Rattle.ss_logic_derivations.specs.Steps.{is_literal, is_quantified}
 use Rattle.ss_logic_countermodels.specs.Refuting.{told_in, all_told_in}
-use Rattle.ss_terms.proofs.Parts.{neg_formed}
+use Rattle.ss_terms.proofs.Tested.{neg_formed}
 use Rattle.ss_search_procedure_rules.proofs.Lists.{contains_none, contains_split}
 use Rattle.ss_search_procedure_rules.proofs.Occurring.{from_collected}
 use Rattle.ss_search_reaching.specs.declared.reaching.Reaching.{Reaching}

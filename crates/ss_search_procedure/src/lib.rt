@@ -10,4 +10,4 @@ mod total;
 mod trials;
 
 pub use settling::Settled;
-pub use starting::settle_by;
+pub use starting::{Unsettled, settle_by};

@@ -31,6 +31,13 @@ use ss_search_starting::{Begun, Chosen, chosen_formulas, start};
 use ss_terms::{Bank, FormulaId, Obligation};
 use std::alloc::{AllocError, Global};
 
+/// The ground form of an obligation, and its decisions: its atoms and quantified formulas.
+#[derive(Clone, Copy)]
+pub struct Unsettled<'a> {
+    pub grounded: &'a Grounded,
+    pub decisions: &'a [FormulaId],
+}
+
 impl Settling<'_> {
     // The next formula is reached too, where it wasn't before.
     fn reach_next(
@@ -126,58 +133,60 @@ fn settle_over<'g>(
     alloc: Global,
     bank: &'g Bank,
     obligation: &Obligation<'_>,
-    grounded: &'g Grounded,
+    unsettled: &Unsettled<'g>,
     said: &'g Chosen,
-    decisions: &'g [FormulaId],
     splits: u64,
 ) -> Result<Settled, AllocError>
     requires goal { HasFormula bank.now obligation.now.goal }
-    requires grounded { (cs : List ClassTree) × IsBankOf cs bank.now × IsGroundOf cs (formulas_at bank.now obligation.now.premises.now) (formula_at bank.now obligation.now.goal) bank.now grounded.now }
-    requires formulas { formulas_at bank.now said.now.formulas.items ≡ map chosen_by (choices_at bank.now grounded.now.choices.items) }
-    requires bodies { formulas_at bank.now said.now.bodies.items ≡ map body_of (choices_at bank.now grounded.now.choices.items) }
-    requires in_bank { HasFormulas bank.now decisions.now }
-    requires decisions { formulas_at bank.now decisions.now ≡ told (formulas_at bank.now grounded.now.formulas.items) }
-    ensures closed { (cs : List ClassTree) → IsBankOf cs bank.now → IsGroundOf cs (formulas_at bank.now obligation.now.premises.now) (formula_at bank.now obligation.now.goal) bank.now grounded.now → IfOk result (IfClosed (λ d. Derives cs (formulas_at bank.now obligation.now.premises.now) (formula_at bank.now obligation.now.goal) (lines_of bank.now d))) }
-    ensures countered { (cs : List ClassTree) → IsBankOf cs bank.now → IfOk result (IfCountered (IsCountermodel cs (formulas_at bank.now grounded.now.formulas.items))) }
-    ensures spent { (cs : List ClassTree) → IsBankOf cs bank.now → IfOk result (λ s. s ≡ settled.Spent → AreEnough cs (formulas_at bank.now grounded.now.formulas.items) splits → ⊥) }
+    requires grounded { (cs : List ClassTree) × IsBankOf cs bank.now × IsGroundOf cs (formulas_at bank.now obligation.now.premises.now) (formula_at bank.now obligation.now.goal) bank.now unsettled.now.grounded.now }
+    requires formulas { formulas_at bank.now said.now.formulas.items ≡ map chosen_by (choices_at bank.now unsettled.now.grounded.now.choices.items) }
+    requires bodies { formulas_at bank.now said.now.bodies.items ≡ map body_of (choices_at bank.now unsettled.now.grounded.now.choices.items) }
+    requires in_bank { HasFormulas bank.now unsettled.now.decisions.now }
+    requires decisions { formulas_at bank.now unsettled.now.decisions.now ≡ told (formulas_at bank.now unsettled.now.grounded.now.formulas.items) }
+    ensures closed { (cs : List ClassTree) → IsBankOf cs bank.now → IsGroundOf cs (formulas_at bank.now obligation.now.premises.now) (formula_at bank.now obligation.now.goal) bank.now unsettled.now.grounded.now → IfOk result (IfClosed (λ d. Derives cs (formulas_at bank.now obligation.now.premises.now) (formula_at bank.now obligation.now.goal) (lines_of bank.now d))) }
+    ensures countered { (cs : List ClassTree) → IsBankOf cs bank.now → IfOk result (IfCountered (IsCountermodel cs (formulas_at bank.now unsettled.now.grounded.now.formulas.items))) }
+    ensures spent { (cs : List ClassTree) → IsBankOf cs bank.now → IfOk result (λ s. s ≡ settled.Spent → AreEnough cs (formulas_at bank.now unsettled.now.grounded.now.formulas.items) splits → ⊥) }
 {
     let given = Given {
         alloc,
         bank,
-        choices: &grounded.choices,
+        choices: &unsettled.grounded.choices,
         bodies: &said.bodies,
-        origins: &grounded.origins,
+        origins: &unsettled.grounded.origins,
     };
     let settling = Settling {
         given,
-        formulas: &grounded.formulas,
-        decisions,
+        formulas: &unsettled.grounded.formulas,
+        decisions: unsettled.decisions,
     };
     settling.settle(&said.formulas, obligation, splits)
 }
 
-/// Decides of the ground form of an obligation. The decisions are its atoms and quantified formulas. As many splits of them are taken as are needed,
-/// where so many are allowed. An error is want of memory; what the bank had before stays.
+/// Decides of the ground form of an obligation. As many splits of its decisions are taken as are needed, where so many are allowed. An
+/// error is want of memory; what the bank had before stays.
 pub fn settle_by(
     alloc: Global,
     bank: &mut Bank,
     classes: &Classes,
     obligation: &Obligation<'_>,
-    grounded: &Grounded,
-    decisions: &[FormulaId],
+    unsettled: &Unsettled<'_>,
     splits: u64,
 ) -> Result<Settled, AllocError>
     requires bank { IsBankOf (view.classes classes.now) bank.old }
     requires premises { HasFormulas bank.old obligation.now.premises.now }
     requires goal { HasFormula bank.old obligation.now.goal }
-    requires grounded { IsGroundOf (view.classes classes.now) (formulas_at bank.old obligation.now.premises.now) (formula_at bank.old obligation.now.goal) bank.old grounded.now }
-    requires in_bank { HasFormulas bank.old decisions.now }
-    requires decisions { formulas_at bank.old decisions.now ≡ told (formulas_at bank.old grounded.now.formulas.items) }
-    ensures closed { (cs : List ClassTree) → IsBankOf cs bank.old → IsGroundOf cs (formulas_at bank.old obligation.now.premises.now) (formula_at bank.old obligation.now.goal) bank.old grounded.now → IfOk result (IfClosed (λ d. Derives cs (formulas_at bank.old obligation.now.premises.now) (formula_at bank.old obligation.now.goal) (lines_of bank.new d))) }
-    ensures countered { (cs : List ClassTree) → IsBankOf cs bank.old → IfOk result (IfCountered (IsCountermodel cs (formulas_at bank.old grounded.now.formulas.items))) }
-    ensures spent { (cs : List ClassTree) → IsBankOf cs bank.old → IfOk result (λ s. s ≡ settled.Spent → AreEnough cs (formulas_at bank.old grounded.now.formulas.items) splits → ⊥) }
+    requires grounded { IsGroundOf (view.classes classes.now) (formulas_at bank.old obligation.now.premises.now) (formula_at bank.old obligation.now.goal) bank.old unsettled.now.grounded.now }
+    requires in_bank { HasFormulas bank.old unsettled.now.decisions.now }
+    requires decisions { formulas_at bank.old unsettled.now.decisions.now ≡ told (formulas_at bank.old unsettled.now.grounded.now.formulas.items) }
+    ensures closed { (cs : List ClassTree) → IsBankOf cs bank.old → IsGroundOf cs (formulas_at bank.old obligation.now.premises.now) (formula_at bank.old obligation.now.goal) bank.old unsettled.now.grounded.now → IfOk result (IfClosed (λ d. Derives cs (formulas_at bank.old obligation.now.premises.now) (formula_at bank.old obligation.now.goal) (lines_of bank.new d))) }
+    ensures countered { (cs : List ClassTree) → IsBankOf cs bank.old → IfOk result (IfCountered (IsCountermodel cs (formulas_at bank.old unsettled.now.grounded.now.formulas.items))) }
+    ensures spent { (cs : List ClassTree) → IsBankOf cs bank.old → IfOk result (λ s. s ≡ settled.Spent → AreEnough cs (formulas_at bank.old unsettled.now.grounded.now.formulas.items) splits → ⊥) }
     ensures grown { IsGrown bank.old bank.new }
 {
-    let said = chosen_formulas(alloc, bank, classes, &grounded.choices)?;
-    settle_over(alloc, bank, obligation, grounded, &said, decisions, splits)
+    let said = chosen_formulas(alloc, bank, classes, &unsettled.grounded.choices)?;
+    let unsettled = Unsettled {
+        grounded: &*unsettled.grounded,
+        decisions: &*unsettled.decisions,
+    };
+    settle_over(alloc, bank, obligation, &unsettled, &said, splits)
 }

@@ -1,6 +1,6 @@
 // What lines name behind a mark of the bank, and the numbers that it has once the rest is forgotten.
 
-use ss_search_classes::{NONE, first_of, is_first, pair_of, second_of};
+use ss_search_question::{NONE, first_of, is_first, pair_of, second_of};
 use std::alloc::{AllocError, Global};
 
 // In place of a new number: there is none yet.
@@ -15,7 +15,7 @@ struct Behind {
 
 impl Behind {
     fn new(alloc: Global, from: usize, to: usize) -> Result<Self, AllocError> {
-        let mut numbers = Vec::new(alloc);
+        let mut numbers = Vec::with_capacity(alloc, to.saturating_sub(from))?;
         for _ in from..to {
             numbers.push(NONE)?;
         }

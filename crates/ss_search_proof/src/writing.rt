@@ -1,15 +1,12 @@
 // The lines of a proof. Each fact is written once, in the lowest case that sees all its uses.
 
-use crate::facts::{Fact, Facts, GoodName, Range, Reason, RuleKind, Said};
 use crate::names::Names;
-use crate::proof::{End, Proof};
-use crate::reasons::Reasons;
 use ss_deriv::{Derivation, Draft, Line, Sum};
 use ss_logic_rules::{GoodRule, RuleName};
-use ss_search_classes::NONE;
+use ss_search_facts::{End, Fact, Facts, GoodName, Proof, Range, Reason, Reasons, RuleKind, Said};
+use ss_search_question::NONE;
 use ss_terms::{FormulaId, TermId};
 use std::alloc::{AllocError, Global};
-use std::collections::BinaryHeap;
 
 /// Finds which facts of the proof whose outermost block this is are written, and where. What they name is named.
 pub fn plan_lines(
@@ -20,7 +17,7 @@ pub fn plan_lines(
 ) -> Result<(), AllocError> {
     let Reasons { facts, proof, .. } = reasons;
     number_blocks(alloc, proof, root)?;
-    place_facts(alloc, facts, proof, root)?;
+    place_facts(facts, proof, root);
     name_all(facts, proof, root, names);
     Ok(())
 }
@@ -108,7 +105,7 @@ pub fn write_lines(
 
 // Numbers the blocks in the order of the text, and finds the last number inside each of them.
 fn number_blocks(alloc: Global, proof: &mut Proof, root: usize) -> Result<(), AllocError> {
-    let mut order = Vec::new(alloc);
+    let mut order = Vec::with_capacity(alloc, proof.len())?;
     let mut at = root;
     for number in 0..proof.len() {
         if at == NONE {
@@ -136,130 +133,85 @@ fn raise_leave(proof: &mut Proof, number: usize) {
     proof.put(block.above, above);
 }
 
-// Finds the block of each fact that is used, from the newest fact to the oldest.
-fn place_facts(
-    alloc: Global,
-    facts: &mut Facts,
-    proof: &mut Proof,
-    root: usize,
-) -> Result<(), AllocError> {
-    let mut places = Places {
-        used: BinaryHeap::new(alloc),
-        root,
-    };
+// Finds the block of each fact that is used, from the newest fact to the oldest: what a fact is made of is older.
+fn place_facts(facts: &mut Facts, proof: &mut Proof, root: usize) {
     let mut at = root;
     for _ in 0..proof.len() {
         if at == NONE {
             break;
         }
         let block = proof.block(at);
-        places.use_end(facts, proof, at, block.end)?;
+        use_end(facts, proof, (at, root), block.end);
         at = proof.after(at, root);
     }
-    for _ in 0..u64::MAX {
-        let Some(fact) = places.used.pop() else {
-            break;
-        };
-        places.place(facts, proof, fact)?;
+    let count = facts.len();
+    for turn in 0..count {
+        let number = count.saturating_sub(turn.saturating_add(1));
+        place_fact(facts, proof, number, root);
     }
-    Ok(())
 }
 
-/// The facts that are used, and whose own uses aren't looked at yet.
-#[derive(Drop)]
-struct Places {
-    used: BinaryHeap<usize>,
-    root: usize,
+// What the end of a block names is used in it, below a root.
+fn use_end(facts: &mut Facts, proof: &Proof, block: (usize, usize), end: End) {
+    match end {
+        End::Nothing | End::Cut(_) => {}
+        End::Split(fact) => use_in(facts, proof, fact, block),
+        End::Clash(first, second) => {
+            use_in(facts, proof, first, block);
+            use_in(facts, proof, second, block);
+        }
+    }
 }
 
-impl Places {
-    fn use_end(
-        &mut self,
-        facts: &mut Facts,
-        proof: &Proof,
-        block: usize,
-        end: End,
-    ) -> Result<(), AllocError> {
-        match end {
-            End::Nothing | End::Cut(_) => Ok(()),
-            End::Split(fact) => self.use_in(facts, proof, fact, block),
-            End::Clash(first, second) => {
-                self.use_in(facts, proof, first, block)?;
-                self.use_in(facts, proof, second, block)
-            }
-        }
+// A fact is used in a block. A hypothesis is known there already, and choices stand in the root.
+fn use_in(facts: &mut Facts, proof: &Proof, number: usize, block: (usize, usize)) {
+    let (inner, root) = block;
+    let Some(fact) = facts.fact_mut(number) else {
+        return;
+    };
+    if is_hypothesis(fact.reason) {
+        return;
     }
+    let user = if is_choice(fact.reason) { root } else { inner };
+    fact.block = if fact.block == NONE {
+        user
+    } else {
+        meet(proof, fact.block, user)
+    };
+}
 
-    // A fact is used in a block. A hypothesis is known there already.
-    fn use_in(
-        &mut self,
-        facts: &mut Facts,
-        proof: &Proof,
-        number: usize,
-        block: usize,
-    ) -> Result<(), AllocError> {
-        let Some(fact) = facts.fact_mut(number) else {
-            return Ok(());
-        };
-        if is_hypothesis(fact.reason) {
-            return Ok(());
-        }
-        let block = if is_choice(fact.reason) {
-            self.root
-        } else {
-            block
-        };
-        if fact.block != NONE {
-            fact.block = meet(proof, fact.block, block);
-            return Ok(());
-        }
-        fact.block = block;
-        self.used.push(number)?;
-        Ok(())
+// Where a fact is used, all its uses are known, so its block is. What it is made of is used there.
+fn place_fact(facts: &mut Facts, proof: &mut Proof, number: usize, root: usize) {
+    let Some(fact) = facts.fact_mut(number) else {
+        return;
+    };
+    let (place, reason) = (fact.block, fact.reason);
+    if place == NONE {
+        return;
     }
-
-    // All uses of a fact are known, so its block is. What it is made of is used there.
-    fn place(
-        &mut self,
-        facts: &mut Facts,
-        proof: &mut Proof,
-        number: usize,
-    ) -> Result<(), AllocError> {
-        let Some(fact) = facts.fact_mut(number) else {
-            return Ok(());
-        };
-        let mut block = proof.block(fact.block);
-        fact.next = block.facts;
-        block.facts = number;
-        proof.put(fact.block, block);
-        let (block, reason) = (fact.block, fact.reason);
-        match reason {
-            Reason::Part(whole, _) => self.use_in(facts, proof, whole, block),
-            Reason::Inst(whole, _) => self.use_in(facts, proof, whole, block),
-            Reason::Good(_, whole, _) => self.use_in(facts, proof, whole, block),
-            Reason::Chain(range) => self.use_path(facts, proof, range, block),
-            Reason::Cong(range) => self.use_path(facts, proof, range, block),
-            Reason::Sum(_, range, _) => self.use_path(facts, proof, range, block),
-            Reason::Swap(whole, range) => {
-                self.use_in(facts, proof, whole, block)?;
-                self.use_path(facts, proof, range, block)
-            }
-            _ => Ok(()),
+    let mut block = proof.block(place);
+    fact.next = block.facts;
+    block.facts = number;
+    proof.put(place, block);
+    match reason {
+        Reason::Part(whole, _) => use_in(facts, proof, whole, (place, root)),
+        Reason::Inst(whole, _) => use_in(facts, proof, whole, (place, root)),
+        Reason::Good(_, whole, _) => use_in(facts, proof, whole, (place, root)),
+        Reason::Chain(range) => use_path(facts, proof, range, (place, root)),
+        Reason::Cong(range) => use_path(facts, proof, range, (place, root)),
+        Reason::Sum(_, range, _) => use_path(facts, proof, range, (place, root)),
+        Reason::Swap(whole, range) => {
+            use_in(facts, proof, whole, (place, root));
+            use_path(facts, proof, range, (place, root));
         }
+        _ => {}
     }
+}
 
-    fn use_path(
-        &mut self,
-        facts: &mut Facts,
-        proof: &Proof,
-        range: Range,
-        block: usize,
-    ) -> Result<(), AllocError> {
-        for place in range.from..range.to {
-            let fact = facts.path_at(place);
-            self.use_in(facts, proof, fact, block)?;
-        }
-        Ok(())
+fn use_path(facts: &mut Facts, proof: &Proof, range: Range, block: (usize, usize)) {
+    for place in range.from..range.to {
+        let fact = facts.path_at(place);
+        use_in(facts, proof, fact, block);
     }
 }
 

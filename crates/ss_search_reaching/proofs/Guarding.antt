@@ -9,7 +9,7 @@ use Rattle.ss_logic.proofs.Truth.{neg_neg}
 use Rattle.ss_logic_derivations.specs.Steps.{is_cut, is_literal, is_quantified}
 use Rattle.ss_terms.specs.declared.forms.FormulaId.{FormulaId}
 use Rattle.ss_terms.specs.Forms.{Forms, formula_at, formulas_at}
-use Rattle.ss_terms.proofs.Parts.{neg_formed}
+use Rattle.ss_terms.proofs.Tested.{neg_formed}
 use Rattle.ss_deriv.specs.declared.line.Line.{Line}
 use Rattle.ss_deriv.specs.Lines.{lines_of}
 use Rattle.ss_equality_rules.specs.declared.Merge.{Merge}

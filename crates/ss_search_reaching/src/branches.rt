@@ -11,9 +11,9 @@ ghost use Rattle.ss_search_reaching.specs.Units.{IsBeside, IsResolved, UnitFrom}
 
 use ss_deriv::Line;
 use ss_equality::Congruence;
-use ss_search_path::Path;
+use ss_search_path::{Branching, Path};
 use ss_search_reached::{Looking, Outcomes};
-use ss_search_refuting::{Refuting, split};
+use ss_search_refuting::{FactParts, Refuting, split};
 use ss_search_standing::Standing;
 use ss_terms::FormulaId;
 use std::alloc::AllocError;
@@ -41,30 +41,32 @@ impl Beside<'_> {
     fn one(
         &self,
         path: &mut Path,
-        place: usize,
-        from: usize,
-        parts: &[FormulaId],
+        whole: &FactParts<'_>,
         part: usize,
         front: Vec<Line>,
         back: Vec<Line>,
     ) -> Result<Resolved, AllocError>
         requires given { IsGiven self.now.refuting.given }
-        requires part { part < length parts.now }
-        requires has { HasFormulas self.now.looking.bank.now parts.now }
+        requires part { part < length whole.now.parts.now }
+        requires has { HasFormulas self.now.looking.bank.now whole.now.parts.now }
         ensures kept { OnOk result (take (length path.old.known.items) path.new.known.items ≡ path.old.known.items) }
-        ensures branch { IfOk result (λ u. IsResolved self.now.looking (or_of self.now.looking.bank.now parts.now) u) }
-        ensures leads { IfOk result (λ u. (ms : List Merge) → AreCasesFrom self.now.refuting ms path.old place from (or_of (bank_of self.now.refuting) parts.now) 0 part front.items → AreCasesFrom self.now.refuting ms path.old place from (or_of (bank_of self.now.refuting) parts.now) (part + 1) (length parts.now) back.items → UnitFrom self.now ms path.old place from parts.now path.new u) }
+        ensures branch { IfOk result (λ u. IsResolved self.now.looking (or_of self.now.looking.bank.now whole.now.parts.now) u) }
+        ensures leads { IfOk result (λ u. (ms : List Merge) → AreCasesFrom self.now.refuting ms path.old whole.now.place whole.now.from (or_of (bank_of self.now.refuting) whole.now.parts.now) 0 part front.items → AreCasesFrom self.now.refuting ms path.old whole.now.place whole.now.from (or_of (bank_of self.now.refuting) whole.now.parts.now) (part + 1) (length whole.now.parts.now) back.items → UnitFrom self.now ms path.old whole.now.place whole.now.from whole.now.parts.now path.new u) }
     {
         let given = &self.refuting.given;
         let last = path.known.len();
-        let f = given.part_at(path, place, part);
-        path.unit(given.bank, place, parts.len(), front, back, f)?;
-        let (at, opened) = given.open(path, last, from)?;
+        let f = given.part_at(path, whole.place, part);
+        let branching = Branching {
+            place: whole.place,
+            count: whole.parts.len(),
+        };
+        path.unit(given.bank, branching, front, back, f)?;
+        let (at, opened) = given.open(path, last, whole.from)?;
         let standing = Standing::Fact {
             place: at,
             from: opened,
         };
-        Ok(Resolved::One(parts[part], standing))
+        Ok(Resolved::One(whole.parts[part], standing))
     }
 
     // What the `or` is, where this part may hold and the cases in front of it are closed.
@@ -72,39 +74,29 @@ impl Beside<'_> {
         &self,
         congruence: &mut Congruence,
         path: &mut Path,
-        place: usize,
-        from: usize,
-        parts: &[FormulaId],
+        whole: &FactParts<'_>,
         part: usize,
         front: Vec<Line>,
-        bound: usize,
     ) -> Result<Resolved, AllocError>
         requires beside { IsBeside self.now congruence.old }
         requires given { IsGiven self.now.refuting.given }
-        requires below { AreBelow bound parts.now }
-        requires in_bank { bound ≤ length (bank_of self.now.refuting).formulas * 2 }
-        requires part { part < length parts.now }
-        requires holds { (f : ids.FormulaId) → slice_get parts.now part ≡ Some f → IsHolding self.now.refuting f }
+        requires below { AreBelow whole.now.bound whole.now.parts.now }
+        requires in_bank { whole.now.bound ≤ length (bank_of self.now.refuting).formulas * 2 }
+        requires part { part < length whole.now.parts.now }
+        requires holds { (f : ids.FormulaId) → slice_get whole.now.parts.now part ≡ Some f → IsHolding self.now.refuting f }
         ensures congruence { OnOk result (congruence.new ≡ congruence.old) }
         ensures kept { OnOk result (take (length path.old.known.items) path.new.known.items ≡ path.old.known.items) }
-        ensures branch { IfOk result (λ u. IsResolved self.now.looking (or_of self.now.looking.bank.now parts.now) u) }
-        ensures leads { IfOk result (λ u. AreCasesFrom self.now.refuting congruence.old.merges path.old place from (or_of (bank_of self.now.refuting) parts.now) 0 part front.items → UnitFrom self.now congruence.old.merges path.old place from parts.now path.new u) }
+        ensures branch { IfOk result (λ u. IsResolved self.now.looking (or_of self.now.looking.bank.now whole.now.parts.now) u) }
+        ensures leads { IfOk result (λ u. AreCasesFrom self.now.refuting congruence.old.merges path.old whole.now.place whole.now.from (or_of (bank_of self.now.refuting) whole.now.parts.now) 0 part front.items → UnitFrom self.now congruence.old.merges path.old whole.now.place whole.now.from whole.now.parts.now path.new u) }
     {
-        let count = parts.len();
-        let back = self.refuting.cases(
-            congruence,
-            path,
-            place,
-            from,
-            parts,
-            part + 1,
-            count,
-            bound,
-        )?;
+        let count = whole.parts.len();
+        let back = self
+            .refuting
+            .cases(congruence, path, whole, part + 1, count)?;
         if back.stop < count {
             return Ok(Resolved::Open);
         }
-        self.one(path, place, from, parts, part, front, back.lines)
+        self.one(path, whole, part, front, back.lines)
     }
 
     // What the `or` is, where all parts look refuted. One that isn't closed may hold.
@@ -112,37 +104,23 @@ impl Beside<'_> {
         &self,
         congruence: &mut Congruence,
         path: &mut Path,
-        place: usize,
-        from: usize,
-        parts: &[FormulaId],
-        bound: usize,
+        whole: &FactParts<'_>,
     ) -> Result<Resolved, AllocError>
         requires beside { IsBeside self.now congruence.old }
         requires given { IsGiven self.now.refuting.given }
-        requires below { AreBelow bound parts.now }
-        requires in_bank { bound ≤ length (bank_of self.now.refuting).formulas * 2 }
+        requires below { AreBelow whole.now.bound whole.now.parts.now }
+        requires in_bank { whole.now.bound ≤ length (bank_of self.now.refuting).formulas * 2 }
         ensures congruence { OnOk result (congruence.new ≡ congruence.old) }
         ensures kept { OnOk result (take (length path.old.known.items) path.new.known.items ≡ path.old.known.items) }
-        ensures branch { IfOk result (λ u. IsResolved self.now.looking (or_of self.now.looking.bank.now parts.now) u) }
-        ensures leads { IfOk result (λ u. UnitFrom self.now congruence.old.merges path.old place from parts.now path.new u) }
+        ensures branch { IfOk result (λ u. IsResolved self.now.looking (or_of self.now.looking.bank.now whole.now.parts.now) u) }
+        ensures leads { IfOk result (λ u. UnitFrom self.now congruence.old.merges path.old whole.now.place whole.now.from whole.now.parts.now path.new u) }
     {
-        let count = parts.len();
-        let front = self
-            .refuting
-            .cases(congruence, path, place, from, parts, 0, count, bound)?;
+        let count = whole.parts.len();
+        let front = self.refuting.cases(congruence, path, whole, 0, count)?;
         if front.stop < count {
-            return self.others(
-                congruence,
-                path,
-                place,
-                from,
-                parts,
-                front.stop,
-                front.lines,
-                bound,
-            );
+            return self.others(congruence, path, whole, front.stop, front.lines);
         }
-        let lines = split(self.looking.alloc, place, count, front.lines)?;
+        let lines = split(self.looking.alloc, whole.place, count, front.lines)?;
         Ok(Resolved::Closed(lines))
     }
 
@@ -151,73 +129,61 @@ impl Beside<'_> {
         &self,
         congruence: &mut Congruence,
         path: &mut Path,
-        place: usize,
-        from: usize,
-        parts: &[FormulaId],
+        whole: &FactParts<'_>,
         part: usize,
-        bound: usize,
     ) -> Result<Resolved, AllocError>
         requires beside { IsBeside self.now congruence.old }
         requires given { IsGiven self.now.refuting.given }
-        requires below { AreBelow bound parts.now }
-        requires in_bank { bound ≤ length (bank_of self.now.refuting).formulas * 2 }
-        requires part { part < length parts.now }
-        requires holds { (f : ids.FormulaId) → slice_get parts.now part ≡ Some f → IsHolding self.now.refuting f }
+        requires below { AreBelow whole.now.bound whole.now.parts.now }
+        requires in_bank { whole.now.bound ≤ length (bank_of self.now.refuting).formulas * 2 }
+        requires part { part < length whole.now.parts.now }
+        requires holds { (f : ids.FormulaId) → slice_get whole.now.parts.now part ≡ Some f → IsHolding self.now.refuting f }
         ensures congruence { OnOk result (congruence.new ≡ congruence.old) }
         ensures kept { OnOk result (take (length path.old.known.items) path.new.known.items ≡ path.old.known.items) }
-        ensures branch { IfOk result (λ u. IsResolved self.now.looking (or_of self.now.looking.bank.now parts.now) u) }
-        ensures leads { IfOk result (λ u. UnitFrom self.now congruence.old.merges path.old place from parts.now path.new u) }
+        ensures branch { IfOk result (λ u. IsResolved self.now.looking (or_of self.now.looking.bank.now whole.now.parts.now) u) }
+        ensures leads { IfOk result (λ u. UnitFrom self.now congruence.old.merges path.old whole.now.place whole.now.from whole.now.parts.now path.new u) }
     {
-        let front = self
-            .refuting
-            .cases(congruence, path, place, from, parts, 0, part, bound)?;
+        let front = self.refuting.cases(congruence, path, whole, 0, part)?;
         if front.stop < part {
             return Ok(Resolved::Open);
         }
-        self.others(
-            congruence,
-            path,
-            place,
-            from,
-            parts,
-            part,
-            front.lines,
-            bound,
-        )
+        self.others(congruence, path, whole, part, front.lines)
     }
 
-    /// What the `or` of these parts is, which is the fact at a place. The parts are below a number. Which may hold is looked up first, and
-    /// lines are written only where at most one does.
+    /// What the `or` of the parts of a fact is. Which may hold is looked up first, and lines are written only where at most one does.
     pub(crate) fn unit(
         &self,
         congruence: &mut Congruence,
         outcomes: &mut Outcomes,
         path: &mut Path,
-        place: usize,
-        from: usize,
-        parts: &[FormulaId],
-        bound: usize,
+        whole: &FactParts<'_>,
     ) -> Result<Resolved, AllocError>
         requires beside { IsBeside self.now congruence.old }
         requires given { IsGiven self.now.refuting.given }
         requires outcomes { AreHolding self.now.looking outcomes.old }
-        requires below { AreBelow bound parts.now }
-        requires in_bank { bound ≤ length (bank_of self.now.refuting).formulas * 2 }
+        requires below { AreBelow whole.now.bound whole.now.parts.now }
+        requires in_bank { whole.now.bound ≤ length (bank_of self.now.refuting).formulas * 2 }
         ensures congruence { OnOk result (congruence.new ≡ congruence.old) }
         ensures outcomes { OnOk result (AreHolding self.now.looking outcomes.new) }
         ensures kept { OnOk result (take (length path.old.known.items) path.new.known.items ≡ path.old.known.items) }
-        ensures branch { IfOk result (λ u. IsResolved self.now.looking (or_of self.now.looking.bank.now parts.now) u) }
-        ensures leads { IfOk result (λ u. UnitFrom self.now congruence.old.merges path.old place from parts.now path.new u) }
+        ensures branch { IfOk result (λ u. IsResolved self.now.looking (or_of self.now.looking.bank.now whole.now.parts.now) u) }
+        ensures leads { IfOk result (λ u. UnitFrom self.now congruence.old.merges path.old whole.now.place whole.now.from whole.now.parts.now path.new u) }
     {
         let looking = &self.looking;
-        if looking.is_met(parts) {
+        if looking.is_met(whole.parts) {
             return Ok(Resolved::Open);
         }
-        match looking.first_open(congruence, outcomes, parts, 0, bound)? {
-            None => self.all(congruence, path, place, from, parts, bound),
+        match looking.first_open(congruence, outcomes, whole.parts, 0, whole.bound)? {
+            None => self.all(congruence, path, whole),
             Some(part) => {
-                match looking.first_open(congruence, outcomes, parts, part + 1, bound)? {
-                    None => self.all_but(congruence, path, place, from, parts, part, bound),
+                match looking.first_open(
+                    congruence,
+                    outcomes,
+                    whole.parts,
+                    part + 1,
+                    whole.bound,
+                )? {
+                    None => self.all_but(congruence, path, whole, part),
                     Some(_other) => Ok(Resolved::Open),
                 }
             }

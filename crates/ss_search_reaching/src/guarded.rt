@@ -22,6 +22,14 @@ use ss_search_reached::{Outcomes, is_basic};
 use ss_terms::FormulaId;
 use std::alloc::AllocError;
 
+/// The parts of an `or` that an origin guards, which are below a number.
+#[derive(Clone, Copy)]
+pub(crate) struct GuardedParts<'a> {
+    pub(crate) origin: usize,
+    pub(crate) parts: &'a [FormulaId],
+    pub(crate) bound: usize,
+}
+
 impl Beside<'_> {
     // The case in which a literal or quantified formula is known too: all its lines; none only where it may hold. The path stays.
     fn case_of(
@@ -213,38 +221,41 @@ impl Beside<'_> {
         }
     }
 
-    /// What the `or` of these parts is, which this origin guards. The parts are below a number. Which may hold is looked up first, and lines are
-    /// written only where at most one does.
+    /// What the `or` of guarded parts is. Which may hold is looked up first, and lines are written only where at most one does.
     pub(crate) fn guarded(
         &self,
         congruence: &mut Congruence,
         outcomes: &mut Outcomes,
         path: &mut Path,
-        origin: usize,
-        parts: &[FormulaId],
-        bound: usize,
+        whole: &GuardedParts<'_>,
     ) -> Result<Resolved, AllocError>
         requires beside { IsBeside self.now congruence.old }
         requires given { IsGiven self.now.refuting.given }
         requires outcomes { AreHolding self.now.looking outcomes.old }
-        requires has { HasFormulas (bank_of self.now.refuting) parts.now }
-        requires below { AreBelow bound parts.now }
-        requires in_bank { bound ≤ length (bank_of self.now.refuting).formulas * 2 }
+        requires has { HasFormulas (bank_of self.now.refuting) whole.now.parts.now }
+        requires below { AreBelow whole.now.bound whole.now.parts.now }
+        requires in_bank { whole.now.bound ≤ length (bank_of self.now.refuting).formulas * 2 }
         ensures congruence { OnOk result (congruence.new ≡ congruence.old) }
         ensures outcomes { OnOk result (AreHolding self.now.looking outcomes.new) }
         ensures kept { OnOk result (take (length path.old.known.items) path.new.known.items ≡ path.old.known.items) }
-        ensures branch { IfOk result (λ u. IsResolved self.now.looking (or_of self.now.looking.bank.now parts.now) u) }
-        ensures leads { IfOk result (λ u. UnitGuarded self.now congruence.old.merges path.old origin parts.now path.new u) }
+        ensures branch { IfOk result (λ u. IsResolved self.now.looking (or_of self.now.looking.bank.now whole.now.parts.now) u) }
+        ensures leads { IfOk result (λ u. UnitGuarded self.now congruence.old.merges path.old whole.now.origin whole.now.parts.now path.new u) }
     {
         let looking = &self.looking;
-        if looking.is_met(parts) {
+        if looking.is_met(whole.parts) {
             return Ok(Resolved::Open);
         }
-        match looking.first_open(congruence, outcomes, parts, 0, bound)? {
-            None => self.by_lines(congruence, path, origin, parts),
+        match looking.first_open(congruence, outcomes, whole.parts, 0, whole.bound)? {
+            None => self.by_lines(congruence, path, whole.origin, whole.parts),
             Some(part) => {
-                match looking.first_open(congruence, outcomes, parts, part + 1, bound)? {
-                    None => self.by_lines(congruence, path, origin, parts),
+                match looking.first_open(
+                    congruence,
+                    outcomes,
+                    whole.parts,
+                    part + 1,
+                    whole.bound,
+                )? {
+                    None => self.by_lines(congruence, path, whole.origin, whole.parts),
                     Some(_other) => Ok(Resolved::Open),
                 }
             }

@@ -21,14 +21,16 @@ ghost use Rattle.ss_search_reaching.specs.Units.{IsBeside, IsResolved, formulas_
 ghost use Rattle.ss_search_reaching.specs.Turns.{IsAdded, Turns, TurnFrom, AreFollowing, UnitsFrom, IfOpen};
 
 use crate::branches::{Beside, Resolved};
+use crate::guarded::GuardedParts;
 use crate::reaching::Reaching;
 use ss_deriv::Line;
 use ss_equality::Congruence;
 use ss_search_clashes::{Found, Known, look, what_has_no_clash_fits};
 use ss_search_clashing::close;
+use ss_search_equating::CongruenceContext;
 use ss_search_path::Path;
 use ss_search_reached::{Looking, Outcomes};
-use ss_search_refuting::Refuting;
+use ss_search_refuting::{FactParts, Refuting};
 use ss_search_standing::{Given, Standing};
 use ss_search_whole_sums::close_whole_sums;
 use ss_terms::{Formula, FormulaId};
@@ -81,10 +83,21 @@ impl Beside<'_> {
         match self.looking.bank.formula_node(f) {
             Formula::Or(parts) => match standing {
                 Standing::Fact { place, from } => {
-                    self.unit(congruence, outcomes, path, place, from, parts, f.0)
+                    let whole = FactParts {
+                        place,
+                        from,
+                        parts,
+                        bound: f.0,
+                    };
+                    self.unit(congruence, outcomes, path, &whole)
                 }
                 Standing::Guarded { origin } => {
-                    self.guarded(congruence, outcomes, path, origin, parts, f.0)
+                    let whole = GuardedParts {
+                        origin,
+                        parts,
+                        bound: f.0,
+                    };
+                    self.guarded(congruence, outcomes, path, &whole)
                 }
             },
             Formula::And(_) => Ok(Resolved::Open),
@@ -173,15 +186,13 @@ impl Reaching {
         match look(given.alloc, given.bank, classes, &self.reached.known)? {
             Found::Clashes(clash) => {
                 let count = self.path.known.len();
-                let lines = close(
-                    given.alloc,
-                    given.bank,
-                    &self.reached.congruence,
+                let context = CongruenceContext {
+                    alloc: given.alloc,
+                    bank: given.bank,
+                    congruence: &self.reached.congruence,
                     count,
-                    &self.reached.known,
-                    &self.places,
-                    clash,
-                )?;
+                };
+                let lines = close(&context, &self.reached.known, &self.places, clash)?;
                 Ok(Turn::Closed(lines))
             }
             Found::Fits(table) => self.units_by(given, &table),
@@ -216,12 +227,16 @@ impl Reaching {
         ensures none { (cs : List ClassTree) → IsBankOf cs given.now.bank.now → IfOk result (λ o. o ≡ None → HasNoSum cs (class_of given.now.bank.now self.now.reached.classes.items) (basics (reached_of given.now self.now))) }
         ensures closes { (cs : List ClassTree) → IsBankOf cs given.now.bank.now → IfOk result (λ o. IfSome o (λ v. (premises : List logic.Formula) (goal : logic.Formula) → Shows cs given.now self.now → Closes cs premises goal (facts_of given.now self.now) (lines_of given.now.bank.now v.items))) }
     {
+        let count = self.path.known.len();
+        let context = CongruenceContext {
+            alloc: given.alloc,
+            bank: given.bank,
+            congruence: &self.reached.congruence,
+            count,
+        };
         close_whole_sums(
-            given.alloc,
-            given.bank,
-            &self.reached.congruence,
+            &context,
             &self.reached.classes,
-            self.path.known.len(),
             &self.reached.known,
             &self.places,
         )

@@ -16,6 +16,7 @@ use ss_deriv::Line;
 use ss_equality::Congruence;
 use ss_search_clashes::{Against, Clash, Found, Known, look, sides, what_has_no_clash_fits};
 use ss_search_clashing::{Fact, close, close_against};
+use ss_search_equating::CongruenceContext;
 use ss_search_procedure_rules::what_has_fitting_classes_fits;
 use ss_search_standing::Given;
 use ss_terms::{FormulaId, TermId};
@@ -46,17 +47,13 @@ impl Refuting<'_> {
         ensures { IfOk result (λ v. CloseBeside self.now congruence.now.merges count fact v.items) }
     {
         let _ = fact;
-        let alloc = self.given.alloc;
-        let bank = self.given.bank;
-        close(
-            alloc,
-            bank,
+        let context = CongruenceContext {
+            alloc: self.given.alloc,
+            bank: self.given.bank,
             congruence,
             count,
-            self.known,
-            self.places,
-            clash,
-        )
+        };
+        close(&context, self.known, self.places, clash)
     }
 
     // Lines that close the case by a formula that doesn't fit the known ones.
@@ -74,18 +71,13 @@ impl Refuting<'_> {
         requires against { AtClasses (bank_of self.now) congruence.now (λ class. IsAgainst (bank_of self.now) class self.now.known.now fact.formula against) }
         ensures { IfOk result (λ v. CloseBeside self.now congruence.now.merges count fact v.items) }
     {
-        let alloc = self.given.alloc;
-        let bank = self.given.bank;
-        close_against(
-            alloc,
-            bank,
+        let context = CongruenceContext {
+            alloc: self.given.alloc,
+            bank: self.given.bank,
             congruence,
             count,
-            self.known,
-            self.places,
-            fact,
-            against,
-        )
+        };
+        close_against(&context, self.known, self.places, fact, against)
     }
 
     // Lines that close the case by what the table says against a formula; none only where nothing does.

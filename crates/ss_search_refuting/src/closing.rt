@@ -17,6 +17,15 @@ use ss_search_path::{Path, add_case};
 use ss_terms::{Formula, FormulaId};
 use std::alloc::{AllocError, Global};
 
+/// The fact at a place, opened by the choices from one on: its parts, which are below a number.
+#[derive(Clone, Copy)]
+pub struct FactParts<'a> {
+    pub place: usize,
+    pub from: usize,
+    pub parts: &'a [FormulaId],
+    pub bound: usize,
+}
+
 /// Closed cases, one after the other, up to a part.
 #[derive(Drop)]
 pub struct Cases {
@@ -84,41 +93,54 @@ impl Refuting<'_> {
     {
         match self.given.bank.formula_node(f) {
             Formula::Literal { .. } => self.basic_fact(congruence, path, place, f),
-            Formula::And(parts) => self.some_part(congruence, path, place, from, parts, f.0),
-            Formula::Or(parts) => self.all_parts(congruence, path, place, from, parts, f.0),
+            Formula::And(parts) => {
+                let whole = FactParts {
+                    place,
+                    from,
+                    parts,
+                    bound: f.0,
+                };
+                self.some_part(congruence, path, &whole)
+            }
+            Formula::Or(parts) => {
+                let whole = FactParts {
+                    place,
+                    from,
+                    parts,
+                    bound: f.0,
+                };
+                self.all_parts(congruence, path, &whole)
+            }
             Formula::Forall(_, _) => self.basic_fact(congruence, path, place, f),
             Formula::Exists(_, _) => self.basic_fact(congruence, path, place, f),
         }
     }
 
-    // The same of the fact that is an `and` of these parts, by the part with this number. Where there are no lines, the path stays.
+    // The same of a fact that is an `and`, by the part with this number. Where there are no lines, the path stays.
     #[cycle(closing)]
     fn one_part(
         &self,
         congruence: &mut Congruence,
         path: &mut Path,
-        place: usize,
-        from: usize,
-        parts: &[FormulaId],
+        whole: &FactParts<'_>,
         part: usize,
-        bound: usize,
     ) -> Result<Option<Vec<Line>>, AllocError>
         requires refuting { IsRefuting self.now congruence.old }
         requires given { IsGiven self.now.given }
-        requires below { AreBelow bound parts.now }
-        requires in_bank { bound ≤ length (bank_of self.now).formulas * 2 }
-        requires part { part < length parts.now }
+        requires below { AreBelow whole.now.bound whole.now.parts.now }
+        requires in_bank { whole.now.bound ≤ length (bank_of self.now).formulas * 2 }
+        requires part { part < length whole.now.parts.now }
         ensures congruence { OnOk result (congruence.new ≡ congruence.old) }
         ensures kept { OnOk result (take (length path.old.known.items) path.new.known.items ≡ path.old.known.items) }
-        ensures none { IfOk result (λ o. o ≡ None → (f : ids.FormulaId) → slice_get parts.now part ≡ Some f → IsHolding self.now f) }
+        ensures none { IfOk result (λ o. o ≡ None → (f : ids.FormulaId) → slice_get whole.now.parts.now part ≡ Some f → IsHolding self.now f) }
         ensures known { IfOk result (λ o. o ≡ None → path.new.known.items ≡ path.old.known.items) }
-        ensures stays { IfOk result (λ o. o ≡ None → StaysFrom self.now congruence.old.merges path.old place from (and_of (bank_of self.now) parts.now) path.new) }
-        ensures goes_on { OnOk result (GoesOnFrom self.now congruence.old.merges path.old place from (and_of (bank_of self.now) parts.now) path.new) }
-        ensures closes { IfOk result (λ o. IfSome o (λ v. ClosesFrom self.now congruence.old.merges path.old place from (and_of (bank_of self.now) parts.now) path.new v.items)) }
+        ensures stays { IfOk result (λ o. o ≡ None → StaysFrom self.now congruence.old.merges path.old whole.now.place whole.now.from (and_of (bank_of self.now) whole.now.parts.now) path.new) }
+        ensures goes_on { OnOk result (GoesOnFrom self.now congruence.old.merges path.old whole.now.place whole.now.from (and_of (bank_of self.now) whole.now.parts.now) path.new) }
+        ensures closes { IfOk result (λ o. IfSome o (λ v. ClosesFrom self.now congruence.old.merges path.old whole.now.place whole.now.from (and_of (bank_of self.now) whole.now.parts.now) path.new v.items)) }
     {
         let mark = path.mark();
-        let (at, opened) = self.given.part(path, place, from, part)?;
-        match self.known(congruence, path, at, opened, parts[part])? {
+        let (at, opened) = self.given.part(path, whole.place, whole.from, part)?;
+        match self.known(congruence, path, at, opened, whole.parts[part])? {
             Some(lines) => Ok(Some(lines)),
             None => {
                 path.undo(mark);
@@ -127,64 +149,58 @@ impl Refuting<'_> {
         }
     }
 
-    // The same by one of the parts, which are below a number.
+    // The same by one of the parts.
     #[cycle(closing)]
     fn some_part(
         &self,
         congruence: &mut Congruence,
         path: &mut Path,
-        place: usize,
-        from: usize,
-        parts: &[FormulaId],
-        bound: usize,
+        whole: &FactParts<'_>,
     ) -> Result<Option<Vec<Line>>, AllocError>
         requires refuting { IsRefuting self.now congruence.old }
         requires given { IsGiven self.now.given }
-        requires below { AreBelow bound parts.now }
-        requires in_bank { bound ≤ length (bank_of self.now).formulas * 2 }
+        requires below { AreBelow whole.now.bound whole.now.parts.now }
+        requires in_bank { whole.now.bound ≤ length (bank_of self.now).formulas * 2 }
         ensures congruence { OnOk result (congruence.new ≡ congruence.old) }
         ensures kept { OnOk result (take (length path.old.known.items) path.new.known.items ≡ path.old.known.items) }
-        ensures none { IfOk result (λ o. o ≡ None → AllMayHold (basics (known_beside self.now)) (formulas_from (formulas_at (bank_of self.now) parts.now))) }
-        ensures goes_on { OnOk result (GoesOnFrom self.now congruence.old.merges path.old place from (and_of (bank_of self.now) parts.now) path.new) }
-        ensures closes { IfOk result (λ o. IfSome o (λ v. ClosesFrom self.now congruence.old.merges path.old place from (and_of (bank_of self.now) parts.now) path.new v.items)) }
+        ensures none { IfOk result (λ o. o ≡ None → AllMayHold (basics (known_beside self.now)) (formulas_from (formulas_at (bank_of self.now) whole.now.parts.now))) }
+        ensures goes_on { OnOk result (GoesOnFrom self.now congruence.old.merges path.old whole.now.place whole.now.from (and_of (bank_of self.now) whole.now.parts.now) path.new) }
+        ensures closes { IfOk result (λ o. IfSome o (λ v. ClosesFrom self.now congruence.old.merges path.old whole.now.place whole.now.from (and_of (bank_of self.now) whole.now.parts.now) path.new v.items)) }
     {
-        for part in 0..parts.len() {
-            if let Some(lines) = self.one_part(congruence, path, place, from, parts, part, bound)? {
+        for part in 0..whole.parts.len() {
+            if let Some(lines) = self.one_part(congruence, path, whole, part)? {
                 return Ok(Some(lines));
             }
         }
         Ok(None)
     }
 
-    /// The case of a part of the fact at a place, which is an `or`: all its lines. None only where the part of the reached formula may
-    /// hold. The path stays. The parts are below a number.
+    /// The case of a part of a fact that is an `or`: all its lines. None only where the part of the reached formula may hold. The path
+    /// stays.
     #[cycle(closing)]
     pub fn case(
         &self,
         congruence: &mut Congruence,
         path: &mut Path,
-        place: usize,
-        from: usize,
-        parts: &[FormulaId],
+        whole: &FactParts<'_>,
         part: usize,
-        bound: usize,
     ) -> Result<Option<Vec<Line>>, AllocError>
         requires refuting { IsRefuting self.now congruence.old }
         requires given { IsGiven self.now.given }
-        requires below { AreBelow bound parts.now }
-        requires in_bank { bound ≤ length (bank_of self.now).formulas * 2 }
-        requires part { part < length parts.now }
+        requires below { AreBelow whole.now.bound whole.now.parts.now }
+        requires in_bank { whole.now.bound ≤ length (bank_of self.now).formulas * 2 }
+        requires part { part < length whole.now.parts.now }
         ensures congruence { OnOk result (congruence.new ≡ congruence.old) }
         ensures known { OnOk result (path.new.known.items ≡ path.old.known.items) }
-        ensures none { IfOk result (λ o. o ≡ None → (f : ids.FormulaId) → slice_get parts.now part ≡ Some f → IsHolding self.now f) }
-        ensures stays { OnOk result (StaysFrom self.now congruence.old.merges path.old place from (or_of (bank_of self.now) parts.now) path.new) }
-        ensures closes { IfOk result (λ o. IfSome o (λ v. ClosesPart self.now congruence.old.merges path.old place from (or_of (bank_of self.now) parts.now) part v.items)) }
+        ensures none { IfOk result (λ o. o ≡ None → (f : ids.FormulaId) → slice_get whole.now.parts.now part ≡ Some f → IsHolding self.now f) }
+        ensures stays { OnOk result (StaysFrom self.now congruence.old.merges path.old whole.now.place whole.now.from (or_of (bank_of self.now) whole.now.parts.now) path.new) }
+        ensures closes { IfOk result (λ o. IfSome o (λ v. ClosesPart self.now congruence.old.merges path.old whole.now.place whole.now.from (or_of (bank_of self.now) whole.now.parts.now) part v.items)) }
     {
         let last = path.known.len();
-        let f = self.given.part_at(path, place, part);
+        let f = self.given.part_at(path, whole.place, part);
         let mark = path.assume(f)?;
-        let (at, opened) = self.given.open(path, last, from)?;
-        match self.known(congruence, path, at, opened, parts[part])? {
+        let (at, opened) = self.given.open(path, last, whole.from)?;
+        match self.known(congruence, path, at, opened, whole.parts[part])? {
             Some(closing) => {
                 let lines = path.cut_out(self.given.alloc, mark, closing)?;
                 Ok(Some(lines))
@@ -196,37 +212,34 @@ impl Refuting<'_> {
         }
     }
 
-    /// The cases of parts of the fact at a place, which is an `or`, from one part on and before another. They are those up to the first that isn't
-    /// closed. The part of the reached formula may hold there. The path stays. The parts are below a number.
+    /// The cases of parts of a fact that is an `or`, from one part on and before another. They are those up to the first that isn't closed.
+    /// The part of the reached formula may hold there. The path stays.
     #[cycle(closing)]
     pub fn cases(
         &self,
         congruence: &mut Congruence,
         path: &mut Path,
-        place: usize,
-        from: usize,
-        parts: &[FormulaId],
+        whole: &FactParts<'_>,
         start: usize,
         end: usize,
-        bound: usize,
     ) -> Result<Cases, AllocError>
         requires refuting { IsRefuting self.now congruence.old }
         requires given { IsGiven self.now.given }
-        requires below { AreBelow bound parts.now }
-        requires in_bank { bound ≤ length (bank_of self.now).formulas * 2 }
+        requires below { AreBelow whole.now.bound whole.now.parts.now }
+        requires in_bank { whole.now.bound ≤ length (bank_of self.now).formulas * 2 }
         requires start { start ≤ end }
-        requires end { end ≤ length parts.now }
+        requires end { end ≤ length whole.now.parts.now }
         ensures congruence { OnOk result (congruence.new ≡ congruence.old) }
         ensures known { OnOk result (path.new.known.items ≡ path.old.known.items) }
         ensures later { IfOk result (λ r. start ≤ r.stop) }
         ensures within { IfOk result (λ r. r.stop ≤ end) }
-        ensures holds { IfOk result (λ r. r.stop < end → (f : ids.FormulaId) → slice_get parts.now r.stop ≡ Some f → IsHolding self.now f) }
-        ensures stays { OnOk result (StaysFrom self.now congruence.old.merges path.old place from (or_of (bank_of self.now) parts.now) path.new) }
-        ensures cases { IfOk result (λ r. AreCasesFrom self.now congruence.old.merges path.old place from (or_of (bank_of self.now) parts.now) start r.stop r.lines.items) }
+        ensures holds { IfOk result (λ r. r.stop < end → (f : ids.FormulaId) → slice_get whole.now.parts.now r.stop ≡ Some f → IsHolding self.now f) }
+        ensures stays { OnOk result (StaysFrom self.now congruence.old.merges path.old whole.now.place whole.now.from (or_of (bank_of self.now) whole.now.parts.now) path.new) }
+        ensures cases { IfOk result (λ r. AreCasesFrom self.now congruence.old.merges path.old whole.now.place whole.now.from (or_of (bank_of self.now) whole.now.parts.now) start r.stop r.lines.items) }
     {
         let mut lines = Vec::new(self.given.alloc);
         for part in start..end {
-            let Some(closing) = self.case(congruence, path, place, from, parts, part, bound)? else {
+            let Some(closing) = self.case(congruence, path, whole, part)? else {
                 return Ok(Cases { lines, stop: part });
             };
             add_case(&mut lines, closing)?;
@@ -234,33 +247,30 @@ impl Refuting<'_> {
         Ok(Cases { lines, stop: end })
     }
 
-    // Lines that close the case, of a fact that is an `or` of these parts. The parts are below a number.
+    // Lines that close the case, of a fact that is an `or`.
     #[cycle(closing)]
     fn all_parts(
         &self,
         congruence: &mut Congruence,
         path: &mut Path,
-        place: usize,
-        from: usize,
-        parts: &[FormulaId],
-        bound: usize,
+        whole: &FactParts<'_>,
     ) -> Result<Option<Vec<Line>>, AllocError>
         requires refuting { IsRefuting self.now congruence.old }
         requires given { IsGiven self.now.given }
-        requires below { AreBelow bound parts.now }
-        requires in_bank { bound ≤ length (bank_of self.now).formulas * 2 }
+        requires below { AreBelow whole.now.bound whole.now.parts.now }
+        requires in_bank { whole.now.bound ≤ length (bank_of self.now).formulas * 2 }
         ensures congruence { OnOk result (congruence.new ≡ congruence.old) }
         ensures kept { OnOk result (take (length path.old.known.items) path.new.known.items ≡ path.old.known.items) }
-        ensures none { IfOk result (λ o. o ≡ None → SomeMayHold (basics (known_beside self.now)) (formulas_from (formulas_at (bank_of self.now) parts.now))) }
-        ensures goes_on { OnOk result (GoesOnFrom self.now congruence.old.merges path.old place from (or_of (bank_of self.now) parts.now) path.new) }
-        ensures closes { IfOk result (λ o. IfSome o (λ v. ClosesFrom self.now congruence.old.merges path.old place from (or_of (bank_of self.now) parts.now) path.new v.items)) }
+        ensures none { IfOk result (λ o. o ≡ None → SomeMayHold (basics (known_beside self.now)) (formulas_from (formulas_at (bank_of self.now) whole.now.parts.now))) }
+        ensures goes_on { OnOk result (GoesOnFrom self.now congruence.old.merges path.old whole.now.place whole.now.from (or_of (bank_of self.now) whole.now.parts.now) path.new) }
+        ensures closes { IfOk result (λ o. IfSome o (λ v. ClosesFrom self.now congruence.old.merges path.old whole.now.place whole.now.from (or_of (bank_of self.now) whole.now.parts.now) path.new v.items)) }
     {
-        let count = parts.len();
-        let cases = self.cases(congruence, path, place, from, parts, 0, count, bound)?;
+        let count = whole.parts.len();
+        let cases = self.cases(congruence, path, whole, 0, count)?;
         if cases.stop < count {
             return Ok(None);
         }
-        let lines = split(self.given.alloc, place, count, cases.lines)?;
+        let lines = split(self.given.alloc, whole.place, count, cases.lines)?;
         Ok(Some(lines))
     }
 }

@@ -5,4 +5,4 @@ mod basic;
 mod closing;
 
 pub use basic::Refuting;
-pub use closing::{Cases, split};
+pub use closing::{Cases, FactParts, split};

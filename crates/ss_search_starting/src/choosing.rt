@@ -13,7 +13,7 @@ ghost use Rattle.ss_search_starting.specs.Starting.{IsSaid};
 
 use ss_core::Classes;
 use ss_rules_opened::Choice;
-use ss_terms::{Bank, Formula, FormulaId, TermId};
+use ss_terms::{Bank, Formula, FormulaId, Parts, TermId};
 use ss_terms_puts::put;
 use std::alloc::{AllocError, Global};
 
@@ -46,7 +46,7 @@ fn either(
     ensures grown { IsGrown bank.old bank.new }
 {
     let none = bank.negation(whole);
-    let mut parts = Vec::new(alloc);
+    let mut parts = Parts::new(alloc);
     parts.push(none)?;
     parts.push(body)?;
     bank.formula(Formula::Or(parts))

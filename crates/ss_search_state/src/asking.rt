@@ -1,14 +1,14 @@
 // What is asked for.
 
 use crate::state::State;
-use ss_search_classes::{
+use ss_search_facts::Reason;
+use ss_search_instances::Clause;
+use ss_search_question::{
     ALLOCATED, AND, AT_MOST, COMMITTED, CONSTANT, ELEMENT, EQUAL, FIELD, LEVEL, LITERAL, NEXT,
     NONE, OR, OWNER, PUT, READY, SET, arguments_of, code_of_sort, first_of, is_closed, is_delayed,
-    is_first, is_term, is_truth, is_value, kind_of, node_head, of_pair, of_term, pair_argument,
+    is_first, is_term, is_truth, is_value, is_whole, kind_of, of_pair, of_term, pair_argument,
     pair_head, pair_of, part_at, part_count, sort_at, term_head,
 };
-use ss_search_instances::Clause;
-use ss_search_proof::Reason;
 use ss_terms::Bank;
 use std::alloc::AllocError;
 
@@ -22,7 +22,7 @@ impl State {
     // How deep reads of fields nest in a term.
     fn depth(&self, term: usize) -> usize {
         match self.depths.get(term) {
-            Some(depth) => *depth,
+            Some(depth) => *depth as usize,
             None => 0,
         }
     }
@@ -43,6 +43,7 @@ impl State {
             if kind == ELEMENT || kind == PUT {
                 self.elements.push(term)?;
             }
+            let depth = u32::try_from(depth).map_err(|_| AllocError)?;
             self.depths.push(depth)?;
         }
         Ok(())
@@ -56,7 +57,7 @@ impl State {
         self.grow_depths(bank)?;
         let mut deepest = 0usize;
         for depth in &self.depths {
-            deepest = deepest.max(*depth);
+            deepest = deepest.max(*depth as usize);
         }
         self.deepest = deepest.saturating_add(1);
         Ok(())
@@ -69,6 +70,23 @@ impl State {
             return Ok(());
         }
         self.ask_node(bank, node)
+    }
+
+    // A known literal is asked for. Of an equality of numbers that an instance says the sides are, since nothing is made for such an equality.
+    pub(crate) fn ask_literal(
+        &mut self,
+        bank: &Bank,
+        formula: usize,
+        origin: usize,
+    ) -> Result<(), AllocError> {
+        let pair = pair_of(formula);
+        let (left, right) = (pair_argument(bank, pair, 0), pair_argument(bank, pair, 1));
+        let is_equality = is_first(formula) && pair_head(bank, pair).kind == EQUAL;
+        if origin > 1 || !is_equality || !is_whole(bank, left) {
+            return self.ask_atom(bank, pair);
+        }
+        self.ask_term(bank, right)?;
+        self.ask_term(bank, left)
     }
 
     /// A term is asked for.
@@ -89,11 +107,31 @@ impl State {
                 break;
             };
             if !self.asked.is_asked(next) && self.may_ask(bank, next) && self.asked.ask(next)? {
-                self.equal.add(bank, next)?;
+                self.add_node(bank, next)?;
                 self.ask_inside(bank, next)?;
             }
         }
         Ok(())
+    }
+
+    // A node is there from now on; of an equality the sides are, since no other atom makes it known.
+    fn add_node(&mut self, bank: &Bank, node: usize) -> Result<(), AllocError> {
+        if is_term(node) || pair_head(bank, node / 2).kind != EQUAL {
+            return self.equal.add(bank, node);
+        }
+        for argument in arguments_of(bank, node) {
+            self.equal.add(bank, of_term(argument.0))?;
+        }
+        Ok(())
+    }
+
+    /// The kind of a node that is asked for.
+    pub fn kind(&self, bank: &Bank, node: usize) -> usize {
+        if is_term(node) {
+            self.equal.kind(node)
+        } else {
+            pair_head(bank, node / 2).kind
+        }
     }
 
     fn may_ask(&self, bank: &Bank, node: usize) -> bool {
@@ -115,12 +153,15 @@ impl State {
     }
 
     fn ask_inside(&mut self, bank: &Bank, node: usize) -> Result<(), AllocError> {
-        let kind = node_head(bank, node).kind;
+        let kind = self.kind(bank, node);
         if kind >= SET && kind < EQUAL || kind == CONSTANT {
             return Ok(());
         }
         for argument in arguments_of(bank, node) {
-            self.waiting.push(of_term(argument.0))?;
+            let inner = of_term(argument.0);
+            if !self.asked.is_asked(inner) {
+                self.waiting.push(inner)?;
+            }
         }
         Ok(())
     }
@@ -163,13 +204,13 @@ impl State {
 
     /// All members of the classes that are asked for are asked for.
     pub fn ask_members(&mut self, bank: &Bank) -> Result<(), AllocError> {
+        let base = self.stamp_of_undone();
         for place in 0..usize::MAX {
             let node = self.asked.node(place);
             if node == NONE {
                 break;
             }
-            let stamp = self.stamp_of(node);
-            if is_term(node) && self.equal.literal(node) == NONE && self.equal.sweep(node, stamp) {
+            if is_term(node) && self.equal.sweep(node, base) {
                 self.ask_class(bank, node)?;
             }
         }
@@ -306,13 +347,28 @@ impl State {
         is_store_atom(kind) && pair_head(bank, pair_of(before)).kind == kind
     }
 
-    /// Whether a literal is asked for, or an open one of an `and`; of an `or`, in what it says under its conditions.
+    /// Whether a literal is asked for, or an open one of an `and`; of an `or`, in what it says under its conditions. That an object is allocated or
+    /// committed counts where it is known too.
     pub fn touches_part(&self, bank: &Bank, formula: usize) -> bool {
         let count = part_count(bank, formula);
-        if kind_of(bank, formula) != OR || count > 1 && self.is_half(bank, formula, count) {
-            return self.touches_inside(bank, formula);
+        if kind_of(bank, formula) != OR {
+            return self.is_sought(bank, formula) || self.touches_inside(bank, formula);
         }
-        self.touches_inside(bank, part_at(bank, formula, count.saturating_sub(1)))
+        let last = part_at(bank, formula, count.saturating_sub(1));
+        if count > 1 && self.is_half(bank, formula, count) {
+            let before = part_at(bank, formula, count.saturating_sub(2));
+            return self.is_sought(bank, last)
+                || self.is_sought(bank, before)
+                || self.touches_inside(bank, formula);
+        }
+        self.is_sought(bank, last) || self.touches_inside(bank, last)
+    }
+
+    // Whether a formula says that an object is allocated or committed, or isn't, and that is asked for, known or not.
+    fn is_sought(&self, bank: &Bank, formula: usize) -> bool {
+        let pair = pair_of(formula);
+        let kind = pair_head(bank, pair).kind;
+        (kind == ALLOCATED || kind == COMMITTED) && self.asked.is_asked(of_pair(pair))
     }
 
     fn touches_inside(&self, bank: &Bank, formula: usize) -> bool {

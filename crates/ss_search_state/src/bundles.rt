@@ -3,13 +3,13 @@
 
 use crate::requests::{Wanted, new_request};
 use crate::state::State;
-use ss_search_classes::{
+use ss_search_facts::{Reason, Said};
+use ss_search_instances::{Held, is_read};
+use ss_search_nodes::LONG;
+use ss_search_question::{
     AND, NONE, OR, argument, body_of, bound_count, delayed_term, delayed_whole, has_unbound,
     is_delayed, kind_of, node_head, of_term, part_at, part_count,
 };
-use ss_search_instances::{Held, is_read};
-use ss_search_nodes::LONG;
-use ss_search_proof::{Reason, Said};
 use ss_terms::Bank;
 use std::alloc::AllocError;
 
@@ -277,6 +277,11 @@ impl State {
     pub(crate) fn stamp_of(&self, node: usize) -> usize {
         self.equal
             .members(node)
-            .wrapping_add(self.undone.wrapping_mul(0x1_0000_0000))
+            .wrapping_add(self.stamp_of_undone())
+    }
+
+    // How often something was taken back, beyond the members of any class.
+    pub(crate) fn stamp_of_undone(&self) -> usize {
+        self.undone.wrapping_mul(0x1_0000_0000)
     }
 }

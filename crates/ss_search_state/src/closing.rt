@@ -1,8 +1,9 @@
 // How cases are closed: what a block stands on, and what is put in front of it.
 
 use crate::state::State;
-use ss_search_classes::{Conflict, opposite};
-use ss_search_proof::{End, Range, Reason, Said};
+use ss_search_classes::Conflict;
+use ss_search_facts::{End, Range, Reason, Said};
+use ss_search_question::opposite;
 use ss_terms::Bank;
 use std::alloc::AllocError;
 

@@ -6,12 +6,13 @@ ghost use Rattle.ss_terms.specs.Forms.{HasFormulas};
 use crate::state::{State, Step};
 use ss_deriv::Sum;
 use ss_linear::refute;
-use ss_search_classes::{
-    ADD, Conflict, MULTIPLY, NONE, NUMBER, SUBTRACT, is_first, is_term, of_term, pair_argument,
-    pair_of, term_argument, term_at, term_head,
-};
+use ss_search_classes::Conflict;
+use ss_search_facts::{Reason, Said};
 use ss_search_numbers::{Part, Source};
-use ss_search_proof::{Reason, Said};
+use ss_search_question::{
+    ADD, MULTIPLY, NONE, NUMBER, SUBTRACT, is_first, is_term, of_term, pair_argument, pair_of,
+    term_argument, term_at, term_head,
+};
 use ss_terms::{Bank, FormulaId, Symbol, Term};
 use std::alloc::AllocError;
 
@@ -21,12 +22,15 @@ const DEEPEST: usize = 200;
 impl State {
     // Looks for a contradiction, where something changed.
     pub(crate) fn look_at_numbers(&mut self, bank: &Bank) -> Result<Step, AllocError> {
-        let counted = (self.equal.merges(), self.bounds.len());
-        if !self.has_numbers || counted.1 == 0 || counted == self.counted {
+        if !self.has_numbers || self.bounds.is_empty() {
+            return Ok(Step::Rests);
+        }
+        self.grow_depths(bank)?;
+        let counted = (self.equal.number_merges(), self.compared);
+        if counted == self.counted {
             return Ok(Step::Rests);
         }
         self.counted = counted;
-        self.grow_depths(bank)?;
         self.rows.clear();
         self.collect_bounds(bank)?;
         self.collect_sums(bank)?;
@@ -40,6 +44,14 @@ impl State {
         }
         self.counted = (0, 0);
         Ok(Step::Conflict(Conflict::Facts(fact, fact)))
+    }
+
+    /// Whether two whole numbers come to the same where sums and differences are taken apart, and equal terms are one.
+    pub fn come_to_same(&mut self, bank: &Bank, x: usize, y: usize) -> Result<bool, AllocError> {
+        self.rows.clear();
+        self.rows.begin();
+        self.add_sides(bank, x, y)?;
+        Ok(self.rows.is_zero())
     }
 
     /// Looks for a contradiction of the known literals that compare whole numbers, as they stand: of one or two of them, of differences, and

@@ -2,8 +2,8 @@
 
 use crate::requests::{Wanted, new_request};
 use crate::state::State;
-use ss_search_classes::{ELEMENT, NONE, argument, is_term, node_head, of_term, same_head};
-use ss_search_proof::RuleKind;
+use ss_search_facts::RuleKind;
+use ss_search_question::{ELEMENT, NONE, argument, is_term, node_head, of_term, same_head};
 use ss_terms::Bank;
 use std::alloc::AllocError;
 

@@ -1,7 +1,7 @@
 // What is to be made in the bank: instances, new constants, and terms and atoms that are asked for.
 
-use ss_search_classes::NONE;
-use ss_search_proof::{GoodName, RuleKind};
+use ss_search_facts::{GoodName, RuleKind};
+use ss_search_question::NONE;
 
 /// What is wanted.
 #[derive(Clone, Copy)]
@@ -24,6 +24,10 @@ pub enum Wanted {
     Level,
     /// That a store has an object.
     Allocated,
+    /// That an owner is a group.
+    Group,
+    /// That two whole numbers are equal, or one is below the other. The latter is tried at once.
+    Same,
 }
 
 /// What is wanted, and its arguments: the number of a sentence first, then terms, then the number of a field or a class. NONE

@@ -2,16 +2,16 @@
 
 use crate::bundles::Piece;
 use crate::requests::{Request, Wanted, new_request};
-use ss_search_classes::{
-    AND, AT_MOST, Classes as Equal, Conflict, EQUAL, EXISTS, Event, FORALL, GOOD, Keys, LITERAL,
-    NONE, OR, OWNER, SUB, arguments_of, is_delayed, is_first, is_truth, is_value, is_whole,
-    kind_of, node_head, of_pair, of_term, opposite, pair_argument, pair_head, pair_of, part_at,
-    part_count,
-};
+use ss_search_classes::{Classes as Equal, Conflict};
+use ss_search_facts::{Reason, Reasons, RuleKind, Said};
 use ss_search_instances::{Asked, Clause, Heads, Held, Marks};
 use ss_search_nodes::{Ground, LONG, Nodes, or_of};
 use ss_search_numbers::Rows;
-use ss_search_proof::{Reason, Reasons, RuleKind, Said};
+use ss_search_question::{
+    AND, AT_MOST, EQUAL, EXISTS, FORALL, GOOD, Keys, LITERAL, NONE, OR, OWNER, SUB, arguments_of,
+    is_delayed, is_first, is_truth, is_value, is_whole, kind_of, of_pair, of_term, opposite,
+    pair_argument, pair_head, pair_of, part_at, part_count,
+};
 use ss_terms::Bank;
 use std::alloc::{AllocError, Global};
 
@@ -38,6 +38,7 @@ pub struct Mark {
     pub weights: usize,
     pub bounds: usize,
     pub equations: usize,
+    pub same: usize,
 }
 
 /// How much stands of what isn't taken back with cases, and the next constant that is new.
@@ -81,7 +82,7 @@ pub struct State {
     pub fresh: usize,
     /// The depth beyond which nothing is asked for, and how deep reads of fields nest in each term.
     pub deepest: usize,
-    pub(crate) depths: Vec<usize>,
+    pub(crate) depths: Vec<u32>,
     pub left: Limits,
     /// How many facts were learned outside of trials.
     pub progress: usize,
@@ -93,10 +94,15 @@ pub struct State {
     pub(crate) rows: Rows,
     /// The known equations of whole numbers, each with its fact.
     pub(crate) equations: Vec<(usize, usize)>,
+    /// The clauses that say that two numbers differ or are equal which come to the same. That they differ is still to be tried.
+    pub same: Vec<usize>,
     /// The terms of the bank that read or change an element.
     pub elements: Vec<usize>,
-    /// How many merges and comparisons there were when they were last looked at.
+    /// The terms of whole numbers from 0 on that rules were asked for by, or NONE.
+    pub numerals: Vec<usize>,
+    /// How many merges of numbers and comparisons there had been when they were last looked at, and how many comparisons.
     pub(crate) counted: (usize, usize),
+    pub(crate) compared: usize,
     /// How many nodes were asked for when bundles were last looked at, or NONE.
     pub(crate) scanned: usize,
     /// Of each bundle, how the classes that it speaks of stood when it was last looked at, and how many nodes were asked for.
@@ -128,6 +134,7 @@ pub fn first_mark() -> Mark {
         weights: 0,
         bounds: 0,
         equations: 0,
+        same: 0,
     }
 }
 
@@ -165,8 +172,11 @@ impl State {
             bounds: Vec::new(alloc),
             rows: Rows::new(alloc),
             equations: Vec::new(alloc),
+            same: Vec::new(alloc),
             elements: Vec::new(alloc),
+            numerals: Vec::new(alloc),
             counted: (0, 0),
+            compared: 0,
             scanned: NONE,
             looked: Vec::new(alloc),
             pieces: Vec::new(alloc),
@@ -191,6 +201,7 @@ impl State {
             weights: self.reasons.facts.weights.len(),
             bounds: self.bounds.len(),
             equations: self.equations.len(),
+            same: self.same.len(),
         }
     }
 
@@ -202,6 +213,7 @@ impl State {
         self.seen.undo(mark.seen);
         self.bounds.truncate(mark.bounds);
         self.equations.truncate(mark.equations);
+        self.same.truncate(mark.same);
         self.scanned = NONE;
         self.undone = self.undone.saturating_add(1);
     }
@@ -244,6 +256,7 @@ impl State {
         self.places.undo(extent.places);
         self.depths.truncate(extent.depths);
         self.elements.truncate(extent.elements);
+        self.numerals.truncate(0);
         self.fresh = extent.fresh;
     }
 
@@ -275,7 +288,8 @@ impl State {
         true
     }
 
-    /// Whether what the first instances for a node depend on, which is asked for at a place, isn't as it was when this was asked last.
+    /// Whether what the first instances for a node depend on isn't as it was when this was asked last. The node is asked for at a
+    /// place. What is known of all objects and of classes is what it was when `first_moved` was called last.
     pub fn has_moved(
         &mut self,
         bank: &Bank,
@@ -296,13 +310,13 @@ impl State {
 
     /// From which place on the nodes that are asked for are looked at for first instances: those before stand as they did. All are looked at then.
     pub fn first_moved(&mut self) -> usize {
-        let (merges, known) = (self.equal.merges(), self.stamp_of_rest());
-        let from = if self.swept.0 == merges && self.swept.1 == known {
+        let (shifts, known) = (self.equal.shifts(), self.stamp_of_rest());
+        let from = if self.swept.0 == shifts && self.swept.1 == known {
             self.swept.2
         } else {
             0
         };
-        self.swept = (merges, known, self.asked.len());
+        self.swept = (shifts, known, self.asked.len());
         from
     }
 
@@ -314,10 +328,11 @@ impl State {
             .wrapping_add(self.asked.sub_count())
     }
 
-    // How the classes stand of which a node speaks, and how much is known of all objects and of classes.
+    // How the classes stand of which a node speaks. Also how much was known of all objects and of classes when the nodes were last
+    // looked at.
     fn stamp_of_all(&self, bank: &Bank, node: usize) -> usize {
-        let mut stamp = self.stamp_of_rest();
-        if node_head(bank, node).kind == OWNER {
+        let mut stamp = self.swept.1;
+        if self.equal.kind(node) == OWNER {
             stamp = stamp.wrapping_add(self.equal.members(node));
         }
         for argument in arguments_of(bank, node) {
@@ -357,17 +372,13 @@ impl State {
         Ok(Step::Rests)
     }
 
-    // Does the next thing: makes a merge, tells a value, counts it, makes the last part of an `or` known, or takes a fact apart.
+    // Makes the merges that wait, and tells and counts the values that come of them. Then makes the last part of an `or` known, or takes a fact apart.
     fn step(&mut self, bank: &Bank) -> Result<Step, AllocError> {
         if let Some(conflict) = self.equal.settle(bank)? {
             return Ok(Step::Conflict(conflict));
         }
-        if let Some(event) = self.equal.next_event() {
-            return self.hear(event);
-        }
-        if self.nodes.spread()? {
-            return Ok(Step::Goes);
-        }
+        self.hear_all()?;
+        self.nodes.spread()?;
         if let Some(pair) = self.nodes.next_unit() {
             return self.look_at_unit(bank, pair);
         }
@@ -378,10 +389,16 @@ impl State {
         self.take_apart(bank, fact)
     }
 
-    fn hear(&mut self, event: Event) -> Result<Step, AllocError> {
-        self.nodes
-            .come(event.pair, event.value, Ground::Atom(event.why))?;
-        Ok(Step::Goes)
+    // Tells the values that atoms got.
+    fn hear_all(&mut self) -> Result<(), AllocError> {
+        for _ in 0..u64::MAX {
+            let Some(event) = self.equal.next_event() else {
+                break;
+            };
+            self.nodes
+                .come(event.pair, event.value, Ground::Atom(event.why))?;
+        }
+        Ok(())
     }
 
     // Makes the last part of an `or` known, where the others are refuted.
@@ -401,7 +418,8 @@ impl State {
         self.take_part(bank, or, fact, place)
     }
 
-    // Makes the last part of a premise known that is true already, where it says that a term is a literal: so paths to the literal are short.
+    // Makes the last part of a premise known that is true already, where it says that a term is a literal. So paths to the literal
+    // are short.
     fn look_at_value(&mut self, bank: &Bank, or: usize, fact: usize) -> Result<Step, AllocError> {
         let place = self.nodes.first_true(bank, or);
         if self.reasons.facts.origin(fact) > 0 || !is_of_value(bank, part_at(bank, or, place)) {
@@ -459,14 +477,16 @@ impl State {
             return Ok(Step::Goes);
         }
         let origin = self.reasons.facts.origin(fact);
-        if origin == 1 && part_count(bank, formula) > LONG && !self.asked.has_goal() {
+        let is_bundle = self.is_trial || !self.asked.has_goal();
+        if origin == 1 && part_count(bank, formula) > LONG && is_bundle {
             let number = formula;
             self.add_bundle(bank, Held { number, fact })?;
             return Ok(Step::Goes);
         }
+        let is_condition = self.is_condition(bank, fact);
         for place in 0..part_count(bank, formula) {
             let part = part_at(bank, formula, place);
-            let origin = if origin == 1 && !self.touches_part(bank, part) {
+            let origin = if origin == 1 && !is_condition && !self.touches_part(bank, part) {
                 0
             } else {
                 origin
@@ -474,6 +494,17 @@ impl State {
             self.learn(Said::Formula(part), Reason::Part(fact, place), origin)?;
         }
         Ok(Step::Goes)
+    }
+
+    // Whether a fact is a condition of an `or`: a part that isn't the last one, where the others are refuted.
+    fn is_condition(&self, bank: &Bank, fact: usize) -> bool {
+        match self.reason(fact) {
+            Some(Reason::Unit(whole, place)) => {
+                let or = self.reasons.facts.formula(whole);
+                place.saturating_add(1) < part_count(bank, or)
+            }
+            _ => false,
+        }
     }
 
     fn take_or(&mut self, bank: &Bank, formula: usize, fact: usize) -> Result<Step, AllocError> {
@@ -485,6 +516,9 @@ impl State {
             return self.take_part(bank, formula, fact, 0);
         }
         let origin = self.reasons.facts.origin(fact);
+        if self.is_decided(bank, formula, origin) {
+            return self.take_decided(bank, formula, fact);
+        }
         self.asked.add_clause(Clause {
             formula,
             fact,
@@ -495,6 +529,31 @@ impl State {
         }
         self.nodes.reach(bank, &mut self.equal, formula, fact)?;
         Ok(Step::Goes)
+    }
+
+    // Whether an `or` needn't be looked at: all its parts but one are refuted, or it comes from an instance and one is true. All are where each is to be
+    // looked at, and those of the goal.
+    fn is_decided(&self, bank: &Bank, formula: usize, origin: usize) -> bool {
+        if origin > 1 || self.nodes.is_thorough() || part_count(bank, formula) > LONG {
+            return false;
+        }
+        self.nodes.only_open(bank, formula) != NONE
+            || origin == 1 && self.nodes.first_true(bank, formula) != NONE
+    }
+
+    // The part that isn't refuted is known, where none is true.
+    fn take_decided(
+        &mut self,
+        bank: &Bank,
+        formula: usize,
+        fact: usize,
+    ) -> Result<Step, AllocError> {
+        self.nodes.hold(formula, fact)?;
+        let place = self.nodes.only_open(bank, formula);
+        if place == NONE {
+            return Ok(Step::Goes);
+        }
+        self.take_part(bank, formula, fact, place)
     }
 
     fn take_quantified(
@@ -530,7 +589,7 @@ impl State {
         let holds = is_first(formula);
         let origin = self.reasons.facts.origin(fact);
         if origin > 0 {
-            self.ask_atom(bank, pair)?;
+            self.ask_literal(bank, formula, origin)?;
         }
         if origin > 1 {
             self.asked.set_relevant(pair)?;
@@ -545,6 +604,7 @@ impl State {
         }
         if head.kind == AT_MOST {
             self.bounds.push((formula, fact))?;
+            self.compared = self.compared.saturating_add(1);
         }
         if head.kind == SUB {
             self.asked.add_sub(pair)?;

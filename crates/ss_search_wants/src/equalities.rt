@@ -1,15 +1,16 @@
 // What good stores say where an equality is asked for.
 
 use crate::fresh::new_owner;
-use crate::looks::{KEY_RULE, good_once, good_store, is_non_null, member, terms_at};
+use crate::looks::{KEY_RULE, class_of, good_once, good_store, is_non_null, member, terms_at};
+use crate::reads::not_group;
 use crate::typed::good_field;
 use ss_core::Classes;
-use ss_search_classes::{
+use ss_search_facts::GoodName;
+use ss_search_question::{
     FIELD, LEVEL, NONE, NULL, OWNER, PAIR, TYPE, argument, code_of_sort, is_truth, is_value,
     of_term, sort_at, term_argument, term_head,
 };
-use ss_search_proof::GoodName;
-use ss_search_state::State;
+use ss_search_state::{State, Wanted, new_request};
 use ss_terms::Bank;
 use std::alloc::AllocError;
 
@@ -35,7 +36,33 @@ pub(crate) fn good_equality(
     new_owner(state, bank, left, right)?;
     new_owner(state, bank, right, left)?;
     owners_are_there(state, bank, left, right)?;
-    owners_are_there(state, bank, right, left)
+    owners_are_there(state, bank, right, left)?;
+    pair_or_group(state, bank, left, right)?;
+    pair_or_group(state, bank, right, left)
+}
+
+// Where it is open whether an owner is a pair: the pair isn't a group, and whether the owner is one is asked for.
+fn pair_or_group(
+    state: &mut State,
+    bank: &Bank,
+    side: usize,
+    other: usize,
+) -> Result<(), AllocError> {
+    let owner = member(state, bank, of_term(side), OWNER, 0);
+    let pair = member(state, bank, of_term(other), PAIR, 0);
+    let is_open = state
+        .equal
+        .relation(of_term(side), of_term(other))
+        .is_none();
+    if owner == NONE || pair == NONE || !is_open {
+        return Ok(());
+    }
+    not_group(state, pair)?;
+    let class = class_of(state, owner);
+    if state.seen.is_new(KEY_RULE.saturating_add(9), class, 0)? {
+        state.want(new_request(Wanted::Group, owner, NONE, NONE))?;
+    }
+    Ok(())
 }
 
 // Where owners may be pairs, the objects of the pairs are allocated.

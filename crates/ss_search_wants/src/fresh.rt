@@ -1,8 +1,8 @@
 // What is said of what was allocated last.
 
 use crate::looks::{KEY_RULE, member};
-use ss_search_classes::{ARRAY, NEW, NEXT, NONE, OWNER, of_term, term_argument};
-use ss_search_proof::RuleKind;
+use ss_search_facts::RuleKind;
+use ss_search_question::{ARRAY, NEW, NEXT, NONE, OWNER, of_term, term_argument};
 use ss_search_state::{State, Wanted, new_request};
 use ss_terms::Bank;
 use std::alloc::AllocError;

@@ -8,11 +8,11 @@ use crate::looks::{
 use crate::reads::split_pairs;
 use crate::typed::good_reads;
 use ss_core::Classes;
-use ss_search_classes::{
+use ss_search_facts::GoodName;
+use ss_search_question::{
     ALLOCATED, COMMITTED, EQUAL, FIELD, GROUP, LEVEL, NONE, OWNER, PAIR, READY, SUB, TYPE,
-    argument, is_term, node_head, of_term, pair_argument, term_argument, term_head,
+    argument, is_term, is_whole, of_term, pair_argument, term_argument, term_head,
 };
-use ss_search_proof::GoodName;
 use ss_search_state::{State, Wanted, new_request};
 use ss_terms::Bank;
 use std::alloc::AllocError;
@@ -24,32 +24,35 @@ pub(crate) fn use_good(
     program: &Classes,
     node: usize,
 ) -> Result<(), AllocError> {
-    let head = node_head(bank, node);
-    if !is_term(node) && !is_wanted(state, bank, node, head.kind) {
+    let kind = state.kind(bank, node);
+    if !is_term(node) && !is_wanted(state, bank, node, kind) {
         return Ok(());
     }
-    if head.kind == OWNER {
+    if kind == OWNER {
         good_owner(state, bank, program, node)
-    } else if head.kind == COMMITTED {
+    } else if kind == COMMITTED {
         good_committed(state, bank, node)
-    } else if head.kind == ALLOCATED {
+    } else if kind == ALLOCATED {
         good_allocated(state, bank, node)
-    } else if head.kind == READY {
+    } else if kind == READY {
         good_ready(state, bank, node)
-    } else if head.kind == SUB {
+    } else if kind == SUB {
         good_class(state, bank, program, node)
-    } else if head.kind == GROUP {
+    } else if kind == GROUP {
         good_group(state, bank, node)
-    } else if head.kind == EQUAL {
+    } else if kind == EQUAL {
         good_equality(state, bank, program, node)
     } else {
         Ok(())
     }
 }
 
-// Whether an atom is open, or was made known by the goal, a case or an instance.
+// Whether an atom is open, or was made known by the goal, a case or an instance. Good stores say nothing of equal numbers.
 fn is_wanted(state: &State, bank: &Bank, node: usize, kind: usize) -> bool {
     let pair = node / 2;
+    if kind == EQUAL && is_whole(bank, pair_argument(bank, pair, 0)) {
+        return false;
+    }
     if state.asked.is_relevant(pair) {
         return true;
     }
@@ -161,7 +164,7 @@ fn good_owners(
         if node == NONE {
             break;
         }
-        if is_term(node) && node_head(bank, node).kind == OWNER {
+        if state.equal.kind(node) == OWNER {
             owner_is_allocated(state, bank, store, object, node)?;
         }
     }
@@ -262,7 +265,7 @@ fn good_type(
         if node == NONE {
             break;
         }
-        if is_term(node) && node_head(bank, node).kind == LEVEL {
+        if state.equal.kind(node) == LEVEL {
             good_level(state, bank, program, node, bound)?;
         }
         at = before;

@@ -2,8 +2,8 @@
 
 use crate::looks::{KEY_RULE, class_id, class_literal, mixed};
 use ss_core::{ClassId, Classes};
-use ss_search_classes::{NONE, argument, of_term, pair_argument};
-use ss_search_proof::RuleKind;
+use ss_search_facts::RuleKind;
+use ss_search_question::{NONE, argument, of_term, pair_argument};
 use ss_search_state::{Request, State, Wanted, new_request};
 use ss_terms::Bank;
 use std::alloc::AllocError;

@@ -1,8 +1,8 @@
 // What is read of the state, the bank and the program, and how an instance is wanted once.
 
 use ss_core::{ClassId, Classes, Field, FieldId, MOST_CLASSES, Mark, Ty};
-use ss_search_classes::{CLASS, NONE, is_term, of_term, term_head};
-use ss_search_proof::GoodName;
+use ss_search_facts::GoodName;
+use ss_search_question::{CLASS, NONE, is_term, of_term, term_head};
 use ss_search_state::{Request, State, Wanted, new_request};
 use ss_terms::Bank;
 use std::alloc::AllocError;
@@ -33,26 +33,17 @@ pub(crate) fn class_of(state: &State, term: usize) -> usize {
     }
 }
 
-// The member of a class of this kind that has so many others before it, or NONE.
+// The member of a class of this kind that has so many others before it, or NONE. A term that isn't there is alone in its class.
 pub(crate) fn member(state: &State, bank: &Bank, node: usize, kind: usize, before: usize) -> usize {
+    if !state.equal.is_there(node) {
+        let is_member = before == 0 && is_term(node) && term_head(bank, node / 2).kind == kind;
+        return if is_member { node / 2 } else { NONE };
+    }
     if !state.equal.has_kind(node, kind) {
         return NONE;
     }
-    let mut at = node;
-    let mut left = before;
-    for _ in 0..state.equal.len() {
-        if is_term(at) && term_head(bank, at / 2).kind == kind {
-            if left == 0 {
-                return at / 2;
-            }
-            left = left.saturating_sub(1);
-        }
-        at = state.equal.next(at);
-        if at == node {
-            break;
-        }
-    }
-    NONE
+    let found = state.equal.member(node, kind, before);
+    if found == NONE { NONE } else { found / 2 }
 }
 
 // The class name that a term is known to be, or NONE.

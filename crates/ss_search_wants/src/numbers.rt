@@ -6,11 +6,11 @@ use crate::looks::{
 };
 use crate::typed::good_field;
 use ss_core::{ClassId, Classes, MOST_LEVELS};
-use ss_search_classes::{
+use ss_search_facts::{GoodName, RuleKind};
+use ss_search_question::{
     ELEMENT, EQUAL, FIELD, LENGTH, LEVEL, NONE, NUMBER, QUOTIENT, REMAINDER, TYPE, argument,
-    is_term, is_whole, node_head, of_term, pair_argument, term_argument, term_head,
+    is_whole, node_head, of_term, pair_argument, term_argument, term_head,
 };
-use ss_search_proof::{GoodName, RuleKind};
 use ss_search_state::{State, Wanted, new_request};
 use ss_terms::Bank;
 use std::alloc::AllocError;
@@ -22,20 +22,20 @@ pub(crate) fn use_numbers(
     program: &Classes,
     node: usize,
 ) -> Result<(), AllocError> {
-    let head = node_head(bank, node);
-    if head.kind == FIELD {
+    let kind = state.kind(bank, node);
+    if kind == FIELD {
         return invariants_at(state, bank, program, node);
     }
-    if head.kind == EQUAL {
+    if kind == EQUAL {
         return apart(state, bank, node);
     }
-    if head.kind == QUOTIENT || head.kind == REMAINDER {
+    if kind == QUOTIENT || kind == REMAINDER {
         return divided(state, bank, node);
     }
-    if head.kind == ELEMENT && is_whole(bank, node / 2) {
+    if kind == ELEMENT && is_whole(bank, node / 2) {
         return element_range(state, bank, node);
     }
-    if head.kind == LENGTH {
+    if kind == LENGTH {
         return length(state, bank, node);
     }
     Ok(())
@@ -240,8 +240,7 @@ fn level_of(state: &State, bank: &Bank, store: usize, object: usize) -> usize {
         if node == NONE {
             break;
         }
-        if is_term(node)
-            && node_head(bank, node).kind == LEVEL
+        if state.equal.kind(node) == LEVEL
             && argument(bank, node, 0) == store
             && argument(bank, node, 1) == object
         {

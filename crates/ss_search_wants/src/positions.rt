@@ -1,19 +1,62 @@
-// Instances at every position.
+// Positions that come to the same, and instances at every position.
 
 use crate::looks::{KEY_FORALL, KEY_RULE, class_of, mixed};
-use ss_search_classes::{
-    CONSTANT, ELEMENT, NONE, NUMBER, bound_count, bound_sort, code_of_sort, is_closed, is_whole,
-    of_term, term_argument, term_head,
+use ss_search_question::{
+    ADD, CONSTANT, ELEMENT, MULTIPLY, NONE, NUMBER, SUBTRACT, argument, bound_count, bound_sort,
+    code_of_sort, is_closed, is_term, is_whole, node_head, of_term, term_argument, term_head,
 };
 use ss_search_state::{State, Wanted, new_request};
 use ss_terms::Bank;
 use std::alloc::AllocError;
 
-// How often it is done on the way to a case.
+// A position that is asked for may come to the same as an older one, and not be known to be equal. That is found at once.
+pub(crate) fn same_positions(
+    state: &mut State,
+    bank: &Bank,
+    node: usize,
+) -> Result<(), AllocError> {
+    let position = argument(bank, node, 2);
+    for place in 0..state.asked.len() {
+        let other = state.asked.node(place);
+        if other == node || state.left.trials == 0 {
+            break;
+        }
+        if is_term(other) && node_head(bank, other).kind == ELEMENT {
+            same_position(state, bank, position, argument(bank, other, 2))?;
+        }
+    }
+    Ok(())
+}
+
+// Two positions are looked at once, and again where one of their classes has grown.
+fn same_position(state: &mut State, bank: &Bank, x: usize, y: usize) -> Result<(), AllocError> {
+    if state.equal.are_equal(of_term(x), of_term(y)) || !is_sum(bank, x) && !is_sum(bank, y) {
+        return Ok(());
+    }
+    let (left, right) = (class_of(state, x), class_of(state, y));
+    let pair = mixed(left.min(right), left.max(right));
+    let size = state
+        .equal
+        .members(left)
+        .saturating_add(state.equal.members(right));
+    if state.seen.is_new(KEY_RULE.saturating_add(24), pair, size)?
+        && state.come_to_same(bank, x, y)?
+    {
+        state.want(new_request(Wanted::Same, x, y, NONE))?;
+    }
+    Ok(())
+}
+
+fn is_sum(bank: &Bank, term: usize) -> bool {
+    let kind = term_head(bank, term).kind;
+    kind == ADD || kind == SUBTRACT || kind == MULTIPLY
+}
+
+// How often instances are made at every position on the way to a case.
 const ROUNDS: usize = 2;
 
-/// Makes the instances of each known `forall` over one whole number: of one that reads elements at each position that is there, of
-/// one that reads nothing at each number and constant. Whether there was one.
+/// Makes the instances of each known `forall` over one whole number. One that reads elements gets them at each position that is
+/// there, one that reads nothing at each number and constant. Whether there was one.
 pub fn use_positions(state: &mut State, bank: &Bank) -> Result<bool, AllocError> {
     if !is_new_round(state)? {
         return Ok(false);

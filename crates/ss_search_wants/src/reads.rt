@@ -1,12 +1,12 @@
 // What reads come to, and what is said of all objects.
 
 use crate::looks::{KEY_FORALL, KEY_READ, KEY_RULE, class_of, member, mixed};
-use ss_search_classes::{
-    ALLOCATED, BOUND, COMMITTED, ELEMENT, FIELD, LEVEL, NEXT, NONE, OWNER, PAIR, READY_MADE, SET,
-    argument, is_closed, is_term, is_value, node_head, of_term, term_argument, term_head,
-};
+use ss_search_facts::RuleKind;
 use ss_search_instances::Pattern;
-use ss_search_proof::RuleKind;
+use ss_search_question::{
+    ALLOCATED, BOUND, COMMITTED, ELEMENT, FIELD, Head, LEVEL, NEXT, NONE, OWNER, PAIR, READY_MADE,
+    SET, argument, is_closed, is_term, is_value, node_head, of_term, term_argument, term_head,
+};
 use ss_search_state::{State, Wanted, new_request};
 use ss_terms::Bank;
 use std::alloc::AllocError;
@@ -42,6 +42,15 @@ fn is_change(kind: usize) -> bool {
     kind >= SET && kind <= READY_MADE
 }
 
+// Whether a node is a changed store. It needn't be there.
+fn is_changed(state: &State, bank: &Bank, node: usize) -> bool {
+    if state.equal.is_there(node) {
+        is_change(state.equal.kind(node))
+    } else {
+        is_term(node) && is_change(term_head(bank, node / 2).kind)
+    }
+}
+
 // The rule on reads, over each changed store that is equal to the one that is read.
 pub(crate) fn reduce_read(state: &mut State, bank: &Bank, node: usize) -> Result<(), AllocError> {
     let store = of_term(argument(bank, node, 0));
@@ -50,7 +59,7 @@ pub(crate) fn reduce_read(state: &mut State, bank: &Bank, node: usize) -> Result
     }
     let mut at = store;
     for _ in 0..state.equal.len() {
-        if is_term(at) && is_change(term_head(bank, at / 2).kind) {
+        if is_changed(state, bank, at) {
             read_over(state, bank, node, at / 2)?;
         }
         at = state.equal.next(at);
@@ -84,10 +93,11 @@ fn read_over(state: &mut State, bank: &Bank, node: usize, store: usize) -> Resul
 // The instances of known `forall`s that have this read as a head, over any store that is equal to the one that is read.
 pub(crate) fn use_foralls(state: &mut State, bank: &Bank, node: usize) -> Result<(), AllocError> {
     let store = of_term(argument(bank, node, 0));
+    let head = node_head(bank, node);
     let mut at = store;
     for _ in 0..state.equal.len() {
         if is_term(at) {
-            use_heads(state, bank, node, at / 2)?;
+            use_heads(state, bank, (node, head), at / 2)?;
         }
         at = state.equal.next(at);
         if at == store {
@@ -97,9 +107,15 @@ pub(crate) fn use_foralls(state: &mut State, bank: &Bank, node: usize) -> Result
     Ok(())
 }
 
-// The same of the heads over one store.
-fn use_heads(state: &mut State, bank: &Bank, node: usize, store: usize) -> Result<(), AllocError> {
-    let mut at = state.heads.first(node_head(bank, node), store);
+// The same of the heads over one store, by a node with this head.
+fn use_heads(
+    state: &mut State,
+    bank: &Bank,
+    read: (usize, Head),
+    store: usize,
+) -> Result<(), AllocError> {
+    let (node, head) = read;
+    let mut at = state.heads.first(head, store);
     for _ in 0..state.heads.len() {
         if at == NONE {
             break;
@@ -163,9 +179,7 @@ pub(crate) fn split_pairs(state: &mut State, bank: &Bank, node: usize) -> Result
     if first == NONE {
         return Ok(());
     }
-    if state.seen.is_new(KEY_RULE, first, 1)? {
-        state.want(new_request(Wanted::Rule(RuleKind::Split), first, NONE, NONE).numbered(0))?;
-    }
+    not_group(state, first)?;
     let second = member(state, bank, node, PAIR, 1);
     if second != NONE
         && state
@@ -173,6 +187,14 @@ pub(crate) fn split_pairs(state: &mut State, bank: &Bank, node: usize) -> Result
             .is_new(KEY_RULE.saturating_add(1), first, second)?
     {
         state.want(new_request(Wanted::Rule(RuleKind::Split), first, second, NONE).numbered(1))?;
+    }
+    Ok(())
+}
+
+// A pair isn't a group.
+pub(crate) fn not_group(state: &mut State, pair: usize) -> Result<(), AllocError> {
+    if state.seen.is_new(KEY_RULE, pair, 1)? {
+        state.want(new_request(Wanted::Rule(RuleKind::Split), pair, NONE, NONE).numbered(0))?;
     }
     Ok(())
 }

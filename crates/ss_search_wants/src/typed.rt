@@ -1,8 +1,8 @@
 // What good stores say of what is read of them.
 
 use crate::looks::{good_once, member, terms_at};
-use ss_search_classes::{ELEMENT, FIELD, NONE, of_term, term_argument, term_head};
-use ss_search_proof::GoodName;
+use ss_search_facts::GoodName;
+use ss_search_question::{ELEMENT, FIELD, NONE, of_term, term_argument, term_head};
 use ss_search_state::State;
 use ss_terms::Bank;
 use std::alloc::AllocError;

@@ -3,10 +3,11 @@
 use crate::good::use_good;
 use crate::levels::reduce_class;
 use crate::numbers::use_numbers;
+use crate::positions::same_positions;
 use crate::reads::{not_allocated_next, reduce_equality, reduce_read, split_pairs, use_foralls};
 use ss_core::Classes;
-use ss_search_classes::{ALLOCATED, EQUAL, NEXT, NONE, OWNER, SUB, argument, node_head, of_term};
 use ss_search_instances::is_read;
+use ss_search_question::{ALLOCATED, ELEMENT, EQUAL, NEXT, NONE, OWNER, SUB, argument, of_term};
 use ss_search_state::{State, reads_store};
 use ss_terms::Bank;
 use std::alloc::AllocError;
@@ -54,7 +55,7 @@ fn ask_for_more(state: &mut State, bank: &Bank) -> Result<(), AllocError> {
 
 // Whether a node is a read, a literal on classes, or an equality with what may be allocated next.
 fn may_reduce(state: &State, bank: &Bank, node: usize) -> bool {
-    let kind = node_head(bank, node).kind;
+    let kind = state.kind(bank, node);
     if kind == EQUAL {
         return is_side_next(state, argument(bank, node, 0))
             || is_side_next(state, argument(bank, node, 1));
@@ -73,20 +74,22 @@ fn reduce(
     program: &Classes,
     node: usize,
 ) -> Result<(), AllocError> {
-    let head = node_head(bank, node);
-    if reads_store(head.kind) {
+    let kind = state.kind(bank, node);
+    if reads_store(kind) {
         reduce_read(state, bank, node)?;
-        if is_read(head.kind) {
+        if is_read(kind) {
             use_foralls(state, bank, node)?;
         }
     }
-    if head.kind == OWNER {
+    if kind == OWNER {
         split_pairs(state, bank, node)?;
-    } else if head.kind == ALLOCATED {
+    } else if kind == ELEMENT {
+        same_positions(state, bank, node)?;
+    } else if kind == ALLOCATED {
         not_allocated_next(state, bank, node)?;
-    } else if head.kind == EQUAL {
+    } else if kind == EQUAL {
         reduce_equality(state, bank, node)?;
-    } else if head.kind == SUB {
+    } else if kind == SUB {
         reduce_class(state, bank, program, node)?;
     }
     Ok(())

@@ -10,10 +10,9 @@ ghost use Rattle.ss_search_whole_sums.specs.Contradicting.{ArePairsEqual, Adds, 
 
 use crate::summing::{close_by_sums, uses};
 use ss_deriv::{Line, Sum};
-use ss_equality::Congruence;
 use ss_linear::refute_with;
-use ss_search_equating::equate;
-use ss_terms::{Bank, FormulaId, TermId};
+use ss_search_equating::{CongruenceContext, equate};
+use ss_terms::{FormulaId, TermId};
 use std::alloc::{AllocError, Global};
 
 // The places of facts and of equalities behind them, and the lines that make the equalities known.
@@ -36,22 +35,28 @@ fn begin(alloc: Global, places: &[usize]) -> Result<Written, AllocError>
 
 // Makes it known that two terms are equal.
 fn write(
-    alloc: Global,
-    bank: &Bank,
-    congruence: &Congruence,
-    known: usize,
+    context: &CongruenceContext<'_>,
     written: &mut Written,
     x: TermId,
     y: TermId,
 ) -> Result<(), AllocError>
-    requires left { HasTerm bank.now x }
-    requires right { HasTerm bank.now y }
-    requires forms { AreFormsOf bank.now congruence.now.terms }
-    requires equal { IsEqual congruence.now.terms congruence.now.merges x.0 y.0 }
-    ensures { OnOk result (Adds bank.now congruence.now.merges known (x, y) written.old.lines.items written.new.lines.items written.old.places.items written.new.places.items) }
+    requires left { HasTerm context.now.bank.now x }
+    requires right { HasTerm context.now.bank.now y }
+    requires forms { AreFormsOf context.now.bank.now context.now.congruence.now.terms }
+    requires equal { IsEqual context.now.congruence.now.terms context.now.congruence.now.merges x.0 y.0 }
+    ensures { OnOk result (Adds context.now.bank.now context.now.congruence.now.merges context.now.count (x, y) written.old.lines.items written.new.lines.items written.old.places.items written.new.places.items) }
 {
-    let count = known.checked_add(written.lines.len()).ok_or(AllocError)?;
-    let mut shown = equate(alloc, bank, congruence, count, x, y)?;
+    let count = context
+        .count
+        .checked_add(written.lines.len())
+        .ok_or(AllocError)?;
+    let longer = CongruenceContext {
+        alloc: context.alloc,
+        bank: context.bank,
+        congruence: context.congruence,
+        count,
+    };
+    let mut shown = equate(&longer, x, y)?;
     written.lines.append(&mut shown.lines)?;
     written.places.push(shown.place)?;
     Ok(())
@@ -59,24 +64,21 @@ fn write(
 
 // The same where the sums use the equality, which stands behind all that has a place. Else any place serves.
 fn write_used(
-    alloc: Global,
-    bank: &Bank,
-    congruence: &Congruence,
-    known: usize,
+    context: &CongruenceContext<'_>,
     sums: &[Sum],
     written: &mut Written,
     x: TermId,
     y: TermId,
 ) -> Result<(), AllocError>
-    requires left { HasTerm bank.now x }
-    requires right { HasTerm bank.now y }
-    requires forms { AreFormsOf bank.now congruence.now.terms }
-    requires equal { IsEqual congruence.now.terms congruence.now.merges x.0 y.0 }
-    ensures { OnOk result (AddsUsed bank.now congruence.now.merges known (sums_of sums.now) (x, y) written.old.lines.items written.new.lines.items written.old.places.items written.new.places.items) }
+    requires left { HasTerm context.now.bank.now x }
+    requires right { HasTerm context.now.bank.now y }
+    requires forms { AreFormsOf context.now.bank.now context.now.congruence.now.terms }
+    requires equal { IsEqual context.now.congruence.now.terms context.now.congruence.now.merges x.0 y.0 }
+    ensures { OnOk result (AddsUsed context.now.bank.now context.now.congruence.now.merges context.now.count (sums_of sums.now) (x, y) written.old.lines.items written.new.lines.items written.old.places.items written.new.places.items) }
 {
     let place = written.places.len();
     if uses(sums, place) {
-        return write(alloc, bank, congruence, known, written, x, y);
+        return write(context, written, x, y);
     }
     written.places.push(0)?;
     Ok(())
@@ -84,31 +86,19 @@ fn write_used(
 
 // The places of the facts and of the equalities, of which those that the sums use are made known.
 fn write_all(
-    alloc: Global,
-    bank: &Bank,
-    congruence: &Congruence,
-    known: usize,
+    context: &CongruenceContext<'_>,
     places: &[usize],
     equalities: &[(TermId, TermId)],
     sums: &[Sum],
 ) -> Result<Written, AllocError>
-    requires pairs { HasPairs bank.now equalities.now }
-    requires forms { AreFormsOf bank.now congruence.now.terms }
-    requires equal { ArePairsEqual congruence.now equalities.now }
-    ensures { IfOk result (λ w. AreWritten bank.now congruence.now.merges known (sums_of sums.now) places.now equalities.now w.places.items w.lines.items) }
+    requires pairs { HasPairs context.now.bank.now equalities.now }
+    requires forms { AreFormsOf context.now.bank.now context.now.congruence.now.terms }
+    requires equal { ArePairsEqual context.now.congruence.now equalities.now }
+    ensures { IfOk result (λ w. AreWritten context.now.bank.now context.now.congruence.now.merges context.now.count (sums_of sums.now) places.now equalities.now w.places.items w.lines.items) }
 {
-    let mut written = begin(alloc, places)?;
+    let mut written = begin(context.alloc, places)?;
     for equality in equalities {
-        write_used(
-            alloc,
-            bank,
-            congruence,
-            known,
-            sums,
-            &mut written,
-            equality.0,
-            equality.1,
-        )?;
+        write_used(context, sums, &mut written, equality.0, equality.1)?;
     }
     Ok(written)
 }
@@ -117,22 +107,22 @@ fn write_all(
 // among so many known formulas. The equalities follow by congruence from those of the merges, which are known at their reasons. An
 // error is want of memory.
 fn contradict(
-    alloc: Global,
-    bank: &Bank,
-    congruence: &Congruence,
-    known: usize,
+    context: &CongruenceContext<'_>,
     places: &[usize],
     equalities: &[(TermId, TermId)],
     sums: &[Sum],
 ) -> Result<Vec<Line>, AllocError>
-    requires pairs { HasPairs bank.now equalities.now }
-    requires forms { AreFormsOf bank.now congruence.now.terms }
-    requires equal { ArePairsEqual congruence.now equalities.now }
-    ensures { IfOk result (λ v. CloseWith bank.now congruence.now.merges known places.now equalities.now (sums_of sums.now) v.items) }
+    requires pairs { HasPairs context.now.bank.now equalities.now }
+    requires forms { AreFormsOf context.now.bank.now context.now.congruence.now.terms }
+    requires equal { ArePairsEqual context.now.congruence.now equalities.now }
+    ensures { IfOk result (λ v. CloseWith context.now.bank.now context.now.congruence.now.merges context.now.count places.now equalities.now (sums_of sums.now) v.items) }
 {
-    let mut written = write_all(alloc, bank, congruence, known, places, equalities, sums)?;
-    let count = known.checked_add(written.lines.len()).ok_or(AllocError)?;
-    let mut closing = close_by_sums(alloc, &written.places, count, sums)?;
+    let mut written = write_all(context, places, equalities, sums)?;
+    let count = context
+        .count
+        .checked_add(written.lines.len())
+        .ok_or(AllocError)?;
+    let mut closing = close_by_sums(context.alloc, &written.places, count, sums)?;
     written.lines.append(&mut closing)?;
     Ok(written.lines)
 }
@@ -141,24 +131,21 @@ fn contradict(
 /// differences, does. `places` has the place of each fact among so many known formulas. The equalities follow by congruence from those of the merges,
 /// which are known at their reasons. An error is want of memory.
 pub(crate) fn close_contradiction(
-    alloc: Global,
-    bank: &Bank,
-    congruence: &Congruence,
-    known: usize,
+    context: &CongruenceContext<'_>,
     facts: &[FormulaId],
     places: &[usize],
     equalities: &[(TermId, TermId)],
 ) -> Result<Option<Vec<Line>>, AllocError>
-    requires facts { HasFormulas bank.now facts.now }
-    requires pairs { HasPairs bank.now equalities.now }
-    requires forms { AreFormsOf bank.now congruence.now.terms }
-    requires equal { ArePairsEqual congruence.now equalities.now }
-    ensures none { (cs : List ClassTree) → IsBankOf cs bank.now → IfOk result (λ o. IfNone o (Two cs (formulas_at bank.now facts.now ++ equalities_at bank.now equalities.now) → ⊥)) }
-    ensures some { (cs : List ClassTree) → IsBankOf cs bank.now → IfOk result (λ o. IfSome o (λ v. CloseFacts cs bank.now congruence.now.merges known facts.now places.now equalities.now v.items)) }
+    requires facts { HasFormulas context.now.bank.now facts.now }
+    requires pairs { HasPairs context.now.bank.now equalities.now }
+    requires forms { AreFormsOf context.now.bank.now context.now.congruence.now.terms }
+    requires equal { ArePairsEqual context.now.congruence.now equalities.now }
+    ensures none { (cs : List ClassTree) → IsBankOf cs context.now.bank.now → IfOk result (λ o. IfNone o (Two cs (formulas_at context.now.bank.now facts.now ++ equalities_at context.now.bank.now equalities.now) → ⊥)) }
+    ensures some { (cs : List ClassTree) → IsBankOf cs context.now.bank.now → IfOk result (λ o. IfSome o (λ v. CloseFacts cs context.now.bank.now context.now.congruence.now.merges context.now.count facts.now places.now equalities.now v.items)) }
 {
-    let Some(sums) = refute_with(alloc, bank, facts, equalities)? else {
+    let Some(sums) = refute_with(context.alloc, context.bank, facts, equalities)? else {
         return Ok(None);
     };
-    let lines = contradict(alloc, bank, congruence, known, places, equalities, &sums)?;
+    let lines = contradict(context, places, equalities, &sums)?;
     Ok(Some(lines))
 }

@@ -11,8 +11,8 @@ ghost use Rattle.ss_search_whole_sums.specs.WholeSums.{basic_ones, basic_places,
 
 use crate::contradicting::close_contradiction;
 use ss_deriv::Line;
-use ss_equality::Congruence;
 use ss_search_clashes::classes_are_of_terms;
+use ss_search_equating::CongruenceContext;
 use ss_search_reached::{is_basic, numbers_are_seen, whole_links, whole_pairs};
 use ss_terms::{Bank, FormulaId};
 use std::alloc::{AllocError, Global};
@@ -62,103 +62,74 @@ fn basics(
 
 // Lines that close the case by sums with links among whole numbers of one class, where they do.
 fn close_by_links(
-    alloc: Global,
-    bank: &Bank,
-    congruence: &Congruence,
+    context: &CongruenceContext<'_>,
     classes: &[usize],
-    count: usize,
     basics: &Placed,
 ) -> Result<Option<Vec<Line>>, AllocError>
-    requires formulas { HasFormulas bank.now basics.now.formulas.items }
-    requires forms { AreFormsOf bank.now congruence.now.terms }
-    requires classes { AreClassesOf congruence.now.terms congruence.now.merges classes.now }
-    ensures { (cs : List ClassTree) → IsBankOf cs bank.now → IfOk result (λ o. IfSome o (λ v. CloseFormed cs bank.now congruence.now.merges count basics.now.formulas.items basics.now.places.items v.items)) }
+    requires formulas { HasFormulas context.now.bank.now basics.now.formulas.items }
+    requires forms { AreFormsOf context.now.bank.now context.now.congruence.now.terms }
+    requires classes { AreClassesOf context.now.congruence.now.terms context.now.congruence.now.merges classes.now }
+    ensures { (cs : List ClassTree) → IsBankOf cs context.now.bank.now → IfOk result (λ o. IfSome o (λ v. CloseFormed cs context.now.bank.now context.now.congruence.now.merges context.now.count basics.now.formulas.items basics.now.places.items v.items)) }
 {
-    let links = whole_links(alloc, bank, classes, &basics.formulas)?;
-    close_contradiction(
-        alloc,
-        bank,
-        congruence,
-        count,
-        &basics.formulas,
-        &basics.places,
-        &links,
-    )
+    let links = whole_links(context.alloc, context.bank, classes, &basics.formulas)?;
+    close_contradiction(context, &basics.formulas, &basics.places, &links)
 }
 
 // The same with each two whole numbers of one class; none only where no sum is a contradiction.
 fn close_by_pairs(
-    alloc: Global,
-    bank: &Bank,
-    congruence: &Congruence,
+    context: &CongruenceContext<'_>,
     classes: &[usize],
-    count: usize,
     basics: &Placed,
 ) -> Result<Option<Vec<Line>>, AllocError>
-    requires formulas { HasFormulas bank.now basics.now.formulas.items }
-    requires forms { AreFormsOf bank.now congruence.now.terms }
-    requires classes { AreClassesOf congruence.now.terms congruence.now.merges classes.now }
-    ensures none { (cs : List ClassTree) → IsBankOf cs bank.now → IfOk result (λ o. IfNone o (HasNoSum cs (class_of bank.now classes.now) (formulas_at bank.now basics.now.formulas.items))) }
-    ensures some { (cs : List ClassTree) → IsBankOf cs bank.now → IfOk result (λ o. IfSome o (λ v. CloseFormed cs bank.now congruence.now.merges count basics.now.formulas.items basics.now.places.items v.items)) }
+    requires formulas { HasFormulas context.now.bank.now basics.now.formulas.items }
+    requires forms { AreFormsOf context.now.bank.now context.now.congruence.now.terms }
+    requires classes { AreClassesOf context.now.congruence.now.terms context.now.congruence.now.merges classes.now }
+    ensures none { (cs : List ClassTree) → IsBankOf cs context.now.bank.now → IfOk result (λ o. IfNone o (HasNoSum cs (class_of context.now.bank.now classes.now) (formulas_at context.now.bank.now basics.now.formulas.items))) }
+    ensures some { (cs : List ClassTree) → IsBankOf cs context.now.bank.now → IfOk result (λ o. IfSome o (λ v. CloseFormed cs context.now.bank.now context.now.congruence.now.merges context.now.count basics.now.formulas.items basics.now.places.items v.items)) }
 {
-    classes_are_of_terms(bank);
-    let pairs = whole_pairs(alloc, bank, classes, &basics.formulas)?;
-    close_contradiction(
-        alloc,
-        bank,
-        congruence,
-        count,
-        &basics.formulas,
-        &basics.places,
-        &pairs,
-    )
+    classes_are_of_terms(context.bank);
+    let pairs = whole_pairs(context.alloc, context.bank, classes, &basics.formulas)?;
+    close_contradiction(context, &basics.formulas, &basics.places, &pairs)
 }
 
 // The same. Each two are looked at only where links don't tell.
 fn close_basics(
-    alloc: Global,
-    bank: &Bank,
-    congruence: &Congruence,
+    context: &CongruenceContext<'_>,
     classes: &[usize],
-    count: usize,
     basics: &Placed,
 ) -> Result<Option<Vec<Line>>, AllocError>
-    requires formulas { HasFormulas bank.now basics.now.formulas.items }
-    requires forms { AreFormsOf bank.now congruence.now.terms }
-    requires classes { AreClassesOf congruence.now.terms congruence.now.merges classes.now }
-    ensures none { (cs : List ClassTree) → IsBankOf cs bank.now → IfOk result (λ o. IfNone o (HasNoSum cs (class_of bank.now classes.now) (formulas_at bank.now basics.now.formulas.items))) }
-    ensures some { (cs : List ClassTree) → IsBankOf cs bank.now → IfOk result (λ o. IfSome o (λ v. CloseFormed cs bank.now congruence.now.merges count basics.now.formulas.items basics.now.places.items v.items)) }
+    requires formulas { HasFormulas context.now.bank.now basics.now.formulas.items }
+    requires forms { AreFormsOf context.now.bank.now context.now.congruence.now.terms }
+    requires classes { AreClassesOf context.now.congruence.now.terms context.now.congruence.now.merges classes.now }
+    ensures none { (cs : List ClassTree) → IsBankOf cs context.now.bank.now → IfOk result (λ o. IfNone o (HasNoSum cs (class_of context.now.bank.now classes.now) (formulas_at context.now.bank.now basics.now.formulas.items))) }
+    ensures some { (cs : List ClassTree) → IsBankOf cs context.now.bank.now → IfOk result (λ o. IfSome o (λ v. CloseFormed cs context.now.bank.now context.now.congruence.now.merges context.now.count basics.now.formulas.items basics.now.places.items v.items)) }
 {
-    let seen = numbers_are_seen(alloc, bank, classes, &basics.formulas)?;
+    let seen = numbers_are_seen(context.alloc, context.bank, classes, &basics.formulas)?;
     if seen {
         return Ok(None);
     }
-    let closing = close_by_links(alloc, bank, congruence, classes, count, basics)?;
+    let closing = close_by_links(context, classes, basics)?;
     match closing {
         Some(lines) => Ok(Some(lines)),
-        None => close_by_pairs(alloc, bank, congruence, classes, count, basics),
+        None => close_by_pairs(context, classes, basics),
     }
 }
 
 /// Lines that close a case in which known literals and equalities of whole numbers of one class contradict each other by sums. None only where no sum
-/// of one or two of them, or of differences, does. `places` has a place for each known formula, `count` is how many facts there are. An error is want
-/// of memory.
+/// of one or two of them, or of differences, does. `places` has a place for each known formula. An error is want of memory.
 pub fn close_whole_sums(
-    alloc: Global,
-    bank: &Bank,
-    congruence: &Congruence,
+    context: &CongruenceContext<'_>,
     classes: &[usize],
-    count: usize,
     known: &[FormulaId],
     places: &[usize],
 ) -> Result<Option<Vec<Line>>, AllocError>
-    requires known { HasFormulas bank.now known.now }
+    requires known { HasFormulas context.now.bank.now known.now }
     requires long { length places.now ≡ length known.now }
-    requires forms { AreFormsOf bank.now congruence.now.terms }
-    requires classes { AreClassesOf congruence.now.terms congruence.now.merges classes.now }
-    ensures none { (cs : List ClassTree) → IsBankOf cs bank.now → IfOk result (λ o. IfNone o (HasNoSum cs (class_of bank.now classes.now) (closed.basics (formulas_at bank.now known.now)))) }
-    ensures some { (cs : List ClassTree) → IsBankOf cs bank.now → IfOk result (λ o. IfSome o (λ v. CloseSums cs bank.now congruence.now.merges count known.now places.now v.items)) }
+    requires forms { AreFormsOf context.now.bank.now context.now.congruence.now.terms }
+    requires classes { AreClassesOf context.now.congruence.now.terms context.now.congruence.now.merges classes.now }
+    ensures none { (cs : List ClassTree) → IsBankOf cs context.now.bank.now → IfOk result (λ o. IfNone o (HasNoSum cs (class_of context.now.bank.now classes.now) (closed.basics (formulas_at context.now.bank.now known.now)))) }
+    ensures some { (cs : List ClassTree) → IsBankOf cs context.now.bank.now → IfOk result (λ o. IfSome o (λ v. CloseSums cs context.now.bank.now context.now.congruence.now.merges context.now.count known.now places.now v.items)) }
 {
-    let basics = basics(alloc, bank, known, places)?;
-    close_basics(alloc, bank, congruence, classes, count, &basics)
+    let basics = basics(context.alloc, context.bank, known, places)?;
+    close_basics(context, classes, &basics)
 }

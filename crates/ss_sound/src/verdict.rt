@@ -104,6 +104,15 @@ pub fn verify(
     }
 }
 
+// Where each obligation is decided: the program, the trail and the limits of the search.
+#[derive(Clone, Copy)]
+struct DecisionContext<'a> {
+    alloc: Global,
+    program: &'a Core,
+    trail: &'a [FormulaId],
+    options: &'a Options,
+}
+
 // What is found of each obligation. An error is want of memory.
 fn decide_all(
     alloc: Global,
@@ -124,36 +133,46 @@ fn decide_all(
     ensures grown { IsGrown bank.old bank.new }
 {
     let mut search = Search::new(alloc, bank)?;
-    decide_each(alloc, &mut search, bank, program, trail, list, options)
+    let context = DecisionContext {
+        alloc,
+        program,
+        trail,
+        options,
+    };
+    decide_each(&context, &mut search, bank, list)
 }
 
 // The same, by a search over a bank that has all of them.
 fn decide_each(
-    alloc: Global,
+    context: &DecisionContext<'_>,
     search: &mut Search,
     bank: &mut Bank,
-    program: &Core,
-    trail: &[FormulaId],
     list: &[Listed],
-    options: &Options,
 ) -> Result<Decided, AllocError>
-    requires bank { IsBankOf (view.classes program.now.classes) bank.old }
-    requires limits { IsWithinLimits (view.classes program.now.classes) }
-    requires invariants { AreInvariants (view.classes program.now.classes) }
-    requires trail { HasFormulas bank.old trail.now }
-    requires list { AreWithin bank.old (length trail.now) list.now }
-    requires formed { AreFormed (view.classes program.now.classes) (obligations_at bank.old trail.now list.now) }
-    ensures decided { IfOk result (λ d. AreDecided (view.classes program.now.classes) options.now (obligations_at bank.old trail.now list.now) (length list.now) d.countered.items d.undecided.items) }
-    ensures derived { IfOk result (λ d. d.countered.items ≡ [] → d.undecided.items ≡ [] → AreDerived (view.classes program.now.classes) (obligations_at bank.old trail.now list.now) (derivations_of bank.new d.derivations.items)) }
+    requires bank { IsBankOf (view.classes context.now.program.now.classes) bank.old }
+    requires limits { IsWithinLimits (view.classes context.now.program.now.classes) }
+    requires invariants { AreInvariants (view.classes context.now.program.now.classes) }
+    requires trail { HasFormulas bank.old context.now.trail.now }
+    requires list { AreWithin bank.old (length context.now.trail.now) list.now }
+    requires formed { AreFormed (view.classes context.now.program.now.classes) (obligations_at bank.old context.now.trail.now list.now) }
+    ensures decided { IfOk result (λ d. AreDecided (view.classes context.now.program.now.classes) context.now.options.now (obligations_at bank.old context.now.trail.now list.now) (length list.now) d.countered.items d.undecided.items) }
+    ensures derived { IfOk result (λ d. d.countered.items ≡ [] → d.undecided.items ≡ [] → AreDerived (view.classes context.now.program.now.classes) (obligations_at bank.old context.now.trail.now list.now) (derivations_of bank.new d.derivations.items)) }
     ensures grown { IsGrown bank.old bank.new }
 {
     let mut decided = Decided {
-        derivations: Vec::new(alloc),
-        countered: Vec::new(alloc),
-        undecided: Vec::new(alloc),
+        derivations: Vec::new(context.alloc),
+        countered: Vec::new(context.alloc),
+        undecided: Vec::new(context.alloc),
     };
     for (number, listed) in list.iter().enumerate() {
-        let decision = decide(search, bank, program, trail, listed, options)?;
+        let decision = decide(
+            search,
+            bank,
+            context.program,
+            context.trail,
+            listed,
+            context.options,
+        )?;
         decided.add(number, decision)?;
     }
     Ok(decided)

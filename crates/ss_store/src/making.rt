@@ -5,6 +5,7 @@ ghost use Rattle.ss_core.specs.View.{classes};
 ghost use Rattle.ss_core.specs.Chain.{IsWithinLimits, most_fields};
 ghost use Rattle.ss_store_rules.specs.Store.{default_value};
 ghost use Rattle.ss_store_rules.specs.Changes.{element_type, new_array, new_array_of, new_object_of};
+ghost use Rattle.ss_store.specs.declared.making.NewStop.TheVariants.{Memory};
 ghost use Rattle.ss_store.specs.Room.{IsRoomy};
 
 use crate::fields::push_fields;
@@ -19,6 +20,14 @@ use std::alloc::{AllocError, Global};
 pub enum NewStop {
     NegativeLength,
     Memory,
+}
+
+impl From<AllocError> for NewStop {
+    ghost from_gives = { λ _ stop. stop ≡ Memory };
+
+    fn from(_error: AllocError) -> NewStop {
+        NewStop::Memory
+    }
 }
 
 /// What a new element of an array of the class is.
@@ -134,9 +143,7 @@ impl Store {
         if n < 0 {
             return Err(NewStop::NegativeLength);
         }
-        match self.add_array(c, n as usize) {
-            Ok(a) => Ok(a),
-            Err(_) => Err(NewStop::Memory),
-        }
+        let a = self.add_array(c, n as usize)?;
+        Ok(a)
     }
 }

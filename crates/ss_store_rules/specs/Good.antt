@@ -4,6 +4,7 @@ use Rattle.ss_core.specs.declared.names.Mark.TheVariants as mark
 use Rattle.ss_core.specs.declared.names.Ty.{Ty}
 use Rattle.ss_core.specs.declared.names.Ty.TheVariants as ty
 use Rattle.ss_core.specs.Tree.{ClassTree}
+pub use Rattle.ss_core.specs.Types.{is_non_null}
 use Rattle.ss_core.specs.Chain.{is_declared, sub, below}
 use Rattle.ss_store_rules.specs.declared.Value.{Value}
 use Rattle.ss_store_rules.specs.declared.Value.TheVariants as value
@@ -27,12 +28,6 @@ has_type cs s ty.Null value.Null = true
 has_type cs s (ty.Ref t non_null) value.Null = true
 has_type cs s (ty.Ref t non_null) (value.Obj o) = is_of_class cs t.0 (slice_get s o)
 has_type cs s t v = false
-
-abbrev pub is_non_null : Ty → Bool
-is_non_null ty.Int = false
-is_non_null ty.Bool = false
-is_non_null ty.Null = false
-is_non_null (ty.Ref t non_null) = non_null
 
 -- each object to which the value refers is ready
 abbrev pub IsReady : List Object → Value → Type 0

@@ -4,10 +4,12 @@ ghost use Rattle.std.specs.Prelude.{◌<◌, length};
 ghost use Rattle.ss_tables_lookup.specs.Classes.{trees};
 
 use ss_tables_lookup::{StaticType, Tables};
+use std::alloc::Global;
 
 /// The class in which a place is, what of `this` is refused there, and the type of `result`.
 #[derive(Clone, Copy)]
 pub struct ClassContext<'t, 'p> {
+    pub alloc: Global,
     pub tables: &'t Tables<'p>,
     pub class: usize,
     /// Members of `this` by their bare names and methods of `base` are refused.

@@ -12,11 +12,10 @@ ghost use Rattle.ss_tables_scopes.specs.Views.{scope_of};
 use crate::class_context::ClassContext;
 use crate::local::{LocalInfo, Scopes};
 use ss_ast::{Declaration, Declarator, ForInit, Name, Param, TypeRef};
-use std::alloc::{AllocError, Global};
+use std::alloc::AllocError;
 
 /// Declares a local of a written type.
 pub fn declare_local(
-    alloc: Global,
     context: ClassContext<'_, '_>,
     locals: &mut Scopes,
     ty: &TypeRef,
@@ -29,12 +28,11 @@ pub fn declare_local(
         ty: context.tables.written_type(ty),
         is_param: false,
     };
-    locals.declare(alloc, name.text.as_str(), local)
+    locals.declare(context.alloc, name.text.as_str(), local)
 }
 
 /// Declares a parameter.
 pub fn declare_param(
-    alloc: Global,
     context: ClassContext<'_, '_>,
     locals: &mut Scopes,
     param: &Param,
@@ -46,12 +44,11 @@ pub fn declare_param(
         ty: context.tables.written_type(&param.ty),
         is_param: true,
     };
-    locals.declare(alloc, param.name.text.as_str(), local)
+    locals.declare(context.alloc, param.name.text.as_str(), local)
 }
 
 /// Declares parameters.
 pub fn declare_params(
-    alloc: Global,
     context: ClassContext<'_, '_>,
     locals: &mut Scopes,
     params: &[Param],
@@ -59,13 +56,12 @@ pub fn declare_params(
     ensures { OnOk result (scope_of context.entry locals.new ≡ declare_params (scope_of context.entry locals.old) (map param_tree params.now)) }
 {
     for param in params {
-        declare_param(alloc, context, locals, param)?;
+        declare_param(context, locals, param)?;
     }
     Ok(())
 }
 
 fn declare_all(
-    alloc: Global,
     context: ClassContext<'_, '_>,
     locals: &mut Scopes,
     ty: &TypeRef,
@@ -75,14 +71,13 @@ fn declare_all(
     ensures around { OnOk result (locals.new.outer ≡ locals.old.outer) }
 {
     for declarator in declarators {
-        declare_local(alloc, context, locals, ty, &declarator.name)?;
+        declare_local(context, locals, ty, &declarator.name)?;
     }
     Ok(())
 }
 
 /// Declares the locals of a declaration.
 pub fn declare_declaration(
-    alloc: Global,
     context: ClassContext<'_, '_>,
     locals: &mut Scopes,
     declaration: &Declaration,
@@ -90,18 +85,11 @@ pub fn declare_declaration(
     ensures declared { OnOk result (scope_of context.entry locals.new ≡ behind_declaration (scope_of context.entry locals.old) (declaration_tree declaration.now)) }
     ensures around { OnOk result (locals.new.outer ≡ locals.old.outer) }
 {
-    declare_all(
-        alloc,
-        context,
-        locals,
-        &declaration.ty,
-        &declaration.declarators,
-    )
+    declare_all(context, locals, &declaration.ty, &declaration.declarators)
 }
 
 /// Declares what a `for` begins with.
 pub fn declare_init(
-    alloc: Global,
     context: ClassContext<'_, '_>,
     locals: &mut Scopes,
     init: &Option<ForInit>,
@@ -110,9 +98,7 @@ pub fn declare_init(
     ensures around { OnOk result (locals.new.outer ≡ locals.old.outer) }
 {
     match init {
-        Some(ForInit::Declare(declaration)) => {
-            declare_declaration(alloc, context, locals, declaration)
-        }
+        Some(ForInit::Declare(declaration)) => { declare_declaration(context, locals, declaration) }
         Some(ForInit::Simple(_)) | None => Ok(()),
     }
 }

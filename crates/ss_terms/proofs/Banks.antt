@@ -29,7 +29,7 @@ use Rattle.ss_terms.specs.Bank.{forms_of, IsPlain, AnyTerm, PairBelow, number, I
 use Rattle.ss_terms.specs.Highest.{highest_of_term, highest}
 use Rattle.ss_terms.proofs.Same.{term_id, formula_id}
 use Rattle.ss_terms.proofs.Signs.{others_below, other_below, signed_plain, signed_negated, signed_apart, formula_of-opposite}
-use Rattle.ss_terms.proofs.Parts.{neg_formed}
+use Rattle.ss_terms.proofs.Tested.{neg_formed}
 use Rattle.ss_terms.proofs.Highest.{neg_highest}
 use Rattle.ss_terms.proofs.Trees.{arguments_same, term_same, term_upward, term_equal, AreTermsBelow-more, shape_upward, names_below, form_same, form_upward, form_equal, plain_formula}
 

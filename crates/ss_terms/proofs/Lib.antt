@@ -2,7 +2,7 @@ pub mod Symbols
 pub mod Same
 pub mod Signs
 pub mod Sorted
-pub mod Parts
+pub mod Tested
 pub mod Highest
 pub mod Trees
 pub mod Banks

@@ -43,8 +43,8 @@ shape_of (formula.Or fs) = OrShape fs.items
 shape_of (formula.Forall ss f) = ForallShape ss.items f
 shape_of (formula.Exists ss f) = ExistsShape ss.items f
 
--- The sorts of the program's fields, and the forms of a bank's terms and of its formulas: of a formula and its negation one, as numbers
--- 2k and 2k + 1.
+-- The sorts of the program's fields, and the forms of a bank's terms and of its formulas. A formula and its negation have the numbers
+-- 2k and 2k + 1, and one form here.
 pub record Forms : Type 0 where
   pub fields : List Sort
   pub terms : List TermShape
@@ -211,7 +211,7 @@ NamesBelow n (ExistsShape ss f) = Unit {0}
 abbrev pub AreNamed : ℕ → ℕ → Forms → Type 0
 AreNamed terms formulas b = (k : ℕ) (n : Shape) → k < formulas → slice_get b.formulas k ≡ Some n → NamesBelow terms n
 
--- the bank has so many terms and formulas, and the first formulas name the first terms alone
+-- the bank has at least so many terms and formulas, and the first formulas, so many, name the first terms alone
 pub record IsClosed (terms formulas : ℕ) (b : Forms) : Type 0 where
   pub terms_within : terms ≤ length b.terms
   pub formulas_within : formulas ≤ length b.formulas

@@ -15,28 +15,29 @@ ghost use Rattle.ss_terms.specs.Highest.{highest, highest_of_term};
 use crate::constants::number_of;
 use crate::forms::{Formula, FormulaId, Predicate, Term, TermId};
 use crate::index::{add_formula, add_term, place_of_formula, place_of_term};
-use crate::sorts::{result_sort, same_sort};
+use crate::lists::{Arguments, Parts};
+use crate::sorts::{field_sort, has_field, result_sort, same_sort};
 use indexmap::IndexMap;
 use ss_logic::Sort;
 use std::alloc::{AllocError, Global};
 use std::marker::Model;
 
-/// What stands beside a term: its sort, whether it is well sorted and has no bound name, and the greatest number of a
+/// What stands beside a term: its sort, and whether it is well sorted and has no bound name. Also the greatest number of a
 /// constant in it.
 #[derive(Clone, Copy, Drop)]
 pub(crate) struct BesideTerm {
     pub(crate) sort: Sort,
     pub(crate) is_well_sorted: bool,
-    pub(crate) highest: usize,
+    pub(crate) highest: u32,
 }
 
-/// What stands beside a formula: the form of its negation, whether both are well formed and no name in them is unbound, the
-/// greatest number of a constant in them, and how many terms there were when it came.
+/// What stands beside a formula: the form of its negation, and whether both are well formed and no name in them is unbound.
+/// Also the greatest number of a constant in them, and how many terms there were when it came.
 #[derive(Drop)]
 pub(crate) struct Beside {
     pub(crate) negation: Formula,
     pub(crate) is_well_formed: bool,
-    pub(crate) highest: usize,
+    pub(crate) highest: u32,
     pub(crate) terms: usize,
 }
 
@@ -47,8 +48,9 @@ pub struct BankMark {
     pub formulas: usize,
 }
 
-/// Terms and formulas with numbers, over the fields of a program. Equal ones have equal numbers, a number keeps what it
-/// stands for, and each formula stands with its negation. But for `forget`, no call takes longer in a larger bank.
+/// Terms and formulas with numbers, over the fields of a program. Equal ones have equal numbers, and a number keeps what it
+/// stands for until that is forgotten. Each formula stands with its negation. But for `forget`, no call takes longer in a
+/// larger bank.
 #[derive(Drop)]
 pub struct Bank {
     alloc: Global,
@@ -207,11 +209,19 @@ impl Bank {
         requires { HasFormula self.now f }
         ensures { result ≡ highest (formula_at self.now f) }
     {
+        self.kept_highest(f) as usize
+    }
+
+    // The same, as it is kept.
+    pub(crate) fn kept_highest(&self, f: FormulaId) -> u32
+        requires { HasFormula self.now f }
+        ensures { result ≡ highest (formula_at self.now f) }
+    {
         self.formulas[f.0 / 2].highest
     }
 
     // The greatest number of a constant in a term.
-    pub(crate) fn highest_of_term(&self, t: TermId) -> usize
+    pub(crate) fn highest_of_term(&self, t: TermId) -> u32
         requires { HasTerm self.now t }
         ensures { result ≡ highest_of_term (term_at self.now t) }
     {
@@ -255,10 +265,11 @@ impl Bank {
         }
     }
 
-    /// Forgets the terms and formulas behind the mark, where no formula before it names a term behind it. Answers whether it did;
-    /// else the bank stays as it was.
+    /// Forgets the terms and formulas behind the mark, and answers whether it did. It does where the bank reaches the mark, and
+    /// all terms stand before it that were there when the last formula before it came. Else the bank stays as it was.
     pub fn forget(&mut self, mark: BankMark) -> bool
         ensures forgotten { IsTrue result → self.new ≡ front mark.terms mark.formulas self.old }
+        ensures closed { IsTrue result → IsClosed mark.terms mark.formulas self.old }
         ensures same { result ≡ false → self.new ≡ self.old }
         ensures grown { (marked : Forms) → IsGrown marked self.old → length marked.terms ≤ mark.terms → length marked.formulas ≤ mark.formulas → IsGrown marked self.new }
     {
@@ -270,7 +281,8 @@ impl Bank {
         true
     }
 
-    // Whether the bank reaches the mark, and no formula before it names a term behind it.
+    // Whether the bank reaches the mark, and all terms stand before it that were there when the last formula before it came.
+    // Then no formula before it names a term behind it.
     fn is_closed(&self, mark: BankMark) -> bool
         ensures { IsTrue result → IsClosed mark.terms mark.formulas self.now }
     {
@@ -284,7 +296,7 @@ impl Bank {
         self.terms_before(mark.formulas) <= mark.terms
     }
 
-    // The first formulas, so many, name terms below this number alone.
+    // How many terms there were when the last of the first formulas came, so many. They name terms below this number alone.
     fn terms_before(&self, formulas: usize) -> usize
         requires { formulas ≤ length self.now.formulas }
         ensures { AreNamed result formulas self.now }
@@ -303,13 +315,27 @@ impl Bank {
         &self.fields
     }
 
+    /// Whether the program has the field.
+    pub fn is_field(&self, f: u32) -> bool
+        ensures { (cs : List ClassTree) → IsBankOf cs self.now → result ≡ tree.has_field cs f }
+    {
+        has_field(self.fields(), f)
+    }
+
+    /// The sort of a field.
+    pub fn sort_of_field(&self, f: u32) -> Sort
+        ensures { (cs : List ClassTree) → IsBankOf cs self.now → result ≡ tree.field_sort cs f }
+    {
+        field_sort(self.fields(), f)
+    }
+
     // The allocator.
     pub(crate) fn allocator(&self) -> Global {
         self.alloc
     }
 
-    /// The number of the term with this form, which is added where it is new. An error is want of memory; what the bank had
-    /// before stays.
+    /// The number of the term with this form, which is added where it is new. An error is want of memory, and so counts a
+    /// constant's number that doesn't fit into 32 bits; what the bank had before stays.
     pub fn term(&mut self, node: Term) -> Result<TermId, AllocError>
         requires { HasArguments self.old (term_shape node) }
         ensures at { IfOk result (λ t. HasTerm self.new t × (term_at self.new t ≡ term_of (term_at self.old) (term_shape node))) }
@@ -341,7 +367,8 @@ impl Bank {
                     arguments,
                     self.term_count(),
                 )?;
-                let highest = number_of(*symbol).max(self.highest_of_terms(arguments));
+                let own = number_of(*symbol)?;
+                let highest = own.max(self.highest_of_terms(arguments));
                 Ok(BesideTerm {
                     sort: result_sort(self.fields(), *symbol),
                     is_well_sorted,
@@ -389,7 +416,7 @@ impl Bank {
         &mut self,
         holds: bool,
         predicate: Predicate,
-        arguments: Vec<TermId>,
+        arguments: Arguments,
     ) -> Result<FormulaId, AllocError>
         requires { HasTerms self.old arguments.items }
         ensures at { IfOk result (λ f. HasFormula self.new f × (formula_at self.new f ≡ formula_of (term_at self.old) (formula_at self.old) (LiteralShape holds predicate arguments.items))) }
@@ -445,7 +472,7 @@ fn negated(alloc: Global, form: &Formula) -> Result<Formula, AllocError>
             predicate,
             arguments,
         } => {
-            let arguments = Vec::from_slice(alloc, arguments)?;
+            let arguments = Arguments::from_slice(alloc, arguments)?;
             Ok(Formula::Literal {
                 holds: !*holds,
                 predicate: *predicate,
@@ -479,10 +506,10 @@ fn opposite(f: FormulaId) -> FormulaId
 }
 
 // The numbers of the negations.
-fn opposites(alloc: Global, fs: &[FormulaId]) -> Result<Vec<FormulaId>, AllocError>
+fn opposites(alloc: Global, fs: &[FormulaId]) -> Result<Parts, AllocError>
     ensures { IfOk result (λ v. v.items ≡ map other fs.now) }
 {
-    let mut others = Vec::with_capacity(alloc, fs.len())?;
+    let mut others = Parts::with_capacity(alloc, fs.len())?;
     for f in fs {
         others.push(opposite(*f))?;
     }

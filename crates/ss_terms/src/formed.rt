@@ -1,6 +1,6 @@
 // Whether terms are well sorted, and formulas well formed, where the names that are bound around them have these sorts.
 
-ghost use Rattle.std.specs.Prelude.{◌≡◌, ℕ, ◌*◌, ◌≤◌, List, length, map, IfOk, ◌++◌, ◌&&◌};
+ghost use Rattle.std.specs.Prelude.{◌≡◌, ℕ, ◌*◌, ◌≤◌, List, [], length, map, IfOk, ◌++◌, ◌&&◌};
 ghost use Rattle.ss_core.specs.Tree.{ClassTree};
 ghost use Rattle.ss_logic.specs.Terms as tree;
 ghost use Rattle.ss_logic.specs.Terms.{terms_from};
@@ -29,6 +29,9 @@ impl Bank {
         requires { HasTerm self.now t }
         ensures { (cs : List ClassTree) → IsBankOf cs self.now → result ≡ tree.sort_of cs bound.now (term_at self.now t) }
     {
+        if bound.is_empty() {
+            return self.sort(t);
+        }
         match self.term_node(t) {
             Term::Bound(k) => match bound.get(*k) {
                 Some(sort) => *sort,
@@ -100,6 +103,19 @@ impl Bank {
         }
     }
 
+    // Whether the terms are well sorted, and no name in them is unbound.
+    fn are_closed(&self, ts: &[TermId]) -> bool
+        requires { HasTerms self.now ts.now }
+        ensures { (cs : List ClassTree) → IsBankOf cs self.now → result ≡ tree.are_well_sorted cs [] (terms_from (terms_at self.now ts.now)) }
+    {
+        for t in ts {
+            if !self.is_well_sorted(*t) {
+                return false;
+            }
+        }
+        true
+    }
+
     // Whether a term is well sorted.
     #[cycle(sorting)]
     fn is_sorted_under(&self, bound: &[Sort], t: TermId) -> Result<bool, AllocError>
@@ -149,6 +165,9 @@ impl Bank {
         requires there { below ≤ length self.now.terms }
         ensures { (cs : List ClassTree) → IsBankOf cs self.now → IfOk result (λ v. v ≡ tree.are_well_sorted cs bound.now (terms_from (terms_at self.now ts.now))) }
     {
+        if bound.is_empty() {
+            return Ok(self.are_closed(ts));
+        }
         for t in ts {
             if !self.is_sorted_under(bound, *t)? {
                 return Ok(false);

@@ -1,13 +1,14 @@
 // The forms of terms and formulas over numbers of a bank.
 
+use crate::lists::{Arguments, Parts};
 use ss_logic::Sort;
 
 /// The number of a term in a bank.
-#[derive(Clone, Copy, PartialEq, Eq, Debug, Hash)]
+#[derive(Clone, Copy, PartialEq, Eq, Debug, Hash, Default)]
 pub struct TermId(pub usize);
 
 /// The number of a formula in a bank.
-#[derive(Clone, Copy, PartialEq, Eq, Debug, Hash)]
+#[derive(Clone, Copy, PartialEq, Eq, Debug, Hash, Default)]
 pub struct FormulaId(pub usize);
 
 /// A function: a term is one at its arguments. Classes and fields stand in it by their numbers.
@@ -96,7 +97,7 @@ pub enum Term {
     /// The bound name with this number, counted from the outermost.
     Bound(usize),
     /// The function at these arguments.
-    App(Symbol, Vec<TermId>),
+    App(Symbol, Arguments),
 }
 
 /// The form of a formula.
@@ -109,12 +110,12 @@ pub enum Formula {
         /// What the atom says.
         predicate: Predicate,
         /// Of which terms.
-        arguments: Vec<TermId>,
+        arguments: Arguments,
     },
     /// Each of these.
-    And(Vec<FormulaId>),
+    And(Parts),
     /// One of these.
-    Or(Vec<FormulaId>),
+    Or(Parts),
     /// The formula, for all values of bound names of these sorts.
     Forall(Vec<Sort>, FormulaId),
     /// The formula, for some values of bound names of these sorts.

@@ -6,11 +6,13 @@ mod constants;
 mod formed;
 mod forms;
 mod index;
+mod lists;
 mod makers;
 mod obligation;
 mod sorts;
 
 pub use bank::{Bank, BankMark};
 pub use forms::{Formula, FormulaId, Predicate, Symbol, Term, TermId};
+pub use lists::{Arguments, Parts};
 pub use obligation::Obligation;
 pub use sorts::field_sorts;

@@ -9,6 +9,7 @@ ghost use Rattle.ss_terms.specs.Forms.{symbol_of, predicate_of, term_at, terms_a
 
 use crate::bank::Bank;
 use crate::forms::{Formula, FormulaId, Predicate, Symbol, Term, TermId};
+use crate::lists::{Arguments, Parts};
 use ss_logic::Sort;
 use std::alloc::AllocError;
 
@@ -19,7 +20,7 @@ impl Bank {
         ensures at { IfOk result (λ t. HasTerm self.new t × (term_at self.new t ≡ app (symbol_of symbol) (terms_at self.old arguments.now))) }
         ensures grown { IsGrown self.old self.new }
     {
-        let copied = Vec::from_slice(self.allocator(), arguments)?;
+        let copied = Arguments::from_slice(self.allocator(), arguments)?;
         self.term(Term::App(symbol, copied))
     }
 
@@ -34,7 +35,7 @@ impl Bank {
         ensures at { IfOk result (λ f. HasFormula self.new f × (formula_at self.new f ≡ logic.Literal holds (predicate_of predicate) (terms_from (terms_at self.old arguments.now)))) }
         ensures grown { IsGrown self.old self.new }
     {
-        let copied = Vec::from_slice(self.allocator(), arguments)?;
+        let copied = Arguments::from_slice(self.allocator(), arguments)?;
         self.formula(Formula::Literal {
             holds,
             predicate,
@@ -92,7 +93,7 @@ impl Bank {
         ensures at { IfOk result (λ f. HasFormula self.new f × (formula_at self.new f ≡ logic.And (formulas_from (formulas_at self.old parts.now)))) }
         ensures grown { IsGrown self.old self.new }
     {
-        let copied = Vec::from_slice(self.allocator(), parts)?;
+        let copied = Parts::from_slice(self.allocator(), parts)?;
         self.formula(Formula::And(copied))
     }
 
@@ -102,7 +103,7 @@ impl Bank {
         ensures at { IfOk result (λ f. HasFormula self.new f × (formula_at self.new f ≡ logic.Or (formulas_from (formulas_at self.old parts.now)))) }
         ensures grown { IsGrown self.old self.new }
     {
-        let copied = Vec::from_slice(self.allocator(), parts)?;
+        let copied = Parts::from_slice(self.allocator(), parts)?;
         self.formula(Formula::Or(copied))
     }
 

@@ -77,13 +77,13 @@ pub(crate) fn are_bound_sorts(sorts: &[Sort]) -> bool
 }
 
 // Whether the program has the field.
-fn has_field(fields: &[Sort], f: u32) -> bool
+pub(crate) fn has_field(fields: &[Sort], f: u32) -> bool
     ensures { (cs : List ClassTree) → fields.now ≡ sorts_of_fields cs → result ≡ tree.has_field cs f }
 {
     (f as usize) < fields.len()
 }
 
-fn field_sort(fields: &[Sort], f: u32) -> Sort
+pub(crate) fn field_sort(fields: &[Sort], f: u32) -> Sort
     ensures { (cs : List ClassTree) → fields.now ≡ sorts_of_fields cs → result ≡ tree.field_sort cs f }
 {
     match fields.get(f as usize) {

@@ -6,6 +6,7 @@ use Rattle.std.proofs.lemmas.Bool.{cases_eq}
 use Rattle.ss_logic.specs.declared.Sort.{Sort}
 use Rattle.ss_logic.specs.Terms.{Constant, App, terms_from}
 use Rattle.ss_logic.specs.Formulas.{formulas_from, is_constant, term_avoids, terms_avoid, avoids, all_avoid}
+use Rattle.ss_terms.specs.Lists.{SmallVec}
 use Rattle.ss_terms.specs.declared.forms.TermId.{TermId}
 use Rattle.ss_terms.specs.declared.forms.FormulaId.{FormulaId}
 use Rattle.ss_terms.specs.declared.forms.Symbol.{Symbol}
@@ -56,21 +57,21 @@ module _ (b : Forms) (s : Sort) (k : ℕ) where
 
   -- ---- a form, by the entries of its parts
 
-  pub app_avoids : (es : List Bool) → AreTermEntries b s k es → (t : TermId) (f : Symbol) (v : Vec TermId Global) → IsTermForm b t (AppForm f v) → t.0 ≤ length es →
+  pub app_avoids : (es : List Bool) → AreTermEntries b s k es → (t : TermId) (f : Symbol) (v : SmallVec TermId) → IsTermForm b t (AppForm f v) → t.0 ≤ length es →
       (not (is_constant s k (symbol_of f)) && list_all (term_entry es) v.items) ≡ term_avoids s k (term_at b t)
   app_avoids es h t f v n l =
       ap (λ x. not (is_constant s k (symbol_of f)) && x) (terms_avoid-entries es h v.items (AreTermsBelow-more t.0 (length es) l v.items n.below))
       ∙ sym (ap (term_avoids s k) n.built)
 
-  pub literal_avoids : (es : List Bool) → AreTermEntries b s k es → length es ≡ length b.terms → (f : FormulaId) (holds : Bool) (p : Predicate) (v : Vec TermId Global) → IsFormulaForm b f (LiteralForm holds p v) →
+  pub literal_avoids : (es : List Bool) → AreTermEntries b s k es → length es ≡ length b.terms → (f : FormulaId) (holds : Bool) (p : Predicate) (v : SmallVec TermId) → IsFormulaForm b f (LiteralForm holds p v) →
       list_all (term_entry es) v.items ≡ avoids s k (formula_at b f)
   literal_avoids es h l f holds p v n = terms_avoid-entries es h v.items (subst (λ m. AreTermsBelow m v.items) (sym l) n.below) ∙ sym (ap (avoids s k) n.built)
 
-  pub and_avoids : (es : List Bool) → AreFormulaEntries b s k es → (f : FormulaId) (v : Vec FormulaId Global) → IsFormulaForm b f (AndForm v) → f.0 ≤ length es →
+  pub and_avoids : (es : List Bool) → AreFormulaEntries b s k es → (f : FormulaId) (v : SmallVec FormulaId) → IsFormulaForm b f (AndForm v) → f.0 ≤ length es →
       list_all (formula_entry es) v.items ≡ avoids s k (formula_at b f)
   and_avoids es h f v n l = all_avoid-entries es h v.items (AreBelow-more f.0 (length es) l v.items n.below) ∙ sym (ap (avoids s k) n.built)
 
-  pub or_avoids : (es : List Bool) → AreFormulaEntries b s k es → (f : FormulaId) (v : Vec FormulaId Global) → IsFormulaForm b f (OrForm v) → f.0 ≤ length es →
+  pub or_avoids : (es : List Bool) → AreFormulaEntries b s k es → (f : FormulaId) (v : SmallVec FormulaId) → IsFormulaForm b f (OrForm v) → f.0 ≤ length es →
       list_all (formula_entry es) v.items ≡ avoids s k (formula_at b f)
   or_avoids es h f v n l = all_avoid-entries es h v.items (AreBelow-more f.0 (length es) l v.items n.below) ∙ sym (ap (avoids s k) n.built)
 

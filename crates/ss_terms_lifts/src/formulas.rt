@@ -9,7 +9,8 @@ ghost use Rattle.ss_terms.specs.Forms.{formula_at, formulas_at, terms_at, HasTer
 
 use crate::terms::lift_arguments;
 use ss_core::Classes;
-use ss_terms::{Bank, Formula, FormulaId, Predicate, TermId};
+use ss_terms::{Arguments, Bank, Formula, FormulaId, Parts, TermId};
+use ss_terms_puts::SignedPredicate;
 use std::alloc::{AllocError, Global};
 
 /// A literal where n more names are bound around it.
@@ -18,15 +19,15 @@ fn lift_literal(
     bank: &mut Bank,
     classes: &Classes,
     n: usize,
-    holds: bool,
-    predicate: Predicate,
+    signed: SignedPredicate,
     xs: &[TermId],
 ) -> Result<FormulaId, AllocError>
     requires bank { IsBankOf (view.classes classes.now) bank.old }
     requires arguments { HasTerms bank.old xs.now }
-    ensures at { IfOk result (λ g. HasFormula bank.new g × (formula_at bank.new g ≡ lifted n (logic.Literal holds (predicate_of predicate) (terms_from (terms_at bank.old xs.now))))) }
+    ensures at { IfOk result (λ g. HasFormula bank.new g × (formula_at bank.new g ≡ lifted n (logic.Literal signed.holds (predicate_of signed.predicate) (terms_from (terms_at bank.old xs.now))))) }
     ensures grown { IsGrown bank.old bank.new }
 {
+    let SignedPredicate { holds, predicate } = signed;
     let arguments = lift_arguments(alloc, bank, classes, n, xs)?;
     bank.formula(Formula::Literal {
         holds,
@@ -55,17 +56,20 @@ pub fn lift(
             predicate,
             arguments,
         } => {
-            let (holds, predicate) = (*holds, *predicate);
-            let arguments = Vec::from_slice(alloc, arguments)?;
-            lift_literal(alloc, bank, classes, n, holds, predicate, &arguments)
+            let signed = SignedPredicate {
+                holds: *holds,
+                predicate: *predicate,
+            };
+            let arguments = Arguments::from_slice(alloc, arguments)?;
+            lift_literal(alloc, bank, classes, n, signed, &arguments)
         }
         Formula::And(parts) => {
-            let parts = Vec::from_slice(alloc, parts)?;
+            let parts = Parts::from_slice(alloc, parts)?;
             let parts = lift_all(alloc, bank, classes, n, &parts, f.0)?;
             bank.formula(Formula::And(parts))
         }
         Formula::Or(parts) => {
-            let parts = Vec::from_slice(alloc, parts)?;
+            let parts = Parts::from_slice(alloc, parts)?;
             let parts = lift_all(alloc, bank, classes, n, &parts, f.0)?;
             bank.formula(Formula::Or(parts))
         }
@@ -93,7 +97,7 @@ fn lift_all(
     n: usize,
     fs: &[FormulaId],
     bound: usize,
-) -> Result<Vec<FormulaId>, AllocError>
+) -> Result<Parts, AllocError>
     requires bank { IsBankOf (view.classes classes.now) bank.old }
     requires below { AreBelow bound fs.now }
     requires in_bank { bound ≤ length bank.old.formulas * 2 }
@@ -101,7 +105,7 @@ fn lift_all(
     ensures at { IfOk result (λ gs. formulas_at bank.new gs.items ≡ map (lifted n) (formulas_at bank.old fs.now)) }
     ensures grown { IsGrown bank.old bank.new }
 {
-    let mut made = Vec::new(alloc);
+    let mut made = Parts::new(alloc);
     for f in fs {
         let g = lift(alloc, bank, classes, n, *f)?;
         made.push(g)?;

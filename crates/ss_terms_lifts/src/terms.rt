@@ -7,7 +7,7 @@ ghost use Rattle.ss_logic_frames.specs.Frames.{lifted_term};
 ghost use Rattle.ss_terms.specs.Forms.{term_at, terms_at, HasTerm, HasTerms, AreTermsBelow, IsGrown, IsBankOf};
 
 use ss_core::Classes;
-use ss_terms::{Bank, Term, TermId};
+use ss_terms::{Arguments, Bank, Term, TermId};
 use std::alloc::{AllocError, Global};
 
 /// The bound name behind n more; a number that is too large counts as want of memory.
@@ -45,7 +45,7 @@ pub fn lift_term(
         }
         Term::App(symbol, arguments) => {
             let symbol = *symbol;
-            let arguments = Vec::from_slice(alloc, arguments)?;
+            let arguments = Arguments::from_slice(alloc, arguments)?;
             let arguments = lift_terms(alloc, bank, classes, n, &arguments, t.0)?;
             bank.term(Term::App(symbol, arguments))
         }
@@ -61,7 +61,7 @@ fn lift_terms(
     n: usize,
     xs: &[TermId],
     bound: usize,
-) -> Result<Vec<TermId>, AllocError>
+) -> Result<Arguments, AllocError>
     requires bank { IsBankOf (view.classes classes.now) bank.old }
     requires below { AreTermsBelow bound xs.now }
     requires in_bank { bound ≤ length bank.old.terms }
@@ -69,7 +69,7 @@ fn lift_terms(
     ensures at { IfOk result (λ v. terms_at bank.new v.items ≡ map (lifted_term n) (terms_at bank.old xs.now)) }
     ensures grown { IsGrown bank.old bank.new }
 {
-    let mut made = Vec::new(alloc);
+    let mut made = Arguments::new(alloc);
     for x in xs {
         let y = lift_term(alloc, bank, classes, n, *x)?;
         made.push(y)?;
@@ -84,7 +84,7 @@ pub(crate) fn lift_arguments(
     classes: &Classes,
     n: usize,
     xs: &[TermId],
-) -> Result<Vec<TermId>, AllocError>
+) -> Result<Arguments, AllocError>
     requires bank { IsBankOf (view.classes classes.now) bank.old }
     requires arguments { HasTerms bank.old xs.now }
     ensures below { IfOk result (λ v. HasTerms bank.new v.items) }

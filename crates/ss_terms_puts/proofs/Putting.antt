@@ -1,11 +1,12 @@
 -- Terms put for bound names, number by number.
-use Rattle.std.proofs.Common.{◌≡◌, ℕ, zero, suc, ◌+◌, ◌-◌, ◌*◌, ◌<◌, ◌≤◌, List, [], ◌∷◌, ◌++◌, length, map, take, true, refl, sym, ◌∙◌, ap, arith, get_or, Result, Ok, Err, Vec, Global}
+use Rattle.std.proofs.Common.{◌≡◌, ℕ, zero, suc, ◌+◌, ◌-◌, ◌*◌, ◌<◌, ◌≤◌, List, [], ◌∷◌, ◌++◌, length, map, take, true, refl, sym, ◌∙◌, ap, arith, get_or, Result, Ok, Err}
 use Rattle.std.specs.Prelude.{IfOk}
 use Rattle.std.proofs.lemmas.List.{map_push, take_more}
 use Rattle.std.proofs.lemmas.Bool.{ltb-true, and_parts}
 use Rattle.ss_core.specs.Tree.{ClassTree}
 use Rattle.ss_logic.specs.Terms.{Term, Bound, App, Terms, no_terms, terms_from, term_then, takes, sorts_of, is_well_sorted, are_well_sorted}
 use Rattle.ss_logic.specs.Formulas.{Formula, And, Or, formulas_from, formula_then, bound_in, put_term, put_terms, put, put_all}
+use Rattle.ss_terms.specs.Lists.{SmallVec}
 use Rattle.ss_terms.specs.declared.forms.TermId.{TermId}
 use Rattle.ss_terms.specs.declared.forms.FormulaId.{FormulaId}
 use Rattle.ss_terms.specs.declared.forms.Symbol.{Symbol}
@@ -110,14 +111,14 @@ pub formula_equal : {E : Type 0} (r : Result FormulaId E) (b : Forms) (x y : For
 formula_equal (Ok g) b x y e h = (h.0, h.1 ∙ e)
 formula_equal (Err z) b x y e h = tt
 
-pub put_app : (ts : List Term) (a b : Forms) (t : TermId) (f : Symbol) (v : Vec TermId Global) (made : List TermId) → IsTermForm a t (AppForm f v) → terms_at b made ≡ map (put_term ts) (terms_at a v.items) →
+pub put_app : (ts : List Term) (a b : Forms) (t : TermId) (f : Symbol) (v : SmallVec TermId) (made : List TermId) → IsTermForm a t (AppForm f v) → terms_at b made ≡ map (put_term ts) (terms_at a v.items) →
     App (symbol_of f) (terms_from (terms_at b made)) ≡ put_term ts (term_at a t)
 put_app ts a b t f v made n e = ap (λ xs. App (symbol_of f) (terms_from xs)) e ∙ sym (ap (App (symbol_of f)) (put_terms-map ts (terms_at a v.items))) ∙ sym (ap (put_term ts) n.built)
 
-pub put_and : (ts : List Term) (a b : Forms) (f : FormulaId) (v : Vec FormulaId Global) (made : List FormulaId) → IsFormulaForm a f (AndForm v) → formulas_at b made ≡ map (put ts) (formulas_at a v.items) →
+pub put_and : (ts : List Term) (a b : Forms) (f : FormulaId) (v : SmallVec FormulaId) (made : List FormulaId) → IsFormulaForm a f (AndForm v) → formulas_at b made ≡ map (put ts) (formulas_at a v.items) →
     And (formulas_from (formulas_at b made)) ≡ put ts (formula_at a f)
 put_and ts a b f v made n e = ap (λ xs. And (formulas_from xs)) e ∙ sym (ap And (put_all-map ts (formulas_at a v.items))) ∙ sym (ap (put ts) n.built)
 
-pub put_or : (ts : List Term) (a b : Forms) (f : FormulaId) (v : Vec FormulaId Global) (made : List FormulaId) → IsFormulaForm a f (OrForm v) → formulas_at b made ≡ map (put ts) (formulas_at a v.items) →
+pub put_or : (ts : List Term) (a b : Forms) (f : FormulaId) (v : SmallVec FormulaId) (made : List FormulaId) → IsFormulaForm a f (OrForm v) → formulas_at b made ≡ map (put ts) (formulas_at a v.items) →
     Or (formulas_from (formulas_at b made)) ≡ put ts (formula_at a f)
 put_or ts a b f v made n e = ap (λ xs. Or (formulas_from xs)) e ∙ sym (ap Or (put_all-map ts (formulas_at a v.items))) ∙ sym (ap (put ts) n.built)

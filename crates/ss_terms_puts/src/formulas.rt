@@ -8,8 +8,17 @@ ghost use Rattle.ss_terms.specs.Forms.{formula_at, formulas_at, terms_at, HasTer
 
 use crate::terms::put_arguments;
 use ss_core::Classes;
-use ss_terms::{Bank, Formula, FormulaId, Predicate, TermId};
+use ss_terms::{Arguments, Bank, Formula, FormulaId, Parts, Predicate, TermId};
 use std::alloc::{AllocError, Global};
+
+/// A predicate, and whether a literal says that it holds or that it doesn't.
+#[derive(Clone, Copy)]
+pub struct SignedPredicate {
+    /// Whether it holds.
+    pub holds: bool,
+    /// The predicate.
+    pub predicate: Predicate,
+}
 
 /// A literal with terms in place of the first bound names.
 fn put_literal(
@@ -17,16 +26,16 @@ fn put_literal(
     bank: &mut Bank,
     classes: &Classes,
     ts: &[TermId],
-    holds: bool,
-    predicate: Predicate,
+    signed: SignedPredicate,
     xs: &[TermId],
 ) -> Result<FormulaId, AllocError>
     requires bank { IsBankOf (view.classes classes.now) bank.old }
     requires terms { HasTerms bank.old ts.now }
     requires arguments { HasTerms bank.old xs.now }
-    ensures at { IfOk result (λ g. HasFormula bank.new g × (formula_at bank.new g ≡ logic.put (terms_at bank.old ts.now) (logic.Literal holds (predicate_of predicate) (terms_from (terms_at bank.old xs.now))))) }
+    ensures at { IfOk result (λ g. HasFormula bank.new g × (formula_at bank.new g ≡ logic.put (terms_at bank.old ts.now) (logic.Literal signed.holds (predicate_of signed.predicate) (terms_from (terms_at bank.old xs.now))))) }
     ensures grown { IsGrown bank.old bank.new }
 {
+    let SignedPredicate { holds, predicate } = signed;
     let arguments = put_arguments(alloc, bank, classes, ts, xs)?;
     bank.formula(Formula::Literal {
         holds,
@@ -56,17 +65,20 @@ pub fn put(
             predicate,
             arguments,
         } => {
-            let (holds, predicate) = (*holds, *predicate);
-            let arguments = Vec::from_slice(alloc, arguments)?;
-            put_literal(alloc, bank, classes, ts, holds, predicate, &arguments)
+            let signed = SignedPredicate {
+                holds: *holds,
+                predicate: *predicate,
+            };
+            let arguments = Arguments::from_slice(alloc, arguments)?;
+            put_literal(alloc, bank, classes, ts, signed, &arguments)
         }
         Formula::And(parts) => {
-            let parts = Vec::from_slice(alloc, parts)?;
+            let parts = Parts::from_slice(alloc, parts)?;
             let parts = put_all(alloc, bank, classes, ts, &parts, f.0)?;
             bank.formula(Formula::And(parts))
         }
         Formula::Or(parts) => {
-            let parts = Vec::from_slice(alloc, parts)?;
+            let parts = Parts::from_slice(alloc, parts)?;
             let parts = put_all(alloc, bank, classes, ts, &parts, f.0)?;
             bank.formula(Formula::Or(parts))
         }
@@ -94,7 +106,7 @@ fn put_all(
     ts: &[TermId],
     fs: &[FormulaId],
     bound: usize,
-) -> Result<Vec<FormulaId>, AllocError>
+) -> Result<Parts, AllocError>
     requires bank { IsBankOf (view.classes classes.now) bank.old }
     requires terms { HasTerms bank.old ts.now }
     requires below { AreBelow bound fs.now }
@@ -103,7 +115,7 @@ fn put_all(
     ensures at { IfOk result (λ gs. formulas_at bank.new gs.items ≡ map (logic.put (terms_at bank.old ts.now)) (formulas_at bank.old fs.now)) }
     ensures grown { IsGrown bank.old bank.new }
 {
-    let mut made = Vec::new(alloc);
+    let mut made = Parts::with_capacity(alloc, fs.len())?;
     for f in fs {
         let g = put(alloc, bank, classes, ts, *f)?;
         made.push(g)?;

@@ -4,5 +4,5 @@
 mod formulas;
 mod terms;
 
-pub use formulas::put;
+pub use formulas::{SignedPredicate, put};
 pub use terms::put_term;

@@ -7,7 +7,7 @@ ghost use Rattle.ss_logic.specs.Formulas.{bound_in};
 ghost use Rattle.ss_terms.specs.Forms.{term_at, terms_at, HasTerm, HasTerms, AreTermsBelow, IsGrown, IsBankOf};
 
 use ss_core::Classes;
-use ss_terms::{Bank, Term, TermId};
+use ss_terms::{Arguments, Bank, Term, TermId};
 use std::alloc::{AllocError, Global};
 
 /// What stands for a bound name: one of the terms, or a name that is bound further in.
@@ -48,7 +48,7 @@ pub fn put_term(
         }
         Term::App(symbol, arguments) => {
             let symbol = *symbol;
-            let arguments = Vec::from_slice(alloc, arguments)?;
+            let arguments = Arguments::from_slice(alloc, arguments)?;
             let arguments = put_terms(alloc, bank, classes, ts, &arguments, t.0)?;
             bank.term(Term::App(symbol, arguments))
         }
@@ -64,7 +64,7 @@ fn put_terms(
     ts: &[TermId],
     xs: &[TermId],
     bound: usize,
-) -> Result<Vec<TermId>, AllocError>
+) -> Result<Arguments, AllocError>
     requires bank { IsBankOf (view.classes classes.now) bank.old }
     requires terms { HasTerms bank.old ts.now }
     requires below { AreTermsBelow bound xs.now }
@@ -73,7 +73,7 @@ fn put_terms(
     ensures at { IfOk result (λ v. terms_at bank.new v.items ≡ map (logic.put_term (terms_at bank.old ts.now)) (terms_at bank.old xs.now)) }
     ensures grown { IsGrown bank.old bank.new }
 {
-    let mut made = Vec::with_capacity(alloc, xs.len())?;
+    let mut made = Arguments::with_capacity(alloc, xs.len())?;
     for x in xs {
         let y = put_term(alloc, bank, classes, ts, *x)?;
         made.push(y)?;
@@ -88,7 +88,7 @@ pub(crate) fn put_arguments(
     classes: &Classes,
     ts: &[TermId],
     xs: &[TermId],
-) -> Result<Vec<TermId>, AllocError>
+) -> Result<Arguments, AllocError>
     requires bank { IsBankOf (view.classes classes.now) bank.old }
     requires terms { HasTerms bank.old ts.now }
     requires arguments { HasTerms bank.old xs.now }

@@ -1,3 +1,2 @@
 pub mod Few
-pub mod Kept
 pub mod Plain

@@ -1,9 +1,9 @@
 // Two constants that a `choose` may take for objects: those that occur nowhere else.
 
-use crate::reader::{Reader, has_formulas, has_terms};
 use ss_logic::Sort;
 use ss_terms::{Bank, FormulaId};
 use ss_terms_avoids::{are_constants, are_new};
+use ss_tests_reader::{Reader, has_formulas, has_terms};
 use std::alloc::{AllocError, Global};
 use std::test::Fail;
 

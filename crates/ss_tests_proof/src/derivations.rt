@@ -8,11 +8,11 @@ ghost use Rattle.ss_terms.specs.Forms.{IsBankOf};
 use crate::classes::{are_few, obligation, program};
 use crate::derived::{ACCEPTED, REFUSED, UNFINISHED};
 use crate::lines::{first_word, read_line};
-use crate::reader::{Reader, has_formulas};
 use ss_check::{CheckStop, check};
 use ss_core::Core;
 use ss_deriv::{Draft, Line};
 use ss_terms::{Bank, FormulaId, field_sorts};
+use ss_tests_reader::{Reader, has_formulas};
 use std::alloc::{AllocError, Global};
 use std::test::Fail;
 

@@ -8,10 +8,10 @@ ghost use Rattle.ss_terms.specs.Forms.{IsBankOf};
 use crate::classes::{are_few, obligation, program};
 use crate::derivations::read_formula;
 use crate::lines::first_word;
-use crate::reader::has_formulas;
 use ss_core::Core;
 use ss_rules::{GroundStop, ground};
 use ss_terms::{Bank, FormulaId, field_sorts};
+use ss_tests_reader::has_formulas;
 use std::alloc::{AllocError, Global};
 use std::test::Fail;
 

@@ -1,12 +1,9 @@
-//! Tests of the proof side over its public calls. Of the bank and the obligations. Of the instances of rules: each rule at arguments that fit it,
-//! with the sentence that docs/OBLIGATIONS.md gives, and at others. Of the constants that a `choose` may take, and of the check of derivations, each
-//! line once and faulty ones. Of ground forms that were counted by hand, of weighted sums that are contradictions, and of what the search finds.
-//! Of equality by congruence: what follows from merges, what is left when they are taken back, the reasons that are told, and 100,000 terms.
+//! Tests of the proof side over its public calls. Of the instances of rules: each rule at arguments that fit it, with the sentence that
+//! docs/OBLIGATIONS.md gives, and at others. Of the constants that a `choose` may take, and of the check of derivations, each line once and faulty
+//! ones. Of ground forms that were counted by hand, of weighted sums that are contradictions, and of what the search finds.
 
 #![tactic(auto)]
 
-#[cfg(test)]
-mod banks;
 #[cfg(test)]
 mod classes;
 #[cfg(test)]
@@ -20,24 +17,10 @@ mod grounds;
 #[cfg(test)]
 mod lines;
 #[cfg(test)]
-mod many;
-#[cfg(test)]
-mod merges;
-#[cfg(test)]
-mod obligations;
-#[cfg(test)]
-mod part;
-#[cfg(test)]
-mod reader;
-#[cfg(test)]
 mod rows;
 #[cfg(test)]
 mod rules;
 #[cfg(test)]
 mod searches;
 #[cfg(test)]
-mod steps;
-#[cfg(test)]
 mod sums;
-#[cfg(test)]
-mod words;

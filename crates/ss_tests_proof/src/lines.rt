@@ -2,10 +2,9 @@
 
 ghost use Rattle.std.specs.Prelude.{◌≡◌};
 
-use crate::reader::Reader;
-use crate::words::{free_rule, good_rule};
 use ss_deriv::{Line, Sum};
 use ss_terms::{Bank, FormulaId, Symbol, Term, TermId};
+use ss_tests_reader::{Reader, free_rule, good_rule};
 use std::alloc::{AllocError, Global};
 
 /// The first word of a text, and what stands behind its blank.

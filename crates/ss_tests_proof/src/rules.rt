@@ -6,12 +6,11 @@ ghost use Rattle.ss_core.specs.Chain.{IsWithinLimits};
 ghost use Rattle.ss_terms.specs.Forms.{HasTerms, IsBankOf};
 
 use crate::classes::{are_few, program};
-use crate::reader::{Reader, has_terms};
 use crate::rows::{FITTING, OTHERS, WRONG};
-use crate::words::any_rule;
 use ss_core::Core;
 use ss_rules::{RuleName, instance};
 use ss_terms::{Bank, FormulaId, TermId, field_sorts};
+use ss_tests_reader::{Reader, any_rule, has_terms};
 use std::alloc::{AllocError, Global};
 use std::test::Fail;
 

@@ -9,12 +9,12 @@ ghost use Rattle.ss_terms.specs.Forms.{IsBankOf};
 use crate::classes::{are_few, are_plain, obligation, plain_program};
 use crate::derivations::read_formula;
 use crate::lines::first_word;
-use crate::reader::{are_formed, has_formulas, is_formed};
 use ss_check::check;
 use ss_core::Core;
 use ss_deriv::{Derivation, Line};
 use ss_search::{Found, Options, prove};
 use ss_terms::{Bank, FormulaId, Obligation, field_sorts};
+use ss_tests_reader::{are_formed, has_formulas, is_formed};
 use std::alloc::{AllocError, Global};
 use std::test::Fail;
 

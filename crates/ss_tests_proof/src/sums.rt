@@ -1,11 +1,11 @@
 // Known facts that contradict each other by a weighted sum, and others that don't.
 
 use crate::derivations::read_formula;
-use crate::reader::{Reader, has_formulas};
 use ss_deriv::Sum;
 use ss_linear::refute;
 use ss_linear_sums::sum;
 use ss_terms::{Bank, FormulaId};
+use ss_tests_reader::{Reader, has_formulas};
 use std::alloc::{AllocError, Global};
 use std::test::Fail;
 

@@ -21,10 +21,8 @@ fn read_accepted(alloc: Global, source: &[u8], accepted: &Accepted) -> Result<Co
     ensures limits { IfOk result (λ c. IsWithinLimits (classes c.classes)) }
 {
     let _source = source;
-    match elaborate(alloc, accepted) {
-        Ok(program) => Ok(program),
-        Err(_) => Err(FrontStop::Memory),
-    }
+    let program = elaborate(alloc, accepted)?;
+    Ok(program)
 }
 
 /// The core program of a source. Refused comes with the first fault of the source.

@@ -38,6 +38,13 @@ pub enum Goal {
     Run,
 }
 
+// A source, and the program that it means.
+#[derive(Clone, Copy)]
+struct SourceProgram<'a> {
+    source: &'a [u8],
+    program: &'a Core,
+}
+
 /// Does what is asked of a source.
 pub fn answer_source<S: Sink>(alloc: Global, asked: &Asked, source: &[u8], out: &mut S) -> Status
     requires short { length asked.now.input.items < 2 ^ 31 }
@@ -141,7 +148,10 @@ fn answer_program<S: Sink>(
     match verify(alloc, program, &mut obligations, &options) {
         Verdict::Verified(_) => answer_safe(alloc, goal, asked, source, program, out),
         Verdict::Memory => Status::Memory,
-        verdict => tell_verdict(alloc, asked, source, program, &obligations, verdict, out),
+        verdict => {
+            let meant = SourceProgram { source, program };
+            tell_verdict(alloc, asked, &meant, &obligations, verdict, out)
+        }
     }
 }
 
@@ -227,21 +237,20 @@ fn answer_of(verdict: Verdict) -> Status
 fn tell_verdict<S: Sink>(
     alloc: Global,
     asked: &Asked,
-    source: &[u8],
-    program: &Core,
+    meant: &SourceProgram<'_>,
     obligations: &Obligations,
     verdict: Verdict,
     out: &mut S,
 ) -> Status
-    requires means { Means source.now (core program.now) }
-    requires obligations { trees obligations.now ≡ oblig.obligations (core program.now) }
-    requires listed { IsListed asked.now.limits (core program.now) verdict }
-    ensures says { (goal : AnyGoal) → Says asked.now.limits asked.now.steps asked.now.input.items (S.taken out.old) (S.taken out.new) result (command_of_goal goal) source.now }
+    requires means { Means meant.now.source.now (core meant.now.program.now) }
+    requires obligations { trees obligations.now ≡ oblig.obligations (core meant.now.program.now) }
+    requires listed { IsListed asked.now.limits (core meant.now.program.now) verdict }
+    ensures says { (goal : AnyGoal) → Says asked.now.limits asked.now.steps asked.now.input.items (S.taken out.old) (S.taken out.new) result (command_of_goal goal) meant.now.source.now }
     ensures faults { S.faults out.old ≤ S.faults out.new }
     ensures cause { result ≡ Status.WriteFault → Rose (S.faults out.old) (S.faults out.new) }
 {
-    let (_asked, _source) = (asked, source);
-    let Ok(lines) = verdict_text(alloc, program, obligations, &verdict) else {
+    let (_asked, _source) = (asked, meant.source);
+    let Ok(lines) = verdict_text(alloc, meant.program, obligations, &verdict) else {
         return Status::Memory;
     };
     match out.write(&lines) {

@@ -75,7 +75,12 @@ fn note_stmt(found: &mut Vec<usize>, stmt: &TypedStmt) -> Result<(), AllocError>
             note_stmt(found, second)
         }
         TypedStmt::While(_, _, _, body) => note_stmt(found, body),
-        TypedStmt::For(_, first, _, step, _, body) => {
+        TypedStmt::For {
+            first,
+            step,
+            body,
+            ..
+        } => {
             note_first(found, first)?;
             note_stmt(found, body)?;
             note_step(found, step)

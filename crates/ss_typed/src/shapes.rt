@@ -159,7 +159,7 @@ pub fn is_base(statement: &TypedStmt) -> bool
         | TypedStmt::Declare(_)
         | TypedStmt::If(..)
         | TypedStmt::While(..)
-        | TypedStmt::For(..)
+        | TypedStmt::For { .. }
         | TypedStmt::Return(..)
         | TypedStmt::Assert(..)
         | TypedStmt::Assume(..)

@@ -56,15 +56,15 @@ pub enum TypedStmt {
     If(Place, TypedExpr, Box<TypedStmt>, Option<Box<TypedStmt>>),
     /// The test, the invariants and the body.
     While(Place, TypedExpr, Vec<TypedExpr>, Box<TypedStmt>),
-    /// The beginning, the test, the step, the invariants and the body.
-    For(
-        Place,
-        Option<TypedInit>,
-        Option<TypedExpr>,
-        Option<TypedSimple>,
-        Vec<TypedExpr>,
-        Box<TypedStmt>,
-    ),
+    /// `for (first; test; step) invariant ..; body`
+    For {
+        place: Place,
+        first: Option<TypedInit>,
+        test: Option<TypedExpr>,
+        step: Option<TypedSimple>,
+        invariants: Vec<TypedExpr>,
+        body: Box<TypedStmt>,
+    },
     Return(Place, Option<TypedExpr>),
     Assert(Place, TypedExpr),
     Assume(Place, TypedExpr),

@@ -2,7 +2,7 @@
 use Rattle.std.specs.Prelude.{ℕ, ◌+◌, List, [], ◌∷◌, true, false}
 use Rattle.ss_core.specs.declared.names.Mark.{Mark}
 use Rattle.ss_core.specs.declared.names.Place.{Place}
-use Rattle.ss_core.specs.Tree.{ExprTree, ExposedTree, CodeTree}
+use Rattle.ss_core.specs.Tree.{ExprTree, ExposedTree, CodeTree, StmtTree, AssignStmt, WriteStmt, WriteElementStmt, NewStmt, NewArrayStmt, CallStmt, ReadyStmt, IfStmt, LoopStmt, UnpackStmt, PackStmt, AssertStmt, AssumeStmt, PrintStmt, PrintTextStmt, ReturnStmt}
 use Rattle.ss_store_rules.specs.NonNull.{known_tested, known_met}
 use Rattle.ss_store_rules.specs.Types.{element_of, code_type}
 use Rattle.ss_logic.specs.declared.Sort.{Sort}
@@ -12,6 +12,26 @@ use Rattle.ss_logic_express.specs.Express.{Meant, element_sort, said}
 use Rattle.ss_vcgen_heaps.specs.Positions.{Position, Walk, When, define, evaluate, evaluate_all, first_side, if_reached, join, local_term, meant_at, new_term, second_side, set_local, term_for, with_store, with_term}
 use Rattle.ss_vcgen_heaps.specs.Obligations.{behind_all, classes_of, exit_guard, into_body, local_sort, write, write_element}
 use Rattle.ss_vcgen_bodies.specs.Words.{turned}
+
+-- ---- statements
+
+abbrev pub place_of : StmtTree → Place
+place_of (AssignStmt p x e) = p
+place_of (WriteStmt p e f m t value) = p
+place_of (WriteElementStmt p e i value) = p
+place_of (NewStmt p x t es) = p
+place_of (NewArrayStmt p x t e) = p
+place_of (CallStmt p x callee es) = p
+place_of (ReadyStmt p) = p
+place_of (IfStmt p e one other) = p
+place_of (LoopStmt p asked prelude e body exposes) = p
+place_of (UnpackStmt p x t) = p
+place_of (PackStmt p x t) = p
+place_of (AssertStmt p e) = p
+place_of (AssumeStmt p e) = p
+place_of (PrintStmt p e ends) = p
+place_of (PrintTextStmt p text ends) = p
+place_of (ReturnStmt p e) = p
 
 -- ---- what two values mean gets terms
 

@@ -15,7 +15,7 @@ use crate::watch::Watch;
 use ss_core::{Loop, Stmt};
 use ss_vcgen_bodies::{enter_loop, enter_side, exit_spot, is_never, leave_loop, return_with};
 use ss_vcgen_builder::{Builder, Walk};
-use ss_vcgen_statements::{pack, unpack};
+use ss_vcgen_statements::{FieldTarget, pack, unpack};
 use std::alloc::AllocError;
 
 // Goes behind a statement.
@@ -39,15 +39,14 @@ fn behind(
             mark,
             class,
             value,
-        } => write(
-            builder, walk, stmt, *place, object, *field, *mark, *class, value,
-        ),
-        Stmt::WriteElement(at, a, i, value) => {
-            write_element(builder, walk, stmt, *at, a, i, value)
+        } => {
+            let target = FieldTarget::new(*place, object, *field, *mark, *class);
+            write(builder, walk, stmt, &target, value)
         }
-        Stmt::New(at, x, class, es) => create(builder, walk, stmt, *at, *x, *class, es),
-        Stmt::NewArray(at, x, class, e) => create_array(builder, walk, stmt, *at, *x, *class, e),
-        Stmt::Call(at, x, callee, es) => call(builder, walk, stmt, *at, *x, callee, es),
+        Stmt::WriteElement(_, a, i, value) => write_element(builder, walk, stmt, a, i, value),
+        Stmt::New(_, x, class, es) => create(builder, walk, stmt, *x, *class, es),
+        Stmt::NewArray(_, x, class, e) => create_array(builder, walk, stmt, *x, *class, e),
+        Stmt::Call(_, x, callee, es) => call(builder, walk, stmt, *x, callee, es),
         Stmt::Ready(_) => ready(builder, walk, stmt),
         Stmt::If(_, e, one, other) => {
             let second = enter_side(builder, walk, e)?;

@@ -21,8 +21,9 @@ use ss_terms::{FormulaId, TermId};
 use ss_vcgen_bodies::{argument_types_said, entries_said};
 use ss_vcgen_builder::{Builder, Guard, Walk};
 use ss_vcgen_calls_made::element_sort;
-use ss_vcgen_known::{Known, argument_types, local_types};
+use ss_vcgen_known::Known;
 use ss_vcgen_statements::good;
+use ss_vcgen_types::{argument_types, local_types};
 use std::alloc::AllocError;
 
 // Nothing is known of the body yet.

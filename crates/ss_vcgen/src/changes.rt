@@ -14,15 +14,15 @@ ghost use Rattle.ss_vcgen_express.specs.Numbers.{meant_at, HasMeant, IsMeant, Is
 ghost use Rattle.ss_vcgen_builder.specs.Builder.{position_at, walk_at, IsFine, IsWalk, Becomes};
 ghost use Rattle.ss_vcgen.specs.Behind.{with_two, assigned, written, element_written, made_ready};
 
-use ss_core::{ClassId, Expr, FieldId, Mark, Place};
+use ss_core::{Expr, FieldId};
 use ss_logic::Sort;
 use ss_terms::{Symbol, TermId};
 use ss_vcgen_builder::{Builder, Walk};
 use ss_vcgen_calls_made::element_sort;
 use ss_vcgen_evaluated::evaluate;
 use ss_vcgen_express::Meant;
-use ss_vcgen_known::{code_type, element_of, field_type};
-use ss_vcgen_statements::{applied_local, write, write_element};
+use ss_vcgen_statements::{ElementTarget, FieldTarget, applied_local, write, write_element};
+use ss_vcgen_types::{code_type, element_of, field_type};
 use std::alloc::AllocError;
 
 // The sort of a local.
@@ -111,23 +111,17 @@ fn settle_two(
 pub(crate) fn write_field(
     builder: &mut Builder,
     walk: &Walk<'_>,
-    at: Place,
-    object: &Expr,
-    field: FieldId,
-    mark: Mark,
-    class: ClassId,
+    target: &FieldTarget<'_>,
     value: &Expr,
 ) -> Result<(), AllocError>
     requires fine { IsFine builder.old }
     requires walk { IsWalk builder.old.bank walk.now }
-    ensures { OnOk result (Becomes builder.old builder.new (λ b. written (walk_at b walk.now) at (expr object.now) field.0 mark class.0 (expr value.now) (position_at b builder.old))) }
+    ensures { OnOk result (Becomes builder.old builder.new (λ b. written (walk_at b walk.now) target.now.place (expr target.now.object.now) target.now.field.0 target.now.mark target.now.class.0 (expr value.now) (position_at b builder.old))) }
 {
-    let sort = sort_of_field(walk, field);
-    let meant = evaluate_two(builder, walk, object, value)?;
+    let sort = sort_of_field(walk, target.field);
+    let meant = evaluate_two(builder, walk, target.object, value)?;
     let terms = settle_two(builder, Sort::Rest, &meant.0, sort, &meant.1)?;
-    write(
-        builder, walk, at, object, field, mark, class, terms.0, terms.1,
-    )?;
+    write(builder, walk, target, terms.0, terms.1)?;
     Ok(())
 }
 
@@ -135,21 +129,19 @@ pub(crate) fn write_field(
 pub(crate) fn write_at(
     builder: &mut Builder,
     walk: &Walk<'_>,
-    at: Place,
-    a: &Expr,
-    i: &Expr,
+    target: &ElementTarget<'_>,
     value: &Expr,
 ) -> Result<(), AllocError>
     requires fine { IsFine builder.old }
     requires walk { IsWalk builder.old.bank walk.now }
-    ensures { OnOk result (Becomes builder.old builder.new (λ b. element_written (walk_at b walk.now) at (expr a.now) (expr i.now) (expr value.now) (position_at b builder.old))) }
+    ensures { OnOk result (Becomes builder.old builder.new (λ b. element_written (walk_at b walk.now) target.now.place (expr target.now.array.now) (expr target.now.index.now) (expr value.now) (position_at b builder.old))) }
 {
-    let sort = sort_of_elements(walk, a);
-    let meant = evaluate_two(builder, walk, a, i)?;
+    let sort = sort_of_elements(walk, target.array);
+    let meant = evaluate_two(builder, walk, target.array, target.index)?;
     let element = evaluate(builder, walk, value)?;
     let terms = settle_two(builder, Sort::Rest, &meant.0, Sort::Whole, &meant.1)?;
     let v = builder.settle(sort, &element)?;
-    write_element(builder, walk, at, a, terms.0, terms.1, v)?;
+    write_element(builder, walk, target, terms.0, terms.1, v)?;
     Ok(())
 }
 

@@ -63,10 +63,8 @@ fn empty(alloc: Global, core: &Core) -> Result<Builder, AllocError>
 fn body_number(i: usize) -> Result<BodyId, AllocError>
     ensures { IfOk result (λ n. n.0 ≡ i) }
 {
-    match u32::try_from(i) {
-        Ok(n) => Ok(BodyId(n)),
-        Err(_) => Err(AllocError),
-    }
+    let n = u32::try_from(i).map_err(|_| AllocError)?;
+    Ok(BodyId(n))
 }
 
 // What was built.

@@ -12,15 +12,39 @@ ghost use Rattle.ss_vcgen_heaps.specs.Obligations as spec;
 ghost use Rattle.ss_vcgen_heaps.specs.Obligations.{with_known};
 ghost use Rattle.ss_vcgen_known.specs.Views.{known_of};
 ghost use Rattle.ss_vcgen_builder.specs.Builder.{position_at, walk_at, IsFine, IsWalk, Becomes};
-ghost use Rattle.ss_vcgen.specs.Behind.{assigned, written, element_written, made_ready};
+ghost use Rattle.ss_vcgen.specs.Behind.{place_of, assigned, written, element_written, made_ready};
 
 use crate::changes;
-use ss_core::{Callee, ClassId, Expr, FieldId, Kind, Mark, Place, Stmt};
+use ss_core::{Callee, ClassId, Expr, Kind, Place, Stmt};
 use ss_vcgen_builder::{Builder, Walk};
 use ss_vcgen_calls_made::{call_with, construct, new_array};
 use ss_vcgen_evaluated::{evaluate, holds_at};
-use ss_vcgen_known::Known;
+use ss_vcgen_known::{BodyContext, Known};
+use ss_vcgen_statements::{ElementTarget, FieldTarget};
 use std::alloc::AllocError;
+
+fn place_of(stmt: &Stmt) -> Place
+    ensures { result ≡ place_of (stmt_of stmt.now) }
+{
+    match stmt {
+        Stmt::Assign(place, ..)
+        | Stmt::Write { place, .. }
+        | Stmt::WriteElement(place, ..)
+        | Stmt::New(place, ..)
+        | Stmt::NewArray(place, ..)
+        | Stmt::Call(place, ..)
+        | Stmt::Ready(place)
+        | Stmt::If(place, ..)
+        | Stmt::Unpack(place, ..)
+        | Stmt::Pack(place, ..)
+        | Stmt::Assert(place, _)
+        | Stmt::Assume(place, _)
+        | Stmt::Print(place, ..)
+        | Stmt::PrintText(place, ..)
+        | Stmt::Return(place, _) => *place,
+        Stmt::Loop(l) => l.place,
+    }
+}
 
 // What is known of null behind a statement that is neither an `if`, a loop nor a return.
 fn known_behind(builder: &Builder, walk: &Walk<'_>, stmt: &Stmt) -> Result<Known, AllocError>
@@ -29,7 +53,12 @@ fn known_behind(builder: &Builder, walk: &Walk<'_>, stmt: &Stmt) -> Result<Known
     ensures { IfOk result (λ k. known_of k ≡ known_after (view.core walk.now.core.now) (view.body walk.now.body.now) (stmt_of stmt.now) (known_of builder.now.known)) }
 {
     let mut known = builder.known.copy(builder.alloc)?;
-    known.step(builder.alloc, walk.core, walk.body, walk.types, stmt)?;
+    let context = BodyContext {
+        core: walk.core,
+        body: walk.body,
+        types: walk.types,
+    };
+    known.step(builder.alloc, context, stmt)?;
     Ok(known)
 }
 
@@ -56,19 +85,15 @@ pub(crate) fn write(
     builder: &mut Builder,
     walk: &Walk<'_>,
     stmt: &Stmt,
-    at: Place,
-    object: &Expr,
-    field: FieldId,
-    mark: Mark,
-    class: ClassId,
+    target: &FieldTarget<'_>,
     value: &Expr,
 ) -> Result<(), AllocError>
     requires fine { IsFine builder.old }
     requires walk { IsWalk builder.old.bank walk.now }
-    ensures { OnOk result (Becomes builder.old builder.new (λ b. with_known (walk_at b walk.now) (stmt_of stmt.now) (position_at b builder.old).known (written (walk_at b walk.now) at (expr object.now) field.0 mark class.0 (expr value.now) (position_at b builder.old)))) }
+    ensures { OnOk result (Becomes builder.old builder.new (λ b. with_known (walk_at b walk.now) (stmt_of stmt.now) (position_at b builder.old).known (written (walk_at b walk.now) target.now.place (expr target.now.object.now) target.now.field.0 target.now.mark target.now.class.0 (expr value.now) (position_at b builder.old)))) }
 {
     let known = known_behind(builder, walk, stmt)?;
-    changes::write_field(builder, walk, at, object, field, mark, class, value)?;
+    changes::write_field(builder, walk, target, value)?;
     builder.set_known(known);
     Ok(())
 }
@@ -78,17 +103,21 @@ pub(crate) fn write_element(
     builder: &mut Builder,
     walk: &Walk<'_>,
     stmt: &Stmt,
-    at: Place,
     a: &Expr,
     i: &Expr,
     value: &Expr,
 ) -> Result<(), AllocError>
     requires fine { IsFine builder.old }
     requires walk { IsWalk builder.old.bank walk.now }
-    ensures { OnOk result (Becomes builder.old builder.new (λ b. with_known (walk_at b walk.now) (stmt_of stmt.now) (position_at b builder.old).known (element_written (walk_at b walk.now) at (expr a.now) (expr i.now) (expr value.now) (position_at b builder.old)))) }
+    ensures { OnOk result (Becomes builder.old builder.new (λ b. with_known (walk_at b walk.now) (stmt_of stmt.now) (position_at b builder.old).known (element_written (walk_at b walk.now) (place_of (stmt_of stmt.now)) (expr a.now) (expr i.now) (expr value.now) (position_at b builder.old)))) }
 {
     let known = known_behind(builder, walk, stmt)?;
-    changes::write_at(builder, walk, at, a, i, value)?;
+    let target = ElementTarget {
+        place: place_of(stmt),
+        array: a,
+        index: i,
+    };
+    changes::write_at(builder, walk, &target, value)?;
     builder.set_known(known);
     Ok(())
 }
@@ -98,17 +127,16 @@ pub(crate) fn create(
     builder: &mut Builder,
     walk: &Walk<'_>,
     stmt: &Stmt,
-    at: Place,
     x: Option<usize>,
     class: ClassId,
     es: &[Expr],
 ) -> Result<(), AllocError>
     requires fine { IsFine builder.old }
     requires walk { IsWalk builder.old.bank walk.now }
-    ensures { OnOk result (Becomes builder.old builder.new (λ b. with_known (walk_at b walk.now) (stmt_of stmt.now) (position_at b builder.old).known (spec.construct (walk_at b walk.now) at x class.0 (exprs es.now) (position_at b builder.old)))) }
+    ensures { OnOk result (Becomes builder.old builder.new (λ b. with_known (walk_at b walk.now) (stmt_of stmt.now) (position_at b builder.old).known (spec.construct (walk_at b walk.now) (place_of (stmt_of stmt.now)) x class.0 (exprs es.now) (position_at b builder.old)))) }
 {
     let known = known_behind(builder, walk, stmt)?;
-    construct(builder, walk, at, x, class, es)?;
+    construct(builder, walk, place_of(stmt), x, class, es)?;
     builder.set_known(known);
     Ok(())
 }
@@ -118,17 +146,16 @@ pub(crate) fn create_array(
     builder: &mut Builder,
     walk: &Walk<'_>,
     stmt: &Stmt,
-    at: Place,
     x: Option<usize>,
     class: ClassId,
     e: &Expr,
 ) -> Result<(), AllocError>
     requires fine { IsFine builder.old }
     requires walk { IsWalk builder.old.bank walk.now }
-    ensures { OnOk result (Becomes builder.old builder.new (λ b. with_known (walk_at b walk.now) (stmt_of stmt.now) (position_at b builder.old).known (spec.new_array (walk_at b walk.now) at x class.0 (expr e.now) (position_at b builder.old)))) }
+    ensures { OnOk result (Becomes builder.old builder.new (λ b. with_known (walk_at b walk.now) (stmt_of stmt.now) (position_at b builder.old).known (spec.new_array (walk_at b walk.now) (place_of (stmt_of stmt.now)) x class.0 (expr e.now) (position_at b builder.old)))) }
 {
     let known = known_behind(builder, walk, stmt)?;
-    new_array(builder, walk, at, x, class, e)?;
+    new_array(builder, walk, place_of(stmt), x, class, e)?;
     builder.set_known(known);
     Ok(())
 }
@@ -138,17 +165,16 @@ pub(crate) fn call(
     builder: &mut Builder,
     walk: &Walk<'_>,
     stmt: &Stmt,
-    at: Place,
     x: Option<usize>,
     callee: &Callee,
     es: &[Expr],
 ) -> Result<(), AllocError>
     requires fine { IsFine builder.old }
     requires walk { IsWalk builder.old.bank walk.now }
-    ensures { OnOk result (Becomes builder.old builder.new (λ b. with_known (walk_at b walk.now) (stmt_of stmt.now) (position_at b builder.old).known (spec.call_with (walk_at b walk.now) at x (callee_tree callee.now) (receiver (callee_tree callee.now) ++ exprs es.now) (position_at b builder.old)))) }
+    ensures { OnOk result (Becomes builder.old builder.new (λ b. with_known (walk_at b walk.now) (stmt_of stmt.now) (position_at b builder.old).known (spec.call_with (walk_at b walk.now) (place_of (stmt_of stmt.now)) x (callee_tree callee.now) (receiver (callee_tree callee.now) ++ exprs es.now) (position_at b builder.old)))) }
 {
     let known = known_behind(builder, walk, stmt)?;
-    call_with(builder, walk, at, x, callee, es)?;
+    call_with(builder, walk, place_of(stmt), x, callee, es)?;
     builder.set_known(known);
     Ok(())
 }

@@ -5,6 +5,7 @@ use Rattle.std.proofs.lemmas.List.{append-nil}
 use Rattle.std.proofs.lemmas.Option.{slice_get-map}
 use Rattle.ss_core.specs.declared.names.Ty.{Ty}
 use Rattle.ss_core.specs.declared.names.Ty.TheVariants as ty
+use Rattle.ss_core.specs.Types.{is_non_null}
 use Rattle.ss_logic.specs.Terms.{Term}
 use Rattle.ss_terms.specs.declared.forms.TermId.{TermId}
 use Rattle.ss_terms.specs.Forms.{Forms}
@@ -12,7 +13,7 @@ use Rattle.ss_vcgen_heaps.specs.Positions.{Walk}
 use Rattle.ss_vcgen_heaps.specs.Obligations.{stays_of_type, types_from, argument_types_from}
 use Rattle.ss_vcgen_heaps.specs.Contracts.{is_of_type}
 use Rattle.ss_vcgen_builder.specs.Builder.{local_at, locals_at, HasLocal, HasLocals}
-use Rattle.ss_vcgen_bodies.specs.Words.{flat, nullable, is_without_null, not_lost, kept_type, entry_type}
+use Rattle.ss_vcgen_bodies.specs.Words.{flat, nullable, not_lost, kept_type, entry_type}
 
 -- ---- what is left of a list
 
@@ -47,7 +48,7 @@ HasLocal-found b (l ∷ ls) zero h = h.0
 HasLocal-found b (l ∷ ls) (suc x) h = HasLocal-found b ls x h.1
 
 -- the type with null, and that it isn't null
-pub stays_is : (asks_ready : Bool) (s : Term) (t : Ty) (before now : Term) → is_of_type asks_ready s (nullable t) now ++ not_lost (is_without_null t) before now ≡ stays_of_type asks_ready s t before now
+pub stays_is : (asks_ready : Bool) (s : Term) (t : Ty) (before now : Term) → is_of_type asks_ready s (nullable t) now ++ not_lost (is_non_null t) before now ≡ stays_of_type asks_ready s t before now
 stays_is asks_ready s ty.Int before now = append-nil (is_of_type asks_ready s ty.Int now)
 stays_is asks_ready s ty.Bool before now = append-nil (is_of_type asks_ready s ty.Bool now)
 stays_is asks_ready s ty.Null before now = append-nil (is_of_type asks_ready s ty.Null now)

@@ -82,13 +82,6 @@ nullable ty.Bool = ty.Bool
 nullable ty.Null = ty.Null
 nullable (ty.Ref t non_null) = ty.Ref t false
 
--- null isn't of this type of objects
-abbrev pub is_without_null : Ty → Bool
-is_without_null ty.Int = false
-is_without_null ty.Bool = false
-is_without_null ty.Null = false
-is_without_null (ty.Ref t non_null) = non_null
-
 -- it isn't null now, if it wasn't before
 abbrev pub not_lost : Bool → Term → Term → List Formula
 not_lost non_null before now = if non_null then or_of (equal before null_term ∷ differ now null_term ∷ []) ∷ [] else []

@@ -16,9 +16,9 @@ use ss_core::Exposed;
 use ss_terms::{FormulaId, TermId};
 use ss_vcgen_builder::{Builder, Walk};
 use ss_vcgen_calls_made::{entry_said, exit_said, frame_said};
-use ss_vcgen_contracts::Contract;
+use ss_vcgen_contracts::{Contract, Run};
 use ss_vcgen_evaluated::context;
-use ss_vcgen_known::argument_types;
+use ss_vcgen_types::argument_types;
 use std::alloc::AllocError;
 
 // What the arguments of the body mean now.
@@ -105,8 +105,11 @@ pub(crate) fn exits_said(
     };
     let store = builder.store;
     let arguments = arguments_now(builder, walk)?;
-    let said = exit_said(
-        builder, walk, contract, store, walk.entry, &arguments, results,
-    )?;
+    let run = Run {
+        before: walk.entry,
+        after: store,
+        arguments: &arguments,
+    };
+    let said = exit_said(builder, walk, contract, run, results)?;
     Ok(said)
 }

@@ -17,7 +17,7 @@ use ss_terms::FormulaId;
 use ss_vcgen_builder::{Builder, Guard, Spot, Walk};
 use ss_vcgen_evaluated::evaluate;
 use ss_vcgen_express::{Meant, said};
-use ss_vcgen_known::is_literal_true;
+use ss_vcgen_types::is_literal_true;
 use std::alloc::{AllocError, Global};
 
 // That what is meant is true.

@@ -8,9 +8,9 @@ ghost use Rattle.ss_vcgen_heaps.specs.Obligations as spec;
 ghost use Rattle.ss_vcgen_express.specs.Numbers.{IsFormula, AreFormulas};
 ghost use Rattle.ss_vcgen_builder.specs.Builder.{position_at, local_at, locals_at, walk_at, HasLocal, HasLocals, IsFine};
 ghost use Rattle.ss_vcgen_statements.specs.Words.{Stays};
-ghost use Rattle.ss_vcgen_bodies.specs.Words.{flat, nullable, is_without_null, kept_type, entry_type, not_lost};
+ghost use Rattle.ss_vcgen_bodies.specs.Words.{flat, nullable, kept_type, entry_type, not_lost};
 
-use ss_core::Ty;
+use ss_core::{Ty, is_non_null};
 use ss_terms::{FormulaId, TermId};
 use ss_vcgen_builder::{Builder, Walk};
 use ss_vcgen_calls_made::type_said;
@@ -110,18 +110,6 @@ fn nullable(ty: Ty) -> Ty
     }
 }
 
-// Whether null isn't of this type of objects.
-fn is_without_null(ty: Ty) -> bool
-    ensures { result ≡ is_without_null ty }
-{
-    match ty {
-        Ty::Int => false,
-        Ty::Bool => false,
-        Ty::Null => false,
-        Ty::Ref { non_null, .. } => non_null,
-    }
-}
-
 // The value now is of the type, or null. Where null isn't of the type, it isn't null if the value before wasn't.
 fn stays_of_type(
     builder: &mut Builder,
@@ -138,11 +126,19 @@ fn stays_of_type(
     ensures at { IfOk result (λ v. AreFormulas builder.new.bank v.items (λ b. spec.stays_of_type asks_ready (term_at b store) ty (term_at b before) (term_at b now))) }
     ensures stays { IfOk result (λ v. Stays builder.old builder.new) }
 {
-    let lost = is_without_null(ty);
+    let lost = is_non_null(ty);
     let mut said = type_said(builder, store, asks_ready, nullable(ty), now)?;
     let more = not_lost(builder, lost, before, now)?;
     said.extend_from_slice(&more)?;
     Ok(said)
+}
+
+// A local: its number, its type, and its term, where it has one.
+#[derive(Clone, Copy)]
+struct TypedLocal {
+    number: usize,
+    ty: Ty,
+    term: Option<TermId>,
 }
 
 // What is known at the head of a loop of one local, which had this term before.
@@ -150,21 +146,19 @@ fn kept_since(
     builder: &mut Builder,
     walk: &Walk<'_>,
     store: TermId,
-    x: usize,
-    ty: Ty,
+    local: TypedLocal,
     before: TermId,
-    now: Option<TermId>,
 ) -> Result<Vec<FormulaId>, AllocError>
     requires fine { IsFine builder.old }
     requires store { HasTerm builder.old.bank store }
     requires before { HasTerm builder.old.bank before }
-    requires now { HasLocal builder.old.bank now }
-    ensures at { IfOk result (λ v. AreFormulas builder.new.bank v.items (λ b. kept_type (walk_at b walk.now) (term_at b store) x ty (Some (term_at b before)) (local_at b now))) }
+    requires now { HasLocal builder.old.bank local.term }
+    ensures at { IfOk result (λ v. AreFormulas builder.new.bank v.items (λ b. kept_type (walk_at b walk.now) (term_at b store) local.number local.ty (Some (term_at b before)) (local_at b local.term))) }
     ensures stays { IfOk result (λ v. Stays builder.old builder.new) }
 {
-    let asks_ready = is_asked_ready(walk, x);
-    match now {
-        Some(new) => stays_of_type(builder, asks_ready, store, ty, before, new),
+    let asks_ready = is_asked_ready(walk, local.number);
+    match local.term {
+        Some(new) => stays_of_type(builder, asks_ready, store, local.ty, before, new),
         None => no_formulas(builder),
     }
 }
@@ -174,20 +168,18 @@ fn kept_type(
     builder: &mut Builder,
     walk: &Walk<'_>,
     store: TermId,
-    x: usize,
-    ty: Ty,
+    local: TypedLocal,
     before: Option<TermId>,
-    now: Option<TermId>,
 ) -> Result<Vec<FormulaId>, AllocError>
     requires fine { IsFine builder.old }
     requires store { HasTerm builder.old.bank store }
     requires before { HasLocal builder.old.bank before }
-    requires now { HasLocal builder.old.bank now }
-    ensures at { IfOk result (λ v. AreFormulas builder.new.bank v.items (λ b. kept_type (walk_at b walk.now) (term_at b store) x ty (local_at b before) (local_at b now))) }
+    requires now { HasLocal builder.old.bank local.term }
+    ensures at { IfOk result (λ v. AreFormulas builder.new.bank v.items (λ b. kept_type (walk_at b walk.now) (term_at b store) local.number local.ty (local_at b before) (local_at b local.term))) }
     ensures stays { IfOk result (λ v. Stays builder.old builder.new) }
 {
     match before {
-        Some(old) => kept_since(builder, walk, store, x, ty, old, now),
+        Some(old) => kept_since(builder, walk, store, local, old),
         None => no_formulas(builder),
     }
 }
@@ -209,7 +201,12 @@ pub(crate) fn kept_types(
     for x in 0..types.len() {
         let old = local_in(before, x);
         let new = local_in(&builder.locals, x);
-        let typed = kept_type(builder, walk, store, x, types[x], old, new)?;
+        let local = TypedLocal {
+            number: x,
+            ty: types[x],
+            term: new,
+        };
+        let typed = kept_type(builder, walk, store, local, old)?;
         made.extend_from_slice(&typed)?;
     }
     Ok(made)
@@ -220,19 +217,17 @@ fn entry_type(
     builder: &mut Builder,
     walk: &Walk<'_>,
     store: TermId,
-    x: usize,
-    ty: Ty,
-    now: Option<TermId>,
+    local: TypedLocal,
 ) -> Result<Vec<FormulaId>, AllocError>
     requires fine { IsFine builder.old }
     requires store { HasTerm builder.old.bank store }
-    requires now { HasLocal builder.old.bank now }
-    ensures at { IfOk result (λ v. AreFormulas builder.new.bank v.items (λ b. entry_type (walk_at b walk.now) (term_at b store) x ty (local_at b now))) }
+    requires now { HasLocal builder.old.bank local.term }
+    ensures at { IfOk result (λ v. AreFormulas builder.new.bank v.items (λ b. entry_type (walk_at b walk.now) (term_at b store) local.number local.ty (local_at b local.term))) }
     ensures stays { IfOk result (λ v. Stays builder.old builder.new) }
 {
-    let asks_ready = is_asked_ready(walk, x);
-    match now {
-        Some(new) => type_said(builder, store, asks_ready, ty, new),
+    let asks_ready = is_asked_ready(walk, local.number);
+    match local.term {
+        Some(new) => type_said(builder, store, asks_ready, local.ty, new),
         None => no_formulas(builder),
     }
 }
@@ -251,7 +246,12 @@ pub fn argument_types_said(
     let mut made = Vec::new(builder.alloc);
     for x in 0..types.len() {
         let now = local_in(&builder.locals, x);
-        let typed = entry_type(builder, walk, store, x, types[x], now)?;
+        let local = TypedLocal {
+            number: x,
+            ty: types[x],
+            term: now,
+        };
+        let typed = entry_type(builder, walk, store, local)?;
         made.extend_from_slice(&typed)?;
     }
     Ok(made)

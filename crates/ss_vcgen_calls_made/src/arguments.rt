@@ -18,7 +18,7 @@ use ss_logic::Sort;
 use ss_terms::TermId;
 use ss_vcgen_builder::{Builder, Walk};
 use ss_vcgen_evaluated::{evaluate, evaluate_all, meaning};
-use ss_vcgen_known::code_type;
+use ss_vcgen_types::code_type;
 use std::alloc::{AllocError, Global};
 
 /// The sort of the values of a type.

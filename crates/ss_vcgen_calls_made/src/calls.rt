@@ -24,7 +24,7 @@ use ss_logic::Sort;
 use ss_terms::{FormulaId, TermId};
 use ss_vcgen_builder::{Builder, Walk};
 use ss_vcgen_contracts::{
-    Contract, called, entry_conditions, exit_conditions, frame, grown, is_of_type,
+    Contract, Run, called, entry_conditions, exit_conditions, frame, grown, is_of_type,
 };
 use ss_vcgen_statements::{check_not_null, good};
 use std::alloc::AllocError;
@@ -119,14 +119,17 @@ pub fn frame_said(
     ensures at { IfOk result (λ f. IsFormula builder.new.bank f (λ b. kept (classes walk.now.core.now.classes) (contract.frame_terms (classes walk.now.core.now.classes) (contract_of callee.entry) (term_at b before) (term_at b builder.old.store) (ones_at b arguments.now) (terms_at b outside.now)))) }
     ensures stays { IfOk result (λ f. Stays builder.old builder.new) }
 {
+    let run = Run {
+        before,
+        after: builder.store,
+        arguments,
+    };
     frame(
         builder.alloc,
         &mut builder.bank,
         walk.core,
         callee,
-        before,
-        builder.store,
-        arguments,
+        run,
         outside,
     )
 }
@@ -172,18 +175,16 @@ pub fn exit_said(
     builder: &mut Builder,
     walk: &Walk<'_>,
     callee: Contract<'_>,
-    store: TermId,
-    before: TermId,
-    arguments: &[TermId],
+    run: Run<'_>,
     results: &[TermId],
 ) -> Result<Vec<FormulaId>, AllocError>
     requires fine { IsFine builder.old }
     requires walk { IsWalk builder.old.bank walk.now }
-    requires store { HasTerm builder.old.bank store }
-    requires before { HasTerm builder.old.bank before }
-    requires arguments { HasTerms builder.old.bank arguments.now }
+    requires before { HasTerm builder.old.bank run.before }
+    requires after { HasTerm builder.old.bank run.after }
+    requires arguments { HasTerms builder.old.bank run.arguments.now }
     requires results { HasTerms builder.old.bank results.now }
-    ensures at { IfOk result (λ v. AreFormulas builder.new.bank v.items (λ b. contract.conditions (contract_of callee.entry).exit (contract.contract_context (classes walk.now.core.now.classes) (contract_of callee.entry) (term_at b store) (term_at b before) (ones_at b arguments.now) (ones_at b results.now)))) }
+    ensures at { IfOk result (λ v. AreFormulas builder.new.bank v.items (λ b. contract.conditions (contract_of callee.entry).exit (contract.contract_context (classes walk.now.core.now.classes) (contract_of callee.entry) (term_at b run.entry.after) (term_at b run.entry.before) (ones_at b run.entry.arguments.now) (ones_at b results.now)))) }
     ensures stays { IfOk result (λ v. Stays builder.old builder.new) }
 {
     exit_conditions(
@@ -191,9 +192,7 @@ pub fn exit_said(
         &mut builder.bank,
         &walk.core.classes,
         callee,
-        store,
-        before,
-        arguments,
+        run,
         results,
     )
 }
@@ -280,7 +279,12 @@ fn assume_promises(
 {
     let store = builder.store;
     let is_good = good(builder, store)?;
-    let said = exit_said(builder, walk, callee, store, before, arguments, results)?;
+    let run = Run {
+        before,
+        after: store,
+        arguments,
+    };
+    let said = exit_said(builder, walk, callee, run, results)?;
     let typed = result_said(builder, store, callee.body.result, results)?;
     builder.assume(is_good)?;
     builder.assume_all(&said)?;

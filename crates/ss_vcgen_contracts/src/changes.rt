@@ -15,7 +15,7 @@ ghost use Rattle.ss_vcgen_contracts.specs.Views.{contract_of, ones_at, IsContext
 
 use crate::captured::{captured_terms, owned_terms};
 use crate::contexts::{contract_context, no_result};
-use crate::contract::Contract;
+use crate::contract::{Contract, Run};
 use crate::names::named_terms;
 use ss_core::{Classes, Core};
 use ss_frames::{CallTerms, NamedTerm};
@@ -39,9 +39,12 @@ fn names_context<'p>(
     ensures grown { IsGrown bank.old bank.new }
 {
     let results = no_result(alloc, bank, contract.body)?;
-    let mut context = contract_context(
-        alloc, bank, classes, contract, before, before, arguments, &results,
-    )?;
+    let run = Run {
+        before,
+        after: before,
+        arguments,
+    };
+    let mut context = contract_context(alloc, bank, classes, contract, run, &results)?;
     context.inside_old = true;
     Ok(context)
 }
@@ -71,33 +74,30 @@ fn names_and_object(
     Ok((names, object))
 }
 
-/// What a body with this contract may change between its entry and a later store, with these arguments, but for these objects of
-/// enclosing exposes.
+/// What a run of a body with this contract may change, but for these objects of enclosing exposes.
 pub fn frame_terms(
     alloc: Global,
     bank: &mut Bank,
     classes: &Classes,
     contract: Contract<'_>,
-    before: TermId,
-    after: TermId,
-    arguments: &[TermId],
+    run: Run<'_>,
     outside: &[TermId],
 ) -> Result<CallTerms, AllocError>
     requires limit { length (view.classes classes.now) ≤ most_classes }
-    requires before { HasTerm bank.old before }
-    requires after { HasTerm bank.old after }
-    requires arguments { HasTerms bank.old arguments.now }
+    requires before { HasTerm bank.old run.before }
+    requires after { HasTerm bank.old run.after }
+    requires arguments { HasTerms bank.old run.arguments.now }
     requires outside { HasTerms bank.old outside.now }
-    ensures at { IfOk result (λ m. IsCall bank.new m (λ b. heaps.frame_terms (view.classes classes.now) (contract_of contract.entry) (term_at b before) (term_at b after) (ones_at b arguments.now) (terms_at b outside.now))) }
+    ensures at { IfOk result (λ m. IsCall bank.new m (λ b. heaps.frame_terms (view.classes classes.now) (contract_of contract.entry) (term_at b run.entry.before) (term_at b run.entry.after) (ones_at b run.entry.arguments.now) (terms_at b outside.now))) }
     ensures grown { IsGrown bank.old bank.new }
 {
-    let found = names_and_object(alloc, bank, classes, contract, before, arguments)?;
+    let found = names_and_object(alloc, bank, classes, contract, run.before, run.arguments)?;
     let owned = owned_terms(alloc, classes, contract.body, found.1)?;
-    let captured = captured_terms(alloc, contract.body, arguments)?;
+    let captured = captured_terms(alloc, contract.body, run.arguments)?;
     let outside = Vec::from_slice(alloc, outside)?;
     Ok(CallTerms {
-        before,
-        after,
+        before: run.before,
+        after: run.after,
         named: found.0,
         captured,
         owned,
@@ -116,36 +116,25 @@ fn kept(alloc: Global, bank: &mut Bank, core: &Core, m: &CallTerms) -> Result<Fo
     ss_frames::kept(alloc, bank, core, m)
 }
 
-/// The frame condition of a body with this contract: no more has changed than it may change.
+/// The frame condition of a run of a body with this contract: no more has changed than it may change.
 pub fn frame(
     alloc: Global,
     bank: &mut Bank,
     core: &Core,
     contract: Contract<'_>,
-    before: TermId,
-    after: TermId,
-    arguments: &[TermId],
+    run: Run<'_>,
     outside: &[TermId],
 ) -> Result<FormulaId, AllocError>
     requires bank { IsBankOf (view.classes core.now.classes) bank.old }
     requires limits { IsWithinLimits (view.classes core.now.classes) }
-    requires before { HasTerm bank.old before }
-    requires after { HasTerm bank.old after }
-    requires arguments { HasTerms bank.old arguments.now }
+    requires before { HasTerm bank.old run.before }
+    requires after { HasTerm bank.old run.after }
+    requires arguments { HasTerms bank.old run.arguments.now }
     requires outside { HasTerms bank.old outside.now }
-    ensures at { IfOk result (λ f. IsFormula bank.new f (λ b. logic.kept (view.classes core.now.classes) (heaps.frame_terms (view.classes core.now.classes) (contract_of contract.entry) (term_at b before) (term_at b after) (ones_at b arguments.now) (terms_at b outside.now)))) }
+    ensures at { IfOk result (λ f. IsFormula bank.new f (λ b. logic.kept (view.classes core.now.classes) (heaps.frame_terms (view.classes core.now.classes) (contract_of contract.entry) (term_at b run.entry.before) (term_at b run.entry.after) (ones_at b run.entry.arguments.now) (terms_at b outside.now)))) }
     ensures grown { IsGrown bank.old bank.new }
 {
-    let m = frame_terms(
-        alloc,
-        bank,
-        &core.classes,
-        contract,
-        before,
-        after,
-        arguments,
-        outside,
-    )?;
+    let m = frame_terms(alloc, bank, &core.classes, contract, run, outside)?;
     kept(alloc, bank, core, &m)
 }
 

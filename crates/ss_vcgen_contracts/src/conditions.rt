@@ -13,7 +13,7 @@ ghost use Rattle.ss_vcgen_contracts.specs.Seen.{is_level, is_at_level, condition
 ghost use Rattle.ss_vcgen_contracts.specs.Views.{contract_of, ones_at};
 
 use crate::contexts::{contract_context, no_result};
-use crate::contract::Contract;
+use crate::contract::{Contract, Run};
 use ss_core::{Classes, DefaultCondition, Expr};
 use ss_terms::{Bank, FormulaId, TermId};
 use ss_vcgen_defaults::default_said;
@@ -157,37 +157,36 @@ pub fn entry_conditions(
     ensures grown { IsGrown bank.old bank.new }
 {
     let results = no_result(alloc, bank, contract.body)?;
-    let context = contract_context(
-        alloc, bank, classes, contract, store, store, arguments, &results,
-    )?;
+    let run = Run {
+        before: store,
+        after: store,
+        arguments,
+    };
+    let context = contract_context(alloc, bank, classes, contract, run, &results)?;
     let made = all_conditions(alloc, bank, &context, contract.seen, &contract.body.entry)?;
     Ok(made)
 }
 
-/// The conditions at exit, in this store, where it was the other one at entry, with these arguments and this result.
+/// The conditions at exit, behind a run with this result.
 pub fn exit_conditions(
     alloc: Global,
     bank: &mut Bank,
     classes: &Classes,
     contract: Contract<'_>,
-    store: TermId,
-    entry: TermId,
-    arguments: &[TermId],
+    run: Run<'_>,
     results: &[TermId],
 ) -> Result<Vec<FormulaId>, AllocError>
     requires limit { length (view.classes classes.now) ≤ most_classes }
-    requires store { HasTerm bank.old store }
-    requires entry { HasTerm bank.old entry }
-    requires arguments { HasTerms bank.old arguments.now }
+    requires before { HasTerm bank.old run.before }
+    requires after { HasTerm bank.old run.after }
+    requires arguments { HasTerms bank.old run.arguments.now }
     requires results { HasTerms bank.old results.now }
     ensures at { IfOk result (λ v. AreFormulas bank.new v.items (λ b.
         let callee = contract_of contract.entry in
-        heaps.conditions callee.exit (heaps.contract_context (view.classes classes.now) callee (term_at b store) (term_at b entry) (ones_at b arguments.now) (ones_at b results.now)))) }
+        heaps.conditions callee.exit (heaps.contract_context (view.classes classes.now) callee (term_at b run.entry.after) (term_at b run.entry.before) (ones_at b run.entry.arguments.now) (ones_at b results.now)))) }
     ensures grown { IsGrown bank.old bank.new }
 {
-    let context = contract_context(
-        alloc, bank, classes, contract, store, entry, arguments, results,
-    )?;
+    let context = contract_context(alloc, bank, classes, contract, run, results)?;
     let made = all_conditions(alloc, bank, &context, contract.seen, &contract.body.exit)?;
     Ok(made)
 }

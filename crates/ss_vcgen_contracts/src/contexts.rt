@@ -11,11 +11,11 @@ ghost use Rattle.ss_vcgen_express.specs.Numbers.{IsTerm};
 ghost use Rattle.ss_vcgen_heaps.specs.Contracts as heaps;
 ghost use Rattle.ss_vcgen_contracts.specs.Views.{contract_of, ones_at, AreOnes, IsContext};
 
-use crate::contract::Contract;
+use crate::contract::{Contract, Run};
 use ss_core::{Body, Classes, Local, Ty};
 use ss_terms::{Bank, Symbol, TermId};
 use ss_vcgen_express::Context;
-use ss_vcgen_known::local_types;
+use ss_vcgen_types::local_types;
 use std::alloc::{AllocError, Global};
 
 // What a local of the type is at an entry.
@@ -90,32 +90,29 @@ fn locals_of(
     Ok(terms)
 }
 
-/// Where the conditions of a contract stand between these stores, with these arguments and this result. The other locals are as at an
-/// entry.
+/// Where the conditions of a contract stand at the end of a run with this result. The other locals are as at an entry.
 pub fn contract_context<'p>(
     alloc: Global,
     bank: &mut Bank,
     classes: &'p Classes,
     contract: Contract<'_>,
-    now: TermId,
-    entry: TermId,
-    arguments: &[TermId],
+    run: Run<'_>,
     results: &[TermId],
 ) -> Result<Context<'p>, AllocError>
     requires limit { length (view.classes classes.now) ≤ most_classes }
-    requires now { HasTerm bank.old now }
-    requires entry { HasTerm bank.old entry }
-    requires arguments { HasTerms bank.old arguments.now }
+    requires before { HasTerm bank.old run.before }
+    requires after { HasTerm bank.old run.after }
+    requires arguments { HasTerms bank.old run.arguments.now }
     requires results { HasTerms bank.old results.now }
-    ensures at { IfOk result (λ s. IsContext bank.new s (λ b. heaps.contract_context (view.classes classes.now) (contract_of contract.entry) (term_at b now) (term_at b entry) (ones_at b arguments.now) (ones_at b results.now))) }
+    ensures at { IfOk result (λ s. IsContext bank.new s (λ b. heaps.contract_context (view.classes classes.now) (contract_of contract.entry) (term_at b run.entry.after) (term_at b run.entry.before) (ones_at b run.entry.arguments.now) (ones_at b results.now))) }
     ensures grown { IsGrown bank.old bank.new }
 {
-    let locals = locals_of(alloc, bank, contract.body, arguments, results)?;
+    let locals = locals_of(alloc, bank, contract.body, run.arguments, results)?;
     let types = local_types(alloc, contract.body)?;
     Ok(Context {
         classes,
-        now,
-        entry,
+        now: run.after,
+        entry: run.before,
         inside_old: false,
         types,
         locals,

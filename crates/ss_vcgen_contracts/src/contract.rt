@@ -7,13 +7,22 @@ ghost use Rattle.ss_vcgen_heaps.specs.Contracts.{called};
 ghost use Rattle.ss_vcgen_contracts.specs.Views.{contract_of, is_dispatched};
 
 use ss_core::{Body, Callee, Core};
-use ss_vcgen_known::callee_of;
+use ss_terms::TermId;
+use ss_vcgen_types::callee_of;
 
 /// The contract of a body, as it stands, or as it is seen where the call is dispatched on the object's own class.
 #[derive(Clone, Copy)]
 pub struct Contract<'p> {
     pub body: &'p Body,
     pub seen: bool,
+}
+
+/// A run of a body: the store at its entry, a later store, and its arguments.
+#[derive(Clone, Copy)]
+pub struct Run<'a> {
+    pub before: TermId,
+    pub after: TermId,
+    pub arguments: &'a [TermId],
 }
 
 // The contract of a body, where there is one.

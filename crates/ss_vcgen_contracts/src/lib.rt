@@ -12,5 +12,5 @@ mod typed;
 pub use changes::{frame, frame_terms, grown};
 pub use conditions::{entry_conditions, exit_conditions};
 pub use contexts::contract_context;
-pub use contract::{Contract, called};
+pub use contract::{Contract, Run, called};
 pub use typed::is_of_type;

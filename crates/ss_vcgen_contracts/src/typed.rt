@@ -12,6 +12,14 @@ use ss_rules_plans::{Claim, Clause, Plan, Slot, fill};
 use ss_terms::{Bank, FormulaId, Predicate, Symbol, TermId};
 use std::alloc::{AllocError, Global};
 
+// A value in a store, and whether it has to be ready there.
+#[derive(Clone, Copy)]
+struct StoredValue {
+    store: TermId,
+    value: TermId,
+    asks_ready: bool,
+}
+
 // A whole number of 32 bits.
 fn fits_int(alloc: Global, bank: &mut Bank, x: TermId) -> Result<FormulaId, AllocError>
     requires { HasTerm bank.old x }
@@ -34,25 +42,23 @@ fn fits_int(alloc: Global, bank: &mut Bank, x: TermId) -> Result<FormulaId, Allo
 fn is_object(
     alloc: Global,
     bank: &mut Bank,
-    asks_ready: bool,
-    store: TermId,
+    x: StoredValue,
     class: u16,
-    x: TermId,
 ) -> Result<FormulaId, AllocError>
-    requires store { HasTerm bank.old store }
-    requires value { HasTerm bank.old x }
-    ensures at { IfOk result (λ f. IsFormula bank.new f (λ b. and_of (heaps.is_object asks_ready (term_at b store) class (term_at b x)))) }
+    requires store { HasTerm bank.old x.store }
+    requires value { HasTerm bank.old x.value }
+    ensures at { IfOk result (λ f. IsFormula bank.new f (λ b. and_of (heaps.is_object x.asks_ready (term_at b x.store) class (term_at b x.value)))) }
     ensures grown { IsGrown bank.old bank.new }
 {
-    let (s, x) = (Slot::Known(store), Slot::Known(x));
+    let (s, object) = (Slot::Known(x.store), Slot::Known(x.value));
     let plans = [
-        Plan::One(Symbol::TypeOf, x),
+        Plan::One(Symbol::TypeOf, object),
         Plan::Leaf(Symbol::ClassName(class)),
     ];
     let of_class = Clause::Fact(Claim::Is(Predicate::Sub, Slot::Made(0), Slot::Made(1)));
-    let is_there = Clause::Fact(Claim::Is(Predicate::Allocated, s, x));
-    if asks_ready {
-        let is_ready = Clause::Fact(Claim::Is(Predicate::Ready, s, x));
+    let is_there = Clause::Fact(Claim::Is(Predicate::Allocated, s, object));
+    if x.asks_ready {
+        let is_ready = Clause::Fact(Claim::Is(Predicate::Ready, s, object));
         fill(alloc, bank, &plans, &[of_class, is_there, is_ready])
     } else {
         fill(alloc, bank, &plans, &[of_class, is_there])
@@ -63,27 +69,25 @@ fn is_object(
 fn is_some_object(
     alloc: Global,
     bank: &mut Bank,
-    asks_ready: bool,
-    store: TermId,
+    x: StoredValue,
     class: u16,
-    x: TermId,
 ) -> Result<FormulaId, AllocError>
-    requires store { HasTerm bank.old store }
-    requires value { HasTerm bank.old x }
-    ensures at { IfOk result (λ f. IsFormula bank.new f (λ b. and_of (differ (term_at b x) null_term ∷ heaps.is_object asks_ready (term_at b store) class (term_at b x)))) }
+    requires store { HasTerm bank.old x.store }
+    requires value { HasTerm bank.old x.value }
+    ensures at { IfOk result (λ f. IsFormula bank.new f (λ b. and_of (differ (term_at b x.value) null_term ∷ heaps.is_object x.asks_ready (term_at b x.store) class (term_at b x.value)))) }
     ensures grown { IsGrown bank.old bank.new }
 {
-    let (s, x) = (Slot::Known(store), Slot::Known(x));
+    let (s, object) = (Slot::Known(x.store), Slot::Known(x.value));
     let plans = [
-        Plan::One(Symbol::TypeOf, x),
+        Plan::One(Symbol::TypeOf, object),
         Plan::Leaf(Symbol::ClassName(class)),
         Plan::Leaf(Symbol::Null),
     ];
-    let not_null = Clause::Fact(Claim::Not(Predicate::Equal, x, Slot::Made(2)));
+    let not_null = Clause::Fact(Claim::Not(Predicate::Equal, object, Slot::Made(2)));
     let of_class = Clause::Fact(Claim::Is(Predicate::Sub, Slot::Made(0), Slot::Made(1)));
-    let is_there = Clause::Fact(Claim::Is(Predicate::Allocated, s, x));
-    if asks_ready {
-        let is_ready = Clause::Fact(Claim::Is(Predicate::Ready, s, x));
+    let is_there = Clause::Fact(Claim::Is(Predicate::Allocated, s, object));
+    if x.asks_ready {
+        let is_ready = Clause::Fact(Claim::Is(Predicate::Ready, s, object));
         fill(
             alloc,
             bank,
@@ -109,18 +113,16 @@ fn is_null(bank: &mut Bank, x: TermId) -> Result<FormulaId, AllocError>
 fn is_reference(
     alloc: Global,
     bank: &mut Bank,
-    asks_ready: bool,
-    store: TermId,
+    x: StoredValue,
     class: u16,
-    x: TermId,
 ) -> Result<FormulaId, AllocError>
-    requires store { HasTerm bank.old store }
-    requires value { HasTerm bank.old x }
-    ensures at { IfOk result (λ f. IsFormula bank.new f (λ b. or_of (equal (term_at b x) null_term ∷ and_of (heaps.is_object asks_ready (term_at b store) class (term_at b x)) ∷ []))) }
+    requires store { HasTerm bank.old x.store }
+    requires value { HasTerm bank.old x.value }
+    ensures at { IfOk result (λ f. IsFormula bank.new f (λ b. or_of (equal (term_at b x.value) null_term ∷ and_of (heaps.is_object x.asks_ready (term_at b x.store) class (term_at b x.value)) ∷ []))) }
     ensures grown { IsGrown bank.old bank.new }
 {
-    let null = is_null(bank, x)?;
-    let object = is_object(alloc, bank, asks_ready, store, class, x)?;
+    let null = is_null(bank, x.value)?;
+    let object = is_object(alloc, bank, x, class)?;
     bank.or(&[null, object])
 }
 
@@ -128,23 +130,21 @@ fn is_reference(
 fn is_typed(
     alloc: Global,
     bank: &mut Bank,
-    asks_ready: bool,
-    store: TermId,
+    x: StoredValue,
     class: ClassId,
     non_null: bool,
-    x: TermId,
 ) -> Result<FormulaId, AllocError>
-    requires store { HasTerm bank.old store }
-    requires value { HasTerm bank.old x }
+    requires store { HasTerm bank.old x.store }
+    requires value { HasTerm bank.old x.value }
     ensures at { IfOk result (λ f. IsFormula bank.new f (λ b.
-        if non_null then and_of (differ (term_at b x) null_term ∷ heaps.is_object asks_ready (term_at b store) class.0 (term_at b x))
-        else or_of (equal (term_at b x) null_term ∷ and_of (heaps.is_object asks_ready (term_at b store) class.0 (term_at b x)) ∷ []))) }
+        if non_null then and_of (differ (term_at b x.value) null_term ∷ heaps.is_object x.asks_ready (term_at b x.store) class.0 (term_at b x.value))
+        else or_of (equal (term_at b x.value) null_term ∷ and_of (heaps.is_object x.asks_ready (term_at b x.store) class.0 (term_at b x.value)) ∷ []))) }
     ensures grown { IsGrown bank.old bank.new }
 {
     if non_null {
-        is_some_object(alloc, bank, asks_ready, store, class.0, x)
+        is_some_object(alloc, bank, x, class.0)
     } else {
-        is_reference(alloc, bank, asks_ready, store, class.0, x)
+        is_reference(alloc, bank, x, class.0)
     }
 }
 
@@ -152,28 +152,26 @@ fn is_typed(
 fn asked(
     alloc: Global,
     bank: &mut Bank,
-    asks_ready: bool,
-    store: TermId,
+    x: StoredValue,
     ty: Ty,
-    x: TermId,
 ) -> Result<Option<FormulaId>, AllocError>
-    requires store { HasTerm bank.old store }
-    requires value { HasTerm bank.old x }
-    ensures at { IfOk result (λ o. AreFormulas bank.new (option_to_list o) (λ b. heaps.is_of_type asks_ready (term_at b store) ty (term_at b x))) }
+    requires store { HasTerm bank.old x.store }
+    requires value { HasTerm bank.old x.value }
+    ensures at { IfOk result (λ o. AreFormulas bank.new (option_to_list o) (λ b. heaps.is_of_type x.asks_ready (term_at b x.store) ty (term_at b x.value))) }
     ensures grown { IsGrown bank.old bank.new }
 {
     match ty {
         Ty::Int => {
-            let f = fits_int(alloc, bank, x)?;
+            let f = fits_int(alloc, bank, x.value)?;
             Ok(Some(f))
         }
         Ty::Bool => Ok(None),
         Ty::Null => {
-            let f = is_null(bank, x)?;
+            let f = is_null(bank, x.value)?;
             Ok(Some(f))
         }
         Ty::Ref { class, non_null } => {
-            let f = is_typed(alloc, bank, asks_ready, store, class, non_null, x)?;
+            let f = is_typed(alloc, bank, x, class, non_null)?;
             Ok(Some(f))
         }
     }
@@ -193,8 +191,13 @@ pub fn is_of_type(
     ensures at { IfOk result (λ v. AreFormulas bank.new v.items (λ b. heaps.is_of_type asks_ready (term_at b store) ty (term_at b value))) }
     ensures grown { IsGrown bank.old bank.new }
 {
+    let x = StoredValue {
+        store,
+        value,
+        asks_ready,
+    };
     let mut list = Vec::new(alloc);
-    if let Some(f) = asked(alloc, bank, asks_ready, store, ty, value)? {
+    if let Some(f) = asked(alloc, bank, x, ty)? {
         list.push(f)?;
     }
     Ok(list)

@@ -14,8 +14,9 @@ use ss_core::Expr;
 use ss_terms::FormulaId;
 use ss_vcgen_builder::{Builder, Walk};
 use ss_vcgen_express::Meant;
-use ss_vcgen_known::{Tests, TypeContext};
-use ss_vcgen_walk::{NullContext, Part, express, holds};
+use ss_vcgen_known::Tests;
+use ss_vcgen_types::TypeContext;
+use ss_vcgen_walk::{NullContext, Part, ReadingContext, express, holds};
 use std::alloc::AllocError;
 
 // A part is checked, unless it holds by the types.
@@ -68,7 +69,12 @@ fn expressed(
         known: &builder.known,
         tests: &tests,
     };
-    express(builder.alloc, &mut builder.bank, &nulls, &context, parts, e)
+    let reading = ReadingContext {
+        alloc: builder.alloc,
+        nulls: &nulls,
+        expression: &context,
+    };
+    express(&mut builder.bank, &reading, parts, e)
 }
 
 /// What an expression means at the position; nothing is checked.

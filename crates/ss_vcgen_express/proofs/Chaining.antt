@@ -4,6 +4,7 @@ use Rattle.std.specs.Prelude.{IfOk}
 use Rattle.std.proofs.lemmas.List.{map_push}
 use Rattle.ss_logic.specs.Formulas.{Formula, Literal, And, Or, Forall, Exists, formulas_from, formula_list}
 use Rattle.ss_logic_express.specs.Express as spec
+use Rattle.ss_terms.specs.Lists.{SmallVec}
 use Rattle.ss_terms.specs.declared.forms.FormulaId.{FormulaId}
 use Rattle.ss_terms.specs.declared.forms.Formula.TheVariants as form
 use Rattle.ss_terms.specs.declared.forms.Formula.{Formula as Form}
@@ -21,7 +22,7 @@ list_back [] = refl
 list_back (f ∷ fs) = ap (λ gs. f ∷ gs) (list_back fs)
 
 -- the parts of an `and` or an `or` that the bank has
-module _ (b : Forms) (f : FormulaId) (n : Form) (parts : Vec FormulaId Global) (node : IsFormulaForm b f n) (within : HasFormula b f) where
+module _ (b : Forms) (f : FormulaId) (n : Form) (parts : SmallVec FormulaId) (node : IsFormulaForm b f n) (within : HasFormula b f) where
   pub and_within : n ≡ form.And parts → HasFormulas b parts.items
   and_within is = AreBelow-more f.0 (length b.formulas * 2) (omega arith) parts.items (rw is at node.below)
 

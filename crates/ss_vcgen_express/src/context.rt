@@ -11,8 +11,8 @@ use ss_core::{Classes, Ty};
 use ss_terms::{Bank, TermId};
 use std::alloc::AllocError;
 
-/// The context of an expression: the classes, the stores now and at the entry of the body, whether it stands inside `old`, the types
-/// and terms of the locals, past which stand those of the bound names, and how many of these there are.
+/// The context of an expression: the classes, the stores now and at the entry of the body, and whether it stands inside `old`.
+/// Also the types and terms of the locals, past which stand those of the bound names, and how many of these there are.
 #[derive(Drop)]
 pub struct Context<'p> {
     pub classes: &'p Classes,

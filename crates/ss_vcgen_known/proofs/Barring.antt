@@ -2,8 +2,8 @@
 use Rattle.std.proofs.Common.{◌≡◌, Bool, true, false, List, [], ◌∷◌, Option, None, refl, ap, ◌∙◌}
 use Rattle.std.specs.Prelude.{◌||◌, not, if◌then◌else◌}
 use Rattle.ss_store_rules.specs.NonNull.{Facts, both, Known}
-use Rattle.ss_vcgen_known.specs.declared.told.Told.{Told}
-use Rattle.ss_vcgen_known.specs.Told.{all_facts, tells_of, all_tell, with_told}
+use Rattle.ss_vcgen_types.specs.declared.told.Told.{Told}
+use Rattle.ss_vcgen_types.specs.Told.{all_facts, tells_of, all_tell, with_told}
 use Rattle.ss_vcgen_known.specs.Steps.{barred_by, all_barred}
 
 barred_one : (a b : Bool) (f : Option Facts) → (if b then None else (if a then None else f)) ≡ (if a || b then None else f)

@@ -1,16 +1,9 @@
-pub mod Lookups
-pub mod Grouping
-pub mod Forms
-pub mod Telling
 pub mod Listing
-pub mod Walking
 pub mod Setting
 pub mod Barring
 pub mod Forgetting
 pub mod Meeting
 pub mod Assigning
-pub mod Ending
 pub mod Stepping
 pub mod Giving
 pub mod Fronting
-pub mod Arrays

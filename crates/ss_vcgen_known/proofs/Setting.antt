@@ -5,12 +5,12 @@ use Rattle.std.specs.Bool.{beq}
 use Rattle.std.proofs.lemmas.Bool.{cases_eq, eq-eqb, ne_eqb}
 use Rattle.ss_paths.specs.Sets.{put, none}
 use Rattle.ss_store_rules.specs.NonNull.{Facts, Known, with_local}
-use Rattle.ss_vcgen_known.specs.declared.told.Told.TheVariants as told
+use Rattle.ss_vcgen_types.specs.declared.told.Told.TheVariants as told
 use Rattle.ss_vcgen_known.specs.Pairs.{Pair, side, alike, barred}
 use Rattle.ss_vcgen_known.specs.Sets.{without, pair_without, at}
 use Rattle.ss_vcgen_known.specs.Steps.{with_said, with_sides, barred_by}
 use Rattle.ss_vcgen_known.proofs.Listing.{at_set, at_past, at_more, at_without}
-use Rattle.ss_vcgen_known.proofs.Grouping.{map_more}
+use Rattle.ss_vcgen_types.proofs.Grouping.{map_more}
 
 -- the sides of one local are these
 abbrev pub with_pair : ℕ → Pair → Known → Known

@@ -4,9 +4,9 @@ use Rattle.ss_core.specs.declared.names.Place.{Place}
 use Rattle.ss_core.specs.declared.expr.Step.{Step}
 use Rattle.ss_core.specs.Tree.{ExprTree}
 use Rattle.ss_store_rules.specs.NonNull.{is_this_object}
-use Rattle.ss_vcgen_known.specs.Fronts.{step_behind, path_front}
-use Rattle.ss_vcgen_known.proofs.Grouping.{path_all, path_next, path_whole}
-use Rattle.ss_vcgen_known.proofs.Forms.{step_not_this}
+use Rattle.ss_vcgen_types.specs.Fronts.{step_behind, path_front}
+use Rattle.ss_vcgen_types.proofs.Grouping.{path_all, path_next, path_whole}
+use Rattle.ss_vcgen_types.proofs.Forms.{step_not_this}
 
 -- a path with a step isn't `this`
 pub first_steps : (p : Place) (e : ExprTree) (ss : List Step) (n : ℕ) → 0 < n → n ≤ length ss → is_this_object (path_front p e (take n ss)) ≡ false

@@ -1,9 +1,6 @@
 pub mod Assigns
-pub mod Fronts
-pub mod Names
 pub mod Pairs
 pub mod Sets
 pub mod Steps
 pub mod TellsFront
-pub mod Told
 pub mod Views

@@ -3,9 +3,9 @@ use Rattle.std.specs.Prelude.{ℕ, List, [], ◌∷◌, Bool, true, false, not, 
 use Rattle.ss_core.specs.Tree.{ExprTree}
 use Rattle.ss_store_rules.specs.Admissible.{is_this}
 use Rattle.ss_store_rules.specs.NonNull.{Facts, no_facts, Known, at_this_end, side_met, with_local}
-use Rattle.ss_vcgen_known.specs.declared.told.Told.{Told}
+use Rattle.ss_vcgen_types.specs.declared.told.Told.{Told}
 use Rattle.ss_vcgen_known.specs.Pairs.{Pair, side}
-use Rattle.ss_vcgen_known.specs.Told.{tells_of}
+use Rattle.ss_vcgen_types.specs.Told.{tells_of}
 
 abbrev pub facts_met : Facts → Facts → Facts
 facts_met f g x = f x && g x

@@ -3,7 +3,7 @@ use Rattle.std.specs.Prelude.{ℕ, map, Bool, option_map}
 use Rattle.ss_bit_set.specs.Marked.{marked}
 use Rattle.ss_core.specs.View.{classes}
 use Rattle.ss_store_rules.specs.NonNull as spec
-use Rattle.ss_vcgen_known.specs.declared.type_context.TypeContext.{TypeContext}
+use Rattle.ss_vcgen_types.specs.declared.type_context.TypeContext.{TypeContext}
 use Rattle.ss_vcgen_known.specs.declared.sides.Sides.{Sides}
 use Rattle.ss_vcgen_known.specs.declared.fields.Fields.{Fields}
 use Rattle.ss_vcgen_known.specs.declared.known.Known.{Known}
@@ -13,7 +13,7 @@ use Rattle.ss_vcgen_known.specs.declared.tests.Tests.TheOpen as shape
 use Rattle.ss_vcgen_known.specs.declared.tests.Tests.TheOpen.{Tests-F}
 use Rattle.ss_vcgen_known.specs.Pairs.{Pair, side, alike}
 use Rattle.ss_vcgen_known.specs.Sets.{at}
-use Rattle.ss_vcgen_known.specs.Told.{with_told}
+use Rattle.ss_vcgen_types.specs.Told.{with_told}
 
 -- the context in which an expression has its type
 abbrev pub type_context_of : TypeContext → spec.Site

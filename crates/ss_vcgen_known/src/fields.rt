@@ -6,8 +6,8 @@ ghost use Rattle.ss_core.specs.View.{classes};
 ghost use Rattle.ss_store_rules.specs.Changes.{field_class};
 ghost use Rattle.ss_vcgen_known.specs.Views.{fields_of};
 
-use crate::types::field_class;
 use ss_core::{ClassId, Classes, FieldId};
+use ss_vcgen_types::field_class;
 use std::alloc::{AllocError, Global};
 
 /// A set of fields: for each number below the length of the list, whether it is in the set, and whether all others are.

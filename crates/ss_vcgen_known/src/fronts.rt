@@ -5,14 +5,13 @@ ghost use Rattle.ss_core.specs.declared.names.Place.{Place as PlaceValue};
 ghost use Rattle.ss_core.specs.Tree.{ExprTree};
 ghost use Rattle.ss_core.specs.View.{expr};
 ghost use Rattle.ss_store_rules.specs.NonNull as spec;
-ghost use Rattle.ss_vcgen_known.specs.Fronts.{link_behind};
+ghost use Rattle.ss_vcgen_types.specs.Fronts.{link_behind};
 ghost use Rattle.ss_vcgen_known.specs.TellsFront.{TellsFront};
 ghost use Rattle.ss_vcgen_known.specs.Views.{tested};
 
-use crate::atoms::local_of;
 use crate::tests::Tests;
-use crate::told::{Told, tell_link, told_by};
 use ss_core::{Expr, Link, Operator};
+use ss_vcgen_types::{Told, local_of, tell_link, told_by};
 use std::alloc::{AllocError, Global};
 
 /// What the front of a chain tells where it is true, and where it is false.

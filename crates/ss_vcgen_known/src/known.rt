@@ -11,22 +11,19 @@ ghost use Rattle.ss_store_rules.specs.NonNull as spec;
 ghost use Rattle.ss_store_rules.specs.Typed as typed;
 ghost use Rattle.ss_vcgen_known.specs.Sets.{pair_without, below};
 ghost use Rattle.ss_vcgen_known.specs.Steps.{met_pair, facts_met, with_said, with_sides, with_fields, written, barred_by, all_barred, forgotten};
-ghost use Rattle.ss_vcgen_known.specs.Told.{facts_of, all_facts, with_told};
+ghost use Rattle.ss_vcgen_types.specs.Told.{facts_of, all_facts, with_told};
 ghost use Rattle.ss_vcgen_known.specs.Views.{pair_of, known_of};
 
 use crate::assigns::assigned;
-use crate::atoms::is_this;
-use crate::bodies::callee_of;
+use crate::body_context::BodyContext;
 use crate::facts::{end_of, is_empty, join, joined, side_met, without};
 use crate::fields::{Fields, larger};
 use crate::never_null::is_never_null;
 use crate::sides::Sides;
 use crate::tests::Tests;
-use crate::told::{Told, told_by};
-use crate::type_context::TypeContext;
-use crate::types::is_non_null_type;
 use ss_bit_set::BitSet;
 use ss_core::{Body, Callee, Core, Expr, FieldId, Stmt, Ty};
+use ss_vcgen_types::{Told, TypeContext, callee_of, is_non_null_type, is_this, told_by};
 use std::alloc::{AllocError, Global};
 
 /// What is known at a place of a body: which locals aren't null, and what follows where a local is true or false. In a constructor also
@@ -300,20 +297,18 @@ impl Known {
     fn assign(
         &mut self,
         alloc: Global,
-        core: &Core,
-        body: &Body,
-        types: &[Ty],
+        context: BodyContext<'_>,
         x: usize,
         e: &Expr,
     ) -> Result<(), AllocError>
-        requires limit { length (view.classes core.now.classes) ≤ most_classes }
-        requires types { types.now ≡ local_types (view.body body.now) }
-        ensures { IfOk result (λ u. known_of self.new ≡ spec.with_local x (spec.is_never_null (spec.site_of (view.core core.now) (view.body body.now)) (known_of self.old) false (view.expr e.now)) (spec.learned (known_of self.old) (view.expr e.now)) (known_of self.old)) }
+        requires limit { length (view.classes context.core.now.classes) ≤ most_classes }
+        requires types { context.types.now ≡ local_types (view.body context.body.now) }
+        ensures { IfOk result (λ u. known_of self.new ≡ spec.with_local x (spec.is_never_null (spec.site_of (view.core context.entry.core.now) (view.body context.entry.body.now)) (known_of self.old) false (view.expr e.now)) (spec.learned (known_of self.old) (view.expr e.now)) (known_of self.old)) }
     {
         let typing = TypeContext {
-            classes: &core.classes,
-            types,
-            constructs: body.flags.ctor,
+            classes: &context.core.classes,
+            types: context.types,
+            constructs: context.body.flags.ctor,
         };
         let non_null = is_never_null(typing, self, &Tests::Nothing, false, e);
         let holds = self.says(alloc, e, true)?;
@@ -411,21 +406,21 @@ impl Known {
     pub fn step(
         &mut self,
         alloc: Global,
-        core: &Core,
-        body: &Body,
-        types: &[Ty],
+        context: BodyContext<'_>,
         stmt: &Stmt,
     ) -> Result<(), AllocError>
-        requires limit { length (view.classes core.now.classes) ≤ most_classes }
-        requires types { types.now ≡ local_types (view.body body.now) }
-        ensures { IfOk result (λ u. known_of self.new ≡ spec.known_after (view.core core.now) (view.body body.now) (view.stmt_of stmt.now) (known_of self.old)) }
+        requires limit { length (view.classes context.core.now.classes) ≤ most_classes }
+        requires types { context.types.now ≡ local_types (view.body context.body.now) }
+        ensures { IfOk result (λ u. known_of self.new ≡ spec.known_after (view.core context.entry.core.now) (view.body context.entry.body.now) (view.stmt_of stmt.now) (known_of self.old)) }
     {
         match stmt {
-            Stmt::Assign(_, x, e) => self.assign(alloc, core, body, types, *x, e),
+            Stmt::Assign(_, x, e) => self.assign(alloc, context, *x, e),
             Stmt::Write { object, field, .. } => self.write(object, *field),
             Stmt::New(_, x, _, _) => self.keep(alloc, *x, true),
             Stmt::NewArray(_, x, _, _) => self.keep(alloc, *x, true),
-            Stmt::Call(_, x, callee, _) => self.call(alloc, core, body, *x, callee),
+            Stmt::Call(_, x, callee, _) => {
+                self.call(alloc, context.core, context.body, *x, callee)
+            }
             Stmt::Ready(_) => {
                 self.give_all(alloc);
                 Ok(())

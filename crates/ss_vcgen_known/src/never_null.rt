@@ -6,14 +6,13 @@ ghost use Rattle.ss_core.specs.Chain.{most_classes};
 ghost use Rattle.ss_core.specs.Tree.{ExprTree, FieldExpr};
 ghost use Rattle.ss_core.specs.View.{classes, expr};
 ghost use Rattle.ss_store_rules.specs.NonNull.{is_non_null_type, is_this_object, is_never_null};
-ghost use Rattle.ss_vcgen_known.specs.Fronts.{link_behind, step_behind, chain_front, path_front};
+ghost use Rattle.ss_vcgen_types.specs.Fronts.{link_behind, step_behind, chain_front, path_front};
 ghost use Rattle.ss_vcgen_known.specs.Views.{type_context_of, known_of, tested};
 
 use crate::known::Known;
 use crate::tests::{Tests, has_field, knows};
-use crate::type_context::TypeContext;
-use crate::types::{field_type, is_non_null, is_non_null_type};
-use ss_core::{Expr, FieldId, Link, Step, Ty};
+use ss_core::{Expr, FieldId, Link, Step, Ty, is_non_null};
+use ss_vcgen_types::{TypeContext, field_type, is_non_null_type};
 
 // Whether the expression is `this`, or `this` as another class.
 pub fn is_this_object(e: &Expr) -> bool
@@ -111,13 +110,20 @@ fn step_never_null(
     }
 }
 
+// A path: what it begins with, and its steps.
+#[derive(Clone, Copy)]
+struct PathParts<'p> {
+    first: &'p Expr,
+    steps: &'p [Step],
+}
+
 // Whether a path with its first steps is `this`.
-fn front_is_this(first: &Expr, steps: &[Step], count: usize) -> bool
-    requires { count ≤ length steps.now }
-    ensures { (p : PlaceValue) → result ≡ is_this_object (path_front p (expr first.now) (take count steps.now)) }
+fn front_is_this(path: PathParts<'_>, count: usize) -> bool
+    requires { count ≤ length path.steps.now }
+    ensures { (p : PlaceValue) → result ≡ is_this_object (path_front p (expr path.entry.first.now) (take count path.entry.steps.now)) }
 {
     if count == 0 {
-        is_this_object(first)
+        is_this_object(path.first)
     } else {
         false
     }
@@ -129,15 +135,15 @@ fn steps_never_null(
     known: &Known,
     tests: &Tests<'_>,
     old: bool,
-    first: &Expr,
-    steps: &[Step],
+    path: PathParts<'_>,
     last: usize,
 ) -> bool
     requires limit { length (classes typing.classes.now) ≤ most_classes }
-    requires last { last + 1 ≡ length steps.now }
-    ensures { (p : PlaceValue) → result ≡ is_never_null (type_context_of typing.entry) (tested tests.now (known_of known.now)) old (path_front p (expr first.now) steps.now) }
+    requires last { last + 1 ≡ length path.steps.now }
+    ensures { (p : PlaceValue) → result ≡ is_never_null (type_context_of typing.entry) (tested tests.now (known_of known.now)) old (path_front p (expr path.entry.first.now) path.entry.steps.now) }
 {
-    let of_this = front_is_this(first, steps, last);
+    let steps = path.steps;
+    let of_this = front_is_this(path, last);
     step_never_null(typing, known, tests, old, of_this, &steps[last])
 }
 
@@ -190,7 +196,8 @@ pub fn path_never_null(
     if steps.is_empty() {
         is_never_null(typing, known, tests, old, first)
     } else {
-        steps_never_null(typing, known, tests, old, first, steps, steps.len() - 1)
+        let path = PathParts { first, steps };
+        steps_never_null(typing, known, tests, old, path, steps.len() - 1)
     }
 }
 

@@ -2,11 +2,11 @@
 
 ghost use Rattle.std.specs.Prelude.{◌≡◌};
 ghost use Rattle.ss_store_rules.specs.NonNull.{side_facts};
-ghost use Rattle.ss_vcgen_known.specs.Told.{facts_of, all_facts, tells_of, all_tell};
+ghost use Rattle.ss_vcgen_types.specs.Told.{facts_of, all_facts, tells_of, all_tell};
 ghost use Rattle.ss_vcgen_known.specs.Views.{known_of, tested};
 
 use crate::known::Known;
-use crate::told::Told;
+use ss_vcgen_types::Told;
 
 /// Tests that have come out on the way to an expression, by what each tells.
 #[derive(Clone, Copy)]

@@ -18,12 +18,11 @@ ghost use Rattle.ss_vcgen_builder.specs.Builder.{position_at, walk_at, IsFine, I
 ghost use Rattle.ss_vcgen_statements.specs.Words.{Stays, checked_unpack, checked_level, checked_invariants, full_where_owned};
 
 use crate::said::{applied_local, deny, deny_local, one_of, say, say_local};
-use ss_core::{ClassId, Expr, Kind, Place, Ty};
+use ss_core::{ClassId, Expr, Kind, Place, Ty, is_non_null};
 use ss_logic::Sort;
 use ss_terms::{FormulaId, Symbol, Term, TermId};
 use ss_vcgen_builder::{Builder, Walk};
 use ss_vcgen_express::{Context, Relation, Saying};
-use ss_vcgen_known::is_non_null;
 use ss_vcgen_walk::conditions;
 use std::alloc::AllocError;
 

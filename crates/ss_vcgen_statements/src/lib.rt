@@ -10,4 +10,4 @@ pub use said::{
     applied, applied_local, change_store, deny, deny_local, each_of, good, is_null, one_of, say,
     say_local,
 };
-pub use writes::{check_not_null, write, write_element};
+pub use writes::{ElementTarget, FieldTarget, check_not_null, write, write_element};

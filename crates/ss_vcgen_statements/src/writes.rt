@@ -16,8 +16,52 @@ use ss_core::{ClassId, Expr, FieldId, Kind, Mark, Place};
 use ss_terms::{FormulaId, Symbol, TermId};
 use ss_vcgen_builder::{Builder, Walk};
 use ss_vcgen_express::{Relation, Saying};
-use ss_vcgen_known::{Tests, TypeContext, is_never_null};
+use ss_vcgen_known::{Tests, is_never_null};
+use ss_vcgen_types::TypeContext;
 use std::alloc::AllocError;
+
+/// A field as the target of a write: the place of the write, the object, and the field with its mark and its class.
+#[derive(Clone, Copy)]
+pub struct FieldTarget<'a> {
+    pub place: Place,
+    pub object: &'a Expr,
+    pub field: FieldId,
+    pub mark: Mark,
+    pub class: ClassId,
+}
+
+impl<'a> FieldTarget<'a> {
+    /// The field of this object, at this place.
+    pub fn new(
+        place: Place,
+        object: &'a Expr,
+        field: FieldId,
+        mark: Mark,
+        class: ClassId,
+    ) -> FieldTarget<'a>
+        ensures place { result.place ≡ place }
+        ensures object { result.object.now ≡ object.now }
+        ensures field { result.field ≡ field }
+        ensures mark { result.mark ≡ mark }
+        ensures class { result.class ≡ class }
+    {
+        FieldTarget {
+            place,
+            object,
+            field,
+            mark,
+            class,
+        }
+    }
+}
+
+/// An element as the target of a write: the place of the write, the array and the index.
+#[derive(Clone, Copy)]
+pub struct ElementTarget<'a> {
+    pub place: Place,
+    pub array: &'a Expr,
+    pub index: &'a Expr,
+}
 
 /// The value isn't null, or the check is listed.
 pub fn check_not_null(
@@ -108,27 +152,25 @@ fn may_be_joined(builder: &mut Builder, o: TermId, v: TermId) -> Result<FormulaI
 fn check_owners(
     builder: &mut Builder,
     walk: &Walk<'_>,
-    at: Place,
-    mark: Mark,
+    target: &FieldTarget<'_>,
     o: TermId,
-    class: ClassId,
     v: TermId,
 ) -> Result<(), AllocError>
     requires fine { IsFine builder.old }
     requires object { HasTerm builder.old.bank o }
     requires value { HasTerm builder.old.bank v }
-    ensures { OnOk result (Becomes builder.old builder.new (λ b. spec.check_owners mark (walk_at b walk.now) at (term_at b o) class.0 (term_at b v) (position_at b builder.old))) }
+    ensures { OnOk result (Becomes builder.old builder.new (λ b. spec.check_owners target.now.mark (walk_at b walk.now) target.now.place (term_at b o) target.now.class.0 (term_at b v) (position_at b builder.old))) }
 {
-    match mark {
+    match target.mark {
         Mark::Plain => Ok(()),
         Mark::Rep => {
-            let f = may_be_owned(builder, o, class, v)?;
-            builder.check(walk, Kind::RepOwner, at, f)?;
+            let f = may_be_owned(builder, o, target.class, v)?;
+            builder.check(walk, Kind::RepOwner, target.place, f)?;
             Ok(())
         }
         Mark::Peer => {
             let f = may_be_joined(builder, o, v)?;
-            builder.check(walk, Kind::PeerOwner, at, f)?;
+            builder.check(walk, Kind::PeerOwner, target.place, f)?;
             Ok(())
         }
     }
@@ -160,10 +202,7 @@ fn owned_store(
 fn check_write(
     builder: &mut Builder,
     walk: &Walk<'_>,
-    at: Place,
-    e: &Expr,
-    mark: Mark,
-    class: ClassId,
+    target: &FieldTarget<'_>,
     o: TermId,
     v: TermId,
 ) -> Result<(), AllocError>
@@ -171,13 +210,13 @@ fn check_write(
     requires walk { IsWalk builder.old.bank walk.now }
     requires object { HasTerm builder.old.bank o }
     requires value { HasTerm builder.old.bank v }
-    ensures { OnOk result (Becomes builder.old builder.new (λ b. checked_write (walk_at b walk.now) at (expr e.now) mark class.0 (term_at b o) (term_at b v) (position_at b builder.old))) }
+    ensures { OnOk result (Becomes builder.old builder.new (λ b. checked_write (walk_at b walk.now) target.now.place (expr target.now.object.now) target.now.mark target.now.class.0 (term_at b o) (term_at b v) (position_at b builder.old))) }
 {
-    let packed = Saying::Packed(builder.store, class.0);
+    let packed = Saying::Packed(builder.store, target.class.0);
     let unpacked = deny(builder, packed, o)?;
-    check_not_null(builder, walk, at, e, o)?;
-    builder.check(walk, Kind::WriteLevel, at, unpacked)?;
-    check_owners(builder, walk, at, mark, o, class, v)?;
+    check_not_null(builder, walk, target.place, target.object, o)?;
+    builder.check(walk, Kind::WriteLevel, target.place, unpacked)?;
+    check_owners(builder, walk, target, o, v)?;
     Ok(())
 }
 
@@ -205,11 +244,7 @@ fn written_store(
 pub fn write(
     builder: &mut Builder,
     walk: &Walk<'_>,
-    at: Place,
-    e: &Expr,
-    field: FieldId,
-    mark: Mark,
-    class: ClassId,
+    target: &FieldTarget<'_>,
     o: TermId,
     v: TermId,
 ) -> Result<(), AllocError>
@@ -217,10 +252,10 @@ pub fn write(
     requires walk { IsWalk builder.old.bank walk.now }
     requires object { HasTerm builder.old.bank o }
     requires value { HasTerm builder.old.bank v }
-    ensures { OnOk result (Becomes builder.old builder.new (λ b. spec.write (walk_at b walk.now) at (expr e.now) field.0 mark class.0 (term_at b o) (term_at b v) (position_at b builder.old))) }
+    ensures { OnOk result (Becomes builder.old builder.new (λ b. spec.write (walk_at b walk.now) target.now.place (expr target.now.object.now) target.now.field.0 target.now.mark target.now.class.0 (term_at b o) (term_at b v) (position_at b builder.old))) }
 {
-    let written = written_store(builder, field, mark, class, o, v)?;
-    check_write(builder, walk, at, e, mark, class, o, v)?;
+    let written = written_store(builder, target.field, target.mark, target.class, o, v)?;
+    check_write(builder, walk, target, o, v)?;
     builder.with_store(written)?;
     Ok(())
 }
@@ -229,8 +264,7 @@ pub fn write(
 fn check_element(
     builder: &mut Builder,
     walk: &Walk<'_>,
-    at: Place,
-    e: &Expr,
+    target: &ElementTarget<'_>,
     a: TermId,
     i: TermId,
 ) -> Result<(), AllocError>
@@ -238,14 +272,14 @@ fn check_element(
     requires walk { IsWalk builder.old.bank walk.now }
     requires array { HasTerm builder.old.bank a }
     requires index { HasTerm builder.old.bank i }
-    ensures { OnOk result (Becomes builder.old builder.new (λ b. checked_element (walk_at b walk.now) at (expr e.now) (term_at b a) (term_at b i) (position_at b builder.old))) }
+    ensures { OnOk result (Becomes builder.old builder.new (λ b. checked_element (walk_at b walk.now) target.now.place (expr target.now.array.now) (term_at b a) (term_at b i) (position_at b builder.old))) }
 {
     let store = builder.store;
     let there = say(builder, Saying::Behind(Relation::HasElement, a), i)?;
     let free = deny(builder, Saying::Committed(store), a)?;
-    check_not_null(builder, walk, at, e, a)?;
-    builder.check(walk, Kind::Index, at, there)?;
-    builder.check(walk, Kind::WriteCommitted, at, free)?;
+    check_not_null(builder, walk, target.place, target.array, a)?;
+    builder.check(walk, Kind::Index, target.place, there)?;
+    builder.check(walk, Kind::WriteCommitted, target.place, free)?;
     Ok(())
 }
 
@@ -253,8 +287,7 @@ fn check_element(
 pub fn write_element(
     builder: &mut Builder,
     walk: &Walk<'_>,
-    at: Place,
-    e: &Expr,
+    target: &ElementTarget<'_>,
     a: TermId,
     i: TermId,
     v: TermId,
@@ -264,11 +297,11 @@ pub fn write_element(
     requires array { HasTerm builder.old.bank a }
     requires index { HasTerm builder.old.bank i }
     requires value { HasTerm builder.old.bank v }
-    ensures { OnOk result (Becomes builder.old builder.new (λ b. spec.write_element (walk_at b walk.now) at (expr e.now) (term_at b a) (term_at b i) (term_at b v) (position_at b builder.old))) }
+    ensures { OnOk result (Becomes builder.old builder.new (λ b. spec.write_element (walk_at b walk.now) target.now.place (expr target.now.array.now) (term_at b a) (term_at b i) (term_at b v) (position_at b builder.old))) }
 {
     let store = builder.store;
     let written = applied(builder, Symbol::Put, &[store, a, i, v])?;
-    check_element(builder, walk, at, e, a, i)?;
+    check_element(builder, walk, target, a, i)?;
     builder.with_store(written)?;
     Ok(())
 }

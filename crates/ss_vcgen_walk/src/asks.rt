@@ -11,9 +11,10 @@ ghost use Rattle.ss_vcgen_walk.specs.Asked.{asked_null, asked_allocated, asked_r
 ghost use Rattle.ss_vcgen_walk.specs.Parts.{parts_at, HasParts, AreParts};
 
 use crate::parts::Part;
+use crate::reading_context::ReadingContext;
 use ss_core::{Kind, Place};
 use ss_terms::{Bank, FormulaId};
-use ss_vcgen_express::{Context, Meant, Relation, Saying, over, over_two};
+use ss_vcgen_express::{Meant, Relation, Saying, over, over_two};
 use std::alloc::{AllocError, Global};
 
 /// The check that fails where a part isn't so.
@@ -21,6 +22,20 @@ use std::alloc::{AllocError, Global};
 pub(crate) struct Check {
     pub(crate) kind: Kind,
     pub(crate) place: Place,
+    pub(crate) checked: bool,
+}
+
+/// The operands of a form: what each means.
+#[derive(Clone, Copy)]
+pub(crate) struct Operands<'a> {
+    pub(crate) first: &'a Meant,
+    pub(crate) second: &'a Meant,
+}
+
+/// A value that something is asked of: what it means, and whether it is checked.
+#[derive(Clone, Copy)]
+pub(crate) struct Subject<'a> {
+    pub(crate) meant: &'a Meant,
     pub(crate) checked: bool,
 }
 
@@ -62,18 +77,17 @@ pub(crate) fn ask_two(
     bank: &mut Bank,
     parts: &mut Vec<Part>,
     check: Check,
-    x: &Meant,
-    y: &Meant,
+    operands: Operands<'_>,
     relation: Relation,
 ) -> Result<(), AllocError>
-    requires first { HasMeant bank.old x.now }
-    requires second { HasMeant bank.old y.now }
+    requires first { HasMeant bank.old operands.first.now }
+    requires second { HasMeant bank.old operands.second.now }
     requires relation { HasRelation bank.old relation }
     requires parts { HasParts bank.old parts.old.items }
-    ensures asked { OnOk result (AreParts bank.new parts.new.items (λ b. parts_at b parts.old.items ++ marked_part check.kind check.place check.checked (over_two (meant_at b x.now) (meant_at b y.now) (related (term_at b) relation)))) }
+    ensures asked { OnOk result (AreParts bank.new parts.new.items (λ b. parts_at b parts.old.items ++ marked_part check.kind check.place check.checked (over_two (meant_at b operands.entry.first.now) (meant_at b operands.entry.second.now) (related (term_at b) relation)))) }
     ensures grown { IsGrown bank.old bank.new }
 {
-    let formula = over_two(alloc, bank, x, y, relation)?;
+    let formula = over_two(alloc, bank, operands.first, operands.second, relation)?;
     add(parts, check, formula)
 }
 
@@ -83,50 +97,48 @@ pub(crate) fn ask_not_null(
     bank: &mut Bank,
     parts: &mut Vec<Part>,
     place: Place,
-    checked: bool,
-    m: &Meant,
+    subject: Subject<'_>,
 ) -> Result<(), AllocError>
-    requires meant { HasMeant bank.old m.now }
+    requires meant { HasMeant bank.old subject.meant.now }
     requires parts { HasParts bank.old parts.old.items }
-    ensures asked { OnOk result (AreParts bank.new parts.new.items (λ b. parts_at b parts.old.items ++ asked_null checked (meant_at b m.now) place)) }
+    ensures asked { OnOk result (AreParts bank.new parts.new.items (λ b. parts_at b parts.old.items ++ asked_null subject.entry.checked (meant_at b subject.entry.meant.now) place)) }
     ensures grown { IsGrown bank.old bank.new }
 {
     let check = Check {
         kind: Kind::Null,
         place,
-        checked,
+        checked: subject.checked,
     };
-    ask(alloc, bank, parts, check, m, Saying::NotNull)
+    ask(alloc, bank, parts, check, subject.meant, Saying::NotNull)
 }
 
 // Inside `old` the object was allocated at entry.
 fn ask_allocated(
-    alloc: Global,
     bank: &mut Bank,
-    context: &Context<'_>,
+    context: &ReadingContext<'_>,
     parts: &mut Vec<Part>,
     place: Place,
     m: &Meant,
 ) -> Result<(), AllocError>
-    requires context { HasContext bank.old context.now }
+    requires context { HasContext bank.old context.now.expression.now }
     requires meant { HasMeant bank.old m.now }
     requires parts { HasParts bank.old parts.old.items }
-    ensures asked { OnOk result (AreParts bank.new parts.new.items (λ b. parts_at b parts.old.items ++ asked_allocated (context_at b context.entry.now) (meant_at b m.now) place)) }
+    ensures asked { OnOk result (AreParts bank.new parts.new.items (λ b. parts_at b parts.old.items ++ asked_allocated (context_at b context.now.expression.now) (meant_at b m.now) place)) }
     ensures grown { IsGrown bank.old bank.new }
 {
-    if context.inside_old {
+    if context.expression.inside_old {
         let check = Check {
             kind: Kind::Null,
             place,
             checked: true,
         };
         return ask(
-            alloc,
+            context.alloc,
             bank,
             parts,
             check,
             m,
-            Saying::Allocated(context.entry),
+            Saying::Allocated(context.expression.entry),
         );
     }
     Ok(())
@@ -134,20 +146,18 @@ fn ask_allocated(
 
 // The state of the object may be read.
 pub(crate) fn ask_readable(
-    alloc: Global,
     bank: &mut Bank,
-    context: &Context<'_>,
+    context: &ReadingContext<'_>,
     parts: &mut Vec<Part>,
     place: Place,
-    checked: bool,
-    m: &Meant,
+    subject: Subject<'_>,
 ) -> Result<(), AllocError>
-    requires context { HasContext bank.old context.now }
-    requires meant { HasMeant bank.old m.now }
+    requires context { HasContext bank.old context.now.expression.now }
+    requires meant { HasMeant bank.old subject.meant.now }
     requires parts { HasParts bank.old parts.old.items }
-    ensures asked { OnOk result (AreParts bank.new parts.new.items (λ b. parts_at b parts.old.items ++ asked_readable checked (context_at b context.entry.now) (meant_at b m.now) place)) }
+    ensures asked { OnOk result (AreParts bank.new parts.new.items (λ b. parts_at b parts.old.items ++ asked_readable subject.entry.checked (context_at b context.now.expression.now) (meant_at b subject.entry.meant.now) place)) }
     ensures grown { IsGrown bank.old bank.new }
 {
-    ask_not_null(alloc, bank, parts, place, checked, m)?;
-    ask_allocated(alloc, bank, context, parts, place, m)
+    ask_not_null(context.alloc, bank, parts, place, subject)?;
+    ask_allocated(bank, context, parts, place, subject.meant)
 }

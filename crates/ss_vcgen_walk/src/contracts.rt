@@ -13,12 +13,14 @@ ghost use Rattle.ss_vcgen_walk.specs.Reading.{Defines};
 
 use crate::null_context::NullContext;
 use crate::parts::Part;
+use crate::reading_context::ReadingContext;
 use crate::walk::express;
 use ss_bit_set::BitSet;
 use ss_core::Expr;
 use ss_terms::{Bank, FormulaId};
 use ss_vcgen_express::{Context, Meant, Saying, all_with, over, said};
-use ss_vcgen_known::{Fields, Known, Tests, TypeContext};
+use ss_vcgen_known::{Fields, Known, Tests};
+use ss_vcgen_types::TypeContext;
 use std::alloc::{AllocError, Global};
 
 // Nothing is known.
@@ -58,7 +60,12 @@ fn read(
         known: &known,
         tests: &tests,
     };
-    express(alloc, bank, &nulls, context, parts, e)
+    let reading = ReadingContext {
+        alloc,
+        nulls: &nulls,
+        expression: context,
+    };
+    express(bank, &reading, parts, e)
 }
 
 // What the parts say.

@@ -17,14 +17,13 @@ ghost use Rattle.ss_vcgen_walk.specs.Forms.{single_meant, single_asks};
 ghost use Rattle.ss_vcgen_walk.specs.Parts.{parts_at, HasParts, AreParts};
 ghost use Rattle.ss_vcgen_walk.specs.Reading.{Expressed};
 
-use crate::asks::{Check, ask, ask_not_null, ask_readable};
+use crate::asks::{Check, Subject, ask, ask_not_null, ask_readable};
 use crate::guards::denied;
 use crate::parts::Part;
+use crate::reading_context::ReadingContext;
 use ss_core::{ClassId, FieldId, Kind, Place, StateWord};
 use ss_terms::{Bank, Symbol, TermId};
-use ss_vcgen_express::{
-    Context, Function, Meant, Relation, Saying, as_class, mapped, over, word_said,
-};
+use ss_vcgen_express::{Function, Meant, Relation, Saying, as_class, mapped, over, word_said};
 use std::alloc::{AllocError, Global};
 
 /// A form with one operand. The last of three or of two says whether it is checked that the operand isn't null.
@@ -83,22 +82,21 @@ fn of_class(alloc: Global, bank: &mut Bank, class: ClassId, m: &Meant) -> Result
 
 // A field of an object.
 fn read(
-    alloc: Global,
     bank: &mut Bank,
-    context: &Context<'_>,
+    context: &ReadingContext<'_>,
     field: FieldId,
     m: &Meant,
 ) -> Result<Meant, AllocError>
-    requires context { HasContext bank.old context.now }
+    requires context { HasContext bank.old context.now.expression.now }
     requires meant { HasMeant bank.old m.now }
-    ensures at { IfOk result (λ r. IsMeant bank.new r (λ b. spec.mapped (λ o. app (term.Field field.0) (spec.state (context_at b context.entry.now) ∷ o ∷ [])) (meant_at b m.now))) }
+    ensures at { IfOk result (λ r. IsMeant bank.new r (λ b. spec.mapped (λ o. app (term.Field field.0) (spec.state (context_at b context.now.expression.now) ∷ o ∷ [])) (meant_at b m.now))) }
     ensures grown { IsGrown bank.old bank.new }
 {
     let function = Function {
         symbol: Symbol::Field(field.0),
-        first: Some(context.state()),
+        first: Some(context.expression.state()),
     };
-    mapped(alloc, bank, function, m)
+    mapped(context.alloc, bank, function, m)
 }
 
 // The length of an array.
@@ -116,42 +114,40 @@ fn length(alloc: Global, bank: &mut Bank, m: &Meant) -> Result<Meant, AllocError
 
 // The answer to a question about an object.
 fn answered(
-    alloc: Global,
     bank: &mut Bank,
-    context: &Context<'_>,
+    context: &ReadingContext<'_>,
     word: StateWord,
     m: &Meant,
 ) -> Result<Meant, AllocError>
-    requires context { HasContext bank.old context.now }
+    requires context { HasContext bank.old context.now.expression.now }
     requires meant { HasMeant bank.old m.now }
-    ensures at { IfOk result (λ r. IsMeant bank.new r (λ b. spec.Says (spec.over (meant_at b m.now) (spec.word_said (context_at b context.entry.now) (word_tree word))))) }
+    ensures at { IfOk result (λ r. IsMeant bank.new r (λ b. spec.Says (spec.over (meant_at b m.now) (spec.word_said (context_at b context.now.expression.now) (word_tree word))))) }
     ensures grown { IsGrown bank.old bank.new }
 {
-    let f = word_said(alloc, bank, context, word, m)?;
+    let f = word_said(context.alloc, bank, context.expression, word, m)?;
     Ok(Meant::Says(f))
 }
 
 // What the form means.
 fn single_meant(
-    alloc: Global,
     bank: &mut Bank,
-    context: &Context<'_>,
+    context: &ReadingContext<'_>,
     form: Single,
     m: &Meant,
 ) -> Result<Meant, AllocError>
-    requires context { HasContext bank.old context.now }
+    requires context { HasContext bank.old context.now.expression.now }
     requires meant { HasMeant bank.old m.now }
-    ensures at { IfOk result (λ r. IsMeant bank.new r (λ b. single_meant form (context_at b context.entry.now) (meant_at b m.now))) }
+    ensures at { IfOk result (λ r. IsMeant bank.new r (λ b. single_meant form (context_at b context.now.expression.now) (meant_at b m.now))) }
     ensures grown { IsGrown bank.old bank.new }
 {
     match form {
-        Single::Negate(_) => negated(alloc, bank, m),
-        Single::Not => not_so(alloc, bank, m),
-        Single::Is(class) => of_class(alloc, bank, class, m),
-        Single::As(class) => as_class(alloc, bank, class.0, m),
-        Single::Field(_, field, _) => read(alloc, bank, context, field, m),
-        Single::Length(_, _) => length(alloc, bank, m),
-        Single::State(_, word, _) => answered(alloc, bank, context, word, m),
+        Single::Negate(_) => negated(context.alloc, bank, m),
+        Single::Not => not_so(context.alloc, bank, m),
+        Single::Is(class) => of_class(context.alloc, bank, class, m),
+        Single::As(class) => as_class(context.alloc, bank, class.0, m),
+        Single::Field(_, field, _) => read(bank, context, field, m),
+        Single::Length(_, _) => length(context.alloc, bank, m),
+        Single::State(_, word, _) => answered(bank, context, word, m),
     }
 }
 
@@ -180,74 +176,75 @@ fn ask_negation(
 
 // A question about an object may be asked.
 fn ask_word(
-    alloc: Global,
     bank: &mut Bank,
-    context: &Context<'_>,
+    context: &ReadingContext<'_>,
     parts: &mut Vec<Part>,
     place: Place,
     word: StateWord,
-    checked: bool,
-    m: &Meant,
+    subject: Subject<'_>,
 ) -> Result<(), AllocError>
-    requires context { HasContext bank.old context.now }
-    requires meant { HasMeant bank.old m.now }
+    requires context { HasContext bank.old context.now.expression.now }
+    requires meant { HasMeant bank.old subject.meant.now }
     requires parts { HasParts bank.old parts.old.items }
-    ensures asked { OnOk result (AreParts bank.new parts.new.items (λ b. parts_at b parts.old.items ++ asked_word (word_tree word) checked (context_at b context.entry.now) (meant_at b m.now) place)) }
+    ensures asked { OnOk result (AreParts bank.new parts.new.items (λ b. parts_at b parts.old.items ++ asked_word (word_tree word) subject.entry.checked (context_at b context.now.expression.now) (meant_at b subject.entry.meant.now) place)) }
     ensures grown { IsGrown bank.old bank.new }
 {
     match word {
-        StateWord::New => ask_not_null(alloc, bank, parts, place, checked, m),
+        StateWord::New => ask_not_null(context.alloc, bank, parts, place, subject),
         StateWord::Consistent
         | StateWord::Committed
         | StateWord::Level(_)
         | StateWord::Packed(_)
-        | StateWord::Unowned => ask_readable(alloc, bank, context, parts, place, checked, m),
+        | StateWord::Unowned => ask_readable(bank, context, parts, place, subject),
     }
 }
 
 // What the form asks.
 fn ask_single(
-    alloc: Global,
     bank: &mut Bank,
-    context: &Context<'_>,
+    context: &ReadingContext<'_>,
     parts: &mut Vec<Part>,
     form: Single,
     m: &Meant,
 ) -> Result<(), AllocError>
-    requires context { HasContext bank.old context.now }
+    requires context { HasContext bank.old context.now.expression.now }
     requires meant { HasMeant bank.old m.now }
     requires parts { HasParts bank.old parts.old.items }
-    ensures asked { OnOk result (AreParts bank.new parts.new.items (λ b. single_asks form (parts_at b parts.old.items) (context_at b context.entry.now) (meant_at b m.now))) }
+    ensures asked { OnOk result (AreParts bank.new parts.new.items (λ b. single_asks form (parts_at b parts.old.items) (context_at b context.now.expression.now) (meant_at b m.now))) }
     ensures grown { IsGrown bank.old bank.new }
 {
     match form {
-        Single::Negate(place) => ask_negation(alloc, bank, parts, place, m),
+        Single::Negate(place) => ask_negation(context.alloc, bank, parts, place, m),
         Single::Not | Single::Is(_) | Single::As(_) => Ok(()),
         Single::Field(place, _, checked) => {
-            ask_readable(alloc, bank, context, parts, place, checked, m)
+            let subject = Subject { meant: m, checked };
+            ask_readable(bank, context, parts, place, subject)
         }
-        Single::Length(place, checked) => ask_not_null(alloc, bank, parts, place, checked, m),
+        Single::Length(place, checked) => {
+            let subject = Subject { meant: m, checked };
+            ask_not_null(context.alloc, bank, parts, place, subject)
+        }
         Single::State(place, word, checked) => {
-            ask_word(alloc, bank, context, parts, place, word, checked, m)
+            let subject = Subject { meant: m, checked };
+            ask_word(bank, context, parts, place, word, subject)
         }
     }
 }
 
 // The form of an operand that means this.
 pub(crate) fn of_single(
-    alloc: Global,
     bank: &mut Bank,
-    context: &Context<'_>,
+    context: &ReadingContext<'_>,
     parts: &mut Vec<Part>,
     form: Single,
     m: &Meant,
 ) -> Result<Meant, AllocError>
-    requires context { HasContext bank.old context.now }
+    requires context { HasContext bank.old context.now.expression.now }
     requires meant { HasMeant bank.old m.now }
     requires parts { HasParts bank.old parts.old.items }
-    ensures expressed { IfOk result (λ r. Expressed bank.new r parts.new.items (λ b. single_meant form (context_at b context.entry.now) (meant_at b m.now)) (λ b. single_asks form (parts_at b parts.old.items) (context_at b context.entry.now) (meant_at b m.now))) }
+    ensures expressed { IfOk result (λ r. Expressed bank.new r parts.new.items (λ b. single_meant form (context_at b context.now.expression.now) (meant_at b m.now)) (λ b. single_asks form (parts_at b parts.old.items) (context_at b context.now.expression.now) (meant_at b m.now))) }
     ensures grown { IsGrown bank.old bank.new }
 {
-    ask_single(alloc, bank, context, parts, form, m)?;
-    single_meant(alloc, bank, context, form, m)
+    ask_single(bank, context, parts, form, m)?;
+    single_meant(bank, context, form, m)
 }

@@ -16,15 +16,15 @@ ghost use Rattle.ss_vcgen_walk.specs.Forms.{two_meant, second_asks, asks_behind,
 ghost use Rattle.ss_vcgen_walk.specs.Parts.{parts_at, HasParts, AreParts};
 ghost use Rattle.ss_vcgen_walk.specs.Reading.{Expressed};
 
-use crate::asks::{Check, ask, ask_readable, ask_two};
+use crate::asks::{Check, Operands, Subject, ask, ask_readable, ask_two};
 use crate::guards::{add_all, add_right, add_where};
-use crate::parts::Part;
+use crate::parts::{Part, ReadExpression};
+use crate::reading_context::ReadingContext;
 use ss_core::{Kind, Operator, OwnerTest, Place};
 use ss_logic::Sort;
 use ss_terms::{Bank, Symbol};
 use ss_vcgen_express::{
-    Context, Function, Meant, Relation, Saying, implies, operated, owners_said, paired, said,
-    same_truths,
+    Function, Meant, Relation, Saying, implies, operated, owners_said, paired, said, same_truths,
 };
 use std::alloc::{AllocError, Global};
 
@@ -43,24 +43,23 @@ pub(crate) enum Two {
 
 // An element of an array.
 fn element(
-    alloc: Global,
     bank: &mut Bank,
-    context: &Context<'_>,
+    context: &ReadingContext<'_>,
     sort: Sort,
     x: &Meant,
     y: &Meant,
 ) -> Result<Meant, AllocError>
-    requires context { HasContext bank.old context.now }
+    requires context { HasContext bank.old context.now.expression.now }
     requires first { HasMeant bank.old x.now }
     requires second { HasMeant bank.old y.now }
-    ensures at { IfOk result (λ r. IsMeant bank.new r (λ b. spec.paired (λ u v. app (term.Element sort) (spec.state (context_at b context.entry.now) ∷ u ∷ v ∷ [])) (meant_at b x.now) (meant_at b y.now))) }
+    ensures at { IfOk result (λ r. IsMeant bank.new r (λ b. spec.paired (λ u v. app (term.Element sort) (spec.state (context_at b context.now.expression.now) ∷ u ∷ v ∷ [])) (meant_at b x.now) (meant_at b y.now))) }
     ensures grown { IsGrown bank.old bank.new }
 {
     let function = Function {
         symbol: Symbol::Element(sort),
-        first: Some(context.state()),
+        first: Some(context.expression.state()),
     };
-    paired(alloc, bank, function, x, y)
+    paired(context.alloc, bank, function, x, y)
 }
 
 // The second, where the first is so.
@@ -89,44 +88,42 @@ fn as_one(alloc: Global, bank: &mut Bank, x: &Meant, y: &Meant) -> Result<Meant,
 
 // The answer to a question about the owners of two objects.
 fn owners_answered(
-    alloc: Global,
     bank: &mut Bank,
-    context: &Context<'_>,
+    context: &ReadingContext<'_>,
     test: OwnerTest,
     x: &Meant,
     y: &Meant,
 ) -> Result<Meant, AllocError>
-    requires context { HasContext bank.old context.now }
+    requires context { HasContext bank.old context.now.expression.now }
     requires first { HasMeant bank.old x.now }
     requires second { HasMeant bank.old y.now }
-    ensures at { IfOk result (λ r. IsMeant bank.new r (λ b. spec.Says (spec.over_two (meant_at b x.now) (meant_at b y.now) (spec.owners_said (context_at b context.entry.now) (owners_tree test))))) }
+    ensures at { IfOk result (λ r. IsMeant bank.new r (λ b. spec.Says (spec.over_two (meant_at b x.now) (meant_at b y.now) (spec.owners_said (context_at b context.now.expression.now) (owners_tree test))))) }
     ensures grown { IsGrown bank.old bank.new }
 {
-    let f = owners_said(alloc, bank, context, test, x, y)?;
+    let f = owners_said(context.alloc, bank, context.expression, test, x, y)?;
     Ok(Meant::Says(f))
 }
 
 // What the form means.
 fn two_meant(
-    alloc: Global,
     bank: &mut Bank,
-    context: &Context<'_>,
+    context: &ReadingContext<'_>,
     form: Two,
     x: Meant,
     y: &Meant,
 ) -> Result<Meant, AllocError>
-    requires context { HasContext bank.old context.now }
+    requires context { HasContext bank.old context.now.expression.now }
     requires first { HasMeant bank.old x }
     requires second { HasMeant bank.old y.now }
-    ensures at { IfOk result (λ r. IsMeant bank.new r (λ b. two_meant form (context_at b context.entry.now) (meant_at b x) (meant_at b y.now))) }
+    ensures at { IfOk result (λ r. IsMeant bank.new r (λ b. two_meant form (context_at b context.now.expression.now) (meant_at b x) (meant_at b y.now))) }
     ensures grown { IsGrown bank.old bank.new }
 {
     match form {
-        Two::Operation(_, operator, bools) => operated(alloc, bank, operator, bools, x, y),
-        Two::Element(_, sort, _) => element(alloc, bank, context, sort, &x, y),
-        Two::Implies => implied(alloc, bank, &x, y),
-        Two::Iff => as_one(alloc, bank, &x, y),
-        Two::Owners(_, test, _, _) => owners_answered(alloc, bank, context, test, &x, y),
+        Two::Operation(_, operator, bools) => operated(context.alloc, bank, operator, bools, x, y),
+        Two::Element(_, sort, _) => element(bank, context, sort, &x, y),
+        Two::Implies => implied(context.alloc, bank, &x, y),
+        Two::Iff => as_one(context.alloc, bank, &x, y),
+        Two::Owners(_, test, _, _) => owners_answered(bank, context, test, &x, y),
     }
 }
 
@@ -137,13 +134,12 @@ fn ask_result(
     parts: &mut Vec<Part>,
     place: Place,
     symbol: Symbol,
-    x: &Meant,
-    y: &Meant,
+    operands: Operands<'_>,
 ) -> Result<(), AllocError>
-    requires first { HasMeant bank.old x.now }
-    requires second { HasMeant bank.old y.now }
+    requires first { HasMeant bank.old operands.first.now }
+    requires second { HasMeant bank.old operands.second.now }
     requires parts { HasParts bank.old parts.old.items }
-    ensures asked { OnOk result (AreParts bank.new parts.new.items (λ b. parts_at b parts.old.items ++ marked_result (symbol_of symbol) (meant_at b x.now) (meant_at b y.now) place)) }
+    ensures asked { OnOk result (AreParts bank.new parts.new.items (λ b. parts_at b parts.old.items ++ marked_result (symbol_of symbol) (meant_at b operands.entry.first.now) (meant_at b operands.entry.second.now) place)) }
     ensures grown { IsGrown bank.old bank.new }
 {
     let check = Check {
@@ -151,7 +147,7 @@ fn ask_result(
         place,
         checked: true,
     };
-    ask_two(alloc, bank, parts, check, x, y, Relation::Fits(symbol))
+    ask_two(alloc, bank, parts, check, operands, Relation::Fits(symbol))
 }
 
 // The divisor isn't 0, and the quotient has 32 bits.
@@ -160,13 +156,12 @@ fn ask_quotient(
     bank: &mut Bank,
     parts: &mut Vec<Part>,
     place: Place,
-    x: &Meant,
-    y: &Meant,
+    operands: Operands<'_>,
 ) -> Result<(), AllocError>
-    requires first { HasMeant bank.old x.now }
-    requires second { HasMeant bank.old y.now }
+    requires first { HasMeant bank.old operands.first.now }
+    requires second { HasMeant bank.old operands.second.now }
     requires parts { HasParts bank.old parts.old.items }
-    ensures asked { OnOk result (AreParts bank.new parts.new.items (λ b. parts_at b parts.old.items ++ (marked_part kind.ZeroDivisor place true (spec.not_zero (meant_at b y.now)) ++ marked_result term.Quotient (meant_at b x.now) (meant_at b y.now) place))) }
+    ensures asked { OnOk result (AreParts bank.new parts.new.items (λ b. parts_at b parts.old.items ++ (marked_part kind.ZeroDivisor place true (spec.not_zero (meant_at b operands.entry.second.now)) ++ marked_result term.Quotient (meant_at b operands.entry.first.now) (meant_at b operands.entry.second.now) place))) }
     ensures grown { IsGrown bank.old bank.new }
 {
     let check = Check {
@@ -174,8 +169,8 @@ fn ask_quotient(
         place,
         checked: true,
     };
-    ask(alloc, bank, parts, check, y, Saying::NotZero)?;
-    ask_result(alloc, bank, parts, place, Symbol::Quotient, x, y)
+    ask(alloc, bank, parts, check, operands.second, Saying::NotZero)?;
+    ask_result(alloc, bank, parts, place, Symbol::Quotient, operands)
 }
 
 // What an operation asks beside what its operands ask.
@@ -185,20 +180,19 @@ fn ask_operation(
     parts: &mut Vec<Part>,
     place: Place,
     operator: Operator,
-    x: &Meant,
-    y: &Meant,
+    operands: Operands<'_>,
 ) -> Result<(), AllocError>
-    requires first { HasMeant bank.old x.now }
-    requires second { HasMeant bank.old y.now }
+    requires first { HasMeant bank.old operands.first.now }
+    requires second { HasMeant bank.old operands.second.now }
     requires parts { HasParts bank.old parts.old.items }
-    ensures asked { OnOk result (AreParts bank.new parts.new.items (λ b. parts_at b parts.old.items ++ marked_operation operator (meant_at b x.now) (meant_at b y.now) place)) }
+    ensures asked { OnOk result (AreParts bank.new parts.new.items (λ b. parts_at b parts.old.items ++ marked_operation operator (meant_at b operands.entry.first.now) (meant_at b operands.entry.second.now) place)) }
     ensures grown { IsGrown bank.old bank.new }
 {
     match operator {
-        Operator::Add => ask_result(alloc, bank, parts, place, Symbol::Add, x, y),
-        Operator::Subtract => ask_result(alloc, bank, parts, place, Symbol::Subtract, x, y),
-        Operator::Multiply => ask_result(alloc, bank, parts, place, Symbol::Multiply, x, y),
-        Operator::Divide | Operator::Remainder => ask_quotient(alloc, bank, parts, place, x, y),
+        Operator::Add => ask_result(alloc, bank, parts, place, Symbol::Add, operands),
+        Operator::Subtract => ask_result(alloc, bank, parts, place, Symbol::Subtract, operands),
+        Operator::Multiply => ask_result(alloc, bank, parts, place, Symbol::Multiply, operands),
+        Operator::Divide | Operator::Remainder => ask_quotient(alloc, bank, parts, place, operands),
         Operator::Or
         | Operator::And
         | Operator::Equal
@@ -212,81 +206,93 @@ fn ask_operation(
 
 // What an element and its index ask.
 fn ask_element(
-    alloc: Global,
     bank: &mut Bank,
-    context: &Context<'_>,
+    context: &ReadingContext<'_>,
     parts: &mut Vec<Part>,
     place: Place,
     checked: bool,
-    x: &Meant,
-    y: &Meant,
+    operands: Operands<'_>,
 ) -> Result<(), AllocError>
-    requires context { HasContext bank.old context.now }
-    requires first { HasMeant bank.old x.now }
-    requires second { HasMeant bank.old y.now }
+    requires context { HasContext bank.old context.now.expression.now }
+    requires first { HasMeant bank.old operands.first.now }
+    requires second { HasMeant bank.old operands.second.now }
     requires parts { HasParts bank.old parts.old.items }
-    ensures asked { OnOk result (AreParts bank.new parts.new.items (λ b. parts_at b parts.old.items ++ asked_readable checked (context_at b context.entry.now) (meant_at b x.now) place ++ marked_part kind.Index place true (spec.index_fits (meant_at b x.now) (meant_at b y.now)))) }
+    ensures asked { OnOk result (AreParts bank.new parts.new.items (λ b. parts_at b parts.old.items ++ asked_readable checked (context_at b context.now.expression.now) (meant_at b operands.entry.first.now) place ++ marked_part kind.Index place true (spec.index_fits (meant_at b operands.entry.first.now) (meant_at b operands.entry.second.now)))) }
     ensures grown { IsGrown bank.old bank.new }
 {
-    ask_readable(alloc, bank, context, parts, place, checked, x)?;
+    let array = Subject {
+        meant: operands.first,
+        checked,
+    };
+    ask_readable(bank, context, parts, place, array)?;
     let check = Check {
         kind: Kind::Index,
         place,
         checked: true,
     };
-    ask_two(alloc, bank, parts, check, x, y, Relation::HasElement)
+    ask_two(
+        context.alloc,
+        bank,
+        parts,
+        check,
+        operands,
+        Relation::HasElement,
+    )
 }
 
 // The states of two objects may be read.
 fn ask_owners(
-    alloc: Global,
     bank: &mut Bank,
-    context: &Context<'_>,
+    context: &ReadingContext<'_>,
     parts: &mut Vec<Part>,
     place: Place,
-    asks_first: bool,
-    asks_second: bool,
-    x: &Meant,
-    y: &Meant,
+    first: Subject<'_>,
+    second: Subject<'_>,
 ) -> Result<(), AllocError>
-    requires context { HasContext bank.old context.now }
-    requires first { HasMeant bank.old x.now }
-    requires second { HasMeant bank.old y.now }
+    requires context { HasContext bank.old context.now.expression.now }
+    requires first { HasMeant bank.old first.meant.now }
+    requires second { HasMeant bank.old second.meant.now }
     requires parts { HasParts bank.old parts.old.items }
-    ensures asked { OnOk result (AreParts bank.new parts.new.items (λ b. parts_at b parts.old.items ++ asked_readable asks_first (context_at b context.entry.now) (meant_at b x.now) place ++ asked_readable asks_second (context_at b context.entry.now) (meant_at b y.now) place)) }
+    ensures asked { OnOk result (AreParts bank.new parts.new.items (λ b. parts_at b parts.old.items ++ asked_readable first.entry.checked (context_at b context.now.expression.now) (meant_at b first.entry.meant.now) place ++ asked_readable second.entry.checked (context_at b context.now.expression.now) (meant_at b second.entry.meant.now) place)) }
     ensures grown { IsGrown bank.old bank.new }
 {
-    ask_readable(alloc, bank, context, parts, place, asks_first, x)?;
-    ask_readable(alloc, bank, context, parts, place, asks_second, y)
+    ask_readable(bank, context, parts, place, first)?;
+    ask_readable(bank, context, parts, place, second)
 }
 
 // What the form asks behind the parts of its second operand.
 fn ask_behind(
-    alloc: Global,
     bank: &mut Bank,
-    context: &Context<'_>,
+    context: &ReadingContext<'_>,
     parts: &mut Vec<Part>,
     form: Two,
-    x: &Meant,
-    y: &Meant,
+    operands: Operands<'_>,
 ) -> Result<(), AllocError>
-    requires context { HasContext bank.old context.now }
-    requires first { HasMeant bank.old x.now }
-    requires second { HasMeant bank.old y.now }
+    requires context { HasContext bank.old context.now.expression.now }
+    requires first { HasMeant bank.old operands.first.now }
+    requires second { HasMeant bank.old operands.second.now }
     requires parts { HasParts bank.old parts.old.items }
-    ensures asked { OnOk result (AreParts bank.new parts.new.items (λ b. asks_behind form (parts_at b parts.old.items) (context_at b context.entry.now) (meant_at b x.now) (meant_at b y.now))) }
+    ensures asked { OnOk result (AreParts bank.new parts.new.items (λ b. asks_behind form (parts_at b parts.old.items) (context_at b context.now.expression.now) (meant_at b operands.entry.first.now) (meant_at b operands.entry.second.now))) }
     ensures grown { IsGrown bank.old bank.new }
 {
     match form {
         Two::Operation(place, operator, _) => {
-            ask_operation(alloc, bank, parts, place, operator, x, y)
+            ask_operation(context.alloc, bank, parts, place, operator, operands)
         }
         Two::Element(place, _, checked) => {
-            ask_element(alloc, bank, context, parts, place, checked, x, y)
+            ask_element(bank, context, parts, place, checked, operands)
         }
         Two::Implies | Two::Iff => Ok(()),
-        Two::Owners(place, _, first, second) => {
-            ask_owners(alloc, bank, context, parts, place, first, second, x, y)
+        Two::Owners(place, _, asks_first, asks_second) => {
+            let first = Subject {
+                meant: operands.first,
+                checked: asks_first,
+            };
+            let second = Subject {
+                meant: operands.second,
+                checked: asks_second,
+            };
+            ask_owners(bank, context, parts, place, first, second)
         }
     }
 }
@@ -315,46 +321,46 @@ fn add_second(
 
 // What the form and its second operand ask.
 fn ask_two_behind(
-    alloc: Global,
     bank: &mut Bank,
-    context: &Context<'_>,
+    context: &ReadingContext<'_>,
     parts: &mut Vec<Part>,
-    list: &[Part],
     form: Two,
     x: &Meant,
-    y: &Meant,
+    second: ReadExpression<'_>,
 ) -> Result<(), AllocError>
-    requires context { HasContext bank.old context.now }
+    requires context { HasContext bank.old context.now.expression.now }
     requires first { HasMeant bank.old x.now }
-    requires second { HasMeant bank.old y.now }
+    requires second { HasMeant bank.old second.meant.now }
     requires parts { HasParts bank.old parts.old.items }
-    requires list { HasParts bank.old list.now }
-    ensures asked { OnOk result (AreParts bank.new parts.new.items (λ b. two_asks form (parts_at b parts.old.items) (parts_at b list.now) (context_at b context.entry.now) (meant_at b x.now) (meant_at b y.now))) }
+    requires list { HasParts bank.old second.parts.now }
+    ensures asked { OnOk result (AreParts bank.new parts.new.items (λ b. two_asks form (parts_at b parts.old.items) (parts_at b second.entry.parts.now) (context_at b context.now.expression.now) (meant_at b x.now) (meant_at b second.entry.meant.now))) }
     ensures grown { IsGrown bank.old bank.new }
 {
-    add_second(alloc, bank, parts, list, form, x)?;
-    ask_behind(alloc, bank, context, parts, form, x, y)
+    add_second(context.alloc, bank, parts, second.parts, form, x)?;
+    let operands = Operands {
+        first: x,
+        second: second.meant,
+    };
+    ask_behind(bank, context, parts, form, operands)
 }
 
-// The form of two operands that mean this; the parts of the second are these.
+// The form of an operand that means this and a second one, as it was read.
 pub(crate) fn of_two(
-    alloc: Global,
     bank: &mut Bank,
-    context: &Context<'_>,
+    context: &ReadingContext<'_>,
     parts: &mut Vec<Part>,
-    list: &[Part],
     form: Two,
     x: Meant,
-    y: &Meant,
+    second: ReadExpression<'_>,
 ) -> Result<Meant, AllocError>
-    requires context { HasContext bank.old context.now }
+    requires context { HasContext bank.old context.now.expression.now }
     requires first { HasMeant bank.old x }
-    requires second { HasMeant bank.old y.now }
+    requires second { HasMeant bank.old second.meant.now }
     requires parts { HasParts bank.old parts.old.items }
-    requires list { HasParts bank.old list.now }
-    ensures expressed { IfOk result (λ r. Expressed bank.new r parts.new.items (λ b. two_meant form (context_at b context.entry.now) (meant_at b x) (meant_at b y.now)) (λ b. two_asks form (parts_at b parts.old.items) (parts_at b list.now) (context_at b context.entry.now) (meant_at b x) (meant_at b y.now))) }
+    requires list { HasParts bank.old second.parts.now }
+    ensures expressed { IfOk result (λ r. Expressed bank.new r parts.new.items (λ b. two_meant form (context_at b context.now.expression.now) (meant_at b x) (meant_at b second.entry.meant.now)) (λ b. two_asks form (parts_at b parts.old.items) (parts_at b second.entry.parts.now) (context_at b context.now.expression.now) (meant_at b x) (meant_at b second.entry.meant.now))) }
     ensures grown { IsGrown bank.old bank.new }
 {
-    ask_two_behind(alloc, bank, context, parts, list, form, &x, y)?;
-    two_meant(alloc, bank, context, form, x, y)
+    ask_two_behind(bank, context, parts, form, &x, second)?;
+    two_meant(bank, context, form, x, second.meant)
 }

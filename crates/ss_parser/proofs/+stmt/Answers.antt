@@ -11,7 +11,7 @@ use Rattle.ss_grammar_expressions.specs.Parser.{below}
 use Rattle.ss_grammar_statements.specs.Heads.{stmt_head}
 use Rattle.ss_grammar_statements.specs.Parser.{nested_below, one_stmt, joins_stmt}
 use Rattle.ss_parser_expressions.proofs.Loops.{pieces_fewer}
-use Rattle.ss_parser.specs.View.{stmt_start_of}
+use Rattle.ss_parser_statement_trees.specs.View.{stmt_start_of}
 use Rattle.ss_parser.proofs.+stmt.Goals as goal
 
 pub statements::parse_stmts-loop-stmts-preserved : goal.statements::parse_stmts-loop-stmts-preserved

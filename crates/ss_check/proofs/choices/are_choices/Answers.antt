@@ -10,4 +10,4 @@ HasFormulas-joined b (f ∷ fs) gs h k = (h.0, HasFormulas-joined b fs gs h.1 k)
 pub are_new-requires-clause-formulas : goal.are_new-requires-clause-formulas
 are_new-requires-clause-formulas c =
     rw (c.deref.ensures.value, c.in_ok-used.ensures)
-    (c.requires.body, (c.requires.goal, HasFormulas-joined c.args.bank.now c.args.premises.now c.args.known.now c.requires.premises c.requires.known))
+    (c.requires.body, (c.requires.goal, HasFormulas-joined c.args.bank.now c.args.context.now.premises.now c.args.known.now c.requires.premises c.requires.known))

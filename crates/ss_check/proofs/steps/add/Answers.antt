@@ -16,5 +16,5 @@ learn-requires-clause-fine c = AreCases-grown c.args.bank.now c.fact.new.bank c.
 pub returns-clause-step : goal.returns-clause-step
 returns-clause-step c =
     let fact = rw (c.in-Some.is, c.deref.ensures.value) at c.in_ok-f.ensures.fact in
-    added (classes c.args.classes.now) c.args.bank.now c.fact.new.bank c.fact.ensures.grown c.args.cases.now.known.items c.args.cases.now.waiting.items c.requires.fine _ c.in-Some.f _ fact.1
-    (sym (c.if-not-is_well_formed.ensures (classes c.args.classes.now) (IsBankOf-grown (classes c.args.classes.now) c.args.bank.now c.fact.new.bank c.fact.ensures.grown c.requires.bank))) c.in_ok-learn.ensures.state
+    added (classes c.args.context.now.classes.now) c.args.bank.now c.fact.new.bank c.fact.ensures.grown c.args.cases.now.known.items c.args.cases.now.waiting.items c.requires.fine _ c.in-Some.f _ fact.1
+    (sym (c.if-not-is_well_formed.ensures (classes c.args.context.now.classes.now) (IsBankOf-grown (classes c.args.context.now.classes.now) c.args.bank.now c.fact.new.bank c.fact.ensures.grown c.requires.bank))) c.in_ok-learn.ensures.state

@@ -10,4 +10,4 @@ pub returns-in_ok-yes-in-Case-clause-step : goal.returns-in_ok-yes-in-Case-claus
 returns-in_ok-yes-in-Case-clause-step c =
     rw c.in-Case.is
     (reopened_stepped c.args.bank.now c.args.cases.now.known.items c.reopen.new.cases.known.items c.args.cases.now.waiting.items c.reopen.new.cases.waiting.items c.reopen.new.cases.is_open
-    (classes c.args.classes.now) (formulas_at c.args.bank.now c.args.premises.now) (formula_at c.args.bank.now c.args.goal) c.args.cases.now.is_open c.if-cases.false c.in_ok-yes-in-Case.yes c.in_ok-yes-in-Case.ensures c.requires.fine)
+    (classes c.args.context.now.classes.now) (formulas_at c.args.bank.now c.args.context.now.premises.now) (formula_at c.args.bank.now c.args.context.now.goal) c.args.cases.now.is_open c.if-cases.false c.in_ok-yes-in-Case.yes c.in_ok-yes-in-Case.ensures c.requires.fine)

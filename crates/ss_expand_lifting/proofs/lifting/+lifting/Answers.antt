@@ -1,7 +1,7 @@
 use Rattle.std.proofs.Common.{take, refl, sym, ap, ◌∙◌, add-one, arith}
 use Rattle.std.specs.Prelude.{◌||◌}
 use Rattle.std.proofs.lemmas.List.{take_all}
-use Rattle.ss_core.specs.Tree.{ElementExpr, LocalExpr}
+use Rattle.ss_core.specs.Tree.{ElementExpr, IffExpr, LocalExpr, NegateExpr, NotExpr}
 use Rattle.ss_typed.specs.Tree.{CallOf, arguments}
 use Rattle.ss_typed.specs.View as typed
 use Rattle.ss_expand_rules.specs.Lifting as elab
@@ -12,31 +12,49 @@ use Rattle.ss_expand_expressions.specs.Sources.{stmts_of, source_of, lifted_behi
 use Rattle.ss_expand_expressions.proofs.Shapes.{linked_next, stepped_next}
 use Rattle.ss_expand_lifting.specs.Contexts.{context_of}
 use Rattle.ss_expand_lifting.specs.Operations.{test_of, values_of}
-use Rattle.ss_expand_lifting.proofs.Joins.{with_call, without_call, unlifted_behind, value_as_it_is, values_as_they_are, binary_kept, size_kept, size_plain, values_kept, values_plain, kept_any}
+use Rattle.ss_expand_lifting.proofs.Joins.{with_call, without_call, unlifted_behind, value_as_it_is, values_as_they_are, unary_kept, binary_kept, array_behind, size_kept, size_plain, values_kept, values_plain, kept_any}
 use Rattle.ss_expand_lifting.proofs.Links.{link_next_calls, step_next_calls, link_place, step_place, step_lazy, operand_along, links_go_along, steps_go_along}
 use Rattle.ss_typed.proofs.Grouping.{operation_is, is_is, as_is, field_is, element_is, length_is, call_is}
 use Rattle.ss_expand_lifting.proofs.Sizes.{links_fall, steps_fall}
-use Rattle.ss_expand_lifting.proofs.Arms.{iff_lifts, negate_lifts, not_lifts, cast_lifts, implies_lifts, chain_lifts, path_lifts, new_lifts, new_array_lifts, static_lifts, base_lifts, call_lifts, lazily_ends, operation_lifts_lazily, operation_lifts_strictly, negation_lifts, negation_stays, argument_joins, arguments_join, link_lifts, step_lifts}
+use Rattle.ss_expand_lifting.proofs.Arms.{iff_lifts, negate_lifts, not_lifts, cast_lifts, begun_there, implies_lifts, chain_lifts, path_lifts, new_called, new_lifts, new_array_lifts, static_called, static_lifts, base_called, base_lifts, call_lifts, lazily_ends, operation_lifts_lazily, operation_lifts_strictly, negation_lifts, negation_stays, argument_joins, arguments_join, link_lifts, step_lifts}
 use Rattle.ss_expand_lifting.proofs.lifting.+lifting.Goals as goal
 
-pub lift-returns-in_ok-value-in-Iff : goal.lift-returns-in_ok-value-in-Iff
-lift-returns-in_ok-value-in-Iff t c = λ h.
+pub lift-returns-in_ok-lift_iff-in-Iff : goal.lift-returns-in_ok-lift_iff-in-Iff
+lift-returns-in_ok-lift_iff-in-Iff t c = λ h.
     let a = c.in-Iff in
-    iff_lifts (context_of c.args.context.now) a.place a.a a.b c.args.e.now _ _ _ _ (stmts_of c.args.code.now.statements) _ _ _ _ _ c.args.made.now.items _ _ a.is
-    c.deref.ensures c.deref-in-Iff.ensures c.any_object.ensures c.any_object-in-Iff.ensures
-    c.in_ok-left-in-Iff.ensures c.in_ok-right-in-Iff.ensures c.in_ok-value-in-Iff.ensures
+    let s = context_of c.args.context.now in
+    let x = typed.expr c.deref.result.now in
+    let before = stmts_of c.args.code.now.statements in
+    let types = c.args.made.now.items in
+    iff_lifts s a.place a.a a.b c.args.e.now _ _ before _ types a.is c.deref.ensures c.deref-in-Iff.ensures
+    (c.in_ok-lift_iff-in-Iff.ensures x before types (c.in_ok-left-in-Iff.ensures ∙ kept_any s _ x before types c.any_object.ensures))
 
-pub lift-returns-in_ok-negated-in-Negate : goal.lift-returns-in_ok-negated-in-Negate
-lift-returns-in_ok-negated-in-Negate t c = λ h.
+pub lift_iff-returns : goal.lift_iff-returns
+lift_iff-returns t c = λ a before types h.
+    binary_kept (IffExpr c.args.place) (context_of c.args.context.now) a (typed.expr c.args.b.now) elab.any_object _ before _ _ _ _ _ types _ _
+    refl c.any_object.ensures h c.in_ok-right.ensures c.in_ok-value.ensures
+
+pub lift-returns-in_ok-lift_negate-in-Negate : goal.lift-returns-in_ok-lift_negate-in-Negate
+lift-returns-in_ok-lift_negate-in-Negate t c = λ h.
     let a = c.in-Negate in
-    negate_lifts (context_of c.args.context.now) a.place a.e c.args.e.now _ _ (stmts_of c.args.code.now.statements) _ _ _ c.args.made.now.items _ a.is
-    c.deref-in-Negate.ensures c.any_object-in-Negate.ensures c.in_ok-value-in-Negate.ensures c.in_ok-negated-in-Negate.ensures
+    negate_lifts (context_of c.args.context.now) a.place a.e c.args.e.now _ (stmts_of c.args.code.now.statements) _ c.args.made.now.items a.is
+    c.deref-in-Negate.ensures c.in_ok-lift_negate-in-Negate.ensures
 
-pub lift-returns-in_ok-negated-in-Not : goal.lift-returns-in_ok-negated-in-Not
-lift-returns-in_ok-negated-in-Not t c = λ h.
+pub lift_negate-returns : goal.lift_negate-returns
+lift_negate-returns t c =
+    unary_kept (NegateExpr c.args.place) (context_of c.args.context.now) (typed.expr c.args.e.now) _ (stmts_of c.args.code.now.statements) _ _ _ c.args.made.now.items _
+    c.any_object.ensures c.in_ok-value.ensures c.in_ok-negated.ensures
+
+pub lift-returns-in_ok-lift_not-in-Not : goal.lift-returns-in_ok-lift_not-in-Not
+lift-returns-in_ok-lift_not-in-Not t c = λ h.
     let a = c.in-Not in
-    not_lifts (context_of c.args.context.now) a.place a.e c.args.e.now _ _ (stmts_of c.args.code.now.statements) _ _ _ c.args.made.now.items _ a.is
-    c.deref-in-Not.ensures c.any_object-in-Not.ensures c.in_ok-value-in-Not.ensures c.in_ok-negated-in-Not.ensures
+    not_lifts (context_of c.args.context.now) a.place a.e c.args.e.now _ (stmts_of c.args.code.now.statements) _ c.args.made.now.items a.is
+    c.deref-in-Not.ensures c.in_ok-lift_not-in-Not.ensures
+
+pub lift_not-returns : goal.lift_not-returns
+lift_not-returns t c =
+    unary_kept (NotExpr c.args.place) (context_of c.args.context.now) (typed.expr c.args.e.now) _ (stmts_of c.args.code.now.statements) _ _ _ c.args.made.now.items _
+    c.any_object.ensures c.in_ok-value.ensures c.in_ok-negated.ensures
 
 pub lift-returns-in_ok-cast-in-Cast : goal.lift-returns-in_ok-cast-in-Cast
 lift-returns-in_ok-cast-in-Cast t c = λ h.
@@ -44,11 +62,15 @@ lift-returns-in_ok-cast-in-Cast t c = λ h.
     cast_lifts (context_of c.args.context.now) a.place a.class a.non_null a.e c.args.e.now _ _ (stmts_of c.args.code.now.statements) _ _ _ c.args.made.now.items _ a.is
     c.deref-in-Cast.ensures c.any_object-in-Cast.ensures c.in_ok-value-in-Cast.ensures c.in_ok-cast-in-Cast.ensures
 
-pub lift-returns-in_ok-size-in-NewArray : goal.lift-returns-in_ok-size-in-NewArray
-lift-returns-in_ok-size-in-NewArray t c = λ h.
+pub lift-returns-in_ok-lift_array-in-NewArray : goal.lift-returns-in_ok-lift_array-in-NewArray
+lift-returns-in_ok-lift_array-in-NewArray t c = λ h.
     let a = c.in-NewArray in
-    new_array_lifts (context_of c.args.context.now) a.place a.class a.e c.args.e.now _ (stmts_of c.args.code.now.statements) _ _ c.args.made.now.items _ a.is
-    c.deref-in-NewArray.ensures c.in_ok-size-in-NewArray.ensures
+    new_array_lifts (context_of c.args.context.now) a.at a.class a.e c.args.e.now _ (stmts_of c.args.code.now.statements) _ c.args.made.now.items a.is
+    c.deref-in-NewArray.ensures c.in_ok-lift_array-in-NewArray.ensures
+
+pub lift_array-returns : goal.lift_array-returns
+lift_array-returns t c =
+    array_behind c.args.place c.args.class.0 (context_of c.args.context.now) (typed.expr c.args.e.now) (stmts_of c.args.code.now.statements) _ _ c.args.made.now.items _ c.in_ok-size.ensures
 
 pub lift_kept-returns : goal.lift_kept-returns
 lift_kept-returns t c =
@@ -117,7 +139,7 @@ pub lift_call-returns : goal.lift_call-returns
 lift_call-returns t c = λ e ty before types h.
     let s = context_of c.args.context.now in
     let es = arguments (typed.exprs c.args.es.now) in
-    call_lifts s c.args.place e c.args.method ty es _ _ _ _ before _ _ _ _ _ types _ _
+    call_lifts s c.args.placed.place e c.args.placed.method ty es _ _ _ _ before _ _ _ _ _ types _ _
     (c.class_of_type-class.ensures ∙ ap elab.class_of_type h.ty) (c.params_in-params.ensures ∙ ap lookups.param_types_in c.method_at.ensures)
     c.have_call-in_arguments.ensures (c.are_kept-kept.ensures ∙ ap (λ b. b || c.have_call-in_arguments.result) h.calls)
     (c.in_ok-receiver.ensures s e before types refl h) c.in_ok-values.ensures c.dispatched.ensures
@@ -126,7 +148,7 @@ pub lift_lazily-returns : goal.lift_lazily-returns
 lift_lazily-returns t c =
     let s = context_of c.args.context.now in
     let b = typed.expr c.args.b.now in
-    lazily_ends c.args.place b (test_of c.args.place c.args.holds) c.args.x (stmts_of c.args.code.now.statements) _ _ _ (LocalExpr c.args.place c.args.x) _ _ _ c.args.made.now.items _ (elab.right_side s b c.args.made.now.items)
+    lazily_ends c.args.left.place b (test_of c.args.left.place c.args.left.holds) c.args.left.x (stmts_of c.args.code.now.statements) _ _ _ (LocalExpr c.args.left.place c.args.left.x) _ _ _ c.args.made.now.items _ (elab.right_side s b c.args.made.now.items)
     (c.in_ok-source.ensures ∙ ap (λ code. lifted_behind code (elab.right_side s b c.args.made.now.items)) c.new-inner.ensures)
     c.in_ok-test.ensures c.place_of.ensures c.in_ok-value.ensures.code c.in_ok-value.ensures.value
 
@@ -186,71 +208,101 @@ lift_values-returns-in_ok-values-2 t c =
 
 pub lift_operation-returns-in_ok-source : goal.lift_operation-returns-in_ok-source
 lift_operation-returns-in_ok-source t c = λ e before types h.
-    operation_lifts_lazily (context_of c.args.context.now) c.args.place c.args.operator e (typed.expr c.args.b.now) before (stmts_of c.args.code.now.statements) _ (source_of c.args.operand.source) _ _ _ types c.args.made.now.items _ _ _
+    operation_lifts_lazily (context_of c.args.context.now) c.args.placed.place c.args.placed.operator e (typed.expr c.args.b.now) before (stmts_of c.args.code.now.statements) _ (source_of c.args.operand.source) _ _ _ types c.args.made.now.items _ _ _
     (sym c.is_lazy_operator.ensures ∙ c.if-is_lazy_operator.true) h.lifted h.place c.in_ok-x.ensures.number c.in_ok-x.ensures.kept c.is_and-holds.ensures c.in_ok-source.ensures
 
 pub lift_operation-returns-in_ok-value : goal.lift_operation-returns-in_ok-value
 lift_operation-returns-in_ok-value t c = λ e before types h.
     let s = context_of c.args.context.now in
-    operation_lifts_strictly s c.args.place c.args.operator e (typed.expr c.args.b.now) _ _ before _ _ _ _ _ types _ _
+    operation_lifts_strictly s c.args.placed.place c.args.placed.operator e (typed.expr c.args.b.now) _ _ before _ _ _ _ _ types _ _
     (sym c.is_lazy_operator.ensures ∙ c.if-is_lazy_operator.false) c.any_object.ensures c.any_object-else-is_lazy_operator.ensures
     (c.in_ok-left.ensures s e before types refl h) c.in_ok-right.ensures c.in_ok-value.ensures
 
-pub lift-returns-in_ok-source-in-Implies : goal.lift-returns-in_ok-source-in-Implies
-lift-returns-in_ok-source-in-Implies t c = λ h.
+pub lift-returns-in_ok-lift_lazily-in-Implies : goal.lift-returns-in_ok-lift_lazily-in-Implies
+lift-returns-in_ok-lift_lazily-in-Implies t c = λ h.
     let a = c.in-Implies in
-    implies_lifts (context_of c.args.context.now) a.place a.a a.b c.args.e.now _ _ _ _ (stmts_of c.args.code.now.statements) _ _ _ _ _ c.args.made.now.items _ _ _ a.is
-    c.deref-in-Implies.ensures c.deref-in-Implies-2.ensures c.deref-in-Implies-3.ensures c.place_of.ensures c.in_ok-negated-in-Implies.ensures c.in_ok-x-in-Implies.ensures.number c.in_ok-x-in-Implies.ensures.kept c.in_ok-source-in-Implies.ensures
+    let begun = c.in_ok-begun-in-Implies.ensures in
+    implies_lifts (context_of c.args.context.now) a.place a.a a.b c.args.e.now _ _ (stmts_of c.args.code.now.statements) _ _ c.args.made.now.items _ _ _ _ a.is
+    c.deref-in-Implies.ensures c.deref-in-Implies-2.ensures begun.place begun.holds begun.begun c.in_ok-lift_lazily-in-Implies.ensures
 
-pub lift-returns-in_ok-values-in-New : goal.lift-returns-in_ok-values-in-New
-lift-returns-in_ok-values-in-New t c = λ h.
+pub begin_implication-returns-clause-begun : goal.begin_implication-returns-clause-begun
+begin_implication-returns-clause-begun t c =
+    begun_there (context_of c.args.context.now) _ _ _ _ _ _ _ c.place_of.ensures c.in_ok-negated.ensures c.in_ok-x.ensures
+
+pub lift-returns-in_ok-lift_new-in-New : goal.lift-returns-in_ok-lift_new-in-New
+lift-returns-in_ok-lift_new-in-New t c = λ h.
     let a = c.in-New in
-    new_lifts (context_of c.args.context.now) a.place a.class a.es c.args.e.now _ _ (stmts_of c.args.code.now.statements) _ _ c.args.made.now.items _ a.is
-    c.deref-in-New.ensures.value (c.params_in-params.ensures ∙ ap lookups.param_types_in c.constructor_of.ensures) c.in_ok-values-in-New.ensures
+    new_lifts (context_of c.args.context.now) a.place a.class a.es c.args.e.now _ (stmts_of c.args.code.now.statements) _ c.args.made.now.items a.is
+    c.deref-in-New.ensures.value c.in_ok-lift_new-in-New.ensures
 
-pub lift-returns-in_ok-callee-in-Static : goal.lift-returns-in_ok-callee-in-Static
-lift-returns-in_ok-callee-in-Static t c = λ h.
+pub lift_new-returns : goal.lift_new-returns
+lift_new-returns t c =
+    new_called (context_of c.args.context.now) c.args.place c.args.class c.args.es.now _ (stmts_of c.args.code.now.statements) _ _ c.args.made.now.items _
+    (c.params_in-params.ensures ∙ ap lookups.param_types_in c.constructor_of.ensures) c.in_ok-values.ensures
+
+pub lift-returns-in_ok-lift_static-in-Static : goal.lift-returns-in_ok-lift_static-in-Static
+lift-returns-in_ok-lift_static-in-Static t c = λ h.
     let a = c.in-Static in
-    static_lifts (context_of c.args.context.now) a.place a.number a.field-2 a.es c.args.e.now _ _ _ (stmts_of c.args.code.now.statements) _ _ c.args.made.now.items _ a.is
-    c.deref-in-Static.ensures.value (c.params_in-params-in-Static.ensures ∙ ap lookups.param_types_in c.body_at.ensures) c.in_ok-callee-in-Static.ensures c.in_ok-values-in-Static.ensures
+    static_lifts (context_of c.args.context.now) a.at a.body a.field-2 a.es c.args.e.now _ (stmts_of c.args.code.now.statements) _ c.args.made.now.items a.is
+    c.deref-in-Static.ensures.value (c.in_ok-lift_static-in-Static.ensures a.field-2)
 
-pub lift-returns-in_ok-callee-in-Base : goal.lift-returns-in_ok-callee-in-Base
-lift-returns-in_ok-callee-in-Base t c = λ h.
+pub lift_static-returns : goal.lift_static-returns
+lift_static-returns t c = λ ty.
+    static_called (context_of c.args.context.now) c.args.place c.args.number ty c.args.es.now _ _ (stmts_of c.args.code.now.statements) _ _ c.args.made.now.items _
+    (c.params_in-params.ensures ∙ ap lookups.param_types_in c.body_at.ensures) c.in_ok-callee.ensures c.in_ok-values.ensures
+
+pub lift-returns-in_ok-lift_base-in-Base : goal.lift-returns-in_ok-lift_base-in-Base
+lift-returns-in_ok-lift_base-in-Base t c = λ h.
     let a = c.in-Base in
-    base_lifts (context_of c.args.context.now) a.place a.method a.field-2 a.es c.args.e.now _ _ _ _ (stmts_of c.args.code.now.statements) _ _ c.args.made.now.items _ a.is
-    c.deref-in-Base.ensures.value c.above_of-above.ensures (c.params_in-params-in-Base.ensures ∙ ap lookups.param_types_in c.method_at.ensures) c.in_ok-callee-in-Base.ensures c.in_ok-values-in-Base.ensures
+    base_lifts (context_of c.args.context.now) a.at a.method a.field-2 a.es c.args.e.now _ (stmts_of c.args.code.now.statements) _ c.args.made.now.items a.is
+    c.deref-in-Base.ensures.value (c.in_ok-lift_base-in-Base.ensures a.field-2)
 
-pub lift-lift_links-requires : goal.lift-lift_links-requires
-lift-lift_links-requires t c =
+pub lift_base-returns : goal.lift_base-returns
+lift_base-returns t c = λ ty.
+    base_called (context_of c.args.context.now) c.args.place c.args.method ty c.args.es.now _ _ _ (stmts_of c.args.code.now.statements) _ _ c.args.made.now.items _
+    c.above_of-above.ensures (c.params_in-params.ensures ∙ ap lookups.param_types_in c.method_at.ensures) c.in_ok-callee.ensures c.in_ok-values.ensures
+
+pub lift-lift_chain-requires : goal.lift-lift_chain-requires
+lift-lift_chain-requires t c =
     let a = c.in-Chain in
     (omega (arith, links_fall a.place a.first a.links c.args.e.now _ _ _ a.is c.as_slice-list.ensures.value c.links_behind-rest.ensures), tt)
 
-pub lift-lift_steps-requires : goal.lift-lift_steps-requires
-lift-lift_steps-requires t c =
+pub lift-lift_path-requires : goal.lift-lift_path-requires
+lift-lift_path-requires t c =
     let a = c.in-Path in
     (omega (arith, steps_fall a.place a.first a.steps c.args.e.now _ _ _ a.is c.as_slice-list-in-Path.ensures.value c.steps_behind-rest.ensures), tt)
 
-pub lift-returns-in_ok-whole-in-Chain : goal.lift-returns-in_ok-whole-in-Chain
-lift-returns-in_ok-whole-in-Chain t c = λ h.
+pub lift-returns-in_ok-lift_chain-in-Chain : goal.lift-returns-in_ok-lift_chain-in-Chain
+lift-returns-in_ok-lift_chain-in-Chain t c = λ h.
     let a = c.in-Chain in
     let s = context_of c.args.context.now in
     let before = stmts_of c.args.code.now.statements in
     let types = c.args.made.now.items in
     let front = c.in_ok-front-in-Chain.ensures.front s _ before types _ _ refl c.in_ok-operand-in-Chain.ensures in
     let rest = c.links_behind-rest.ensures in
-    let whole = c.in_ok-whole-in-Chain.ensures _ before types front.operand (links_go_along _ _ _ _ rest front.go_on) in
-    chain_lifts s a.place a.first a.links c.args.e.now _ _ _ _ before _ _ types _ a.is c.deref-in-Chain.ensures c.as_slice-list.ensures.value rest h whole.lifted
+    let whole = c.in_ok-lift_chain-in-Chain.ensures _ before types front.operand (links_go_along _ _ _ _ rest front.go_on) in
+    chain_lifts s a.place a.first a.links c.args.e.now _ _ _ _ before _ _ types _ a.is c.deref-in-Chain.ensures c.as_slice-list.ensures.value rest h whole
 
-pub lift-returns-in_ok-whole-in-Path : goal.lift-returns-in_ok-whole-in-Path
-lift-returns-in_ok-whole-in-Path t c = λ h.
+pub lift_chain-returns : goal.lift_chain-returns
+lift_chain-returns t c = λ e before types h g.
+    let whole = c.in_ok-whole.ensures e before types h g in
+    whole.lifted
+
+pub lift-returns-in_ok-lift_path-in-Path : goal.lift-returns-in_ok-lift_path-in-Path
+lift-returns-in_ok-lift_path-in-Path t c = λ h.
     let a = c.in-Path in
     let s = context_of c.args.context.now in
     let before = stmts_of c.args.code.now.statements in
     let types = c.args.made.now.items in
     let front = c.in_ok-front-in-Path.ensures.front s _ before types _ _ refl c.in_ok-operand-in-Path.ensures in
     let rest = c.steps_behind-rest.ensures in
-    let whole = c.in_ok-whole-in-Path.ensures _ before types front.operand (steps_go_along _ _ _ _ rest front.go_on) in
-    path_lifts s a.place a.first a.steps c.args.e.now _ _ _ _ before _ _ types _ a.is c.deref-in-Path.ensures c.as_slice-list-in-Path.ensures.value rest h whole.lifted
+    let whole = c.in_ok-lift_path-in-Path.ensures _ before types front.operand (steps_go_along _ _ _ _ rest front.go_on) in
+    path_lifts s a.place a.first a.steps c.args.e.now _ _ _ _ before _ _ types _ a.is c.deref-in-Path.ensures c.as_slice-list-in-Path.ensures.value rest h whole
+
+pub lift_path-returns : goal.lift_path-returns
+lift_path-returns t c = λ e before types h g.
+    let whole = c.in_ok-whole.ensures e before types h g in
+    whole.lifted
 
 pub lift_behind-returns-in_ok-source-in-Operation : goal.lift_behind-returns-in_ok-source-in-Operation
 lift_behind-returns-in_ok-source-in-Operation t c = λ e before types h.

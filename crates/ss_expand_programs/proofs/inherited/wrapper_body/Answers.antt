@@ -14,8 +14,8 @@ use Rattle.ss_expand_programs.proofs.inherited.wrapper_body.Goals as goal
 pub returns : goal.returns
 returns c =
     let p = typed.typed c.args.program.now in
-    let b = typed.body c.args.body.now in
-    let t = c.args.class.0 in
+    let b = typed.body c.args.inherited.body.now in
+    let t = c.args.inherited.class.0 in
     let place = c.args.place in
     let bs = map (λ (d : Bor TypedBody). typed.body d.now) c.args.declared.now in
     let types : c.in_ok-types.types.items ≡ wrapper_types t b.result = c.in_ok-types.ensures in
@@ -33,5 +33,5 @@ returns c =
     let named : map named_of c.in_ok-contract.contract.named.items ≡ named_terms (wrapper_numbers b t) place b t bs =
     c.in_ok-contract.ensures.named ∙ ap (λ n. named_terms n place b t bs) ns in
     let flags : c.wrapper_flags.result ≡ wrapper_flags = c.wrapper_flags.ensures in
-    let code : code_of (stmts_of c.in_ok-code.code) ≡ code_of (inherited_code p place t c.args.method b) = ap code_of c.in_ok-code.ensures in
+    let code : code_of (stmts_of c.in_ok-code.code) ≡ code_of (inherited_code p place t c.args.inherited.method b) = ap code_of c.in_ok-code.ensures in
     same_body t _ _ _ _ _ _ b.result _ _ _ _ _ _ _ _ _ _ place name params locals entry exit named flags code

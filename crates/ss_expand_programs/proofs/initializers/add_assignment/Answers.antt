@@ -10,5 +10,5 @@ use Rattle.ss_expand_programs.proofs.initializers.add_assignment.Goals as goal
 pub returns : goal.returns
 returns c = λ more.
     let s = context_of c.args.context.now in
-    let first = initial_assignment s.body.class c.args.number.0 c.args.place (core.field_of c.args.field.now) (typed.expr c.args.e.now) in
+    let first = initial_assignment s.body.class c.args.initial.number.0 c.args.place (core.field_of c.args.field.now) (typed.expr c.args.initial.value.now) in
     then_more (stmts_of c.args.code.now.statements) (stmts_of c.assign_field.new.code.statements) c.assign_field.new.made.items (stmt s first c.args.made.now.items) (stmts s more) c.in_ok-assign_field.ensures

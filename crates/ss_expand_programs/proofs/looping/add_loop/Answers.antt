@@ -15,8 +15,8 @@ use Rattle.ss_expand_programs.proofs.looping.add_loop.Goals as goal
 pub returns : goal.returns
 returns c =
     let before = stmts_of c.args.code.now.statements in
-    let with = λ (e : Expr) (es : List core.ExprTree) (xs : List core.ExposedTree). LoopStmt c.args.place es (code_of (stmts_of c.args.prelude.statements)) (expr e) (code_of (stmts_of c.args.turn.statements)) xs in
-    let at = with c.args.test.value in
+    let with = λ (e : Expr) (es : List core.ExprTree) (xs : List core.ExposedTree). LoopStmt c.args.place es (code_of (stmts_of c.args.head.prelude.statements)) (expr e) (code_of (stmts_of c.args.turn.statements)) xs in
+    let at = with c.args.head.test.value in
     let es = all_plain (numbers_of c.args.context.now.numbers.now) (exprs c.args.invariants.now) in
     c.in_ok-add.ensures
     ∙ ap (λ (x : core.StmtTree). before ++ x ∷ [])

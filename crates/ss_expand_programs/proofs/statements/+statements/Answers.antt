@@ -15,8 +15,8 @@ use Rattle.ss_expand_programs.specs.Loops.{tested, turn_of}
 use Rattle.ss_expand_programs.proofs.Codes.{coded, one_then, behind_new, value_behind_new, branched, looped, loop_tested, turned, exposed_by, stmts_where, next_stmt, ends_next}
 use Rattle.ss_expand_programs.proofs.statements.+statements.Goals as goal
 
-pub add_if-returns : goal.add_if-returns
-add_if-returns t c =
+pub add_if-returns-clause-coded : goal.add_if-returns-clause-coded
+add_if-returns-clause-coded t c =
     let s = context_of c.args.context.now in
     let f = stmt s (typed.stmt_of c.args.first.now) in
     let m1 = c.boxed_value.new.made.items in
@@ -33,13 +33,13 @@ pub add_while-returns : goal.add_while-returns
 add_while-returns t c =
     let s = context_of c.args.context.now in
     let f = stmt s (typed.stmt_of c.args.turn.now) in
-    let v = value s (typed.expr c.args.e.now) c.args.made.now.items in
+    let v = value s (typed.expr c.args.guard.test.now) c.args.made.now.items in
     let m1 = c.boxed_value.new.made.items in
     let m2 = c.add_stmt.new.made.items in
     let prelude = stmts_of c.boxed_value.new.code.statements in
     let inner = stmts_of c.add_stmt.new.code.statements in
     let test = core.expr c.in_ok-test.test.value in
-    looped s c.args.place (typed.exprs c.args.invariants.now) (stmts_of c.args.code.now.statements) (stmts_of c.add_loop.new.code.statements) prelude inner test m1 m2 v f
+    looped s c.args.place (typed.exprs c.args.guard.invariants.now) (stmts_of c.args.code.now.statements) (stmts_of c.add_loop.new.code.statements) prelude inner test m1 m2 v f
     (value_behind_new (stmts_of c.new-prelude.result.statements) prelude test m1 v c.new-prelude.ensures c.in_ok-test.ensures)
     (behind_new (stmts_of c.new-inner.result.statements) inner m2 (f m1) c.new-inner.ensures c.in_ok-add_stmt.ensures.coded)
     c.in_ok-add_loop.ensures
@@ -48,10 +48,10 @@ pub add_turns-returns : goal.add_turns-returns
 add_turns-returns t c =
     let s = context_of c.args.context.now in
     let a = typed.stmt_of c.args.turn.now in
-    let x = option_map typed.simple_of c.args.step.now in
-    let e = option_map typed.expr c.args.test.now in
-    let p = c.args.place in
-    let is = typed.exprs c.args.invariants.now in
+    let x = option_map typed.simple_of c.args.heading.step.now in
+    let e = option_map typed.expr c.args.heading.test.now in
+    let p = c.args.written.place in
+    let is = typed.exprs c.args.written.invariants.now in
     let before = stmts_of c.args.code.now.statements in
     let v = tested s p e c.args.made.now.items in
     let m1 = c.test_of.new.made.items in
@@ -70,9 +70,9 @@ pub add_for-returns : goal.add_for-returns
 add_for-returns t c =
     let s = context_of c.args.context.now in
     let p = c.args.place in
-    let i = option_map typed.init_of c.args.beginning.now in
-    let e = option_map typed.expr c.args.test.now in
-    let f = turn_of s (typed.stmt_of c.args.turn.now) (option_map typed.simple_of c.args.step.now) in
+    let i = option_map typed.init_of c.args.heading.first.now in
+    let e = option_map typed.expr c.args.heading.test.now in
+    let f = turn_of s (typed.stmt_of c.args.turn.now) (option_map typed.simple_of c.args.heading.step.now) in
     one_then (stmts_of c.args.code.now.statements) (stmts_of c.begin.new.code.statements) (stmts_of c.add_turns.new.code.statements) c.begin.new.made.items c.add_turns.new.made.items
     (begin s i c.args.made.now.items) (loop_while s p (typed.exprs c.args.invariants.now) e f) c.in_ok-begin.ensures c.in_ok-add_turns.ensures
 

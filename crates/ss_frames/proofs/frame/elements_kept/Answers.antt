@@ -12,10 +12,10 @@ use Rattle.ss_frames.proofs.Naming.{picked_made}
 use Rattle.ss_frames.proofs.frame.elements_kept.Goals as goal
 
 pub same_elements-requires-clause-call : goal.same_elements-requires-clause-call
-same_elements-requires-clause-call c = HasCall-grown c.args.b.now c.marks.new.b c.marks.ensures.grown c.args.m.now c.requires.call
+same_elements-requires-clause-call c = HasCall-grown c.args.b.now c.marks.new.b c.marks.ensures.grown c.args.context.now.call.now c.requires.call
 
 pub same_elements-requires-clause-object : goal.same_elements-requires-clause-object
-same_elements-requires-clause-object c = IsTerm-grown c.args.b.now c.marks.new.b c.marks.ensures.grown c.args.object the_object c.requires.object
+same_elements-requires-clause-object c = IsTerm-grown c.args.b.now c.marks.new.b c.marks.ensures.grown c.args.context.now.object the_object c.requires.object
 
 pub same_elements-requires-clause-index : goal.same_elements-requires-clause-index
 same_elements-requires-clause-index c = IsTerm-grown c.args.b.now c.marks.new.b c.marks.ensures.grown c.args.index the_index c.requires.index
@@ -24,8 +24,8 @@ pub unless-requires-clause-parts : goal.unless-requires-clause-parts
 unless-requires-clause-parts c =
     let b = c.marks.new.b in
     let d = c.same_elements.new.b in
-    let cs = view.classes c.args.classes.now in
-    let parts = element_parts c.args.b.now b d c.marks.ensures.grown c.same_elements.ensures.grown c.args.m.now c.requires.call c.args.free.now _ c.in_ok-parts.parts.items c.requires.free (picked_made cs b Elements c.args.m.now c.in_ok-marks.marks.items c.in_ok-marks.ensures.at)
+    let cs = view.classes c.args.context.now.classes.now in
+    let parts = element_parts c.args.b.now b d c.marks.ensures.grown c.same_elements.ensures.grown c.args.context.now.call.now c.requires.call c.args.free.now _ c.in_ok-parts.parts.items c.requires.free (picked_made cs b Elements tt c.args.context.now.call.now c.in_ok-marks.marks.items c.in_ok-marks.ensures.at)
     (c.in_ok-parts.ensures ∙ ap (λ fs. c.args.free.now ++ fs) (c.deref-2.ensures.value ∙ c.in_ok-named.ensures ∙ ap (picked cs Elements) c.deref.ensures.value)) in
     (AreMade-as d c.in_ok-parts.parts.items _ _ c.deref-3.ensures.value parts).0
 
@@ -33,11 +33,11 @@ pub returns-clause-at : goal.returns-clause-at
 returns-clause-at c =
     let b = c.marks.new.b in
     let d = c.same_elements.new.b in
-    let cs = view.classes c.args.classes.now in
-    let parts = element_parts c.args.b.now b d c.marks.ensures.grown c.same_elements.ensures.grown c.args.m.now c.requires.call c.args.free.now _ c.in_ok-parts.parts.items c.requires.free (picked_made cs b Elements c.args.m.now c.in_ok-marks.marks.items c.in_ok-marks.ensures.at)
+    let cs = view.classes c.args.context.now.classes.now in
+    let parts = element_parts c.args.b.now b d c.marks.ensures.grown c.same_elements.ensures.grown c.args.context.now.call.now c.requires.call c.args.free.now _ c.in_ok-parts.parts.items c.requires.free (picked_made cs b Elements tt c.args.context.now.call.now c.in_ok-marks.marks.items c.in_ok-marks.ensures.at)
     (c.in_ok-parts.ensures ∙ ap (λ fs. c.args.free.now ++ fs) (c.deref-2.ensures.value ∙ c.in_ok-named.ensures ∙ ap (picked cs Elements) c.deref.ensures.value)) in
     formula_equal c.forall.result c.forall.new.self _ _
     (ap (Forall (sort.Rest ∷ sort.Whole ∷ []))
     (c.in_ok-body.ensures.at.1
-    ∙ unless_says d c.in_ok-parts.parts.items _ _ c.in_ok-same.same _ parts c.deref-3.ensures.value (call_made array_kept c.args.b.now b d c.args.m.now c.in_ok-same.same c.marks.ensures.grown c.requires.call c.in_ok-same.ensures.at)))
+    ∙ unless_says d c.in_ok-parts.parts.items _ _ c.in_ok-same.same _ parts c.deref-3.ensures.value (call_made array_kept c.args.b.now b d c.args.context.now.call.now c.in_ok-same.same c.marks.ensures.grown c.requires.call c.in_ok-same.ensures.at)))
     c.forall.ensures.at

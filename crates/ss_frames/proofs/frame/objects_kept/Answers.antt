@@ -11,17 +11,17 @@ use Rattle.ss_frames.proofs.Making.{calls_now, objects_made}
 use Rattle.ss_frames.proofs.frame.objects_kept.Goals as goal
 
 pub object_kept-requires-clause-call : goal.object_kept-requires-clause-call
-object_kept-requires-clause-call c = HasCall-grown c.args.b.now c.marks.new.b c.marks.ensures.grown c.args.m.now c.requires.call
+object_kept-requires-clause-call c = HasCall-grown c.args.b.now c.marks.new.b c.marks.ensures.grown c.args.context.now.call.now c.requires.call
 
 pub object_kept-requires-clause-object : goal.object_kept-requires-clause-object
-object_kept-requires-clause-object c = IsTerm-grown c.args.b.now c.marks.new.b c.marks.ensures.grown c.args.object the_object c.requires.object
+object_kept-requires-clause-object c = IsTerm-grown c.args.b.now c.marks.new.b c.marks.ensures.grown c.args.context.now.object the_object c.requires.object
 
 pub object_kept-requires-clause-marks : goal.object_kept-requires-clause-marks
-object_kept-requires-clause-marks c = subst (AreNamed c.marks.new.b 1 c.args.m.now) (sym c.deref.ensures.value) c.in_ok-marks.ensures.at
+object_kept-requires-clause-marks c = subst (AreNamed c.marks.new.b 1 c.args.context.now.call.now) (sym c.deref.ensures.value) c.in_ok-marks.ensures.at
 
 pub object_kept-requires-clause-outside : goal.object_kept-requires-clause-outside
 object_kept-requires-clause-outside c =
-    calls_now is_outside c.args.b.now c.args.b.now c.marks.new.b c.args.m.now c.args.outside.now c.args.outside.now (IsGrown-refl c.args.b.now) c.marks.ensures.grown c.requires.call refl c.requires.outside
+    calls_now is_outside c.args.b.now c.args.b.now c.marks.new.b c.args.context.now.call.now c.args.outside.now c.args.outside.now (IsGrown-refl c.args.b.now) c.marks.ensures.grown c.requires.call refl c.requires.outside
 
 pub unless-requires-clause-parts : goal.unless-requires-clause-parts
 unless-requires-clause-parts c =
@@ -32,5 +32,5 @@ returns-clause-at c =
     formula_equal c.forall.result c.forall.new.self _ _
     (ap (Forall (sort.Rest ∷ []))
     (c.in_ok-body.ensures.at.1
-    ∙ objects_made (view.classes c.args.classes.now) c.args.b.now c.marks.new.b c.object_kept.new.b c.marks.ensures.grown c.object_kept.ensures.grown c.args.m.now c.requires.call c.args.free.now c.in_ok-keeps.keeps c.requires.free c.in_ok-keeps.ensures.at))
+    ∙ objects_made (view.classes c.args.context.now.classes.now) c.args.b.now c.marks.new.b c.object_kept.new.b c.marks.ensures.grown c.object_kept.ensures.grown c.args.context.now.call.now c.requires.call c.args.free.now c.in_ok-keeps.keeps c.requires.free c.in_ok-keeps.ensures.at))
     c.forall.ensures.at

@@ -10,13 +10,13 @@ pub unless-requires-clause-parts : goal.unless-requires-clause-parts
 unless-requires-clause-parts c =
     let a = c.args.b.now in
     let d = c.same_reads.new.b in
-    (AreMade-as d _ _ _ (c.deref.ensures.value ∙ c.in_ok-named.ensures) (AreMade-grown a d c.same_reads.ensures.grown _ _ (picked_made (view.classes c.args.classes.now) a (Field c.args.f) c.args.m.now c.args.marks.now c.requires.marks))).0
+    (AreMade-as d _ _ _ (c.deref.ensures.value ∙ c.in_ok-named.ensures) (AreMade-grown a d c.same_reads.ensures.grown _ _ (picked_made (view.classes c.args.context.now.classes.now) a (Field c.args.field.0 c.args.field.1) c.requires.declared c.args.context.now.call.now c.args.marks.now c.requires.marks))).0
 
 pub returns-clause-at : goal.returns-clause-at
 returns-clause-at c =
     let a = c.args.b.now in
     let d = c.same_reads.new.b in
     formula_equal c.unless.result c.unless.new.b _ _
-    (unless_says d _ _ _ c.in_ok-same.same _ (AreMade-grown a d c.same_reads.ensures.grown _ _ (picked_made (view.classes c.args.classes.now) a (Field c.args.f) c.args.m.now c.args.marks.now c.requires.marks))
+    (unless_says d _ _ _ c.in_ok-same.same _ (AreMade-grown a d c.same_reads.ensures.grown _ _ (picked_made (view.classes c.args.context.now.classes.now) a (Field c.args.field.0 c.args.field.1) c.requires.declared c.args.context.now.call.now c.args.marks.now c.requires.marks))
     (c.deref.ensures.value ∙ c.in_ok-named.ensures) c.in_ok-same.ensures.at)
     c.unless.ensures.at

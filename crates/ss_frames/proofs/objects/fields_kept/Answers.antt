@@ -9,21 +9,21 @@ use Rattle.ss_frames.proofs.Naming.{next_field}
 use Rattle.ss_frames.proofs.objects.fields_kept.Goals as goal
 
 pub field_kept-requires-clause-call : goal.field_kept-requires-clause-call
-field_kept-requires-clause-call c = HasCall-grown c.args.b.now c.loop-f.b c.loop-f.invariant.grown c.args.m.now c.requires.call
+field_kept-requires-clause-call c = HasCall-grown c.args.b.now c.loop-f.b c.loop-f.invariant.grown c.args.context.now.call.now c.requires.call
 
 pub field_kept-requires-clause-object : goal.field_kept-requires-clause-object
-field_kept-requires-clause-object c = IsTerm-grown c.args.b.now c.loop-f.b c.loop-f.invariant.grown c.args.object the_object c.requires.object
+field_kept-requires-clause-object c = IsTerm-grown c.args.b.now c.loop-f.b c.loop-f.invariant.grown c.args.context.now.object the_object c.requires.object
 
 pub field_kept-requires-clause-marks : goal.field_kept-requires-clause-marks
-field_kept-requires-clause-marks c = AreNamed-grown c.args.b.now c.loop-f.b c.loop-f.invariant.grown 1 c.args.m.now c.args.marks.now c.requires.call c.requires.marks
+field_kept-requires-clause-marks c = AreNamed-grown c.args.b.now c.loop-f.b c.loop-f.invariant.grown 1 c.args.context.now.call.now c.args.marks.now c.requires.call c.requires.marks
 
 pub loop-f-preserved : goal.loop-f-preserved
 loop-f-preserved c =
     let a = c.args.b.now in
     let b = c.loop-f.b in
     let d = c.field_kept.new.b in
-    let cs = view.classes c.args.classes.now in
-    let m = c.args.m.now in
+    let cs = view.classes c.args.context.now.classes.now in
+    let m = c.args.context.now.call.now in
     let v = c.loop-f.invariant in
     let one = subst (λ n. IsMade d c.in_ok-g.g (field_kept cs (call_at b m) n)) c.in_ok-f.ensures c.in_ok-g.ensures.at in
     record {

@@ -7,5 +7,5 @@ use Rattle.ss_frames.proofs.objects.fields_kept.Given as goal
 abbrev pub invariant-loop-f : goal.invariant-loop-f
 invariant-loop-f l = record {
   grown : IsGrown l.initial.b l.b;
-  made : AreMade l.b l.made.items (fields_kept (view.classes l.classes) (call_at l.initial.b l.m) 0 l.f);
+  made : AreMade l.b l.made.items (fields_kept (view.classes l.context.classes.now) (call_at l.initial.b l.context.call.now) 0 l.f);
 }

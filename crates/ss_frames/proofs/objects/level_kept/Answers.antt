@@ -12,7 +12,7 @@ unless-requires-clause-parts c =
     let d = c.same_reads.new.b in
     let outside = c.args.outside.now in
     (AreMade-as d _ _ _ (c.deref-2.ensures.value ∙ c.in_ok-parts.ensures ∙ ap (λ fs. outside ++ fs) (c.deref.ensures.value ∙ c.in_ok-named.ensures)) (AreMade-grown a d c.same_reads.ensures.grown _ _
-    (AreMade-append a outside _ _ _ c.requires.outside (picked_made (view.classes c.args.classes.now) a Level c.args.m.now c.args.marks.now c.requires.marks)))).0
+    (AreMade-append a outside _ _ _ c.requires.outside (picked_made (view.classes c.args.context.now.classes.now) a Level tt c.args.context.now.call.now c.args.marks.now c.requires.marks)))).0
 
 pub returns-clause-at : goal.returns-clause-at
 returns-clause-at c =
@@ -21,6 +21,6 @@ returns-clause-at c =
     let outside = c.args.outside.now in
     formula_equal c.unless.result c.unless.new.b _ _
     (unless_says d _ _ _ c.in_ok-same.same _
-    (AreMade-grown a d c.same_reads.ensures.grown _ _ (AreMade-append a outside _ _ _ c.requires.outside (picked_made (view.classes c.args.classes.now) a Level c.args.m.now c.args.marks.now c.requires.marks)))
+    (AreMade-grown a d c.same_reads.ensures.grown _ _ (AreMade-append a outside _ _ _ c.requires.outside (picked_made (view.classes c.args.context.now.classes.now) a Level tt c.args.context.now.call.now c.args.marks.now c.requires.marks)))
     (c.deref-2.ensures.value ∙ c.in_ok-parts.ensures ∙ ap (λ fs. outside ++ fs) (c.deref.ensures.value ∙ c.in_ok-named.ensures)) c.in_ok-same.ensures.at)
     c.unless.ensures.at

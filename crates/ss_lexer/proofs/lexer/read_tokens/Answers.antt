@@ -19,7 +19,7 @@ returns-in_err-take c =
     let answer = stops_as (Unit {0}) c.args.bytes.now c.loop-rest.lexer c.take.new.self _ c.split_at.result.0.now c.loop-rest.rest.now c.split_at.result.1.now first c.loop-rest.invariant c.in_err-take.field-0.0 c.if-bytes-gt-MAX_BYTES.false c.in_err-take.ensures in
     let p = err_from_is_err_and c.from_residual.result c.from_residual.ensures.1 in rw (p.1, p.2) answer
 
-pub returns-in-Ok : goal.returns-in-Ok
-returns-in-Ok c =
+pub returns : goal.returns
+returns c =
     read_as c.args.bytes.now _ c.if-bytes-gt-MAX_BYTES.false
-    (ends (without_mark c.args.bytes.now) c.loop-rest.lexer c.loop-rest.rest.now _ c.loop-rest.invariant (nothing_left c.loop-rest.rest.now c.loop-rest-test.ensures) (ap (λ s. s.tokens) c.in-Ok.ensures.state))
+    (ends (without_mark c.args.bytes.now) c.loop-rest.lexer c.loop-rest.rest.now _ c.loop-rest.invariant (nothing_left c.loop-rest.rest.now c.loop-rest-test.ensures) (ap (λ s. s.tokens) c.in_ok-push.ensures.state))

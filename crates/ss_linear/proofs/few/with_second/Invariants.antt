@@ -10,5 +10,5 @@ use Rattle.ss_linear.proofs.few.with_second.Given as goal
 
 abbrev pub invariant-loop-j : goal.invariant-loop-j
 invariant-loop-j l =
-    (cs : List ClassTree) (known : List Formula) → AreFacts cs l.bank known l.facts → two.fact_at cs known l.i ≡ Some (linear.fact_at l.bank l.a) →
+    (cs : List ClassTree) (known : List Formula) → AreFacts cs l.context.bank.now known l.context.facts.now → two.fact_at cs known l.i ≡ Some (linear.fact_at l.context.bank.now l.a) →
     (k : ℕ) → k < l.j → (w u : ℤ) → IsUnit w → IsUnit u → IsNone cs known ((l.i, w) ∷ (k, u) ∷ [])

@@ -8,8 +8,8 @@ use Rattle.ss_linear_sums.proofs.adding.weighted.Given as goal
 
 abbrev pub invariant-loop-part : goal.invariant-loop-part
 invariant-loop-part l = record {
-  kept : AreKept l.bank l.table.kept.items;
-  has : HasParts l.bank l.sum.parts.items;
-  goes_on : (cs : List ClassTree) → IsBankOf cs l.bank →
-      sums.weighted cs (formulas_at l.bank l.known) (sum_at l.bank l.sum) (drop l.part-index l.parts) ≡ sums.weighted cs (formulas_at l.bank l.known) (sums.number_sum (pos 0)) l.parts;
+  kept : AreKept l.fn.bank l.table.kept.items;
+  has : HasParts l.fn.bank l.sum.parts.items;
+  goes_on : (cs : List ClassTree) → IsBankOf cs l.fn.bank →
+      sums.weighted cs (formulas_at l.fn.bank l.fn.known) (sum_at l.fn.bank l.sum) (drop l.part-index l.parts) ≡ sums.weighted cs (formulas_at l.fn.bank l.fn.known) (sums.number_sum (pos 0)) l.parts;
 }

@@ -16,7 +16,7 @@ text_of-requires-clause-placed c =
     let h = c.in-Some.ensures.lookup in
     let e : slice_get os.list.items k ≡ Some o =
     ap (λ (l : List Listed). slice_get l k) (sym c.deref.ensures.value) ∙ slice_get-get_or c.deref.result.now k o h.3.0 ∙ ap (λ (t : Listed). Some t) (sym h.1) in
-    subst (λ (ts : List FormulaId). IsPlaced os.bank (length ts) o) (sym c.deref-2.ensures.value) (within_at os.bank (length os.trail.items) os.list.items k o c.requires.within.list e)
+    subst (λ (ts : List FormulaId). IsPlaced os.bank (length ts) o) (sym c.deref-3.ensures.value) (within_at os.bank (length os.trail.items) os.list.items k o c.requires.within.list e)
 
 pub returns-clause-within : goal.returns-clause-within
 returns-clause-within c =

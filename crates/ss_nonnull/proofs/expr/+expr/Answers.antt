@@ -9,36 +9,36 @@ use Rattle.ss_nonnull_rules.specs.Faults.{inside, wanted_if, handed}
 use Rattle.ss_typed.specs.Parts.{link_behind, step_behind}
 use Rattle.ss_nonnull_facts.specs.Called.{called_types}
 use Rattle.ss_typed.proofs.Grouping.{as_is, call_is, element_is, field_is, is_is, length_is, operation_is}
-use Rattle.ss_nonnull.specs.Codes.{path_of, context_of, seen_of}
-use Rattle.ss_nonnull.specs.Seen.{seen, plain}
+use Rattle.ss_nonnull_seen.specs.Codes.{path_of, context_of, seen_of}
+use Rattle.ss_nonnull_seen.specs.Seen.{seen, plain}
 use Rattle.ss_nonnull_rules.specs.NonNull.{Known}
 use Rattle.ss_typed.specs.declared.expr.TypedExpr.{TypedExpr}
-use Rattle.ss_nonnull.proofs.Seeing.{wanted_noted, right_known, right_keeps, operation_leads, tested_leads, converted_leads, field_leads, element_leads, length_leads, call_leads}
+use Rattle.ss_nonnull_seen.proofs.Seeing.{wanted_noted, right_known, right_keeps, operation_leads, tested_leads, converted_leads, field_leads, element_leads, length_leads, call_leads}
 use Rattle.ss_typed.proofs.Falls.{links_fall, steps_fall}
 use Rattle.ss_nonnull.proofs.Walking.{chain_walked, path_walked, leads_by, part_leads, parts_led, no_parts}
 use Rattle.ss_nonnull.proofs.Arguments.{one_more, all_done}
 use Rattle.ss_nonnull.proofs.expr.+expr.Goals as goal
 
-pub check-returns-in_ok-longer-in-Chain : goal.check-returns-in_ok-longer-in-Chain
-check-returns-in_ok-longer-in-Chain t c =
+pub check-returns-in_ok-check_links-in-Chain : goal.check-returns-in_ok-check_links-in-Chain
+check-returns-in_ok-check_links-in-Chain t c =
     let a = c.in-Chain in
     let w = chain_walked (context_of c.args.context.now) (path_of c.args.known.now) c.args.found.now.items _ _ _ _ a.place a.first a.links c.args.e.now _ _ a.is
-    c.deref-in-Chain.ensures c.deref-in-Chain-2.ensures.value c.in_ok-head-in-Chain.ensures.seen c.in_ok-head-in-Chain.ensures.noted
-    c.in_ok-longer-in-Chain.ensures in
+    c.deref.ensures c.deref-in-Chain.ensures.value c.in_ok-head-in-Chain.ensures.seen c.in_ok-head-in-Chain.ensures.noted
+    c.in_ok-check_links-in-Chain.ensures in
     record { seen = w.is; noted = w.noted }
 
-pub check-returns-in_ok-longer-in-Path : goal.check-returns-in_ok-longer-in-Path
-check-returns-in_ok-longer-in-Path t c =
+pub check-returns-in_ok-check_steps-in-Path : goal.check-returns-in_ok-check_steps-in-Path
+check-returns-in_ok-check_steps-in-Path t c =
     let a = c.in-Path in
     let w = path_walked (context_of c.args.context.now) (path_of c.args.known.now) c.args.found.now.items _ _ _ _ a.place a.first a.steps c.args.e.now _ _ a.is
     c.deref-in-Path.ensures c.deref-in-Path-2.ensures.value c.in_ok-head-in-Path.ensures.seen c.in_ok-head-in-Path.ensures.noted
-    c.in_ok-longer-in-Path.ensures in
+    c.in_ok-check_steps-in-Path.ensures in
     record { seen = w.is; noted = w.noted }
 
 pub check-check_links-requires : goal.check-check_links-requires
 check-check_links-requires t c =
     let a = c.in-Chain in
-    (omega (arith, links_fall a.place a.first a.links c.args.e.now c.deref-in-Chain-2.result.now a.is c.deref-in-Chain-2.ensures.value), tt)
+    (omega (arith, links_fall a.place a.first a.links c.args.e.now c.deref-in-Chain.result.now a.is c.deref-in-Chain.ensures.value), tt)
 
 pub check-check_steps-requires : goal.check-check_steps-requires
 check-check_steps-requires t c =
@@ -76,7 +76,7 @@ check_steps-returns t c =
 
 pub check_operation-returns : goal.check_operation-returns
 check_operation-returns t c =
-    operation_leads (context_of c.args.context.now) (path_of c.args.known.now) c.args.found.now.items _ (seen_of c.args.head) _ _ c.args.place c.args.operator (expr c.args.operand.now)
+    operation_leads (context_of c.args.context.now) (path_of c.args.known.now) c.args.found.now.items _ (seen_of c.args.head) _ _ c.args.placed.place c.args.placed.operator (expr c.args.operand.now)
     c.in_ok-right.ensures.seen c.in_ok-right.ensures.noted c.in_ok-whole.ensures
 
 pub check_right-returns-in_ok-right-in-Some : goal.check_right-returns-in_ok-right-in-Some

@@ -5,7 +5,7 @@ use Rattle.ss_core.specs.declared.class.Class.{Class}
 use Rattle.ss_core.specs.View.{class_of}
 use Rattle.ss_paths.specs.Fields.{fields_in}
 use Rattle.ss_typed.specs.View.{field}
-use Rattle.ss_nonnull.specs.Codes.{path_of, context_of}
+use Rattle.ss_nonnull_seen.specs.Codes.{path_of, context_of}
 use Rattle.ss_nonnull.specs.Initial.{begun_with, type_of_field}
 use Rattle.ss_nonnull.proofs.Initials.{none_begun, next_begun, one_initial, all_initial}
 use Rattle.ss_nonnull.proofs.initializers.check_initials.Goals as goal

@@ -5,7 +5,7 @@ use Rattle.ss_core.specs.declared.class.Class.{Class}
 use Rattle.ss_core.specs.View.{class_of}
 use Rattle.ss_paths.specs.Fields.{fields_in}
 use Rattle.ss_typed.specs.View.{field}
-use Rattle.ss_nonnull.specs.Codes.{path_of, context_of}
+use Rattle.ss_nonnull_seen.specs.Codes.{path_of, context_of}
 use Rattle.ss_nonnull.specs.Initial.{begun_with, begun_below, each_initial}
 use Rattle.ss_nonnull.proofs.initializers.check_initials.Given as goal
 

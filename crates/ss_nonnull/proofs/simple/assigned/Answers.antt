@@ -1,6 +1,6 @@
 use Rattle.ss_typed.specs.View.{simple_of}
-use Rattle.ss_nonnull.specs.Codes.{path_of, context_of}
-use Rattle.ss_nonnull.specs.Paths.{assigned_known, fields_known}
+use Rattle.ss_nonnull_seen.specs.Codes.{path_of, context_of}
+use Rattle.ss_nonnull_seen.specs.Paths.{assigned_known, fields_known}
 use Rattle.ss_nonnull.proofs.Points.{twice}
 use Rattle.ss_nonnull.proofs.simple.assigned.Goals as goal
 

@@ -1,5 +1,5 @@
 use Rattle.ss_typed.specs.View.{declarator}
-use Rattle.ss_nonnull.specs.Codes.{path_of, context_of}
+use Rattle.ss_nonnull_seen.specs.Codes.{path_of, context_of}
 use Rattle.ss_nonnull.proofs.Points.{declared_known}
 use Rattle.ss_nonnull.proofs.simple.check_declarator.Goals as goal
 

@@ -1,4 +1,4 @@
-use Rattle.ss_nonnull.specs.Codes.{path_of, context_of}
+use Rattle.ss_nonnull_seen.specs.Codes.{path_of, context_of}
 use Rattle.ss_nonnull.proofs.Points.{one_known, one_noted, all_known, all_noted}
 use Rattle.ss_nonnull.proofs.simple.check_declarators.Goals as goal
 

@@ -1,6 +1,6 @@
 use Rattle.std.proofs.Common.{◌≡◌, ◌++◌, map, drop}
 use Rattle.ss_typed.specs.View.{declarator}
-use Rattle.ss_nonnull.specs.Codes.{path_of, context_of}
+use Rattle.ss_nonnull_seen.specs.Codes.{path_of, context_of}
 use Rattle.ss_nonnull.specs.Walks.{known_behind_all, all_faults}
 use Rattle.ss_nonnull.proofs.simple.check_declarators.Given as goal
 

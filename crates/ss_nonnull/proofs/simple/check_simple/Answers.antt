@@ -2,8 +2,8 @@ use Rattle.std.proofs.Common.{◌++◌, ap, sym, ◌∙◌}
 use Rattle.ss_typed.specs.Tree.{SimpleTree}
 use Rattle.ss_typed.specs.View.{expr, simple_of}
 use Rattle.ss_nonnull_rules.specs.Faults.{done_faults}
-use Rattle.ss_nonnull.specs.Codes.{path_of, context_of}
-use Rattle.ss_nonnull.specs.Seen.{Seen}
+use Rattle.ss_nonnull_seen.specs.Codes.{path_of, context_of}
+use Rattle.ss_nonnull_seen.specs.Seen.{Seen}
 use Rattle.ss_nonnull.proofs.Points.{assigned_is, assign_noted}
 use Rattle.ss_nonnull.proofs.simple.check_simple.Goals as goal
 

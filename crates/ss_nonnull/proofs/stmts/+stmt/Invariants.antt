@@ -1,7 +1,7 @@
 use Rattle.std.proofs.Common.{◌≡◌, ◌++◌, map, drop}
 use Rattle.ss_typed.specs.Tree.{stmt_trees}
 use Rattle.ss_typed.specs.View.{stmt_of}
-use Rattle.ss_nonnull.specs.Codes.{path_of, context_of}
+use Rattle.ss_nonnull_seen.specs.Codes.{path_of, context_of}
 use Rattle.ss_nonnull.specs.Walks.{known_at_end, along_faults}
 use Rattle.ss_nonnull.proofs.stmts.+stmt.Given as goal
 

@@ -2,8 +2,8 @@ use Rattle.std.proofs.Common.{ℕ, List, ap, ◌∙◌}
 use Rattle.std.specs.Prelude.{option_map}
 use Rattle.ss_typed.specs.View.{stmt_of}
 use Rattle.ss_paths.specs.Sets.{among}
-use Rattle.ss_nonnull.specs.Codes.{path_of}
-use Rattle.ss_nonnull.specs.Paths.{untold}
+use Rattle.ss_nonnull_seen.specs.Codes.{path_of}
+use Rattle.ss_nonnull_seen.specs.Paths.{untold}
 use Rattle.ss_nonnull.proofs.Statements.{head_is}
 use Rattle.ss_nonnull.proofs.stmts.at_head.Goals as goal
 

@@ -1,10 +1,10 @@
 use Rattle.std.proofs.Common.{◌≡◌, [], ◌∷◌, ◌++◌, length, ap, sym, subst, ◌∙◌, append_assoc, arith, codes, OnOk}
 use Rattle.ss_core.specs.View as view
-use Rattle.ss_report_core.specs.Names.{local_names}
+use Rattle.ss_report_names.specs.Names.{local_names}
 use Rattle.ss_report_core.specs.Exprs.{expr_text}
 use Rattle.ss_report_core.specs.Behinds.{word_before, word_behind}
-use Rattle.ss_report_core.specs.Tables.{texts}
-use Rattle.ss_report_core.specs.Contexts.{classes_of, names_in}
+use Rattle.ss_report_names.specs.Tables.{texts}
+use Rattle.ss_report_names.specs.Contexts.{classes_of, names_in}
 use Rattle.ss_report_core.proofs.ExprTexts.{chain_done, path_done, quantified_done, state_done, owners_done}
 use Rattle.ss_report_core.proofs.Written.{three_written}
 use Rattle.ss_report_core.proofs.exprs.+expr.Goals as goal

@@ -1,5 +1,5 @@
 use Rattle.std.proofs.Common.{◌≡◌, ◌++◌, drop, map}
-use Rattle.ss_report_core.specs.Contexts.{classes_of, names_in}
+use Rattle.ss_report_names.specs.Contexts.{classes_of, names_in}
 use Rattle.ss_report_core.specs.Behinds.{link_behind, step_behind, links_text, steps_text}
 use Rattle.ss_report_core.proofs.exprs.+expr.Given as goal
 

@@ -1,6 +1,6 @@
 use Rattle.std.proofs.Common.{◌≡◌, ◌++◌, drop}
 use Rattle.ss_core.specs.View as view
-use Rattle.ss_report_core.specs.Contexts.{core_of, names_in}
+use Rattle.ss_report_names.specs.Contexts.{core_of, names_in}
 use Rattle.ss_report_core.specs.Stmts.{code_text}
 use Rattle.ss_report_core.proofs.stmts.+stmt.Given as goal
 

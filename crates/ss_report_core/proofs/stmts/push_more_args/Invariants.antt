@@ -1,7 +1,7 @@
 use Rattle.std.proofs.Common.{◌≡◌, ◌++◌, drop, map}
 use Rattle.std.specs.List.{flat_map}
 use Rattle.ss_core.specs.View as view
-use Rattle.ss_report_core.specs.Contexts.{core_of, names_in}
+use Rattle.ss_report_names.specs.Contexts.{core_of, names_in}
 use Rattle.ss_report_core.specs.Stmts.{behind_comma}
 use Rattle.ss_report_core.proofs.stmts.push_more_args.Given as goal
 

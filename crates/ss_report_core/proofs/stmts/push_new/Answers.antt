@@ -1,7 +1,7 @@
 use Rattle.std.proofs.Common.{codes, map}
 use Rattle.ss_core.specs.View as view
-use Rattle.ss_report_core.specs.Names.{class_name}
-use Rattle.ss_report_core.specs.Contexts.{core_of, classes_of, names_in}
+use Rattle.ss_report_names.specs.Names.{class_name}
+use Rattle.ss_report_names.specs.Contexts.{core_of, classes_of, names_in}
 use Rattle.ss_report_core.specs.Stmts.{kept_text, args_text}
 use Rattle.ss_report_core.proofs.Written.{made_line}
 use Rattle.ss_report_core.proofs.stmts.push_new.Goals as goal

@@ -1,8 +1,8 @@
 use Rattle.std.proofs.Common.{codes}
 use Rattle.ss_core.specs.View as view
-use Rattle.ss_report_core.specs.Names.{element_name}
+use Rattle.ss_report_names.specs.Names.{element_name}
 use Rattle.ss_report_core.specs.Exprs.{expr_text}
-use Rattle.ss_report_core.specs.Contexts.{classes_of, names_in}
+use Rattle.ss_report_names.specs.Contexts.{classes_of, names_in}
 use Rattle.ss_report_core.specs.Stmts.{kept_text}
 use Rattle.ss_report_core.proofs.Written.{made_line}
 use Rattle.ss_report_core.proofs.stmts.push_new_array.Goals as goal

@@ -1,7 +1,7 @@
 use Rattle.std.proofs.Common.{◌≡◌, ◌++◌, drop}
 use Rattle.std.specs.List.{flat_map}
 use Rattle.ss_report_core.specs.Groups.{trees}
-use Rattle.ss_report_core.specs.Contexts.{core_of}
+use Rattle.ss_report_names.specs.Contexts.{core_of}
 use Rattle.ss_report_core.specs.Text.{body_text}
 use Rattle.ss_report_core.proofs.whole.push_bodies.Given as goal
 

@@ -1,7 +1,7 @@
 use Rattle.std.proofs.Common.{ℕ, List, [], ◌++◌, append_assoc, codes}
 use Rattle.ss_core.specs.View as view
-use Rattle.ss_report_core.specs.Names.{title, local_names}
-use Rattle.ss_report_core.specs.Contexts.{core_of, classes_of}
+use Rattle.ss_report_names.specs.Names.{title, local_names}
+use Rattle.ss_report_names.specs.Contexts.{core_of, classes_of}
 use Rattle.ss_report_core.specs.Stmts.{line, deeper, code_text}
 use Rattle.ss_report_core.proofs.Written.{three_written}
 use Rattle.ss_report_core.proofs.whole.push_body.Goals as goal

@@ -1,5 +1,5 @@
 use Rattle.std.proofs.Common.{◌++◌, ap}
-use Rattle.ss_report_core.specs.Contexts.{core_of}
+use Rattle.ss_report_names.specs.Contexts.{core_of}
 use Rattle.ss_report_core.specs.Text.{classes_from}
 use Rattle.ss_report_core.proofs.ClassSteps.{class_written}
 use Rattle.ss_report_core.proofs.whole.push_classes.Goals as goal

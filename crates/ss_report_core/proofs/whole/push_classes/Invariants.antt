@@ -1,6 +1,6 @@
 use Rattle.std.proofs.Common.{◌≡◌, ◌++◌, drop, map}
 use Rattle.ss_core.specs.View as view
-use Rattle.ss_report_core.specs.Contexts.{core_of}
+use Rattle.ss_report_names.specs.Contexts.{core_of}
 use Rattle.ss_report_core.specs.Text.{classes_from, core_text}
 use Rattle.ss_report_core.proofs.whole.push_classes.Given as goal
 

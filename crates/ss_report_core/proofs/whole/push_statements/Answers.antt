@@ -2,8 +2,8 @@ use Rattle.std.proofs.Common.{List, ◌≡◌, ◌++◌, OnOk, ap, subst, ◌∙
 use Rattle.std.proofs.lemmas.List.{append-nil}
 use Rattle.ss_core.specs.declared.stmt.Stmt.{Stmt}
 use Rattle.ss_core.specs.View as view
-use Rattle.ss_report_core.specs.Names.{local_names}
-use Rattle.ss_report_core.specs.Contexts.{core_of}
+use Rattle.ss_report_names.specs.Names.{local_names}
+use Rattle.ss_report_names.specs.Contexts.{core_of}
 use Rattle.ss_report_core.specs.Stmts.{code_text}
 use Rattle.ss_report_core.proofs.whole.push_statements.Goals as goal
 

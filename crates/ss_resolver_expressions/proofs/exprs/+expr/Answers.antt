@@ -1,79 +1,113 @@
-use Rattle.std.proofs.Common.{◌≡◌, ◌++◌, [], ◌∷◌, map, option_map, sym, ap, ◌∙◌, refl, rules, arith}
+use Rattle.std.proofs.Common.{◌≡◌, ◌++◌, [], ◌∷◌, Some, map, option_map, sym, ap, ◌∙◌, refl, rules, arith}
+use Rattle.ss_core.specs.declared.names.Ty.TheVariants as ty
 use Rattle.ss_ast.specs.declared.expr.Expr.{Expr}
 use Rattle.ss_ast.specs.Expressions.{expr_tree}
 use Rattle.ss_tables_lookup.specs.Views.{type_of}
+use Rattle.ss_typed.specs.Tree as typed
 use Rattle.ss_typed.specs.View as view
 use Rattle.ss_resolver_rules.specs.Expressions.{expr, class_named_by}
-use Rattle.ss_resolver_expressions.specs.Environments.{env_of, part, part_view, numbers_of}
+use Rattle.ss_resolver_expressions.specs.Environments.{AnOther, env_of, part, part_view, numbers_of}
 use Rattle.ss_ast.specs.Parts.{link_behind, postfix_behind}
 use Rattle.ss_resolver_expressions.proofs.Loops.{none_yet, one_more, drop_all}
 use Rattle.ss_ast.proofs.Falls.{links_fall, postfixes_fall}
 use Rattle.ss_resolver_expressions.proofs.Walked as walked
 use Rattle.ss_resolver_expressions.proofs.exprs.+expr.Goals as goal
 
-pub walk-returns-in_ok-longer-in-Chain-clause-part : goal.walk-returns-in_ok-longer-in-Chain-clause-part
-walk-returns-in_ok-longer-in-Chain-clause-part t c =
+pub walk-returns-in_ok-walk_links-in-Chain-clause-part : goal.walk-returns-in_ok-walk_links-in-Chain-clause-part
+walk-returns-in_ok-walk_links-in-Chain-clause-part t c =
     let a = c.in-Chain in
     let b = c.in_ok-before-in-Chain in
-    walked.chain_walked c.args.context.now c.args.names.now _ a.place a.first a.links c.args.e.now _ _ _ _ a.is c.deref-in-Chain.ensures c.deref-in-Chain-2.ensures.value b.ensures.kept b.ensures.part c.in_ok-longer-in-Chain.ensures.part
+    walked.chain_walked c.args.context.now c.args.names.now _ a.place a.first a.links c.args.e.now _ _ _ _ a.is c.deref-in-Chain.ensures c.deref-in-Chain-2.ensures.value b.ensures.kept b.ensures.part c.in_ok-walk_links-in-Chain.ensures.part
 
-pub walk-returns-in_ok-longer-in-Path-clause-part : goal.walk-returns-in_ok-longer-in-Path-clause-part
-walk-returns-in_ok-longer-in-Path-clause-part t c =
+pub walk-returns-in_ok-walk_postfixes-in-Path-clause-part : goal.walk-returns-in_ok-walk_postfixes-in-Path-clause-part
+walk-returns-in_ok-walk_postfixes-in-Path-clause-part t c =
     let a = c.in-Path in
     let b = c.in_ok-before-in-Path in
-    walked.path_walked c.args.context.now c.args.names.now _ a.place a.first a.postfixes c.args.e.now _ _ _ _ a.is c.deref.ensures c.deref-in-Path.ensures.value b.ensures.kept b.ensures.part c.in_ok-longer-in-Path.ensures.part
+    walked.path_walked c.args.context.now c.args.names.now _ a.place a.first a.postfixes c.args.e.now _ _ _ _ a.is c.deref.ensures c.deref-in-Path.ensures.value b.ensures.kept b.ensures.part c.in_ok-walk_postfixes-in-Path.ensures.part
 
-pub walk-returns-in_ok-whole-in-Paren-clause-part : goal.walk-returns-in_ok-whole-in-Paren-clause-part
-walk-returns-in_ok-whole-in-Paren-clause-part t c =
+pub walk-returns-in_ok-walk_paren-in-Paren-clause-part : goal.walk-returns-in_ok-walk_paren-in-Paren-clause-part
+walk-returns-in_ok-walk_paren-in-Paren-clause-part t c =
     let a = c.in-Paren in
-    let b = c.in_ok-inner-in-Paren in
-    walked.paren_walked c.args.context.now c.args.names.now _ _ _ c.args.e.now _ _ _ a.is c.deref-in-Paren.ensures b.ensures.kept b.ensures.part c.in_ok-whole-in-Paren.ensures
+    walked.paren_read c.args.context.now c.args.names.now a.field-0 a.inner c.args.e.now _ _ a.is c.deref-in-Paren.ensures (c.in_ok-walk_paren-in-Paren.ensures.part a.field-0)
 
-pub walk-returns-in_ok-whole-in-Old-clause-part : goal.walk-returns-in_ok-whole-in-Old-clause-part
-walk-returns-in_ok-whole-in-Old-clause-part t c =
+pub walk-returns-in_ok-walk_old-in-Old-clause-part : goal.walk-returns-in_ok-walk_old-in-Old-clause-part
+walk-returns-in_ok-walk_old-in-Old-clause-part t c =
     let a = c.in-Old in
-    let b = c.in_ok-inner-in-Old in
-    walked.old_walked c.args.context.now c.args.names.now _ _ _ c.args.e.now _ _ _ a.is c.deref-in-Old.ensures b.ensures.kept b.ensures.part c.in_ok-whole-in-Old.ensures
+    walked.old_read c.args.context.now c.args.names.now a.place a.inner c.args.e.now _ _ a.is c.deref-in-Old.ensures c.in_ok-walk_old-in-Old.ensures.part
 
-pub walk-returns-in_ok-whole-in-Negate-clause-part : goal.walk-returns-in_ok-whole-in-Negate-clause-part
-walk-returns-in_ok-whole-in-Negate-clause-part t c =
+pub walk-returns-in_ok-walk_negate-in-Negate-clause-part : goal.walk-returns-in_ok-walk_negate-in-Negate-clause-part
+walk-returns-in_ok-walk_negate-in-Negate-clause-part t c =
     let a = c.in-Negate in
-    walked.negate_walked c.args.context.now c.args.names.now _ _ c.args.e.now _ _ _ a.is c.deref-in-Negate.ensures c.in_ok-inner-in-Negate.ensures.tree c.in_ok-whole-in-Negate.ensures
+    walked.negate_walked c.args.context.now c.args.names.now _ _ c.args.e.now _ _ _ a.is c.deref-in-Negate.ensures refl c.in_ok-walk_negate-in-Negate.ensures.part
 
-pub walk-returns-in_ok-whole-in-Not-clause-part : goal.walk-returns-in_ok-whole-in-Not-clause-part
-walk-returns-in_ok-whole-in-Not-clause-part t c =
+pub walk-returns-in_ok-walk_not-in-Not-clause-part : goal.walk-returns-in_ok-walk_not-in-Not-clause-part
+walk-returns-in_ok-walk_not-in-Not-clause-part t c =
     let a = c.in-Not in
-    walked.not_walked c.args.context.now c.args.names.now _ _ c.args.e.now _ _ _ a.is c.deref-in-Not.ensures c.in_ok-inner-in-Not.ensures.tree c.in_ok-whole-in-Not.ensures
+    walked.not_walked c.args.context.now c.args.names.now _ _ c.args.e.now _ _ _ a.is c.deref-in-Not.ensures refl c.in_ok-walk_not-in-Not.ensures.part
 
-pub walk-returns-in_ok-whole-in-Iff-clause-part : goal.walk-returns-in_ok-whole-in-Iff-clause-part
-walk-returns-in_ok-whole-in-Iff-clause-part t c =
-    walked.iff_walked c.args.context.now c.args.names.now _ _ _ _ c.args.e.now _ _ _ _ _ c.in-Iff.is c.deref-in-Iff.ensures c.deref-in-Iff-2.ensures c.in_ok-a-in-Iff.ensures.kept
-    c.in_ok-a-in-Iff.ensures.tree c.in_ok-b-in-Iff.ensures.tree c.in_ok-whole-in-Iff.ensures
+pub walk-returns-in_ok-walk_iff-in-Iff-clause-part : goal.walk-returns-in_ok-walk_iff-in-Iff-clause-part
+walk-returns-in_ok-walk_iff-in-Iff-clause-part t c =
+    walked.iff_walked c.args.context.now c.args.names.now _ _ _ _ c.args.e.now _ _ _ _ _ c.in-Iff.is c.deref-in-Iff.ensures c.deref-in-Iff-2.ensures c.in_ok-left-in-Iff.ensures.kept
+    c.in_ok-left-in-Iff.ensures.tree refl c.in_ok-walk_iff-in-Iff.ensures.part
 
-pub walk-returns-in_ok-whole-in-Implies-clause-part : goal.walk-returns-in_ok-whole-in-Implies-clause-part
-walk-returns-in_ok-whole-in-Implies-clause-part t c =
-    walked.implies_walked c.args.context.now c.args.names.now _ _ _ _ c.args.e.now _ _ _ _ _ c.in-Implies.is c.deref-in-Implies.ensures c.deref-in-Implies-2.ensures c.in_ok-a-in-Implies.ensures.kept
-    c.in_ok-a-in-Implies.ensures.tree c.in_ok-b-in-Implies.ensures.tree c.in_ok-whole-in-Implies.ensures
+pub walk-returns-in_ok-walk_implies-in-Implies-clause-part : goal.walk-returns-in_ok-walk_implies-in-Implies-clause-part
+walk-returns-in_ok-walk_implies-in-Implies-clause-part t c =
+    walked.implies_walked c.args.context.now c.args.names.now _ _ _ _ c.args.e.now _ _ _ _ _ c.in-Implies.is c.deref-in-Implies.ensures c.deref-in-Implies-2.ensures c.in_ok-left-in-Implies.ensures.kept
+    c.in_ok-left-in-Implies.ensures.tree refl c.in_ok-walk_implies-in-Implies.ensures.part
 
-pub walk-returns-in_ok-whole-in-Cast-clause-part : goal.walk-returns-in_ok-whole-in-Cast-clause-part
-walk-returns-in_ok-whole-in-Cast-clause-part t c =
-    walked.cast_walked c.args.context.now c.args.names.now _ _ _ c.args.e.now _ _ _ c.in-Cast.is c.deref-in-Cast.ensures c.in_ok-inner-in-Cast.ensures.tree c.in_ok-whole-in-Cast.ensures
+pub walk-returns-in_ok-walk_cast-in-Cast-clause-part : goal.walk-returns-in_ok-walk_cast-in-Cast-clause-part
+walk-returns-in_ok-walk_cast-in-Cast-clause-part t c =
+    walked.cast_read c.args.context.now c.args.names.now _ _ _ c.args.e.now _ _ c.in-Cast.is c.deref-in-Cast.ensures c.in_ok-walk_cast-in-Cast.ensures.part
 
-pub walk-returns-in_ok-whole-in-New-clause-part : goal.walk-returns-in_ok-whole-in-New-clause-part
-walk-returns-in_ok-whole-in-New-clause-part t c =
-    walked.new_walked c.args.context.now c.args.names.now _ _ _ c.args.e.now _ _ _ c.in-New.is c.deref-in-New.ensures.value c.in_ok-values-in-New.ensures.trees c.in_ok-whole-in-New.ensures
+pub walk-returns-in_ok-walk_new-in-New-clause-part : goal.walk-returns-in_ok-walk_new-in-New-clause-part
+walk-returns-in_ok-walk_new-in-New-clause-part t c =
+    walked.new_read c.args.context.now c.args.names.now _ _ _ c.args.e.now _ _ c.in-New.is c.deref-in-New.ensures.value c.in_ok-walk_new-in-New.ensures.part
 
-pub walk-returns-in_ok-whole-in-NewArray-clause-part : goal.walk-returns-in_ok-whole-in-NewArray-clause-part
-walk-returns-in_ok-whole-in-NewArray-clause-part t c =
-    walked.new_array_walked c.args.context.now c.args.names.now _ _ _ _ c.args.e.now _ _ _ c.in-NewArray.is c.deref-in-NewArray.ensures c.in_ok-length-in-NewArray.ensures.tree c.in_ok-whole-in-NewArray.ensures
+pub walk-returns-in_ok-walk_array-in-NewArray-clause-part : goal.walk-returns-in_ok-walk_array-in-NewArray-clause-part
+walk-returns-in_ok-walk_array-in-NewArray-clause-part t c =
+    let a = c.in-NewArray in
+    walked.new_array_read c.args.context.now c.args.names.now _ _ _ _ c.args.e.now _ _ a.is c.deref-in-NewArray.ensures (c.in_ok-walk_array-in-NewArray.ensures.part a.field-1)
 
-pub walk-returns-in_ok-whole-in-Quantified-clause-part : goal.walk-returns-in_ok-whole-in-Quantified-clause-part
-walk-returns-in_ok-whole-in-Quantified-clause-part t c =
+pub walk-returns-in_ok-quantified_part-in-Quantified-clause-part : goal.walk-returns-in_ok-quantified_part-in-Quantified-clause-part
+walk-returns-in_ok-quantified_part-in-Quantified-clause-part t c =
     let a = c.in-Quantified in
     let low = c.in_ok-low-in-Quantified.ensures in
-    let high = c.in_ok-high-in-Quantified.ensures in
-    walked.quantified_walked c.args.context.now c.args.names.now _ _ _ _ _ _ _ _ c.args.e.now _ _ _ _ _ _ _ a.is c.deref-in-Quantified.ensures c.deref-in-Quantified-2.ensures c.deref-in-Quantified-3.ensures low.kept high.kept
-    low.tree high.tree c.in_ok-member-in-Quantified.ensures.tree c.in_ok-whole-in-Quantified.ensures
+    let bounds = c.in_ok-bounds-in-Quantified.ensures in
+    walked.quantified_walked c.args.context.now c.args.names.now _ _ _ _ _ _ _ _ c.args.e.now _ _ _ _ _ _ _ a.is c.deref-in-Quantified.ensures c.deref-in-Quantified-2.ensures c.deref-in-Quantified-3.ensures low.kept bounds.kept
+    (bounds.low ∙ low.tree) bounds.high c.in_ok-member-in-Quantified.ensures.tree c.in_ok-quantified_part-in-Quantified.ensures
+
+pub walk_paren-returns-clause-part : goal.walk_paren-returns-clause-part
+walk_paren-returns-clause-part t c = λ at.
+    let b = c.in_ok-inner.ensures in
+    walked.paren_walked c.args.context.now c.args.names.now _ at c.args.e.now _ _ b.kept b.part c.in_ok-whole.ensures
+
+pub walk_old-returns-clause-part : goal.walk_old-returns-clause-part
+walk_old-returns-clause-part t c =
+    let b = c.in_ok-inner.ensures in
+    walked.old_walked c.args.context.now c.args.names.now _ c.args.place c.args.e.now _ _ b.kept b.part c.in_ok-whole.ensures
+
+pub walk_negate-returns-clause-part : goal.walk_negate-returns-clause-part
+walk_negate-returns-clause-part t c = c.in_ok-whole.ensures ∙ ap (λ v. AnOther (Some ty.Int) (typed.NegateOf c.args.place v)) c.in_ok-inner.ensures.tree
+
+pub walk_not-returns-clause-part : goal.walk_not-returns-clause-part
+walk_not-returns-clause-part t c = c.in_ok-whole.ensures ∙ ap (λ v. AnOther (Some ty.Bool) (typed.NotOf c.args.place v)) c.in_ok-inner.ensures.tree
+
+pub walk_iff-returns-clause-part : goal.walk_iff-returns-clause-part
+walk_iff-returns-clause-part t c =
+    c.in_ok-whole.ensures ∙ ap (λ v. AnOther (Some ty.Bool) (typed.IffOf c.args.place (view.expr c.args.left.value) v)) c.in_ok-right.ensures.tree
+
+pub walk_implies-returns-clause-part : goal.walk_implies-returns-clause-part
+walk_implies-returns-clause-part t c =
+    c.in_ok-whole.ensures ∙ ap (λ v. AnOther (Some ty.Bool) (typed.ImpliesOf c.args.place (view.expr c.args.left.value) v)) c.in_ok-right.ensures.tree
+
+pub walk_cast-returns-clause-part : goal.walk_cast-returns-clause-part
+walk_cast-returns-clause-part t c = c.in_ok-whole.ensures c.args.names.now (expr_tree c.args.e.now) c.in_ok-inner.ensures.tree
+
+pub walk_new-returns-clause-part : goal.walk_new-returns-clause-part
+walk_new-returns-clause-part t c = c.in_ok-whole.ensures c.args.names.now (map expr_tree c.args.written.now) c.in_ok-values.ensures.trees
+
+pub walk_array-returns-clause-part : goal.walk_array-returns-clause-part
+walk_array-returns-clause-part t c = λ at. c.in_ok-whole.ensures c.args.names.now at (expr_tree c.args.e.now) c.in_ok-length.ensures.tree
 
 pub resolve_boxed-returns-clause-tree : goal.resolve_boxed-returns-clause-tree
 resolve_boxed-returns-clause-tree t c =
@@ -247,8 +281,8 @@ walk-walk_postfixes-requires t c =
     let a = c.in-Path in
     (omega (arith, postfixes_fall a.place a.first a.postfixes c.args.e.now c.deref-in-Path.result.now a.is c.deref-in-Path.ensures.value), tt)
 
-pub walk-returns-in_ok-whole-in-This-clause-part : goal.walk-returns-in_ok-whole-in-This-clause-part
-walk-returns-in_ok-whole-in-This-clause-part t c = walked.this_walked c.args.context.now c.args.names.now _ c.args.e.now _ c.in-This.is c.in_ok-whole-in-This.ensures
+pub walk-returns-in_ok-this_word-in-This-clause-part : goal.walk-returns-in_ok-this_word-in-This-clause-part
+walk-returns-in_ok-this_word-in-This-clause-part t c = walked.this_walked c.args.context.now c.args.names.now _ c.args.e.now _ c.in-This.is c.in_ok-this_word-in-This.ensures
 
-pub walk-returns-in_ok-whole-in-Result-clause-part : goal.walk-returns-in_ok-whole-in-Result-clause-part
-walk-returns-in_ok-whole-in-Result-clause-part t c = walked.result_walked c.args.context.now c.args.names.now _ c.args.e.now _ c.in-Result.is c.in_ok-whole-in-Result.ensures
+pub walk-returns-in_ok-outcome-in-Result-clause-part : goal.walk-returns-in_ok-outcome-in-Result-clause-part
+walk-returns-in_ok-outcome-in-Result-clause-part t c = walked.result_walked c.args.context.now c.args.names.now _ c.args.e.now _ c.in-Result.is c.in_ok-outcome-in-Result.ensures

@@ -2,8 +2,8 @@ use Rattle.std.proofs.Common.{◌≡◌, ap, ◌∙◌, rules}
 use Rattle.ss_ast.specs.Expressions.{expr_tree}
 use Rattle.ss_tables_scopes.specs.Names.{Names}
 use Rattle.ss_resolver_types_expressions.specs.Members.{is_field_term}
-use Rattle.ss_resolver_types_expressions.specs.Heads.{ending}
-use Rattle.ss_resolver_types_expressions.specs.Codes.{context_of, head_of}
+use Rattle.ss_resolver_types_heads.specs.Heads.{ending}
+use Rattle.ss_resolver_types_heads.specs.Codes.{context_of, head_of}
 use Rattle.ss_resolver_types.specs.Bodies.{field_term_at}
 use Rattle.ss_resolver_types.proofs.Uses.{field_term_is, use_noted}
 use Rattle.ss_resolver_types.proofs.clauses.check_field_term.Goals as goal

@@ -1,7 +1,7 @@
 use Rattle.std.proofs.Common.{◌≡◌, ◌++◌, map, drop}
 use Rattle.ss_ast.specs.Programs.{modified_tree}
 use Rattle.ss_resolver_types_expressions.specs.Members.{terms_faults}
-use Rattle.ss_resolver_types_expressions.specs.Codes.{context_of}
+use Rattle.ss_resolver_types_heads.specs.Codes.{context_of}
 use Rattle.ss_resolver_types.proofs.clauses.check_terms.Given as goal
 
 abbrev pub invariant-loop-term : goal.invariant-loop-term

@@ -2,7 +2,7 @@ use Rattle.std.proofs.Common.{◌≡◌, ◌++◌, map, drop}
 use Rattle.ss_ast.specs.Expressions.{type_tree}
 use Rattle.ss_ast.specs.Statements.{declarator_tree}
 use Rattle.ss_resolver_types_expressions.specs.Members.{fields_faults}
-use Rattle.ss_resolver_types_expressions.specs.Codes.{context_of}
+use Rattle.ss_resolver_types_heads.specs.Codes.{context_of}
 use Rattle.ss_resolver_types.proofs.members.check_fields.Given as goal
 
 abbrev pub invariant-loop-declarator : goal.invariant-loop-declarator

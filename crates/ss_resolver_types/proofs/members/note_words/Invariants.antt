@@ -1,6 +1,6 @@
 use Rattle.std.proofs.Common.{◌≡◌, ◌++◌, map, drop}
 use Rattle.ss_ast.specs.declared.class.Modifier.{Modifier}
-use Rattle.ss_resolver_types_expressions.specs.Faults.{bad_type}
+use Rattle.ss_resolver_types_heads.specs.Faults.{bad_type}
 use Rattle.ss_resolver_types.proofs.members.note_words.Given as goal
 
 abbrev pub invariant-loop-word : goal.invariant-loop-word

@@ -1,8 +1,8 @@
 use Rattle.std.proofs.Common.{◌≡◌, ap, ◌∙◌, rules}
 use Rattle.ss_ast.specs.Expressions.{expr_tree}
 use Rattle.ss_resolver_types_expressions.specs.Statements.{is_target}
-use Rattle.ss_resolver_types_expressions.specs.Heads.{ending}
-use Rattle.ss_resolver_types_expressions.specs.Codes.{context_of, head_of}
+use Rattle.ss_resolver_types_heads.specs.Heads.{ending}
+use Rattle.ss_resolver_types_heads.specs.Codes.{context_of, head_of}
 use Rattle.ss_resolver_types.specs.Bodies.{target_at}
 use Rattle.ss_resolver_types.proofs.Uses.{target_is, use_noted}
 use Rattle.ss_resolver_types.proofs.simple.check_target.Goals as goal

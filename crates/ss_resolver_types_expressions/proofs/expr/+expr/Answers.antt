@@ -4,51 +4,51 @@ use Rattle.ss_ast.specs.Expressions.{expr_tree, arguments}
 use Rattle.ss_tables_lookup.specs.Classes.{trees}
 use Rattle.ss_tables_lookup.specs.Views.{type_of}
 use Rattle.ss_tables_scopes.specs.Names.{Names}
-use Rattle.ss_resolver_types_expressions.specs.declared.heads.Form.TheVariants as form
+use Rattle.ss_resolver_types_heads.specs.declared.heads.Form.TheVariants as form
 use Rattle.ss_ast.specs.Parts.{link_behind, postfix_behind}
 use Rattle.ss_tables.specs.Types.{class_of, element_type}
-use Rattle.ss_resolver_types_expressions.specs.Wants.{Known}
-use Rattle.ss_resolver_types_expressions.specs.Calls.{wants_of}
-use Rattle.ss_resolver_types_expressions.specs.Expressions.{argument_where, operand}
-use Rattle.ss_resolver_types_expressions.specs.Heads.{AValueOf, value_at}
-use Rattle.ss_resolver_types_expressions.specs.Codes.{want_of, context_of, called_of, head_of}
-use Rattle.ss_resolver_types_expressions.proofs.Endings.{joined, element_leads, call_leads, operation_leads, is_leads, as_leads, operation_noted}
+use Rattle.ss_resolver_types_heads.specs.Wants.{Known}
+use Rattle.ss_resolver_types_heads.specs.Calls.{wants_of}
+use Rattle.ss_resolver_types_heads.specs.Expressions.{argument_where, operand}
+use Rattle.ss_resolver_types_heads.specs.Heads.{AValueOf, value_at}
+use Rattle.ss_resolver_types_heads.specs.Codes.{want_of, context_of, called_of, head_of}
+use Rattle.ss_resolver_types_heads.proofs.Endings.{joined, element_leads, call_leads, operation_leads, is_leads, as_leads, operation_noted}
 use Rattle.ss_ast.proofs.Falls.{links_fall, postfixes_fall}
 use Rattle.ss_resolver_types_expressions.proofs.Walks.{known_read, noted_read, chain_walked, path_walked, part_leads, parts_led, no_parts}
 use Rattle.ss_resolver_types_expressions.proofs.Arguments.{one_more, all_done, call_noted}
 use Rattle.ss_resolver_types_expressions.proofs.expr.+expr.Goals as goal
 
-pub walk-returns-in_ok-longer-in-Chain : goal.walk-returns-in_ok-longer-in-Chain
-walk-returns-in_ok-longer-in-Chain t c =
+pub walk-returns-in_ok-walk_links-in-Chain : goal.walk-returns-in_ok-walk_links-in-Chain
+walk-returns-in_ok-walk_links-in-Chain t c =
     let a = c.in-Chain in
     let w = chain_walked c.args.context.now c.args.locals.now _ c.args.found.now.items _ _ _ _ a.place a.first a.links c.args.e.now _ _ a.is
-    c.deref-in-Chain.ensures c.deref-in-Chain-2.ensures.value c.in_ok-head-in-Chain.ensures.same c.in_ok-head-in-Chain.ensures.head c.in_ok-head-in-Chain.ensures.noted
-    c.in_ok-longer-in-Chain.ensures.walked in
-    record { head = w.is; noted = w.noted; same = c.in_ok-longer-in-Chain.ensures.same ∙ c.in_ok-head-in-Chain.ensures.same }
+    c.deref.ensures c.deref-in-Chain.ensures.value c.in_ok-head-in-Chain.ensures.same c.in_ok-head-in-Chain.ensures.head c.in_ok-head-in-Chain.ensures.noted
+    c.in_ok-walk_links-in-Chain.ensures.walked in
+    record { head = w.is; noted = w.noted; same = c.in_ok-walk_links-in-Chain.ensures.same ∙ c.in_ok-head-in-Chain.ensures.same }
 
-pub walk-returns-in_ok-longer-in-Path : goal.walk-returns-in_ok-longer-in-Path
-walk-returns-in_ok-longer-in-Path t c =
+pub walk-returns-in_ok-walk_postfixes-in-Path : goal.walk-returns-in_ok-walk_postfixes-in-Path
+walk-returns-in_ok-walk_postfixes-in-Path t c =
     let a = c.in-Path in
     let w = path_walked c.args.context.now c.args.locals.now _ c.args.found.now.items _ _ _ _ a.place a.first a.postfixes c.args.e.now _ _ a.is
     c.deref-in-Path.ensures c.deref-in-Path-2.ensures.value c.in_ok-head-in-Path.ensures.same c.in_ok-head-in-Path.ensures.head c.in_ok-head-in-Path.ensures.noted
-    c.in_ok-longer-in-Path.ensures.walked in
-    record { head = w.is; noted = w.noted; same = c.in_ok-longer-in-Path.ensures.same ∙ c.in_ok-head-in-Path.ensures.same }
+    c.in_ok-walk_postfixes-in-Path.ensures.walked in
+    record { head = w.is; noted = w.noted; same = c.in_ok-walk_postfixes-in-Path.ensures.same ∙ c.in_ok-head-in-Path.ensures.same }
 
 pub walk-walk_links-requires : goal.walk-walk_links-requires
 walk-walk_links-requires t c =
     let a = c.in-Chain in
-    (omega (arith, links_fall a.place a.first a.links c.args.e.now c.deref-in-Chain-2.result.now a.is c.deref-in-Chain-2.ensures.value), tt)
+    (omega (arith, links_fall a.place a.first a.links c.args.e.now c.deref-in-Chain.result.now a.is c.deref-in-Chain.ensures.value), tt)
 
 pub walk-walk_postfixes-requires : goal.walk-walk_postfixes-requires
 walk-walk_postfixes-requires t c =
     let a = c.in-Path in
     (omega (arith, postfixes_fall a.place a.first a.postfixes c.args.e.now c.deref-in-Path-2.result.now a.is c.deref-in-Path-2.ensures.value), tt)
 
-pub check_cast-returns-clause-noted : goal.check_cast-returns-clause-noted
-check_cast-returns-clause-noted t c = joined c.args.found.now.items _ _ _ _ c.in_ok-note_no_class.ensures c.in_ok-check_as.ensures.noted
+pub walk_cast-returns-clause-noted : goal.walk_cast-returns-clause-noted
+walk_cast-returns-clause-noted t c = joined c.args.found.now.items _ _ _ _ c.in_ok-note_no_class.ensures c.in_ok-check_as.ensures.noted
 
-pub check_length-returns-clause-noted : goal.check_length-returns-clause-noted
-check_length-returns-clause-noted t c = joined c.args.found.now.items _ _ _ _ c.in_ok-note_in_condition.ensures c.in_ok-check_as.ensures.noted
+pub walk_array-returns-clause-noted : goal.walk_array-returns-clause-noted
+walk_array-returns-clause-noted t c = joined c.args.found.now.items _ _ _ _ c.in_ok-note_in_condition.ensures c.in_ok-check_as.ensures.noted
 
 pub check-returns-clause-known : goal.check-returns-clause-known
 check-returns-clause-known t c =
@@ -109,7 +109,7 @@ walk_link-returns-in_ok-note_class_test-in-As-clause-walked t c =
 
 pub check_operation-returns-clause-noted : goal.check_operation-returns-clause-noted
 check_operation-returns-clause-noted t c =
-    operation_noted (context_of c.args.context.now c.args.locals.now) c.args.found.now.items _ _ _ (head_of c.args.head) c.args.place (operand c.args.operator) (expr_tree c.args.second.now) _ _
+    operation_noted (context_of c.args.context.now c.args.locals.now) c.args.found.now.items _ _ _ (head_of c.args.head) c.args.placed.place (operand c.args.placed.operator) (expr_tree c.args.second.now) _ _
     c.in_ok-left.ensures.known c.in_ok-left.ensures.noted c.in_ok-right.ensures.known c.in_ok-right.ensures.noted c.in_ok-note_operands.ensures
 
 pub walk_element-returns-clause-walked : goal.walk_element-returns-clause-walked
@@ -128,7 +128,7 @@ pub check_call-returns-clause-noted : goal.check_call-returns-clause-noted
 check_call-returns-clause-noted t c =
     let a = context_of c.args.context.now c.args.locals.now in
     let cs = trees c.args.context.now.within.tables.now in
-    call_noted a c.args.place c.args.is_call _ (called_of cs c.args.called) (arguments (map expr_tree c.args.list.now)) _ c.args.found.now.items _ _
+    call_noted a c.args.placed.place c.args.placed.is_call _ (called_of cs c.args.placed.called) (arguments (map expr_tree c.args.list.now)) _ c.args.found.now.items _ _
     c.count-number.ensures (c.in_ok-note_whole.ensures c.args.locals.now) (c.unless_wrong-wanted.ensures cs) c.in_ok-check_arguments.ensures.noted
 
 pub check_arguments-loop-i-preserved : goal.check_arguments-loop-i-preserved

@@ -2,10 +2,10 @@ use Rattle.std.proofs.Common.{◌≡◌, ◌++◌, map, take, drop}
 use Rattle.ss_ast.specs.Expressions.{ExprTree, grouped, expr_tree, arguments}
 use Rattle.ss_tables_lookup.specs.Classes.{trees}
 use Rattle.ss_ast.specs.Parts.{link_behind, postfix_behind}
-use Rattle.ss_resolver_types_expressions.specs.Calls.{wants_of}
-use Rattle.ss_resolver_types_expressions.specs.Expressions.{argument_faults}
-use Rattle.ss_resolver_types_expressions.specs.Heads.{Leads}
-use Rattle.ss_resolver_types_expressions.specs.Codes.{context_of, called_of, head_of}
+use Rattle.ss_resolver_types_heads.specs.Calls.{wants_of}
+use Rattle.ss_resolver_types_heads.specs.Expressions.{argument_faults}
+use Rattle.ss_resolver_types_heads.specs.Heads.{Leads}
+use Rattle.ss_resolver_types_heads.specs.Codes.{context_of, called_of, head_of}
 use Rattle.ss_resolver_types_expressions.proofs.expr.+expr.Given as goal
 
 abbrev pub invariant-walk_links-loop-link : goal.invariant-walk_links-loop-link

@@ -3,7 +3,7 @@ use Rattle.ss_core.specs.declared.names.Place.{Place}
 use Rattle.ss_ast.specs.declared.expr.Expr.TheOpen as shape
 use Rattle.ss_ast.specs.declared.expr.Expr.TheOpen.{Link-F, Postfix-F}
 use Rattle.ss_ast.specs.Expressions.{ExprTree, Behind, expr_tree, link_step, postfix_step}
-use Rattle.ss_resolver_types_expressions.specs.Expressions.{is_name}
+use Rattle.ss_resolver_types_heads.specs.Expressions.{is_name}
 use Rattle.ss_ast.proofs.Grouping.{chain_is, path_is, chain_some, path_some, path_alone}
 use Rattle.ss_resolver_types_expressions.proofs.shapes.+is_name.Goals as goal
 

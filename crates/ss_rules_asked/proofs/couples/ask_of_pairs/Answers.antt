@@ -1,5 +1,5 @@
 use Rattle.ss_terms.specs.declared.forms.TermId.{TermId}
-use Rattle.ss_terms.proofs.Parts.{AreTermsBelow-get}
+use Rattle.ss_terms.proofs.Tested.{AreTermsBelow-get}
 use Rattle.ss_rules_asked.proofs.Coupling.{terms-drop, terms-take}
 use Rattle.ss_rules_asked.proofs.couples.ask_of_pairs.Goals as goal
 

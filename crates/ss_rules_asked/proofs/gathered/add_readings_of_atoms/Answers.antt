@@ -1,7 +1,7 @@
 use Rattle.ss_logic_ground.specs.Asked as spec
 use Rattle.ss_terms.specs.declared.forms.FormulaId.{FormulaId}
 use Rattle.ss_terms.specs.Forms.{formula_at}
-use Rattle.ss_terms.proofs.Parts.{AreBelow-get}
+use Rattle.ss_terms.proofs.Tested.{AreBelow-get}
 use Rattle.ss_rules_asked.specs.Readings.{readings_at}
 use Rattle.ss_rules_asked.proofs.Gathering.{readings_next}
 use Rattle.ss_rules_asked.proofs.gathered.add_readings_of_atoms.Goals as goal

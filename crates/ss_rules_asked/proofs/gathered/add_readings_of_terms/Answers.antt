@@ -1,7 +1,7 @@
 use Rattle.ss_logic_ground.specs.Asked as spec
 use Rattle.ss_terms.specs.declared.forms.TermId.{TermId}
 use Rattle.ss_terms.specs.Forms.{term_at}
-use Rattle.ss_terms.proofs.Parts.{AreTermsBelow-get}
+use Rattle.ss_terms.proofs.Tested.{AreTermsBelow-get}
 use Rattle.ss_rules_asked.specs.Readings.{readings_at}
 use Rattle.ss_rules_asked.proofs.Gathering.{readings_next}
 use Rattle.ss_rules_asked.proofs.gathered.add_readings_of_terms.Goals as goal

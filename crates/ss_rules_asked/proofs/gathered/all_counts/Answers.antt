@@ -1,5 +1,5 @@
 use Rattle.ss_terms.specs.declared.forms.FormulaId.{FormulaId}
-use Rattle.ss_terms.proofs.Parts.{AreBelow-get}
+use Rattle.ss_terms.proofs.Tested.{AreBelow-get}
 use Rattle.ss_rules_asked.proofs.Gathering.{counts_next}
 use Rattle.ss_rules_asked.proofs.gathered.all_counts.Goals as goal
 

@@ -1,5 +1,5 @@
 use Rattle.ss_terms.specs.declared.forms.TermId.{TermId}
-use Rattle.ss_terms.proofs.Parts.{AreTermsBelow-get}
+use Rattle.ss_terms.proofs.Tested.{AreTermsBelow-get}
 use Rattle.ss_rules_asked.proofs.Gathering.{pairs_next}
 use Rattle.ss_rules_asked.proofs.gathered.pairs.Goals as goal
 

@@ -1,5 +1,5 @@
 use Rattle.ss_terms.specs.Forms.{formula_at}
-use Rattle.ss_terms.proofs.Parts.{AreBelow-get}
+use Rattle.ss_terms.proofs.Tested.{AreBelow-get}
 use Rattle.ss_rules_asked.specs.Readings.{is_store_equation}
 use Rattle.ss_rules_asked.proofs.Equations.{kept_next}
 use Rattle.ss_rules_asked.proofs.gathered.store_equations.Goals as goal

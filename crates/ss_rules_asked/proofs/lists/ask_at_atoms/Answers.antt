@@ -1,6 +1,6 @@
 use Rattle.ss_terms.specs.declared.forms.FormulaId.{FormulaId}
 use Rattle.ss_terms.specs.Forms.{formula_at}
-use Rattle.ss_terms.proofs.Parts.{AreBelow-get}
+use Rattle.ss_terms.proofs.Tested.{AreBelow-get}
 use Rattle.ss_rules_asked.specs.Numbers.{asked_in}
 use Rattle.ss_rules_asked.specs.Sentences.{at_atom}
 use Rattle.ss_rules_asked.proofs.Asking.{asked_next}

@@ -1,7 +1,7 @@
 use Rattle.ss_core.specs.View as view
 use Rattle.ss_terms.specs.declared.forms.TermId.{TermId}
 use Rattle.ss_terms.specs.Forms.{term_at}
-use Rattle.ss_terms.proofs.Parts.{AreTermsBelow-get}
+use Rattle.ss_terms.proofs.Tested.{AreTermsBelow-get}
 use Rattle.ss_rules_asked.specs.Numbers.{asked_in}
 use Rattle.ss_rules_asked.specs.Sentences.{at_term}
 use Rattle.ss_rules_asked.proofs.Asking.{asked_next}

@@ -8,9 +8,9 @@ use Rattle.ss_rules_asked_first.proofs.Joining.{asked_next_in}
 use Rattle.ss_rules_asked_first.proofs.goods.ask_at_reads.Goals as goal
 
 pub ask_at_read-requires-clause-read : goal.ask_at_read-requires-clause-read
-ask_at_read-requires-clause-read c = HasReadings-get c.args.bank.now c.deref-r-items.result.now c.loop-r.r-index _ (subst (HasReadings c.args.bank.now) (sym c.deref-r-items.ensures.value) c.requires.near.reads) c.loop-r-test.true
+ask_at_read-requires-clause-read c = HasReadings-get c.args.context.now.bank.now c.deref-r-items.result.now c.loop-r.r-index _ (subst (HasReadings c.args.context.now.bank.now) (sym c.deref-r-items.ensures.value) c.requires.near.reads) c.loop-r-test.true
 
 pub loop-r-preserved : goal.loop-r-preserved
 loop-r-preserved c =
-    asked_next_in c.args.bank.now (reading_at c.args.bank.now) (at_read (nearby_at c.args.bank.now c.args.near.now) c.args.sentence (term_at c.args.bank.now c.args.s)) (asked_in c.args.bank.now c.args.asked.now.items) c.loop-r.asked.items c.ask_at_read.new.asked.items
-    c.deref-r-items.result.now c.args.near.now.reads.items c.deref-r-items.ensures.value c.loop-r.r-index _ c.loop-r-test.true c.loop-r.invariant c.in_ok-ask_at_read.ensures
+    asked_next_in c.args.context.now.bank.now (reading_at c.args.context.now.bank.now) (at_read (nearby_at c.args.context.now.bank.now c.args.context.now.near.now) c.args.sentence (term_at c.args.context.now.bank.now c.args.s)) (asked_in c.args.context.now.bank.now c.args.asked.now.items) c.loop-r.asked.items c.ask_at_read.new.asked.items
+    c.deref-r-items.result.now c.args.context.now.near.now.reads.items c.deref-r-items.ensures.value c.loop-r.r-index _ c.loop-r-test.true c.loop-r.invariant c.in_ok-ask_at_read.ensures

@@ -10,7 +10,7 @@ use Rattle.ss_rules_asked_first.proofs.goods.ask_of_owners.Goals as goal
 
 pub returns : goal.returns
 returns c =
-    ok_asks c.ask_with_owners.result c.args.bank.now c.ask_with_owners.new.asked.items _ _
-    (ap (λ xs. asked_in c.args.bank.now c.args.asked.now.items ++ xs) (owners_over (term_at c.args.bank.now c.args.s) (owners_at c.args.bank.now c.deref.result.now) c.args.kind (arguments_at c.args.bank.now c.args.others.now)
-    ∙ ap (λ ps. map (OfGood good_rule.Typed (term_at c.args.bank.now c.args.s)) (owner_parts (owners_at c.args.bank.now ps) c.args.kind (arguments_at c.args.bank.now c.args.others.now))) c.deref.ensures.value))
+    ok_asks c.ask_with_owners.result c.args.context.now.bank.now c.ask_with_owners.new.asked.items _ _
+    (ap (λ xs. asked_in c.args.context.now.bank.now c.args.asked.now.items ++ xs) (owners_over (term_at c.args.context.now.bank.now c.args.s) (owners_at c.args.context.now.bank.now c.deref.result.now) c.args.kind (arguments_at c.args.context.now.bank.now c.args.others.now)
+    ∙ ap (λ ps. map (OfGood good_rule.Typed (term_at c.args.context.now.bank.now c.args.s)) (owner_parts (owners_at c.args.context.now.bank.now ps) c.args.kind (arguments_at c.args.context.now.bank.now c.args.others.now))) c.deref.ensures.value))
     c.ask_with_owners.ensures

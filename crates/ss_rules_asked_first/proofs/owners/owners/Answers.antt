@@ -1,4 +1,4 @@
-use Rattle.ss_terms.proofs.Parts.{AreTermsBelow-get}
+use Rattle.ss_terms.proofs.Tested.{AreTermsBelow-get}
 use Rattle.ss_rules_asked_first.proofs.Gathering.{owners_next}
 use Rattle.ss_rules_asked_first.proofs.owners.owners.Goals as goal
 

@@ -11,6 +11,6 @@ returns-clause-noted c =
     let started = c.in_ok-started.started in
     record {
       has_choices = c.in_ok-started.ensures.has_choices;
-      come = c.in_ok-list.ensures.noted (view.classes c.args.classes.now) (formulas_at a c.args.premises.now) (formula_at a c.args.goal) (choices_at b started.choices.items) c.new-origins.ensures.items (ap (formulas_at b) c.deref.ensures.value ∙ c.in_ok-started.ensures.opened);
+      come = c.in_ok-listed.ensures.noted (view.classes c.args.classes.now) (formulas_at a c.args.premises.now) (formula_at a c.args.goal) (choices_at b started.choices.items) (ap (formulas_at b) c.deref.ensures.value ∙ c.in_ok-started.ensures.opened);
       accepted = c.in_ok-started.ensures.accepted;
     }

@@ -10,6 +10,6 @@ use Rattle.ss_rules_ground.proofs.form.each_once.Given as goal
 
 abbrev pub invariant-loop-place : goal.invariant-loop-place
 invariant-loop-place l = record {
-  list : Holds l.bank l.list (with_formulas [] (formulas_at l.bank (take l.place l.fs)));
-  noted : (cs : List ClassTree) (premises : List Formula) (goal : Formula) (choices : List Choice) → l.initial.origins.items ≡ [] → formulas_at l.bank l.fs ≡ map (opened_by choices) (premises ++ neg goal ∷ []) → ComeFrom cs premises goal choices l.bank (formulas_of l.bank l.list) l.origins.items;
+  list : Holds l.bank l.listed.list (with_formulas [] (formulas_at l.bank (take l.place l.fs)));
+  noted : (cs : List ClassTree) (premises : List Formula) (goal : Formula) (choices : List Choice) → formulas_at l.bank l.fs ≡ map (opened_by choices) (premises ++ neg goal ∷ []) → ComeFrom cs premises goal choices l.bank (formulas_of l.bank l.listed.list) l.listed.origins.items;
 }

@@ -6,16 +6,16 @@ use Rattle.ss_rules_ground.proofs.Noted.{grounded_later}
 use Rattle.ss_rules_ground.proofs.form.ground_with_origins.Goals as goal
 
 pub go_on-requires-clause-list : goal.go_on-requires-clause-list
-go_on-requires-clause-list c = holds_itself c.begin.new.bank c.in_ok-begun.begun.list _ c.in_ok-begun.ensures.at
+go_on-requires-clause-list c = holds_itself c.begin.new.bank c.in_ok-begun.begun.listed.list _ c.in_ok-begun.ensures.at
 
 pub returns-then-not-few-clause-exact : goal.returns-then-not-few-clause-exact
 returns-then-not-few-clause-exact c =
-    too_many (view.classes c.args.classes.now) c.args.limit c.args.rounds (formulas_at c.args.bank.now c.args.premises.now) (formula_at c.args.bank.now c.args.goal) c.begin.new.bank c.go_on.new.bank c.in_ok-begun.begun.list c.go_on.new.begun.list c.in_ok-few.few
+    too_many (view.classes c.args.classes.now) c.args.limit c.args.rounds (formulas_at c.args.bank.now c.args.premises.now) (formula_at c.args.bank.now c.args.goal) c.begin.new.bank c.go_on.new.bank c.in_ok-begun.begun.listed.list c.go_on.new.begun.listed.list c.in_ok-few.few
     c.in_ok-begun.ensures.at c.in_ok-few.ensures.done c.if-not-few.true
 
 pub returns-clause-exact : goal.returns-clause-exact
 returns-clause-exact c =
-    form_done (view.classes c.args.classes.now) c.args.limit c.args.rounds (formulas_at c.args.bank.now c.args.premises.now) (formula_at c.args.bank.now c.args.goal) c.begin.new.bank c.go_on.new.bank c.in_ok-begun.begun.list c.go_on.new.begun.list c.in_ok-few.few
+    form_done (view.classes c.args.classes.now) c.args.limit c.args.rounds (formulas_at c.args.bank.now c.args.premises.now) (formula_at c.args.bank.now c.args.goal) c.begin.new.bank c.go_on.new.bank c.in_ok-begun.begun.listed.list c.go_on.new.begun.listed.list c.in_ok-few.few
     c.in_ok-begun.ensures.at c.in_ok-few.ensures.done c.if-not-few.false
 
 pub returns-clause-in_bank : goal.returns-clause-in_bank

@@ -8,6 +8,6 @@ use Rattle.ss_rules_ground.proofs.rounds.add_due.Goals as goal
 
 pub returns-clause-added : goal.returns-clause-added
 returns-clause-added c =
-    ok_added c.add_said.result c.add_said.new.bank c.add_said.new.list _ _
-    (ap (λ xs. with_formulas (formulas_of c.args.bank.now c.args.list.now) (all_said (view.classes c.args.classes.now) xs)) c.in_ok-asked.ensures.are)
+    ok_added c.add_said.result c.add_said.new.bank c.add_said.new.listed.list _ _
+    (ap (λ xs. with_formulas (formulas_of c.args.bank.now c.args.listed.now.list) (all_said (view.classes c.args.classes.now) xs)) c.in_ok-asked.ensures.are)
     c.add_said.ensures.added

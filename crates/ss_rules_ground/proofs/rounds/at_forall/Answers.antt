@@ -12,26 +12,26 @@ use Rattle.ss_rules_ground.proofs.rounds.at_forall.Goals as goal
 
 pub returns-then-after-before-clause-closed : goal.returns-then-after-before-clause-closed
 returns-then-after-before-clause-closed c =
-    let after : c.len-after.result ≡ length c.add_forall_instances.new.list.list.items = c.len-after.ensures ∙ c.add_forall_instances.new.list.list.ok.0 in
-    let before : c.len-before.result ≡ length c.args.list.now.list.items = c.len-before.ensures ∙ c.args.list.now.list.ok.0 in
-    still_closed (view.classes c.args.classes.now) c.args.limit c.args.bank.now c.add_forall_instances.new.bank c.args.list.now c.add_forall_instances.new.list (forall_instances (formulas_of c.args.bank.now c.args.list.now) (formula_at c.args.bank.now c.args.f)) c.requires.was_closed c.in_ok-add_forall_instances.ensures.added (sym after ∙ c.if-after-before.true ∙ before)
+    let after : c.len-after.result ≡ length c.add_forall_instances.new.listed.list.list.items = c.len-after.ensures ∙ c.add_forall_instances.new.listed.list.list.ok.0 in
+    let before : c.len-before.result ≡ length c.args.listed.now.list.list.items = c.len-before.ensures ∙ c.args.listed.now.list.list.ok.0 in
+    still_closed (view.classes c.args.context.now.classes.now) c.args.context.now.limit c.args.bank.now c.add_forall_instances.new.bank c.args.listed.now.list c.add_forall_instances.new.listed.list (forall_instances (formulas_of c.args.bank.now c.args.listed.now.list) (formula_at c.args.bank.now c.args.f)) c.requires.was_closed c.in_ok-add_forall_instances.ensures.added (sym after ∙ c.if-after-before.true ∙ before)
 
 pub close-requires-clause-list : goal.close-requires-clause-list
-close-requires-clause-list c = holds_itself c.add_forall_instances.new.bank c.add_forall_instances.new.list _ c.in_ok-add_forall_instances.ensures.added
+close-requires-clause-list c = holds_itself c.add_forall_instances.new.bank c.add_forall_instances.new.listed.list _ c.in_ok-add_forall_instances.ensures.added
 
 pub returns-clause-closed : goal.returns-clause-closed
 returns-clause-closed c =
-    ok_comes c.close.result c.close.new.bank c.close.new.list _ _ (ap (closed (view.classes c.args.classes.now) c.args.limit) c.in_ok-add_forall_instances.ensures.added.are) c.close.ensures.closed
+    ok_comes c.close.result c.close.new.bank c.close.new.listed.list _ _ (ap (closed (view.classes c.args.context.now.classes.now) c.args.context.now.limit) c.in_ok-add_forall_instances.ensures.added.are) c.close.ensures.closed
 
 pub close-requires-clause-made : goal.close-requires-clause-made
-close-requires-clause-made c = AreMade-grown (view.classes c.args.classes.now) c.args.bank.now c.add_forall_instances.new.bank c.add_forall_instances.ensures.grown c.args.made.now c.requires.made
+close-requires-clause-made c = AreMade-grown (view.classes c.args.context.now.classes.now) c.args.bank.now c.add_forall_instances.new.bank c.add_forall_instances.ensures.grown c.args.made.now c.requires.made
 
 pub returns-then-after-before-clause-made : goal.returns-then-after-before-clause-made
-returns-then-after-before-clause-made c = AreMade-grown (view.classes c.args.classes.now) c.args.bank.now c.add_forall_instances.new.bank c.add_forall_instances.ensures.grown c.args.made.now c.requires.made
+returns-then-after-before-clause-made c = AreMade-grown (view.classes c.args.context.now.classes.now) c.args.bank.now c.add_forall_instances.new.bank c.add_forall_instances.ensures.grown c.args.made.now c.requires.made
 
 pub returns-clause-noted : goal.returns-clause-noted
 returns-clause-noted c =
     let a = c.args.bank.now in
     let b = c.add_forall_instances.new.bank in
-    ok_after c.close.result (view.classes c.args.classes.now) a b c.close.new.bank (formulas_of a c.args.list.now) (formulas_of b c.add_forall_instances.new.list) _ c.args.origins.now.items c.add_forall_instances.new.origins.items c.close.new.origins.items
+    ok_after c.close.result (view.classes c.args.context.now.classes.now) a b c.close.new.bank (formulas_of a c.args.listed.now.list) (formulas_of b c.add_forall_instances.new.listed.list) _ c.args.listed.now.origins.items c.add_forall_instances.new.listed.origins.items c.close.new.listed.origins.items
     c.in_ok-add_forall_instances.ensures.noted c.close.ensures.noted

@@ -15,12 +15,12 @@ abbrev pub invariant-loop-i : goal.invariant-loop-i
 invariant-loop-i l = record {
   within : l.i ≤ length l.fs;
   grown : IsGrown l.initial.bank l.bank;
-  has : HasFound l.bank l.list;
-  including : Includes (formulas_of l.bank l.list) (formulas_of l.initial.bank l.initial.list);
-  noted : Includes (quantified (formulas_of l.initial.bank l.initial.list)) (formulas_at l.initial.bank l.fs) → StillCome (view.classes l.classes) l.initial.bank (formulas_of l.initial.bank l.initial.list) l.initial.origins.items l.bank (formulas_of l.bank l.list) l.origins.items;
-  made : AreMade (view.classes l.classes) l.bank l.made;
-  still : IsClosed (view.classes l.classes) l.limit (formulas_of l.bank l.list);
-  left : foralls_left (view.classes l.classes) l.limit l.initial.bank l.fs l.i (formulas_of l.bank l.list) ≡ foralls_step (view.classes l.classes) l.limit (reverse (formulas_at l.initial.bank l.fs)) (formulas_of l.initial.bank l.initial.list);
+  has : HasFound l.bank l.listed.list;
+  including : Includes (formulas_of l.bank l.listed.list) (formulas_of l.initial.bank l.initial.listed.list);
+  noted : Includes (quantified (formulas_of l.initial.bank l.initial.listed.list)) (formulas_at l.initial.bank l.fs) → StillCome (view.classes l.context.classes.now) l.initial.bank (formulas_of l.initial.bank l.initial.listed.list) l.initial.listed.origins.items l.bank (formulas_of l.bank l.listed.list) l.listed.origins.items;
+  made : AreMade (view.classes l.context.classes.now) l.bank l.made;
+  still : IsClosed (view.classes l.context.classes.now) l.context.limit (formulas_of l.bank l.listed.list);
+  left : foralls_left (view.classes l.context.classes.now) l.context.limit l.initial.bank l.fs l.i (formulas_of l.bank l.listed.list) ≡ foralls_step (view.classes l.context.classes.now) l.context.limit (reverse (formulas_at l.initial.bank l.fs)) (formulas_of l.initial.bank l.initial.listed.list);
 }
 
 abbrev pub decreases-loop-i : goal.decreases-loop-i

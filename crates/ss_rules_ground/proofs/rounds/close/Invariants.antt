@@ -10,8 +10,8 @@ use Rattle.ss_rules_ground.proofs.rounds.close.Given as goal
 abbrev pub invariant-loop-step : goal.invariant-loop-step
 invariant-loop-step l = record {
   grown : IsGrown l.initial.bank l.bank;
-  has : HasFound l.bank l.list;
-  noted : StillCome (view.classes l.classes) l.initial.bank (formulas_of l.initial.bank l.initial.list) l.initial.origins.items l.bank (formulas_of l.bank l.list) l.origins.items;
-  made : AreMade (view.classes l.classes) l.bank l.made;
-  left : closed_from (view.classes l.classes) l.limit (l.limit - l.step) (formulas_of l.bank l.list) ≡ closed_from (view.classes l.classes) l.limit l.limit (formulas_of l.initial.bank l.initial.list);
+  has : HasFound l.bank l.listed.list;
+  noted : StillCome (view.classes l.context.classes.now) l.initial.bank (formulas_of l.initial.bank l.initial.listed.list) l.initial.listed.origins.items l.bank (formulas_of l.bank l.listed.list) l.listed.origins.items;
+  made : AreMade (view.classes l.context.classes.now) l.bank l.made;
+  left : closed_from (view.classes l.context.classes.now) l.context.limit (l.context.limit - l.step) (formulas_of l.bank l.listed.list) ≡ closed_from (view.classes l.context.classes.now) l.context.limit l.context.limit (formulas_of l.initial.bank l.initial.listed.list);
 }

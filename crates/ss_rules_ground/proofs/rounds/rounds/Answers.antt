@@ -9,15 +9,15 @@ loop-number-preserved c = record {
   has = c.in_ok-few.ensures.done.has;
   noted = λ premises goal choices h. c.in_ok-few.ensures.noted premises goal choices (c.loop-number.invariant.noted premises goal choices h);
   made = c.in_ok-few.ensures.made;
-  left = round_goes_on (view.classes c.args.classes.now) c.args.limit c.args.count c.loop-number.number c.loop-number.bank c.round.new.bank c.loop-number.list c.round.new.list _ c.loop-number-test.true c.in_ok-few.few c.loop-number.invariant.left c.in_ok-few.ensures.done c.if-not-few.false;
+  left = round_goes_on (view.classes c.args.context.now.classes.now) c.args.context.now.limit c.args.count c.loop-number.number c.loop-number.bank c.round.new.bank c.loop-number.listed.list c.round.new.listed.list _ c.loop-number-test.true c.in_ok-few.few c.loop-number.invariant.left c.in_ok-few.ensures.done c.if-not-few.false;
 }
 
 pub returns-then-not-few-clause-done : goal.returns-then-not-few-clause-done
 returns-then-not-few-clause-done c =
-    round_stops (view.classes c.args.classes.now) c.args.limit c.args.count c.loop-number.number c.loop-number.bank c.round.new.bank c.loop-number.list c.round.new.list _ c.loop-number-test.true c.in_ok-few.few c.loop-number.invariant.left c.in_ok-few.ensures.done c.if-not-few.true
+    round_stops (view.classes c.args.context.now.classes.now) c.args.context.now.limit c.args.count c.loop-number.number c.loop-number.bank c.round.new.bank c.loop-number.listed.list c.round.new.listed.list _ c.loop-number-test.true c.in_ok-few.few c.loop-number.invariant.left c.in_ok-few.ensures.done c.if-not-few.true
 
 pub returns-clause-done : goal.returns-clause-done
-returns-clause-done c = rounds_done (view.classes c.args.classes.now) c.args.limit c.args.count c.loop-number.number c.loop-number.bank c.loop-number.list _ c.loop-number.invariant.has c.loop-number-test.false c.loop-number.invariant.left
+returns-clause-done c = rounds_done (view.classes c.args.context.now.classes.now) c.args.context.now.limit c.args.count c.loop-number.number c.loop-number.bank c.loop-number.listed.list _ c.loop-number.invariant.has c.loop-number-test.false c.loop-number.invariant.left
 
 pub returns-then-not-few-clause-noted : goal.returns-then-not-few-clause-noted
 returns-then-not-few-clause-noted c = λ premises goal choices h. c.in_ok-few.ensures.noted premises goal choices (c.loop-number.invariant.noted premises goal choices h)

@@ -9,7 +9,7 @@ use Rattle.ss_rules_matching.proofs.instances.add_at_places.Goals as goal
 pub returns-clause-noted : goal.returns-clause-noted
 returns-clause-noted c =
     let b = c.args.bank.now in
-    ok_given c.add_instances.result (view.classes c.args.classes.now) b c.add_instances.new.bank (formulas_of b c.args.list.now) (formulas_of c.add_instances.new.bank c.add_instances.new.list) c.args.origins.now.items c.add_instances.new.origins.items
-    (subst (AreInstances (view.classes c.args.classes.now) (formulas_of b c.args.list.now) (formula_at b c.args.whole) (formula_at b c.args.body))
-    (sym (ap (tuples_at b) c.deref-2.ensures.value ∙ c.in_ok-found.ensures.are ∙ ap (λ xs. places (formulas_at b xs) c.args.sorts.now (formula_at b c.args.body)) c.deref.ensures.value)))
+    ok_given c.add_instances.result (view.classes c.args.classes.now) b c.add_instances.new.bank (formulas_of b c.args.listed.now.list) (formulas_of c.add_instances.new.bank c.add_instances.new.listed.list) c.args.listed.now.origins.items c.add_instances.new.listed.origins.items
+    (subst (AreInstances (view.classes c.args.classes.now) (formulas_of b c.args.listed.now.list) (formula_at b c.args.formula.now.whole) (formula_at b c.args.formula.now.body))
+    (sym (ap (tuples_at b) c.deref-2.ensures.value ∙ c.in_ok-found.ensures.are ∙ ap (λ xs. places (formulas_at b xs) c.args.formula.now.sorts.now (formula_at b c.args.formula.now.body)) c.deref.ensures.value)))
     c.add_instances.ensures.noted

@@ -12,14 +12,14 @@ use Rattle.ss_rules_matching.proofs.instances.add_instances.Goals as goal
 pub loop-place-preserved : goal.loop-place-preserved
 loop-place-preserved c = record {
   grown = IsGrown-then c.args.bank.now c.loop-place.bank c.add_instance.new.bank c.loop-place.invariant.grown c.add_instance.ensures.grown;
-  added = instance_next c.args.bank.now c.loop-place.bank c.add_instance.new.bank (formula_at c.args.bank.now c.args.whole) (formula_at c.args.bank.now c.args.body) (formula_at c.loop-place.bank c.args.whole) (formula_at c.loop-place.bank c.args.body)
-      (formulas_of c.args.bank.now c.args.list.now) c.loop-place.list c.add_instance.new.list c.args.places.now c.loop-place.place-index c.place-item.result c.deref.result.now (c.deref.ensures.value ∙ ap (λ (t : Tuple). t.terms.items) c.place-item.is) c.loop-place.invariant.grown c.requires.places c.loop-place-test.true
-      (c.loop-place.invariant.grown.same_formulas c.args.whole c.requires.whole) (c.loop-place.invariant.grown.same_formulas c.args.body c.requires.body) c.loop-place.invariant.added c.in_ok-add_instance.ensures.added;
+  added = instance_next c.args.bank.now c.loop-place.bank c.add_instance.new.bank (formula_at c.args.bank.now c.args.formula.now.whole) (formula_at c.args.bank.now c.args.formula.now.body) (formula_at c.loop-place.bank c.args.formula.now.whole) (formula_at c.loop-place.bank c.args.formula.now.body)
+      (formulas_of c.args.bank.now c.args.listed.now.list) c.loop-place.listed.list c.add_instance.new.listed.list c.args.places.now c.loop-place.place-index c.place-item.result c.deref.result.now (c.deref.ensures.value ∙ ap (λ (t : Tuple). t.terms.items) c.place-item.is) c.loop-place.invariant.grown c.requires.places c.loop-place-test.true
+      (c.loop-place.invariant.grown.same_formulas c.args.formula.now.whole c.requires.whole) (c.loop-place.invariant.grown.same_formulas c.args.formula.now.body c.requires.body) c.loop-place.invariant.added c.in_ok-add_instance.ensures.added;
   noted = λ are premises goal choices come.
       c.in_ok-add_instance.ensures.noted
-      (next_is_instance (view.classes c.args.classes.now) c.args.bank.now c.loop-place.bank (formula_at c.args.bank.now c.args.whole) (formula_at c.args.bank.now c.args.body) (formula_at c.loop-place.bank c.args.whole) (formula_at c.loop-place.bank c.args.body)
-      (formulas_of c.args.bank.now c.args.list.now) (map (instance_there (formula_at c.args.bank.now c.args.whole) (formula_at c.args.bank.now c.args.body)) (tuples_at c.args.bank.now (take c.loop-place.place-index c.args.places.now))) c.loop-place.list c.args.places.now c.loop-place.place-index c.place-item.result c.deref.result.now (c.deref.ensures.value ∙ ap (λ (t : Tuple). t.terms.items) c.place-item.is) c.loop-place.invariant.grown c.requires.places c.loop-place-test.true
-      (c.loop-place.invariant.grown.same_formulas c.args.whole c.requires.whole) (c.loop-place.invariant.grown.same_formulas c.args.body c.requires.body) c.loop-place.invariant.added are)
+      (next_is_instance (view.classes c.args.classes.now) c.args.bank.now c.loop-place.bank (formula_at c.args.bank.now c.args.formula.now.whole) (formula_at c.args.bank.now c.args.formula.now.body) (formula_at c.loop-place.bank c.args.formula.now.whole) (formula_at c.loop-place.bank c.args.formula.now.body)
+      (formulas_of c.args.bank.now c.args.listed.now.list) (map (instance_there (formula_at c.args.bank.now c.args.formula.now.whole) (formula_at c.args.bank.now c.args.formula.now.body)) (tuples_at c.args.bank.now (take c.loop-place.place-index c.args.places.now))) c.loop-place.listed.list c.args.places.now c.loop-place.place-index c.place-item.result c.deref.result.now (c.deref.ensures.value ∙ ap (λ (t : Tuple). t.terms.items) c.place-item.is) c.loop-place.invariant.grown c.requires.places c.loop-place-test.true
+      (c.loop-place.invariant.grown.same_formulas c.args.formula.now.whole c.requires.whole) (c.loop-place.invariant.grown.same_formulas c.args.formula.now.body c.requires.body) c.loop-place.invariant.added are)
       premises goal choices (c.loop-place.invariant.noted are premises goal choices come);
 }
 

@@ -17,6 +17,6 @@ decreases-all_matched l = 3 * l.bound
 
 abbrev pub invariant-all_matched-loop-i : goal.invariant-all_matched-loop-i
 invariant-all_matched-loop-i l = record {
-  has : HasAllFound l.bank l.found;
-  left : left_from l.bank l.found l.patterns l.ts l.i ≡ spec.all_matched (all_found_at l.bank l.initial.found) (terms_from (terms_at l.bank l.patterns)) (terms_from (terms_at l.bank l.ts));
+  has : HasAllFound l.context.bank.now l.found;
+  left : left_from l.context.bank.now l.found l.patterns l.ts l.i ≡ spec.all_matched (all_found_at l.context.bank.now l.initial.found) (terms_from (terms_at l.context.bank.now l.patterns)) (terms_from (terms_at l.context.bank.now l.ts));
 }

@@ -1,7 +1,7 @@
 use Rattle.std.specs.Prelude.{filter_map}
 use Rattle.ss_logic_ground.specs.Matching.{match_atom}
 use Rattle.ss_terms.specs.Forms.{formula_at, formulas_at}
-use Rattle.ss_terms.proofs.Parts.{AreBelow-get}
+use Rattle.ss_terms.proofs.Tested.{AreBelow-get}
 use Rattle.ss_rules_matching.specs.Matches.{tuples_at}
 use Rattle.ss_rules_matching.proofs.Placed.{place_next}
 use Rattle.ss_rules_matching.proofs.places.add_at_atoms.Goals as goal
@@ -11,5 +11,5 @@ add_at_atom-requires-clause-formula c = AreBelow-get _ c.args.fs.now c.loop-f.f-
 
 pub loop-f-preserved : goal.loop-f-preserved
 loop-f-preserved c =
-    place_next (formula_at c.args.bank.now) (λ f. filter_map (λ p. match_atom c.args.count p f) (formulas_at c.args.bank.now c.args.patterns.now)) (tuples_at c.args.bank.now c.args.tuples.now.items) c.args.fs.now c.loop-f.f-index (record { 0 = 0 })
-    c.args.bank.now c.loop-f.tuples.items c.add_at_atom.new.tuples.items c.loop-f-test.true c.loop-f.invariant c.in_ok-add_at_atom.ensures
+    place_next (formula_at c.args.context.now.bank.now) (λ f. filter_map (λ p. match_atom c.args.context.now.count p f) (formulas_at c.args.context.now.bank.now c.args.patterns.now)) (tuples_at c.args.context.now.bank.now c.args.tuples.now.items) c.args.fs.now c.loop-f.f-index (record { 0 = 0 })
+    c.args.context.now.bank.now c.loop-f.tuples.items c.add_at_atom.new.tuples.items c.loop-f-test.true c.loop-f.invariant c.in_ok-add_at_atom.ensures

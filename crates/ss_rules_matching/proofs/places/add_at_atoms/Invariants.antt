@@ -6,4 +6,4 @@ use Rattle.ss_rules_matching.specs.Matches.{tuples_at, AreTuples}
 use Rattle.ss_rules_matching.proofs.places.add_at_atoms.Given as goal
 
 abbrev pub invariant-loop-f : goal.invariant-loop-f
-invariant-loop-f l = AreTuples l.bank l.tuples.items (tuples_at l.bank l.initial.tuples.items ++ flat_map (λ f. filter_map (λ p. match_atom l.count p f) (formulas_at l.bank l.patterns)) (formulas_at l.bank (take l.f-index l.fs)))
+invariant-loop-f l = AreTuples l.context.bank.now l.tuples.items (tuples_at l.context.bank.now l.initial.tuples.items ++ flat_map (λ f. filter_map (λ p. match_atom l.context.count p f) (formulas_at l.context.bank.now l.patterns)) (formulas_at l.context.bank.now (take l.f-index l.fs)))

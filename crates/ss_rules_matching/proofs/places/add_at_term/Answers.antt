@@ -1,6 +1,6 @@
 use Rattle.ss_logic_ground.specs.Matching.{match_term}
 use Rattle.ss_terms.specs.Forms.{term_at}
-use Rattle.ss_terms.proofs.Parts.{AreTermsBelow-get}
+use Rattle.ss_terms.proofs.Tested.{AreTermsBelow-get}
 use Rattle.ss_rules_matching.specs.Matches.{tuples_at}
 use Rattle.ss_rules_matching.proofs.Placed.{pattern_next}
 use Rattle.ss_rules_matching.proofs.places.add_at_term.Goals as goal
@@ -10,5 +10,5 @@ match_term-requires-clause-pattern c = AreTermsBelow-get _ c.args.patterns.now c
 
 pub loop-p-preserved : goal.loop-p-preserved
 loop-p-preserved c =
-    pattern_next (term_at c.args.bank.now) (λ p. match_term c.args.count p (term_at c.args.bank.now c.args.t)) (tuples_at c.args.bank.now c.args.tuples.now.items) c.args.patterns.now c.loop-p.p-index (record { 0 = 0 })
-    c.args.bank.now c.loop-p.tuples.items c.add_tuple.new.tuples.items c.in_ok-found.found c.loop-p-test.true c.loop-p.invariant c.in_ok-found.ensures c.in_ok-add_tuple.ensures
+    pattern_next (term_at c.args.context.now.bank.now) (λ p. match_term c.args.context.now.count p (term_at c.args.context.now.bank.now c.args.t)) (tuples_at c.args.context.now.bank.now c.args.tuples.now.items) c.args.patterns.now c.loop-p.p-index (record { 0 = 0 })
+    c.args.context.now.bank.now c.loop-p.tuples.items c.add_tuple.new.tuples.items c.in_ok-found.found c.loop-p-test.true c.loop-p.invariant c.in_ok-found.ensures c.in_ok-add_tuple.ensures

@@ -6,4 +6,4 @@ use Rattle.ss_rules_matching.specs.Matches.{tuples_at, AreTuples}
 use Rattle.ss_rules_matching.proofs.places.add_at_terms.Given as goal
 
 abbrev pub invariant-loop-t : goal.invariant-loop-t
-invariant-loop-t l = AreTuples l.bank l.tuples.items (tuples_at l.bank l.initial.tuples.items ++ flat_map (λ t. filter_map (λ p. match_term l.count p t) (terms_at l.bank l.patterns)) (terms_at l.bank (take l.t-index l.ts)))
+invariant-loop-t l = AreTuples l.context.bank.now l.tuples.items (tuples_at l.context.bank.now l.initial.tuples.items ++ flat_map (λ t. filter_map (λ p. match_term l.context.count p t) (terms_at l.context.bank.now l.patterns)) (terms_at l.context.bank.now (take l.t-index l.ts)))

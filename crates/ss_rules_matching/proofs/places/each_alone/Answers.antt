@@ -1,4 +1,4 @@
-use Rattle.ss_terms.proofs.Parts.{AreTermsBelow-get}
+use Rattle.ss_terms.proofs.Tested.{AreTermsBelow-get}
 use Rattle.ss_rules_matching.proofs.Placed.{alone_next}
 use Rattle.ss_rules_matching.proofs.places.each_alone.Goals as goal
 

@@ -1,6 +1,6 @@
 use Rattle.ss_logic_ground.specs.Matching.{is_trigger_atom}
 use Rattle.ss_terms.specs.Forms.{formula_at}
-use Rattle.ss_terms.proofs.Parts.{AreBelow-get}
+use Rattle.ss_terms.proofs.Tested.{AreBelow-get}
 use Rattle.ss_rules_matching.proofs.Kept.{kept_next}
 use Rattle.ss_rules_matching.proofs.triggers.all_trigger_atoms.Goals as goal
 

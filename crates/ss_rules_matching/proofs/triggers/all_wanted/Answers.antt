@@ -1,5 +1,5 @@
 use Rattle.ss_terms.specs.Forms.{term_at}
-use Rattle.ss_terms.proofs.Parts.{AreTermsBelow-get}
+use Rattle.ss_terms.proofs.Tested.{AreTermsBelow-get}
 use Rattle.ss_rules_matching.specs.Matches.{is_wanted}
 use Rattle.ss_rules_matching.proofs.Kept.{kept_next}
 use Rattle.ss_rules_matching.proofs.triggers.all_wanted.Goals as goal

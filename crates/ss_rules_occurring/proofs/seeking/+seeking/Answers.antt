@@ -2,7 +2,7 @@ use Rattle.std.proofs.Common.{arith, ap, ◌∙◌}
 use Rattle.std.specs.Prelude.{flat_map}
 use Rattle.ss_logic_ground.specs.Occurring.{with_formulas}
 use Rattle.ss_terms.specs.Forms.{formulas_at}
-use Rattle.ss_terms.proofs.Parts.{AreBelow-get}
+use Rattle.ss_terms.proofs.Tested.{AreBelow-get}
 use Rattle.ss_rules_occurring.specs.Found.{formulas_of}
 use Rattle.ss_rules_occurring.specs.Sought.{found_in}
 use Rattle.ss_rules_occurring.proofs.Sought.{holds_itself, found_next, ok_holds, found_in_and, found_in_or}

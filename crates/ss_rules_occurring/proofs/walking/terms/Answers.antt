@@ -1,4 +1,4 @@
-use Rattle.ss_terms.proofs.Parts.{AreBelow-get}
+use Rattle.ss_terms.proofs.Tested.{AreBelow-get}
 use Rattle.ss_rules_occurring.proofs.Stacks.{terms_next}
 use Rattle.ss_rules_occurring.proofs.walking.terms.Goals as goal
 

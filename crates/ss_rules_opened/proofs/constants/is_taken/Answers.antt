@@ -1,7 +1,7 @@
 use Rattle.std.proofs.Common.{sym}
 use Rattle.ss_logic_ground.specs.Opened.{is_numbered}
 use Rattle.ss_terms.specs.Forms.{term_at}
-use Rattle.ss_terms.proofs.Parts.{AreTermsBelow-get}
+use Rattle.ss_terms.proofs.Tested.{AreTermsBelow-get}
 use Rattle.ss_rules_matching.proofs.Kept.{none_next, one_is}
 use Rattle.ss_rules_opened.proofs.constants.is_taken.Goals as goal
 

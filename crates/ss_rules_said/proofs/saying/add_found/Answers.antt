@@ -9,4 +9,4 @@ pub returns-in-Some-clause-noted : goal.returns-in-Some-clause-noted
 returns-in-Some-clause-noted c =
     let a = c.args.bank.now in
     ok_some_noted c.add_new.result a c.args.found c.in-Some.f (λ cs. said cs (asked_at a c.args.asked.now))
-    (λ cs. StillCome cs a (formulas_of a c.args.list.now) c.args.origins.now.items c.add_new.new.bank (formulas_of c.add_new.new.bank c.add_new.new.list) c.add_new.new.origins.items) c.in-Some.is c.add_new.ensures.noted
+    (λ cs. StillCome cs a (formulas_of a c.args.listed.now.list) c.args.listed.now.origins.items c.add_new.new.bank (formulas_of c.add_new.new.bank c.add_new.new.listed.list) c.add_new.new.listed.origins.items) c.in-Some.is c.add_new.ensures.noted

@@ -6,7 +6,7 @@ use Rattle.ss_rules_said.proofs.Noted.{ok_found_noted}
 use Rattle.ss_rules_said.proofs.saying.add_one_said.Goals as goal
 
 pub add_found-requires-clause-list : goal.add_found-requires-clause-list
-add_found-requires-clause-list c = HasFound-grown c.args.bank.now c.say.new.bank c.args.list.now c.say.ensures.grown c.requires.list
+add_found-requires-clause-list c = HasFound-grown c.args.bank.now c.say.new.bank c.args.listed.now.list c.say.ensures.grown c.requires.list
 
 pub add_found-requires-clause-rule : goal.add_found-requires-clause-rule
 add_found-requires-clause-rule c = HasRule-grown c.args.bank.now c.say.new.bank c.say.ensures.grown c.args.asked.now.rule c.requires.rule
@@ -19,9 +19,9 @@ add_found-requires-clause-found c = number_has c.say.new.bank _ c.in_ok-found.fo
 
 pub returns-clause-added : goal.returns-clause-added
 returns-clause-added c =
-    ok_holds_in c.add_found.result c.args.bank.now c.say.new.bank c.add_found.new.bank c.args.list.now c.add_found.new.list _ _ c.say.ensures.grown c.requires.list (number_is c.say.new.bank _ c.in_ok-found.found c.in_ok-found.ensures.at) c.add_found.ensures.added
+    ok_holds_in c.add_found.result c.args.bank.now c.say.new.bank c.add_found.new.bank c.args.listed.now.list c.add_found.new.listed.list _ _ c.say.ensures.grown c.requires.list (number_is c.say.new.bank _ c.in_ok-found.found c.in_ok-found.ensures.at) c.add_found.ensures.added
 
 pub returns-clause-noted : goal.returns-clause-noted
 returns-clause-noted c =
-    ok_found_noted c.add_found.result (view.classes c.args.classes.now) c.args.bank.now c.say.new.bank c.add_found.new.bank c.say.ensures.grown c.args.list.now c.requires.list c.args.asked.now c.requires.rule c.requires.arguments c.in_ok-found.found c.in_ok-found.ensures.at
-    c.args.origins.now.items _ c.add_found.new.origins.items c.add_found.ensures.noted
+    ok_found_noted c.add_found.result (view.classes c.args.classes.now) c.args.bank.now c.say.new.bank c.add_found.new.bank c.say.ensures.grown c.args.listed.now.list c.requires.list c.args.asked.now c.requires.rule c.requires.arguments c.in_ok-found.found c.in_ok-found.ensures.at
+    c.args.listed.now.origins.items _ c.add_found.new.listed.origins.items c.add_found.ensures.noted

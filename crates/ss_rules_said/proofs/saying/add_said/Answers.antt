@@ -13,9 +13,9 @@ use Rattle.ss_rules_said.proofs.saying.add_said.Goals as goal
 pub loop-one-preserved : goal.loop-one-preserved
 loop-one-preserved c = record {
   grown = IsGrown-then c.args.bank.now c.loop-one.bank c.add_one_said.new.bank c.loop-one.invariant.grown c.add_one_said.ensures.grown;
-  added = said_next (view.classes c.args.classes.now) c.args.bank.now c.loop-one.bank c.add_one_said.new.bank (formulas_of c.args.bank.now c.args.list.now) c.loop-one.list c.add_one_said.new.list c.args.asked.now c.loop-one.one-index c.one-item.result
+  added = said_next (view.classes c.args.classes.now) c.args.bank.now c.loop-one.bank c.add_one_said.new.bank (formulas_of c.args.bank.now c.args.listed.now.list) c.loop-one.listed.list c.add_one_said.new.listed.list c.args.asked.now c.loop-one.one-index c.one-item.result
       c.loop-one.invariant.grown c.requires.asked c.loop-one-test.true c.loop-one.invariant.added
-      (subst (λ x. Holds c.add_one_said.new.bank c.add_one_said.new.list (with_said (formulas_of c.loop-one.bank c.loop-one.list) (said (view.classes c.args.classes.now) (asked_at c.loop-one.bank x)))) c.one-item.is c.in_ok-add_one_said.ensures.added);
+      (subst (λ x. Holds c.add_one_said.new.bank c.add_one_said.new.listed.list (with_said (formulas_of c.loop-one.bank c.loop-one.listed.list) (said (view.classes c.args.classes.now) (asked_at c.loop-one.bank x)))) c.one-item.is c.in_ok-add_one_said.ensures.added);
   noted = λ premises goal choices h. c.in_ok-add_one_said.ensures.noted premises goal choices (c.loop-one.invariant.noted premises goal choices h);
 }
 

@@ -11,6 +11,6 @@ use Rattle.ss_rules_said.proofs.saying.add_said.Given as goal
 abbrev pub invariant-loop-one : goal.invariant-loop-one
 invariant-loop-one l = record {
   grown : IsGrown l.initial.bank l.bank;
-  added : Holds l.bank l.list (with_formulas (formulas_of l.initial.bank l.initial.list) (all_said (view.classes l.classes) (asked_in l.initial.bank (take l.one-index l.asked))));
-  noted : StillCome (view.classes l.classes) l.initial.bank (formulas_of l.initial.bank l.initial.list) l.initial.origins.items l.bank (formulas_of l.bank l.list) l.origins.items;
+  added : Holds l.bank l.listed.list (with_formulas (formulas_of l.initial.bank l.initial.listed.list) (all_said (view.classes l.classes) (asked_in l.initial.bank (take l.one-index l.asked))));
+  noted : StillCome (view.classes l.classes) l.initial.bank (formulas_of l.initial.bank l.initial.listed.list) l.initial.listed.origins.items l.bank (formulas_of l.bank l.listed.list) l.listed.origins.items;
 }

@@ -15,12 +15,12 @@ equate-requires-clause-right c = c.requires.values.holds.right
 pub equate-requires-clause-equal : goal.equate-requires-clause-equal
 equate-requires-clause-equal c =
     let d = c.requires.values in
-    equal_terms c.args.bank.now c.numbers_are_apart.ensures c.args.congruence.now c.requires.forms d.classes d.are c.args.s c.args.t d.holds.left d.holds.right d.holds.same
+    equal_terms c.args.context.now.bank.now c.numbers_are_apart.ensures c.args.context.now.congruence.now c.requires.forms d.classes d.are c.args.s c.args.t d.holds.left d.holds.right d.holds.same
 
 pub returns : goal.returns
 returns c =
-    let b = c.args.bank.now in
+    let b = c.args.context.now.bank.now in
     let d = c.requires.values.holds in
-    IfOk-weaker c.end.result (λ v. v.items ≡ c.in_ok-shown.shown.lines.items ++ Clash c.in_ok-shown.shown.place c.in_ok-shown.shown.place ∷ []) (λ v. CloseCase b c.args.congruence.now.merges c.args.count (λ cs fs. Unit {0}) v.items)
-    (λ v e. values_close b c.args.congruence.now.merges c.args.count c.numbers_are_apart.ensures c.args.s c.args.t d.left d.right d.left_value d.right_value d.apart c.in_ok-shown.shown.lines.items c.in_ok-shown.shown.place c.in_ok-shown.ensures v.items e)
+    IfOk-weaker c.end.result (λ v. v.items ≡ c.in_ok-shown.shown.lines.items ++ Clash c.in_ok-shown.shown.place c.in_ok-shown.shown.place ∷ []) (λ v. CloseCase b c.args.context.now.congruence.now.merges c.args.context.now.count (λ cs fs. Unit {0}) v.items)
+    (λ v e. values_close b c.args.context.now.congruence.now.merges c.args.context.now.count c.numbers_are_apart.ensures c.args.s c.args.t d.left d.right d.left_value d.right_value d.apart c.in_ok-shown.shown.lines.items c.in_ok-shown.shown.place c.in_ok-shown.ensures v.items e)
     c.end.ensures

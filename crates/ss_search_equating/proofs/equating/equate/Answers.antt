@@ -18,8 +18,8 @@ chain-requires-clause-same c = c.joins-joins.ensures.same c.args.x.0 c.args.y.0 
 
 pub returns : goal.returns
 returns c =
-    let b = c.args.bank.now in
-    makes_equality c.args.bank.now c.numbers_are_apart.ensures c.args.congruence.now.terms c.requires.forms c.args.congruence.now.merges (length c.args.congruence.now.terms) c.joins-joins.result.now c.joins-joins.ensures.log c.joins-joins.ensures.caused c.args.known c.args.x c.args.y (c.joins-joins.ensures.same c.args.x.0 c.args.y.0 c.requires.equal) c.in_ok-prepared.prepared.ends.items c.in_ok-prepared.prepared.places.items c.in_ok-prepared.prepared.lines.items
+    let b = c.args.context.now.bank.now in
+    makes_equality c.args.context.now.bank.now c.numbers_are_apart.ensures c.args.context.now.congruence.now.terms c.requires.forms c.args.context.now.congruence.now.merges (length c.args.context.now.congruence.now.terms) c.joins-joins.result.now c.joins-joins.ensures.log c.joins-joins.ensures.caused c.args.context.now.count c.args.x c.args.y (c.joins-joins.ensures.same c.args.x.0 c.args.y.0 c.requires.equal) c.in_ok-prepared.prepared.ends.items c.in_ok-prepared.prepared.places.items c.in_ok-prepared.prepared.lines.items
     c.in_ok-prepared.ensures c.chain.new.lines.items c.in_ok-place.place
     (subst (λ (ps : List ℕ). lines_of b c.chain.new.lines.items ≡ lines_of b c.in_ok-prepared.prepared.lines.items ++ tree.Chain (term_at b c.args.x) (term_at b c.args.y) (places_of ps (way c.joins-joins.result.now c.args.x.0 c.args.y.0)) ∷ []) c.deref-2.ensures.value
     c.in_ok-place.ensures.added)

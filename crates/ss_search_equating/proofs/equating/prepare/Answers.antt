@@ -12,13 +12,13 @@ pub needed-requires-clause-ends : goal.needed-requires-clause-ends
 needed-requires-clause-ends c = subst (λ (es : List (Option ℕ)). AreEnds c.args.joins.now es) (sym c.deref.ensures.value) c.in_ok-ends.ensures
 
 pub place_all-requires-clause-ends : goal.place_all-requires-clause-ends
-place_all-requires-clause-ends c = subst (λ (es : List (Option ℕ)). AreEnds c.args.joins.now es) (sym c.deref-2.ensures.value) c.in_ok-ends.ensures
+place_all-requires-clause-ends c = subst (λ (es : List (Option ℕ)). AreEnds c.args.joins.now es) (sym c.deref.ensures.value) c.in_ok-ends.ensures
 
 pub place_all-requires-clause-long : goal.place_all-requires-clause-long
-place_all-requires-clause-long c = ap length c.deref-3.ensures.value ∙ c.in_ok-marks.ensures.long
+place_all-requires-clause-long c = ap length c.deref-2.ensures.value ∙ c.in_ok-marks.ensures.long
 
 pub place_all-requires-clause-closed : goal.place_all-requires-clause-closed
-place_all-requires-clause-closed c = subst (λ (ms : List Bool). AreClosed c.args.congruence.now.terms c.args.joins.now 0 ms) (sym c.deref-3.ensures.value) c.in_ok-marks.ensures.needed.closed
+place_all-requires-clause-closed c = subst (λ (ms : List Bool). AreClosed c.args.context.now.congruence.now.terms c.args.joins.now 0 ms) (sym c.deref-2.ensures.value) c.in_ok-marks.ensures.needed.closed
 
 pub returns : goal.returns
 returns c = record {
@@ -26,5 +26,5 @@ returns c = record {
   ends_are = c.in_ok-ends.ensures;
   needed = c.in_ok-marks.ensures.needed;
   long = c.in_ok-places.ensures.long;
-  placed = subst (λ (ms : List Bool). ArePlaced c.args.bank.now c.args.congruence.now.merges c.args.joins.now c.args.known ms c.in_ok-places.places.items c.place_all.new.lines.items) c.deref-3.ensures.value c.in_ok-places.ensures.placed;
+  placed = subst (λ (ms : List Bool). ArePlaced c.args.context.now.bank.now c.args.context.now.congruence.now.merges c.args.joins.now c.args.context.now.count ms c.in_ok-places.places.items c.place_all.new.lines.items) c.deref-2.ensures.value c.in_ok-places.ensures.placed;
 }

@@ -9,6 +9,6 @@ use Rattle.ss_search_equating.proofs.placing.chain.Goals as goal
 
 pub returns-clause-added : goal.returns-clause-added
 returns-clause-added c =
-    let is = places_of c.args.places.now (way c.args.joins.now c.args.x.0 c.args.y.0) in
-    on_ok_weaker c.add.result (λ e. line_pushed c.args.bank.now c.args.lines.now.items c.add.new.lines.items (Chain c.args.x c.args.y c.in_ok-path.path) (tree.Chain (term_at c.args.bank.now c.args.x) (term_at c.args.bank.now c.args.y) is) e
-    (chain_line c.args.bank.now c.args.x c.args.y c.in_ok-path.path is c.requires.left c.requires.right c.in_ok-path.ensures)) c.add.ensures.added
+    let is = places_of c.args.places.now (way c.args.context.now.joins.now c.args.x.0 c.args.y.0) in
+    on_ok_weaker c.add.result (λ e. line_pushed c.args.context.now.bank.now c.args.lines.now.items c.add.new.lines.items (Chain c.args.x c.args.y c.in_ok-path.path) (tree.Chain (term_at c.args.context.now.bank.now c.args.x) (term_at c.args.context.now.bank.now c.args.y) is) e
+    (chain_line c.args.context.now.bank.now c.args.x c.args.y c.in_ok-path.path is c.requires.left c.requires.right c.in_ok-path.ensures)) c.add.ensures.added

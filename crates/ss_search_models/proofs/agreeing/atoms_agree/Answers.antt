@@ -5,7 +5,7 @@ use Rattle.std.specs.List.{AllByRecursion}
 use Rattle.ss_terms.specs.declared.forms.FormulaId.{FormulaId}
 use Rattle.ss_terms.specs.Forms.{formula_at, formulas_at, HasFormulas}
 use Rattle.ss_search_models.specs.Said.{IsAtomSaid, are_atoms_of_classes}
-use Rattle.ss_terms.proofs.Parts.{AreBelow-get}
+use Rattle.ss_terms.proofs.Tested.{AreBelow-get}
 use Rattle.ss_search_models.specs.Candidates.{model_at}
 use Rattle.ss_search_models.proofs.Said.{all_more, atom_kept, atoms_said}
 use Rattle.ss_search_models.proofs.agreeing.atoms_agree.Goals as goal

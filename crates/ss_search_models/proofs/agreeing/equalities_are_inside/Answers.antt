@@ -5,7 +5,7 @@ use Rattle.std.proofs.lemmas.List.Folds.{list_all-map, list_all_at}
 use Rattle.ss_logic_countermodels.specs.Refuting.{is_equal_inside}
 use Rattle.ss_terms.specs.declared.forms.FormulaId.{FormulaId}
 use Rattle.ss_terms.specs.Forms.{formula_at, formulas_at, HasFormulas}
-use Rattle.ss_terms.proofs.Parts.{AreBelow-get}
+use Rattle.ss_terms.proofs.Tested.{AreBelow-get}
 use Rattle.ss_search_models.specs.Candidates.{model_at}
 use Rattle.ss_search_models.proofs.agreeing.equalities_are_inside.Goals as goal
 

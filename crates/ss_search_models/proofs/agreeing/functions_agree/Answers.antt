@@ -5,7 +5,7 @@ use Rattle.std.specs.List.{AllByRecursion}
 use Rattle.ss_terms.specs.declared.forms.TermId.{TermId}
 use Rattle.ss_terms.specs.Forms.{term_at, terms_at, HasTerms}
 use Rattle.ss_search_models.specs.Said.{IsFunctionSaid, are_functions_of_classes}
-use Rattle.ss_terms.proofs.Parts.{AreTermsBelow-get}
+use Rattle.ss_terms.proofs.Tested.{AreTermsBelow-get}
 use Rattle.ss_search_models.specs.Candidates.{model_at}
 use Rattle.ss_search_models.proofs.Said.{all_more, function_kept, functions_said}
 use Rattle.ss_search_models.proofs.agreeing.functions_agree.Goals as goal

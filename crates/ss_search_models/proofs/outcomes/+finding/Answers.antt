@@ -4,7 +4,7 @@ use Rattle.std.specs.List.{list_all, list_any}
 use Rattle.std.proofs.lemmas.List.{take_all}
 use Rattle.ss_logic_countermodels.specs.Refuting.{comes_out}
 use Rattle.ss_terms.specs.Forms.{formulas_at}
-use Rattle.ss_terms.proofs.Parts.{AreBelow-get}
+use Rattle.ss_terms.proofs.Tested.{AreBelow-get}
 use Rattle.ss_search_models.specs.Candidates.{model_at}
 use Rattle.ss_search_models.proofs.Outcome.{kept_outcome, ok_finds, outcome_of_and, outcome_of_or, outcome_of_literal, outcome_of_forall, outcome_of_exists, all_next, some_next, all_stopped, some_stopped}
 use Rattle.ss_search_models.proofs.outcomes.+finding.Goals as goal

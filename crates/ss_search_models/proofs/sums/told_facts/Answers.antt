@@ -3,7 +3,7 @@ use Rattle.std.proofs.lemmas.List.{take_all}
 use Rattle.ss_logic_countermodels.specs.Refuting.{as_told}
 use Rattle.ss_terms.specs.declared.forms.FormulaId.{FormulaId}
 use Rattle.ss_terms.specs.Forms.{formulas_at, HasFormulas}
-use Rattle.ss_terms.proofs.Parts.{AreBelow-get}
+use Rattle.ss_terms.proofs.Tested.{AreBelow-get}
 use Rattle.ss_search_models.specs.Candidates.{model_at}
 use Rattle.ss_search_models.proofs.Facts.{formulas_pushed, told_more}
 use Rattle.ss_search_models.proofs.sums.told_facts.Goals as goal

@@ -3,7 +3,7 @@ use Rattle.std.specs.Prelude.{flat_map}
 use Rattle.ss_logic_ground.specs.Occurring.{with_formulas}
 use Rattle.ss_logic_countermodels.specs.Refuting.{told_in}
 use Rattle.ss_terms.specs.Forms.{formulas_at}
-use Rattle.ss_terms.proofs.Parts.{AreBelow-get}
+use Rattle.ss_terms.proofs.Tested.{AreBelow-get}
 use Rattle.ss_rules_occurring.specs.Found.{formulas_of}
 use Rattle.ss_search_models.proofs.Tellings.{tells_itself, ok_tells, told_there, told_added, told_in_and, told_in_or, told_in_literal, told_in_forall, told_in_exists, told_next}
 use Rattle.ss_search_models.proofs.telling.+telling.Goals as goal

@@ -5,7 +5,7 @@ use Rattle.std.specs.List.{AllByRecursion}
 use Rattle.ss_terms.specs.declared.forms.TermId.{TermId}
 use Rattle.ss_terms.specs.Forms.{terms_at, HasTerms}
 use Rattle.ss_search_models.specs.Said.{IsValueSaid, are_values_apart}
-use Rattle.ss_terms.proofs.Parts.{AreTermsBelow-get}
+use Rattle.ss_terms.proofs.Tested.{AreTermsBelow-get}
 use Rattle.ss_search_models.specs.Candidates.{model_at}
 use Rattle.ss_search_models.proofs.Said.{all_more, value_kept, values_said}
 use Rattle.ss_search_models.proofs.values.values_differ.Goals as goal

@@ -4,7 +4,7 @@ use Rattle.std.proofs.lemmas.List.{take_all}
 use Rattle.ss_logic_countermodels.specs.Refuting.{is_whole}
 use Rattle.ss_terms.specs.declared.forms.TermId.{TermId}
 use Rattle.ss_terms.specs.Forms.{terms_at, HasTerms}
-use Rattle.ss_terms.proofs.Parts.{AreTermsBelow-get}
+use Rattle.ss_terms.proofs.Tested.{AreTermsBelow-get}
 use Rattle.ss_search_models.specs.Wholes.{wholes_at}
 use Rattle.ss_search_models.proofs.Equalities.{whole_more}
 use Rattle.ss_search_models.proofs.wholes.whole_terms.Goals as goal

@@ -31,7 +31,7 @@ settle_over-requires-clause-grounded c =
     let b = c.chosen_formulas.new.bank in
     let cs = view.classes c.args.classes.now in
     let grown = c.chosen_formulas.ensures.grown in
-    (cs, IsBankOf-grown cs a b grown c.requires.bank, ground_later cs a b c.args.grounded.now grown c.args.obligation.now.premises.now c.args.obligation.now.goal c.requires.premises c.requires.goal c.requires.grounded)
+    (cs, IsBankOf-grown cs a b grown c.requires.bank, ground_later cs a b c.args.unsettled.now.grounded.now grown c.args.obligation.now.premises.now c.args.obligation.now.goal c.requires.premises c.requires.goal c.requires.grounded)
 
 pub settle_over-requires-clause-formulas : goal.settle_over-requires-clause-formulas
 settle_over-requires-clause-formulas c = c.in_ok-said.ensures.formulas ∙ ap (λ (xs : List Choice). map chosen_by (choices_at c.chosen_formulas.new.bank xs)) c.deref.ensures.value
@@ -40,14 +40,14 @@ pub settle_over-requires-clause-bodies : goal.settle_over-requires-clause-bodies
 settle_over-requires-clause-bodies c = c.in_ok-said.ensures.bodies ∙ ap (λ (xs : List Choice). map body_of (choices_at c.chosen_formulas.new.bank xs)) c.deref.ensures.value
 
 pub settle_over-requires-clause-in_bank : goal.settle_over-requires-clause-in_bank
-settle_over-requires-clause-in_bank c = HasFormulas-grown c.args.bank.now c.chosen_formulas.new.bank c.chosen_formulas.ensures.grown c.args.decisions.now c.requires.in_bank
+settle_over-requires-clause-in_bank c = HasFormulas-grown c.args.bank.now c.chosen_formulas.new.bank c.chosen_formulas.ensures.grown c.args.unsettled.now.decisions.now c.requires.in_bank
 
 pub settle_over-requires-clause-decisions : goal.settle_over-requires-clause-decisions
 settle_over-requires-clause-decisions c =
     let a = c.args.bank.now in
     let b = c.chosen_formulas.new.bank in
     let grown = c.chosen_formulas.ensures.grown in
-    formulas_at-grown a b grown c.args.decisions.now c.requires.in_bank ∙ c.requires.decisions ∙ ap told (sym (formulas_at-grown a b grown c.args.grounded.now.formulas.items c.requires.grounded.has_formulas))
+    formulas_at-grown a b grown c.args.unsettled.now.decisions.now c.requires.in_bank ∙ c.requires.decisions ∙ ap told (sym (formulas_at-grown a b grown c.args.unsettled.now.grounded.now.formulas.items c.requires.grounded.has_formulas))
 
 pub returns-clause-closed : goal.returns-clause-closed
 returns-clause-closed c = λ cs of h.
@@ -58,14 +58,14 @@ returns-clause-closed c = λ cs of h.
     let goal = c.args.obligation.now.goal in
     IfOk-weaker c.settle_over.result (IfClosed (λ d. Derives cs (formulas_at b premises) (formula_at b goal) (lines_of b d))) (IfClosed (λ d. Derives cs (formulas_at a premises) (formula_at a goal) (lines_of b d)))
     (λ x k. closed_before cs a b grown premises goal c.requires.premises c.requires.goal x k)
-    (c.settle_over.ensures.closed cs (IsBankOf-grown cs a b grown of) (ground_later cs a b c.args.grounded.now grown premises goal c.requires.premises c.requires.goal h))
+    (c.settle_over.ensures.closed cs (IsBankOf-grown cs a b grown of) (ground_later cs a b c.args.unsettled.now.grounded.now grown premises goal c.requires.premises c.requires.goal h))
 
 pub returns-clause-countered : goal.returns-clause-countered
 returns-clause-countered c = λ cs of.
     let a = c.args.bank.now in
     let b = c.chosen_formulas.new.bank in
     let grown = c.chosen_formulas.ensures.grown in
-    let same = formulas_at-grown a b grown c.args.grounded.now.formulas.items c.requires.grounded.has_formulas in
+    let same = formulas_at-grown a b grown c.args.unsettled.now.grounded.now.formulas.items c.requires.grounded.has_formulas in
     subst (λ (fs : List Formula). IfOk c.settle_over.result (IfCountered (IsCountermodel cs fs))) same (c.settle_over.ensures.countered cs (IsBankOf-grown cs a b grown of))
 
 pub returns-clause-spent : goal.returns-clause-spent
@@ -73,5 +73,5 @@ returns-clause-spent c = λ cs of.
     let a = c.args.bank.now in
     let b = c.chosen_formulas.new.bank in
     let grown = c.chosen_formulas.ensures.grown in
-    let same = formulas_at-grown a b grown c.args.grounded.now.formulas.items c.requires.grounded.has_formulas in
+    let same = formulas_at-grown a b grown c.args.unsettled.now.grounded.now.formulas.items c.requires.grounded.has_formulas in
     subst (λ (fs : List Formula). IfOk c.settle_over.result (λ (x : Settled). x ≡ settled.Spent → AreEnough cs fs c.args.splits → ⊥)) same (c.settle_over.ensures.spent cs (IsBankOf-grown cs a b grown of))

@@ -17,7 +17,7 @@ use Rattle.ss_search_procedure.proofs.starting.settle_over.Goals as goal
 pub settle-requires-clause-setting : goal.settle-requires-clause-setting
 settle-requires-clause-setting c =
     let b = c.args.bank.now in
-    let w = c.args.grounded.now in
+    let w = c.args.unsettled.now.grounded.now in
     let h = c.requires.grounded in
     is_setting _ w c.deref-4.ensures.value h.2.has_formulas
     (is_given _ c.deref-4.result.now w c.deref-4.ensures.value c.deref.ensures.value c.deref-3.ensures.value h.0 (formulas_at b c.args.obligation.now.premises.now) (formula_at b c.args.obligation.now.goal) h.2 (ap (formulas_at b) c.deref-2.ensures.value ∙ c.requires.bodies)) c.requires.in_bank c.requires.decisions
@@ -31,12 +31,12 @@ pub settle-requires-clause-grounded : goal.settle-requires-clause-grounded
 settle-requires-clause-grounded c =
     let b = c.args.bank.now in
     let h = c.requires.grounded in
-    (h.0, h.1, ground_here _ c.deref-4.result.now c.args.grounded.now c.deref-4.ensures.value c.deref.ensures.value c.deref-3.ensures.value h.0 (formulas_at b c.args.obligation.now.premises.now) (formula_at b c.args.obligation.now.goal) h.2)
+    (h.0, h.1, ground_here _ c.deref-4.result.now c.args.unsettled.now.grounded.now c.deref-4.ensures.value c.deref.ensures.value c.deref-3.ensures.value h.0 (formulas_at b c.args.obligation.now.premises.now) (formula_at b c.args.obligation.now.goal) h.2)
 
 pub returns-clause-closed : goal.returns-clause-closed
 returns-clause-closed c = λ cs of h.
     let b = c.args.bank.now in
-    c.settle.ensures.closed cs of (ground_here _ c.deref-4.result.now c.args.grounded.now c.deref-4.ensures.value c.deref.ensures.value c.deref-3.ensures.value cs (formulas_at b c.args.obligation.now.premises.now) (formula_at b c.args.obligation.now.goal) h)
+    c.settle.ensures.closed cs of (ground_here _ c.deref-4.result.now c.args.unsettled.now.grounded.now c.deref-4.ensures.value c.deref.ensures.value c.deref-3.ensures.value cs (formulas_at b c.args.obligation.now.premises.now) (formula_at b c.args.obligation.now.goal) h)
 
 pub returns-clause-countered : goal.returns-clause-countered
 returns-clause-countered c = λ cs of.

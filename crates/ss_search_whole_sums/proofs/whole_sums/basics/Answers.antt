@@ -1,6 +1,6 @@
 use Rattle.std.proofs.Common.{arith}
 use Rattle.ss_terms.specs.declared.forms.FormulaId.{FormulaId}
-use Rattle.ss_terms.proofs.Parts.{AreBelow-get}
+use Rattle.ss_terms.proofs.Tested.{AreBelow-get}
 use Rattle.ss_search_whole_sums.proofs.Basics.{ones_more, places_more, ones_all, places_all}
 use Rattle.ss_search_whole_sums.proofs.whole_sums.basics.Goals as goal
 

@@ -6,11 +6,11 @@ use Rattle.ss_search_reached.specs.Following.{HasNoSum}
 use Rattle.ss_search_whole_sums.proofs.whole_sums.close_basics.Goals as goal
 
 pub numbers_are_seen-requires : goal.numbers_are_seen-requires
-numbers_are_seen-requires c = subst (HasFormulas c.args.bank.now) (sym c.deref.ensures.value) c.requires.formulas
+numbers_are_seen-requires c = subst (HasFormulas c.args.context.now.bank.now) (sym c.deref.ensures.value) c.requires.formulas
 
 pub returns-then-seen-clause-none : goal.returns-then-seen-clause-none
 returns-then-seen-clause-none c = λ cs of.
-    let b = c.args.bank.now in
+    let b = c.args.context.now.bank.now in
     subst (λ (xs : List FormulaId). HasNoSum cs (class_of b c.args.classes.now) (formulas_at b xs)) c.deref.ensures.value (c.in_ok-seen.ensures cs of c.if-seen.true)
 
 pub returns-in-Some-clause-some : goal.returns-in-Some-clause-some

@@ -7,5 +7,5 @@ use Rattle.ss_sound.proofs.verdict.decide_each.Given as goal
 abbrev pub invariant-loop-number : goal.invariant-loop-number
 invariant-loop-number l = record {
   grown : IsGrown l.initial.bank l.bank;
-  decided : IsDecidedTo (classes l.program.classes) l.options (obligations_at l.initial.bank l.trail l.list) l.number l.bank l.decided.countered.items l.decided.undecided.items l.decided.derivations.items;
+  decided : IsDecidedTo (classes l.context.program.now.classes) l.context.options.now (obligations_at l.initial.bank l.context.trail.now l.list) l.number l.bank l.decided.countered.items l.decided.undecided.items l.decided.derivations.items;
 }

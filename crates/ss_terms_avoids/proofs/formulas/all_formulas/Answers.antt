@@ -1,5 +1,5 @@
 use Rattle.ss_terms.specs.declared.forms.FormulaId.{FormulaId}
-use Rattle.ss_terms.proofs.Parts.{AreBelow-get}
+use Rattle.ss_terms.proofs.Tested.{AreBelow-get}
 use Rattle.ss_terms_avoids.proofs.formulas.all_formulas.Goals as goal
 
 pub bounds-entries-f : goal.bounds-entries-f

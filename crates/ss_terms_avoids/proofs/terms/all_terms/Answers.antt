@@ -1,5 +1,5 @@
 use Rattle.ss_terms.specs.declared.forms.TermId.{TermId}
-use Rattle.ss_terms.proofs.Parts.{AreTermsBelow-get}
+use Rattle.ss_terms.proofs.Tested.{AreTermsBelow-get}
 use Rattle.ss_terms_avoids.proofs.terms.all_terms.Goals as goal
 
 pub bounds-entries-t : goal.bounds-entries-t

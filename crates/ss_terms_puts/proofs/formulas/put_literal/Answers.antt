@@ -8,6 +8,6 @@ use Rattle.ss_terms_puts.proofs.formulas.put_literal.Goals as goal
 pub returns-clause-at : goal.returns-clause-at
 returns-clause-at c =
     formula_equal c.formula.result c.formula.new.self _ _
-    (ap (λ xs. Literal c.args.holds (predicate_of c.args.predicate) (terms_from xs)) c.in_ok-arguments.ensures.at
-    ∙ sym (ap (Literal c.args.holds (predicate_of c.args.predicate)) (put_terms-map (terms_at c.args.bank.now c.args.ts.now) (terms_at c.args.bank.now c.args.xs.now))))
+    (ap (λ xs. Literal c.args.signed.holds (predicate_of c.args.signed.predicate) (terms_from xs)) c.in_ok-arguments.ensures.at
+    ∙ sym (ap (Literal c.args.signed.holds (predicate_of c.args.signed.predicate)) (put_terms-map (terms_at c.args.bank.now c.args.ts.now) (terms_at c.args.bank.now c.args.xs.now))))
     c.formula.ensures.at

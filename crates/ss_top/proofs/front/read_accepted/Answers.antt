@@ -5,8 +5,8 @@ use Rattle.ss_top.proofs.Limits.{elaborated_limits}
 use Rattle.ss_top.proofs.Says.{means}
 use Rattle.ss_top.proofs.front.read_accepted.Goals as goal
 
-pub returns-in-Ok-clause-gives : goal.returns-in-Ok-clause-gives
-returns-in-Ok-clause-gives c = means c.args.source.now (toks c.args.accepted.now.tokens.items) (typed c.args.accepted.now.program) (core c.in-Ok.program) c.requires.accepted c.in-Ok.ensures
+pub returns-clause-gives : goal.returns-clause-gives
+returns-clause-gives c = means c.args.source.now (toks c.args.accepted.now.tokens.items) (typed c.args.accepted.now.program) (core c.in_ok-program.program) c.requires.accepted c.in_ok-program.ensures
 
-pub returns-in-Ok-clause-limits : goal.returns-in-Ok-clause-limits
-returns-in-Ok-clause-limits c = elaborated_limits c.args.source.now (toks c.args.accepted.now.tokens.items) (typed c.args.accepted.now.program) (core c.in-Ok.program) c.requires.accepted c.in-Ok.ensures
+pub returns-clause-limits : goal.returns-clause-limits
+returns-clause-limits c = elaborated_limits c.args.source.now (toks c.args.accepted.now.tokens.items) (typed c.args.accepted.now.program) (core c.in_ok-program.program) c.requires.accepted c.in_ok-program.ensures

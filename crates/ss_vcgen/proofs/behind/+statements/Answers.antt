@@ -2,7 +2,11 @@ use Rattle.std.proofs.Common.{arith, rules, ◌++◌, List, map, drop, refl, sym
 use Rattle.std.proofs.lemmas.List.{drop_all}
 use Rattle.std.specs.Prelude.{option_map}
 use Rattle.ss_core.specs.declared.expr.Expr.{Expr}
+use Rattle.ss_core.specs.declared.names.ClassId.{ClassId}
+use Rattle.ss_core.specs.declared.names.FieldId.{FieldId}
 use Rattle.ss_core.specs.declared.names.Kind.TheVariants as kind
+use Rattle.ss_core.specs.declared.names.Mark.{Mark}
+use Rattle.ss_core.specs.declared.names.Place.{Place}
 use Rattle.ss_core.specs.declared.stmt.Exposed.{Exposed}
 use Rattle.ss_core.specs.declared.stmt.Loop.{out-Loop}
 use Rattle.ss_core.specs.declared.stmt.Stmt.{Stmt, the_lemmas}
@@ -23,7 +27,7 @@ use Rattle.ss_vcgen_statements.proofs.Going.{here, none_gone, gone_on, all_gone,
 use Rattle.ss_vcgen_statements.proofs.Steps.{Along, then, so, stays}
 use Rattle.ss_vcgen_bodies.specs.Words.{other_side, exit_side, head_checked, head_reached, turned}
 use Rattle.ss_vcgen_bodies.proofs.Spots.{spot_so, spot_gone}
-use Rattle.ss_vcgen.specs.Behind.{assigned, written, element_written, made_ready, branched, gone_round, gone_if_reached, looped}
+use Rattle.ss_vcgen.specs.Behind.{place_of, assigned, written, element_written, made_ready, branched, gone_round, gone_if_reached, looped}
 use Rattle.ss_vcgen_bodies.proofs.Arms.{arm, is_reached, never}
 use Rattle.ss_vcgen.proofs.Trees.{assign_is, write_is, write_element_is, new_is, new_array_is, call_is, ready_is, unpack_is, pack_is, assert_is, assume_is, print_is, print_text_is, return_is, looped_is}
 use Rattle.ss_vcgen.proofs.behind.+statements.Goals as goal
@@ -47,8 +51,18 @@ behind-returns-in-Write t c =
     let P = λ (b : Forms). position_at b s in
     let T = stmt_of c.args.stmt.now in
     let is = ap stmt_of a.is ∙ write_is a.place a.object a.field a.mark a.class a.value in
-    arm c.write.result s c.write.new.builder (λ b. with_known (w b) T (P b).known (written (w b) a.place (expr a.object) a.field.0 a.mark a.class.0 (expr a.value) (P b))) (λ b. behind (w b) T (P b))
-    (λ b. ap (λ (st : StmtTree). with_known (w b) st (P b).known (written (w b) a.place (expr a.object) a.field.0 a.mark a.class.0 (expr a.value) (P b))) is ∙ sym (ap (λ (st : StmtTree). behind (w b) st (P b)) is)) c.write.ensures
+    let target = c.new-target.result in
+    let made = c.new-target.ensures in
+    let wrote = λ (b : Forms) (p : Place) (o : Expr) (f : FieldId) (m : Mark) (k : ClassId). with_known (w b) T (P b).known (written (w b) p (expr o) f.0 m k.0 (expr a.value) (P b)) in
+    arm c.write.result s c.write.new.builder (λ b. wrote b target.place target.object.now target.field target.mark target.class) (λ b. behind (w b) T (P b))
+    (λ b.
+    ap (λ (p : Place). wrote b p target.object.now target.field target.mark target.class) made.place
+    ∙ ap (λ (o : Expr). wrote b a.place o target.field target.mark target.class) made.object
+    ∙ ap (λ (f : FieldId). wrote b a.place a.object f target.mark target.class) made.field
+    ∙ ap (λ (m : Mark). wrote b a.place a.object a.field m target.class) made.mark
+    ∙ ap (λ (k : ClassId). wrote b a.place a.object a.field a.mark k) made.class
+    ∙ ap (λ (st : StmtTree). with_known (w b) st (P b).known (written (w b) a.place (expr a.object) a.field.0 a.mark a.class.0 (expr a.value) (P b))) is
+    ∙ sym (ap (λ (st : StmtTree). behind (w b) st (P b)) is)) c.write.ensures
 
 pub behind-returns-in-WriteElement : goal.behind-returns-in-WriteElement
 behind-returns-in-WriteElement t c =
@@ -57,9 +71,9 @@ behind-returns-in-WriteElement t c =
     let w = λ (b : Forms). walk_at b c.args.walk.now in
     let P = λ (b : Forms). position_at b s in
     let T = stmt_of c.args.stmt.now in
-    let is = ap stmt_of a.is ∙ write_element_is a.at a.a a.i a.value in
-    arm c.write_element.result s c.write_element.new.builder (λ b. with_known (w b) T (P b).known (element_written (w b) a.at (expr a.a) (expr a.i) (expr a.value) (P b))) (λ b. behind (w b) T (P b))
-    (λ b. ap (λ (st : StmtTree). with_known (w b) st (P b).known (element_written (w b) a.at (expr a.a) (expr a.i) (expr a.value) (P b))) is ∙ sym (ap (λ (st : StmtTree). behind (w b) st (P b)) is)) c.write_element.ensures
+    let is = ap stmt_of a.is ∙ write_element_is a.field-0 a.a a.i a.value in
+    arm c.write_element.result s c.write_element.new.builder (λ b. with_known (w b) T (P b).known (element_written (w b) (place_of T) (expr a.a) (expr a.i) (expr a.value) (P b))) (λ b. behind (w b) T (P b))
+    (λ b. ap (λ (st : StmtTree). with_known (w b) st (P b).known (element_written (w b) (place_of st) (expr a.a) (expr a.i) (expr a.value) (P b))) is ∙ sym (ap (λ (st : StmtTree). behind (w b) st (P b)) is)) c.write_element.ensures
 
 pub behind-returns-in-New : goal.behind-returns-in-New
 behind-returns-in-New t c =
@@ -68,9 +82,9 @@ behind-returns-in-New t c =
     let w = λ (b : Forms). walk_at b c.args.walk.now in
     let P = λ (b : Forms). position_at b s in
     let T = stmt_of c.args.stmt.now in
-    let is = ap stmt_of a.is ∙ new_is a.at a.x a.class a.es in
-    arm c.create.result s c.create.new.builder (λ b. with_known (w b) T (P b).known (spec.construct (w b) a.at a.x a.class.0 (exprs c.deref.result.now) (P b))) (λ b. behind (w b) T (P b))
-    (λ b. ap (λ (ys : List Expr). with_known (w b) T (P b).known (spec.construct (w b) a.at a.x a.class.0 (exprs ys) (P b))) c.deref.ensures.value ∙ ap (λ (st : StmtTree). with_known (w b) st (P b).known (spec.construct (w b) a.at a.x a.class.0 (exprs a.es.items) (P b))) is ∙ sym (ap (λ (st : StmtTree). behind (w b) st (P b)) is)) c.create.ensures
+    let is = ap stmt_of a.is ∙ new_is a.field-0 a.x a.class a.es in
+    arm c.create.result s c.create.new.builder (λ b. with_known (w b) T (P b).known (spec.construct (w b) (place_of T) a.x a.class.0 (exprs c.deref.result.now) (P b))) (λ b. behind (w b) T (P b))
+    (λ b. ap (λ (ys : List Expr). with_known (w b) T (P b).known (spec.construct (w b) (place_of T) a.x a.class.0 (exprs ys) (P b))) c.deref.ensures.value ∙ ap (λ (st : StmtTree). with_known (w b) st (P b).known (spec.construct (w b) (place_of st) a.x a.class.0 (exprs a.es.items) (P b))) is ∙ sym (ap (λ (st : StmtTree). behind (w b) st (P b)) is)) c.create.ensures
 
 pub behind-returns-in-NewArray : goal.behind-returns-in-NewArray
 behind-returns-in-NewArray t c =
@@ -79,9 +93,9 @@ behind-returns-in-NewArray t c =
     let w = λ (b : Forms). walk_at b c.args.walk.now in
     let P = λ (b : Forms). position_at b s in
     let T = stmt_of c.args.stmt.now in
-    let is = ap stmt_of a.is ∙ new_array_is a.at a.x a.class a.e in
-    arm c.create_array.result s c.create_array.new.builder (λ b. with_known (w b) T (P b).known (spec.new_array (w b) a.at a.x a.class.0 (expr a.e) (P b))) (λ b. behind (w b) T (P b))
-    (λ b. ap (λ (st : StmtTree). with_known (w b) st (P b).known (spec.new_array (w b) a.at a.x a.class.0 (expr a.e) (P b))) is ∙ sym (ap (λ (st : StmtTree). behind (w b) st (P b)) is)) c.create_array.ensures
+    let is = ap stmt_of a.is ∙ new_array_is a.field-0 a.x a.class a.e in
+    arm c.create_array.result s c.create_array.new.builder (λ b. with_known (w b) T (P b).known (spec.new_array (w b) (place_of T) a.x a.class.0 (expr a.e) (P b))) (λ b. behind (w b) T (P b))
+    (λ b. ap (λ (st : StmtTree). with_known (w b) st (P b).known (spec.new_array (w b) (place_of st) a.x a.class.0 (expr a.e) (P b))) is ∙ sym (ap (λ (st : StmtTree). behind (w b) st (P b)) is)) c.create_array.ensures
 
 pub behind-returns-in-Call : goal.behind-returns-in-Call
 behind-returns-in-Call t c =
@@ -90,9 +104,9 @@ behind-returns-in-Call t c =
     let w = λ (b : Forms). walk_at b c.args.walk.now in
     let P = λ (b : Forms). position_at b s in
     let T = stmt_of c.args.stmt.now in
-    let is = ap stmt_of a.is ∙ call_is a.at a.x a.callee a.es in
-    arm c.call.result s c.call.new.builder (λ b. with_known (w b) T (P b).known (spec.call_with (w b) a.at a.x (callee_tree a.callee) (receiver (callee_tree a.callee) ++ exprs c.deref-in-Call.result.now) (P b))) (λ b. behind (w b) T (P b))
-    (λ b. ap (λ (ys : List Expr). with_known (w b) T (P b).known (spec.call_with (w b) a.at a.x (callee_tree a.callee) (receiver (callee_tree a.callee) ++ exprs ys) (P b))) c.deref-in-Call.ensures.value ∙ ap (λ (st : StmtTree). with_known (w b) st (P b).known (spec.call_with (w b) a.at a.x (callee_tree a.callee) (receiver (callee_tree a.callee) ++ exprs a.es.items) (P b))) is ∙ sym (ap (λ (st : StmtTree). behind (w b) st (P b)) is)) c.call.ensures
+    let is = ap stmt_of a.is ∙ call_is a.field-0 a.x a.callee a.es in
+    arm c.call.result s c.call.new.builder (λ b. with_known (w b) T (P b).known (spec.call_with (w b) (place_of T) a.x (callee_tree a.callee) (receiver (callee_tree a.callee) ++ exprs c.deref-in-Call.result.now) (P b))) (λ b. behind (w b) T (P b))
+    (λ b. ap (λ (ys : List Expr). with_known (w b) T (P b).known (spec.call_with (w b) (place_of T) a.x (callee_tree a.callee) (receiver (callee_tree a.callee) ++ exprs ys) (P b))) c.deref-in-Call.ensures.value ∙ ap (λ (st : StmtTree). with_known (w b) st (P b).known (spec.call_with (w b) (place_of st) a.x (callee_tree a.callee) (receiver (callee_tree a.callee) ++ exprs a.es.items) (P b))) is ∙ sym (ap (λ (st : StmtTree). behind (w b) st (P b)) is)) c.call.ensures
 
 pub behind-returns-in-Ready : goal.behind-returns-in-Ready
 behind-returns-in-Ready t c =

@@ -50,8 +50,8 @@ pub returns : goal.returns
 returns c =
     let s = c.args.builder.now in
     let w = λ (b : Forms). walk_at b c.args.walk.now in
-    let e = expr c.args.a.now in
-    let i = expr c.args.i.now in
+    let e = expr c.args.target.now.array.now in
+    let i = expr c.args.target.now.index.now in
     let v = expr c.args.value.now in
     let z = c.sort_of_elements-sort.result in
     let l = c.in_ok-meant.meant.0 in
@@ -78,10 +78,10 @@ returns c =
     let p3 = then s t3 t4 F2 (λ b k. with_term z (value_at b n) k) p2 e4 in
     let t5 = c.write_element.new.builder in
     let e5 = c.in_ok-write_element.ensures in
-    let wrote = λ (b : Forms) (o j y : Term) (k : Position). write_element (w b) c.args.at e o j y k in
+    let wrote = λ (b : Forms) (o j y : Term) (k : Position). write_element (w b) c.args.target.now.place e o j y k in
     let two = λ (b : Forms) (l m : Meant). with_two sort.Rest l sort.Whole m (F1 b) in
     let done = λ (b : Forms) (z : Sort) (l m n : Meant). wrote b (term_for sort.Rest l (F1 b)) (term_for sort.Whole m (with_term sort.Rest l (F1 b))) (term_for z n (two b l m)) (with_term z n (two b l m)) in
-    so s t5 (λ b. wrote b (term_at b o) (term_at b j) (term_at b y) (F3 b)) (λ b. element_written (w b) c.args.at e i v (F0 b))
+    so s t5 (λ b. wrote b (term_at b o) (term_at b j) (term_at b y) (F3 b)) (λ b. element_written (w b) c.args.target.now.place e i v (F0 b))
     (λ b k.
     let g4 = IsGrown-then t4.bank t5.bank b e5.grown k in
     let g3 = IsGrown-then t3.bank t4.bank b e4.grown g4 in

@@ -26,7 +26,7 @@ pub returns : goal.returns
 returns c =
     let s = c.args.builder.now in
     let w = λ (b : Forms). walk_at b c.args.walk.now in
-    let e = expr c.args.object.now in
+    let e = expr c.args.target.now.object.now in
     let v = expr c.args.value.now in
     let z = c.sort_of_field-sort.result in
     let m = c.in_ok-meant.meant.0 in
@@ -43,9 +43,9 @@ returns c =
     let p2 = then s t1 t2 F1 (λ b k. with_two sort.Rest (value_at b m) z (value_at b n) k) e1 e2 in
     let t3 = c.write.new.builder in
     let e3 = c.in_ok-write.ensures in
-    let wrote = λ (b : Forms) (o y : Term) (k : Position). write (w b) c.args.at e c.args.field.0 c.args.mark c.args.class.0 o y k in
+    let wrote = λ (b : Forms) (o y : Term) (k : Position). write (w b) c.args.target.now.place e c.args.target.now.field.0 c.args.target.now.mark c.args.target.now.class.0 o y k in
     let done = λ (b : Forms) (z : Sort) (m n : Meant). wrote b (term_for sort.Rest m (F1 b)) (term_for z n (with_term sort.Rest m (F1 b))) (with_two sort.Rest m z n (F1 b)) in
-    so s t3 (λ b. wrote b (term_at b o) (term_at b y) (F2 b)) (λ b. written (w b) c.args.at e c.args.field.0 c.args.mark c.args.class.0 v (F0 b))
+    so s t3 (λ b. wrote b (term_at b o) (term_at b y) (F2 b)) (λ b. written (w b) c.args.target.now.place e c.args.target.now.field.0 c.args.target.now.mark c.args.target.now.class.0 v (F0 b))
     (λ b k.
     let here = IsGrown-then t2.bank t3.bank b e3.grown k in
     let there = IsGrown-then t1.bank t2.bank b e2.grown here in

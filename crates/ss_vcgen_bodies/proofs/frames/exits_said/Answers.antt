@@ -1,8 +1,8 @@
-use Rattle.std.proofs.Common.{List, ap, ◌∙◌}
+use Rattle.std.proofs.Common.{List, ap, sym, subst, ◌∙◌}
 use Rattle.ss_core.specs.View.{classes, body}
 use Rattle.ss_logic_express.specs.Express.{Meant}
 use Rattle.ss_terms.specs.declared.forms.TermId.{TermId}
-use Rattle.ss_terms.specs.Forms.{Forms, term_at}
+use Rattle.ss_terms.specs.Forms.{Forms, term_at, HasTerms}
 use Rattle.ss_terms.proofs.Grown.{IsGrown-then, HasTerm-grown, HasTerms-grown}
 use Rattle.ss_vcgen_contracts.specs.Views.{ones_at}
 use Rattle.ss_vcgen_heaps.specs.Contracts.{conditions, contract_context}
@@ -13,14 +13,14 @@ use Rattle.ss_vcgen_bodies.proofs.frames.exits_said.Goals as goal
 pub exit_said-requires-clause-walk : goal.exit_said-requires-clause-walk
 exit_said-requires-clause-walk c = IsWalk-grown c.args.builder.now.bank c.arguments_now.new.builder.bank c.in_ok-arguments.ensures.stays.grown c.args.walk.now c.requires.walk
 
-pub exit_said-requires-clause-store : goal.exit_said-requires-clause-store
-exit_said-requires-clause-store c = HasTerm-grown c.args.builder.now.bank c.arguments_now.new.builder.bank c.in_ok-arguments.ensures.stays.grown c.args.builder.now.store c.requires.fine.store
+pub exit_said-requires-clause-after : goal.exit_said-requires-clause-after
+exit_said-requires-clause-after c = HasTerm-grown c.args.builder.now.bank c.arguments_now.new.builder.bank c.in_ok-arguments.ensures.stays.grown c.args.builder.now.store c.requires.fine.store
 
 pub exit_said-requires-clause-before : goal.exit_said-requires-clause-before
 exit_said-requires-clause-before c = HasTerm-grown c.args.builder.now.bank c.arguments_now.new.builder.bank c.in_ok-arguments.ensures.stays.grown c.args.walk.now.entry c.requires.walk.entry
 
 pub exit_said-requires-clause-arguments : goal.exit_said-requires-clause-arguments
-exit_said-requires-clause-arguments c = rw c.deref.ensures.value c.in_ok-arguments.ensures.at.has
+exit_said-requires-clause-arguments c = subst (λ (ts : List TermId). HasTerms c.arguments_now.new.builder.bank ts) (sym c.deref.ensures.value) c.in_ok-arguments.ensures.at.has
 
 pub exit_said-requires-clause-results : goal.exit_said-requires-clause-results
 exit_said-requires-clause-results c = HasTerms-grown c.args.builder.now.bank c.arguments_now.new.builder.bank c.in_ok-arguments.ensures.stays.grown c.args.results.now c.requires.results

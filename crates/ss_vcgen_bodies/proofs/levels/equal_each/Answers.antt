@@ -4,7 +4,7 @@ use Rattle.ss_logic_rules.specs.Shapes.{equal}
 use Rattle.ss_terms.specs.declared.forms.TermId.{TermId}
 use Rattle.ss_terms.specs.Forms.{term_at, terms_at}
 use Rattle.ss_terms.proofs.Grown.{HasTerm-grown, HasTerms-grown}
-use Rattle.ss_terms.proofs.Parts.{AreTermsBelow-get}
+use Rattle.ss_terms.proofs.Tested.{AreTermsBelow-get}
 use Rattle.ss_vcgen_bodies.proofs.Making.{no_formula_made, formula_on, formulas_made}
 use Rattle.ss_vcgen_bodies.proofs.levels.equal_each.Goals as goal
 

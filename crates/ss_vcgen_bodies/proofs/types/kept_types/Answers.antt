@@ -1,4 +1,4 @@
-use Rattle.std.proofs.Common.{◌≡◌, ◌+◌, ◌++◌, List, Option, drop, get_or, sym, ap, ◌∙◌}
+use Rattle.std.proofs.Common.{◌≡◌, ◌+◌, ◌++◌, List, Option, drop, get_or, sym, ap, subst, ◌∙◌}
 use Rattle.std.proofs.lemmas.List.{drop_all, drop_more}
 use Rattle.std.specs.Prelude.{slice_get}
 use Rattle.ss_core.specs.declared.names.Ty.{Ty}
@@ -31,7 +31,8 @@ kept_type-requires-clause-before c =
 pub kept_type-requires-clause-now : goal.kept_type-requires-clause-now
 kept_type-requires-clause-now c =
     let t = c.loop-x.builder in
-    rw (c.local_in-new.ensures, c.deref.ensures.value) (HasLocal-found t.bank t.locals.items c.loop-x.x c.loop-x.invariant.stays.fine.locals)
+    subst (λ (o : Option TermId). HasLocal t.bank o) (sym (c.local_in-new.ensures ∙ ap (λ (ls : List (Option TermId)). flat (slice_get ls c.loop-x.x)) c.deref.ensures.value))
+    (HasLocal-found t.bank t.locals.items c.loop-x.x c.loop-x.invariant.stays.fine.locals)
 
 pub loop-x-preserved : goal.loop-x-preserved
 loop-x-preserved c =

@@ -27,11 +27,11 @@ returns-clause-at c =
     let B = λ (b : Forms). term_at b c.args.before in
     let N = λ (b : Forms). term_at b c.args.now in
     let said = λ (b : Forms). is_of_type c.args.asks_ready (S b) c.nullable.result (N b) in
-    let more = λ (b : Forms). not_lost c.is_without_null-lost.result (B b) (N b) in
+    let more = λ (b : Forms). not_lost c.is_non_null-lost.result (B b) (N b) in
     formulas_are t2.bank c.extend_from_slice.new.self.items (λ b. said b ++ more b) (λ b. spec.stays_of_type c.args.asks_ready (S b) c.args.ty (B b) (N b))
     (λ b k.
     ap (λ (t : Ty). is_of_type c.args.asks_ready (S b) t (N b) ++ more b) c.nullable.ensures
-    ∙ ap (λ (v : Bool). is_of_type c.args.asks_ready (S b) (nullable c.args.ty) (N b) ++ not_lost v (B b) (N b)) c.is_without_null-lost.ensures
+    ∙ ap (λ (v : Bool). is_of_type c.args.asks_ready (S b) (nullable c.args.ty) (N b) ++ not_lost v (B b) (N b)) c.is_non_null-lost.ensures
     ∙ stays_is c.args.asks_ready (S b) c.args.ty (B b) (N b))
     (formulas_joined t2.bank c.in_ok-said.said.items c.in_ok-more.more.items c.extend_from_slice.new.self.items said more
     (formulas_later t1.bank t2.bank c.in_ok-more.ensures.stays.grown c.in_ok-said.said.items said c.in_ok-said.ensures.at) c.in_ok-more.ensures.at

@@ -19,5 +19,5 @@ pub returns-clause-at : goal.returns-clause-at
 returns-clause-at c =
     let cs = view.classes c.args.core.now.classes in
     formula_so c.kept.result c.kept.new.bank (λ b. logic.kept cs (call_at b c.in_ok-m.m))
-    (λ b. logic.kept cs (heaps.frame_terms cs (contract_of c.args.contract) (term_at b c.args.before) (term_at b c.args.after) (ones_at b c.args.arguments.now) (terms_at b c.args.outside.now)))
+    (λ b. logic.kept cs (heaps.frame_terms cs (contract_of c.args.contract) (term_at b c.args.run.before) (term_at b c.args.run.after) (ones_at b c.args.run.arguments.now) (terms_at b c.args.outside.now)))
     (λ b k. ap (logic.kept cs) (c.in_ok-m.ensures.at.is b (IsGrown-then c.frame_terms.new.bank c.kept.new.bank b c.kept.ensures.grown k))) c.kept.ensures.at

@@ -1,6 +1,6 @@
 use Rattle.std.proofs.Common.{false, sym, ap, ◌∙◌}
 use Rattle.ss_core.specs.View.{expr}
-use Rattle.ss_vcgen_known.proofs.Grouping.{chain_is, path_is, chain_some, path_some, path_alone}
+use Rattle.ss_vcgen_types.proofs.Grouping.{chain_is, path_is, chain_some, path_some, path_alone}
 use Rattle.ss_vcgen_contracts.specs.Seen.{is_at_level}
 use Rattle.ss_vcgen_contracts.proofs.Seeing.{link_no_level, step_no_level}
 use Rattle.ss_vcgen_contracts.proofs.conditions.+is_at_level.Goals as goal

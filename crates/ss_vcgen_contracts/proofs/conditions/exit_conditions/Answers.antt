@@ -21,5 +21,5 @@ returns-clause-at c =
           ∙ ap (λ es. heaps.conditions (map (condition_of seen) (view.exprs es)) (context_at b context)) c.deref.ensures.value
           ∙ ap (heaps.conditions (map (condition_of seen) (view.exprs c.args.contract.body.now.exit.items))) (c.in_ok-context.ensures.at.is b h)
           ∙ exit_is seen (view.body c.args.contract.body.now)
-          (heaps.contract_context (view.classes c.args.classes.now) (contract_of c.args.contract) (term_at b c.args.store) (term_at b c.args.entry) (ones_at b c.args.arguments.now) (ones_at b c.args.results.now));
+          (heaps.contract_context (view.classes c.args.classes.now) (contract_of c.args.contract) (term_at b c.args.run.after) (term_at b c.args.run.before) (ones_at b c.args.run.arguments.now) (ones_at b c.args.results.now));
     }

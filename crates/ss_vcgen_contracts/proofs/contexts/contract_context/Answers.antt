@@ -10,12 +10,12 @@ returns-clause-at c =
     let g = c.in_ok-locals.ensures.grown in
     record {
       has = record {
-        now = HasTerm-grown c.args.bank.now c.locals_of.new.bank g c.args.now c.requires.now;
-        entry = HasTerm-grown c.args.bank.now c.locals_of.new.bank g c.args.entry c.requires.entry;
+        now = HasTerm-grown c.args.bank.now c.locals_of.new.bank g c.args.run.after c.requires.after;
+        entry = HasTerm-grown c.args.bank.now c.locals_of.new.bank g c.args.run.before c.requires.before;
         locals = c.in_ok-locals.ensures.at.has;
         classes = c.requires.limit;
       };
       is = λ b k.
-          context_is (view.classes c.args.classes.now) c.args.contract.seen (view.body c.args.contract.body.now) (term_at b c.args.now) (term_at b c.args.entry) (ones_at b c.args.arguments.now) (ones_at b c.args.results.now)
+          context_is (view.classes c.args.classes.now) c.args.contract.seen (view.body c.args.contract.body.now) (term_at b c.args.run.after) (term_at b c.args.run.before) (ones_at b c.args.run.arguments.now) (ones_at b c.args.results.now)
           c.in_ok-types.types.items (ones_at b c.in_ok-locals.locals.items) c.in_ok-types.ensures (c.in_ok-locals.ensures.at.are b k);
     }

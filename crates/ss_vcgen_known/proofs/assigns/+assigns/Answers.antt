@@ -6,7 +6,7 @@ use Rattle.ss_core.specs.declared.stmt.Loop.{out-Loop}
 use Rattle.std.proofs.Common.{map, drop, ◌+◌}
 use Rattle.std.proofs.Math.ListN.{drop_of_length-le}
 use Rattle.ss_vcgen_known.proofs.Listing.{both_none}
-use Rattle.ss_vcgen_known.proofs.Walking.{from_here}
+use Rattle.ss_vcgen_types.proofs.Walking.{from_here}
 use Rattle.ss_store_rules.specs.Locals.{assigns}
 use Rattle.ss_store_rules.specs.NonNull.{both}
 use Rattle.ss_vcgen_known.specs.Assigns.{assigns_in}

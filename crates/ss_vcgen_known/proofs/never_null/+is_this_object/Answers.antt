@@ -1,8 +1,8 @@
 use Rattle.std.proofs.Common.{false, sym, ap, ◌∙◌}
 use Rattle.ss_core.specs.View.{expr}
 use Rattle.ss_store_rules.specs.NonNull.{is_this_object}
-use Rattle.ss_vcgen_known.proofs.Grouping.{path_is, path_some}
-use Rattle.ss_vcgen_known.proofs.Forms.{step_not_this}
+use Rattle.ss_vcgen_types.proofs.Grouping.{path_is, path_some}
+use Rattle.ss_vcgen_types.proofs.Forms.{step_not_this}
 use Rattle.ss_vcgen_known.proofs.never_null.+is_this_object.Goals as goal
 
 pub returns-else-is_empty : goal.returns-else-is_empty

@@ -2,8 +2,8 @@ use Rattle.std.proofs.Common.{false, length, refl, sym}
 use Rattle.ss_core.specs.View.{expr}
 use Rattle.ss_store_rules.specs.NonNull.{is_never_null}
 use Rattle.ss_vcgen_known.specs.Views.{type_context_of, known_of, tested}
-use Rattle.ss_vcgen_known.proofs.Forms.{link_may}
-use Rattle.ss_vcgen_known.proofs.Grouping.{chain_some}
+use Rattle.ss_vcgen_types.proofs.Forms.{link_may}
+use Rattle.ss_vcgen_types.proofs.Grouping.{chain_some}
 use Rattle.ss_vcgen_known.proofs.never_null.+never.Goals as goal
 
 pub chain_never_null-returns-else-is_empty : goal.chain_never_null-returns-else-is_empty

@@ -1,7 +1,7 @@
 use Rattle.std.proofs.Common.{◌+◌, ◌∙◌, sym, drop, get_or}
 use Rattle.std.proofs.lemmas.List.{drop_more}
 use Rattle.std.proofs.Math.ListN.{drop_of_length-le}
-use Rattle.ss_vcgen_known.proofs.Walking.{no_told, tell_here, tell_not_here, tell_none}
+use Rattle.ss_vcgen_types.proofs.Walking.{no_told, tell_here, tell_not_here, tell_none}
 use Rattle.ss_vcgen_known.proofs.tests.all_tell.Goals as goal
 
 pub returns-then-tells : goal.returns-then-tells

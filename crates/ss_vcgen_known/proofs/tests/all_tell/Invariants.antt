@@ -1,5 +1,5 @@
 use Rattle.std.proofs.Common.{◌≡◌, drop}
-use Rattle.ss_vcgen_known.specs.Told.{all_tell}
+use Rattle.ss_vcgen_types.specs.Told.{all_tell}
 use Rattle.ss_vcgen_known.proofs.tests.all_tell.Given as goal
 
 abbrev pub invariant-loop-told : goal.invariant-loop-told

@@ -2,7 +2,7 @@ use Rattle.std.proofs.Common.{◌+◌, ◌∙◌, sym, drop, get_or}
 use Rattle.std.proofs.lemmas.List.{drop_more}
 use Rattle.std.proofs.Math.ListN.{drop_of_length-le}
 use Rattle.ss_vcgen_known.specs.Views.{known_of, tested}
-use Rattle.ss_vcgen_known.proofs.Walking.{no_told, fact_here, fact_not_here, fact_none}
+use Rattle.ss_vcgen_types.proofs.Walking.{no_told, fact_here, fact_not_here, fact_none}
 use Rattle.ss_vcgen_known.proofs.tests.any_fact.Goals as goal
 
 pub returns-then-is_fact : goal.returns-then-is_fact

@@ -1,5 +1,5 @@
 use Rattle.std.proofs.Common.{◌≡◌, drop}
-use Rattle.ss_vcgen_known.specs.Told.{all_facts}
+use Rattle.ss_vcgen_types.specs.Told.{all_facts}
 use Rattle.ss_vcgen_known.specs.Views.{known_of, tested}
 use Rattle.ss_vcgen_known.proofs.tests.any_fact.Given as goal
 

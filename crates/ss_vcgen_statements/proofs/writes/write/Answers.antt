@@ -30,11 +30,11 @@ returns c =
     let t2 = c.check_write.new.builder in
     let e2 = c.in_ok-check_write.ensures in
     let g2 = e2.grown in
-    let F2 = λ (b : Forms). checked_write (w b) c.args.at (expr c.args.e.now) c.args.mark c.args.class.0 (term_at b c.args.o) (term_at b c.args.v) (F0 b) in
-    let p2 = then s t1 t2 F0 (λ b k. checked_write (w b) c.args.at (expr c.args.e.now) c.args.mark c.args.class.0 (term_at b c.args.o) (term_at b c.args.v) k) p1 e2 in
+    let F2 = λ (b : Forms). checked_write (w b) c.args.target.now.place (expr c.args.target.now.object.now) c.args.target.now.mark c.args.target.now.class.0 (term_at b c.args.o) (term_at b c.args.v) (F0 b) in
+    let p2 = then s t1 t2 F0 (λ b k. checked_write (w b) c.args.target.now.place (expr c.args.target.now.object.now) c.args.target.now.mark c.args.target.now.class.0 (term_at b c.args.o) (term_at b c.args.v) k) p1 e2 in
     let t3 = c.with_store.new.self in
     let e3 = c.in_ok-with_store.ensures in
     let g3 = e3.grown in
-    let F3 = λ (b : Forms). with_store (written_store c.args.field.0 c.args.mark c.args.class.0 (term_at b c.args.o) (term_at b c.args.v) (F0 b)) (F2 b) in
-    let p3 = then_term s t2 t3 F2 p2 c.in_ok-written.written (λ b. written_store c.args.field.0 c.args.mark c.args.class.0 (term_at b c.args.o) (term_at b c.args.v) (F0 b)) (λ b f k. with_store f k) (term_later t1.bank t2.bank g2 c.in_ok-written.written (λ b. written_store c.args.field.0 c.args.mark c.args.class.0 (term_at b c.args.o) (term_at b c.args.v) (F0 b)) c.in_ok-written.ensures.at) e3 in
+    let F3 = λ (b : Forms). with_store (written_store c.args.target.now.field.0 c.args.target.now.mark c.args.target.now.class.0 (term_at b c.args.o) (term_at b c.args.v) (F0 b)) (F2 b) in
+    let p3 = then_term s t2 t3 F2 p2 c.in_ok-written.written (λ b. written_store c.args.target.now.field.0 c.args.target.now.mark c.args.target.now.class.0 (term_at b c.args.o) (term_at b c.args.v) (F0 b)) (λ b f k. with_store f k) (term_later t1.bank t2.bank g2 c.in_ok-written.written (λ b. written_store c.args.target.now.field.0 c.args.target.now.mark c.args.target.now.class.0 (term_at b c.args.o) (term_at b c.args.v) (F0 b)) c.in_ok-written.ensures.at) e3 in
     p3

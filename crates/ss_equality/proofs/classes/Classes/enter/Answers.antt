@@ -2,8 +2,14 @@ use Rattle.std.proofs.Common.{◌∙◌, sym, subst, map}
 use Rattle.ss_terms.specs.Forms.{term_shape}
 use Rattle.ss_equality_rules.specs.Names.{AreClasses}
 use Rattle.ss_equality_rules.specs.Classes.{lists_of}
-use Rattle.ss_equality.proofs.Entering.{form_room, still_classes, one_more_term}
+use Rattle.ss_equality.proofs.Entering.{more_ends, form_room, still_classes, one_more_term}
 use Rattle.ss_equality.proofs.classes.Classes.enter.Goals as goal
+
+pub invariant_of-self-in_err-push-3 : goal.invariant_of-self-in_err-push-3
+invariant_of-self-in_err-push-3 c =
+    subst (λ us. AreClasses (map term_shape c.self.inside.forms.items) (lists_of us) c.push-2.new.self.items c.self.inside.log.items) (sym c.in_err-push-3.ensures.items)
+    (more_ends c.self.inside.forms.items c.self.inside.users.items c.self.inside.ends.items c.push-2.new.self.items c.self.inside.log.items c.args.self.now c.self.view_is c.self.invariant
+    c.requires.empty c.in_ok-push-2.ensures.items)
 
 pub add_form-requires : goal.add_form-requires
 add_form-requires c = form_room c.self.inside.forms.items c.self.inside.users.items c.push-3.new.self.items c.push-3.new.self.items c.self.inside.ends.items c.push-2.new.self.items c.self.inside.log.items c.args.self.now c.self.view_is c.self.invariant c.requires.empty

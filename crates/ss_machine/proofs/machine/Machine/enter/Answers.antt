@@ -22,10 +22,10 @@ returns c =
     let s = m.stores.now in
     let locals = c.in_ok-locals.locals.items in
     let made : locals ≡ locals_at_entry body c.args.arguments.items = c.in_ok-locals.ensures in
-    let holds = ensured c.all_hold_at_entry-holds.result kind.Precondition c.args.place c.ensure.result c.in_ok-ensure.field-0 c.ensure.ensures c.in_ok-ensure.was in
+    let holds = ensured c.all_hold_at_entry-holds.result kind.Precondition c.args.entrance.place c.ensure.result c.in_ok-ensure.field-0 c.ensure.ensures c.in_ok-ensure.was in
     let asked : steps.all_hold body.entry (setting program.classes s s locals) ≡ c.all_hold_at_entry-holds.result =
     ap (λ (es : List Expr). steps.all_hold (view.exprs es) (setting program.classes s s locals)) (sym c.deref.ensures.value)
     ∙ ap (λ (ls : List Value). steps.all_hold (view.exprs c.deref.result.now) (setting program.classes s s ls)) (sym c.deref-2.ensures.value)
     ∙ sym c.all_hold_at_entry-holds.ensures in
-    subst (λ (o : Option (Bor Body)). Does c.push.result (steps.enter program (option_map (λ b. view.body b.now) o) c.args.place (target_of c.args.into) c.args.arguments.items (running m) (waiting m) s) c.push.new.self) (sym c.in-Some.is)
-    (entered program body c.args.place (target_of c.args.into) c.args.arguments.items locals c.at_entry.result m c.push.new.self c.push.result made (asked ∙ holds) c.at_entry.ensures c.push.ensures)
+    subst (λ (o : Option (Bor Body)). Does c.push.result (steps.enter program (option_map (λ b. view.body b.now) o) c.args.entrance.place (target_of c.args.entrance.into) c.args.arguments.items (running m) (waiting m) s) c.push.new.self) (sym c.in-Some.is)
+    (entered program body c.args.entrance.place (target_of c.args.entrance.into) c.args.arguments.items locals c.at_entry.result m c.push.new.self c.push.result made (asked ∙ holds) c.at_entry.ensures c.push.ensures)

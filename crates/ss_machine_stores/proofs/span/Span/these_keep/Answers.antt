@@ -2,7 +2,7 @@ use Rattle.std.proofs.Common.{ap, sym, ◌∙◌}
 use Rattle.std.specs.List.{list_all}
 use Rattle.ss_journal.specs.Shapes.{OldContent}
 use Rattle.ss_machine_stores.specs.Spans.{span_of, keeps}
-use Rattle.ss_machine_stores.proofs.Listing.{one_fails, one_holds}
+use Rattle.ss_machine_saves.proofs.Listing.{one_fails, one_holds}
 use Rattle.ss_machine_stores.proofs.span.Span.these_keep.Goals as goal
 
 pub returns-then-not-keeps : goal.returns-then-not-keeps

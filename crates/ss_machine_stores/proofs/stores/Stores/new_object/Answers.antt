@@ -1,7 +1,7 @@
 use Rattle.std.proofs.Common.{◌≡◌, true, refl, ap, subst, ◌∙◌}
 use Rattle.ss_core.specs.View.{classes}
 use Rattle.ss_machine_stores.specs.Shapes.{Timeline}
-use Rattle.ss_machine_stores.specs.Whole.{is_listed}
+use Rattle.ss_machine_saves.specs.Whole.{is_listed}
 use Rattle.ss_machine_stores.proofs.Entering.{object_kept, objects_kept}
 use Rattle.ss_machine_stores.proofs.stores.Stores.new_object.Goals as goal
 

@@ -1,4 +1,4 @@
-use Rattle.ss_terms.proofs.Parts.{AreTermsBelow-get}
+use Rattle.ss_terms.proofs.Tested.{AreTermsBelow-get}
 use Rattle.ss_report_values.specs.Index.{no_number}
 use Rattle.ss_report_values.proofs.Told.{stands_at}
 use Rattle.ss_report_values.proofs.index.Index.field_values.Goals as goal

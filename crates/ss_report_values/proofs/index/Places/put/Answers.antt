@@ -1,6 +1,6 @@
 use Rattle.std.specs.Prelude.{nat_eq}
 use Rattle.indexmap.specs.IndexMap.{get}
-use Rattle.ss_terms.proofs.Parts.{AreTermsBelow-get}
+use Rattle.ss_terms.proofs.Tested.{AreTermsBelow-get}
 use Rattle.ss_report_values.specs.Index.{no_number}
 use Rattle.ss_report_values.proofs.Classes.{place_put}
 use Rattle.ss_report_values.proofs.index.Places.put.Goals as goal

@@ -1,5 +1,5 @@
 use Rattle.std.proofs.Common.{◌+◌, ◌∙◌, sym, arith}
-use Rattle.ss_terms.proofs.Parts.{AreTermsBelow-get}
+use Rattle.ss_terms.proofs.Tested.{AreTermsBelow-get}
 use Rattle.ss_report_values.specs.Index.{no_number}
 use Rattle.ss_report_values.proofs.Classes.{none_past, none_put}
 use Rattle.ss_report_values.proofs.index.Values.put.Goals as goal

@@ -13,7 +13,7 @@ use Rattle.ss_rules_said.proofs.Again.{AreMade-grown, HasAsked-grown, next_numbe
 use Rattle.ss_rules_said.proofs.made.Made.add_each.Goals as goal
 
 pub add_one-requires-clause-made : goal.add_one-requires-clause-made
-add_one-requires-clause-made c = AreMade-grown (view.classes c.args.classes.now) c.args.bank.now c.loop-one.bank c.loop-one.invariant.grown c.args.self.now c.requires.made
+add_one-requires-clause-made c = AreMade-grown (view.classes c.args.context.now.classes.now) c.args.bank.now c.loop-one.bank c.loop-one.invariant.grown c.args.self.now c.requires.made
 
 pub add_one-requires-clause-rule : goal.add_one-requires-clause-rule
 add_one-requires-clause-rule c =
@@ -28,15 +28,15 @@ add_one-requires-clause-arguments c =
 pub loop-one-preserved : goal.loop-one-preserved
 loop-one-preserved c =
     let a = c.args in
-    let cs = view.classes a.classes.now in
+    let cs = view.classes a.context.now.classes.now in
     let i = c.loop-one.one-index in
     let one = c.one-item.result in
     let pushed = c.in_ok-push.ensures.items in
     record {
       grown = IsGrown-then a.bank.now c.loop-one.bank c.add_one.new.bank c.loop-one.invariant.grown c.add_one.ensures.grown;
-      added = said_next cs a.bank.now c.loop-one.bank c.add_one.new.bank (formulas_of a.bank.now a.list.now) c.loop-one.list c.add_one.new.list a.asked.now i one
+      added = said_next cs a.bank.now c.loop-one.bank c.add_one.new.bank (formulas_of a.bank.now a.listed.now.list) c.loop-one.listed.list c.add_one.new.listed.list a.asked.now i one
           c.loop-one.invariant.grown c.requires.asked c.loop-one-test.true c.loop-one.invariant.added
-          (subst (λ x. Holds c.add_one.new.bank c.add_one.new.list (with_said (formulas_of c.loop-one.bank c.loop-one.list) (said cs (asked_at c.loop-one.bank x)))) c.one-item.is c.in_ok-found.ensures.added);
+          (subst (λ x. Holds c.add_one.new.bank c.add_one.new.listed.list (with_said (formulas_of c.loop-one.bank c.loop-one.listed.list) (said cs (asked_at c.loop-one.bank x)))) c.one-item.is c.in_ok-found.ensures.added);
       noted = λ premises goal choices h. c.in_ok-found.ensures.noted premises goal choices (c.loop-one.invariant.noted premises goal choices h);
       count = omega (arith, c.loop-one.invariant.count, ap length pushed, length-append c.loop-one.all.items (c.in_ok-found.found ∷ []));
       numbers = next_number cs c.loop-one.bank c.add_one.new.bank c.add_one.ensures.grown a.asked.now c.loop-one.all.items c.push.new.self.items c.in_ok-found.found i one

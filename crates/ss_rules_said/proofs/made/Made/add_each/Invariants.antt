@@ -12,8 +12,8 @@ use Rattle.ss_rules_said.proofs.made.Made.add_each.Given as goal
 abbrev pub invariant-loop-one : goal.invariant-loop-one
 invariant-loop-one l = record {
   grown : IsGrown l.initial.bank l.bank;
-  added : Holds l.bank l.list (with_formulas (formulas_of l.initial.bank l.initial.list) (all_said (view.classes l.classes) (asked_in l.initial.bank (take l.one-index l.asked))));
-  noted : StillCome (view.classes l.classes) l.initial.bank (formulas_of l.initial.bank l.initial.list) l.initial.origins.items l.bank (formulas_of l.bank l.list) l.origins.items;
+  added : Holds l.bank l.listed.list (with_formulas (formulas_of l.initial.bank l.initial.listed.list) (all_said (view.classes l.context.classes.now) (asked_in l.initial.bank (take l.one-index l.asked))));
+  noted : StillCome (view.classes l.context.classes.now) l.initial.bank (formulas_of l.initial.bank l.initial.listed.list) l.initial.listed.origins.items l.bank (formulas_of l.bank l.listed.list) l.listed.origins.items;
   count : l.one-index ≡ length l.all.items;
-  numbers : AreNumbers (view.classes l.classes) l.bank l.asked l.all.items;
+  numbers : AreNumbers (view.classes l.context.classes.now) l.bank l.asked l.all.items;
 }

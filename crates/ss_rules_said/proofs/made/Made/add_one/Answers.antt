@@ -7,7 +7,7 @@ use Rattle.ss_rules_said.proofs.Noted.{found_noted}
 use Rattle.ss_rules_said.proofs.made.Made.add_one.Goals as goal
 
 pub add_found-requires-clause-list : goal.add_found-requires-clause-list
-add_found-requires-clause-list c = HasFound-grown c.args.bank.now c.say.new.bank c.args.list.now c.say.ensures.grown c.requires.list
+add_found-requires-clause-list c = HasFound-grown c.args.bank.now c.say.new.bank c.args.listed.now.list c.say.ensures.grown c.requires.list
 
 pub add_found-requires-clause-rule : goal.add_found-requires-clause-rule
 add_found-requires-clause-rule c = HasRule-grown c.args.bank.now c.say.new.bank c.say.ensures.grown c.args.asked.now.rule c.requires.rule
@@ -20,12 +20,12 @@ add_found-requires-clause-found c = number_has c.say.new.bank _ c.in_ok-found.fo
 
 pub returns-clause-added : goal.returns-clause-added
 returns-clause-added c =
-    holds_in c.args.bank.now c.say.new.bank c.add_found.new.bank c.args.list.now c.add_found.new.list _ _ c.say.ensures.grown c.requires.list (number_is c.say.new.bank _ c.in_ok-found.found c.in_ok-found.ensures.at) c.in_ok-add_found.ensures.added
+    holds_in c.args.bank.now c.say.new.bank c.add_found.new.bank c.args.listed.now.list c.add_found.new.listed.list _ _ c.say.ensures.grown c.requires.list (number_is c.say.new.bank _ c.in_ok-found.found c.in_ok-found.ensures.at) c.in_ok-add_found.ensures.added
 
 pub returns-clause-noted : goal.returns-clause-noted
 returns-clause-noted c =
-    found_noted (view.classes c.args.classes.now) c.args.bank.now c.say.new.bank c.add_found.new.bank c.say.ensures.grown c.args.list.now c.requires.list c.args.asked.now c.requires.rule c.requires.arguments c.in_ok-found.found c.in_ok-found.ensures.at
-    c.args.origins.now.items _ c.add_found.new.origins.items c.in_ok-add_found.ensures.noted
+    found_noted (view.classes c.args.context.now.classes.now) c.args.bank.now c.say.new.bank c.add_found.new.bank c.say.ensures.grown c.args.listed.now.list c.requires.list c.args.asked.now c.requires.rule c.requires.arguments c.in_ok-found.found c.in_ok-found.ensures.at
+    c.args.listed.now.origins.items _ c.add_found.new.listed.origins.items c.in_ok-add_found.ensures.noted
 
 pub returns-clause-at : goal.returns-clause-at
 returns-clause-at c = IsFormulaNumber-grown c.say.new.bank c.add_found.new.bank c.add_found.ensures.grown _ c.in_ok-found.found c.in_ok-found.ensures.at

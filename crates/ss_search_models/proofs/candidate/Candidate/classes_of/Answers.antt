@@ -1,7 +1,7 @@
 use Rattle.std.proofs.Common.{◌∷◌, [], ◌++◌, take, map, get_or, ◌∙◌, ap, sym}
 use Rattle.std.proofs.lemmas.List.{take_more, map_push}
 use Rattle.ss_terms.specs.Forms.{term_at, terms_at}
-use Rattle.ss_terms.proofs.Parts.{AreTermsBelow-get}
+use Rattle.ss_terms.proofs.Tested.{AreTermsBelow-get}
 use Rattle.ss_search_models.specs.Candidates.{class_at}
 use Rattle.ss_search_models.proofs.candidate.Candidate.classes_of.Goals as goal
 

@@ -4,7 +4,7 @@ use Rattle.ss_logic.specs.Formulas.{Formula}
 use Rattle.ss_logic_countermodels.specs.Refuting.{IsCountermodel}
 use Rattle.ss_terms.specs.declared.forms.FormulaId.{FormulaId}
 use Rattle.ss_terms.specs.Forms.{formula_at}
-use Rattle.ss_terms.proofs.Parts.{AreBelow-get}
+use Rattle.ss_terms.proofs.Tested.{AreBelow-get}
 use Rattle.ss_deriv.specs.Lines.{lines_of}
 use Rattle.ss_search_closing.specs.Closing.{Closes}
 use Rattle.ss_search_reaching.specs.Reaching.{facts_of, Shows}

@@ -7,7 +7,7 @@ use Rattle.std.proofs.lemmas.Result.{IfOk-weaker}
 use Rattle.ss_logic.specs.Formulas.{Formula, neg}
 use Rattle.ss_terms.specs.declared.forms.FormulaId.{FormulaId}
 use Rattle.ss_terms.specs.Forms.{formula_at}
-use Rattle.ss_terms.proofs.Parts.{AreBelow-get}
+use Rattle.ss_terms.proofs.Tested.{AreBelow-get}
 use Rattle.ss_deriv.specs.Lines.{lines_of}
 use Rattle.ss_search_closing.specs.Closing.{Closes}
 use Rattle.ss_search_reaching.specs.Reaching.{facts_of, Shows}

@@ -3,7 +3,7 @@ use Rattle.std.proofs.lemmas.Bool.{false≢true}
 use Rattle.ss_logic.specs.Formulas.{Formula}
 use Rattle.ss_terms.specs.declared.forms.FormulaId.{FormulaId}
 use Rattle.ss_terms.specs.Forms.{formula_at}
-use Rattle.ss_terms.proofs.Parts.{AreBelow-get}
+use Rattle.ss_terms.proofs.Tested.{AreBelow-get}
 use Rattle.ss_search_standing.specs.Standing.{Stands}
 use Rattle.ss_search_standing.proofs.Facts.{read_there}
 use Rattle.ss_search_reaching.specs.Reaching.{facts_of}

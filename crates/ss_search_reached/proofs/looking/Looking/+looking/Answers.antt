@@ -4,7 +4,7 @@ use Rattle.std.proofs.lemmas.Option.{get_or_from_slice_get}
 use Rattle.std.proofs.lemmas.Result.{IfOk-weaker}
 use Rattle.ss_logic.specs.Formulas.{And, Or, formulas_from}
 use Rattle.ss_terms.specs.Forms.{formulas_at}
-use Rattle.ss_terms.proofs.Parts.{AreBelow-get}
+use Rattle.ss_terms.proofs.Tested.{AreBelow-get}
 use Rattle.ss_search_procedure_rules.specs.Closed.{is_basic, basics, AllMayHold, SomeMayHold}
 use Rattle.ss_search_procedure_rules.proofs.Lists.{contains_none}
 use Rattle.ss_search_reached.specs.Looks.{known_at, IsLooking, IsHolding}

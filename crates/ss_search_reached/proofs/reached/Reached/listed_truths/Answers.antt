@@ -3,7 +3,7 @@ use Rattle.std.proofs.lemmas.List.{take_more, take_all, map_push}
 use Rattle.ss_bit_set.specs.Marked.{marked}
 use Rattle.ss_terms.specs.declared.forms.FormulaId.{FormulaId}
 use Rattle.ss_terms.specs.Forms.{formula_at}
-use Rattle.ss_terms.proofs.Parts.{AreBelow-get}
+use Rattle.ss_terms.proofs.Tested.{AreBelow-get}
 use Rattle.ss_search_procedure_rules.proofs.Lists.{contains_none}
 use Rattle.ss_search_reached.specs.Models.{HasArguments}
 use Rattle.ss_search_reached.proofs.Lists.{one_more, all_of_them}

@@ -34,17 +34,17 @@ returns-then-front-count-clause-leads c =
     let old = c.args.path.now in
     let now = c.cases.new.path in
     let new = c.others.new.path in
-    let ps = c.args.parts.now in
+    let ps = c.args.whole.now.parts.now in
     let e = c.in_ok-front.ensures in
     let front = c.in_ok-front.front in
     let whole = or_of (bank_of p.refuting) ps in
     let same = ap (λ (k : Equations). k.merges) e.congruence in
     IfOk-weaker c.others.result
-    (λ u. AreCasesFrom p.refuting c.cases.new.congruence.merges now c.args.place c.args.from whole 0 front.stop front.lines.items → UnitFrom p c.cases.new.congruence.merges now c.args.place c.args.from ps new u)
-    (λ u. UnitFrom p ms old c.args.place c.args.from ps new u)
-    (λ u h. after_stay p ms old now c.args.place c.args.from ps e.known new u e.stays
-    (subst (λ (ks : List Merge). AreCasesFrom p.refuting ks now c.args.place c.args.from whole 0 front.stop front.lines.items → UnitFrom p ks now c.args.place c.args.from ps new u) same h
-    (cases_there p ms old now c.args.place c.args.from ps e.known 0 front.stop front.lines.items e.cases)))
+    (λ u. AreCasesFrom p.refuting c.cases.new.congruence.merges now c.args.whole.now.place c.args.whole.now.from whole 0 front.stop front.lines.items → UnitFrom p c.cases.new.congruence.merges now c.args.whole.now.place c.args.whole.now.from ps new u)
+    (λ u. UnitFrom p ms old c.args.whole.now.place c.args.whole.now.from ps new u)
+    (λ u h. after_stay p ms old now c.args.whole.now.place c.args.whole.now.from ps e.known new u e.stays
+    (subst (λ (ks : List Merge). AreCasesFrom p.refuting ks now c.args.whole.now.place c.args.whole.now.from whole 0 front.stop front.lines.items → UnitFrom p ks now c.args.whole.now.place c.args.whole.now.from ps new u) same h
+    (cases_there p ms old now c.args.whole.now.place c.args.whole.now.from ps e.known 0 front.stop front.lines.items e.cases)))
     c.others.ensures.leads
 
 pub returns-clause-kept : goal.returns-clause-kept
@@ -56,7 +56,7 @@ returns-clause-leads c =
     let ms = c.args.congruence.now.merges in
     let old = c.args.path.now in
     let new = c.cases.new.path in
-    let ps = c.args.parts.now in
+    let ps = c.args.whole.now.parts.now in
     let e = c.in_ok-front.ensures in
-    stays_closed p ms old new c.args.place c.args.from ps c.in_ok-lines.lines e.stays
-    (cases_close p.refuting ms old c.args.place c.args.from ps new c.in_ok-front.front.stop c.in_ok-front.front.lines.items c.in_ok-lines.lines.items e.known c.if-front-count.false c.in_ok-lines.ensures e.cases)
+    stays_closed p ms old new c.args.whole.now.place c.args.whole.now.from ps c.in_ok-lines.lines e.stays
+    (cases_close p.refuting ms old c.args.whole.now.place c.args.whole.now.from ps new c.in_ok-front.front.stop c.in_ok-front.front.lines.items c.in_ok-lines.lines.items e.known c.if-front-count.false c.in_ok-lines.ensures e.cases)

@@ -16,14 +16,14 @@ returns-then-front-part c =
     let ms = c.args.congruence.now.merges in
     let old = c.args.path.now in
     let new = c.cases.new.path in
-    let ps = c.args.parts.now in
+    let ps = c.args.whole.now.parts.now in
     let e = c.in_ok-front.ensures in
     let test = c.if-front-part.true in
     record {
       congruence = e.congruence;
       kept = ap (take (length old.known.items)) e.known ∙ front_itself old.known.items;
       branch = two_open p c.args.congruence.now c.requires.beside ps c.in_ok-front.front.stop c.args.part test c.requires.part (e.holds test) c.requires.holds;
-      leads = stays_open p ms old new c.args.place c.args.from ps e.stays;
+      leads = stays_open p ms old new c.args.whole.now.place c.args.whole.now.from ps e.stays;
     }
 
 pub others-requires-clause-beside : goal.others-requires-clause-beside
@@ -43,16 +43,16 @@ returns-clause-leads c =
     let old = c.args.path.now in
     let now = c.cases.new.path in
     let new = c.others.new.path in
-    let ps = c.args.parts.now in
+    let ps = c.args.whole.now.parts.now in
     let e = c.in_ok-front.ensures in
     let front = c.in_ok-front.front in
     let whole = or_of (bank_of p.refuting) ps in
     let same = ap (λ (k : Equations). k.merges) e.congruence in
-    let all = subst (λ n. AreCasesFrom p.refuting ms old c.args.place c.args.from whole 0 n front.lines.items) (omega (arith, c.if-front-part.false, e.within)) e.cases in
+    let all = subst (λ n. AreCasesFrom p.refuting ms old c.args.whole.now.place c.args.whole.now.from whole 0 n front.lines.items) (omega (arith, c.if-front-part.false, e.within)) e.cases in
     IfOk-weaker c.others.result
-    (λ u. AreCasesFrom p.refuting c.cases.new.congruence.merges now c.args.place c.args.from whole 0 c.args.part front.lines.items → UnitFrom p c.cases.new.congruence.merges now c.args.place c.args.from ps new u)
-    (λ u. UnitFrom p ms old c.args.place c.args.from ps new u)
-    (λ u h. after_stay p ms old now c.args.place c.args.from ps e.known new u e.stays
-    (subst (λ (ks : List Merge). AreCasesFrom p.refuting ks now c.args.place c.args.from whole 0 c.args.part front.lines.items → UnitFrom p ks now c.args.place c.args.from ps new u) same h
-    (cases_there p ms old now c.args.place c.args.from ps e.known 0 c.args.part front.lines.items all)))
+    (λ u. AreCasesFrom p.refuting c.cases.new.congruence.merges now c.args.whole.now.place c.args.whole.now.from whole 0 c.args.part front.lines.items → UnitFrom p c.cases.new.congruence.merges now c.args.whole.now.place c.args.whole.now.from ps new u)
+    (λ u. UnitFrom p ms old c.args.whole.now.place c.args.whole.now.from ps new u)
+    (λ u h. after_stay p ms old now c.args.whole.now.place c.args.whole.now.from ps e.known new u e.stays
+    (subst (λ (ks : List Merge). AreCasesFrom p.refuting ks now c.args.whole.now.place c.args.whole.now.from whole 0 c.args.part front.lines.items → UnitFrom p ks now c.args.whole.now.place c.args.whole.now.from ps new u) same h
+    (cases_there p ms old now c.args.whole.now.place c.args.whole.now.from ps e.known 0 c.args.part front.lines.items all)))
     c.others.ensures.leads

@@ -8,16 +8,16 @@ use Rattle.ss_search_reaching.proofs.Guarding.{guarded_open}
 use Rattle.ss_search_reaching.proofs.branches.Beside.guarded.Goals as goal
 
 pub is_met-requires-clause-formulas : goal.is_met-requires-clause-formulas
-is_met-requires-clause-formulas c = subst (λ (b : Forms). HasFormulas b c.args.parts.now) (sym c.requires.beside.bank) c.requires.has
+is_met-requires-clause-formulas c = subst (λ (b : Forms). HasFormulas b c.args.whole.now.parts.now) (sym c.requires.beside.bank) c.requires.has
 
 pub returns-then-is_met-clause-branch : goal.returns-then-is_met-clause-branch
-returns-then-is_met-clause-branch c = met_branch c.args.self.now.looking c.args.parts.now (c.is_met.ensures c.if-is_met.true)
+returns-then-is_met-clause-branch c = met_branch c.args.self.now.looking c.args.whole.now.parts.now (c.is_met.ensures c.if-is_met.true)
 
 pub returns-then-is_met-clause-kept : goal.returns-then-is_met-clause-kept
 returns-then-is_met-clause-kept c = front_itself c.args.path.now.known.items
 
 pub returns-then-is_met-clause-leads : goal.returns-then-is_met-clause-leads
-returns-then-is_met-clause-leads c = guarded_open c.args.self.now c.args.congruence.now.merges c.args.path.now c.args.origin c.args.parts.now
+returns-then-is_met-clause-leads c = guarded_open c.args.self.now c.args.congruence.now.merges c.args.path.now c.args.whole.now.origin c.args.whole.now.parts.now
 
 pub first_open-requires-in-Some-clause-looking : goal.first_open-requires-in-Some-clause-looking
 first_open-requires-in-Some-clause-looking c = subst (IsLooking c.args.self.now.looking) (sym c.in_ok-first_open.ensures.congruence) c.requires.beside.looking
@@ -25,7 +25,7 @@ first_open-requires-in-Some-clause-looking c = subst (IsLooking c.args.self.now.
 pub returns-in-Some-2-clause-branch : goal.returns-in-Some-2-clause-branch
 returns-in-Some-2-clause-branch c =
     let s = c.args.self.now.looking in
-    let fs = c.args.parts.now in
+    let fs = c.args.whole.now.parts.now in
     let i = c.in-Some.part in
     let j = c.in-Some-2._other in
     let first = MatchOption-at_some (Unit {0}) (HoldsFrom s fs 0) i c.in-Some.is c.in_ok-first_open.ensures.found in
@@ -33,4 +33,4 @@ returns-in-Some-2-clause-branch c =
     open_branch s fs i j first other
 
 pub returns-in-Some-2-clause-leads : goal.returns-in-Some-2-clause-leads
-returns-in-Some-2-clause-leads c = guarded_open c.args.self.now c.args.congruence.now.merges c.args.path.now c.args.origin c.args.parts.now
+returns-in-Some-2-clause-leads c = guarded_open c.args.self.now c.args.congruence.now.merges c.args.path.now c.args.whole.now.origin c.args.whole.now.parts.now

@@ -18,7 +18,7 @@ returns-clause-kept c =
 
 pub returns-clause-branch : goal.returns-clause-branch
 returns-clause-branch c =
-    let ps = c.args.parts.now in
+    let ps = c.args.whole.now.parts.now in
     let d : FormulaId = record { 0 = 0 } in
     one_branch c.args.self.now.looking ps (get_or ps c.args.part d) c.requires.has (contains_get ps c.args.part d c.requires.part)
 
@@ -26,8 +26,8 @@ pub returns-clause-leads : goal.returns-clause-leads
 returns-clause-leads c = λ ms in_front in_back.
     let p = c.args.self.now in
     let old = c.args.path.now in
-    let ps = c.args.parts.now in
+    let ps = c.args.whole.now.parts.now in
     let d : FormulaId = record { 0 = 0 } in
-    one_part p ms old c.unit.new.self c.open.new.path c.args.place c.args.from c.in_ok-at.at c.in_ok-at.opened ps c.args.part c.part_at-f.result c.args.front.items c.args.back.items c.part_at-f.ensures c.in_ok-unit.ensures.known c.in_ok-unit.ensures.goes_on c.in_ok-at.ensures.goes_on
-    (λ cs f chosen fact. c.in_ok-at.ensures.opened cs f chosen (subst (λ (n : ℕ). IsFact cs p.refuting.given (known_on (bank_of p.refuting) c.unit.new.self) n c.args.from f) (sym (c.len-last.ensures ∙ old.known.ok.0)) fact))
+    one_part p ms old c.unit.new.self c.open.new.path c.args.whole.now.place c.args.whole.now.from c.in_ok-at.at c.in_ok-at.opened ps c.args.part c.part_at-f.result c.args.front.items c.args.back.items c.part_at-f.ensures c.in_ok-unit.ensures.known c.in_ok-unit.ensures.goes_on c.in_ok-at.ensures.goes_on
+    (λ cs f chosen fact. c.in_ok-at.ensures.opened cs f chosen (subst (λ (n : ℕ). IsFact cs p.refuting.given (known_on (bank_of p.refuting) c.unit.new.self) n c.args.whole.now.from f) (sym (c.len-last.ensures ∙ old.known.ok.0)) fact))
     (get_or ps c.args.part d) (slice_get-get_or ps c.args.part d c.requires.part) in_front in_back

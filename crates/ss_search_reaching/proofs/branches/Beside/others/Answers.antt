@@ -17,18 +17,18 @@ returns-then-back-count c =
     let ms = c.args.congruence.now.merges in
     let old = c.args.path.now in
     let new = c.cases.new.path in
-    let ps = c.args.parts.now in
+    let ps = c.args.whole.now.parts.now in
     let e = c.in_ok-back.ensures in
     let test = c.if-back-count.true in
     record {
       congruence = e.congruence;
       kept = ap (take (length old.known.items)) e.known ∙ front_itself old.known.items;
       branch = two_open p c.args.congruence.now c.requires.beside ps c.args.part c.in_ok-back.back.stop (let l = e.later in omega (arith, l)) test c.requires.holds (e.holds test);
-      leads = λ front. stays_open p ms old new c.args.place c.args.from ps e.stays;
+      leads = λ front. stays_open p ms old new c.args.whole.now.place c.args.whole.now.from ps e.stays;
     }
 
 pub one-requires-clause-has : goal.one-requires-clause-has
-one-requires-clause-has c = subst (λ (b : Forms). HasFormulas b c.args.parts.now) (sym c.requires.beside.bank) (below_more c.args.bound _ c.args.parts.now c.requires.in_bank c.requires.below)
+one-requires-clause-has c = subst (λ (b : Forms). HasFormulas b c.args.whole.now.parts.now) (sym c.requires.beside.bank) (below_more c.args.whole.now.bound _ c.args.whole.now.parts.now c.requires.in_bank c.requires.below)
 
 pub returns-clause-kept : goal.returns-clause-kept
 returns-clause-kept c =
@@ -42,14 +42,14 @@ returns-clause-leads c =
     let old = c.args.path.now in
     let now = c.cases.new.path in
     let new = c.one.new.path in
-    let ps = c.args.parts.now in
+    let ps = c.args.whole.now.parts.now in
     let e = c.in_ok-back.ensures in
     let whole = or_of (bank_of p.refuting) ps in
     IfOk-weaker c.one.result
-    (λ u. (ks : List Merge) → AreCasesFrom p.refuting ks now c.args.place c.args.from whole 0 c.args.part c.args.front.items → AreCasesFrom p.refuting ks now c.args.place c.args.from whole (c.args.part + 1) (length ps) c.in_ok-back.back.lines.items → UnitFrom p ks now c.args.place c.args.from ps new u)
-    (λ u. AreCasesFrom p.refuting ms old c.args.place c.args.from whole 0 c.args.part c.args.front.items → UnitFrom p ms old c.args.place c.args.from ps new u)
-    (λ u h front. after_stay p ms old now c.args.place c.args.from ps e.known new u e.stays
-    (h ms (cases_there p ms old now c.args.place c.args.from ps e.known 0 c.args.part c.args.front.items front)
-    (cases_there p ms old now c.args.place c.args.from ps e.known (c.args.part + 1) (length ps) c.in_ok-back.back.lines.items
-    (subst (λ n. AreCasesFrom p.refuting ms old c.args.place c.args.from whole (c.args.part + 1) n c.in_ok-back.back.lines.items) (omega (arith, c.if-back-count.false, e.within)) e.cases))))
+    (λ u. (ks : List Merge) → AreCasesFrom p.refuting ks now c.args.whole.now.place c.args.whole.now.from whole 0 c.args.part c.args.front.items → AreCasesFrom p.refuting ks now c.args.whole.now.place c.args.whole.now.from whole (c.args.part + 1) (length ps) c.in_ok-back.back.lines.items → UnitFrom p ks now c.args.whole.now.place c.args.whole.now.from ps new u)
+    (λ u. AreCasesFrom p.refuting ms old c.args.whole.now.place c.args.whole.now.from whole 0 c.args.part c.args.front.items → UnitFrom p ms old c.args.whole.now.place c.args.whole.now.from ps new u)
+    (λ u h front. after_stay p ms old now c.args.whole.now.place c.args.whole.now.from ps e.known new u e.stays
+    (h ms (cases_there p ms old now c.args.whole.now.place c.args.whole.now.from ps e.known 0 c.args.part c.args.front.items front)
+    (cases_there p ms old now c.args.whole.now.place c.args.whole.now.from ps e.known (c.args.part + 1) (length ps) c.in_ok-back.back.lines.items
+    (subst (λ n. AreCasesFrom p.refuting ms old c.args.whole.now.place c.args.whole.now.from whole (c.args.part + 1) n c.in_ok-back.back.lines.items) (omega (arith, c.if-back-count.false, e.within)) e.cases))))
     c.one.ensures.leads

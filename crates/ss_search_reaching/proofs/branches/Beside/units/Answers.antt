@@ -4,7 +4,7 @@ use Rattle.std.proofs.lemmas.List.{take_all}
 use Rattle.std.proofs.lemmas.Option.{slice_get-get_or}
 use Rattle.ss_terms.specs.declared.forms.FormulaId.{FormulaId}
 use Rattle.ss_terms.specs.Forms.{Forms, formula_at, HasFormula}
-use Rattle.ss_terms.proofs.Parts.{AreBelow-get}
+use Rattle.ss_terms.proofs.Tested.{AreBelow-get}
 use Rattle.ss_equality_rules.specs.declared.Merge.{Merge}
 use Rattle.ss_equality_rules.specs.Equal.{Equations}
 use Rattle.ss_search_reached.specs.Following.{AreUnits}

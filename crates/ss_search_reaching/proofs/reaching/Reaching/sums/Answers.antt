@@ -47,9 +47,9 @@ returns-clause-closes c = λ cs of.
     let b = g.bank.now in
     let r = c.args.self.now in
     let ms = r.reached.congruence.merges in
-    IfOk-weaker c.close_whole_sums.result (λ o. IfSome o (λ v. CloseSums cs b ms c.len.result c.deref-2.result.now c.deref-3.result.now v.items))
+    IfOk-weaker c.close_whole_sums.result (λ o. IfSome o (λ v. CloseSums cs b ms c.len-count.result c.deref-2.result.now c.deref-3.result.now v.items))
     (λ o. IfSome o (λ v. (premises : List Formula) (goal : Formula) → Shows cs g r → Closes cs premises goal (facts_of g r) (lines_of b v.items)))
-    (λ o h. IfSome_then o h (λ v k premises goal shows. k.closes premises goal (facts_of g r) (known_merges cs g r c.len.result (c.len.ensures ∙ r.path.known.ok.0) shows)
+    (λ o h. IfSome_then o h (λ v k premises goal shows. k.closes premises goal (facts_of g r) (known_merges cs g r c.len-count.result (c.len-count.ensures ∙ r.path.known.ok.0) shows)
     (subst (λ (fs : List FormulaId). AreAt cs b (facts_of g r) fs c.deref-3.result.now) (sym c.deref-2.ensures.value)
     (subst (λ (ns : List ℕ). AreAt cs b (facts_of g r) r.reached.known.items ns) (sym c.deref-3.ensures.value) (shows_at cs g r c.requires.state shows)))))
     (c.close_whole_sums.ensures.some cs of)

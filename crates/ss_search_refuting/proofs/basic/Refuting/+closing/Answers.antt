@@ -5,7 +5,7 @@ use Rattle.std.proofs.lemmas.Result.{IfOk-weaker}
 use Rattle.ss_logic.specs.Formulas.{Formula, formulas_from}
 use Rattle.ss_terms.specs.declared.forms.FormulaId.{FormulaId}
 use Rattle.ss_terms.specs.Forms.{formula_at, formulas_at}
-use Rattle.ss_terms.proofs.Parts.{AreBelow-get}
+use Rattle.ss_terms.proofs.Tested.{AreBelow-get}
 use Rattle.ss_deriv.specs.declared.line.Line.{Line}
 use Rattle.ss_equality_rules.specs.declared.Merge.{Merge}
 use Rattle.ss_equality_rules.specs.Equal.{Equations}
@@ -154,7 +154,7 @@ same_kept xs ys e = ap (take (length xs)) e ∙ front_itself xs
 
 pub one_part-known-requires : goal.one_part-known-requires
 one_part-known-requires t c =
-    let small = AreBelow-get c.args.bound c.args.parts.now c.args.part (record { 0 = 0 }) c.requires.below c.requires.part in
+    let small = AreBelow-get c.args.whole.now.bound c.args.whole.now.parts.now c.args.part (record { 0 = 0 }) c.requires.below c.requires.part in
     let room = c.requires.in_bank in
     let d = c.decreases in
     (omega arith, (c.requires.refuting, (c.requires.given, omega arith)))
@@ -166,20 +166,20 @@ one_part-returns-in-Some t c =
     let old = c.args.path.now in
     let opened = c.part.new.path in
     let new = c.known.new.path in
-    let ps = c.args.parts.now in
+    let ps = c.args.whole.now.parts.now in
     let d : FormulaId = record { 0 = 0 } in
     let f = get_or ps c.args.part d in
     let f_at = slice_get-get_or ps c.args.part d c.requires.part in
     let e = c.in_ok-lines.ensures in
-    let o : OpensPart s old opened c.args.place c.args.from c.in_ok-at.at c.in_ok-at.opened c.args.part = record { kept = c.in_ok-at.ensures.kept; goes_on = c.in_ok-at.ensures.goes_on; opened_is = c.in_ok-at.ensures.opened } in
+    let o : OpensPart s old opened c.args.whole.now.place c.args.whole.now.from c.in_ok-at.at c.in_ok-at.opened c.args.part = record { kept = c.in_ok-at.ensures.kept; goes_on = c.in_ok-at.ensures.goes_on; opened_is = c.in_ok-at.ensures.opened } in
     record {
       congruence = e.congruence;
-      kept = part_kept s ms old opened c.args.place c.args.from c.in_ok-at.at c.in_ok-at.opened c.args.part o ps f f_at new e.kept;
+      kept = part_kept s ms old opened c.args.whole.now.place c.args.whole.now.from c.in_ok-at.at c.in_ok-at.opened c.args.part o ps f f_at new e.kept;
       none = λ n. absurd (some_none c.in-Some.lines n);
       known = λ n. absurd (some_none c.in-Some.lines n);
       stays = λ n. absurd (some_none c.in-Some.lines n);
-      goes_on = part_goes_on s ms old opened c.args.place c.args.from c.in_ok-at.at c.in_ok-at.opened c.args.part o ps f f_at new e.kept e.goes_on;
-      closes = part_closes s ms old opened c.args.place c.args.from c.in_ok-at.at c.in_ok-at.opened c.args.part o ps f f_at new e.kept c.in-Some.lines.items
+      goes_on = part_goes_on s ms old opened c.args.whole.now.place c.args.whole.now.from c.in_ok-at.at c.in_ok-at.opened c.args.part o ps f f_at new e.kept e.goes_on;
+      closes = part_closes s ms old opened c.args.whole.now.place c.args.whole.now.from c.in_ok-at.at c.in_ok-at.opened c.args.part o ps f f_at new e.kept c.in-Some.lines.items
           (MatchOption-at_some (Unit {0}) (λ (v : Vec Line Global). ClosesFrom s ms opened c.in_ok-at.at c.in_ok-at.opened (formula_at (bank_of s) f) new v.items) c.in-Some.lines c.in-Some.is e.closes);
     }
 
@@ -191,22 +191,22 @@ one_part-returns-in-None t c =
     let opened = c.part.new.path in
     let new = c.known.new.path in
     let last = c.undo.new.self in
-    let ps = c.args.parts.now in
+    let ps = c.args.whole.now.parts.now in
     let d : FormulaId = record { 0 = 0 } in
     let f = get_or ps c.args.part d in
     let f_at = slice_get-get_or ps c.args.part d c.requires.part in
     let e = c.in_ok-lines.ensures in
-    let o : OpensPart s old opened c.args.place c.args.from c.in_ok-at.at c.in_ok-at.opened c.args.part = record { kept = c.in_ok-at.ensures.kept; goes_on = c.in_ok-at.ensures.goes_on; opened_is = c.in_ok-at.ensures.opened } in
-    let kept = part_kept s ms old opened c.args.place c.args.from c.in_ok-at.at c.in_ok-at.opened c.args.part o ps f f_at new e.kept in
+    let o : OpensPart s old opened c.args.whole.now.place c.args.whole.now.from c.in_ok-at.at c.in_ok-at.opened c.args.part = record { kept = c.in_ok-at.ensures.kept; goes_on = c.in_ok-at.ensures.goes_on; opened_is = c.in_ok-at.ensures.opened } in
+    let kept = part_kept s ms old opened c.args.whole.now.place c.args.whole.now.from c.in_ok-at.at c.in_ok-at.opened c.args.part o ps f f_at new e.kept in
     let known = back_known c.mark-mark.result old new last c.mark-mark.ensures kept c.undo.ensures in
-    let stays = part_stays s ms old opened c.args.place c.args.from c.in_ok-at.at c.in_ok-at.opened c.args.part o ps f f_at new e.kept e.goes_on c.mark-mark.result c.mark-mark.ensures last c.undo.ensures in
+    let stays = part_stays s ms old opened c.args.whole.now.place c.args.whole.now.from c.in_ok-at.at c.in_ok-at.opened c.args.part o ps f f_at new e.kept e.goes_on c.mark-mark.result c.mark-mark.ensures last c.undo.ensures in
     record {
       congruence = e.congruence;
       kept = same_kept old.known.items last.known.items known;
       none = λ n g at. subst (IsHolding s) (get_or_from_slice_get ps c.args.part g d at) (e.none c.in-None.is);
       known = λ n. known;
       stays = λ n. stays;
-      goes_on = stays_on s ms old last c.args.place c.args.from (and_of (bank_of s) ps) stays;
+      goes_on = stays_on s ms old last c.args.whole.now.place c.args.whole.now.from (and_of (bank_of s) ps) stays;
       closes = tt;
     }
 
@@ -214,7 +214,7 @@ pub some_part-loop-part-init : goal.some_part-loop-part-init
 some_part-loop-part-init t c = record {
   congruence = refl;
   known = refl;
-  stays = stays_there c.args.self.now c.args.congruence.now.merges c.args.path.now c.args.place c.args.from (and_of (bank_of c.args.self.now) c.args.parts.now);
+  stays = stays_there c.args.self.now c.args.congruence.now.merges c.args.path.now c.args.whole.now.place c.args.whole.now.from (and_of (bank_of c.args.self.now) c.args.whole.now.parts.now);
   hold = λ f k. absurd (contains_none f k);
 }
 
@@ -230,7 +230,7 @@ some_part-returns-in-Some t c =
     let old = c.args.path.now in
     let now = c.loop-part.path in
     let new = c.one_part.new.path in
-    let whole = and_of (bank_of s) c.args.parts.now in
+    let whole = and_of (bank_of s) c.args.whole.now.parts.now in
     let i = c.loop-part.invariant in
     let e = c.in_ok-lines.ensures in
     let same = ap (λ (k : Equations). k.merges) i.congruence in
@@ -238,10 +238,10 @@ some_part-returns-in-Some t c =
       congruence = e.congruence ∙ i.congruence;
       kept = ap (λ (xs : List FormulaId). take (length xs) new.known.items) (sym i.known) ∙ e.kept ∙ i.known;
       none = λ n. absurd (some_none c.in-Some.lines n);
-      goes_on = goes_on_still s ms old now new c.args.place c.args.from whole i.known i.stays (subst (λ (ks : List Merge). GoesOnFrom s ks now c.args.place c.args.from whole new) same e.goes_on);
-      closes = closes_still s ms old now new c.args.place c.args.from whole c.in-Some.lines.items i.known
-          (subst (λ (ks : List Merge). ClosesFrom s ks now c.args.place c.args.from whole new c.in-Some.lines.items) same
-          (MatchOption-at_some (Unit {0}) (λ (v : Vec Line Global). ClosesFrom s c.loop-part.congruence.merges now c.args.place c.args.from whole new v.items) c.in-Some.lines c.in-Some.is e.closes));
+      goes_on = goes_on_still s ms old now new c.args.whole.now.place c.args.whole.now.from whole i.known i.stays (subst (λ (ks : List Merge). GoesOnFrom s ks now c.args.whole.now.place c.args.whole.now.from whole new) same e.goes_on);
+      closes = closes_still s ms old now new c.args.whole.now.place c.args.whole.now.from whole c.in-Some.lines.items i.known
+          (subst (λ (ks : List Merge). ClosesFrom s ks now c.args.whole.now.place c.args.whole.now.from whole new c.in-Some.lines.items) same
+          (MatchOption-at_some (Unit {0}) (λ (v : Vec Line Global). ClosesFrom s c.loop-part.congruence.merges now c.args.whole.now.place c.args.whole.now.from whole new v.items) c.in-Some.lines c.in-Some.is e.closes));
     }
 
 pub some_part-loop-part-preserved : goal.some_part-loop-part-preserved
@@ -251,7 +251,7 @@ some_part-loop-part-preserved t c =
     let old = c.args.path.now in
     let now = c.loop-part.path in
     let new = c.one_part.new.path in
-    let ps = c.args.parts.now in
+    let ps = c.args.whole.now.parts.now in
     let d : FormulaId = record { 0 = 0 } in
     let whole = and_of (bank_of s) ps in
     let i = c.loop-part.invariant in
@@ -260,7 +260,7 @@ some_part-loop-part-preserved t c =
     record {
       congruence = e.congruence ∙ i.congruence;
       known = e.known c.in_default.is ∙ i.known;
-      stays = stays_still s ms old now new c.args.place c.args.from whole i.known i.stays (subst (λ (ks : List Merge). StaysFrom s ks now c.args.place c.args.from whole new) same (e.stays c.in_default.is));
+      stays = stays_still s ms old now new c.args.whole.now.place c.args.whole.now.from whole i.known i.stays (subst (λ (ks : List Merge). StaysFrom s ks now c.args.whole.now.place c.args.whole.now.from whole new) same (e.stays c.in_default.is));
       hold = one_more (IsHolding s) ps c.loop-part.part d c.loop-part-test.true i.hold (e.none c.in_default.is (get_or ps c.loop-part.part d) (slice_get-get_or ps c.loop-part.part d c.loop-part-test.true));
     }
 
@@ -270,13 +270,13 @@ some_part-returns t c =
     let ms = c.args.congruence.now.merges in
     let old = c.args.path.now in
     let new = c.loop-part.path in
-    let ps = c.args.parts.now in
+    let ps = c.args.whole.now.parts.now in
     let i = c.loop-part.invariant in
     record {
       congruence = i.congruence;
       kept = same_kept old.known.items new.known.items i.known;
       none = λ n. all_hold (bank_of s) (basics (known_beside s)) ps (all_of_them (IsHolding s) ps c.loop-part.part c.loop-part-test.false i.hold);
-      goes_on = stays_on s ms old new c.args.place c.args.from (and_of (bank_of s) ps) i.stays;
+      goes_on = stays_on s ms old new c.args.whole.now.place c.args.whole.now.from (and_of (bank_of s) ps) i.stays;
       closes = tt;
     }
 
@@ -284,7 +284,7 @@ some_part-returns t c =
 
 pub case-known-requires : goal.case-known-requires
 case-known-requires t c =
-    let small = AreBelow-get c.args.bound c.args.parts.now c.args.part (record { 0 = 0 }) c.requires.below c.requires.part in
+    let small = AreBelow-get c.args.whole.now.bound c.args.whole.now.parts.now c.args.part (record { 0 = 0 }) c.requires.below c.requires.part in
     let room = c.requires.in_bank in
     let d = c.decreases in
     (omega arith, (c.requires.refuting, (c.requires.given, omega arith)))
@@ -299,26 +299,26 @@ case-returns-in_ok-lines-in-Some t c =
     let opened = c.open.new.path in
     let new = c.known.new.path in
     let last = c.cut_out.new.self in
-    let ps = c.args.parts.now in
+    let ps = c.args.whole.now.parts.now in
     let d : FormulaId = record { 0 = 0 } in
     let f = get_or ps c.args.part d in
     let f_at = slice_get-get_or ps c.args.part d c.requires.part in
     let g = c.part_at-f.result in
     let e = c.in_ok-closing.ensures in
-    let o : OpensCase s m old begun opened c.args.place c.args.from c.in_ok-at.at c.in_ok-at.opened c.args.part g = record {
+    let o : OpensCase s m old begun opened c.args.whole.now.place c.args.whole.now.from c.in_ok-at.at c.in_ok-at.opened c.args.part g = record {
       part_is = c.part_at-f.ensures;
       mark = c.in_ok-mark.ensures.mark;
       begun_is = c.in_ok-mark.ensures.begun;
       kept = c.in_ok-at.ensures.kept;
       goes_on = c.in_ok-at.ensures.goes_on;
-      opened_is = λ cs h chosen fact. c.in_ok-at.ensures.opened cs h chosen (subst (λ (n : ℕ). IsFact cs s.given (known_on (bank_of s) begun) n c.args.from h) (sym (c.len-last.ensures ∙ old.known.ok.0)) fact);
+      opened_is = λ cs h chosen fact. c.in_ok-at.ensures.opened cs h chosen (subst (λ (n : ℕ). IsFact cs s.given (known_on (bank_of s) begun) n c.args.whole.now.from h) (sym (c.len-last.ensures ∙ old.known.ok.0)) fact);
     } in
     record {
       congruence = e.congruence;
-      known = case_back s ms m old begun opened c.args.place c.args.from c.in_ok-at.at c.in_ok-at.opened c.args.part g o ps f f_at new e.kept e.goes_on last c.in_ok-lines-in-Some.ensures.back;
+      known = case_back s ms m old begun opened c.args.whole.now.place c.args.whole.now.from c.in_ok-at.at c.in_ok-at.opened c.args.part g o ps f f_at new e.kept e.goes_on last c.in_ok-lines-in-Some.ensures.back;
       none = λ n. absurd (some_none c.in_ok-lines-in-Some.lines n);
-      stays = case_stays s ms m old begun opened c.args.place c.args.from c.in_ok-at.at c.in_ok-at.opened c.args.part g o ps f f_at new e.kept e.goes_on last c.in_ok-lines-in-Some.ensures.back;
-      closes = case_closes s ms m old begun opened c.args.place c.args.from c.in_ok-at.at c.in_ok-at.opened c.args.part g o ps f f_at new e.kept e.goes_on c.in-Some.closing.items c.in_ok-lines-in-Some.lines.items
+      stays = case_stays s ms m old begun opened c.args.whole.now.place c.args.whole.now.from c.in_ok-at.at c.in_ok-at.opened c.args.part g o ps f f_at new e.kept e.goes_on last c.in_ok-lines-in-Some.ensures.back;
+      closes = case_closes s ms m old begun opened c.args.whole.now.place c.args.whole.now.from c.in_ok-at.at c.in_ok-at.opened c.args.part g o ps f f_at new e.kept e.goes_on c.in-Some.closing.items c.in_ok-lines-in-Some.lines.items
           (MatchOption-at_some (Unit {0}) (λ (v : Vec Line Global). ClosesFrom s ms opened c.in_ok-at.at c.in_ok-at.opened (formula_at (bank_of s) f) new v.items) c.in-Some.closing c.in-Some.is e.closes)
           c.in_ok-lines-in-Some.ensures.closes;
     }
@@ -333,25 +333,25 @@ case-returns-in-None t c =
     let opened = c.open.new.path in
     let new = c.known.new.path in
     let last = c.undo.new.self in
-    let ps = c.args.parts.now in
+    let ps = c.args.whole.now.parts.now in
     let d : FormulaId = record { 0 = 0 } in
     let f = get_or ps c.args.part d in
     let f_at = slice_get-get_or ps c.args.part d c.requires.part in
     let g = c.part_at-f.result in
     let e = c.in_ok-closing.ensures in
-    let o : OpensCase s m old begun opened c.args.place c.args.from c.in_ok-at.at c.in_ok-at.opened c.args.part g = record {
+    let o : OpensCase s m old begun opened c.args.whole.now.place c.args.whole.now.from c.in_ok-at.at c.in_ok-at.opened c.args.part g = record {
       part_is = c.part_at-f.ensures;
       mark = c.in_ok-mark.ensures.mark;
       begun_is = c.in_ok-mark.ensures.begun;
       kept = c.in_ok-at.ensures.kept;
       goes_on = c.in_ok-at.ensures.goes_on;
-      opened_is = λ cs h chosen fact. c.in_ok-at.ensures.opened cs h chosen (subst (λ (n : ℕ). IsFact cs s.given (known_on (bank_of s) begun) n c.args.from h) (sym (c.len-last.ensures ∙ old.known.ok.0)) fact);
+      opened_is = λ cs h chosen fact. c.in_ok-at.ensures.opened cs h chosen (subst (λ (n : ℕ). IsFact cs s.given (known_on (bank_of s) begun) n c.args.whole.now.from h) (sym (c.len-last.ensures ∙ old.known.ok.0)) fact);
     } in
     record {
       congruence = e.congruence;
-      known = case_back s ms m old begun opened c.args.place c.args.from c.in_ok-at.at c.in_ok-at.opened c.args.part g o ps f f_at new e.kept e.goes_on last c.undo.ensures;
+      known = case_back s ms m old begun opened c.args.whole.now.place c.args.whole.now.from c.in_ok-at.at c.in_ok-at.opened c.args.part g o ps f f_at new e.kept e.goes_on last c.undo.ensures;
       none = λ n h at. subst (IsHolding s) (get_or_from_slice_get ps c.args.part h d at) (e.none c.in-None.is);
-      stays = case_stays s ms m old begun opened c.args.place c.args.from c.in_ok-at.at c.in_ok-at.opened c.args.part g o ps f f_at new e.kept e.goes_on last c.undo.ensures;
+      stays = case_stays s ms m old begun opened c.args.whole.now.place c.args.whole.now.from c.in_ok-at.at c.in_ok-at.opened c.args.part g o ps f f_at new e.kept e.goes_on last c.undo.ensures;
       closes = tt;
     }
 
@@ -362,8 +362,8 @@ cases-loop-part-init t c =
     record {
       congruence = refl;
       known = refl;
-      stays = stays_there s ms c.args.path.now c.args.place c.args.from (or_of (bank_of s) c.args.parts.now);
-      cases = no_cases s ms c.args.path.now c.args.place c.args.from c.args.parts.now c.args.start c.new-lines.result.items c.new-lines.ensures.items;
+      stays = stays_there s ms c.args.path.now c.args.whole.now.place c.args.whole.now.from (or_of (bank_of s) c.args.whole.now.parts.now);
+      cases = no_cases s ms c.args.path.now c.args.whole.now.place c.args.whole.now.from c.args.whole.now.parts.now c.args.start c.new-lines.result.items c.new-lines.ensures.items;
     }
 
 pub cases-case-requires : goal.cases-case-requires
@@ -380,7 +380,7 @@ cases-returns-in_default t c =
     let old = c.args.path.now in
     let now = c.loop-part.path in
     let new = c.case.new.path in
-    let whole = or_of (bank_of s) c.args.parts.now in
+    let whole = or_of (bank_of s) c.args.whole.now.parts.now in
     let i = c.loop-part.invariant in
     let e = c.in_ok-closing.ensures in
     let same = ap (λ (k : Equations). k.merges) i.congruence in
@@ -391,7 +391,7 @@ cases-returns-in_default t c =
       later = c.loop-part.auto.part;
       within = omega (arith, test);
       holds = λ less f at. e.none c.in_default.is f at;
-      stays = stays_still s ms old now new c.args.place c.args.from whole i.known i.stays (subst (λ (ks : List Merge). StaysFrom s ks now c.args.place c.args.from whole new) same e.stays);
+      stays = stays_still s ms old now new c.args.whole.now.place c.args.whole.now.from whole i.known i.stays (subst (λ (ks : List Merge). StaysFrom s ks now c.args.whole.now.place c.args.whole.now.from whole new) same e.stays);
       cases = i.cases;
     }
 
@@ -402,7 +402,7 @@ cases-loop-part-preserved t c =
     let old = c.args.path.now in
     let now = c.loop-part.path in
     let new = c.case.new.path in
-    let ps = c.args.parts.now in
+    let ps = c.args.whole.now.parts.now in
     let whole = or_of (bank_of s) ps in
     let i = c.loop-part.invariant in
     let e = c.in_ok-closing.ensures in
@@ -412,10 +412,10 @@ cases-loop-part-preserved t c =
     record {
       congruence = e.congruence ∙ i.congruence;
       known = e.known ∙ i.known;
-      stays = stays_still s ms old now new c.args.place c.args.from whole i.known i.stays (subst (λ (ks : List Merge). StaysFrom s ks now c.args.place c.args.from whole new) same e.stays);
-      cases = next_case s ms old c.args.place c.args.from ps now c.args.start c.loop-part.part c.loop-part.lines.items c.in-Some.closing.items c.add_case.new.cases.items i.known c.loop-part.auto.part (omega (arith, within, test)) i.cases
-          (subst (λ (ks : List Merge). ClosesPart s ks now c.args.place c.args.from whole c.loop-part.part c.in-Some.closing.items) same
-          (MatchOption-at_some (Unit {0}) (λ (v : Vec Line Global). ClosesPart s c.loop-part.congruence.merges now c.args.place c.args.from whole c.loop-part.part v.items) c.in-Some.closing c.in-Some.is e.closes))
+      stays = stays_still s ms old now new c.args.whole.now.place c.args.whole.now.from whole i.known i.stays (subst (λ (ks : List Merge). StaysFrom s ks now c.args.whole.now.place c.args.whole.now.from whole new) same e.stays);
+      cases = next_case s ms old c.args.whole.now.place c.args.whole.now.from ps now c.args.start c.loop-part.part c.loop-part.lines.items c.in-Some.closing.items c.add_case.new.cases.items i.known c.loop-part.auto.part (omega (arith, within, test)) i.cases
+          (subst (λ (ks : List Merge). ClosesPart s ks now c.args.whole.now.place c.args.whole.now.from whole c.loop-part.part c.in-Some.closing.items) same
+          (MatchOption-at_some (Unit {0}) (λ (v : Vec Line Global). ClosesPart s c.loop-part.congruence.merges now c.args.whole.now.place c.args.whole.now.from whole c.loop-part.part v.items) c.in-Some.closing c.in-Some.is e.closes))
           c.in_ok-add_case.ensures;
     }
 
@@ -423,7 +423,7 @@ pub cases-returns : goal.cases-returns
 cases-returns t c =
     let s = c.args.self.now in
     let ms = c.args.congruence.now.merges in
-    let ps = c.args.parts.now in
+    let ps = c.args.whole.now.parts.now in
     let i = c.loop-part.invariant in
     let all : c.loop-part.part ≡ c.args.end = omega (arith, c.loop-part-test.false, c.loop-part.auto.part-end c.requires.start) in
     record {
@@ -433,7 +433,7 @@ cases-returns t c =
       within = omega arith;
       holds = λ less f at. absurd (omega (arith, less));
       stays = i.stays;
-      cases = subst (λ (n : ℕ). AreCasesFrom s ms c.args.path.now c.args.place c.args.from (or_of (bank_of s) ps) c.args.start n c.loop-part.lines.items) all i.cases;
+      cases = subst (λ (n : ℕ). AreCasesFrom s ms c.args.path.now c.args.whole.now.place c.args.whole.now.from (or_of (bank_of s) ps) c.args.start n c.loop-part.lines.items) all i.cases;
     }
 
 pub all_parts-cases-requires : goal.all_parts-cases-requires
@@ -447,7 +447,7 @@ all_parts-returns-then-cases-count t c =
     let ms = c.args.congruence.now.merges in
     let old = c.args.path.now in
     let new = c.cases.new.path in
-    let ps = c.args.parts.now in
+    let ps = c.args.whole.now.parts.now in
     let d : FormulaId = record { 0 = 0 } in
     let e = c.in_ok-cases.ensures in
     let stop = c.in_ok-cases.cases.stop in
@@ -457,7 +457,7 @@ all_parts-returns-then-cases-count t c =
       congruence = e.congruence;
       kept = same_kept old.known.items new.known.items e.known;
       none = λ n. some_holds (bank_of s) (basics (known_beside s)) ps stop (get_or ps stop d) at (e.holds test (get_or ps stop d) at);
-      goes_on = stays_on s ms old new c.args.place c.args.from (or_of (bank_of s) ps) e.stays;
+      goes_on = stays_on s ms old new c.args.whole.now.place c.args.whole.now.from (or_of (bank_of s) ps) e.stays;
       closes = tt;
     }
 
@@ -467,12 +467,12 @@ all_parts-returns t c =
     let ms = c.args.congruence.now.merges in
     let old = c.args.path.now in
     let new = c.cases.new.path in
-    let ps = c.args.parts.now in
+    let ps = c.args.whole.now.parts.now in
     let e = c.in_ok-cases.ensures in
     record {
       congruence = e.congruence;
       kept = same_kept old.known.items new.known.items e.known;
       none = λ n. absurd (some_none c.in_ok-lines.lines n);
-      goes_on = stays_on s ms old new c.args.place c.args.from (or_of (bank_of s) ps) e.stays;
-      closes = cases_close s ms old c.args.place c.args.from ps new c.in_ok-cases.cases.stop c.in_ok-cases.cases.lines.items c.in_ok-lines.lines.items e.known c.if-cases-count.false c.in_ok-lines.ensures e.cases;
+      goes_on = stays_on s ms old new c.args.whole.now.place c.args.whole.now.from (or_of (bank_of s) ps) e.stays;
+      closes = cases_close s ms old c.args.whole.now.place c.args.whole.now.from ps new c.in_ok-cases.cases.stop c.in_ok-cases.cases.lines.items c.in_ok-lines.lines.items e.known c.if-cases-count.false c.in_ok-lines.ensures e.cases;
     }

@@ -3,7 +3,7 @@ use Rattle.std.specs.Prelude.{IfOk}
 use Rattle.ss_logic.specs.Formulas.{is_well_formed}
 use Rattle.ss_terms.specs.declared.forms.FormulaId.{FormulaId}
 use Rattle.ss_terms.specs.Forms.{term_at, formula_at, formula_of, shape_of, predicate_of}
-use Rattle.ss_terms.proofs.Parts.{AreBelow-get, if_ok_same, literal_formed}
+use Rattle.ss_terms.proofs.Tested.{AreBelow-get, if_ok_same, literal_formed}
 use Rattle.ss_terms.proofs.bank.Bank.+forming.Goals as goal
 
 pub are_formed_under-is_formed_under-requires : goal.are_formed_under-is_formed_under-requires

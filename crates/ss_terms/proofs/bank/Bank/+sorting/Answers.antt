@@ -3,7 +3,7 @@ use Rattle.ss_terms.specs.declared.forms.TermId.{TermId}
 use Rattle.ss_terms.specs.Forms.{symbol_of, term_at}
 use Rattle.ss_terms.proofs.Sorted.{closed_sorted}
 use Rattle.ss_terms.proofs.Trees.{AreTermsBelow-more}
-use Rattle.ss_terms.proofs.Parts.{AreTermsBelow-get, not_taken, taken, if_ok_same}
+use Rattle.ss_terms.proofs.Tested.{AreTermsBelow-get, not_taken, taken, if_ok_same}
 use Rattle.ss_terms.proofs.bank.Bank.+sorting.Goals as goal
 
 pub are_sorted_under-is_sorted_under-requires : goal.are_sorted_under-is_sorted_under-requires
@@ -12,6 +12,9 @@ are_sorted_under-is_sorted_under-requires t c =
     let small = AreTermsBelow-get c.args.below c.args.ts.now c.loop-t.t-index none c.requires.below c.loop-t-test.true in
     let room = c.requires.there in
     let d = c.decreases in (omega (arith, small, d), omega (arith, small, room))
+
+pub are_sorted_under-are_closed-requires : goal.are_sorted_under-are_closed-requires
+are_sorted_under-are_closed-requires t c = AreTermsBelow-more c.args.below _ c.requires.there c.args.ts.now c.requires.below
 
 pub is_applied_under-takes_terms-requires : goal.is_applied_under-takes_terms-requires
 is_applied_under-takes_terms-requires t c = AreTermsBelow-more c.args.below _ c.requires.there c.args.arguments.now c.requires.below

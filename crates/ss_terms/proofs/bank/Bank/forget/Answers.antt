@@ -32,6 +32,9 @@ returns-clause-forgotten c = λ _.
     kept (λ us gs. forms_of fs us gs ≡ front m k c.args.self.now) (take m ts) c.truncate.new.self.entries (take k es) c.truncate-2.new.self.entries c.truncate.ensures.entries c.truncate-2.ensures.entries
     (front_is fs ts es m k ∙ ap (front m k) c.self.view_is)
 
+pub returns-clause-closed : goal.returns-clause-closed
+returns-clause-closed c = λ _. c.if-not-is_closed.ensures refl
+
 pub returns-clause-grown : goal.returns-clause-grown
 returns-clause-grown c = λ marked g terms formulas.
     let fs = c.self.inside.fields.items in

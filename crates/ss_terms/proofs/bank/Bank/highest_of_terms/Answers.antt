@@ -1,4 +1,4 @@
-use Rattle.ss_terms.proofs.Parts.{AreTermsBelow-get}
+use Rattle.ss_terms.proofs.Tested.{AreTermsBelow-get}
 use Rattle.ss_terms.proofs.bank.Bank.highest_of_terms.Goals as goal
 
 pub highest_of_term-requires : goal.highest_of_term-requires

@@ -1,4 +1,4 @@
-use Rattle.ss_terms.proofs.Parts.{AreTermsBelow-get}
+use Rattle.ss_terms.proofs.Tested.{AreTermsBelow-get}
 use Rattle.ss_terms.proofs.bank.Bank.sorts_under.Goals as goal
 
 pub sort_under-requires : goal.sort_under-requires

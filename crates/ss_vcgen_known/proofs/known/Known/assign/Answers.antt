@@ -20,11 +20,11 @@ returns c =
     let k = known_of c.args.self.now in
     let x = c.args.x in
     let e = view.expr c.args.e.now in
-    let b = view.body c.args.body.now in
-    let site = site_of (view.core c.args.core.now) b in
+    let b = view.body c.args.context.body.now in
+    let site = site_of (view.core c.args.context.core.now) b in
     let never = is_never_null site k false e in
     let at_types = λ (ts : List Ty). is_never_null (record { classes = site.classes; locals = ts; constructs = b.flags.ctor }) k false e in
-    let here = λ (j : Known). is_never_null (record { classes = site.classes; locals = c.args.types.now; constructs = b.flags.ctor }) j false e in
+    let here = λ (j : Known). is_never_null (record { classes = site.classes; locals = c.args.context.types.now; constructs = b.flags.ctor }) j false e in
     let is : c.is_never_null-non_null.result ≡ never = c.is_never_null-non_null.ensures ∙ ap here (nothing_tested k) ∙ ap at_types c.requires.types in
     c.in_ok-set_local.ensures
     ∙ ap (λ (n : Bool). with_sides x n (marked c.in_ok-holds.holds) (marked c.in_ok-fails.fails) k) is

@@ -3,7 +3,7 @@ use Rattle.std.proofs.lemmas.List.{drop_more}
 use Rattle.std.proofs.Math.ListN.{drop_of_length-le}
 use Rattle.ss_vcgen_known.specs.Steps.{all_barred}
 use Rattle.ss_vcgen_known.specs.Views.{known_of}
-use Rattle.ss_vcgen_known.proofs.Walking.{no_told}
+use Rattle.ss_vcgen_types.proofs.Walking.{no_told}
 use Rattle.ss_vcgen_known.proofs.known.Known.bar_all.Goals as goal
 
 pub loop-told-preserved : goal.loop-told-preserved

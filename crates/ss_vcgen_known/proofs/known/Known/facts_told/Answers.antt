@@ -3,10 +3,10 @@ use Rattle.std.proofs.lemmas.List.{drop_more}
 use Rattle.std.proofs.Math.ListN.{drop_of_length-le}
 use Rattle.ss_bit_set.specs.Marked.{marked}
 use Rattle.ss_store_rules.specs.NonNull.{both}
-use Rattle.ss_vcgen_known.specs.Told.{facts_of, all_facts}
+use Rattle.ss_vcgen_types.specs.Told.{facts_of, all_facts}
 use Rattle.ss_vcgen_known.specs.Views.{known_of}
 use Rattle.ss_vcgen_known.proofs.Listing.{none_is_none, both_none, both_assoc}
-use Rattle.ss_vcgen_known.proofs.Walking.{no_told}
+use Rattle.ss_vcgen_types.proofs.Walking.{no_told}
 use Rattle.ss_vcgen_known.proofs.known.Known.facts_told.Goals as goal
 
 pub loop-told-init : goal.loop-told-init

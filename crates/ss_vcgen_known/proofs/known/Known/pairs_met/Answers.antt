@@ -2,7 +2,7 @@ use Rattle.std.proofs.Common.{◌≡◌, [], ◌∷◌, ◌++◌, map, arith, sy
 use Rattle.ss_vcgen_known.specs.Sets.{below}
 use Rattle.ss_vcgen_known.specs.Steps.{met_pair}
 use Rattle.ss_vcgen_known.specs.Views.{pair_of, known_of}
-use Rattle.ss_vcgen_known.proofs.Grouping.{map_more}
+use Rattle.ss_vcgen_types.proofs.Grouping.{map_more}
 use Rattle.ss_vcgen_known.proofs.Listing.{below_next}
 use Rattle.ss_vcgen_known.proofs.known.Known.pairs_met.Goals as goal
 

@@ -1,8 +1,8 @@
 use Rattle.std.proofs.Common.{ap, ◌∙◌}
 use Rattle.ss_core.specs.View.{expr}
-use Rattle.ss_vcgen_known.specs.Told.{all_facts}
+use Rattle.ss_vcgen_types.specs.Told.{all_facts}
 use Rattle.ss_vcgen_known.specs.Views.{known_of}
-use Rattle.ss_vcgen_known.proofs.Telling.{learned_is}
+use Rattle.ss_vcgen_types.proofs.Telling.{learned_is}
 use Rattle.ss_vcgen_known.proofs.known.Known.says.Goals as goal
 
 pub returns : goal.returns

@@ -1,7 +1,7 @@
 use Rattle.std.proofs.Common.{◌∙◌}
 use Rattle.ss_core.specs.View.{expr}
 use Rattle.ss_vcgen_known.specs.Views.{known_of}
-use Rattle.ss_vcgen_known.proofs.Telling.{told_of_front}
+use Rattle.ss_vcgen_types.proofs.Telling.{told_of_front}
 use Rattle.ss_vcgen_known.proofs.known.Known.test.Goals as goal
 
 pub returns : goal.returns

@@ -1,5 +1,0 @@
-use Rattle.ss_machine_stores.specs.Whole.{AreListed}
-use Rattle.ss_machine_stores.proofs.levels.drop_all_full.Given as goal
-
-abbrev pub invariant-loop-i : goal.invariant-loop-i
-invariant-loop-i l = AreListed l.store.objects l.fn.unfull.items → AreListed l.store.objects l.unfull.items

@@ -1,0 +1,3 @@
+pub mod FieldNames
+pub mod LocalTexts
+pub mod NameTexts

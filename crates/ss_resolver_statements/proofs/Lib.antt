@@ -1,0 +1,4 @@
+pub mod Alones
+pub mod Left
+pub mod Governed
+pub mod Blocks

@@ -1,0 +1,4 @@
+pub mod Forms
+pub mod Alone
+pub mod Boxes
+pub mod Behind

@@ -1,5 +1,0 @@
-use Rattle.ss_tests_proof.specs.Over.{IsOver}
-use Rattle.ss_tests_proof.proofs.merges.answers.Given as goal
-
-abbrev pub invariant-loop-step : goal.invariant-loop-step
-invariant-loop-step l = IsOver l.bank l.congruence

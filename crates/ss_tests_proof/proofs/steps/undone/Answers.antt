@@ -1,5 +1,0 @@
-use Rattle.ss_tests_proof.proofs.Kept.{taken}
-use Rattle.ss_tests_proof.proofs.steps.undone.Goals as goal
-
-pub returns : goal.returns
-returns c = taken c.args.bank.now c.args.congruence.now c.undo.new.self c.args.to c.requires c.undo.ensures
