@@ -41,12 +41,12 @@ fn values_of(
     values_text(alloc, bank, &reading, position)
 }
 
-// An obligation of a list, the classes of a model that refutes it, and where it stands.
+// The classes of a model that refutes an obligation, where this stands, and the limits of its ground form.
 #[derive(Clone, Copy)]
-struct Refuted<'a> {
-    listed: &'a Listed,
+struct Refuting<'a> {
     classes: &'a [usize],
     located: &'a Located,
+    limits: Limits,
 }
 
 // The values in a model that refutes the ground form of an obligation.
@@ -55,32 +55,32 @@ fn text_of(
     bank: &mut Bank,
     trail: &[FormulaId],
     core: &Core,
-    refuted: &Refuted<'_>,
-    limits: Limits,
+    listed: &Listed,
+    refuting: &Refuting<'_>,
 ) -> Result<String, AllocError>
     requires bank { IsBankOf (view.classes core.now.classes) bank.old }
     requires limits { IsWithinLimits (view.classes core.now.classes) }
     requires trail { HasFormulas bank.old trail.now }
-    requires placed { IsPlaced bank.old (length trail.now) refuted.now.listed.now }
+    requires placed { IsPlaced bank.old (length trail.now) listed.now }
     ensures grown { IsGrown bank.old bank.new }
 {
-    let Some(body) = core.bodies.get(refuted.listed.body.0 as usize) else {
+    let Some(body) = core.bodies.get(listed.body.0 as usize) else {
         return Ok(String::new(alloc));
     };
     let position = Position {
         core,
         body,
-        locals: &refuted.located.locals,
-        store: refuted.located.store,
+        locals: &refuting.located.locals,
+        store: refuting.located.store,
     };
-    let obligation = refuted.listed.obligation(trail);
+    let obligation = listed.obligation(trail);
     let Limits {
         rounds,
         instances,
         ..
-    } = limits;
+    } = refuting.limits;
     match ground(alloc, bank, core, &obligation, rounds, instances) {
-        Ok(formulas) => values_of(alloc, bank, &formulas, refuted.classes, &position),
+        Ok(formulas) => values_of(alloc, bank, &formulas, refuting.classes, &position),
         Err(GroundStop::TooMany { .. }) => Ok(String::new(alloc)),
         Err(GroundStop::Memory) => Err(AllocError),
     }
@@ -116,12 +116,12 @@ fn text_at(
     let Some(listed) = list.get(one.obligation) else {
         return Ok(String::new(alloc));
     };
-    let refuted = Refuted {
-        listed,
+    let refuting = Refuting {
         classes: &one.model.classes,
         located,
+        limits,
     };
-    text_of(alloc, bank, trail, core, &refuted, limits)
+    text_of(alloc, bank, trail, core, listed, &refuting)
 }
 
 // A text for each obligation whose values are told.

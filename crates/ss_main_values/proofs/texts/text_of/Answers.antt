@@ -4,7 +4,7 @@ use Rattle.ss_main_values.proofs.texts.text_of.Goals as goal
 
 pub ground-requires-clause-premises : goal.ground-requires-clause-premises
 ground-requires-clause-premises c =
-    let o = c.args.refuted.now.listed.now in
+    let o = c.args.listed.now in
     let n = length c.args.bank.now.formulas * 2 in
     rw c.obligation-obligation.ensures.premises (AreBelow-drop n o.first (take o.end c.args.trail.now) (AreBelow-take n o.end c.args.trail.now c.requires.trail))
 
