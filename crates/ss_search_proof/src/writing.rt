@@ -7,6 +7,7 @@ use ss_search_facts::{End, Fact, Facts, GoodName, Proof, Range, Reason, Reasons,
 use ss_search_question::NONE;
 use ss_terms::{FormulaId, TermId};
 use std::alloc::{AllocError, Global};
+use std::collections::BinaryHeap;
 
 /// Finds which facts of the proof whose outermost block this is are written, and where. What they name is named.
 pub fn plan_lines(
@@ -17,7 +18,7 @@ pub fn plan_lines(
 ) -> Result<(), AllocError> {
     let Reasons { facts, proof, .. } = reasons;
     number_blocks(alloc, proof, root)?;
-    place_facts(facts, proof, root);
+    place_facts(alloc, facts, proof, root)?;
     name_all(facts, proof, root, names);
     Ok(())
 }
@@ -133,86 +134,121 @@ fn raise_leave(proof: &mut Proof, number: usize) {
     proof.put(block.above, above);
 }
 
-// Finds the block of each fact that is used, from the newest fact to the oldest: what a fact is made of is older.
-fn place_facts(facts: &mut Facts, proof: &mut Proof, root: usize) {
+// Finds the block of each fact that is used, from the newest fact to the oldest: what a fact is made of is older. No other fact is looked at.
+fn place_facts(
+    alloc: Global,
+    facts: &mut Facts,
+    proof: &mut Proof,
+    root: usize,
+) -> Result<(), AllocError> {
+    let mut used = BinaryHeap::new(alloc);
     let mut at = root;
     for _ in 0..proof.len() {
         if at == NONE {
             break;
         }
         let block = proof.block(at);
-        use_end(facts, proof, (at, root), block.end);
+        use_end(&mut used, facts, proof, (at, root), block.end)?;
         at = proof.after(at, root);
     }
-    let count = facts.len();
-    for turn in 0..count {
-        let number = count.saturating_sub(turn.saturating_add(1));
-        place_fact(facts, proof, number, root);
+    for _ in 0..facts.len() {
+        let Some(number) = used.pop() else {
+            break;
+        };
+        place_fact(&mut used, facts, proof, number, root)?;
     }
+    Ok(())
 }
 
 // What the end of a block names is used in it, below a root.
-fn use_end(facts: &mut Facts, proof: &Proof, block: (usize, usize), end: End) {
+fn use_end(
+    used: &mut BinaryHeap<usize>,
+    facts: &mut Facts,
+    proof: &Proof,
+    block: (usize, usize),
+    end: End,
+) -> Result<(), AllocError> {
     match end {
-        End::Nothing | End::Cut(_) => {}
-        End::Split(fact) => use_in(facts, proof, fact, block),
+        End::Nothing | End::Cut(_) => Ok(()),
+        End::Split(fact) => use_in(used, facts, proof, fact, block),
         End::Clash(first, second) => {
-            use_in(facts, proof, first, block);
-            use_in(facts, proof, second, block);
+            use_in(used, facts, proof, first, block)?;
+            use_in(used, facts, proof, second, block)
         }
     }
 }
 
-// A fact is used in a block. A hypothesis is known there already, and choices stand in the root.
-fn use_in(facts: &mut Facts, proof: &Proof, number: usize, block: (usize, usize)) {
+// A fact is used in a block, and waits to be placed from its first use on. A hypothesis is known there already, and choices stand in the root.
+fn use_in(
+    used: &mut BinaryHeap<usize>,
+    facts: &mut Facts,
+    proof: &Proof,
+    number: usize,
+    block: (usize, usize),
+) -> Result<(), AllocError> {
     let (inner, root) = block;
     let Some(fact) = facts.fact_mut(number) else {
-        return;
+        return Ok(());
     };
     if is_hypothesis(fact.reason) {
-        return;
+        return Ok(());
     }
     let user = if is_choice(fact.reason) { root } else { inner };
-    fact.block = if fact.block == NONE {
-        user
+    if fact.block == NONE {
+        fact.block = user;
+        used.push(number)?;
     } else {
-        meet(proof, fact.block, user)
-    };
+        fact.block = meet(proof, fact.block, user);
+    }
+    Ok(())
 }
 
 // Where a fact is used, all its uses are known, so its block is. What it is made of is used there.
-fn place_fact(facts: &mut Facts, proof: &mut Proof, number: usize, root: usize) {
+fn place_fact(
+    used: &mut BinaryHeap<usize>,
+    facts: &mut Facts,
+    proof: &mut Proof,
+    number: usize,
+    root: usize,
+) -> Result<(), AllocError> {
     let Some(fact) = facts.fact_mut(number) else {
-        return;
+        return Ok(());
     };
     let (place, reason) = (fact.block, fact.reason);
     if place == NONE {
-        return;
+        return Ok(());
     }
     let mut block = proof.block(place);
     fact.next = block.facts;
     block.facts = number;
     proof.put(place, block);
     match reason {
-        Reason::Part(whole, _) => use_in(facts, proof, whole, (place, root)),
-        Reason::Inst(whole, _) => use_in(facts, proof, whole, (place, root)),
-        Reason::Good(_, whole, _) => use_in(facts, proof, whole, (place, root)),
-        Reason::Chain(range) => use_path(facts, proof, range, (place, root)),
-        Reason::Cong(range) => use_path(facts, proof, range, (place, root)),
-        Reason::Sum(_, range, _) => use_path(facts, proof, range, (place, root)),
-        Reason::Swap(whole, range) => {
-            use_in(facts, proof, whole, (place, root));
-            use_path(facts, proof, range, (place, root));
+        Reason::Part(whole, _) | Reason::Inst(whole, _) | Reason::Good(_, whole, _) => {
+            use_in(used, facts, proof, whole, (place, root))
         }
-        _ => {}
+        Reason::Chain(range) | Reason::Cong(range) | Reason::Sum(_, range, _) => {
+            use_path(used, facts, proof, range, (place, root))
+        }
+        Reason::Swap(whole, range) => {
+            use_in(used, facts, proof, whole, (place, root))?;
+            use_path(used, facts, proof, range, (place, root))
+        }
+        _ => Ok(()),
     }
 }
 
-fn use_path(facts: &mut Facts, proof: &Proof, range: Range, block: (usize, usize)) {
+fn use_path(
+    used: &mut BinaryHeap<usize>,
+    facts: &mut Facts,
+    proof: &Proof,
+    range: Range,
+    block: (usize, usize),
+) -> Result<(), AllocError> {
     for place in range.from..range.to {
         let fact = facts.path_at(place);
-        use_in(facts, proof, fact, block);
+        use_in(used, facts, proof, fact, block)?;
     }
+    Ok(())
 }
 
 // A fact stands in no block any more.
