@@ -190,28 +190,46 @@ fn is_congruent_app(
     ensures { result ≡ is_congruent (formulas_at bank.now known.now) js.now (App (symbol_of f) (terms_from (terms_at bank.now xs.now))) (term_at bank.now y) }
 {
     match bank.term_node(y) {
-        Term::App(g, ys) => is_congruent_apps(bank, known, js, f, xs, *g, ys),
+        Term::App(g, ys) => {
+            let left = Application {
+                function: f,
+                arguments: xs,
+            };
+            let right = Application {
+                function: *g,
+                arguments: ys,
+            };
+            is_congruent_apps(bank, known, js, &left, &right)
+        }
         Term::Bound(_) => false,
     }
+}
+
+// A function and its arguments.
+#[derive(Clone, Copy)]
+struct Application<'a> {
+    function: Symbol,
+    arguments: &'a [TermId],
 }
 
 fn is_congruent_apps(
     bank: &Bank,
     known: &[FormulaId],
     js: &[usize],
-    f: Symbol,
-    xs: &[TermId],
-    g: Symbol,
-    ys: &[TermId],
+    left: &Application<'_>,
+    right: &Application<'_>,
 ) -> bool
     requires known { HasFormulas bank.now known.now }
-    requires left { HasTerms bank.now xs.now }
-    requires right { HasTerms bank.now ys.now }
-    ensures { result ≡ is_congruent (formulas_at bank.now known.now) js.now (App (symbol_of f) (terms_from (terms_at bank.now xs.now))) (App (symbol_of g) (terms_from (terms_at bank.now ys.now))) }
+    requires left { HasTerms bank.now left.now.arguments.now }
+    requires right { HasTerms bank.now right.now.arguments.now }
+    ensures { result ≡ is_congruent (formulas_at bank.now known.now) js.now (App (symbol_of left.now.function) (terms_from (terms_at bank.now left.now.arguments.now))) (App (symbol_of right.now.function) (terms_from (terms_at bank.now right.now.arguments.now))) }
 {
-    match xs {
+    match left.arguments {
         [] => false,
-        [_, ..] => is_same_function(f, g) && are_exchanged_at(bank, known, xs, ys, js),
+        [_, ..] => {
+            is_same_function(left.function, right.function)
+                && are_exchanged_at(bank, known, left.arguments, right.arguments, js)
+        }
     }
 }
 
@@ -233,38 +251,51 @@ pub(crate) fn is_swapped_at(
             holds,
             predicate,
             arguments,
-        } => is_swapped_literal(bank, known, js, *holds, *predicate, arguments, to),
+        } => {
+            let literal = LiteralParts {
+                holds: *holds,
+                predicate: *predicate,
+                arguments,
+            };
+            is_swapped_literal(bank, known, js, &literal, to)
+        }
         _ => false,
     }
+}
+
+// A literal: whether a predicate holds of its arguments.
+#[derive(Clone, Copy)]
+struct LiteralParts<'a> {
+    holds: bool,
+    predicate: Predicate,
+    arguments: &'a [TermId],
 }
 
 fn is_swapped_literal(
     bank: &Bank,
     known: &[FormulaId],
     js: &[usize],
-    holds: bool,
-    predicate: Predicate,
-    xs: &[TermId],
+    literal: &LiteralParts<'_>,
     to: FormulaId,
 ) -> bool
     requires known { HasFormulas bank.now known.now }
-    requires arguments { HasTerms bank.now xs.now }
+    requires arguments { HasTerms bank.now literal.now.arguments.now }
     requires to { HasFormula bank.now to }
-    ensures { result ≡ is_swapped (formulas_at bank.now known.now) js.now (logic.Literal holds (predicate_of predicate) (terms_from (terms_at bank.now xs.now))) (formula_at bank.now to) }
+    ensures { result ≡ is_swapped (formulas_at bank.now known.now) js.now (logic.Literal literal.now.holds (predicate_of literal.now.predicate) (terms_from (terms_at bank.now literal.now.arguments.now))) (formula_at bank.now to) }
 {
     match bank.formula_node(to) {
         Formula::Literal {
-            holds: holds_to,
-            predicate: predicate_to,
+            holds,
+            predicate,
             arguments,
         } => {
-            if holds != *holds_to {
+            if literal.holds != *holds {
                 return false;
             }
-            if !is_same_predicate(predicate, *predicate_to) {
+            if !is_same_predicate(literal.predicate, *predicate) {
                 return false;
             }
-            are_exchanged_at(bank, known, xs, arguments, js)
+            are_exchanged_at(bank, known, literal.arguments, arguments, js)
         }
         _ => false,
     }
