@@ -87,6 +87,13 @@ fn add_written(
     }
 }
 
+// The clause of the first declaration of a method, where it has one, and the class whose body is under it.
+#[derive(Clone, Copy)]
+struct Clause<'a> {
+    class: ClassId,
+    written: &'a Option<Vec<TypedModifies>>,
+}
+
 // Adds the terms of a method that isn't pure.
 fn add_of_method(
     alloc: Global,
@@ -94,12 +101,12 @@ fn add_of_method(
     numbers: &Numbers,
     place: Place,
     body: &TypedBody,
-    class: ClassId,
-    written: &Option<Vec<TypedModifies>>,
+    clause: &Clause<'_>,
 ) -> Result<(), AllocError>
-    ensures { OnOk result (map core.named_of terms.new.items ≡ map core.named_of terms.old.items ++ contracts.terms_of_method (numbers_of numbers.now) place (typed.body body.now) class.0 (option_map (λ w. map typed.modified w.items) written.now)) }
+    ensures { OnOk result (map core.named_of terms.new.items ≡ map core.named_of terms.old.items ++ contracts.terms_of_method (numbers_of numbers.now) place (typed.body body.now) clause.now.class.0 (option_map (λ w. map typed.modified w.items) clause.now.written.now)) }
 {
-    match written {
+    let class = clause.class;
+    match clause.written {
         Some(written) => add_named(alloc, terms, numbers, class, written),
         None => {
             if body.flags.is_static {
@@ -131,6 +138,7 @@ pub fn list_terms(
         add_written(alloc, &mut terms, numbers, class, written)?;
         return Ok(terms);
     }
-    add_of_method(alloc, &mut terms, numbers, place, body, class, written)?;
+    let clause = Clause { class, written };
+    add_of_method(alloc, &mut terms, numbers, place, body, &clause)?;
     Ok(terms)
 }

@@ -24,4 +24,4 @@ pub use named::{add_copies, add_locals, add_params, add_temporaries};
 pub use numbering::{first_copy, numbers, numbers_from};
 pub use origins::{Origin, list_bodies, number_among, number_of_written};
 pub use tables::{elaborate_classes, number_in_table};
-pub use wrappers::{core_flags, own_params, wrapper_code, wrapper_flags, wrapper_types};
+pub use wrappers::{Wrapped, core_flags, own_params, wrapper_code, wrapper_flags, wrapper_types};

@@ -160,19 +160,26 @@ fn add_closing(
     Ok(())
 }
 
+/// What a wrapper is for: the place of its class, the class, and the body that it calls.
+#[derive(Clone, Copy)]
+pub struct Wrapped {
+    pub place: Place,
+    pub class: ClassId,
+    pub body: BodyId,
+}
+
 /// The code: it exposes `this` at the class in the first temporary, and calls the body with these arguments; the result goes into
 /// the local, where there is one.
 pub fn wrapper_code(
     alloc: Global,
-    place: Place,
-    class: ClassId,
-    body: BodyId,
+    wrapped: Wrapped,
     x: usize,
     arguments: Vec<Expr>,
     outcome: Option<usize>,
 ) -> Result<Vec<Stmt>, AllocError>
-    ensures { IfOk result (λ ss. stmts_of ss ≡ bodies.wrapper_code place class.0 body.0 x (core.exprs arguments.items) outcome) }
+    ensures { IfOk result (λ ss. stmts_of ss ≡ bodies.wrapper_code wrapped.place wrapped.class.0 wrapped.body.0 x (core.exprs arguments.items) outcome) }
 {
+    let Wrapped { place, class, body } = wrapped;
     let mut code = Vec::new(alloc);
     add_opening(&mut code, place, class, x)?;
     add_call(&mut code, place, body, arguments, outcome)?;

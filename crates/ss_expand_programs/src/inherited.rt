@@ -13,8 +13,8 @@ ghost use Rattle.ss_expand_programs.specs.Inherited.{inherited_code};
 use crate::heads::{contract_of, params_of};
 use ss_core::{Body, ClassId, Local, Place, Stmt, Ty};
 use ss_expand_bodies::{
-    Origin, above_of, add_temporaries, number_in_table, numbers_from, own_params, wrapper_code,
-    wrapper_flags, wrapper_types,
+    Origin, Wrapped, above_of, add_temporaries, number_in_table, numbers_from, own_params,
+    wrapper_code, wrapper_flags, wrapper_types,
 };
 use ss_expand_expressions::Numbers;
 use ss_typed::{Typed, TypedBody};
@@ -78,7 +78,12 @@ fn code_of(
     let second = first.checked_add(1).ok_or(AllocError)?;
     let arguments = own_params(alloc, place, 1, &body.params)?;
     let outcome = wrapper_result(body.result, second);
-    wrapper_code(alloc, place, class, number, first, arguments, outcome)
+    let wrapped = Wrapped {
+        place,
+        class,
+        body: number,
+    };
+    wrapper_code(alloc, wrapped, first, arguments, outcome)
 }
 
 // Temporaries of these types.
