@@ -102,14 +102,23 @@ fn add_stmt(
             body: turn,
         } => {
             let heading = ForHeading { first, test, step };
-            add_for(context, turn, *place, heading, invariants, code, made)?;
+            let written = WrittenLoop {
+                place: *place,
+                invariants,
+            };
+            add_for(context, turn, written, heading, code, made)?;
             Ok(can_end(stmt))
         }
         TypedStmt::Return(place, e) => leave(context, *place, e, code, made),
         TypedStmt::Assert(place, e) => Ok(add_assert(context, *place, e, code)?),
         TypedStmt::Assume(place, e) => Ok(add_assume(context, *place, e, code)?),
         TypedStmt::Expose(place, e, class, block) => {
-            add_expose(context, block, *place, e, *class, code, made)
+            let exposed = Exposed {
+                place: *place,
+                object: e,
+                class: *class,
+            };
+            add_expose(context, block, exposed, code, made)
         }
         TypedStmt::Empty(_) => Ok(true),
     }
@@ -174,31 +183,29 @@ struct ForHeading<'p> {
     step: &'p Option<TypedSimple>,
 }
 
-// Adds a `for`: its beginning, and then its loop.
-#[cycle(statements)]
-fn add_for(
-    context: &ElaborationContext<'_>,
-    turn: &TypedStmt,
-    place: Place,
-    heading: ForHeading<'_>,
-    invariants: &[TypedExpr],
-    code: &mut Code,
-    made: &mut Vec<Ty>,
-) -> Result<(), AllocError>
-    ensures { OnOk result (coded_by code.new made.new
-        ≡ after (stmts_of code.old.statements) (statements.stmt (context_of context.now) (ForOf place (option_map typed.init_of heading.entry.first.now) (option_map typed.expr heading.entry.test.now) (option_map typed.simple_of heading.entry.step.now) (typed.exprs invariants.now) (typed.stmt_of turn.now)) made.old.items)) }
-{
-    begin(context, heading.first, code, made)?;
-    let written = WrittenLoop { place, invariants };
-    add_turns(context, turn, written, heading, code, made)?;
-    Ok(())
-}
-
 /// The place and the invariants of a loop.
 #[derive(Clone, Copy)]
 struct WrittenLoop<'p> {
     place: Place,
     invariants: &'p [TypedExpr],
+}
+
+// Adds a `for`: its beginning, and then its loop.
+#[cycle(statements)]
+fn add_for(
+    context: &ElaborationContext<'_>,
+    turn: &TypedStmt,
+    written: WrittenLoop<'_>,
+    heading: ForHeading<'_>,
+    code: &mut Code,
+    made: &mut Vec<Ty>,
+) -> Result<(), AllocError>
+    ensures { OnOk result (coded_by code.new made.new
+        ≡ after (stmts_of code.old.statements) (statements.stmt (context_of context.now) (ForOf written.entry.place (option_map typed.init_of heading.entry.first.now) (option_map typed.expr heading.entry.test.now) (option_map typed.simple_of heading.entry.step.now) (typed.exprs written.entry.invariants.now) (typed.stmt_of turn.now)) made.old.items)) }
+{
+    begin(context, heading.first, code, made)?;
+    add_turns(context, turn, written, heading, code, made)?;
+    Ok(())
 }
 
 // Adds the loop of a `for`, whose body ends with the step.
@@ -225,22 +232,33 @@ fn add_turns(
     Ok(())
 }
 
+// What an `expose` at this place exposes, and the class at which it does, where one is written.
+#[derive(Clone, Copy)]
+struct Exposed<'p> {
+    place: Place,
+    object: &'p TypedExpr,
+    class: Option<ClassId>,
+}
+
 // Adds an `expose`.
 #[cycle(statements)]
 fn add_expose(
     context: &ElaborationContext<'_>,
     block: &TypedBlock,
-    place: Place,
-    e: &TypedExpr,
-    class: Option<ClassId>,
+    exposed: Exposed<'_>,
     code: &mut Code,
     made: &mut Vec<Ty>,
 ) -> Result<bool, AllocError>
     ensures coded { OnOk result (coded_by code.new made.new
-        ≡ after (stmts_of code.old.statements) (statements.stmt (context_of context.now) (ExposeOf place (typed.expr e.now) (option_map (λ t. t.0) class) (typed.block block.now)) made.old.items)) }
+        ≡ after (stmts_of code.old.statements) (statements.stmt (context_of context.now) (ExposeOf exposed.entry.place (typed.expr exposed.entry.object.now) (option_map (λ t. t.0) exposed.entry.class) (typed.block block.now)) made.old.items)) }
     ensures ends { IfOk result (λ reached. reached ≡ ends.block_can_end (typed.block block.now)) }
 {
-    let opened = open(context, place, e, class, code, made)?;
+    let Exposed {
+        place,
+        object,
+        class,
+    } = exposed;
+    let opened = open(context, place, object, class, code, made)?;
     let inner = within(context, opened)?;
     let reached = add_block(&inner, block, code, made)?;
     close(code, opened, reached)?;

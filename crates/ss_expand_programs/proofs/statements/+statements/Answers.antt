@@ -69,17 +69,17 @@ add_turns-returns t c =
 pub add_for-returns : goal.add_for-returns
 add_for-returns t c =
     let s = context_of c.args.context.now in
-    let p = c.args.place in
+    let p = c.args.written.place in
     let i = option_map typed.init_of c.args.heading.first.now in
     let e = option_map typed.expr c.args.heading.test.now in
     let f = turn_of s (typed.stmt_of c.args.turn.now) (option_map typed.simple_of c.args.heading.step.now) in
     one_then (stmts_of c.args.code.now.statements) (stmts_of c.begin.new.code.statements) (stmts_of c.add_turns.new.code.statements) c.begin.new.made.items c.add_turns.new.made.items
-    (begin s i c.args.made.now.items) (loop_while s p (typed.exprs c.args.invariants.now) e f) c.in_ok-begin.ensures c.in_ok-add_turns.ensures
+    (begin s i c.args.made.now.items) (loop_while s p (typed.exprs c.args.written.invariants.now) e f) c.in_ok-begin.ensures c.in_ok-add_turns.ensures
 
 pub add_expose-returns-clause-coded : goal.add_expose-returns-clause-coded
 add_expose-returns-clause-coded t c =
     let s = context_of c.args.context.now in
-    exposed_by s c.args.place (typed.expr c.args.e.now) (option_map (λ u. u.0) c.args.class) (typed.block c.args.block.now)
+    exposed_by s c.args.exposed.place (typed.expr c.args.exposed.object.now) (option_map (λ u. u.0) c.args.exposed.class) (typed.block c.args.block.now)
     (stmts_of c.args.code.now.statements) (stmts_of c.open.new.code.statements) (stmts_of c.add_block.new.code.statements) (stmts_of c.close.new.code.statements)
     c.args.made.now.items c.open.new.made.items c.add_block.new.made.items (opened_of c.in_ok-opened.opened) (context_of c.in_ok-inner.inner) c.in_ok-reached.reached
     c.in_ok-opened.ensures.coded c.in_ok-opened.ensures.opened
