@@ -46,10 +46,10 @@ pub fn plain(alloc: Global, numbers: &Numbers, e: &TypedExpr) -> Result<Expr, Al
             whole_path(alloc, *place, first, plain_steps(alloc, numbers, steps)?)
         }
         TypedExpr::Old(place, e) => Ok(Expr::Old(*place, plain_boxed(alloc, numbers, e)?)),
-        TypedExpr::Quantified(place, quantifier, name, low, high, e) => {
+        TypedExpr::Quantified(at, kind, name, low, high, e) => {
             let low = plain_boxed(alloc, numbers, low)?;
             let high = plain_boxed(alloc, numbers, high)?;
-            quantified(alloc, numbers, *place, *quantifier, name, e, low, high)
+            quantified(alloc, numbers, Binder { at, kind, name }, e, low, high)
         }
         TypedExpr::State(place, word, e) => state(alloc, numbers, *place, *word, e),
         TypedExpr::Owners(place, test, a, b) => {
@@ -89,22 +89,29 @@ fn state(
     Ok(Expr::State(place, word, plain_boxed(alloc, numbers, e)?))
 }
 
+// A quantifier with the name that it binds: its place, its kind, and the name.
+#[derive(Clone, Copy)]
+struct Binder<'e> {
+    at: &'e Place,
+    kind: &'e Quantifier,
+    name: &'e String,
+}
+
 // A quantifier between these bounds.
 #[cycle(plain)]
 fn quantified(
     alloc: Global,
     numbers: &Numbers,
-    place: Place,
-    quantifier: Quantifier,
-    name: &String,
+    binder: Binder<'_>,
     e: &TypedExpr,
     low: Box<Expr>,
     high: Box<Expr>,
 ) -> Result<Expr, AllocError>
-    ensures { IfOk result (λ r. core.expr r ≡ tree.QuantifiedExpr place quantifier (string_bytes name.now) (core.expr low.value) (core.expr high.value) (elab.plain (numbers_of numbers.now) (typed.expr e.now))) }
+    ensures { IfOk result (λ r. core.expr r ≡ tree.QuantifiedExpr binder.entry.at.now binder.entry.kind.now (string_bytes binder.entry.name.now) (core.expr low.value) (core.expr high.value) (elab.plain (numbers_of numbers.now) (typed.expr e.now))) }
 {
+    let Binder { at, kind, name } = binder;
     let member = plain_boxed(alloc, numbers, e)?;
-    Ok(Expr::Quantified(place, quantifier, name.clone()?, low, high, member))
+    Ok(Expr::Quantified(*at, *kind, name.clone()?, low, high, member))
 }
 
 // The same in a box.

@@ -25,7 +25,7 @@ pub use joined::{
 };
 pub use kinds::{is_lazy, is_lazy_link, is_lazy_operator};
 pub use locals::Numbers;
-pub use operands::{Operand, begin_lazy, end_lazy, keep};
+pub use operands::{LazyRight, Operand, begin_lazy, end_lazy, keep};
 pub use operators::{compound, default_of, step_operator};
 pub use sources::{
     Source, add_stmt, dispatched, dropped, in_local, in_temporary, next, put, valued,

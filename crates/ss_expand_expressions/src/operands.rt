@@ -82,22 +82,35 @@ fn add_if(
     add_stmt(code, Stmt::If(place, test, inner, Vec::new(alloc)))
 }
 
-/// Ends a lazy operation at this place: where the test holds, the code of the right side, which stands at its own place, is done, and
-/// its value put into the same temporary.
+/// The right side of a lazy operation.
+#[derive(Drop)]
+pub struct LazyRight {
+    /// Its place.
+    pub place: Place,
+    /// The code in front of its value.
+    pub code: Vec<Stmt>,
+    /// Its value.
+    pub source: Source,
+}
+
+/// Ends a lazy operation at this place: where the test holds, the code of the right side is done, and its value put into the same
+/// temporary.
 pub fn end_lazy(
     alloc: Global,
     code: &mut Vec<Stmt>,
     place: Place,
     test: Expr,
     x: usize,
-    right: Place,
-    inner: Vec<Stmt>,
-    source: Source,
+    right: LazyRight,
 ) -> Result<Source, AllocError>
-    ensures { IfOk result (λ r. IsEnded place (core.expr test) x right (stmts_of inner) (source_of source) (stmts_of code.old) (stmts_of code.new) (source_of r)) }
+    ensures { IfOk result (λ r. IsEnded place (core.expr test) x right.place (stmts_of right.code) (source_of right.source) (stmts_of code.old) (stmts_of code.new) (source_of r)) }
 {
-    let mut inner = inner;
-    add_stmt(&mut inner, put(right, x, source))?;
+    let LazyRight {
+        place: at,
+        code: mut inner,
+        source,
+    } = right;
+    add_stmt(&mut inner, put(at, x, source))?;
     add_if(alloc, code, place, test, inner)?;
     Ok(Source::Pure(Expr::Local(place, x)))
 }

@@ -29,7 +29,7 @@ use crate::operations::{
 use ss_core::{BodyId, Callee, ClassId, Expr, Operator, Place, Ty};
 use ss_expand_bodies::{above_of, method_at, number_in_table, number_of_written, params_in};
 use ss_expand_expressions::{
-    Operand, Source, any_object, begin_lazy, binary, cast_of, class_of_type, dispatched,
+    LazyRight, Operand, Source, any_object, begin_lazy, binary, cast_of, class_of_type, dispatched,
     element_of, end_lazy, first_type, has_call, have_call, iff_of, is_lazy, is_lazy_link,
     is_lazy_operator, keep, negate_of, not_of, other_params, plain, valued,
 };
@@ -79,13 +79,7 @@ fn lift(
             let begun = begin_implication(context, *place, a, code, made)?;
             Ok(lift_lazily(context, begun, b, code, made)?)
         }
-        TypedExpr::Chain(place, first, links) => {
-            let operand = lift_operand(context, first, code, made)?;
-            let list = links.as_slice();
-            let front = front_of_chain(context.alloc, context.numbers, *place, operand, list)?;
-            let rest = links_behind(list, front.length);
-            Ok(lift_chain(context, *place, rest, front.operand, code, made)?)
-        }
+        TypedExpr::Chain(at, e, links) => Ok(lift_chain(context, *at, e, links, code, made)?),
         TypedExpr::Negate(place, e) => Ok(lift_negate(context, *place, e, code, made)?),
         TypedExpr::Not(place, e) => Ok(lift_not(context, *place, e, code, made)?),
         TypedExpr::Cast(place, class, non_null, e) => {
@@ -93,13 +87,7 @@ fn lift(
             let cast = cast_of(context.alloc, *place, *class, *non_null, value)?;
             Ok(Source::Pure(cast))
         }
-        TypedExpr::Path(place, first, steps) => {
-            let operand = lift_operand(context, first, code, made)?;
-            let list = steps.as_slice();
-            let front = front_of_path(context.alloc, context.numbers, *place, operand, list)?;
-            let rest = steps_behind(list, front.length);
-            Ok(lift_path(context, *place, rest, front.operand, code, made)?)
-        }
+        TypedExpr::Path(at, e, steps) => Ok(lift_path(context, *at, e, steps, code, made)?),
         TypedExpr::New(place, class, es) => Ok(lift_new(context, *place, *class, es, code, made)?),
         TypedExpr::NewArray(at, class, e) => Ok(lift_array(context, *at, *class, e, code, made)?),
         TypedExpr::Static(at, body, _, es) => Ok(lift_static(context, *at, *body, es, code, made)?),
@@ -170,39 +158,43 @@ fn begin_implication(
     })
 }
 
-// What a chain is lifted to, of which these links are left.
+// A chain with a call inside: what stands in front of the first link with a call, and then the links behind it.
 #[cycle(lifting)]
 fn lift_chain(
     context: &ElaborationContext<'_>,
     place: Place,
+    first: &TypedExpr,
     links: &[TypedLink],
-    first: Operand,
     code: &mut Code,
     made: &mut Vec<Ty>,
 ) -> Result<Source, AllocError>
-    ensures { (e : ExprTree) → (before : List core.StmtTree) → (types : List Ty)
-        → IsOperand (context_of context.now) e before types code.old.statements made.old first → LinksGoOn place e links.now
-        → IfOk result (λ r. lifted_by code.new.statements made.new r ≡ lifted_behind before (elab.right_side (context_of context.now) (linked place e links.now) types)) }
+    ensures { calls.has_call (linked place (typed.expr first.now) links.now) ≡ true → IfOk result (λ r. lifted_by code.new.statements made.new r
+        ≡ lifted_behind (stmts_of code.old.statements) (elab.lifted (context_of context.now) (linked place (typed.expr first.now) links.now) made.old.items)) }
 {
-    let whole = lift_links(context, place, links, first, code, made)?;
+    let operand = lift_operand(context, first, code, made)?;
+    let front = front_of_chain(context.alloc, context.numbers, place, operand, links)?;
+    let rest = links_behind(links, front.length);
+    let whole = lift_links(context, place, rest, front.operand, code, made)?;
     Ok(whole.source)
 }
 
-// What a path is lifted to, of which these steps are left.
+// A path with a call inside: what stands in front of the first call, and then the steps behind it.
 #[cycle(lifting)]
 fn lift_path(
     context: &ElaborationContext<'_>,
     place: Place,
+    first: &TypedExpr,
     steps: &[TypedStep],
-    first: Operand,
     code: &mut Code,
     made: &mut Vec<Ty>,
 ) -> Result<Source, AllocError>
-    ensures { (e : ExprTree) → (before : List core.StmtTree) → (types : List Ty)
-        → IsOperand (context_of context.now) e before types code.old.statements made.old first → StepsGoOn place e steps.now
-        → IfOk result (λ r. lifted_by code.new.statements made.new r ≡ lifted_behind before (elab.right_side (context_of context.now) (stepped place e steps.now) types)) }
+    ensures { calls.has_call (stepped place (typed.expr first.now) steps.now) ≡ true → IfOk result (λ r. lifted_by code.new.statements made.new r
+        ≡ lifted_behind (stmts_of code.old.statements) (elab.lifted (context_of context.now) (stepped place (typed.expr first.now) steps.now) made.old.items)) }
 {
-    let whole = lift_steps(context, place, steps, first, code, made)?;
+    let operand = lift_operand(context, first, code, made)?;
+    let front = front_of_path(context.alloc, context.numbers, place, operand, steps)?;
+    let rest = steps_behind(steps, front.length);
+    let whole = lift_steps(context, place, rest, front.operand, code, made)?;
     Ok(whole.source)
 }
 
@@ -418,17 +410,13 @@ fn lift_lazily(
     let mut inner = Code::new(context.alloc);
     let source = right_side(context, b, &mut inner, made)?;
     let test = lazy_test(context.alloc, place, holds, x)?;
-    let before = &mut code.statements;
-    let value = end_lazy(
-        context.alloc,
-        before,
-        place,
-        test,
-        x,
-        place_of(b),
-        inner.statements,
+    let right = LazyRight {
+        place: place_of(b),
+        code: inner.statements,
         source,
-    )?;
+    };
+    let before = &mut code.statements;
+    let value = end_lazy(context.alloc, before, place, test, x, right)?;
     Ok(value)
 }
 

@@ -88,9 +88,8 @@ fn add_stmt(
             add_branch(code, *place, test, one, other)?;
             Ok(either(first_ends, second_ends))
         }
-        TypedStmt::While(place, test, invariants, turn) => {
-            let guard = Guard { test, invariants };
-            add_while(context, turn, *place, guard, code, made)?;
+        TypedStmt::While(at, test, invariants, turn) => {
+            add_while(context, turn, *at, Guard { test, invariants }, code, made)?;
             Ok(can_end(stmt))
         }
         TypedStmt::For {
@@ -102,23 +101,15 @@ fn add_stmt(
             body: turn,
         } => {
             let heading = ForHeading { first, test, step };
-            let written = WrittenLoop {
-                place: *place,
-                invariants,
-            };
+            let written = WrittenLoop { place, invariants };
             add_for(context, turn, written, heading, code, made)?;
             Ok(can_end(stmt))
         }
         TypedStmt::Return(place, e) => leave(context, *place, e, code, made),
         TypedStmt::Assert(place, e) => Ok(add_assert(context, *place, e, code)?),
         TypedStmt::Assume(place, e) => Ok(add_assume(context, *place, e, code)?),
-        TypedStmt::Expose(place, e, class, block) => {
-            let exposed = Exposed {
-                place: *place,
-                object: e,
-                class: *class,
-            };
-            add_expose(context, block, exposed, code, made)
+        TypedStmt::Expose(at, object, class, block) => {
+            add_expose(context, block, Exposed { at, object, class }, code, made)
         }
         TypedStmt::Empty(_) => Ok(true),
     }
@@ -186,7 +177,7 @@ struct ForHeading<'p> {
 /// The place and the invariants of a loop.
 #[derive(Clone, Copy)]
 struct WrittenLoop<'p> {
-    place: Place,
+    place: &'p Place,
     invariants: &'p [TypedExpr],
 }
 
@@ -201,7 +192,7 @@ fn add_for(
     made: &mut Vec<Ty>,
 ) -> Result<(), AllocError>
     ensures { OnOk result (coded_by code.new made.new
-        ≡ after (stmts_of code.old.statements) (statements.stmt (context_of context.now) (ForOf written.entry.place (option_map typed.init_of heading.entry.first.now) (option_map typed.expr heading.entry.test.now) (option_map typed.simple_of heading.entry.step.now) (typed.exprs written.entry.invariants.now) (typed.stmt_of turn.now)) made.old.items)) }
+        ≡ after (stmts_of code.old.statements) (statements.stmt (context_of context.now) (ForOf written.entry.place.now (option_map typed.init_of heading.entry.first.now) (option_map typed.expr heading.entry.test.now) (option_map typed.simple_of heading.entry.step.now) (typed.exprs written.entry.invariants.now) (typed.stmt_of turn.now)) made.old.items)) }
 {
     begin(context, heading.first, code, made)?;
     add_turns(context, turn, written, heading, code, made)?;
@@ -219,25 +210,25 @@ fn add_turns(
     made: &mut Vec<Ty>,
 ) -> Result<(), AllocError>
     ensures { OnOk result (coded_by code.new made.new
-        ≡ after (stmts_of code.old.statements) (statements.loop_while (context_of context.now) written.entry.place (typed.exprs written.entry.invariants.now) (option_map typed.expr heading.entry.test.now) (turn_of (context_of context.now) (typed.stmt_of turn.now) (option_map typed.simple_of heading.entry.step.now)) made.old.items)) }
+        ≡ after (stmts_of code.old.statements) (statements.loop_while (context_of context.now) written.entry.place.now (typed.exprs written.entry.invariants.now) (option_map typed.expr heading.entry.test.now) (turn_of (context_of context.now) (typed.stmt_of turn.now) (option_map typed.simple_of heading.entry.step.now)) made.old.items)) }
 {
     let WrittenLoop { place, invariants } = written;
     let mut prelude = Code::new(context.alloc);
-    let test = test_of(context, place, heading.test, &mut prelude, made)?;
+    let test = test_of(context, *place, heading.test, &mut prelude, made)?;
     let mut inner = Code::new(context.alloc);
     let reached = add_stmt(context, turn, &mut inner, made)?;
     advance_where(context, reached, heading.step, &mut inner, made)?;
     let head = LoopTest { prelude, test };
-    add_loop(context, code, place, invariants, head, inner)?;
+    add_loop(context, code, *place, invariants, head, inner)?;
     Ok(())
 }
 
 // What an `expose` at this place exposes, and the class at which it does, where one is written.
 #[derive(Clone, Copy)]
 struct Exposed<'p> {
-    place: Place,
+    at: &'p Place,
     object: &'p TypedExpr,
-    class: Option<ClassId>,
+    class: &'p Option<ClassId>,
 }
 
 // Adds an `expose`.
@@ -250,15 +241,11 @@ fn add_expose(
     made: &mut Vec<Ty>,
 ) -> Result<bool, AllocError>
     ensures coded { OnOk result (coded_by code.new made.new
-        ≡ after (stmts_of code.old.statements) (statements.stmt (context_of context.now) (ExposeOf exposed.entry.place (typed.expr exposed.entry.object.now) (option_map (λ t. t.0) exposed.entry.class) (typed.block block.now)) made.old.items)) }
+        ≡ after (stmts_of code.old.statements) (statements.stmt (context_of context.now) (ExposeOf exposed.entry.at.now (typed.expr exposed.entry.object.now) (option_map (λ t. t.0) exposed.entry.class.now) (typed.block block.now)) made.old.items)) }
     ensures ends { IfOk result (λ reached. reached ≡ ends.block_can_end (typed.block block.now)) }
 {
-    let Exposed {
-        place,
-        object,
-        class,
-    } = exposed;
-    let opened = open(context, place, object, class, code, made)?;
+    let Exposed { at, object, class } = exposed;
+    let opened = open(context, *at, object, *class, code, made)?;
     let inner = within(context, opened)?;
     let reached = add_block(&inner, block, code, made)?;
     close(code, opened, reached)?;

@@ -12,7 +12,7 @@ ghost use Rattle.ss_rules_origins.specs.Views.{ComeFrom};
 ghost use Rattle.ss_terms.specs.Forms.{formula_at, formulas_at, HasFormula, HasFormulas, IsGrown, IsBankOf};
 
 use ss_core::Core;
-use ss_rules_ground::{GroundForm, Grounded};
+use ss_rules_ground::{GroundContext, GroundForm, Grounded};
 use ss_terms::{Bank, FormulaId, Obligation};
 use std::alloc::{AllocError, Global};
 
@@ -52,10 +52,13 @@ pub fn ground(
     ensures grown { IsGrown bank.old bank.new }
 {
     let Obligation { premises, goal, .. } = *obligation;
-    let classes = &program.classes;
-    let most = limit as usize;
+    let context = GroundContext {
+        alloc,
+        classes: &program.classes,
+        limit: limit as usize,
+    };
     let rounds = rounds as usize;
-    let found = ss_rules_ground::ground(alloc, bank, classes, premises, goal, rounds, most)?;
+    let found = ss_rules_ground::ground(&context, bank, premises, goal, rounds)?;
     match found {
         GroundForm::Formulas(formulas) => Ok(formulas),
         GroundForm::TooMany => Err(GroundStop::TooMany { limit }),
@@ -85,12 +88,13 @@ pub fn ground_with_origins(
     ensures grown { IsGrown bank.old bank.new }
 {
     let Obligation { premises, goal, .. } = *obligation;
-    let classes = &program.classes;
-    let most = limit as usize;
+    let context = GroundContext {
+        alloc,
+        classes: &program.classes,
+        limit: limit as usize,
+    };
     let rounds = rounds as usize;
-    let found = ss_rules_ground::ground_with_origins(
-        alloc, bank, classes, premises, goal, rounds, most,
-    )?;
+    let found = ss_rules_ground::ground_with_origins(&context, bank, premises, goal, rounds)?;
     match found {
         Some(grounded) => Ok(grounded),
         None => Err(GroundStop::TooMany { limit }),

@@ -5,8 +5,11 @@ use std::alloc::Global;
 
 /// The classes of a program, and how many formulas its ground form may have.
 #[derive(Clone, Copy)]
-pub(crate) struct GroundContext<'a> {
-    pub(crate) alloc: Global,
-    pub(crate) classes: &'a Classes,
-    pub(crate) limit: usize,
+pub struct GroundContext<'a> {
+    /// Where lists are made.
+    pub alloc: Global,
+    /// The classes.
+    pub classes: &'a Classes,
+    /// How many formulas there may be.
+    pub limit: usize,
 }

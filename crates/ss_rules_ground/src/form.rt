@@ -128,55 +128,46 @@ fn formulas_alone(bank: &Bank, found: Option<Grounded>) -> GroundForm
 
 // Closes the list and does so many rounds. Answers whether there were never more than `limit` formulas.
 fn go_on(
-    alloc: Global,
+    context: &GroundContext<'_>,
     bank: &mut Bank,
-    classes: &Classes,
     begun: &mut Begun,
     rounds: usize,
-    limit: usize,
 ) -> Result<bool, AllocError>
-    requires bank { IsBankOf (view.classes classes.now) bank.old }
-    requires limits { IsWithinLimits (view.classes classes.now) }
+    requires bank { IsBankOf (view.classes context.now.classes.now) bank.old }
+    requires limits { IsWithinLimits (view.classes context.now.classes.now) }
     requires list { HasFound bank.old begun.old.listed.list }
-    ensures done { IfOk result (λ few. Comes bank.new few begun.new.listed.list (option_and_then (rounds_of (view.classes classes.now) limit rounds) (closed (view.classes classes.now) limit (formulas_of bank.old begun.old.listed.list)))) }
-    ensures noted { OnOk result (StillCome (view.classes classes.now) bank.old (formulas_of bank.old begun.old.listed.list) begun.old.listed.origins.items bank.new (formulas_of bank.new begun.new.listed.list) begun.new.listed.origins.items) }
+    ensures done { IfOk result (λ few. Comes bank.new few begun.new.listed.list (option_and_then (rounds_of (view.classes context.now.classes.now) context.now.limit rounds) (closed (view.classes context.now.classes.now) context.now.limit (formulas_of bank.old begun.old.listed.list)))) }
+    ensures noted { OnOk result (StillCome (view.classes context.now.classes.now) bank.old (formulas_of bank.old begun.old.listed.list) begun.old.listed.origins.items bank.new (formulas_of bank.new begun.new.listed.list) begun.new.listed.origins.items) }
     ensures choices { begun.new.choices.items ≡ begun.old.choices.items }
     ensures grown { IsGrown bank.old bank.new }
 {
-    let mut made = Made::new(alloc);
-    let context = GroundContext {
-        alloc,
-        classes,
-        limit,
-    };
-    closed_rounds(&context, bank, &mut begun.listed, &mut made, rounds)
+    let mut made = Made::new(context.alloc);
+    closed_rounds(context, bank, &mut begun.listed, &mut made, rounds)
 }
 
 /// The ground form of an obligation after so many rounds, and where each formula of it comes from. None where it has more than `limit` formulas.
 /// Where the premises and the goal are well formed, the lines that make the choices are steps of a derivation. An error is want of memory; what the
 /// bank had before stays.
 pub fn ground_with_origins(
-    alloc: Global,
+    context: &GroundContext<'_>,
     bank: &mut Bank,
-    classes: &Classes,
     premises: &[FormulaId],
     goal: FormulaId,
     rounds: usize,
-    limit: usize,
 ) -> Result<Option<Grounded>, AllocError>
-    requires bank { IsBankOf (view.classes classes.now) bank.old }
-    requires limits { IsWithinLimits (view.classes classes.now) }
+    requires bank { IsBankOf (view.classes context.now.classes.now) bank.old }
+    requires limits { IsWithinLimits (view.classes context.now.classes.now) }
     requires premises { HasFormulas bank.old premises.now }
     requires goal { HasFormula bank.old goal }
-    ensures exact { IfOk result (λ o. grounded_at bank.new o ≡ ground_form (view.classes classes.now) (formulas_at bank.old premises.now) (formula_at bank.old goal) rounds limit) }
+    ensures exact { IfOk result (λ o. grounded_at bank.new o ≡ ground_form (view.classes context.now.classes.now) (formulas_at bank.old premises.now) (formula_at bank.old goal) rounds context.now.limit) }
     ensures in_bank { IfOk result (λ o. IfSome o (λ g. HasFormulas bank.new g.formulas.items)) }
     ensures has_choices { IfOk result (λ o. IfSome o (λ g. HasChoices bank.new g.choices.items)) }
-    ensures origins { IfOk result (λ o. IfSome o (λ g. ComeFrom (view.classes classes.now) (formulas_at bank.old premises.now) (formula_at bank.old goal) (choices_at bank.new g.choices.items) bank.new (formulas_at bank.new g.formulas.items) g.origins.items)) }
-    ensures accepted { IfOk result (λ o. IfSome o (λ g. AreWellFormed (view.classes classes.now) [] (formula_at bank.old goal ∷ formulas_at bank.old premises.now) → AreAccepted (view.classes classes.now) (formulas_at bank.old premises.now) (formula_at bank.old goal) (choices_at bank.new g.choices.items))) }
+    ensures origins { IfOk result (λ o. IfSome o (λ g. ComeFrom (view.classes context.now.classes.now) (formulas_at bank.old premises.now) (formula_at bank.old goal) (choices_at bank.new g.choices.items) bank.new (formulas_at bank.new g.formulas.items) g.origins.items)) }
+    ensures accepted { IfOk result (λ o. IfSome o (λ g. AreWellFormed (view.classes context.now.classes.now) [] (formula_at bank.old goal ∷ formulas_at bank.old premises.now) → AreAccepted (view.classes context.now.classes.now) (formulas_at bank.old premises.now) (formula_at bank.old goal) (choices_at bank.new g.choices.items))) }
     ensures grown { IsGrown bank.old bank.new }
 {
-    let mut begun = begin(alloc, bank, classes, premises, goal)?;
-    let few = go_on(alloc, bank, classes, &mut begun, rounds, limit)?;
+    let mut begun = begin(context.alloc, bank, context.classes, premises, goal)?;
+    let few = go_on(context, bank, &mut begun, rounds)?;
     if !few {
         return Ok(None);
     }
@@ -194,22 +185,20 @@ pub fn ground_with_origins(
 /// The ground form of an obligation after so many rounds, where it has at most `limit` formulas. An error is want of memory; what the
 /// bank had before stays.
 pub fn ground(
-    alloc: Global,
+    context: &GroundContext<'_>,
     bank: &mut Bank,
-    classes: &Classes,
     premises: &[FormulaId],
     goal: FormulaId,
     rounds: usize,
-    limit: usize,
 ) -> Result<GroundForm, AllocError>
-    requires bank { IsBankOf (view.classes classes.now) bank.old }
-    requires limits { IsWithinLimits (view.classes classes.now) }
+    requires bank { IsBankOf (view.classes context.now.classes.now) bank.old }
+    requires limits { IsWithinLimits (view.classes context.now.classes.now) }
     requires premises { HasFormulas bank.old premises.now }
     requires goal { HasFormula bank.old goal }
-    ensures exact { IfOk result (λ g. ground_at bank.new g ≡ ground_form (view.classes classes.now) (formulas_at bank.old premises.now) (formula_at bank.old goal) rounds limit) }
+    ensures exact { IfOk result (λ g. ground_at bank.new g ≡ ground_form (view.classes context.now.classes.now) (formulas_at bank.old premises.now) (formula_at bank.old goal) rounds context.now.limit) }
     ensures in_bank { IfOk result (HasGround bank.new) }
     ensures grown { IsGrown bank.old bank.new }
 {
-    let found = ground_with_origins(alloc, bank, classes, premises, goal, rounds, limit)?;
+    let found = ground_with_origins(context, bank, premises, goal, rounds)?;
     Ok(formulas_alone(bank, found))
 }

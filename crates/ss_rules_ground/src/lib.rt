@@ -5,4 +5,5 @@ mod context;
 mod form;
 mod rounds;
 
+pub use context::GroundContext;
 pub use form::{GroundForm, Grounded, ground, ground_with_origins};

@@ -35,14 +35,6 @@ impl Arguments {
         }
     }
 
-    /// No number, with room for so many.
-    pub fn with_capacity(alloc: Global, capacity: usize) -> Result<Self, AllocError>
-        ensures items { IfOk result (λ v. v.items ≡ []) }
-    {
-        let list = SmallVec::with_capacity(alloc, capacity)?;
-        Ok(Arguments { list })
-    }
-
     /// These numbers.
     pub fn from_slice(alloc: Global, numbers: &[TermId]) -> Result<Self, AllocError>
         ensures items { IfOk result (λ v. v.items ≡ numbers.now) }

@@ -99,13 +99,6 @@ fn is_object(sorts: &[Sort]) -> bool
     same_sorts(sorts, &[Sort::Store, Sort::Rest])
 }
 
-// A store and two objects.
-fn are_two_objects(sorts: &[Sort]) -> bool
-    ensures { result ≡ tree.same_sorts sorts.now (sort.Store ∷ sort.Rest ∷ sort.Rest ∷ []) }
-{
-    same_sorts(sorts, &[Sort::Store, Sort::Rest, Sort::Rest])
-}
-
 // A store, an object and a value of this sort.
 fn is_written(sorts: &[Sort], value: Sort) -> bool
     ensures { result ≡ tree.same_sorts sorts.now (sort.Store ∷ sort.Rest ∷ value ∷ []) }
@@ -153,8 +146,8 @@ pub(crate) fn takes(fields: &[Sort], symbol: Symbol, sorts: &[Sort]) -> bool
         Symbol::Put => is_any_put(sorts),
         Symbol::Unpack(_) => is_object(sorts),
         Symbol::Pack(_) => is_object(sorts),
-        Symbol::Capture(_) => are_two_objects(sorts),
-        Symbol::Join => are_two_objects(sorts),
+        Symbol::Capture(_) => is_written(sorts, Sort::Rest),
+        Symbol::Join => is_written(sorts, Sort::Rest),
         Symbol::New(_) => same_sorts(sorts, &[Sort::Store]),
         Symbol::NewArray(_) => same_sorts(sorts, &[Sort::Store, Sort::Whole]),
         Symbol::MakeReady => is_object(sorts),

@@ -73,7 +73,7 @@ fn put_terms(
     ensures at { IfOk result (λ v. terms_at bank.new v.items ≡ map (logic.put_term (terms_at bank.old ts.now)) (terms_at bank.old xs.now)) }
     ensures grown { IsGrown bank.old bank.new }
 {
-    let mut made = Arguments::with_capacity(alloc, xs.len())?;
+    let mut made = Arguments::new(alloc);
     for x in xs {
         let y = put_term(alloc, bank, classes, ts, *x)?;
         made.push(y)?;

@@ -233,12 +233,12 @@ fn ask_fitting(
     )
 }
 
-// A class as the target of a cast: the place of the cast, the class, and whether null is refused.
+// What a cast is to: the place of the cast, the class, and whether null is refused.
 #[derive(Clone, Copy)]
-struct CastTarget {
-    place: Place,
-    class: ClassId,
-    non_null: bool,
+struct Target<'e> {
+    at: &'e Place,
+    to: &'e ClassId,
+    mark: &'e bool,
 }
 
 // What a cast asks.
@@ -246,7 +246,7 @@ fn ask_cast(
     bank: &mut Bank,
     context: &ReadingContext<'_>,
     parts: &mut Vec<Part>,
-    target: CastTarget,
+    target: Target<'_>,
     e: &Expr,
     m: &Meant,
 ) -> Result<(), AllocError>
@@ -254,7 +254,7 @@ fn ask_cast(
     requires context { HasContext bank.old context.now.expression.now }
     requires meant { HasMeant bank.old m.now }
     requires parts { HasParts bank.old parts.old.items }
-    ensures asked { OnOk result (AreParts bank.new parts.new.items (λ b. cast_asks (type_context_at context.now.nulls.now) (known_at context.now.nulls.now) (context_at b context.now.expression.now) target.place target.class.0 target.non_null (expr e.now) (parts_at b parts.old.items) (meant_at b m.now))) }
+    ensures asked { OnOk result (AreParts bank.new parts.new.items (λ b. cast_asks (type_context_at context.now.nulls.now) (known_at context.now.nulls.now) (context_at b context.now.expression.now) target.entry.at.now target.entry.to.now.0 target.entry.mark.now (expr e.now) (parts_at b parts.old.items) (meant_at b m.now))) }
     ensures grown { IsGrown bank.old bank.new }
 {
     let may_be_null = may_be_null(context, e);
@@ -266,20 +266,13 @@ fn ask_cast(
         context.alloc,
         bank,
         parts,
-        target.place,
-        target.non_null,
+        *target.at,
+        *target.mark,
         passing,
     )?;
-    let checked = may_be_other(context.expression, e, target.class);
+    let checked = may_be_other(context.expression, e, *target.to);
     let fitting = Subject { meant: m, checked };
-    ask_fitting(
-        context.alloc,
-        bank,
-        parts,
-        target.place,
-        target.class,
-        fitting,
-    )
+    ask_fitting(context.alloc, bank, parts, *target.at, *target.to, fitting)
 }
 
 // ---- quantifiers
@@ -359,7 +352,7 @@ pub fn express(
         }
         Expr::Negate(at, a) => one(bank, context, parts, a, Single::Negate(*at)),
         Expr::Not(_, a) => one(bank, context, parts, a, Single::Not),
-        Expr::Cast(at, class, marked, a) => { cast(bank, context, parts, a, *at, *class, *marked) }
+        Expr::Cast(at, to, mark, a) => cast(bank, context, parts, a, Target { at, to, mark }),
         Expr::Path(place, first, steps) => {
             let m = express(bank, context, parts, first)?;
             path(bank, context, parts, steps, Start { at: *place, first }, m)
@@ -682,22 +675,15 @@ fn cast(
     context: &ReadingContext<'_>,
     parts: &mut Vec<Part>,
     e: &Expr,
-    place: Place,
-    class: ClassId,
-    non_null: bool,
+    target: Target<'_>,
 ) -> Result<Meant, AllocError>
     requires nulls { IsNullContext context.now.nulls.now }
     requires context { HasContext bank.old context.now.expression.now }
     requires parts { HasParts bank.old parts.old.items }
-    ensures expressed { IfOk result (λ r. Reads bank.new r parts.new.items parts.old.items (CastExpr place class.0 non_null (expr e.now)) context.now.nulls.now context.now.expression.now) }
+    ensures expressed { IfOk result (λ r. Reads bank.new r parts.new.items parts.old.items (CastExpr target.entry.at.now target.entry.to.now.0 target.entry.mark.now (expr e.now)) context.now.nulls.now context.now.expression.now) }
     ensures grown { IsGrown bank.old bank.new }
 {
     let m = express(bank, context, parts, e)?;
-    let target = CastTarget {
-        place,
-        class,
-        non_null,
-    };
     ask_cast(bank, context, parts, target, e, &m)?;
     Ok(m)
 }

@@ -50,7 +50,7 @@ add_turns-returns t c =
     let a = typed.stmt_of c.args.turn.now in
     let x = option_map typed.simple_of c.args.heading.step.now in
     let e = option_map typed.expr c.args.heading.test.now in
-    let p = c.args.written.place in
+    let p = c.args.written.place.now in
     let is = typed.exprs c.args.written.invariants.now in
     let before = stmts_of c.args.code.now.statements in
     let v = tested s p e c.args.made.now.items in
@@ -69,7 +69,7 @@ add_turns-returns t c =
 pub add_for-returns : goal.add_for-returns
 add_for-returns t c =
     let s = context_of c.args.context.now in
-    let p = c.args.written.place in
+    let p = c.args.written.place.now in
     let i = option_map typed.init_of c.args.heading.first.now in
     let e = option_map typed.expr c.args.heading.test.now in
     let f = turn_of s (typed.stmt_of c.args.turn.now) (option_map typed.simple_of c.args.heading.step.now) in
@@ -79,7 +79,7 @@ add_for-returns t c =
 pub add_expose-returns-clause-coded : goal.add_expose-returns-clause-coded
 add_expose-returns-clause-coded t c =
     let s = context_of c.args.context.now in
-    exposed_by s c.args.exposed.place (typed.expr c.args.exposed.object.now) (option_map (λ u. u.0) c.args.exposed.class) (typed.block c.args.block.now)
+    exposed_by s c.args.exposed.at.now (typed.expr c.args.exposed.object.now) (option_map (λ u. u.0) c.args.exposed.class.now) (typed.block c.args.block.now)
     (stmts_of c.args.code.now.statements) (stmts_of c.open.new.code.statements) (stmts_of c.add_block.new.code.statements) (stmts_of c.close.new.code.statements)
     c.args.made.now.items c.open.new.made.items c.add_block.new.made.items (opened_of c.in_ok-opened.opened) (context_of c.in_ok-inner.inner) c.in_ok-reached.reached
     c.in_ok-opened.ensures.coded c.in_ok-opened.ensures.opened
